@@ -1,0 +1,9 @@
+pub mod Difference
+pub mod Fault
+pub mod Gives
+pub mod Machine
+pub mod Minimal
+pub mod Origin
+pub mod Part
+pub mod Table
+pub mod Worked

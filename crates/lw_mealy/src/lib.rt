@@ -1,0 +1,13 @@
+//! Mealy machines: the definitions that every theorem of the learner cites, and machines as tables.
+#![tactic(auto)]
+
+mod fault;
+mod mealy;
+
+pub use fault::MealyFault;
+pub use mealy::Mealy;
+
+#[cfg(test)]
+mod tests;
+#[cfg(test)]
+mod worked;

@@ -1,0 +1,263 @@
+ghost use Rattle.std.specs.Prelude.{◌≡◌, ℕ, ◌<◌, ◌≤◌, List, length, map, IfOk, OnOk, IfErr, IfSome, IfNone};
+ghost use Rattle.std.specs.List.{All};
+ghost use Rattle.lw_words.specs.First.{FailsFirst};
+ghost use Rattle.lw_words.specs.Word.{IsWord};
+ghost use Rattle.lw_mealy.specs.Machine.{Rows, IsMachine, after, out, answer, cell, row};
+ghost use Rattle.lw_mealy.specs.Part.{IsBelow};
+ghost use Rattle.lw_mealy.specs.Table.{MachineTable, table_of, IsTable, AnswersBelow};
+ghost use Rattle.lw_mealy.specs.Difference.{DifferFirst};
+ghost use Rattle.lw_mealy.specs.Fault.{HasFault, IsCounted, IsSquare, IsClosed, CellFailsFirst};
+
+use crate::MealyFault;
+use lw_words::{NoMemory, Word};
+use std::alloc::Global;
+use std::marker::Model;
+
+/// The greatest number of states.
+const MOST_STATES: usize = 1024;
+
+/// A Mealy machine of 1 to 1,024 states, of which state 0 is initial (Mealy 1955).
+/// Contracts see its rows and its numbers of inputs and outputs.
+#[derive(Drop)]
+pub struct Mealy {
+    inputs: u16,
+    outputs: u16,
+    rows: Vec<Vec<(u16, u16)>>,
+    alloc: Global,
+}
+
+impl Model for Mealy {
+    ghost use Rattle.std.specs.Prelude.{map};
+    ghost use Rattle.lw_mealy.specs.Table.{MachineTable, table_of, IsTable};
+
+    ghost Value = { MachineTable };
+
+    ghost view = { λ m. table_of m.inputs m.outputs (map (λ r. r.items) m.rows.items) };
+
+    ghost invariant = { λ m. IsTable (table_of m.inputs m.outputs (map (λ r. r.items) m.rows.items)) };
+}
+
+/// The first row that hasn't so many pairs.
+fn first_ragged(rows: &[Vec<(u16, u16)>], inputs: u16) -> Option<usize>
+    ensures none { IfNone result (IsSquare inputs (map (λ r. r.items) rows.now)) }
+    ensures some { IfSome result (FailsFirst (λ r. length r ≡ inputs) (map (λ r. r.items) rows.now)) }
+{
+    for (state, row) in rows.iter().enumerate() {
+        if row.len() != usize::from(inputs) {
+            return Some(state);
+        }
+    }
+    None
+}
+
+/// A part of the pair that a state has at a letter.
+#[derive(Clone, Copy)]
+enum Part {
+    Target,
+    Output,
+}
+
+impl Part {
+    ghost use Rattle.lw_mealy.specs.Part.{part_of};
+
+    fn of(self, cell: (u16, u16)) -> u16
+        ensures { result ≡ part_of self cell }
+    {
+        match self {
+            Part::Target => cell.0,
+            Part::Output => cell.1,
+        }
+    }
+}
+
+/// The first pair of a row whose part is not below a bound.
+fn first_in_row(row: &[(u16, u16)], part: Part, bound: usize) -> Option<usize>
+    ensures none { IfNone result (All (IsBelow part bound) row.now) }
+    ensures some { IfSome result (FailsFirst (IsBelow part bound) row.now) }
+{
+    for (letter, cell) in row.iter().enumerate() {
+        if usize::from(part.of(*cell)) >= bound {
+            return Some(letter);
+        }
+    }
+    None
+}
+
+/// The first pair of all rows whose part is not below a bound, by state, then by letter.
+fn first_in_rows(rows: &[Vec<(u16, u16)>], part: Part, bound: usize) -> Option<(usize, usize)>
+    ensures none { IfNone result (All (λ r. All (IsBelow part bound) r) (map (λ r. r.items) rows.now)) }
+    ensures some { IfSome result (λ at. CellFailsFirst (IsBelow part bound) (map (λ r. r.items) rows.now) at.0 at.1) }
+{
+    for (state, row) in rows.iter().enumerate() {
+        if let Some(letter) = first_in_row(row, part, bound) {
+            return Some((state, letter));
+        }
+    }
+    None
+}
+
+/// The fault of rows that are 1 to 1,024, if there is one.
+fn fault_of(inputs: u16, outputs: u16, rows: &[Vec<(u16, u16)>]) -> Option<MealyFault>
+    requires counted { IsCounted (map (λ r. r.items) rows.now) }
+    ensures none { IfNone result (IsSquare inputs (map (λ r. r.items) rows.now) × IsClosed (map (λ r. r.items) rows.now) × AnswersBelow outputs (map (λ r. r.items) rows.now)) }
+    ensures some { IfSome result (HasFault inputs outputs (map (λ r. r.items) rows.now)) }
+{
+    if let Some(state) = first_ragged(rows, inputs) {
+        return Some(MealyFault::Ragged(state as u16));
+    }
+    if let Some((state, letter)) = first_in_rows(rows, Part::Target, rows.len()) {
+        let target = rows[state][letter].0;
+        return Some(MealyFault::Target(state as u16, letter as u16, target));
+    }
+    if let Some((state, letter)) = first_in_rows(rows, Part::Output, usize::from(outputs)) {
+        let output = rows[state][letter].1;
+        return Some(MealyFault::Output(state as u16, letter as u16, output));
+    }
+    None
+}
+
+/// The same rows once more.
+fn copy_rows(alloc: Global, rows: &[Vec<(u16, u16)>]) -> Result<Vec<Vec<(u16, u16)>>, NoMemory>
+    ensures { IfOk result (λ copies. map (λ r. r.items) copies.items ≡ map (λ r. r.items) rows.now) }
+{
+    let mut copies = Vec::with_capacity(alloc, rows.len())?;
+    for row in rows {
+        copies.push(Vec::from_slice(alloc, row)?)?;
+    }
+    Ok(copies)
+}
+
+impl Mealy {
+    /// The machine of these rows: `rows[q][x]` is the target and the output of state `q` at letter `x`.
+    pub fn new(
+        alloc: Global,
+        inputs: u16,
+        outputs: u16,
+        rows: Vec<Vec<(u16, u16)>>,
+    ) -> Result<Mealy, MealyFault>
+        requires inputs { (1 ≤ inputs) × (inputs ≤ 64) }
+        requires outputs { (1 ≤ outputs) × (outputs ≤ 4096) }
+        ensures ok { IfOk result (λ m. m ≡ table_of inputs outputs (map (λ r. r.items) rows.items)) }
+        ensures table { IfOk result IsTable }
+        ensures err { IfErr result (HasFault inputs outputs (map (λ r. r.items) rows.items)) }
+    {
+        if rows.is_empty() {
+            return Err(MealyFault::NoState);
+        }
+        if rows.len() > MOST_STATES {
+            return Err(MealyFault::TooMany(rows.len()));
+        }
+        if let Some(fault) = fault_of(inputs, outputs, &rows) {
+            return Err(fault);
+        }
+        Ok(Mealy {
+            inputs,
+            outputs,
+            rows,
+            alloc,
+        })
+    }
+
+    /// The initial state, which is 0. Takes no memory.
+    pub fn initial(&self) -> u16
+        ensures value { result ≡ 0 }
+        ensures state { result < length self.now.rows }
+    {
+        let _rows = &self.rows;
+        0
+    }
+
+    pub fn inputs(&self) -> u16
+        ensures value { result ≡ self.now.inputs }
+        ensures table { IsTable self.now }
+    {
+        self.inputs
+    }
+
+    pub fn outputs(&self) -> u16
+        ensures value { result ≡ self.now.outputs }
+        ensures table { IsTable self.now }
+    {
+        self.outputs
+    }
+
+    pub fn states(&self) -> u16
+        ensures value { result ≡ length self.now.rows }
+        ensures table { IsTable self.now }
+    {
+        self.rows.len() as u16
+    }
+
+    /// The next state and the output. Takes no memory.
+    pub fn step(&self, q: u16, x: u16) -> (u16, u16)
+        requires state { q < length self.now.rows }
+        requires letter { x < self.now.inputs }
+        ensures value { result ≡ cell self.now.rows q x }
+        ensures state { result.0 < length self.now.rows }
+        ensures output { result.1 < self.now.outputs }
+    {
+        self.rows[usize::from(q)][usize::from(x)]
+    }
+
+    #[tactic(auto, using(crate::proofs::WordLemmas::word_steps))]
+    /// The state after a word. Takes no memory.
+    pub fn after(&self, q: u16, w: &Word) -> u16
+        requires state { q < length self.now.rows }
+        requires letters { IsWord self.now.inputs w.now }
+        ensures value { result ≡ after self.now.rows q w.now }
+        ensures state { result < length self.now.rows }
+    {
+        let mut state = q;
+        for x in w.as_slice() {
+            state = self.step(state, *x).0;
+        }
+        state
+    }
+
+    #[tactic(auto, using(crate::proofs::WordLemmas::word_steps))]
+    /// The outputs on the way of a word from state 0.
+    pub fn answer(&self, w: &Word) -> Result<Word, NoMemory>
+        requires letters { IsWord self.now.inputs w.now }
+        ensures { IfOk result (λ o. o ≡ answer self.now.rows w.now) }
+    {
+        let mut outs = Word::new(self.alloc);
+        let mut state = self.initial();
+        for x in w.as_slice() {
+            let (target, output) = self.step(state, *x);
+            outs.push(output)?;
+            state = target;
+        }
+        Ok(outs)
+    }
+
+    /// The first place at which the machine's answer to `w` isn't `o`, or None where it is `o`. Takes no memory.
+    pub fn agrees(&self, w: &Word, o: &Word) -> Option<usize>
+        requires lengths { length w.now ≡ length o.now }
+        requires letters { IsWord self.now.inputs w.now }
+        ensures none { IfNone result (answer self.now.rows w.now ≡ o.now) }
+        ensures some { IfSome result (DifferFirst (answer self.now.rows w.now) o.now) }
+    {
+        let outs = o.as_slice();
+        let mut state = self.initial();
+        for (place, x) in w.as_slice().iter().enumerate() {
+            let (target, output) = self.step(state, *x);
+            if output != outs[place] {
+                return Some(place);
+            }
+            state = target;
+        }
+        None
+    }
+
+    pub fn copy(&self) -> Result<Mealy, NoMemory>
+        ensures { IfOk result (λ m. m ≡ self.now) }
+    {
+        let rows = copy_rows(self.alloc, &self.rows)?;
+        Ok(Mealy {
+            inputs: self.inputs,
+            outputs: self.outputs,
+            rows,
+            alloc: self.alloc,
+        })
+    }
+}

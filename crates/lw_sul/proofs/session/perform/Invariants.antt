@@ -1,0 +1,22 @@
+use Rattle.std.proofs.Common.{◌≡◌, ℕ, ◌≤◌, ◌<◌, ◌++◌, ◌∷◌, [], length, take, drop, None, true, option_map, vec_capacity}
+use Rattle.std.specs.List.{All}
+use Rattle.lw_sul.specs.Asked.{run_of}
+use Rattle.lw_sul.proofs.RunLemmas.{Rests}
+use Rattle.lw_sul.proofs.session.perform.Given as goal
+
+abbrev pub invariant-loop-x : goal.invariant-loop-x
+invariant-loop-x g l =
+    let S = g.S.Sul in
+    record {
+      live : S.stop l.sul ≡ None;
+      started : S.started l.sul ≡ true;
+      inputs : S.inputs l.sul ≡ S.inputs l.fn.sul;
+      outputs : S.outputs l.sul ≡ S.outputs l.fn.sul;
+      origin : S.origin l.sul ≡ S.origin l.fn.sul;
+      faults : S.faults l.fn.sul ≤ S.faults l.sul;
+      count : length l.outs.items ≡ l.x-index;
+      room : length l.x-items ≤ vec_capacity l.outs;
+      below : All (λ y. y < S.outputs l.fn.sul) l.outs.items;
+      rests : Rests (S.origin l.fn.sul).machine (S.state l.sul) l.outs.items (drop l.x-index l.x-items) l.x-items;
+      runs : S.runs l.sul ≡ option_map (λ rs. rs ++ run_of (take l.x-index l.x-items) l.outs.items ∷ []) (S.runs l.fn.sul);
+    }

@@ -1,0 +1,7 @@
+-- A table system: its machine and the state that it is in.
+use Rattle.std.specs.Prelude.{ℕ}
+use Rattle.lw_mealy.specs.Table.{MachineTable}
+
+pub record TableState : Type 0 where
+  pub table : MachineTable
+  pub state : ℕ

@@ -1,0 +1,15 @@
+//! Systems under learning, and sessions that ask them words and keep a journal of the finished runs.
+#![tactic(auto)]
+
+mod runs;
+mod session;
+mod system;
+mod table;
+
+pub use runs::{Run, Runs};
+pub use session::Session;
+pub use system::Sul;
+pub use table::TableSul;
+
+#[cfg(test)]
+mod tests;

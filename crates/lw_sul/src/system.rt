@@ -1,0 +1,70 @@
+ghost use Rattle.std.specs.Prelude.{◌≡◌, ℕ, ◌<◌, ◌≤◌, List, Bool, true, Option, Some, None, option_map, IfOk, OnOk, IfErr, OnErr};
+ghost use Rattle.lw_mealy.specs.Origin.{Origin};
+ghost use Rattle.lw_words.specs.declared.stop.SulStop.{SulStop as Stop};
+ghost use Rattle.lw_sul.specs.Cause.{Rose};
+ghost use Rattle.lw_sul.specs.Runs.{after_reset, after_step};
+ghost use Rattle.lw_sul.specs.Told.{Starts, Steps};
+ghost use Rattle.lw_sul.specs.declared.runs.Run.{Run as Entry};
+
+use lw_words::SulStop;
+
+/// A system that can only be reset and stepped. It may be a table, or a program that runs elsewhere.
+///
+/// A refused call stops the system: no call may follow it. No call takes memory.
+pub trait Sul {
+    /// The numbers of inputs and of outputs.
+    ghost inputs: { Self → ℕ };
+
+    ghost outputs: { Self → ℕ };
+
+    /// Where its runs come from.
+    ghost origin: { Self → Origin };
+
+    /// The state of a told machine.
+    ghost state: { Self → ℕ };
+
+    /// Whether a reset was answered Ok.
+    ghost started: { Self → Bool };
+
+    /// How often it has failed.
+    ghost faults: { Self → ℕ };
+
+    /// The refusal of its last call, or None where that was answered Ok or there was none.
+    ghost stop: { Self → Option Stop };
+
+    /// Its runs, where they are told.
+    ghost runs: { Self → Option (List Entry) };
+
+    fn inputs(&self) -> u16
+        ensures { result ≡ inputs self.now };
+
+    fn outputs(&self) -> u16
+        ensures { result ≡ outputs self.now };
+
+    /// Goes back to the initial state.
+    fn reset(&mut self) -> Result<(), SulStop>
+        requires live { stop self.old ≡ None }
+        ensures ok { OnOk result ((stop self.new ≡ None) × (started self.new ≡ true)) }
+        ensures begins { OnOk result (runs self.new ≡ option_map after_reset (runs self.old)) }
+        ensures starts { OnOk result (Starts (origin self.old).machine (state self.new)) }
+        ensures err { IfErr result (λ e. stop self.new ≡ Some e) }
+        ensures left { OnErr result (runs self.new ≡ runs self.old) }
+        ensures failed { result ≡ Err Stop.Failed → Rose (faults self.old) (faults self.new) }
+        ensures counts { faults self.old ≤ faults self.new }
+        ensures same { (origin self.new ≡ origin self.old) × (inputs self.new ≡ inputs self.old) × (outputs self.new ≡ outputs self.old) };
+
+    /// Sends a letter, and takes its output.
+    fn step(&mut self, x: u16) -> Result<u16, SulStop>
+        requires live { stop self.old ≡ None }
+        requires begun { started self.old ≡ true }
+        requires letter { x < inputs self.old }
+        ensures ok { OnOk result ((stop self.new ≡ None) × (started self.new ≡ true)) }
+        ensures output { IfOk result (λ y. y < outputs self.old) }
+        ensures adds { IfOk result (λ y. runs self.new ≡ option_map (after_step x y) (runs self.old)) }
+        ensures steps { IfOk result (λ y. Steps (origin self.old).machine (state self.old) x y (state self.new)) }
+        ensures err { IfErr result (λ e. stop self.new ≡ Some e) }
+        ensures left { OnErr result (runs self.new ≡ runs self.old) }
+        ensures failed { result ≡ Err Stop.Failed → Rose (faults self.old) (faults self.new) }
+        ensures counts { faults self.old ≤ faults self.new }
+        ensures same { (origin self.new ≡ origin self.old) × (inputs self.new ≡ inputs self.old) × (outputs self.new ≡ outputs self.old) };
+}

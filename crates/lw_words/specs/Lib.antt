@@ -1,0 +1,4 @@
+pub mod First
+pub mod Keeping
+pub mod Name
+pub mod Word

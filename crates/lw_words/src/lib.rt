@@ -1,0 +1,21 @@
+//! Words over numbered letters, lists of names, kept answers, and why a run stopped.
+#![tactic(auto)]
+
+mod kept;
+mod line;
+mod memory;
+mod names;
+mod stop;
+mod word;
+mod words;
+
+pub use kept::{Kept, KeptAnswer};
+pub use line::Line;
+pub use memory::NoMemory;
+pub use names::{Names, NamesFault};
+pub use stop::{RunStop, SulStop};
+pub use word::{Word, join};
+pub use words::Words;
+
+#[cfg(test)]
+mod tests;

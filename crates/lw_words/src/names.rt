@@ -1,0 +1,175 @@
+ghost use Rattle.std.specs.Prelude.{◌≡◌, ℕ, ◌<◌, ◌↔◌, List, length, map, string_bytes, slice_get, Some, IfOk, OnOk, IfErr, IfSome, IfNone, IsTrue, take};
+ghost use Rattle.std.specs.List.{All};
+ghost use Rattle.lw_words.specs.First.{FailsFirst};
+ghost use Rattle.lw_words.specs.Name.{IsName, IsNames, AllDiffer, number_of, HasFault};
+
+use crate::NoMemory;
+use indexmap::IndexSet;
+use std::alloc::{AllocError, AllocFailed, Global};
+use std::marker::Model;
+
+/// The greatest number of names in a list.
+const MOST_NAMES: usize = 4096;
+
+/// The greatest number of bytes of a name.
+const LONGEST_NAME: usize = 64;
+
+/// Why a list of texts is no list of names: the first of these that applies.
+#[derive(Clone, Copy, Debug, PartialEq, Eq)]
+pub enum NamesFault {
+    /// There is no name.
+    Empty,
+    /// There are this many, and that is above 4,096.
+    TooMany(usize),
+    /// The first text that isn't 1 to 64 bytes from 0x21 to 0x7E stands here.
+    BadName(usize),
+    /// The name at the second place, the first that stood before, stands at the first place too.
+    Repeated(usize, usize),
+    NoMemory,
+}
+
+impl From<AllocError> for NamesFault {
+    ghost use Rattle.std.specs.Prelude.{◌≡◌};
+    ghost use Rattle.lw_words.specs.declared.names.NamesFault.TheVariants.{NoMemory};
+
+    ghost from_gives = { λ _ fault. fault ≡ NoMemory };
+
+    fn from(_: AllocError) -> NamesFault {
+        NamesFault::NoMemory
+    }
+}
+
+impl<T: Drop> From<AllocFailed<T>> for NamesFault {
+    ghost use Rattle.std.specs.Prelude.{◌≡◌};
+    ghost use Rattle.lw_words.specs.declared.names.NamesFault.TheVariants.{NoMemory};
+
+    ghost from_gives = { λ _ fault. fault ≡ NoMemory };
+
+    fn from(_: AllocFailed<T>) -> NamesFault {
+        NamesFault::NoMemory
+    }
+}
+
+/// A list of 1 to 4,096 different names, each with its place as its number.
+/// Contracts see the list of their bytes.
+#[derive(Drop)]
+pub struct Names {
+    names: IndexSet<String>,
+    alloc: Global,
+}
+
+impl Model for Names {
+    ghost use Rattle.std.specs.Prelude.{List, ℕ, map, string_bytes};
+    ghost use Rattle.lw_words.specs.Name.{IsNames};
+
+    ghost Value = { List (List ℕ) };
+
+    ghost view = { λ n. map (λ s. string_bytes s) n.names.keys };
+
+    ghost invariant = { λ n. IsNames (map (λ s. string_bytes s) n.names.keys) };
+}
+
+/// Whether a text is a name: 1 to 64 bytes, each from 0x21 to 0x7E.
+fn is_name(text: &str) -> bool
+    ensures { IsTrue result ↔ IsName text.now }
+{
+    let bytes = text.as_bytes();
+    !bytes.is_empty()
+        && bytes.len() <= LONGEST_NAME
+        && bytes.iter().all(|b| 0x21 <= *b && *b <= 0x7e)
+}
+
+/// The first place of a text that is no name.
+fn first_bad_name(list: &[String]) -> Option<usize>
+    ensures none { IfNone result (All IsName (map (λ s. string_bytes s) list.now)) }
+    ensures some { IfSome result (FailsFirst IsName (map (λ s. string_bytes s) list.now)) }
+{
+    for (place, name) in list.iter().enumerate() {
+        if !is_name(name.as_str()) {
+            return Some(place);
+        }
+    }
+    None
+}
+
+/// Numbers the names in their order, up to the first that stood before.
+fn numbered(alloc: Global, list: &[String]) -> Result<IndexSet<String>, NamesFault>
+    requires few { length list.now < 4097 }
+    requires each { All IsName (map (λ s. string_bytes s) list.now) }
+    ensures ok { IfOk result (λ names. map (λ s. string_bytes s) names.keys ≡ map (λ s. string_bytes s) list.now) }
+    ensures differ { OnOk result (AllDiffer (map (λ s. string_bytes s) list.now)) }
+    ensures err { IfErr result (HasFault (map (λ s. string_bytes s) list.now)) }
+{
+    let mut names = IndexSet::with_capacity(alloc, list.len())?;
+    for (place, name) in list.iter().enumerate() {
+        let (first, is_new) = names.insert_full(String::from_str(alloc, name.as_str())?)?;
+        if !is_new {
+            return Err(NamesFault::Repeated(first, place));
+        }
+    }
+    Ok(names)
+}
+
+impl Names {
+    /// Numbers these names from 0 in their order.
+    pub fn from_list(alloc: Global, list: &[String]) -> Result<Names, NamesFault>
+        ensures ok { IfOk result (λ names. names ≡ map (λ s. string_bytes s) list.now) }
+        ensures names { IfOk result IsNames }
+        ensures err { IfErr result (HasFault (map (λ s. string_bytes s) list.now)) }
+    {
+        if list.is_empty() {
+            return Err(NamesFault::Empty);
+        }
+        if list.len() > MOST_NAMES {
+            return Err(NamesFault::TooMany(list.len()));
+        }
+        if let Some(place) = first_bad_name(list) {
+            return Err(NamesFault::BadName(place));
+        }
+        let names = numbered(alloc, list)?;
+        Ok(Names { names, alloc })
+    }
+
+    pub fn len(&self) -> u16
+        ensures { result ≡ length self.now }
+    {
+        self.names.len() as u16
+    }
+
+    /// The number of a name, or None where it isn't in the list. Takes no memory.
+    pub fn number(&self, name: &str) -> Option<u16>
+        ensures value { result ≡ number_of name.now self.now }
+        ensures inverse { IfSome result (λ n. slice_get self.now n ≡ Some name.now) }
+    {
+        match self.names.get_index_of(name) {
+            Some(place) => Some(place as u16),
+            None => None,
+        }
+    }
+
+    pub fn name(&self, n: u16) -> &str
+        requires { n < length self.now }
+        ensures value { slice_get self.now n ≡ Some result.now }
+        ensures inverse { number_of result.now self.now ≡ Some n }
+    {
+        let name: &String = &self.names[usize::from(n)];
+        name.as_str()
+    }
+
+    pub fn copy(&self) -> Result<Names, NoMemory>
+        ensures { IfOk result (λ names. names ≡ self.now) }
+    {
+        let names = self.names.clone()?;
+        Ok(Names {
+            names,
+            alloc: self.alloc,
+        })
+    }
+
+    /// Whether both are the same names in the same order.
+    pub fn same(&self, other: &Names) -> bool
+        ensures { IsTrue result ↔ (self.now ≡ other.now) }
+    {
+        self.names.as_slice() == other.names.as_slice()
+    }
+}

@@ -1,0 +1,89 @@
+ghost use Rattle.std.specs.Prelude.{◌≡◌, ℕ, ◌≤◌, List, [], ◌∷◌, ◌++◌, length, take, IfOk, OnOk, OnErr};
+
+use crate::NoMemory;
+use std::alloc::Global;
+use std::marker::Model;
+
+/// A word over numbered letters. Contracts see the list of its letters.
+#[derive(Drop)]
+pub struct Word {
+    letters: Vec<u16>,
+    alloc: Global,
+}
+
+impl Model for Word {
+    ghost Value = { List ℕ };
+
+    ghost view = { λ word. word.letters.items };
+}
+
+impl Word {
+    /// The empty word. Takes no memory.
+    pub fn new(alloc: Global) -> Self
+        ensures { result ≡ [] }
+    {
+        Word {
+            letters: Vec::new(alloc),
+            alloc,
+        }
+    }
+
+    /// The word of these letters. Takes no memory.
+    pub fn from_letters(alloc: Global, letters: Vec<u16>) -> Self
+        ensures { result ≡ letters.items }
+    {
+        Word { letters, alloc }
+    }
+
+    pub fn as_slice(&self) -> &[u16]
+        ensures { result.now ≡ self.now }
+    {
+        self.letters.as_slice()
+    }
+
+    pub fn len(&self) -> usize
+        ensures { result ≡ length self.now }
+    {
+        self.letters.len()
+    }
+
+    /// Appends a letter. The word is unchanged where there is no memory.
+    pub fn push(&mut self, x: u16) -> Result<(), NoMemory>
+        ensures ok { OnOk result (self.new ≡ self.old ++ x ∷ []) }
+        ensures err { OnErr result (self.new ≡ self.old) }
+    {
+        self.letters.push(x)?;
+        Ok(())
+    }
+
+    pub fn copy(&self) -> Result<Word, NoMemory>
+        ensures { IfOk result (λ word. word ≡ self.now) }
+    {
+        let letters = self.letters.clone()?;
+        Ok(Word {
+            letters,
+            alloc: self.alloc,
+        })
+    }
+
+    /// The first `n` letters.
+    pub fn prefix(&self, n: usize) -> Result<Word, NoMemory>
+        requires { n ≤ length self.now }
+        ensures { IfOk result (λ word. word ≡ take n self.now) }
+    {
+        let letters = self.letters[..n].to_vec(self.alloc)?;
+        Ok(Word {
+            letters,
+            alloc: self.alloc,
+        })
+    }
+}
+
+/// `a` followed by `b`.
+pub fn join(a: &Word, b: &Word) -> Result<Word, NoMemory>
+    ensures { IfOk result (λ word. word ≡ a.now ++ b.now) }
+{
+    let mut both = a.copy()?;
+    both.letters.extend_from_slice(b.as_slice())?;
+    Ok(both)
+}
