@@ -1,5 +1,4 @@
 pub mod Asked
-pub mod Cause
 pub mod Runs
 pub mod TableState
 pub mod Told

@@ -4,7 +4,7 @@ ghost use Rattle.lw_words.specs.Word.{IsWord};
 ghost use Rattle.lw_words.specs.declared.stop.SulStop.{SulStop as Stop};
 ghost use Rattle.std.specs.Prelude.{Err};
 ghost use Rattle.lw_sul.specs.Asked.{Asked, run_of, NoRuns, CutOff};
-ghost use Rattle.lw_sul.specs.Cause.{Rose};
+ghost use Rattle.lw_words.specs.Cause.{Rose};
 ghost use Rattle.lw_sul.specs.Told.{Answers};
 
 use crate::{Run, Runs, Sul};

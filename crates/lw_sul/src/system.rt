@@ -1,7 +1,7 @@
 ghost use Rattle.std.specs.Prelude.{◌≡◌, ℕ, ◌<◌, ◌≤◌, List, Bool, true, Option, Some, None, option_map, IfOk, OnOk, IfErr, OnErr};
 ghost use Rattle.lw_mealy.specs.Origin.{Origin};
 ghost use Rattle.lw_words.specs.declared.stop.SulStop.{SulStop as Stop};
-ghost use Rattle.lw_sul.specs.Cause.{Rose};
+ghost use Rattle.lw_words.specs.Cause.{Rose};
 ghost use Rattle.lw_sul.specs.Runs.{after_reset, after_step};
 ghost use Rattle.lw_sul.specs.Told.{Starts, Steps};
 ghost use Rattle.lw_sul.specs.declared.runs.Run.{Run as Entry};

@@ -1,0 +1,4 @@
+pub mod Each
+pub mod Found
+pub mod MachineFile
+pub mod MachineText
