@@ -1,12 +1,17 @@
 -- Which cells a list has, and which owner's list has a cell.
-use Rattle.std.proofs.Common.{◌≡◌, ◌≢◌, ℕ, ◌+◌, ◌<◌, ◌≤◌, ◌⊎◌, Bool, true, false, not, cond, ◌||◌, nat_eq, nat_lt, List, [], ◌∷◌, ◌++◌, length, filter, position, get_or, Some, None, Option, refl, sym, ◌∙◌, ap, subst, inl, inr, arith}
+use Rattle.std.proofs.Common.{◌≡◌, ◌≢◌, ℕ, ◌+◌, ◌<◌, ◌≤◌, ◌⊎◌, Bool, true, false, not, cond, ◌||◌, nat_eq, nat_lt, List, [], ◌∷◌, ◌++◌, length, AllPairs, Contains, filter, position, get_or, Some, None, Option, refl, sym, ◌∙◌, ap, subst, inl, inr, arith}
 use Rattle.std.specs.List.{IsDistinct, AllByRecursion, position_or_len}
 use Rattle.std.proofs.lemmas.Bool.{cases_eq, cases_lt, cases_Bool, eqb-true, eqb-false, eq-eqb, ne_eqb, or_cases, or_parts, or_from, or_left, or_right, both_ways, cond-true, cond-false, lt-ltb, le-ltb, false_from_ne_true}
-use Rattle.std.proofs.lemmas.Map.Keys.{IsDistinct-cons}
+use Rattle.std.proofs.lemmas.Map.Keys.{IsDistinct-cons, IsDistinct-head, IsDistinct-tail}
+use Rattle.std.proofs.lemmas.Map.Made.{AllPairs-from_IsDistinct, IsDistinct-from_AllPairs}
+use Rattle.std.proofs.lemmas.Map.Views.{Contains-from_any, list_any-from_Contains}
+use Rattle.std.proofs.lemmas.Bool.Decides.{Decides-eqb}
+use Rattle.std.proofs.lemmas.Cmp.{nat_eq_equiv}
 use Rattle.std.proofs.lemmas.Map.Steps.{length-le_from_distinct_below}
 use Rattle.std.proofs.lemmas.List.{get_or_past}
 use Rattle.std.proofs.lemmas.List.Sums.{position_or_len_is}
-use Rattle.lw_links.specs.Owners.{has, without, StandsOnce}
+use Rattle.lw_links.specs.Chains.{StandsOnce}
+use Rattle.lw_links.specs.Owners.{has, without}
 
 pub has_here : (x : ℕ) (xs : List ℕ) → has x (x ∷ xs) ≡ true
 has_here x xs = or_left _ _ (eq-eqb x x refl)
@@ -92,6 +97,27 @@ distinct_from_once : (xs : List ℕ) → StandsOnce xs → IsDistinct nat_eq xs
 unfolding IsDistinct
 distinct_from_once [] h = tt
 distinct_from_once (x ∷ xs) h = IsDistinct-cons nat_eq x xs (all_others x xs h.0) (distinct_from_once xs h.1)
+
+none_other : (x : ℕ) (xs : List ℕ) → AllByRecursion (λ y. nat_eq x y ≡ false) xs → has x xs ≡ false
+none_other x [] h = refl
+none_other x (y ∷ ys) h = or_from _ _ h.0 (none_other x ys h.1)
+
+once_from_distinct : (xs : List ℕ) → IsDistinct nat_eq xs → StandsOnce xs
+once_from_distinct [] h = tt
+once_from_distinct (x ∷ xs) h = (none_other x xs (IsDistinct-head nat_eq x xs h), once_from_distinct xs (IsDistinct-tail nat_eq x xs h))
+
+-- the same in std's words
+pub pairs_from_once : (xs : List ℕ) → StandsOnce xs → AllPairs (λ a b. a ≢ b) xs
+pairs_from_once xs h = AllPairs-from_IsDistinct Decides-eqb xs (distinct_from_once xs h)
+
+pub once_from_pairs : (xs : List ℕ) → AllPairs (λ a b. a ≢ b) xs → StandsOnce xs
+once_from_pairs xs h = once_from_distinct xs (IsDistinct-from_AllPairs Decides-eqb xs h)
+
+pub Contains-from_has : (c : ℕ) (xs : List ℕ) → has c xs ≡ true → Contains xs c
+Contains-from_has c xs h = Contains-from_any eqb-true c xs h
+
+pub has-from_Contains : (c : ℕ) (xs : List ℕ) → Contains xs c → has c xs ≡ true
+has-from_Contains c xs h = list_any-from_Contains nat_eq_equiv c xs h
 
 -- a list has no more cells than there are
 pub length_once : (xs : List ℕ) (n : ℕ) → StandsOnce xs → ((c : ℕ) → has c xs ≡ true → c < n) → length xs ≤ n

@@ -3,8 +3,8 @@ use Rattle.std.proofs.Common.{◌≡◌, ◌≢◌, ℕ, ◌+◌, ◌<◌, ◌�
 use Rattle.std.specs.Option.{option_or}
 use Rattle.std.proofs.lemmas.Bool.{cases_eq, eq-eqb, ne_eqb, both_ways, cond-true, cond-false, false_from_ne_true}
 use Rattle.std.proofs.lemmas.List.{append-nil}
-use Rattle.lw_links.specs.Owners.{has, first_in, behind, StandsOnce, Spells}
-use Rattle.lw_links.specs.Chains.{first_or, last_or, ends_of, IsChain, walk, is_cell, joined, ends_without}
+use Rattle.lw_links.specs.Owners.{has, first_in, behind, Spells}
+use Rattle.lw_links.specs.Chains.{StandsOnce, first_or, last_or, ends_of, IsChain, walk, is_cell, joined, ends_without}
 use Rattle.lw_links.specs.declared.links.Place.{Place}
 use Rattle.lw_links.specs.declared.links.Ends.{Ends}
 use Rattle.lw_links.proofs.CellLemmas.{has_here, has_at, has_behind, has_cases, lacks_first, lacks_rest, apart, StandApart, has_left, has_right}

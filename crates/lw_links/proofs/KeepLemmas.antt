@@ -3,11 +3,12 @@ use Rattle.std.proofs.Common.{◌≡◌, ◌≢◌, ℕ, ◌+◌, ◌<◌, ◌�
 use Rattle.std.specs.Option.{option_and_then}
 use Rattle.std.proofs.lemmas.Bool.{cases_eq, cases_lt, eq-eqb, ne_eqb, both_ways, cond-true, cond-false, cases_Bool, false_from_ne_true}
 use Rattle.std.proofs.lemmas.List.{get_or-map, get_or_default, get_or_past, get_or-set_same, get_or-set_other, length-map, length-set, ext_get_or}
-use Rattle.lw_links.specs.Owners.{ListsByOwner, HasEachOnce, has, behind, without, StandsOnce, list_of, owner_of, next_of}
-use Rattle.lw_links.specs.Chains.{no_place, no_ends, place_at, ends_at, first_or, last_or, ends_of, IsLinked, KeepsLists, lists_in, walk}
+use Rattle.lw_links.specs.Owners.{ListsByOwner, HasEachOnce, has, behind, without, list_of, owner_of, next_of}
+use Rattle.std.proofs.lemmas.List.Elements.{Contains-get_or}
+use Rattle.lw_links.specs.Chains.{StandsOnce, no_place, no_ends, place_at, ends_at, first_or, last_or, ends_of, IsLinked, KeepsLists, lists_in, walk}
 use Rattle.lw_links.specs.declared.links.Place.{Place}
 use Rattle.lw_links.specs.declared.links.Ends.{Ends}
-use Rattle.lw_links.proofs.CellLemmas.{length_once, position-only, position-none, exists_from_has}
+use Rattle.lw_links.proofs.CellLemmas.{pairs_from_once, Contains-from_has, has-from_Contains, length_once, position-only, position-none, exists_from_has}
 use Rattle.lw_links.proofs.ChainLemmas.{chain_spells, chain_next, walk_spelled}
 use Rattle.lw_links.proofs.LinkLemmas.{owner_in, one_owner}
 
@@ -44,16 +45,17 @@ module _ (ends : List Ends) (places : List Place) (k : KeepsLists ends places) w
   -- each cell stands at most once in all lists together
   pub each_once : HasEachOnce (record { cells = length places; lists = lists_in ends places })
   each_once = record {
-      once = k.once;
-      one_owner = one_owner (place_at places) (place_at places) (ends_at ends) (ends_at ends) (length places) (length places) (list_in ends places) (list_in ends places) k;
-      in_range = k.in_range;
+      once = λ o. pairs_from_once (list_in ends places o) (k.once o);
+      one_owner = λ o p c h j. one_owner (place_at places) (place_at places) (ends_at ends) (ends_at ends) (length places) (length places)
+        (list_in ends places) (list_in ends places) k o p c (has-from_Contains c (list_in ends places o) h) (has-from_Contains c (list_in ends places p) j);
+      in_range = λ o i d lt. k.in_range o _ (has-from_Contains _ (list_in ends places o) (Contains-get_or (list_in ends places o) i d lt));
     }
 
 -- the owner whose list has a cell
 module _ (v : ListsByOwner) (k : HasEachOnce v) where
   pub owner_of-has : (o c : ℕ) → has c (list_of v o) ≡ true → owner_of v c ≡ Some o
   owner_of-has o c h =
-      position-only (has c) v.lists [] o (exists_from_has v.lists o c h) h (λ p lt t. k.one_owner p o c t h)
+      position-only (has c) v.lists [] o (exists_from_has v.lists o c h) h (λ p lt t. k.one_owner p o c (Contains-from_has c (list_of v p) t) (Contains-from_has c (list_of v o) h))
 
   pub owner_of-none : (c : ℕ) → ((o : ℕ) → has c (list_of v o) ≡ true → ⊥) → owner_of v c ≡ None
   owner_of-none c none = position-none (has c) v.lists [] (λ o lt t. none o t)

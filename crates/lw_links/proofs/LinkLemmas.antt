@@ -2,8 +2,8 @@
 use Rattle.std.proofs.Common.{◌≡◌, ◌≢◌, ℕ, ◌+◌, ◌<◌, ◌≤◌, ◌⊎◌, Bool, true, false, cond, nat_eq, List, [], ◌∷◌, ◌++◌, length, get_or, Some, None, Option, refl, sym, ◌∙◌, ap, subst, inl, inr, arith}
 use Rattle.std.specs.Option.{option_or}
 use Rattle.std.proofs.lemmas.Bool.{cases_eq, eq-eqb, ne_eqb, both_ways, cond-true, cond-false, cases_Bool, false_from_ne_true}
-use Rattle.lw_links.specs.Owners.{has, without, StandsOnce}
-use Rattle.lw_links.specs.Chains.{no_place, no_ends, first_or, last_or, ends_of, IsChain, IsLinked, is_cell, joined, ends_without, given}
+use Rattle.lw_links.specs.Owners.{has, without}
+use Rattle.lw_links.specs.Chains.{StandsOnce, no_place, no_ends, first_or, last_or, ends_of, IsChain, IsLinked, is_cell, joined, ends_without, given}
 use Rattle.lw_links.specs.declared.links.Place.{Place}
 use Rattle.lw_links.specs.declared.links.Ends.{Ends}
 use Rattle.lw_links.proofs.CellLemmas.{has_here, has_at, has_cases, has_left, has_right, has_either, lacks_first, lacks_both, lacks_rest, lacks_left, lacks_right, has_behind, apart, StandApart, apart_from_once, once_from_apart, split_at_cell, without_none, without_middle, has_without}

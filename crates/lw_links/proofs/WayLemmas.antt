@@ -4,10 +4,10 @@ use Rattle.std.specs.Option.{option_and_then}
 use Rattle.std.proofs.lemmas.Bool.{cases_eq, eq-eqb, ne_eqb, cond-true, cond-false, both_ways}
 use Rattle.std.proofs.lemmas.List.{get_or_default, get_or-set_same, get_or-set_other}
 use Rattle.std.proofs.lemmas.List.Quantifiers.{position-Some}
-use Rattle.lw_links.specs.Owners.{ListsByOwner, HasEachOnce, NextSpellsEachList, OwnerHasTheCell, has, first_in, behind, StandsOnce, Spells, list_of, owner_of, next_of}
-use Rattle.lw_links.specs.Chains.{no_place, place_at, walk, way_in, given}
+use Rattle.lw_links.specs.Owners.{ListsByOwner, HasEachOnce, NextSpellsEachList, OwnerHasTheCell, has, first_in, behind, Spells, list_of, owner_of, next_of}
+use Rattle.lw_links.specs.Chains.{StandsOnce, no_place, place_at, walk, way_in, given}
 use Rattle.lw_links.specs.declared.links.Place.{Place}
-use Rattle.lw_links.proofs.CellLemmas.{has_here, has_behind, apart}
+use Rattle.lw_links.proofs.CellLemmas.{once_from_pairs, Contains-from_has, has-from_Contains, has_here, has_behind, apart}
 use Rattle.lw_links.proofs.ChainLemmas.{walk_spelled}
 use Rattle.lw_links.proofs.KeepLemmas.{owner_of-has}
 
@@ -21,11 +21,12 @@ spelled_by next (x ∷ xs) h s =
 
 pub next_spells : NextSpellsEachList
 next_spells v k owner =
-    spelled_by (next_of v) (list_of v owner) (k.once owner) (λ c h.
+    spelled_by (next_of v) (list_of v owner) (once_from_pairs (list_of v owner) (k.once owner)) (λ c h.
       ap (λ o. option_and_then (λ p. behind c (list_of v p)) o) (owner_of-has v k owner c h))
 
 pub owner_has : OwnerHasTheCell
-owner_has v k owner c = (λ e. (position-Some (has c) v.lists owner [] e).1, owner_of-has v k owner c)
+owner_has v k owner c =
+    (λ e. Contains-from_has c (list_of v owner) (position-Some (has c) v.lists owner [] e).1, λ h. owner_of-has v k owner c (has-from_Contains c (list_of v owner) h))
 
 length-walk : (f : ℕ → Place) (n : ℕ) (s : Option ℕ) → length (walk f n s) ≤ n
 length-walk f zero s = omega arith

@@ -1,6 +1,6 @@
 -- How the lists are kept: each cell knows its owner and its neighbours, each owner its list's ends.
 use Rattle.std.specs.Prelude.{◌≡◌, ℕ, ◌<◌, ◌==◌, Bool, true, false, if◌then◌else◌, List, [], ◌∷◌, length, map, slice_index_or, Option, Some, None, is_none, suc, zero}
-use Rattle.lw_links.specs.Owners.{ListsByOwner, has, StandsOnce}
+use Rattle.lw_links.specs.Owners.{has}
 use Rattle.lw_links.specs.declared.links.Place.{Place}
 use Rattle.lw_links.specs.declared.links.Ends.{Ends}
 
@@ -46,6 +46,11 @@ walk place (suc n) (Some cell) = cell ∷ walk place n (place cell).next
 -- the list of each owner
 abbrev pub lists_in : List Ends → List Place → List (List ℕ)
 lists_in ends places = map (λ e. walk (place_at places) (length places) e.first) ends
+
+-- each cell of a list stands in it once
+abbrev pub StandsOnce : List ℕ → Type 0
+StandsOnce [] = Unit {0}
+StandsOnce (x ∷ xs) = (has x xs ≡ false) × StandsOnce xs
 
 -- what places and ends keep of the lists, by owner
 pub record IsLinked (place : ℕ → Place) (ends : ℕ → Ends) (cells : ℕ) (list : ℕ → List ℕ) : Type 0 where

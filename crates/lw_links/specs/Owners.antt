@@ -1,5 +1,5 @@
 -- Lists of cells by their owner: what contracts see of `Lists`, and what each call makes of it.
-use Rattle.std.specs.Prelude.{◌≡◌, ℕ, ◌-◌, ◌<◌, ◌==◌, ◌↔◌, Bool, not, true, false, if◌then◌else◌, List, [], ◌∷◌, ◌++◌, length, map, filter, replicate, position, option_and_then, slice_index_or, slice_set, Option, Some, None}
+use Rattle.std.specs.Prelude.{◌≡◌, ◌≢◌, ℕ, ◌-◌, ◌<◌, ◌==◌, ◌↔◌, Bool, not, All, AllPairs, Contains, if◌then◌else◌, List, [], ◌∷◌, ◌++◌, length, map, filter, replicate, position, option_and_then, slice_index_or, slice_set, Option, Some, None}
 use Rattle.std.specs.List.{list_any}
 
 -- how many cells there are, and the list of each owner, in the owners' order
@@ -65,16 +65,11 @@ unlinked v cell = record { cells = v.cells; lists = map (without cell) v.lists }
 abbrev pub moved : ListsByOwner → ℕ → ℕ → ListsByOwner
 moved v giver taker = with_list (with_list v taker (list_of v taker ++ list_of v giver)) giver []
 
--- each cell of a list stands in it once
-abbrev pub StandsOnce : List ℕ → Type 0
-StandsOnce [] = Unit {0}
-StandsOnce (x ∷ xs) = (has x xs ≡ false) × StandsOnce xs
-
 -- each cell stands at most once in all lists together, and is one of the cells that there are
 pub record HasEachOnce (v : ListsByOwner) : Type 0 where
-  pub once : (owner : ℕ) → StandsOnce (list_of v owner)
-  pub one_owner : (a b cell : ℕ) → has cell (list_of v a) ≡ true → has cell (list_of v b) ≡ true → a ≡ b
-  pub in_range : (owner cell : ℕ) → has cell (list_of v owner) ≡ true → cell < v.cells
+  pub once : (owner : ℕ) → AllPairs (λ a b. a ≢ b) (list_of v owner)
+  pub one_owner : (a b cell : ℕ) → Contains (list_of v a) cell → Contains (list_of v b) cell → a ≡ b
+  pub in_range : (owner : ℕ) → All (λ cell. cell < v.cells) (list_of v owner)
 
 -- the way from a start by `next` goes over these cells, and then there is none
 abbrev pub Spells : (ℕ → Option ℕ) → Option ℕ → List ℕ → Type 0
@@ -89,4 +84,4 @@ NextSpellsEachList = (v : ListsByOwner) → HasEachOnce v → (owner : ℕ)
 -- a cell's owner is the one whose list has it
 abbrev pub OwnerHasTheCell : Type 0
 OwnerHasTheCell = (v : ListsByOwner) → HasEachOnce v → (owner cell : ℕ)
-  → (owner_of v cell ≡ Some owner) ↔ (has cell (list_of v owner) ≡ true)
+  → (owner_of v cell ≡ Some owner) ↔ Contains (list_of v owner) cell

@@ -5,7 +5,8 @@
 pub mod laws;
 pub mod links;
 pub mod memory;
-
+#[cfg(test)]
+mod tests;
 
 pub use links::Lists;
 pub use memory::NoMemory;
