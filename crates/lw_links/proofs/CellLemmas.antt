@@ -1,7 +1,7 @@
 -- Which cells a list has, and which owner's list has a cell.
-use Rattle.std.proofs.Common.{◌≡◌, ◌≢◌, ℕ, ◌+◌, ◌<◌, ◌≤◌, ◌⊎◌, Bool, true, false, not, cond, ◌||◌, nat_eq, nat_lt, List, [], ◌∷◌, ◌++◌, length, AllPairs, Contains, filter, position, get_or, Some, None, Option, refl, sym, ◌∙◌, ap, subst, inl, inr, arith}
+use Rattle.std.proofs.Common.{◌≡◌, ◌≢◌, ℕ, ◌<◌, ◌≤◌, ◌⊎◌, Bool, true, false, cond, nat_eq, nat_lt, List, [], ◌∷◌, ◌++◌, length, AllPairs, Contains, position, get_or, Some, None, refl, sym, ◌∙◌, ap, subst, inl, inr, arith}
 use Rattle.std.specs.List.{IsDistinct, AllByRecursion, position_or_len}
-use Rattle.std.proofs.lemmas.Bool.{cases_eq, cases_lt, cases_Bool, eqb-true, eqb-false, eq-eqb, ne_eqb, or_cases, or_parts, or_from, or_left, or_right, both_ways, cond-true, cond-false, lt-ltb, le-ltb, false_from_ne_true}
+use Rattle.std.proofs.lemmas.Bool.{cases_eq, cases_lt, eqb-true, eqb-false, eq-eqb, ne_eqb, or_cases, or_parts, or_from, or_left, or_right, both_ways, cond-true, cond-false, lt-ltb, le-ltb, false_from_ne_true}
 use Rattle.std.proofs.lemmas.Map.Keys.{IsDistinct-cons, IsDistinct-head, IsDistinct-tail}
 use Rattle.std.proofs.lemmas.Map.Made.{AllPairs-from_IsDistinct, IsDistinct-from_AllPairs}
 use Rattle.std.proofs.lemmas.Map.Views.{Contains-from_any, list_any-from_Contains}
@@ -81,7 +81,7 @@ apart_from_once (x ∷ xs) ys h =
     let k = apart_from_once xs ys h.1 in record {
       front = (lacks_left x xs ys h.0, k.front);
       back = k.back;
-      apart = λ c e. elim (has_cases c x xs e) [ inl i ↦ subst (λ v. has v ys ≡ false) (sym i) (lacks_right x xs ys h.0) | inr i ↦ k.apart c i ]
+      apart = λ c e. elim (has_cases c x xs e) [ inl i ↦ subst (λ v. has v ys ≡ false) (sym i) (lacks_right x xs ys h.0) | inr i ↦ k.apart c i ];
     }
 
 pub once_from_apart : (xs ys : List ℕ) → StandsOnce xs → StandsOnce ys → ((c : ℕ) → has c xs ≡ true → has c ys ≡ false) → StandsOnce (xs ++ ys)
@@ -148,7 +148,7 @@ module _ {X : Type 0} (p : X → Bool) (xs : List X) (d : X) where
   pub position-only : (o : ℕ) → o < length xs → p (get_or xs o d) ≡ true → ((k : ℕ) → k < length xs → p (get_or xs k d) ≡ true → k ≡ o) → position p xs ≡ Some o
   position-only o lt at only =
       let e : position_or_len p xs ≡ o = position_or_len_is p xs o d (omega arith)
-          (λ k below. false_from_ne_true (p (get_or xs k d)) (λ t. absurd (let same : k ≡ o = only k (omega arith) t in omega arith))) (λ _. at) in
+      (λ k below. false_from_ne_true (p (get_or xs k d)) (λ t. absurd (let same : k ≡ o = only k (omega arith) t in omega arith))) (λ _. at) in
       let within : nat_lt o (length xs) ≡ true = lt-ltb o (length xs) lt in
       subst (λ n. cond (nat_lt n (length xs)) (Some n) None ≡ Some o) (sym e) (cond-true _ _ _ within)
 
@@ -156,7 +156,7 @@ module _ {X : Type 0} (p : X → Bool) (xs : List X) (d : X) where
   pub position-none : ((k : ℕ) → k < length xs → p (get_or xs k d) ≡ true → ⊥) → position p xs ≡ None
   position-none none =
       let e : position_or_len p xs ≡ length xs = position_or_len_is p xs (length xs) d (omega arith)
-          (λ k below. false_from_ne_true (p (get_or xs k d)) (none k below)) (λ l. absurd (omega arith)) in
+      (λ k below. false_from_ne_true (p (get_or xs k d)) (none k below)) (λ l. absurd (omega arith)) in
       subst (λ n. cond (nat_lt n (length xs)) (Some n) None ≡ None) (sym e) (cond-false _ _ _ (le-ltb (length xs) (length xs) (omega arith)))
 
 -- an owner whose list has a cell exists
@@ -173,7 +173,7 @@ has_without c d (x ∷ xs) n h =
     elim (has_cases d x xs h) [
       | inl e ↦ rw (ne_eqb c x (λ k. n (e ∙ sym k))) (has_at d x (without c xs) e)
       | inr e ↦ elim (cases_eq c x) [
-          | inl k ↦ rw (eq-eqb c x k) (has_without c d xs n e)
-          | inr k ↦ rw (ne_eqb c x k) (has_behind d x (without c xs) (has_without c d xs n e))
-        ]
+        | inl k ↦ rw (eq-eqb c x k) (has_without c d xs n e)
+        | inr k ↦ rw (ne_eqb c x k) (has_behind d x (without c xs) (has_without c d xs n e))
+      ]
     ]

@@ -1,13 +1,12 @@
 -- Chains of cells: what joining them, giving them to an owner and following them comes to.
-use Rattle.std.proofs.Common.{◌≡◌, ◌≢◌, ℕ, ◌+◌, ◌<◌, ◌≤◌, ◌⊎◌, Bool, true, false, cond, nat_eq, List, [], ◌∷◌, ◌++◌, length, get_or, Some, None, Option, is_none, refl, sym, ◌∙◌, ap, subst, inl, inr, arith, zero, suc}
+use Rattle.std.proofs.Common.{◌≡◌, ℕ, ◌≤◌, ◌⊎◌, Bool, true, false, cond, List, [], ◌∷◌, ◌++◌, length, Some, None, Option, is_none, refl, sym, ◌∙◌, ap, subst, inl, inr, arith, zero, suc}
 use Rattle.std.specs.Option.{option_or}
 use Rattle.std.proofs.lemmas.Bool.{cases_eq, eq-eqb, ne_eqb, both_ways, cond-true, cond-false, false_from_ne_true}
 use Rattle.std.proofs.lemmas.List.{append-nil}
 use Rattle.lw_links.specs.Owners.{has, first_in, behind, Spells}
 use Rattle.lw_links.specs.Chains.{StandsOnce, first_or, last_or, ends_of, IsChain, walk, is_cell, joined, ends_without}
 use Rattle.lw_links.specs.declared.links.Place.{Place}
-use Rattle.lw_links.specs.declared.links.Ends.{Ends}
-use Rattle.lw_links.proofs.CellLemmas.{has_here, has_at, has_behind, has_cases, lacks_first, lacks_rest, apart, StandApart, has_left, has_right}
+use Rattle.lw_links.proofs.CellLemmas.{has_here, has_behind, has_cases, lacks_first, lacks_rest, apart, StandApart}
 
 pub first_or-append : (xs ys : List ℕ) (a : Option ℕ) → first_or (xs ++ ys) a ≡ first_or xs (first_or ys a)
 first_or-append [] ys a = refl
@@ -34,7 +33,7 @@ last_elsewhere c (x ∷ xs) b h k = last_elsewhere c xs (Some x) (lacks_rest c x
 pub joined_elsewhere : (a b : Option ℕ) (c : ℕ) (p : Place) → is_cell a c ≡ false → is_cell b c ≡ false → joined a b c p ≡ p
 joined_elsewhere a b c p h k =
     ap (λ (t : Bool). record { owner = p.owner; previous = cond t a p.previous; next = cond (is_cell a c) b p.next }) k
-      ∙ ap (λ (t : Bool). record { owner = p.owner; previous = p.previous; next = cond t b p.next }) h
+    ∙ ap (λ (t : Bool). record { owner = p.owner; previous = p.previous; next = cond t b p.next }) h
 
 -- the first of two lists' cells, and the last
 pub option_or-first : (xs : List ℕ) (a : Option ℕ) → option_or (first_or xs None) a ≡ first_or xs a
@@ -63,10 +62,10 @@ last_without c xs (y ∷ ys) = last_or-append xs (c ∷ y ∷ ys) None ∙ sym (
 
 -- the ends of a list once a cell between two parts is taken out
 pub ends_of-without : (o : Option ℕ) (c : ℕ) (xs ys : List ℕ)
-  → ends_without (ends_of (xs ++ c ∷ ys)) (record { owner = o; previous = last_or xs None; next = first_or ys None }) ≡ ends_of (xs ++ ys)
+    → ends_without (ends_of (xs ++ c ∷ ys)) (record { owner = o; previous = last_or xs None; next = first_or ys None }) ≡ ends_of (xs ++ ys)
 ends_of-without o c xs ys =
     ap (λ (v : Option ℕ). record { first = v; last = cond (is_none (first_or ys None)) (last_or xs None) (last_or (xs ++ c ∷ ys) None) }) (first_without c xs ys)
-      ∙ ap (λ (v : Option ℕ). record { first = first_or (xs ++ ys) None; last = v }) (last_without c xs ys)
+    ∙ ap (λ (v : Option ℕ). record { first = first_or (xs ++ ys) None; last = v }) (last_without c xs ys)
 
 module _ (f : ℕ → Place) where
   pub chain_append : (o : ℕ) (b a : Option ℕ) (xs ys : List ℕ) → IsChain f o b xs (first_or ys a) → IsChain f o (last_or xs b) ys a → IsChain f o b (xs ++ ys) a
@@ -93,9 +92,9 @@ module _ (f : ℕ → Place) where
       elim (cases_eq c x) [
         | inl e ↦ ap (λ v. (f v).next) e ∙ (ap (λ (p : Place). p.next) h.0 ∙ (sym (first_in-first_or xs) ∙ sym (cond-true _ _ _ (eq-eqb c x e))))
         | inr n ↦ elim (has_cases c x xs k) [
-            | inl e ↦ absurd (n e)
-            | inr e ↦ chain_next o (Some x) xs c h.1 e ∙ sym (cond-false _ _ _ (ne_eqb c x n))
-          ]
+          | inl e ↦ absurd (n e)
+          | inr e ↦ chain_next o (Some x) xs c h.1 e ∙ sym (cond-false _ _ _ (ne_eqb c x n))
+        ]
       ]
 
   pub chain_spells : (o : ℕ) (b : Option ℕ) (xs : List ℕ) → IsChain f o b xs None → Spells (λ c. (f c).next) (first_or xs None) xs
@@ -120,44 +119,49 @@ module _ (f g : ℕ → Place) where
 
   -- what comes after the chain is another cell
   chain_after : (o : ℕ) (b a next : Option ℕ) (xs : List ℕ) → IsChain f o b xs a → StandsOnce xs
-    → ((c : ℕ) → has c xs ≡ true → g c ≡ record { owner = (f c).owner; previous = (f c).previous; next = cond (is_cell (last_or xs b) c) next (f c).next })
-    → IsChain g o b xs next
+      → ((c : ℕ) → has c xs ≡ true → g c ≡ record { owner = (f c).owner; previous = (f c).previous; next = cond (is_cell (last_or xs b) c) next (f c).next })
+      → IsChain g o b xs next
   chain_after o b a next [] h k s = tt
-  chain_after o b a next (x ∷ []) h k s =
-      (s x (has_here x []) ∙ (ap (λ (t : Bool). record { owner = (f x).owner; previous = (f x).previous; next = cond t next (f x).next }) (eq-eqb x x refl)
-         ∙ ap (λ (p : Place). record { owner = p.owner; previous = p.previous; next = next }) h.0), tt)
+  chain_after o b a next (x ∷ []) h k s = (
+    s x (has_here x []) ∙ (ap (λ (t : Bool). record { owner = (f x).owner; previous = (f x).previous; next = cond t next (f x).next }) (eq-eqb x x refl)
+        ∙ ap (λ (p : Place). record { owner = p.owner; previous = p.previous; next = next }) h.0),
+    tt,
+  )
   chain_after o b a next (x ∷ y ∷ zs) h k s =
-      let other : is_cell (last_or zs (Some y)) x ≡ false = last_elsewhere x zs (Some y) (lacks_rest x y zs k.0) (ne_eqb x y (lacks_first x y zs k.0)) in
-      (s x (has_here x (y ∷ zs)) ∙ (ap (λ (t : Bool). record { owner = (f x).owner; previous = (f x).previous; next = cond t next (f x).next }) other ∙ h.0),
-       chain_after o (Some x) a next (y ∷ zs) h.1 k.1 (λ c e. s c (has_behind c x (y ∷ zs) e)))
+      let other : is_cell (last_or zs (Some y)) x ≡ false = last_elsewhere x zs (Some y) (lacks_rest x y zs k.0) (ne_eqb x y (lacks_first x y zs k.0)) in (
+        s x (has_here x (y ∷ zs)) ∙ (ap (λ (t : Bool). record { owner = (f x).owner; previous = (f x).previous; next = cond t next (f x).next }) other ∙ h.0),
+        chain_after o (Some x) a next (y ∷ zs) h.1 k.1 (λ c e. s c (has_behind c x (y ∷ zs) e)),
+      )
 
   -- what comes before the chain is another cell
   chain_before : (o : ℕ) (b a previous : Option ℕ) (xs : List ℕ) → IsChain f o b xs a → StandsOnce xs
-    → ((c : ℕ) → has c xs ≡ true → g c ≡ record { owner = (f c).owner; previous = cond (is_cell (first_or xs None) c) previous (f c).previous; next = (f c).next })
-    → IsChain g o previous xs a
+      → ((c : ℕ) → has c xs ≡ true → g c ≡ record { owner = (f c).owner; previous = cond (is_cell (first_or xs None) c) previous (f c).previous; next = (f c).next })
+      → IsChain g o previous xs a
   chain_before o b a previous [] h k s = tt
-  chain_before o b a previous (x ∷ xs) h k s =
-      (s x (has_here x xs) ∙ (ap (λ (t : Bool). record { owner = (f x).owner; previous = cond t previous (f x).previous; next = (f x).next }) (eq-eqb x x refl)
-         ∙ ap (λ (p : Place). record { owner = p.owner; previous = previous; next = p.next }) h.0),
-       chain_frame o (Some x) a xs h.1
-         (λ c e. s c (has_behind c x xs e) ∙ ap (λ (t : Bool). record { owner = (f c).owner; previous = cond t previous (f c).previous; next = (f c).next }) (ne_eqb c x (apart c x xs e k.0))))
+  chain_before o b a previous (x ∷ xs) h k s = (
+    s x (has_here x xs) ∙ (ap (λ (t : Bool). record { owner = (f x).owner; previous = cond t previous (f x).previous; next = (f x).next }) (eq-eqb x x refl)
+        ∙ ap (λ (p : Place). record { owner = p.owner; previous = previous; next = p.next }) h.0),
+    chain_frame o (Some x) a xs h.1
+        (λ c e. s c (has_behind c x xs e) ∙ ap (λ (t : Bool). record { owner = (f c).owner; previous = cond t previous (f c).previous; next = (f c).next }) (ne_eqb c x (apart c x xs e k.0))),
+  )
 
   -- two chains whose ends are joined are one
   pub chain_joined : (o : ℕ) (b a : Option ℕ) (xs ys : List ℕ) → IsChain f o None xs a → IsChain f o b ys None → StandApart xs ys
-    → ((c : ℕ) → (has c xs ≡ true) ⊎ (has c ys ≡ true) → g c ≡ joined (last_or xs None) (first_or ys None) c (f c)) → IsChain g o None (xs ++ ys) None
+      → ((c : ℕ) → (has c xs ≡ true) ⊎ (has c ys ≡ true) → g c ≡ joined (last_or xs None) (first_or ys None) c (f c)) → IsChain g o None (xs ++ ys) None
   chain_joined o b a xs ys h k s j =
       chain_append g o None None xs ys
-        (chain_after o None a (first_or ys None) xs h s.front
-          (λ c e. j c (inl e) ∙ ap (λ (t : Bool). record { owner = (f c).owner; previous = cond t (last_or xs None) (f c).previous; next = cond (is_cell (last_or xs None) c) (first_or ys None) (f c).next })
-            (first_elsewhere c ys None (s.apart c e) refl)))
-        (chain_before o b None (last_or xs None) ys k s.back
-          (λ c e. j c (inr e) ∙ ap (λ (t : Bool). record { owner = (f c).owner; previous = cond (is_cell (first_or ys None) c) (last_or xs None) (f c).previous; next = cond t (first_or ys None) (f c).next })
-            (last_elsewhere c xs None (false_from_ne_true (has c xs) (λ t. both_ways _ (s.apart c t) e)) refl)))
+      (chain_after o None a (first_or ys None) xs h s.front
+      (λ c e. j c (inl e) ∙ ap (λ (t : Bool). record { owner = (f c).owner; previous = cond t (last_or xs None) (f c).previous; next = cond (is_cell (last_or xs None) c) (first_or ys None) (f c).next })
+      (first_elsewhere c ys None (s.apart c e) refl)))
+      (chain_before o b None (last_or xs None) ys k s.back
+      (λ c e. j c (inr e) ∙ ap (λ (t : Bool). record { owner = (f c).owner; previous = cond (is_cell (first_or ys None) c) (last_or xs None) (f c).previous; next = cond t (first_or ys None) (f c).next })
+      (last_elsewhere c xs None (false_from_ne_true (has c xs) (λ t. both_ways _ (s.apart c t) e)) refl)))
 
   -- a chain that is given to another owner
   pub chain_given : (o to : ℕ) (b a : Option ℕ) (xs : List ℕ) → IsChain f o b xs a
-    → ((c : ℕ) → has c xs ≡ true → g c ≡ record { owner = Some to; previous = (f c).previous; next = (f c).next }) → IsChain g to b xs a
+      → ((c : ℕ) → has c xs ≡ true → g c ≡ record { owner = Some to; previous = (f c).previous; next = (f c).next }) → IsChain g to b xs a
   chain_given o to b a [] h s = tt
-  chain_given o to b a (x ∷ xs) h s =
-      (s x (has_here x xs) ∙ ap (λ (p : Place). record { owner = Some to; previous = p.previous; next = p.next }) h.0,
-       chain_given o to (Some x) a xs h.1 (λ c e. s c (has_behind c x xs e)))
+  chain_given o to b a (x ∷ xs) h s = (
+    s x (has_here x xs) ∙ ap (λ (p : Place). record { owner = Some to; previous = p.previous; next = p.next }) h.0,
+    chain_given o to (Some x) a xs h.1 (λ c e. s c (has_behind c x xs e)),
+  )

@@ -1,11 +1,10 @@
 -- That places and ends keep the lists that they are read as, and what is read off them.
-use Rattle.std.proofs.Common.{◌≡◌, ◌≢◌, ℕ, ◌+◌, ◌<◌, ◌≤◌, ◌⊎◌, Bool, true, false, cond, nat_eq, List, [], ◌∷◌, ◌++◌, length, get_or, map, set, replicate, position, Some, None, Option, refl, sym, ◌∙◌, ap, subst, inl, inr, arith}
+use Rattle.std.proofs.Common.{◌≡◌, ℕ, ◌<◌, true, List, [], length, get_or, Some, None, Option, refl, sym, ◌∙◌, ap, subst}
 use Rattle.std.specs.Option.{option_and_then}
-use Rattle.std.proofs.lemmas.Bool.{cases_eq, cases_lt, eq-eqb, ne_eqb, both_ways, cond-true, cond-false, cases_Bool, false_from_ne_true}
-use Rattle.std.proofs.lemmas.List.{get_or-map, get_or_default, get_or_past, get_or-set_same, get_or-set_other, length-map, length-set, ext_get_or}
-use Rattle.lw_links.specs.Owners.{ListsByOwner, HasEachOnce, has, behind, without, list_of, owner_of, next_of}
+use Rattle.std.proofs.lemmas.List.{get_or-map, get_or_default, length-map, ext_get_or}
+use Rattle.lw_links.specs.Owners.{ListsByOwner, HasEachOnce, has, behind, list_of, owner_of, next_of}
 use Rattle.std.proofs.lemmas.List.Elements.{Contains-get_or}
-use Rattle.lw_links.specs.Chains.{StandsOnce, no_place, no_ends, place_at, ends_at, first_or, last_or, ends_of, IsLinked, KeepsLists, lists_in, walk}
+use Rattle.lw_links.specs.Chains.{no_place, no_ends, place_at, ends_at, first_or, IsLinked, KeepsLists, lists_in, walk}
 use Rattle.lw_links.specs.declared.links.Place.{Place}
 use Rattle.lw_links.specs.declared.links.Ends.{Ends}
 use Rattle.lw_links.proofs.CellLemmas.{pairs_from_once, Contains-from_has, has-from_Contains, length_once, position-only, position-none, exists_from_has}
@@ -23,12 +22,12 @@ KeepsThese ends places lists = IsLinked (place_at places) (ends_at ends) (length
 pub lists_in-kept : (ends : List Ends) (places : List Place) (lists : List (List ℕ)) → length ends ≡ length lists → KeepsThese ends places lists → lists_in ends places ≡ lists
 lists_in-kept ends places lists len k =
     ext_get_or [] (lists_in ends places) lists (length-map ends _ ∙ len) (λ o lt.
-      let lt' : o < length ends = rw (← length-map ends (λ (e : Ends). walk (place_at places) (length places) e.first)) lt in
-      get_or-map (λ (e : Ends). walk (place_at places) (length places) e.first) ends o no_ends [] lt'
-        ∙ (ap (λ (e : Ends). walk (place_at places) (length places) e.first) (k.ends_are o)
-        ∙ walk_spelled (place_at places) (length places) (first_or (get_or lists o []) None) (get_or lists o [])
-            (chain_spells (place_at places) o None (get_or lists o []) (k.chain o))
-            (length_once (get_or lists o []) (length places) (k.once o) (k.in_range o))))
+    let lt' : o < length ends = rw (← length-map ends (λ (e : Ends). walk (place_at places) (length places) e.first)) lt in
+    get_or-map (λ (e : Ends). walk (place_at places) (length places) e.first) ends o no_ends [] lt'
+    ∙ (ap (λ (e : Ends). walk (place_at places) (length places) e.first) (k.ends_are o)
+    ∙ walk_spelled (place_at places) (length places) (first_or (get_or lists o []) None) (get_or lists o [])
+    (chain_spells (place_at places) o None (get_or lists o []) (k.chain o))
+    (length_once (get_or lists o []) (length places) (k.once o) (k.in_range o))))
 
 pub record Keeps (ends : List Ends) (places : List Place) (lists : List (List ℕ)) : Type 0 where
   pub invariant : KeepsLists ends places
@@ -45,11 +44,11 @@ module _ (ends : List Ends) (places : List Place) (k : KeepsLists ends places) w
   -- each cell stands at most once in all lists together
   pub each_once : HasEachOnce (record { cells = length places; lists = lists_in ends places })
   each_once = record {
-      once = λ o. pairs_from_once (list_in ends places o) (k.once o);
-      one_owner = λ o p c h j. one_owner (place_at places) (place_at places) (ends_at ends) (ends_at ends) (length places) (length places)
+    once = λ o. pairs_from_once (list_in ends places o) (k.once o);
+    one_owner = λ o p c h j. one_owner (place_at places) (place_at places) (ends_at ends) (ends_at ends) (length places) (length places)
         (list_in ends places) (list_in ends places) k o p c (has-from_Contains c (list_in ends places o) h) (has-from_Contains c (list_in ends places p) j);
-      in_range = λ o i d lt. k.in_range o _ (has-from_Contains _ (list_in ends places o) (Contains-get_or (list_in ends places o) i d lt));
-    }
+    in_range = λ o i d lt. k.in_range o _ (has-from_Contains _ (list_in ends places o) (Contains-get_or (list_in ends places o) i d lt));
+  }
 
 -- the owner whose list has a cell
 module _ (v : ListsByOwner) (k : HasEachOnce v) where
@@ -80,6 +79,7 @@ module _ (ends : List Ends) (places : List Place) (k : KeepsLists ends places) w
     where
       at : (s : Option ℕ) → (place_at places c).owner ≡ s → option_and_then (λ o. behind c (list_in ends places o)) s ≡ next_of (seen ends places) c
       at s e = ap (λ t. option_and_then (λ o. behind c (list_in ends places o)) t) (sym e ∙ seen_owner c)
+
       by : (s : Option ℕ) → (place_at places c).owner ≡ s → (place_at places c).next ≡ next_of (seen ends places) c
       by None e = ap (λ (p : Place). p.next) (k.free c e) ∙ at None e
       by (Some o) e = chain_next (place_at places) o None (list_in ends places o) c (k.chain o) (k.owned c o e) ∙ at (Some o) e

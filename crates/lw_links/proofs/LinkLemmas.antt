@@ -1,12 +1,12 @@
 -- What each call keeps of the lists, over any places, ends and lists by owner.
-use Rattle.std.proofs.Common.{◌≡◌, ◌≢◌, ℕ, ◌+◌, ◌<◌, ◌≤◌, ◌⊎◌, Bool, true, false, cond, nat_eq, List, [], ◌∷◌, ◌++◌, length, get_or, Some, None, Option, refl, sym, ◌∙◌, ap, subst, inl, inr, arith}
+use Rattle.std.proofs.Common.{◌≡◌, ◌≢◌, ℕ, ◌<◌, ◌≤◌, ◌⊎◌, Bool, true, false, cond, List, [], ◌∷◌, ◌++◌, Some, None, Option, refl, sym, ◌∙◌, ap, subst, inl, inr, arith}
 use Rattle.std.specs.Option.{option_or}
-use Rattle.std.proofs.lemmas.Bool.{cases_eq, eq-eqb, ne_eqb, both_ways, cond-true, cond-false, cases_Bool, false_from_ne_true}
+use Rattle.std.proofs.lemmas.Bool.{cases_eq, ne_eqb, both_ways, cases_Bool, false_from_ne_true}
 use Rattle.lw_links.specs.Owners.{has, without}
 use Rattle.lw_links.specs.Chains.{StandsOnce, no_place, no_ends, first_or, last_or, ends_of, IsChain, IsLinked, is_cell, joined, ends_without, given}
 use Rattle.lw_links.specs.declared.links.Place.{Place}
 use Rattle.lw_links.specs.declared.links.Ends.{Ends}
-use Rattle.lw_links.proofs.CellLemmas.{has_here, has_at, has_cases, has_left, has_right, has_either, lacks_first, lacks_both, lacks_rest, lacks_left, lacks_right, has_behind, apart, StandApart, apart_from_once, once_from_apart, split_at_cell, without_none, without_middle, has_without}
+use Rattle.lw_links.proofs.CellLemmas.{has_here, has_at, has_cases, has_left, has_right, has_either, lacks_both, lacks_rest, lacks_left, lacks_right, has_behind, apart, StandApart, apart_from_once, once_from_apart, split_at_cell, without_none, without_middle, has_without}
 use Rattle.lw_links.proofs.ChainLemmas.{chain_split, chain_owner, chain_frame, chain_joined, chain_given, first_or-append, last_or-append, first_elsewhere, last_elsewhere, joined_elsewhere, option_or-first, option_or-last, ends_of-without}
 
 -- an owner whose list stays
@@ -28,21 +28,21 @@ other_owner e = cc
 module _ (f g : ℕ → Place) (d e : ℕ → Ends) (n m : ℕ) (L M : ℕ → List ℕ) (k : IsLinked f d n L) where
   -- each owner's list stays or is made anew
   pub relinked : n ≤ m → ((o : ℕ) → IsSame f g (d o) (e o) (L o) (M o) ⊎ IsRebuilt g (e o) m (M o) o)
-    → ((c o : ℕ) → (g c).owner ≡ Some o → has c (M o) ≡ true) → ((c : ℕ) → (g c).owner ≡ None → g c ≡ no_place) → IsLinked g e m M
+      → ((c o : ℕ) → (g c).owner ≡ Some o → has c (M o) ≡ true) → ((c : ℕ) → (g c).owner ≡ None → g c ≡ no_place) → IsLinked g e m M
   relinked le each owned free = record {
-      chain = λ o. elim (each o) [
-        | inl s ↦ subst (λ xs. IsChain g o None xs None) (sym s.list) (chain_frame f g o None None (L o) (k.chain o) s.places)
-        | inr r ↦ r.chain
-      ];
-      ends_are = λ o. elim (each o) [ inl s ↦ s.ends ∙ (k.ends_are o ∙ ap ends_of (sym s.list)) | inr r ↦ r.ends ];
-      once = λ o. elim (each o) [ inl s ↦ subst StandsOnce (sym s.list) (k.once o) | inr r ↦ r.once ];
-      in_range = λ o c. elim (each o) [
-        | inl s ↦ λ h. let lt : c < n = k.in_range o c (subst (λ xs. has c xs ≡ true) s.list h) in omega arith
-        | inr r ↦ r.in_range c
-      ];
-      owned = owned;
-      free = free;
-    }
+    chain = λ o. elim (each o) [
+      | inl s ↦ subst (λ xs. IsChain g o None xs None) (sym s.list) (chain_frame f g o None None (L o) (k.chain o) s.places)
+      | inr r ↦ r.chain
+    ];
+    ends_are = λ o. elim (each o) [ inl s ↦ s.ends ∙ (k.ends_are o ∙ ap ends_of (sym s.list)) | inr r ↦ r.ends ];
+    once = λ o. elim (each o) [ inl s ↦ subst StandsOnce (sym s.list) (k.once o) | inr r ↦ r.once ];
+    in_range = λ o c. elim (each o) [
+      | inl s ↦ λ h. let lt : c < n = k.in_range o c (subst (λ xs. has c xs ≡ true) s.list h) in omega arith
+      | inr r ↦ r.in_range c
+    ];
+    owned = owned;
+    free = free;
+  }
 
   -- the owner of a cell in a list
   pub owner_in : (o c : ℕ) → has c (L o) ≡ true → (f c).owner ≡ Some o
@@ -71,43 +71,43 @@ module _ (f g : ℕ → Place) (d e : ℕ → Ends) (n m : ℕ) (L M : ℕ → L
 
 -- a cell that is in no list goes last in the list of o: h has the places with the new owner, g those joined
 module _ (f h g : ℕ → Place) (d e : ℕ → Ends) (n : ℕ) (L M : ℕ → List ℕ) (k : IsLinked f d n L) (o c : ℕ)
-  (none : (f c).owner ≡ None) (lt : c < n)
-  (here : h c ≡ record { owner = Some o; previous = (f c).previous; next = (f c).next })
-  (there : (x : ℕ) → x ≢ c → h x ≡ f x)
-  (joins : (x : ℕ) → g x ≡ joined (d o).last (Some c) x (h x))
-  (ends_here : e o ≡ record { first = option_or (d o).first (Some c); last = Some c })
-  (ends_there : (p : ℕ) → p ≢ o → e p ≡ d p)
-  (list_here : M o ≡ L o ++ c ∷ [])
-  (list_there : (p : ℕ) → p ≢ o → M p ≡ L p) where
+    (none : (f c).owner ≡ None) (lt : c < n)
+    (here : h c ≡ record { owner = Some o; previous = (f c).previous; next = (f c).next })
+    (there : (x : ℕ) → x ≢ c → h x ≡ f x)
+    (joins : (x : ℕ) → g x ≡ joined (d o).last (Some c) x (h x))
+    (ends_here : e o ≡ record { first = option_or (d o).first (Some c); last = Some c })
+    (ends_there : (p : ℕ) → p ≢ o → e p ≡ d p)
+    (list_here : M o ≡ L o ++ c ∷ [])
+    (list_there : (p : ℕ) → p ≢ o → M p ≡ L p) where
   push_lacks : (p : ℕ) → has c (L p) ≡ false
   push_lacks p = lacks_unowned f g d e n n L M k p c none
 
   push_apart : StandApart (L o) (c ∷ [])
   push_apart = record {
-      front = k.once o;
-      back = (refl, tt);
-      apart = λ x t. elim (cases_eq x c) [
-        | inl i ↦ absurd (both_ways _ (push_lacks o) (subst (λ v. has v (L o) ≡ true) i t))
-        | inr ne ↦ lacks_both x c [] ne refl
-      ]
-    }
+    front = k.once o;
+    back = (refl, tt);
+    apart = λ x t. elim (cases_eq x c) [
+      | inl i ↦ absurd (both_ways _ (push_lacks o) (subst (λ v. has v (L o) ≡ true) i t))
+      | inr ne ↦ lacks_both x c [] ne refl
+    ];
+  }
 
   push_rebuilt : IsRebuilt g (e o) n (L o ++ c ∷ []) o
   push_rebuilt = record {
-      chain = chain_joined h g o None None (L o) (c ∷ [])
+    chain = chain_joined h g o None None (L o) (c ∷ [])
         (chain_frame f h o None None (L o) (k.chain o) (λ x t. there x (apart x c (L o) t (push_lacks o))))
         (here ∙ ap (λ (p : Place). record { owner = Some o; previous = p.previous; next = p.next }) (k.free c none), tt)
         push_apart
         (λ x _. joins x ∙ ap (λ (v : Ends). joined v.last (Some c) x (h x)) (k.ends_are o));
-      ends = ends_here ∙ (ap (λ (v : Ends). record { first = option_or v.first (Some c); last = Some c }) (k.ends_are o)
+    ends = ends_here ∙ (ap (λ (v : Ends). record { first = option_or v.first (Some c); last = Some c }) (k.ends_are o)
         ∙ (ap (λ (v : Option ℕ). record { first = v; last = Some c }) (option_or-first (L o) (Some c) ∙ sym (first_or-append (L o) (c ∷ []) None))
         ∙ ap (λ (v : Option ℕ). record { first = first_or (L o ++ c ∷ []) None; last = v }) (sym (last_or-append (L o) (c ∷ []) None))));
-      once = once_from_apart (L o) (c ∷ []) (k.once o) (refl, tt) push_apart.apart;
-      in_range = λ x t. elim (has_either x (L o) (c ∷ []) t) [
-        | inl i ↦ k.in_range o x i
-        | inr i ↦ elim (has_cases x c [] i) [ inl j ↦ subst (λ v. v < n) (sym j) lt | inr j ↦ absurd (both_ways false refl j) ]
-      ]
-    }
+    once = once_from_apart (L o) (c ∷ []) (k.once o) (refl, tt) push_apart.apart;
+    in_range = λ x t. elim (has_either x (L o) (c ∷ []) t) [
+      | inl i ↦ k.in_range o x i
+      | inr i ↦ elim (has_cases x c [] i) [ inl j ↦ subst (λ v. v < n) (sym j) lt | inr j ↦ absurd (both_ways false refl j) ]
+    ];
+  }
 
   -- a place that stays
   push_same : (x : ℕ) → x ≢ c → has x (L o) ≡ false → g x ≡ f x
@@ -122,10 +122,10 @@ module _ (f h g : ℕ → Place) (d e : ℕ → Ends) (n : ℕ) (L M : ℕ → L
       (λ p. elim (cases_eq p o) as (λ _. IsSame f g (d p) (e p) (L p) (M p) ⊎ IsRebuilt g (e p) n (M p) p) [
         | inl i ↦ inr (subst (λ q. IsRebuilt g (e q) n (M q) q) (sym i) (subst (λ xs. IsRebuilt g (e o) n xs o) (sym list_here) push_rebuilt))
         | inr ne ↦ inl (record {
-            list = list_there p ne;
-            ends = ends_there p ne;
-            places = λ x t. push_same x (apart x c (L p) t (push_lacks p)) (lacks_other f g d e n n L M k o p x ne t)
-          })
+          list = list_there p ne;
+          ends = ends_there p ne;
+          places = λ x t. push_same x (apart x c (L p) t (push_lacks p)) (lacks_other f g d e n n L M k o p x ne t);
+        })
       ])
       (λ x p t. elim (cases_eq x c) [
         | inl i ↦ let s : Some p ≡ Some o = sym t ∙ (push_owner x ∙ (ap (λ v. (h v).owner) i ∙ ap (λ (q : Place). q.owner) here)) in
@@ -144,13 +144,13 @@ module _ (f h g : ℕ → Place) (d e : ℕ → Ends) (n : ℕ) (L M : ℕ → L
 
 -- a cell is taken out of the list of o: h has the places with its neighbours joined, g its own cleared
 module _ (f h g : ℕ → Place) (d e : ℕ → Ends) (n : ℕ) (L M : ℕ → List ℕ) (k : IsLinked f d n L) (o c : ℕ)
-  (owner : (f c).owner ≡ Some o)
-  (joins : (x : ℕ) → h x ≡ joined (f c).previous (f c).next x (f x))
-  (here : g c ≡ no_place)
-  (there : (x : ℕ) → x ≢ c → g x ≡ h x)
-  (ends_here : e o ≡ ends_without (d o) (f c))
-  (ends_there : (p : ℕ) → p ≢ o → e p ≡ d p)
-  (lists : (p : ℕ) → M p ≡ without c (L p)) where
+    (owner : (f c).owner ≡ Some o)
+    (joins : (x : ℕ) → h x ≡ joined (f c).previous (f c).next x (f x))
+    (here : g c ≡ no_place)
+    (there : (x : ℕ) → x ≢ c → g x ≡ h x)
+    (ends_here : e o ≡ ends_without (d o) (f c))
+    (ends_there : (p : ℕ) → p ≢ o → e p ≡ d p)
+    (lists : (p : ℕ) → M p ≡ without c (L p)) where
   unlink_owner : (x : ℕ) → x ≢ c → (g x).owner ≡ (f x).owner
   unlink_owner x ne = ap (λ (p : Place). p.owner) (there x ne ∙ joins x)
 
@@ -175,33 +175,33 @@ module _ (f h g : ℕ → Place) (d e : ℕ → Ends) (n : ℕ) (L M : ℕ → L
 
     unlink_rebuilt : IsRebuilt g (e o) n (xs ++ ys) o
     unlink_rebuilt = record {
-        chain = chain_joined f g o (Some c) (Some c) xs ys unlink_chain.0 unlink_chain.1.1 unlink_kept
+      chain = chain_joined f g o (Some c) (Some c) xs ys unlink_chain.0 unlink_chain.1.1 unlink_kept
           (λ x s. unlink_joins x (elim s [ inl t ↦ apart x c xs t unlink_lacks | inr t ↦ apart x c ys t unlink_apart.back.0 ]));
-        ends = ends_here ∙ (ap (λ (v : Ends). ends_without v (f c)) (k.ends_are o ∙ ap ends_of split)
+      ends = ends_here ∙ (ap (λ (v : Ends). ends_without v (f c)) (k.ends_are o ∙ ap ends_of split)
           ∙ (ap (λ (p : Place). ends_without (ends_of (xs ++ c ∷ ys)) p) unlink_chain.1.0 ∙ ends_of-without (Some o) c xs ys));
-        once = once_from_apart xs ys unlink_kept.front unlink_kept.back unlink_kept.apart;
-        in_range = λ x t. k.in_range o x (subst (λ zs. has x zs ≡ true) (sym split) (elim (has_either x xs ys t) [
-          | inl i ↦ has_left x xs (c ∷ ys) i
-          | inr i ↦ has_right x xs (c ∷ ys) (has_behind x c ys i)
-        ]))
-      }
+      once = once_from_apart xs ys unlink_kept.front unlink_kept.back unlink_kept.apart;
+      in_range = λ x t. k.in_range o x (subst (λ zs. has x zs ≡ true) (sym split) (elim (has_either x xs ys t) [
+        | inl i ↦ has_left x xs (c ∷ ys) i
+        | inr i ↦ has_right x xs (c ∷ ys) (has_behind x c ys i)
+      ]));
+    }
 
     -- a place that stays
     unlink_same : (x : ℕ) → x ≢ c → has x (L o) ≡ false → g x ≡ f x
     unlink_same x ne t =
         let t' : has x (xs ++ c ∷ ys) ≡ false = subst (λ zs. has x zs ≡ false) split t in
         unlink_joins x ne ∙ joined_elsewhere (last_or xs None) (first_or ys None) x (f x)
-          (last_elsewhere x xs None (lacks_left x xs (c ∷ ys) t') refl) (first_elsewhere x ys None (lacks_rest x c ys (lacks_right x xs (c ∷ ys) t')) refl)
+        (last_elsewhere x xs None (lacks_left x xs (c ∷ ys) t') refl) (first_elsewhere x ys None (lacks_rest x c ys (lacks_right x xs (c ∷ ys) t')) refl)
 
     unlinked_so : IsLinked g e n M
     unlinked_so = relinked f g d e n n L M k (omega arith)
         (λ p. elim (cases_eq p o) as (λ _. IsSame f g (d p) (e p) (L p) (M p) ⊎ IsRebuilt g (e p) n (M p) p) [
           | inl i ↦ inr (subst (λ q. IsRebuilt g (e q) n (M q) q) (sym i) (subst (λ zs. IsRebuilt g (e o) n zs o) (sym unlink_list) unlink_rebuilt))
           | inr ne ↦ let lacks : has c (L p) ≡ false = lacks_other f g d e n n L M k p o c (λ i. ne (sym i)) (k.owned c o owner) in inl (record {
-              list = lists p ∙ without_none c (L p) lacks;
-              ends = ends_there p ne;
-              places = λ x t. unlink_same x (apart x c (L p) t lacks) (lacks_other f g d e n n L M k o p x ne t)
-            })
+            list = lists p ∙ without_none c (L p) lacks;
+            ends = ends_there p ne;
+            places = λ x t. unlink_same x (apart x c (L p) t lacks) (lacks_other f g d e n n L M k o p x ne t);
+          })
         ])
         (λ x p t. elim (cases_eq x c) [
           | inl i ↦ let s : None ≡ Some p = sym (ap (λ (q : Place). q.owner) (ap g i ∙ here)) ∙ t in absurd cc
@@ -218,14 +218,14 @@ module _ (f h g : ℕ → Place) (d e : ℕ → Ends) (n : ℕ) (L M : ℕ → L
 
 -- the list of o goes behind that of t: h has the places with their new owner, g those joined
 module _ (f h g : ℕ → Place) (d e : ℕ → Ends) (n : ℕ) (L M : ℕ → List ℕ) (k : IsLinked f d n L) (o t : ℕ) (two : o ≢ t)
-  (gives : (x : ℕ) → h x ≡ given t (L o) x (f x))
-  (joins : (x : ℕ) → g x ≡ joined (d t).last (d o).first x (h x))
-  (ends_taker : e t ≡ record { first = option_or (d t).first (d o).first; last = option_or (d o).last (d t).last })
-  (ends_giver : e o ≡ no_ends)
-  (ends_there : (p : ℕ) → p ≢ o → p ≢ t → e p ≡ d p)
-  (list_taker : M t ≡ L t ++ L o)
-  (list_giver : M o ≡ [])
-  (list_there : (p : ℕ) → p ≢ o → p ≢ t → M p ≡ L p) where
+    (gives : (x : ℕ) → h x ≡ given t (L o) x (f x))
+    (joins : (x : ℕ) → g x ≡ joined (d t).last (d o).first x (h x))
+    (ends_taker : e t ≡ record { first = option_or (d t).first (d o).first; last = option_or (d o).last (d t).last })
+    (ends_giver : e o ≡ no_ends)
+    (ends_there : (p : ℕ) → p ≢ o → p ≢ t → e p ≡ d p)
+    (list_taker : M t ≡ L t ++ L o)
+    (list_giver : M o ≡ [])
+    (list_there : (p : ℕ) → p ≢ o → p ≢ t → M p ≡ L p) where
   move_apart : StandApart (L t) (L o)
   move_apart = record { front = k.once t; back = k.once o; apart = λ x s. lacks_other f g d e n n L M k o t x (λ i. two (sym i)) s }
 
@@ -240,21 +240,21 @@ module _ (f h g : ℕ → Place) (d e : ℕ → Ends) (n : ℕ) (L M : ℕ → L
 
   move_rebuilt : IsRebuilt g (e t) n (L t ++ L o) t
   move_rebuilt = record {
-      chain = chain_joined h g t None None (L t) (L o)
+    chain = chain_joined h g t None None (L t) (L o)
         (chain_frame f h t None None (L t) (k.chain t) (λ x s. move_kept x (move_apart.apart x s)))
         (chain_given f h o t None None (L o) (k.chain o) move_given)
         move_apart
         (λ x _. joins x ∙ (ap (λ (v : Ends). joined v.last (d o).first x (h x)) (k.ends_are t)
-          ∙ ap (λ (v : Ends). joined (last_or (L t) None) v.first x (h x)) (k.ends_are o)));
-      ends = ends_taker ∙ (ap (λ (v : Ends). record { first = option_or v.first (d o).first; last = option_or (d o).last v.last }) (k.ends_are t)
+        ∙ ap (λ (v : Ends). joined (last_or (L t) None) v.first x (h x)) (k.ends_are o)));
+    ends = ends_taker ∙ (ap (λ (v : Ends). record { first = option_or v.first (d o).first; last = option_or (d o).last v.last }) (k.ends_are t)
         ∙ (ap (λ (v : Ends). record { first = option_or (first_or (L t) None) v.first; last = option_or v.last (last_or (L t) None) }) (k.ends_are o)
         ∙ (ap (λ (v : Option ℕ). record { first = v; last = option_or (last_or (L o) None) (last_or (L t) None) })
-            (option_or-first (L t) (first_or (L o) None) ∙ sym (first_or-append (L t) (L o) None))
+        (option_or-first (L t) (first_or (L o) None) ∙ sym (first_or-append (L t) (L o) None))
         ∙ ap (λ (v : Option ℕ). record { first = first_or (L t ++ L o) None; last = v })
-            (option_or-last (L o) (last_or (L t) None) ∙ sym (last_or-append (L t) (L o) None)))));
-      once = once_from_apart (L t) (L o) (k.once t) (k.once o) move_apart.apart;
-      in_range = λ x s. elim (has_either x (L t) (L o) s) [ inl i ↦ k.in_range t x i | inr i ↦ k.in_range o x i ]
-    }
+        (option_or-last (L o) (last_or (L t) None) ∙ sym (last_or-append (L t) (L o) None)))));
+    once = once_from_apart (L t) (L o) (k.once t) (k.once o) move_apart.apart;
+    in_range = λ x s. elim (has_either x (L t) (L o) s) [ inl i ↦ k.in_range t x i | inr i ↦ k.in_range o x i ];
+  }
 
   -- a place that stays
   move_same : (x : ℕ) → has x (L o) ≡ false → has x (L t) ≡ false → g x ≡ f x
@@ -263,43 +263,43 @@ module _ (f h g : ℕ → Place) (d e : ℕ → Ends) (n : ℕ) (L M : ℕ → L
 
   move_each : (p : ℕ) → IsSame f g (d p) (e p) (L p) (M p) ⊎ IsRebuilt g (e p) n (M p) p
   move_each p = elim (cases_eq p t) as (λ _. IsSame f g (d p) (e p) (L p) (M p) ⊎ IsRebuilt g (e p) n (M p) p) [
-      | inl i ↦ inr (subst (λ q. IsRebuilt g (e q) n (M q) q) (sym i) (subst (λ zs. IsRebuilt g (e t) n zs t) (sym list_taker) move_rebuilt))
-      | inr nt ↦ elim (cases_eq p o) as (λ _. IsSame f g (d p) (e p) (L p) (M p) ⊎ IsRebuilt g (e p) n (M p) p) [
-          | inl i ↦ inr (subst (λ q. IsRebuilt g (e q) n (M q) q) (sym i) (subst (λ zs. IsRebuilt g (e o) n zs o) (sym list_giver) (record {
-              chain = tt;
-              ends = ends_giver;
-              once = tt;
-              in_range = λ x s. absurd (both_ways false refl s)
-            })))
-          | inr ng ↦ inl (record {
-              list = list_there p ng nt;
-              ends = ends_there p ng nt;
-              places = λ x s. move_same x (lacks_other f g d e n n L M k o p x ng s) (lacks_other f g d e n n L M k t p x nt s)
-            })
-        ]
+    | inl i ↦ inr (subst (λ q. IsRebuilt g (e q) n (M q) q) (sym i) (subst (λ zs. IsRebuilt g (e t) n zs t) (sym list_taker) move_rebuilt))
+    | inr nt ↦ elim (cases_eq p o) as (λ _. IsSame f g (d p) (e p) (L p) (M p) ⊎ IsRebuilt g (e p) n (M p) p) [
+      | inl i ↦ inr (subst (λ q. IsRebuilt g (e q) n (M q) q) (sym i) (subst (λ zs. IsRebuilt g (e o) n zs o) (sym list_giver) (record {
+        chain = tt;
+        ends = ends_giver;
+        once = tt;
+        in_range = λ x s. absurd (both_ways false refl s);
+      })))
+      | inr ng ↦ inl (record {
+        list = list_there p ng nt;
+        ends = ends_there p ng nt;
+        places = λ x s. move_same x (lacks_other f g d e n n L M k o p x ng s) (lacks_other f g d e n n L M k t p x nt s);
+      })
     ]
+  ]
 
   -- a cell of any other list, and of the one that takes, is where it was
   move_has : (x p : ℕ) → p ≢ o → has x (L p) ≡ true → has x (M p) ≡ true
   move_has x p ng s = elim (cases_eq p t) [
-      | inl i ↦ subst (λ q. has x (M q) ≡ true) (sym i) (subst (λ zs. has x zs ≡ true) (sym list_taker) (has_left x (L t) (L o) (subst (λ q. has x (L q) ≡ true) i s)))
-      | inr nt ↦ subst (λ zs. has x zs ≡ true) (sym (list_there p ng nt)) s
-    ]
+    | inl i ↦ subst (λ q. has x (M q) ≡ true) (sym i) (subst (λ zs. has x zs ≡ true) (sym list_taker) (has_left x (L t) (L o) (subst (λ q. has x (L q) ≡ true) i s)))
+    | inr nt ↦ subst (λ zs. has x zs ≡ true) (sym (list_there p ng nt)) s
+  ]
 
   move_owned : (x p : ℕ) → (g x).owner ≡ Some p → has x (M p) ≡ true
   move_owned x p s = elim (cases_Bool (has x (L o))) [
-      | inl i ↦ let to : Some p ≡ Some t = sym s ∙ (move_owner x ∙ ap (λ (q : Place). q.owner) (move_given x i)) in
-          subst (λ q. has x (M q) ≡ true) (sym (other_owner to)) (subst (λ zs. has x zs ≡ true) (sym list_taker) (has_right x (L t) (L o) i))
-      | inr i ↦ let s' : has x (L p) ≡ true = k.owned x p (ap (λ (q : Place). q.owner) (sym (move_kept x i)) ∙ (sym (move_owner x) ∙ s)) in
-          move_has x p (λ j. both_ways _ i (subst (λ q. has x (L q) ≡ true) j s')) s'
-    ]
+    | inl i ↦ let to : Some p ≡ Some t = sym s ∙ (move_owner x ∙ ap (λ (q : Place). q.owner) (move_given x i)) in
+        subst (λ q. has x (M q) ≡ true) (sym (other_owner to)) (subst (λ zs. has x zs ≡ true) (sym list_taker) (has_right x (L t) (L o) i))
+    | inr i ↦ let s' : has x (L p) ≡ true = k.owned x p (ap (λ (q : Place). q.owner) (sym (move_kept x i)) ∙ (sym (move_owner x) ∙ s)) in
+        move_has x p (λ j. both_ways _ i (subst (λ q. has x (L q) ≡ true) j s')) s'
+  ]
 
   move_free : (x : ℕ) → (g x).owner ≡ None → g x ≡ no_place
   move_free x s = elim (cases_Bool (has x (L o))) [
-      | inl i ↦ let to : None ≡ Some t = sym s ∙ (move_owner x ∙ ap (λ (q : Place). q.owner) (move_given x i)) in absurd cc
-      | inr i ↦ let s' : (f x).owner ≡ None = ap (λ (q : Place). q.owner) (sym (move_kept x i)) ∙ (sym (move_owner x) ∙ s) in
-          move_same x i (lacks_unowned f g d e n n L M k t x s') ∙ k.free x s'
-    ]
+    | inl i ↦ let to : None ≡ Some t = sym s ∙ (move_owner x ∙ ap (λ (q : Place). q.owner) (move_given x i)) in absurd cc
+    | inr i ↦ let s' : (f x).owner ≡ None = ap (λ (q : Place). q.owner) (sym (move_kept x i)) ∙ (sym (move_owner x) ∙ s) in
+        move_same x i (lacks_unowned f g d e n n L M k t x s') ∙ k.free x s'
+  ]
 
   pub move_linked : IsLinked g e n M
   move_linked = relinked f g d e n n L M k (omega arith) move_each move_owned move_free

@@ -1,10 +1,10 @@
 -- The way by `next`: one step on it, and what it spells.
-use Rattle.std.proofs.Common.{◌≡◌, ◌≢◌, ℕ, ◌+◌, ◌<◌, ◌≤◌, ◌⊎◌, Bool, true, false, cond, ◌||◌, nat_eq, List, [], ◌∷◌, ◌++◌, length, get_or, set, position, Some, None, Option, refl, sym, ◌∙◌, ap, subst, inl, inr, arith, zero, suc}
+use Rattle.std.proofs.Common.{◌≡◌, ◌≢◌, ℕ, ◌<◌, ◌≤◌, Bool, true, false, cond, ◌||◌, List, [], ◌∷◌, length, set, Some, None, Option, refl, sym, ◌∙◌, ap, subst, inl, inr, arith, zero, suc}
 use Rattle.std.specs.Option.{option_and_then}
-use Rattle.std.proofs.lemmas.Bool.{cases_eq, eq-eqb, ne_eqb, cond-true, cond-false, both_ways}
-use Rattle.std.proofs.lemmas.List.{get_or_default, get_or-set_same, get_or-set_other}
+use Rattle.std.proofs.lemmas.Bool.{cases_eq, eq-eqb, ne_eqb, cond-true, cond-false}
+use Rattle.std.proofs.lemmas.List.{get_or-set_same, get_or-set_other}
 use Rattle.std.proofs.lemmas.List.Quantifiers.{position-Some}
-use Rattle.lw_links.specs.Owners.{ListsByOwner, HasEachOnce, NextSpellsEachList, OwnerHasTheCell, has, first_in, behind, Spells, list_of, owner_of, next_of}
+use Rattle.lw_links.specs.Owners.{NextSpellsEachList, OwnerHasTheCell, has, first_in, behind, Spells, list_of, next_of}
 use Rattle.lw_links.specs.Chains.{StandsOnce, no_place, place_at, walk, way_in, given}
 use Rattle.lw_links.specs.declared.links.Place.{Place}
 use Rattle.lw_links.proofs.CellLemmas.{once_from_pairs, Contains-from_has, has-from_Contains, has_here, has_behind, apart}
@@ -15,14 +15,16 @@ use Rattle.lw_links.proofs.KeepLemmas.{owner_of-has}
 spelled_by : (next : ℕ → Option ℕ) (xs : List ℕ) → StandsOnce xs → ((c : ℕ) → has c xs ≡ true → next c ≡ behind c xs) → Spells next (first_in xs) xs
 spelled_by next [] h s = refl
 spelled_by next (x ∷ xs) h s =
-    let e : next x ≡ first_in xs = s x (has_here x xs) ∙ cond-true _ _ _ (eq-eqb x x refl) in
-    (refl, subst (λ t. Spells next t xs) (sym e) (spelled_by next xs h.1 (λ c t.
-      s c (has_behind c x xs t) ∙ cond-false _ _ _ (ne_eqb c x (apart c x xs t h.0)))))
+    let e : next x ≡ first_in xs = s x (has_here x xs) ∙ cond-true _ _ _ (eq-eqb x x refl) in (
+      refl,
+      subst (λ t. Spells next t xs) (sym e) (spelled_by next xs h.1 (λ c t.
+          s c (has_behind c x xs t) ∙ cond-false _ _ _ (ne_eqb c x (apart c x xs t h.0)))),
+    )
 
 pub next_spells : NextSpellsEachList
 next_spells v k owner =
     spelled_by (next_of v) (list_of v owner) (once_from_pairs (list_of v owner) (k.once owner)) (λ c h.
-      ap (λ o. option_and_then (λ p. behind c (list_of v p)) o) (owner_of-has v k owner c h))
+    ap (λ o. option_and_then (λ p. behind c (list_of v p)) o) (owner_of-has v k owner c h))
 
 pub owner_has : OwnerHasTheCell
 owner_has v k owner c =
@@ -42,7 +44,7 @@ pub step_on : (f : ℕ → Place) (n c : ℕ) → Spells (λ x. (f x).next) (Som
 step_on f zero c h = let e : Some c ≡ None = h in absurd cc
 step_on f (suc n) c h =
     let e : walk f (suc n) (f c).next ≡ walk f n (f c).next =
-        walk_spelled f (suc n) (f c).next (walk f n (f c).next) h.1 (omega (arith, length-walk f n (f c).next)) in
+    walk_spelled f (suc n) (f c).next (walk f n (f c).next) h.1 (omega (arith, length-walk f n (f c).next)) in
     record {
       rest = subst (λ xs. Spells (λ x. (f x).next) (f c).next xs) (sym e) h.1;
       whole = ap (λ xs. c ∷ xs) (sym e);
@@ -60,15 +62,15 @@ pub record IsOnTheWay (old now : List Place) (owner : ℕ) (start cursor : Optio
   pub left : (x : ℕ) → given owner (way_in old cursor) x (place_at now x) ≡ given owner (way_in old start) x (place_at old x)
 
 owned_by : (t : Bool) (o a b : Option ℕ)
-  → (let p : Place = record { owner = cond t o o; previous = a; next = b } in p) ≡ (let p : Place = record { owner = o; previous = a; next = b } in p)
+    → (let p : Place = record { owner = cond t o o; previous = a; next = b } in p) ≡ (let p : Place = record { owner = o; previous = a; next = b } in p)
 owned_by true o a b = refl
 owned_by false o a b = refl
 
 given_last : (owner c : ℕ) (xs : List ℕ) (p : Place)
-  → given owner xs c (record { owner = Some owner; previous = p.previous; next = p.next }) ≡ given owner (c ∷ xs) c p
+    → given owner xs c (record { owner = Some owner; previous = p.previous; next = p.next }) ≡ given owner (c ∷ xs) c p
 given_last owner c xs p =
     owned_by (has c xs) (Some owner) p.previous p.next
-      ∙ sym (ap (λ (t : Bool). record { owner = cond (t || has c xs) (Some owner) p.owner; previous = p.previous; next = p.next }) (eq-eqb c c refl))
+    ∙ sym (ap (λ (t : Bool). record { owner = cond (t || has c xs) (Some owner) p.owner; previous = p.previous; next = p.next }) (eq-eqb c c refl))
 
 -- the place of a cell that is given to the owner
 abbrev pub given_now : List Place → ℕ → ℕ → List Place
@@ -95,15 +97,15 @@ module _ (old now : List Place) (owner c : ℕ) (start : Option ℕ) (len : leng
 
   next_on_the_way : IsOnTheWay old (given_now now owner c) owner start (place_at (given_now now owner c) c).next
   next_on_the_way = subst (IsOnTheWay old (given_now now owner c) owner start) (sym next_is) (record {
-      way = step.rest;
-      exist = λ x h. on_way x (has_behind x c _ h);
-      left = λ x. elim (cases_eq x c) [
-        | inl e ↦ subst (λ y. given owner (way_in old (place_at old c).next) y (place_at (given_now now owner c) y) ≡ given owner (way_in old start) y (place_at old y)) (sym e)
-            (ap (λ p. given owner (way_in old (place_at old c).next) c p) here ∙ (given_last owner c (way_in old (place_at old c).next) (place_at now c) ∙ left_yet c))
-        | inr ne ↦ ap (λ p. given owner (way_in old (place_at old c).next) x p) (get_or-set_other now c x _ no_place ne)
-            ∙ (sym (given_first owner c x (way_in old (place_at old c).next) (place_at now x) ne) ∙ left_yet x)
-      ];
-    })
+    way = step.rest;
+    exist = λ x h. on_way x (has_behind x c _ h);
+    left = λ x. elim (cases_eq x c) [
+      | inl e ↦ subst (λ y. given owner (way_in old (place_at old c).next) y (place_at (given_now now owner c) y) ≡ given owner (way_in old start) y (place_at old y)) (sym e)
+          (ap (λ p. given owner (way_in old (place_at old c).next) c p) here ∙ (given_last owner c (way_in old (place_at old c).next) (place_at now c) ∙ left_yet c))
+      | inr ne ↦ ap (λ p. given owner (way_in old (place_at old c).next) x p) (get_or-set_other now c x _ no_place ne)
+          ∙ (sym (given_first owner c x (way_in old (place_at old c).next) (place_at now x) ne) ∙ left_yet x)
+    ];
+  })
 
   way_shorter : length (way_in old (place_at (given_now now owner c) c).next) < length (way_in old (Some c))
   way_shorter = rw (next_is, step.whole) (omega arith)

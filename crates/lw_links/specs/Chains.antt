@@ -73,17 +73,17 @@ is_cell (Some x) cell = cell == x
 -- a cell's place once these two are neighbours
 abbrev pub joined : Option ℕ → Option ℕ → ℕ → Place → Place
 joined previous next cell p = record {
-    owner = p.owner;
-    previous = if is_cell next cell then previous else p.previous;
-    next = if is_cell previous cell then next else p.next
-  }
+  owner = p.owner;
+  previous = if is_cell next cell then previous else p.previous;
+  next = if is_cell previous cell then next else p.next;
+}
 
 -- the ends of a list once the cell with this place is taken out
 abbrev pub ends_without : Ends → Place → Ends
 ends_without ends p = record {
-    first = if is_none p.previous then p.next else ends.first;
-    last = if is_none p.next then p.previous else ends.last
-  }
+  first = if is_none p.previous then p.next else ends.first;
+  last = if is_none p.next then p.previous else ends.last;
+}
 
 -- the cells from a start by `next`
 abbrev pub way_in : List Place → Option ℕ → List ℕ

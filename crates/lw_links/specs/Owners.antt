@@ -79,9 +79,9 @@ Spells next start (x ∷ xs) = (start ≡ Some x) × Spells next (next x) xs
 -- from an owner's first cell by `next` one goes over the owner's list
 abbrev pub NextSpellsEachList : Type 0
 NextSpellsEachList = (v : ListsByOwner) → HasEachOnce v → (owner : ℕ)
-  → Spells (next_of v) (first_of v owner) (list_of v owner)
+    → Spells (next_of v) (first_of v owner) (list_of v owner)
 
 -- a cell's owner is the one whose list has it
 abbrev pub OwnerHasTheCell : Type 0
 OwnerHasTheCell = (v : ListsByOwner) → HasEachOnce v → (owner cell : ℕ)
-  → (owner_of v cell ≡ Some owner) ↔ Contains (list_of v owner) cell
+    → (owner_of v cell ≡ Some owner) ↔ Contains (list_of v owner) cell

@@ -25,8 +25,16 @@ impl Ends {
         ensures { result ≡ ends_without self place.now }
     {
         Ends {
-            first: if place.previous.is_none() { place.next } else { self.first },
-            last: if place.next.is_none() { place.previous } else { self.last },
+            first: if place.previous.is_none() {
+                place.next
+            } else {
+                self.first
+            },
+            last: if place.next.is_none() {
+                place.previous
+            } else {
+                self.last
+            },
         }
     }
 }

@@ -7,6 +7,7 @@ use std::alloc::Global;
 use std::test::Fail;
 
 const OWNERS: u32 = 7;
+
 const CELLS: u32 = 60;
 
 /// The owner's list, by `first` and `next`.
@@ -37,7 +38,10 @@ fn keeps_lists_by_owner(rt: HostRuntime) -> Result<(), Fail> {
     lists.push(0, 1);
     lists.push(1, 2);
     lists.move_all(0, 1);
-    assert_eq!(rt; list_of(alloc, &lists, 1, 5)?.as_slice(), [2, 4, 1].as_slice());
+    assert_eq!(rt;
+        list_of(alloc, &lists, 1, 5)?.as_slice(),
+        [2, 4, 1].as_slice()
+    );
     assert!(rt; list_of(alloc, &lists, 0, 5)?.is_empty());
     lists.unlink(4);
     assert_eq!(rt; list_of(alloc, &lists, 1, 5)?.as_slice(), [2, 1].as_slice());
@@ -57,7 +61,10 @@ fn grows(rt: HostRuntime) -> Result<(), Fail> {
     assert_eq!(rt; lists.owner(3), None);
     lists.push(2, 3);
     lists.move_all(0, 2);
-    assert_eq!(rt; list_of(alloc, &lists, 2, 4)?.as_slice(), [3, 1, 0].as_slice());
+    assert_eq!(rt;
+        list_of(alloc, &lists, 2, 4)?.as_slice(),
+        [3, 1, 0].as_slice()
+    );
     lists.has_each_once();
     next_spells_each_list();
     owner_has_the_cell();
@@ -75,7 +82,9 @@ fn draw(seed: &mut u64, bound: u32) -> u32
     requires { 0 < bound }
     ensures { result < bound }
 {
-    *seed = seed.wrapping_mul(6364136223846793005).wrapping_add(1442695040888963407);
+    *seed = seed
+        .wrapping_mul(6364136223846793005)
+        .wrapping_add(1442695040888963407);
     ((*seed >> 33) % bound as u64) as u32
 }
 
@@ -114,7 +123,12 @@ fn plain_move(alloc: Global, plain: &mut Vec<Vec<u32>>, from: u32, to: u32) -> R
 }
 
 /// One push, unlink or move, on both.
-fn step(alloc: Global, lists: &mut Lists, plain: &mut Vec<Vec<u32>>, seed: &mut u64) -> Result<(), Fail>
+fn step(
+    alloc: Global,
+    lists: &mut Lists,
+    plain: &mut Vec<Vec<u32>>,
+    seed: &mut u64,
+) -> Result<(), Fail>
     requires owners { length lists.old.lists ≡ OWNERS }
     requires cells { lists.old.cells ≡ CELLS }
     ensures owners { length lists.new.lists ≡ OWNERS }
@@ -170,7 +184,10 @@ fn agrees_with_plain_lists(rt: HostRuntime) -> Result<(), Fail> {
     for round in 0..10000u32 {
         step(alloc, &mut lists, &mut plain, &mut seed)?;
         if round % 100 == 0 {
-            assert!(rt; same(alloc, &lists, plain.as_slice())?, "after round {round}");
+            assert!(rt;
+                same(alloc, &lists, plain.as_slice())?,
+                "after round {round}"
+            );
         }
     }
     assert!(rt; same(alloc, &lists, plain.as_slice())?);

@@ -14,7 +14,7 @@ unwrap-owner-requires c = unlink_some c.self.inside.ends.items c.self.inside.pla
 pub index-ends-requires : goal.index-ends-requires
 index-ends-requires c =
     let owner_exists : c.unwrap-owner.result < length c.self.inside.ends.items =
-        unlink_owner c.self.inside.ends.items c.self.inside.places.items c.args.self.now c.self.view_is c.self.invariant c.args.cell c.requires c.index.result.now c.index.ensures c.unwrap-owner.result c.unwrap-owner.ensures in
+    unlink_owner c.self.inside.ends.items c.self.inside.places.items c.args.self.now c.self.view_is c.self.invariant c.args.cell c.requires c.index.result.now c.index.ensures c.unwrap-owner.result c.unwrap-owner.ensures in
     omega arith
 
 pub join-requires-clause-previous_exists : goal.join-requires-clause-previous_exists
@@ -32,19 +32,19 @@ index_mut-requires c =
 pub index_mut-requires-2 : goal.index_mut-requires-2
 index_mut-requires-2 c =
     let owner_exists : c.unwrap-owner.result < length c.self.inside.ends.items =
-        unlink_owner c.self.inside.ends.items c.self.inside.places.items c.args.self.now c.self.view_is c.self.invariant c.args.cell c.requires c.index.result.now c.index.ensures c.unwrap-owner.result c.unwrap-owner.ensures in
+    unlink_owner c.self.inside.ends.items c.self.inside.places.items c.args.self.now c.self.view_is c.self.invariant c.args.cell c.requires c.index.result.now c.index.ensures c.unwrap-owner.result c.unwrap-owner.ensures in
     omega arith
 
 pub invariant_of-self : goal.invariant_of-self
 invariant_of-self c =
     (unlink_made c.self.inside.ends.items c.self.inside.places.items c.args.self.now c.self.view_is c.self.invariant c.args.cell c.requires
-      c.index.result.now c.index.ensures c.unwrap-owner.result c.index-ends.result.now c.without.result _ c.join.new.places
-      c.unwrap-owner.ensures c.index-ends.ensures (take_at c.join.new.places _ c.self.inside.places.len (omega arith)) (omega arith) c.without.ensures
-      (λ x. c.join.ensures x ∙ ap (λ s. joined c.index.result.now.previous c.index.result.now.next x (place_at s x)) c.as_mut_slice.ensures.value)).invariant
+    c.index.result.now c.index.ensures c.unwrap-owner.result c.index-ends.result.now c.without.result _ c.join.new.places
+    c.unwrap-owner.ensures c.index-ends.ensures (take_at c.join.new.places _ c.self.inside.places.len (omega arith)) (omega arith) c.without.ensures
+    (λ x. c.join.ensures x ∙ ap (λ s. joined c.index.result.now.previous c.index.result.now.next x (place_at s x)) c.as_mut_slice.ensures.value)).invariant
 
 pub returns : goal.returns
 returns c =
     (unlink_made c.self.inside.ends.items c.self.inside.places.items c.args.self.now c.self.view_is c.self.invariant c.args.cell c.requires
-      c.index.result.now c.index.ensures c.unwrap-owner.result c.index-ends.result.now c.without.result _ c.join.new.places
-      c.unwrap-owner.ensures c.index-ends.ensures (take_at c.join.new.places _ c.self.inside.places.len (omega arith)) (omega arith) c.without.ensures
-      (λ x. c.join.ensures x ∙ ap (λ s. joined c.index.result.now.previous c.index.result.now.next x (place_at s x)) c.as_mut_slice.ensures.value)).view
+    c.index.result.now c.index.ensures c.unwrap-owner.result c.index-ends.result.now c.without.result _ c.join.new.places
+    c.unwrap-owner.ensures c.index-ends.ensures (take_at c.join.new.places _ c.self.inside.places.len (omega arith)) (omega arith) c.without.ensures
+    (λ x. c.join.ensures x ∙ ap (λ s. joined c.index.result.now.previous c.index.result.now.next x (place_at s x)) c.as_mut_slice.ensures.value)).view
