@@ -74,6 +74,10 @@ module _ (ends : List Ends) (places : List Place) (k : KeepsLists ends places) w
             next = subst (λ (p : Place). IfSome p.next (λ x. x < length places)) (sym at) (below _ (first_is_in (list_in ends places o) s.1.0 back));
           }
 
+-- the place of a cell that is an owner's, before it has neighbours
+abbrev pub first_place : ℕ → Place
+first_place o = record { owner = Some o; previous = None; next = None }
+
 -- a value, and what is seen of it
 module _ (ends : List Ends) (places : List Place) (v : ListsByOwner) (is : seen ends places ≡ v) (k : KeepsLists ends places) where
   owners : length ends ≡ length v.lists
@@ -90,28 +94,27 @@ module _ (ends : List Ends) (places : List Place) (v : ListsByOwner) (is : seen 
       let lt : o < length ends = rw owners owner_exists in
       rw (len, at ∙ get_or_default ends o b no_ends lt) (last_below ends places k o)
 
-  module _ (o c : ℕ) (b : Ends) (r : Place) (P Q : List Place) (first : Option ℕ)
+  module _ (o c : ℕ) (b : Ends) (P Q : List Place) (first : Option ℕ)
       (owner_exists : o < length v.lists) (cell_exists : c < v.cells) (none : owner_of v c ≡ None)
-      (b_at : b ≡ get_or ends o b) (r_at : r ≡ get_or places c r) (same : P ≡ Q) (len : length Q ≡ length places)
+      (b_at : b ≡ get_or ends o b) (same : P ≡ Q) (len : length Q ≡ length places)
       (first_is : first ≡ option_or b.first (Some c))
-      (joins : (x : ℕ) → place_at Q x ≡ joined b.last (Some c) x (place_at (set places c (record { owner = Some o; previous = r.previous; next = r.next })) x)) where
+      (joins : (x : ℕ) → place_at Q x ≡ joined b.last (Some c) x (place_at (set places c (first_place o)) x)) where
     pub push_made : Made (set ends o (record { first = first; last = Some c })) P (pushed v o c)
     push_made =
         let o_lt : o < length ends = rw owners owner_exists in
         let l_lt : o < length (lists_in ends places) = rw (← lists_len) o_lt in
         let c_lt : c < length places = rw cells cell_exists in
         let b_is : b ≡ ends_at ends o = b_at ∙ get_or_default ends o b no_ends o_lt in
-        let r_is : r ≡ place_at places c = r_at ∙ get_or_default places c r no_place c_lt in
         subst (λ w. Made (set ends o (record { first = first; last = Some c })) P (pushed w o c)) is
         (subst (λ q. Made (set ends o (record { first = first; last = Some c })) q (pushed (seen ends places) o c)) (sym same)
         (made _ Q (pushed (seen ends places) o c) (length-set ends o _ ∙ (lists_len ∙ sym (length-set (lists_in ends places) o _))) len
-        (push_linked (place_at places) (place_at (set places c (record { owner = Some o; previous = r.previous; next = r.next }))) (place_at Q)
+        (push_linked (place_at places) (place_at (set places c (first_place o))) (place_at Q)
         (ends_at ends) (ends_at (set ends o (record { first = first; last = Some c }))) (length places)
         (list_in ends places) (list_of (pushed (seen ends places) o c)) k o c
         (seen_owner ends places k c ∙ (ap (λ w. owner_of w c) is ∙ none)) c_lt
-        (get_or-set_same places c _ no_place c_lt ∙ ap (λ (p : Place). record { owner = Some o; previous = p.previous; next = p.next }) r_is)
+        (get_or-set_same places c _ no_place c_lt)
         (λ x ne. get_or-set_other places c x _ no_place ne)
-        (λ x. joins x ∙ ap (λ (e : Ends). joined e.last (Some c) x (place_at (set places c (record { owner = Some o; previous = r.previous; next = r.next })) x)) b_is)
+        (λ x. joins x ∙ ap (λ (e : Ends). joined e.last (Some c) x (place_at (set places c (first_place o)) x)) b_is)
         (get_or-set_same ends o _ no_ends o_lt ∙ ap (λ (s : Option ℕ). record { first = s; last = Some c }) (first_is ∙ ap (λ (e : Ends). option_or e.first (Some c)) b_is))
         (λ p ne. get_or-set_other ends o p _ no_ends ne)
         (get_or-set_same (lists_in ends places) o _ [] l_lt)

@@ -72,7 +72,7 @@ module _ (f g : ℕ → Place) (d e : ℕ → Ends) (n m : ℕ) (L M : ℕ → L
 -- a cell that is in no list goes last in the list of o: h has the places with the new owner, g those joined
 module _ (f h g : ℕ → Place) (d e : ℕ → Ends) (n : ℕ) (L M : ℕ → List ℕ) (k : IsLinked f d n L) (o c : ℕ)
     (none : (f c).owner ≡ None) (lt : c < n)
-    (here : h c ≡ record { owner = Some o; previous = (f c).previous; next = (f c).next })
+    (here : h c ≡ record { owner = Some o; previous = None; next = None })
     (there : (x : ℕ) → x ≢ c → h x ≡ f x)
     (joins : (x : ℕ) → g x ≡ joined (d o).last (Some c) x (h x))
     (ends_here : e o ≡ record { first = option_or (d o).first (Some c); last = Some c })
@@ -96,7 +96,7 @@ module _ (f h g : ℕ → Place) (d e : ℕ → Ends) (n : ℕ) (L M : ℕ → L
   push_rebuilt = record {
     chain = chain_joined h g o None None (L o) (c ∷ [])
         (chain_frame f h o None None (L o) (k.chain o) (λ x t. there x (apart x c (L o) t (push_lacks o))))
-        (here ∙ ap (λ (p : Place). record { owner = Some o; previous = p.previous; next = p.next }) (k.free c none), tt)
+        (here, tt)
         push_apart
         (λ x _. joins x ∙ ap (λ (v : Ends). joined v.last (Some c) x (h x)) (k.ends_are o));
     ends = ends_here ∙ (ap (λ (v : Ends). record { first = option_or v.first (Some c); last = Some c }) (k.ends_are o)

@@ -120,7 +120,10 @@ impl Lists {
         ensures { self.new ≡ pushed self.old owner cell }
     {
         let ends = self.ends[owner as usize];
-        self.places[cell as usize].owner = Some(owner);
+        self.places[cell as usize] = Place {
+            owner: Some(owner),
+            ..Place::NONE
+        };
         join(self.places.as_mut_slice(), ends.last, Some(cell));
         self.ends[owner as usize] = Ends {
             first: ends.first.or(Some(cell)),
