@@ -204,9 +204,6 @@ module _ (ends : List Ends) (places : List Place) (v : ListsByOwner) (is : seen 
         (sym (ap (λ (e : Ends). e.first) (a_is ∙ k.ends_are o)))
         (chain_spells (place_at places) o None (list_in ends places o) (k.chain o))))
 
-    pub move_exist : (x : ℕ) → has x (way_in S a.first) ≡ true → x < length S
-    move_exist x h = rw same_places (k.in_range o x (subst (λ xs. has x xs ≡ true) way_is h))
-
     pub move_previous : (n : ℕ) → n ≡ length places → IfSome b.last (λ x. x < n)
     move_previous n len = rw (len, b_is) (last_below ends places k t)
 

@@ -3,10 +3,11 @@
 #![tactic(auto)]
 
 pub mod laws;
-pub mod links;
-pub mod memory;
-#[cfg(test)]
-mod tests;
+mod links;
+mod memory;
 
 pub use links::Lists;
 pub use memory::NoMemory;
+
+#[cfg(test)]
+mod tests;

@@ -57,8 +57,9 @@ impl Place {
 
 /// The lists of owners `0, 1, ..` over the cells `0, 1, ..`. A cell stands in one list at most, once.
 ///
-/// Only [`Lists::new`] and [`Lists::grow`] take memory: 16 bytes for each owner, 24 for each cell.
-/// Of the others each but [`Lists::move_all`] takes the same time whatever the lists' lengths.
+/// Only [`Lists::new`] and [`Lists::grow`] take memory: 16 bytes for each owner and 24 for each cell,
+/// and up to twice that after a `grow`, so that growing step by step costs little. All else but
+/// [`Lists::move_all`] takes constant time, whatever the lists' lengths.
 #[derive(Drop)]
 pub struct Lists {
     ends: Vec<Ends>,
@@ -79,7 +80,7 @@ impl Model for Lists {
 }
 
 impl Lists {
-    /// An empty list for each owner, and all cells in none.
+    /// An empty list for each owner, and all cells in none. Takes time in proportion to both numbers.
     ///
     /// # Errors
     /// Only where memory runs out.
@@ -93,7 +94,8 @@ impl Lists {
         Ok(Lists { ends, places })
     }
 
-    /// More owners, with empty lists, and more cells, in no list.
+    /// More owners, with empty lists, and more cells, in no list. Takes time in proportion to what is
+    /// new, but for the growth steps, at which all is moved.
     ///
     /// # Errors
     /// Only where memory runs out; the lists are then as before.
@@ -165,7 +167,7 @@ impl Lists {
         self.ends[from as usize] = Ends::NONE;
     }
 
-    /// The owner whose list has the cell.
+    /// The owner whose list has the cell. Takes constant time.
     pub fn owner(&self, cell: u32) -> Option<u32>
         requires { cell < self.now.cells }
         ensures { result ≡ owner_of self.now cell }
@@ -173,7 +175,7 @@ impl Lists {
         self.places[cell as usize].owner
     }
 
-    /// The first cell of the owner's list.
+    /// The first cell of the owner's list. Takes constant time.
     pub fn first(&self, owner: u32) -> Option<u32>
         requires { owner < length self.now.lists }
         ensures { result ≡ first_of self.now owner }
@@ -181,7 +183,7 @@ impl Lists {
         self.ends[owner as usize].first
     }
 
-    /// The cell that stands behind this one in the list that has it.
+    /// The cell that stands behind this one in the list that has it. Takes constant time.
     pub fn next(&self, cell: u32) -> Option<u32>
         requires { cell < self.now.cells }
         ensures { result ≡ next_of self.now cell }

@@ -1,16 +1,11 @@
 use Rattle.std.proofs.Common.{length, arith}
 use Rattle.std.proofs.lemmas.List.{take_at}
-use Rattle.lw_links.proofs.CallLemmas.{move_way, move_exist, move_previous, move_next, move_made}
+use Rattle.lw_links.proofs.CallLemmas.{move_way, move_previous, move_next, move_made}
 use Rattle.lw_links.proofs.links.Lists.move_all.Goals as goal
 
 pub give-requires-clause-way_ends : goal.give-requires-clause-way_ends
 give-requires-clause-way_ends c =
     move_way c.self.inside.ends.items c.self.inside.places.items c.args.self.now c.self.view_is c.self.invariant c.args.from c.args.to c.requires.apart c.requires.from_exists c.requires.to_exists
-    c.index-moved.result.now c.index-kept.result.now c.index-moved.ensures c.index-kept.ensures c.as_mut_slice-places.result.now c.as_mut_slice-places.ensures.value
-
-pub give-requires-clause-cells_exist : goal.give-requires-clause-cells_exist
-give-requires-clause-cells_exist c =
-    move_exist c.self.inside.ends.items c.self.inside.places.items c.args.self.now c.self.view_is c.self.invariant c.args.from c.args.to c.requires.apart c.requires.from_exists c.requires.to_exists
     c.index-moved.result.now c.index-kept.result.now c.index-moved.ensures c.index-kept.ensures c.as_mut_slice-places.result.now c.as_mut_slice-places.ensures.value
 
 pub join-requires-clause-previous_exists : goal.join-requires-clause-previous_exists
