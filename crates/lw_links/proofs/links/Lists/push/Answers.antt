@@ -1,0 +1,27 @@
+use Rattle.std.proofs.Common.{Some, ap, ◌∙◌, arith, length}
+use Rattle.std.proofs.lemmas.List.{take_at, length-set}
+use Rattle.lw_links.specs.Chains.{place_at, joined}
+use Rattle.lw_links.specs.declared.links.Place.{Place}
+use Rattle.lw_links.proofs.CallLemmas.{push_previous, push_made}
+use Rattle.lw_links.proofs.links.Lists.push.Goals as goal
+
+pub join-requires-clause-previous_exists : goal.join-requires-clause-previous_exists
+join-requires-clause-previous_exists c =
+    push_previous c.self.inside.ends.items c.self.inside.places.items c.args.self.now c.self.view_is c.self.invariant
+    c.args.owner c.index-ends.result.now (length c.as_mut_slice.result.now) c.requires.owner_exists c.index-ends.ensures (omega (arith, length-set {A = Place}))
+
+pub invariant_of-self : goal.invariant_of-self
+invariant_of-self c =
+    (push_made c.self.inside.ends.items c.self.inside.places.items c.args.self.now c.self.view_is c.self.invariant
+    c.args.owner c.args.cell c.index-ends.result.now _ c.join.new.places c.or.result
+    c.requires.owner_exists c.requires.cell_exists c.requires.in_no_list c.index-ends.ensures
+    (take_at c.join.new.places _ c.self.inside.places.len (omega (arith, length-set {A = Place}))) (omega (arith, length-set {A = Place})) c.or.ensures
+    (λ x. c.join.ensures x ∙ ap (λ s. joined c.index-ends.result.now.last (Some c.args.cell) x (place_at s x)) c.as_mut_slice.ensures.value)).invariant
+
+pub returns : goal.returns
+returns c =
+    (push_made c.self.inside.ends.items c.self.inside.places.items c.args.self.now c.self.view_is c.self.invariant
+    c.args.owner c.args.cell c.index-ends.result.now _ c.join.new.places c.or.result
+    c.requires.owner_exists c.requires.cell_exists c.requires.in_no_list c.index-ends.ensures
+    (take_at c.join.new.places _ c.self.inside.places.len (omega (arith, length-set {A = Place}))) (omega (arith, length-set {A = Place})) c.or.ensures
+    (λ x. c.join.ensures x ∙ ap (λ s. joined c.index-ends.result.now.last (Some c.args.cell) x (place_at s x)) c.as_mut_slice.ensures.value)).view
