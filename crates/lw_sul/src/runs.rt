@@ -48,4 +48,12 @@ impl Runs {
     {
         &self.runs[i]
     }
+
+    /// The runs as a vector. Takes no memory.
+    pub fn into_runs(self) -> Vec<Run>
+        ensures { result.items ≡ self }
+    {
+        let Runs { runs } = self;
+        runs
+    }
 }

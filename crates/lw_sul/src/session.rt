@@ -148,6 +148,20 @@ impl<S: Sul> Session<S> {
         self.instance
     }
 
+    /// The number of the system's inputs.
+    pub fn inputs(&self) -> u16
+        ensures { result ≡ S.inputs self.now.sul }
+    {
+        self.sul.inputs()
+    }
+
+    /// The number of the system's outputs.
+    pub fn outputs(&self) -> u16
+        ensures { result ≡ S.outputs self.now.sul }
+    {
+        self.sul.outputs()
+    }
+
     pub fn journal(&self) -> &Runs
         ensures { result.now ≡ self.now.journal }
     {
@@ -162,6 +176,28 @@ impl<S: Sul> Session<S> {
             Some(stop) => Some(stop.copy()),
             None => None,
         }
+    }
+
+    pub fn sul(&self) -> &S
+        ensures { result.now ≡ self.now.sul }
+    {
+        &self.sul
+    }
+
+    /// The journal, taken out of the session. Takes no memory.
+    pub fn into_journal(self) -> Runs
+    where
+        S: Drop,
+        ensures { result ≡ self.journal }
+    {
+        let Session {
+            instance: _,
+            sul: _,
+            stopped: _,
+            journal,
+            alloc: _,
+        } = self;
+        journal
     }
 
     /// The system.

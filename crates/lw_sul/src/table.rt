@@ -32,6 +32,13 @@ impl TableSul {
         let state = mealy.initial();
         TableSul { mealy, state }
     }
+
+    /// The machine.
+    pub fn machine(&self) -> &Mealy
+        ensures { result.now ≡ self.now.table }
+    {
+        &self.mealy
+    }
 }
 
 impl Sul for TableSul {
