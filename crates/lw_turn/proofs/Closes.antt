@@ -1,30 +1,20 @@
 -- What the core is once every pass was joined.
-use Rattle.std.proofs.Common.{◌≡◌, ◌≢◌, ◌⊎◌, ℕ, zero, suc, ◌+◌, ◌%◌, ◌^◌, ◌<◌, ◌≤◌, List, [], ◌∷◌, ◌++◌, length, Bool, true, false, true≢false, refl, sym, ap, ◌∙◌, subst, inl, inr, ⊎_elim, arith, set, drop, cond, eqb, eq-eqb, ne_eqb, length-append, MatchBool}
-use Rattle.std.specs.Prelude.{Option, Some, None, is_some, IsSome, count_by, slice_index, ◌==◌}
-use Rattle.std.specs.Cmp.{unsigned_Decides}
-use Rattle.std.proofs.lemmas.List.{length-set}
-use Rattle.std.proofs.Math.Seq.{drop-append_seam}
-use mathlib.Core.Option.{some, none, some-injective, some-ne-none}
+use Rattle.std.proofs.Common.{◌≡◌, ◌≢◌, ℕ, zero, suc, ◌<◌, List, length, true≢false, refl, sym, ap, ◌∙◌, subst, ⊎_elim, arith}
+use Rattle.std.specs.Prelude.{Option, Some, None, IsSome}
+use mathlib.Core.Option.{some, some-injective}
 use mathlib.Core.Option.{Option as Maybe}
-use mathlib.Core.List.{IsPrefix}
 use lib.ListN.{get_elem?}
-use Rattle.atomic_table.specs.Table.{State, Me, Step, step, Act, keeps, takes, gives, Allows, Splits, Joins, Final, Seen, Valid, stepped, carried_after}
-use Rattle.atomic_table.proofs.Lists.{at_set, set_again, set_here, set_else, at_longer, at_last}
+use Rattle.atomic_table.specs.Table.{State, Final, Seen}
 use Rattle.lw_turn.specs.declared.shared.Entry.{Entry}
 use Rattle.lw_turn.specs.declared.view.View.{View}
 use Rattle.lw_turn.specs.declared.view.Ended.{Ended}
 use Rattle.lw_turn.specs.declared.view.Doing.{Doing}
-use Rattle.lw_turn.specs.declared.view.Stage.{Stage}
-use Rattle.lw_turn.specs.declared.view.Stage.TheVariants.{Idle, Waiting, Turning, Spent}
+use Rattle.lw_turn.specs.declared.view.Stage.TheVariants.{Idle}
 use Rattle.lw_turn.specs.History.{entries_of}
-use Rattle.lw_turn.specs.Views.{ended_of, longer, ended_view, next_view, IsWhole}
-use Rattle.lw_turn.specs.Rule.{ticket_of, has_ticket, IsLive, IsSpent, Fits, AreTickets, IsHome, IsOut, IsTurn, Kept}
-use Rattle.lw_turn.specs.Steps.{Look, IsServed, End, Learn, learned, IsOneHistory, grown, carried_history, one_more, next_place, with_ended, spent_place}
-use Rattle.lw_turn.proofs.Histories.{prefix_refl, prefix_more, prefix_trans, prefix_longer_first, prefix_longer_second, prefix_longer_both, own_more, other_more}
-use Rattle.lw_turn.proofs.Places.{there, one_at, same_or_not, at_snoc_index}
-use Rattle.lw_turn.proofs.Fitting.{live_set, fits_still, spent_apart, spent_set, spent_longer}
-use Rattle.lw_turn.proofs.Tickets.{tickets_same, tickets_ended, tickets_more}
-use Rattle.lw_turn.proofs.Turning.{IsCalm, idle_is_calm, waiting_is_calm, spent_is_calm, out_set, out_longer, turning_set, turning_more}
+use Rattle.lw_turn.specs.Views.{ended_of, IsWhole}
+use Rattle.lw_turn.specs.Rule.{IsSpent, Fits, IsHome, IsOut, Kept}
+use Rattle.lw_turn.proofs.Places.{there, one_at}
+use Rattle.lw_turn.proofs.Turning.{IsCalm, idle_is_calm, spent_is_calm}
 
 module _ {C O A B : Type 0} (actors : O → ℕ) (legal : O → List (Entry A B) → Type 0) (opening : C → O) (entries : C → List (Entry A B)) (o : O) where
   abbrev Law : State (Option C) (Doing O A B) → Type 0
@@ -85,3 +75,27 @@ module _ {C O A B : Type 0} (actors : O → ℕ) (legal : O → List (Entry A B)
       → (core : C) × (get_elem? slots 0 ≡ some (Some core)) × (opening core ≡ v.opening) × IsWhole legal v (entries core)
   closes id v zeroth all ws slots f =
       let c = closed id v zeroth all f.0 f.1.0 f.1.1 in (c.0, f.4 0 (Some c.0) c.1, c.2, c.3)
+
+  pub closes_idle : (id : ℕ) (d : Doing O A B) → d.stage ≡ Idle → d.view.number ≡ 0 → ((n : ℕ) → 0 < n → n < d.view.made → IsSome (ended_of n d.view.ended)) → (ws : List ℕ) (slots : List (Option C))
+      → Final (Seen Law id d) ws slots
+      → (core : C) × (get_elem? slots 0 ≡ some (Some core)) × (opening core ≡ d.view.opening) × IsWhole legal d.view (entries core)
+  closes_idle id d idle zeroth all ws slots f =
+      let is : d ≡ record { stage = Idle; view = d.view } = λ i. record { stage = idle i; view = d.view } in
+      closes id d.view zeroth all ws slots (subst (λ (x : Doing O A B). Final (Seen Law id x) ws slots) is f)
+
+  module _ (id : ℕ) (d : Doing O A B) (known : View O A B) (known_is : d.view ≡ known) (idle : d.stage ≡ Idle) (zeroth : known.number ≡ 0) (all : (n : ℕ) → 0 < n → n < known.made → IsSome (ended_of n known.ended)) (ws : List ℕ) (slots : List (Option C)) (f : Final (Seen Law id d) ws slots) (slot : Option C) (taken : get_elem? slots 0 ≡ some slot) where
+    the_core : (core : C) × (slot ≡ Some core) × (opening core ≡ known.opening) × IsWhole legal known (entries core)
+    the_core =
+        let number : d.view.number ≡ 0 = ap (λ (v : View O A B). v.number) known_is ∙ zeroth in
+        let joined : (n : ℕ) → 0 < n → n < d.view.made → IsSome (ended_of n d.view.ended) = subst (λ (v : View O A B). (n : ℕ) → 0 < n → n < v.made → IsSome (ended_of n v.ended)) (sym known_is) all in
+        let r = closes_idle id d idle number joined ws slots f in
+        (r.0, some-injective slot (Some r.0) (sym taken ∙ r.1), r.2 ∙ ap (λ (v : View O A B). v.opening) known_is, subst (λ (v : View O A B). IsWhole legal v (entries r.0)) known_is r.3)
+
+    pub slot_is_full : slot ≢ None
+    slot_is_full e = let r = the_core in let q : Some r.0 ≡ None = sym r.1 ∙ e in cc
+
+    pub core_is_whole : (core : C) → slot ≡ Some core → (opening core ≡ known.opening) × IsWhole legal known (entries core)
+    core_is_whole core e =
+        let r = the_core in
+        let q : Some r.0 ≡ Some core = sym r.1 ∙ e in
+        let same : r.0 ≡ core = cc in (ap opening (sym same) ∙ r.2, subst (λ (x : C). IsWhole legal known (entries x)) same r.3)

@@ -1,21 +1,20 @@
 -- Drawing a ticket keeps the rule.
-use Rattle.std.proofs.Common.{◌≡◌, ◌≢◌, ◌⊎◌, ℕ, ◌+◌, ◌%◌, ◌^◌, ◌<◌, ◌≤◌, List, [], ◌∷◌, ◌++◌, length, refl, sym, ap, ◌∙◌, subst, inl, inr, ⊎_elim, arith, set}
-use Rattle.std.specs.Prelude.{Option, Some, None, is_some, count_by, slice_index}
+use Rattle.std.proofs.Common.{◌≡◌, ℕ, ◌+◌, ◌%◌, ◌^◌, ◌<◌, ◌≤◌, List, [], ◌∷◌, length, refl, sym, ap, ◌∙◌, subst, inl, inr, ⊎_elim, arith, set}
+use Rattle.std.specs.Prelude.{Option, Some, slice_index}
 use Rattle.std.proofs.lemmas.List.{length-set}
 use Rattle.std.proofs.lemmas.List.Sums.{count_by-le-length}
 use mathlib.Core.Option.{some, none}
 use lib.ListN.{get_elem?}
-use Rattle.atomic_table.specs.Table.{State, Me, Step, step, Act, keeps, takes, gives, Allows, Valid, stepped, carried_after}
+use Rattle.atomic_table.specs.Table.{State, Me, step, keeps, Allows}
 use Rattle.lw_turn.specs.declared.shared.Entry.{Entry}
 use Rattle.lw_turn.specs.declared.view.View.{View}
 use Rattle.lw_turn.specs.declared.view.Doing.{Doing}
-use Rattle.lw_turn.specs.declared.view.Stage.{Stage}
-use Rattle.lw_turn.specs.declared.view.Stage.TheVariants.{Idle, Waiting, Turning, Spent}
-use Rattle.lw_turn.specs.Rule.{ticket_of, has_ticket, IsLive, Fits, AreTickets, IsHome, IsOut, IsTurn, Kept}
+use Rattle.lw_turn.specs.declared.view.Stage.TheVariants.{Idle, Waiting}
+use Rattle.lw_turn.specs.Rule.{has_ticket, IsTurn, Kept}
 use Rattle.lw_turn.specs.Steps.{Draw}
 use Rattle.lw_turn.proofs.Fitting.{live_set}
 use Rattle.lw_turn.proofs.Tickets.{tickets_drawn}
-use Rattle.lw_turn.proofs.Turning.{IsCalm, idle_is_calm, waiting_is_calm, out_set, turning_set}
+use Rattle.lw_turn.proofs.Turning.{idle_is_calm, waiting_is_calm, out_set, turning_set}
 
 module _ {C O A B : Type 0} (actors : O → ℕ) (legal : O → List (Entry A B) → Type 0) (opening : C → O) (entries : C → List (Entry A B)) (most : O → ℕ) (bounded : (o : O) (es : List (Entry A B)) → legal o es → (length es ≤ most o) × (most o + actors o < 2 ^ 64)) (o : O) where
   abbrev Law : State (Option C) (Doing O A B) → Type 0
@@ -53,11 +52,15 @@ module _ {C O A B : Type 0} (actors : O → ℕ) (legal : O → List (Entry A B)
   draws slots id v s k len at small =
       let found : slice_index s.words 0 ≡ k.next = ap (λ (ws : List ℕ). slice_index ws 0) k.words in
       let words : set s.words 0 ((slice_index s.words 0 + 1) % 2 ^ 64) ≡ (k.next + 1) ∷ length k.log ∷ [] =
-          ap (λ (ws : List ℕ). set ws 0 ((slice_index ws 0 + 1) % 2 ^ 64)) k.words ∙ ap (λ (n : ℕ). n ∷ length k.log ∷ []) (room_for_ticket s k id v 0 at) in
-      (
+      ap (λ (ws : List ℕ). set ws 0 ((slice_index ws 0 + 1) % 2 ^ 64)) k.words ∙ ap (λ (n : ℕ). n ∷ length k.log ∷ []) (room_for_ticket s k id v 0 at) in (
         record { stage = Waiting (slice_index s.words 0); view = v },
         keeps,
         tt,
         drawn slots id v s k (slice_index s.words 0) found at words,
         refl,
       )
+
+  pub draws_idle : (slots id : ℕ) (me : Me (Option C) (Doing O A B)) → me.0.stage ≡ Idle → me.1 ≡ [] → Allows Law slots id me 0 (λ n. (n + 1) % 2 ^ 64) (Draw (step slots 0 1 0 none) me)
+  draws_idle slots id me idle empty =
+      let is : ◌≡◌ {A = Me (Option C) (Doing O A B)} (record { stage = Idle; view = me.0.view }, []) me = λ i. (record { stage = sym idle i; view = me.0.view }, sym empty i) in
+      subst (λ (m : Me (Option C) (Doing O A B)). Allows Law slots id m 0 (λ n. (n + 1) % 2 ^ 64) (Draw (step slots 0 1 0 none) m)) is (draws slots id me.0.view)

@@ -1,30 +1,27 @@
 -- The end of a turn keeps the rule.
-use Rattle.std.proofs.Common.{◌≡◌, ◌≢◌, ◌⊎◌, ℕ, zero, suc, ◌+◌, ◌%◌, ◌^◌, ◌<◌, ◌≤◌, List, [], ◌∷◌, ◌++◌, length, Bool, true, false, refl, sym, ap, ◌∙◌, subst, inl, inr, ⊎_elim, arith, set, drop, cond, eqb, eq-eqb, ne_eqb, length-append, MatchBool}
-use Rattle.std.specs.Prelude.{Option, Some, None, is_some, IsSome, count_by, slice_index, ◌==◌}
-use Rattle.std.specs.Cmp.{unsigned_Decides}
+use Rattle.std.proofs.Common.{◌≡◌, ◌≢◌, ℕ, ◌+◌, ◌%◌, ◌^◌, ◌<◌, ◌≤◌, List, [], ◌∷◌, ◌++◌, length, refl, sym, ap, ◌∙◌, subst, inl, ⊎_elim, arith, set, drop, length-append}
+use Rattle.std.specs.Prelude.{Option, Some, slice_index}
 use Rattle.std.proofs.lemmas.List.{length-set}
 use Rattle.std.proofs.Math.Seq.{drop-append_seam}
-use mathlib.Core.Option.{some, none, some-injective, some-ne-none}
+use mathlib.Core.Option.{some, none}
 use mathlib.Core.Option.{Option as Maybe}
 use mathlib.Core.List.{IsPrefix}
 use lib.ListN.{get_elem?}
-use Rattle.atomic_table.specs.Table.{State, Me, Step, step, Act, keeps, takes, gives, Allows, Splits, Joins, Final, Seen, Valid, stepped, carried_after}
-use Rattle.atomic_table.proofs.Lists.{at_set, set_again, set_here, set_else, at_longer, at_last}
+use Rattle.atomic_table.specs.Table.{State, Me, step, gives, Allows}
+use Rattle.atomic_table.proofs.Lists.{at_set}
 use Rattle.lw_turn.specs.declared.shared.Entry.{Entry}
 use Rattle.lw_turn.specs.declared.view.View.{View}
-use Rattle.lw_turn.specs.declared.view.Ended.{Ended}
 use Rattle.lw_turn.specs.declared.view.Doing.{Doing}
-use Rattle.lw_turn.specs.declared.view.Stage.{Stage}
-use Rattle.lw_turn.specs.declared.view.Stage.TheVariants.{Idle, Waiting, Turning, Spent}
+use Rattle.lw_turn.specs.declared.view.Stage.TheVariants.{Idle, Turning}
 use Rattle.lw_turn.specs.History.{entries_of}
-use Rattle.lw_turn.specs.Views.{ended_of, longer, ended_view, next_view, IsWhole}
-use Rattle.lw_turn.specs.Rule.{ticket_of, has_ticket, IsLive, IsSpent, Fits, AreTickets, IsHome, IsOut, IsTurn, Kept}
-use Rattle.lw_turn.specs.Steps.{Look, IsServed, End, Learn, learned, IsOneHistory, grown, carried_history, one_more, next_place, with_ended, spent_place}
-use Rattle.lw_turn.proofs.Histories.{prefix_refl, prefix_more, prefix_trans, prefix_longer_first, prefix_longer_second, prefix_longer_both, own_more, other_more}
-use Rattle.lw_turn.proofs.Places.{there, one_at, same_or_not, at_snoc_index}
-use Rattle.lw_turn.proofs.Fitting.{live_set, fits_still, spent_apart, spent_set, spent_longer}
-use Rattle.lw_turn.proofs.Tickets.{tickets_same, tickets_ended, tickets_more}
-use Rattle.lw_turn.proofs.Turning.{IsCalm, idle_is_calm, waiting_is_calm, spent_is_calm, out_set, out_longer, turning_set, turning_more}
+use Rattle.lw_turn.specs.Turns.{Carries}
+use Rattle.lw_turn.specs.Rule.{ticket_of, IsLive, IsSpent, Fits, AreTickets, IsTurn, Kept}
+use Rattle.lw_turn.specs.Steps.{End, grown}
+use Rattle.lw_turn.proofs.Histories.{prefix_refl, prefix_more, prefix_trans, own_more, other_more}
+use Rattle.lw_turn.proofs.Places.{there}
+use Rattle.lw_turn.proofs.Fitting.{fits_still, spent_apart, spent_set}
+use Rattle.lw_turn.proofs.Tickets.{tickets_ended}
+use Rattle.lw_turn.proofs.Turning.{idle_is_calm}
 
 module _ {C O A B : Type 0} (actors : O → ℕ) (legal : O → List (Entry A B) → Type 0) (opening : C → O) (entries : C → List (Entry A B)) (most : O → ℕ) (bounded : (o : O) (es : List (Entry A B)) → legal o es → (length es ≤ most o) × (most o + actors o < 2 ^ 64)) (o : O) where
   abbrev Law : State (Option C) (Doing O A B) → Type 0
@@ -32,7 +29,7 @@ module _ {C O A B : Type 0} (actors : O → ℕ) (legal : O → List (Entry A B)
 
   -- The core that is out has one entry more than the history: the caller's
   module _ (slots id t : ℕ) (v : View O A B) (core : C) (e : Entry A B) (own : e.actor ≡ v.number) (opened : opening core ≡ v.opening) (list : entries core ≡ v.seen ++ e ∷ []) (lawful : legal v.opening (v.seen ++ e ∷ []))
-    (s : State (Option C) (Doing O A B)) (k : Law s) (at : get_elem? s.views id ≡ some record { stage = Turning t; view = v }) where
+      (s : State (Option C) (Doing O A B)) (k : Law s) (at : get_elem? s.views id ≡ some record { stage = Turning t; view = v }) where
     abbrev d : Doing O A B
     d = record { stage = Turning t; view = v }
 
@@ -89,7 +86,7 @@ module _ {C O A B : Type 0} (actors : O → ℕ) (legal : O → List (Entry A B)
         ⊎_elim
         (λ (h : (i ≡ id) × (new ≡ x)). subst (λ (y : Doing O A B). Fits o log' places i y.view) h.1 (subst (λ (n : ℕ). Fits o log' places n new.view) (sym h.0) own_fit))
         (λ (h : (i ≢ id) × (get_elem? s.views i ≡ some x)).
-          fits_still o k.log log' s.views places i x.view (k.live i x h.1 lx) (prefix_more k.log (e ∷ [])) (elsewhere i h.0) (λ z. length-set s.views id new) gone)
+        fits_still o k.log log' s.views places i x.view (k.live i x h.1 lx) (prefix_more k.log (e ∷ [])) (elsewhere i h.0) (λ z. length-set s.views id new) gone)
         (at_set s.views id i new x is)
 
     none_turning : (homes : List (Maybe (Option C))) (i : ℕ) (x : Doing O A B) (n : ℕ) → get_elem? places i ≡ some x → x.stage ≡ Turning n → IsTurn log' homes x n
@@ -97,8 +94,8 @@ module _ {C O A B : Type 0} (actors : O → ℕ) (legal : O → List (Entry A B)
         ⊎_elim
         (λ (h : (i ≡ id) × (new ≡ x)). absurd (idle_is_calm n (ap (λ (z : Doing O A B). z.stage) h.1 ∙ tk)))
         (λ (h : (i ≢ id) × (get_elem? s.views i ≡ some x)).
-          let q = k.turning i x n h.1 tk in
-          absurd (h.0 (k.tickets.apart i id x d t h.1 at (ap ticket_of tk ∙ ap (λ (m : ℕ). Some m) (q.0 ∙ sym now.0)) refl)))
+        let q = k.turning i x n h.1 tk in
+        absurd (h.0 (k.tickets.apart i id x d t h.1 at (ap ticket_of tk ∙ ap (λ (m : ℕ). Some m) (q.0 ∙ sym now.0)) refl)))
         (at_set s.views id i new x is)
 
     room_for_entry : (length k.log + 1) % 2 ^ 64 ≡ length log'
@@ -126,11 +123,16 @@ module _ {C O A B : Type 0} (actors : O → ℕ) (legal : O → List (Entry A B)
   ends slots id t v core e own opened list lawful s k len at small =
       let found : slice_index s.words 1 ≡ length k.log = ap (λ (ws : List ℕ). slice_index ws 1) k.words in
       let words : set s.words 1 ((slice_index s.words 1 + 1) % 2 ^ 64) ≡ k.next ∷ length (k.log ++ e ∷ []) ∷ [] =
-          ap (λ (ws : List ℕ). set ws 1 ((slice_index ws 1 + 1) % 2 ^ 64)) k.words ∙ ap (λ (n : ℕ). k.next ∷ n ∷ []) (room_for_entry slots id t v core e own opened list lawful s k at) in
-      (
+      ap (λ (ws : List ℕ). set ws 1 ((slice_index ws 1 + 1) % 2 ^ 64)) k.words ∙ ap (λ (n : ℕ). k.next ∷ n ∷ []) (room_for_entry slots id t v core e own opened list lawful s k at) in (
         record { stage = Idle; view = grown v (entries core) },
         gives,
         tt,
         given slots id t v core e own opened list lawful s k at (slice_index s.words 1) found words,
         refl,
       )
+
+  pub ends_turning : (slots id t : ℕ) (me : Me (Option C) (Doing O A B)) (core : C) (e : Entry A B) → me.0.stage ≡ Turning t → Carries opening entries core (me.0.view.seen ++ e ∷ []) me → e.actor ≡ me.0.view.number → legal me.0.view.opening (me.0.view.seen ++ e ∷ [])
+      → Allows Law slots id me 1 (λ n. (n + 1) % 2 ^ 64) (End entries (step slots 1 1 0 none) me)
+  ends_turning slots id t me core e turning has own lawful =
+      let is : ◌≡◌ {A = Me (Option C) (Doing O A B)} (record { stage = Turning t; view = me.0.view }, (0, Some core) ∷ []) me = λ i. (record { stage = sym turning i; view = me.0.view }, sym has.slot i) in
+      subst (λ (m : Me (Option C) (Doing O A B)). Allows Law slots id m 1 (λ n. (n + 1) % 2 ^ 64) (End entries (step slots 1 1 0 none) m)) is (ends slots id t me.0.view core e own has.opened has.list lawful)

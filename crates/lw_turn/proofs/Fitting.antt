@@ -1,22 +1,19 @@
 -- What the passes know stays true where one of them takes a step.
-use Rattle.std.proofs.Common.{◌≡◌, ◌≢◌, ◌⊎◌, ℕ, zero, suc, ◌+◌, ◌<◌, ◌≤◌, List, [], ◌∷◌, ◌++◌, length, Bool, true, false, refl, sym, ap, ◌∙◌, subst, inl, inr, ⊎_elim, arith, set, length-append}
-use Rattle.std.specs.Prelude.{Option, Some, None}
+use Rattle.std.proofs.Common.{◌≡◌, ◌≢◌, ℕ, List, ◌++◌, length, refl, sym, ap, ◌∙◌, subst, ⊎_elim, set}
 use Rattle.std.proofs.lemmas.List.{length-set}
-use mathlib.Core.Option.{some, none}
+use mathlib.Core.Option.{some}
 use mathlib.Core.List.{IsPrefix}
 use lib.ListN.{get_elem?}
-use Rattle.atomic_table.proofs.Lists.{at_set, set_here, set_else, at_longer}
+use Rattle.atomic_table.proofs.Lists.{at_set, set_else, at_longer}
 use Rattle.lw_turn.specs.declared.shared.Entry.{Entry}
 use Rattle.lw_turn.specs.declared.view.View.{View}
-use Rattle.lw_turn.specs.declared.view.Ended.{Ended}
 use Rattle.lw_turn.specs.declared.view.Doing.{Doing}
 use Rattle.lw_turn.specs.declared.view.Stage.{Stage}
 use Rattle.lw_turn.specs.declared.view.Stage.TheVariants.{Idle, Waiting, Turning, Spent}
 use Rattle.lw_turn.specs.History.{entries_of}
-use Rattle.lw_turn.specs.Views.{ended_of}
 use Rattle.lw_turn.specs.Rule.{IsLive, IsSpent, Fits}
 use Rattle.lw_turn.proofs.Histories.{prefix_refl, prefix_trans}
-use Rattle.lw_turn.proofs.Places.{one_at, there, same_or_not}
+use Rattle.lw_turn.proofs.Places.{one_at}
 
 pub live_not_spent : (s : Stage) → IsLive s → s ≢ Spent
 live_not_spent Idle h e = cc
@@ -59,7 +56,7 @@ module _ {O A B : Type 0} where
   live_set o log places id d new at live all own i x is lx =
       let len = length-set places id new in
       let still : (j : ℕ) (v : View O A B) → Fits o log places j v → Fits o log (set places id new) j v = λ j v f.
-          fits_still o log log places (set places id new) j v f (prefix_refl log) refl (λ z. len) (λ n sp. (spent_set places id n d new at live sp, refl)) in
+      fits_still o log log places (set places id new) j v f (prefix_refl log) refl (λ z. len) (λ n sp. (spent_set places id n d new at live sp, refl)) in
       ⊎_elim
       (λ (h : (i ≡ id) × (new ≡ x)). subst (λ (y : Doing O A B). Fits o log (set places id new) i y.view) h.1 (subst (λ (k : ℕ). Fits o log (set places id new) k new.view) (sym h.0) (still id new.view own)))
       (λ (h : (i ≢ id) × (get_elem? places i ≡ some x)). still i x.view (all i x h.1 lx))

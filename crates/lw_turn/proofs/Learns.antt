@@ -1,30 +1,22 @@
 -- Pass 0 learns what the pass that was joined last had seen.
-use Rattle.std.proofs.Common.{◌≡◌, ◌≢◌, ◌⊎◌, ℕ, zero, suc, ◌+◌, ◌%◌, ◌^◌, ◌<◌, ◌≤◌, List, [], ◌∷◌, ◌++◌, length, Bool, true, false, refl, sym, ap, ◌∙◌, subst, inl, inr, ⊎_elim, arith, set, drop, cond, eqb, eq-eqb, ne_eqb, length-append, MatchBool}
-use Rattle.std.specs.Prelude.{Option, Some, None, is_some, IsSome, count_by, slice_index, ◌==◌}
-use Rattle.std.specs.Cmp.{unsigned_Decides}
+use Rattle.std.proofs.Common.{◌≡◌, ℕ, List, [], ◌∷◌, length, refl, sym, ap, ◌∙◌, subst, inl, inr, ⊎_elim, arith, set, cond, eq-eqb}
+use Rattle.std.specs.Prelude.{Option, Some, slice_index}
 use Rattle.std.proofs.lemmas.List.{length-set}
-use Rattle.std.proofs.Math.Seq.{drop-append_seam}
-use mathlib.Core.Option.{some, none, some-injective, some-ne-none}
-use mathlib.Core.Option.{Option as Maybe}
-use mathlib.Core.List.{IsPrefix}
+use mathlib.Core.Option.{some, none}
 use lib.ListN.{get_elem?}
-use Rattle.atomic_table.specs.Table.{State, Me, Step, step, Act, keeps, takes, gives, Allows, Splits, Joins, Final, Seen, Valid, stepped, carried_after}
-use Rattle.atomic_table.proofs.Lists.{at_set, set_again, set_here, set_else, at_longer, at_last}
+use Rattle.atomic_table.specs.Table.{State, Me, step, keeps, Allows}
 use Rattle.lw_turn.specs.declared.shared.Entry.{Entry}
 use Rattle.lw_turn.specs.declared.view.View.{View}
 use Rattle.lw_turn.specs.declared.view.Ended.{Ended}
 use Rattle.lw_turn.specs.declared.view.Doing.{Doing}
-use Rattle.lw_turn.specs.declared.view.Stage.{Stage}
-use Rattle.lw_turn.specs.declared.view.Stage.TheVariants.{Idle, Waiting, Turning, Spent}
-use Rattle.lw_turn.specs.History.{entries_of}
-use Rattle.lw_turn.specs.Views.{ended_of, longer, ended_view, next_view, IsWhole}
-use Rattle.lw_turn.specs.Rule.{ticket_of, has_ticket, IsLive, IsSpent, Fits, AreTickets, IsHome, IsOut, IsTurn, Kept}
-use Rattle.lw_turn.specs.Steps.{Look, IsServed, End, Learn, learned, IsOneHistory, grown, carried_history, one_more, next_place, with_ended, spent_place}
-use Rattle.lw_turn.proofs.Histories.{prefix_refl, prefix_more, prefix_trans, prefix_longer_first, prefix_longer_second, prefix_longer_both, own_more, other_more}
-use Rattle.lw_turn.proofs.Places.{there, one_at, same_or_not, at_snoc_index}
-use Rattle.lw_turn.proofs.Fitting.{live_set, fits_still, spent_apart, spent_set, spent_longer}
-use Rattle.lw_turn.proofs.Tickets.{tickets_same, tickets_ended, tickets_more}
-use Rattle.lw_turn.proofs.Turning.{IsCalm, idle_is_calm, waiting_is_calm, spent_is_calm, out_set, out_longer, turning_set, turning_more}
+use Rattle.lw_turn.specs.declared.view.Stage.TheVariants.{Idle}
+use Rattle.lw_turn.specs.Views.{ended_of}
+use Rattle.lw_turn.specs.Rule.{Fits, IsTurn, Kept}
+use Rattle.lw_turn.specs.Steps.{Learn, learned, IsOneHistory}
+use Rattle.lw_turn.proofs.Histories.{prefix_longer_first, prefix_longer_second, prefix_longer_both}
+use Rattle.lw_turn.proofs.Fitting.{live_set}
+use Rattle.lw_turn.proofs.Tickets.{tickets_same}
+use Rattle.lw_turn.proofs.Turning.{idle_is_calm, out_set, turning_set}
 
 module _ {O A B : Type 0} where
   -- what is learned is a beginning of the history too, and begins with what both had seen
@@ -33,8 +25,7 @@ module _ {O A B : Type 0} where
   learned_fits o log places i v [] is f = (f, tt)
   learned_fits o log places i v (e ∷ es) is f =
       let first : ended_of e.number v.ended ≡ Some e = ap (ended_of e.number) is ∙ ap (λ b. cond b (Some e) (ended_of e.number es)) (eq-eqb e.number e.number refl) in
-      let h = f.ended e.number e first in
-      (
+      let h = f.ended e.number e first in (
         record {
           number = f.number;
           opened = f.opened;
@@ -72,11 +63,15 @@ module _ {C O A B : Type 0} (actors : O → ℕ) (legal : O → List (Entry A B)
   pub learns : (slots id : ℕ) (v : View O A B) → Allows Law slots id (record { stage = Idle; view = v }, []) 0 (λ n. n) (Learn (step slots 0 0 0 none) (record { stage = Idle; view = v }, []))
   learns slots id v s k len at small =
       let words : set s.words 0 (slice_index s.words 0) ≡ s.words = ap (λ (ws : List ℕ). set ws 0 (slice_index ws 0)) k.words ∙ sym k.words in
-      let f = learned_fits o k.log s.views id v v.ended refl (k.live id record { stage = Idle; view = v } at tt) in
-      (
+      let f = learned_fits o k.log s.views id v v.ended refl (k.live id record { stage = Idle; view = v } at tt) in (
         record { stage = Idle; view = learned v.ended v },
         keeps,
         tt,
         idle_changes id v (learned v.ended v) s k (set s.words 0 (slice_index s.words 0)) words at f.0,
         (refl, f.1),
       )
+
+  pub learns_idle : (slots id : ℕ) (me : Me (Option C) (Doing O A B)) → me.0.stage ≡ Idle → me.1 ≡ [] → Allows Law slots id me 0 (λ n. n) (Learn (step slots 0 0 0 none) me)
+  learns_idle slots id me idle empty =
+      let is : ◌≡◌ {A = Me (Option C) (Doing O A B)} (record { stage = Idle; view = me.0.view }, []) me = λ i. (record { stage = sym idle i; view = me.0.view }, sym empty i) in
+      subst (λ (m : Me (Option C) (Doing O A B)). Allows Law slots id m 0 (λ n. n) (Learn (step slots 0 0 0 none) m)) is (learns slots id me.0.view)

@@ -10,3 +10,4 @@ pub mod Learns
 pub mod Parts
 pub mod Unions
 pub mod Closes
+pub mod Asking

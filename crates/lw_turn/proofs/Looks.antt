@@ -1,30 +1,25 @@
 -- A look keeps the rule, and takes the core out of the slot where the ticket is served.
-use Rattle.std.proofs.Common.{◌≡◌, ◌≢◌, ◌⊎◌, ℕ, zero, suc, ◌+◌, ◌%◌, ◌^◌, ◌<◌, ◌≤◌, List, [], ◌∷◌, ◌++◌, length, Bool, true, false, refl, sym, ap, ◌∙◌, subst, inl, inr, ⊎_elim, arith, set, drop, cond, eqb, eq-eqb, ne_eqb, length-append, MatchBool}
-use Rattle.std.specs.Prelude.{Option, Some, None, is_some, IsSome, count_by, slice_index, ◌==◌}
+use Rattle.std.proofs.Common.{◌≡◌, ◌≢◌, ℕ, ◌<◌, List, [], ◌∷◌, length, Bool, true, false, refl, sym, ap, ◌∙◌, subst, inr, ⊎_elim, arith, set, eqb, MatchBool}
+use Rattle.std.specs.Prelude.{Option, Some, slice_index, ◌==◌}
 use Rattle.std.specs.Cmp.{unsigned_Decides}
 use Rattle.std.proofs.lemmas.List.{length-set}
-use Rattle.std.proofs.Math.Seq.{drop-append_seam}
-use mathlib.Core.Option.{some, none, some-injective, some-ne-none}
+use mathlib.Core.Option.{some, none}
 use mathlib.Core.Option.{Option as Maybe}
 use mathlib.Core.List.{IsPrefix}
 use lib.ListN.{get_elem?}
-use Rattle.atomic_table.specs.Table.{State, Me, Step, step, Act, keeps, takes, gives, Allows, Splits, Joins, Final, Seen, Valid, stepped, carried_after}
-use Rattle.atomic_table.proofs.Lists.{at_set, set_again, set_here, set_else, at_longer, at_last}
+use Rattle.atomic_table.specs.Table.{State, Me, step, Act, keeps, takes, Allows, Valid, stepped, carried_after}
+use Rattle.atomic_table.proofs.Lists.{at_set, set_again, set_here}
 use Rattle.lw_turn.specs.declared.shared.Entry.{Entry}
 use Rattle.lw_turn.specs.declared.view.View.{View}
-use Rattle.lw_turn.specs.declared.view.Ended.{Ended}
 use Rattle.lw_turn.specs.declared.view.Doing.{Doing}
-use Rattle.lw_turn.specs.declared.view.Stage.{Stage}
-use Rattle.lw_turn.specs.declared.view.Stage.TheVariants.{Idle, Waiting, Turning, Spent}
+use Rattle.lw_turn.specs.declared.view.Stage.TheVariants.{Waiting, Turning}
 use Rattle.lw_turn.specs.History.{entries_of}
-use Rattle.lw_turn.specs.Views.{ended_of, longer, ended_view, next_view, IsWhole}
-use Rattle.lw_turn.specs.Rule.{ticket_of, has_ticket, IsLive, IsSpent, Fits, AreTickets, IsHome, IsOut, IsTurn, Kept}
-use Rattle.lw_turn.specs.Steps.{Look, IsServed, End, Learn, learned, IsOneHistory, grown, carried_history, one_more, next_place, with_ended, spent_place}
-use Rattle.lw_turn.proofs.Histories.{prefix_refl, prefix_more, prefix_trans, prefix_longer_first, prefix_longer_second, prefix_longer_both, own_more, other_more}
-use Rattle.lw_turn.proofs.Places.{there, one_at, same_or_not, at_snoc_index}
-use Rattle.lw_turn.proofs.Fitting.{live_set, fits_still, spent_apart, spent_set, spent_longer}
-use Rattle.lw_turn.proofs.Tickets.{tickets_same, tickets_ended, tickets_more}
-use Rattle.lw_turn.proofs.Turning.{IsCalm, idle_is_calm, waiting_is_calm, spent_is_calm, out_set, out_longer, turning_set, turning_more}
+use Rattle.lw_turn.specs.Rule.{ticket_of, Fits, IsHome, IsOut, Kept}
+use Rattle.lw_turn.specs.Steps.{Look, IsServed}
+use Rattle.lw_turn.proofs.Histories.{prefix_refl}
+use Rattle.lw_turn.proofs.Places.{there, one_at}
+use Rattle.lw_turn.proofs.Fitting.{live_set}
+use Rattle.lw_turn.proofs.Tickets.{tickets_same}
 
 module _ {C O A B : Type 0} (actors : O → ℕ) (legal : O → List (Entry A B) → Type 0) (opening : C → O) (entries : C → List (Entry A B)) (o : O) where
   abbrev Law : State (Option C) (Doing O A B) → Type 0
@@ -36,11 +31,11 @@ module _ {C O A B : Type 0} (actors : O → ℕ) (legal : O → List (Entry A B)
       ⊎_elim
       (λ (h : IsHome opening entries o k.log s.homes). h)
       (λ (out : IsOut s.views).
-        let q = k.turning out.0 out.1 out.2 out.3 out.4 in
-        let te : ticket_of out.1.stage ≡ Some t = ap ticket_of out.4 ∙ ap (λ (n : ℕ). Some n) (q.0 ∙ sym now) in
-        let same : out.0 ≡ id = k.tickets.apart out.0 id out.1 record { stage = Waiting t; view = v } t out.3 at te refl in
-        let d : out.1 ≡ record { stage = Waiting t; view = v } = one_at s.views id out.1 record { stage = Waiting t; view = v } (subst (λ (n : ℕ). get_elem? s.views n ≡ some out.1) same out.3) at in
-        let e : Turning out.2 ≡ Waiting t = sym out.4 ∙ ap (λ (x : Doing O A B). x.stage) d in absurd (cc))
+      let q = k.turning out.0 out.1 out.2 out.3 out.4 in
+      let te : ticket_of out.1.stage ≡ Some t = ap ticket_of out.4 ∙ ap (λ (n : ℕ). Some n) (q.0 ∙ sym now) in
+      let same : out.0 ≡ id = k.tickets.apart out.0 id out.1 record { stage = Waiting t; view = v } t out.3 at te refl in
+      let d : out.1 ≡ record { stage = Waiting t; view = v } = one_at s.views id out.1 record { stage = Waiting t; view = v } (subst (λ (n : ℕ). get_elem? s.views n ≡ some out.1) same out.3) at in
+      let e : Turning out.2 ≡ Waiting t = sym out.4 ∙ ap (λ (x : Doing O A B). x.stage) d in absurd (cc))
       k.slot
 
   served : (slots id t : ℕ) (v : View O A B) (s : State (Option C) (Doing O A B)) (k : Law s) (found : ℕ) → found ≡ length k.log → found ≡ t → get_elem? s.views id ≡ some record { stage = Waiting t; view = v }
@@ -70,11 +65,11 @@ module _ {C O A B : Type 0} (actors : O → ℕ) (legal : O → List (Entry A B)
         absent = λ n le. k.absent n (omega (arith, len, le));
         turning = λ i x n at' tk. ⊎_elim
             (λ (q : (i ≡ id) × (new ≡ x)).
-              let e : Turning t ≡ Turning n = ap (λ (z : Doing O A B). z.stage) q.1 ∙ tk in
-              let m : t ≡ n = cc in (sym m ∙ sym now ∙ is, ap (λ (z : Doing O A B). z.view.seen) (sym q.1) ∙ h.2, out))
+            let e : Turning t ≡ Turning n = ap (λ (z : Doing O A B). z.stage) q.1 ∙ tk in
+            let m : t ≡ n = cc in (sym m ∙ sym now ∙ is, ap (λ (z : Doing O A B). z.view.seen) (sym q.1) ∙ h.2, out))
             (λ (q : (i ≢ id) × (get_elem? s.views i ≡ some x)).
-              let r = k.turning i x n q.1 tk in
-              let e : some (Some h.0) ∷ [] ≡ none ∷ [] = sym h.1 ∙ r.2 in absurd (cc))
+            let r = k.turning i x n q.1 tk in
+            let e : some (Some h.0) ∷ [] ≡ none ∷ [] = sym h.1 ∙ r.2 in absurd (cc))
             (at_set s.views id i new x at');
         slot = inr (id, new, t, set_here s.views id new (there s.views id d at), refl);
       }
@@ -90,8 +85,7 @@ module _ {C O A B : Type 0} (actors : O → ℕ) (legal : O → List (Entry A B)
     hit : found ≡ t → Goal true
     hit now =
         let h = home_for s k id t v at (sym now ∙ is) in
-        let fit : Fits o k.log s.views id v = k.live id record { stage = Waiting t; view = v } at tt in
-        (
+        let fit : Fits o k.log s.views id v = k.live id record { stage = Waiting t; view = v } at tt in (
           record { stage = Turning t; view = record v { seen = entries h.0 } },
           takes 0 (Some h.0),
           ap (λ (hs : List (Maybe (Option C))). get_elem? hs 0) h.1,
@@ -115,9 +109,9 @@ module _ {C O A B : Type 0} (actors : O → ℕ) (legal : O → List (Entry A B)
       keeps,
       tt,
       (let vs : set s.views id record { stage = Waiting t; view = v } ≡ s.views = set_again s.views id record { stage = Waiting t; view = v } at in
-        let ws : set s.words 1 found ≡ s.words = words ∙ sym k.words in
-        let p : s ≡ record { words = set s.words 1 found; homes = s.homes; views = set s.views id record { stage = Waiting t; view = v } } = λ j. record { words = sym ws j; homes = s.homes; views = sym vs j } in
-        subst Law p k),
+          let ws : set s.words 1 found ≡ s.words = words ∙ sym k.words in
+          let p : s ≡ record { words = set s.words 1 found; homes = s.homes; views = set s.views id record { stage = Waiting t; view = v } } = λ j. record { words = sym ws j; homes = s.homes; views = sym vs j } in
+          subst Law p k),
       refl,
     )
 
@@ -129,3 +123,7 @@ module _ {C O A B : Type 0} (actors : O → ℕ) (legal : O → List (Entry A B)
       let found : slice_index s.words 1 ≡ length k.log = ap (λ (ws : List ℕ). slice_index ws 1) k.words in
       let words : set s.words 1 (slice_index s.words 1) ≡ k.next ∷ length k.log ∷ [] = ap (λ (ws : List ℕ). set ws 1 (slice_index ws 1)) k.words in
       decided slots id t v s k (slice_index s.words 1) found at words
+
+  pub looks_waiting : (slots id t : ℕ) (me : Me (Option C) (Doing O A B)) → ◌≡◌ {A = Me (Option C) (Doing O A B)} me (record { stage = Waiting t; view = me.0.view }, []) → Allows Law slots id me 1 (λ n. n) (Look actors opening entries (step slots 1 0 0 none) me)
+  looks_waiting slots id t me is =
+      subst (λ (m : Me (Option C) (Doing O A B)). Allows Law slots id m 1 (λ n. n) (Look actors opening entries (step slots 1 0 0 none) m)) (sym is) (looks slots id t me.0.view)

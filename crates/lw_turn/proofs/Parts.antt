@@ -1,30 +1,24 @@
 -- A split keeps the rule.
-use Rattle.std.proofs.Common.{◌≡◌, ◌≢◌, ◌⊎◌, ℕ, zero, suc, ◌+◌, ◌%◌, ◌^◌, ◌<◌, ◌≤◌, List, [], ◌∷◌, ◌++◌, length, Bool, true, false, refl, sym, ap, ◌∙◌, subst, inl, inr, ⊎_elim, arith, set, drop, cond, eqb, eq-eqb, ne_eqb, length-append, MatchBool}
-use Rattle.std.specs.Prelude.{Option, Some, None, is_some, IsSome, count_by, slice_index, ◌==◌}
-use Rattle.std.specs.Cmp.{unsigned_Decides}
+use Rattle.std.proofs.Common.{◌≡◌, ◌≢◌, ℕ, ◌+◌, ◌<◌, List, [], ◌∷◌, ◌++◌, length, refl, sym, ◌∙◌, subst, inl, inr, ⊎_elim, arith, set, length-append}
+use Rattle.std.specs.Prelude.{Option, Some, None}
 use Rattle.std.proofs.lemmas.List.{length-set}
-use Rattle.std.proofs.Math.Seq.{drop-append_seam}
-use mathlib.Core.Option.{some, none, some-injective, some-ne-none}
-use mathlib.Core.Option.{Option as Maybe}
-use mathlib.Core.List.{IsPrefix}
+use mathlib.Core.Option.{some}
 use lib.ListN.{get_elem?}
-use Rattle.atomic_table.specs.Table.{State, Me, Step, step, Act, keeps, takes, gives, Allows, Splits, Joins, Final, Seen, Valid, stepped, carried_after}
-use Rattle.atomic_table.proofs.Lists.{at_set, set_again, set_here, set_else, at_longer, at_last}
+use Rattle.atomic_table.specs.Table.{State, Splits}
+use Rattle.atomic_table.proofs.Lists.{at_set}
 use Rattle.lw_turn.specs.declared.shared.Entry.{Entry}
 use Rattle.lw_turn.specs.declared.view.View.{View}
 use Rattle.lw_turn.specs.declared.view.Ended.{Ended}
 use Rattle.lw_turn.specs.declared.view.Doing.{Doing}
-use Rattle.lw_turn.specs.declared.view.Stage.{Stage}
-use Rattle.lw_turn.specs.declared.view.Stage.TheVariants.{Idle, Waiting, Turning, Spent}
+use Rattle.lw_turn.specs.declared.view.Stage.TheVariants.{Idle}
 use Rattle.lw_turn.specs.History.{entries_of}
-use Rattle.lw_turn.specs.Views.{ended_of, longer, ended_view, next_view, IsWhole}
-use Rattle.lw_turn.specs.Rule.{ticket_of, has_ticket, IsLive, IsSpent, Fits, AreTickets, IsHome, IsOut, IsTurn, Kept}
-use Rattle.lw_turn.specs.Steps.{Look, IsServed, End, Learn, learned, IsOneHistory, grown, carried_history, one_more, next_place, with_ended, spent_place}
-use Rattle.lw_turn.proofs.Histories.{prefix_refl, prefix_more, prefix_trans, prefix_longer_first, prefix_longer_second, prefix_longer_both, own_more, other_more}
-use Rattle.lw_turn.proofs.Places.{there, one_at, same_or_not, at_snoc_index}
-use Rattle.lw_turn.proofs.Fitting.{live_set, fits_still, spent_apart, spent_set, spent_longer}
-use Rattle.lw_turn.proofs.Tickets.{tickets_same, tickets_ended, tickets_more}
-use Rattle.lw_turn.proofs.Turning.{IsCalm, idle_is_calm, waiting_is_calm, spent_is_calm, out_set, out_longer, turning_set, turning_more}
+use Rattle.lw_turn.specs.Rule.{IsLive, IsSpent, Fits, IsTurn, Kept}
+use Rattle.lw_turn.specs.Steps.{one_more, next_place}
+use Rattle.lw_turn.proofs.Histories.{prefix_refl}
+use Rattle.lw_turn.proofs.Places.{there, at_snoc_index}
+use Rattle.lw_turn.proofs.Fitting.{fits_still, spent_set, spent_longer}
+use Rattle.lw_turn.proofs.Tickets.{tickets_same, tickets_more}
+use Rattle.lw_turn.proofs.Turning.{idle_is_calm, out_set, out_longer, turning_set, turning_more}
 
 module _ {C O A B : Type 0} (actors : O → ℕ) (legal : O → List (Entry A B) → Type 0) (opening : C → O) (entries : C → List (Entry A B)) (o : O) where
   abbrev Law : State (Option C) (Doing O A B) → Type 0
@@ -91,11 +85,11 @@ module _ {C O A B : Type 0} (actors : O → ℕ) (legal : O → List (Entry A B)
     live_still i x is lx =
         ⊎_elim
         (λ (h : get_elem? changed i ≡ some x).
-          ⊎_elim
-          (λ (q : (i ≡ id) × (left ≡ x)). subst (λ (y : Doing O A B). Fits o k.log places i y.view) q.1 (subst (λ (n : ℕ). Fits o k.log places n left.view) (sym q.0) left_fits))
-          (λ (q : (i ≢ id) × (get_elem? s.views i ≡ some x)).
-            fits_still o k.log k.log s.views places i x.view (k.live i x q.1 lx) (prefix_refl k.log) refl (λ z. absurd (q.0 (z ∙ sym id_is))) gone)
-          (at_set s.views id i left x h))
+        ⊎_elim
+        (λ (q : (i ≡ id) × (left ≡ x)). subst (λ (y : Doing O A B). Fits o k.log places i y.view) q.1 (subst (λ (n : ℕ). Fits o k.log places n left.view) (sym q.0) left_fits))
+        (λ (q : (i ≢ id) × (get_elem? s.views i ≡ some x)).
+        fits_still o k.log k.log s.views places i x.view (k.live i x q.1 lx) (prefix_refl k.log) refl (λ z. absurd (q.0 (z ∙ sym id_is))) gone)
+        (at_set s.views id i left x h))
         (λ (h : (i ≡ length changed) × (right ≡ x)). subst (λ (y : Doing O A B). Fits o k.log places i y.view) h.1 (subst (λ (n : ℕ). Fits o k.log places n right.view) (sym h.0) right_fits))
         (at_snoc_index changed right x i is)
 
@@ -116,3 +110,8 @@ module _ {C O A B : Type 0} (actors : O → ℕ) (legal : O → List (Entry A B)
   pub splits : (id : ℕ) (v : View O A B) → v.number ≡ 0 → v.made < actors v.opening
       → Splits Law id record { stage = Idle; view = v } (one_more record { stage = Idle; view = v }) (next_place record { stage = Idle; view = v })
   splits id v zeroth room s k at = split id v zeroth room s k at
+
+  pub splits_idle : (id : ℕ) (d : Doing O A B) → d.stage ≡ Idle → d.view.number ≡ 0 → d.view.made < actors d.view.opening → Splits Law id d (one_more d) (next_place d)
+  splits_idle id d idle zeroth room =
+      let is : record { stage = Idle; view = d.view } ≡ d = λ i. record { stage = sym idle i; view = d.view } in
+      subst (λ (x : Doing O A B). Splits Law id x (one_more x) (next_place x)) is (splits id d.view zeroth room)

@@ -1,13 +1,12 @@
 -- The tickets that are out, where one place changes or one is added.
-use Rattle.std.proofs.Common.{◌≡◌, ◌≢◌, ◌⊎◌, ℕ, zero, suc, ◌+◌, ◌<◌, ◌≤◌, List, [], ◌∷◌, ◌++◌, length, Bool, true, false, refl, sym, ap, ◌∙◌, subst, inl, inr, ⊎_elim, arith, set}
+use Rattle.std.proofs.Common.{◌≡◌, ◌≢◌, ℕ, ◌+◌, List, [], ◌∷◌, ◌++◌, refl, sym, ap, ◌∙◌, subst, ⊎_elim, arith, set}
 use Rattle.std.specs.Prelude.{Option, Some, None, is_some, count_by}
-use mathlib.Core.Option.{some, none}
+use mathlib.Core.Option.{some}
 use lib.ListN.{get_elem?}
 use Rattle.atomic_table.proofs.Lists.{at_set, at_snoc}
 use Rattle.lw_turn.specs.declared.view.Doing.{Doing}
-use Rattle.lw_turn.specs.declared.view.Stage.{Stage}
 use Rattle.lw_turn.specs.Rule.{ticket_of, has_ticket, AreTickets}
-use Rattle.lw_turn.proofs.Places.{bit, there, same_or_not, count_by-set, count_by-snoc}
+use Rattle.lw_turn.proofs.Places.{bit, count_by-set, count_by-snoc}
 
 module _ {O A B : Type 0} where
   -- the count after a change
@@ -44,26 +43,26 @@ module _ {O A B : Type 0} where
     bounds = λ i x t isx tk.
         ⊎_elim
         (λ (h : (i ≡ id) × (new ≡ x)).
-          let e : Some t ≡ Some next = sym tk ∙ ap (λ (z : Doing O A B). ticket_of z.stage) (sym h.1) ∙ is in
-          let n : t ≡ next = cc in (omega (arith, all.counted, n), omega (arith, n)))
+        let e : Some t ≡ Some next = sym tk ∙ ap (λ (z : Doing O A B). ticket_of z.stage) (sym h.1) ∙ is in
+        let n : t ≡ next = cc in (omega (arith, all.counted, n), omega (arith, n)))
         (λ (h : (i ≢ id) × (get_elem? places i ≡ some x)). let b = all.bounds i x t h.1 tk in (b.0, omega (arith, b.1)))
         (at_set places id i new x isx);
     apart = λ i j x y t isx isy tx ty.
         ⊎_elim
         (λ (h : (i ≡ id) × (new ≡ x)).
-          ⊎_elim
-          (λ (k : (j ≡ id) × (new ≡ y)). h.0 ∙ sym k.0)
-          (λ (k : (j ≢ id) × (get_elem? places j ≡ some y)).
-            let e : Some t ≡ Some next = sym tx ∙ ap (λ (z : Doing O A B). ticket_of z.stage) (sym h.1) ∙ is in
-            let n : t ≡ next = cc in let b = all.bounds j y t k.1 ty in absurd (omega (arith, n, b.1)))
-          (at_set places id j new y isy))
+        ⊎_elim
+        (λ (k : (j ≡ id) × (new ≡ y)). h.0 ∙ sym k.0)
+        (λ (k : (j ≢ id) × (get_elem? places j ≡ some y)).
+        let e : Some t ≡ Some next = sym tx ∙ ap (λ (z : Doing O A B). ticket_of z.stage) (sym h.1) ∙ is in
+        let n : t ≡ next = cc in let b = all.bounds j y t k.1 ty in absurd (omega (arith, n, b.1)))
+        (at_set places id j new y isy))
         (λ (h : (i ≢ id) × (get_elem? places i ≡ some x)).
-          ⊎_elim
-          (λ (k : (j ≡ id) × (new ≡ y)).
-            let e : Some t ≡ Some next = sym ty ∙ ap (λ (z : Doing O A B). ticket_of z.stage) (sym k.1) ∙ is in
-            let n : t ≡ next = cc in let b = all.bounds i x t h.1 tx in absurd (omega (arith, n, b.1)))
-          (λ (k : (j ≢ id) × (get_elem? places j ≡ some y)). all.apart i j x y t h.1 k.1 tx ty)
-          (at_set places id j new y isy))
+        ⊎_elim
+        (λ (k : (j ≡ id) × (new ≡ y)).
+        let e : Some t ≡ Some next = sym ty ∙ ap (λ (z : Doing O A B). ticket_of z.stage) (sym k.1) ∙ is in
+        let n : t ≡ next = cc in let b = all.bounds i x t h.1 tx in absurd (omega (arith, n, b.1)))
+        (λ (k : (j ≢ id) × (get_elem? places j ≡ some y)). all.apart i j x y t h.1 k.1 tx ty)
+        (at_set places id j new y isy))
         (at_set places id i new x isx);
   }
 
@@ -75,17 +74,17 @@ module _ {O A B : Type 0} where
         ⊎_elim
         (λ (h : (i ≡ id) × (new ≡ x)). let e : Some t ≡ None = sym tk ∙ ap (λ (z : Doing O A B). ticket_of z.stage) (sym h.1) ∙ is in absurd (none_not_some t e))
         (λ (h : (i ≢ id) × (get_elem? places i ≡ some x)).
-          let b = all.bounds i x t h.1 tk in
-          let ne : t ≢ served = λ q. h.0 (all.apart i id x d served h.1 at (tk ∙ ap Some q) was) in (omega (arith, b.0, ne), b.1))
+        let b = all.bounds i x t h.1 tk in
+        let ne : t ≢ served = λ q. h.0 (all.apart i id x d served h.1 at (tk ∙ ap Some q) was) in (omega (arith, b.0, ne), b.1))
         (at_set places id i new x isx);
     apart = λ i j x y t isx isy tx ty.
         ⊎_elim
         (λ (h : (i ≡ id) × (new ≡ x)). let e : Some t ≡ None = sym tx ∙ ap (λ (z : Doing O A B). ticket_of z.stage) (sym h.1) ∙ is in absurd (none_not_some t e))
         (λ (h : (i ≢ id) × (get_elem? places i ≡ some x)).
-          ⊎_elim
-          (λ (k : (j ≡ id) × (new ≡ y)). let e : Some t ≡ None = sym ty ∙ ap (λ (z : Doing O A B). ticket_of z.stage) (sym k.1) ∙ is in absurd (none_not_some t e))
-          (λ (k : (j ≢ id) × (get_elem? places j ≡ some y)). all.apart i j x y t h.1 k.1 tx ty)
-          (at_set places id j new y isy))
+        ⊎_elim
+        (λ (k : (j ≡ id) × (new ≡ y)). let e : Some t ≡ None = sym ty ∙ ap (λ (z : Doing O A B). ticket_of z.stage) (sym k.1) ∙ is in absurd (none_not_some t e))
+        (λ (k : (j ≢ id) × (get_elem? places j ≡ some y)). all.apart i j x y t h.1 k.1 tx ty)
+        (at_set places id j new y isy))
         (at_set places id i new x isx);
   }
     where

@@ -1,15 +1,12 @@
 -- Whether a turn is under way, where a place changes that is in no turn.
-use Rattle.std.proofs.Common.{◌≡◌, ◌≢◌, ◌⊎◌, ℕ, List, [], ◌∷◌, ◌++◌, length, refl, sym, ap, ◌∙◌, subst, inl, inr, ⊎_elim, set}
-use mathlib.Core.Option.{some, none}
-use mathlib.Core.Option.{Option as Maybe}
+use Rattle.std.proofs.Common.{◌≡◌, ◌≢◌, ℕ, List, [], ◌∷◌, ◌++◌, length, sym, ap, ◌∙◌, subst, ⊎_elim, set}
+use mathlib.Core.Option.{some}
 use lib.ListN.{get_elem?}
-use Rattle.std.specs.Prelude.{Option}
 use Rattle.atomic_table.proofs.Lists.{at_set, set_else, at_longer}
-use Rattle.lw_turn.specs.declared.shared.Entry.{Entry}
 use Rattle.lw_turn.specs.declared.view.Doing.{Doing}
 use Rattle.lw_turn.specs.declared.view.Stage.{Stage}
 use Rattle.lw_turn.specs.declared.view.Stage.TheVariants.{Idle, Waiting, Turning, Spent}
-use Rattle.lw_turn.specs.Rule.{IsHome, IsOut, IsTurn}
+use Rattle.lw_turn.specs.Rule.{IsOut}
 use Rattle.lw_turn.proofs.Places.{one_at, at_snoc_index}
 
 abbrev pub IsCalm : Stage → Type 0

@@ -1,37 +1,34 @@
 -- A join keeps the rule.
-use Rattle.std.proofs.Common.{◌≡◌, ◌≢◌, ◌⊎◌, ℕ, zero, suc, ◌+◌, ◌%◌, ◌^◌, ◌<◌, ◌≤◌, List, [], ◌∷◌, ◌++◌, length, Bool, true, false, refl, sym, ap, ◌∙◌, subst, inl, inr, ⊎_elim, arith, set, drop, cond, eqb, eq-eqb, ne_eqb, length-append, MatchBool}
-use Rattle.std.specs.Prelude.{Option, Some, None, is_some, IsSome, count_by, slice_index, ◌==◌}
+use Rattle.std.proofs.Common.{◌≡◌, ◌≢◌, ℕ, List, length, Bool, true, false, refl, sym, ◌∙◌, subst, inl, inr, ⊎_elim, arith, set, cond, eqb}
+use Rattle.std.specs.Prelude.{Option, Some}
 use Rattle.std.specs.Cmp.{unsigned_Decides}
 use Rattle.std.proofs.lemmas.List.{length-set}
-use Rattle.std.proofs.Math.Seq.{drop-append_seam}
-use mathlib.Core.Option.{some, none, some-injective, some-ne-none}
-use mathlib.Core.Option.{Option as Maybe}
+use mathlib.Core.Option.{some}
 use mathlib.Core.List.{IsPrefix}
 use lib.ListN.{get_elem?}
-use Rattle.atomic_table.specs.Table.{State, Me, Step, step, Act, keeps, takes, gives, Allows, Splits, Joins, Final, Seen, Valid, stepped, carried_after}
-use Rattle.atomic_table.proofs.Lists.{at_set, set_again, set_here, set_else, at_longer, at_last}
+use Rattle.atomic_table.specs.Table.{State, Joins}
+use Rattle.atomic_table.proofs.Lists.{at_set, set_here, set_else}
 use Rattle.lw_turn.specs.declared.shared.Entry.{Entry}
 use Rattle.lw_turn.specs.declared.view.View.{View}
 use Rattle.lw_turn.specs.declared.view.Ended.{Ended}
 use Rattle.lw_turn.specs.declared.view.Doing.{Doing}
-use Rattle.lw_turn.specs.declared.view.Stage.{Stage}
-use Rattle.lw_turn.specs.declared.view.Stage.TheVariants.{Idle, Waiting, Turning, Spent}
+use Rattle.lw_turn.specs.declared.view.Stage.TheVariants.{Idle}
 use Rattle.lw_turn.specs.History.{entries_of}
-use Rattle.lw_turn.specs.Views.{ended_of, longer, ended_view, next_view, IsWhole}
-use Rattle.lw_turn.specs.Rule.{ticket_of, has_ticket, IsLive, IsSpent, Fits, AreTickets, IsHome, IsOut, IsTurn, Kept}
-use Rattle.lw_turn.specs.Steps.{Look, IsServed, End, Learn, learned, IsOneHistory, grown, carried_history, one_more, next_place, with_ended, spent_place}
-use Rattle.lw_turn.proofs.Histories.{prefix_refl, prefix_more, prefix_trans, prefix_longer_first, prefix_longer_second, prefix_longer_both, own_more, other_more}
-use Rattle.lw_turn.proofs.Places.{there, one_at, same_or_not, at_snoc_index}
-use Rattle.lw_turn.proofs.Fitting.{live_set, fits_still, spent_apart, spent_set, spent_longer}
-use Rattle.lw_turn.proofs.Tickets.{tickets_same, tickets_ended, tickets_more}
-use Rattle.lw_turn.proofs.Turning.{IsCalm, idle_is_calm, waiting_is_calm, spent_is_calm, out_set, out_longer, turning_set, turning_more}
+use Rattle.lw_turn.specs.Views.{ended_of, ended_view}
+use Rattle.lw_turn.specs.Rule.{IsLive, IsSpent, Fits, IsTurn, Kept}
+use Rattle.lw_turn.specs.Steps.{with_ended, spent_place}
+use Rattle.lw_turn.proofs.Histories.{prefix_refl}
+use Rattle.lw_turn.proofs.Places.{there}
+use Rattle.lw_turn.proofs.Fitting.{fits_still, spent_set}
+use Rattle.lw_turn.proofs.Tickets.{tickets_same}
+use Rattle.lw_turn.proofs.Turning.{idle_is_calm, spent_is_calm, out_set, turning_set}
 
 module _ {C O A B : Type 0} (actors : O → ℕ) (legal : O → List (Entry A B) → Type 0) (opening : C → O) (entries : C → List (Entry A B)) (some_opening o : O) where
   abbrev Law : State (Option C) (Doing O A B) → Type 0
   Law = Kept actors legal opening entries o
 
   module _ (id other : ℕ) (v w : View O A B) (s : State (Option C) (Doing O A B)) (k : Law s) (at : get_elem? s.views id ≡ some record { stage = Idle; view = v }) (apart : other ≢ id)
-    (there_too : get_elem? s.views other ≡ some record { stage = Idle; view = w }) where
+      (there_too : get_elem? s.views other ≡ some record { stage = Idle; view = w }) where
     abbrev d : Doing O A B
     d = record { stage = Idle; view = v }
 
@@ -91,11 +88,11 @@ module _ {C O A B : Type 0} (actors : O → ℕ) (legal : O → List (Entry A B)
         ⊎_elim
         (λ (h : (i ≡ other) × (spent ≡ x)). absurd (subst (λ (y : Doing O A B). IsLive y.stage) (sym h.1) lx))
         (λ (h : (i ≢ other) × (get_elem? changed i ≡ some x)).
-          ⊎_elim
-          (λ (q : (i ≡ id) × (both ≡ x)). subst (λ (y : Doing O A B). Fits o k.log places i y.view) q.1 (subst (λ (n : ℕ). Fits o k.log places n both.view) (sym q.0) both_fits))
-          (λ (q : (i ≢ id) × (get_elem? s.views i ≡ some x)).
-            fits_still o k.log k.log s.views places i x.view (k.live i x q.1 lx) (prefix_refl k.log) refl (λ z. same_length) gone)
-          (at_set s.views id i both x h.1))
+        ⊎_elim
+        (λ (q : (i ≡ id) × (both ≡ x)). subst (λ (y : Doing O A B). Fits o k.log places i y.view) q.1 (subst (λ (n : ℕ). Fits o k.log places n both.view) (sym q.0) both_fits))
+        (λ (q : (i ≢ id) × (get_elem? s.views i ≡ some x)).
+        fits_still o k.log k.log s.views places i x.view (k.live i x q.1 lx) (prefix_refl k.log) refl (λ z. same_length) gone)
+        (at_set s.views id i both x h.1))
         (at_set changed other i spent x is)
 
     joined : Law record { words = s.words; homes = s.homes; views = places }
@@ -116,3 +113,10 @@ module _ {C O A B : Type 0} (actors : O → ℕ) (legal : O → List (Entry A B)
       → Joins Law id record { stage = Idle; view = v } other record { stage = Idle; view = w } (with_ended record { stage = Idle; view = v } record { stage = Idle; view = w }) (spent_place some_opening)
   joins id other v w s k at apart is =
       joined id other v w s k at apart (sym (set_else s.views id other (with_ended record { stage = Idle; view = v } record { stage = Idle; view = w }) apart) ∙ is)
+
+  pub joins_idle : (id other : ℕ) (d e : Doing O A B) → d.stage ≡ Idle → e.stage ≡ Idle → Joins Law id d other e (with_ended d e) (spent_place some_opening)
+  joins_idle id other d e idle idle_too =
+      let is : record { stage = Idle; view = d.view } ≡ d = λ i. record { stage = sym idle i; view = d.view } in
+      let is_too : record { stage = Idle; view = e.view } ≡ e = λ i. record { stage = sym idle_too i; view = e.view } in
+      subst (λ (x : Doing O A B). Joins Law id x other e (with_ended x e) (spent_place some_opening)) is
+      (subst (λ (y : Doing O A B). Joins Law id record { stage = Idle; view = d.view } other y (with_ended record { stage = Idle; view = d.view } y) (spent_place some_opening)) is_too (joins id other d.view e.view))

@@ -1,5 +1,5 @@
 -- The rule of the table, which holds between any two atomic steps.
-use Rattle.std.specs.Prelude.{◌≡◌, ℕ, ◌+◌, ◌<◌, ◌≤◌, ◌⊎◌, List, [], ◌∷◌, ◌++◌, length, count_by, Bool, is_some, Option, Some, None}
+use Rattle.std.specs.Prelude.{◌≡◌, ℕ, ◌+◌, ◌<◌, ◌≤◌, ◌⊎◌, List, [], ◌∷◌, length, count_by, Bool, is_some, Option, Some, None}
 use mathlib.Core.List.{IsPrefix}
 use mathlib.Core.Option.{some, none}
 use mathlib.Core.Option.{Option as Maybe}

@@ -1,6 +1,5 @@
 -- The fields of a pass, and what contracts see of them.
 use Rattle.std.specs.Prelude.{◌≡◌, ℕ, ◌<◌, ◌^◌, []}
-use Rattle.lw_turn.specs.declared.view.Stage.{Stage}
 use Rattle.lw_turn.specs.declared.view.Stage.TheVariants.{Idle}
 use Rattle.lw_turn.specs.declared.pass.PassParts.TheInside.{Inside}
 use Rattle.lw_turn.specs.Held.{Held}

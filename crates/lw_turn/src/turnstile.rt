@@ -127,7 +127,9 @@ impl<C: Core> Turnstile<C> {
         ensures legal { C.legal seat.old.me.0.view.opening (seat.old.me.0.view.seen ++ record { actor = number; ask = ask; reply = result } ∷ []) }
     {
         let found = self.table.shared.exchange(seat, 0, None);
-        let Some(mut core) = found else { unreachable!() };
+        let Some(mut core) = found else {
+            unreachable!()
+        };
         let reply = core.on(number, ask);
         let empty = self.table.shared.exchange(seat, 0, Some(core));
         let None = empty else { unreachable!() };
