@@ -1,5 +1,5 @@
 -- What the core is once every pass was joined.
-use Rattle.std.proofs.Common.{◌≡◌, ◌≢◌, ℕ, zero, suc, ◌<◌, List, length, true≢false, refl, sym, ap, ◌∙◌, subst, ⊎_elim, arith}
+use Rattle.std.proofs.Common.{◌≡◌, ◌≢◌, ◌⊎◌, ℕ, zero, suc, ◌<◌, ◌≤◌, List, [], length, cond, eqb, eq-eqb, ne_eqb, true≢false, refl, sym, ap, ◌∙◌, subst, ⊎_elim, arith}
 use Rattle.std.specs.Prelude.{Option, Some, None, IsSome}
 use mathlib.Core.Option.{some, some-injective}
 use mathlib.Core.Option.{Option as Maybe}
@@ -11,9 +11,11 @@ use Rattle.lw_turn.specs.declared.view.Ended.{Ended}
 use Rattle.lw_turn.specs.declared.view.Doing.{Doing}
 use Rattle.lw_turn.specs.declared.view.Stage.TheVariants.{Idle}
 use Rattle.lw_turn.specs.History.{entries_of}
-use Rattle.lw_turn.specs.Views.{ended_of, IsWhole}
+use Rattle.lw_turn.specs.Counting.{sum_below, sum_below-same, length-by_actor}
+use Rattle.lw_turn.specs.Views.{ended_of, mine_of, own_of, IsWhole}
 use Rattle.lw_turn.specs.Rule.{IsSpent, Fits, IsHome, IsOut, Kept}
-use Rattle.lw_turn.proofs.Places.{there, one_at}
+use Rattle.std.proofs.lemmas.Bool.{cases_lt}
+use Rattle.lw_turn.proofs.Places.{there, one_at, same_or_not}
 use Rattle.lw_turn.proofs.Turning.{IsCalm, idle_is_calm, spent_is_calm}
 
 module _ {C O A B : Type 0} (actors : O → ℕ) (legal : O → List (Entry A B) → Type 0) (opening : C → O) (entries : C → List (Entry A B)) (o : O) where
@@ -51,14 +53,31 @@ module _ {C O A B : Type 0} (actors : O → ℕ) (legal : O → List (Entry A B)
     pub home : IsHome opening entries o k.log s.homes
     home = ⊎_elim (λ (h : IsHome opening entries o k.log s.homes). h) (λ (out : IsOut s.views). absurd (calm out.0 out.1 out.3 out.2 out.4)) k.slot
 
+    own_log : (n : ℕ) → entries_of n k.log ≡ own_of v n
+    own_log n = ⊎_elim
+        (λ (z : n ≡ 0).
+          let mine : entries_of n k.log ≡ v.mine = ap (λ (m : ℕ). entries_of m k.log) (z ∙ sym id_is) ∙ fit.mine in
+          mine ∙ sym (ap (λ b. cond b v.mine (mine_of (ended_of n v.ended))) (eq-eqb n v.number (z ∙ sym zeroth))))
+        (λ (nz : n ≢ 0). kept (ended_of n v.ended) refl nz ∙ sym (ap (λ b. cond b v.mine (mine_of (ended_of n v.ended))) (ne_eqb n v.number (λ q. nz (q ∙ zeroth)))))
+        (same_or_not n 0)
+      where
+        kept : (x : Option (Ended A B)) → ended_of n v.ended ≡ x → n ≢ 0 → entries_of n k.log ≡ mine_of x
+        kept None is nz = ⊎_elim
+            (λ (lt : n < v.made). let h : IsSome (ended_of n v.ended) = all n (omega (arith, nz)) lt in absurd (true≢false (sym (subst IsSome is h))))
+            (λ (le : v.made ≤ n). k.absent n (omega (arith, le, made_is)))
+            (cases_lt n v.made)
+        kept (Some e) is nz = (fit.ended n e is).0
+
     whole_log : IsWhole legal v k.log
-    whole_log = record {
-      lawful = subst (λ (x : O). legal x k.log) (sym fit.opened) k.lawful;
-      seen = fit.seen;
-      first = ap (λ (n : ℕ). entries_of n k.log) fit.number ∙ fit.mine;
-      ended = λ n e is. let h = fit.ended n e is in (h.0, h.1);
-      others = λ n le. k.absent n (omega (arith, le, made_is));
-    }
+    whole_log =
+        let others : (n : ℕ) → v.made ≤ n → entries_of n k.log ≡ [] = λ n le. k.absent n (omega (arith, le, made_is)) in record {
+          lawful = subst (λ (x : O). legal x k.log) (sym fit.opened) k.lawful;
+          own = own_log;
+          others = others;
+          total = length-by_actor v.made k.log others ∙ sum_below-same v.made (λ n. length (entries_of n k.log)) (λ n. length (own_of v n)) (λ n. ap length (own_log n));
+          seen = fit.seen;
+          ended = λ n e is. (fit.ended n e is).1;
+        }
 
     pub closed : (core : C) × (get_elem? s.homes 0 ≡ some (some (Some core))) × (opening core ≡ v.opening) × IsWhole legal v (entries core)
     closed =

@@ -1,4 +1,6 @@
 pub mod History
+pub mod Counting
+pub mod Tally
 pub mod Views
 pub mod Held
 pub mod Seated

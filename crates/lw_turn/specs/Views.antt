@@ -5,6 +5,7 @@ use Rattle.lw_turn.specs.declared.shared.Entry.{Entry}
 use Rattle.lw_turn.specs.declared.view.View.{View}
 use Rattle.lw_turn.specs.declared.view.Ended.{Ended}
 use Rattle.lw_turn.specs.History.{entries_of}
+use Rattle.lw_turn.specs.Counting.{sum_below}
 
 -- the longer of two lists
 abbrev pub longer : {X : Type 0} → List X → List X → List X
@@ -15,6 +16,11 @@ module _ {A B : Type 0} where
   abbrev pub ended_of : ℕ → List (Ended A B) → Option (Ended A B)
   ended_of n [] = None
   ended_of n (e ∷ es) = if e.number == n then Some e else ended_of n es
+
+  -- the own entries that are kept of a pass that was joined
+  abbrev pub mine_of : Option (Ended A B) → List (Entry A B)
+  mine_of None = []
+  mine_of (Some e) = e.mine
 
 module _ {O A B : Type 0} where
   -- pass 0 when the turnstile is made
@@ -43,10 +49,16 @@ module _ {O A B : Type 0} where
     pub lawful : legal v.opening w.seen
     pub same : w ≡ record v { seen = w.seen; mine = w.mine }
 
-  -- The history of a core at the end: it begins with what pass 0 had seen, and for each number it has the entries of the pass with that number
+  -- the own entries of the pass of that number, as pass 0 has them
+  abbrev pub own_of : View O A B → ℕ → List (Entry A B)
+  own_of v n = if n == v.number then v.mine else mine_of (ended_of n v.ended)
+
+  -- The history of a core at the end. For each number it has the own entries of the pass with that number, each once and in order,
+  -- and no others, so it has as many as the passes made. It begins with what each pass had seen
   pub record IsWhole (legal : O → List (Entry A B) → Type 0) (v : View O A B) (history : List (Entry A B)) : Type 0 where
     pub lawful : legal v.opening history
-    pub seen : IsPrefix v.seen history
-    pub first : entries_of v.number history ≡ v.mine
-    pub ended : (n : ℕ) (e : Ended A B) → ended_of n v.ended ≡ Some e → (entries_of n history ≡ e.mine) × IsPrefix e.seen history
+    pub own : (n : ℕ) → entries_of n history ≡ own_of v n
     pub others : (n : ℕ) → v.made ≤ n → entries_of n history ≡ []
+    pub total : length history ≡ sum_below v.made (λ n. length (own_of v n))
+    pub seen : IsPrefix v.seen history
+    pub ended : (n : ℕ) (e : Ended A B) → ended_of n v.ended ≡ Some e → IsPrefix e.seen history
