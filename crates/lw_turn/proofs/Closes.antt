@@ -1,5 +1,5 @@
 -- What the core is once every pass was joined.
-use Rattle.std.proofs.Common.{◌≡◌, ◌≢◌, ◌⊎◌, ℕ, zero, suc, ◌<◌, ◌≤◌, List, [], length, cond, eqb, eq-eqb, ne_eqb, true≢false, refl, sym, ap, ◌∙◌, subst, ⊎_elim, arith}
+use Rattle.std.proofs.Common.{◌≡◌, ◌≢◌, ℕ, zero, suc, ◌<◌, ◌≤◌, List, [], length, cond, eq-eqb, ne_eqb, true≢false, refl, sym, ap, ◌∙◌, subst, ⊎_elim, arith}
 use Rattle.std.specs.Prelude.{Option, Some, None, IsSome}
 use mathlib.Core.Option.{some, some-injective}
 use mathlib.Core.Option.{Option as Maybe}
@@ -11,7 +11,7 @@ use Rattle.lw_turn.specs.declared.view.Ended.{Ended}
 use Rattle.lw_turn.specs.declared.view.Doing.{Doing}
 use Rattle.lw_turn.specs.declared.view.Stage.TheVariants.{Idle}
 use Rattle.lw_turn.specs.History.{entries_of}
-use Rattle.lw_turn.specs.Counting.{sum_below, sum_below-same, length-by_actor}
+use Rattle.lw_turn.specs.Counting.{sum_below-same, length-by_actor}
 use Rattle.lw_turn.specs.Views.{ended_of, mine_of, own_of, IsWhole}
 use Rattle.lw_turn.specs.Rule.{IsSpent, Fits, IsHome, IsOut, Kept}
 use Rattle.std.proofs.lemmas.Bool.{cases_lt}
@@ -56,8 +56,8 @@ module _ {C O A B : Type 0} (actors : O → ℕ) (legal : O → List (Entry A B)
     own_log : (n : ℕ) → entries_of n k.log ≡ own_of v n
     own_log n = ⊎_elim
         (λ (z : n ≡ 0).
-          let mine : entries_of n k.log ≡ v.mine = ap (λ (m : ℕ). entries_of m k.log) (z ∙ sym id_is) ∙ fit.mine in
-          mine ∙ sym (ap (λ b. cond b v.mine (mine_of (ended_of n v.ended))) (eq-eqb n v.number (z ∙ sym zeroth))))
+        let mine : entries_of n k.log ≡ v.mine = ap (λ (m : ℕ). entries_of m k.log) (z ∙ sym id_is) ∙ fit.mine in
+        mine ∙ sym (ap (λ b. cond b v.mine (mine_of (ended_of n v.ended))) (eq-eqb n v.number (z ∙ sym zeroth))))
         (λ (nz : n ≢ 0). kept (ended_of n v.ended) refl nz ∙ sym (ap (λ b. cond b v.mine (mine_of (ended_of n v.ended))) (ne_eqb n v.number (λ q. nz (q ∙ zeroth)))))
         (same_or_not n 0)
       where

@@ -11,3 +11,4 @@ pub mod Parts
 pub mod Unions
 pub mod Closes
 pub mod Asking
+pub mod Tallying

@@ -1,6 +1,6 @@
 -- A history has as many entries as its actors made.
-use Rattle.std.specs.Prelude.{◌≡◌, ◌≢◌, ◌⊎◌, ℕ, zero, suc, ◌+◌, ◌*◌, ◌<◌, ◌≤◌, List, [], ◌∷◌, length, Bool, true, false, refl}
-use Rattle.std.proofs.Common.{sym, ap, ◌∙◌, subst, cond, eqb, eq-eqb, ne_eqb, arith, mul-le-mul_left}
+use Rattle.std.specs.Prelude.{◌≡◌, ◌≢◌, ℕ, zero, suc, ◌+◌, ◌*◌, ◌<◌, ◌≤◌, List, [], ◌∷◌, length, Bool, true, false, refl}
+use Rattle.std.proofs.Common.{sym, ap, ◌∙◌, cond, eqb, eq-eqb, ne_eqb, arith}
 use Rattle.std.specs.Cmp.{unsigned_Decides}
 use Rattle.std.proofs.Math.Nat.{lt_of_not-le}
 use Rattle.lw_turn.specs.declared.shared.Entry.{Entry}

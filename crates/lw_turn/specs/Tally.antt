@@ -1,6 +1,6 @@
 -- A core for tests: actors add to one sum, and each is answered the sum before.
-use Rattle.std.specs.Prelude.{◌≡◌, ℕ, ◌+◌, ◌*◌, ◌^◌, ◌<◌, ◌≤◌, List, [], ◌∷◌, length, refl}
-use Rattle.std.proofs.Common.{arith, subst, sym}
+use Rattle.std.specs.Prelude.{◌≡◌, ℕ, ◌+◌, ◌*◌, ◌^◌, ◌<◌, ◌≤◌, List, [], ◌∷◌, length}
+use Rattle.std.proofs.Common.{arith}
 use Rattle.lw_turn.specs.declared.shared.Entry.{Entry}
 use Rattle.lw_turn.specs.History.{entries_of}
 use Rattle.lw_turn.specs.Counting.{sum_below, sum_below-le, length-by_actor}

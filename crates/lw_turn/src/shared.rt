@@ -2,6 +2,7 @@
 ghost use Rattle.std.specs.Prelude.{◌≡◌, ℕ, ◌+◌, ◌^◌, ◌<◌, ◌≤◌, List, [], ◌∷◌, ◌++◌, length};
 
 /// One call of a core: who asked, what, and the reply.
+#[derive(Drop)]
 pub struct Entry<A, B> {
     pub actor: u32,
     pub ask: A,
