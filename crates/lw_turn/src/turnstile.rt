@@ -5,7 +5,7 @@ ghost use mathlib.Core.List.{IsPrefix};
 ghost use Rattle.lw_turn.specs.History.{entries_of};
 ghost use Rattle.lw_turn.specs.Views.{first_view, next_view, joined_view, ended_of, IsTurned, IsWhole};
 ghost use Rattle.lw_turn.specs.Steps.{IsServed, carried_history, grown};
-ghost use Rattle.lw_turn.specs.Turns.{Carries};
+ghost use Rattle.lw_turn.specs.Turns.{Carries, WasAsked};
 
 use crate::memory::NoMemory;
 use crate::pass::{Pass, PassParts};
@@ -50,8 +50,8 @@ impl<C: Core> Turnstile<C> {
         ensures made { IfOk result (λ t. (t.1.turnstile ≡ t.0) × (t.1.knows ≡ first_view (C.opening core))) }
         ensures back { IfErr result (λ e. e.0 ≡ core) }
     {
-        let legal_from_here = core.actors();
-        let _ = legal_from_here;
+        // The count is a `u32`, and the empty list is legal.
+        let _ = core.actors();
         let origin = Snapshot::of(&core);
         let mut slots = Vec::new(alloc);
         if let Err(AllocFailed { value }) = slots.push(Some(core)) {
@@ -123,8 +123,7 @@ impl<C: Core> Turnstile<C> {
         requires may { C.may seat.old.me.0.view.opening (entries_of number seat.old.me.0.view.seen) ask }
         ensures table { seat.new.table_id ≡ seat.old.table_id }
         ensures place { seat.new.me.0 ≡ seat.old.me.0 }
-        ensures carries { (core : C) × Carries C.opening C.entries core (seat.old.me.0.view.seen ++ record { actor = number; ask = ask; reply = result } ∷ []) seat.new.me }
-        ensures legal { C.legal seat.old.me.0.view.opening (seat.old.me.0.view.seen ++ record { actor = number; ask = ask; reply = result } ∷ []) }
+        ensures asked { (core : C) × WasAsked C.opening C.entries C.legal core seat.old.me.0.view number ask result seat.new.me }
     {
         let found = self.table.shared.exchange(seat, 0, None);
         let Some(mut core) = found else {
@@ -140,7 +139,7 @@ impl<C: Core> Turnstile<C> {
     fn end(&self, seat: &mut Place<C>)
         requires table { seat.old.table_id ≡ self.now }
         requires turning { (t : ℕ) × (seat.old.me.0.stage ≡ Stage.Turning t) }
-        requires carries { (core : C) × (ask : C.Ask) × (reply : C.Reply) × Carries C.opening C.entries core (seat.old.me.0.view.seen ++ record { actor = seat.old.me.0.view.number; ask = ask; reply = reply } ∷ []) seat.old.me × C.legal seat.old.me.0.view.opening (seat.old.me.0.view.seen ++ record { actor = seat.old.me.0.view.number; ask = ask; reply = reply } ∷ []) }
+        requires asked { (core : C) × (ask : C.Ask) × (reply : C.Reply) × WasAsked C.opening C.entries C.legal core seat.old.me.0.view seat.old.me.0.view.number ask reply seat.old.me }
         ensures table { seat.new.table_id ≡ seat.old.table_id }
         ensures place { seat.new.me ≡ (record { stage = Stage.Idle; view = grown seat.old.me.0.view (carried_history C.entries seat.old.me.1) }, []) }
     {

@@ -4,6 +4,7 @@ ghost use Rattle.lw_turn.specs.Views.{first_view, ended_of};
 use super::tally::Tally;
 use crate::memory::NoMemory;
 use crate::pass::Pass;
+use crate::shared::Core;
 use crate::turnstile::Turnstile;
 use std::alloc::Global;
 use std::process::Abort;
@@ -214,5 +215,36 @@ fn eight_threads_are_answered_each_number_once(rt: HostRuntime) -> Result<(), Fa
     let tally = turnstile.close(first);
     assert_eq!(rt; tally.count(), 8000);
     assert_eq!(rt; tally.total(), 8000);
+    Ok(())
+}
+
+// Where the core may go to another thread, a pass may, and the turnstile may be shared.
+fn crosses<C: Core + Send>(turnstile: &Turnstile<C>, pass: Pass<C>) -> Pass<C>
+    ensures { result ≡ pass }
+{
+    shared(turnstile);
+    sent(pass)
+}
+
+fn shared<T: Sync>(_value: &T) {}
+
+fn sent<T: Send>(value: T) -> T
+    ensures { result ≡ value }
+{
+    value
+}
+
+#[test]
+fn a_pass_goes_where_its_core_may_go(rt: HostRuntime) -> Result<(), Fail> {
+    let (turnstile, first) = opened(rt.alloc(), 1, 8)?;
+    let first = crosses(&turnstile, first);
+    assert_eq!(rt; turnstile.close(first).count(), 0);
+    Ok(())
+}
+
+#[test]
+fn want_of_memory_is_told(rt: HostRuntime) -> Result<(), Fail> {
+    let text = format!(in rt.alloc(); "{NoMemory}")?;
+    assert_eq!(rt; text.as_str(), "no memory");
     Ok(())
 }

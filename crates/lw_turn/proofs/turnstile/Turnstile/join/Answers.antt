@@ -1,6 +1,8 @@
 use Rattle.std.proofs.Common.{sym, ap, ◌∙◌, arith}
 use Rattle.lw_turn.proofs.Unions.{joins_idle}
+use Rattle.lw_turn.specs.Steps.{with_ended}
 use Rattle.lw_turn.proofs.Learns.{learns_idle}
+use Rattle.lw_turn.proofs.Asking.{idle_still}
 use Rattle.lw_turn.proofs.turnstile.Turnstile.join.Goals as goal
 
 pub join_seat-requires : goal.join_seat-requires
@@ -20,9 +22,11 @@ pub load-requires : goal.load-requires
 load-requires g c =
     let k = g.C.Core in
     let t = c.self.inside.table.shared in
+    let first = c.first.inside.seat in
     let seat = c.join_seat.new.seat in
-    let e = c.join_seat.ensures in (
-      e.0 ∙ (ap (λ h. h.turnstile) c.first.view_is ∙ (c.requires.ours.0 ∙ sym c.self.view_is)),
+    let e = c.join_seat.ensures in
+    let idle = idle_still (with_ended first.me.0 c.ended.inside.seat.me.0) first.me.1 seat.me e.2 c.first.invariant.idle c.first.invariant.empty in (
+      e.0 ∙ ap (λ h. h.turnstile) c.first.view_is ∙ c.requires.ours.0 ∙ sym c.self.view_is,
       omega (arith, c.self.invariant.0),
-      learns_idle k.actor_count k.legal k.opening k.entries (k.opening t.key.value) t.table_id.slots seat.id seat.me (ap (λ m. m.0.stage) e.2 ∙ c.first.invariant.idle) (ap (λ m. m.1) e.2 ∙ c.first.invariant.empty),
+      learns_idle k.actor_count k.legal k.opening k.entries (k.opening t.key.value) t.table_id.slots seat.id seat.me idle.0 idle.1,
     )
