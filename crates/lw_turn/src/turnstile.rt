@@ -19,8 +19,10 @@ use std::snapshot::Snapshot;
 use std::sync::Wait;
 use std::thread;
 
+// The word that has the next ticket.
 const NEXT: usize = 0;
 
+// The word that has the ticket that is served.
 const NOW: usize = 1;
 
 type Place<C> = Seat<Option<C>, Doing<<C as Core>::Opening, <C as Core>::Ask, <C as Core>::Reply>>;
