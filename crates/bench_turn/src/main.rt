@@ -82,10 +82,10 @@ fn main(rt: HostRuntime) -> io::Result<()> {
             let turns = u64::from(threads * each).saturating_mul(1_000_000) / a;
             let percent = b.saturating_mul(100) / a;
             println!(rt;
-                "{threads} threads: {turns} turns a second, {percent}% of those at a Mutex"
+                "threads {threads}: {turns} turns a second, {percent}% of those at a Mutex"
             )?;
         } else {
-            println!(rt; "{threads} threads")?;
+            println!(rt; "threads {threads}")?;
         }
     }
     Ok(())
