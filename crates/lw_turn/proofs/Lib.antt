@@ -1,0 +1,14 @@
+pub mod Histories
+pub mod Places
+pub mod Fitting
+pub mod Tickets
+pub mod Turning
+pub mod Draws
+pub mod Looks
+pub mod Ends
+pub mod Learns
+pub mod Parts
+pub mod Unions
+pub mod Closes
+pub mod Asking
+pub mod Tallying

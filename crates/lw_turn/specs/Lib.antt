@@ -1,0 +1,9 @@
+pub mod History
+pub mod Counting
+pub mod Tally
+pub mod Views
+pub mod Held
+pub mod Seated
+pub mod Steps
+pub mod Turns
+pub mod Rule
