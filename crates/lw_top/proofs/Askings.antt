@@ -1,0 +1,64 @@
+-- Rows that are asked letter by letter.
+use Rattle.std.proofs.Common.{◌≡◌, ℕ, ◌+◌, List, [], ◌∷◌, ◌++◌, length, map, get_or, refl, ap, sym, ◌∙◌, append_assoc, append-nil, arith}
+use Rattle.std.specs.List.{All, flat_map, range_with_len}
+use Rattle.std.proofs.lemmas.Grind.{flat_map-append}
+use Rattle.std.proofs.lemmas.List.{map-append}
+use Rattle.std.proofs.lemmas.List.Elements.{All-append, All-map}
+use Rattle.std.proofs.lemmas.List.FromFn.{map-range_with_len_more, length-map-range_with_len}
+use Rattle.lw_mealy.specs.Machine.{Rows, after, answer, output}
+use Rattle.lw_sul.specs.Asked.{run_of}
+use Rattle.lw_sul.specs.declared.runs.Run.{Run}
+use Rattle.lw_top.specs.Asking.{letters, extensions, row_of, asked, asked_all, row_words, AnswersOnly}
+use Rattle.lw_top.specs.Part.{row_after}
+
+pub length-row_after : (m : Rows) (a : ℕ) (w : List ℕ) → length (row_after m a w) ≡ a
+length-row_after m a w = length-map-range_with_len (output m (after m 0 w)) 0 a
+
+pub row_after_more : (m : Rows) (a : ℕ) (w : List ℕ) → row_after m a w ++ output m (after m 0 w) a ∷ [] ≡ row_after m (a + 1) w
+row_after_more m a w = sym (map-range_with_len_more (output m (after m 0 w)) 0 a a (omega arith))
+
+extensions_more : (a : ℕ) (u : List ℕ) → extensions (a + 1) u ≡ extensions a u ++ (u ++ a ∷ []) ∷ []
+extensions_more a u = map-range_with_len_more (λ x. u ++ x ∷ []) 0 a a (omega arith)
+
+pub asked_more : (m : Rows) (a : ℕ) (w : List ℕ) → asked m a w ++ run_of (w ++ a ∷ []) (answer m (w ++ a ∷ [])) ∷ [] ≡ asked m (a + 1) w
+asked_more m a w =
+    sym (ap (map (λ v. run_of v (answer m v))) (extensions_more a w) ∙ map-append (λ v. run_of v (answer m v)) (extensions a w) ((w ++ a ∷ []) ∷ []))
+
+-- what the journal has after one letter more
+pub gains_more : (m : Rows) (a : ℕ) (w : List ℕ) (start old new : List Run) → old ≡ start ++ asked m a w → new ≡ old ++ run_of (w ++ a ∷ []) (answer m (w ++ a ∷ [])) ∷ [] → new ≡ start ++ asked m (a + 1) w
+gains_more m a w start old new was is =
+    is ∙ (ap (λ (l : List Run). l ++ run_of (w ++ a ∷ []) (answer m (w ++ a ∷ [])) ∷ []) was ∙ (append_assoc start (asked m a w) (run_of (w ++ a ∷ []) (answer m (w ++ a ∷ [])) ∷ []) ∙ ap (λ (l : List Run). start ++ l) (asked_more m a w)))
+
+asked_answers : (m : Rows) (ws : List (List ℕ)) → All (λ r. answer m r.word ≡ r.outs) (map (λ w. run_of w (answer m w)) ws)
+asked_answers m ws = All-map (λ r. answer m r.word ≡ r.outs) (λ w. run_of w (answer m w)) ws (λ k d lt. refl)
+
+pub only_asked : (m : Rows) (a : ℕ) (w : List ℕ) (start new : List Run) → new ≡ start ++ asked m a w → AnswersOnly m start new
+only_asked m a w start new is = record { more = asked m a w; gains = is; answers = asked_answers m (extensions a w) }
+
+pub only_none : (m : Rows) (start : List Run) → AnswersOnly m start start
+only_none m start = record { more = []; gains = sym (append-nil start); answers = λ k d lt. absurd (omega arith) }
+
+-- answers, and then more of them
+pub only_then : (m : Rows) (one two three : List Run) → AnswersOnly m one two → AnswersOnly m two three → AnswersOnly m one three
+only_then m one two three a b = record {
+  more = a.more ++ b.more;
+  gains = b.gains ∙ (ap (λ (l : List Run). l ++ b.more) a.gains ∙ append_assoc one a.more b.more);
+  answers = All-append (λ r. answer m r.word ≡ r.outs) a.more b.more a.answers b.answers;
+}
+
+-- the runs of one extension's row more
+pub all_more : (m : Rows) (a n : ℕ) (u : List ℕ) (start old new : List Run) → old ≡ start ++ asked_all m a (extensions n u) → new ≡ old ++ asked m a (u ++ n ∷ []) → new ≡ start ++ asked_all m a (extensions (n + 1) u)
+all_more m a n u start old new was is =
+    let more : asked_all m a (extensions n u) ++ asked m a (u ++ n ∷ []) ≡ asked_all m a (extensions (n + 1) u) =
+    sym (ap (asked_all m a) (extensions_more n u) ∙ (flat_map-append (asked m a) (extensions n u) ((u ++ n ∷ []) ∷ []) ∙ ap (λ (l : List Run). asked_all m a (extensions n u) ++ l) (append-nil (asked m a (u ++ n ∷ []))))) in
+    is ∙ (ap (λ (l : List Run). l ++ asked m a (u ++ n ∷ [])) was ∙ (append_assoc start (asked_all m a (extensions n u)) (asked m a (u ++ n ∷ [])) ∙ ap (λ (l : List Run). start ++ l) more))
+
+pub ruleset row_steps = (length-row_after, row_after_more, gains_more, only_asked, only_none)
+
+-- the runs of one access word's extensions more
+pub rows_more : (m : Rows) (a : ℕ) (access now : List (List ℕ)) (u : List ℕ) (old new : List Run) → now ≡ access ++ u ∷ [] → old ≡ asked_all m a (row_words a access) → new ≡ old ++ asked_all m a (extensions a u)
+    → new ≡ asked_all m a (row_words a now)
+rows_more m a access now u old new grown was is =
+    let words : row_words a now ≡ row_words a access ++ extensions a u =
+    ap (row_words a) grown ∙ ap (λ (l : List (List ℕ)). [] ∷ l) (flat_map-append (extensions a) access (u ∷ []) ∙ ap (λ (l : List (List ℕ)). flat_map (extensions a) access ++ l) (append-nil (extensions a u))) in
+    is ∙ (ap (λ (l : List Run). l ++ asked_all m a (extensions a u)) was ∙ sym (ap (asked_all m a) words ∙ flat_map-append (asked m a) (row_words a access) (extensions a u)))

@@ -1,0 +1,7 @@
+pub mod WordEnds
+pub mod Askings
+pub mod Parts
+pub mod Closed
+pub mod FileLemmas
+pub mod KeptLemmas
+pub mod SinkLemmas

@@ -1,0 +1,10 @@
+pub mod Asking
+pub mod Crowd
+pub mod Files
+pub mod Hypothesis
+pub mod Kept
+pub mod Known
+pub mod Outcomes
+pub mod Part
+pub mod Run
+pub mod Words

@@ -1,0 +1,81 @@
+ghost use Rattle.std.specs.Prelude.{◌≡◌, ◌⊎◌, length, map, IfOk, IfErr};
+ghost use Rattle.lw_mealy.specs.Gives.{Gives};
+ghost use Rattle.lw_mealy.specs.Table.{IsTable};
+ghost use Rattle.lw_top.specs.Kept.{IsNumbered};
+ghost use Rattle.lw_top.specs.Known.{runs_answers, kept_answers};
+ghost use Rattle.lw_top.specs.Outcomes.{IsLearnStop};
+
+use crate::{FirstStop, Outcome, first_table};
+use lw_json::Machine;
+use lw_mealy::Mealy;
+use lw_sul::{Run, Session, TableSul};
+use lw_words::{Kept, KeptAnswer, Names, NoMemory};
+use std::alloc::Global;
+
+/// The greatest number of states of a model.
+const MOST_STATES: u16 = 1024;
+
+/// What was learned of a table: the closed table's machine, and the finished runs.
+#[derive(Drop)]
+pub(crate) struct Learned {
+    pub(crate) inputs: Names,
+    pub(crate) outputs: Names,
+    pub(crate) closed: Result<Mealy, Outcome>,
+    pub(crate) kept: Kept,
+}
+
+/// The runs of instance 0 as kept answers, numbered in order.
+fn keep(alloc: Global, runs: Vec<Run>) -> Result<Kept, NoMemory>
+    ensures numbered { IfOk result (λ kept. IsNumbered kept.answers) }
+    ensures runs { IfOk result (λ kept. kept_answers kept.answers ≡ runs_answers runs.items) }
+{
+    let mut kept = Kept::new(alloc);
+    kept.reserve(runs.len())?;
+    for run in runs {
+        let answer = KeptAnswer {
+            instance: 0,
+            run: kept.len() as u64,
+            word: run.word,
+            outs: run.outs,
+        };
+        if kept.push(answer).is_err() {
+            return Err(NoMemory);
+        }
+    }
+    Ok(kept)
+}
+
+/// Closes a table over the machine's single letters, and keeps the finished runs.
+pub(crate) fn learn(alloc: Global, machine: Machine) -> Learned
+    ensures names { (result.inputs ≡ machine.inputs) × (result.outputs ≡ machine.outputs) }
+    ensures model { IfOk result.closed (λ h. IsTable h × (h.inputs ≡ length machine.inputs) × (h.outputs ≡ length machine.outputs)) }
+    ensures stop { IfErr result.closed IsLearnStop }
+    ensures numbered { IsNumbered result.kept.answers }
+    ensures answers { Gives machine.mealy.rows result.kept.answers }
+{
+    let Machine {
+        inputs,
+        outputs,
+        mealy,
+    } = machine;
+    let mut session = Session::new(alloc, 0, TableSul::new(mealy));
+    let closed = match first_table(alloc, &mut session, MOST_STATES) {
+        Ok(model) => Ok(model),
+        Err(FirstStop::Crowd(words)) => Err(Outcome::TooManyStates(words)),
+        Err(FirstStop::NoMemory) => Err(Outcome::NoMemory),
+    };
+    match keep(alloc, session.into_journal().into_runs()) {
+        Ok(kept) => Learned {
+            inputs,
+            outputs,
+            closed,
+            kept,
+        },
+        Err(NoMemory) => Learned {
+            inputs,
+            outputs,
+            closed: Err(Outcome::NoMemory),
+            kept: Kept::new(alloc),
+        },
+    }
+}

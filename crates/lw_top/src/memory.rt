@@ -1,0 +1,179 @@
+//! Files and streams in memory, which tell all that they hold, took and were asked.
+ghost use Rattle.std.specs.Prelude.{◌≡◌, ◌≤◌, ◌-◌, [], None, length, map, IfOk, option_map, string_bytes, vec_capacity, vec_len};
+ghost use Rattle.lw_top.specs.Files.{file_at};
+
+use crate::{Failed, Files, FilesStop, Sink};
+use std::alloc::{AllocError, AllocFailed, Global};
+
+impl From<AllocError> for FilesStop {
+    ghost use Rattle.std.specs.Prelude.{◌≡◌};
+    ghost use Rattle.lw_top.specs.declared.outside.FilesStop.TheVariants.{NoMemory};
+
+    ghost from_gives = { λ _ stop. stop ≡ NoMemory };
+
+    fn from(_: AllocError) -> FilesStop {
+        FilesStop::NoMemory
+    }
+}
+
+impl<T: Drop> From<AllocFailed<T>> for FilesStop {
+    ghost use Rattle.std.specs.Prelude.{◌≡◌};
+    ghost use Rattle.lw_top.specs.declared.outside.FilesStop.TheVariants.{NoMemory};
+
+    ghost from_gives = { λ _ stop. stop ≡ NoMemory };
+
+    fn from(_: AllocFailed<T>) -> FilesStop {
+        FilesStop::NoMemory
+    }
+}
+
+/// A call on files: the name, whether it writes, and whether it failed.
+#[derive(Drop)]
+pub struct FileCall {
+    pub name: String,
+    pub writes: bool,
+    pub failed: bool,
+}
+
+/// Files in memory. A later file of the same name wins.
+#[derive(Drop)]
+pub struct MemoryFiles {
+    files: Vec<(String, Vec<u8>)>,
+    plan: Vec<u64>,
+    made: u64,
+    faults: u64,
+    calls: Vec<FileCall>,
+    alloc: Global,
+}
+
+/// The bytes under a name, once more.
+fn bytes_at(
+    alloc: Global,
+    files: &[(String, Vec<u8>)],
+    name: &str,
+) -> Result<Option<Vec<u8>>, AllocError>
+    ensures { IfOk result (λ r. option_map (λ v. v.items) r ≡ file_at name.now (map (λ f. (string_bytes f.0, f.1.items)) files.now)) }
+{
+    let mut found: Option<&Vec<u8>> = None;
+    for file in files {
+        if name == file.0.as_str() {
+            found = Some(&file.1);
+        }
+    }
+    match found {
+        Some(bytes) => Ok(Some(Vec::from_slice(alloc, bytes)?)),
+        None => Ok(None),
+    }
+}
+
+impl MemoryFiles {
+    /// These files. The calls whose numbers from 0 the plan has are to fail.
+    pub fn new(alloc: Global, files: Vec<(String, Vec<u8>)>, plan: Vec<u64>) -> MemoryFiles {
+        MemoryFiles {
+            files,
+            plan,
+            made: 0,
+            faults: 0,
+            calls: Vec::new(alloc),
+            alloc,
+        }
+    }
+
+    /// The calls so far, but those that wanted memory.
+    pub fn calls(&self) -> &[FileCall] {
+        self.calls.as_slice()
+    }
+}
+
+impl Files for MemoryFiles {
+    ghost use Rattle.std.specs.Prelude.{Some, map, string_bytes};
+
+    ghost holds = { λ m. Some (map (λ f. (string_bytes f.0, f.1.items)) m.files.items) };
+
+    ghost calls = { λ m. Some (map (λ c. record { name = string_bytes c.name; writes = c.writes; failed = c.failed }) m.calls.items) };
+
+    ghost faults = { λ m. m.faults };
+
+    fn read(&mut self, name: &str) -> Result<Vec<u8>, FilesStop> {
+        let called = String::from_str(self.alloc, name)?;
+        self.calls.reserve(1)?;
+        let mut found = bytes_at(self.alloc, &self.files, name)?;
+        if self.plan.contains(&self.made) {
+            found = None;
+        }
+        self.made = self.made.saturating_add(1);
+        self.calls.push_reserved(FileCall {
+            name: called,
+            writes: false,
+            failed: found.is_none(),
+        });
+        match found {
+            Some(bytes) => Ok(bytes),
+            None => {
+                self.faults = self.faults.saturating_add(1);
+                Err(FilesStop::Failed)
+            }
+        }
+    }
+}
+
+/// A stream in memory with room for so many bytes, of which it takes at most a piece at a time.
+#[derive(Drop)]
+pub struct MemorySink {
+    taken: Vec<u8>,
+    left: usize,
+    piece: usize,
+    plan: Vec<u64>,
+    made: u64,
+    faults: u64,
+    ghost in_room: { (1 ≤ piece) × (left ≤ vec_capacity taken - vec_len taken) },
+}
+
+impl MemorySink {
+    /// Room for `room` bytes, `piece` at most a call. The calls whose numbers from 0 the plan has are to fail.
+    pub fn new(
+        alloc: Global,
+        room: usize,
+        piece: usize,
+        plan: Vec<u64>,
+    ) -> Result<MemorySink, AllocError>
+        requires { 1 ≤ piece }
+    {
+        Ok(MemorySink {
+            taken: Vec::with_capacity(alloc, room)?,
+            left: room,
+            piece,
+            plan,
+            made: 0,
+            faults: 0,
+        })
+    }
+
+    /// The bytes that were taken.
+    pub fn taken(&self) -> &[u8] {
+        self.taken.as_slice()
+    }
+}
+
+impl Sink for MemorySink {
+    ghost use Rattle.std.specs.Prelude.{Some};
+
+    ghost taken = { λ s. Some s.taken.items };
+
+    ghost faults = { λ s. s.faults };
+
+    fn put(&mut self, bytes: &[u8]) -> Result<usize, Failed> {
+        let planned = self.plan.contains(&self.made);
+        self.made = self.made.saturating_add(1);
+        if planned || self.left == 0 {
+            self.faults = self.faults.saturating_add(1);
+            return Err(Failed);
+        }
+        let count = bytes.len().min(self.piece).min(self.left);
+        self.left -= count;
+        if self.taken.extend_from_slice(&bytes[..count]).is_err() {
+            unreachable!();
+        }
+        Ok(count)
+    }
+}

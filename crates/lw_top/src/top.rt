@@ -1,0 +1,252 @@
+ghost use Rattle.std.specs.Prelude.{◌≡◌, ◌⊎◌, ◌↔◌, ℕ, ◌+◌, ◌<◌, ◌≤◌, List, [], ◌++◌, length, map, take, drop, true, false, Some, None, Ok, Err, IfOk, IfErr, OnOk, OnErr, IsSome, option_map, string_bytes};
+ghost use Rattle.lw_words.specs.Cause.{Rose};
+ghost use Rattle.lw_mealy.specs.Table.{MachineTable as Table};
+ghost use Rattle.lw_json.specs.MachineText.{written_text};
+ghost use Rattle.lw_top.specs.Files.{Reads, read_call, noted};
+ghost use Rattle.lw_top.specs.Kept.{IsNumbered};
+ghost use Rattle.lw_top.specs.Outcomes.{HasOwnText, IsWriteStop, status_of};
+ghost use Rattle.lw_top.specs.Run.{IsReadStop, IsTableOf, RefusesTable, KeepsRuns};
+ghost use Rattle.lw_top.specs.Words.{table_file};
+ghost use Rattle.lw_top.specs.declared.outcome.Outcome.{Outcome as Came};
+
+use crate::learning::{Learned, learn};
+use crate::text::{NO_MEMORY, fixed_text, outcome_text};
+use crate::{Failed, Files, FilesStop, Outcome, Sink, status};
+use lw_json::{JsonFault, Machine, machine_text, read_machine};
+use lw_mealy::Mealy;
+use lw_words::{Kept, Names, NoMemory};
+use std::alloc::Global;
+
+/// The end of a call of the program: what it came to with its exit status, the model where a table was closed, also
+/// where a later write failed, and the finished runs.
+#[derive(Drop)]
+pub struct End {
+    pub outcome: Outcome,
+    pub status: u8,
+    pub model: Option<Mealy>,
+    pub kept: Kept,
+}
+
+/// The file of `learn --table FILE`, or None where the words are others.
+fn table_file(words: &[String]) -> Option<&str>
+    ensures { option_map (λ f. f.now) result ≡ table_file (map (λ s. string_bytes s) words.now) }
+{
+    match words {
+        [command, option, file] if command.as_str() == "learn" && option.as_str() == "--table" => {
+            Some(file.as_str())
+        }
+        _ => None,
+    }
+}
+
+/// Puts some of the bytes from a place on, and says how many.
+fn put_from<K: Sink>(sink: &mut K, bytes: &[u8], done: usize) -> Result<usize, Failed>
+    requires { done < length bytes.now }
+    ensures some { IfOk result (λ n. (1 ≤ n) × (done + n ≤ length bytes.now)) }
+    ensures took { IfOk result (λ n. K.taken sink.new ≡ option_map (λ t. t ++ take n (drop done bytes.now)) (K.taken sink.old)) }
+    ensures failed { OnErr result (Rose (K.faults sink.old) (K.faults sink.new)) }
+    ensures counts { K.faults sink.old ≤ K.faults sink.new }
+{
+    sink.put(&bytes[done..])
+}
+
+/// Puts all the bytes into a sink, piece by piece.
+#[tactic(auto, using(crate::proofs::SinkLemmas::sink_steps))]
+fn put_all<K: Sink>(sink: &mut K, bytes: &[u8]) -> Result<(), Failed>
+    ensures ok { OnOk result (K.taken sink.new ≡ option_map (λ t. t ++ bytes.now) (K.taken sink.old)) }
+    ensures failed { OnErr result (Rose (K.faults sink.old) (K.faults sink.new)) }
+    ensures counts { K.faults sink.old ≤ K.faults sink.new }
+{
+    let mut done = 0;
+    while done < bytes.len() {
+        done += put_from(sink, bytes, done)?;
+    }
+    Ok(())
+}
+
+/// Puts the text of an outcome to `err`. Where making the text wants memory, that is the outcome, and its text is put.
+fn say<E: Sink>(
+    alloc: Global,
+    outcome: Outcome,
+    inputs: Option<&Names>,
+    answers: usize,
+    err: &mut E,
+) -> Outcome
+    ensures either { (result ≡ outcome) ⊎ (HasOwnText outcome × (result ≡ Came.NoMemory)) }
+    ensures counts { E.faults err.old ≤ E.faults err.new }
+{
+    if let Some(text) = fixed_text(&outcome) {
+        let _put = put_all(err, text.as_bytes());
+        return outcome;
+    }
+    let text = match inputs {
+        Some(names) => outcome_text(alloc, &outcome, names, answers),
+        None => Err(NoMemory),
+    };
+    match text {
+        Ok(text) => {
+            let _put = put_all(err, text.as_bytes());
+            outcome
+        }
+        Err(NoMemory) => {
+            let _put = put_all(err, NO_MEMORY.as_bytes());
+            Outcome::NoMemory
+        }
+    }
+}
+
+/// Reads the table file.
+fn read_table<F: Files>(alloc: Global, files: &mut F, name: &str) -> Result<Machine, Outcome>
+    ensures ok { IfOk result (IsTableOf (F.holds files.old) name.now) }
+    ensures err { IfErr result (IsReadStop (F.holds files.old) name.now) }
+    ensures failed { result ≡ Err Came.FileFault → Rose (F.faults files.old) (F.faults files.new) × (F.calls files.new ≡ noted (read_call name.now true) (F.calls files.old)) }
+    ensures counts { F.faults files.old ≤ F.faults files.new }
+{
+    let bytes = match files.read(name) {
+        Ok(bytes) => bytes,
+        Err(FilesStop::Failed) => return Err(Outcome::FileFault),
+        Err(FilesStop::NoMemory) => return Err(Outcome::NoMemory),
+    };
+    match read_machine(alloc, &bytes) {
+        Ok(machine) => Ok(machine),
+        Err(JsonFault::BadMachine) => Err(Outcome::BadFile),
+        Err(JsonFault::NoMemory) => Err(Outcome::NoMemory),
+    }
+}
+
+/// The end of a call that has no model.
+fn refuse<E: Sink>(
+    alloc: Global,
+    outcome: Outcome,
+    inputs: Option<&Names>,
+    kept: Kept,
+    err: &mut E,
+) -> End
+    ensures outcome { (result.outcome ≡ outcome) ⊎ (HasOwnText outcome × (result.outcome ≡ Came.NoMemory)) }
+    ensures status { result.status ≡ status_of result.outcome }
+    ensures model { result.model ≡ None }
+    ensures kept { result.kept ≡ kept }
+    ensures counts { E.faults err.old ≤ E.faults err.new }
+{
+    let outcome = say(alloc, outcome, inputs, kept.len(), err);
+    End {
+        status: status(&outcome),
+        outcome,
+        model: None,
+        kept,
+    }
+}
+
+/// Writes the model to `out` and the line about it to `err`.
+fn write_model<O: Sink, E: Sink>(
+    alloc: Global,
+    machine: &Machine,
+    outcome: &Outcome,
+    answers: usize,
+    out: &mut O,
+    err: &mut E,
+) -> Result<(), Outcome>
+    ensures err { IfErr result (λ e. (e ≡ Came.NoMemory) ⊎ ((e ≡ Came.SinkFault) × (Rose (O.faults out.old) (O.faults out.new) ⊎ Rose (E.faults err.old) (E.faults err.new)))) }
+    ensures model { OnOk result (O.taken out.new ≡ option_map (λ t. t ++ written_text machine.now) (O.taken out.old)) }
+    ensures counts { (O.faults out.old ≤ O.faults out.new) × (E.faults err.old ≤ E.faults err.new) }
+{
+    let Ok(text) = machine_text(alloc, machine) else {
+        return Err(Outcome::NoMemory);
+    };
+    let Ok(line) = outcome_text(alloc, outcome, &machine.inputs, answers) else {
+        return Err(Outcome::NoMemory);
+    };
+    if put_all(out, &text).is_err() {
+        return Err(Outcome::SinkFault);
+    }
+    if put_all(err, line.as_bytes()).is_err() {
+        return Err(Outcome::SinkFault);
+    }
+    Ok(())
+}
+
+/// Writes out the closed table's machine.
+fn write_out<O: Sink, E: Sink>(
+    alloc: Global,
+    machine: Machine,
+    kept: Kept,
+    out: &mut O,
+    err: &mut E,
+) -> End
+    ensures outcome { IsWriteStop machine.mealy (Rose (O.faults out.old) (O.faults out.new) ⊎ Rose (E.faults err.old) (E.faults err.new)) result.outcome }
+    ensures status { result.status ≡ status_of result.outcome }
+    ensures model { result.model ≡ Some machine.mealy }
+    ensures kept { result.kept ≡ kept }
+    ensures written { (h : Table) → result.outcome ≡ Came.Unchecked h → O.taken out.new ≡ option_map (λ t. t ++ written_text machine) (O.taken out.old) }
+    ensures counts { (O.faults out.old ≤ O.faults out.new) × (E.faults err.old ≤ E.faults err.new) }
+{
+    let written = match machine.mealy.copy() {
+        Ok(model) => {
+            let outcome = Outcome::Unchecked { model };
+            match write_model(alloc, &machine, &outcome, kept.len(), out, err) {
+                Ok(()) => Ok(outcome),
+                Err(refusal) => Err(refusal),
+            }
+        }
+        Err(NoMemory) => Err(Outcome::NoMemory),
+    };
+    let outcome = match written {
+        Ok(outcome) => outcome,
+        Err(refusal) => say(alloc, refusal, None, kept.len(), err),
+    };
+    End {
+        status: status(&outcome),
+        outcome,
+        model: Some(machine.mealy),
+        kept,
+    }
+}
+
+/// All that the program does. `words` are those of the command line, without the program's own name.
+///
+/// `learn --table FILE` reads the machine file FILE, closes a table over its single letters, writes the table's
+/// machine to `out` and a line about it to `err`. The text of every other outcome goes to `err`.
+pub fn run<F: Files, O: Sink, E: Sink>(
+    alloc: Global,
+    words: &[String],
+    files: &mut F,
+    out: &mut O,
+    err: &mut E,
+) -> End
+    ensures status { result.status ≡ status_of result.outcome }
+
+    // What the words must be, and what each refusal comes from.
+    ensures usage { (result.outcome ≡ Came.Usage) ↔ (table_file (map (λ s. string_bytes s) words.now) ≡ None) }
+    ensures bad_file { result.outcome ≡ Came.BadFile → (name : List ℕ) × (table_file (map (λ s. string_bytes s) words.now) ≡ Some name) × RefusesTable (F.holds files.old) name }
+    ensures file_fault { result.outcome ≡ Came.FileFault → Rose (F.faults files.old) (F.faults files.new) }
+    ensures file_call { result.outcome ≡ Came.FileFault → (name : List ℕ) × (table_file (map (λ s. string_bytes s) words.now) ≡ Some name) × (F.calls files.new ≡ noted (read_call name true) (F.calls files.old)) }
+    ensures sink_fault { result.outcome ≡ Came.SinkFault → Rose (O.faults out.old) (O.faults out.new) ⊎ Rose (E.faults err.old) (E.faults err.new) }
+
+    // The kept answers.
+    ensures kept { (result.kept.answers ≡ []) ⊎ ((name : List ℕ) × (table_file (map (λ s. string_bytes s) words.now) ≡ Some name) × KeepsRuns (F.holds files.old) name result.kept.answers) }
+{
+    let Some(name) = table_file(words) else {
+        return refuse(alloc, Outcome::Usage, None, Kept::new(alloc), err);
+    };
+    let machine = match read_table(alloc, files, name) {
+        Ok(machine) => machine,
+        Err(outcome) => return refuse(alloc, outcome, None, Kept::new(alloc), err),
+    };
+    let Learned {
+        inputs,
+        outputs,
+        closed,
+        kept,
+    } = learn(alloc, machine);
+    match closed {
+        Ok(mealy) => {
+            let model = Machine {
+                inputs,
+                outputs,
+                mealy,
+            };
+            write_out(alloc, model, kept, out, err)
+        }
+        Err(outcome) => refuse(alloc, outcome, Some(&inputs), kept, err),
+    }
+}
