@@ -14,3 +14,6 @@ pub use memory::{FileCall, MemoryFiles, MemorySink};
 pub use outcome::{Outcome, status};
 pub use outside::{Failed, Files, FilesStop, Sink};
 pub use top::{End, run};
+
+#[cfg(test)]
+mod tests;
