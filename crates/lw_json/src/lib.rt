@@ -10,3 +10,6 @@ pub use fault::JsonFault;
 pub use machine::Machine;
 pub use read::read_machine;
 pub use write::machine_text;
+
+#[cfg(test)]
+mod tests;

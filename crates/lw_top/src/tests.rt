@@ -2,16 +2,24 @@ use crate::{End, FirstStop, MemoryFiles, MemorySink, Outcome, first_table, run};
 use lw_mealy::Mealy;
 use lw_sul::{Session, TableSul};
 use std::alloc::Global;
+use std::process::Abort;
 use std::test::Fail;
 
 const ONE: &str = "{\"inputs\":[\"t\"],\"outputs\":[\"0\"],\"states\":[[[0,\"0\"]]]}\n";
-const FAT: &str = "{\"inputs\":[\"a\"],\"outputs\":[\"0\",\"1\"],\"states\":[[[1,\"0\"]],[[2,\"1\"]],[[1,\"0\"]],[[0,\"1\"]]]}\n";
+
+const FAT: &str =
+    "{\"inputs\":[\"a\"],\"outputs\":[\"0\",\"1\"],\"states\":[[[1,\"0\"]],[[2,\"1\"]],[[1,\"0\"]],[[0,\"1\"]]]}\n";
+
 const FAT_MODEL: &str =
     "{\"inputs\":[\"a\"],\"outputs\":[\"0\",\"1\"],\"states\":[[[1,\"0\"]],[[0,\"1\"]]]}\n";
-const RING: &str = "{\"inputs\":[\"t\"],\"outputs\":[\"0\",\"1\",\"2\"],\"states\":[[[1,\"0\"]],[[2,\"1\"]],[[0,\"2\"]]]}\n";
+
+const RING: &str =
+    "{\"inputs\":[\"t\"],\"outputs\":[\"0\",\"1\",\"2\"],\"states\":[[[1,\"0\"]],[[2,\"1\"]],[[0,\"2\"]]]}\n";
+
 const LEARN: [&str; 3] = ["learn", "--table", "m"];
 
 /// One call of the program over memory, and what its streams took.
+#[derive(Drop)]
 struct Case {
     words: &'static [&'static str],
     file: &'static str,
@@ -44,8 +52,7 @@ fn texts(alloc: Global, words: &[&str]) -> Result<Vec<String>, Fail> {
     Ok(all)
 }
 
-fn check(rt: &HostRuntime, case: &Case) -> Result<End, Fail> {
-    let alloc = rt.alloc();
+fn check(rt: &impl Abort, alloc: Global, case: &Case) -> Result<End, Fail> {
     let mut files = Vec::new(alloc);
     files.push((
         String::from_str(alloc, "m")?,
@@ -53,8 +60,18 @@ fn check(rt: &HostRuntime, case: &Case) -> Result<End, Fail> {
     ))?;
     let mut files = MemoryFiles::new(alloc, files, Vec::from_slice(alloc, case.file_plan)?);
     assert!(rt; case.piece > 0);
-    let mut out = MemorySink::new(alloc, 4096, case.piece, Vec::from_slice(alloc, case.out_plan)?)?;
-    let mut err = MemorySink::new(alloc, 4096, case.piece, Vec::from_slice(alloc, case.err_plan)?)?;
+    let mut out = MemorySink::new(
+        alloc,
+        4096,
+        case.piece,
+        Vec::from_slice(alloc, case.out_plan)?,
+    )?;
+    let mut err = MemorySink::new(
+        alloc,
+        4096,
+        case.piece,
+        Vec::from_slice(alloc, case.err_plan)?,
+    )?;
     let end = run(
         alloc,
         &texts(alloc, case.words)?,
@@ -70,7 +87,7 @@ fn check(rt: &HostRuntime, case: &Case) -> Result<End, Fail> {
 
 #[test]
 fn shipped_machines(rt: HostRuntime) -> Result<(), Fail> {
-    let one = check(&rt, &PLAIN)?;
+    let one = check(&rt, rt.alloc(), &PLAIN)?;
     assert!(rt; one.model.is_some());
     assert_eq!(rt; one.kept.len(), 2);
     for i in 0..one.kept.len() {
@@ -80,6 +97,7 @@ fn shipped_machines(rt: HostRuntime) -> Result<(), Fail> {
     }
     let _fat = check(
         &rt,
+        rt.alloc(),
         &Case {
             file: FAT,
             out: FAT_MODEL,
@@ -89,6 +107,7 @@ fn shipped_machines(rt: HostRuntime) -> Result<(), Fail> {
     )?;
     let _ring = check(
         &rt,
+        rt.alloc(),
         &Case {
             file: RING,
             out: RING,
@@ -97,4 +116,119 @@ fn shipped_machines(rt: HostRuntime) -> Result<(), Fail> {
         },
     )?;
     Ok(())
+}
+
+#[test]
+fn refused_words_and_files(rt: HostRuntime) -> Result<(), Fail> {
+    let usage =
+        "usage: learn (SETUP | --table FILE) [--workers N] [--extra K] [--learner table|ttt] [--max-states N] [--model FILE] [--answers FILE]\n       check MODEL ANSWERS [--extra K]\n       serve MODEL\n       trial --states N --inputs A --seed S [--workers N] [--learner table|ttt]\n";
+    let words: [&'static [&'static str]; 5] = [
+        &[],
+        &["learn"],
+        &["learn", "--table"],
+        &["learn", "--table", "m", "m"],
+        &["check", "--table", "m"],
+    ];
+    for taken in words {
+        let _usage = check(
+            &rt,
+            rt.alloc(),
+            &Case {
+                words: taken,
+                status: 2,
+                out: "",
+                err: usage,
+                ..PLAIN
+            },
+        )?;
+    }
+    for file in ["", "{}", "x", "[1]"] {
+        let _bad = check(
+            &rt,
+            rt.alloc(),
+            &Case {
+                file,
+                status: 3,
+                out: "",
+                err: "bad file table\n",
+                ..PLAIN
+            },
+        )?;
+    }
+    Ok(())
+}
+
+#[test]
+fn failing_files_and_streams(rt: HostRuntime) -> Result<(), Fail> {
+    let cases = [
+        Case {
+            words: &["learn", "--table", "other"],
+            status: 8,
+            out: "",
+            err: "file fault: table\n",
+            ..PLAIN
+        },
+        Case {
+            file_plan: &[0],
+            status: 8,
+            out: "",
+            err: "file fault: table\n",
+            ..PLAIN
+        },
+        Case {
+            out_plan: &[0],
+            status: 8,
+            out: "",
+            err: "sink fault\n",
+            ..PLAIN
+        },
+        Case {
+            piece: 8,
+            out_plan: &[1],
+            status: 8,
+            out: "{\"inputs",
+            err: "sink fault\n",
+            ..PLAIN
+        },
+        Case { piece: 1, ..PLAIN },
+        Case {
+            err_plan: &[0],
+            status: 8,
+            err: "sink fault\n",
+            ..PLAIN
+        },
+    ];
+    for case in &cases {
+        let end = check(&rt, rt.alloc(), case)?;
+        let read = end.kept.len() > 0;
+        assert_eq!(rt; end.model.is_some(), read);
+    }
+    Ok(())
+}
+
+#[test]
+fn a_crowd_past_the_limit(rt: HostRuntime) -> Result<(), Fail> {
+    let alloc = rt.alloc();
+    let mut rows = Vec::new(alloc);
+    for (target, output) in [(1u16, 0u16), (2, 1), (0, 2)] {
+        rows.push(Vec::from_slice(alloc, &[(target, output)])?)?;
+    }
+    let ring = Mealy::new(alloc, 1, 3, rows)?;
+    let mut session = Session::new(alloc, 0, TableSul::new(ring));
+    match first_table(alloc, &mut session, 2) {
+        Err(FirstStop::Crowd(words)) => {
+            assert_eq!(rt; words.len(), 3);
+            for (length, word) in words.as_slice().iter().enumerate() {
+                assert_eq!(rt; word.len(), length);
+            }
+        }
+        _ => return Err(Fail::from("a table of two states was closed")),
+    }
+    assert_eq!(rt; session.journal().len(), 3);
+    Ok(())
+}
+
+#[test]
+fn an_outcome_has_its_status(rt: HostRuntime) {
+    assert_eq!(rt; crate::status(&Outcome::NoMemory), 5);
 }

@@ -1,11 +1,107 @@
-use crate::{Word, join};
+use crate::{Kept, KeptAnswer, Line, Names, NamesFault, NoMemory, SulStop, Word, Words, join};
+use std::alloc::Global;
 use std::test::Fail;
 
+fn texts(alloc: Global, names: &[&str]) -> Result<Vec<String>, Fail> {
+    let mut all = Vec::new(alloc);
+    for name in names {
+        all.push(String::from_str(alloc, name)?)?;
+    }
+    Ok(all)
+}
+
+fn fault_of(alloc: Global, names: &[&str]) -> Result<Option<NamesFault>, Fail> {
+    Ok(Names::from_list(alloc, &texts(alloc, names)?).err())
+}
+
 #[test]
-fn words_join(rt: HostRuntime) -> Result<(), Fail> {
+fn words_join_and_copy(rt: HostRuntime) -> Result<(), Fail> {
     let mut a = Word::new(rt.alloc());
     a.push(3)?;
-    let b = join(&a, &a)?;
+    let b = join(&a, &a.copy()?)?;
     assert_eq!(rt; b.as_slice(), [3, 3].as_slice());
+    assert_eq!(rt; b.prefix(1)?.as_slice(), [3].as_slice());
+    let mut list = Words::new(rt.alloc());
+    assert!(rt; list.push(b).is_ok());
+    assert_eq!(rt; (list.len(), list.as_slice().len()), (1, 1));
+    Ok(())
+}
+
+#[test]
+fn names_are_numbered(rt: HostRuntime) -> Result<(), Fail> {
+    let alloc = rt.alloc();
+    let names = match Names::from_list(alloc, &texts(alloc, &["open", "close"])?) {
+        Ok(names) => names,
+        Err(_) => return Err(Fail::from("two names were refused")),
+    };
+    assert_eq!(rt; names.len(), 2);
+    assert_eq!(rt; names.number("close"), Some(1));
+    assert_eq!(rt; names.number("bad"), None);
+    assert!(rt; names.same(&names.copy()?));
+    Ok(())
+}
+
+#[test]
+fn the_first_fault_of_names(rt: HostRuntime) -> Result<(), Fail> {
+    let alloc = rt.alloc();
+    let long = "0123456789012345678901234567890123456789012345678901234567890123x";
+    assert_eq!(rt; fault_of(alloc, &[])?, Some(NamesFault::Empty));
+    assert_eq!(rt; fault_of(alloc, &[""])?, Some(NamesFault::BadName(0)));
+    assert_eq!(rt;
+        fault_of(alloc, &["a", "b c"])?,
+        Some(NamesFault::BadName(1))
+    );
+    assert_eq!(rt;
+        fault_of(alloc, &["a", "~", "\u{7f}"])?,
+        Some(NamesFault::BadName(2))
+    );
+    assert_eq!(rt;
+        fault_of(alloc, &["a", long])?,
+        Some(NamesFault::BadName(1))
+    );
+    assert_eq!(rt;
+        fault_of(alloc, &["a", "b", "b", "a"])?,
+        Some(NamesFault::Repeated(1, 2))
+    );
+    assert_eq!(rt;
+        fault_of(alloc, &["a", "a", "b c"])?,
+        Some(NamesFault::BadName(2))
+    );
+    let mut many = Vec::new(alloc);
+    for n in 0..4097u32 {
+        many.push(format!(in alloc; "n{n}")?)?;
+    }
+    assert_eq!(rt;
+        Names::from_list(alloc, &many).err(),
+        Some(NamesFault::TooMany(4097))
+    );
+    Ok(())
+}
+
+#[test]
+fn answers_are_kept_in_their_room(rt: HostRuntime) -> Result<(), Fail> {
+    let alloc = rt.alloc();
+    let mut kept = Kept::new(alloc);
+    kept.reserve(1)?;
+    let answer = KeptAnswer {
+        instance: 0,
+        run: 7,
+        word: Word::new(alloc),
+        outs: Word::new(alloc),
+    };
+    assert!(rt; kept.push(answer).is_ok());
+    assert_eq!(rt; kept.len(), 1);
+    Ok(())
+}
+
+#[test]
+fn lines_and_stops_are_copied(rt: HostRuntime) -> Result<(), Fail> {
+    let line = Line::new(b"out 7");
+    match SulStop::BadLine(line).copy() {
+        SulStop::BadLine(copy) => assert_eq!(rt; copy.as_slice(), b"out 7".as_slice()),
+        _ => return Err(Fail::from("another stop")),
+    }
+    let text = format!(in rt.alloc(); "{NoMemory}")?;
+    assert_eq!(rt; text.as_str(), "no memory");
     Ok(())
 }

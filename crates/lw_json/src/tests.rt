@@ -1,0 +1,66 @@
+use crate::{JsonFault, machine_text, read_machine};
+use std::test::Fail;
+
+const ONE: &str = "{\"inputs\":[\"t\"],\"outputs\":[\"0\"],\"states\":[[[0,\"0\"]]]}\n";
+
+/// Machine files that are written otherwise than they are read.
+const SPELLED: [&str; 3] = [
+    "{\"states\":[[[0,\"0\"]]],\"outputs\":[\"0\"],\"inputs\":[\"t\"]}",
+    " { \"inputs\" : [ \"t\" ] ,\n\"outputs\":[\"0\"],\t\"states\":[[[0,\"0\"]]] }\n\n",
+    "{\"inputs\":[\"t\"],\"outputs\":[\"0\"],\"states\":[[[0,\"0\"]]],\"more\":{\"a\":[null]}}",
+];
+
+/// One reason each.
+const BAD: [&str; 22] = [
+    "",
+    "x",
+    "[]",
+    "{}",
+    "{\"outputs\":[\"0\"],\"states\":[[[0,\"0\"]]]}",
+    "{\"inputs\":\"t\",\"outputs\":[\"0\"],\"states\":[[[0,\"0\"]]]}",
+    "{\"inputs\":[1],\"outputs\":[\"0\"],\"states\":[[[0,\"0\"]]]}",
+    "{\"inputs\":[],\"outputs\":[\"0\"],\"states\":[[]]}",
+    "{\"inputs\":[\"t\"],\"outputs\":[],\"states\":[[[0,\"0\"]]]}",
+    "{\"inputs\":[\"t t\"],\"outputs\":[\"0\"],\"states\":[[[0,\"0\"]]]}",
+    "{\"inputs\":[\"t\",\"t\"],\"outputs\":[\"0\"],\"states\":[[[0,\"0\"],[0,\"0\"]]]}",
+    "{\"inputs\":[\"t\"],\"outputs\":[\"0\"],\"states\":[]}",
+    "{\"inputs\":[\"t\"],\"outputs\":[\"0\"],\"states\":[[]]}",
+    "{\"inputs\":[\"t\"],\"outputs\":[\"0\"],\"states\":[[[0,\"0\"],[0,\"0\"]]]}",
+    "{\"inputs\":[\"t\"],\"outputs\":[\"0\"],\"states\":[[[0]]]}",
+    "{\"inputs\":[\"t\"],\"outputs\":[\"0\"],\"states\":[[[0,\"0\",0]]]}",
+    "{\"inputs\":[\"t\"],\"outputs\":[\"0\"],\"states\":[[[\"0\",\"0\"]]]}",
+    "{\"inputs\":[\"t\"],\"outputs\":[\"0\"],\"states\":[[[-1,\"0\"]]]}",
+    "{\"inputs\":[\"t\"],\"outputs\":[\"0\"],\"states\":[[[0.5,\"0\"]]]}",
+    "{\"inputs\":[\"t\"],\"outputs\":[\"0\"],\"states\":[[[65536,\"0\"]]]}",
+    "{\"inputs\":[\"t\"],\"outputs\":[\"0\"],\"states\":[[[0,\"1\"]]]}",
+    "{\"inputs\":[\"t\"],\"outputs\":[\"0\"],\"states\":[[[1,\"0\"]]]}",
+];
+
+#[test]
+fn a_machine_is_read_and_written(rt: HostRuntime) -> Result<(), Fail> {
+    let alloc = rt.alloc();
+    for text in SPELLED {
+        match read_machine(alloc, text.as_bytes()) {
+            Ok(machine) => {
+                let written = machine_text(alloc, &machine)?;
+                assert_eq!(rt; written.as_slice(), ONE.as_bytes());
+            }
+            Err(_) => return Err(Fail::from("a machine file was refused")),
+        }
+    }
+    Ok(())
+}
+
+#[test]
+fn other_bytes_are_refused(rt: HostRuntime) -> Result<(), Fail> {
+    let alloc = rt.alloc();
+    for text in BAD {
+        match read_machine(alloc, text.as_bytes()) {
+            Ok(_) => return Err(Fail::from("bytes outside the grammar were taken")),
+            Err(fault) => assert_eq!(rt; fault, JsonFault::BadMachine, "{text}"),
+        }
+    }
+    let bytes = b"\xff{}";
+    assert!(rt; read_machine(alloc, bytes).is_err());
+    Ok(())
+}
