@@ -1,0 +1,3 @@
+pub mod AccessLemmas
+pub mod Before
+pub mod SearchLemmas

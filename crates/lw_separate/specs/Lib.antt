@@ -1,0 +1,4 @@
+pub mod Before
+pub mod Least
+pub mod Search
+pub mod Searched
