@@ -1,4 +1,5 @@
 pub mod Before
 pub mod Least
+pub mod Lengths
 pub mod Search
 pub mod Searched

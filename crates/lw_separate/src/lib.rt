@@ -2,5 +2,8 @@
 #![tactic(auto)]
 
 mod access;
+mod lengths;
+mod separate;
 
 pub use access::access_words;
+pub use separate::separating;
