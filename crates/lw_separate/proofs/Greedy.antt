@@ -28,13 +28,13 @@ Greedy a m ls e d [] = d ≡ 0
 Greedy a m ls e d (x ∷ v) = (0 < d) × FirstLetter a m ls e d x × Greedy a m ls (onward m e x) (d - 1) v
 
 -- the lists differ where their heads or their tails do
-heads : (x y : ℕ) (u v : List ℕ) → x ≢ y → x ∷ u ≢ y ∷ v
+pub heads : (x y : ℕ) (u v : List ℕ) → x ≢ y → x ∷ u ≢ y ∷ v
 heads x y u v differ e = differ (cc)
 
 tails : (x y : ℕ) (u v : List ℕ) → x ≡ y → x ∷ u ≢ y ∷ v → u ≢ v
 tails x y u v same differ e = differ (cc)
 
-tails_back : (x y : ℕ) (u v : List ℕ) → u ≢ v → x ∷ u ≢ y ∷ v
+pub tails_back : (x y : ℕ) (u v : List ℕ) → u ≢ v → x ∷ u ≢ y ∷ v
 tails_back x y u v differ e = differ (cc)
 
 module _ (a : ℕ) (m : Rows) (ls : List ℕ) (f : IsFilled a m ls) where
@@ -54,7 +54,7 @@ module _ (a : ℕ) (m : Rows) (ls : List ℕ) (f : IsFilled a m ls) where
       omega (arith, f.table.whole, mul-add-lt (next m (first_of m e) x) (length m) (next m (second_of m e) x) (length m) p q)
 
   -- what separates the targets, and what separates the pair where the letter's outputs are equal
-  onward_outs : (e x : ℕ) (v : List ℕ) → e < length ls → x < a → outs (onward m e x) v → out m (next m (first_of m e) x) v ≢ out m (next m (second_of m e) x) v
+  pub onward_outs : (e x : ℕ) (v : List ℕ) → e < length ls → x < a → outs (onward m e x) v → out m (next m (first_of m e) x) v ≢ out m (next m (second_of m e) x) v
   onward_outs e x v lt xa h same =
       let q : next m (second_of m e) x < length m = target_below a m (second_of m e) x f.table.machine (second_below e) xa in
       h (ap (λ (p : ℕ). out m p v) (first-pair m (next m (first_of m e) x) (next m (second_of m e) x) q) ∙ (same ∙ sym (ap (λ (p : ℕ). out m p v) (second-pair m (next m (first_of m e) x) (next m (second_of m e) x) q))))

@@ -2,8 +2,11 @@
 #![tactic(auto)]
 
 mod access;
+mod form;
 mod lengths;
+mod rename;
 mod separate;
 
 pub use access::access_words;
+pub use form::canonical;
 pub use separate::separating;
