@@ -5,3 +5,4 @@ pub mod Greedy
 pub mod LengthLemmas
 pub mod MergeLemmas
 pub mod SearchLemmas
+pub mod UniqueLemmas

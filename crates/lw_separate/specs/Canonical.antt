@@ -57,3 +57,7 @@ pub record RenamesRow (a : ℕ) (m : Rows) (names : List ℕ) (q : ℕ) (r : Lis
 pub record RenamesRows (a : ℕ) (m : Rows) (states names : List ℕ) (rows : Rows) : Type 0 where
   pub long : length rows ≡ length states
   pub each : (k : ℕ) → k < length rows → RenamesRow a m names (slice_index states k) (slice_index_or rows k [])
+
+-- no two machines are canonical for one
+abbrev pub OneCanonical : Type 0
+OneCanonical = (a : ℕ) (m c d : Rows) → IsCanonical a m c → IsCanonical a m d → c ≡ d

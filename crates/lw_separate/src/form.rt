@@ -1,6 +1,6 @@
 ghost use Rattle.std.specs.Prelude.{◌≡◌, ℕ, ◌*◌, ◌<◌, length, slice_index, IfOk, OnOk};
 ghost use Rattle.lw_mealy.specs.Table.{IsTable};
-ghost use Rattle.lw_separate.specs.Canonical.{IsCanonical, StandsFor, Merges};
+ghost use Rattle.lw_separate.specs.Canonical.{IsCanonical, StandsFor, Merges, OneCanonical};
 ghost use Rattle.lw_separate.specs.Lengths.{IsFilled};
 ghost use Rattle.lw_separate.specs.Names.{NamesStates, NamesPlaces, IsAllStates};
 
@@ -84,3 +84,8 @@ pub fn canonical(alloc: Global, m: &Mealy) -> Result<Mealy, NoMemory>
     let names = numbers(alloc, search.places.as_slice())?;
     rename(alloc, &h, search.states.as_slice(), names.as_slice())
 }
+
+/// A law, with no code: two canonical machines of one machine are one.
+pub fn canonical_is_unique()
+    ensures { OneCanonical }
+{}

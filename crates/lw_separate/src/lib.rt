@@ -8,5 +8,5 @@ mod rename;
 mod separate;
 
 pub use access::access_words;
-pub use form::canonical;
+pub use form::{canonical, canonical_is_unique};
 pub use separate::separating;
