@@ -10,7 +10,7 @@ use Rattle.lw_mealy.specs.Machine.{Rows, IsMachine, next, output, out}
 use Rattle.lw_mealy.specs.Minimal.{Differ}
 use Rattle.lw_mealy.proofs.RowLemmas.{target_below}
 use Rattle.lw_separate.specs.Before.{Before, AtMost, Lex}
-use Rattle.lw_separate.specs.Least.{IsLeastSeparating}
+use Rattle.lw_separate.specs.Least.{IsLeastSeparating, IsSeparatingWord}
 use Rattle.lw_separate.specs.Lengths.{begins, onward, pair_of, first_of, second_of, one_more, IsFilled, FirstLetter, Within}
 use Rattle.lw_separate.proofs.Before.{at_most_not_behind}
 use Rattle.lw_separate.proofs.LengthLemmas.{begins_cases, one_more_cases}
@@ -180,3 +180,10 @@ module _ (a : ℕ) (m : Rows) (ls : List ℕ) (f : IsFilled a m ls) where
 
   pub none_separates : (e : ℕ) → e < length ls → get_or ls e 0 ≡ 0 → ¬ Differ a m (first_of m e) (second_of m e)
   none_separates e lt none d = omega (arith, none, (separates_within d.0 e lt d.1 d.2).0)
+
+-- the word of a pair's place is the word of the pair
+pub word_of_pair : (a : ℕ) (m : Rows) (p q e : ℕ) (o : Option (List ℕ)) (w : List ℕ) → q < length m → e ≡ pair_of m p q → o ≡ Some w → IsSeparatingWord a m (first_of m e) (second_of m e) o → IsLeastSeparating a m p q w
+word_of_pair a m p q e o w lq at is h =
+    let h1 : IsSeparatingWord a m (first_of m e) (second_of m e) (Some w) = subst (λ (v : Option (List ℕ)). IsSeparatingWord a m (first_of m e) (second_of m e) v) is h in
+    let h2 : IsLeastSeparating a m p (second_of m e) w = subst (λ (r : ℕ). IsLeastSeparating a m r (second_of m e) w) (ap (first_of m) at ∙ first-pair m p q lq) h1 in
+    subst (λ (r : ℕ). IsLeastSeparating a m p r w) (ap (second_of m) at ∙ second-pair m p q lq) h2

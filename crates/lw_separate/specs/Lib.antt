@@ -5,3 +5,4 @@ pub mod Lengths
 pub mod Names
 pub mod Search
 pub mod Searched
+pub mod Separators

@@ -6,7 +6,9 @@ mod form;
 mod lengths;
 mod rename;
 mod separate;
+mod suite;
 
 pub use access::access_words;
 pub use form::{canonical, canonical_is_unique};
 pub use separate::separating;
+pub use suite::separators;
