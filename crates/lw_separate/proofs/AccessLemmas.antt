@@ -1,14 +1,12 @@
 -- What a finished search has found: the least word to each state that is reached.
-use Rattle.std.proofs.Common.{◌≡◌, ◌≢◌, ℕ, suc, ◌+◌, ◌<◌, ◌≤◌, ◌⊎◌, inl, inr, ⊎_elim, List, [], ◌∷◌, ◌++◌, length, get_or, Option, Some, None, refl, ap, sym, ◌∙◌, arith, subst, append-nil, append_assoc}
-use Rattle.std.specs.List.{All}
-use Rattle.std.proofs.lemmas.List.Elements.{All-cons, All-tail, All-head}
+use Rattle.std.proofs.Common.{◌≡◌, ℕ, ◌<◌, inl, ⊎_elim, List, [], ◌∷◌, ◌++◌, length, get_or, Option, Some, None, refl, ap, sym, ◌∙◌, arith, subst, append-nil, append_assoc}
+use Rattle.std.proofs.lemmas.List.Elements.{All-tail, All-head}
 use Rattle.std.proofs.lemmas.List.{get_or_append_left}
 use Rattle.lw_words.specs.Word.{IsWord}
-use Rattle.lw_words.specs.Shortlex.{shortlex_cmp}
-use Rattle.lw_mealy.specs.Machine.{Rows, after, next}
+use Rattle.lw_mealy.specs.Machine.{Rows, after}
 use Rattle.lw_mealy.specs.Minimal.{Reached}
-use Rattle.lw_separate.specs.Before.{Before, AtMost}
-use Rattle.lw_separate.specs.Least.{IsLeastAccess, IsAccessWord}
+use Rattle.lw_separate.specs.Before.{AtMost}
+use Rattle.lw_separate.specs.Least.{IsLeastAccess}
 use Rattle.lw_separate.specs.Search.{IsSearch}
 use Rattle.lw_separate.proofs.Before.{at_most_trans, at_most_push, at_most_not_behind}
 use Rattle.lw_separate.proofs.SearchLemmas.{last_or_before, length-push, at_end}

@@ -1,19 +1,16 @@
 -- A machine whose equal states are merged, numbered as it is searched, is canonical.
-use Rattle.std.proofs.Common.{◌≡◌, ◌≢◌, ℕ, suc, ◌+◌, ◌<◌, ◌≤◌, ◌⊎◌, inl, inr, ⊎_elim, List, [], ◌∷◌, ◌++◌, length, map, get_or, Option, Some, None, refl, ap, sym, ◌∙◌, arith, subst}
-use Rattle.std.specs.List.{All}
+use Rattle.std.proofs.Common.{◌≡◌, ◌≢◌, ℕ, ◌<◌, ◌⊎◌, ⊎_elim, List, [], ◌∷◌, length, get_or, Option, Some, None, refl, ap, sym, ◌∙◌, arith, subst}
 use Rattle.std.proofs.lemmas.List.Elements.{All-tail, All-head}
 use Rattle.std.proofs.lemmas.Bool.{cases_order}
 use Rattle.lw_words.specs.Word.{IsWord}
-use Rattle.lw_mealy.specs.Machine.{Rows, IsMachine, after, out, next, output, cell}
-use Rattle.lw_mealy.specs.Minimal.{Reached, Differ, IsMinimal}
-use Rattle.lw_mealy.specs.Equal.{Equal}
+use Rattle.lw_mealy.specs.Machine.{Rows, after, out, next, output, cell}
+use Rattle.lw_mealy.specs.Minimal.{Differ}
 use Rattle.lw_separate.specs.Canonical.{IsCanonical, StandsFor, Merges, Renames, renamed}
 use Rattle.lw_separate.specs.Least.{IsLeastAccess}
 use Rattle.lw_separate.specs.Names.{NamesPlaces}
 use Rattle.lw_separate.specs.Search.{IsSearch}
 use Rattle.lw_separate.proofs.AccessLemmas.{one_word, least_word}
 use Rattle.lw_separate.proofs.Before.{cmp_before}
-use Rattle.lw_mealy.proofs.RowLemmas.{target_below}
 
 module _ (a : ℕ) (m h : Rows) (g : Merges a m h) where
   out_merged : (w : List ℕ) (q : ℕ) → q < length m → IsWord a w → out h q w ≡ out m q w

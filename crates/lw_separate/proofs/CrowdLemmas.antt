@@ -1,5 +1,5 @@
 -- A list in which each word separates a pair that no earlier word does has fewer words than the machine has states.
-use Rattle.std.proofs.Common.{◌≡◌, ◌≢◌, ℕ, zero, suc, ◌+◌, ◌<◌, ◌≤◌, ◌⊎◌, inl, inr, ⊎_elim, Bool, true, false, eqb, List, [], ◌∷◌, ◌++◌, length, get_or, refl, ap, sym, ◌∙◌, arith, subst, zero-add}
+use Rattle.std.proofs.Common.{◌≡◌, ◌≢◌, ℕ, zero, suc, ◌<◌, ◌≤◌, ◌⊎◌, inl, inr, ⊎_elim, true, false, eqb, List, [], ◌∷◌, ◌++◌, length, get_or, refl, ap, sym, ◌∙◌, arith, subst, zero-add}
 use Rattle.std.specs.List.{All, AllPairs, range_with_len}
 use Rattle.std.specs.Set.{is_member}
 use Rattle.std.specs.Str.{bytes_eq}
@@ -11,7 +11,7 @@ use Rattle.std.proofs.lemmas.List.Folds.{list_any_at}
 use Rattle.std.proofs.lemmas.List.FromFn.{length-range_with_len, get_or-range_with_len}
 use Rattle.std.proofs.lemmas.List.Elements.{All-contains, All-from_get_or}
 use Rattle.std.proofs.lemmas.Map.Made.{length-le_from_is_member, IsDistinct-from_AllPairs, is_member-Decides}
-use Rattle.std.proofs.lemmas.Bool.{cases_order, cases_lt}
+use Rattle.std.proofs.lemmas.Bool.{cases_order}
 use Rattle.lw_mealy.specs.Machine.{Rows, out}
 use Rattle.lw_separate.specs.Separators.{SeparatesUpTo}
 use Rattle.lw_separate.proofs.SearchLemmas.{last_or_before, length-push, at_end}
@@ -132,7 +132,7 @@ module _ (a : ℕ) (m : Rows) (end : ℕ × ℕ) (list : List (List ℕ)) (s : S
       let c = crowd_of (length list) (omega arith) in
       let states : All (λ x. x < length m) c.0 = All-from_get_or (λ x. x < length m) c.0 0 c.1.states in
       let differ : AllPairs (λ x y. x ≢ y) c.0 = λ i j d ij lj same.
-          let r = c.1.apart i j ij lj in
-          let e : get_or c.0 i 0 ≡ get_or c.0 j 0 = sym (get_or_default c.0 i d 0 (omega arith)) ∙ (same ∙ get_or_default c.0 j d 0 lj) in
-          r.2 (ap (λ (q : ℕ). out m q (get_or list r.0 [])) e) in
+      let r = c.1.apart i j ij lj in
+      let e : get_or c.0 i 0 ≡ get_or c.0 j 0 = sym (get_or_default c.0 i d 0 (omega arith)) ∙ (same ∙ get_or_default c.0 j d 0 lj) in
+      r.2 (ap (λ (q : ℕ). out m q (get_or list r.0 [])) e) in
       omega (arith, no_more (length m) c.0 states differ, c.1.size)

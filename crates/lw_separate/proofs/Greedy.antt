@@ -1,15 +1,14 @@
 -- The word that is read off the table of lengths is the least that separates.
-use Rattle.std.proofs.Common.{◌≡◌, ◌≢◌, ℕ, zero, suc, ◌+◌, ◌-◌, ◌*◌, ◌/◌, ◌%◌, ◌<◌, ◌≤◌, ◌⊎◌, inl, inr, ⊎_elim, List, [], ◌∷◌, ◌++◌, length, get_or, Option, Some, None, refl, ap, sym, ◌∙◌, arith, subst}
-use Rattle.std.specs.List.{All}
+use Rattle.std.proofs.Common.{◌≡◌, ◌≢◌, ℕ, ◌+◌, ◌-◌, ◌<◌, ◌≤◌, ◌⊎◌, inl, inr, ⊎_elim, List, [], ◌∷◌, length, get_or, Option, Some, refl, ap, sym, ◌∙◌, arith, subst}
 use Rattle.std.proofs.Math.Nat.{mul-add-mod_self_right, mod-eq_of_lt, mod-lt, div-lt_iff_lt-mul}
 use Rattle.std.proofs.lemmas.Nat.{div-mul-add, mul-add-lt}
 use Rattle.std.proofs.lemmas.List.Elements.{All-cons, All-tail, All-head, All-nil}
 use Rattle.std.proofs.lemmas.Bool.{cases_lt, cases_order}
 use Rattle.lw_words.specs.Word.{IsWord}
-use Rattle.lw_mealy.specs.Machine.{Rows, IsMachine, next, output, out}
+use Rattle.lw_mealy.specs.Machine.{Rows, next, output, out}
 use Rattle.lw_mealy.specs.Minimal.{Differ}
 use Rattle.lw_mealy.proofs.RowLemmas.{target_below}
-use Rattle.lw_separate.specs.Before.{Before, AtMost, Lex}
+use Rattle.lw_separate.specs.Before.{Lex}
 use Rattle.lw_separate.specs.Least.{IsLeastSeparating, IsSeparatingWord}
 use Rattle.lw_separate.specs.Lengths.{begins, onward, pair_of, first_of, second_of, one_more, IsFilled, FirstLetter, Within}
 use Rattle.lw_separate.proofs.Before.{at_most_not_behind}
@@ -75,7 +74,7 @@ module _ (a : ℕ) (m : Rows) (ls : List ℕ) (f : IsFilled a m ls) where
       (w.0, omega (arith, w.1, k.1)))
       (λ (k : (output m (first_of m e) x ≡ output m (second_of m e) x) × (begins m ls e x ≡ one_more (get_or ls (onward m e x) 0))).
       let r : Within ls (onward m e x) (length v) = separates_within v (onward m e x) (onward_below e x lt xa) (All-tail (λ y. y < a) x v letters)
-          (outs_onward e x v lt xa (tails (output m (first_of m e) x) (output m (second_of m e) x) (out m (next m (first_of m e) x) v) (out m (next m (second_of m e) x) v) k.0 h)) in
+      (outs_onward e x v lt xa (tails (output m (first_of m e) x) (output m (second_of m e) x) (out m (next m (first_of m e) x) v) (out m (next m (second_of m e) x) v) k.0 h)) in
       ⊎_elim
       (λ (o : (get_or ls (onward m e x) 0 ≡ 0) × (one_more (get_or ls (onward m e x) 0) ≡ 0)). absurd (omega (arith, o.0, r.0)))
       (λ (o : (0 < get_or ls (onward m e x) 0) × (one_more (get_or ls (onward m e x) 0) ≡ get_or ls (onward m e x) 0 + 1)).
@@ -126,7 +125,7 @@ module _ (a : ℕ) (m : Rows) (ls : List ℕ) (f : IsFilled a m ls) where
       (λ (o : (d < 1) ⊎ (1 < d)).
       let more : 1 < d = ⊎_elim (λ (l : d < 1). absurd (omega arith)) (λ (l : 1 < d). l) o in
       tails_back (output m (first_of m e) x) (output m (second_of m e) x) (out m (next m (first_of m e) x) v) (out m (next m (second_of m e) x) v)
-          (onward_outs e x v lt g.1.letter (greedy_differs v (onward m e x) (d - 1) (onward_below e x lt g.1.letter) (omega arith) g.2)))
+      (onward_outs e x v lt g.1.letter (greedy_differs v (onward m e x) (d - 1) (onward_below e x lt g.1.letter) (omega arith) g.2)))
       (cases_order d 1)
 
   -- a separating word of the same length begins by no smaller letter, and so on

@@ -1,14 +1,13 @@
 -- The table of lengths, round by round.
-use Rattle.std.proofs.Common.{◌≡◌, ◌≢◌, ℕ, zero, suc, ◌+◌, ◌*◌, ◌<◌, ◌≤◌, ◌⊎◌, inl, inr, ⊎_elim, Bool, true, false, cond, eqb, List, [], ◌∷◌, length, get_or, refl, ap, sym, ◌∙◌, arith, subst}
+use Rattle.std.proofs.Common.{◌≡◌, ◌≢◌, ℕ, zero, suc, ◌+◌, ◌*◌, ◌<◌, ◌≤◌, ◌⊎◌, inl, inr, ⊎_elim, Bool, true, false, cond, eqb, List, length, get_or, refl, ap, sym, ◌∙◌, arith, subst}
 use Rattle.std.specs.Bool.{MatchBool}
-use Rattle.std.specs.List.{sum_by}
 use Rattle.std.specs.Cmp.{unsigned_Decides}
 use Rattle.std.proofs.Math.ListN.{set}
 use Rattle.std.proofs.lemmas.List.{get_or-set_same, get_or-set_other, length-set}
-use Rattle.std.proofs.lemmas.List.Sums.{sum_by-set, get_or-le-sum_by}
+use Rattle.std.proofs.lemmas.List.Sums.{sum_by-set}
 use Rattle.std.proofs.lemmas.Bool.{cases_order}
-use Rattle.lw_mealy.specs.Machine.{Rows, IsMachine, next, output}
-use Rattle.lw_separate.specs.Lengths.{begins, onward, first_of, second_of, one_more, IsTableOf, IsKnown, IsFilled, FirstLetter, Met, Within, unknown, unknown_at, SetsLength}
+use Rattle.lw_mealy.specs.Machine.{Rows, output}
+use Rattle.lw_separate.specs.Lengths.{begins, onward, first_of, second_of, one_more, IsTableOf, IsKnown, IsFilled, Met, Within, unknown, unknown_at, SetsLength}
 use Rattle.lw_separate.proofs.SearchLemmas.{last_or_before}
 
 pub one_more_cases : (v : ℕ) → ((v ≡ 0) × (one_more v ≡ 0)) ⊎ ((0 < v) × (one_more v ≡ v + 1))

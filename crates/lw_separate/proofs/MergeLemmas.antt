@@ -1,10 +1,9 @@
 -- States that agree on all words, and the names that merging and numbering give.
-use Rattle.std.proofs.Common.{◌≡◌, ◌≢◌, ℕ, zero, suc, ◌+◌, ◌*◌, ◌<◌, ◌≤◌, ◌⊎◌, inl, inr, ⊎_elim, Bool, true, false, List, [], ◌∷◌, ◌++◌, length, get_or, Option, Some, None, Result, Ok, Err, IfOk, refl, ap, sym, ◌∙◌, arith, subst}
+use Rattle.std.proofs.Common.{◌≡◌, ◌≢◌, ℕ, zero, suc, ◌+◌, ◌<◌, ◌≤◌, ⊎_elim, true, false, List, [], ◌∷◌, length, get_or, Option, Some, None, Result, Ok, Err, IfOk, refl, ap, sym, ◌∙◌, arith, subst}
 use Rattle.std.specs.Str.{bytes_eq}
 use Rattle.std.proofs.lemmas.Slice.Eq.{bytes_eq-Decides}
 use Rattle.std.proofs.lemmas.Nat.{mul-add-lt}
 use Rattle.std.proofs.lemmas.List.Elements.{All-cons, All-nil}
-use Rattle.std.proofs.lemmas.Bool.{cases_order}
 use Rattle.lw_words.specs.Word.{IsWord}
 use Rattle.lw_mealy.specs.Machine.{Rows, IsMachine, out, next, output, cell}
 use Rattle.lw_mealy.specs.Minimal.{Differ}
@@ -41,8 +40,7 @@ module _ (a : ℕ) (m : Rows) (ls : List ℕ) (f : IsFilled a m ls) where
       (λ (o : (get_or ls (onward m e x.0) 0 ≡ 0) × (one_more (get_or ls (onward m e x.0) 0) ≡ 0)). absurd (omega (arith, o.1, k.1, x.2, is)))
       (λ (o : (0 < get_or ls (onward m e x.0) 0) × (one_more (get_or ls (onward m e x.0) 0) ≡ get_or ls (onward m e x.0) 0 + 1)).
       let at : get_or ls (onward m e x.0) 0 ≡ d = omega (arith, o.1, k.1, x.2, is) in
-      let r = some_separates d (onward m e x.0) (onward_below a m ls f e x.0 lt x.1) at (omega (arith, o.0, at)) in
-      (
+      let r = some_separates d (onward m e x.0) (onward_below a m ls f e x.0 lt x.1) at (omega (arith, o.0, at)) in (
         x.0 ∷ r.0,
         All-cons (λ y. y < a) x.0 r.0 x.1 r.1,
         tails_back (output m (first_of m e) x.0) (output m (second_of m e) x.0) (out m (next m (first_of m e) x.0) r.0) (out m (next m (second_of m e) x.0) r.0) (onward_outs a m ls f e x.0 r.0 lt x.1 r.2),
@@ -61,7 +59,7 @@ module _ (a : ℕ) (m : Rows) (ls : List ℕ) (f : IsFilled a m ls) where
   pub pair_agrees : (p q : ℕ) → p < length m → q < length m → get_or ls (pair_of m p q) 0 ≡ 0 → (w : List ℕ) → IsWord a w → out m p w ≡ out m q w
   pair_agrees p q lp lq none w letters =
       same_lists (out m p w) (out m q w) (λ differ. none_separates a m ls f (pair_of m p q) (place_below p q lp lq) none
-          (w, letters, λ same. differ (sym (ap (λ (r : ℕ). out m r w) (first-pair m p q lq)) ∙ (same ∙ ap (λ (r : ℕ). out m r w) (second-pair m p q lq)))))
+      (w, letters, λ same. differ (sym (ap (λ (r : ℕ). out m r w) (first-pair m p q lq)) ∙ (same ∙ ap (λ (r : ℕ). out m r w) (second-pair m p q lq)))))
 
 pub can_merge : (a : ℕ) (m : Rows) (states names : List ℕ) → IsMachine a m → length m ≤ 1024 → IsAllStates m states → NamesStates a m names → CanRename a m states names
 can_merge a m states names machine few all named = record {

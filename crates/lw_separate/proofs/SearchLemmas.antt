@@ -1,21 +1,19 @@
 -- The search for access words, step by step.
-use Rattle.std.proofs.Common.{◌≡◌, ◌≢◌, ℕ, suc, ◌+◌, ◌<◌, ◌≤◌, ◌⊎◌, inl, inr, ⊎_elim, List, [], ◌∷◌, ◌++◌, length, get_or, Option, Some, None, true, false, is_none, refl, ap, sym, ◌∙◌, arith, subst, length-append}
-
-use Rattle.std.specs.List.{sum_by, All}
-use Rattle.std.proofs.Math.ListN.{set, replicate}
+use Rattle.std.proofs.Common.{◌≡◌, ◌≢◌, ℕ, ◌+◌, ◌<◌, ◌≤◌, ◌⊎◌, inl, inr, ⊎_elim, List, [], ◌∷◌, ◌++◌, length, get_or, Option, Some, None, true, false, is_none, refl, ap, sym, ◌∙◌, arith, subst, length-append}
+use Rattle.std.specs.List.{sum_by}
+use Rattle.std.proofs.Math.ListN.{set}
 use Rattle.std.proofs.Math.Seq.{get_or-append_seam}
-use Rattle.std.proofs.lemmas.List.{get_or_append_left, get_or-set_same, get_or-set_other, get_or-replicate, length-set, length-replicate, get_or_past, get_or_default}
+use Rattle.std.proofs.lemmas.List.{get_or_append_left, get_or-set_same, get_or-set_other, length-set, get_or_default}
 use Rattle.std.proofs.lemmas.List.Sums.{sum_by-set}
-use Rattle.std.proofs.lemmas.List.Folds.{sum_by-replicate}
-use Rattle.std.proofs.lemmas.List.Elements.{All-append, All-push, All-nil}
+use Rattle.std.proofs.lemmas.List.Elements.{All-push}
 use Rattle.std.proofs.lemmas.Bool.{cases_lt, cases_order}
 use Rattle.lw_words.specs.Word.{IsWord}
-use Rattle.lw_mealy.specs.Machine.{Rows, IsMachine, after, next, cell}
+use Rattle.lw_mealy.specs.Machine.{Rows, after, next, cell}
 use Rattle.lw_mealy.proofs.WordLemmas.{after-append}
 use Rattle.lw_mealy.proofs.RowLemmas.{target_below}
 use Rattle.lw_separate.specs.Before.{Before, AtMost}
 use Rattle.lw_separate.specs.Search.{IsSearch, Closed, open_at}
-use Rattle.lw_separate.proofs.Before.{before_trans, before_push, before_last, before_nil, before_next}
+use Rattle.lw_separate.proofs.Before.{before_trans, before_last, before_next}
 
 -- what a test of an option says
 pub is_none_value : (o : Option ℕ) → is_none o ≡ true → o ≡ None

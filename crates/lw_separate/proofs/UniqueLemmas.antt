@@ -1,18 +1,16 @@
 -- Two canonical machines that are equal on all words are one machine.
-use Rattle.std.proofs.Common.{◌≡◌, ◌≢◌, ℕ, zero, suc, ◌+◌, ◌<◌, ◌≤◌, ◌⊎◌, inl, inr, ⊎_elim, List, [], ◌∷◌, ◌++◌, length, get_or, refl, ap, sym, ◌∙◌, arith, subst}
-use Rattle.std.specs.declared.cmp.Ordering.TheVariants.{Less}
+use Rattle.std.proofs.Common.{◌≡◌, ℕ, zero, suc, ◌<◌, ◌≤◌, ◌⊎◌, ⊎_elim, List, [], ◌∷◌, ◌++◌, length, get_or, refl, ap, sym, ◌∙◌, arith, subst}
 use Rattle.std.proofs.lemmas.List.{append_cancel_left, ext_get_or}
 use Rattle.std.proofs.lemmas.List.Elements.{All-tail, All-head, All-append, All-cons, All-nil}
 use Rattle.std.proofs.lemmas.Bool.{cases_order}
 use Rattle.lw_words.specs.Word.{IsWord}
-use Rattle.lw_mealy.specs.Machine.{Rows, Row, IsMachine, after, out, next, output, cell, row}
-use Rattle.lw_mealy.specs.Minimal.{IsMinimal, Differ}
+use Rattle.lw_mealy.specs.Machine.{Rows, IsMachine, after, out, next, output, cell}
+use Rattle.lw_mealy.specs.Minimal.{IsMinimal}
 use Rattle.lw_mealy.specs.Equal.{Equal}
 use Rattle.lw_mealy.proofs.RowLemmas.{target_below, is_row}
 use Rattle.lw_mealy.proofs.WordLemmas.{after-append, out-append}
 use Rattle.lw_separate.specs.Before.{Before}
 use Rattle.lw_separate.specs.Canonical.{IsCanonical, OneCanonical}
-use Rattle.lw_separate.specs.Least.{IsLeastAccess}
 use Rattle.lw_separate.proofs.Before.{before_cmp, before_apart, before_trans, neither_before}
 
 pub after_below : (a : ℕ) (m : Rows) (w : List ℕ) (q : ℕ) → IsMachine a m → q < length m → IsWord a w → after m q w < length m
@@ -138,6 +136,6 @@ pub one_canonical : OneCanonical
 one_canonical a m c d k l =
     let long : length c ≡ length d = omega (arith, not_longer a m c d k l, not_longer a m d c l k) in
     ext_get_or [] c d long (λ p lp.
-        let rc = is_row a c p k.machine lp in
-        let rd = is_row a d p l.machine (omega (arith, long)) in
-        ext_get_or (0, 0) (get_or c p []) (get_or d p []) (rc.0 ∙ sym rd.0) (λ x lx. cell_same a m c d k l p x lp (omega (arith, rc.0))))
+    let rc = is_row a c p k.machine lp in
+    let rd = is_row a d p l.machine (omega (arith, long)) in
+    ext_get_or (0, 0) (get_or c p []) (get_or d p []) (rc.0 ∙ sym rd.0) (λ x lx. cell_same a m c d k l p x lp (omega (arith, rc.0))))

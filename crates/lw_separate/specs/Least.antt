@@ -1,5 +1,5 @@
 -- Least words in shortlex order. Source: separating words as in Moore (1956), access words as in Angluin (1987).
-use Rattle.std.specs.Prelude.{◌≡◌, ◌≢◌, ℕ, ◌<◌, List, [], length, slice_index_or, Option, None, MatchOption}
+use Rattle.std.specs.Prelude.{◌≡◌, ◌≢◌, ℕ, ◌<◌, List, length, slice_index_or, Option, None, MatchOption}
 use Rattle.std.specs.declared.cmp.Ordering.TheVariants.{Less}
 use Rattle.lw_words.specs.Word.{IsWord}
 use Rattle.lw_words.specs.Shortlex.{shortlex_cmp}

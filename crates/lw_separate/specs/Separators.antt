@@ -1,6 +1,5 @@
 -- The words that separate all states of a machine. Source: the set W of Vasilevskii (1973) and Chow (1978).
 use Rattle.std.specs.Prelude.{◌≡◌, ◌≢◌, ℕ, ◌<◌, ◌⊎◌, Bool, true, false, List, [], length, slice_index_or}
-use Rattle.lw_words.specs.Word.{IsWord}
 use Rattle.lw_mealy.specs.Machine.{Rows, out}
 use Rattle.lw_separate.specs.Least.{IsLeastSeparating}
 

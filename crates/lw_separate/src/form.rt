@@ -1,4 +1,5 @@
 ghost use Rattle.std.specs.Prelude.{◌≡◌, ℕ, ◌*◌, ◌<◌, length, slice_index, IfOk, OnOk};
+ghost use Rattle.lw_mealy.specs.Minimal.{IsMinimal};
 ghost use Rattle.lw_mealy.specs.Table.{IsTable};
 ghost use Rattle.lw_separate.specs.Canonical.{IsCanonical, StandsFor, Merges, OneCanonical};
 ghost use Rattle.lw_separate.specs.Lengths.{IsFilled};
@@ -78,11 +79,13 @@ fn numbers(alloc: Global, places: &[Option<u16>]) -> Result<Vec<u16>, NoMemory>
 pub fn canonical(alloc: Global, m: &Mealy) -> Result<Mealy, NoMemory>
     ensures canonical { IfOk result (λ c. IsCanonical m.now.inputs m.now.rows c.rows) }
     ensures alphabets { IfOk result (λ c. (c.inputs ≡ m.now.inputs) × (c.outputs ≡ m.now.outputs)) }
+    ensures minimal { IfOk result (λ c. IsMinimal c.inputs c.rows) }
 {
     let h = merged(alloc, m)?;
     let search = breadth_first(alloc, &h)?;
     let names = numbers(alloc, search.places.as_slice())?;
-    rename(alloc, &h, search.states.as_slice(), names.as_slice())
+    let c = rename(alloc, &h, search.states.as_slice(), names.as_slice())?;
+    Ok(c)
 }
 
 /// A law, with no code: two canonical machines of one machine are one.

@@ -12,3 +12,6 @@ pub use access::access_words;
 pub use form::{canonical, canonical_is_unique};
 pub use separate::separating;
 pub use suite::separators;
+
+#[cfg(test)]
+mod tests;

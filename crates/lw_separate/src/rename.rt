@@ -21,7 +21,12 @@ fn renamed_row(alloc: Global, m: &Mealy, names: &[u16], q: u16) -> Result<Vec<(u
 }
 
 /// The rows of these states, in their order, each target under its new name.
-fn renamed_rows(alloc: Global, m: &Mealy, states: &[u16], names: &[u16]) -> Result<Vec<Vec<(u16, u16)>>, NoMemory>
+fn renamed_rows(
+    alloc: Global,
+    m: &Mealy,
+    states: &[u16],
+    names: &[u16],
+) -> Result<Vec<Vec<(u16, u16)>>, NoMemory>
     requires can { CanRename m.now.inputs m.now.rows states.now names.now }
     ensures { IfOk result (λ rows. RenamesRows m.now.inputs m.now.rows states.now names.now (map (λ r. r.items) rows.items)) }
 {

@@ -22,7 +22,12 @@ fn next_pair(m: &Mealy, lengths: &[u32], e: usize, x: u16) -> usize
 }
 
 /// The least separating word of a pair of states, letter by letter: each the least that begins a shortest one.
-pub fn least_word(alloc: Global, m: &Mealy, lengths: &[u32], pair: usize) -> Result<Option<Word>, NoMemory>
+pub fn least_word(
+    alloc: Global,
+    m: &Mealy,
+    lengths: &[u32],
+    pair: usize,
+) -> Result<Option<Word>, NoMemory>
     requires filled { IsFilled m.now.inputs m.now.rows lengths.now }
     requires pair { pair < length lengths.now }
     ensures { IfOk result (IsSeparatingWord m.now.inputs m.now.rows (first_of m.now.rows pair) (second_of m.now.rows pair)) }
@@ -53,5 +58,10 @@ pub fn separating(alloc: Global, m: &Mealy, p: u16, q: u16) -> Result<Option<Wor
 {
     let lengths = fill(alloc, m)?;
     let n = usize::from(m.states());
-    least_word(alloc, m, lengths.as_slice(), usize::from(p) * n + usize::from(q))
+    least_word(
+        alloc,
+        m,
+        lengths.as_slice(),
+        usize::from(p) * n + usize::from(q),
+    )
 }

@@ -49,7 +49,14 @@ fn splits(m: &Mealy, words: &Words, p: u16, q: u16) -> bool
 }
 
 /// Adds the least word that separates two states, where no word of the list does yet.
-fn add_pair(alloc: Global, m: &Mealy, lengths: &[u32], words: &mut Words, p: u16, q: u16) -> Result<(), NoMemory>
+fn add_pair(
+    alloc: Global,
+    m: &Mealy,
+    lengths: &[u32],
+    words: &mut Words,
+    p: u16,
+    q: u16,
+) -> Result<(), NoMemory>
     requires filled { IsFilled m.now.inputs m.now.rows lengths.now }
     requires minimal { IsMinimal m.now.inputs m.now.rows }
     requires pair { p < q }
@@ -71,7 +78,13 @@ fn add_pair(alloc: Global, m: &Mealy, lengths: &[u32], words: &mut Words, p: u16
 }
 
 /// Goes through the pairs of a state and each later one.
-fn add_row(alloc: Global, m: &Mealy, lengths: &[u32], words: &mut Words, p: u16) -> Result<(), NoMemory>
+fn add_row(
+    alloc: Global,
+    m: &Mealy,
+    lengths: &[u32],
+    words: &mut Words,
+    p: u16,
+) -> Result<(), NoMemory>
     requires filled { IsFilled m.now.inputs m.now.rows lengths.now }
     requires minimal { IsMinimal m.now.inputs m.now.rows }
     requires state { p < length m.now.rows }

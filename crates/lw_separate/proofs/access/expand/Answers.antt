@@ -1,4 +1,4 @@
-use Rattle.std.proofs.Common.{◌≡◌, arith}
+use Rattle.std.proofs.Common.{arith}
 use Rattle.lw_separate.proofs.SearchLemmas.{word_done}
 use Rattle.lw_separate.proofs.access.expand.Goals as goal
 

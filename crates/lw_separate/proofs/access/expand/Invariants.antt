@@ -1,5 +1,4 @@
-use Rattle.std.proofs.Common.{◌≡◌, ◌<◌, length}
-use Rattle.lw_mealy.specs.Table.{IsTable}
+use Rattle.std.proofs.Common.{◌<◌, length}
 use Rattle.lw_separate.specs.Searched.{Searched}
 use Rattle.lw_separate.proofs.access.expand.Given as goal
 

@@ -1,4 +1,4 @@
-use Rattle.std.proofs.Common.{◌≡◌, ◌≤◌, List, ℕ, length, sym, subst}
+use Rattle.std.proofs.Common.{List, ℕ, sym, subst}
 use Rattle.lw_separate.specs.Canonical.{Renames, Merges}
 use Rattle.lw_separate.specs.Names.{IsAllStates, NamesStates}
 use Rattle.lw_separate.proofs.MergeLemmas.{can_merge, merges, if_ok_map}

@@ -1,4 +1,4 @@
-use Rattle.std.proofs.Common.{rules, ◌≡◌, ◌∙◌, ◌<◌, ◌≤◌, ◌+◌, ◌*◌, ℕ, length, get_or, arith, below_more}
+use Rattle.std.proofs.Common.{rules, ◌≡◌, ◌<◌, get_or, arith, below_more}
 use Rattle.lw_mealy.specs.Minimal.{Differ}
 use Rattle.lw_separate.specs.Lengths.{pair_of}
 use Rattle.lw_separate.proofs.MergeLemmas.{pair_differs, pair_agrees}

@@ -1,4 +1,4 @@
-use Rattle.std.proofs.Common.{rules, ◌≡◌, ◌∙◌, ◌+◌, ◌<◌, ◌++◌, ◌∷◌, [], ℕ, List, length, get_or, arith, subst, sym, ap}
+use Rattle.std.proofs.Common.{rules, ◌<◌, ℕ, List, length, get_or, subst, sym}
 use Rattle.lw_separate.specs.Canonical.{StandsFor}
 use Rattle.lw_separate.proofs.AccessLemmas.{pushed}
 use Rattle.lw_separate.proofs.form.representatives.Goals as goal

@@ -1,4 +1,4 @@
-use Rattle.std.proofs.Common.{rules, ◌≡◌, ◌∙◌, ◌<◌, ◌≤◌, ◌+◌, arith, length, sym, subst, Bool}
+use Rattle.std.proofs.Common.{◌∙◌, ◌<◌, ◌≤◌, ◌+◌, arith, length, sym, subst, Bool}
 use Rattle.lw_separate.proofs.LengthLemmas.{InRound, round_step_set, round_step_skip, round_done}
 use Rattle.lw_separate.proofs.lengths.round.Goals as goal
 use Rattle.lw_separate.proofs.lengths.round.Goals.{then-set_length, else-set_length}

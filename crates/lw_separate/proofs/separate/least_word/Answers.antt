@@ -1,5 +1,4 @@
-use Rattle.std.proofs.Common.{rules, ◌≡◌, ◌∙◌, ◌<◌, ◌++◌, ℕ, List, [], length, get_or, arith, sym, ap, subst, append-nil}
-use Rattle.std.proofs.lemmas.List.{get_or_default}
+use Rattle.std.proofs.Common.{rules, ◌≡◌, ◌<◌, ◌++◌, [], get_or, arith, append-nil}
 use Rattle.lw_separate.proofs.Greedy.{Greedy, greedy_word, none_separates}
 use Rattle.lw_separate.proofs.separate.least_word.Goals as goal
 

@@ -1,4 +1,4 @@
-use Rattle.std.proofs.Common.{◌≡◌, ◌<◌, ◌+◌, ℕ, List, [], sym, subst, arith, length}
+use Rattle.std.proofs.Common.{◌+◌, ℕ, List, sym, subst, arith}
 use Rattle.lw_separate.specs.Separators.{SeparatesUpTo}
 use Rattle.lw_separate.proofs.WalkLemmas.{walk_start, walk_done}
 use Rattle.lw_separate.proofs.CrowdLemmas.{fewer_words}

@@ -1,4 +1,4 @@
-use Rattle.std.proofs.Common.{◌≡◌, ◌<◌, ℕ, [], length, get_or}
+use Rattle.std.proofs.Common.{◌≡◌, ◌<◌, ℕ, [], get_or}
 use Rattle.lw_mealy.specs.Machine.{out}
 use Rattle.lw_separate.proofs.suite.splits.Given as goal
 
