@@ -26,9 +26,9 @@ number_at_place names n name differ at =
     let lt : n < length names = slice_get_within names n name at in
     let here : get_or names n name ≡ name = get_or_from_slice_get names n name name at in
     let first : position_or_len (bytes_eq name) names ≡ n =
-        position_or_len_is (bytes_eq name) names n name (omega arith)
-            (λ k below. false_from_ne_true _ (λ yes. differ k n name below lt (sym ((bytes_eq-Decides name (get_or names k name)).0 yes) ∙ sym here)))
-            (λ _. (bytes_eq-Decides name (get_or names n name)).1 (sym here)) in
+    position_or_len_is (bytes_eq name) names n name (omega arith)
+    (λ k below. false_from_ne_true _ (λ yes. differ k n name below lt (sym ((bytes_eq-Decides name (get_or names k name)).0 yes) ∙ sym here)))
+    (λ _. (bytes_eq-Decides name (get_or names n name)).1 (sym here)) in
     ap (λ (p : ℕ). cond (ltb p (length names)) (Some p) None) first ∙ ap (λ (b : Bool). cond b (Some n) None) ((Decides-ltb n (length names)).1 lt)
 
 -- what stands before a place stands at the same place of the whole list
@@ -52,7 +52,7 @@ module _ {X : Type 0} (f : X → List ℕ) where
   differ_more xs x none differ = all_pairs_push (λ a b. a ≢ b) (map f xs) (f x) differ (λ k d lt same.
       let lt' : k < length xs = rw length-map at lt in
       let found : list_any (λ y. bytes_eq (f x) (f y)) xs ≡ true =
-          list_any_at (λ y. bytes_eq (f x) (f y)) xs k x lt' ((bytes_eq-Decides (f x) (f (get_or xs k x))).1 (sym (sym (get_or-map f xs k x d lt') ∙ same))) in
+      list_any_at (λ y. bytes_eq (f x) (f y)) xs k x lt' ((bytes_eq-Decides (f x) (f (get_or xs k x))).1 (sym (sym (get_or-map f xs k x d lt') ∙ same))) in
       cc)
 
   -- the names after one that is new, and what was found where it is not

@@ -1,8 +1,8 @@
 use Rattle.std.proofs.Common.{◌≡◌, ◌∙◌, List, ℕ, length, get_or, Option, None, sym, ap, subst}
 use Rattle.lw_mealy.specs.Minimal.{IsMinimal}
-use Rattle.lw_separate.specs.Canonical.{Renames, IsCanonical}
+use Rattle.lw_separate.specs.Canonical.{IsCanonical}
 use Rattle.lw_separate.specs.Names.{NamesPlaces}
-use Rattle.lw_separate.proofs.MergeLemmas.{can_number, if_ok_map}
+use Rattle.lw_separate.proofs.MergeLemmas.{can_number}
 use Rattle.lw_separate.proofs.CanonicalLemmas.{canonical_of}
 use Rattle.lw_separate.proofs.form.canonical.Goals as goal
 

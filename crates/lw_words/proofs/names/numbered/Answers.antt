@@ -17,10 +17,10 @@ returns-then-not-is_new-clause-err c =
     let any : list_any (string_eq c.in_ok-from_str.field-0) c.loop-place.names.keys ≡ true = not-false _ (sym c.in_ok-first.ensures.added ∙ c.if-not-is_new.true) in
     let long : length texts ≡ length c.args.list.now = length-map c.args.list.now (λ s. string_bytes s) in
     let there : slice_get (take c.loop-place.place texts) c.in_ok-first.first ≡ Some name =
-        ap (λ (l : List (List ℕ)). slice_get l c.in_ok-first.first) (sym c.loop-place.invariant.so_far)
-        ∙ found (λ s. string_bytes s) c.loop-place.names.keys c.insert_full.new.self.keys c.in_ok-from_str.field-0 stored.0 c.in_ok-first.first c.in_ok-first.ensures.keys any stored.1 stored.2 in
+    ap (λ (l : List (List ℕ)). slice_get l c.in_ok-first.first) (sym c.loop-place.invariant.so_far)
+    ∙ found (λ s. string_bytes s) c.loop-place.names.keys c.insert_full.new.self.keys c.in_ok-from_str.field-0 stored.0 c.in_ok-first.first c.in_ok-first.ensures.keys any stored.1 stored.2 in
     let here : slice_get texts c.loop-place.place ≡ Some name =
-        slice_get-map_at (λ s. string_bytes s) c.args.list.now c.loop-place.place c.index-list-place.result c.loop-place-test.true c.index-list-place.is ∙ ap (λ (b : List ℕ). Some b) (sym is_name) in
+    slice_get-map_at (λ s. string_bytes s) c.args.list.now c.loop-place.place c.index-list-place.result c.loop-place-test.true c.index-list-place.is ∙ ap (λ (b : List ℕ). Some b) (sym is_name) in
     (omega arith, c.requires.each, repeats texts c.in_ok-first.first c.loop-place.place name (omega arith) here there c.loop-place.invariant.differ)
 
 pub loop-place-preserved : goal.loop-place-preserved
@@ -30,8 +30,8 @@ loop-place-preserved c =
     let is_name : name ≡ string_bytes c.index-list-place.result = c.in_ok-from_str.ensures.ok ∙ c.as_str.ensures.value in
     let none : list_any (string_eq c.in_ok-from_str.field-0) c.loop-place.names.keys ≡ false = not-true _ (sym c.in_ok-first.ensures.added ∙ c.if-not-is_new.false) in
     let more : take c.loop-place.place texts ++ name ∷ [] ≡ take (c.loop-place.place + 1) texts =
-        ap (λ (b : List ℕ). take c.loop-place.place texts ++ b ∷ []) is_name
-        ∙ take-map_more (λ s. string_bytes s) c.args.list.now c.loop-place.place c.index-list-place.result c.loop-place-test.true c.index-list-place.is in
+    ap (λ (b : List ℕ). take c.loop-place.place texts ++ b ∷ []) is_name
+    ∙ take-map_more (λ s. string_bytes s) c.args.list.now c.loop-place.place c.index-list-place.result c.loop-place-test.true c.index-list-place.is in
     let so_far : map (λ s. string_bytes s) c.loop-place.names.keys ++ name ∷ [] ≡ take (c.loop-place.place + 1) texts = ap (λ (l : List (List ℕ)). l ++ name ∷ []) c.loop-place.invariant.so_far ∙ more in
     record {
       so_far = added (λ s. string_bytes s) c.loop-place.names.keys c.insert_full.new.self.keys c.in_ok-from_str.field-0 c.in_ok-first.ensures.keys none ∙ so_far;
