@@ -47,3 +47,12 @@ pub answer_at : (m : Rows) (w : List ℕ) (q i : ℕ) (c : ℕ × ℕ) → i < l
 answer_at m w q i c lt is left =
     let h = rest_at (answer m w) (out m (next m q (get_or w i 0)) (drop (i + 1) w)) i (output m q (get_or w i 0)) (rw (length-out m 0 w) lt) (left ∙ out-drop m q i w lt) in
     (h.0 ∙ ap (λ (d : ℕ × ℕ). d.1) (sym is), h.1 ∙ ap (λ (d : ℕ × ℕ). out m d.0 (drop (i + 1) w)) (sym is))
+
+-- a word that grows at its end
+pub after-append : (m : Rows) (q : ℕ) (u v : List ℕ) → after m q (u ++ v) ≡ after m (after m q u) v
+after-append m q [] v = refl
+after-append m q (x ∷ u) v = after-append m (next m q x) u v
+
+pub out-append : (m : Rows) (q : ℕ) (u v : List ℕ) → out m q (u ++ v) ≡ out m q u ++ out m (after m q u) v
+out-append m q [] v = refl
+out-append m q (x ∷ u) v = ap (λ (o : List ℕ). output m q x ∷ o) (out-append m (next m q x) u v)

@@ -1,4 +1,5 @@
 pub mod Difference
+pub mod Equal
 pub mod Fault
 pub mod Gives
 pub mod Machine

@@ -2,4 +2,5 @@ pub mod Cause
 pub mod First
 pub mod Keeping
 pub mod Name
+pub mod Shortlex
 pub mod Word

@@ -1,10 +1,11 @@
-//! Words over numbered letters, lists of names, kept answers, and why a run stopped.
+//! Words over numbered letters and their order, lists of names, kept answers, and why a run stopped.
 #![tactic(auto)]
 
 mod kept;
 mod line;
 mod memory;
 mod names;
+mod order;
 mod stop;
 mod word;
 mod words;
@@ -13,6 +14,7 @@ pub use kept::{Kept, KeptAnswer};
 pub use line::Line;
 pub use memory::NoMemory;
 pub use names::{Names, NamesFault};
+pub use order::{shortlex, shortlex_is_an_order};
 pub use stop::{RunStop, SulStop};
 pub use word::{Word, join};
 pub use words::Words;

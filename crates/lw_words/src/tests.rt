@@ -1,5 +1,8 @@
-use crate::{Kept, KeptAnswer, Line, Names, NamesFault, NoMemory, SulStop, Word, Words, join};
+use crate::{
+    Kept, KeptAnswer, Line, Names, NamesFault, NoMemory, SulStop, Word, Words, join, shortlex,
+};
 use std::alloc::Global;
+use std::cmp::Ordering;
 use std::test::Fail;
 
 fn texts(alloc: Global, names: &[&str]) -> Result<Vec<String>, Fail> {
@@ -103,5 +106,19 @@ fn lines_and_stops_are_copied(rt: HostRuntime) -> Result<(), Fail> {
     }
     let text = format!(in rt.alloc(); "{NoMemory}")?;
     assert_eq!(rt; text.as_str(), "no memory");
+    Ok(())
+}
+
+#[test]
+fn words_in_order(rt: HostRuntime) -> Result<(), Fail> {
+    let mut short = Word::new(rt.alloc());
+    short.push(3)?;
+    let mut long = Word::new(rt.alloc());
+    long.push(0)?;
+    long.push(2)?;
+    let later = join(&short, &short)?;
+    assert_eq!(rt; shortlex(&short, &long), Ordering::Less);
+    assert_eq!(rt; shortlex(&later, &long), Ordering::Greater);
+    assert_eq!(rt; shortlex(&long, &long), Ordering::Equal);
     Ok(())
 }

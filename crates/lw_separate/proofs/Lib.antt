@@ -1,0 +1,11 @@
+pub mod AccessLemmas
+pub mod Before
+pub mod CanonicalLemmas
+pub mod CrowdLemmas
+pub mod Greedy
+pub mod LengthLemmas
+pub mod MergeLemmas
+pub mod SearchLemmas
+pub mod SplitLemmas
+pub mod UniqueLemmas
+pub mod WalkLemmas

@@ -1,0 +1,6 @@
+use Rattle.std.proofs.Common.{◌+◌}
+use Rattle.lw_separate.specs.Separators.{SeparatesUpTo}
+use Rattle.lw_separate.proofs.suite.separators.Given as goal
+
+abbrev pub invariant-loop-p : goal.invariant-loop-p
+invariant-loop-p l = SeparatesUpTo l.m.inputs l.m.rows (l.p, l.p + 1) l.words

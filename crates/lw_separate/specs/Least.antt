@@ -1,0 +1,39 @@
+-- Least words in shortlex order. Source: separating words as in Moore (1956), access words as in Angluin (1987).
+use Rattle.std.specs.Prelude.{◌≡◌, ◌≢◌, ℕ, ◌<◌, List, length, slice_index_or, Option, None, MatchOption}
+use Rattle.std.specs.declared.cmp.Ordering.TheVariants.{Less}
+use Rattle.lw_words.specs.Word.{IsWord}
+use Rattle.lw_words.specs.Shortlex.{shortlex_cmp}
+use Rattle.lw_mealy.specs.Machine.{Rows, after, out}
+use Rattle.lw_mealy.specs.Minimal.{Reached, Differ}
+
+-- a word that does it, and no smaller word does it
+pub record LeastWord (Does : List ℕ → Type 0) (w : List ℕ) : Type 0 where
+  pub does : Does w
+  pub least : (v : List ℕ) → Does v → shortlex_cmp v w ≢ Less
+
+-- a word over a letters leads to the state
+abbrev pub Leads : ℕ → Rows → ℕ → List ℕ → Type 0
+Leads a m q w = IsWord a w × (after m 0 w ≡ q)
+
+-- a word over a letters on which the outputs of two states differ
+abbrev pub Separates : ℕ → Rows → ℕ → ℕ → List ℕ → Type 0
+Separates a m p q w = IsWord a w × (out m p w ≢ out m q w)
+
+abbrev pub IsLeastAccess : ℕ → Rows → ℕ → List ℕ → Type 0
+IsLeastAccess a m q w = LeastWord (Leads a m q) w
+
+abbrev pub IsLeastSeparating : ℕ → Rows → ℕ → ℕ → List ℕ → Type 0
+IsLeastSeparating a m p q w = LeastWord (Separates a m p q) w
+
+-- the state's least access word, and none exactly where no word leads to it
+abbrev pub IsAccessWord : ℕ → Rows → ℕ → Option (List ℕ) → Type 0
+IsAccessWord a m q word = MatchOption word (¬ Reached a m q) (IsLeastAccess a m q)
+
+-- the least word that separates two states, and none exactly where they agree on all words
+abbrev pub IsSeparatingWord : ℕ → Rows → ℕ → ℕ → Option (List ℕ) → Type 0
+IsSeparatingWord a m p q word = MatchOption word (¬ Differ a m p q) (IsLeastSeparating a m p q)
+
+-- one for each state, in the order of the states
+pub record AreAccessWords (a : ℕ) (m : Rows) (list : List (Option (List ℕ))) : Type 0 where
+  pub each : length list ≡ length m
+  pub words : (q : ℕ) → q < length m → IsAccessWord a m q (slice_index_or list q None)

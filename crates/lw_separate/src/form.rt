@@ -1,0 +1,94 @@
+ghost use Rattle.std.specs.Prelude.{◌≡◌, ℕ, ◌*◌, ◌<◌, length, slice_index, IfOk, OnOk};
+ghost use Rattle.lw_mealy.specs.Minimal.{IsMinimal};
+ghost use Rattle.lw_mealy.specs.Table.{IsTable};
+ghost use Rattle.lw_separate.specs.Canonical.{IsCanonical, StandsFor, Merges, OneCanonical};
+ghost use Rattle.lw_separate.specs.Lengths.{IsFilled};
+ghost use Rattle.lw_separate.specs.Names.{NamesStates, NamesPlaces, IsAllStates};
+
+use crate::access::breadth_first;
+use crate::lengths::fill;
+use crate::rename::rename;
+use lw_mealy::Mealy;
+use lw_words::NoMemory;
+use std::alloc::Global;
+
+/// The least state that agrees with a state on all words.
+fn representative(m: &Mealy, lengths: &[u32], q: u16) -> u16
+    requires filled { IsFilled m.now.inputs m.now.rows lengths.now }
+    requires state { q < length m.now.rows }
+    ensures { StandsFor m.now.inputs m.now.rows q result }
+{
+    let n = usize::from(m.states());
+    for p in 0..q {
+        if lengths[usize::from(p) * n + usize::from(q)] == 0 {
+            return p;
+        }
+    }
+    q
+}
+
+/// For each state the one that stands for it.
+fn representatives(alloc: Global, m: &Mealy) -> Result<Vec<u16>, NoMemory>
+    ensures { IfOk result (λ names. NamesStates m.now.inputs m.now.rows names.items) }
+{
+    let lengths = fill(alloc, m)?;
+    let mut names = Vec::with_capacity(alloc, usize::from(m.states()))?;
+    for q in 0..m.states() {
+        names.push(representative(m, lengths.as_slice(), q))?;
+    }
+    Ok(names)
+}
+
+/// All states, in their order.
+fn all_states(alloc: Global, m: &Mealy) -> Result<Vec<u16>, NoMemory>
+    ensures states { IfOk result (λ states. IsAllStates m.now.rows states.items) }
+    ensures table { OnOk result (IsTable m.now) }
+{
+    let mut states = Vec::with_capacity(alloc, usize::from(m.states()))?;
+    for q in 0..m.states() {
+        states.push(q)?;
+    }
+    Ok(states)
+}
+
+/// The machine in which each letter leads to the state that stands for its target.
+fn merged(alloc: Global, m: &Mealy) -> Result<Mealy, NoMemory>
+    ensures merges { IfOk result (λ h. Merges m.now.inputs m.now.rows h.rows) }
+    ensures alphabets { IfOk result (λ h. (h.inputs ≡ m.now.inputs) × (h.outputs ≡ m.now.outputs)) }
+    ensures table { IfOk result IsTable }
+{
+    let names = representatives(alloc, m)?;
+    let states = all_states(alloc, m)?;
+    rename(alloc, m, states.as_slice(), names.as_slice())
+}
+
+/// For each state its place, or 0 where it has none.
+fn numbers(alloc: Global, places: &[Option<u16>]) -> Result<Vec<u16>, NoMemory>
+    ensures long { IfOk result (λ names. length names.items ≡ length places.now) }
+    ensures places { IfOk result (λ names. NamesPlaces places.now names.items) }
+{
+    let mut names = Vec::with_capacity(alloc, places.len())?;
+    for place in places {
+        names.push(place.unwrap_or(0))?;
+    }
+    Ok(names)
+}
+
+/// The minimal machine that equals `m` on all words, its states numbered breadth first in letter order.
+/// Merges states that agree on all words (Moore 1956), then numbers them as they are found.
+pub fn canonical(alloc: Global, m: &Mealy) -> Result<Mealy, NoMemory>
+    ensures canonical { IfOk result (λ c. IsCanonical m.now.inputs m.now.rows c.rows) }
+    ensures alphabets { IfOk result (λ c. (c.inputs ≡ m.now.inputs) × (c.outputs ≡ m.now.outputs)) }
+    ensures minimal { IfOk result (λ c. IsMinimal c.inputs c.rows) }
+{
+    let h = merged(alloc, m)?;
+    let search = breadth_first(alloc, &h)?;
+    let names = numbers(alloc, search.places.as_slice())?;
+    let c = rename(alloc, &h, search.states.as_slice(), names.as_slice())?;
+    Ok(c)
+}
+
+/// A law, with no code: two canonical machines of one machine are one.
+pub fn canonical_is_unique()
+    ensures { OneCanonical }
+{}

@@ -1,0 +1,17 @@
+//! The canonical form of a Mealy machine, the access words of its states, and the words that separate them.
+#![tactic(auto)]
+
+mod access;
+mod form;
+mod lengths;
+mod rename;
+mod separate;
+mod suite;
+
+pub use access::access_words;
+pub use form::{canonical, canonical_is_unique};
+pub use separate::separating;
+pub use suite::separators;
+
+#[cfg(test)]
+mod tests;

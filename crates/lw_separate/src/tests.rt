@@ -1,0 +1,222 @@
+ghost use Rattle.std.specs.Prelude.{◌<◌, ◌≤◌, length};
+ghost use Rattle.lw_mealy.specs.Minimal.{IsMinimal};
+
+use crate::{access_words, canonical, separating, separators};
+use lw_mealy::Mealy;
+use lw_words::Word;
+use std::alloc::Global;
+use std::test::Fail;
+
+mod plain;
+
+/// A machine of these rows over as many letters as the first row has, with outputs below 4.
+fn machine(alloc: Global, rows: &[&[(u16, u16)]]) -> Result<Mealy, Fail> {
+    let mut all = Vec::new(alloc);
+    let mut letters = 0;
+    for row in rows {
+        letters = row.len();
+        all.push(Vec::from_slice(alloc, *row)?)?;
+    }
+    if letters == 0 || letters > 64 {
+        return Err(Fail::from("no letters"));
+    }
+    Ok(Mealy::new(alloc, letters as u16, 4, all)?)
+}
+
+/// The counter modulo three.
+fn c3(alloc: Global) -> Result<Mealy, Fail> {
+    machine(alloc, &[&[(1, 0)], &[(2, 0)], &[(0, 1)]])
+}
+
+/// States 0 and 2 are alike, and no word leads to state 3.
+fn fat(alloc: Global) -> Result<Mealy, Fail> {
+    machine(alloc, &[&[(1, 0)], &[(2, 1)], &[(1, 0)], &[(0, 1)]])
+}
+
+/// The number of letters of a word, or None.
+fn letters(word: &Option<Word>) -> Option<usize> {
+    match word {
+        Some(word) => Some(word.len()),
+        None => None,
+    }
+}
+
+#[test]
+fn worked_separating_words(rt: HostRuntime) -> Result<(), Fail> {
+    let alloc = rt.alloc();
+    let counter = c3(alloc)?;
+    assert_eq!(rt; counter.states(), 3);
+    assert_eq!(rt; letters(&separating(alloc, &counter, 0, 1)?), Some(2));
+    assert_eq!(rt; letters(&separating(alloc, &counter, 0, 2)?), Some(1));
+    let fat = fat(alloc)?;
+    assert_eq!(rt; fat.states(), 4);
+    assert_eq!(rt; letters(&separating(alloc, &fat, 0, 2)?), None);
+    Ok(())
+}
+
+#[test]
+fn worked_access_words(rt: HostRuntime) -> Result<(), Fail> {
+    let alloc = rt.alloc();
+    let words = access_words(alloc, &fat(alloc)?)?;
+    assert_eq!(rt; words.len(), 4);
+    assert_eq!(rt; letters(&words[0]), Some(0));
+    assert_eq!(rt; letters(&words[1]), Some(1));
+    assert_eq!(rt; letters(&words[2]), Some(2));
+    assert_eq!(rt; letters(&words[3]), None);
+    Ok(())
+}
+
+#[test]
+fn worked_separators(rt: HostRuntime) -> Result<(), Fail> {
+    let alloc = rt.alloc();
+    let words = separators(alloc, &canonical(alloc, &c3(alloc)?)?)?;
+    assert_eq!(rt; words.len(), 1);
+    assert_eq!(rt; words.get(0).as_slice(), [0, 0].as_slice());
+    Ok(())
+}
+
+#[test]
+fn worked_canonical_form(rt: HostRuntime) -> Result<(), Fail> {
+    let alloc = rt.alloc();
+    let c = canonical(alloc, &fat(alloc)?)?;
+    assert_eq!(rt; (c.inputs(), c.outputs(), c.states()), (1, 4, 2));
+    assert_eq!(rt; (c.step(0, 0), c.step(1, 0)), ((1, 0), (0, 1)));
+    Ok(())
+}
+
+/// A chain of states that tells its last state alone.
+fn chain(alloc: Global, states: u16) -> Result<Mealy, Fail> {
+    let mut rows = Vec::new(alloc);
+    for q in 0..states {
+        let last = q + 1 == states;
+        let mut row = Vec::new(alloc);
+        row.push(if last { (0, 1) } else { (q + 1, 0) })?;
+        rows.push(row)?;
+    }
+    Ok(Mealy::new(alloc, 1, 2, rows)?)
+}
+
+#[test]
+fn a_chain_needs_long_words(rt: HostRuntime) -> Result<(), Fail> {
+    let alloc = rt.alloc();
+    for states in 2..40 {
+        let m = chain(alloc, states)?;
+        assert!(rt; 1 < m.states());
+        assert_eq!(rt;
+            letters(&separating(alloc, &m, 0, 1)?),
+            Some(usize::from(states) - 1)
+        );
+        let c = canonical(alloc, &m)?;
+        assert_eq!(rt; c.states(), states);
+        assert_eq!(rt; separators(alloc, &c)?.len(), 1);
+    }
+    Ok(())
+}
+
+/// Draws numbers (Knuth's linear congruential generator).
+#[derive(Drop)]
+struct Draw(u64);
+
+impl Draw {
+    fn below(&mut self, bound: u16) -> u16
+        requires { 0 < bound }
+    {
+        self.0 = self
+            .0
+            .wrapping_mul(6364136223846793005)
+            .wrapping_add(1442695040888963407);
+        ((self.0 >> 33) % u64::from(bound)) as u16
+    }
+
+    fn machine(
+        &mut self,
+        alloc: Global,
+        states: u16,
+        letters: u16,
+        outputs: u16,
+    ) -> Result<Mealy, Fail>
+        requires states { 0 < states }
+        requires letters { (1 ≤ letters) × (letters ≤ 64) }
+        requires outputs { (1 ≤ outputs) × (outputs ≤ 4096) }
+    {
+        let mut rows = Vec::new(alloc);
+        for _ in 0..states {
+            let mut row = Vec::new(alloc);
+            for _ in 0..letters {
+                row.push((self.below(states), self.below(outputs)))?;
+            }
+            rows.push(row)?;
+        }
+        Ok(Mealy::new(alloc, letters, outputs, rows)?)
+    }
+}
+
+/// Whether the access words are those of the plain body.
+fn access_agrees(alloc: Global, m: &Mealy, all: &[Word]) -> Result<bool, Fail> {
+    let mut q = 0u16;
+    for word in &access_words(alloc, m)? {
+        if !plain::same(word, plain::access(m, all, q)) {
+            return Ok(false);
+        }
+        q = q.wrapping_add(1);
+    }
+    Ok(q == m.states())
+}
+
+/// Whether the separating words of a state are those of the plain body.
+fn separating_agrees(alloc: Global, m: &Mealy, all: &[Word], p: u16) -> Result<bool, Fail>
+    requires { p < length m.now.rows }
+{
+    for q in 0..m.states() {
+        let word = separating(alloc, m, p, q)?;
+        if !plain::same(&word, plain::separating(m, all, p, q)) {
+            return Ok(false);
+        }
+    }
+    Ok(true)
+}
+
+/// Whether the separating words are those of the plain body.
+fn all_separating_agree(alloc: Global, m: &Mealy, all: &[Word]) -> Result<bool, Fail> {
+    for p in 0..m.states() {
+        if !separating_agrees(alloc, m, all, p)? {
+            return Ok(false);
+        }
+    }
+    Ok(true)
+}
+
+/// Whether the separators are those of the plain body.
+fn separators_agree(alloc: Global, m: &Mealy, all: &[Word]) -> Result<bool, Fail>
+    requires { IsMinimal m.now.inputs m.now.rows }
+{
+    let list = separators(alloc, m)?;
+    let expected = plain::separators(alloc, m, all)?;
+    let mut pairs = list.as_slice().iter().zip(expected.as_slice());
+    Ok(
+        list.len() == expected.len()
+            && pairs.all(|(word, other)| word.as_slice() == other.as_slice()),
+    )
+}
+
+#[test]
+fn drawn_machines_as_the_plain_body(rt: HostRuntime) -> Result<(), Fail> {
+    let alloc = rt.alloc();
+    let mut draw = Draw(7);
+    for _ in 0..300 {
+        let states = draw.below(4).wrapping_add(1);
+        let inputs = if draw.below(2) == 0 { 1 } else { 2 };
+        let outputs = if draw.below(2) == 0 { 1 } else { 2 };
+        if states == 0 {
+            return Err(Fail::from("no state"));
+        }
+        let m = draw.machine(alloc, states, inputs, outputs)?;
+        let all = plain::words(alloc, inputs)?;
+        assert!(rt; access_agrees(alloc, &m, all.as_slice())?);
+        assert!(rt; all_separating_agree(alloc, &m, all.as_slice())?);
+        let c = canonical(alloc, &m)?;
+        assert!(rt; plain::is_canonical(alloc, &m, &c, all.as_slice())?);
+        assert!(rt; separators_agree(alloc, &c, all.as_slice())?);
+    }
+    Ok(())
+}

@@ -1,0 +1,143 @@
+//! The four calls by trial: all words in shortlex order, on machines of at most four states.
+
+use lw_mealy::Mealy;
+use lw_words::Word;
+use std::alloc::Global;
+use std::test::Fail;
+
+/// All words of at most four letters over two, or fewer over more, in shortlex order.
+pub fn words(alloc: Global, inputs: u16) -> Result<Vec<Word>, Fail> {
+    let mut all = Vec::new(alloc);
+    all.push(Word::new(alloc))?;
+    for i in 0..15 {
+        for x in 0..inputs {
+            let Some(shorter) = all.get(i) else {
+                return Ok(all);
+            };
+            let mut word = shorter.copy()?;
+            word.push(x)?;
+            all.push(word)?;
+        }
+    }
+    Ok(all)
+}
+
+/// A step, where there is one.
+fn step(m: &Mealy, q: u16, x: u16) -> (u16, u16) {
+    if q < m.states() && x < m.inputs() {
+        m.step(q, x)
+    } else {
+        (0, 0)
+    }
+}
+
+/// The state after a word from state 0.
+fn end(m: &Mealy, word: &Word) -> u16 {
+    let mut q = 0;
+    for x in word.as_slice() {
+        q = step(m, q, *x).0;
+    }
+    q
+}
+
+/// Whether the outputs of two states differ on a word.
+fn differ(m: &Mealy, p: u16, q: u16, word: &Word) -> bool {
+    let mut first = p;
+    let mut second = q;
+    for x in word.as_slice() {
+        let (to_first, y) = step(m, first, *x);
+        let (to_second, z) = step(m, second, *x);
+        if y != z {
+            return true;
+        }
+        first = to_first;
+        second = to_second;
+    }
+    false
+}
+
+pub fn access<'a>(m: &Mealy, all: &'a [Word], q: u16) -> Option<&'a Word> {
+    for word in all {
+        if end(m, word) == q {
+            return Some(word);
+        }
+    }
+    None
+}
+
+pub fn separating<'a>(m: &Mealy, all: &'a [Word], p: u16, q: u16) -> Option<&'a Word> {
+    for word in all {
+        if differ(m, p, q, word) {
+            return Some(word);
+        }
+    }
+    None
+}
+
+/// Whether both are the same word, or none.
+pub fn same(word: &Option<Word>, expected: Option<&Word>) -> bool {
+    match (word, expected) {
+        (Some(word), Some(expected)) => word.as_slice() == expected.as_slice(),
+        (None, None) => true,
+        _ => false,
+    }
+}
+
+/// The states of a machine in the order of their least words, one of each class of equal ones.
+fn classes(alloc: Global, m: &Mealy, all: &[Word]) -> Result<Vec<u16>, Fail> {
+    let mut found = Vec::new(alloc);
+    for word in all {
+        let q = end(m, word);
+        if class_of(m, all, found.as_slice(), q).is_none() {
+            found.push(q)?;
+        }
+    }
+    Ok(found)
+}
+
+/// The place of the class of a state.
+fn class_of(m: &Mealy, all: &[Word], found: &[u16], q: u16) -> Option<u16> {
+    let mut place = 0u16;
+    for p in found {
+        if separating(m, all, *p, q).is_none() {
+            return Some(place);
+        }
+        place = place.wrapping_add(1);
+    }
+    None
+}
+
+/// Whether `c` has the row of each class in their order.
+pub fn is_canonical(alloc: Global, m: &Mealy, c: &Mealy, all: &[Word]) -> Result<bool, Fail> {
+    let found = classes(alloc, m, all)?;
+    if usize::from(c.states()) != found.len() {
+        return Ok(false);
+    }
+    let mut k = 0u16;
+    for p in &found {
+        for x in 0..m.inputs() {
+            let (target, output) = step(m, *p, x);
+            let place = class_of(m, all, found.as_slice(), target);
+            if place != Some(step(c, k, x).0) || output != step(c, k, x).1 {
+                return Ok(false);
+            }
+        }
+        k = k.wrapping_add(1);
+    }
+    Ok(true)
+}
+
+/// The walk over the pairs of states.
+pub fn separators(alloc: Global, m: &Mealy, all: &[Word]) -> Result<Vec<Word>, Fail> {
+    let mut list: Vec<Word> = Vec::new(alloc);
+    for p in 0..m.states() {
+        for q in 0..m.states() {
+            if p < q && !list.iter().any(|word| differ(m, p, q, word)) {
+                if let Some(word) = separating(m, all, p, q) {
+                    list.push(word.copy()?)?;
+                }
+            }
+        }
+    }
+    Ok(list)
+}
