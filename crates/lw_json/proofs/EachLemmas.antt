@@ -1,5 +1,5 @@
 -- A list whose elements are read one by one, by a function that may fail.
-use Rattle.std.proofs.Common.{◌≡◌, ℕ, ◌+◌, ◌<◌, ◌≤◌, List, [], ◌∷◌, ◌++◌, false, length, map, get_or, take, refl, ap, sym, ◌∙◌, arith, Option, Some, None, option_map, option_and_then}
+use Rattle.std.proofs.Common.{◌≡◌, ℕ, ◌+◌, ◌<◌, ◌≤◌, List, [], ◌∷◌, ◌++◌, false, length, map, get_or, take, refl, ap, sym, ◌∙◌, arith, Option, Some, None, option_map}
 use Rattle.std.proofs.lemmas.List.{take_all, map_more, map-append}
 use Rattle.serde_json.specs.Data.{Data}
 use Rattle.serde_json.specs.View.{items_of}

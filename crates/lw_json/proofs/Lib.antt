@@ -1,1 +1,4 @@
 pub mod EachLemmas
+pub mod LineFeed
+pub mod OneValue
+pub mod RoundTrip

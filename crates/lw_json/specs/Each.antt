@@ -1,5 +1,5 @@
 -- A function that may fail, at each element of a list.
-use Rattle.std.specs.Prelude.{List, [], ◌∷◌, Option, Some, None, option_map, option_and_then}
+use Rattle.std.specs.Prelude.{List, [], ◌∷◌, Option, Some, option_map, option_and_then}
 
 -- what it gives at each, or None where it fails at one
 abbrev pub each_of : {X Y : Type 0} → (X → Option Y) → List X → Option (List Y)

@@ -65,3 +65,9 @@ pub record Spells (d : Data) (m : Machine) : Type 0 where
 -- the bytes are a machine file, and this is the machine
 abbrev pub IsMachineFile : List ℕ → Machine → Type 0
 IsMachineFile bytes m = IsUtf8 bytes × ((d : Data) × (read bytes ≡ Some d) × Spells d m)
+
+-- the names and the machine are the same
+pub record SameMachine (m n : Machine) : Type 0 where
+  pub inputs : m.inputs ≡ n.inputs
+  pub outputs : m.outputs ≡ n.outputs
+  pub mealy : m.mealy ≡ n.mealy

@@ -4,7 +4,7 @@ ghost use Rattle.serde_json.specs.Find.{as_str};
 ghost use Rattle.lw_mealy.specs.Table.{table_of};
 ghost use Rattle.lw_json.specs.Each.{each_of};
 ghost use Rattle.lw_json.specs.Found.{FindsNames, FindsTable, FindsMachine};
-ghost use Rattle.lw_json.specs.MachineFile.{list_of, texts_at, cell_of, row_of, rows_at, IsMachineFile};
+ghost use Rattle.lw_json.specs.MachineFile.{list_of, texts_at, cell_of, row_of, rows_at, IsMachineFile, SameMachine};
 ghost use Rattle.lw_json.specs.declared.machine.Machine.{Machine as Named};
 ghost use Rattle.serde_json.specs.Find.{get};
 
@@ -160,6 +160,7 @@ fn machine_in(alloc: Global, root: &Value) -> Result<Option<Machine>, NoMemory>
 /// for each state a list of cells, a target and the name of an output for each input.
 pub fn read_machine(alloc: Global, bytes: &[u8]) -> Result<Machine, JsonFault>
     ensures ok { IfOk result (IsMachineFile bytes.now) }
+    ensures only { IfOk result (λ m. (n : Named) → IsMachineFile bytes.now n → SameMachine n m) }
     ensures bad { result ≡ Err JsonFault.BadMachine → (m : Named) → ¬ IsMachineFile bytes.now m }
 {
     let root = match Value::from_slice(alloc, bytes) {

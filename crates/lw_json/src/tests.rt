@@ -3,6 +3,10 @@ use std::test::Fail;
 
 const ONE: &str = "{\"inputs\":[\"t\"],\"outputs\":[\"0\"],\"states\":[[[0,\"0\"]]]}\n";
 
+/// The counter modulo three over one input, as it is written.
+const THREE: &str =
+    "{\"inputs\":[\"t\"],\"outputs\":[\"0\",\"1\"],\"states\":[[[1,\"0\"]],[[2,\"0\"]],[[0,\"1\"]]]}\n";
+
 /// Machine files that are written otherwise than they are read.
 const SPELLED: [&str; 3] = [
     "{\"states\":[[[0,\"0\"]]],\"outputs\":[\"0\"],\"inputs\":[\"t\"]}",
@@ -47,6 +51,24 @@ fn a_machine_is_read_and_written(rt: HostRuntime) -> Result<(), Fail> {
             }
             Err(_) => return Err(Fail::from("a machine file was refused")),
         }
+    }
+    Ok(())
+}
+
+#[test]
+fn a_written_machine_is_read_as_the_same(rt: HostRuntime) -> Result<(), Fail> {
+    let alloc = rt.alloc();
+    match read_machine(alloc, THREE.as_bytes()) {
+        Ok(machine) => {
+            let written = machine_text(alloc, &machine)?;
+            assert_eq!(rt; written.as_slice(), THREE.as_bytes());
+            let Ok(again) = read_machine(alloc, &written) else {
+                return Err(Fail::from("a written machine was refused"));
+            };
+            let twice = machine_text(alloc, &again)?;
+            assert_eq!(rt; twice.as_slice(), THREE.as_bytes());
+        }
+        Err(_) => return Err(Fail::from("a machine file was refused")),
     }
     Ok(())
 }

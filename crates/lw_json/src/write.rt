@@ -2,6 +2,7 @@ ghost use Rattle.std.specs.Prelude.{◌≡◌, ◌<◌, length, IfOk, OnOk};
 ghost use Rattle.serde_json.specs.Data.{put};
 ghost use Rattle.serde_json.specs.View.{view, members_view};
 ghost use Rattle.lw_mealy.specs.Machine.{row};
+ghost use Rattle.lw_json.specs.MachineFile.{IsNamed, IsMachineFile};
 ghost use Rattle.lw_json.specs.MachineText.{texts_data, cell_data, row_data, rows_data, machine_data, written_text};
 
 use crate::Machine;
@@ -93,7 +94,8 @@ fn machine_value(alloc: Global, m: &Machine) -> Result<Value, NoMemory>
 
 /// The one text of a machine: its compact JSON text and a line feed.
 pub fn machine_text(alloc: Global, m: &Machine) -> Result<Vec<u8>, NoMemory>
-    ensures { IfOk result (λ text. text.items ≡ written_text m.now) }
+    ensures text { IfOk result (λ text. text.items ≡ written_text m.now) }
+    ensures read_back { IsNamed m.now → IfOk result (λ text. IsMachineFile text.items m.now) }
 {
     let mut text = machine_value(alloc, m)?.to_vec(alloc)?;
     text.push(b'\n')?;

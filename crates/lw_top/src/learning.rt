@@ -1,6 +1,7 @@
 ghost use Rattle.std.specs.Prelude.{◌≡◌, ◌⊎◌, length, map, IfOk, IfErr};
 ghost use Rattle.lw_mealy.specs.Gives.{Gives};
 ghost use Rattle.lw_mealy.specs.Table.{IsTable};
+ghost use Rattle.lw_top.specs.Hypothesis.{IsHypothesis};
 ghost use Rattle.lw_top.specs.Kept.{IsNumbered};
 ghost use Rattle.lw_top.specs.Known.{runs_answers, kept_answers};
 ghost use Rattle.lw_top.specs.Outcomes.{IsLearnStop};
@@ -50,6 +51,7 @@ pub(crate) fn learn(alloc: Global, machine: Machine) -> Learned
     ensures names { (result.inputs ≡ machine.inputs) × (result.outputs ≡ machine.outputs) }
     ensures model { IfOk result.closed (λ h. IsTable h × (h.inputs ≡ length machine.inputs) × (h.outputs ≡ length machine.outputs)) }
     ensures stop { IfErr result.closed IsLearnStop }
+    ensures hypothesis { IfOk result.closed (λ h. IsHypothesis h.inputs (kept_answers result.kept.answers) h.rows) }
     ensures numbered { IsNumbered result.kept.answers }
     ensures answers { Gives machine.mealy.rows result.kept.answers }
 {

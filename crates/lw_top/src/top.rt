@@ -1,9 +1,11 @@
-ghost use Rattle.std.specs.Prelude.{◌≡◌, ◌⊎◌, ◌↔◌, ℕ, ◌+◌, ◌<◌, ◌≤◌, List, [], ◌++◌, length, map, take, drop, true, false, Some, None, Ok, Err, IfOk, IfErr, OnOk, OnErr, IsSome, option_map, string_bytes};
+ghost use Rattle.std.specs.Prelude.{◌≡◌, ◌⊎◌, ◌↔◌, ℕ, ◌+◌, ◌<◌, ◌≤◌, List, [], ◌++◌, length, map, take, drop, true, false, Some, None, Ok, Err, IfOk, IfErr, IfSome, OnOk, OnErr, IsSome, option_map, string_bytes};
 ghost use Rattle.lw_words.specs.Cause.{Rose};
 ghost use Rattle.lw_mealy.specs.Table.{MachineTable as Table};
 ghost use Rattle.lw_json.specs.MachineText.{written_text};
 ghost use Rattle.lw_top.specs.Files.{Reads, read_call, noted};
+ghost use Rattle.lw_top.specs.Hypothesis.{IsHypothesis};
 ghost use Rattle.lw_top.specs.Kept.{IsNumbered};
+ghost use Rattle.lw_top.specs.Known.{kept_answers};
 ghost use Rattle.lw_top.specs.Outcomes.{HasOwnText, IsWriteStop, status_of};
 ghost use Rattle.lw_top.specs.Run.{IsReadStop, IsTableOf, RefusesTable, KeepsRuns};
 ghost use Rattle.lw_top.specs.Words.{table_file};
@@ -224,6 +226,9 @@ pub fn run<F: Files, O: Sink, E: Sink>(
 
     // The kept answers.
     ensures kept { (result.kept.answers ≡ []) ⊎ ((name : List ℕ) × (table_file (map (λ s. string_bytes s) words.now) ≡ Some name) × KeepsRuns (F.holds files.old) name result.kept.answers) }
+
+    // What the model is to the kept answers.
+    ensures hypothesis { IfSome result.model (λ h. IsHypothesis h.inputs (kept_answers result.kept.answers) h.rows) }
 {
     let Some(name) = table_file(words) else {
         return refuse(alloc, Outcome::Usage, None, Kept::new(alloc), err);

@@ -1,4 +1,4 @@
-use Rattle.std.proofs.Common.{◌≡◌, ◌∙◌, ◌<◌, ◌≤◌, ℕ, List, Option, None, length, map, option_and_then, sym, ap, arith}
+use Rattle.std.proofs.Common.{◌∙◌, length, map, option_and_then, sym, ap, arith}
 use Rattle.std.proofs.lemmas.List.{length-map}
 use Rattle.serde_json.specs.View.{view}
 use Rattle.lw_json.specs.MachineFile.{pair_of}

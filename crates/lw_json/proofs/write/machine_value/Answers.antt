@@ -1,8 +1,8 @@
-use Rattle.std.proofs.Common.{◌≡◌, ◌∙◌, ap, refl, codes}
+use Rattle.std.proofs.Common.{◌≡◌, ◌∙◌, ap, codes}
 use Rattle.serde_json.specs.Data.{Data, Members, put, object, no_members}
-use Rattle.serde_json.specs.View.{view, members_view}
+use Rattle.serde_json.specs.View.{members_view}
 use Rattle.serde_json.proofs.Views.{view-Object}
-use Rattle.lw_json.specs.MachineText.{machine_data, texts_data, rows_data}
+use Rattle.lw_json.specs.MachineText.{texts_data, rows_data}
 use Rattle.lw_json.proofs.write.machine_value.Goals as goal
 
 pub returns : goal.returns

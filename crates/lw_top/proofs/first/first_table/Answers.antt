@@ -4,6 +4,7 @@ use Rattle.std.proofs.lemmas.List.{length-map}
 use Rattle.lw_mealy.specs.Machine.{Row}
 use Rattle.lw_mealy.specs.Table.{MachineTable, IsTable, table_of}
 use Rattle.lw_top.proofs.Closed.{closed_table}
+use Rattle.lw_top.proofs.Hypotheses.{hypothesis_of}
 use Rattle.lw_top.proofs.first.first_table.Goals as goal
 
 pub machine_of-requires : goal.machine_of-requires
@@ -23,3 +24,20 @@ machine_of-requires c =
     let outputs : c.outputs-outputs.result ≡ t.outputs = c.outputs-outputs.ensures.value ∙ ap (λ (s : MachineTable). s.outputs) same in
     subst (λ (p : ℕ × ℕ). IsTable (table_of p.0 p.1 C)) (λ k. (sym inputs k, sym outputs k))
     (closed_table t c.in_ok-table.table.access.items (map (λ r. r.items) c.in_ok-table.table.rows.keys) C table c.in_ok-table.ensures.filling.reached c.in_ok-table.ensures.filling.paired full few)
+
+pub returns-clause-hypothesis : goal.returns-clause-hypothesis
+returns-clause-hypothesis c =
+    let t : MachineTable = c.args.session.now.sul.table in
+    let same : c.machine-machine.result.now ≡ t = c.machine-machine.ensures ∙ ap (λ s. s.table) c.sul.ensures in
+    let C : List Row = map (λ r. r.items) c.in_ok-table.table.cells.items in
+    let size : length C ≡ length c.in_ok-table.table.cells.items = length-map c.in_ok-table.table.cells.items (λ r. r.items) in
+    let given : length c.in_ok-table.table.cells.items ≡ min c.from-most.result (length c.in_ok-table.table.access.items) = c.in_ok-table.ensures.full in
+    let most : c.from-most.result ≡ c.args.max_states = c.from-most.ensures in
+    let limit = c.requires.limit in
+    let under : length c.in_ok-table.table.access.items ≤ c.from-most.result = grind (arith, common_steps) in
+    let all : length c.in_ok-table.table.cells.items ≡ length c.in_ok-table.table.access.items = omega arith in
+    let full : length C ≡ length c.in_ok-table.table.access.items = omega arith in
+    let few : length c.in_ok-table.table.access.items ≤ 1024 = omega arith in
+    let inputs : c.inputs-inputs.result ≡ t.inputs = c.inputs-inputs.ensures.value ∙ ap (λ (s : MachineTable). s.inputs) same in
+    hypothesis_of t c.in_ok-table.table.access.items (map (λ r. r.items) c.in_ok-table.table.rows.keys) C (length c.in_ok-table.table.cells.items) c.filled.new.session.journal c.inputs-inputs.result c.outputs-outputs.result c.in_ok-machine_of.field-0
+    c.in_ok-table.ensures.filling.reached c.in_ok-table.ensures.filling.paired full few all c.in_ok-table.ensures.gains inputs c.in_ok-machine_of.ensures
