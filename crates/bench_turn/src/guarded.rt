@@ -1,5 +1,5 @@
 //! A tally under a lock, which one actor may add to so many times.
-ghost use Rattle.std.specs.Prelude.{◌≡◌, ◌<◌, ◌≤◌, [], IfSome};
+ghost use Rattle.std.specs.Prelude.{◌≡◌, ◌-◌, ◌<◌, ◌≤◌, [], IfNone, IfSome};
 
 use crate::tally::Tally;
 use lw_turn::Core;
@@ -31,7 +31,11 @@ impl Guarded {
     }
 
     /// Adds 1, if it may be added to.
-    pub fn add(&mut self) -> Option<u64> {
+    pub fn add(&mut self) -> Option<u64>
+        ensures none { IfNone result (self.old ≡ 0) }
+        ensures some { IfSome result (λ _. 0 < self.old) }
+        ensures left { self.new ≡ self.old - 1 }
+    {
         if self.left == 0 {
             return None;
         }

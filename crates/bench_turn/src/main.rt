@@ -14,6 +14,8 @@ use tally::Tally;
 
 mod guarded;
 mod tally;
+#[cfg(test)]
+mod tests;
 mod workers;
 
 // Turns of one thread where times are asked for, and where not.
