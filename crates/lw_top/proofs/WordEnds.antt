@@ -1,16 +1,8 @@
 -- Words that grow at their end.
-use Rattle.std.proofs.Common.{◌≡◌, ℕ, suc, ◌+◌, ◌<◌, List, [], ◌∷◌, ◌++◌, length, get_or, refl, ap, sym, ◌∙◌}
+use Rattle.std.proofs.Common.{◌≡◌, ℕ, List, [], ◌∷◌, ◌++◌, length, get_or, ap, sym, ◌∙◌}
 use Rattle.std.proofs.Math.Seq.{get_or-append_seam}
-use Rattle.lw_mealy.specs.Machine.{Rows, after, out, answer, next, output}
-use Rattle.lw_mealy.proofs.WordLemmas.{length-out}
-
-pub after-append : (m : Rows) (q : ℕ) (u v : List ℕ) → after m q (u ++ v) ≡ after m (after m q u) v
-after-append m q [] v = refl
-after-append m q (x ∷ u) v = after-append m (next m q x) u v
-
-pub out-append : (m : Rows) (q : ℕ) (u v : List ℕ) → out m q (u ++ v) ≡ out m q u ++ out m (after m q u) v
-out-append m q [] v = refl
-out-append m q (x ∷ u) v = ap (λ (o : List ℕ). output m q x ∷ o) (out-append m (next m q x) u v)
+use Rattle.lw_mealy.specs.Machine.{Rows, after, out, answer, output}
+use Rattle.lw_mealy.proofs.WordLemmas.{length-out, out-append}
 
 -- the last output
 pub last_output : (m : Rows) (u : List ℕ) (x : ℕ) → get_or (answer m (u ++ x ∷ [])) (length u) 0 ≡ output m (after m 0 u) x
