@@ -227,6 +227,9 @@ pub fn run<F: Files, O: Sink, E: Sink>(
     // The kept answers.
     ensures kept { (result.kept.answers ≡ []) ⊎ ((name : List ℕ) × (table_file (map (λ s. string_bytes s) words.now) ≡ Some name) × KeepsRuns (F.holds files.old) name result.kept.answers) }
 
+    // The model that is told is the one that is handed back.
+    ensures model { (h : Table) → result.outcome ≡ Came.Unchecked h → result.model ≡ Some h }
+
     // What the model is to the kept answers.
     ensures hypothesis { IfSome result.model (λ h. IsHypothesis h.inputs (kept_answers result.kept.answers) h.rows) }
 {
