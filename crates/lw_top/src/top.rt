@@ -1,6 +1,6 @@
 ghost use Rattle.std.specs.Prelude.{◌≡◌, ◌⊎◌, ◌↔◌, ℕ, ◌+◌, ◌<◌, ◌≤◌, List, [], ◌++◌, length, map, take, drop, true, false, Some, None, Ok, Err, IfOk, IfErr, IfSome, OnOk, OnErr, IsSome, option_map, string_bytes};
 ghost use Rattle.lw_words.specs.Cause.{Rose};
-ghost use Rattle.lw_mealy.specs.Table.{MachineTable as Table};
+ghost use Rattle.lw_mealy.specs.Table.{MachineTable as Table, IsTable};
 ghost use Rattle.lw_json.specs.MachineText.{written_text};
 ghost use Rattle.lw_top.specs.Files.{Reads, read_call, noted};
 ghost use Rattle.lw_top.specs.Hypothesis.{IsHypothesis};
@@ -229,6 +229,7 @@ pub fn run<F: Files, O: Sink, E: Sink>(
 
     // The model that is told is the one that is handed back.
     ensures model { (h : Table) → result.outcome ≡ Came.Unchecked h → result.model ≡ Some h }
+    ensures table { IfSome result.model IsTable }
 
     // What the model is to the kept answers.
     ensures hypothesis { IfSome result.model (λ h. IsHypothesis h.inputs (kept_answers result.kept.answers) h.rows) }
