@@ -131,7 +131,8 @@ impl Names {
     }
 
     pub fn len(&self) -> u16
-        ensures { result ≡ length self.now }
+        ensures value { result ≡ length self.now }
+        ensures names { IsNames self.now }
     {
         self.names.len() as u16
     }
