@@ -80,6 +80,7 @@ pub fn canonical(alloc: Global, m: &Mealy) -> Result<Mealy, NoMemory>
     ensures canonical { IfOk result (λ c. IsCanonical m.now.inputs m.now.rows c.rows) }
     ensures alphabets { IfOk result (λ c. (c.inputs ≡ m.now.inputs) × (c.outputs ≡ m.now.outputs)) }
     ensures minimal { IfOk result (λ c. IsMinimal c.inputs c.rows) }
+    ensures table { IfOk result IsTable }
 {
     let h = merged(alloc, m)?;
     let search = breadth_first(alloc, &h)?;
