@@ -1,7 +1,9 @@
 ghost use Rattle.std.specs.Prelude.{◌≡◌, ◌<◌, length, IfOk, OnOk};
 ghost use Rattle.serde_json.specs.Data.{put};
 ghost use Rattle.serde_json.specs.View.{view, members_view};
+ghost use Rattle.lw_words.specs.Name.{IsNames};
 ghost use Rattle.lw_mealy.specs.Machine.{row};
+ghost use Rattle.lw_mealy.specs.Table.{IsTable};
 ghost use Rattle.lw_json.specs.MachineFile.{IsNamed, IsMachineFile};
 ghost use Rattle.lw_json.specs.MachineText.{texts_data, cell_data, row_data, rows_data, machine_data, written_text};
 
@@ -13,7 +15,8 @@ use std::alloc::Global;
 
 /// The names as a list of texts.
 fn names_value(alloc: Global, names: &Names) -> Result<Value, NoMemory>
-    ensures { IfOk result (λ v. view v ≡ texts_data names.now) }
+    ensures value { IfOk result (λ v. view v ≡ texts_data names.now) }
+    ensures names { OnOk result (IsNames names.now) }
 {
     let mut items = Vec::with_capacity(alloc, usize::from(names.len()))?;
     for n in 0..names.len() {
@@ -49,7 +52,8 @@ fn row_value(alloc: Global, mealy: &Mealy, state: u16, outputs: &Names) -> Resul
 /// The rows of all states as a list.
 fn rows_value(alloc: Global, mealy: &Mealy, outputs: &Names) -> Result<Value, NoMemory>
     requires { mealy.now.outputs ≡ length outputs.now }
-    ensures { IfOk result (λ v. view v ≡ rows_data outputs.now mealy.now.rows) }
+    ensures value { IfOk result (λ v. view v ≡ rows_data outputs.now mealy.now.rows) }
+    ensures table { OnOk result (IsTable mealy.now) }
 {
     let mut rows = Vec::with_capacity(alloc, usize::from(mealy.states()))?;
     for state in 0..mealy.states() {
@@ -72,7 +76,8 @@ fn put_member(
 }
 
 fn machine_value(alloc: Global, m: &Machine) -> Result<Value, NoMemory>
-    ensures { IfOk result (λ v. view v ≡ machine_data m.now) }
+    ensures value { IfOk result (λ v. view v ≡ machine_data m.now) }
+    ensures named { OnOk result (IsNamed m.now) }
 {
     let mut members = Map::new(alloc);
     put_member(
@@ -95,7 +100,7 @@ fn machine_value(alloc: Global, m: &Machine) -> Result<Value, NoMemory>
 /// The one text of a machine: its compact JSON text and a line feed.
 pub fn machine_text(alloc: Global, m: &Machine) -> Result<Vec<u8>, NoMemory>
     ensures text { IfOk result (λ text. text.items ≡ written_text m.now) }
-    ensures read_back { IsNamed m.now → IfOk result (λ text. IsMachineFile text.items m.now) }
+    ensures read_back { IfOk result (λ text. IsMachineFile text.items m.now) }
 {
     let mut text = machine_value(alloc, m)?.to_vec(alloc)?;
     text.push(b'\n')?;

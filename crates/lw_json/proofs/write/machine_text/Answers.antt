@@ -24,7 +24,7 @@ no_float m =
 pub returns : goal.returns
 returns c =
     let m = c.args.m.now in
-    let spelled_by = c.in_ok-machine_value.ensures in
+    let spelled_by = c.in_ok-machine_value.ensures.value in
     let made = c.in_ok-text.text.items in
     let text : made ≡ compact_text (machine_data m) = c.in_ok-text.ensures.text (ap has_float spelled_by ∙ no_float m) ∙ ap compact_text spelled_by in
     let written : c.push.new.self.items ≡ made ++ 10 ∷ [] = c.in_ok-push.ensures.items in
@@ -35,5 +35,5 @@ returns c =
     let utf8 : IsUtf8 c.push.new.self.items = subst IsUtf8 (sym written) (IsUtf8-append made (10 ∷ []) c.in_ok-text.ensures.utf8 (IsUtf8-are_ascii (10 ∷ []) refl)) in
     record {
       text = written ∙ ap (λ (t : List ℕ). t ++ 10 ∷ []) text;
-      read_back = λ named. (utf8, (machine_data m, back, spelled m named));
+      read_back = (utf8, (machine_data m, back, spelled m c.in_ok-machine_value.ensures.named));
     }

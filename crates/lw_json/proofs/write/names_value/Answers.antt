@@ -12,7 +12,7 @@ loop-n-preserved c =
     c.in_ok-push.ensures.items c.in_ok-try_from_str.ensures (slice_get_within c.args.names.now c.loop-n.n c.name.result.now c.name.ensures.value)
     (get_or_from_slice_get c.args.names.now c.loop-n.n c.name.result.now c.name.result.now c.name.ensures.value) c.loop-n.invariant
 
-pub returns : goal.returns
-returns c =
+pub returns-clause-value : goal.returns-clause-value
+returns-clause-value c =
     let stop : length c.args.names.now ≤ c.loop-n.n = omega arith in
     view-Array c.loop-n.items ∙ ap (λ l. array (items_of l)) (written_all view string c.loop-n.items.items c.args.names.now c.loop-n.n stop c.loop-n.invariant)
