@@ -1,10 +1,11 @@
 -- A word read letter by letter.
 use Rattle.std.proofs.Common.{◌≡◌, ◌≢◌, ℕ, suc, ◌+◌, ◌<◌, ◌≤◌, List, [], ◌∷◌, ◌++◌, length, get_or, take, drop, drop-cons, add-one, refl, ap, sym, ◌∙◌, arith, append_assoc, append-nil, slice_index}
-use Rattle.std.proofs.lemmas.List.Elements.{All-get_or}
+use Rattle.std.proofs.lemmas.List.Elements.{All-get_or, All-head, All-tail}
 use Rattle.std.proofs.lemmas.List.{drop_all, take_all, take_more_same}
 use Rattle.lw_words.specs.Word.{IsWord}
-use Rattle.lw_mealy.specs.Machine.{Rows, after, next, output, out, answer, cell}
+use Rattle.lw_mealy.specs.Machine.{Rows, IsMachine, after, next, output, out, answer, cell}
 use Rattle.lw_mealy.specs.Difference.{DifferFirst}
+use Rattle.lw_mealy.proofs.RowLemmas.{target_below}
 
 pub letter : (a : ℕ) (w : List ℕ) (i : ℕ) → i < length w → IsWord a w → get_or w i 0 < a
 letter a w i lt is = All-get_or (λ x. x < a) w i 0 lt is
@@ -56,3 +57,8 @@ after-append m q (x ∷ u) v = after-append m (next m q x) u v
 pub out-append : (m : Rows) (q : ℕ) (u v : List ℕ) → out m q (u ++ v) ≡ out m q u ++ out m (after m q u) v
 out-append m q [] v = refl
 out-append m q (x ∷ u) v = ap (λ (o : List ℕ). output m q x ∷ o) (out-append m (next m q x) u v)
+
+-- a word leads from a state to a state
+pub after_below : (a : ℕ) (m : Rows) (w : List ℕ) (q : ℕ) → IsMachine a m → q < length m → IsWord a w → after m q w < length m
+after_below a m [] q k lt letters = lt
+after_below a m (x ∷ w) q k lt letters = after_below a m w (next m q x) k (target_below a m q x k lt (All-head (λ y. y < a) x w letters)) (All-tail (λ y. y < a) x w letters)

@@ -8,14 +8,10 @@ use Rattle.lw_mealy.specs.Machine.{Rows, IsMachine, after, out, next, output, ce
 use Rattle.lw_mealy.specs.Minimal.{IsMinimal}
 use Rattle.lw_mealy.specs.Equal.{Equal}
 use Rattle.lw_mealy.proofs.RowLemmas.{target_below, is_row}
-use Rattle.lw_mealy.proofs.WordLemmas.{after-append, out-append}
+use Rattle.lw_mealy.proofs.WordLemmas.{after-append, after_below, out-append}
 use Rattle.lw_separate.specs.Before.{Before}
 use Rattle.lw_separate.specs.Canonical.{IsCanonical, OneCanonical}
 use Rattle.lw_separate.proofs.Before.{before_cmp, before_apart, before_trans, neither_before}
-
-pub after_below : (a : ℕ) (m : Rows) (w : List ℕ) (q : ℕ) → IsMachine a m → q < length m → IsWord a w → after m q w < length m
-after_below a m [] q k lt letters = lt
-after_below a m (x ∷ w) q k lt letters = after_below a m w (next m q x) k (target_below a m q x k lt (All-head (λ y. y < a) x w letters)) (All-tail (λ y. y < a) x w letters)
 
 cancel : (s r t u : List ℕ) → s ≡ r → s ++ t ≡ r ++ u → t ≡ u
 cancel s r t u is e = append_cancel_left s t u (e ∙ ap (λ (l : List ℕ). l ++ u) (sym is))
@@ -27,7 +23,7 @@ module _ (a : ℕ) (c d : Rows) (mc : IsMachine a c) (md : IsMachine a d) (same 
       (sym (out-append c 0 u v) ∙ (same (u ++ v) (All-append (λ y. y < a) u v iu iv) ∙ out-append d 0 u v))
 
   -- words that lead to one state of the first lead to one state of the second
-  together : IsMinimal a d → (u v : List ℕ) → IsWord a u → IsWord a v → after c 0 u ≡ after c 0 v → after d 0 u ≡ after d 0 v
+  pub together : IsMinimal a d → (u v : List ℕ) → IsWord a u → IsWord a v → after c 0 u ≡ after c 0 v → after d 0 u ≡ after d 0 v
   together minimal u v iu iv e =
       ⊎_elim
       (λ (s : after d 0 u ≡ after d 0 v). s)

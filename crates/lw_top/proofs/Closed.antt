@@ -6,12 +6,9 @@ use Rattle.std.proofs.lemmas.List.Elements.{All-get_or}
 use Rattle.lw_words.specs.Word.{IsWord}
 use Rattle.lw_mealy.specs.Machine.{Row, Rows, IsMachine, after, next, output, cell}
 use Rattle.lw_mealy.specs.Table.{MachineTable, IsTable, table_of}
-use Rattle.lw_mealy.proofs.RowLemmas.{target_below, output_below}
+use Rattle.lw_mealy.proofs.RowLemmas.{output_below}
+use Rattle.lw_mealy.proofs.WordLemmas.{after_below}
 use Rattle.lw_top.specs.Part.{word_at, IsPair, AreAccess, ArePairs}
-
-after_below : (a : ℕ) (m : Rows) (q : ℕ) (w : List ℕ) → IsMachine a m → q < length m → IsWord a w → after m q w < length m
-after_below a m q [] k lt is = lt
-after_below a m q (x ∷ w) k lt is = after_below a m (next m q x) w k (target_below a m q x k lt (is 0 0 (omega arith))) (λ i d small. is (suc i) d (omega arith))
 
 module _ (t : MachineTable) (A R : List (List ℕ)) (C : List Row) (is : IsTable t) (g : AreAccess t.rows t.inputs A R) (p : ArePairs t.rows t.inputs A C) (full : length C ≡ length A) (few : length A ≤ 1024) where
   pair : (q x : ℕ) → q < length C → x < t.inputs → IsPair t.rows t.inputs A q x (cell C q x)
@@ -28,7 +25,7 @@ module _ (t : MachineTable) (A R : List (List ℕ)) (C : List Row) (is : IsTable
   output_in q x lt le =
       let h = pair q x lt le in
       let word : IsWord t.inputs (word_at A q) = All-get_or (λ v. IsWord t.inputs v) A q [] (subst (λ (n : ℕ). q < n) full lt) g.words in
-      rw h.out (output_below t (after t.rows 0 (word_at A q)) x is (after_below t.inputs t.rows 0 (word_at A q) is.machine is.machine.some_state word) le)
+      rw h.out (output_below t (after t.rows 0 (word_at A q)) x is (after_below t.inputs t.rows (word_at A q) 0 is.machine is.machine.some_state word) le)
 
   -- a fact of each pair, as a fact of each row
   rows_have : (P : ℕ × ℕ → Type 0) → ((q x : ℕ) → q < length C → x < t.inputs → P (cell C q x)) → All (λ r. All P r) C

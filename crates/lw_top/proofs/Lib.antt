@@ -1,8 +1,12 @@
 pub mod WordEnds
+pub mod AccessRows
+pub mod AskedWords
 pub mod Askings
 pub mod Parts
 pub mod Closed
+pub mod Crowds
 pub mod Hypotheses
+pub mod Numbered
 pub mod FileLemmas
 pub mod KeptLemmas
 pub mod SinkLemmas

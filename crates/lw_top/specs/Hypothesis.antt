@@ -13,8 +13,10 @@ pub record ReachedWide (a : ℕ) (answers : List Answer) (h : Rows) (q : ℕ) : 
   pub leads : after h 0 access ≡ q
   pub wide : (x y : ℕ) → x < a → y < a → Contains (map (λ k. k.0) answers) (access ++ x ∷ y ∷ [])
 
--- minimal, gives every answer, and each state is reached by a word whose extensions by two letters are answered
+-- minimal, gives every answer, all to words over a letters, and each state is reached by a word whose extensions by
+-- two letters are answered
 pub record IsHypothesis (a : ℕ) (answers : List Answer) (h : Rows) : Type 0 where
   pub minimal : IsMinimal a h
+  pub words : All (λ k. IsWord a k.0) answers
   pub gives : All (λ k. answer h k.0 ≡ k.1) answers
   pub reached : (q : ℕ) → q < length h → ReachedWide a answers h q

@@ -1,6 +1,8 @@
 -- The exit status of each outcome.
-use Rattle.std.specs.Prelude.{◌≡◌, ℕ}
+use Rattle.std.specs.Prelude.{◌≡◌, ◌⊎◌, ℕ, List}
 use Rattle.lw_mealy.specs.Table.{MachineTable}
+use Rattle.lw_top.specs.Crowd.{IsCrowd}
+use Rattle.lw_top.specs.Known.{Answer}
 use Rattle.lw_top.specs.declared.outcome.Outcome.{Outcome}
 use Rattle.lw_top.specs.declared.outcome.Outcome.TheVariants.{Unchecked, Usage, BadFile, NoMemory, TooManyStates, FileFault, SinkFault}
 
@@ -23,15 +25,15 @@ HasOwnText (TooManyStates words) = Unit {0}
 HasOwnText FileFault = ⊥
 HasOwnText SinkFault = ⊥
 
--- what ends a learning without a model
-abbrev pub IsLearnStop : Outcome → Type 0
-IsLearnStop (Unchecked model) = ⊥
-IsLearnStop Usage = ⊥
-IsLearnStop BadFile = ⊥
-IsLearnStop NoMemory = Unit {0}
-IsLearnStop (TooManyStates words) = Unit {0}
-IsLearnStop FileFault = ⊥
-IsLearnStop SinkFault = ⊥
+-- what ends a learning without a model: want of memory, or 1,025 words that are pairwise apart by the answers
+abbrev pub IsLearnStop : List Answer → Outcome → Type 0
+IsLearnStop answers (Unchecked model) = ⊥
+IsLearnStop answers Usage = ⊥
+IsLearnStop answers BadFile = ⊥
+IsLearnStop answers NoMemory = Unit {0}
+IsLearnStop answers (TooManyStates words) = IsCrowd answers 1025 words
+IsLearnStop answers FileFault = ⊥
+IsLearnStop answers SinkFault = ⊥
 
 -- what a closed table's writing out comes to, where a fault has this cause
 abbrev pub IsWriteStop : MachineTable → Type 0 → Outcome → Type 0
@@ -42,3 +44,27 @@ IsWriteStop model cause NoMemory = Unit {0}
 IsWriteStop model cause (TooManyStates words) = ⊥
 IsWriteStop model cause FileFault = ⊥
 IsWriteStop model cause SinkFault = cause
+
+-- an outcome as it was, or want of memory in the place of one that has a text of its own
+abbrev pub StandsOrWants : Outcome → Outcome → Type 0
+StandsOrWants outcome result = (result ≡ outcome) ⊎ (HasOwnText outcome × (result ≡ NoMemory))
+
+-- no file is bad and nothing outside failed
+abbrev pub IsUntroubled : Outcome → Type 0
+IsUntroubled (Unchecked model) = Unit {0}
+IsUntroubled Usage = ⊥
+IsUntroubled BadFile = ⊥
+IsUntroubled NoMemory = Unit {0}
+IsUntroubled (TooManyStates words) = Unit {0}
+IsUntroubled FileFault = ⊥
+IsUntroubled SinkFault = ⊥
+
+-- the file was not read as a machine
+abbrev pub IsUnread : Outcome → Type 0
+IsUnread (Unchecked model) = ⊥
+IsUnread Usage = ⊥
+IsUnread BadFile = Unit {0}
+IsUnread NoMemory = Unit {0}
+IsUnread (TooManyStates words) = ⊥
+IsUnread FileFault = Unit {0}
+IsUnread SinkFault = ⊥

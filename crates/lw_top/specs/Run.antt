@@ -1,10 +1,12 @@
 -- What a call of the program says of the table file and of the kept answers.
-use Rattle.std.specs.Prelude.{ℕ, List, Option}
+use Rattle.std.specs.Prelude.{◌≡◌, ℕ, List, ◌++◌, take, Option, Some, None, option_map}
 use Rattle.lw_words.specs.declared.kept.KeptAnswer.{KeptAnswer}
 use Rattle.lw_mealy.specs.Gives.{Gives}
+use Rattle.lw_mealy.specs.Table.{MachineTable}
 use Rattle.lw_json.specs.MachineFile.{IsMachineFile}
+use Rattle.lw_json.specs.MachineText.{written_text}
 use Rattle.lw_json.specs.declared.machine.Machine.{Machine}
-use Rattle.lw_top.specs.Files.{File, Reads}
+use Rattle.lw_top.specs.Files.{File, Reads, file_at}
 use Rattle.lw_top.specs.Kept.{IsNumbered}
 use Rattle.lw_top.specs.declared.outcome.Outcome.{Outcome}
 use Rattle.lw_top.specs.declared.outcome.Outcome.TheVariants.{Unchecked, Usage, BadFile, NoMemory, TooManyStates, FileFault, SinkFault}
@@ -20,6 +22,19 @@ pub record RefusesTable (holds : Option (List File)) (name : List ℕ) : Type 0 
   pub bytes : List ℕ
   pub read : Reads holds name bytes
   pub bad : (m : Machine) → ¬ IsMachineFile bytes m
+
+-- it is told that these bytes stand under the name
+abbrev pub Tells : Option (List File) → List ℕ → List ℕ → Type 0
+Tells None name bytes = ⊥
+Tells (Some fs) name bytes = file_at name fs ≡ Some bytes
+
+-- it is told that a machine's file stands under the name
+abbrev pub TellsTable : Option (List File) → List ℕ → Type 0
+TellsTable holds name = (bytes : List ℕ) × Tells holds name bytes × ((m : Machine) × IsMachineFile bytes m)
+
+-- it is told that the file of no machine stands under the name
+abbrev pub TellsNoTable : Option (List File) → List ℕ → Type 0
+TellsNoTable holds name = (bytes : List ℕ) × Tells holds name bytes × ((m : Machine) → ¬ IsMachineFile bytes m)
 
 -- why no table was read
 abbrev pub IsReadStop : Option (List File) → List ℕ → Outcome → Type 0
@@ -37,3 +52,20 @@ pub record KeepsRuns (holds : Option (List File)) (name : List ℕ) (kept : List
   pub table : IsTableOf holds name machine
   pub numbered : IsNumbered kept
   pub answers : Gives machine.mealy.rows kept
+
+-- told bytes are the earlier ones and some of a text's, from its front on
+abbrev pub TakesSome : List ℕ → Option (List ℕ) → Option (List ℕ) → Type 0
+TakesSome text before now = (n : ℕ) × (now ≡ option_map (λ t. t ++ take n text) before)
+
+abbrev pub TakesAll : List ℕ → Option (List ℕ) → Option (List ℕ) → Type 0
+TakesAll text before now = now ≡ option_map (λ t. t ++ text) before
+
+-- what is written is of this machine, under the names of the table file
+pub record IsWritten (holds : Option (List File)) (name : List ℕ) (h : MachineTable) (Takes : List ℕ → Type 0) : Type 0 where
+  pub table : Machine
+  pub read : IsTableOf holds name table
+  pub model : Machine
+  pub inputs : model.inputs ≡ table.inputs
+  pub outputs : model.outputs ≡ table.outputs
+  pub mealy : model.mealy ≡ h
+  pub takes : Takes (written_text model)

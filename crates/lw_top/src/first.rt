@@ -249,6 +249,7 @@ pub fn first_table(
     ensures table { IfOk result (λ h. IsTable h × (h.inputs ≡ session.old.sul.table.inputs) × (h.outputs ≡ session.old.sul.table.outputs)) }
     ensures few { IfOk result (λ h. length h.rows ≤ max_states) }
     ensures hypothesis { IfOk result (λ h. IsHypothesis h.inputs (runs_answers session.new.journal) h.rows) }
+    ensures crowd { IfErr result (CrowdOf (runs_answers session.new.journal) (max_states + 1)) }
     ensures answers { AnswersOnly session.old.sul.table.rows [] session.new.journal }
     ensures same { (session.new.sul.table ≡ session.old.sul.table) × (session.new.instance ≡ session.old.instance) }
 {

@@ -1,6 +1,8 @@
-ghost use Rattle.std.specs.Prelude.{◌≡◌, ◌⊎◌, length, map, IfOk, IfErr};
+ghost use Rattle.std.specs.Prelude.{◌≡◌, [], length, IfOk, IfErr};
 ghost use Rattle.lw_mealy.specs.Gives.{Gives};
 ghost use Rattle.lw_mealy.specs.Table.{IsTable};
+ghost use Rattle.lw_separate.specs.Canonical.{IsCanonical};
+ghost use Rattle.lw_top.specs.Asking.{AnswersOnly};
 ghost use Rattle.lw_top.specs.Hypothesis.{IsHypothesis};
 ghost use Rattle.lw_top.specs.Kept.{IsNumbered};
 ghost use Rattle.lw_top.specs.Known.{runs_answers, kept_answers};
@@ -9,6 +11,7 @@ ghost use Rattle.lw_top.specs.Outcomes.{IsLearnStop};
 use crate::{FirstStop, Outcome, first_table};
 use lw_json::Machine;
 use lw_mealy::Mealy;
+use lw_separate::canonical;
 use lw_sul::{Run, Session, TableSul};
 use lw_words::{Kept, KeptAnswer, Names, NoMemory};
 use std::alloc::Global;
@@ -16,7 +19,7 @@ use std::alloc::Global;
 /// The greatest number of states of a model.
 const MOST_STATES: u16 = 1024;
 
-/// What was learned of a table: the closed table's machine, and the finished runs.
+/// What was learned of a table: the canonical form of the closed table's machine, and the finished runs.
 #[derive(Drop)]
 pub(crate) struct Learned {
     pub(crate) inputs: Names,
@@ -46,12 +49,33 @@ fn keep(alloc: Global, runs: Vec<Run>) -> Result<Kept, NoMemory>
     Ok(kept)
 }
 
+/// The canonical form of the closed table's machine.
+fn close(alloc: Global, session: &mut Session<TableSul>) -> Result<Mealy, Outcome>
+    requires empty { session.old.journal ≡ [] }
+    ensures table { IfOk result (λ h. IsTable h × (h.inputs ≡ session.old.sul.table.inputs) × (h.outputs ≡ session.old.sul.table.outputs)) }
+    ensures canonical { IfOk result (λ h. IsCanonical h.inputs h.rows h.rows) }
+    ensures hypothesis { IfOk result (λ h. IsHypothesis h.inputs (runs_answers session.new.journal) h.rows) }
+    ensures stop { IfErr result (IsLearnStop (runs_answers session.new.journal)) }
+    ensures answers { AnswersOnly session.old.sul.table.rows [] session.new.journal }
+{
+    let table = match first_table(alloc, session, MOST_STATES) {
+        Ok(table) => table,
+        Err(FirstStop::Crowd(words)) => return Err(Outcome::TooManyStates(words)),
+        Err(FirstStop::NoMemory) => return Err(Outcome::NoMemory),
+    };
+    match canonical(alloc, &table) {
+        Ok(model) => Ok(model),
+        Err(NoMemory) => Err(Outcome::NoMemory),
+    }
+}
+
 /// Closes a table over the machine's single letters, and keeps the finished runs.
 pub(crate) fn learn(alloc: Global, machine: Machine) -> Learned
     ensures names { (result.inputs ≡ machine.inputs) × (result.outputs ≡ machine.outputs) }
     ensures model { IfOk result.closed (λ h. IsTable h × (h.inputs ≡ length machine.inputs) × (h.outputs ≡ length machine.outputs)) }
-    ensures stop { IfErr result.closed IsLearnStop }
+    ensures canonical { IfOk result.closed (λ h. IsCanonical h.inputs h.rows h.rows) }
     ensures hypothesis { IfOk result.closed (λ h. IsHypothesis h.inputs (kept_answers result.kept.answers) h.rows) }
+    ensures stop { IfErr result.closed (IsLearnStop (kept_answers result.kept.answers)) }
     ensures numbered { IsNumbered result.kept.answers }
     ensures answers { Gives machine.mealy.rows result.kept.answers }
 {
@@ -61,11 +85,7 @@ pub(crate) fn learn(alloc: Global, machine: Machine) -> Learned
         mealy,
     } = machine;
     let mut session = Session::new(alloc, 0, TableSul::new(mealy));
-    let closed = match first_table(alloc, &mut session, MOST_STATES) {
-        Ok(model) => Ok(model),
-        Err(FirstStop::Crowd(words)) => Err(Outcome::TooManyStates(words)),
-        Err(FirstStop::NoMemory) => Err(Outcome::NoMemory),
-    };
+    let closed = close(alloc, &mut session);
     match keep(alloc, session.into_journal().into_runs()) {
         Ok(kept) => Learned {
             inputs,

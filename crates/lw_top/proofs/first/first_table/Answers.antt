@@ -1,10 +1,13 @@
-use Rattle.std.proofs.Common.{rules, ◌≡◌, ◌∙◌, ◌≤◌, ◌<◌, ap, sym, List, ℕ, length, map, min, arith, subst}
+use Rattle.std.proofs.Common.{rules, ◌≡◌, ◌∙◌, ◌+◌, ◌≤◌, ◌<◌, ap, sym, List, ℕ, length, map, min, take, arith, subst}
 use Rattle.std.proofs.lemmas.Grind.{common_steps}
 use Rattle.std.proofs.lemmas.List.{length-map}
 use Rattle.lw_mealy.specs.Machine.{Row}
 use Rattle.lw_mealy.specs.Table.{MachineTable, IsTable, table_of}
 use Rattle.lw_top.proofs.Closed.{closed_table}
+use Rattle.lw_top.proofs.Crowds.{crowd_of}
 use Rattle.lw_top.proofs.Hypotheses.{hypothesis_of}
+use Rattle.lw_top.specs.Crowd.{IsCrowd}
+use Rattle.lw_top.specs.Known.{runs_answers}
 use Rattle.lw_top.proofs.first.first_table.Goals as goal
 
 pub machine_of-requires : goal.machine_of-requires
@@ -41,3 +44,20 @@ returns-clause-hypothesis c =
     let inputs : c.inputs-inputs.result ≡ t.inputs = c.inputs-inputs.ensures.value ∙ ap (λ (s : MachineTable). s.inputs) same in
     hypothesis_of t c.in_ok-table.table.access.items (map (λ r. r.items) c.in_ok-table.table.rows.keys) C (length c.in_ok-table.table.cells.items) c.filled.new.session.journal c.inputs-inputs.result c.outputs-outputs.result c.in_ok-machine_of.field-0
     c.in_ok-table.ensures.filling.reached c.in_ok-table.ensures.filling.paired full few all c.in_ok-table.ensures.gains inputs c.in_ok-machine_of.ensures
+
+pub returns-then-len-most-clause-crowd : goal.returns-then-len-most-clause-crowd
+returns-then-len-most-clause-crowd c =
+    let t : MachineTable = c.args.session.now.sul.table in
+    let A : List (List ℕ) = c.in_ok-table.table.access.items in
+    let n : ℕ = length c.in_ok-table.table.cells.items in
+    let given : n ≡ min c.from-most.result (length A) = c.in_ok-table.ensures.full in
+    let most : c.from-most.result ≡ c.args.max_states = c.from-most.ensures in
+    let over : c.from-most.result < length A = grind (arith, common_steps) in
+    let lt : n < length A = omega arith in
+    let count : c.from-most.result + 1 ≡ n + 1 = omega arith in
+    let limit : n + 1 ≡ c.args.max_states + 1 = omega arith in
+    let words : c.in_ok-first_words.field-0 ≡ take (n + 1) A = c.in_ok-first_words.ensures ∙ ap (λ (k : ℕ). take k A) count in
+    let crowd : IsCrowd (runs_answers c.filled.new.session.journal) (n + 1) (take (n + 1) A) =
+    crowd_of t.rows t.inputs A (map (λ r. r.items) c.in_ok-table.table.rows.keys) n c.filled.new.session.journal c.in_ok-table.ensures.filling.reached lt c.in_ok-table.ensures.gains in
+    subst (λ (k : ℕ). IsCrowd (runs_answers c.filled.new.session.journal) k c.in_ok-first_words.field-0) limit
+    (subst (λ (ws : List (List ℕ)). IsCrowd (runs_answers c.filled.new.session.journal) (n + 1) ws) (sym words) crowd)
