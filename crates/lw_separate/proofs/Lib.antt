@@ -2,6 +2,9 @@ pub mod AccessLemmas
 pub mod Before
 pub mod CanonicalLemmas
 pub mod CrowdLemmas
+pub mod Existence
+pub mod ExistenceSearch
+pub mod ExistenceTable
 pub mod Greedy
 pub mod LengthLemmas
 pub mod MergeLemmas

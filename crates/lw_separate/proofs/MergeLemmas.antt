@@ -61,16 +61,20 @@ module _ (a : ℕ) (m : Rows) (ls : List ℕ) (f : IsFilled a m ls) where
       same_lists (out m p w) (out m q w) (λ differ. none_separates a m ls f (pair_of m p q) (place_below p q lp lq) none
       (w, letters, λ same. differ (sym (ap (λ (r : ℕ). out m r w) (first-pair m p q lq)) ∙ (same ∙ ap (λ (r : ℕ). out m r w) (second-pair m p q lq)))))
 
+-- each target is renamed to one of the states
+pub merge_closed : (a : ℕ) (m : Rows) (states names : List ℕ) → IsMachine a m → IsAllStates m states → NamesStates a m names → (k x : ℕ) → k < length states → x < a → get_or names (next m (get_or states k 0) x) 0 < length states
+merge_closed a m states names machine all named k x lk xa =
+    let q : get_or states k 0 < length m = omega (arith, all.each k lk, all.long, lk) in
+    let t : next m (get_or states k 0) x < length m = target_below a m (get_or states k 0) x machine q xa in
+    omega (arith, (named.each (next m (get_or states k 0) x) (omega (arith, named.long, t))).state, all.long)
+
 pub can_merge : (a : ℕ) (m : Rows) (states names : List ℕ) → IsMachine a m → length m ≤ 1024 → IsAllStates m states → NamesStates a m names → CanRename a m states names
 can_merge a m states names machine few all named = record {
   some = omega (arith, all.long, machine.some_state);
   few = omega (arith, all.long);
   named = named.long;
   within = λ k lk. omega (arith, all.each k lk, all.long, lk);
-  closed = λ k x lk xa.
-      let q : get_or states k 0 < length m = omega (arith, all.each k lk, all.long, lk) in
-      let t : next m (get_or states k 0) x < length m = target_below a m (get_or states k 0) x machine q xa in
-      omega (arith, (named.each (next m (get_or states k 0) x) (omega (arith, named.long, t))).state, all.long);
+  closed = merge_closed a m states names machine all named;
 }
 
 pub merges : (a : ℕ) (m : Rows) (states names : List ℕ) (h : Rows) → IsMachine a m → IsAllStates m states → NamesStates a m names → Renames a m states names h → Merges a m h
@@ -88,15 +92,18 @@ merges a m states names h machine all named r = record {
         let lk : q < length states = omega (arith, all.long) in
         r.cells q x lk xa ∙ ap (λ (p : ℕ). renamed m names p x) (all.each q lk)
 
+pub number_closed : (a : ℕ) (h : Rows) (ws : List (List ℕ)) (ss : List ℕ) (ps : List (Option ℕ)) (names : List ℕ) → IsSearch a h ws ss ps (length ws) 0 → NamesPlaces ps names → (k x : ℕ) → k < length ss → x < a → get_or names (next h (get_or ss k 0) x) 0 < length ss
+number_closed a h ws ss ps names s named k x lk xa =
+    let lw : k < length ws = omega (arith, s.paired) in
+    let r = s.closed k x lw lw xa in
+    let at : get_or ps (next h (get_or ss k 0) x) None ≡ Some r.0 = ap (λ (q : ℕ). get_or ps q None) (sym r.2) ∙ s.there r.0 r.1 in
+    omega (arith, named (next h (get_or ss k 0) x) r.0 at, r.1, s.paired)
+
 pub can_number : (a : ℕ) (h : Rows) (ws : List (List ℕ)) (ss : List ℕ) (ps : List (Option ℕ)) (names : List ℕ) → length h ≤ 1024 → IsSearch a h ws ss ps (length ws) 0 → length names ≡ length ps → NamesPlaces ps names → CanRename a h ss names
 can_number a h ws ss ps names few s long named = record {
   some = omega (arith, s.some, s.paired);
   few = omega (arith, s.left);
   named = long ∙ s.placed;
   within = λ k lk. s.state k (omega (arith, s.paired));
-  closed = λ k x lk xa.
-      let lw : k < length ws = omega (arith, s.paired) in
-      let r = s.closed k x lw lw xa in
-      let at : get_or ps (next h (get_or ss k 0) x) None ≡ Some r.0 = ap (λ (q : ℕ). get_or ps q None) (sym r.2) ∙ s.there r.0 r.1 in
-      omega (arith, named (next h (get_or ss k 0) x) r.0 at, r.1, s.paired);
+  closed = number_closed a h ws ss ps names s named;
 }

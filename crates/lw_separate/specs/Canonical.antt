@@ -61,3 +61,7 @@ pub record RenamesRows (a : ℕ) (m : Rows) (states names : List ℕ) (rows : Ro
 -- no two machines are canonical for one
 abbrev pub OneCanonical : Type 0
 OneCanonical = (a : ℕ) (m c d : Rows) → IsCanonical a m c → IsCanonical a m d → c ≡ d
+
+-- each machine has a canonical machine
+abbrev pub SomeCanonical : Type 0
+SomeCanonical = (a : ℕ) (m : Rows) → IsMachine a m → (c : Rows) × IsCanonical a m c

@@ -1,7 +1,7 @@
 ghost use Rattle.std.specs.Prelude.{◌≡◌, ℕ, ◌*◌, ◌<◌, length, slice_index, IfOk, OnOk};
 ghost use Rattle.lw_mealy.specs.Minimal.{IsMinimal};
 ghost use Rattle.lw_mealy.specs.Table.{IsTable};
-ghost use Rattle.lw_separate.specs.Canonical.{IsCanonical, StandsFor, Merges, OneCanonical};
+ghost use Rattle.lw_separate.specs.Canonical.{IsCanonical, StandsFor, Merges, OneCanonical, SomeCanonical};
 ghost use Rattle.lw_separate.specs.Lengths.{IsFilled};
 ghost use Rattle.lw_separate.specs.Names.{NamesStates, NamesPlaces, IsAllStates};
 
@@ -92,4 +92,10 @@ pub fn canonical(alloc: Global, m: &Mealy) -> Result<Mealy, NoMemory>
 /// A law, with no code: two canonical machines of one machine are one.
 pub fn canonical_is_unique()
     ensures { OneCanonical }
+{}
+
+/// A law, with no code: each machine has a canonical machine, whatever its numbers of states and letters.
+/// So the canonical form is there also where `canonical` has no memory for it.
+pub fn canonical_exists()
+    ensures { SomeCanonical }
 {}

@@ -9,7 +9,7 @@ mod separate;
 mod suite;
 
 pub use access::access_words;
-pub use form::{canonical, canonical_is_unique};
+pub use form::{canonical, canonical_exists, canonical_is_unique};
 pub use separate::separating;
 pub use suite::separators;
 

@@ -1,7 +1,9 @@
 ghost use Rattle.std.specs.Prelude.{◌<◌, ◌≤◌, length};
 ghost use Rattle.lw_mealy.specs.Minimal.{IsMinimal};
 
-use crate::{access_words, canonical, separating, separators};
+use crate::{
+    access_words, canonical, canonical_exists, canonical_is_unique, separating, separators,
+};
 use lw_mealy::Mealy;
 use lw_words::Word;
 use std::alloc::Global;
@@ -81,6 +83,13 @@ fn worked_canonical_form(rt: HostRuntime) -> Result<(), Fail> {
     let c = canonical(alloc, &fat(alloc)?)?;
     assert_eq!(rt; (c.inputs(), c.outputs(), c.states()), (1, 4, 2));
     assert_eq!(rt; (c.step(0, 0), c.step(1, 0)), ((1, 0), (0, 1)));
+    Ok(())
+}
+
+#[test]
+fn calls_the_laws(_rt: HostRuntime) -> Result<(), Fail> {
+    canonical_is_unique();
+    canonical_exists();
     Ok(())
 }
 
