@@ -1,10 +1,9 @@
 -- A word read letter by letter.
-use Rattle.std.proofs.Common.{◌≡◌, ◌≢◌, ℕ, suc, ◌+◌, ◌<◌, ◌≤◌, List, [], ◌∷◌, ◌++◌, length, get_or, take, drop, drop-cons, add-one, refl, ap, sym, ◌∙◌, arith, append_assoc, append-nil, slice_index}
+use Rattle.std.proofs.Common.{◌≡◌, ℕ, suc, ◌+◌, ◌<◌, List, [], ◌∷◌, ◌++◌, length, get_or, drop, drop-cons, add-one, refl, ap, sym, ◌∙◌, arith, append_assoc, append-nil}
 use Rattle.std.proofs.lemmas.List.Elements.{All-get_or, All-head, All-tail}
-use Rattle.std.proofs.lemmas.List.{drop_all, take_all, take_more_same}
+use Rattle.std.proofs.lemmas.List.{drop_all}
 use Rattle.lw_words.specs.Word.{IsWord}
 use Rattle.lw_mealy.specs.Machine.{Rows, IsMachine, after, next, output, out, answer, cell}
-use Rattle.lw_mealy.specs.Difference.{DifferFirst}
 use Rattle.lw_mealy.proofs.RowLemmas.{target_below}
 
 pub letter : (a : ℕ) (w : List ℕ) (i : ℕ) → i < length w → IsWord a w → get_or w i 0 < a

@@ -1,11 +1,10 @@
 -- What the definitions say of the four machines.
-use Rattle.std.proofs.Common.{◌≡◌, ◌≢◌, ℕ, zero, suc, ◌<◌, ◌≤◌, List, [], ◌∷◌, length, refl, ap, subst, arith, lit<, get_or, sym}
-use Rattle.std.specs.List.{All}
+use Rattle.std.proofs.Common.{◌≡◌, ◌≢◌, ℕ, zero, suc, ◌<◌, List, [], ◌∷◌, refl, ap, arith, lit<, get_or}
 use Rattle.std.proofs.lemmas.List.Elements.{All-from_recursion}
 use Rattle.lw_words.specs.Word.{IsWord}
-use Rattle.lw_mealy.specs.Machine.{Rows, after, next, out}
+use Rattle.lw_mealy.specs.Machine.{after, next}
 use Rattle.lw_mealy.specs.Minimal.{IsMinimal, Reached, Differ}
-use Rattle.lw_mealy.specs.Worked.{one, fat, ring, AsWorked}
+use Rattle.lw_mealy.specs.Worked.{one, fat, ring}
 
 fat_next : (q x : ℕ) → q < 3 → next fat q x < 3
 fat_next zero zero lt = lit< tt

@@ -1,5 +1,5 @@
 -- A machine with its numbers of inputs and outputs.
-use Rattle.std.specs.Prelude.{ℕ, ◌<◌, ◌≤◌, List, length}
+use Rattle.std.specs.Prelude.{ℕ, ◌<◌, ◌≤◌, length}
 use Rattle.std.specs.List.{All}
 use Rattle.lw_mealy.specs.Machine.{Rows, IsMachine}
 

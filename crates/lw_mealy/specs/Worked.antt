@@ -1,5 +1,5 @@
 -- Four machines by hand, and what the definitions say of them.
-use Rattle.std.specs.Prelude.{◌≡◌, ℕ, List, [], ◌∷◌}
+use Rattle.std.specs.Prelude.{◌≡◌, [], ◌∷◌}
 use Rattle.lw_mealy.specs.Machine.{Rows, after, answer, out}
 use Rattle.lw_mealy.specs.Minimal.{IsMinimal, Reached}
 

@@ -1,11 +1,11 @@
 -- A run, letter by letter.
-use Rattle.std.proofs.Common.{◌≡◌, ℕ, ◌+◌, ◌<◌, ◌≤◌, List, [], ◌∷◌, ◌++◌, length, Option, Some, None, option_map, get_or, take, drop, refl, ap, sym, ◌∙◌, subst, inl, inr, arith}
-use Rattle.std.proofs.lemmas.List.{take_more, take_all}
-use Rattle.lw_mealy.specs.Machine.{Rows, out, output, next, answer}
+use Rattle.std.proofs.Common.{◌≡◌, ℕ, ◌+◌, ◌<◌, List, [], ◌∷◌, ◌++◌, length, Option, Some, None, option_map, get_or, take, drop, refl, ap, sym, ◌∙◌, inl, inr}
+use Rattle.std.proofs.lemmas.List.{take_more}
+use Rattle.lw_mealy.specs.Machine.{Rows, out, answer}
 use Rattle.lw_mealy.proofs.WordLemmas.{outs_more, outs_end}
 use Rattle.lw_sul.specs.declared.runs.Run.{Run}
-use Rattle.lw_sul.specs.Asked.{run_of, CutOff, AtMostOneMore}
-use Rattle.lw_sul.specs.Runs.{stepped, after_reset, after_step}
+use Rattle.lw_sul.specs.Asked.{run_of, CutOff}
+use Rattle.lw_sul.specs.Runs.{stepped, after_step}
 use Rattle.lw_sul.specs.Told.{Steps, Starts, Answers}
 
 -- the outputs so far, and those of a told machine to what is left, are its answer to the whole word

@@ -1,5 +1,5 @@
 -- A session: a system and the journal of the runs that were finished in it.
-use Rattle.std.specs.Prelude.{◌≡◌, ◌⊎◌, ℕ, List, [], ◌∷◌, ◌++◌, Option, Some, None, IsSome}
+use Rattle.std.specs.Prelude.{◌≡◌, ◌⊎◌, ℕ, List, [], ◌∷◌, ◌++◌, Option, Some, None}
 use Rattle.lw_words.specs.declared.stop.SulStop.{SulStop}
 use Rattle.lw_sul.specs.declared.runs.Run.{Run}
 

@@ -1,5 +1,5 @@
 -- The runs of a system.
-use Rattle.std.specs.Prelude.{◌≡◌, ℕ, List, [], ◌∷◌, ◌++◌, Option, Some, None}
+use Rattle.std.specs.Prelude.{ℕ, List, [], ◌∷◌, ◌++◌}
 use Rattle.lw_sul.specs.declared.runs.Run.{Run}
 
 -- a run with one step more

@@ -1,8 +1,6 @@
 -- What a system that tells its machine, or its runs, keeps at each call.
-use Rattle.std.specs.Prelude.{◌≡◌, ℕ, ◌<◌, List, [], ◌∷◌, ◌++◌, Option, Some, None, option_map, length}
-use Rattle.std.specs.List.{All}
-use Rattle.lw_mealy.specs.Machine.{Rows, IsMachine, next, output, answer}
-use Rattle.lw_sul.specs.declared.runs.Run.{Run}
+use Rattle.std.specs.Prelude.{◌≡◌, ℕ, List, Option, Some, None}
+use Rattle.lw_mealy.specs.Machine.{Rows, next, output, answer}
 
 -- a reset of a told machine goes to state 0
 abbrev pub Starts : Option Rows → ℕ → Type 0

@@ -1,13 +1,12 @@
 -- The words that fill rows, and what holds of their answers.
-use Rattle.std.proofs.Common.{◌≡◌, ◌≢◌, ℕ, zero, suc, ◌+◌, ◌<◌, ◌≤◌, List, [], ◌∷◌, ◌++◌, ◌⊎◌, inl, inr, length, map, take, drop, get_or, refl, ap, sym, ◌∙◌, subst, arith}
+use Rattle.std.proofs.Common.{◌≡◌, ◌≢◌, ℕ, zero, suc, ◌<◌, List, [], ◌∷◌, ◌++◌, ◌⊎◌, inl, inr, length, map, get_or, ap, sym, ◌∙◌, subst, arith}
 use Rattle.std.specs.List.{All, Contains, flat_map}
 use Rattle.std.proofs.lemmas.Bool.{cases_eq}
 use Rattle.std.proofs.lemmas.List.{get_or-map, get_or_default, length-map}
 use Rattle.std.proofs.lemmas.List.Elements.{All-append, All-map, Contains-append_left, Contains-append_right}
 use Rattle.std.proofs.lemmas.List.FromFn.{get_or-map-range_with_len, length-map-range_with_len}
 use borrow.Author.Count.{below_more}
-use Rattle.lw_mealy.specs.Machine.{Rows, after, output, out, answer}
-use Rattle.lw_mealy.proofs.WordLemmas.{out-append}
+use Rattle.lw_mealy.specs.Machine.{Rows, answer}
 use Rattle.lw_sul.specs.Asked.{run_of}
 use Rattle.lw_sul.specs.declared.runs.Run.{Run}
 use Rattle.lw_top.specs.Asking.{extensions, asked, asked_all, row_words}

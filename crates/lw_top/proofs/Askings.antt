@@ -1,6 +1,6 @@
 -- Rows that are asked letter by letter.
-use Rattle.std.proofs.Common.{◌≡◌, ℕ, ◌+◌, List, [], ◌∷◌, ◌++◌, length, map, get_or, refl, ap, sym, ◌∙◌, append_assoc, append-nil, arith}
-use Rattle.std.specs.List.{All, flat_map, range_with_len}
+use Rattle.std.proofs.Common.{◌≡◌, ℕ, ◌+◌, List, [], ◌∷◌, ◌++◌, length, map, refl, ap, sym, ◌∙◌, append_assoc, append-nil, arith}
+use Rattle.std.specs.List.{All, flat_map}
 use Rattle.std.proofs.lemmas.Grind.{flat_map-append}
 use Rattle.std.proofs.lemmas.List.{map-append}
 use Rattle.std.proofs.lemmas.List.Elements.{All-append, All-map}
@@ -8,7 +8,7 @@ use Rattle.std.proofs.lemmas.List.FromFn.{map-range_with_len_more, length-map-ra
 use Rattle.lw_mealy.specs.Machine.{Rows, after, answer, output}
 use Rattle.lw_sul.specs.Asked.{run_of}
 use Rattle.lw_sul.specs.declared.runs.Run.{Run}
-use Rattle.lw_top.specs.Asking.{letters, extensions, row_of, asked, asked_all, row_words, AnswersOnly}
+use Rattle.lw_top.specs.Asking.{extensions, asked, asked_all, row_words, AnswersOnly}
 use Rattle.lw_top.specs.Part.{row_after}
 
 pub length-row_after : (m : Rows) (a : ℕ) (w : List ℕ) → length (row_after m a w) ≡ a

@@ -1,10 +1,10 @@
 -- A filled table over single letters as a machine.
-use Rattle.std.proofs.Common.{◌≡◌, ℕ, suc, ◌+◌, ◌<◌, ◌≤◌, List, [], ◌∷◌, ◌++◌, length, map, get_or, min, refl, ap, sym, ◌∙◌, subst, arith}
+use Rattle.std.proofs.Common.{◌≡◌, ℕ, ◌<◌, ◌≤◌, List, [], length, get_or, min, sym, subst, arith}
 use Rattle.std.specs.List.{All}
 use Rattle.std.proofs.lemmas.List.{get_or_default}
 use Rattle.std.proofs.lemmas.List.Elements.{All-get_or}
 use Rattle.lw_words.specs.Word.{IsWord}
-use Rattle.lw_mealy.specs.Machine.{Row, Rows, IsMachine, after, next, output, cell}
+use Rattle.lw_mealy.specs.Machine.{Row, after, cell}
 use Rattle.lw_mealy.specs.Table.{MachineTable, IsTable, table_of}
 use Rattle.lw_mealy.proofs.RowLemmas.{output_below}
 use Rattle.lw_mealy.proofs.WordLemmas.{after_below}

@@ -4,18 +4,16 @@ use Rattle.std.specs.List.{Contains}
 use Rattle.std.proofs.Math.Seq.{drop-append_seam}
 use Rattle.std.proofs.lemmas.Grind.{same_number_lists}
 use Rattle.std.proofs.lemmas.List.{get_or_default, get_or-take, take_all}
-use Rattle.std.proofs.lemmas.List.Elements.{Contains-append_left}
 use Rattle.lw_mealy.specs.Machine.{Rows, after, output, out, answer}
-use Rattle.lw_mealy.specs.Table.{MachineTable}
 use Rattle.lw_mealy.proofs.WordLemmas.{length-out, out-append}
 use Rattle.lw_sul.specs.declared.runs.Run.{Run}
 use Rattle.lw_top.proofs.AccessRows.{not_before}
 use Rattle.lw_top.proofs.AskedWords.{apart_below, asked_answer, row_word_in}
 use Rattle.lw_top.proofs.Askings.{length-row_after}
 use Rattle.lw_top.proofs.Parts.{row_at}
-use Rattle.lw_top.specs.Asking.{asked_all, extensions, row_words}
+use Rattle.lw_top.specs.Asking.{asked_all, row_words}
 use Rattle.lw_top.specs.Crowd.{IsCrowd}
-use Rattle.lw_top.specs.Known.{Answer, Apart, Knows, runs_answers}
+use Rattle.lw_top.specs.Known.{Apart, Knows, runs_answers}
 use Rattle.lw_top.specs.Part.{word_at, row_after, AreAccess}
 
 module _ (m : Rows) (a : ℕ) (rs : List (List ℕ)) where
@@ -44,13 +42,13 @@ module _ (m : Rows) (a : ℕ) (rs : List (List ℕ)) where
             let le : k < a = subst (λ (n : ℕ). k < n) (length-row_after m a u) below in
             row_at m a u k 0 le ∙ (all k le ∙ sym (row_at m a v k 0 le)))))
         | inr at ↦ record {
-            suffix = at.0 ∷ [];
-            one = answer m (u ++ at.0 ∷ []);
-            other = answer m (v ++ at.0 ∷ []);
-            one_known = asked_known u at.0 at.1 hu;
-            other_known = asked_known v at.0 at.1 hv;
-            differ = λ e. at.2 (ap (λ (l : List ℕ). get_or l 0 0) (sym (last u at.0) ∙ (e ∙ last v at.0)));
-          }
+          suffix = at.0 ∷ [];
+          one = answer m (u ++ at.0 ∷ []);
+          other = answer m (v ++ at.0 ∷ []);
+          one_known = asked_known u at.0 at.1 hu;
+          other_known = asked_known v at.0 at.1 hv;
+          differ = λ e. at.2 (ap (λ (l : List ℕ). get_or l 0 0) (sym (last u at.0) ∙ (e ∙ last v at.0)));
+        }
       ]
 
 -- each of the first access words is a row word of those before it
@@ -67,13 +65,15 @@ row_word_of m a A R n (suc j) g lt le =
 -- the first access words, one more than those whose extensions were asked
 pub crowd_of : (m : Rows) (a : ℕ) (A R : List (List ℕ)) (n : ℕ) (journal : List Run) → AreAccess m a A R → n < length A → journal ≡ asked_all m a (row_words a (take n A)) → IsCrowd (runs_answers journal) (n + 1) (take (n + 1) A)
 crowd_of m a A R n journal g lt gains =
-    let size = length-take (n + 1) A in
-    (omega arith, λ i j d before within.
-    let lj : j < n + 1 = omega arith in
-    let li : i < n + 1 = omega arith in
-    let la : j < length A = omega arith in
-    let at : (k : ℕ) → k < n + 1 → get_or (take (n + 1) A) k d ≡ word_at A k = λ k small. let lk : k < length A = omega arith in get_or-take (n + 1) A k d small ∙ get_or_default A k d [] lk in
-    subst (λ (J : List Run). Apart (runs_answers J) (get_or (take (n + 1) A) i d) (get_or (take (n + 1) A) j d)) (sym gains)
-    (subst (λ (w : List ℕ). Apart (runs_answers (asked_all m a (row_words a (take n A)))) w (get_or (take (n + 1) A) j d)) (sym (at i li))
-    (subst (λ (w : List ℕ). Apart (runs_answers (asked_all m a (row_words a (take n A)))) (word_at A i) w) (sym (at j lj))
-    (apart_rows m a (row_words a (take n A)) (word_at A i) (word_at A j) (row_word_of m a A R n i g lt (omega arith)) (row_word_of m a A R n j g lt (omega arith)) (not_before m a A R g i j before la)))))
+    let size = length-take (n + 1) A in (
+      omega arith,
+      λ i j d before within.
+          let lj : j < n + 1 = omega arith in
+          let li : i < n + 1 = omega arith in
+          let la : j < length A = omega arith in
+          let at : (k : ℕ) → k < n + 1 → get_or (take (n + 1) A) k d ≡ word_at A k = λ k small. let lk : k < length A = omega arith in get_or-take (n + 1) A k d small ∙ get_or_default A k d [] lk in
+          subst (λ (J : List Run). Apart (runs_answers J) (get_or (take (n + 1) A) i d) (get_or (take (n + 1) A) j d)) (sym gains)
+          (subst (λ (w : List ℕ). Apart (runs_answers (asked_all m a (row_words a (take n A)))) w (get_or (take (n + 1) A) j d)) (sym (at i li))
+          (subst (λ (w : List ℕ). Apart (runs_answers (asked_all m a (row_words a (take n A)))) (word_at A i) w) (sym (at j lj))
+          (apart_rows m a (row_words a (take n A)) (word_at A i) (word_at A j) (row_word_of m a A R n i g lt (omega arith)) (row_word_of m a A R n j g lt (omega arith)) (not_before m a A R g i j before la)))),
+    )

@@ -1,12 +1,12 @@
 -- A closed table's machine is a hypothesis.
-use Rattle.std.proofs.Common.{◌≡◌, ◌≢◌, ℕ, zero, suc, ◌+◌, ◌<◌, ◌≤◌, List, [], ◌∷◌, ◌++◌, ◌⊎◌, inl, inr, length, map, take, get_or, min, refl, ap, sym, ◌∙◌, subst, arith, append_assoc}
+use Rattle.std.proofs.Common.{◌≡◌, ℕ, zero, suc, ◌<◌, ◌≤◌, List, [], ◌∷◌, ◌++◌, inl, inr, length, map, take, get_or, min, ap, sym, ◌∙◌, subst, arith, append_assoc}
 use Rattle.std.specs.List.{All, Contains, flat_map}
 use Rattle.std.proofs.lemmas.Grind.{same_number_lists}
 use Rattle.std.proofs.lemmas.List.{get_or_default, take_all}
 use Rattle.std.proofs.lemmas.List.Elements.{All-append, All-get_or, All-push}
 use Rattle.lw_words.specs.Word.{IsWord}
-use Rattle.lw_mealy.specs.Machine.{Row, Rows, after, next, output, out, answer, cell}
-use Rattle.lw_mealy.specs.Minimal.{IsMinimal, Differ}
+use Rattle.lw_mealy.specs.Machine.{Row, after, next, output, out, answer, cell}
+use Rattle.lw_mealy.specs.Minimal.{Differ}
 use Rattle.lw_mealy.specs.Table.{MachineTable, table_of}
 use Rattle.lw_mealy.proofs.WordLemmas.{after-append, out-append}
 use Rattle.lw_sul.specs.declared.runs.Run.{Run}

@@ -7,6 +7,7 @@ pub mod Closed
 pub mod Crowds
 pub mod Hypotheses
 pub mod Numbered
+pub mod RunLemmas
 pub mod FileLemmas
 pub mod KeptLemmas
 pub mod SinkLemmas

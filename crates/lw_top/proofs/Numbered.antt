@@ -1,6 +1,5 @@
 -- The canonical form of a hypothesis is one.
-use Rattle.std.proofs.Common.{◌≡◌, ◌∙◌, ℕ, ◌<◌, List, length, get_or, refl, sym}
-use Rattle.lw_words.specs.Word.{IsWord}
+use Rattle.std.proofs.Common.{◌∙◌, ℕ, ◌<◌, List, length, get_or, refl, sym}
 use Rattle.lw_mealy.specs.Equal.{Equal}
 use Rattle.lw_mealy.specs.Machine.{Rows, IsMachine, after}
 use Rattle.lw_mealy.proofs.WordLemmas.{after_below}

@@ -1,6 +1,5 @@
 -- A table over single letters, when it grows.
-use Rattle.std.proofs.Common.{◌≡◌, ℕ, suc, ◌+◌, ◌<◌, ◌≤◌, List, [], ◌∷◌, ◌++◌, ◌⊎◌, inl, inr, length, map, take, drop, get_or, min, slice_get, Some, refl, ap, sym, ◌∙◌, subst, arith, length-append, length-take}
-use Rattle.std.specs.List.{All, flat_map}
+use Rattle.std.proofs.Common.{◌≡◌, ℕ, ◌+◌, ◌<◌, ◌≤◌, List, [], ◌∷◌, ◌++◌, inl, inr, length, take, drop, get_or, min, slice_get, Some, refl, ap, sym, ◌∙◌, subst, arith, length-append, length-take}
 use Rattle.std.proofs.Math.Seq.{get_or-append_seam}
 use Rattle.std.proofs.lemmas.List.{get_or_append_left, take_more, take-append-le, take-append-drop, get_or-map, get_or-take, length-map, map-append}
 use Rattle.std.proofs.lemmas.List.Elements.{All-push, All-get_or}

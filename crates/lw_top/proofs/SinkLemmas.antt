@@ -1,5 +1,5 @@
 -- Bytes that a sink takes piece by piece.
-use Rattle.std.proofs.Common.{◌≡◌, ℕ, ◌+◌, ◌≤◌, List, [], ◌++◌, Option, Some, None, option_map, take, drop, length, refl, ap, sym, ◌∙◌, append_assoc, append-nil, arith, length-take}
+use Rattle.std.proofs.Common.{◌≡◌, ℕ, ◌+◌, ◌≤◌, List, ◌++◌, Option, Some, None, option_map, take, drop, length, refl, ap, sym, ◌∙◌, append_assoc, append-nil, arith, length-take}
 use Rattle.std.proofs.Math.Seq.{take-append-add}
 use Rattle.std.proofs.lemmas.List.{take-append-drop}
 

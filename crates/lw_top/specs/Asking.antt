@@ -1,7 +1,7 @@
 -- The words that a table over single letters asks, in their order.
 use Rattle.std.specs.Prelude.{◌≡◌, ℕ, List, [], ◌∷◌, ◌++◌, map}
 use Rattle.std.specs.List.{All, flat_map, range_with_len}
-use Rattle.lw_mealy.specs.Machine.{Rows, after, answer, output}
+use Rattle.lw_mealy.specs.Machine.{Rows, answer, output}
 use Rattle.lw_sul.specs.Asked.{run_of}
 use Rattle.lw_sul.specs.declared.runs.Run.{Run}
 

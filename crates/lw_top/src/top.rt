@@ -2,12 +2,14 @@ ghost use Rattle.std.specs.Prelude.{◌≡◌, ◌⊎◌, ◌↔◌, ℕ, ◌+�
 ghost use Rattle.lw_words.specs.Cause.{Rose};
 ghost use Rattle.lw_mealy.specs.Table.{MachineTable as Table, IsTable};
 ghost use Rattle.lw_json.specs.MachineText.{written_text};
+ghost use Rattle.lw_separate.specs.Canonical.{IsCanonical};
+ghost use Rattle.lw_top.specs.Crowd.{IsCrowd};
 ghost use Rattle.lw_top.specs.Files.{Reads, read_call, noted};
 ghost use Rattle.lw_top.specs.Hypothesis.{IsHypothesis};
 ghost use Rattle.lw_top.specs.Kept.{IsNumbered};
 ghost use Rattle.lw_top.specs.Known.{kept_answers};
-ghost use Rattle.lw_top.specs.Outcomes.{HasOwnText, IsWriteStop, status_of};
-ghost use Rattle.lw_top.specs.Run.{IsReadStop, IsTableOf, RefusesTable, KeepsRuns};
+ghost use Rattle.lw_top.specs.Outcomes.{HasOwnText, IsUnread, IsUntroubled, IsWriteStop, StandsOrWants, status_of};
+ghost use Rattle.lw_top.specs.Run.{IsReadStop, IsTableOf, IsWritten, RefusesTable, KeepsRuns, TakesAll, TakesSome, TellsNoTable, TellsTable};
 ghost use Rattle.lw_top.specs.Words.{table_file};
 ghost use Rattle.lw_top.specs.declared.outcome.Outcome.{Outcome as Came};
 
@@ -46,6 +48,7 @@ fn put_from<K: Sink>(sink: &mut K, bytes: &[u8], done: usize) -> Result<usize, F
     requires { done < length bytes.now }
     ensures some { IfOk result (λ n. (1 ≤ n) × (done + n ≤ length bytes.now)) }
     ensures took { IfOk result (λ n. K.taken sink.new ≡ option_map (λ t. t ++ take n (drop done bytes.now)) (K.taken sink.old)) }
+    ensures left { OnErr result (K.taken sink.new ≡ K.taken sink.old) }
     ensures failed { OnErr result (Rose (K.faults sink.old) (K.faults sink.new)) }
     ensures counts { K.faults sink.old ≤ K.faults sink.new }
 {
@@ -55,7 +58,8 @@ fn put_from<K: Sink>(sink: &mut K, bytes: &[u8], done: usize) -> Result<usize, F
 /// Puts all the bytes into a sink, piece by piece.
 #[tactic(auto, using(crate::proofs::SinkLemmas::sink_steps))]
 fn put_all<K: Sink>(sink: &mut K, bytes: &[u8]) -> Result<(), Failed>
-    ensures ok { OnOk result (K.taken sink.new ≡ option_map (λ t. t ++ bytes.now) (K.taken sink.old)) }
+    ensures ok { OnOk result (TakesAll bytes.now (K.taken sink.old) (K.taken sink.new)) }
+    ensures part { TakesSome bytes.now (K.taken sink.old) (K.taken sink.new) }
     ensures failed { OnErr result (Rose (K.faults sink.old) (K.faults sink.new)) }
     ensures counts { K.faults sink.old ≤ K.faults sink.new }
 {
@@ -74,7 +78,7 @@ fn say<E: Sink>(
     answers: usize,
     err: &mut E,
 ) -> Outcome
-    ensures either { (result ≡ outcome) ⊎ (HasOwnText outcome × (result ≡ Came.NoMemory)) }
+    ensures outcome { StandsOrWants outcome result }
     ensures counts { E.faults err.old ≤ E.faults err.new }
 {
     if let Some(text) = fixed_text(&outcome) {
@@ -116,6 +120,21 @@ fn read_table<F: Files>(alloc: Global, files: &mut F, name: &str) -> Result<Mach
     }
 }
 
+/// A model with the names of the table file.
+fn named(inputs: Names, outputs: Names, mealy: Mealy) -> Machine
+    requires inputs { (mealy.inputs ≡ length inputs) × (length inputs ≤ 64) }
+    requires outputs { mealy.outputs ≡ length outputs }
+    ensures inputs { result.inputs ≡ inputs }
+    ensures outputs { result.outputs ≡ outputs }
+    ensures mealy { result.mealy ≡ mealy }
+{
+    Machine {
+        inputs,
+        outputs,
+        mealy,
+    }
+}
+
 /// The end of a call that has no model.
 fn refuse<E: Sink>(
     alloc: Global,
@@ -124,7 +143,7 @@ fn refuse<E: Sink>(
     kept: Kept,
     err: &mut E,
 ) -> End
-    ensures outcome { (result.outcome ≡ outcome) ⊎ (HasOwnText outcome × (result.outcome ≡ Came.NoMemory)) }
+    ensures outcome { StandsOrWants outcome result.outcome }
     ensures status { result.status ≡ status_of result.outcome }
     ensures model { result.model ≡ None }
     ensures kept { result.kept ≡ kept }
@@ -139,23 +158,28 @@ fn refuse<E: Sink>(
     }
 }
 
-/// Writes the model to `out` and the line about it to `err`.
+/// Writes the model to `out` and the line about it to `err`. Both texts are made before the first is put.
 fn write_model<O: Sink, E: Sink>(
     alloc: Global,
     machine: &Machine,
-    outcome: &Outcome,
     answers: usize,
     out: &mut O,
     err: &mut E,
-) -> Result<(), Outcome>
+) -> Result<Outcome, Outcome>
+    ensures ok { IfOk result (λ o. o ≡ Came.Unchecked machine.now.mealy) }
     ensures err { IfErr result (λ e. (e ≡ Came.NoMemory) ⊎ ((e ≡ Came.SinkFault) × (Rose (O.faults out.old) (O.faults out.new) ⊎ Rose (E.faults err.old) (E.faults err.new)))) }
-    ensures model { OnOk result (O.taken out.new ≡ option_map (λ t. t ++ written_text machine.now) (O.taken out.old)) }
+    ensures written { OnOk result (TakesAll (written_text machine.now) (O.taken out.old) (O.taken out.new)) }
+    ensures part { TakesSome (written_text machine.now) (O.taken out.old) (O.taken out.new) }
     ensures counts { (O.faults out.old ≤ O.faults out.new) × (E.faults err.old ≤ E.faults err.new) }
 {
     let Ok(text) = machine_text(alloc, machine) else {
         return Err(Outcome::NoMemory);
     };
-    let Ok(line) = outcome_text(alloc, outcome, &machine.inputs, answers) else {
+    let Ok(model) = machine.mealy.copy() else {
+        return Err(Outcome::NoMemory);
+    };
+    let outcome = Outcome::Unchecked { model };
+    let Ok(line) = outcome_text(alloc, &outcome, &machine.inputs, answers) else {
         return Err(Outcome::NoMemory);
     };
     if put_all(out, &text).is_err() {
@@ -164,10 +188,10 @@ fn write_model<O: Sink, E: Sink>(
     if put_all(err, line.as_bytes()).is_err() {
         return Err(Outcome::SinkFault);
     }
-    Ok(())
+    Ok(outcome)
 }
 
-/// Writes out the closed table's machine.
+/// Writes out the model.
 fn write_out<O: Sink, E: Sink>(
     alloc: Global,
     machine: Machine,
@@ -179,20 +203,11 @@ fn write_out<O: Sink, E: Sink>(
     ensures status { result.status ≡ status_of result.outcome }
     ensures model { result.model ≡ Some machine.mealy }
     ensures kept { result.kept ≡ kept }
-    ensures written { (h : Table) → result.outcome ≡ Came.Unchecked h → O.taken out.new ≡ option_map (λ t. t ++ written_text machine) (O.taken out.old) }
+    ensures written { (h : Table) → result.outcome ≡ Came.Unchecked h → TakesAll (written_text machine) (O.taken out.old) (O.taken out.new) }
+    ensures part { TakesSome (written_text machine) (O.taken out.old) (O.taken out.new) }
     ensures counts { (O.faults out.old ≤ O.faults out.new) × (E.faults err.old ≤ E.faults err.new) }
 {
-    let written = match machine.mealy.copy() {
-        Ok(model) => {
-            let outcome = Outcome::Unchecked { model };
-            match write_model(alloc, &machine, &outcome, kept.len(), out, err) {
-                Ok(()) => Ok(outcome),
-                Err(refusal) => Err(refusal),
-            }
-        }
-        Err(NoMemory) => Err(Outcome::NoMemory),
-    };
-    let outcome = match written {
+    let outcome = match write_model(alloc, &machine, kept.len(), out, err) {
         Ok(outcome) => outcome,
         Err(refusal) => say(alloc, refusal, None, kept.len(), err),
     };
@@ -206,8 +221,8 @@ fn write_out<O: Sink, E: Sink>(
 
 /// All that the program does. `words` are those of the command line, without the program's own name.
 ///
-/// `learn --table FILE` reads the machine file FILE, closes a table over its single letters, writes the table's
-/// machine to `out` and a line about it to `err`. The text of every other outcome goes to `err`.
+/// `learn --table FILE` reads the machine file FILE, closes a table over its single letters, writes the canonical form
+/// of the table's machine to `out` and a line about it to `err`. The text of every other outcome goes to `err`.
 pub fn run<F: Files, O: Sink, E: Sink>(
     alloc: Global,
     words: &[String],
@@ -220,9 +235,14 @@ pub fn run<F: Files, O: Sink, E: Sink>(
     // What the words must be, and what each refusal comes from.
     ensures usage { (result.outcome ≡ Came.Usage) ↔ (table_file (map (λ s. string_bytes s) words.now) ≡ None) }
     ensures bad_file { result.outcome ≡ Came.BadFile → (name : List ℕ) × (table_file (map (λ s. string_bytes s) words.now) ≡ Some name) × RefusesTable (F.holds files.old) name }
+    ensures bad_file_told { (name : List ℕ) → table_file (map (λ s. string_bytes s) words.now) ≡ Some name → TellsNoTable (F.holds files.old) name → IsUnread result.outcome }
     ensures file_fault { result.outcome ≡ Came.FileFault → Rose (F.faults files.old) (F.faults files.new) }
     ensures file_call { result.outcome ≡ Came.FileFault → (name : List ℕ) × (table_file (map (λ s. string_bytes s) words.now) ≡ Some name) × (F.calls files.new ≡ noted (read_call name true) (F.calls files.old)) }
     ensures sink_fault { result.outcome ≡ Came.SinkFault → Rose (O.faults out.old) (O.faults out.new) ⊎ Rose (E.faults err.old) (E.faults err.new) }
+    ensures crowd { (apart : List (List ℕ)) → result.outcome ≡ Came.TooManyStates apart → IsCrowd (kept_answers result.kept.answers) 1025 apart }
+
+    // Where the file is a machine's and nothing outside failed, the status is 0, 5 or 7.
+    ensures untroubled { (name : List ℕ) → table_file (map (λ s. string_bytes s) words.now) ≡ Some name → TellsTable (F.holds files.old) name → ¬ Rose (F.faults files.old) (F.faults files.new) → ¬ Rose (O.faults out.old) (O.faults out.new) → ¬ Rose (E.faults err.old) (E.faults err.new) → IsUntroubled result.outcome }
 
     // The kept answers.
     ensures kept { (result.kept.answers ≡ []) ⊎ ((name : List ℕ) × (table_file (map (λ s. string_bytes s) words.now) ≡ Some name) × KeepsRuns (F.holds files.old) name result.kept.answers) }
@@ -231,8 +251,14 @@ pub fn run<F: Files, O: Sink, E: Sink>(
     ensures model { (h : Table) → result.outcome ≡ Came.Unchecked h → result.model ≡ Some h }
     ensures table { IfSome result.model IsTable }
 
-    // What the model is to the kept answers.
+    // What the model is to the kept answers, and how its states are numbered.
     ensures hypothesis { IfSome result.model (λ h. IsHypothesis h.inputs (kept_answers result.kept.answers) h.rows) }
+    ensures canonical { IfSome result.model (λ h. IsCanonical h.inputs h.rows h.rows) }
+
+    // What `out` takes: the model's text, whole unless the outcome says otherwise, and nothing where there is no model.
+    ensures written { (h : Table) → result.outcome ≡ Came.Unchecked h → (name : List ℕ) × (table_file (map (λ s. string_bytes s) words.now) ≡ Some name) × IsWritten (F.holds files.old) name h (λ text. TakesAll text (O.taken out.old) (O.taken out.new)) }
+    ensures part { IfSome result.model (λ h. (name : List ℕ) × (table_file (map (λ s. string_bytes s) words.now) ≡ Some name) × IsWritten (F.holds files.old) name h (λ text. TakesSome text (O.taken out.old) (O.taken out.new))) }
+    ensures nothing { result.model ≡ None → O.taken out.new ≡ O.taken out.old }
 {
     let Some(name) = table_file(words) else {
         return refuse(alloc, Outcome::Usage, None, Kept::new(alloc), err);
@@ -248,14 +274,7 @@ pub fn run<F: Files, O: Sink, E: Sink>(
         kept,
     } = learn(alloc, machine);
     match closed {
-        Ok(mealy) => {
-            let model = Machine {
-                inputs,
-                outputs,
-                mealy,
-            };
-            write_out(alloc, model, kept, out, err)
-        }
+        Ok(mealy) => write_out(alloc, named(inputs, outputs, mealy), kept, out, err),
         Err(outcome) => refuse(alloc, outcome, Some(&inputs), kept, err),
     }
 }

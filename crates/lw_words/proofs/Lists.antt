@@ -1,5 +1,5 @@
 -- Lists that are read element by element, through a function.
-use Rattle.std.proofs.Common.{◌≡◌, ℕ, suc, ◌+◌, ◌<◌, List, [], ◌∷◌, ◌++◌, Bool, not, cond, length, map, position, get_or, take, refl, ap, sym, ◌∙◌, subst, arith, slice_get, Some}
+use Rattle.std.proofs.Common.{◌≡◌, ℕ, ◌+◌, ◌<◌, List, [], ◌∷◌, ◌++◌, Bool, not, cond, length, map, position, get_or, take, refl, ap, sym, ◌∙◌, arith, slice_get, Some}
 use Rattle.std.specs.List.{prefix_len, AllWithin}
 use Rattle.std.proofs.lemmas.List.{length-map, get_or-map, map_more, take-map}
 use Rattle.std.proofs.lemmas.Option.{slice_get-get_or}

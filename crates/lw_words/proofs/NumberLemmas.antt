@@ -1,8 +1,8 @@
 -- Lists of names: what their numbers say, and what a look-up among the earlier ones says.
-use Rattle.std.proofs.Common.{◌≡◌, ◌≢◌, ℕ, ◌+◌, ◌<◌, ◌≤◌, List, [], ◌∷◌, ◌++◌, Bool, true, false, length, map, get_or, take, position, slice_get, Some, None, option_map, ◌&&◌, if◌then◌else◌, min, cond, ltb, refl, ap, sym, ◌∙◌, arith, length-take}
+use Rattle.std.proofs.Common.{◌≡◌, ◌≢◌, ℕ, ◌<◌, List, [], ◌∷◌, ◌++◌, Bool, true, false, length, map, get_or, take, slice_get, Some, None, option_map, ◌&&◌, if◌then◌else◌, min, cond, ltb, refl, ap, sym, ◌∙◌, arith, length-take}
 use Rattle.std.specs.Str.{bytes_eq}
-use Rattle.std.specs.List.{position_or_len, AllPairs, AllZip, list_any}
-use Rattle.std.proofs.lemmas.Bool.{true_from_ne_false, false_from_ne_true}
+use Rattle.std.specs.List.{position_or_len, AllZip, list_any}
+use Rattle.std.proofs.lemmas.Bool.{false_from_ne_true}
 use Rattle.std.proofs.lemmas.Bool.Decides.{Decides-ltb}
 use Rattle.std.specs.Bool.{Decides}
 use Rattle.std.proofs.lemmas.Slice.Eq.{bytes_eq-Decides, slice_eq-Decides}

@@ -1,4 +1,4 @@
-use Rattle.std.proofs.Common.{◌≡◌, ◌∙◌, ◌++◌, ◌∷◌, [], List, ℕ, map, take, ap}
+use Rattle.std.proofs.Common.{◌≡◌, ◌∙◌, ◌++◌, ◌∷◌, [], map, take, ap}
 use Rattle.std.proofs.lemmas.List.{map-append}
 use Rattle.lw_words.proofs.Lists.{take-map_more}
 use Rattle.lw_mealy.specs.Machine.{Rows, Row}

@@ -1,8 +1,7 @@
-use Rattle.std.proofs.Common.{rules, ◌≡◌, ◌∙◌, ℕ, ◌<◌, ◌≤◌, ◌+◌, List, ◌∷◌, [], ◌++◌, length, take, drop, Option, option_map, get_or, sym, ap, subst, arith}
+use Rattle.std.proofs.Common.{rules, ◌≡◌, ◌∙◌, ℕ, ◌<◌, ◌+◌, List, ◌∷◌, [], ◌++◌, take, drop, option_map, get_or, sym, ap, subst, arith}
 use Rattle.std.specs.List.{All}
 use Rattle.std.proofs.lemmas.List.Elements.{All-push}
 use Rattle.lw_mealy.specs.Origin.{Origin}
-use Rattle.lw_sul.specs.declared.runs.Run.{Run}
 use Rattle.lw_sul.specs.Asked.{run_of}
 use Rattle.lw_sul.specs.Runs.{after_step}
 use Rattle.lw_sul.specs.Told.{Steps}

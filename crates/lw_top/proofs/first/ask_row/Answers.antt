@@ -1,4 +1,4 @@
-use Rattle.std.proofs.Common.{◌≡◌, ◌∙◌}
+use Rattle.std.proofs.Common.{◌∙◌}
 use Rattle.lw_top.proofs.Askings.{only_asked}
 use Rattle.lw_top.proofs.first.ask_row.Goals as goal
 

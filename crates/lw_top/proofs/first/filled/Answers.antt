@@ -1,8 +1,7 @@
-use Rattle.std.proofs.Common.{rules, ◌≡◌, ◌∙◌, ◌≤◌, ◌<◌, ◌+◌, ◌++◌, ◌∷◌, [], sym, ap, List, ℕ, subst, map, length, take, min, arith}
+use Rattle.std.proofs.Common.{◌≡◌, ◌∙◌, ◌<◌, ◌+◌, ◌++◌, [], ap, List, ℕ, subst, map, length, take, arith}
 use Rattle.std.proofs.lemmas.Grind.{common_steps}
 use Rattle.lw_mealy.specs.Table.{MachineTable}
-use Rattle.lw_sul.specs.declared.runs.Run.{Run}
-use Rattle.lw_top.specs.Asking.{AnswersOnly, asked_all, extensions, row_words}
+use Rattle.lw_top.specs.Asking.{AnswersOnly, asked_all, extensions}
 use Rattle.lw_top.specs.Part.{IsFilling, word_at}
 use Rattle.lw_top.proofs.Askings.{only_then, rows_more}
 use Rattle.lw_top.proofs.Parts.{front_kept, state_within}

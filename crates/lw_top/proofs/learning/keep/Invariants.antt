@@ -1,4 +1,4 @@
-use Rattle.std.proofs.Common.{◌≡◌, length}
+use Rattle.std.proofs.Common.{◌≡◌}
 use Rattle.lw_top.specs.Kept.{IsNumbered}
 use Rattle.lw_top.specs.Known.{runs_answers, kept_answers}
 use Rattle.lw_top.proofs.learning.keep.Given as goal

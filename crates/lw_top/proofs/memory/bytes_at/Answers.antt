@@ -1,4 +1,4 @@
-use Rattle.std.proofs.Common.{◌≡◌, ◌∙◌, ℕ, List, Option, Bool, true, false, Some, map, take, option_map, string_bytes, ap, sym}
+use Rattle.std.proofs.Common.{◌≡◌, ◌∙◌, ℕ, List, true, false, map, take, option_map, string_bytes, ap, sym}
 use Rattle.std.specs.Str.{bytes_eq}
 use Rattle.lw_words.proofs.Lists.{take-map_more}
 use Rattle.lw_top.specs.Files.{File, file_at}

@@ -1,4 +1,4 @@
-use Rattle.std.proofs.Common.{◌≡◌, ◌≤◌, arith}
+use Rattle.std.proofs.Common.{arith}
 use Rattle.lw_top.proofs.SinkLemmas.{sink_more}
 use Rattle.lw_top.proofs.top.put_all.Goals as goal
 

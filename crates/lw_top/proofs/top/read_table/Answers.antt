@@ -1,4 +1,4 @@
-use Rattle.std.proofs.Common.{◌≡◌, List, ℕ, subst, ap, Err}
+use Rattle.std.proofs.Common.{List, ℕ, subst, ap, Err}
 use Rattle.lw_json.specs.MachineFile.{IsMachineFile}
 use Rattle.lw_json.specs.declared.machine.Machine.{Machine}
 use Rattle.lw_top.proofs.top.read_table.Goals as goal

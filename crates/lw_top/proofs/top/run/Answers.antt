@@ -1,7 +1,14 @@
-use Rattle.std.proofs.Common.{rules, ◌≡◌, ◌∙◌, ◌⊎◌, [], inr, sym, ap, subst, List, ℕ, Some, Option, map, string_bytes}
+use Rattle.std.proofs.Common.{◌≡◌, ◌∙◌, inr, refl, sym, ap, subst, List, ℕ, Some, Err, IfErr, IfSome, Option, map, string_bytes}
+use Rattle.lw_words.specs.Cause.{Rose}
 use Rattle.lw_words.specs.declared.kept.KeptAnswer.{KeptAnswer}
-use Rattle.lw_top.specs.Run.{KeepsRuns}
+use Rattle.lw_mealy.specs.Table.{MachineTable}
+use Rattle.lw_top.specs.Crowd.{IsCrowd}
+use Rattle.lw_top.specs.Known.{kept_answers}
+use Rattle.lw_top.specs.Outcomes.{IsLearnStop}
+use Rattle.lw_top.specs.Run.{IsWritten, KeepsRuns, TakesSome, TellsTable, TellsNoTable}
 use Rattle.lw_top.specs.Words.{table_file}
+use Rattle.lw_top.specs.declared.outcome.Outcome.{Outcome}
+use Rattle.lw_top.proofs.RunLemmas.{bad_not_read, one_file, told_crowd, told_model, untroubled_read}
 use Rattle.lw_top.proofs.top.run.Goals as goal
 
 pub returns-in-Ok-closed-clause-kept : goal.returns-in-Ok-closed-clause-kept
@@ -17,3 +24,61 @@ returns-in-Err-closed-clause-kept g c =
     let runs : KeepsRuns (g.F.Files.holds c.args.files.now) c.in-Some.name.now c.learn-inputs.result.kept.answers =
     record { machine = c.in-Ok.machine; table = c.in-Ok.ensures.ok; numbered = c.learn-inputs.ensures.numbered; answers = c.learn-inputs.ensures.answers } in
     inr (c.in-Some.name.now, words, subst (λ (k : List KeptAnswer). KeepsRuns (g.F.Files.holds c.args.files.now) c.in-Some.name.now k) (ap (λ k. k.answers) (sym c.refuse-in-Err-closed.ensures.kept)) runs)
+
+pub returns-in-Err-clause-untroubled : goal.returns-in-Err-clause-untroubled
+returns-in-Err-clause-untroubled g c name words told files out err =
+    let file : name ≡ c.in-Some.name.now = one_file (table_file (map (λ s. string_bytes s) c.args.words.now)) name c.in-Some.name.now c.in-Some.ensures words in
+    untroubled_read (g.F.Files.holds c.args.files.now) c.in-Some.name.now c.in-Err.outcome c.refuse-in-Err.result.outcome (Rose (g.F.Files.faults c.args.files.now) (g.F.Files.faults c.read_table.new.files))
+    c.in-Err.ensures.err (subst (λ (n : List ℕ). TellsTable (g.F.Files.holds c.args.files.now) n) file told)
+    (λ e. (c.read_table.ensures.failed (c.in-Err.is ∙ ap (λ (o : Outcome). Err o) e)).0) files c.refuse-in-Err.ensures.outcome
+
+pub returns-in-Ok-closed-clause-bad_file_told : goal.returns-in-Ok-closed-clause-bad_file_told
+returns-in-Ok-closed-clause-bad_file_told g c name words told =
+    let file : name ≡ c.in-Some.name.now = one_file (table_file (map (λ s. string_bytes s) c.args.words.now)) name c.in-Some.name.now c.in-Some.ensures words in
+    absurd (bad_not_read (g.F.Files.holds c.args.files.now) c.in-Some.name.now c.in-Ok.machine (subst (λ (n : List ℕ). TellsNoTable (g.F.Files.holds c.args.files.now) n) file told) c.in-Ok.ensures.ok)
+
+pub returns-in-Err-closed-clause-bad_file_told : goal.returns-in-Err-closed-clause-bad_file_told
+returns-in-Err-closed-clause-bad_file_told g c name words told =
+    let file : name ≡ c.in-Some.name.now = one_file (table_file (map (λ s. string_bytes s) c.args.words.now)) name c.in-Some.name.now c.in-Some.ensures words in
+    absurd (bad_not_read (g.F.Files.holds c.args.files.now) c.in-Some.name.now c.in-Ok.machine (subst (λ (n : List ℕ). TellsNoTable (g.F.Files.holds c.args.files.now) n) file told) c.in-Ok.ensures.ok)
+
+pub returns-in-Ok-closed-clause-written : goal.returns-in-Ok-closed-clause-written
+returns-in-Ok-closed-clause-written g c h is = (
+  c.in-Some.name.now,
+  sym c.in-Some.ensures,
+  record {
+    table = c.in-Ok.machine;
+    read = c.in-Ok.ensures.ok;
+    model = c.named.result;
+    inputs = c.named.ensures.inputs ∙ c.learn-inputs.ensures.names.0;
+    outputs = c.named.ensures.outputs ∙ c.learn-inputs.ensures.names.1;
+    mealy = sym (told_model c.named.result.mealy h _ c.write_out.result.outcome is c.write_out.ensures.outcome);
+    takes = c.write_out.ensures.written h is;
+  },
+)
+
+pub returns-in-Ok-closed-clause-part : goal.returns-in-Ok-closed-clause-part
+returns-in-Ok-closed-clause-part g c =
+    let Takes : List ℕ → Type 0 = λ text. TakesSome text (g.O.Sink.taken c.args.out.now) (g.O.Sink.taken c.write_out.new.out) in
+    let Told : MachineTable → Type 0 = λ h. (x : List ℕ) × (table_file (map (λ s. string_bytes s) c.args.words.now) ≡ Some x) × IsWritten (g.F.Files.holds c.args.files.now) x h Takes in
+    let told : Told c.named.result.mealy = (
+      c.in-Some.name.now,
+      sym c.in-Some.ensures,
+      record {
+        table = c.in-Ok.machine;
+        read = c.in-Ok.ensures.ok;
+        model = c.named.result;
+        inputs = c.named.ensures.inputs ∙ c.learn-inputs.ensures.names.0;
+        outputs = c.named.ensures.outputs ∙ c.learn-inputs.ensures.names.1;
+        mealy = refl;
+        takes = c.write_out.ensures.part;
+      },
+    ) in
+    subst (λ (o : Option MachineTable). IfSome o Told) (sym c.write_out.ensures.model) told
+
+pub returns-in-Err-closed-clause-crowd : goal.returns-in-Err-closed-clause-crowd
+returns-in-Err-closed-clause-crowd g c apart is =
+    let stop : IsLearnStop (kept_answers c.learn-inputs.result.kept.answers) c.in-Err-closed.outcome =
+    subst (λ r. IfErr r (IsLearnStop (kept_answers c.learn-inputs.result.kept.answers))) c.in-Err-closed.is c.learn-inputs.ensures.stop in
+    subst (λ (k : List KeptAnswer). IsCrowd (kept_answers k) 1025 apart) (ap (λ k. k.answers) (sym c.refuse-in-Err-closed.ensures.kept))
+    (told_crowd (kept_answers c.learn-inputs.result.kept.answers) apart c.in-Err-closed.outcome c.refuse-in-Err-closed.result.outcome stop c.refuse-in-Err-closed.ensures.outcome is)

@@ -1,4 +1,4 @@
-use Rattle.std.proofs.Common.{◌≡◌, ℕ, ◌<◌, ◌+◌, ◌∙◌, sym, ap, List, [], ◌∷◌, ◌++◌, Bool, true, false, not, map, take, slice_get, Some, string_bytes, arith, subst, length}
+use Rattle.std.proofs.Common.{◌≡◌, ℕ, ◌+◌, ◌∙◌, sym, ap, List, [], ◌∷◌, ◌++◌, true, false, map, take, slice_get, Some, string_bytes, arith, subst, length}
 use Rattle.std.specs.List.{list_any}
 use Rattle.std.specs.String.{string_eq}
 use Rattle.std.proofs.lemmas.Bool.{not-true, not-false}

@@ -1,6 +1,6 @@
-use Rattle.std.proofs.Common.{◌≡◌, ◌<◌, ◌+◌, ◌∙◌, ◌∷◌, ℕ, List, length, take, drop, ap, sym, arith, get_or, subst}
+use Rattle.std.proofs.Common.{◌≡◌, ◌<◌, ◌∙◌, ℕ, List, length, ap, sym, arith, get_or, subst}
 use Rattle.std.proofs.lemmas.List.{take_more_same}
-use Rattle.lw_mealy.specs.Machine.{answer, out, cell}
+use Rattle.lw_mealy.specs.Machine.{answer, cell}
 use Rattle.lw_mealy.proofs.WordLemmas.{length-out, answer_at}
 use Rattle.lw_mealy.proofs.mealy.Mealy.agrees.Goals as goal
 

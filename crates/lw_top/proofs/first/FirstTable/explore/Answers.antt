@@ -1,11 +1,10 @@
-use Rattle.std.proofs.Common.{rules, ◌≡◌, ◌∙◌, ◌<◌, ◌≤◌, ◌+◌, ◌++◌, ◌∷◌, [], sym, ap, List, ℕ, subst, map, length, take, get_or, arith, length-append, suc}
+use Rattle.std.proofs.Common.{rules, ◌≡◌, ◌∙◌, ◌<◌, ◌+◌, ◌++◌, ◌∷◌, [], sym, ap, List, ℕ, subst, map, length, take, get_or, arith}
 use Rattle.std.proofs.Math.Seq.{get_or-append_seam}
 use Rattle.std.proofs.lemmas.List.{get_or_append_left, length-map, map-append}
 use borrow.Author.Count.{below_more}
 use Rattle.lw_mealy.specs.Machine.{Row}
 use Rattle.lw_mealy.specs.Table.{MachineTable}
-use Rattle.lw_sul.specs.declared.runs.Run.{Run}
-use Rattle.lw_top.specs.Asking.{AnswersOnly, asked, asked_all, extensions}
+use Rattle.lw_top.specs.Asking.{AnswersOnly, asked}
 use Rattle.lw_top.specs.Part.{IsPair, ArePairs, IsFilling, word_at}
 use Rattle.lw_top.proofs.Askings.{only_then, all_more}
 use Rattle.lw_top.proofs.Parts.{pair_kept, pairs_more, take_take, state_within, same_word}

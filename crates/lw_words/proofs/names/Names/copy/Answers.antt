@@ -1,4 +1,4 @@
-use Rattle.std.proofs.Common.{◌≡◌, map, string_bytes, ◌∙◌, subst, sym, List, ℕ}
+use Rattle.std.proofs.Common.{string_bytes, ◌∙◌, subst, sym, List, ℕ}
 use Rattle.lw_words.specs.Name.{IsNames}
 use Rattle.lw_words.proofs.NumberLemmas.{map-AllZip_same}
 use Rattle.lw_words.proofs.names.Names.copy.Goals as goal

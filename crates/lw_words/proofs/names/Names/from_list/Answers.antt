@@ -1,4 +1,4 @@
-use Rattle.std.proofs.Common.{◌≡◌, ◌<◌, ◌≤◌, sym, List, ℕ, map, length, string_bytes, arith, subst}
+use Rattle.std.proofs.Common.{◌≡◌, ◌<◌, sym, List, ℕ, map, length, string_bytes, arith, subst}
 use Rattle.std.proofs.lemmas.Grind.{common_steps}
 use Rattle.std.proofs.lemmas.List.{length-map}
 use Rattle.lw_words.specs.Name.{IsNames}

@@ -1,6 +1,5 @@
-use Rattle.std.proofs.Common.{◌≡◌, ◌∙◌, sym, ap, position, string_bytes, Some, Option, ℕ}
+use Rattle.std.proofs.Common.{◌∙◌, sym, ap, position, string_bytes}
 use Rattle.std.specs.Str.{bytes_eq}
-use Rattle.lw_words.specs.Name.{number_of}
 use Rattle.lw_words.proofs.Lists.{position-map}
 use Rattle.lw_words.proofs.NumberLemmas.{name_at_number}
 use Rattle.lw_words.proofs.names.Names.number.Goals as goal

@@ -1,4 +1,4 @@
-use Rattle.std.proofs.Common.{◌≡◌, map, string_bytes, ◌∙◌, sym, ap, List, ℕ}
+use Rattle.std.proofs.Common.{◌≡◌, map, string_bytes, ◌∙◌, sym, ap}
 use Rattle.std.specs.Bool.{Decides}
 use Rattle.lw_words.proofs.NumberLemmas.{same_names}
 use Rattle.lw_words.proofs.names.Names.same.Goals as goal
