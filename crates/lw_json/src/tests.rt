@@ -15,7 +15,7 @@ const SPELLED: [&str; 3] = [
 ];
 
 /// One reason each.
-const BAD: [&str; 22] = [
+const BAD: [&str; 36] = [
     "",
     "x",
     "[]",
@@ -38,6 +38,20 @@ const BAD: [&str; 22] = [
     "{\"inputs\":[\"t\"],\"outputs\":[\"0\"],\"states\":[[[65536,\"0\"]]]}",
     "{\"inputs\":[\"t\"],\"outputs\":[\"0\"],\"states\":[[[0,\"1\"]]]}",
     "{\"inputs\":[\"t\"],\"outputs\":[\"0\"],\"states\":[[[1,\"0\"]]]}",
+    "{\"inputs\":[\"t\"],\"states\":[[[0,\"0\"]]]}",
+    "{\"inputs\":[\"t\"],\"outputs\":[\"0\"]}",
+    "{\"inputs\":[\"t\"],\"outputs\":{\"0\":0},\"states\":[[[0,\"0\"]]]}",
+    "{\"inputs\":[\"t\"],\"outputs\":[\"0\"],\"states\":{}}",
+    "{\"inputs\":[\"t\"],\"outputs\":[\"0\"],\"states\":[0]}",
+    "{\"inputs\":[\"t\"],\"outputs\":[\"0\"],\"states\":[[0]]}",
+    "{\"inputs\":[\"t\"],\"outputs\":[\"0\"],\"states\":[[[0,0]]]}",
+    "{\"inputs\":[\"t\"],\"outputs\":[\"0\"],\"states\":[[[0,1,\"0\"]]]}",
+    "{\"inputs\":[\"\"],\"outputs\":[\"0\"],\"states\":[[[0,\"0\"]]]}",
+    "{\"inputs\":[\"\\u007f\"],\"outputs\":[\"0\"],\"states\":[[[0,\"0\"]]]}",
+    "{\"inputs\":[\"\\u0020\"],\"outputs\":[\"0\"],\"states\":[[[0,\"0\"]]]}",
+    "{\"inputs\":[\"\\u00e9\"],\"outputs\":[\"0\"],\"states\":[[[0,\"0\"]]]}",
+    "{\"inputs\":[\"t\"],\"outputs\":[\"0\",\"0\"],\"states\":[[[0,\"0\"]]]}",
+    "{\"inputs\":[\"t\"],\"outputs\":[\"0\"],\"states\":[[[0,\"0\"]]]} x",
 ];
 
 #[test]

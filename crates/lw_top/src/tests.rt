@@ -1,3 +1,5 @@
+ghost use Rattle.std.specs.Prelude.{◌<◌, ◌≤◌};
+
 use crate::{End, FirstStop, MemoryFiles, MemorySink, Outcome, first_table, run};
 use lw_mealy::Mealy;
 use lw_sul::{Session, TableSul};
@@ -206,26 +208,59 @@ fn failing_files_and_streams(rt: HostRuntime) -> Result<(), Fail> {
     Ok(())
 }
 
+/// A ring over one letter, in which each state has an output of its own.
+fn ring(alloc: Global, states: u16) -> Result<Mealy, Fail>
+    requires { (1 ≤ states) × (states ≤ 1024) }
+{
+    let mut rows = Vec::new(alloc);
+    for state in 0..states {
+        rows.push(Vec::from_slice(alloc, &[((state + 1) % states, state)])?)?;
+    }
+    Ok(Mealy::new(alloc, 1, states, rows)?)
+}
+
+/// Closes the table of a ring, which has so many states.
+fn closes(rt: &impl Abort, alloc: Global, states: u16) -> Result<(), Fail>
+    requires { (1 ≤ states) × (states ≤ 1024) }
+{
+    let mut session = Session::new(alloc, 0, TableSul::new(ring(alloc, states)?));
+    match first_table(alloc, &mut session, 1024) {
+        Ok(table) => assert_eq!(rt; table.states(), states),
+        Err(_) => return Err(Fail::from("a ring's table was not closed")),
+    }
+    assert_eq!(rt; session.journal().len(), usize::from(states) + 1);
+    Ok(())
+}
+
+/// Ends the table of a ring at a limit below its states, with the words of 0 to so many letters.
+fn overflows(rt: &impl Abort, alloc: Global, states: u16, limit: u16) -> Result<(), Fail>
+    requires states { (1 ≤ states) × (states ≤ 1024) }
+    requires limit { (1 ≤ limit) × (limit < states) }
+{
+    let mut session = Session::new(alloc, 0, TableSul::new(ring(alloc, states)?));
+    let Err(FirstStop::Crowd(words)) = first_table(alloc, &mut session, limit) else {
+        return Err(Fail::from("a ring's table was closed below its states"));
+    };
+    assert_eq!(rt; words.len(), usize::from(limit) + 1);
+    for (length, word) in words.as_slice().iter().enumerate() {
+        assert_eq!(rt; word.len(), length);
+    }
+    assert_eq!(rt; session.journal().len(), usize::from(limit) + 1);
+    Ok(())
+}
+
+#[test]
+fn tables_of_many_states_are_closed(rt: HostRuntime) -> Result<(), Fail> {
+    closes(&rt, rt.alloc(), 1)?;
+    closes(&rt, rt.alloc(), 12)?;
+    closes(&rt, rt.alloc(), 300)?;
+    closes(&rt, rt.alloc(), 1024)
+}
+
 #[test]
 fn a_crowd_past_the_limit(rt: HostRuntime) -> Result<(), Fail> {
-    let alloc = rt.alloc();
-    let mut rows = Vec::new(alloc);
-    for (target, output) in [(1u16, 0u16), (2, 1), (0, 2)] {
-        rows.push(Vec::from_slice(alloc, &[(target, output)])?)?;
-    }
-    let ring = Mealy::new(alloc, 1, 3, rows)?;
-    let mut session = Session::new(alloc, 0, TableSul::new(ring));
-    match first_table(alloc, &mut session, 2) {
-        Err(FirstStop::Crowd(words)) => {
-            assert_eq!(rt; words.len(), 3);
-            for (length, word) in words.as_slice().iter().enumerate() {
-                assert_eq!(rt; word.len(), length);
-            }
-        }
-        _ => return Err(Fail::from("a table of two states was closed")),
-    }
-    assert_eq!(rt; session.journal().len(), 3);
-    Ok(())
+    overflows(&rt, rt.alloc(), 3, 2)?;
+    overflows(&rt, rt.alloc(), 1024, 1023)
 }
 
 #[test]
