@@ -7,6 +7,7 @@ use Rattle.lw_top.specs.Files.{File, file_at}
 use Rattle.lw_top.specs.Crowd.{IsCrowd}
 use Rattle.lw_top.specs.Known.{Answer}
 use Rattle.lw_top.specs.Outcomes.{IsLearnStop, IsUntroubled, IsWriteStop, StandsOrWants}
+use Rattle.lw_top.specs.Text.{IsText}
 use Rattle.lw_top.specs.Run.{IsReadStop, IsTableOf, RefusesTable, TellsTable, TellsNoTable}
 use Rattle.lw_top.specs.declared.outcome.Outcome.{Outcome}
 use Rattle.lw_top.specs.declared.outcome.Outcome.TheVariants.{Unchecked, Usage, BadFile, NoMemory, TooManyStates, FileFault, SinkFault}
@@ -48,3 +49,13 @@ told_crowd answers words outcome result stop stands is =
       | inl same ↦ let here : IsLearnStop answers (TooManyStates words) = subst (λ (o : Outcome). IsLearnStop answers o) (sym same ∙ is) stop in here
       | inr wants ↦ let no : NoMemory ≡ TooManyStates words = sym wants.1 ∙ is in absurd (cc)
     ]
+
+-- a text that needs no names is the same with them
+pub text_named : (inputs : List (List ℕ)) (answers : ℕ) (outcome : Outcome) (text : List ℕ) → IsText None answers outcome text → IsText (Some inputs) answers outcome text
+text_named inputs answers (Unchecked model) text is = is
+text_named inputs answers Usage text is = is
+text_named inputs answers BadFile text is = is
+text_named inputs answers NoMemory text is = is
+text_named inputs answers (TooManyStates words) text is = let no : None ≡ Some is.0 = is.1 in absurd (cc)
+text_named inputs answers FileFault text is = is
+text_named inputs answers SinkFault text is = is

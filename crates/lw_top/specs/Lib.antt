@@ -7,4 +7,5 @@ pub mod Known
 pub mod Outcomes
 pub mod Part
 pub mod Run
+pub mod Text
 pub mod Words

@@ -1,13 +1,14 @@
 -- What a call of the program says of the table file and of the kept answers.
-use Rattle.std.specs.Prelude.{◌≡◌, ℕ, List, ◌++◌, take, Option, Some, None, option_map}
+use Rattle.std.specs.Prelude.{◌≡◌, ◌⊎◌, ℕ, Bool, List, ◌++◌, take, Option, Some, None, option_map}
 use Rattle.lw_words.specs.declared.kept.KeptAnswer.{KeptAnswer}
 use Rattle.lw_mealy.specs.Gives.{Gives}
 use Rattle.lw_mealy.specs.Table.{MachineTable}
 use Rattle.lw_json.specs.MachineFile.{IsMachineFile}
 use Rattle.lw_json.specs.MachineText.{written_text}
 use Rattle.lw_json.specs.declared.machine.Machine.{Machine}
-use Rattle.lw_top.specs.Files.{File, Reads, file_at}
+use Rattle.lw_top.specs.Files.{Call, File, Reads, file_at, noted, read_call}
 use Rattle.lw_top.specs.Kept.{IsNumbered}
+use Rattle.lw_top.specs.Text.{IsText}
 use Rattle.lw_top.specs.declared.outcome.Outcome.{Outcome}
 use Rattle.lw_top.specs.declared.outcome.Outcome.TheVariants.{Unchecked, Usage, BadFile, NoMemory, TooManyStates, FileFault, SinkFault}
 
@@ -69,3 +70,16 @@ pub record IsWritten (holds : Option (List File)) (name : List ℕ) (h : Machine
   pub outputs : model.outputs ≡ table.outputs
   pub mealy : model.mealy ≡ h
   pub takes : Takes (written_text model)
+
+-- the outcome's text was taken, where the inputs have these names and so many answers are kept
+abbrev pub Says : Option (List (List ℕ)) → ℕ → Outcome → Option (List ℕ) → Option (List ℕ) → Type 0
+Says names answers outcome before now = (text : List ℕ) × IsText names answers outcome text × TakesAll text before now
+
+-- the names of the inputs, where there are any, are those of the table file
+abbrev pub AreInputs : Option (List File) → Option (List ℕ) → Option (List (List ℕ)) → Type 0
+AreInputs holds file None = Unit {0}
+AreInputs holds file (Some inputs) = (name : List ℕ) × (file ≡ Some name) × ((table : Machine) × IsTableOf holds name table × (table.inputs ≡ inputs))
+
+-- the calls gained one read of the file, or none where memory was wanted
+abbrev pub OneRead : List ℕ → Type 0 → Option (List Call) → Option (List Call) → Type 0
+OneRead name wanted before now = (wanted × (now ≡ before)) ⊎ ((failed : Bool) × (now ≡ noted (read_call name failed) before))

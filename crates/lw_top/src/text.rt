@@ -1,6 +1,7 @@
 //! The texts of outcomes, each of which ends in a line feed.
-ghost use Rattle.std.specs.Prelude.{IfNone};
+ghost use Rattle.std.specs.Prelude.{◌≡◌, ℕ, ◌<◌, List, ◌++◌, length, take, slice_index, Option, Some, IfNone, IfOk, IfSome, OnOk, string_bytes};
 ghost use Rattle.lw_top.specs.Outcomes.{HasOwnText};
+ghost use Rattle.lw_top.specs.Text.{IsText, crowd_lines, name_after, unchecked_line, word_line};
 
 use crate::Outcome;
 use lw_words::{Names, NoMemory, Words};
@@ -16,23 +17,37 @@ const USAGE: &str =
 /// What is written where memory is wanted. Takes no memory itself.
 pub(crate) const NO_MEMORY: &str = "no memory\n";
 
+/// The name of the letter at a place of a word, behind a blank but at the first place.
+fn put_letter(text: &mut String, word: &[u16], place: usize, inputs: &Names) -> Result<(), NoMemory>
+    requires { place < length word.now }
+    ensures { OnOk result (string_bytes text.new ≡ string_bytes text.old ++ name_after inputs.now (take place word.now) (slice_index word.now place)) }
+{
+    if place > 0 {
+        text.push_str(" ")?;
+    }
+    let letter = word[place];
+    if letter < inputs.len() {
+        text.push_str(inputs.name(letter))?;
+    }
+    Ok(())
+}
+
 /// A word as its names, joined by one blank, in quotes, as a line.
-fn put_word(text: &mut String, letters: &[u16], inputs: &Names) -> Result<(), NoMemory> {
-    text.push('"')?;
-    for (place, letter) in letters.iter().enumerate() {
-        if place > 0 {
-            text.push(' ')?;
-        }
-        if *letter < inputs.len() {
-            text.push_str(inputs.name(*letter))?;
-        }
+fn put_word(text: &mut String, word: &[u16], inputs: &Names) -> Result<(), NoMemory>
+    ensures { OnOk result (string_bytes text.new ≡ string_bytes text.old ++ word_line inputs.now word.now) }
+{
+    text.push_str("\"")?;
+    for place in 0..word.len() {
+        put_letter(text, word, place, inputs)?;
     }
     text.push_str("\"\n")?;
     Ok(())
 }
 
 /// The words of a crowd, a line each, below their number.
-fn crowd_text(alloc: Global, words: &Words, inputs: &Names) -> Result<String, NoMemory> {
+fn crowd_text(alloc: Global, words: &Words, inputs: &Names) -> Result<String, NoMemory>
+    ensures { IfOk result (λ text. string_bytes text ≡ crowd_lines inputs.now words.now) }
+{
     let count = words.len();
     let mut text = format!(in alloc; "too many states: {count} words are pairwise apart\n")?;
     for word in words.as_slice() {
@@ -41,9 +56,17 @@ fn crowd_text(alloc: Global, words: &Words, inputs: &Names) -> Result<String, No
     Ok(text)
 }
 
+/// The line about a model.
+fn unchecked_text(alloc: Global, states: u16, answers: usize) -> Result<String, NoMemory>
+    ensures { IfOk result (λ text. string_bytes text ≡ unchecked_line states answers) }
+{
+    Ok(format!(in alloc; "unchecked: states {states}, answers {answers}\n")?)
+}
+
 /// The text of an outcome that is the same for all machines.
 pub(crate) fn fixed_text(outcome: &Outcome) -> Option<&'static str>
-    ensures { IfNone result (HasOwnText outcome.now) }
+    ensures none { IfNone result (HasOwnText outcome.now) }
+    ensures some { IfSome result (λ text. (names : Option (List (List ℕ))) (answers : ℕ) → IsText names answers outcome.now text.now) }
 {
     match outcome {
         Outcome::Unchecked { .. } | Outcome::TooManyStates(_) => None,
@@ -61,12 +84,11 @@ pub(crate) fn outcome_text(
     outcome: &Outcome,
     inputs: &Names,
     answers: usize,
-) -> Result<String, NoMemory> {
+) -> Result<String, NoMemory>
+    ensures { IfOk result (λ text. IsText (Some inputs.now) answers outcome.now (string_bytes text)) }
+{
     match outcome {
-        Outcome::Unchecked { model } => {
-            let states = model.states();
-            Ok(format!(in alloc; "unchecked: states {states}, answers {answers}\n")?)
-        }
+        Outcome::Unchecked { model } => unchecked_text(alloc, model.states(), answers),
         Outcome::TooManyStates(words) => crowd_text(alloc, words, inputs),
         _ => Ok(String::from_str(alloc, fixed_text(outcome).unwrap_or(NO_MEMORY))?),
     }

@@ -1,4 +1,4 @@
-ghost use Rattle.std.specs.Prelude.{◌≡◌, ◌⊎◌, ◌↔◌, ℕ, ◌+◌, ◌<◌, ◌≤◌, List, [], ◌++◌, length, map, take, drop, true, false, Some, None, Ok, Err, IfOk, IfErr, IfSome, OnOk, OnErr, IsSome, option_map, string_bytes};
+ghost use Rattle.std.specs.Prelude.{◌≡◌, ◌⊎◌, ◌↔◌, ℕ, ◌+◌, ◌<◌, ◌≤◌, List, [], ◌++◌, length, map, take, drop, true, false, Some, None, Ok, Err, Option, IfOk, IfErr, IfSome, OnOk, OnErr, IsSome, option_map, string_bytes};
 ghost use Rattle.lw_words.specs.Cause.{Rose};
 ghost use Rattle.lw_mealy.specs.Table.{MachineTable as Table, IsTable};
 ghost use Rattle.lw_json.specs.MachineText.{written_text};
@@ -9,7 +9,7 @@ ghost use Rattle.lw_top.specs.Hypothesis.{IsHypothesis};
 ghost use Rattle.lw_top.specs.Kept.{IsNumbered};
 ghost use Rattle.lw_top.specs.Known.{kept_answers};
 ghost use Rattle.lw_top.specs.Outcomes.{HasOwnText, IsUnread, IsUntroubled, IsWriteStop, StandsOrWants, status_of};
-ghost use Rattle.lw_top.specs.Run.{IsReadStop, IsTableOf, IsWritten, RefusesTable, KeepsRuns, TakesAll, TakesSome, TellsNoTable, TellsTable};
+ghost use Rattle.lw_top.specs.Run.{AreInputs, IsReadStop, IsTableOf, IsWritten, KeepsRuns, OneRead, RefusesTable, Says, TakesAll, TakesSome, TellsNoTable, TellsTable};
 ghost use Rattle.lw_top.specs.Words.{table_file};
 ghost use Rattle.lw_top.specs.declared.outcome.Outcome.{Outcome as Came};
 
@@ -70,6 +70,14 @@ fn put_all<K: Sink>(sink: &mut K, bytes: &[u8]) -> Result<(), Failed>
     Ok(())
 }
 
+/// Puts a text to a stream that may refuse it.
+fn put_text<K: Sink>(sink: &mut K, text: &str)
+    ensures whole { ¬ Rose (K.faults sink.old) (K.faults sink.new) → TakesAll text.now (K.taken sink.old) (K.taken sink.new) }
+    ensures counts { K.faults sink.old ≤ K.faults sink.new }
+{
+    let _refused = put_all(sink, text.as_bytes()).is_err();
+}
+
 /// Puts the text of an outcome to `err`. Where making the text wants memory, that is the outcome, and its text is put.
 fn say<E: Sink>(
     alloc: Global,
@@ -79,10 +87,11 @@ fn say<E: Sink>(
     err: &mut E,
 ) -> Outcome
     ensures outcome { StandsOrWants outcome result }
+    ensures said { ¬ Rose (E.faults err.old) (E.faults err.new) → Says (option_map (λ n. n.now) inputs.entry) answers result (E.taken err.old) (E.taken err.new) }
     ensures counts { E.faults err.old ≤ E.faults err.new }
 {
     if let Some(text) = fixed_text(&outcome) {
-        let _put = put_all(err, text.as_bytes());
+        put_text(err, text);
         return outcome;
     }
     let text = match inputs {
@@ -91,11 +100,11 @@ fn say<E: Sink>(
     };
     match text {
         Ok(text) => {
-            let _put = put_all(err, text.as_bytes());
+            put_text(err, text.as_str());
             outcome
         }
         Err(NoMemory) => {
-            let _put = put_all(err, NO_MEMORY.as_bytes());
+            put_text(err, NO_MEMORY);
             Outcome::NoMemory
         }
     }
@@ -106,6 +115,7 @@ fn read_table<F: Files>(alloc: Global, files: &mut F, name: &str) -> Result<Mach
     ensures ok { IfOk result (IsTableOf (F.holds files.old) name.now) }
     ensures err { IfErr result (IsReadStop (F.holds files.old) name.now) }
     ensures failed { result ≡ Err Came.FileFault → Rose (F.faults files.old) (F.faults files.new) × (F.calls files.new ≡ noted (read_call name.now true) (F.calls files.old)) }
+    ensures calls { OneRead name.now (result ≡ Err Came.NoMemory) (F.calls files.old) (F.calls files.new) }
     ensures counts { F.faults files.old ≤ F.faults files.new }
 {
     let bytes = match files.read(name) {
@@ -147,6 +157,7 @@ fn refuse<E: Sink>(
     ensures status { result.status ≡ status_of result.outcome }
     ensures model { result.model ≡ None }
     ensures kept { result.kept ≡ kept }
+    ensures said { ¬ Rose (E.faults err.old) (E.faults err.new) → Says (option_map (λ n. n.now) inputs.entry) (length kept.answers) result.outcome (E.taken err.old) (E.taken err.new) }
     ensures counts { E.faults err.old ≤ E.faults err.new }
 {
     let outcome = say(alloc, outcome, inputs, kept.len(), err);
@@ -170,6 +181,8 @@ fn write_model<O: Sink, E: Sink>(
     ensures err { IfErr result (λ e. (e ≡ Came.NoMemory) ⊎ ((e ≡ Came.SinkFault) × (Rose (O.faults out.old) (O.faults out.new) ⊎ Rose (E.faults err.old) (E.faults err.new)))) }
     ensures written { OnOk result (TakesAll (written_text machine.now) (O.taken out.old) (O.taken out.new)) }
     ensures part { TakesSome (written_text machine.now) (O.taken out.old) (O.taken out.new) }
+    ensures line { IfOk result (λ o. Says (Some machine.now.inputs) answers o (E.taken err.old) (E.taken err.new)) }
+    ensures unsaid { OnErr result (¬ Rose (E.faults err.old) (E.faults err.new) → E.taken err.new ≡ E.taken err.old) }
     ensures counts { (O.faults out.old ≤ O.faults out.new) × (E.faults err.old ≤ E.faults err.new) }
 {
     let Ok(text) = machine_text(alloc, machine) else {
@@ -182,13 +195,33 @@ fn write_model<O: Sink, E: Sink>(
     let Ok(line) = outcome_text(alloc, &outcome, &machine.inputs, answers) else {
         return Err(Outcome::NoMemory);
     };
-    if put_all(out, &text).is_err() {
+    let Ok(()) = put_all(out, &text) else {
         return Err(Outcome::SinkFault);
-    }
-    if put_all(err, line.as_bytes()).is_err() {
+    };
+    let Ok(()) = put_all(err, line.as_bytes()) else {
         return Err(Outcome::SinkFault);
-    }
+    };
     Ok(outcome)
+}
+
+/// Writes the model and the line about it, or says to `err` why that was not done.
+fn tell_model<O: Sink, E: Sink>(
+    alloc: Global,
+    machine: &Machine,
+    answers: usize,
+    out: &mut O,
+    err: &mut E,
+) -> Outcome
+    ensures outcome { IsWriteStop machine.now.mealy (Rose (O.faults out.old) (O.faults out.new) ⊎ Rose (E.faults err.old) (E.faults err.new)) result }
+    ensures written { (h : Table) → result ≡ Came.Unchecked h → TakesAll (written_text machine.now) (O.taken out.old) (O.taken out.new) }
+    ensures part { TakesSome (written_text machine.now) (O.taken out.old) (O.taken out.new) }
+    ensures said { ¬ Rose (E.faults err.old) (E.faults err.new) → Says (Some machine.now.inputs) answers result (E.taken err.old) (E.taken err.new) }
+    ensures counts { (O.faults out.old ≤ O.faults out.new) × (E.faults err.old ≤ E.faults err.new) }
+{
+    match write_model(alloc, machine, answers, out, err) {
+        Ok(outcome) => outcome,
+        Err(refusal) => say(alloc, refusal, None, answers, err),
+    }
 }
 
 /// Writes out the model.
@@ -205,12 +238,10 @@ fn write_out<O: Sink, E: Sink>(
     ensures kept { result.kept ≡ kept }
     ensures written { (h : Table) → result.outcome ≡ Came.Unchecked h → TakesAll (written_text machine) (O.taken out.old) (O.taken out.new) }
     ensures part { TakesSome (written_text machine) (O.taken out.old) (O.taken out.new) }
+    ensures said { ¬ Rose (E.faults err.old) (E.faults err.new) → Says (Some machine.inputs) (length kept.answers) result.outcome (E.taken err.old) (E.taken err.new) }
     ensures counts { (O.faults out.old ≤ O.faults out.new) × (E.faults err.old ≤ E.faults err.new) }
 {
-    let outcome = match write_model(alloc, &machine, kept.len(), out, err) {
-        Ok(outcome) => outcome,
-        Err(refusal) => say(alloc, refusal, None, kept.len(), err),
-    };
+    let outcome = tell_model(alloc, &machine, kept.len(), out, err);
     End {
         status: status(&outcome),
         outcome,
@@ -259,6 +290,13 @@ pub fn run<F: Files, O: Sink, E: Sink>(
     ensures written { (h : Table) → result.outcome ≡ Came.Unchecked h → (name : List ℕ) × (table_file (map (λ s. string_bytes s) words.now) ≡ Some name) × IsWritten (F.holds files.old) name h (λ text. TakesAll text (O.taken out.old) (O.taken out.new)) }
     ensures part { IfSome result.model (λ h. (name : List ℕ) × (table_file (map (λ s. string_bytes s) words.now) ≡ Some name) × IsWritten (F.holds files.old) name h (λ text. TakesSome text (O.taken out.old) (O.taken out.new))) }
     ensures nothing { result.model ≡ None → O.taken out.new ≡ O.taken out.old }
+
+    // What `err` takes, where it counted no fault: the outcome's text.
+    ensures said { ¬ Rose (E.faults err.old) (E.faults err.new) → (names : Option (List (List ℕ))) × AreInputs (F.holds files.old) (table_file (map (λ s. string_bytes s) words.now)) names × Says names (length result.kept.answers) result.outcome (E.taken err.old) (E.taken err.new) }
+
+    // The calls on the files, where they are told: one read of the file.
+    ensures calls { (name : List ℕ) → table_file (map (λ s. string_bytes s) words.now) ≡ Some name → OneRead name (result.outcome ≡ Came.NoMemory) (F.calls files.old) (F.calls files.new) }
+    ensures no_calls { table_file (map (λ s. string_bytes s) words.now) ≡ None → F.calls files.new ≡ F.calls files.old }
 {
     let Some(name) = table_file(words) else {
         return refuse(alloc, Outcome::Usage, None, Kept::new(alloc), err);

@@ -1,11 +1,11 @@
-use Rattle.std.proofs.Common.{◌≡◌, ◌∙◌, inr, refl, sym, ap, subst, List, ℕ, Some, Err, IfErr, IfSome, Option, map, string_bytes}
+use Rattle.std.proofs.Common.{◌≡◌, ◌∙◌, inr, refl, sym, ap, subst, length, List, ℕ, Some, Err, IfErr, IfSome, Option, map, string_bytes}
 use Rattle.lw_words.specs.Cause.{Rose}
 use Rattle.lw_words.specs.declared.kept.KeptAnswer.{KeptAnswer}
 use Rattle.lw_mealy.specs.Table.{MachineTable}
 use Rattle.lw_top.specs.Crowd.{IsCrowd}
 use Rattle.lw_top.specs.Known.{kept_answers}
 use Rattle.lw_top.specs.Outcomes.{IsLearnStop}
-use Rattle.lw_top.specs.Run.{IsWritten, KeepsRuns, TakesSome, TellsTable, TellsNoTable}
+use Rattle.lw_top.specs.Run.{IsWritten, KeepsRuns, Says, TakesSome, TellsTable, TellsNoTable}
 use Rattle.lw_top.specs.Words.{table_file}
 use Rattle.lw_top.specs.declared.outcome.Outcome.{Outcome}
 use Rattle.lw_top.proofs.RunLemmas.{bad_not_read, one_file, told_crowd, told_model, untroubled_read}
@@ -82,3 +82,21 @@ returns-in-Err-closed-clause-crowd g c apart is =
     subst (λ r. IfErr r (IsLearnStop (kept_answers c.learn-inputs.result.kept.answers))) c.in-Err-closed.is c.learn-inputs.ensures.stop in
     subst (λ (k : List KeptAnswer). IsCrowd (kept_answers k) 1025 apart) (ap (λ k. k.answers) (sym c.refuse-in-Err-closed.ensures.kept))
     (told_crowd (kept_answers c.learn-inputs.result.kept.answers) apart c.in-Err-closed.outcome c.refuse-in-Err-closed.result.outcome stop c.refuse-in-Err-closed.ensures.outcome is)
+
+pub returns-in-Ok-closed-clause-said : goal.returns-in-Ok-closed-clause-said
+returns-in-Ok-closed-clause-said g c none =
+    let r = c.write_out.result in
+    let said = c.write_out.ensures.said none in (
+      Some c.named.result.inputs,
+      (c.in-Some.name.now, sym c.in-Some.ensures, (c.in-Ok.machine, c.in-Ok.ensures.ok, sym (c.named.ensures.inputs ∙ c.learn-inputs.ensures.names.0))),
+      subst (λ (k : List KeptAnswer). Says (Some c.named.result.inputs) (length k) r.outcome (g.E.Sink.taken c.args.err.now) (g.E.Sink.taken c.write_out.new.err)) (ap (λ k. k.answers) (sym c.write_out.ensures.kept)) said,
+    )
+
+pub returns-in-Err-closed-clause-said : goal.returns-in-Err-closed-clause-said
+returns-in-Err-closed-clause-said g c none =
+    let r = c.refuse-in-Err-closed.result in
+    let said = c.refuse-in-Err-closed.ensures.said none in (
+      Some c.learn-inputs.result.inputs,
+      (c.in-Some.name.now, sym c.in-Some.ensures, (c.in-Ok.machine, c.in-Ok.ensures.ok, sym c.learn-inputs.ensures.names.0)),
+      subst (λ (k : List KeptAnswer). Says (Some c.learn-inputs.result.inputs) (length k) r.outcome (g.E.Sink.taken c.args.err.now) (g.E.Sink.taken c.refuse-in-Err-closed.new.err)) (ap (λ k. k.answers) (sym c.refuse-in-Err-closed.ensures.kept)) said,
+    )
