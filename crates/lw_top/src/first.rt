@@ -1,5 +1,4 @@
-ghost use Rattle.std.specs.Prelude.{◌≡◌, ℕ, ◌+◌, ◌<◌, ◌≤◌, List, [], ◌∷◌, ◌++◌, length, map, min, take, Some, IfOk, IfErr, OnOk, OnErr, vec_capacity, vec_len};
-ghost use Rattle.std.specs.List.{All};
+ghost use Rattle.std.specs.Prelude.{◌≡◌, ◌+◌, ◌<◌, ◌≤◌, [], ◌∷◌, ◌++◌, length, map, min, take, IfOk, IfErr, OnOk, OnErr};
 ghost use Rattle.lw_words.specs.Name.{AllDiffer};
 ghost use Rattle.lw_words.specs.Word.{IsWord};
 ghost use Rattle.lw_mealy.specs.Machine.{after, answer, output};

@@ -8,6 +8,7 @@ mod outcome;
 mod outside;
 mod text;
 mod top;
+mod writing;
 
 pub use first::{FirstStop, first_table};
 pub use memory::{FileCall, MemoryFiles, MemorySink};

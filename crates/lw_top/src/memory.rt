@@ -1,5 +1,5 @@
 //! Files and streams in memory, which tell all that they hold, took and were asked.
-ghost use Rattle.std.specs.Prelude.{◌≡◌, ◌≤◌, ◌-◌, [], None, length, map, IfOk, option_map, string_bytes, vec_capacity, vec_len};
+ghost use Rattle.std.specs.Prelude.{◌≡◌, ◌≤◌, ◌-◌, None, map, IfOk, option_map, string_bytes, vec_capacity, vec_len};
 ghost use Rattle.lw_top.specs.Files.{file_at};
 
 use crate::{Failed, Files, FilesStop, Sink};

@@ -1,4 +1,4 @@
-ghost use Rattle.std.specs.Prelude.{◌≡◌, ◌⊎◌, ◌↔◌, ℕ, ◌+◌, ◌<◌, ◌≤◌, List, [], ◌++◌, length, map, take, drop, true, false, Some, None, Ok, Err, Option, IfOk, IfErr, IfSome, OnOk, OnErr, IsSome, option_map, string_bytes};
+ghost use Rattle.std.specs.Prelude.{◌≡◌, ◌⊎◌, ◌↔◌, ℕ, ◌<◌, ◌≤◌, List, [], length, map, true, Some, None, Ok, Err, Option, IfOk, IfErr, IfSome, option_map, string_bytes};
 ghost use Rattle.lw_words.specs.Cause.{Rose};
 ghost use Rattle.lw_mealy.specs.Table.{MachineTable as Table, IsTable};
 ghost use Rattle.lw_json.specs.MachineText.{written_text};
@@ -6,19 +6,18 @@ ghost use Rattle.lw_separate.specs.Canonical.{IsCanonical};
 ghost use Rattle.lw_top.specs.Crowd.{IsCrowd};
 ghost use Rattle.lw_top.specs.Files.{Reads, read_call, noted};
 ghost use Rattle.lw_top.specs.Hypothesis.{IsHypothesis};
-ghost use Rattle.lw_top.specs.Kept.{IsNumbered};
 ghost use Rattle.lw_top.specs.Known.{kept_answers};
-ghost use Rattle.lw_top.specs.Outcomes.{HasOwnText, IsUnread, IsUntroubled, IsWriteStop, StandsOrWants, status_of};
+ghost use Rattle.lw_top.specs.Outcomes.{IsUnread, IsUntroubled, IsWriteStop, StandsOrWants, status_of};
 ghost use Rattle.lw_top.specs.Run.{AreInputs, IsReadStop, IsTableOf, IsWritten, KeepsRuns, OneRead, RefusesTable, Says, TakesAll, TakesSome, TellsNoTable, TellsTable};
 ghost use Rattle.lw_top.specs.Words.{table_file};
 ghost use Rattle.lw_top.specs.declared.outcome.Outcome.{Outcome as Came};
 
 use crate::learning::{Learned, learn};
-use crate::text::{NO_MEMORY, fixed_text, outcome_text};
-use crate::{Failed, Files, FilesStop, Outcome, Sink, status};
-use lw_json::{JsonFault, Machine, machine_text, read_machine};
+use crate::writing::{say, tell_model};
+use crate::{Files, FilesStop, Outcome, Sink, status};
+use lw_json::{JsonFault, Machine, read_machine};
 use lw_mealy::Mealy;
-use lw_words::{Kept, Names, NoMemory};
+use lw_words::{Kept, Names};
 use std::alloc::Global;
 
 /// The end of a call of the program: what it came to with its exit status, the model where a table was closed, also
@@ -40,73 +39,6 @@ fn table_file(words: &[String]) -> Option<&str>
             Some(file.as_str())
         }
         _ => None,
-    }
-}
-
-/// Puts some of the bytes from a place on, and says how many.
-fn put_from<K: Sink>(sink: &mut K, bytes: &[u8], done: usize) -> Result<usize, Failed>
-    requires { done < length bytes.now }
-    ensures some { IfOk result (λ n. (1 ≤ n) × (done + n ≤ length bytes.now)) }
-    ensures took { IfOk result (λ n. K.taken sink.new ≡ option_map (λ t. t ++ take n (drop done bytes.now)) (K.taken sink.old)) }
-    ensures left { OnErr result (K.taken sink.new ≡ K.taken sink.old) }
-    ensures failed { OnErr result (Rose (K.faults sink.old) (K.faults sink.new)) }
-    ensures counts { K.faults sink.old ≤ K.faults sink.new }
-{
-    sink.put(&bytes[done..])
-}
-
-/// Puts all the bytes into a sink, piece by piece.
-#[tactic(auto, using(crate::proofs::SinkLemmas::sink_steps))]
-fn put_all<K: Sink>(sink: &mut K, bytes: &[u8]) -> Result<(), Failed>
-    ensures ok { OnOk result (TakesAll bytes.now (K.taken sink.old) (K.taken sink.new)) }
-    ensures part { TakesSome bytes.now (K.taken sink.old) (K.taken sink.new) }
-    ensures failed { OnErr result (Rose (K.faults sink.old) (K.faults sink.new)) }
-    ensures counts { K.faults sink.old ≤ K.faults sink.new }
-{
-    let mut done = 0;
-    while done < bytes.len() {
-        done += put_from(sink, bytes, done)?;
-    }
-    Ok(())
-}
-
-/// Puts a text to a stream that may refuse it.
-fn put_text<K: Sink>(sink: &mut K, text: &str)
-    ensures whole { ¬ Rose (K.faults sink.old) (K.faults sink.new) → TakesAll text.now (K.taken sink.old) (K.taken sink.new) }
-    ensures counts { K.faults sink.old ≤ K.faults sink.new }
-{
-    let _refused = put_all(sink, text.as_bytes()).is_err();
-}
-
-/// Puts the text of an outcome to `err`. Where making the text wants memory, that is the outcome, and its text is put.
-fn say<E: Sink>(
-    alloc: Global,
-    outcome: Outcome,
-    inputs: Option<&Names>,
-    answers: usize,
-    err: &mut E,
-) -> Outcome
-    ensures outcome { StandsOrWants outcome result }
-    ensures said { ¬ Rose (E.faults err.old) (E.faults err.new) → Says (option_map (λ n. n.now) inputs.entry) answers result (E.taken err.old) (E.taken err.new) }
-    ensures counts { E.faults err.old ≤ E.faults err.new }
-{
-    if let Some(text) = fixed_text(&outcome) {
-        put_text(err, text);
-        return outcome;
-    }
-    let text = match inputs {
-        Some(names) => outcome_text(alloc, &outcome, names, answers),
-        None => Err(NoMemory),
-    };
-    match text {
-        Ok(text) => {
-            put_text(err, text.as_str());
-            outcome
-        }
-        Err(NoMemory) => {
-            put_text(err, NO_MEMORY);
-            Outcome::NoMemory
-        }
     }
 }
 
@@ -166,61 +98,6 @@ fn refuse<E: Sink>(
         outcome,
         model: None,
         kept,
-    }
-}
-
-/// Writes the model to `out` and the line about it to `err`. Both texts are made before the first is put.
-fn write_model<O: Sink, E: Sink>(
-    alloc: Global,
-    machine: &Machine,
-    answers: usize,
-    out: &mut O,
-    err: &mut E,
-) -> Result<Outcome, Outcome>
-    ensures ok { IfOk result (λ o. o ≡ Came.Unchecked machine.now.mealy) }
-    ensures err { IfErr result (λ e. (e ≡ Came.NoMemory) ⊎ ((e ≡ Came.SinkFault) × (Rose (O.faults out.old) (O.faults out.new) ⊎ Rose (E.faults err.old) (E.faults err.new)))) }
-    ensures written { OnOk result (TakesAll (written_text machine.now) (O.taken out.old) (O.taken out.new)) }
-    ensures part { TakesSome (written_text machine.now) (O.taken out.old) (O.taken out.new) }
-    ensures line { IfOk result (λ o. Says (Some machine.now.inputs) answers o (E.taken err.old) (E.taken err.new)) }
-    ensures unsaid { OnErr result (¬ Rose (E.faults err.old) (E.faults err.new) → E.taken err.new ≡ E.taken err.old) }
-    ensures counts { (O.faults out.old ≤ O.faults out.new) × (E.faults err.old ≤ E.faults err.new) }
-{
-    let Ok(text) = machine_text(alloc, machine) else {
-        return Err(Outcome::NoMemory);
-    };
-    let Ok(model) = machine.mealy.copy() else {
-        return Err(Outcome::NoMemory);
-    };
-    let outcome = Outcome::Unchecked { model };
-    let Ok(line) = outcome_text(alloc, &outcome, &machine.inputs, answers) else {
-        return Err(Outcome::NoMemory);
-    };
-    let Ok(()) = put_all(out, &text) else {
-        return Err(Outcome::SinkFault);
-    };
-    let Ok(()) = put_all(err, line.as_bytes()) else {
-        return Err(Outcome::SinkFault);
-    };
-    Ok(outcome)
-}
-
-/// Writes the model and the line about it, or says to `err` why that was not done.
-fn tell_model<O: Sink, E: Sink>(
-    alloc: Global,
-    machine: &Machine,
-    answers: usize,
-    out: &mut O,
-    err: &mut E,
-) -> Outcome
-    ensures outcome { IsWriteStop machine.now.mealy (Rose (O.faults out.old) (O.faults out.new) ⊎ Rose (E.faults err.old) (E.faults err.new)) result }
-    ensures written { (h : Table) → result ≡ Came.Unchecked h → TakesAll (written_text machine.now) (O.taken out.old) (O.taken out.new) }
-    ensures part { TakesSome (written_text machine.now) (O.taken out.old) (O.taken out.new) }
-    ensures said { ¬ Rose (E.faults err.old) (E.faults err.new) → Says (Some machine.now.inputs) answers result (E.taken err.old) (E.taken err.new) }
-    ensures counts { (O.faults out.old ≤ O.faults out.new) × (E.faults err.old ≤ E.faults err.new) }
-{
-    match write_model(alloc, machine, answers, out, err) {
-        Ok(outcome) => outcome,
-        Err(refusal) => say(alloc, refusal, None, answers, err),
     }
 }
 

@@ -1,5 +1,5 @@
 use Rattle.std.proofs.Common.{◌≡◌, ◌≤◌, ◌++◌, ◌-◌, length, take, option_map}
-use Rattle.lw_top.proofs.top.put_all.Given as goal
+use Rattle.lw_top.proofs.writing.put_all.Given as goal
 
 abbrev pub invariant-loop-done : goal.invariant-loop-done
 invariant-loop-done g l =

@@ -2,7 +2,7 @@ use Rattle.std.proofs.Common.{Option, List, ℕ, arith, subst}
 use Rattle.lw_words.specs.Cause.{Rose}
 use Rattle.lw_top.specs.Run.{TakesAll}
 use Rattle.lw_top.proofs.RunLemmas.{text_named}
-use Rattle.lw_top.proofs.top.tell_model.Goals as goal
+use Rattle.lw_top.proofs.writing.tell_model.Goals as goal
 
 pub returns-in-Err-clause-said : goal.returns-in-Err-clause-said
 returns-in-Err-clause-said g c none =

@@ -1,6 +1,6 @@
 use Rattle.std.proofs.Common.{arith}
 use Rattle.lw_top.proofs.SinkLemmas.{sink_more}
-use Rattle.lw_top.proofs.top.put_all.Goals as goal
+use Rattle.lw_top.proofs.writing.put_all.Goals as goal
 
 pub loop-done-preserved : goal.loop-done-preserved
 loop-done-preserved g c =

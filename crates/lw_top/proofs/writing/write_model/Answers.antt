@@ -1,6 +1,6 @@
 use Rattle.std.proofs.Common.{List, ℕ, string_bytes, subst}
 use Rattle.lw_top.specs.Run.{TakesAll}
-use Rattle.lw_top.proofs.top.write_model.Goals as goal
+use Rattle.lw_top.proofs.writing.write_model.Goals as goal
 
 pub returns-clause-line : goal.returns-clause-line
 returns-clause-line g c = (

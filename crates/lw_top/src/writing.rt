@@ -1,0 +1,136 @@
+//! What is put to the streams: a model, the line about it, and the text of every other outcome.
+ghost use Rattle.std.specs.Prelude.{◌≡◌, ◌⊎◌, ◌+◌, ◌<◌, ◌≤◌, ◌++◌, length, take, drop, Some, IfOk, IfErr, OnOk, OnErr, option_map};
+ghost use Rattle.lw_words.specs.Cause.{Rose};
+ghost use Rattle.lw_mealy.specs.Table.{MachineTable as Table};
+ghost use Rattle.lw_json.specs.MachineText.{written_text};
+ghost use Rattle.lw_top.specs.Outcomes.{IsWriteStop, StandsOrWants};
+ghost use Rattle.lw_top.specs.Run.{Says, TakesAll, TakesSome};
+ghost use Rattle.lw_top.specs.declared.outcome.Outcome.{Outcome as Came};
+
+use crate::text::{NO_MEMORY, fixed_text, outcome_text};
+use crate::{Failed, Outcome, Sink};
+use lw_json::{Machine, machine_text};
+use lw_words::{Names, NoMemory};
+use std::alloc::Global;
+
+/// Puts some of the bytes from a place on, and says how many.
+fn put_from<K: Sink>(sink: &mut K, bytes: &[u8], done: usize) -> Result<usize, Failed>
+    requires { done < length bytes.now }
+    ensures some { IfOk result (λ n. (1 ≤ n) × (done + n ≤ length bytes.now)) }
+    ensures took { IfOk result (λ n. K.taken sink.new ≡ option_map (λ t. t ++ take n (drop done bytes.now)) (K.taken sink.old)) }
+    ensures left { OnErr result (K.taken sink.new ≡ K.taken sink.old) }
+    ensures failed { OnErr result (Rose (K.faults sink.old) (K.faults sink.new)) }
+    ensures counts { K.faults sink.old ≤ K.faults sink.new }
+{
+    sink.put(&bytes[done..])
+}
+
+/// Puts all the bytes into a sink, piece by piece.
+#[tactic(auto, using(crate::proofs::SinkLemmas::sink_steps))]
+fn put_all<K: Sink>(sink: &mut K, bytes: &[u8]) -> Result<(), Failed>
+    ensures ok { OnOk result (TakesAll bytes.now (K.taken sink.old) (K.taken sink.new)) }
+    ensures part { TakesSome bytes.now (K.taken sink.old) (K.taken sink.new) }
+    ensures failed { OnErr result (Rose (K.faults sink.old) (K.faults sink.new)) }
+    ensures counts { K.faults sink.old ≤ K.faults sink.new }
+{
+    let mut done = 0;
+    while done < bytes.len() {
+        done += put_from(sink, bytes, done)?;
+    }
+    Ok(())
+}
+
+/// Puts a text to a stream that may refuse it.
+fn put_text<K: Sink>(sink: &mut K, text: &str)
+    ensures whole { ¬ Rose (K.faults sink.old) (K.faults sink.new) → TakesAll text.now (K.taken sink.old) (K.taken sink.new) }
+    ensures counts { K.faults sink.old ≤ K.faults sink.new }
+{
+    let _refused = put_all(sink, text.as_bytes()).is_err();
+}
+
+/// Puts the text of an outcome to `err`. Where making the text wants memory, that is the outcome, and its text is put.
+pub(crate) fn say<E: Sink>(
+    alloc: Global,
+    outcome: Outcome,
+    inputs: Option<&Names>,
+    answers: usize,
+    err: &mut E,
+) -> Outcome
+    ensures outcome { StandsOrWants outcome result }
+    ensures said { ¬ Rose (E.faults err.old) (E.faults err.new) → Says (option_map (λ n. n.now) inputs.entry) answers result (E.taken err.old) (E.taken err.new) }
+    ensures counts { E.faults err.old ≤ E.faults err.new }
+{
+    if let Some(text) = fixed_text(&outcome) {
+        put_text(err, text);
+        return outcome;
+    }
+    let text = match inputs {
+        Some(names) => outcome_text(alloc, &outcome, names, answers),
+        None => Err(NoMemory),
+    };
+    match text {
+        Ok(text) => {
+            put_text(err, text.as_str());
+            outcome
+        }
+        Err(NoMemory) => {
+            put_text(err, NO_MEMORY);
+            Outcome::NoMemory
+        }
+    }
+}
+
+/// Writes the model to `out` and the line about it to `err`. Both texts are made before the first is put.
+fn write_model<O: Sink, E: Sink>(
+    alloc: Global,
+    machine: &Machine,
+    answers: usize,
+    out: &mut O,
+    err: &mut E,
+) -> Result<Outcome, Outcome>
+    ensures ok { IfOk result (λ o. o ≡ Came.Unchecked machine.now.mealy) }
+    ensures err { IfErr result (λ e. (e ≡ Came.NoMemory) ⊎ ((e ≡ Came.SinkFault) × (Rose (O.faults out.old) (O.faults out.new) ⊎ Rose (E.faults err.old) (E.faults err.new)))) }
+    ensures written { OnOk result (TakesAll (written_text machine.now) (O.taken out.old) (O.taken out.new)) }
+    ensures part { TakesSome (written_text machine.now) (O.taken out.old) (O.taken out.new) }
+    ensures line { IfOk result (λ o. Says (Some machine.now.inputs) answers o (E.taken err.old) (E.taken err.new)) }
+    ensures unsaid { OnErr result (¬ Rose (E.faults err.old) (E.faults err.new) → E.taken err.new ≡ E.taken err.old) }
+    ensures counts { (O.faults out.old ≤ O.faults out.new) × (E.faults err.old ≤ E.faults err.new) }
+{
+    let Ok(text) = machine_text(alloc, machine) else {
+        return Err(Outcome::NoMemory);
+    };
+    let Ok(model) = machine.mealy.copy() else {
+        return Err(Outcome::NoMemory);
+    };
+    let outcome = Outcome::Unchecked { model };
+    let Ok(line) = outcome_text(alloc, &outcome, &machine.inputs, answers) else {
+        return Err(Outcome::NoMemory);
+    };
+    let Ok(()) = put_all(out, &text) else {
+        return Err(Outcome::SinkFault);
+    };
+    let Ok(()) = put_all(err, line.as_bytes()) else {
+        return Err(Outcome::SinkFault);
+    };
+    Ok(outcome)
+}
+
+/// Writes the model and the line about it, or says to `err` why that was not done.
+pub(crate) fn tell_model<O: Sink, E: Sink>(
+    alloc: Global,
+    machine: &Machine,
+    answers: usize,
+    out: &mut O,
+    err: &mut E,
+) -> Outcome
+    ensures outcome { IsWriteStop machine.now.mealy (Rose (O.faults out.old) (O.faults out.new) ⊎ Rose (E.faults err.old) (E.faults err.new)) result }
+    ensures written { (h : Table) → result ≡ Came.Unchecked h → TakesAll (written_text machine.now) (O.taken out.old) (O.taken out.new) }
+    ensures part { TakesSome (written_text machine.now) (O.taken out.old) (O.taken out.new) }
+    ensures said { ¬ Rose (E.faults err.old) (E.faults err.new) → Says (Some machine.now.inputs) answers result (E.taken err.old) (E.taken err.new) }
+    ensures counts { (O.faults out.old ≤ O.faults out.new) × (E.faults err.old ≤ E.faults err.new) }
+{
+    match write_model(alloc, machine, answers, out, err) {
+        Ok(outcome) => outcome,
+        Err(refusal) => say(alloc, refusal, None, answers, err),
+    }
+}
