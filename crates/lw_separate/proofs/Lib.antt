@@ -6,6 +6,8 @@ pub mod Greedy
 pub mod LengthLemmas
 pub mod MergeLemmas
 pub mod SearchLemmas
+pub mod SourceLemmas
 pub mod SplitLemmas
 pub mod UniqueLemmas
 pub mod WalkLemmas
+pub mod WorkLemmas

@@ -6,3 +6,6 @@ pub mod Names
 pub mod Search
 pub mod Searched
 pub mod Separators
+pub mod Sources
+pub mod Working
+pub mod Worklist

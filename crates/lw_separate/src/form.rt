@@ -6,8 +6,8 @@ ghost use Rattle.lw_separate.specs.Lengths.{IsFilled};
 ghost use Rattle.lw_separate.specs.Names.{NamesStates, NamesPlaces, IsAllStates};
 
 use crate::access::breadth_first;
-use crate::lengths::fill;
 use crate::rename::rename;
+use crate::worklist::fill;
 use lw_mealy::Mealy;
 use lw_words::NoMemory;
 use std::alloc::Global;

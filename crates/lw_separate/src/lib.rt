@@ -6,7 +6,9 @@ mod form;
 mod lengths;
 mod rename;
 mod separate;
+mod sources;
 mod suite;
+mod worklist;
 
 pub use access::access_words;
 pub use form::{canonical, canonical_is_unique};

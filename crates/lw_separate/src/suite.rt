@@ -6,8 +6,8 @@ ghost use Rattle.lw_mealy.specs.Minimal.{IsMinimal};
 ghost use Rattle.lw_separate.specs.Lengths.{IsFilled};
 ghost use Rattle.lw_separate.specs.Separators.{SeparatesUpTo, IsSeparators, Splits};
 
-use crate::lengths::fill;
 use crate::separate::least_word;
+use crate::worklist::fill;
 use lw_mealy::Mealy;
 use lw_words::{NoMemory, Word, Words};
 use std::alloc::Global;
