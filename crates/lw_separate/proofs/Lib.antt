@@ -1,13 +1,13 @@
 pub mod AccessLemmas
 pub mod Before
 pub mod CanonicalLemmas
+pub mod ClassLemmas
 pub mod CrowdLemmas
 pub mod Greedy
 pub mod LengthLemmas
 pub mod MergeLemmas
 pub mod SearchLemmas
 pub mod SourceLemmas
-pub mod SplitLemmas
 pub mod UniqueLemmas
 pub mod WalkLemmas
 pub mod WorkLemmas

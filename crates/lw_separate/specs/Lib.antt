@@ -1,5 +1,6 @@
 pub mod Before
 pub mod Canonical
+pub mod Classes
 pub mod Least
 pub mod Lengths
 pub mod Names

@@ -40,7 +40,7 @@ fn representatives(alloc: Global, m: &Mealy) -> Result<Vec<u16>, NoMemory>
 }
 
 /// All states, in their order.
-fn all_states(alloc: Global, m: &Mealy) -> Result<Vec<u16>, NoMemory>
+pub fn all_states(alloc: Global, m: &Mealy) -> Result<Vec<u16>, NoMemory>
     ensures states { IfOk result (λ states. IsAllStates m.now.rows states.items) }
     ensures table { OnOk result (IsTable m.now) }
 {

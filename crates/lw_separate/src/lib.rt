@@ -2,6 +2,7 @@
 #![tactic(auto)]
 
 mod access;
+mod classes;
 mod form;
 mod lengths;
 mod rename;
