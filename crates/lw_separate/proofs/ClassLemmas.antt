@@ -9,7 +9,7 @@ use Rattle.std.proofs.lemmas.List.Elements.{All-get_or}
 use Rattle.lw_words.specs.Word.{IsWord}
 use Rattle.lw_mealy.specs.Machine.{Rows, IsMachine, next, output, out}
 use Rattle.lw_mealy.proofs.RowLemmas.{target_below}
-use Rattle.lw_separate.specs.Classes.{AreNames, AreClasses, Observes, IsLeastAlike, Refines, RefinesBy}
+use Rattle.lw_separate.specs.Classes.{AreNames, AreClasses, Observes, IsLeastAlike, Refines, SplitsBy, RefinesBy}
 use Rattle.lw_separate.specs.Names.{IsAllStates}
 use Rattle.lw_separate.specs.Separators.{Splits}
 use Rattle.lw_separate.proofs.CrowdLemmas.{Apart, Alike, apart_or_alike}
@@ -71,25 +71,6 @@ refines_more outputs cs ks q r f lt a = record {
       least = λ p lp is. a.least p lp (same p (omega (arith, a.within)) ∙ (is ∙ sym (same q (omega arith))));
     }
 
-module _ (m : Rows) (outputs cs ks : List ℕ) (n : AreNames m cs) (f : Refines outputs 0 cs ks) (p q : ℕ) (lp : p < length m) (lq : q < length m) where
-  at : (k : ℕ) → k < length m → IsLeastAlike cs outputs k (get_or ks k 0)
-  at k lk = f.done k (omega arith) (omega (arith, n.long))
-
-  split_class : get_or ks p 0 ≡ get_or ks q 0 → get_or cs p 0 ≡ get_or cs q 0
-  split_class is = sym (at p lp).class ∙ (ap (λ (r : ℕ). get_or cs r 0) is ∙ (at q lq).class)
-
-  split_output : get_or ks p 0 ≡ get_or ks q 0 → get_or outputs p 0 ≡ get_or outputs q 0
-  split_output is = sym (at p lp).output ∙ (ap (λ (r : ℕ). get_or outputs r 0) is ∙ (at q lq).output)
-
-  split_back : get_or cs p 0 ≡ get_or cs q 0 → get_or outputs p 0 ≡ get_or outputs q 0 → get_or ks p 0 ≡ get_or ks q 0
-  split_back class out_is = ⊎_elim
-      (λ (s : get_or ks p 0 ≡ get_or ks q 0). s)
-      (λ (o : (get_or ks p 0 < get_or ks q 0) ⊎ (get_or ks q 0 < get_or ks p 0)). ⊎_elim
-      (λ (l : get_or ks p 0 < get_or ks q 0). absurd ((at q lq).least (get_or ks p 0) l ((at p lp).class ∙ class) ((at p lp).output ∙ out_is)))
-      (λ (l : get_or ks q 0 < get_or ks p 0). absurd ((at p lp).least (get_or ks q 0) l ((at q lq).class ∙ sym class) ((at q lq).output ∙ sym out_is)))
-      o)
-      (cases_order (get_or ks p 0) (get_or ks q 0))
-
 -- of a word these letters are left; the classes and the outputs on what is left tell what the old classes and the outputs on the whole word do
 pub record Follows (m : Rows) (w old rest ends classes : List ℕ) : Type 0 where
   pub long : length ends ≡ length m
@@ -118,7 +99,7 @@ tails_same x y u v e = cc
 both_same : (x y : ℕ) (u v : List ℕ) → x ≡ y → u ≡ v → x ∷ u ≡ y ∷ v
 both_same x y u v e f = cc
 
-module _ (a : ℕ) (m : Rows) (w old : List ℕ) (x : ℕ) (v ends ends' outputs cs ks : List ℕ) (machine : IsMachine a m) (xa : x < a) (f : Follows m w old (x ∷ v) ends cs) (o : Observes m x (length ends) ends ends' outputs) (r : Refines outputs 0 cs ks) where
+module _ (a : ℕ) (m : Rows) (w old : List ℕ) (x : ℕ) (v ends ends' outputs cs ks : List ℕ) (machine : IsMachine a m) (xa : x < a) (f : Follows m w old (x ∷ v) ends cs) (o : Observes m x (length ends) ends ends' outputs) (r : SplitsBy m outputs cs ks) where
   to : (q : ℕ) → q < length m → get_or ends' q 0 ≡ next m (get_or ends q 0) x
   to q lq = o.to q (omega (arith, f.long))
 
@@ -127,23 +108,23 @@ module _ (a : ℕ) (m : Rows) (w old : List ℕ) (x : ℕ) (v ends ends' outputs
 
   on_still : (p q : ℕ) → p < length m → q < length m → get_or ks p 0 ≡ get_or ks q 0 → out m (get_or ends' p 0) v ≡ out m (get_or ends' q 0) v → (get_or old p 0 ≡ get_or old q 0) × (out m p w ≡ out m q w)
   on_still p q lp lq class is =
-      let heads : output m (get_or ends p 0) x ≡ output m (get_or ends q 0) x = sym (seen p lp) ∙ (split_output m outputs cs ks f.names r p q lp lq class ∙ seen q lq) in
+      let heads : output m (get_or ends p 0) x ≡ output m (get_or ends q 0) x = sym (seen p lp) ∙ (r.output p q lp lq class ∙ seen q lq) in
       let tails : out m (next m (get_or ends p 0) x) v ≡ out m (next m (get_or ends q 0) x) v = ap (λ (t : ℕ). out m t v) (sym (to p lp)) ∙ (is ∙ ap (λ (t : ℕ). out m t v) (to q lq)) in
-      f.on p q lp lq (split_class m outputs cs ks f.names r p q lp lq class) (both_same (output m (get_or ends p 0) x) (output m (get_or ends q 0) x) (out m (next m (get_or ends p 0) x) v) (out m (next m (get_or ends q 0) x) v) heads tails)
+      f.on p q lp lq (r.class p q lp lq class) (both_same (output m (get_or ends p 0) x) (output m (get_or ends q 0) x) (out m (next m (get_or ends p 0) x) v) (out m (next m (get_or ends q 0) x) v) heads tails)
 
   back_still : (p q : ℕ) → p < length m → q < length m → get_or old p 0 ≡ get_or old q 0 → out m p w ≡ out m q w → (get_or ks p 0 ≡ get_or ks q 0) × (out m (get_or ends' p 0) v ≡ out m (get_or ends' q 0) v)
   back_still p q lp lq class is =
       let b = f.back p q lp lq class is in
       let heads : output m (get_or ends p 0) x ≡ output m (get_or ends q 0) x = heads_same (output m (get_or ends p 0) x) (output m (get_or ends q 0) x) (out m (next m (get_or ends p 0) x) v) (out m (next m (get_or ends q 0) x) v) b.1 in
       let tails : out m (next m (get_or ends p 0) x) v ≡ out m (next m (get_or ends q 0) x) v = tails_same (output m (get_or ends p 0) x) (output m (get_or ends q 0) x) (out m (next m (get_or ends p 0) x) v) (out m (next m (get_or ends q 0) x) v) b.1 in
-      (split_back m outputs cs ks f.names r p q lp lq b.0 (seen p lp ∙ (heads ∙ sym (seen q lq))), ap (λ (t : ℕ). out m t v) (to p lp) ∙ (tails ∙ ap (λ (t : ℕ). out m t v) (sym (to q lq))))
+      (r.back p q lp lq b.0 (seen p lp ∙ (heads ∙ sym (seen q lq))), ap (λ (t : ℕ). out m t v) (to p lp) ∙ (tails ∙ ap (λ (t : ℕ). out m t v) (sym (to q lq))))
 
   -- one letter more
   pub follows_more : Follows m w old v ends' ks
   follows_more = record {
     long = o.long ∙ f.long;
     states = λ q lq. let lm : q < length m = omega (arith, o.long, f.long) in omega (arith, to q lm, target_below a m (get_or ends q 0) x machine (f.states q (omega (arith, f.long))) xa);
-    names = record { long = r.long ∙ f.names.long; low = λ q lq. (r.done q (omega arith) (omega (arith, f.names.long))).within };
+    names = r.names;
     on = on_still;
     back = back_still;
   }
@@ -159,12 +140,12 @@ drop_next : (w : List ℕ) (k : ℕ) → k < length w → drop k w ≡ get_or w 
 drop_next w k lt = rw (add-one, drop-cons w k 0)
 
 -- the same by the place of the letter
-pub follows_next : (a : ℕ) (m : Rows) (w old : List ℕ) (k x : ℕ) (ends ends' outputs seen cs ks : List ℕ) → IsMachine a m → IsWord a w → k < length w → x ≡ get_or w k 0 → Follows m w old (drop k w) ends cs → Observes m x (length ends) ends ends' outputs → seen ≡ outputs → Refines seen 0 cs ks → Follows m w old (drop (k + 1) w) ends' ks
+pub follows_next : (a : ℕ) (m : Rows) (w old : List ℕ) (k x : ℕ) (ends ends' outputs seen cs ks : List ℕ) → IsMachine a m → IsWord a w → k < length w → x ≡ get_or w k 0 → Follows m w old (drop k w) ends cs → Observes m x (length ends) ends ends' outputs → seen ≡ outputs → SplitsBy m seen cs ks → Follows m w old (drop (k + 1) w) ends' ks
 follows_next a m w old k x ends ends' outputs seen cs ks machine letters lt is f o same r =
     let xa : get_or w k 0 < a = All-get_or (λ y. y < a) w k 0 lt letters in
     let f' : Follows m w old (get_or w k 0 ∷ drop (k + 1) w) ends cs = subst (λ (v : List ℕ). Follows m w old v ends cs) (drop_next w k lt) f in
     let o' : Observes m (get_or w k 0) (length ends) ends ends' outputs = subst (λ (y : ℕ). Observes m y (length ends) ends ends' outputs) is o in
-    let r' : Refines outputs 0 cs ks = subst (λ (l : List ℕ). Refines l 0 cs ks) same r in
+    let r' : SplitsBy m outputs cs ks = subst (λ (l : List ℕ). SplitsBy m l cs ks) same r in
     follows_more a m w old (get_or w k 0) (drop (k + 1) w) ends ends' outputs cs ks machine xa f' o' r'
 
 pub follows_done : (m : Rows) (w old : List ℕ) (k : ℕ) (ends classes : List ℕ) → length w ≤ k → Follows m w old (drop k w) ends classes → RefinesBy m w old classes

@@ -38,6 +38,13 @@ pub record Refines (outputs : List ℕ) (q : ℕ) (classes classes' : List ℕ) 
   pub before : (k : ℕ) → k < q → slice_index classes' k ≡ slice_index classes k
   pub done : (k : ℕ) → q ≤ k → k < length classes → IsLeastAlike classes outputs k (slice_index classes' k)
 
+-- two states have one class exactly where they had one and their outputs are equal
+pub record SplitsBy (m : Rows) (outputs classes classes' : List ℕ) : Type 0 where
+  pub names : AreNames m classes'
+  pub class : (p q : ℕ) → p < length m → q < length m → slice_index classes' p ≡ slice_index classes' q → slice_index classes p ≡ slice_index classes q
+  pub output : (p q : ℕ) → p < length m → q < length m → slice_index classes' p ≡ slice_index classes' q → slice_index outputs p ≡ slice_index outputs q
+  pub back : (p q : ℕ) → p < length m → q < length m → slice_index classes p ≡ slice_index classes q → slice_index outputs p ≡ slice_index outputs q → slice_index classes' p ≡ slice_index classes' q
+
 -- two states have one class exactly where they had one and their outputs on the word are equal
 pub record RefinesBy (m : Rows) (w : List ℕ) (classes classes' : List ℕ) : Type 0 where
   pub names : AreNames m classes'

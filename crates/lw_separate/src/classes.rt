@@ -1,6 +1,7 @@
 ghost use Rattle.std.specs.Prelude.{◌≡◌, ℕ, ◌<◌, ◌≤◌, [], length, slice_index, IfOk, OnOk};
+ghost use Rattle.std.specs.Bool.{OnTrue};
 ghost use Rattle.lw_words.specs.Word.{IsWord};
-ghost use Rattle.lw_separate.specs.Classes.{AreClasses, AreNames, Observes, IsLeastAlike, Refines, RefinesBy};
+ghost use Rattle.lw_separate.specs.Classes.{AreClasses, AreNames, Observes, IsLeastAlike, Refines, SplitsBy, RefinesBy};
 
 use crate::form::all_states;
 use lw_mealy::Mealy;
@@ -44,14 +45,35 @@ fn least_alike(classes: &[u16], outputs: &[u16], q: usize) -> u16
     q as u16
 }
 
-/// Splits each class by the outputs.
-fn split(m: &Mealy, classes: &mut Vec<u16>, outputs: &[u16])
+/// Whether all outputs are equal.
+fn all_equal(outputs: &[u16]) -> bool
+    ensures { OnTrue result ((p q : ℕ) → p < length outputs.now → q < length outputs.now → slice_index outputs.now p ≡ slice_index outputs.now q) }
+{
+    let Some(first) = outputs.first() else {
+        return true;
+    };
+    outputs.iter().all(|output| output == first)
+}
+
+/// Names each state by the least of its class with its output, from the last state down.
+fn rename_each(m: &Mealy, classes: &mut Vec<u16>, outputs: &[u16])
     requires names { AreNames m.now.rows classes.old.items }
     requires long { length outputs.now ≡ length m.now.rows }
     ensures { Refines outputs.now 0 classes.old.items classes.new.items }
 {
     for q in (0..usize::from(m.states())).rev() {
         classes[q] = least_alike(classes.as_slice(), outputs, q);
+    }
+}
+
+/// Splits each class by the outputs. Most letters split none.
+fn split(m: &Mealy, classes: &mut Vec<u16>, outputs: &[u16])
+    requires names { AreNames m.now.rows classes.old.items }
+    requires long { length outputs.now ≡ length m.now.rows }
+    ensures { SplitsBy m.now.rows outputs.now classes.old.items classes.new.items }
+{
+    if !all_equal(outputs) {
+        rename_each(m, classes, outputs);
     }
 }
 
