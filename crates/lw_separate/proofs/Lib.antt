@@ -2,6 +2,7 @@ pub mod AccessLemmas
 pub mod Before
 pub mod CanonicalLemmas
 pub mod ClassLemmas
+pub mod ColumnLemmas
 pub mod CrowdLemmas
 pub mod Greedy
 pub mod LengthLemmas

@@ -1,6 +1,6 @@
 -- Classes of states by their outputs on the words of a list. Source: the refinement of partitions of Moore (1956).
 use Rattle.std.specs.Prelude.{◌≡◌, ◌≢◌, ℕ, ◌<◌, ◌≤◌, List, [], length, slice_index, slice_index_or}
-use Rattle.lw_mealy.specs.Machine.{Rows, next, output, out}
+use Rattle.lw_mealy.specs.Machine.{Rows, out}
 
 -- the outputs of two states on each word are equal
 abbrev pub SameOn : Rows → List (List ℕ) → ℕ → ℕ → Type 0
@@ -17,13 +17,17 @@ pub record AreClasses (m : Rows) (list : List (List ℕ)) (classes : List ℕ) :
   pub same : (p q : ℕ) → p < length m → q < length m → slice_index classes p ≡ slice_index classes q → SameOn m list p q
   pub apart : (p q : ℕ) → p < length m → q < length m → SameOn m list p q → slice_index classes p ≡ slice_index classes q
 
--- the first n states go on by a letter, and their outputs on it are kept
-pub record Observes (m : Rows) (x n : ℕ) (ends ends' outputs : List ℕ) : Type 0 where
+-- the first n states go on by the letter of a column, and their outputs on it are kept
+pub record Observes (column : List (ℕ × ℕ)) (n : ℕ) (ends ends' outputs : List ℕ) : Type 0 where
   pub long : length ends' ≡ length ends
   pub kept : length outputs ≡ length ends
-  pub to : (k : ℕ) → k < n → slice_index ends' k ≡ next m (slice_index ends k) x
-  pub output : (k : ℕ) → k < n → slice_index outputs k ≡ output m (slice_index ends k) x
+  pub to : (k : ℕ) → k < n → slice_index ends' k ≡ (slice_index_or column (slice_index ends k) (0, 0)).0
+  pub output : (k : ℕ) → k < n → slice_index outputs k ≡ (slice_index_or column (slice_index ends k) (0, 0)).1
   pub rest : (k : ℕ) → n ≤ k → slice_index ends' k ≡ slice_index ends k
+
+-- the first n outputs are equal
+abbrev pub AllEqual : ℕ → List ℕ → Type 0
+AllEqual n outputs = (k : ℕ) → k < n → slice_index outputs k ≡ slice_index outputs 0
 
 -- p is the least state with the class and the output of q
 pub record IsLeastAlike (classes outputs : List ℕ) (q p : ℕ) : Type 0 where

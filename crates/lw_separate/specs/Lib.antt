@@ -1,5 +1,6 @@
 pub mod Before
 pub mod Canonical
+pub mod Columns
 pub mod Classes
 pub mod Least
 pub mod Lengths

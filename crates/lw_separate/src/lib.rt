@@ -3,6 +3,7 @@
 
 mod access;
 mod classes;
+mod columns;
 mod form;
 mod lengths;
 mod rename;

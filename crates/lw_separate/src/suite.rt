@@ -1,27 +1,39 @@
-ghost use Rattle.std.specs.Prelude.{◌+◌, ◌<◌, length, IfOk, OnOk};
+ghost use Rattle.std.specs.Prelude.{◌+◌, ◌<◌, length, map, IfOk, OnOk};
 ghost use Rattle.lw_mealy.specs.Minimal.{IsMinimal};
 ghost use Rattle.lw_separate.specs.Lengths.{IsFilled};
+ghost use Rattle.lw_separate.specs.Columns.{AreColumns};
 ghost use Rattle.lw_separate.specs.Classes.{AreClasses};
 ghost use Rattle.lw_separate.specs.Separators.{SeparatesUpTo, IsSeparators};
 
 use crate::classes::{one_class, refine};
+use crate::columns::columns;
 use crate::separate::least_word;
 use crate::worklist::fill;
 use lw_mealy::Mealy;
 use lw_words::{NoMemory, Word, Words};
 use std::alloc::Global;
 
+/// What the walk over the pairs of states reads.
+#[derive(Drop)]
+struct Tables {
+    /// The length of a shortest separating word of each pair.
+    lengths: Vec<u32>,
+    /// The targets and outputs of all states at each letter.
+    columns: Vec<Vec<(u16, u16)>>,
+}
+
 /// Adds the least word that separates two states, where no word of the list does yet.
 fn add_pair(
     alloc: Global,
     m: &Mealy,
-    lengths: &[u32],
+    tables: &Tables,
     words: &mut Words,
     classes: &mut Vec<u16>,
     p: u16,
     q: u16,
 ) -> Result<(), NoMemory>
-    requires filled { IsFilled m.now.inputs m.now.rows lengths.now }
+    requires filled { IsFilled m.now.inputs m.now.rows tables.now.lengths.items }
+    requires columns { AreColumns m.now.inputs m.now.rows (map (λ c. c.items) tables.now.columns.items) }
     requires minimal { IsMinimal m.now.inputs m.now.rows }
     requires pair { p < q }
     requires state { q < length m.now.rows }
@@ -34,10 +46,16 @@ fn add_pair(
         return Ok(());
     }
     let n = usize::from(m.states());
-    let Some(word) = least_word(alloc, m, lengths, usize::from(p) * n + usize::from(q))? else {
+    let Some(word) = least_word(
+        alloc,
+        m,
+        tables.lengths.as_slice(),
+        usize::from(p) * n + usize::from(q),
+    )?
+    else {
         unreachable!();
     };
-    refine(alloc, m, classes, &word)?;
+    refine(alloc, m, tables.columns.as_slice(), classes, &word)?;
     let Ok(()) = words.push(word) else {
         return Err(NoMemory);
     };
@@ -48,12 +66,13 @@ fn add_pair(
 fn add_row(
     alloc: Global,
     m: &Mealy,
-    lengths: &[u32],
+    tables: &Tables,
     words: &mut Words,
     classes: &mut Vec<u16>,
     p: u16,
 ) -> Result<(), NoMemory>
-    requires filled { IsFilled m.now.inputs m.now.rows lengths.now }
+    requires filled { IsFilled m.now.inputs m.now.rows tables.now.lengths.items }
+    requires columns { AreColumns m.now.inputs m.now.rows (map (λ c. c.items) tables.now.columns.items) }
     requires minimal { IsMinimal m.now.inputs m.now.rows }
     requires state { p < length m.now.rows }
     requires so_far { SeparatesUpTo m.now.inputs m.now.rows (p, p + 1) words.old }
@@ -63,7 +82,7 @@ fn add_row(
 {
     let n = m.states();
     for q in p + 1..n {
-        add_pair(alloc, m, lengths, words, classes, p, q)?;
+        add_pair(alloc, m, tables, words, classes, p, q)?;
     }
     Ok(())
 }
@@ -76,11 +95,14 @@ pub fn separators(alloc: Global, m: &Mealy) -> Result<Words, NoMemory>
     ensures separators { IfOk result (IsSeparators m.now.inputs m.now.rows) }
     ensures few { IfOk result (λ words. length words < length m.now.rows) }
 {
-    let lengths = fill(alloc, m)?;
+    let tables = Tables {
+        lengths: fill(alloc, m)?,
+        columns: columns(alloc, m)?,
+    };
     let mut words = Words::new(alloc);
     let mut classes = one_class(alloc, m)?;
     for p in 0..m.states() {
-        add_row(alloc, m, lengths.as_slice(), &mut words, &mut classes, p)?;
+        add_row(alloc, m, &tables, &mut words, &mut classes, p)?;
     }
     Ok(words)
 }
