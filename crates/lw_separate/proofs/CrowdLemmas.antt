@@ -38,13 +38,13 @@ same_or_not u v =
 
 module _ (m : Rows) (list : List (List ℕ)) where
   -- one of the first k words separates the states, or none does
-  abbrev Apart : ℕ → ℕ → ℕ → Type 0
+  abbrev pub Apart : ℕ → ℕ → ℕ → Type 0
   Apart k s t = (h : ℕ) × (h < k) × (out m s (get_or list h []) ≢ out m t (get_or list h []))
 
-  abbrev Alike : ℕ → ℕ → ℕ → Type 0
+  abbrev pub Alike : ℕ → ℕ → ℕ → Type 0
   Alike k s t = (h : ℕ) → h < k → out m s (get_or list h []) ≡ out m t (get_or list h [])
 
-  apart_or_alike : (k s t : ℕ) → Apart k s t ⊎ Alike k s t
+  pub apart_or_alike : (k s t : ℕ) → Apart k s t ⊎ Alike k s t
   apart_or_alike zero s t = inr (λ h lt. absurd (omega arith))
   apart_or_alike (suc k) s t =
       ⊎_elim

@@ -1,6 +1,8 @@
 pub mod AccessLemmas
 pub mod Before
 pub mod CanonicalLemmas
+pub mod ClassLemmas
+pub mod ColumnLemmas
 pub mod CrowdLemmas
 pub mod Existence
 pub mod ExistenceSearch
@@ -9,6 +11,7 @@ pub mod Greedy
 pub mod LengthLemmas
 pub mod MergeLemmas
 pub mod SearchLemmas
-pub mod SplitLemmas
+pub mod SourceLemmas
 pub mod UniqueLemmas
 pub mod WalkLemmas
+pub mod WorkLemmas

@@ -1,8 +1,13 @@
 pub mod Before
 pub mod Canonical
+pub mod Columns
+pub mod Classes
 pub mod Least
 pub mod Lengths
 pub mod Names
 pub mod Search
 pub mod Searched
 pub mod Separators
+pub mod Sources
+pub mod Working
+pub mod Worklist

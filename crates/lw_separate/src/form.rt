@@ -6,8 +6,8 @@ ghost use Rattle.lw_separate.specs.Lengths.{IsFilled};
 ghost use Rattle.lw_separate.specs.Names.{NamesStates, NamesPlaces, IsAllStates};
 
 use crate::access::breadth_first;
-use crate::lengths::fill;
 use crate::rename::rename;
+use crate::worklist::fill;
 use lw_mealy::Mealy;
 use lw_words::NoMemory;
 use std::alloc::Global;
@@ -40,7 +40,7 @@ fn representatives(alloc: Global, m: &Mealy) -> Result<Vec<u16>, NoMemory>
 }
 
 /// All states, in their order.
-fn all_states(alloc: Global, m: &Mealy) -> Result<Vec<u16>, NoMemory>
+pub fn all_states(alloc: Global, m: &Mealy) -> Result<Vec<u16>, NoMemory>
     ensures states { IfOk result (λ states. IsAllStates m.now.rows states.items) }
     ensures table { OnOk result (IsTable m.now) }
 {

@@ -2,11 +2,15 @@
 #![tactic(auto)]
 
 mod access;
+mod classes;
+mod columns;
 mod form;
 mod lengths;
 mod rename;
 mod separate;
+mod sources;
 mod suite;
+mod worklist;
 
 pub use access::access_words;
 pub use form::{canonical, canonical_exists, canonical_is_unique};

@@ -2,7 +2,8 @@ ghost use Rattle.std.specs.Prelude.{◌≡◌, ℕ, ◌<◌, length, IfOk};
 ghost use Rattle.lw_separate.specs.Least.{IsSeparatingWord};
 ghost use Rattle.lw_separate.specs.Lengths.{IsFilled, IsTableOf, first_of, second_of, onward};
 
-use crate::lengths::{fill, first_letter};
+use crate::lengths::first_letter;
+use crate::worklist::fill;
 use lw_mealy::Mealy;
 use lw_words::{NoMemory, Word};
 use std::alloc::Global;

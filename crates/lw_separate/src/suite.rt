@@ -1,76 +1,61 @@
-ghost use Rattle.std.specs.Prelude.{◌≡◌, ◌≢◌, ℕ, ◌+◌, ◌<◌, ◌↔◌, [], length, IfOk, OnOk, IsTrue};
-ghost use Rattle.std.specs.List.{All};
-ghost use Rattle.lw_words.specs.Word.{IsWord};
-ghost use Rattle.lw_mealy.specs.Machine.{out};
+ghost use Rattle.std.specs.Prelude.{◌+◌, ◌<◌, length, map, IfOk, OnOk};
 ghost use Rattle.lw_mealy.specs.Minimal.{IsMinimal};
 ghost use Rattle.lw_separate.specs.Lengths.{IsFilled};
-ghost use Rattle.lw_separate.specs.Separators.{SeparatesUpTo, IsSeparators, Splits};
+ghost use Rattle.lw_separate.specs.Columns.{AreColumns};
+ghost use Rattle.lw_separate.specs.Classes.{AreClasses};
+ghost use Rattle.lw_separate.specs.Separators.{SeparatesUpTo, IsSeparators};
 
-use crate::lengths::fill;
+use crate::classes::{one_class, refine};
+use crate::columns::columns;
 use crate::separate::least_word;
+use crate::worklist::fill;
 use lw_mealy::Mealy;
 use lw_words::{NoMemory, Word, Words};
 use std::alloc::Global;
 
-/// Whether the outputs of two states differ on a word.
-fn differ_on(m: &Mealy, p: u16, q: u16, w: &Word) -> bool
-    requires first { p < length m.now.rows }
-    requires second { q < length m.now.rows }
-    requires letters { IsWord m.now.inputs w.now }
-    ensures { IsTrue result ↔ (out m.now.rows p w.now ≢ out m.now.rows q w.now) }
-{
-    let mut first = p;
-    let mut second = q;
-    for x in w.as_slice() {
-        let (to_first, y) = m.step(first, *x);
-        let (to_second, z) = m.step(second, *x);
-        if y != z {
-            return true;
-        }
-        first = to_first;
-        second = to_second;
-    }
-    false
-}
-
-/// Whether a word of the list separates two states.
-fn splits(m: &Mealy, words: &Words, p: u16, q: u16) -> bool
-    requires first { p < length m.now.rows }
-    requires second { q < length m.now.rows }
-    requires letters { All (IsWord m.now.inputs) words.now }
-    ensures { Splits m.now.rows words.now p q result }
-{
-    for w in words.as_slice() {
-        if differ_on(m, p, q, w) {
-            return true;
-        }
-    }
-    false
+/// What the walk over the pairs of states reads.
+#[derive(Drop)]
+struct Tables {
+    /// The length of a shortest separating word of each pair.
+    lengths: Vec<u32>,
+    /// The targets and outputs of all states at each letter.
+    columns: Vec<Vec<(u16, u16)>>,
 }
 
 /// Adds the least word that separates two states, where no word of the list does yet.
 fn add_pair(
     alloc: Global,
     m: &Mealy,
-    lengths: &[u32],
+    tables: &Tables,
     words: &mut Words,
+    classes: &mut Vec<u16>,
     p: u16,
     q: u16,
 ) -> Result<(), NoMemory>
-    requires filled { IsFilled m.now.inputs m.now.rows lengths.now }
+    requires filled { IsFilled m.now.inputs m.now.rows tables.now.lengths.items }
+    requires columns { AreColumns m.now.inputs m.now.rows (map (λ c. c.items) tables.now.columns.items) }
     requires minimal { IsMinimal m.now.inputs m.now.rows }
     requires pair { p < q }
     requires state { q < length m.now.rows }
     requires so_far { SeparatesUpTo m.now.inputs m.now.rows (p, q) words.old }
-    ensures { OnOk result (SeparatesUpTo m.now.inputs m.now.rows (p, q + 1) words.new) }
+    requires classes { AreClasses m.now.rows words.old classes.old.items }
+    ensures so_far { OnOk result (SeparatesUpTo m.now.inputs m.now.rows (p, q + 1) words.new) }
+    ensures classes { OnOk result (AreClasses m.now.rows words.new classes.new.items) }
 {
-    if splits(m, words, p, q) {
+    if classes[usize::from(p)] != classes[usize::from(q)] {
         return Ok(());
     }
     let n = usize::from(m.states());
-    let Some(word) = least_word(alloc, m, lengths, usize::from(p) * n + usize::from(q))? else {
+    let Some(word) = least_word(
+        alloc,
+        m,
+        tables.lengths.as_slice(),
+        usize::from(p) * n + usize::from(q),
+    )?
+    else {
         unreachable!();
     };
+    refine(alloc, m, tables.columns.as_slice(), classes, &word)?;
     let Ok(()) = words.push(word) else {
         return Err(NoMemory);
     };
@@ -81,19 +66,23 @@ fn add_pair(
 fn add_row(
     alloc: Global,
     m: &Mealy,
-    lengths: &[u32],
+    tables: &Tables,
     words: &mut Words,
+    classes: &mut Vec<u16>,
     p: u16,
 ) -> Result<(), NoMemory>
-    requires filled { IsFilled m.now.inputs m.now.rows lengths.now }
+    requires filled { IsFilled m.now.inputs m.now.rows tables.now.lengths.items }
+    requires columns { AreColumns m.now.inputs m.now.rows (map (λ c. c.items) tables.now.columns.items) }
     requires minimal { IsMinimal m.now.inputs m.now.rows }
     requires state { p < length m.now.rows }
     requires so_far { SeparatesUpTo m.now.inputs m.now.rows (p, p + 1) words.old }
-    ensures { OnOk result (SeparatesUpTo m.now.inputs m.now.rows (p + 1, p + 1 + 1) words.new) }
+    requires classes { AreClasses m.now.rows words.old classes.old.items }
+    ensures so_far { OnOk result (SeparatesUpTo m.now.inputs m.now.rows (p + 1, p + 1 + 1) words.new) }
+    ensures classes { OnOk result (AreClasses m.now.rows words.new classes.new.items) }
 {
     let n = m.states();
     for q in p + 1..n {
-        add_pair(alloc, m, lengths, words, p, q)?;
+        add_pair(alloc, m, tables, words, classes, p, q)?;
     }
     Ok(())
 }
@@ -106,10 +95,14 @@ pub fn separators(alloc: Global, m: &Mealy) -> Result<Words, NoMemory>
     ensures separators { IfOk result (IsSeparators m.now.inputs m.now.rows) }
     ensures few { IfOk result (λ words. length words < length m.now.rows) }
 {
-    let lengths = fill(alloc, m)?;
+    let tables = Tables {
+        lengths: fill(alloc, m)?,
+        columns: columns(alloc, m)?,
+    };
     let mut words = Words::new(alloc);
+    let mut classes = one_class(alloc, m)?;
     for p in 0..m.states() {
-        add_row(alloc, m, lengths.as_slice(), &mut words, p)?;
+        add_row(alloc, m, &tables, &mut words, &mut classes, p)?;
     }
     Ok(words)
 }

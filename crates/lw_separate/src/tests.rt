@@ -5,7 +5,7 @@ use crate::{
     access_words, canonical, canonical_exists, canonical_is_unique, separating, separators,
 };
 use lw_mealy::Mealy;
-use lw_words::Word;
+use lw_words::{Word, Words};
 use std::alloc::Global;
 use std::test::Fail;
 
@@ -103,6 +103,19 @@ fn chain(alloc: Global, states: u16) -> Result<Mealy, Fail> {
         rows.push(row)?;
     }
     Ok(Mealy::new(alloc, 1, 2, rows)?)
+}
+
+/// Letter 0 leads to the next state, letter 1 back to the first: the last state alone tells it.
+fn ladder(alloc: Global, states: u16) -> Result<Mealy, Fail> {
+    let mut rows = Vec::new(alloc);
+    for q in 0..states {
+        let last = q + 1 == states;
+        let mut row = Vec::new(alloc);
+        row.push(if last { (q, 0) } else { (q + 1, 0) })?;
+        row.push((0, u16::from(last)))?;
+        rows.push(row)?;
+    }
+    Ok(Mealy::new(alloc, 2, 2, rows)?)
 }
 
 #[test]
@@ -208,24 +221,93 @@ fn separators_agree(alloc: Global, m: &Mealy, all: &[Word]) -> Result<bool, Fail
     )
 }
 
+/// Whether all four calls answer as the plain body, on a machine of at most five states over one or two letters.
+fn all_agree(alloc: Global, m: &Mealy) -> Result<bool, Fail> {
+    let all = plain::words(alloc, m.inputs())?;
+    let c = canonical(alloc, m)?;
+    Ok(
+        access_agrees(alloc, m, all.as_slice())?
+            && all_separating_agree(alloc, m, all.as_slice())?
+            && plain::is_canonical(alloc, m, &c, all.as_slice())?
+            && separators_agree(alloc, &c, all.as_slice())?,
+    )
+}
+
+#[test]
+fn one_state_as_the_plain_body(rt: HostRuntime) -> Result<(), Fail> {
+    let alloc = rt.alloc();
+    assert!(rt; all_agree(alloc, &machine(alloc, &[&[(0, 0)]])?)?);
+    assert!(rt; all_agree(alloc, &machine(alloc, &[&[(0, 3), (0, 1)]])?)?);
+    Ok(())
+}
+
+#[test]
+fn equal_and_unreachable_states_as_the_plain_body(rt: HostRuntime) -> Result<(), Fail> {
+    let alloc = rt.alloc();
+    assert!(rt; all_agree(alloc, &fat(alloc)?)?);
+    // No other state is reached from state 0, and no two differ.
+    let alike = machine(alloc, &[&[(0, 1)], &[(0, 1)], &[(1, 1)], &[(3, 1)]])?;
+    assert!(rt; all_agree(alloc, &alike)?);
+    // States 1 and 3 are alike, and so are 2 and 4; no word leads to 4.
+    let pairs = machine(
+        alloc,
+        &[
+            &[(1, 0), (3, 0)],
+            &[(2, 0), (1, 1)],
+            &[(0, 1), (2, 0)],
+            &[(2, 0), (3, 1)],
+            &[(0, 1), (4, 0)],
+        ],
+    )?;
+    assert!(rt; all_agree(alloc, &pairs)?);
+    Ok(())
+}
+
+#[test]
+fn chains_as_the_plain_body(rt: HostRuntime) -> Result<(), Fail> {
+    let alloc = rt.alloc();
+    for states in 1..6 {
+        assert!(rt; all_agree(alloc, &chain(alloc, states)?)?);
+        assert!(rt; all_agree(alloc, &ladder(alloc, states)?)?);
+    }
+    Ok(())
+}
+
+/// Whether the k-th word of a ladder has a letter less than there are states from the k-th on.
+fn falls(list: &Words, states: usize) -> bool {
+    let mut left = states;
+    for word in list.as_slice() {
+        left = left.wrapping_sub(1);
+        if word.len() != left {
+            return false;
+        }
+    }
+    left == 1
+}
+
+#[test]
+fn a_ladder_needs_a_word_for_each_step(rt: HostRuntime) -> Result<(), Fail> {
+    let alloc = rt.alloc();
+    for states in 2..40 {
+        let c = canonical(alloc, &ladder(alloc, states)?)?;
+        assert_eq!(rt; c.states(), states);
+        assert!(rt; falls(&separators(alloc, &c)?, usize::from(states)));
+    }
+    Ok(())
+}
+
 #[test]
 fn drawn_machines_as_the_plain_body(rt: HostRuntime) -> Result<(), Fail> {
     let alloc = rt.alloc();
     let mut draw = Draw(7);
     for _ in 0..300 {
-        let states = draw.below(4).wrapping_add(1);
+        let states = draw.below(5).wrapping_add(1);
         let inputs = if draw.below(2) == 0 { 1 } else { 2 };
         let outputs = if draw.below(2) == 0 { 1 } else { 2 };
         if states == 0 {
             return Err(Fail::from("no state"));
         }
-        let m = draw.machine(alloc, states, inputs, outputs)?;
-        let all = plain::words(alloc, inputs)?;
-        assert!(rt; access_agrees(alloc, &m, all.as_slice())?);
-        assert!(rt; all_separating_agree(alloc, &m, all.as_slice())?);
-        let c = canonical(alloc, &m)?;
-        assert!(rt; plain::is_canonical(alloc, &m, &c, all.as_slice())?);
-        assert!(rt; separators_agree(alloc, &c, all.as_slice())?);
+        assert!(rt; all_agree(alloc, &draw.machine(alloc, states, inputs, outputs)?)?);
     }
     Ok(())
 }

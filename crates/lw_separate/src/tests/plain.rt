@@ -1,4 +1,4 @@
-//! The four calls by trial: all words in shortlex order, on machines of at most four states.
+//! The four calls by trial: all words in shortlex order, on machines of at most five states.
 
 use lw_mealy::Mealy;
 use lw_words::Word;

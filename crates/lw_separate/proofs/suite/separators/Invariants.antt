@@ -1,6 +1,10 @@
 use Rattle.std.proofs.Common.{◌+◌}
+use Rattle.lw_separate.specs.Classes.{AreClasses}
 use Rattle.lw_separate.specs.Separators.{SeparatesUpTo}
 use Rattle.lw_separate.proofs.suite.separators.Given as goal
 
 abbrev pub invariant-loop-p : goal.invariant-loop-p
-invariant-loop-p l = SeparatesUpTo l.m.inputs l.m.rows (l.p, l.p + 1) l.words
+invariant-loop-p l = record {
+  so_far : SeparatesUpTo l.m.inputs l.m.rows (l.p, l.p + 1) l.words;
+  classes : AreClasses l.m.rows l.words l.classes.items;
+}

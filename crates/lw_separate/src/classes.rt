@@ -1,0 +1,96 @@
+ghost use Rattle.std.specs.Prelude.{◌≡◌, ℕ, ◌<◌, ◌≤◌, [], length, map, slice_index, IfOk, OnOk};
+ghost use Rattle.std.specs.Bool.{OnFalse};
+ghost use Rattle.lw_words.specs.Word.{IsWord};
+ghost use Rattle.lw_separate.specs.Columns.{AreColumns};
+ghost use Rattle.lw_separate.specs.Classes.{AllEqual, AreClasses, AreNames, Observes, IsLeastAlike, Refines, SplitsBy, RefinesBy};
+
+use crate::columns::column_of;
+use crate::form::all_states;
+use lw_mealy::Mealy;
+use lw_words::{NoMemory, Word};
+use std::alloc::Global;
+
+/// One class of all states, which no word separates.
+pub fn one_class(alloc: Global, m: &Mealy) -> Result<Vec<u16>, NoMemory>
+    ensures { IfOk result (λ classes. AreClasses m.now.rows [] classes.items) }
+{
+    Ok(vec![in alloc; 0u16; usize::from(m.states())]?)
+}
+
+/// Goes on by a letter from each state, and keeps the outputs. Answers whether two of them differ.
+fn observe(column: &[(u16, u16)], ends: &mut Vec<u16>, outputs: &mut Vec<u16>) -> bool
+    requires states { (q : ℕ) → q < length ends.old.items → slice_index ends.old.items q < length column.now }
+    requires long { length outputs.old.items ≡ length ends.old.items }
+    ensures observes { Observes column.now (length ends.old.items) ends.old.items ends.new.items outputs.new.items }
+    ensures equal { OnFalse result (AllEqual (length ends.old.items) outputs.new.items) }
+{
+    let mut differ = false;
+    for q in 0..ends.len() {
+        let (to, output) = column[usize::from(ends[q])];
+        ends[q] = to;
+        outputs[q] = output;
+        differ |= output != outputs[0];
+    }
+    differ
+}
+
+/// The least state with the class and the output of a state.
+fn least_alike(classes: &[u16], outputs: &[u16], q: usize) -> u16
+    requires state { q < length classes.now }
+    requires long { length outputs.now ≡ length classes.now }
+    requires few { length classes.now ≤ 1024 }
+    requires low { (p : ℕ) → p ≤ q → slice_index classes.now p ≤ p }
+    ensures { IsLeastAlike classes.now outputs.now q result }
+{
+    for p in usize::from(classes[q])..q {
+        if classes[p] == classes[q] && outputs[p] == outputs[q] {
+            return p as u16;
+        }
+    }
+    q as u16
+}
+
+/// Names each state by the least of its class with its output, from the last state down.
+fn rename_each(m: &Mealy, classes: &mut Vec<u16>, outputs: &[u16])
+    requires names { AreNames m.now.rows classes.old.items }
+    requires long { length outputs.now ≡ length m.now.rows }
+    ensures { Refines outputs.now 0 classes.old.items classes.new.items }
+{
+    for q in (0..usize::from(m.states())).rev() {
+        classes[q] = least_alike(classes.as_slice(), outputs, q);
+    }
+}
+
+/// Splits each class by the outputs, where they differ.
+fn split(m: &Mealy, classes: &mut Vec<u16>, outputs: &[u16], differ: bool)
+    requires names { AreNames m.now.rows classes.old.items }
+    requires long { length outputs.now ≡ length m.now.rows }
+    requires equal { OnFalse differ (AllEqual (length outputs.now) outputs.now) }
+    ensures { SplitsBy m.now.rows outputs.now classes.old.items classes.new.items }
+{
+    if differ {
+        rename_each(m, classes, outputs);
+    }
+}
+
+/// Splits each class by the outputs on a word: a pass over the states for each letter.
+pub fn refine(
+    alloc: Global,
+    m: &Mealy,
+    columns: &[Vec<(u16, u16)>],
+    classes: &mut Vec<u16>,
+    w: &Word,
+) -> Result<(), NoMemory>
+    requires names { AreNames m.now.rows classes.old.items }
+    requires letters { IsWord m.now.inputs w.now }
+    requires columns { AreColumns m.now.inputs m.now.rows (map (λ c. c.items) columns.now) }
+    ensures { OnOk result (RefinesBy m.now.rows w.now classes.old.items classes.new.items) }
+{
+    let mut ends = all_states(alloc, m)?;
+    let mut outputs = vec![in alloc; 0u16; ends.len()]?;
+    for x in w.as_slice() {
+        let differ = observe(column_of(m, columns, *x), &mut ends, &mut outputs);
+        split(m, classes, outputs.as_slice(), differ);
+    }
+    Ok(())
+}
