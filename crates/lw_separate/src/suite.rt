@@ -89,7 +89,9 @@ fn add_row(
 
 /// The words W of the W-method (Vasilevskii 1973, Chow 1978): goes through the pairs of states p < q, by p, then by q,
 /// and adds the least word that separates them, where no word of the list does yet.
-/// Fills one table over all pairs of states, and tries the words of the list on each pair.
+/// Fills one table over all pairs of states, as `separating`, and keeps for each state the class of those that no word
+/// of the list separates from it, which splits by each word that is added (Moore 1956): a step for each pair, and a step
+/// for each state and each letter of the words, at most the cube of the number of states.
 pub fn separators(alloc: Global, m: &Mealy) -> Result<Words, NoMemory>
     requires minimal { IsMinimal m.now.inputs m.now.rows }
     ensures separators { IfOk result (IsSeparators m.now.inputs m.now.rows) }
