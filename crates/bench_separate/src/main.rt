@@ -26,42 +26,41 @@ fn row(rt: &impl Clock, alloc: Global, kind: Kind, states: u16) -> Result<Row, N
     measure(rt, alloc, &m)
 }
 
-// How often a time stands in another.
-fn times(now: u64, before: u64) -> u64 {
-    now / before.max(1)
-}
-
-fn print_times(
-    rt: &HostRuntime,
-    kind: Kind,
-    states: u16,
-    row: &Row,
-    before: &Row,
-) -> io::Result<()> {
+fn print_times(rt: &HostRuntime, kind: Kind, states: u16, row: &Row) -> io::Result<()> {
     println!(rt;
-        "{} {states}: canonical {} us (x{}), access words {} us (x{}), separating {} us (x{}), separators {} us (x{}): {} words, the longest of {} letters",
+        "{} {states}: canonical {} us, access words {} us, separating {} us, separators {} us ({} words, the longest of {} letters)",
         kind.name(),
         row.canonical,
-        times(row.canonical, before.canonical),
         row.access_words,
-        times(row.access_words, before.access_words),
         row.separating,
-        times(row.separating, before.separating),
         row.separators,
-        times(row.separators, before.separators),
         row.words,
         row.longest
     )
 }
 
+// How often the times of the row before stand in these.
+fn print_growth(rt: &HostRuntime, now: &Row, before: &Row) -> io::Result<()> {
+    println!(rt;
+        "  growth: canonical {}, access words {}, separating {}, separators {}",
+        now.canonical / before.canonical.max(1),
+        now.access_words / before.access_words.max(1),
+        now.separating / before.separating.max(1),
+        now.separators / before.separators.max(1)
+    )
+}
+
 fn print_kind(rt: &HostRuntime, kind: Kind) -> io::Result<()> {
-    let mut before = Row::NONE;
+    let mut before = None;
     for states in MANY {
         let Ok(now) = row(rt, rt.alloc(), kind, states) else {
             return println!(rt; "no memory");
         };
-        print_times(rt, kind, states, &now, &before)?;
-        before = now;
+        print_times(rt, kind, states, &now)?;
+        if let Some(before) = before {
+            print_growth(rt, &now, &before)?;
+        }
+        before = Some(now);
     }
     Ok(())
 }

@@ -19,17 +19,6 @@ pub struct Row {
     pub longest: usize,
 }
 
-impl Row {
-    pub const NONE: Row = Row {
-        canonical: 0,
-        access_words: 0,
-        separating: 0,
-        separators: 0,
-        words: 0,
-        longest: 0,
-    };
-}
-
 fn micros(rt: &impl Clock, start: io::Result<Instant>) -> u64 {
     start
         .ok()

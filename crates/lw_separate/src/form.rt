@@ -76,6 +76,7 @@ fn numbers(alloc: Global, places: &[Option<u16>]) -> Result<Vec<u16>, NoMemory>
 
 /// The minimal machine that equals `m` on all words, its states numbered breadth first in letter order.
 /// Merges states that agree on all words (Moore 1956), then numbers them as they are found.
+/// Fills one table over all pairs of states, as `separating`.
 pub fn canonical(alloc: Global, m: &Mealy) -> Result<Mealy, NoMemory>
     ensures canonical { IfOk result (λ c. IsCanonical m.now.inputs m.now.rows c.rows) }
     ensures alphabets { IfOk result (λ c. (c.inputs ≡ m.now.inputs) × (c.outputs ≡ m.now.outputs)) }

@@ -38,9 +38,9 @@ fn add_pair(
     requires pair { p < q }
     requires state { q < length m.now.rows }
     requires so_far { SeparatesUpTo m.now.inputs m.now.rows (p, q) words.old }
-    requires classes { AreClasses m.now.rows words.old classes.old.items }
+    requires classes { AreClasses m.now.rows p words.old classes.old.items }
     ensures so_far { OnOk result (SeparatesUpTo m.now.inputs m.now.rows (p, q + 1) words.new) }
-    ensures classes { OnOk result (AreClasses m.now.rows words.new classes.new.items) }
+    ensures classes { OnOk result (AreClasses m.now.rows p words.new classes.new.items) }
 {
     if classes[usize::from(p)] != classes[usize::from(q)] {
         return Ok(());
@@ -55,7 +55,7 @@ fn add_pair(
     else {
         unreachable!();
     };
-    refine(alloc, m, tables.columns.as_slice(), classes, &word)?;
+    refine(alloc, m, tables.columns.as_slice(), classes, p, &word)?;
     let Ok(()) = words.push(word) else {
         return Err(NoMemory);
     };
@@ -76,9 +76,9 @@ fn add_row(
     requires minimal { IsMinimal m.now.inputs m.now.rows }
     requires state { p < length m.now.rows }
     requires so_far { SeparatesUpTo m.now.inputs m.now.rows (p, p + 1) words.old }
-    requires classes { AreClasses m.now.rows words.old classes.old.items }
+    requires classes { AreClasses m.now.rows p words.old classes.old.items }
     ensures so_far { OnOk result (SeparatesUpTo m.now.inputs m.now.rows (p + 1, p + 1 + 1) words.new) }
-    ensures classes { OnOk result (AreClasses m.now.rows words.new classes.new.items) }
+    ensures classes { OnOk result (AreClasses m.now.rows (p + 1) words.new classes.new.items) }
 {
     let n = m.states();
     for q in p + 1..n {
@@ -89,7 +89,9 @@ fn add_row(
 
 /// The words W of the W-method (Vasilevskii 1973, Chow 1978): goes through the pairs of states p < q, by p, then by q,
 /// and adds the least word that separates them, where no word of the list does yet.
-/// Fills one table over all pairs of states, and tries the words of the list on each pair.
+/// Fills one table over all pairs of states, as `separating`, and keeps for each state the class of those that no word
+/// of the list separates from it, which splits by each word that is added (Moore 1956): a step for each pair, and a step
+/// for each state and each letter of the words, at most the cube of the number of states.
 pub fn separators(alloc: Global, m: &Mealy) -> Result<Words, NoMemory>
     requires minimal { IsMinimal m.now.inputs m.now.rows }
     ensures separators { IfOk result (IsSeparators m.now.inputs m.now.rows) }

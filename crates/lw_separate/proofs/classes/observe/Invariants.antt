@@ -4,6 +4,6 @@ use Rattle.lw_separate.proofs.classes.observe.Given as goal
 
 abbrev pub invariant-loop-q : goal.invariant-loop-q
 invariant-loop-q l = record {
-  observes : Observes l.column l.q l.fn.ends.items l.ends.items l.outputs.items;
-  equal : OnFalse l.differ (AllEqual l.q l.outputs.items);
+  observes : Observes l.column l.first l.q l.fn.ends.items l.ends.items l.outputs.items;
+  equal : OnFalse l.differ (AllEqual l.first l.q l.outputs.items);
 }

@@ -2,4 +2,4 @@ use Rattle.lw_separate.specs.Classes.{Refines}
 use Rattle.lw_separate.proofs.classes.rename_each.Given as goal
 
 abbrev pub invariant-loop-q : goal.invariant-loop-q
-invariant-loop-q l = Refines l.outputs l.q l.fn.classes.items l.classes.items
+invariant-loop-q l = Refines l.first l.outputs l.q l.fn.classes.items l.classes.items

@@ -8,7 +8,7 @@ use Rattle.lw_separate.proofs.suite.separators.Goals as goal
 pub loop-p-init : goal.loop-p-init
 loop-p-init c = record {
   so_far = subst (λ (l : List (List ℕ)). SeparatesUpTo c.args.m.now.inputs c.args.m.now.rows (0, 1) l) (sym c.new-words.ensures) (walk_start c.args.m.now.inputs c.args.m.now.rows);
-  classes = subst (λ (l : List (List ℕ)). AreClasses c.args.m.now.rows l c.in_ok-classes.classes.items) (sym c.new-words.ensures) c.in_ok-classes.ensures;
+  classes = subst (λ (l : List (List ℕ)). AreClasses c.args.m.now.rows 0 l c.in_ok-classes.classes.items) (sym c.new-words.ensures) c.in_ok-classes.ensures;
 }
 
 pub returns-clause-few : goal.returns-clause-few

@@ -6,5 +6,5 @@ use Rattle.lw_separate.proofs.suite.separators.Given as goal
 abbrev pub invariant-loop-p : goal.invariant-loop-p
 invariant-loop-p l = record {
   so_far : SeparatesUpTo l.m.inputs l.m.rows (l.p, l.p + 1) l.words;
-  classes : AreClasses l.m.rows l.words l.classes.items;
+  classes : AreClasses l.m.rows l.p l.words l.classes.items;
 }
