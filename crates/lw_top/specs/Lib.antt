@@ -4,6 +4,7 @@ pub mod Files
 pub mod Hypothesis
 pub mod Kept
 pub mod Known
+pub mod Memory
 pub mod Outcomes
 pub mod Part
 pub mod Run

@@ -1,9 +1,10 @@
 //! Files and streams in memory, which tell all that they hold, took and were asked.
-ghost use Rattle.std.specs.Prelude.{◌≡◌, ◌≤◌, ◌-◌, None, map, IfOk, option_map, string_bytes, vec_capacity, vec_len};
+ghost use Rattle.std.specs.Prelude.{◌≡◌, ◌≤◌, [], map, IfOk, option_map, string_bytes};
 ghost use Rattle.lw_top.specs.Files.{file_at};
 
 use crate::{Failed, Files, FilesStop, Sink};
 use std::alloc::{AllocError, AllocFailed, Global};
+use std::marker::Model;
 
 impl From<AllocError> for FilesStop {
     ghost use Rattle.std.specs.Prelude.{◌≡◌};
@@ -36,6 +37,7 @@ pub struct FileCall {
 }
 
 /// Files in memory. A later file of the same name wins.
+/// Contracts see what they hold, the calls that were answered other than by want of memory, and the count of faults.
 #[derive(Drop)]
 pub struct MemoryFiles {
     files: Vec<(String, Vec<u8>)>,
@@ -44,6 +46,15 @@ pub struct MemoryFiles {
     faults: u64,
     calls: Vec<FileCall>,
     alloc: Global,
+}
+
+impl Model for MemoryFiles {
+    ghost use Rattle.std.specs.Prelude.{map, string_bytes};
+    ghost use Rattle.lw_top.specs.Memory.{FilesState};
+
+    ghost Value = { FilesState };
+
+    ghost view = { λ m. record { holds = map (λ f. (string_bytes f.0, f.1.items)) m.files.items; calls = map (λ c. record { name = string_bytes c.name; writes = c.writes; failed = c.failed }) m.calls.items; faults = m.faults } };
 }
 
 /// The bytes under a name, once more.
@@ -68,7 +79,9 @@ fn bytes_at(
 
 impl MemoryFiles {
     /// These files. The calls whose numbers from 0 the plan has are to fail.
-    pub fn new(alloc: Global, files: Vec<(String, Vec<u8>)>, plan: Vec<u64>) -> MemoryFiles {
+    pub fn new(alloc: Global, files: Vec<(String, Vec<u8>)>, plan: Vec<u64>) -> MemoryFiles
+        ensures { result ≡ record { holds = map (λ f. (string_bytes f.0, f.1.items)) files.items; calls = []; faults = 0 } }
+    {
         MemoryFiles {
             files,
             plan,
@@ -80,17 +93,19 @@ impl MemoryFiles {
     }
 
     /// The calls so far, but those that wanted memory.
-    pub fn calls(&self) -> &[FileCall] {
+    pub fn calls(&self) -> &[FileCall]
+        ensures { map (λ c. record { name = string_bytes c.name; writes = c.writes; failed = c.failed }) result.now ≡ self.now.calls }
+    {
         self.calls.as_slice()
     }
 }
 
 impl Files for MemoryFiles {
-    ghost use Rattle.std.specs.Prelude.{Some, map, string_bytes};
+    ghost use Rattle.std.specs.Prelude.{Some};
 
-    ghost holds = { λ m. Some (map (λ f. (string_bytes f.0, f.1.items)) m.files.items) };
+    ghost holds = { λ m. Some m.holds };
 
-    ghost calls = { λ m. Some (map (λ c. record { name = string_bytes c.name; writes = c.writes; failed = c.failed }) m.calls.items) };
+    ghost calls = { λ m. Some m.calls };
 
     ghost faults = { λ m. m.faults };
 
@@ -118,6 +133,7 @@ impl Files for MemoryFiles {
 }
 
 /// A stream in memory with room for so many bytes, of which it takes at most a piece at a time.
+/// Contracts see the bytes that it took and the count of faults.
 #[derive(Drop)]
 pub struct MemorySink {
     taken: Vec<u8>,
@@ -126,7 +142,17 @@ pub struct MemorySink {
     plan: Vec<u64>,
     made: u64,
     faults: u64,
-    ghost in_room: { (1 ≤ piece) × (left ≤ vec_capacity taken - vec_len taken) },
+}
+
+impl Model for MemorySink {
+    ghost use Rattle.std.specs.Prelude.{◌≤◌, ◌-◌, vec_capacity, vec_len};
+    ghost use Rattle.lw_top.specs.Memory.{SinkState};
+
+    ghost Value = { SinkState };
+
+    ghost view = { λ s. record { taken = s.taken.items; faults = s.faults } };
+
+    ghost invariant = { λ s. (1 ≤ s.piece) × (s.left ≤ vec_capacity s.taken - vec_len s.taken) };
 }
 
 impl MemorySink {
@@ -138,6 +164,7 @@ impl MemorySink {
         plan: Vec<u64>,
     ) -> Result<MemorySink, AllocError>
         requires { 1 ≤ piece }
+        ensures { IfOk result (λ s. s ≡ record { taken = []; faults = 0 }) }
     {
         Ok(MemorySink {
             taken: Vec::with_capacity(alloc, room)?,
@@ -150,7 +177,9 @@ impl MemorySink {
     }
 
     /// The bytes that were taken.
-    pub fn taken(&self) -> &[u8] {
+    pub fn taken(&self) -> &[u8]
+        ensures { result.now ≡ self.now.taken }
+    {
         self.taken.as_slice()
     }
 }
@@ -158,7 +187,7 @@ impl MemorySink {
 impl Sink for MemorySink {
     ghost use Rattle.std.specs.Prelude.{Some};
 
-    ghost taken = { λ s. Some s.taken.items };
+    ghost taken = { λ s. Some s.taken };
 
     ghost faults = { λ s. s.faults };
 
