@@ -8,7 +8,8 @@ pub record FilesState : Type 0 where
   pub calls : List Call
   pub faults : ℕ
 
--- the bytes that a stream took, and how often it failed
+-- the bytes that a stream took, how many more it has room for, and how often it failed
 pub record SinkState : Type 0 where
   pub taken : List ℕ
+  pub room : ℕ
   pub faults : ℕ

@@ -133,7 +133,7 @@ impl Files for MemoryFiles {
 }
 
 /// A stream in memory with room for so many bytes, of which it takes at most a piece at a time.
-/// Contracts see the bytes that it took and the count of faults.
+/// Contracts see the bytes that it took, the room that is left, and the count of faults.
 #[derive(Drop)]
 pub struct MemorySink {
     taken: Vec<u8>,
@@ -150,7 +150,7 @@ impl Model for MemorySink {
 
     ghost Value = { SinkState };
 
-    ghost view = { λ s. record { taken = s.taken.items; faults = s.faults } };
+    ghost view = { λ s. record { taken = s.taken.items; room = s.left; faults = s.faults } };
 
     ghost invariant = { λ s. (1 ≤ s.piece) × (s.left ≤ vec_capacity s.taken - vec_len s.taken) };
 }
@@ -164,7 +164,7 @@ impl MemorySink {
         plan: Vec<u64>,
     ) -> Result<MemorySink, AllocError>
         requires { 1 ≤ piece }
-        ensures { IfOk result (λ s. s ≡ record { taken = []; faults = 0 }) }
+        ensures { IfOk result (λ s. s ≡ record { taken = []; room = room; faults = 0 }) }
     {
         Ok(MemorySink {
             taken: Vec::with_capacity(alloc, room)?,
