@@ -1,4 +1,6 @@
 //! The real files and streams as the top call knows them. They count their faults and tell nothing of contents.
+ghost use Rattle.std.specs.Prelude.{◌≡◌};
+
 use lw_top::{Failed, Files, FilesStop, Sink};
 use std::fs;
 use std::io::{ErrorKind, Write};
@@ -11,7 +13,11 @@ pub struct RealFiles<R> {
 }
 
 impl<R> RealFiles<R> {
-    pub fn new(rt: R) -> RealFiles<R> {
+    /// The files, with no fault so far.
+    pub fn new(rt: R) -> RealFiles<R>
+        ensures runtime { result.rt ≡ rt }
+        ensures faults { result.faults ≡ 0 }
+    {
         RealFiles { rt, faults: 0 }
     }
 }
@@ -45,7 +51,11 @@ pub struct Stream<W> {
 }
 
 impl<W> Stream<W> {
-    pub fn new(stream: W) -> Stream<W> {
+    /// The stream, with no fault so far.
+    pub fn new(stream: W) -> Stream<W>
+        ensures stream { result.stream ≡ stream }
+        ensures faults { result.faults ≡ 0 }
+    {
         Stream { stream, faults: 0 }
     }
 }

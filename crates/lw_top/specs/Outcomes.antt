@@ -1,4 +1,4 @@
--- The exit status of each outcome.
+-- The exit status of each outcome, and which outcomes may come when.
 use Rattle.std.specs.Prelude.{◌≡◌, ◌⊎◌, ℕ, List}
 use Rattle.lw_mealy.specs.Table.{MachineTable}
 use Rattle.lw_top.specs.Crowd.{IsCrowd}

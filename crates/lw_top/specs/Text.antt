@@ -1,27 +1,17 @@
 -- The text of each outcome, which ends in a line feed.
-use Rattle.std.specs.Prelude.{◌≡◌, ℕ, List, [], ◌∷◌, ◌++◌, length, codes, slice_index_or, Option, Some}
+use Rattle.std.specs.Prelude.{◌≡◌, ℕ, List, [], ◌++◌, length, codes, slice_index_or, Option, Some}
 use Rattle.std.specs.Fmt.{decimal}
-use Rattle.std.specs.List.{flat_map}
+use Rattle.std.specs.List.{flat_map, join_by}
 use Rattle.lw_top.specs.declared.outcome.Outcome.{Outcome}
 use Rattle.lw_top.specs.declared.outcome.Outcome.TheVariants.{Unchecked, Usage, BadFile, NoMemory, TooManyStates, FileFault, SinkFault}
 
--- what stands before a letter of a word: a blank, but not before the first
-abbrev pub blank_after : List ℕ → List ℕ
-blank_after [] = []
-blank_after (x ∷ w) = 32 ∷ []
+-- the name of a letter
+abbrev pub name_of : List (List ℕ) → ℕ → List ℕ
+name_of names x = slice_index_or names x []
 
--- a letter's name, behind the letters that stand before it in the word
-abbrev pub name_after : List (List ℕ) → List ℕ → ℕ → List ℕ
-name_after names before x = blank_after before ++ slice_index_or names x []
-
--- the names of the letters, joined by one blank, behind those before them
-abbrev pub joined_after : List (List ℕ) → List ℕ → List ℕ → List ℕ
-joined_after names before [] = []
-joined_after names before (x ∷ w) = name_after names before x ++ joined_after names (before ++ x ∷ []) w
-
--- a word in quotes, on a line of its own
+-- a word in quotes, its names joined by one blank, on a line of its own
 abbrev pub word_line : List (List ℕ) → List ℕ → List ℕ
-word_line names w = codes "\"" ++ (joined_after names [] w ++ codes "\"\n")
+word_line names w = codes "\"" ++ (join_by (name_of names) (codes " ") w ++ codes "\"\n")
 
 -- a model's number of states, and the number of kept answers
 abbrev pub unchecked_line : ℕ → ℕ → List ℕ

@@ -1,7 +1,8 @@
 //! The texts of outcomes, each of which ends in a line feed.
-ghost use Rattle.std.specs.Prelude.{◌≡◌, ℕ, ◌<◌, List, ◌++◌, length, take, slice_index, Option, Some, IfNone, IfOk, IfSome, OnOk, string_bytes};
+ghost use Rattle.std.specs.Prelude.{◌≡◌, ℕ, List, ◌++◌, codes, Option, Some, IfNone, IfOk, IfSome, OnOk, string_bytes};
 ghost use Rattle.lw_top.specs.Outcomes.{HasOwnText};
-ghost use Rattle.lw_top.specs.Text.{IsText, crowd_lines, name_after, unchecked_line, word_line};
+ghost use Rattle.std.specs.List.{join_by};
+ghost use Rattle.lw_top.specs.Text.{IsText, crowd_lines, name_of, unchecked_line, word_line};
 
 use crate::Outcome;
 use lw_words::{Names, NoMemory, Words};
@@ -17,29 +18,37 @@ const USAGE: &str =
 /// What is written where memory is wanted. Takes no memory itself.
 pub(crate) const NO_MEMORY: &str = "no memory\n";
 
-/// The name of the letter at a place of a word, behind a blank but at the first place.
-fn put_letter(text: &mut String, word: &[u16], place: usize, inputs: &Names) -> Result<(), NoMemory>
-    requires { place < length word.now }
-    ensures { OnOk result (string_bytes text.new ≡ string_bytes text.old ++ name_after inputs.now (take place word.now) (slice_index word.now place)) }
+/// The name of a letter.
+fn put_name(text: &mut String, letter: u16, inputs: &Names) -> Result<(), NoMemory>
+    ensures { OnOk result (string_bytes text.new ≡ string_bytes text.old ++ name_of inputs.now letter) }
 {
-    if place > 0 {
-        text.push_str(" ")?;
-    }
-    let letter = word[place];
     if letter < inputs.len() {
         text.push_str(inputs.name(letter))?;
     }
     Ok(())
 }
 
-/// A word as its names, joined by one blank, in quotes, as a line.
+/// The names of a word's letters, joined by one blank.
+fn put_names(text: &mut String, word: &[u16], inputs: &Names) -> Result<(), NoMemory>
+    ensures { OnOk result (string_bytes text.new ≡ string_bytes text.old ++ join_by (name_of inputs.now) (codes " ") word.now) }
+{
+    let Some((first, rest)) = word.split_first() else {
+        return Ok(());
+    };
+    put_name(text, *first, inputs)?;
+    for letter in rest {
+        text.push_str(" ")?;
+        put_name(text, *letter, inputs)?;
+    }
+    Ok(())
+}
+
+/// A word as its names, in quotes, as a line.
 fn put_word(text: &mut String, word: &[u16], inputs: &Names) -> Result<(), NoMemory>
     ensures { OnOk result (string_bytes text.new ≡ string_bytes text.old ++ word_line inputs.now word.now) }
 {
     text.push_str("\"")?;
-    for place in 0..word.len() {
-        put_letter(text, word, place, inputs)?;
-    }
+    put_names(text, word, inputs)?;
     text.push_str("\"\n")?;
     Ok(())
 }
