@@ -3,12 +3,12 @@ use Rattle.std.proofs.Common.{◌≡◌, ℕ, List, length, codes, sym, ap, ap�
 use Rattle.json.proofs.Found.{Some_inj}
 use Rattle.serde_json.specs.Data.{Data}
 use Rattle.lw_mealy.specs.Machine.{Rows}
-use Rattle.lw_mealy.specs.Table.{MachineTable, table_of}
+use Rattle.lw_mealy.specs.Limits.{MealyMachine, mealy_of}
 use Rattle.lw_json.specs.MachineFile.{texts_at, rows_at, Spells, IsMachineFile, SameMachine}
 use Rattle.lw_json.specs.declared.machine.Machine.{Machine}
 
-same_table : (s t : MachineTable) → s.inputs ≡ t.inputs → s.outputs ≡ t.outputs → s.rows ≡ t.rows → s ≡ t
-same_table s t i o r = ap (λ (a : ℕ). table_of a s.outputs s.rows) i ∙ (ap (λ (b : ℕ). table_of t.inputs b s.rows) o ∙ ap (λ (q : Rows). table_of t.inputs t.outputs q) r)
+same_table : (s t : MealyMachine) → s.inputs ≡ t.inputs → s.outputs ≡ t.outputs → s.rows ≡ t.rows → s ≡ t
+same_table s t i o r = ap (λ (a : ℕ). mealy_of a s.outputs s.rows) i ∙ (ap (λ (b : ℕ). mealy_of t.inputs b s.rows) o ∙ ap (λ (q : Rows). mealy_of t.inputs t.outputs q) r)
 
 spell_same : (d e : Data) (m n : Machine) → d ≡ e → Spells d m → Spells e n → SameMachine m n
 spell_same d e m n de s t =

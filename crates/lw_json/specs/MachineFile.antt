@@ -5,7 +5,7 @@ use Rattle.serde_json.specs.Find.{get, as_array, as_number, as_str, as_u64}
 use Rattle.serde_json.specs.Read.{read}
 use Rattle.lw_words.specs.Name.{IsNames, number_of}
 use Rattle.lw_mealy.specs.Machine.{Row, Rows}
-use Rattle.lw_mealy.specs.Table.{IsTable}
+use Rattle.lw_mealy.specs.Limits.{IsWithinLimits}
 use Rattle.lw_json.specs.Each.{each_of}
 use Rattle.lw_json.specs.declared.machine.Machine.{Machine}
 
@@ -51,7 +51,7 @@ pub record IsNamed (m : Machine) : Type 0 where
   pub inputs : IsNames m.inputs
   pub few : length m.inputs ≤ 64
   pub outputs : IsNames m.outputs
-  pub table : IsTable m.mealy
+  pub table : IsWithinLimits m.mealy
   pub letters : m.mealy.inputs ≡ length m.inputs
   pub answers : m.mealy.outputs ≡ length m.outputs
 

@@ -1,7 +1,7 @@
 ghost use Rattle.std.specs.Prelude.{◌≡◌, List, ℕ, ◌≤◌, IfOk, IfErr, Err, Some, None, map, string_bytes, option_map, option_and_then, codes};
 ghost use Rattle.serde_json.specs.View.{view};
 ghost use Rattle.serde_json.specs.Find.{as_str};
-ghost use Rattle.lw_mealy.specs.Table.{table_of};
+ghost use Rattle.lw_mealy.specs.Limits.{mealy_of};
 ghost use Rattle.lw_json.specs.Each.{each_of};
 ghost use Rattle.lw_json.specs.Found.{FindsNames, FindsTable, FindsMachine};
 ghost use Rattle.lw_json.specs.MachineFile.{list_of, texts_at, cell_of, row_of, rows_at, IsMachineFile, SameMachine};
@@ -118,7 +118,7 @@ fn mealy_of(
 ) -> Result<Option<Mealy>, NoMemory>
     requires inputs { (1 ≤ inputs) × (inputs ≤ 64) }
     requires outputs { (1 ≤ outputs) × (outputs ≤ 4096) }
-    ensures { IfOk result (FindsTable (table_of inputs outputs (map (λ r. r.items) rows.items))) }
+    ensures { IfOk result (FindsTable (mealy_of inputs outputs (map (λ r. r.items) rows.items))) }
 {
     match Mealy::new(alloc, inputs, outputs, rows) {
         Ok(mealy) => Ok(Some(mealy)),

@@ -3,7 +3,7 @@ ghost use Rattle.serde_json.specs.Data.{put};
 ghost use Rattle.serde_json.specs.View.{view, members_view};
 ghost use Rattle.lw_words.specs.Name.{IsNames};
 ghost use Rattle.lw_mealy.specs.Machine.{row};
-ghost use Rattle.lw_mealy.specs.Table.{IsTable};
+ghost use Rattle.lw_mealy.specs.Limits.{IsWithinLimits};
 ghost use Rattle.lw_json.specs.MachineFile.{IsNamed, IsMachineFile};
 ghost use Rattle.lw_json.specs.MachineText.{texts_data, cell_data, row_data, rows_data, machine_data, written_text};
 
@@ -53,7 +53,7 @@ fn row_value(alloc: Global, mealy: &Mealy, state: u16, outputs: &Names) -> Resul
 fn rows_value(alloc: Global, mealy: &Mealy, outputs: &Names) -> Result<Value, NoMemory>
     requires { mealy.now.outputs ≡ length outputs.now }
     ensures value { IfOk result (λ v. view v ≡ rows_data outputs.now mealy.now.rows) }
-    ensures table { OnOk result (IsTable mealy.now) }
+    ensures complete { OnOk result (IsWithinLimits mealy.now) }
 {
     let mut rows = Vec::with_capacity(alloc, usize::from(mealy.states()))?;
     for state in 0..mealy.states() {

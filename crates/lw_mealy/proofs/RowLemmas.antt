@@ -8,7 +8,7 @@ use Rattle.lw_words.specs.First.{FailsFirst}
 use Rattle.lw_words.proofs.Lists.{read-map}
 use Rattle.lw_mealy.specs.Fault.{CellFailsFirst}
 use Rattle.lw_mealy.specs.Machine.{Row, Rows, IsMachine, row, cell}
-use Rattle.lw_mealy.specs.Table.{MachineTable, IsTable}
+use Rattle.lw_mealy.specs.Limits.{MealyMachine, IsWithinLimits}
 
 -- what a machine keeps of each row
 abbrev IsRow : ℕ → ℕ → Row → Type 0
@@ -23,7 +23,7 @@ target_below a m q x k lt le =
     let le' : x < length (row m q) = rw r.0 le in
     All-get_or (λ c. c.0 < length m) (row m q) x (0, 0) le' r.1
 
-pub output_below : (t : MachineTable) (q x : ℕ) → IsTable t → q < length t.rows → x < t.inputs → (cell t.rows q x).1 < t.outputs
+pub output_below : (t : MealyMachine) (q x : ℕ) → IsWithinLimits t → q < length t.rows → x < t.inputs → (cell t.rows q x).1 < t.outputs
 output_below t q x k lt le =
     let le' : x < length (row t.rows q) = rw (is_row t.inputs t.rows q k.machine lt).0 le in
     let r : All (λ c. c.1 < t.outputs) (row t.rows q) = All-get_or (λ r. All (λ c. c.1 < t.outputs) r) t.rows q [] lt k.answers in

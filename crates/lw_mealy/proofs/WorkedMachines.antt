@@ -4,23 +4,23 @@ use Rattle.std.proofs.lemmas.List.Elements.{All-from_recursion}
 use Rattle.lw_words.specs.Word.{IsWord}
 use Rattle.lw_mealy.specs.Machine.{after, next}
 use Rattle.lw_mealy.specs.Minimal.{IsMinimal, Reached, Differ}
-use Rattle.lw_mealy.specs.Worked.{one, fat, ring}
+use Rattle.lw_mealy.specs.Worked.{one, with_equal_states, ring}
 
-fat_next : (q x : ℕ) → q < 3 → next fat q x < 3
-fat_next zero zero lt = lit< tt
-fat_next zero (suc x) lt = lit< tt
-fat_next (suc zero) zero lt = lit< tt
-fat_next (suc zero) (suc x) lt = lit< tt
-fat_next (suc (suc zero)) zero lt = lit< tt
-fat_next (suc (suc zero)) (suc x) lt = lit< tt
-fat_next (suc (suc (suc q))) x lt = absurd (omega arith)
+with_equal_states_next : (q x : ℕ) → q < 3 → next with_equal_states q x < 3
+with_equal_states_next zero zero lt = lit< tt
+with_equal_states_next zero (suc x) lt = lit< tt
+with_equal_states_next (suc zero) zero lt = lit< tt
+with_equal_states_next (suc zero) (suc x) lt = lit< tt
+with_equal_states_next (suc (suc zero)) zero lt = lit< tt
+with_equal_states_next (suc (suc zero)) (suc x) lt = lit< tt
+with_equal_states_next (suc (suc (suc q))) x lt = absurd (omega arith)
 
-fat_after : (w : List ℕ) (q : ℕ) → q < 3 → after fat q w < 3
-fat_after [] q lt = lt
-fat_after (x ∷ w) q lt = fat_after w (next fat q x) (fat_next q x lt)
+with_equal_states_after : (w : List ℕ) (q : ℕ) → q < 3 → after with_equal_states q w < 3
+with_equal_states_after [] q lt = lt
+with_equal_states_after (x ∷ w) q lt = with_equal_states_after w (next with_equal_states q x) (with_equal_states_next q x lt)
 
-pub fat_unreached : ¬ Reached 1 fat 3
-fat_unreached r = let h : after fat 0 r.0 < 3 = fat_after r.0 0 (lit< tt) in omega (arith, r.2)
+pub with_equal_states_unreached : ¬ Reached 1 with_equal_states 3
+with_equal_states_unreached r = let h : after with_equal_states 0 r.0 < 3 = with_equal_states_after r.0 0 (lit< tt) in omega (arith, r.2)
 
 t_word : IsWord 1 (0 ∷ [])
 t_word = All-from_recursion (λ x. x < 1) (0 ∷ []) (lit< tt, tt)

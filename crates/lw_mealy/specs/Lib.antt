@@ -5,6 +5,6 @@ pub mod Gives
 pub mod Machine
 pub mod Minimal
 pub mod Origin
-pub mod Part
-pub mod Table
+pub mod CellHalf
+pub mod Limits
 pub mod Worked

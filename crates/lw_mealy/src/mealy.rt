@@ -3,8 +3,8 @@ ghost use Rattle.std.specs.List.{All};
 ghost use Rattle.lw_words.specs.First.{FailsFirst};
 ghost use Rattle.lw_words.specs.Word.{IsWord};
 ghost use Rattle.lw_mealy.specs.Machine.{Rows, IsMachine, after, out, answer, cell, row};
-ghost use Rattle.lw_mealy.specs.Part.{IsBelow};
-ghost use Rattle.lw_mealy.specs.Table.{MachineTable, table_of, IsTable, AnswersBelow};
+ghost use Rattle.lw_mealy.specs.CellHalf.{IsBelow};
+ghost use Rattle.lw_mealy.specs.Limits.{MealyMachine, mealy_of, IsWithinLimits, AnswersBelow};
 ghost use Rattle.lw_mealy.specs.Difference.{DifferFirst};
 ghost use Rattle.lw_mealy.specs.Fault.{HasFault, IsCounted, IsSquare, IsClosed, CellFailsFirst};
 
@@ -28,13 +28,13 @@ pub struct Mealy {
 
 impl Model for Mealy {
     ghost use Rattle.std.specs.Prelude.{map};
-    ghost use Rattle.lw_mealy.specs.Table.{MachineTable, table_of, IsTable};
+    ghost use Rattle.lw_mealy.specs.Limits.{MealyMachine, mealy_of, IsWithinLimits};
 
-    ghost Value = { MachineTable };
+    ghost Value = { MealyMachine };
 
-    ghost view = { λ m. table_of m.inputs m.outputs (map (λ r. r.items) m.rows.items) };
+    ghost view = { λ m. mealy_of m.inputs m.outputs (map (λ r. r.items) m.rows.items) };
 
-    ghost invariant = { λ m. IsTable (table_of m.inputs m.outputs (map (λ r. r.items) m.rows.items)) };
+    ghost invariant = { λ m. IsWithinLimits (mealy_of m.inputs m.outputs (map (λ r. r.items) m.rows.items)) };
 }
 
 /// The first row that hasn't so many pairs.
@@ -50,46 +50,46 @@ fn first_ragged(rows: &[Vec<(u16, u16)>], inputs: u16) -> Option<usize>
     None
 }
 
-/// A part of the pair that a state has at a letter.
+/// A half of the pair that a state has at a letter.
 #[derive(Clone, Copy)]
-enum Part {
+enum Half {
     Target,
     Output,
 }
 
-impl Part {
-    ghost use Rattle.lw_mealy.specs.Part.{part_of};
+impl Half {
+    ghost use Rattle.lw_mealy.specs.CellHalf.{half_of};
 
     fn of(self, cell: (u16, u16)) -> u16
-        ensures { result ≡ part_of self cell }
+        ensures { result ≡ half_of self cell }
     {
         match self {
-            Part::Target => cell.0,
-            Part::Output => cell.1,
+            Half::Target => cell.0,
+            Half::Output => cell.1,
         }
     }
 }
 
-/// The first pair of a row whose part is not below a bound.
-fn first_in_row(row: &[(u16, u16)], part: Part, bound: usize) -> Option<usize>
-    ensures none { IfNone result (All (IsBelow part bound) row.now) }
-    ensures some { IfSome result (FailsFirst (IsBelow part bound) row.now) }
+/// The first pair of a row whose half is not below a bound.
+fn first_in_row(row: &[(u16, u16)], half: Half, bound: usize) -> Option<usize>
+    ensures none { IfNone result (All (IsBelow half bound) row.now) }
+    ensures some { IfSome result (FailsFirst (IsBelow half bound) row.now) }
 {
     for (letter, cell) in row.iter().enumerate() {
-        if usize::from(part.of(*cell)) >= bound {
+        if usize::from(half.of(*cell)) >= bound {
             return Some(letter);
         }
     }
     None
 }
 
-/// The first pair of all rows whose part is not below a bound, by state, then by letter.
-fn first_in_rows(rows: &[Vec<(u16, u16)>], part: Part, bound: usize) -> Option<(usize, usize)>
-    ensures none { IfNone result (All (λ r. All (IsBelow part bound) r) (map (λ r. r.items) rows.now)) }
-    ensures some { IfSome result (λ at. CellFailsFirst (IsBelow part bound) (map (λ r. r.items) rows.now) at.0 at.1) }
+/// The first pair of all rows whose half is not below a bound, by state, then by letter.
+fn first_in_rows(rows: &[Vec<(u16, u16)>], half: Half, bound: usize) -> Option<(usize, usize)>
+    ensures none { IfNone result (All (λ r. All (IsBelow half bound) r) (map (λ r. r.items) rows.now)) }
+    ensures some { IfSome result (λ at. CellFailsFirst (IsBelow half bound) (map (λ r. r.items) rows.now) at.0 at.1) }
 {
     for (state, row) in rows.iter().enumerate() {
-        if let Some(letter) = first_in_row(row, part, bound) {
+        if let Some(letter) = first_in_row(row, half, bound) {
             return Some((state, letter));
         }
     }
@@ -105,11 +105,11 @@ fn fault_of(inputs: u16, outputs: u16, rows: &[Vec<(u16, u16)>]) -> Option<Mealy
     if let Some(state) = first_ragged(rows, inputs) {
         return Some(MealyFault::Ragged(state as u16));
     }
-    if let Some((state, letter)) = first_in_rows(rows, Part::Target, rows.len()) {
+    if let Some((state, letter)) = first_in_rows(rows, Half::Target, rows.len()) {
         let target = rows[state][letter].0;
         return Some(MealyFault::Target(state as u16, letter as u16, target));
     }
-    if let Some((state, letter)) = first_in_rows(rows, Part::Output, usize::from(outputs)) {
+    if let Some((state, letter)) = first_in_rows(rows, Half::Output, usize::from(outputs)) {
         let output = rows[state][letter].1;
         return Some(MealyFault::Output(state as u16, letter as u16, output));
     }
@@ -137,8 +137,8 @@ impl Mealy {
     ) -> Result<Mealy, MealyFault>
         requires inputs { (1 ≤ inputs) × (inputs ≤ 64) }
         requires outputs { (1 ≤ outputs) × (outputs ≤ 4096) }
-        ensures ok { IfOk result (λ m. m ≡ table_of inputs outputs (map (λ r. r.items) rows.items)) }
-        ensures table { IfOk result IsTable }
+        ensures ok { IfOk result (λ m. m ≡ mealy_of inputs outputs (map (λ r. r.items) rows.items)) }
+        ensures complete { IfOk result IsWithinLimits }
         ensures err { IfErr result (HasFault inputs outputs (map (λ r. r.items) rows.items)) }
     {
         if rows.is_empty() {
@@ -169,21 +169,21 @@ impl Mealy {
 
     pub fn inputs(&self) -> u16
         ensures value { result ≡ self.now.inputs }
-        ensures table { IsTable self.now }
+        ensures complete { IsWithinLimits self.now }
     {
         self.inputs
     }
 
     pub fn outputs(&self) -> u16
         ensures value { result ≡ self.now.outputs }
-        ensures table { IsTable self.now }
+        ensures complete { IsWithinLimits self.now }
     {
         self.outputs
     }
 
     pub fn states(&self) -> u16
         ensures value { result ≡ length self.now.rows }
-        ensures table { IsTable self.now }
+        ensures complete { IsWithinLimits self.now }
     {
         self.rows.len() as u16
     }

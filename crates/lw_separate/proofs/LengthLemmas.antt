@@ -7,7 +7,7 @@ use Rattle.std.proofs.lemmas.List.{get_or-set_same, get_or-set_other, length-set
 use Rattle.std.proofs.lemmas.List.Sums.{sum_by-set}
 use Rattle.std.proofs.lemmas.Bool.{cases_order}
 use Rattle.lw_mealy.specs.Machine.{Rows, output}
-use Rattle.lw_separate.specs.Lengths.{begins, onward, first_of, second_of, one_more, IsTableOf, IsKnown, IsFilled, Met, Within, unknown, unknown_at, SetsLength}
+use Rattle.lw_separate.specs.Lengths.{begins, onward, first_of, second_of, one_more, IsLengthTable, IsKnown, IsFilled, Met, Within, unknown, unknown_at, SetsLength}
 use Rattle.lw_separate.proofs.SearchLemmas.{last_or_before}
 
 pub one_more_cases : (v : ℕ) → ((v ≡ 0) × (one_more v ≡ 0)) ⊎ ((0 < v) × (one_more v ≡ v + 1))
@@ -28,7 +28,7 @@ begins_cases m ls e x =
 pub record InRound (a : ℕ) (m : Rows) (d : ℕ) (old ls : List ℕ) (e : ℕ) (changed : Bool) : Type 0 where
   pub known : IsKnown a m d old
   pub room : unknown old + d ≤ length m * length m + 1
-  pub table : IsTableOf a m ls
+  pub table : IsLengthTable a m ls
   pub same : (f : ℕ) → (get_or ls f 0 ≡ get_or old f 0) ⊎ ((get_or old f 0 ≡ 0) × (get_or ls f 0 ≡ d))
   pub done : (f x : ℕ) → f < e → x < a → begins m old f x ≡ d → 0 < get_or ls f 0
   pub new : (f : ℕ) → f < length ls → get_or old f 0 ≡ 0 → get_or ls f 0 ≡ d → (x : ℕ) × (x < a) × (begins m old f x ≡ d)

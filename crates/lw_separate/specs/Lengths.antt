@@ -26,7 +26,7 @@ abbrev pub begins : Rows → List ℕ → ℕ → ℕ → ℕ
 begins m lengths e x = cond (eqb (output m (first_of m e) x) (output m (second_of m e) x)) (one_more (slice_index lengths (onward m e x))) 1
 
 -- one length for each pair, none above the number of pairs
-pub record IsTableOf (a : ℕ) (m : Rows) (lengths : List ℕ) : Type 0 where
+pub record IsLengthTable (a : ℕ) (m : Rows) (lengths : List ℕ) : Type 0 where
   pub machine : IsMachine a m
   pub whole : length lengths ≡ length m * length m
   pub small : (e : ℕ) → slice_index lengths e ≤ length m * length m
@@ -41,14 +41,14 @@ Within lengths e bound = (0 < slice_index lengths e) × (slice_index lengths e �
 
 -- each length below d is known, and no other
 pub record IsKnown (a : ℕ) (m : Rows) (d : ℕ) (lengths : List ℕ) : Type 0 where
-  pub table : IsTableOf a m lengths
+  pub table : IsLengthTable a m lengths
   pub below : (e : ℕ) → slice_index lengths e < d
   pub met : (e : ℕ) → e < length lengths → 0 < slice_index lengths e → Met a m lengths e
   pub least : (e x : ℕ) → e < length lengths → x < a → begins m lengths e x < d → 0 < begins m lengths e x → Within lengths e (begins m lengths e x)
 
 -- each length is known
 pub record IsFilled (a : ℕ) (m : Rows) (lengths : List ℕ) : Type 0 where
-  pub table : IsTableOf a m lengths
+  pub table : IsLengthTable a m lengths
   pub met : (e : ℕ) → e < length lengths → 0 < slice_index lengths e → Met a m lengths e
   pub least : (e x : ℕ) → e < length lengths → x < a → 0 < begins m lengths e x → Within lengths e (begins m lengths e x)
 

@@ -1,7 +1,7 @@
 -- The worklist over pairs of states: the pairs that have a length, in the order in which they got it. Source: Hopcroft and Ullman (1979).
 use Rattle.std.specs.Prelude.{◌≡◌, ◌≢◌, ℕ, ◌+◌, ◌*◌, ◌<◌, ◌≤◌, List, [], ◌∷◌, ◌++◌, length, ◌⊎◌, slice_index, slice_set}
 use Rattle.lw_mealy.specs.Machine.{Rows, next, output}
-use Rattle.lw_separate.specs.Lengths.{first_of, second_of, pair_of, onward, IsTableOf, Met, Within, unknown}
+use Rattle.lw_separate.specs.Lengths.{first_of, second_of, pair_of, onward, IsLengthTable, Met, Within, unknown}
 
 -- the length of the j-th pair of the queue
 abbrev pub length_at : List ℕ → List ℕ → ℕ → ℕ
@@ -14,7 +14,7 @@ ToldBy m e x = output m (first_of m e) x ≢ output m (second_of m e) x
 -- the pairs before the i-th of the queue are done: each pair that a letter leads to one of them has a length;
 -- of the pairs before `told` those that a letter tells apart have the length 1
 pub record IsWorklist (a : ℕ) (m : Rows) (told i : ℕ) (lengths queue : List ℕ) : Type 0 where
-  pub table : IsTableOf a m lengths
+  pub table : IsLengthTable a m lengths
   pub counted : length queue + unknown lengths ≡ length m * length m
   pub within : i ≤ length queue
   pub listed : (j : ℕ) → j < length queue → (slice_index queue j < length lengths) × (0 < length_at lengths queue j)

@@ -1,5 +1,5 @@
 ghost use Rattle.std.specs.Prelude.{◌≡◌, ℕ, ◌+◌, ◌<◌, length, IfOk, OnOk};
-ghost use Rattle.lw_mealy.specs.Table.{MachineTable, IsTable};
+ghost use Rattle.lw_mealy.specs.Limits.{MealyMachine, IsWithinLimits};
 ghost use Rattle.lw_separate.specs.Least.{IsAccessWord, AreAccessWords};
 ghost use Rattle.lw_separate.specs.Searched.{Searched};
 
@@ -34,7 +34,7 @@ fn reach(m: &Mealy, s: &mut Search, i: usize, x: u16) -> Result<(), NoMemory>
     requires so_far { Searched m.now s.old i x }
     requires found { i < length s.old.words.items }
     requires letter { x < m.now.inputs }
-    requires table { IsTable m.now }
+    requires table { IsWithinLimits m.now }
     ensures so_far { OnOk result (Searched m.now s.new i (x + 1)) }
     ensures found { OnOk result (i < length s.new.words.items) }
 {

@@ -1,6 +1,6 @@
 ghost use Rattle.std.specs.Prelude.{◌≡◌, ℕ, ◌*◌, ◌<◌, length, slice_index, IfOk, OnOk};
 ghost use Rattle.lw_mealy.specs.Minimal.{IsMinimal};
-ghost use Rattle.lw_mealy.specs.Table.{IsTable};
+ghost use Rattle.lw_mealy.specs.Limits.{IsWithinLimits};
 ghost use Rattle.lw_separate.specs.Canonical.{IsCanonical, StandsFor, Merges, OneCanonical, SomeCanonical};
 ghost use Rattle.lw_separate.specs.Lengths.{IsFilled};
 ghost use Rattle.lw_separate.specs.Names.{NamesStates, NamesPlaces, IsAllStates};
@@ -42,7 +42,7 @@ fn representatives(alloc: Global, m: &Mealy) -> Result<Vec<u16>, NoMemory>
 /// All states, in their order.
 pub fn all_states(alloc: Global, m: &Mealy) -> Result<Vec<u16>, NoMemory>
     ensures states { IfOk result (λ states. IsAllStates m.now.rows states.items) }
-    ensures table { OnOk result (IsTable m.now) }
+    ensures complete { OnOk result (IsWithinLimits m.now) }
 {
     let mut states = Vec::with_capacity(alloc, usize::from(m.states()))?;
     for q in 0..m.states() {
@@ -55,7 +55,7 @@ pub fn all_states(alloc: Global, m: &Mealy) -> Result<Vec<u16>, NoMemory>
 fn merged(alloc: Global, m: &Mealy) -> Result<Mealy, NoMemory>
     ensures merges { IfOk result (λ h. Merges m.now.inputs m.now.rows h.rows) }
     ensures alphabets { IfOk result (λ h. (h.inputs ≡ m.now.inputs) × (h.outputs ≡ m.now.outputs)) }
-    ensures table { IfOk result IsTable }
+    ensures complete { IfOk result IsWithinLimits }
 {
     let names = representatives(alloc, m)?;
     let states = all_states(alloc, m)?;
@@ -81,7 +81,7 @@ pub fn canonical(alloc: Global, m: &Mealy) -> Result<Mealy, NoMemory>
     ensures canonical { IfOk result (λ c. IsCanonical m.now.inputs m.now.rows c.rows) }
     ensures alphabets { IfOk result (λ c. (c.inputs ≡ m.now.inputs) × (c.outputs ≡ m.now.outputs)) }
     ensures minimal { IfOk result (λ c. IsMinimal c.inputs c.rows) }
-    ensures table { IfOk result IsTable }
+    ensures complete { IfOk result IsWithinLimits }
 {
     let h = merged(alloc, m)?;
     let search = breadth_first(alloc, &h)?;

@@ -1,11 +1,11 @@
 ghost use Rattle.std.specs.Prelude.{◌≡◌, ◌≢◌, ℕ, ◌<◌, length, MatchOption};
-ghost use Rattle.lw_separate.specs.Lengths.{begins, IsTableOf, FirstLetter, SetsLength};
+ghost use Rattle.lw_separate.specs.Lengths.{begins, IsLengthTable, FirstLetter, SetsLength};
 
 use lw_mealy::Mealy;
 
 /// The length of a shortest known separating word of the pair that begins with the letter, or 0.
 fn begins_by(m: &Mealy, lengths: &[u32], e: usize, x: u16) -> u32
-    requires table { IsTableOf m.now.inputs m.now.rows lengths.now }
+    requires table { IsLengthTable m.now.inputs m.now.rows lengths.now }
     requires pair { e < length lengths.now }
     requires letter { x < m.now.inputs }
     ensures { result ≡ begins m.now.rows lengths.now e x }
@@ -22,7 +22,7 @@ fn begins_by(m: &Mealy, lengths: &[u32], e: usize, x: u16) -> u32
 
 /// The least letter that begins a separating word of the pair of this length.
 pub fn first_letter(m: &Mealy, lengths: &[u32], e: usize, d: u32) -> Option<u16>
-    requires table { IsTableOf m.now.inputs m.now.rows lengths.now }
+    requires table { IsLengthTable m.now.inputs m.now.rows lengths.now }
     requires pair { e < length lengths.now }
     ensures { MatchOption result ((y : ℕ) → y < m.now.inputs → begins m.now.rows lengths.now e y ≢ d) (FirstLetter m.now.inputs m.now.rows lengths.now e d) }
 {
@@ -36,7 +36,7 @@ pub fn first_letter(m: &Mealy, lengths: &[u32], e: usize, d: u32) -> Option<u16>
 
 /// Gives the pair the length where it has none and a letter begins a word of that length. Answers whether it did.
 pub fn set_length(m: &Mealy, lengths: &mut Vec<u32>, e: usize, d: u32) -> bool
-    requires table { IsTableOf m.now.inputs m.now.rows lengths.old.items }
+    requires table { IsLengthTable m.now.inputs m.now.rows lengths.old.items }
     requires pair { e < length lengths.old.items }
     ensures { SetsLength m.now.inputs m.now.rows e d lengths.old.items lengths.new.items result }
 {

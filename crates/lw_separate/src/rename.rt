@@ -1,5 +1,5 @@
 ghost use Rattle.std.specs.Prelude.{◌≡◌, ℕ, ◌<◌, length, map, IfOk};
-ghost use Rattle.lw_mealy.specs.Table.{IsTable};
+ghost use Rattle.lw_mealy.specs.Limits.{IsWithinLimits};
 ghost use Rattle.lw_separate.specs.Canonical.{CanRename, Renames, RenamesRow, RenamesRows};
 
 use lw_mealy::{Mealy, MealyFault};
@@ -42,7 +42,7 @@ pub fn rename(alloc: Global, m: &Mealy, states: &[u16], names: &[u16]) -> Result
     requires can { CanRename m.now.inputs m.now.rows states.now names.now }
     ensures renames { IfOk result (λ c. Renames m.now.inputs m.now.rows states.now names.now c.rows) }
     ensures alphabets { IfOk result (λ c. (c.inputs ≡ m.now.inputs) × (c.outputs ≡ m.now.outputs)) }
-    ensures table { IfOk result IsTable }
+    ensures complete { IfOk result IsWithinLimits }
 {
     let rows = renamed_rows(alloc, m, states, names)?;
     match Mealy::new(alloc, m.inputs(), m.outputs(), rows) {

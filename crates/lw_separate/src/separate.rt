@@ -1,6 +1,6 @@
 ghost use Rattle.std.specs.Prelude.{◌≡◌, ℕ, ◌<◌, length, IfOk};
 ghost use Rattle.lw_separate.specs.Least.{IsSeparatingWord};
-ghost use Rattle.lw_separate.specs.Lengths.{IsFilled, IsTableOf, first_of, second_of, onward};
+ghost use Rattle.lw_separate.specs.Lengths.{IsFilled, IsLengthTable, first_of, second_of, onward};
 
 use crate::lengths::first_letter;
 use crate::worklist::fill;
@@ -10,7 +10,7 @@ use std::alloc::Global;
 
 /// The pair of states to which a letter leads.
 fn next_pair(m: &Mealy, lengths: &[u32], e: usize, x: u16) -> usize
-    requires table { IsTableOf m.now.inputs m.now.rows lengths.now }
+    requires table { IsLengthTable m.now.inputs m.now.rows lengths.now }
     requires pair { e < length lengths.now }
     requires letter { x < m.now.inputs }
     ensures value { result ≡ onward m.now.rows e x }

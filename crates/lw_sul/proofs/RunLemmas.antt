@@ -4,7 +4,7 @@ use Rattle.std.proofs.lemmas.List.{take_more}
 use Rattle.lw_mealy.specs.Machine.{Rows, out, answer}
 use Rattle.lw_mealy.proofs.WordLemmas.{outs_more, outs_end}
 use Rattle.lw_sul.specs.declared.runs.Run.{Run}
-use Rattle.lw_sul.specs.Asked.{run_of, CutOff}
+use Rattle.lw_sul.specs.SessionState.{run_of, CutOff}
 use Rattle.lw_sul.specs.Runs.{stepped, after_step}
 use Rattle.lw_sul.specs.Told.{Steps, Starts, Answers}
 

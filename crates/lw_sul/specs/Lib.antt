@@ -1,4 +1,4 @@
-pub mod Asked
+pub mod SessionState
 pub mod Runs
 pub mod TableState
 pub mod Told

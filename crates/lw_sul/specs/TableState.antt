@@ -1,7 +1,7 @@
 -- A table system: its machine and the state that it is in.
 use Rattle.std.specs.Prelude.{ℕ}
-use Rattle.lw_mealy.specs.Table.{MachineTable}
+use Rattle.lw_mealy.specs.Limits.{MealyMachine}
 
 pub record TableState : Type 0 where
-  pub table : MachineTable
+  pub table : MealyMachine
   pub state : ℕ

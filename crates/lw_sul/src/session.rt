@@ -3,8 +3,8 @@ ghost use Rattle.std.specs.List.{All};
 ghost use Rattle.lw_words.specs.Word.{IsWord};
 ghost use Rattle.lw_words.specs.declared.stop.SulStop.{SulStop as Stop};
 ghost use Rattle.std.specs.Prelude.{Err};
-ghost use Rattle.lw_sul.specs.Asked.{Asked, run_of, NoRuns, CutOff};
-ghost use Rattle.lw_words.specs.Cause.{Rose};
+ghost use Rattle.lw_sul.specs.SessionState.{SessionState, run_of, NoRuns, CutOff};
+ghost use Rattle.lw_words.specs.Cause.{CountedFault};
 ghost use Rattle.lw_sul.specs.Told.{Answers};
 
 use crate::{Run, Runs, Sul};
@@ -25,9 +25,9 @@ pub struct Session<S: Sul> {
 
 impl<S: Sul> Model for Session<S> {
     ghost use Rattle.std.specs.Prelude.{◌≡◌};
-    ghost use Rattle.lw_sul.specs.Asked.{Asked, IsJournal};
+    ghost use Rattle.lw_sul.specs.SessionState.{SessionState, IsJournal};
 
-    ghost Value = { Asked S };
+    ghost Value = { SessionState S };
 
     ghost view = { λ s. record { instance = s.instance; sul = s.sul; journal = s.journal } };
 
@@ -70,7 +70,7 @@ fn perform<S: Sul>(sul: &mut S, w: &Word, outs: &mut Vec<u16>) -> Result<(), Sul
     ensures live { OnOk result (S.stop sul.new ≡ None) }
     ensures err { IfErr result (λ e. S.stop sul.new ≡ Some e) }
     ensures cut { OnErr result (CutOff (S.runs sul.old) (S.runs sul.new)) }
-    ensures failed { result ≡ Err Stop.Failed → Rose (S.faults sul.old) (S.faults sul.new) }
+    ensures failed { result ≡ Err Stop.Failed → CountedFault (S.faults sul.old) (S.faults sul.new) }
     ensures counts { S.faults sul.old ≤ S.faults sul.new }
     ensures same { (S.origin sul.new ≡ S.origin sul.old) × (S.inputs sul.new ≡ S.inputs sul.old) × (S.outputs sul.new ≡ S.outputs sul.old) }
 {
@@ -115,7 +115,7 @@ impl<S: Sul> Session<S> {
         ensures kept { OnErr result (self.new.journal ≡ self.old.journal) }
         ensures again { (stop : Stop) → S.stop self.old.sul ≡ Some stop → (result ≡ Err (RunStop.Sul stop)) × (self.new ≡ self.old) }
         ensures memory { result ≡ Err RunStop.NoMemory → self.new ≡ self.old }
-        ensures failed { result ≡ Err (RunStop.Sul Stop.Failed) → S.stop self.old.sul ≡ None → Rose (S.faults self.old.sul) (S.faults self.new.sul) }
+        ensures failed { result ≡ Err (RunStop.Sul Stop.Failed) → S.stop self.old.sul ≡ None → CountedFault (S.faults self.old.sul) (S.faults self.new.sul) }
 
         ensures counts { S.faults self.old.sul ≤ S.faults self.new.sul }
         ensures instance { self.new.instance ≡ self.old.instance }

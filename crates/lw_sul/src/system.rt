@@ -1,7 +1,7 @@
 ghost use Rattle.std.specs.Prelude.{◌≡◌, ℕ, ◌<◌, ◌≤◌, List, Bool, true, Option, Some, None, option_map, IfOk, OnOk, IfErr, OnErr};
 ghost use Rattle.lw_mealy.specs.Origin.{Origin};
 ghost use Rattle.lw_words.specs.declared.stop.SulStop.{SulStop as Stop};
-ghost use Rattle.lw_words.specs.Cause.{Rose};
+ghost use Rattle.lw_words.specs.Cause.{CountedFault};
 ghost use Rattle.lw_sul.specs.Runs.{after_reset, after_step};
 ghost use Rattle.lw_sul.specs.Told.{Starts, Steps};
 ghost use Rattle.lw_sul.specs.declared.runs.Run.{Run as Entry};
@@ -49,7 +49,7 @@ pub trait Sul {
         ensures starts { OnOk result (Starts (origin self.old).machine (state self.new)) }
         ensures err { IfErr result (λ e. stop self.new ≡ Some e) }
         ensures left { OnErr result (runs self.new ≡ runs self.old) }
-        ensures failed { result ≡ Err Stop.Failed → Rose (faults self.old) (faults self.new) }
+        ensures failed { result ≡ Err Stop.Failed → CountedFault (faults self.old) (faults self.new) }
         ensures counts { faults self.old ≤ faults self.new }
         ensures same { (origin self.new ≡ origin self.old) × (inputs self.new ≡ inputs self.old) × (outputs self.new ≡ outputs self.old) };
 
@@ -64,7 +64,7 @@ pub trait Sul {
         ensures steps { IfOk result (λ y. Steps (origin self.old).machine (state self.old) x y (state self.new)) }
         ensures err { IfErr result (λ e. stop self.new ≡ Some e) }
         ensures left { OnErr result (runs self.new ≡ runs self.old) }
-        ensures failed { result ≡ Err Stop.Failed → Rose (faults self.old) (faults self.new) }
+        ensures failed { result ≡ Err Stop.Failed → CountedFault (faults self.old) (faults self.new) }
         ensures counts { faults self.old ≤ faults self.new }
         ensures same { (origin self.new ≡ origin self.old) × (inputs self.new ≡ inputs self.old) × (outputs self.new ≡ outputs self.old) };
 }

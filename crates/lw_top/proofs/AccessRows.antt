@@ -3,7 +3,7 @@ use Rattle.std.proofs.Common.{◌≡◌, ℕ, ◌<◌, inl, inr, List, [], lengt
 use Rattle.std.proofs.lemmas.Bool.{cases_lt}
 use Rattle.std.proofs.lemmas.List.{get_or-map, length-map}
 use Rattle.lw_mealy.specs.Machine.{Rows}
-use Rattle.lw_top.specs.Part.{word_at, row_after, AreAccess}
+use Rattle.lw_top.specs.PartialTable.{word_at, row_after, AreAccess}
 
 module _ (m : Rows) (a : ℕ) (A R : List (List ℕ)) (g : AreAccess m a A R) where
   row_is : (i : ℕ) → i < length A → get_or R i [] ≡ row_after m a (word_at A i)

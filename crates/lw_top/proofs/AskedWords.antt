@@ -7,11 +7,11 @@ use Rattle.std.proofs.lemmas.List.Elements.{All-append, All-map, Contains-append
 use Rattle.std.proofs.lemmas.List.FromFn.{get_or-map-range_with_len, length-map-range_with_len}
 use borrow.Author.Count.{below_more}
 use Rattle.lw_mealy.specs.Machine.{Rows, answer}
-use Rattle.lw_sul.specs.Asked.{run_of}
+use Rattle.lw_sul.specs.SessionState.{run_of}
 use Rattle.lw_sul.specs.declared.runs.Run.{Run}
 use Rattle.lw_top.specs.Asking.{extensions, asked, asked_all, row_words}
 use Rattle.lw_top.specs.Known.{Answer, runs_answers}
-use Rattle.lw_top.specs.Part.{word_at}
+use Rattle.lw_top.specs.PartialTable.{word_at}
 
 pub pushed : (o o' : List ℕ) (y y' : ℕ) → o ≡ o' → y ≡ y' → o ++ y ∷ [] ≡ o' ++ y' ∷ []
 pushed o o' y y' one two = ap (λ (l : List ℕ). l ++ y ∷ []) one ∙ ap (λ (z : ℕ). o' ++ z ∷ []) two

@@ -6,10 +6,10 @@ use Rattle.std.proofs.lemmas.List.{map-append}
 use Rattle.std.proofs.lemmas.List.Elements.{All-append, All-map}
 use Rattle.std.proofs.lemmas.List.FromFn.{map-range_with_len_more, length-map-range_with_len}
 use Rattle.lw_mealy.specs.Machine.{Rows, after, answer, output}
-use Rattle.lw_sul.specs.Asked.{run_of}
+use Rattle.lw_sul.specs.SessionState.{run_of}
 use Rattle.lw_sul.specs.declared.runs.Run.{Run}
 use Rattle.lw_top.specs.Asking.{extensions, asked, asked_all, row_words, AnswersOnly}
-use Rattle.lw_top.specs.Part.{row_after}
+use Rattle.lw_top.specs.PartialTable.{row_after}
 
 pub length-row_after : (m : Rows) (a : ℕ) (w : List ℕ) → length (row_after m a w) ≡ a
 length-row_after m a w = length-map-range_with_len (output m (after m 0 w)) 0 a

@@ -5,12 +5,12 @@ use Rattle.std.proofs.lemmas.List.{get_or_default}
 use Rattle.std.proofs.lemmas.List.Elements.{All-get_or}
 use Rattle.lw_words.specs.Word.{IsWord}
 use Rattle.lw_mealy.specs.Machine.{Row, after, cell}
-use Rattle.lw_mealy.specs.Table.{MachineTable, IsTable, table_of}
+use Rattle.lw_mealy.specs.Limits.{MealyMachine, IsWithinLimits, mealy_of}
 use Rattle.lw_mealy.proofs.RowLemmas.{output_below}
 use Rattle.lw_mealy.proofs.WordLemmas.{after_below}
-use Rattle.lw_top.specs.Part.{word_at, IsPair, AreAccess, ArePairs}
+use Rattle.lw_top.specs.PartialTable.{word_at, IsPair, AreAccess, ArePairs}
 
-module _ (t : MachineTable) (A R : List (List ℕ)) (C : List Row) (is : IsTable t) (g : AreAccess t.rows t.inputs A R) (p : ArePairs t.rows t.inputs A C) (full : length C ≡ length A) (few : length A ≤ 1024) where
+module _ (t : MealyMachine) (A R : List (List ℕ)) (C : List Row) (is : IsWithinLimits t) (g : AreAccess t.rows t.inputs A R) (p : ArePairs t.rows t.inputs A C) (full : length C ≡ length A) (few : length A ≤ 1024) where
   pair : (q x : ℕ) → q < length C → x < t.inputs → IsPair t.rows t.inputs A q x (cell C q x)
   pair q x lt le = p.each q x lt le
 
@@ -36,7 +36,7 @@ module _ (t : MachineTable) (A R : List (List ℕ)) (C : List Row) (is : IsTable
       let small : x < t.inputs = subst (λ (n : ℕ). x < n) size le in
       subst (λ (r : Row). P (get_or r x e)) (sym row) (subst P (sym (get_or_default (get_or C q []) x e (0, 0) le')) (each q x lt small))
 
-  pub closed_table : IsTable (table_of t.inputs t.outputs C)
+  pub closed_table : IsWithinLimits (mealy_of t.inputs t.outputs C)
   closed_table = record {
     inputs = is.inputs;
     outputs = is.outputs;

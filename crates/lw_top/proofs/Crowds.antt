@@ -14,7 +14,7 @@ use Rattle.lw_top.proofs.Parts.{row_at}
 use Rattle.lw_top.specs.Asking.{asked_all, row_words}
 use Rattle.lw_top.specs.Crowd.{IsCrowd}
 use Rattle.lw_top.specs.Known.{Apart, Knows, runs_answers}
-use Rattle.lw_top.specs.Part.{word_at, row_after, AreAccess}
+use Rattle.lw_top.specs.PartialTable.{word_at, row_after, AreAccess}
 
 module _ (m : Rows) (a : ℕ) (rs : List (List ℕ)) where
   -- what was asked is known

@@ -7,7 +7,7 @@ use Rattle.std.proofs.lemmas.List.Elements.{All-append, All-get_or, All-push}
 use Rattle.lw_words.specs.Word.{IsWord}
 use Rattle.lw_mealy.specs.Machine.{Row, after, next, output, out, answer, cell}
 use Rattle.lw_mealy.specs.Minimal.{Differ}
-use Rattle.lw_mealy.specs.Table.{MachineTable, table_of}
+use Rattle.lw_mealy.specs.Limits.{MealyMachine, mealy_of}
 use Rattle.lw_mealy.proofs.WordLemmas.{after-append, out-append}
 use Rattle.lw_sul.specs.declared.runs.Run.{Run}
 use Rattle.lw_top.proofs.Askings.{length-row_after}
@@ -17,9 +17,9 @@ use Rattle.lw_top.proofs.Parts.{row_at}
 use Rattle.lw_top.specs.Asking.{extensions, asked_all, row_words}
 use Rattle.lw_top.specs.Hypothesis.{ReachedWide, IsHypothesis}
 use Rattle.lw_top.specs.Known.{Answer, runs_answers}
-use Rattle.lw_top.specs.Part.{word_at, row_after, IsPair, AreAccess, ArePairs}
+use Rattle.lw_top.specs.PartialTable.{word_at, row_after, IsPair, AreAccess, ArePairs}
 
-module _ (t : MachineTable) (A R : List (List ℕ)) (C : List Row) (g : AreAccess t.rows t.inputs A R) (p : ArePairs t.rows t.inputs A C) (full : length C ≡ length A) (few : length A ≤ 1024) where
+module _ (t : MealyMachine) (A R : List (List ℕ)) (C : List Row) (g : AreAccess t.rows t.inputs A R) (p : ArePairs t.rows t.inputs A C) (full : length C ≡ length A) (few : length A ≤ 1024) where
   pair_at : (q x : ℕ) → q < length A → x < t.inputs → IsPair t.rows t.inputs A q x (cell C q x)
   pair_at q x lt le = p.each q x (subst (λ (n : ℕ). q < n) (sym full) lt) le
 
@@ -130,11 +130,11 @@ module _ (t : MachineTable) (A R : List (List ℕ)) (C : List Row) (g : AreAcces
   }
 
 -- of the machine that is made of the pairs, where the journal has the rows of all access words
-pub hypothesis_of : (t : MachineTable) (A R : List (List ℕ)) (C : List Row) (n : ℕ) (journal : List Run) (inputs outputs : ℕ) (h : MachineTable) → AreAccess t.rows t.inputs A R → ArePairs t.rows t.inputs A C → length C ≡ length A → length A ≤ 1024 → n ≡ length A
-    → journal ≡ asked_all t.rows t.inputs (row_words t.inputs (take n A)) → inputs ≡ t.inputs → h ≡ table_of inputs outputs C → IsHypothesis h.inputs (runs_answers journal) h.rows
+pub hypothesis_of : (t : MealyMachine) (A R : List (List ℕ)) (C : List Row) (n : ℕ) (journal : List Run) (inputs outputs : ℕ) (h : MealyMachine) → AreAccess t.rows t.inputs A R → ArePairs t.rows t.inputs A C → length C ≡ length A → length A ≤ 1024 → n ≡ length A
+    → journal ≡ asked_all t.rows t.inputs (row_words t.inputs (take n A)) → inputs ≡ t.inputs → h ≡ mealy_of inputs outputs C → IsHypothesis h.inputs (runs_answers journal) h.rows
 hypothesis_of t A R C n journal inputs outputs h g p full few all gains same is =
     let front : take n A ≡ A = ap (λ (k : ℕ). take k A) all ∙ take_all (length A) A (omega arith) in
     let whole : journal ≡ asked_all t.rows t.inputs (row_words t.inputs A) = gains ∙ ap (λ (B : List (List ℕ)). asked_all t.rows t.inputs (row_words t.inputs B)) front in
     subst (λ (j : List Run). IsHypothesis h.inputs (runs_answers j) h.rows) (sym whole)
-    (subst (λ (s : MachineTable). IsHypothesis s.inputs (runs_answers (asked_all t.rows t.inputs (row_words t.inputs A))) s.rows) (sym is)
+    (subst (λ (s : MealyMachine). IsHypothesis s.inputs (runs_answers (asked_all t.rows t.inputs (row_words t.inputs A))) s.rows) (sym is)
     (subst (λ (k : ℕ). IsHypothesis k (runs_answers (asked_all t.rows t.inputs (row_words t.inputs A))) C) (sym same) (hypothesis t A R C g p full few)))

@@ -1,6 +1,6 @@
 -- What a call of the program comes to, by its outcome.
 use Rattle.std.proofs.Common.{◌≡◌, ◌∙◌, inl, inr, refl, sym, subst, ℕ, List, Option, Some, None}
-use Rattle.lw_mealy.specs.Table.{MachineTable}
+use Rattle.lw_mealy.specs.Limits.{MealyMachine}
 use Rattle.lw_json.specs.MachineFile.{IsMachineFile}
 use Rattle.lw_json.specs.declared.machine.Machine.{Machine}
 use Rattle.lw_top.specs.Files.{File, file_at}
@@ -8,7 +8,7 @@ use Rattle.lw_top.specs.Crowd.{IsCrowd}
 use Rattle.lw_top.specs.Known.{Answer}
 use Rattle.lw_top.specs.Outcomes.{IsLearnStop, IsUntroubled, IsWriteStop, StandsOrWants}
 use Rattle.lw_top.specs.Text.{IsText}
-use Rattle.lw_top.specs.Run.{IsReadStop, IsTableOf, RefusesTable, TellsTable, TellsNoTable}
+use Rattle.lw_top.specs.Run.{IsReadStop, IsMachineAt, RefusesTable, TellsTable, TellsNoTable}
 use Rattle.lw_top.specs.declared.outcome.Outcome.{Outcome}
 use Rattle.lw_top.specs.declared.outcome.Outcome.TheVariants.{Unchecked, Usage, BadFile, NoMemory, TooManyStates, FileFault, SinkFault}
 
@@ -23,7 +23,7 @@ table_not_refused : (holds : Option (List File)) (name : List ℕ) → TellsTabl
 table_not_refused None name told r = absurd told.1
 table_not_refused (Some fs) name told r = r.bad told.2.0 (subst (λ (b : List ℕ). IsMachineFile b told.2.0) (same_bytes (file_at name fs) told.0 r.bytes told.1 r.read) told.2.1)
 
-pub bad_not_read : (holds : Option (List File)) (name : List ℕ) (m : Machine) → TellsNoTable holds name → IsTableOf holds name m → ⊥
+pub bad_not_read : (holds : Option (List File)) (name : List ℕ) (m : Machine) → TellsNoTable holds name → IsMachineAt holds name m → ⊥
 bad_not_read None name m told t = absurd told.1
 bad_not_read (Some fs) name m told t = told.2 m (subst (λ (b : List ℕ). IsMachineFile b m) (same_bytes (file_at name fs) t.bytes told.0 t.read told.1) t.file)
 
@@ -39,7 +39,7 @@ untroubled_read holds name FileFault result Fault stop told cause none stands = 
 untroubled_read holds name SinkFault result Fault stop told cause none stands = absurd stop
 
 -- the model that is told is the machine that was written out
-pub told_model : (model told : MachineTable) (cause : Type 0) (outcome : Outcome) → outcome ≡ Unchecked told → IsWriteStop model cause outcome → told ≡ model
+pub told_model : (model told : MealyMachine) (cause : Type 0) (outcome : Outcome) → outcome ≡ Unchecked told → IsWriteStop model cause outcome → told ≡ model
 told_model model told cause outcome is stop = let here : IsWriteStop model cause (Unchecked told) = subst (λ (o : Outcome). IsWriteStop model cause o) is stop in here
 
 -- the crowd that is told is the table's

@@ -2,7 +2,7 @@
 use Rattle.std.specs.Prelude.{◌≡◌, ℕ, List, [], ◌∷◌, ◌++◌, map}
 use Rattle.std.specs.List.{All, flat_map, range_with_len}
 use Rattle.lw_mealy.specs.Machine.{Rows, answer, output}
-use Rattle.lw_sul.specs.Asked.{run_of}
+use Rattle.lw_sul.specs.SessionState.{run_of}
 use Rattle.lw_sul.specs.declared.runs.Run.{Run}
 
 -- the letters in order

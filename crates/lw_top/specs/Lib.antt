@@ -6,7 +6,7 @@ pub mod Kept
 pub mod Known
 pub mod Memory
 pub mod Outcomes
-pub mod Part
+pub mod PartialTable
 pub mod Run
 pub mod Text
 pub mod Words

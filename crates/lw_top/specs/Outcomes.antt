@@ -1,6 +1,6 @@
 -- The exit status of each outcome, and which outcomes may come when.
 use Rattle.std.specs.Prelude.{◌≡◌, ◌⊎◌, ℕ, List}
-use Rattle.lw_mealy.specs.Table.{MachineTable}
+use Rattle.lw_mealy.specs.Limits.{MealyMachine}
 use Rattle.lw_top.specs.Crowd.{IsCrowd}
 use Rattle.lw_top.specs.Known.{Answer}
 use Rattle.lw_top.specs.declared.outcome.Outcome.{Outcome}
@@ -36,7 +36,7 @@ IsLearnStop answers FileFault = ⊥
 IsLearnStop answers SinkFault = ⊥
 
 -- what a closed table's writing out comes to, where a fault has this cause
-abbrev pub IsWriteStop : MachineTable → Type 0 → Outcome → Type 0
+abbrev pub IsWriteStop : MealyMachine → Type 0 → Outcome → Type 0
 IsWriteStop model cause (Unchecked written) = written ≡ model
 IsWriteStop model cause Usage = ⊥
 IsWriteStop model cause BadFile = ⊥

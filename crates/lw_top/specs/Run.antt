@@ -2,7 +2,7 @@
 use Rattle.std.specs.Prelude.{◌≡◌, ◌⊎◌, ℕ, Bool, List, ◌++◌, take, Option, Some, None, option_map}
 use Rattle.lw_words.specs.declared.kept.KeptAnswer.{KeptAnswer}
 use Rattle.lw_mealy.specs.Gives.{Gives}
-use Rattle.lw_mealy.specs.Table.{MachineTable}
+use Rattle.lw_mealy.specs.Limits.{MealyMachine}
 use Rattle.lw_json.specs.MachineFile.{IsMachineFile}
 use Rattle.lw_json.specs.MachineText.{written_text}
 use Rattle.lw_json.specs.declared.machine.Machine.{Machine}
@@ -13,7 +13,7 @@ use Rattle.lw_top.specs.declared.outcome.Outcome.{Outcome}
 use Rattle.lw_top.specs.declared.outcome.Outcome.TheVariants.{Unchecked, Usage, BadFile, NoMemory, TooManyStates, FileFault, SinkFault}
 
 -- the bytes under the name, where they are told, are the file of this machine
-pub record IsTableOf (holds : Option (List File)) (name : List ℕ) (m : Machine) : Type 0 where
+pub record IsMachineAt (holds : Option (List File)) (name : List ℕ) (m : Machine) : Type 0 where
   pub bytes : List ℕ
   pub read : Reads holds name bytes
   pub file : IsMachineFile bytes m
@@ -50,7 +50,7 @@ IsReadStop holds name SinkFault = ⊥
 -- the runs of instance 0 in their order, each an answer of the table file's machine
 pub record KeepsRuns (holds : Option (List File)) (name : List ℕ) (kept : List KeptAnswer) : Type 0 where
   pub machine : Machine
-  pub table : IsTableOf holds name machine
+  pub table : IsMachineAt holds name machine
   pub numbered : IsNumbered kept
   pub answers : Gives machine.mealy.rows kept
 
@@ -62,9 +62,9 @@ abbrev pub TakesAll : List ℕ → Option (List ℕ) → Option (List ℕ) → T
 TakesAll text before now = now ≡ option_map (λ t. t ++ text) before
 
 -- what is written is of this machine, under the names of the table file
-pub record IsWritten (holds : Option (List File)) (name : List ℕ) (h : MachineTable) (Takes : List ℕ → Type 0) : Type 0 where
+pub record IsWritten (holds : Option (List File)) (name : List ℕ) (h : MealyMachine) (Takes : List ℕ → Type 0) : Type 0 where
   pub table : Machine
-  pub read : IsTableOf holds name table
+  pub read : IsMachineAt holds name table
   pub model : Machine
   pub inputs : model.inputs ≡ table.inputs
   pub outputs : model.outputs ≡ table.outputs
@@ -78,7 +78,7 @@ Says names answers outcome before now = (text : List ℕ) × IsText names answer
 -- the names of the inputs, where there are any, are those of the table file
 abbrev pub AreInputs : Option (List File) → Option (List ℕ) → Option (List (List ℕ)) → Type 0
 AreInputs holds file None = Unit {0}
-AreInputs holds file (Some inputs) = (name : List ℕ) × (file ≡ Some name) × ((table : Machine) × IsTableOf holds name table × (table.inputs ≡ inputs))
+AreInputs holds file (Some inputs) = (name : List ℕ) × (file ≡ Some name) × ((table : Machine) × IsMachineAt holds name table × (table.inputs ≡ inputs))
 
 -- the calls gained one read of the file, or none where memory was wanted
 abbrev pub OneRead : List ℕ → Type 0 → Option (List Call) → Option (List Call) → Type 0

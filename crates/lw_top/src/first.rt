@@ -2,13 +2,13 @@ ghost use Rattle.std.specs.Prelude.{◌≡◌, ◌+◌, ◌<◌, ◌≤◌, [], 
 ghost use Rattle.lw_words.specs.Name.{AllDiffer};
 ghost use Rattle.lw_words.specs.Word.{IsWord};
 ghost use Rattle.lw_mealy.specs.Machine.{after, answer, output};
-ghost use Rattle.lw_mealy.specs.Table.{IsTable, table_of};
-ghost use Rattle.lw_sul.specs.Asked.{run_of};
+ghost use Rattle.lw_mealy.specs.Limits.{IsWithinLimits, mealy_of};
+ghost use Rattle.lw_sul.specs.SessionState.{run_of};
 ghost use Rattle.lw_top.specs.Asking.{asked, asked_all, extensions, row_words, AnswersOnly};
 ghost use Rattle.lw_top.specs.Crowd.{CrowdOf};
 ghost use Rattle.lw_top.specs.Hypothesis.{IsHypothesis};
 ghost use Rattle.lw_top.specs.Known.{runs_answers};
-ghost use Rattle.lw_top.specs.Part.{row_after, word_at, IsPair, Enters, IsFilling};
+ghost use Rattle.lw_top.specs.PartialTable.{row_after, word_at, IsPair, Enters, IsFilling};
 
 use indexmap::IndexSet;
 use lw_mealy::{Mealy, MealyFault};
@@ -189,8 +189,8 @@ fn machine_of(
     outputs: u16,
     cells: Vec<Vec<(u16, u16)>>,
 ) -> Result<Mealy, NoMemory>
-    requires { IsTable (table_of inputs outputs (map (λ r. r.items) cells.items)) }
-    ensures { IfOk result (λ h. h ≡ table_of inputs outputs (map (λ r. r.items) cells.items)) }
+    requires { IsWithinLimits (mealy_of inputs outputs (map (λ r. r.items) cells.items)) }
+    ensures { IfOk result (λ h. h ≡ mealy_of inputs outputs (map (λ r. r.items) cells.items)) }
 {
     match Mealy::new(alloc, inputs, outputs, cells) {
         Ok(mealy) => Ok(mealy),
@@ -245,7 +245,7 @@ pub fn first_table(
 ) -> Result<Mealy, FirstStop>
     requires empty { session.old.journal ≡ [] }
     requires limit { (1 ≤ max_states) × (max_states ≤ 1024) }
-    ensures table { IfOk result (λ h. IsTable h × (h.inputs ≡ session.old.sul.table.inputs) × (h.outputs ≡ session.old.sul.table.outputs)) }
+    ensures complete { IfOk result (λ h. IsWithinLimits h × (h.inputs ≡ session.old.sul.table.inputs) × (h.outputs ≡ session.old.sul.table.outputs)) }
     ensures few { IfOk result (λ h. length h.rows ≤ max_states) }
     ensures hypothesis { IfOk result (λ h. IsHypothesis h.inputs (runs_answers session.new.journal) h.rows) }
     ensures crowd { IfErr result (CrowdOf (runs_answers session.new.journal) (max_states + 1)) }

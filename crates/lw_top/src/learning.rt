@@ -1,6 +1,6 @@
 ghost use Rattle.std.specs.Prelude.{◌≡◌, [], length, IfOk, IfErr};
 ghost use Rattle.lw_mealy.specs.Gives.{Gives};
-ghost use Rattle.lw_mealy.specs.Table.{IsTable};
+ghost use Rattle.lw_mealy.specs.Limits.{IsWithinLimits};
 ghost use Rattle.lw_separate.specs.Canonical.{IsCanonical};
 ghost use Rattle.lw_top.specs.Asking.{AnswersOnly};
 ghost use Rattle.lw_top.specs.Hypothesis.{IsHypothesis};
@@ -52,7 +52,7 @@ fn keep(alloc: Global, runs: Vec<Run>) -> Result<Kept, NoMemory>
 /// The canonical form of the closed table's machine.
 fn close(alloc: Global, session: &mut Session<TableSul>) -> Result<Mealy, Outcome>
     requires empty { session.old.journal ≡ [] }
-    ensures table { IfOk result (λ h. IsTable h × (h.inputs ≡ session.old.sul.table.inputs) × (h.outputs ≡ session.old.sul.table.outputs)) }
+    ensures complete { IfOk result (λ h. IsWithinLimits h × (h.inputs ≡ session.old.sul.table.inputs) × (h.outputs ≡ session.old.sul.table.outputs)) }
     ensures canonical { IfOk result (λ h. IsCanonical h.inputs h.rows h.rows) }
     ensures hypothesis { IfOk result (λ h. IsHypothesis h.inputs (runs_answers session.new.journal) h.rows) }
     ensures stop { IfErr result (IsLearnStop (runs_answers session.new.journal)) }
@@ -72,7 +72,7 @@ fn close(alloc: Global, session: &mut Session<TableSul>) -> Result<Mealy, Outcom
 /// Closes a table over the machine's single letters, and keeps the finished runs.
 pub(crate) fn learn(alloc: Global, machine: Machine) -> Learned
     ensures names { (result.inputs ≡ machine.inputs) × (result.outputs ≡ machine.outputs) }
-    ensures model { IfOk result.closed (λ h. IsTable h × (h.inputs ≡ length machine.inputs) × (h.outputs ≡ length machine.outputs)) }
+    ensures model { IfOk result.closed (λ h. IsWithinLimits h × (h.inputs ≡ length machine.inputs) × (h.outputs ≡ length machine.outputs)) }
     ensures canonical { IfOk result.closed (λ h. IsCanonical h.inputs h.rows h.rows) }
     ensures hypothesis { IfOk result.closed (λ h. IsHypothesis h.inputs (kept_answers result.kept.answers) h.rows) }
     ensures stop { IfErr result.closed (IsLearnStop (kept_answers result.kept.answers)) }

@@ -1,6 +1,6 @@
 ghost use Rattle.std.specs.Prelude.{◌≡◌, ◌⊎◌, ◌↔◌, ℕ, ◌<◌, ◌≤◌, List, [], length, map, true, Some, None, Ok, Err, Option, IfOk, IfErr, IfSome, option_map, string_bytes};
-ghost use Rattle.lw_words.specs.Cause.{Rose};
-ghost use Rattle.lw_mealy.specs.Table.{MachineTable as Table, IsTable};
+ghost use Rattle.lw_words.specs.Cause.{CountedFault};
+ghost use Rattle.lw_mealy.specs.Limits.{MealyMachine as Table, IsWithinLimits};
 ghost use Rattle.lw_json.specs.MachineText.{written_text};
 ghost use Rattle.lw_separate.specs.Canonical.{IsCanonical};
 ghost use Rattle.lw_top.specs.Crowd.{IsCrowd};
@@ -8,7 +8,7 @@ ghost use Rattle.lw_top.specs.Files.{Reads, read_call, noted};
 ghost use Rattle.lw_top.specs.Hypothesis.{IsHypothesis};
 ghost use Rattle.lw_top.specs.Known.{kept_answers};
 ghost use Rattle.lw_top.specs.Outcomes.{IsUnread, IsUntroubled, IsWriteStop, StandsOrWants, status_of};
-ghost use Rattle.lw_top.specs.Run.{AreInputs, IsReadStop, IsTableOf, IsWritten, KeepsRuns, OneRead, RefusesTable, Says, TakesAll, TakesSome, TellsNoTable, TellsTable};
+ghost use Rattle.lw_top.specs.Run.{AreInputs, IsReadStop, IsMachineAt, IsWritten, KeepsRuns, OneRead, RefusesTable, Says, TakesAll, TakesSome, TellsNoTable, TellsTable};
 ghost use Rattle.lw_top.specs.Words.{table_file};
 ghost use Rattle.lw_top.specs.declared.outcome.Outcome.{Outcome as Came};
 
@@ -44,9 +44,9 @@ fn table_file(words: &[String]) -> Option<&str>
 
 /// Reads the table file.
 fn read_table<F: Files>(alloc: Global, files: &mut F, name: &str) -> Result<Machine, Outcome>
-    ensures ok { IfOk result (IsTableOf (F.holds files.old) name.now) }
+    ensures ok { IfOk result (IsMachineAt (F.holds files.old) name.now) }
     ensures err { IfErr result (IsReadStop (F.holds files.old) name.now) }
-    ensures failed { result ≡ Err Came.FileFault → Rose (F.faults files.old) (F.faults files.new) × (F.calls files.new ≡ noted (read_call name.now true) (F.calls files.old)) }
+    ensures failed { result ≡ Err Came.FileFault → CountedFault (F.faults files.old) (F.faults files.new) × (F.calls files.new ≡ noted (read_call name.now true) (F.calls files.old)) }
     ensures calls { OneRead name.now (result ≡ Err Came.NoMemory) (F.calls files.old) (F.calls files.new) }
     ensures counts { F.faults files.old ≤ F.faults files.new }
 {
@@ -89,7 +89,7 @@ fn refuse<E: Sink>(
     ensures status { result.status ≡ status_of result.outcome }
     ensures model { result.model ≡ None }
     ensures kept { result.kept ≡ kept }
-    ensures said { ¬ Rose (E.faults err.old) (E.faults err.new) → Says (option_map (λ n. n.now) inputs.entry) (length kept.answers) result.outcome (E.taken err.old) (E.taken err.new) }
+    ensures said { ¬ CountedFault (E.faults err.old) (E.faults err.new) → Says (option_map (λ n. n.now) inputs.entry) (length kept.answers) result.outcome (E.taken err.old) (E.taken err.new) }
     ensures counts { E.faults err.old ≤ E.faults err.new }
 {
     let outcome = say(alloc, outcome, inputs, kept.len(), err);
@@ -109,13 +109,13 @@ fn write_out<O: Sink, E: Sink>(
     out: &mut O,
     err: &mut E,
 ) -> End
-    ensures outcome { IsWriteStop machine.mealy (Rose (O.faults out.old) (O.faults out.new) ⊎ Rose (E.faults err.old) (E.faults err.new)) result.outcome }
+    ensures outcome { IsWriteStop machine.mealy (CountedFault (O.faults out.old) (O.faults out.new) ⊎ CountedFault (E.faults err.old) (E.faults err.new)) result.outcome }
     ensures status { result.status ≡ status_of result.outcome }
     ensures model { result.model ≡ Some machine.mealy }
     ensures kept { result.kept ≡ kept }
     ensures written { (h : Table) → result.outcome ≡ Came.Unchecked h → TakesAll (written_text machine) (O.taken out.old) (O.taken out.new) }
     ensures part { TakesSome (written_text machine) (O.taken out.old) (O.taken out.new) }
-    ensures said { ¬ Rose (E.faults err.old) (E.faults err.new) → Says (Some machine.inputs) (length kept.answers) result.outcome (E.taken err.old) (E.taken err.new) }
+    ensures said { ¬ CountedFault (E.faults err.old) (E.faults err.new) → Says (Some machine.inputs) (length kept.answers) result.outcome (E.taken err.old) (E.taken err.new) }
     ensures counts { (O.faults out.old ≤ O.faults out.new) × (E.faults err.old ≤ E.faults err.new) }
 {
     let outcome = tell_model(alloc, &machine, kept.len(), out, err);
@@ -144,20 +144,20 @@ pub fn run<F: Files, O: Sink, E: Sink>(
     ensures usage { (result.outcome ≡ Came.Usage) ↔ (table_file (map (λ s. string_bytes s) words.now) ≡ None) }
     ensures bad_file { result.outcome ≡ Came.BadFile → (name : List ℕ) × (table_file (map (λ s. string_bytes s) words.now) ≡ Some name) × RefusesTable (F.holds files.old) name }
     ensures bad_file_told { (name : List ℕ) → table_file (map (λ s. string_bytes s) words.now) ≡ Some name → TellsNoTable (F.holds files.old) name → IsUnread result.outcome }
-    ensures file_fault { result.outcome ≡ Came.FileFault → Rose (F.faults files.old) (F.faults files.new) }
+    ensures file_fault { result.outcome ≡ Came.FileFault → CountedFault (F.faults files.old) (F.faults files.new) }
     ensures file_call { result.outcome ≡ Came.FileFault → (name : List ℕ) × (table_file (map (λ s. string_bytes s) words.now) ≡ Some name) × (F.calls files.new ≡ noted (read_call name true) (F.calls files.old)) }
-    ensures sink_fault { result.outcome ≡ Came.SinkFault → Rose (O.faults out.old) (O.faults out.new) ⊎ Rose (E.faults err.old) (E.faults err.new) }
+    ensures sink_fault { result.outcome ≡ Came.SinkFault → CountedFault (O.faults out.old) (O.faults out.new) ⊎ CountedFault (E.faults err.old) (E.faults err.new) }
     ensures crowd { (apart : List (List ℕ)) → result.outcome ≡ Came.TooManyStates apart → IsCrowd (kept_answers result.kept.answers) 1025 apart }
 
     // Where the file is a machine's and nothing outside failed, the status is 0, 5 or 7.
-    ensures untroubled { (name : List ℕ) → table_file (map (λ s. string_bytes s) words.now) ≡ Some name → TellsTable (F.holds files.old) name → ¬ Rose (F.faults files.old) (F.faults files.new) → ¬ Rose (O.faults out.old) (O.faults out.new) → ¬ Rose (E.faults err.old) (E.faults err.new) → IsUntroubled result.outcome }
+    ensures untroubled { (name : List ℕ) → table_file (map (λ s. string_bytes s) words.now) ≡ Some name → TellsTable (F.holds files.old) name → ¬ CountedFault (F.faults files.old) (F.faults files.new) → ¬ CountedFault (O.faults out.old) (O.faults out.new) → ¬ CountedFault (E.faults err.old) (E.faults err.new) → IsUntroubled result.outcome }
 
     // The kept answers.
     ensures kept { (result.kept.answers ≡ []) ⊎ ((name : List ℕ) × (table_file (map (λ s. string_bytes s) words.now) ≡ Some name) × KeepsRuns (F.holds files.old) name result.kept.answers) }
 
     // The model that is told is the one that is handed back.
     ensures model { (h : Table) → result.outcome ≡ Came.Unchecked h → result.model ≡ Some h }
-    ensures table { IfSome result.model IsTable }
+    ensures complete { IfSome result.model IsWithinLimits }
 
     // What the model is to the kept answers, and how its states are numbered.
     ensures hypothesis { IfSome result.model (λ h. IsHypothesis h.inputs (kept_answers result.kept.answers) h.rows) }
@@ -169,7 +169,7 @@ pub fn run<F: Files, O: Sink, E: Sink>(
     ensures nothing { result.model ≡ None → O.taken out.new ≡ O.taken out.old }
 
     // What `err` takes, where it counted no fault: the outcome's text.
-    ensures said { ¬ Rose (E.faults err.old) (E.faults err.new) → (names : Option (List (List ℕ))) × AreInputs (F.holds files.old) (table_file (map (λ s. string_bytes s) words.now)) names × Says names (length result.kept.answers) result.outcome (E.taken err.old) (E.taken err.new) }
+    ensures said { ¬ CountedFault (E.faults err.old) (E.faults err.new) → (names : Option (List (List ℕ))) × AreInputs (F.holds files.old) (table_file (map (λ s. string_bytes s) words.now)) names × Says names (length result.kept.answers) result.outcome (E.taken err.old) (E.taken err.new) }
 
     // The calls on the files, where they are told: one read of the file.
     ensures calls { (name : List ℕ) → table_file (map (λ s. string_bytes s) words.now) ≡ Some name → OneRead name (result.outcome ≡ Came.NoMemory) (F.calls files.old) (F.calls files.new) }

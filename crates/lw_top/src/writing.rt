@@ -1,7 +1,7 @@
 //! What is put to the streams: a model, the line about it, and the text of every other outcome.
 ghost use Rattle.std.specs.Prelude.{◌≡◌, ◌⊎◌, ◌+◌, ◌<◌, ◌≤◌, ◌++◌, length, take, drop, Some, IfOk, IfErr, OnOk, OnErr, option_map};
-ghost use Rattle.lw_words.specs.Cause.{Rose};
-ghost use Rattle.lw_mealy.specs.Table.{MachineTable as Table};
+ghost use Rattle.lw_words.specs.Cause.{CountedFault};
+ghost use Rattle.lw_mealy.specs.Limits.{MealyMachine as Table};
 ghost use Rattle.lw_json.specs.MachineText.{written_text};
 ghost use Rattle.lw_top.specs.Outcomes.{IsWriteStop, StandsOrWants};
 ghost use Rattle.lw_top.specs.Run.{Says, TakesAll, TakesSome};
@@ -19,7 +19,7 @@ fn put_from<K: Sink>(sink: &mut K, bytes: &[u8], done: usize) -> Result<usize, F
     ensures some { IfOk result (λ n. (1 ≤ n) × (done + n ≤ length bytes.now)) }
     ensures took { IfOk result (λ n. K.taken sink.new ≡ option_map (λ t. t ++ take n (drop done bytes.now)) (K.taken sink.old)) }
     ensures left { OnErr result (K.taken sink.new ≡ K.taken sink.old) }
-    ensures failed { OnErr result (Rose (K.faults sink.old) (K.faults sink.new)) }
+    ensures failed { OnErr result (CountedFault (K.faults sink.old) (K.faults sink.new)) }
     ensures counts { K.faults sink.old ≤ K.faults sink.new }
 {
     sink.put(&bytes[done..])
@@ -30,7 +30,7 @@ fn put_from<K: Sink>(sink: &mut K, bytes: &[u8], done: usize) -> Result<usize, F
 fn put_all<K: Sink>(sink: &mut K, bytes: &[u8]) -> Result<(), Failed>
     ensures ok { OnOk result (TakesAll bytes.now (K.taken sink.old) (K.taken sink.new)) }
     ensures part { TakesSome bytes.now (K.taken sink.old) (K.taken sink.new) }
-    ensures failed { OnErr result (Rose (K.faults sink.old) (K.faults sink.new)) }
+    ensures failed { OnErr result (CountedFault (K.faults sink.old) (K.faults sink.new)) }
     ensures counts { K.faults sink.old ≤ K.faults sink.new }
 {
     let mut done = 0;
@@ -42,7 +42,7 @@ fn put_all<K: Sink>(sink: &mut K, bytes: &[u8]) -> Result<(), Failed>
 
 /// Puts a text to a stream that may refuse it.
 fn put_text<K: Sink>(sink: &mut K, text: &str)
-    ensures whole { ¬ Rose (K.faults sink.old) (K.faults sink.new) → TakesAll text.now (K.taken sink.old) (K.taken sink.new) }
+    ensures whole { ¬ CountedFault (K.faults sink.old) (K.faults sink.new) → TakesAll text.now (K.taken sink.old) (K.taken sink.new) }
     ensures counts { K.faults sink.old ≤ K.faults sink.new }
 {
     let _refused = put_all(sink, text.as_bytes()).is_err();
@@ -57,7 +57,7 @@ pub(crate) fn say<E: Sink>(
     err: &mut E,
 ) -> Outcome
     ensures outcome { StandsOrWants outcome result }
-    ensures said { ¬ Rose (E.faults err.old) (E.faults err.new) → Says (option_map (λ n. n.now) inputs.entry) answers result (E.taken err.old) (E.taken err.new) }
+    ensures said { ¬ CountedFault (E.faults err.old) (E.faults err.new) → Says (option_map (λ n. n.now) inputs.entry) answers result (E.taken err.old) (E.taken err.new) }
     ensures counts { E.faults err.old ≤ E.faults err.new }
 {
     if let Some(text) = fixed_text(&outcome) {
@@ -89,11 +89,11 @@ fn write_model<O: Sink, E: Sink>(
     err: &mut E,
 ) -> Result<Outcome, Outcome>
     ensures ok { IfOk result (λ o. o ≡ Came.Unchecked machine.now.mealy) }
-    ensures err { IfErr result (λ e. (e ≡ Came.NoMemory) ⊎ ((e ≡ Came.SinkFault) × (Rose (O.faults out.old) (O.faults out.new) ⊎ Rose (E.faults err.old) (E.faults err.new)))) }
+    ensures err { IfErr result (λ e. (e ≡ Came.NoMemory) ⊎ ((e ≡ Came.SinkFault) × (CountedFault (O.faults out.old) (O.faults out.new) ⊎ CountedFault (E.faults err.old) (E.faults err.new)))) }
     ensures written { OnOk result (TakesAll (written_text machine.now) (O.taken out.old) (O.taken out.new)) }
     ensures part { TakesSome (written_text machine.now) (O.taken out.old) (O.taken out.new) }
     ensures line { IfOk result (λ o. Says (Some machine.now.inputs) answers o (E.taken err.old) (E.taken err.new)) }
-    ensures unsaid { OnErr result (¬ Rose (E.faults err.old) (E.faults err.new) → E.taken err.new ≡ E.taken err.old) }
+    ensures unsaid { OnErr result (¬ CountedFault (E.faults err.old) (E.faults err.new) → E.taken err.new ≡ E.taken err.old) }
     ensures counts { (O.faults out.old ≤ O.faults out.new) × (E.faults err.old ≤ E.faults err.new) }
 {
     let Ok(text) = machine_text(alloc, machine) else {
@@ -123,10 +123,10 @@ pub(crate) fn tell_model<O: Sink, E: Sink>(
     out: &mut O,
     err: &mut E,
 ) -> Outcome
-    ensures outcome { IsWriteStop machine.now.mealy (Rose (O.faults out.old) (O.faults out.new) ⊎ Rose (E.faults err.old) (E.faults err.new)) result }
+    ensures outcome { IsWriteStop machine.now.mealy (CountedFault (O.faults out.old) (O.faults out.new) ⊎ CountedFault (E.faults err.old) (E.faults err.new)) result }
     ensures written { (h : Table) → result ≡ Came.Unchecked h → TakesAll (written_text machine.now) (O.taken out.old) (O.taken out.new) }
     ensures part { TakesSome (written_text machine.now) (O.taken out.old) (O.taken out.new) }
-    ensures said { ¬ Rose (E.faults err.old) (E.faults err.new) → Says (Some machine.now.inputs) answers result (E.taken err.old) (E.taken err.new) }
+    ensures said { ¬ CountedFault (E.faults err.old) (E.faults err.new) → Says (Some machine.now.inputs) answers result (E.taken err.old) (E.taken err.new) }
     ensures counts { (O.faults out.old ≤ O.faults out.new) × (E.faults err.old ≤ E.faults err.new) }
 {
     match write_model(alloc, machine, answers, out, err) {

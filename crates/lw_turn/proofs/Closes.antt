@@ -13,14 +13,14 @@ use Rattle.lw_turn.specs.declared.view.Stage.TheVariants.{Idle}
 use Rattle.lw_turn.specs.History.{entries_of}
 use Rattle.lw_turn.specs.Counting.{sum_below-same, length-by_actor}
 use Rattle.lw_turn.specs.Views.{ended_of, mine_of, own_of, IsWhole}
-use Rattle.lw_turn.specs.Rule.{IsSpent, Fits, IsHome, IsOut, Kept}
+use Rattle.lw_turn.specs.Rule.{IsSpent, Fits, IsHome, IsOut, RuleHolds}
 use Rattle.std.proofs.lemmas.Bool.{cases_lt}
 use Rattle.lw_turn.proofs.Places.{there, one_at, same_or_not}
 use Rattle.lw_turn.proofs.Turning.{IsCalm, idle_is_calm, spent_is_calm}
 
 module _ {C O A B : Type 0} (actors : O → ℕ) (legal : O → List (Entry A B) → Type 0) (opening : C → O) (entries : C → List (Entry A B)) (o : O) where
   abbrev Law : State (Option C) (Doing O A B) → Type 0
-  Law = Kept actors legal opening entries o
+  Law = RuleHolds actors legal opening entries o
 
   module _ (id : ℕ) (v : View O A B) (zeroth : v.number ≡ 0) (all : (n : ℕ) → 0 < n → n < v.made → IsSome (ended_of n v.ended)) (s : State (Option C) (Doing O A B)) (k : Law s) (at : get_elem? s.views id ≡ some record { stage = Idle; view = v }) where
     abbrev d : Doing O A B

@@ -10,7 +10,7 @@ use Rattle.lw_turn.specs.declared.shared.Entry.{Entry}
 use Rattle.lw_turn.specs.declared.view.View.{View}
 use Rattle.lw_turn.specs.declared.view.Doing.{Doing}
 use Rattle.lw_turn.specs.declared.view.Stage.TheVariants.{Idle, Waiting}
-use Rattle.lw_turn.specs.Rule.{has_ticket, IsTurn, Kept}
+use Rattle.lw_turn.specs.Rule.{has_ticket, IsTurn, RuleHolds}
 use Rattle.lw_turn.specs.Steps.{Draw}
 use Rattle.lw_turn.proofs.Fitting.{live_set}
 use Rattle.lw_turn.proofs.Tickets.{tickets_drawn}
@@ -18,7 +18,7 @@ use Rattle.lw_turn.proofs.Turning.{idle_is_calm, waiting_is_calm, out_set, turni
 
 module _ {C O A B : Type 0} (actors : O → ℕ) (legal : O → List (Entry A B) → Type 0) (opening : C → O) (entries : C → List (Entry A B)) (most : O → ℕ) (bounded : (o : O) (es : List (Entry A B)) → legal o es → (length es ≤ most o) × (most o + actors o < 2 ^ 64)) (o : O) where
   abbrev Law : State (Option C) (Doing O A B) → Type 0
-  Law = Kept actors legal opening entries o
+  Law = RuleHolds actors legal opening entries o
 
   -- the next ticket fits a word
   room_for_ticket : (s : State (Option C) (Doing O A B)) (k : Law s) (id : ℕ) (v : View O A B) (n : ℕ) → get_elem? s.views id ≡ some record { stage = Idle; view = v } → (k.next + 1) % 2 ^ 64 ≡ k.next + 1

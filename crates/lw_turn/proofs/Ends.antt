@@ -15,7 +15,7 @@ use Rattle.lw_turn.specs.declared.view.Doing.{Doing}
 use Rattle.lw_turn.specs.declared.view.Stage.TheVariants.{Idle, Turning}
 use Rattle.lw_turn.specs.History.{entries_of}
 use Rattle.lw_turn.specs.Turns.{Carries}
-use Rattle.lw_turn.specs.Rule.{ticket_of, IsLive, IsSpent, Fits, AreTickets, IsTurn, Kept}
+use Rattle.lw_turn.specs.Rule.{ticket_of, IsLive, IsSpent, Fits, AreTickets, IsTurn, RuleHolds}
 use Rattle.lw_turn.specs.Steps.{End, grown}
 use Rattle.lw_turn.proofs.Histories.{prefix_refl, prefix_more, prefix_trans, own_more, other_more}
 use Rattle.lw_turn.proofs.Places.{there}
@@ -25,7 +25,7 @@ use Rattle.lw_turn.proofs.Turning.{idle_is_calm}
 
 module _ {C O A B : Type 0} (actors : O → ℕ) (legal : O → List (Entry A B) → Type 0) (opening : C → O) (entries : C → List (Entry A B)) (most : O → ℕ) (bounded : (o : O) (es : List (Entry A B)) → legal o es → (length es ≤ most o) × (most o + actors o < 2 ^ 64)) (o : O) where
   abbrev Law : State (Option C) (Doing O A B) → Type 0
-  Law = Kept actors legal opening entries o
+  Law = RuleHolds actors legal opening entries o
 
   -- The core that is out has one entry more than the history: the caller's
   module _ (slots id t : ℕ) (v : View O A B) (core : C) (e : Entry A B) (own : e.actor ≡ v.number) (opened : opening core ≡ v.opening) (list : entries core ≡ v.seen ++ e ∷ []) (lawful : legal v.opening (v.seen ++ e ∷ []))

@@ -11,7 +11,7 @@ use Rattle.lw_turn.specs.declared.view.Ended.{Ended}
 use Rattle.lw_turn.specs.declared.view.Doing.{Doing}
 use Rattle.lw_turn.specs.declared.view.Stage.TheVariants.{Idle}
 use Rattle.lw_turn.specs.Views.{ended_of}
-use Rattle.lw_turn.specs.Rule.{Fits, IsTurn, Kept}
+use Rattle.lw_turn.specs.Rule.{Fits, IsTurn, RuleHolds}
 use Rattle.lw_turn.specs.Steps.{Learn, learned, IsOneHistory}
 use Rattle.lw_turn.proofs.Histories.{prefix_longer_first, prefix_longer_second, prefix_longer_both}
 use Rattle.lw_turn.proofs.Fitting.{live_set}
@@ -39,7 +39,7 @@ module _ {O A B : Type 0} where
 
 module _ {C O A B : Type 0} (actors : O → ℕ) (legal : O → List (Entry A B) → Type 0) (opening : C → O) (entries : C → List (Entry A B)) (o : O) where
   abbrev Law : State (Option C) (Doing O A B) → Type 0
-  Law = Kept actors legal opening entries o
+  Law = RuleHolds actors legal opening entries o
 
   -- the view of an idle place changes, and the words and the slot stay
   pub idle_changes : (id : ℕ) (v w : View O A B) (s : State (Option C) (Doing O A B)) (k : Law s) (ws : List ℕ) → ws ≡ s.words → get_elem? s.views id ≡ some record { stage = Idle; view = v }

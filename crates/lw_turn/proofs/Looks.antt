@@ -14,7 +14,7 @@ use Rattle.lw_turn.specs.declared.view.View.{View}
 use Rattle.lw_turn.specs.declared.view.Doing.{Doing}
 use Rattle.lw_turn.specs.declared.view.Stage.TheVariants.{Waiting, Turning}
 use Rattle.lw_turn.specs.History.{entries_of}
-use Rattle.lw_turn.specs.Rule.{ticket_of, Fits, IsHome, IsOut, Kept}
+use Rattle.lw_turn.specs.Rule.{ticket_of, Fits, IsHome, IsOut, RuleHolds}
 use Rattle.lw_turn.specs.Steps.{Look, IsServed}
 use Rattle.lw_turn.proofs.Histories.{prefix_refl}
 use Rattle.lw_turn.proofs.Places.{there, one_at}
@@ -23,7 +23,7 @@ use Rattle.lw_turn.proofs.Tickets.{tickets_same}
 
 module _ {C O A B : Type 0} (actors : O → ℕ) (legal : O → List (Entry A B) → Type 0) (opening : C → O) (entries : C → List (Entry A B)) (o : O) where
   abbrev Law : State (Option C) (Doing O A B) → Type 0
-  Law = Kept actors legal opening entries o
+  Law = RuleHolds actors legal opening entries o
 
   -- where a caller's ticket is served, the core is in the slot
   home_for : (s : State (Option C) (Doing O A B)) (k : Law s) (id t : ℕ) (v : View O A B) → get_elem? s.views id ≡ some record { stage = Waiting t; view = v } → t ≡ length k.log → IsHome opening entries o k.log s.homes

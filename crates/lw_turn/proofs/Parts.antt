@@ -12,7 +12,7 @@ use Rattle.lw_turn.specs.declared.view.Ended.{Ended}
 use Rattle.lw_turn.specs.declared.view.Doing.{Doing}
 use Rattle.lw_turn.specs.declared.view.Stage.TheVariants.{Idle}
 use Rattle.lw_turn.specs.History.{entries_of}
-use Rattle.lw_turn.specs.Rule.{IsLive, IsSpent, Fits, IsTurn, Kept}
+use Rattle.lw_turn.specs.Rule.{IsLive, IsSpent, Fits, IsTurn, RuleHolds}
 use Rattle.lw_turn.specs.Steps.{one_more, next_place}
 use Rattle.lw_turn.proofs.Histories.{prefix_refl}
 use Rattle.lw_turn.proofs.Places.{there, at_snoc_index}
@@ -22,7 +22,7 @@ use Rattle.lw_turn.proofs.Turning.{idle_is_calm, out_set, out_longer, turning_se
 
 module _ {C O A B : Type 0} (actors : O → ℕ) (legal : O → List (Entry A B) → Type 0) (opening : C → O) (entries : C → List (Entry A B)) (o : O) where
   abbrev Law : State (Option C) (Doing O A B) → Type 0
-  Law = Kept actors legal opening entries o
+  Law = RuleHolds actors legal opening entries o
 
   module _ (id : ℕ) (v : View O A B) (zeroth : v.number ≡ 0) (room : v.made < actors v.opening) (s : State (Option C) (Doing O A B)) (k : Law s) (at : get_elem? s.views id ≡ some record { stage = Idle; view = v }) where
     abbrev d : Doing O A B

@@ -15,7 +15,7 @@ use Rattle.lw_turn.specs.declared.view.Doing.{Doing}
 use Rattle.lw_turn.specs.declared.view.Stage.TheVariants.{Idle}
 use Rattle.lw_turn.specs.History.{entries_of}
 use Rattle.lw_turn.specs.Views.{ended_of, ended_view}
-use Rattle.lw_turn.specs.Rule.{IsLive, IsSpent, Fits, IsTurn, Kept}
+use Rattle.lw_turn.specs.Rule.{IsLive, IsSpent, Fits, IsTurn, RuleHolds}
 use Rattle.lw_turn.specs.Steps.{with_ended, spent_place}
 use Rattle.lw_turn.proofs.Histories.{prefix_refl}
 use Rattle.lw_turn.proofs.Places.{there}
@@ -25,7 +25,7 @@ use Rattle.lw_turn.proofs.Turning.{idle_is_calm, spent_is_calm, out_set, turning
 
 module _ {C O A B : Type 0} (actors : O → ℕ) (legal : O → List (Entry A B) → Type 0) (opening : C → O) (entries : C → List (Entry A B)) (some_opening o : O) where
   abbrev Law : State (Option C) (Doing O A B) → Type 0
-  Law = Kept actors legal opening entries o
+  Law = RuleHolds actors legal opening entries o
 
   module _ (id other : ℕ) (v w : View O A B) (s : State (Option C) (Doing O A B)) (k : Law s) (at : get_elem? s.views id ≡ some record { stage = Idle; view = v }) (apart : other ≢ id)
       (there_too : get_elem? s.views other ≡ some record { stage = Idle; view = w }) where

@@ -64,7 +64,7 @@ module _ {C O A B : Type 0} (opening : C → O) (entries : C → List (Entry A B
   IsHome o log homes = (core : C) × (homes ≡ some (Some core) ∷ []) × (entries core ≡ log) × (opening core ≡ o)
 
 module _ {C O A B : Type 0} (actors : O → ℕ) (legal : O → List (Entry A B) → Type 0) (opening : C → O) (entries : C → List (Entry A B)) where
-  pub record Kept (o : O) (s : State (Option C) (Doing O A B)) : Type 0 where
+  pub record RuleHolds (o : O) (s : State (Option C) (Doing O A B)) : Type 0 where
     pub log : List (Entry A B)
     pub next : ℕ
     pub words : s.words ≡ next ∷ length log ∷ []

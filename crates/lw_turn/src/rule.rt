@@ -11,10 +11,10 @@ pub struct Law<C> {
 }
 
 impl<C: Core> TableRule<Option<C>, Doing<C::Opening, C::Ask, C::Reply>, Snapshot<C>> for Law<C> {
-    ghost use Rattle.lw_turn.specs.Rule.{Kept};
+    ghost use Rattle.lw_turn.specs.Rule.{RuleHolds};
     ghost use Rattle.lw_turn.specs.Steps.{first_place};
 
-    ghost holds = { λ key. Kept C.actor_count C.legal C.opening C.entries (C.opening key.value) };
+    ghost holds = { λ key. RuleHolds C.actor_count C.legal C.opening C.entries (C.opening key.value) };
 
     ghost first = { λ key. first_place (C.opening key.value) };
 }

@@ -9,7 +9,7 @@ loop-x-preserved c =
     let h = c.loop-x.invariant in
     let lt : c.loop-x.x-index < length c.args.w.now = search rules in
     record {
-      follows = follows_next c.args.m.now.inputs c.args.m.now.rows _ c.args.w.now c.args.classes.now.items c.loop-x.x-index _ c.column_of.result.now c.loop-x.ends.items c.observe-differ.new.ends.items c.observe-differ.new.outputs.items c.as_slice.result.now c.loop-x.classes.items c.split.new.classes.items c.in_ok-ends.ensures.table.machine c.requires.letters lt (ap (λ (l : List ℕ). get_or l c.loop-x.x-index 0) c.as_slice-x-items.ensures) c.column_of.ensures h.follows c.observe-differ.ensures.observes c.as_slice.ensures.value c.split.ensures;
+      follows = follows_next c.args.m.now.inputs c.args.m.now.rows _ c.args.w.now c.args.classes.now.items c.loop-x.x-index _ c.column_of.result.now c.loop-x.ends.items c.observe-differ.new.ends.items c.observe-differ.new.outputs.items c.as_slice.result.now c.loop-x.classes.items c.split.new.classes.items c.in_ok-ends.ensures.complete.machine c.requires.letters lt (ap (λ (l : List ℕ). get_or l c.loop-x.x-index 0) c.as_slice-x-items.ensures) c.column_of.ensures h.follows c.observe-differ.ensures.observes c.as_slice.ensures.value c.split.ensures;
       long = search rules;
     }
 

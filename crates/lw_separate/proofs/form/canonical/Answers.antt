@@ -12,7 +12,7 @@ rename-requires c = record {
       let s = c.in_ok-search.search in
       let named : NamesPlaces s.places.items c.as_slice-3.result.now = λ q k at. ap (λ (l : List ℕ). get_or l q 0) c.as_slice-3.ensures.value ∙ c.in_ok-names.ensures.places q k (ap (λ (l : List (Option ℕ)). get_or l q None) c.as_slice.ensures.value ∙ at) in
       let long : length c.as_slice-3.result.now ≡ length s.places.items = ap (λ (l : List ℕ). length l) c.as_slice-3.ensures.value ∙ (c.in_ok-names.ensures.long ∙ ap (λ (l : List (Option ℕ)). length l) c.as_slice.ensures.value) in
-      rw c.as_slice-2.ensures.value (can_number c.in_ok-h.h.inputs c.in_ok-h.h.rows s.words.items s.states.items s.places.items c.as_slice-3.result.now c.in_ok-h.ensures.table.few c.in_ok-search.ensures long named);
+      rw c.as_slice-2.ensures.value (can_number c.in_ok-h.h.inputs c.in_ok-h.h.rows s.words.items s.states.items s.places.items c.as_slice-3.result.now c.in_ok-h.ensures.complete.few c.in_ok-search.ensures long named);
 }
 
 pub returns-clause-canonical : goal.returns-clause-canonical

@@ -2,7 +2,7 @@ use Rattle.std.proofs.Common.{rules, ◌≡◌, ◌∙◌, ℕ, ◌<◌, ◌+◌
 use Rattle.std.specs.List.{All}
 use Rattle.std.proofs.lemmas.List.Elements.{All-push}
 use Rattle.lw_mealy.specs.Origin.{Origin}
-use Rattle.lw_sul.specs.Asked.{run_of}
+use Rattle.lw_sul.specs.SessionState.{run_of}
 use Rattle.lw_sul.specs.Runs.{after_step}
 use Rattle.lw_sul.specs.Told.{Steps}
 use Rattle.lw_sul.proofs.RunLemmas.{Rests, rests_more, runs_more}

@@ -1,6 +1,6 @@
 use Rattle.std.proofs.Common.{◌≡◌, ◌≤◌, ◌++◌, vec_capacity}
 use Rattle.lw_top.specs.Asking.{asked}
-use Rattle.lw_top.specs.Part.{row_after}
+use Rattle.lw_top.specs.PartialTable.{row_after}
 use Rattle.lw_top.proofs.first.ask_row.Given as goal
 
 abbrev pub invariant-loop-letter : goal.invariant-loop-letter

@@ -1,6 +1,6 @@
 use Rattle.std.proofs.Common.{◌≡◌, ◌≤◌, ◌-◌, [], length, map, take, min, vec_len}
 use Rattle.lw_top.specs.Asking.{AnswersOnly, asked_all, row_words}
-use Rattle.lw_top.specs.Part.{IsFilling}
+use Rattle.lw_top.specs.PartialTable.{IsFilling}
 use Rattle.lw_top.proofs.first.filled.Given as goal
 
 abbrev pub invariant-loop-alloc : goal.invariant-loop-alloc

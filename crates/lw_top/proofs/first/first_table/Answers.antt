@@ -2,7 +2,7 @@ use Rattle.std.proofs.Common.{◌≡◌, ◌∙◌, ◌+◌, ◌≤◌, ◌<◌,
 use Rattle.std.proofs.lemmas.Grind.{common_steps}
 use Rattle.std.proofs.lemmas.List.{length-map}
 use Rattle.lw_mealy.specs.Machine.{Row}
-use Rattle.lw_mealy.specs.Table.{MachineTable, IsTable, table_of}
+use Rattle.lw_mealy.specs.Limits.{MealyMachine, IsWithinLimits, mealy_of}
 use Rattle.lw_top.proofs.Closed.{closed_table}
 use Rattle.lw_top.proofs.Crowds.{crowd_of}
 use Rattle.lw_top.proofs.Hypotheses.{hypothesis_of}
@@ -12,9 +12,9 @@ use Rattle.lw_top.proofs.first.first_table.Goals as goal
 
 pub machine_of-requires : goal.machine_of-requires
 machine_of-requires c =
-    let t : MachineTable = c.args.session.now.sul.table in
+    let t : MealyMachine = c.args.session.now.sul.table in
     let same : c.machine-machine.result.now ≡ t = c.machine-machine.ensures ∙ ap (λ s. s.table) c.sul.ensures in
-    let table : IsTable t = subst (λ (s : MachineTable). IsTable s) same c.inputs-inputs.ensures.table in
+    let table : IsWithinLimits t = subst (λ (s : MealyMachine). IsWithinLimits s) same c.inputs-inputs.ensures.complete in
     let C : List Row = map (λ r. r.items) c.in_ok-table.table.cells.items in
     let size : length C ≡ length c.in_ok-table.table.cells.items = length-map c.in_ok-table.table.cells.items (λ r. r.items) in
     let given : length c.in_ok-table.table.cells.items ≡ min c.from-most.result (length c.in_ok-table.table.access.items) = c.in_ok-table.ensures.full in
@@ -23,14 +23,14 @@ machine_of-requires c =
     let under : length c.in_ok-table.table.access.items ≤ c.from-most.result = grind (arith, common_steps) in
     let full : length C ≡ length c.in_ok-table.table.access.items = omega arith in
     let few : length c.in_ok-table.table.access.items ≤ 1024 = omega arith in
-    let inputs : c.inputs-inputs.result ≡ t.inputs = c.inputs-inputs.ensures.value ∙ ap (λ (s : MachineTable). s.inputs) same in
-    let outputs : c.outputs-outputs.result ≡ t.outputs = c.outputs-outputs.ensures.value ∙ ap (λ (s : MachineTable). s.outputs) same in
-    subst (λ (p : ℕ × ℕ). IsTable (table_of p.0 p.1 C)) (λ k. (sym inputs k, sym outputs k))
+    let inputs : c.inputs-inputs.result ≡ t.inputs = c.inputs-inputs.ensures.value ∙ ap (λ (s : MealyMachine). s.inputs) same in
+    let outputs : c.outputs-outputs.result ≡ t.outputs = c.outputs-outputs.ensures.value ∙ ap (λ (s : MealyMachine). s.outputs) same in
+    subst (λ (p : ℕ × ℕ). IsWithinLimits (mealy_of p.0 p.1 C)) (λ k. (sym inputs k, sym outputs k))
     (closed_table t c.in_ok-table.table.access.items (map (λ r. r.items) c.in_ok-table.table.rows.keys) C table c.in_ok-table.ensures.filling.reached c.in_ok-table.ensures.filling.paired full few)
 
 pub returns-clause-hypothesis : goal.returns-clause-hypothesis
 returns-clause-hypothesis c =
-    let t : MachineTable = c.args.session.now.sul.table in
+    let t : MealyMachine = c.args.session.now.sul.table in
     let same : c.machine-machine.result.now ≡ t = c.machine-machine.ensures ∙ ap (λ s. s.table) c.sul.ensures in
     let C : List Row = map (λ r. r.items) c.in_ok-table.table.cells.items in
     let size : length C ≡ length c.in_ok-table.table.cells.items = length-map c.in_ok-table.table.cells.items (λ r. r.items) in
@@ -41,13 +41,13 @@ returns-clause-hypothesis c =
     let all : length c.in_ok-table.table.cells.items ≡ length c.in_ok-table.table.access.items = omega arith in
     let full : length C ≡ length c.in_ok-table.table.access.items = omega arith in
     let few : length c.in_ok-table.table.access.items ≤ 1024 = omega arith in
-    let inputs : c.inputs-inputs.result ≡ t.inputs = c.inputs-inputs.ensures.value ∙ ap (λ (s : MachineTable). s.inputs) same in
+    let inputs : c.inputs-inputs.result ≡ t.inputs = c.inputs-inputs.ensures.value ∙ ap (λ (s : MealyMachine). s.inputs) same in
     hypothesis_of t c.in_ok-table.table.access.items (map (λ r. r.items) c.in_ok-table.table.rows.keys) C (length c.in_ok-table.table.cells.items) c.filled.new.session.journal c.inputs-inputs.result c.outputs-outputs.result c.in_ok-machine_of.field-0
     c.in_ok-table.ensures.filling.reached c.in_ok-table.ensures.filling.paired full few all c.in_ok-table.ensures.gains inputs c.in_ok-machine_of.ensures
 
 pub returns-then-len-most-clause-crowd : goal.returns-then-len-most-clause-crowd
 returns-then-len-most-clause-crowd c =
-    let t : MachineTable = c.args.session.now.sul.table in
+    let t : MealyMachine = c.args.session.now.sul.table in
     let A : List (List ℕ) = c.in_ok-table.table.access.items in
     let n : ℕ = length c.in_ok-table.table.cells.items in
     let given : n ≡ min c.from-most.result (length A) = c.in_ok-table.ensures.full in

@@ -1,7 +1,7 @@
 use Rattle.std.proofs.Common.{◌≡◌, ◌∙◌, inr, refl, sym, ap, subst, length, List, ℕ, Some, Err, IfErr, IfSome, Option, map, string_bytes}
-use Rattle.lw_words.specs.Cause.{Rose}
+use Rattle.lw_words.specs.Cause.{CountedFault}
 use Rattle.lw_words.specs.declared.kept.KeptAnswer.{KeptAnswer}
-use Rattle.lw_mealy.specs.Table.{MachineTable}
+use Rattle.lw_mealy.specs.Limits.{MealyMachine}
 use Rattle.lw_top.specs.Crowd.{IsCrowd}
 use Rattle.lw_top.specs.Known.{kept_answers}
 use Rattle.lw_top.specs.Outcomes.{IsLearnStop}
@@ -28,7 +28,7 @@ returns-in-Err-closed-clause-kept g c =
 pub returns-in-Err-clause-untroubled : goal.returns-in-Err-clause-untroubled
 returns-in-Err-clause-untroubled g c name words told files out err =
     let file : name ≡ c.in-Some.name.now = one_file (table_file (map (λ s. string_bytes s) c.args.words.now)) name c.in-Some.name.now c.in-Some.ensures words in
-    untroubled_read (g.F.Files.holds c.args.files.now) c.in-Some.name.now c.in-Err.outcome c.refuse-in-Err.result.outcome (Rose (g.F.Files.faults c.args.files.now) (g.F.Files.faults c.read_table.new.files))
+    untroubled_read (g.F.Files.holds c.args.files.now) c.in-Some.name.now c.in-Err.outcome c.refuse-in-Err.result.outcome (CountedFault (g.F.Files.faults c.args.files.now) (g.F.Files.faults c.read_table.new.files))
     c.in-Err.ensures.err (subst (λ (n : List ℕ). TellsTable (g.F.Files.holds c.args.files.now) n) file told)
     (λ e. (c.read_table.ensures.failed (c.in-Err.is ∙ ap (λ (o : Outcome). Err o) e)).0) files c.refuse-in-Err.ensures.outcome
 
@@ -60,7 +60,7 @@ returns-in-Ok-closed-clause-written g c h is = (
 pub returns-in-Ok-closed-clause-part : goal.returns-in-Ok-closed-clause-part
 returns-in-Ok-closed-clause-part g c =
     let Takes : List ℕ → Type 0 = λ text. TakesSome text (g.O.Sink.taken c.args.out.now) (g.O.Sink.taken c.write_out.new.out) in
-    let Told : MachineTable → Type 0 = λ h. (x : List ℕ) × (table_file (map (λ s. string_bytes s) c.args.words.now) ≡ Some x) × IsWritten (g.F.Files.holds c.args.files.now) x h Takes in
+    let Told : MealyMachine → Type 0 = λ h. (x : List ℕ) × (table_file (map (λ s. string_bytes s) c.args.words.now) ≡ Some x) × IsWritten (g.F.Files.holds c.args.files.now) x h Takes in
     let told : Told c.named.result.mealy = (
       c.in-Some.name.now,
       sym c.in-Some.ensures,
@@ -74,7 +74,7 @@ returns-in-Ok-closed-clause-part g c =
         takes = c.write_out.ensures.part;
       },
     ) in
-    subst (λ (o : Option MachineTable). IfSome o Told) (sym c.write_out.ensures.model) told
+    subst (λ (o : Option MealyMachine). IfSome o Told) (sym c.write_out.ensures.model) told
 
 pub returns-in-Err-closed-clause-crowd : goal.returns-in-Err-closed-clause-crowd
 returns-in-Err-closed-clause-crowd g c apart is =

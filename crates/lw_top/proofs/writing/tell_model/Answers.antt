@@ -1,5 +1,5 @@
 use Rattle.std.proofs.Common.{Option, List, ℕ, arith, subst}
-use Rattle.lw_words.specs.Cause.{Rose}
+use Rattle.lw_words.specs.Cause.{CountedFault}
 use Rattle.lw_top.specs.Run.{TakesAll}
 use Rattle.lw_top.proofs.RunLemmas.{text_named}
 use Rattle.lw_top.proofs.writing.tell_model.Goals as goal
@@ -11,8 +11,8 @@ returns-in-Err-clause-said g c none =
     let after = g.E.Sink.faults c.say.new.err in
     let counted = c.write_model.ensures.counts.1 in
     let more = c.say.ensures.counts in
-    let first : ¬ Rose before between = λ rose. none (omega arith) in
-    let second : ¬ Rose between after = λ rose. none (omega arith) in
+    let first : ¬ CountedFault before between = λ rose. none (omega arith) in
+    let second : ¬ CountedFault between after = λ rose. none (omega arith) in
     let said = c.say.ensures.said second in (
       said.0,
       text_named c.args.machine.now.inputs c.args.answers c.say.result said.0 said.1,

@@ -3,9 +3,9 @@ use Rattle.std.proofs.Math.Seq.{get_or-append_seam}
 use Rattle.std.proofs.lemmas.List.{get_or_append_left, length-map, map-append}
 use borrow.Author.Count.{below_more}
 use Rattle.lw_mealy.specs.Machine.{Row}
-use Rattle.lw_mealy.specs.Table.{MachineTable}
+use Rattle.lw_mealy.specs.Limits.{MealyMachine}
 use Rattle.lw_top.specs.Asking.{AnswersOnly, asked}
-use Rattle.lw_top.specs.Part.{IsPair, ArePairs, IsFilling, word_at}
+use Rattle.lw_top.specs.PartialTable.{IsPair, ArePairs, IsFilling, word_at}
 use Rattle.lw_top.proofs.Askings.{only_then, all_more}
 use Rattle.lw_top.proofs.Parts.{pair_kept, pairs_more, take_take, state_within, same_word}
 use Rattle.lw_top.proofs.first.FirstTable.explore.Goals as goal
@@ -14,16 +14,16 @@ use Rattle.lw_top.proofs.first.FirstTable.explore.Goals.{After-pair}
 pub returns-in_err-pair-clause-only : goal.returns-in_err-pair-clause-only
 returns-in_err-pair-clause-only c =
     only_then c.args.session.now.sul.table.rows c.args.session.now.journal c.loop-letter.session.journal c.pair.new.session.journal c.loop-letter.invariant.only
-    (subst (λ (t : MachineTable). AnswersOnly t.rows c.loop-letter.session.journal c.pair.new.session.journal) c.loop-letter.invariant.table c.pair.ensures.only)
+    (subst (λ (t : MealyMachine). AnswersOnly t.rows c.loop-letter.session.journal c.pair.new.session.journal) c.loop-letter.invariant.table c.pair.ensures.only)
 
 pub loop-letter-preserved : goal.loop-letter-preserved
 loop-letter-preserved c =
-    let t : MachineTable = c.args.session.now.sul.table in
+    let t : MealyMachine = c.args.session.now.sul.table in
     let was = c.loop-letter.invariant in
     let A : List (List ℕ) = c.loop-letter.self.access.items in
     let B : List (List ℕ) = c.pair.new.self.access.items in
     let i : ℕ = c.len-state.result in
-    let new : IsPair t.rows t.inputs B i c.loop-letter.letter c.in_ok-pair.field-0 = subst (λ (s : MachineTable). IsPair s.rows s.inputs B i c.loop-letter.letter c.in_ok-pair.field-0) was.table c.in_ok-pair.ensures.pair in
+    let new : IsPair t.rows t.inputs B i c.loop-letter.letter c.in_ok-pair.field-0 = subst (λ (s : MealyMachine). IsPair s.rows s.inputs B i c.loop-letter.letter c.in_ok-pair.field-0) was.table c.in_ok-pair.ensures.pair in
     let grown : take (length A) B ≡ A = c.in_ok-pair.ensures.kept in
     let kept : take (length c.args.self.now.access.items) A ≡ c.args.self.now.access.items = was.kept in
     let first : i < length c.args.self.now.access.items = search (rules, c.requires.more, c.len-state.ensures) in
@@ -36,9 +36,9 @@ loop-letter-preserved c =
     let items = sym c.push_reserved.ensures.items in
     let word : word_at A i ≡ word_at c.args.self.now.access.items i = same_word c.args.self.now.access.items A i kept first in
     let filling : IsFilling (λ r. r.items) t B c.pair.new.self.rows.keys (map (λ r. r.items) c.pair.new.self.cells.items) =
-    subst (λ (s : MachineTable). IsFilling (λ r. r.items) s B c.pair.new.self.rows.keys (map (λ r. r.items) c.pair.new.self.cells.items)) was.table c.in_ok-pair.ensures.filling in
+    subst (λ (s : MealyMachine). IsFilling (λ r. r.items) s B c.pair.new.self.rows.keys (map (λ r. r.items) c.pair.new.self.cells.items)) was.table c.in_ok-pair.ensures.filling in
     let gains : c.pair.new.session.journal ≡ c.loop-letter.session.journal ++ asked t.rows t.inputs (word_at c.args.self.now.access.items i ++ c.loop-letter.letter ∷ []) =
-    c.in_ok-pair.ensures.gains ∙ ap (λ (p : MachineTable × List ℕ). c.loop-letter.session.journal ++ asked p.0.rows p.0.inputs (p.1 ++ c.loop-letter.letter ∷ [])) (λ k. (was.table k, word k)) in
+    c.in_ok-pair.ensures.gains ∙ ap (λ (p : MealyMachine × List ℕ). c.loop-letter.session.journal ++ asked p.0.rows p.0.inputs (p.1 ++ c.loop-letter.letter ∷ [])) (λ k. (was.table k, word k)) in
     record {
       table = c.pair.ensures.table ∙ was.table;
       instance = c.pair.ensures.instance ∙ was.instance;
@@ -48,13 +48,13 @@ loop-letter-preserved c =
       room = search rules;
       count = search rules;
       pairs = subst (λ (l : Row). (x : ℕ) → x < c.loop-letter.letter + 1 → IsPair t.rows t.inputs B i x (get_or l x (0, 0))) items cells;
-      only = only_then t.rows c.args.session.now.journal c.loop-letter.session.journal c.pair.new.session.journal was.only (subst (λ (s : MachineTable). AnswersOnly s.rows c.loop-letter.session.journal c.pair.new.session.journal) was.table c.pair.ensures.only);
+      only = only_then t.rows c.args.session.now.journal c.loop-letter.session.journal c.pair.new.session.journal was.only (subst (λ (s : MealyMachine). AnswersOnly s.rows c.loop-letter.session.journal c.pair.new.session.journal) was.table c.pair.ensures.only);
       gains = all_more t.rows t.inputs c.loop-letter.letter (word_at c.args.self.now.access.items i) c.args.session.now.journal c.loop-letter.session.journal c.pair.new.session.journal was.gains gains;
     }
 
 pub returns-clause-filling : goal.returns-clause-filling
 returns-clause-filling c =
-    let t : MachineTable = c.args.session.now.sul.table in
+    let t : MealyMachine = c.args.session.now.sul.table in
     let was = c.loop-letter.invariant in
     let C : List Row = map (λ r. r.items) c.loop-letter.self.cells.items in
     let A : List (List ℕ) = c.loop-letter.self.access.items in

@@ -1,6 +1,6 @@
 use Rattle.std.proofs.Common.{◌≡◌, ℕ, ◌<◌, ◌≤◌, ◌++◌, length, map, take, get_or, vec_capacity}
 use Rattle.lw_top.specs.Asking.{AnswersOnly, asked_all, extensions}
-use Rattle.lw_top.specs.Part.{IsFilling, IsPair, word_at}
+use Rattle.lw_top.specs.PartialTable.{IsFilling, IsPair, word_at}
 use Rattle.lw_top.proofs.first.FirstTable.explore.Given as goal
 
 abbrev pub invariant-loop-letter : goal.invariant-loop-letter

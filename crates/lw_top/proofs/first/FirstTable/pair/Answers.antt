@@ -2,7 +2,7 @@ use Rattle.std.proofs.Common.{rules, ◌≡◌, ◌∙◌, ◌<◌, ◌++◌, �
 use Rattle.std.proofs.lemmas.Option.{slice_get-map}
 use Rattle.std.proofs.lemmas.List.{get_or_default}
 use Rattle.lw_mealy.specs.Machine.{Row}
-use Rattle.lw_top.specs.Part.{IsPair, ArePairs, word_at, row_after}
+use Rattle.lw_top.specs.PartialTable.{IsPair, ArePairs, word_at, row_after}
 use Rattle.lw_top.proofs.Parts.{Known, known, entered_pairs}
 use Rattle.lw_top.proofs.first.FirstTable.pair.Goals as goal
 

@@ -4,7 +4,7 @@ use Rattle.std.specs.List.{All}
 use Rattle.lw_words.specs.Name.{AllDiffer}
 use Rattle.lw_words.specs.Word.{IsWord}
 use Rattle.lw_mealy.specs.Machine.{Row, Rows, after, output, cell}
-use Rattle.lw_mealy.specs.Table.{MachineTable}
+use Rattle.lw_mealy.specs.Limits.{MealyMachine}
 use Rattle.lw_top.specs.Asking.{row_of}
 
 abbrev pub word_at : List (List ℕ) → ℕ → List ℕ
@@ -52,6 +52,6 @@ pub record Enters (access rows : List (List ℕ)) (w r : List ℕ) (access_now r
   pub grown : ((access_now ≡ access) × (rows_now ≡ rows)) ⊎ ((access_now ≡ access ++ w ∷ []) × (rows_now ≡ rows ++ r ∷ []))
 
 -- the table's access words, rows and pairs
-pub record IsFilling {V : Type 0} (items : V → List ℕ) (t : MachineTable) (access : List (List ℕ)) (rows : List V) (cells : List Row) : Type 0 where
+pub record IsFilling {V : Type 0} (items : V → List ℕ) (t : MealyMachine) (access : List (List ℕ)) (rows : List V) (cells : List Row) : Type 0 where
   pub reached : AreAccess t.rows t.inputs access (map items rows)
   pub paired : ArePairs t.rows t.inputs access cells

@@ -3,7 +3,7 @@ use Rattle.std.specs.Prelude.{◌≡◌, ◌⊎◌, ℕ, List, [], ◌∷◌, �
 use Rattle.lw_words.specs.declared.stop.SulStop.{SulStop}
 use Rattle.lw_sul.specs.declared.runs.Run.{Run}
 
-pub record Asked (S : Type 0) : Type 0 where
+pub record SessionState (S : Type 0) : Type 0 where
   pub instance : ℕ
   pub sul : S
   pub journal : List Run
