@@ -4,7 +4,7 @@
 ghost use Rattle.std.specs.Prelude.{◌*◌, ◌^◌, ◌<◌, ◌≤◌};
 
 use guarded::Guarded;
-use lw_turn::NoMemory;
+use lw_words::NoMemory;
 use std::alloc::Global;
 use std::io;
 use std::sync::{Mutex, Wait};

@@ -1,7 +1,8 @@
 //! The core: actors add to one sum, and each is answered the sum before.
 ghost use Rattle.std.specs.Prelude.{◌≡◌, ◌+◌, ◌*◌, ◌^◌, ◌<◌, ◌≤◌, [], ◌∷◌, ◌++◌, IfOk};
 
-use lw_turn::{Core, Entry, NoMemory};
+use lw_turn::{Core, Entry};
+use lw_words::NoMemory;
 use std::alloc::Global;
 use std::marker::Model;
 

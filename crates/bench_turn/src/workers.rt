@@ -4,7 +4,8 @@ ghost use Rattle.lw_turn.specs.Views.{first_view};
 
 use crate::guarded::Guarded;
 use crate::tally::Tally;
-use lw_turn::{NoMemory, Pass, Turnstile};
+use lw_turn::{Pass, Turnstile};
+use lw_words::NoMemory;
 use std::alloc::Global;
 use std::sync::{Mutex, Wait};
 use std::thread;

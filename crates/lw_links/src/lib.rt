@@ -4,10 +4,8 @@
 
 pub mod laws;
 mod links;
-mod memory;
 
 pub use links::Lists;
-pub use memory::NoMemory;
 
 #[cfg(test)]
 mod tests;

@@ -3,7 +3,7 @@ ghost use Rattle.std.specs.Vec.{vec_capacity};
 ghost use Rattle.lw_links.specs.Owners.{empty_lists, grown, pushed, unlinked, moved, owner_of, first_of, next_of, HasEachOnce, Spells, has};
 ghost use Rattle.lw_links.specs.Chains.{place_at, joined, ends_without, way_in, given};
 
-use crate::memory::NoMemory;
+use lw_words::NoMemory;
 use std::alloc::Global;
 use std::marker::Model;
 

@@ -1,8 +1,11 @@
+//! Lists by hand, drawn calls beside plain vectors, and the greatest numbers of owners and cells.
 ghost use Rattle.std.specs.Prelude.{◌≡◌, ◌<◌, length};
 
 use crate::laws::{next_spells_each_list, owner_has_the_cell};
 use crate::links::Lists;
-use crate::memory::NoMemory;
+use rand_core::SeedableRng;
+use rand_core::utils::NextWord;
+use rand_pcg::Lcg128Xsl64;
 use std::alloc::Global;
 use std::test::Fail;
 
@@ -71,21 +74,12 @@ fn grows(rt: HostRuntime) -> Result<(), Fail> {
     Ok(())
 }
 
-#[test]
-fn says_that_memory_ran_out(rt: HostRuntime) -> Result<(), Fail> {
-    assert_eq!(rt; format!(in rt.alloc(); "{NoMemory}")?.as_str(), "no memory");
-    Ok(())
-}
-
-/// A number below `bound`, from a linear congruential generator.
-fn draw(seed: &mut u64, bound: u32) -> u32
+/// A drawn number below `bound`.
+fn draw(numbers: &mut Lcg128Xsl64, bound: u32) -> u32
     requires { 0 < bound }
     ensures { result < bound }
 {
-    *seed = seed
-        .wrapping_mul(6364136223846793005)
-        .wrapping_add(1442695040888963407);
-    ((*seed >> 33) % bound as u64) as u32
+    (numbers.next_word() % u64::from(bound)) as u32
 }
 
 /// One list after another, as plain vectors.
@@ -127,17 +121,17 @@ fn step(
     alloc: Global,
     lists: &mut Lists,
     plain: &mut Vec<Vec<u32>>,
-    seed: &mut u64,
+    numbers: &mut Lcg128Xsl64,
 ) -> Result<(), Fail>
     requires owners { length lists.old.lists ≡ OWNERS }
     requires cells { lists.old.cells ≡ CELLS }
     ensures owners { length lists.new.lists ≡ OWNERS }
     ensures cells { lists.new.cells ≡ CELLS }
 {
-    let owner = draw(seed, OWNERS);
-    let cell = draw(seed, CELLS);
-    if draw(seed, 8) == 0 {
-        let to = draw(seed, OWNERS);
+    let owner = draw(numbers, OWNERS);
+    let cell = draw(numbers, CELLS);
+    if draw(numbers, 8) == 0 {
+        let to = draw(numbers, OWNERS);
         if owner != to {
             lists.move_all(owner, to);
             plain_move(alloc, plain, owner, to)?;
@@ -175,14 +169,35 @@ fn same(alloc: Global, lists: &Lists, plain: &[Vec<u32>]) -> Result<bool, Fail>
     Ok(true)
 }
 
+/// Whether the last owner's cells go to the first of so many owners.
+fn moves_the_last(alloc: Global, size: u32) -> Result<bool, Fail> {
+    if size < 2 {
+        return Err(Fail::from("too few owners"));
+    }
+    let mut lists = Lists::new(alloc, 1, 1)?;
+    lists.grow(size, size)?;
+    lists.push(size - 1, size - 1);
+    lists.push(size - 1, 0);
+    lists.move_all(size - 1, 0);
+    Ok(lists.first(0) == Some(size - 1)
+        && lists.next(size - 1) == Some(0)
+        && lists.owner(0) == Some(0))
+}
+
+#[test]
+fn many_owners_and_cells(rt: HostRuntime) -> Result<(), Fail> {
+    assert!(rt; moves_the_last(rt.alloc(), 2_097_152)?);
+    Ok(())
+}
+
 #[test]
 fn agrees_with_plain_lists(rt: HostRuntime) -> Result<(), Fail> {
     let alloc = rt.alloc();
     let mut lists = Lists::new(alloc, OWNERS, CELLS)?;
     let mut plain = plain_lists(alloc)?;
-    let mut seed = 1;
+    let mut numbers = Lcg128Xsl64::seed_from_u64(1);
     for round in 0..10000u32 {
-        step(alloc, &mut lists, &mut plain, &mut seed)?;
+        step(alloc, &mut lists, &mut plain, &mut numbers)?;
         if round % 100 == 0 {
             assert!(rt;
                 same(alloc, &lists, plain.as_slice())?,

@@ -1,5 +1,5 @@
 -- A word read letter by letter.
-use Rattle.std.proofs.Common.{◌≡◌, ℕ, suc, ◌+◌, ◌<◌, List, [], ◌∷◌, ◌++◌, length, get_or, drop, drop-cons, add-one, refl, ap, sym, ◌∙◌, arith, append_assoc, append-nil}
+use Rattle.std.proofs.Common.{◌≡◌, ℕ, zero, suc, ◌+◌, ◌<◌, List, [], ◌∷◌, ◌++◌, length, get_or, take, drop, drop-cons, add-one, refl, ap, sym, ◌∙◌, arith, append_assoc, append-nil}
 use Rattle.std.proofs.lemmas.List.Elements.{All-get_or, All-head, All-tail}
 use Rattle.std.proofs.lemmas.List.{drop_all}
 use Rattle.lw_words.specs.Word.{IsWord}
@@ -56,6 +56,12 @@ after-append m q (x ∷ u) v = after-append m (next m q x) u v
 pub out-append : (m : Rows) (q : ℕ) (u v : List ℕ) → out m q (u ++ v) ≡ out m q u ++ out m (after m q u) v
 out-append m q [] v = refl
 out-append m q (x ∷ u) v = ap (λ (o : List ℕ). output m q x ∷ o) (out-append m (next m q x) u v)
+
+-- the outputs on the front of a word
+pub out-take : (m : Rows) (q n : ℕ) (w : List ℕ) → out m q (take n w) ≡ take n (out m q w)
+out-take m q zero w = refl
+out-take m q (suc n) [] = refl
+out-take m q (suc n) (x ∷ w) = ap (λ (o : List ℕ). output m q x ∷ o) (out-take m (next m q x) n w)
 
 -- a word leads from a state to a state
 pub after_below : (a : ℕ) (m : Rows) (w : List ℕ) (q : ℕ) → IsMachine a m → q < length m → IsWord a w → after m q w < length m

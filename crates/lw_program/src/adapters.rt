@@ -1,15 +1,18 @@
-//! The real files and streams as the top call knows them. They count their faults and tell nothing of contents.
-ghost use Rattle.std.specs.Prelude.{◌≡◌};
+//! The real files and streams as the top call knows them. They count their faults. What they hold or took is told to no
+//! contract; what a read gave is.
+ghost use Rattle.std.specs.Prelude.{◌≡◌, []};
 
-use lw_top::{Failed, Files, FilesStop, Sink};
+use http_server::Log;
+use lw_outside::{Failed, Files, FilesStop, LONGEST_FILE, Sink, WriteStop};
 use std::fs;
-use std::io::{ErrorKind, Write};
+use std::io::{self, ErrorKind, Read, Write};
 
 /// The files of the system.
 #[derive(Drop)]
 pub struct RealFiles<R> {
     rt: R,
     faults: u64,
+    reads: Log<String, Vec<u8>>,
 }
 
 impl<R> RealFiles<R> {
@@ -17,27 +20,58 @@ impl<R> RealFiles<R> {
     pub fn new(rt: R) -> RealFiles<R>
         ensures runtime { result.rt ≡ rt }
         ensures faults { result.faults ≡ 0 }
+        ensures reads { result.reads.items ≡ [] }
     {
-        RealFiles { rt, faults: 0 }
+        RealFiles {
+            rt,
+            faults: 0,
+            reads: Log::new(),
+        }
     }
 }
 
+/// The bytes of a file, at most one more than a file may have.
+fn read_file<R: fs::Files + AllocGlobal>(rt: &R, name: &str) -> io::Result<Vec<u8>> {
+    let mut bytes = Vec::new(rt.alloc());
+    let file = fs::open(rt, name)?;
+    let _count = file.take(LONGEST_FILE as u64 + 1).read_to_end(&mut bytes)?;
+    Ok(bytes)
+}
+
 impl<R: fs::Files + AllocGlobal> Files for RealFiles<R> {
-    ghost use Rattle.std.specs.Prelude.{None};
+    ghost use Rattle.std.specs.Prelude.{None, map, string_bytes};
 
     ghost holds = { λ _. None };
 
     ghost calls = { λ _. None };
 
+    ghost reads = { λ f. map (λ r. (string_bytes r.0, r.1.items)) f.reads.items };
+
     ghost faults = { λ f. f.faults };
 
     fn read(&mut self, name: &str) -> Result<Vec<u8>, FilesStop> {
-        match fs::read(&self.rt, name) {
-            Ok(bytes) => Ok(bytes),
+        let called = String::from_str(self.rt.alloc(), name)?;
+        match read_file(&self.rt, name) {
+            Ok(bytes) if bytes.len() > LONGEST_FILE => Err(FilesStop::TooLong),
+            Ok(bytes) => {
+                self.reads = self.reads.and(&called, &bytes);
+                Ok(bytes)
+            }
             Err(error) if error.kind() == ErrorKind::OutOfMemory => Err(FilesStop::NoMemory),
             Err(_) => {
                 self.faults = self.faults.saturating_add(1);
                 Err(FilesStop::Failed)
+            }
+        }
+    }
+
+    fn write(&mut self, name: &str, bytes: &[u8]) -> Result<(), WriteStop> {
+        match fs::write(&self.rt, name, bytes) {
+            Ok(()) => Ok(()),
+            Err(error) if error.kind() == ErrorKind::OutOfMemory => Err(WriteStop::NoMemory),
+            Err(_) => {
+                self.faults = self.faults.saturating_add(1);
+                Err(WriteStop::Failed)
             }
         }
     }

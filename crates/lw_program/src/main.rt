@@ -4,29 +4,38 @@
 mod adapters;
 
 use adapters::{RealFiles, Stream};
-use lw_top::run;
+use lw_top::{run, without_arguments};
 use std::alloc::Global;
+use std::io::ErrorKind;
 use std::process::ExitCode;
 use std::{env, io};
 
-/// The words of the command line after the program's own name; none where they aren't text.
-fn words(rt: &HostRuntime) -> io::Result<Vec<String>> {
-    let Ok(args) = env::args(rt) else {
-        return Ok(Vec::new(rt.alloc()));
+/// The arguments of the command line after the program's own name; none where they aren't text.
+fn arguments(rt: &HostRuntime) -> io::Result<Vec<String>> {
+    let mut arguments: Vec<String> = match env::args(rt) {
+        Ok(all) => all.collect(rt.alloc())?,
+        Err(error) if error.kind() == ErrorKind::OutOfMemory => return Err(error),
+        Err(_) => Vec::new(rt.alloc()),
     };
-    let mut words: Vec<String> = args.collect(rt.alloc())?;
-    if !words.is_empty() {
-        let _program = words.remove(0);
+    if !arguments.is_empty() {
+        let _program = arguments.remove(0);
     }
-    Ok(words)
+    Ok(arguments)
 }
 
-fn main(rt: HostRuntime) -> io::Result<ExitCode> {
+fn main(rt: HostRuntime) -> ExitCode {
     let alloc: Global = rt.alloc();
-    let words = words(&rt)?;
     let mut out = Stream::new(rt.stdout());
     let mut err = Stream::new(rt.stderr());
-    let mut files = RealFiles::new(rt);
-    let end = run(alloc, &words, &mut files, &mut out, &mut err);
-    Ok(ExitCode::from(end.status))
+    let end = match arguments(&rt) {
+        Ok(arguments) => run(
+            alloc,
+            &arguments,
+            &mut RealFiles::new(rt),
+            &mut out,
+            &mut err,
+        ),
+        Err(_) => without_arguments(alloc, &mut err),
+    };
+    ExitCode::from(end.status)
 }

@@ -1,10 +1,11 @@
 -- A run, letter by letter.
-use Rattle.std.proofs.Common.{◌≡◌, ℕ, ◌+◌, ◌<◌, List, [], ◌∷◌, ◌++◌, length, Option, Some, None, option_map, get_or, take, drop, refl, ap, sym, ◌∙◌, inl, inr}
+use Rattle.std.proofs.Common.{◌≡◌, ℕ, ◌+◌, ◌<◌, List, [], ◌∷◌, ◌++◌, length, Bool, true, false, Option, Some, None, option_map, get_or, take, drop, refl, ap, sym, ◌∙◌}
 use Rattle.std.proofs.lemmas.List.{take_more}
 use Rattle.lw_mealy.specs.Machine.{Rows, out, answer}
 use Rattle.lw_mealy.proofs.WordLemmas.{outs_more, outs_end}
+use Rattle.lw_words.specs.declared.stop.SulStop.{SulStop}
 use Rattle.lw_sul.specs.declared.runs.Run.{Run}
-use Rattle.lw_sul.specs.SessionState.{run_of, CutOff}
+use Rattle.lw_sul.specs.SessionState.{run_of, CutOff, IsJournal}
 use Rattle.lw_sul.specs.Runs.{stepped, after_step}
 use Rattle.lw_sul.specs.Told.{Steps, Starts, Answers}
 
@@ -38,13 +39,21 @@ runs_more (Some rs) w done i y lt =
     ap (λ (l : List Run). Some l) (step_last rs (run_of (take i w) done) (get_or w i 0) y
     ∙ ap (λ (v : List ℕ). rs ++ run_of v (done ++ y ∷ []) ∷ []) (sym (take_more w i 0 lt)))
 
--- a run that a stop cut off
-pub cut_at_reset : (o new : Option (List Run)) → new ≡ o → CutOff o new
-cut_at_reset None new is = is
-cut_at_reset (Some rs) new is = (rs, is, inl refl)
+-- a run that was refused at its reset
+pub refused_at_reset : (o new : Option (List Run)) (cut : Bool) → new ≡ o → cut ≡ false → CutOff o new cut
+refused_at_reset None new cut is whole = is
+refused_at_reset (Some rs) new cut is whole = rw whole is
 
-pub cut_in_run : (o new : Option (List Run)) (r : Run) → new ≡ option_map (λ rs. rs ++ r ∷ []) o → CutOff o new
-cut_in_run None new r is = is
-cut_in_run (Some rs) new r is = (rs ++ r ∷ [], is, inr (r, refl))
+-- a run that was cut off by a step
+pub refused_at_step : (o new : Option (List Run)) (cut : Bool) (r : Run) → new ≡ option_map (λ rs. rs ++ r ∷ []) o → cut ≡ true → CutOff o new cut
+refused_at_step None new cut r is cuts = is
+refused_at_step (Some rs) new cut r is cuts = rw cuts (r, is)
 
-pub ruleset run_steps = (rests_begin, rests_more, rests_end, runs_more, cut_at_reset, cut_in_run)
+-- after a refusal of a session that hadn't stopped
+pub journal_stops : (o new : Option (List Run)) (journal : List Run) (was cut : Bool) (stop : SulStop) → IsJournal o journal None was → CutOff o new cut → IsJournal new journal (Some stop) cut
+journal_stops None new journal was cut stop told refused = rw refused tt
+journal_stops (Some rs) new journal was false stop told refused = rw refused told
+journal_stops (Some rs) new journal was true stop told refused =
+    rw refused.1 (refused.0, ap (λ (l : List Run). l ++ refused.0 ∷ []) told)
+
+pub ruleset run_steps = (rests_begin, rests_more, rests_end, runs_more, refused_at_reset, refused_at_step)

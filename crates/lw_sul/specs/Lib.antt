@@ -2,3 +2,4 @@ pub mod SessionState
 pub mod Runs
 pub mod TableState
 pub mod Told
+pub mod TestScript

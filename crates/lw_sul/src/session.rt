@@ -3,7 +3,7 @@ ghost use Rattle.std.specs.List.{All};
 ghost use Rattle.lw_words.specs.Word.{IsWord};
 ghost use Rattle.lw_words.specs.declared.stop.SulStop.{SulStop as Stop};
 ghost use Rattle.std.specs.Prelude.{Err};
-ghost use Rattle.lw_sul.specs.SessionState.{SessionState, run_of, NoRuns, CutOff};
+ghost use Rattle.lw_sul.specs.SessionState.{SessionState, run_of, NoRuns, CutOff, IsJournal};
 ghost use Rattle.lw_words.specs.Cause.{CountedFault};
 ghost use Rattle.lw_sul.specs.Told.{Answers};
 
@@ -31,7 +31,7 @@ impl<S: Sul> Model for Session<S> {
 
     ghost view = { λ s. record { instance = s.instance; sul = s.sul; journal = s.journal } };
 
-    ghost invariant = { λ s. (s.stopped ≡ S.stop s.sul) × IsJournal (S.runs s.sul) s.journal s.stopped };
+    ghost invariant = { λ s. (s.stopped ≡ S.stop s.sul) × IsJournal (S.runs s.sul) s.journal s.stopped (S.cut s.sul) };
 }
 
 /// The memory of a run: its word, and room for its outputs, twice.
@@ -69,7 +69,7 @@ fn perform<S: Sul>(sul: &mut S, w: &Word, outs: &mut Vec<u16>) -> Result<(), Sul
     ensures runs { OnOk result (S.runs sul.new ≡ option_map (λ rs. rs ++ run_of w.now outs.new.items ∷ []) (S.runs sul.old)) }
     ensures live { OnOk result (S.stop sul.new ≡ None) }
     ensures err { IfErr result (λ e. S.stop sul.new ≡ Some e) }
-    ensures cut { OnErr result (CutOff (S.runs sul.old) (S.runs sul.new)) }
+    ensures cut { OnErr result (CutOff (S.runs sul.old) (S.runs sul.new) (S.cut sul.new)) }
     ensures failed { result ≡ Err Stop.Failed → CountedFault (S.faults sul.old) (S.faults sul.new) }
     ensures counts { S.faults sul.old ≤ S.faults sul.new }
     ensures same { (S.origin sul.new ≡ S.origin sul.old) × (S.inputs sul.new ≡ S.inputs sul.old) × (S.outputs sul.new ≡ S.outputs sul.old) }
@@ -117,6 +117,9 @@ impl<S: Sul> Session<S> {
         ensures memory { result ≡ Err RunStop.NoMemory → self.new ≡ self.old }
         ensures failed { result ≡ Err (RunStop.Sul Stop.Failed) → S.stop self.old.sul ≡ None → CountedFault (S.faults self.old.sul) (S.faults self.new.sul) }
 
+        // Told runs are the journal, and an unfinished run exactly where this call or an earlier one was stopped in a step.
+        ensures told { IsJournal (S.runs self.new.sul) self.new.journal (S.stop self.new.sul) (S.cut self.new.sul) }
+
         ensures counts { S.faults self.old.sul ≤ S.faults self.new.sul }
         ensures instance { self.new.instance ≡ self.old.instance }
         ensures same { (S.origin self.new.sul ≡ S.origin self.old.sul) × (S.inputs self.new.sul ≡ S.inputs self.old.sul) × (S.outputs self.new.sul ≡ S.outputs self.old.sul) }
@@ -162,8 +165,11 @@ impl<S: Sul> Session<S> {
         self.sul.outputs()
     }
 
+    /// The finished runs. Where the system tells its runs, they are these, and one unfinished run exactly where the
+    /// session stopped in a step.
     pub fn journal(&self) -> &Runs
-        ensures { result.now ≡ self.now.journal }
+        ensures journal { result.now ≡ self.now.journal }
+        ensures told { IsJournal (S.runs self.now.sul) self.now.journal (S.stop self.now.sul) (S.cut self.now.sul) }
     {
         &self.journal
     }

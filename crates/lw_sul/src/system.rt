@@ -1,4 +1,4 @@
-ghost use Rattle.std.specs.Prelude.{◌≡◌, ℕ, ◌<◌, ◌≤◌, List, Bool, true, Option, Some, None, option_map, IfOk, OnOk, IfErr, OnErr};
+ghost use Rattle.std.specs.Prelude.{◌≡◌, ℕ, ◌<◌, ◌≤◌, List, Bool, true, false, Option, Some, None, option_map, IfOk, OnOk, IfErr, OnErr};
 ghost use Rattle.lw_mealy.specs.Origin.{Origin};
 ghost use Rattle.lw_words.specs.declared.stop.SulStop.{SulStop as Stop};
 ghost use Rattle.lw_words.specs.Cause.{CountedFault};
@@ -32,6 +32,9 @@ pub trait Sul {
     /// The refusal of its last call, or None where that was answered Ok or there was none.
     ghost stop: { Self → Option Stop };
 
+    /// Whether its last refusal cut a run off: that of a step does, that of a reset doesn't.
+    ghost cut: { Self → Bool };
+
     /// Its runs, where they are told.
     ghost runs: { Self → Option (List Entry) };
 
@@ -49,6 +52,7 @@ pub trait Sul {
         ensures starts { OnOk result (Starts (origin self.old).machine (state self.new)) }
         ensures err { IfErr result (λ e. stop self.new ≡ Some e) }
         ensures left { OnErr result (runs self.new ≡ runs self.old) }
+        ensures whole { OnErr result (cut self.new ≡ false) }
         ensures failed { result ≡ Err Stop.Failed → CountedFault (faults self.old) (faults self.new) }
         ensures counts { faults self.old ≤ faults self.new }
         ensures same { (origin self.new ≡ origin self.old) × (inputs self.new ≡ inputs self.old) × (outputs self.new ≡ outputs self.old) };
@@ -64,6 +68,7 @@ pub trait Sul {
         ensures steps { IfOk result (λ y. Steps (origin self.old).machine (state self.old) x y (state self.new)) }
         ensures err { IfErr result (λ e. stop self.new ≡ Some e) }
         ensures left { OnErr result (runs self.new ≡ runs self.old) }
+        ensures cut { OnErr result (cut self.new ≡ true) }
         ensures failed { result ≡ Err Stop.Failed → CountedFault (faults self.old) (faults self.new) }
         ensures counts { faults self.old ≤ faults self.new }
         ensures same { (origin self.new ≡ origin self.old) × (inputs self.new ≡ inputs self.old) × (outputs self.new ≡ outputs self.old) };

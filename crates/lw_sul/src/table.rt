@@ -42,7 +42,7 @@ impl TableSul {
 }
 
 impl Sul for TableSul {
-    ghost use Rattle.std.specs.Prelude.{true, Some, None};
+    ghost use Rattle.std.specs.Prelude.{true, false, Some, None};
 
     ghost inputs = { λ s. s.table.inputs };
 
@@ -57,6 +57,8 @@ impl Sul for TableSul {
     ghost faults = { λ _. 0 };
 
     ghost stop = { λ _. None };
+
+    ghost cut = { λ _. false };
 
     ghost runs = { λ _. None };
 

@@ -8,15 +8,16 @@ use Rattle.lw_words.specs.Word.{IsWord}
 use Rattle.lw_mealy.specs.Machine.{Row, after, next, output, out, answer, cell}
 use Rattle.lw_mealy.specs.Minimal.{Differ}
 use Rattle.lw_mealy.specs.Limits.{MealyMachine, mealy_of}
-use Rattle.lw_mealy.proofs.WordLemmas.{after-append, out-append}
+use Rattle.lw_mealy.proofs.WordLemmas.{after-append, length-out, out-append}
 use Rattle.lw_sul.specs.declared.runs.Run.{Run}
-use Rattle.lw_top.proofs.Askings.{length-row_after}
+use Rattle.lw_top.proofs.RowSteps.{length-row_after}
 use Rattle.lw_top.proofs.AccessRows.{not_before, same_place}
-use Rattle.lw_top.proofs.AskedWords.{pushed, apart_below, All-flat, extensions_have, asked_word, asked_have, row_word_in}
+use Rattle.lw_top.proofs.RowAnswers.{pushed, apart_below, All-flat, extensions_have, asked_word, asked_have, row_word_in}
 use Rattle.lw_top.proofs.Parts.{row_at}
-use Rattle.lw_top.specs.Asking.{extensions, asked_all, row_words}
+use Rattle.lw_top.specs.RowRuns.{extensions, all_row_runs, row_words}
 use Rattle.lw_top.specs.Hypothesis.{ReachedWide, IsHypothesis}
-use Rattle.lw_top.specs.Known.{Answer, runs_answers}
+use Rattle.lw_words.specs.Answer.{Answer, IsAnswer, AreAnswers}
+use Rattle.lw_sul.specs.Runs.{journal_answers}
 use Rattle.lw_top.specs.PartialTable.{word_at, row_after, IsPair, AreAccess, ArePairs}
 
 module _ (t : MealyMachine) (A R : List (List ℕ)) (C : List Row) (g : AreAccess t.rows t.inputs A R) (p : ArePairs t.rows t.inputs A C) (full : length C ≡ length A) (few : length A ≤ 1024) where
@@ -94,15 +95,16 @@ module _ (t : MealyMachine) (A R : List (List ℕ)) (C : List Row) (g : AreAcces
       (All-push (IsWord t.inputs) [] [] (λ k d lt. absurd (omega arith)) (λ k d lt. absurd (omega arith)))
       (All-flat (IsWord t.inputs) (extensions t.inputs) A (λ q d lt. extensions_have (IsWord t.inputs) t.inputs (get_or A q d) (λ x le. extended (get_or A q d) x (g.words q d lt) le)))
 
-  asked_are_words : All (λ k. IsWord t.inputs k.0) (runs_answers (asked_all t.rows t.inputs (row_words t.inputs A)))
-  asked_are_words = asked_have (λ (k : Answer). IsWord t.inputs k.0) t.rows t.inputs (row_words t.inputs A) (λ i d lt y le. extended (get_or (row_words t.inputs A) i d) y (row_words_are i d lt) le)
+  asked_are_words : AreAnswers t.inputs (journal_answers (all_row_runs t.rows t.inputs (row_words t.inputs A)))
+  asked_are_words = asked_have (IsAnswer t.inputs) t.rows t.inputs (row_words t.inputs A) (λ i d lt y le.
+      (extended (get_or (row_words t.inputs A) i d) y (row_words_are i d lt) le, length-out t.rows 0 (get_or (row_words t.inputs A) i d ++ y ∷ [])))
 
-  reached_wide : (q : ℕ) → q < length A → ReachedWide t.inputs (runs_answers (asked_all t.rows t.inputs (row_words t.inputs A))) C q
+  reached_wide : (q : ℕ) → q < length A → ReachedWide t.inputs (journal_answers (all_row_runs t.rows t.inputs (row_words t.inputs A))) C q
   reached_wide q lt = record {
     access = word_at A q;
     word = access_word q lt;
     leads = leads q lt;
-    wide = λ x y le le'. subst (λ (w : List ℕ). Contains (map (λ k. k.0) (runs_answers (asked_all t.rows t.inputs (row_words t.inputs A)))) w) (append_assoc (word_at A q) (x ∷ []) (y ∷ []))
+    wide = λ x y le le'. subst (λ (w : List ℕ). Contains (map (λ k. k.word) (journal_answers (all_row_runs t.rows t.inputs (row_words t.inputs A)))) w) (append_assoc (word_at A q) (x ∷ []) (y ∷ []))
         (asked_word t.rows t.inputs (row_words t.inputs A) (word_at A q ++ x ∷ []) y le' (row_word_in t.inputs A q x lt le));
   }
 
@@ -118,23 +120,23 @@ module _ (t : MealyMachine) (A R : List (List ℕ)) (C : List Row) (g : AreAcces
         | inr at ↦ (at.0 ∷ [], All-push (λ x. x < t.inputs) [] at.0 (λ k d lt. absurd (omega arith)) at.1, λ e. at.2 (ap (λ (o : List ℕ). get_or o 0 0) e))
       ]
 
-  pub hypothesis : IsHypothesis t.inputs (runs_answers (asked_all t.rows t.inputs (row_words t.inputs A))) C
+  pub hypothesis : IsHypothesis t.inputs (journal_answers (all_row_runs t.rows t.inputs (row_words t.inputs A))) C
   hypothesis = record {
     minimal = record {
       reached = λ q lt. let lt' : q < length A = subst (λ (n : ℕ). q < n) full lt in (word_at A q, access_word q lt', leads q lt');
       apart = λ i j lt lj. states_apart i j lt (subst (λ (n : ℕ). j < n) full lj);
     };
     words = asked_are_words;
-    gives = asked_have (λ (k : Answer). answer C k.0 ≡ k.1) t.rows t.inputs (row_words t.inputs A) rows_give;
+    gives = asked_have (λ (k : Answer). answer C k.word ≡ k.outs) t.rows t.inputs (row_words t.inputs A) rows_give;
     reached = λ q lt. reached_wide q (subst (λ (n : ℕ). q < n) full lt);
   }
 
 -- of the machine that is made of the pairs, where the journal has the rows of all access words
 pub hypothesis_of : (t : MealyMachine) (A R : List (List ℕ)) (C : List Row) (n : ℕ) (journal : List Run) (inputs outputs : ℕ) (h : MealyMachine) → AreAccess t.rows t.inputs A R → ArePairs t.rows t.inputs A C → length C ≡ length A → length A ≤ 1024 → n ≡ length A
-    → journal ≡ asked_all t.rows t.inputs (row_words t.inputs (take n A)) → inputs ≡ t.inputs → h ≡ mealy_of inputs outputs C → IsHypothesis h.inputs (runs_answers journal) h.rows
+    → journal ≡ all_row_runs t.rows t.inputs (row_words t.inputs (take n A)) → inputs ≡ t.inputs → h ≡ mealy_of inputs outputs C → IsHypothesis h.inputs (journal_answers journal) h.rows
 hypothesis_of t A R C n journal inputs outputs h g p full few all gains same is =
     let front : take n A ≡ A = ap (λ (k : ℕ). take k A) all ∙ take_all (length A) A (omega arith) in
-    let whole : journal ≡ asked_all t.rows t.inputs (row_words t.inputs A) = gains ∙ ap (λ (B : List (List ℕ)). asked_all t.rows t.inputs (row_words t.inputs B)) front in
-    subst (λ (j : List Run). IsHypothesis h.inputs (runs_answers j) h.rows) (sym whole)
-    (subst (λ (s : MealyMachine). IsHypothesis s.inputs (runs_answers (asked_all t.rows t.inputs (row_words t.inputs A))) s.rows) (sym is)
-    (subst (λ (k : ℕ). IsHypothesis k (runs_answers (asked_all t.rows t.inputs (row_words t.inputs A))) C) (sym same) (hypothesis t A R C g p full few)))
+    let whole : journal ≡ all_row_runs t.rows t.inputs (row_words t.inputs A) = gains ∙ ap (λ (B : List (List ℕ)). all_row_runs t.rows t.inputs (row_words t.inputs B)) front in
+    subst (λ (j : List Run). IsHypothesis h.inputs (journal_answers j) h.rows) (sym whole)
+    (subst (λ (s : MealyMachine). IsHypothesis s.inputs (journal_answers (all_row_runs t.rows t.inputs (row_words t.inputs A))) s.rows) (sym is)
+    (subst (λ (k : ℕ). IsHypothesis k (journal_answers (all_row_runs t.rows t.inputs (row_words t.inputs A))) C) (sym same) (hypothesis t A R C g p full few)))

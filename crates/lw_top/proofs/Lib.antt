@@ -1,13 +1,13 @@
 pub mod WordEnds
 pub mod AccessRows
-pub mod AskedWords
-pub mod Askings
+pub mod RowAnswers
+pub mod RowSteps
 pub mod Parts
 pub mod Closed
 pub mod Crowds
 pub mod Hypotheses
 pub mod Numbered
+pub mod ReadLemmas
 pub mod RunLemmas
-pub mod FileLemmas
 pub mod KeptLemmas
 pub mod SinkLemmas

@@ -6,7 +6,7 @@ use Rattle.lw_mealy.proofs.WordLemmas.{after_below}
 use Rattle.lw_separate.specs.Canonical.{IsCanonical}
 use Rattle.lw_separate.proofs.UniqueLemmas.{together}
 use Rattle.lw_top.specs.Hypothesis.{ReachedWide, IsHypothesis}
-use Rattle.lw_top.specs.Known.{Answer}
+use Rattle.lw_words.specs.Answer.{Answer}
 
 -- a canonical machine is its own canonical form
 pub own_form : (a : ℕ) (m c : Rows) → IsCanonical a m c → IsCanonical a c c
@@ -31,6 +31,6 @@ module _ (a : ℕ) (answers : List Answer) (h c : Rows) (machine : IsMachine a h
   numbered = record {
     minimal = k.minimal;
     words = given.words;
-    gives = λ i d lt. k.equal (get_or answers i d).0 (given.words i d lt) ∙ given.gives i d lt;
+    gives = λ i d lt. k.equal (get_or answers i d).word (given.words i d lt).0 ∙ given.gives i d lt;
     reached = reached;
   }

@@ -9,7 +9,7 @@ use borrow.Author.Count.{below_more}
 use Rattle.lw_words.specs.Name.{AllDiffer}
 use Rattle.lw_words.specs.Word.{IsWord}
 use Rattle.lw_mealy.specs.Machine.{Row, Rows, after, output, cell}
-use Rattle.lw_top.proofs.Askings.{length-row_after}
+use Rattle.lw_top.proofs.RowSteps.{length-row_after}
 use Rattle.lw_top.specs.PartialTable.{word_at, row_after, Extends, IsPair, AreAccess, ArePairs, Enters}
 
 word_at_grown : (A : List (List ℕ)) (w : List ℕ) (j : ℕ) → j < length A → word_at (A ++ w ∷ []) j ≡ word_at A j

@@ -1,12 +1,10 @@
-pub mod Asking
-pub mod Crowd
-pub mod Files
+pub mod Arguments
 pub mod Hypothesis
 pub mod Kept
-pub mod Known
-pub mod Memory
 pub mod Outcomes
 pub mod PartialTable
-pub mod Run
+pub mod Reading
+pub mod RowRuns
+pub mod Stops
 pub mod Text
-pub mod Words
+pub mod Writing

@@ -5,7 +5,7 @@ use Rattle.lw_words.specs.Name.{AllDiffer}
 use Rattle.lw_words.specs.Word.{IsWord}
 use Rattle.lw_mealy.specs.Machine.{Row, Rows, after, output, cell}
 use Rattle.lw_mealy.specs.Limits.{MealyMachine}
-use Rattle.lw_top.specs.Asking.{row_of}
+use Rattle.lw_top.specs.RowRuns.{row_of}
 
 abbrev pub word_at : List (List ℕ) → ℕ → List ℕ
 word_at words i = slice_index_or words i []

@@ -3,7 +3,7 @@ use Rattle.std.specs.Prelude.{◌≡◌, ℕ, List, [], ◌++◌, length, codes,
 use Rattle.std.specs.Fmt.{decimal}
 use Rattle.std.specs.List.{flat_map, join_by}
 use Rattle.lw_top.specs.declared.outcome.Outcome.{Outcome}
-use Rattle.lw_top.specs.declared.outcome.Outcome.TheVariants.{Unchecked, Usage, BadFile, NoMemory, TooManyStates, FileFault, SinkFault}
+use Rattle.lw_top.specs.declared.outcome.Outcome.TheVariants.{Unchecked, Usage, BadFile, FileTooLong, NoMemory, TooManyStates, FileFault, SinkFault}
 
 -- the name of a letter
 abbrev pub name_of : List (List ℕ) → ℕ → List ℕ
@@ -33,6 +33,7 @@ abbrev pub IsText : Option (List (List ℕ)) → ℕ → Outcome → List ℕ �
 IsText names answers (Unchecked model) text = text ≡ unchecked_line (length model.rows) answers
 IsText names answers Usage text = text ≡ usage_lines
 IsText names answers BadFile text = text ≡ codes "bad file table\n"
+IsText names answers FileTooLong text = text ≡ codes "file too long: table\n"
 IsText names answers NoMemory text = text ≡ codes "no memory\n"
 IsText names answers (TooManyStates words) text = (inputs : List (List ℕ)) × (names ≡ Some inputs) × (text ≡ crowd_lines inputs words)
 IsText names answers FileFault text = text ≡ codes "file fault: table\n"

@@ -1,13 +1,14 @@
+//! The first table of a system: rows over the single letters, closed.
 ghost use Rattle.std.specs.Prelude.{◌≡◌, ◌+◌, ◌<◌, ◌≤◌, [], ◌∷◌, ◌++◌, length, map, min, take, IfOk, IfErr, OnOk, OnErr};
 ghost use Rattle.lw_words.specs.Name.{AllDiffer};
 ghost use Rattle.lw_words.specs.Word.{IsWord};
 ghost use Rattle.lw_mealy.specs.Machine.{after, answer, output};
 ghost use Rattle.lw_mealy.specs.Limits.{IsWithinLimits, mealy_of};
 ghost use Rattle.lw_sul.specs.SessionState.{run_of};
-ghost use Rattle.lw_top.specs.Asking.{asked, asked_all, extensions, row_words, AnswersOnly};
-ghost use Rattle.lw_top.specs.Crowd.{CrowdOf};
+ghost use Rattle.lw_top.specs.RowRuns.{row_runs, all_row_runs, extensions, row_words, AnswersOnly};
+ghost use Rattle.lw_top.specs.Stops.{CrowdOf};
 ghost use Rattle.lw_top.specs.Hypothesis.{IsHypothesis};
-ghost use Rattle.lw_top.specs.Known.{runs_answers};
+ghost use Rattle.lw_sul.specs.Runs.{journal_answers};
 ghost use Rattle.lw_top.specs.PartialTable.{row_after, word_at, IsPair, Enters, IsFilling};
 
 use indexmap::IndexSet;
@@ -49,8 +50,11 @@ fn extension(word: &Word, letter: u16) -> Result<Word, NoMemory>
 fn ask_after(session: &mut Session<TableSul>, word: &Word, letter: u16) -> Result<u16, NoMemory>
     requires word { IsWord session.old.sul.table.inputs word.now }
     requires letter { letter < session.old.sul.table.inputs }
-    ensures ok { IfOk result (λ y. y ≡ output session.old.sul.table.rows (after session.old.sul.table.rows 0 word.now) letter) }
-    ensures gains { OnOk result (session.new.journal ≡ session.old.journal ++ run_of (word.now ++ letter ∷ []) (answer session.old.sul.table.rows (word.now ++ letter ∷ [])) ∷ []) }
+    ensures ok { IfOk result (λ y. y ≡ output session.old.sul.table.rows
+        (after session.old.sul.table.rows 0 word.now) letter) }
+    ensures gains { OnOk result (session.new.journal ≡ session.old.journal ++
+        run_of (word.now ++ letter ∷ []) (answer session.old.sul.table.rows (word.now ++
+        letter ∷ [])) ∷ []) }
     ensures err { OnErr result (session.new.journal ≡ session.old.journal) }
     ensures table { session.new.sul.table ≡ session.old.sul.table }
     ensures instance { session.new.instance ≡ session.old.instance }
@@ -64,7 +68,7 @@ fn ask_after(session: &mut Session<TableSul>, word: &Word, letter: u16) -> Resul
 }
 
 /// The row of a word: asks the word and each letter after it, in order.
-#[tactic(auto, using(crate::proofs::Askings::row_steps))]
+#[tactic(auto, using(crate::proofs::RowSteps::row_steps))]
 fn ask_row(
     alloc: Global,
     session: &mut Session<TableSul>,
@@ -73,9 +77,11 @@ fn ask_row(
 ) -> Result<Vec<u16>, NoMemory>
     requires word { IsWord session.old.sul.table.inputs word.now }
     requires letters { letters ≡ session.old.sul.table.inputs }
-    ensures ok { IfOk result (λ row. row.items ≡ row_after session.old.sul.table.rows letters word.now) }
-    ensures gains { OnOk result (session.new.journal ≡ session.old.journal ++ asked session.old.sul.table.rows letters word.now) }
-    ensures only { AnswersOnly session.old.sul.table.rows session.old.journal session.new.journal }
+    ensures ok { IfOk result (λ row. row.items ≡ row_after session.old.sul.table.rows letters
+        word.now) }
+    ensures gains { OnOk result (session.new.journal ≡ session.old.journal ++
+        row_runs session.old.sul.table.rows letters word.now) }
+    ensures only { AnswersOnly session.old.sul.table session.old.journal session.new.journal }
     ensures table { session.new.sul.table ≡ session.old.sul.table }
     ensures instance { session.new.instance ≡ session.old.instance }
 {
@@ -98,9 +104,11 @@ struct FirstTable {
 impl FirstTable {
     /// The table of the empty word alone.
     fn new(alloc: Global, session: &mut Session<TableSul>) -> Result<FirstTable, NoMemory>
-        ensures ok { IfOk result (λ t. IsFilling (λ r. r.items) session.old.sul.table t.access.items t.rows.keys (map (λ r. r.items) t.cells.items) × (t.cells.items ≡ [])) }
-        ensures gains { OnOk result (session.new.journal ≡ session.old.journal ++ asked session.old.sul.table.rows session.old.sul.table.inputs []) }
-        ensures only { AnswersOnly session.old.sul.table.rows session.old.journal session.new.journal }
+        ensures ok { IfOk result (λ t. IsFilling (λ r. r.items) session.old.sul.table t.access.items
+            t.rows.keys (map (λ r. r.items) t.cells.items) × (t.cells.items ≡ [])) }
+        ensures gains { OnOk result (session.new.journal ≡ session.old.journal ++
+            row_runs session.old.sul.table.rows session.old.sul.table.inputs []) }
+        ensures only { AnswersOnly session.old.sul.table session.old.journal session.new.journal }
         ensures table { session.new.sul.table ≡ session.old.sul.table }
         ensures instance { session.new.instance ≡ session.old.instance }
     {
@@ -120,7 +128,9 @@ impl FirstTable {
     /// Enters the row of a word: the number of the access word that has it. A new row makes the word an access word.
     fn enter(&mut self, word: Word, row: Vec<u16>) -> Result<usize, NoMemory>
         requires differ { AllDiffer (map (λ r. r.items) self.old.rows.keys) }
-        ensures enters { IfOk result (Enters self.old.access.items (map (λ r. r.items) self.old.rows.keys) word row.items self.new.access.items (map (λ r. r.items) self.new.rows.keys)) }
+        ensures enters { IfOk result (Enters self.old.access.items
+            (map (λ r. r.items) self.old.rows.keys) word row.items self.new.access.items
+            (map (λ r. r.items) self.new.rows.keys)) }
         ensures cells { self.new.cells ≡ self.old.cells }
     {
         let (target, is_new) = self.rows.insert_full(row)?;
@@ -139,15 +149,21 @@ impl FirstTable {
         state: usize,
         letter: u16,
     ) -> Result<(u16, u16), NoMemory>
-        requires filling { IsFilling (λ r. r.items) session.old.sul.table self.old.access.items self.old.rows.keys (map (λ r. r.items) self.old.cells.items) }
+        requires filling { IsFilling (λ r. r.items) session.old.sul.table self.old.access.items
+            self.old.rows.keys (map (λ r. r.items) self.old.cells.items) }
         requires state { state < length self.old.access.items }
         requires letter { letter < session.old.sul.table.inputs }
-        ensures pair { IfOk result (IsPair session.old.sul.table.rows session.old.sul.table.inputs self.new.access.items state letter) }
-        ensures filling { OnOk result (IsFilling (λ r. r.items) session.old.sul.table self.new.access.items self.new.rows.keys (map (λ r. r.items) self.new.cells.items)) }
+        ensures pair { IfOk result (IsPair session.old.sul.table.rows session.old.sul.table.inputs
+            self.new.access.items state letter) }
+        ensures filling { OnOk result (IsFilling (λ r. r.items) session.old.sul.table
+            self.new.access.items self.new.rows.keys (map (λ r. r.items) self.new.cells.items)) }
         ensures cells { self.new.cells ≡ self.old.cells }
-        ensures kept { OnOk result (take (length self.old.access.items) self.new.access.items ≡ self.old.access.items) }
-        ensures gains { OnOk result (session.new.journal ≡ session.old.journal ++ asked session.old.sul.table.rows session.old.sul.table.inputs (word_at self.old.access.items state ++ letter ∷ [])) }
-        ensures only { AnswersOnly session.old.sul.table.rows session.old.journal session.new.journal }
+        ensures kept { OnOk result (take (length self.old.access.items) self.new.access.items ≡
+            self.old.access.items) }
+        ensures gains { OnOk result (session.new.journal ≡ session.old.journal ++
+            row_runs session.old.sul.table.rows session.old.sul.table.inputs
+            (word_at self.old.access.items state ++ letter ∷ [])) }
+        ensures only { AnswersOnly session.old.sul.table session.old.journal session.new.journal }
         ensures table { session.new.sul.table ≡ session.old.sul.table }
         ensures instance { session.new.instance ≡ session.old.instance }
     {
@@ -161,13 +177,19 @@ impl FirstTable {
     /// Asks the rows of the extensions of the next access word, and enters them.
     #[tactic(auto, using(crate::proofs::Parts::part_steps))]
     fn explore(&mut self, alloc: Global, session: &mut Session<TableSul>) -> Result<(), NoMemory>
-        requires filling { IsFilling (λ r. r.items) session.old.sul.table self.old.access.items self.old.rows.keys (map (λ r. r.items) self.old.cells.items) }
+        requires filling { IsFilling (λ r. r.items) session.old.sul.table self.old.access.items
+            self.old.rows.keys (map (λ r. r.items) self.old.cells.items) }
         requires more { length self.old.cells.items < length self.old.access.items }
-        ensures filling { OnOk result (IsFilling (λ r. r.items) session.old.sul.table self.new.access.items self.new.rows.keys (map (λ r. r.items) self.new.cells.items)) }
+        ensures filling { OnOk result (IsFilling (λ r. r.items) session.old.sul.table
+            self.new.access.items self.new.rows.keys (map (λ r. r.items) self.new.cells.items)) }
         ensures next { OnOk result (length self.new.cells.items ≡ length self.old.cells.items + 1) }
-        ensures kept { OnOk result (take (length self.old.access.items) self.new.access.items ≡ self.old.access.items) }
-        ensures gains { OnOk result (session.new.journal ≡ session.old.journal ++ asked_all session.old.sul.table.rows session.old.sul.table.inputs (extensions session.old.sul.table.inputs (word_at self.old.access.items (length self.old.cells.items)))) }
-        ensures only { AnswersOnly session.old.sul.table.rows session.old.journal session.new.journal }
+        ensures kept { OnOk result (take (length self.old.access.items) self.new.access.items ≡
+            self.old.access.items) }
+        ensures gains { OnOk result (session.new.journal ≡ session.old.journal ++
+            all_row_runs session.old.sul.table.rows session.old.sul.table.inputs
+            (extensions session.old.sul.table.inputs
+            (word_at self.old.access.items (length self.old.cells.items)))) }
+        ensures only { AnswersOnly session.old.sul.table session.old.journal session.new.journal }
         ensures table { session.new.sul.table ≡ session.old.sul.table }
         ensures instance { session.new.instance ≡ session.old.instance }
     {
@@ -221,11 +243,15 @@ fn filled(
     most: usize,
 ) -> Result<FirstTable, NoMemory>
     requires empty { session.old.journal ≡ [] }
-    ensures filling { IfOk result (λ t. IsFilling (λ r. r.items) session.old.sul.table t.access.items t.rows.keys (map (λ r. r.items) t.cells.items)) }
+    ensures filling { IfOk result (λ t. IsFilling (λ r. r.items) session.old.sul.table
+        t.access.items t.rows.keys (map (λ r. r.items) t.cells.items)) }
     ensures full { IfOk result (λ t. length t.cells.items ≡ min most (length t.access.items)) }
-    ensures gains { IfOk result (λ t. session.new.journal ≡ asked_all session.old.sul.table.rows session.old.sul.table.inputs (row_words session.old.sul.table.inputs (take (length t.cells.items) t.access.items))) }
-    ensures only { AnswersOnly session.old.sul.table.rows [] session.new.journal }
-    ensures same { (session.new.sul.table ≡ session.old.sul.table) × (session.new.instance ≡ session.old.instance) }
+    ensures gains { IfOk result (λ t. session.new.journal ≡
+        all_row_runs session.old.sul.table.rows session.old.sul.table.inputs
+        (row_words session.old.sul.table.inputs (take (length t.cells.items) t.access.items))) }
+    ensures only { AnswersOnly session.old.sul.table [] session.new.journal }
+    ensures same { (session.new.sul.table ≡ session.old.sul.table) ×
+        (session.new.instance ≡ session.old.instance) }
 {
     let mut table = FirstTable::new(alloc, session)?;
     while table.cells.len() < most.min(table.access.len()) {
@@ -245,12 +271,15 @@ pub fn first_table(
 ) -> Result<Mealy, FirstStop>
     requires empty { session.old.journal ≡ [] }
     requires limit { (1 ≤ max_states) × (max_states ≤ 1024) }
-    ensures complete { IfOk result (λ h. IsWithinLimits h × (h.inputs ≡ session.old.sul.table.inputs) × (h.outputs ≡ session.old.sul.table.outputs)) }
+    ensures complete { IfOk result (λ h. IsWithinLimits h ×
+        (h.inputs ≡ session.old.sul.table.inputs) × (h.outputs ≡ session.old.sul.table.outputs)) }
     ensures few { IfOk result (λ h. length h.rows ≤ max_states) }
-    ensures hypothesis { IfOk result (λ h. IsHypothesis h.inputs (runs_answers session.new.journal) h.rows) }
-    ensures crowd { IfErr result (CrowdOf (runs_answers session.new.journal) (max_states + 1)) }
-    ensures answers { AnswersOnly session.old.sul.table.rows [] session.new.journal }
-    ensures same { (session.new.sul.table ≡ session.old.sul.table) × (session.new.instance ≡ session.old.instance) }
+    ensures hypothesis { IfOk result (λ h. IsHypothesis h.inputs
+        (journal_answers session.new.journal) h.rows) }
+    ensures crowd { IfErr result (CrowdOf (journal_answers session.new.journal) (max_states + 1)) }
+    ensures answers { AnswersOnly session.old.sul.table [] session.new.journal }
+    ensures same { (session.new.sul.table ≡ session.old.sul.table) ×
+        (session.new.instance ≡ session.old.instance) }
 {
     let machine = session.sul().machine();
     let (inputs, outputs) = (machine.inputs(), machine.outputs());

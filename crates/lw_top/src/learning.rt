@@ -1,14 +1,14 @@
+//! What `learn` learns of a table: its first closed table, in canonical form, and the finished runs.
 ghost use Rattle.std.specs.Prelude.{◌≡◌, [], length, IfOk, IfErr};
-ghost use Rattle.lw_mealy.specs.Gives.{Gives};
 ghost use Rattle.lw_mealy.specs.Limits.{IsWithinLimits};
-ghost use Rattle.lw_separate.specs.Canonical.{IsCanonical};
-ghost use Rattle.lw_top.specs.Asking.{AnswersOnly};
-ghost use Rattle.lw_top.specs.Hypothesis.{IsHypothesis};
-ghost use Rattle.lw_top.specs.Kept.{IsNumbered};
-ghost use Rattle.lw_top.specs.Known.{runs_answers, kept_answers};
-ghost use Rattle.lw_top.specs.Outcomes.{IsLearnStop};
+ghost use Rattle.lw_top.specs.RowRuns.{AnswersOnly};
+ghost use Rattle.lw_top.specs.Hypothesis.{IsModel};
+ghost use Rattle.lw_top.specs.Kept.{IsNumbered, KeepsRuns};
+ghost use Rattle.lw_sul.specs.Runs.{journal_answers};
+ghost use Rattle.lw_words.specs.Answer.{answers_of};
+ghost use Rattle.lw_top.specs.Stops.{CrowdOf};
 
-use crate::{FirstStop, Outcome, first_table};
+use crate::{FirstStop, first_table};
 use lw_json::Machine;
 use lw_mealy::Mealy;
 use lw_separate::canonical;
@@ -24,14 +24,14 @@ const MOST_STATES: u16 = 1024;
 pub(crate) struct Learned {
     pub(crate) inputs: Names,
     pub(crate) outputs: Names,
-    pub(crate) closed: Result<Mealy, Outcome>,
+    pub(crate) closed: Result<Mealy, FirstStop>,
     pub(crate) kept: Kept,
 }
 
 /// The runs of instance 0 as kept answers, numbered in order.
 fn keep(alloc: Global, runs: Vec<Run>) -> Result<Kept, NoMemory>
     ensures numbered { IfOk result (λ kept. IsNumbered kept.answers) }
-    ensures runs { IfOk result (λ kept. kept_answers kept.answers ≡ runs_answers runs.items) }
+    ensures runs { IfOk result (λ kept. answers_of kept.answers ≡ journal_answers runs.items) }
 {
     let mut kept = Kept::new(alloc);
     kept.reserve(runs.len())?;
@@ -50,34 +50,26 @@ fn keep(alloc: Global, runs: Vec<Run>) -> Result<Kept, NoMemory>
 }
 
 /// The canonical form of the closed table's machine.
-fn close(alloc: Global, session: &mut Session<TableSul>) -> Result<Mealy, Outcome>
+fn close(alloc: Global, session: &mut Session<TableSul>) -> Result<Mealy, FirstStop>
     requires empty { session.old.journal ≡ [] }
-    ensures complete { IfOk result (λ h. IsWithinLimits h × (h.inputs ≡ session.old.sul.table.inputs) × (h.outputs ≡ session.old.sul.table.outputs)) }
-    ensures canonical { IfOk result (λ h. IsCanonical h.inputs h.rows h.rows) }
-    ensures hypothesis { IfOk result (λ h. IsHypothesis h.inputs (runs_answers session.new.journal) h.rows) }
-    ensures stop { IfErr result (IsLearnStop (runs_answers session.new.journal)) }
-    ensures answers { AnswersOnly session.old.sul.table.rows [] session.new.journal }
+    ensures alphabets { IfOk result (λ h. (h.inputs ≡ session.old.sul.table.inputs) ×
+        (h.outputs ≡ session.old.sul.table.outputs)) }
+    ensures model { IfOk result (IsModel (journal_answers session.new.journal)) }
+    ensures crowd { IfErr result (CrowdOf (journal_answers session.new.journal) 1025) }
+    ensures answers { AnswersOnly session.old.sul.table [] session.new.journal }
 {
-    let table = match first_table(alloc, session, MOST_STATES) {
-        Ok(table) => table,
-        Err(FirstStop::Crowd(words)) => return Err(Outcome::TooManyStates(words)),
-        Err(FirstStop::NoMemory) => return Err(Outcome::NoMemory),
-    };
-    match canonical(alloc, &table) {
-        Ok(model) => Ok(model),
-        Err(NoMemory) => Err(Outcome::NoMemory),
-    }
+    let table = first_table(alloc, session, MOST_STATES)?;
+    Ok(canonical(alloc, &table)?)
 }
 
 /// Closes a table over the machine's single letters, and keeps the finished runs.
 pub(crate) fn learn(alloc: Global, machine: Machine) -> Learned
     ensures names { (result.inputs ≡ machine.inputs) × (result.outputs ≡ machine.outputs) }
-    ensures model { IfOk result.closed (λ h. IsWithinLimits h × (h.inputs ≡ length machine.inputs) × (h.outputs ≡ length machine.outputs)) }
-    ensures canonical { IfOk result.closed (λ h. IsCanonical h.inputs h.rows h.rows) }
-    ensures hypothesis { IfOk result.closed (λ h. IsHypothesis h.inputs (kept_answers result.kept.answers) h.rows) }
-    ensures stop { IfErr result.closed (IsLearnStop (kept_answers result.kept.answers)) }
-    ensures numbered { IsNumbered result.kept.answers }
-    ensures answers { Gives machine.mealy.rows result.kept.answers }
+    ensures alphabets { IfOk result.closed (λ h. (h.inputs ≡ length machine.inputs) ×
+        (h.outputs ≡ length machine.outputs)) }
+    ensures model { IfOk result.closed (IsModel (answers_of result.kept.answers)) }
+    ensures crowd { IfErr result.closed (CrowdOf (answers_of result.kept.answers) 1025) }
+    ensures kept { KeepsRuns machine.mealy result.kept.answers }
 {
     let Machine {
         inputs,
@@ -96,7 +88,7 @@ pub(crate) fn learn(alloc: Global, machine: Machine) -> Learned
         Err(NoMemory) => Learned {
             inputs,
             outputs,
-            closed: Err(Outcome::NoMemory),
+            closed: Err(FirstStop::NoMemory),
             kept: Kept::new(alloc),
         },
     }

@@ -3,18 +3,15 @@
 
 mod first;
 mod learning;
-mod memory;
 mod outcome;
-mod outside;
+mod stops;
 mod text;
 mod top;
 mod writing;
 
 pub use first::{FirstStop, first_table};
-pub use memory::{FileCall, MemoryFiles, MemorySink};
 pub use outcome::{Outcome, status};
-pub use outside::{Failed, Files, FilesStop, Sink};
-pub use top::{End, run};
+pub use top::{End, run, without_arguments};
 
 #[cfg(test)]
 mod tests;

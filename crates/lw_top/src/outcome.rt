@@ -1,3 +1,4 @@
+//! What a call of the program comes to, and its exit status.
 ghost use Rattle.std.specs.Prelude.{◌≡◌};
 ghost use Rattle.lw_top.specs.Outcomes.{status_of};
 
@@ -13,6 +14,8 @@ pub enum Outcome {
     Usage,
     /// The table file is no machine file.
     BadFile,
+    /// The table file has more than 16,777,216 bytes.
+    FileTooLong,
     NoMemory,
     /// These words, one more than the limit of states, are pairwise apart.
     TooManyStates(Words),
@@ -29,7 +32,7 @@ pub fn status(outcome: &Outcome) -> u8
     match outcome {
         Outcome::Unchecked { .. } => 0,
         Outcome::Usage => 2,
-        Outcome::BadFile => 3,
+        Outcome::BadFile | Outcome::FileTooLong => 3,
         Outcome::NoMemory => 5,
         Outcome::TooManyStates(_) => 7,
         Outcome::FileFault | Outcome::SinkFault => 8,

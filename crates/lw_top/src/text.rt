@@ -20,7 +20,8 @@ pub(crate) const NO_MEMORY: &str = "no memory\n";
 
 /// The name of a letter.
 fn put_name(text: &mut String, letter: u16, inputs: &Names) -> Result<(), NoMemory>
-    ensures { OnOk result (string_bytes text.new ≡ string_bytes text.old ++ name_of inputs.now letter) }
+    ensures { OnOk result (string_bytes text.new ≡ string_bytes text.old ++
+        name_of inputs.now letter) }
 {
     if letter < inputs.len() {
         text.push_str(inputs.name(letter))?;
@@ -30,7 +31,8 @@ fn put_name(text: &mut String, letter: u16, inputs: &Names) -> Result<(), NoMemo
 
 /// The names of a word's letters, joined by one blank.
 fn put_names(text: &mut String, word: &[u16], inputs: &Names) -> Result<(), NoMemory>
-    ensures { OnOk result (string_bytes text.new ≡ string_bytes text.old ++ join_by (name_of inputs.now) (codes " ") word.now) }
+    ensures { OnOk result (string_bytes text.new ≡ string_bytes text.old ++
+        join_by (name_of inputs.now) (codes " ") word.now) }
 {
     let Some((first, rest)) = word.split_first() else {
         return Ok(());
@@ -45,7 +47,8 @@ fn put_names(text: &mut String, word: &[u16], inputs: &Names) -> Result<(), NoMe
 
 /// A word as its names, in quotes, as a line.
 fn put_word(text: &mut String, word: &[u16], inputs: &Names) -> Result<(), NoMemory>
-    ensures { OnOk result (string_bytes text.new ≡ string_bytes text.old ++ word_line inputs.now word.now) }
+    ensures { OnOk result (string_bytes text.new ≡ string_bytes text.old ++
+        word_line inputs.now word.now) }
 {
     text.push_str("\"")?;
     put_names(text, word, inputs)?;
@@ -75,12 +78,14 @@ fn unchecked_text(alloc: Global, states: u16, answers: usize) -> Result<String, 
 /// The text of an outcome that is the same for all machines.
 pub(crate) fn fixed_text(outcome: &Outcome) -> Option<&'static str>
     ensures none { IfNone result (HasOwnText outcome.now) }
-    ensures some { IfSome result (λ text. (names : Option (List (List ℕ))) (answers : ℕ) → IsText names answers outcome.now text.now) }
+    ensures some { IfSome result (λ text. (names : Option (List (List ℕ))) (answers : ℕ) →
+        IsText names answers outcome.now text.now) }
 {
     match outcome {
         Outcome::Unchecked { .. } | Outcome::TooManyStates(_) => None,
         Outcome::Usage => Some(USAGE),
         Outcome::BadFile => Some("bad file table\n"),
+        Outcome::FileTooLong => Some("file too long: table\n"),
         Outcome::NoMemory => Some(NO_MEMORY),
         Outcome::FileFault => Some("file fault: table\n"),
         Outcome::SinkFault => Some("sink fault\n"),
@@ -94,7 +99,8 @@ pub(crate) fn outcome_text(
     inputs: &Names,
     answers: usize,
 ) -> Result<String, NoMemory>
-    ensures { IfOk result (λ text. IsText (Some inputs.now) answers outcome.now (string_bytes text)) }
+    ensures { IfOk result (λ text. IsText (Some inputs.now) answers outcome.now
+        (string_bytes text)) }
 {
     match outcome {
         Outcome::Unchecked { model } => unchecked_text(alloc, model.states(), answers),

@@ -1,7 +1,6 @@
 //! A turnstile: many threads take turns with one core, and whatever they do there is one history.
 #![tactic(auto)]
 
-mod memory;
 mod pass;
 mod rule;
 mod shared;
@@ -10,7 +9,6 @@ mod tests;
 mod turnstile;
 mod view;
 
-pub use memory::NoMemory;
 pub use pass::{Pass, PassParts};
 pub use shared::{Core, Entry};
 pub use turnstile::Turnstile;

@@ -7,12 +7,12 @@ ghost use Rattle.lw_turn.specs.Views.{first_view, next_view, joined_view, ended_
 ghost use Rattle.lw_turn.specs.Steps.{IsServed, carried_history, grown};
 ghost use Rattle.lw_turn.specs.Turns.{Carries, WasAsked};
 
-use crate::memory::NoMemory;
 use crate::pass::{Pass, PassParts};
 use crate::rule::{Draws, Ends, Joins, Law, Learns, Looks, Splits};
 use crate::shared::Core;
 use crate::view::{Doing, Stage};
 use atomic_table::{Refused, Seat, Table};
+use lw_words::NoMemory;
 use std::alloc::{AllocFailed, Global};
 use std::marker::Model;
 use std::snapshot::Snapshot;

@@ -1,3 +1,4 @@
 pub mod Lists
 pub mod NumberLemmas
 pub mod Orders
+pub mod Pigeonhole

@@ -8,13 +8,21 @@ pub record Answer : Type 0 where
   pub word : List ℕ
   pub outs : List ℕ
 
+-- what was answered to which word, without where it came from
+abbrev pub answer_of : KeptAnswer → Answer
+answer_of k = record { word = k.word; outs = k.outs }
+
 -- the answers of a list of kept answers, in its order
 abbrev pub answers_of : List KeptAnswer → List Answer
-answers_of kept = map (λ k. record { word = k.word; outs = k.outs }) kept
+answers_of kept = map answer_of kept
+
+-- one output for each letter
+abbrev pub IsWhole : Answer → Type 0
+IsWhole k = length k.outs ≡ length k.word
 
 -- a word over a letters with as many outputs
 abbrev pub IsAnswer : ℕ → Answer → Type 0
-IsAnswer a k = IsWord a k.word × (length k.outs ≡ length k.word)
+IsAnswer a k = IsWord a k.word × IsWhole k
 
 -- answers to words over a letters
 abbrev pub AreAnswers : ℕ → List Answer → Type 0

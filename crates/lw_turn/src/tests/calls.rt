@@ -2,10 +2,10 @@ ghost use Rattle.std.specs.Prelude.{◌≡◌, ◌+◌, ◌*◌, ◌^◌, ◌<�
 ghost use Rattle.lw_turn.specs.Views.{first_view, ended_of};
 
 use super::tally::Tally;
-use crate::memory::NoMemory;
 use crate::pass::Pass;
 use crate::shared::Core;
 use crate::turnstile::Turnstile;
+use lw_words::NoMemory;
 use std::alloc::Global;
 use std::process::Abort;
 use std::sync::Wait;
@@ -239,12 +239,5 @@ fn a_pass_goes_where_its_core_may_go(rt: HostRuntime) -> Result<(), Fail> {
     let (turnstile, first) = opened(rt.alloc(), 1, 8)?;
     let first = crosses(&turnstile, first);
     assert_eq!(rt; turnstile.close(first).count(), 0);
-    Ok(())
-}
-
-#[test]
-fn want_of_memory_is_told(rt: HostRuntime) -> Result<(), Fail> {
-    let text = format!(in rt.alloc(); "{NoMemory}")?;
-    assert_eq!(rt; text.as_str(), "no memory");
     Ok(())
 }

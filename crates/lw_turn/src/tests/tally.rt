@@ -1,8 +1,8 @@
 //! A core for tests: actors add to one sum, and each is answered the sum before.
 ghost use Rattle.std.specs.Prelude.{◌≡◌, ◌+◌, ◌*◌, ◌^◌, ◌<◌, ◌≤◌, [], ◌∷◌, ◌++◌, IfOk};
 
-use crate::memory::NoMemory;
 use crate::shared::{Core, Entry};
+use lw_words::NoMemory;
 use std::alloc::Global;
 use std::marker::Model;
 

@@ -1,5 +1,5 @@
 use Rattle.std.proofs.Common.{◌≡◌, ◌≤◌, ◌++◌, vec_capacity}
-use Rattle.lw_top.specs.Asking.{asked}
+use Rattle.lw_top.specs.RowRuns.{row_runs}
 use Rattle.lw_top.specs.PartialTable.{row_after}
 use Rattle.lw_top.proofs.first.ask_row.Given as goal
 
@@ -9,5 +9,5 @@ invariant-loop-letter l = record {
   instance : l.session.instance ≡ l.fn.session.instance;
   room : l.letters ≤ vec_capacity l.row;
   read : l.row.items ≡ row_after l.fn.session.sul.table.rows l.letter l.word;
-  gains : l.session.journal ≡ l.fn.session.journal ++ asked l.fn.session.sul.table.rows l.letter l.word;
+  gains : l.session.journal ≡ l.fn.session.journal ++ row_runs l.fn.session.sul.table.rows l.letter l.word;
 }

@@ -1,16 +1,16 @@
 use Rattle.std.proofs.Common.{◌≡◌, ◌∙◌, ◌<◌, ◌+◌, ◌++◌, [], ap, List, ℕ, subst, map, length, take, arith}
 use Rattle.std.proofs.lemmas.Grind.{common_steps}
 use Rattle.lw_mealy.specs.Limits.{MealyMachine}
-use Rattle.lw_top.specs.Asking.{AnswersOnly, asked_all, extensions}
+use Rattle.lw_top.specs.RowRuns.{AnswersOnly, all_row_runs, extensions}
 use Rattle.lw_top.specs.PartialTable.{IsFilling, word_at}
-use Rattle.lw_top.proofs.Askings.{only_then, rows_more}
+use Rattle.lw_top.proofs.RowSteps.{only_then, rows_more}
 use Rattle.lw_top.proofs.Parts.{front_kept, state_within}
 use Rattle.lw_top.proofs.first.filled.Goals as goal
 
 pub returns-in_err-explore-clause-only : goal.returns-in_err-explore-clause-only
 returns-in_err-explore-clause-only c =
-    only_then c.args.session.now.sul.table.rows [] c.loop-alloc.session.journal c.explore.new.session.journal c.loop-alloc.invariant.only
-    (subst (λ (t : MealyMachine). AnswersOnly t.rows c.loop-alloc.session.journal c.explore.new.session.journal) c.loop-alloc.invariant.same c.explore.ensures.only)
+    only_then c.args.session.now.sul.table [] c.loop-alloc.session.journal c.explore.new.session.journal c.loop-alloc.invariant.only
+    (subst (λ (t : MealyMachine). AnswersOnly t c.loop-alloc.session.journal c.explore.new.session.journal) c.loop-alloc.invariant.same c.explore.ensures.only)
 
 pub loop-alloc-preserved : goal.loop-alloc-preserved
 loop-alloc-preserved c =
@@ -24,8 +24,8 @@ loop-alloc-preserved c =
     let next : length c.explore.new.self.cells.items ≡ n + 1 = c.in_ok-explore.ensures.next in
     let within : n < length B = state_within A B n kept lt in
     let small : n < c.args.most = grind (arith, common_steps) in
-    let gains : c.explore.new.session.journal ≡ c.loop-alloc.session.journal ++ asked_all t.rows t.inputs (extensions t.inputs (word_at A n)) =
-    c.in_ok-explore.ensures.gains ∙ ap (λ (s : MealyMachine). c.loop-alloc.session.journal ++ asked_all s.rows s.inputs (extensions s.inputs (word_at A n))) was.same in
+    let gains : c.explore.new.session.journal ≡ c.loop-alloc.session.journal ++ all_row_runs t.rows t.inputs (extensions t.inputs (word_at A n)) =
+    c.in_ok-explore.ensures.gains ∙ ap (λ (s : MealyMachine). c.loop-alloc.session.journal ++ all_row_runs s.rows s.inputs (extensions s.inputs (word_at A n))) was.same in
     record {
       same = c.explore.ensures.table ∙ was.same;
       instance = c.explore.ensures.instance ∙ was.instance;
@@ -33,5 +33,5 @@ loop-alloc-preserved c =
       few = omega arith;
       gains = rows_more t.rows t.inputs (take n A) (take (length c.explore.new.self.cells.items) B) (word_at A n) c.loop-alloc.session.journal c.explore.new.session.journal
           (ap (λ (k : ℕ). take k B) next ∙ front_kept A B n kept lt) was.gains gains;
-      only = only_then t.rows [] c.loop-alloc.session.journal c.explore.new.session.journal was.only (subst (λ (s : MealyMachine). AnswersOnly s.rows c.loop-alloc.session.journal c.explore.new.session.journal) was.same c.explore.ensures.only);
+      only = only_then t [] c.loop-alloc.session.journal c.explore.new.session.journal was.only (subst (λ (s : MealyMachine). AnswersOnly s c.loop-alloc.session.journal c.explore.new.session.journal) was.same c.explore.ensures.only);
     }

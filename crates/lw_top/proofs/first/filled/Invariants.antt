@@ -1,5 +1,5 @@
 use Rattle.std.proofs.Common.{◌≡◌, ◌≤◌, ◌-◌, [], length, map, take, min, vec_len}
-use Rattle.lw_top.specs.Asking.{AnswersOnly, asked_all, row_words}
+use Rattle.lw_top.specs.RowRuns.{AnswersOnly, all_row_runs, row_words}
 use Rattle.lw_top.specs.PartialTable.{IsFilling}
 use Rattle.lw_top.proofs.first.filled.Given as goal
 
@@ -11,8 +11,8 @@ invariant-loop-alloc l =
       instance : l.session.instance ≡ l.fn.session.instance;
       filling : IsFilling (λ r. r.items) m l.table.access.items l.table.rows.keys (map (λ r. r.items) l.table.cells.items);
       few : length l.table.cells.items ≤ min l.most (length l.table.access.items);
-      gains : l.session.journal ≡ asked_all m.rows m.inputs (row_words m.inputs (take (length l.table.cells.items) l.table.access.items));
-      only : AnswersOnly m.rows [] l.session.journal;
+      gains : l.session.journal ≡ all_row_runs m.rows m.inputs (row_words m.inputs (take (length l.table.cells.items) l.table.access.items));
+      only : AnswersOnly m [] l.session.journal;
     }
 
 abbrev pub decreases-loop-alloc : goal.decreases-loop-alloc

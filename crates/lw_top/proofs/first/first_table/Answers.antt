@@ -6,8 +6,8 @@ use Rattle.lw_mealy.specs.Limits.{MealyMachine, IsWithinLimits, mealy_of}
 use Rattle.lw_top.proofs.Closed.{closed_table}
 use Rattle.lw_top.proofs.Crowds.{crowd_of}
 use Rattle.lw_top.proofs.Hypotheses.{hypothesis_of}
-use Rattle.lw_top.specs.Crowd.{IsCrowd}
-use Rattle.lw_top.specs.Known.{runs_answers}
+use Rattle.lw_cache.specs.Crowd.{IsCrowd}
+use Rattle.lw_sul.specs.Runs.{journal_answers}
 use Rattle.lw_top.proofs.first.first_table.Goals as goal
 
 pub machine_of-requires : goal.machine_of-requires
@@ -57,7 +57,7 @@ returns-then-len-most-clause-crowd c =
     let count : c.from-most.result + 1 ≡ n + 1 = omega arith in
     let limit : n + 1 ≡ c.args.max_states + 1 = omega arith in
     let words : c.in_ok-first_words.field-0 ≡ take (n + 1) A = c.in_ok-first_words.ensures ∙ ap (λ (k : ℕ). take k A) count in
-    let crowd : IsCrowd (runs_answers c.filled.new.session.journal) (n + 1) (take (n + 1) A) =
+    let crowd : (length (take (n + 1) A) ≡ n + 1) × IsCrowd (journal_answers c.filled.new.session.journal) (take (n + 1) A) =
     crowd_of t.rows t.inputs A (map (λ r. r.items) c.in_ok-table.table.rows.keys) n c.filled.new.session.journal c.in_ok-table.ensures.filling.reached lt c.in_ok-table.ensures.gains in
-    subst (λ (k : ℕ). IsCrowd (runs_answers c.filled.new.session.journal) k c.in_ok-first_words.field-0) limit
-    (subst (λ (ws : List (List ℕ)). IsCrowd (runs_answers c.filled.new.session.journal) (n + 1) ws) (sym words) crowd)
+    subst (λ (k : ℕ). (length c.in_ok-first_words.field-0 ≡ k) × IsCrowd (journal_answers c.filled.new.session.journal) c.in_ok-first_words.field-0) limit
+    (subst (λ (ws : List (List ℕ)). (length ws ≡ n + 1) × IsCrowd (journal_answers c.filled.new.session.journal) ws) (sym words) crowd)

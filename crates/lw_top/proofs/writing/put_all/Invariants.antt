@@ -5,7 +5,7 @@ abbrev pub invariant-loop-done : goal.invariant-loop-done
 invariant-loop-done g l =
     let K = g.K.Sink in
     record {
-      counts : K.faults l.fn.sink ≤ K.faults l.sink;
+      quiet : K.faults l.sink ≡ K.faults l.fn.sink;
       within : l.done ≤ length l.bytes;
       took : K.taken l.sink ≡ option_map (λ t. t ++ take l.done l.bytes) (K.taken l.fn.sink);
     }

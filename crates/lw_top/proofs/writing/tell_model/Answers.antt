@@ -1,6 +1,6 @@
 use Rattle.std.proofs.Common.{Option, List, ℕ, arith, subst}
 use Rattle.lw_words.specs.Cause.{CountedFault}
-use Rattle.lw_top.specs.Run.{TakesAll}
+use Rattle.lw_top.specs.Writing.{TakesAll}
 use Rattle.lw_top.proofs.RunLemmas.{text_named}
 use Rattle.lw_top.proofs.writing.tell_model.Goals as goal
 

@@ -4,17 +4,17 @@ use Rattle.std.proofs.lemmas.List.{get_or_append_left, length-map, map-append}
 use borrow.Author.Count.{below_more}
 use Rattle.lw_mealy.specs.Machine.{Row}
 use Rattle.lw_mealy.specs.Limits.{MealyMachine}
-use Rattle.lw_top.specs.Asking.{AnswersOnly, asked}
+use Rattle.lw_top.specs.RowRuns.{AnswersOnly, row_runs}
 use Rattle.lw_top.specs.PartialTable.{IsPair, ArePairs, IsFilling, word_at}
-use Rattle.lw_top.proofs.Askings.{only_then, all_more}
+use Rattle.lw_top.proofs.RowSteps.{only_then, all_more}
 use Rattle.lw_top.proofs.Parts.{pair_kept, pairs_more, take_take, state_within, same_word}
 use Rattle.lw_top.proofs.first.FirstTable.explore.Goals as goal
 use Rattle.lw_top.proofs.first.FirstTable.explore.Goals.{After-pair}
 
 pub returns-in_err-pair-clause-only : goal.returns-in_err-pair-clause-only
 returns-in_err-pair-clause-only c =
-    only_then c.args.session.now.sul.table.rows c.args.session.now.journal c.loop-letter.session.journal c.pair.new.session.journal c.loop-letter.invariant.only
-    (subst (λ (t : MealyMachine). AnswersOnly t.rows c.loop-letter.session.journal c.pair.new.session.journal) c.loop-letter.invariant.table c.pair.ensures.only)
+    only_then c.args.session.now.sul.table c.args.session.now.journal c.loop-letter.session.journal c.pair.new.session.journal c.loop-letter.invariant.only
+    (subst (λ (t : MealyMachine). AnswersOnly t c.loop-letter.session.journal c.pair.new.session.journal) c.loop-letter.invariant.table c.pair.ensures.only)
 
 pub loop-letter-preserved : goal.loop-letter-preserved
 loop-letter-preserved c =
@@ -37,8 +37,8 @@ loop-letter-preserved c =
     let word : word_at A i ≡ word_at c.args.self.now.access.items i = same_word c.args.self.now.access.items A i kept first in
     let filling : IsFilling (λ r. r.items) t B c.pair.new.self.rows.keys (map (λ r. r.items) c.pair.new.self.cells.items) =
     subst (λ (s : MealyMachine). IsFilling (λ r. r.items) s B c.pair.new.self.rows.keys (map (λ r. r.items) c.pair.new.self.cells.items)) was.table c.in_ok-pair.ensures.filling in
-    let gains : c.pair.new.session.journal ≡ c.loop-letter.session.journal ++ asked t.rows t.inputs (word_at c.args.self.now.access.items i ++ c.loop-letter.letter ∷ []) =
-    c.in_ok-pair.ensures.gains ∙ ap (λ (p : MealyMachine × List ℕ). c.loop-letter.session.journal ++ asked p.0.rows p.0.inputs (p.1 ++ c.loop-letter.letter ∷ [])) (λ k. (was.table k, word k)) in
+    let gains : c.pair.new.session.journal ≡ c.loop-letter.session.journal ++ row_runs t.rows t.inputs (word_at c.args.self.now.access.items i ++ c.loop-letter.letter ∷ []) =
+    c.in_ok-pair.ensures.gains ∙ ap (λ (p : MealyMachine × List ℕ). c.loop-letter.session.journal ++ row_runs p.0.rows p.0.inputs (p.1 ++ c.loop-letter.letter ∷ [])) (λ k. (was.table k, word k)) in
     record {
       table = c.pair.ensures.table ∙ was.table;
       instance = c.pair.ensures.instance ∙ was.instance;
@@ -48,7 +48,7 @@ loop-letter-preserved c =
       room = search rules;
       count = search rules;
       pairs = subst (λ (l : Row). (x : ℕ) → x < c.loop-letter.letter + 1 → IsPair t.rows t.inputs B i x (get_or l x (0, 0))) items cells;
-      only = only_then t.rows c.args.session.now.journal c.loop-letter.session.journal c.pair.new.session.journal was.only (subst (λ (s : MealyMachine). AnswersOnly s.rows c.loop-letter.session.journal c.pair.new.session.journal) was.table c.pair.ensures.only);
+      only = only_then t c.args.session.now.journal c.loop-letter.session.journal c.pair.new.session.journal was.only (subst (λ (s : MealyMachine). AnswersOnly s c.loop-letter.session.journal c.pair.new.session.journal) was.table c.pair.ensures.only);
       gains = all_more t.rows t.inputs c.loop-letter.letter (word_at c.args.self.now.access.items i) c.args.session.now.journal c.loop-letter.session.journal c.pair.new.session.journal was.gains gains;
     }
 

@@ -1,5 +1,5 @@
 use Rattle.std.proofs.Common.{◌≡◌, ℕ, ◌<◌, ◌≤◌, ◌++◌, length, map, take, get_or, vec_capacity}
-use Rattle.lw_top.specs.Asking.{AnswersOnly, asked_all, extensions}
+use Rattle.lw_top.specs.RowRuns.{AnswersOnly, all_row_runs, extensions}
 use Rattle.lw_top.specs.PartialTable.{IsFilling, IsPair, word_at}
 use Rattle.lw_top.proofs.first.FirstTable.explore.Given as goal
 
@@ -15,6 +15,6 @@ invariant-loop-letter l =
       room : l.letters ≤ vec_capacity l.cells;
       count : length l.cells.items ≡ l.letter;
       pairs : (x : ℕ) → x < l.letter → IsPair m.rows m.inputs l.self.access.items l.state x (get_or l.cells.items x (0, 0));
-      only : AnswersOnly m.rows l.fn.session.journal l.session.journal;
-      gains : l.session.journal ≡ l.fn.session.journal ++ asked_all m.rows m.inputs (extensions l.letter (word_at l.fn.self.access.items l.state));
+      only : AnswersOnly m l.fn.session.journal l.session.journal;
+      gains : l.session.journal ≡ l.fn.session.journal ++ all_row_runs m.rows m.inputs (extensions l.letter (word_at l.fn.self.access.items l.state));
     }

@@ -1,0 +1,4 @@
+pub mod ClashLemmas
+pub mod CrowdLemmas
+pub mod KnownLemmas
+mod PlainLemmas

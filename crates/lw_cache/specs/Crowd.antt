@@ -1,0 +1,25 @@
+-- Words that answers tell apart, so that no two lead to one state. Source: the rows of Angluin (1987), as a relation;
+-- apartness as in Vaandrager, Garhewal, Rot and Wissmann (2022).
+use Rattle.std.specs.Prelude.{◌≢◌, ℕ, ◌≤◌, List, ◌++◌, length, drop}
+use Rattle.std.specs.List.{AllPairs}
+use Rattle.lw_words.specs.Answer.{Answer, AreAnswers}
+use Rattle.lw_mealy.specs.Machine.{Rows, IsMachine}
+use Rattle.lw_mealy.specs.Gives.{Gives}
+use Rattle.lw_cache.specs.Known.{Reads}
+
+-- for some word e, u·e and v·e are known, and their outputs on e differ
+pub record Apart (ks : List Answer) (u v : List ℕ) : Type 0 where
+  pub suffix : List ℕ
+  pub one : List ℕ
+  pub other : List ℕ
+  pub one_read : Reads ks (u ++ suffix) one
+  pub other_read : Reads ks (v ++ suffix) other
+  pub differ : drop (length u) one ≢ drop (length v) other
+
+-- any two of the words are apart
+abbrev pub IsCrowd : List Answer → List (List ℕ) → Type 0
+IsCrowd ks words = AllPairs (Apart ks) words
+
+-- a machine that gives the answers has a state for each word of a crowd
+abbrev pub CrowdNeedsStates : Type 0
+CrowdNeedsStates = (a : ℕ) (m : Rows) (ks : List Answer) (words : List (List ℕ)) → IsMachine a m → AreAnswers a ks → Gives m ks → IsCrowd ks words → length words ≤ length m

@@ -1,0 +1,4 @@
+pub mod Clash
+pub mod Crowd
+pub mod Known
+pub mod Plain

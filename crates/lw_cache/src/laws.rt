@@ -1,0 +1,34 @@
+//! Laws of the definitions. Each is a function with no code, whose contract is the law.
+ghost use Rattle.lw_cache.specs.Clash.{ClearIsUnclashed, AllAreClear, GivenNeverClash};
+ghost use Rattle.lw_cache.specs.Known.{KnownIsRead, ReadsOnce};
+ghost use Rattle.lw_cache.specs.Crowd.{CrowdNeedsStates};
+
+/// An answer is clear exactly where it clashes with no clear answer before it.
+pub fn clear_is_unclashed()
+    ensures { ClearIsUnclashed }
+{}
+
+/// Where nothing clashes every answer is clear.
+pub fn all_are_clear()
+    ensures { AllAreClear }
+{}
+
+/// No machine gives two answers that clash.
+pub fn given_never_clash()
+    ensures { GivenNeverClash }
+{}
+
+/// A word is known exactly where it has outputs.
+pub fn known_is_read()
+    ensures { KnownIsRead }
+{}
+
+/// The outputs of a word don't depend on the clear answer that they are taken from.
+pub fn reads_once()
+    ensures { ReadsOnce }
+{}
+
+/// A machine that gives the answers has a state for each word of a crowd.
+pub fn crowd_needs_states()
+    ensures { CrowdNeedsStates }
+{}

@@ -1,0 +1,52 @@
+-- Files by name, the calls on them, and the bytes that the reads gave.
+use Rattle.std.specs.Prelude.{◌≡◌, ◌≢◌, ℕ, ◌<◌, ◌≤◌, List, [], ◌∷◌, ◌++◌, length, Bool, false, true, Option, Some, None, option_map, if◌then◌else◌}
+use Rattle.std.specs.Str.{bytes_eq}
+
+-- a name and the bytes that stand under it
+abbrev pub File : Type 0
+File = List ℕ × List ℕ
+
+-- the greatest number of bytes of a file that is read
+abbrev pub longest_file : ℕ
+longest_file = 16777216
+
+-- the first of two that is there
+abbrev pub first_of : Option (List ℕ) → Option (List ℕ) → Option (List ℕ)
+first_of None other = other
+first_of (Some bytes) other = Some bytes
+
+-- the bytes under a name: a later file of the same name wins
+abbrev pub file_at : List ℕ → List File → Option (List ℕ)
+file_at name [] = None
+file_at name (f ∷ fs) = first_of (file_at name fs) (if bytes_eq name f.0 then Some f.1 else None)
+
+-- these bytes stand under the name, where it is told what files hold
+abbrev pub Holds : Option (List File) → List ℕ → List ℕ → Type 0
+Holds None name bytes = Unit {0}
+Holds (Some fs) name bytes = file_at name fs ≡ Some bytes
+
+-- a file that is too long to be read stands under the name, where it is told what files hold
+abbrev pub HoldsLong : Option (List File) → List ℕ → Type 0
+HoldsLong None name = Unit {0}
+HoldsLong (Some fs) name = (bytes : List ℕ) × (file_at name fs ≡ Some bytes) × (longest_file < length bytes)
+
+-- what is told of the other files stays
+abbrev pub StaysBeside : List ℕ → Option (List File) → Option (List File) → Type 0
+StaysBeside name None after = after ≡ None
+StaysBeside name (Some fs) after = (gs : List File) × (after ≡ Some gs) × ((other : List ℕ) → other ≢ name → file_at other gs ≡ file_at other fs)
+
+-- a call that was answered other than by want of memory: the file's name, whether it writes, whether it failed
+pub record Call : Type 0 where
+  pub name : List ℕ
+  pub writes : Bool
+  pub failed : Bool
+
+abbrev pub read_call : List ℕ → Bool → Call
+read_call name failed = record { name = name; writes = false; failed = failed }
+
+abbrev pub write_call : List ℕ → Bool → Call
+write_call name failed = record { name = name; writes = true; failed = failed }
+
+-- told calls, and one more
+abbrev pub noted : Call → Option (List Call) → Option (List Call)
+noted call calls = option_map (λ cs. cs ++ call ∷ []) calls

@@ -1,0 +1,16 @@
+-- Streams: the bytes that a source has left, and those that a sink took.
+use Rattle.std.specs.Prelude.{◌≡◌, ℕ, ◌+◌, ◌≤◌, List, [], ◌++◌, length, take, Option, Some, None, option_map}
+
+-- the first n bytes of a buffer were the front of what was told to be left
+abbrev pub Gave : List ℕ → Option (List ℕ) → Option (List ℕ) → Type 0
+Gave bytes None after = after ≡ None
+Gave bytes (Some left) after = (rest : List ℕ) × (after ≡ Some rest) × (left ≡ bytes ++ rest)
+
+-- told bytes, and the first n of these
+abbrev pub taken_more : ℕ → List ℕ → Option (List ℕ) → Option (List ℕ)
+taken_more n bytes taken = option_map (λ t. t ++ take n bytes) taken
+
+-- nothing is told to be left
+abbrev pub IsSpent : Option (List ℕ) → Type 0
+IsSpent None = Unit {0}
+IsSpent (Some left) = left ≡ []

@@ -1,0 +1,230 @@
+//! Files in memory.
+ghost use Rattle.std.specs.Prelude.{◌≡◌, ◌≤◌, ◌∷◌, [], ◌++◌, length, map, true, false, Some, Err, IfOk, OnOk, OnErr, option_map, string_bytes};
+ghost use Rattle.lw_words.specs.Cause.{CountedFault};
+ghost use Rattle.lw_outside.specs.Files.{Holds, HoldsLong, StaysBeside, file_at, longest_file, noted, read_call, write_call};
+ghost use Rattle.lw_outside.specs.Memory.{EndsRead, NotesCall, files_with, is_planned, read_end};
+ghost use Rattle.lw_outside.specs.declared.files.FilesStop.{FilesStop as ReadRefusal};
+ghost use Rattle.lw_outside.specs.declared.files.WriteStop.{WriteStop as WriteRefusal};
+
+use crate::files::LONGEST_FILE;
+use crate::{Files, FilesStop, WriteStop};
+use http_server::Log;
+use lw_words::NoMemory;
+use std::alloc::Global;
+use std::marker::Model;
+
+/// A call on files: the name, whether it writes, and whether it failed.
+#[derive(Drop)]
+pub struct FileCall {
+    pub name: String,
+    pub writes: bool,
+    pub failed: bool,
+}
+
+/// Files in memory. A later file of the same name wins.
+/// Contracts see what they hold, the calls that were answered other than by want of memory, what the reads gave, the plan
+/// of the calls that are to fail with the number of the next one, and the count of faults.
+#[derive(Drop)]
+pub struct MemoryFiles {
+    files: Vec<(String, Vec<u8>)>,
+    plan: Vec<u64>,
+    made: u64,
+    faults: u64,
+    calls: Vec<FileCall>,
+    reads: Log<String, Vec<u8>>,
+    alloc: Global,
+}
+
+impl Model for MemoryFiles {
+    ghost use Rattle.std.specs.Prelude.{map, string_bytes};
+    ghost use Rattle.lw_outside.specs.Memory.{FilesState};
+
+    ghost Value = { FilesState };
+
+    ghost view = { λ m. record {
+      holds = map (λ f. (string_bytes f.0, f.1.items)) m.files.items;
+      calls = map (λ c. record { name = string_bytes c.name; writes = c.writes; failed = c.failed }) m.calls.items;
+      reads = map (λ f. (string_bytes f.0, f.1.items)) m.reads.items;
+      plan = m.plan.items;
+      made = m.made;
+      faults = m.faults;
+    } };
+}
+
+/// The bytes under a name, where there are any.
+fn find<'a>(files: &'a [(String, Vec<u8>)], name: &str) -> Option<&'a Vec<u8>>
+    ensures { option_map (λ v. v.now.items) result ≡ file_at name.now (map (λ f. (string_bytes f.0, f.1.items)) files.now) }
+{
+    let mut found: Option<&Vec<u8>> = None;
+    for file in files {
+        if name == file.0.as_str() {
+            found = Some(&file.1);
+        }
+    }
+    found
+}
+
+fn read_of(name: String, failed: bool) -> FileCall
+    ensures { result ≡ record { name = name; writes = false; failed = failed } }
+{
+    FileCall {
+        name,
+        writes: false,
+        failed,
+    }
+}
+
+fn write_of(name: String, failed: bool) -> FileCall
+    ensures { result ≡ record { name = name; writes = true; failed = failed } }
+{
+    FileCall {
+        name,
+        writes: true,
+        failed,
+    }
+}
+
+impl MemoryFiles {
+    /// These files. The calls whose numbers from 0 the plan has are to fail.
+    pub fn new(
+        alloc: Global,
+        files: Vec<(String, Vec<u8>)>,
+        plan: Vec<u64>,
+    ) -> Result<MemoryFiles, NoMemory>
+        ensures { IfOk result (λ m. m ≡ files_with (map (λ f. (string_bytes f.0, f.1.items)) files.items) plan.items) }
+    {
+        Ok(MemoryFiles {
+            files,
+            plan,
+            made: 0,
+            faults: 0,
+            calls: Vec::new(alloc),
+            reads: Log::new(),
+            alloc,
+        })
+    }
+
+    /// The calls so far, but those that wanted memory.
+    pub fn calls(&self) -> &[FileCall]
+        ensures { map (λ c. record { name = string_bytes c.name; writes = c.writes; failed = c.failed }) result.now ≡ self.now.calls }
+    {
+        self.calls.as_slice()
+    }
+
+    /// The bytes under a name, where there are any.
+    pub fn bytes(&self, name: &str) -> Option<&Vec<u8>>
+        ensures { option_map (λ v. v.now.items) result ≡ file_at name.now self.now.holds }
+    {
+        find(&self.files, name)
+    }
+
+    /// What the next read of the file ends in.
+    fn look(&self, name: &str) -> Result<Vec<u8>, FilesStop>
+        ensures { EndsRead (λ v. v.items) (read_end self.now name.now) result }
+    {
+        if self.plan.contains(&self.made) {
+            return Err(FilesStop::Failed);
+        }
+        let Some(bytes) = find(&self.files, name) else {
+            return Err(FilesStop::Failed);
+        };
+        if bytes.len() > LONGEST_FILE {
+            return Err(FilesStop::TooLong);
+        }
+        Ok(Vec::from_slice(self.alloc, bytes)?)
+    }
+}
+
+impl Files for MemoryFiles {
+    ghost use Rattle.std.specs.Prelude.{Some};
+
+    ghost holds = { λ m. Some m.holds };
+
+    ghost calls = { λ m. Some m.calls };
+
+    ghost reads = { λ m. m.reads };
+
+    ghost faults = { λ m. m.faults };
+
+    fn read(&mut self, name: &str) -> Result<Vec<u8>, FilesStop>
+        // What every form of files says of a read.
+        ensures told { IfOk result (λ bytes. Holds (Some self.old.holds) name.now bytes.items) }
+        ensures given { IfOk result (λ bytes. self.new.reads ≡ self.old.reads ++ (name.now, bytes.items) ∷ []) }
+        ensures short { IfOk result (λ bytes. length bytes.items ≤ longest_file) }
+        ensures ok { OnOk result (Some self.new.calls ≡ noted (read_call name.now false) (Some self.old.calls)) }
+        ensures long { result ≡ Err ReadRefusal.TooLong → HoldsLong (Some self.old.holds) name.now }
+        ensures long_call { result ≡ Err ReadRefusal.TooLong → Some self.new.calls ≡ noted (read_call name.now false) (Some self.old.calls) }
+        ensures failed { result ≡ Err ReadRefusal.Failed → CountedFault self.old.faults self.new.faults }
+        ensures failed_call { result ≡ Err ReadRefusal.Failed → Some self.new.calls ≡ noted (read_call name.now true) (Some self.old.calls) }
+        ensures memory { result ≡ Err ReadRefusal.NoMemory → Some self.new.calls ≡ Some self.old.calls }
+        ensures withheld { OnErr result (self.new.reads ≡ self.old.reads) }
+        ensures quiet { OnOk result (self.new.faults ≡ self.old.faults) }
+        ensures counts { self.old.faults ≤ self.new.faults }
+        ensures same { Some self.new.holds ≡ Some self.old.holds }
+
+        // By the plan and the files, and nothing else.
+        ensures exact { EndsRead (λ v. v.items) (read_end self.old name.now) result }
+        ensures noted_ok { OnOk result (NotesCall self.old (read_call name.now false) self.new) }
+        ensures noted_failed { result ≡ Err ReadRefusal.Failed → NotesCall self.old (read_call name.now true) self.new }
+        ensures noted_long { result ≡ Err ReadRefusal.TooLong → NotesCall self.old (read_call name.now false) self.new }
+        ensures unnoted { result ≡ Err ReadRefusal.NoMemory → self.new ≡ self.old }
+    {
+        let called = String::from_str(self.alloc, name)?;
+        self.calls.reserve(1)?;
+        match self.look(name) {
+            Ok(bytes) => {
+                self.made = self.made.saturating_add(1);
+                self.reads = self.reads.and(&called, &bytes);
+                self.calls.push_reserved(read_of(called, false));
+                Ok(bytes)
+            }
+            Err(FilesStop::Failed) => {
+                self.made = self.made.saturating_add(1);
+                self.faults = self.faults.saturating_add(1);
+                self.calls.push_reserved(read_of(called, true));
+                Err(FilesStop::Failed)
+            }
+            Err(FilesStop::TooLong) => {
+                self.made = self.made.saturating_add(1);
+                self.calls.push_reserved(read_of(called, false));
+                Err(FilesStop::TooLong)
+            }
+            Err(FilesStop::NoMemory) => Err(FilesStop::NoMemory),
+        }
+    }
+
+    fn write(&mut self, name: &str, bytes: &[u8]) -> Result<(), WriteStop>
+        // What every form of files says of a write.
+        ensures told { OnOk result (Holds (Some self.new.holds) name.now bytes.now) }
+        ensures beside { StaysBeside name.now (Some self.old.holds) (Some self.new.holds) }
+        ensures ok { OnOk result (Some self.new.calls ≡ noted (write_call name.now false) (Some self.old.calls)) }
+        ensures failed { result ≡ Err WriteRefusal.Failed → CountedFault self.old.faults self.new.faults }
+        ensures failed_call { result ≡ Err WriteRefusal.Failed → Some self.new.calls ≡ noted (write_call name.now true) (Some self.old.calls) }
+        ensures memory { result ≡ Err WriteRefusal.NoMemory → Some self.new.calls ≡ Some self.old.calls }
+        ensures reads { self.new.reads ≡ self.old.reads }
+        ensures quiet { OnOk result (self.new.faults ≡ self.old.faults) }
+        ensures counts { self.old.faults ≤ self.new.faults }
+
+        // By the plan, and nothing else.
+        ensures planned { result ≡ Err WriteRefusal.Failed → is_planned self.old.plan self.old.made ≡ true }
+        ensures unplanned { OnOk result (is_planned self.old.plan self.old.made ≡ false) }
+        ensures noted_ok { OnOk result (NotesCall self.old (write_call name.now false) self.new) }
+        ensures noted_failed { result ≡ Err WriteRefusal.Failed → NotesCall self.old (write_call name.now true) self.new }
+        ensures unnoted { result ≡ Err WriteRefusal.NoMemory → self.new ≡ self.old }
+    {
+        let called = String::from_str(self.alloc, name)?;
+        let stored = String::from_str(self.alloc, name)?;
+        let content = Vec::from_slice(self.alloc, bytes)?;
+        self.calls.reserve(1)?;
+        self.files.reserve(1)?;
+        let failed = self.plan.contains(&self.made);
+        self.made = self.made.saturating_add(1);
+        self.calls.push_reserved(write_of(called, failed));
+        if failed {
+            self.faults = self.faults.saturating_add(1);
+            return Err(WriteStop::Failed);
+        }
+        self.files.push_reserved((stored, content));
+        Ok(())
+    }
+}

@@ -1,0 +1,139 @@
+//! A system for tests that tells its runs, and answers or stops by a script.
+ghost use Rattle.std.specs.Prelude.{◌≡◌, ◌≤◌, [], None, Some, IfOk};
+ghost use Rattle.lw_words.specs.Cause.{CountedFault};
+ghost use Rattle.lw_words.specs.declared.stop.SulStop.TheVariants.{Failed};
+
+use crate::Sul;
+use lw_words::SulStop;
+use std::alloc::{AllocError, Global};
+
+/// What a script has for a call.
+#[derive(Clone, Copy)]
+pub enum Reply {
+    /// The reset is done.
+    Ready,
+    /// The step has this output.
+    Output(u16),
+    /// The call is refused.
+    Refused,
+}
+
+/// A system of two inputs and three outputs. A call for which the script has no fitting reply is refused.
+#[derive(Drop)]
+pub struct Scripted {
+    script: Vec<Reply>,
+    made: usize,
+    /// The calls that were answered Ok: None for a reset, the letter and the output for a step.
+    log: Vec<Option<(u16, u16)>>,
+    started: bool,
+    stop: Option<SulStop>,
+    cut: bool,
+    faults: u64,
+}
+
+impl Scripted {
+    /// The system before its first call.
+    pub fn new(alloc: Global, script: Vec<Reply>) -> Result<Scripted, AllocError>
+        ensures { IfOk result (λ s. (s.stop ≡ None) × (s.log.items ≡ [])) }
+    {
+        let log = Vec::with_capacity(alloc, script.len())?;
+        Ok(Scripted {
+            script,
+            made: 0,
+            log,
+            started: false,
+            stop: None,
+            cut: false,
+            faults: 0,
+        })
+    }
+
+    /// The calls that were answered Ok.
+    pub fn log(&self) -> &[Option<(u16, u16)>] {
+        self.log.as_slice()
+    }
+
+    /// How many calls were made.
+    pub fn made(&self) -> usize {
+        self.made
+    }
+
+    /// The script's reply to the next call; past its end, a refusal.
+    fn reply(&self) -> Reply {
+        match self.script.get(self.made) {
+            Some(reply) => *reply,
+            None => Reply::Refused,
+        }
+    }
+
+    /// Refuses a call: of a step, the run is cut off.
+    fn refuse(&mut self, cut: bool) -> SulStop
+        ensures stop { (result ≡ Failed) × (self.new.stop ≡ Some Failed) }
+        ensures cut { self.new.cut ≡ cut }
+        ensures log { self.new.log ≡ self.old.log }
+        ensures fault { CountedFault self.old.faults self.new.faults }
+        ensures counts { self.old.faults ≤ self.new.faults }
+    {
+        self.made = self.made.saturating_add(1);
+        self.faults = self.faults.saturating_add(1);
+        self.stop = Some(SulStop::Failed);
+        self.cut = cut;
+        SulStop::Failed
+    }
+}
+
+impl Sul for Scripted {
+    ghost use Rattle.std.specs.Prelude.{Some, None};
+    ghost use Rattle.lw_sul.specs.TestScript.{runs_of};
+
+    ghost inputs = { λ _. 2 };
+
+    ghost outputs = { λ _. 3 };
+
+    ghost origin = { λ _. record { machine = None; link = None } };
+
+    ghost state = { λ _. 0 };
+
+    ghost started = { λ s. s.started };
+
+    ghost faults = { λ s. s.faults };
+
+    ghost stop = { λ s. s.stop };
+
+    ghost cut = { λ s. s.cut };
+
+    ghost runs = { λ s. Some (runs_of s.log.items) };
+
+    fn inputs(&self) -> u16 {
+        2
+    }
+
+    fn outputs(&self) -> u16 {
+        3
+    }
+
+    #[tactic(auto, using(crate::proofs::TestScripts::script_steps))]
+    fn reset(&mut self) -> Result<(), SulStop> {
+        match self.reply() {
+            Reply::Ready if self.log.len() < self.log.capacity() => {
+                self.made = self.made.saturating_add(1);
+                self.log.push_reserved(None);
+                self.started = true;
+                Ok(())
+            }
+            _ => Err(self.refuse(false)),
+        }
+    }
+
+    #[tactic(auto, using(crate::proofs::TestScripts::script_steps))]
+    fn step(&mut self, x: u16) -> Result<u16, SulStop> {
+        match self.reply() {
+            Reply::Output(y) if y < 3 && self.log.len() < self.log.capacity() => {
+                self.made = self.made.saturating_add(1);
+                self.log.push_reserved(Some((x, y)));
+                Ok(y)
+            }
+            _ => Err(self.refuse(true)),
+        }
+    }
+}
