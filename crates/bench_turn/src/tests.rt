@@ -1,3 +1,4 @@
+//! That a small measurement comes to its end.
 use crate::guarded::Guarded;
 use crate::tally::Tally;
 use std::test::Fail;

@@ -74,18 +74,18 @@ flags_more ks n flags b was then only =
     record {
       long = omega (arith, length-append flags (b ∷ []), was.long);
       each = λ i lt. ⊎_elim
-      (λ (before : i < n).
-      let at : get_or (flags ++ b ∷ []) i false ≡ get_or flags i false = get_or_append_left flags (b ∷ []) false i (omega (arith, was.long)) in
-      (λ e. (was.each i before).0 (sym at ∙ e), λ c. at ∙ (was.each i before).1 c))
-      (λ (from : n ≤ i).
-      let is : i ≡ n = omega arith in
-      let at : get_or (flags ++ b ∷ []) i false ≡ b = last flags b i (is ∙ sym was.long) in
-      (λ e. subst (IsClear ks) (sym is) (then (sym at ∙ e)), λ c. at ∙ only (subst (IsClear ks) is c)))
-      (cases_lt i n);
+          (λ (before : i < n).
+          let at : get_or (flags ++ b ∷ []) i false ≡ get_or flags i false = get_or_append_left flags (b ∷ []) false i (omega (arith, was.long)) in
+          (λ e. (was.each i before).0 (sym at ∙ e), λ c. at ∙ (was.each i before).1 c))
+          (λ (from : n ≤ i).
+          let is : i ≡ n = omega arith in
+          let at : get_or (flags ++ b ∷ []) i false ≡ b = last flags b i (is ∙ sym was.long) in
+          (λ e. subst (IsClear ks) (sym is) (then (sym at ∙ e)), λ c. at ∙ only (subst (IsClear ks) is c)))
+          (cases_lt i n);
     }
-    where
-      last : (xs : List Bool) (x : Bool) (i : ℕ) → i ≡ length xs → get_or (xs ++ x ∷ []) i false ≡ x
-      last xs x i e = ap (λ (k : ℕ). get_or (xs ++ x ∷ []) k false) e ∙ get_or-append_seam xs x [] false
+  where
+    last : (xs : List Bool) (x : Bool) (i : ℕ) → i ≡ length xs → get_or (xs ++ x ∷ []) i false ≡ x
+    last xs x i e = ap (λ (k : ℕ). get_or (xs ++ x ∷ []) k false) e ∙ get_or-append_seam xs x [] false
 
 pub prefix_from_take : (w v : List ℕ) → take (length w) v ≡ w → IsPrefix w v
 prefix_from_take w v e = (drop (length w) v, sym (take-append-drop (length w) v) ∙ ap (λ (u : List ℕ). u ++ drop (length w) v) e)
@@ -95,23 +95,23 @@ take_from_prefix w v p = ap (take (length w)) p.1 ∙ take-append_seam w p.0
 
 pub begins : (w v : List ℕ) (b : Bool) → b ≡ bytes_eq w (take (length w) v) → (b ≡ true) ↔ IsPrefix w v
 begins w v b is = (
-      λ e. prefix_from_take w v (sym ((bytes_eq-Decides w (take (length w) v)).0 (sym is ∙ e))),
-      λ p. is ∙ (bytes_eq-Decides w (take (length w) v)).1 (sym (take_from_prefix w v p)),
-    )
+  λ e. prefix_from_take w v (sym ((bytes_eq-Decides w (take (length w) v)).0 (sym is ∙ e))),
+  λ p. is ∙ (bytes_eq-Decides w (take (length w) v)).1 (sym (take_from_prefix w v p)),
+)
 
 -- a word that no clear answer begins with is known only where it is empty
 pub known_empty : (ks : List Answer) (w : List ℕ) (n : ℕ) (b : Bool) → length ks ≡ n → ((j : ℕ) → j < n → IsClear ks j → ¬ IsPrefix w (answer_at ks j).word) → (b ≡ true → length w ≡ 0) → (length w ≡ 0 → b ≡ true) → (b ≡ true) ↔ IsKnown ks w
 known_empty ks w n b size none then only = (
-      λ e. inl (no_letters w (then e)),
-      λ known. ⊎_elim
+  λ e. inl (no_letters w (then e)),
+  λ known. ⊎_elim
       (λ (e : w ≡ []). only (ap (λ (v : List ℕ). length v) e))
       (λ (r : (i : ℕ) × IsClear ks i × IsPrefix w (answer_at ks i).word). absurd (none r.0 (omega (arith, size, r.1.0)) r.1 r.2))
       known,
-    )
-    where
-      no_letters : (v : List ℕ) → length v ≡ 0 → v ≡ []
-      no_letters [] e = refl
-      no_letters (x ∷ v) e = absurd (omega (arith, e))
+)
+  where
+    no_letters : (v : List ℕ) → length v ≡ 0 → v ≡ []
+    no_letters [] e = refl
+    no_letters (x ∷ v) e = absurd (omega (arith, e))
 
 pub kept_count : (kept : List KeptAnswer) → length (answers_of kept) ≡ length kept
 kept_count kept = length-map kept answer_of

@@ -1,3 +1,4 @@
+//! Many lists over one set of cells, as doubly linked places in flat vectors.
 ghost use Rattle.std.specs.Prelude.{◌≡◌, ◌≢◌, ℕ, ◌+◌, ◌<◌, ◌≤◌, List, ◌++◌, length, replicate, IsSome, IfOk, IfSome, OnOk, OnErr, vec_len, None, true};
 ghost use Rattle.std.specs.Vec.{vec_capacity};
 ghost use Rattle.lw_links.specs.Owners.{empty_lists, grown, pushed, unlinked, moved, owner_of, first_of, next_of, HasEachOnce, Spells, has};

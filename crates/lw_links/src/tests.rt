@@ -179,9 +179,11 @@ fn moves_the_last(alloc: Global, size: u32) -> Result<bool, Fail> {
     lists.push(size - 1, size - 1);
     lists.push(size - 1, 0);
     lists.move_all(size - 1, 0);
-    Ok(lists.first(0) == Some(size - 1)
-        && lists.next(size - 1) == Some(0)
-        && lists.owner(0) == Some(0))
+    Ok(
+        lists.first(0) == Some(size - 1)
+            && lists.next(size - 1) == Some(0)
+            && lists.owner(0) == Some(0),
+    )
 }
 
 #[test]

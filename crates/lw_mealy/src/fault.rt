@@ -1,3 +1,5 @@
+//! The faults of rows that are no machine.
+
 /// Why rows are no machine: the first of these that applies, within a kind by state, then by letter.
 #[derive(Clone, Copy, Debug, PartialEq, Eq)]
 pub enum MealyFault {

@@ -1,4 +1,5 @@
-ghost use Rattle.std.specs.Prelude.{◌≡◌, ℕ, ◌<◌, ◌≤◌, List, length, map, IfOk, OnOk, IfErr, IfSome, IfNone};
+//! Machines as tables, which are complete and within the limits.
+ghost use Rattle.std.specs.Prelude.{◌≡◌, ℕ, ◌<◌, ◌≤◌, List, length, map, Some, Err, IfOk, OnOk, IfErr, IfSome, IfNone};
 ghost use Rattle.std.specs.List.{All};
 ghost use Rattle.lw_words.specs.First.{FailsFirst};
 ghost use Rattle.lw_words.specs.Word.{IsWord};
@@ -6,6 +7,7 @@ ghost use Rattle.lw_mealy.specs.Machine.{Rows, IsMachine, after, out, answer, ce
 ghost use Rattle.lw_mealy.specs.CellHalf.{IsBelow};
 ghost use Rattle.lw_mealy.specs.Limits.{MealyMachine, mealy_of, IsWithinLimits, AnswersBelow};
 ghost use Rattle.lw_mealy.specs.Difference.{DifferFirst};
+ghost use Rattle.lw_mealy.specs.declared.fault.MealyFault.{MealyFault as Fault};
 ghost use Rattle.lw_mealy.specs.Fault.{HasFault, IsCounted, IsSquare, IsClosed, CellFailsFirst};
 
 use crate::MealyFault;
@@ -101,6 +103,7 @@ fn fault_of(inputs: u16, outputs: u16, rows: &[Vec<(u16, u16)>]) -> Option<Mealy
     requires counted { IsCounted (map (λ r. r.items) rows.now) }
     ensures none { IfNone result (IsSquare inputs (map (λ r. r.items) rows.now) × IsClosed (map (λ r. r.items) rows.now) × AnswersBelow outputs (map (λ r. r.items) rows.now)) }
     ensures some { IfSome result (HasFault inputs outputs (map (λ r. r.items) rows.now)) }
+    ensures memory { ¬ (result ≡ Some Fault.NoMemory) }
 {
     if let Some(state) = first_ragged(rows, inputs) {
         return Some(MealyFault::Ragged(state as u16));
@@ -128,7 +131,8 @@ fn copy_rows(alloc: Global, rows: &[Vec<(u16, u16)>]) -> Result<Vec<Vec<(u16, u1
 }
 
 impl Mealy {
-    /// The machine of these rows: `rows[q][x]` is the target and the output of state `q` at letter `x`.
+    /// The machine of these rows: `rows[q][x]` is the target and the output of state `q` at letter `x`. Takes no memory, and
+    /// never answers `NoMemory`.
     pub fn new(
         alloc: Global,
         inputs: u16,
@@ -140,6 +144,7 @@ impl Mealy {
         ensures ok { IfOk result (λ m. m ≡ mealy_of inputs outputs (map (λ r. r.items) rows.items)) }
         ensures complete { IfOk result IsWithinLimits }
         ensures err { IfErr result (HasFault inputs outputs (map (λ r. r.items) rows.items)) }
+        ensures memory { ¬ (result ≡ Err Fault.NoMemory) }
     {
         if rows.is_empty() {
             return Err(MealyFault::NoState);

@@ -1,3 +1,4 @@
+//! Runs of a system, and lists of them.
 ghost use Rattle.std.specs.Prelude.{◌≡◌, ◌<◌, List, [], length, slice_get, Some};
 
 use lw_words::Word;

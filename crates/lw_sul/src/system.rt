@@ -1,3 +1,4 @@
+//! Systems that can only be reset and stepped.
 ghost use Rattle.std.specs.Prelude.{◌≡◌, ℕ, ◌<◌, ◌≤◌, List, Bool, true, false, Option, Some, None, option_map, IfOk, OnOk, IfErr, OnErr};
 ghost use Rattle.lw_mealy.specs.Origin.{Origin};
 ghost use Rattle.lw_words.specs.declared.stop.SulStop.{SulStop as Stop};

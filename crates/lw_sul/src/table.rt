@@ -1,3 +1,4 @@
+//! A machine that is learned from itself.
 ghost use Rattle.std.specs.Prelude.{◌≡◌};
 
 use crate::Sul;

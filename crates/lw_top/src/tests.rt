@@ -1,7 +1,9 @@
+//! The rows worked by hand, faults at each place, and tables at their limits.
 ghost use Rattle.std.specs.Prelude.{◌<◌, ◌≤◌};
 
-use crate::{End, FirstStop, MemoryFiles, MemorySink, Outcome, first_table, run};
+use crate::{End, FirstStop, Outcome, first_table, run, without_arguments};
 use lw_mealy::Mealy;
+use lw_outside::{MemoryFiles, MemorySink};
 use lw_sul::{Session, TableSul};
 use std::alloc::Global;
 use std::process::Abort;
@@ -23,7 +25,7 @@ const LEARN: [&str; 3] = ["learn", "--table", "m"];
 /// One call of the program over memory, and what its streams took.
 #[derive(Drop)]
 struct Case {
-    words: &'static [&'static str],
+    arguments: &'static [&'static str],
     file: &'static str,
     file_plan: &'static [u64],
     piece: usize,
@@ -35,7 +37,7 @@ struct Case {
 }
 
 const PLAIN: Case = Case {
-    words: &LEARN,
+    arguments: &LEARN,
     file: ONE,
     file_plan: &[],
     piece: 1024,
@@ -60,7 +62,7 @@ fn check(rt: &impl Abort, alloc: Global, case: &Case) -> Result<End, Fail> {
         String::from_str(alloc, "m")?,
         Vec::from_slice(alloc, case.file.as_bytes())?,
     ))?;
-    let mut files = MemoryFiles::new(alloc, files, Vec::from_slice(alloc, case.file_plan)?);
+    let mut files = MemoryFiles::new(alloc, files, Vec::from_slice(alloc, case.file_plan)?)?;
     assert!(rt; case.piece > 0);
     let mut out = MemorySink::new(
         alloc,
@@ -76,7 +78,7 @@ fn check(rt: &impl Abort, alloc: Global, case: &Case) -> Result<End, Fail> {
     )?;
     let end = run(
         alloc,
-        &texts(alloc, case.words)?,
+        &texts(alloc, case.arguments)?,
         &mut files,
         &mut out,
         &mut err,
@@ -124,19 +126,19 @@ fn shipped_machines(rt: HostRuntime) -> Result<(), Fail> {
 fn refused_words_and_files(rt: HostRuntime) -> Result<(), Fail> {
     let usage =
         "usage: learn (SETUP | --table FILE) [--workers N] [--extra K] [--learner table|ttt] [--max-states N] [--model FILE] [--answers FILE]\n       check MODEL ANSWERS [--extra K]\n       serve MODEL\n       trial --states N --inputs A --seed S [--workers N] [--learner table|ttt]\n";
-    let words: [&'static [&'static str]; 5] = [
+    let refused: [&'static [&'static str]; 5] = [
         &[],
         &["learn"],
         &["learn", "--table"],
         &["learn", "--table", "m", "m"],
         &["check", "--table", "m"],
     ];
-    for taken in words {
+    for arguments in refused {
         let _usage = check(
             &rt,
             rt.alloc(),
             &Case {
-                words: taken,
+                arguments,
                 status: 2,
                 out: "",
                 err: usage,
@@ -164,7 +166,7 @@ fn refused_words_and_files(rt: HostRuntime) -> Result<(), Fail> {
 fn failing_files_and_streams(rt: HostRuntime) -> Result<(), Fail> {
     let cases = [
         Case {
-            words: &["learn", "--table", "other"],
+            arguments: &["learn", "--table", "other"],
             status: 8,
             out: "",
             err: "file fault: table\n",
@@ -261,6 +263,48 @@ fn tables_of_many_states_are_closed(rt: HostRuntime) -> Result<(), Fail> {
 fn a_crowd_past_the_limit(rt: HostRuntime) -> Result<(), Fail> {
     overflows(&rt, rt.alloc(), 3, 2)?;
     overflows(&rt, rt.alloc(), 1024, 1023)
+}
+
+#[test]
+fn arguments_without_memory(rt: HostRuntime) -> Result<(), Fail> {
+    let alloc = rt.alloc();
+    let mut err = MemorySink::new(alloc, 4096, 3, Vec::new(alloc))?;
+    assert_eq!(rt; without_arguments(alloc, &mut err).status, 5);
+    assert_eq!(rt; err.taken(), "no memory\n".as_bytes());
+    Ok(())
+}
+
+/// A table of the text ONE, followed by blanks up to so many bytes.
+fn long_table(alloc: Global, bytes: usize) -> Result<Vec<u8>, Fail> {
+    let mut text = Vec::from_slice(alloc, ONE.as_bytes())?;
+    text.resize(bytes, b' ')?;
+    Ok(text)
+}
+
+/// What a learning of a table of so many bytes ends in, and what it says.
+fn ends_with(alloc: Global, bytes: usize, status: u8, said: &str) -> Result<bool, Fail> {
+    let mut files = Vec::new(alloc);
+    files.push((String::from_str(alloc, "m")?, long_table(alloc, bytes)?))?;
+    let mut files = MemoryFiles::new(alloc, files, Vec::new(alloc))?;
+    let mut out = MemorySink::new(alloc, 4096, 4096, Vec::new(alloc))?;
+    let mut err = MemorySink::new(alloc, 4096, 4096, Vec::new(alloc))?;
+    let end = run(
+        alloc,
+        &texts(alloc, &LEARN)?,
+        &mut files,
+        &mut out,
+        &mut err,
+    );
+    Ok(end.status == status && err.taken() == said.as_bytes())
+}
+
+#[test]
+fn the_longest_file_and_a_longer_one(rt: HostRuntime) -> Result<(), Fail> {
+    let alloc = rt.alloc();
+    let learned = "unchecked: states 1, answers 2\n";
+    assert!(rt; ends_with(alloc, 16_777_216, 0, learned)?);
+    assert!(rt; ends_with(alloc, 16_777_217, 3, "file too long: table\n")?);
+    Ok(())
 }
 
 #[test]

@@ -1,3 +1,4 @@
+//! Kept answers: words with their outputs, and the run that each came from.
 ghost use Rattle.std.specs.Prelude.{◌≡◌, ℕ, ◌+◌, ◌<◌, ◌≤◌, List, [], ◌∷◌, ◌++◌, length, OnOk, OnErr, IfErr, IsOk, slice_get, Some};
 
 use crate::{NoMemory, Word};

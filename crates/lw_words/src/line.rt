@@ -1,3 +1,4 @@
+//! A received line.
 ghost use Rattle.std.specs.Prelude.{◌≡◌, ℕ, ◌≤◌, List, length, take};
 
 use std::marker::Model;

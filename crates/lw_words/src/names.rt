@@ -1,3 +1,4 @@
+//! Lists of names, each with its place as its number.
 ghost use Rattle.std.specs.Prelude.{◌≡◌, ℕ, ◌<◌, ◌↔◌, List, length, map, string_bytes, slice_get, Some, IfOk, OnOk, IfErr, IfSome, IfNone, IsTrue, take};
 ghost use Rattle.std.specs.List.{All};
 ghost use Rattle.lw_words.specs.First.{FailsFirst};

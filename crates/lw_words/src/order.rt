@@ -1,3 +1,4 @@
+//! Shortlex order.
 ghost use Rattle.std.specs.Prelude.{◌≡◌};
 ghost use Rattle.lw_words.specs.Shortlex.{shortlex_cmp, IsOrderOfWords};
 

@@ -1,3 +1,4 @@
+//! Why a system or a run of it stopped.
 ghost use Rattle.std.specs.Prelude.{◌≡◌};
 
 use crate::{Line, NoMemory};

@@ -1,3 +1,4 @@
+//! Words, names, kept answers and lines by hand, and at their limits.
 use crate::{
     Kept, KeptAnswer, Line, Names, NamesFault, NoMemory, SulStop, Word, Words, join, shortlex,
 };
@@ -120,5 +121,53 @@ fn words_in_order(rt: HostRuntime) -> Result<(), Fail> {
     assert_eq!(rt; shortlex(&short, &long), Ordering::Less);
     assert_eq!(rt; shortlex(&later, &long), Ordering::Greater);
     assert_eq!(rt; shortlex(&long, &long), Ordering::Equal);
+    Ok(())
+}
+
+#[test]
+fn long_words_and_many_names(rt: HostRuntime) -> Result<(), Fail> {
+    let alloc = rt.alloc();
+    let mut long = Word::from_letters(alloc, vec![in alloc; 7u16; 70_000]?);
+    long.push(9)?;
+    let both = join(&long, &long.copy()?)?;
+    assert_eq!(rt; both.len(), 140_002);
+    assert_eq!(rt; both.as_slice().last(), Some(&9));
+    let mut many = Vec::new(alloc);
+    for n in 0..4096u32 {
+        many.push(format!(in alloc; "n{n}")?)?;
+    }
+    match Names::from_list(alloc, &many) {
+        Ok(names) => assert_eq!(rt; names.number("n4095"), Some(4095)),
+        Err(_) => return Err(Fail::from("4,096 names were refused")),
+    }
+    Ok(())
+}
+
+/// Keeps so many answers, each with the run of its place.
+fn keeps(alloc: Global, count: u64) -> Result<Kept, Fail> {
+    let mut kept = Kept::new(alloc);
+    kept.reserve(10_000)?;
+    for run in 0..count {
+        let answer = KeptAnswer {
+            instance: 15,
+            run,
+            word: Word::new(alloc),
+            outs: Word::new(alloc),
+        };
+        if kept.push(answer).is_err() {
+            return Err(Fail::from("an answer was handed back"));
+        }
+    }
+    Ok(kept)
+}
+
+#[test]
+fn many_kept_answers(rt: HostRuntime) -> Result<(), Fail> {
+    let kept = keeps(rt.alloc(), 100_000)?;
+    assert_eq!(rt; kept.len(), 100_000);
+    if kept.len() > 99_999 {
+        let last = kept.get(99_999);
+        assert_eq!(rt; (last.instance, last.run), (15, 99_999));
+    }
     Ok(())
 }

@@ -1,3 +1,4 @@
+//! Words over numbered letters.
 ghost use Rattle.std.specs.Prelude.{◌≡◌, ℕ, ◌≤◌, List, [], ◌∷◌, ◌++◌, length, take, IfOk, OnOk, OnErr};
 
 use crate::NoMemory;

@@ -1,3 +1,4 @@
+//! Lists of words.
 ghost use Rattle.std.specs.Prelude.{◌≡◌, ℕ, ◌<◌, List, [], ◌∷◌, ◌++◌, length, OnOk, OnErr, IfErr, slice_get, Some};
 
 use crate::{NoMemory, Word};

@@ -1,3 +1,4 @@
+//! Each call of the turnstile, by hand and in threads.
 ghost use Rattle.std.specs.Prelude.{◌≡◌, ◌+◌, ◌*◌, ◌^◌, ◌<◌, ◌≤◌, ℕ, [], ◌∷◌, All, IfOk, IsSome};
 ghost use Rattle.lw_turn.specs.Views.{first_view, ended_of};
 

@@ -30,14 +30,14 @@ loop-number-preserved c =
     let here : n < length ks = omega (arith, in_kept, kept_count c.args.kept.now.answers) in
     elim c.else-is_clear.branch [
       | else-is_clear-via-then-is_clear+else-clashes w ↦
-        let same : answer_at ks n ≡ answer_of w.get.result.now = kept_at c.args.kept.now.answers n w.get.result.now in_kept w.get.ensures in
-        clear_more ks n k c.loop-number.invariant (λ clear clash.
+          let same : answer_at ks n ≡ answer_of w.get.result.now = kept_at c.args.kept.now.answers n w.get.result.now in_kept w.get.ensures in
+          clear_more ks n k c.loop-number.invariant (λ clear clash.
           let hit : w.clashes.result ≡ true = w.clashes.ensures.1 (subst (λ (a : Answer). Clash a k) same clash) in
           let miss : w.clashes.result ≡ false = search rules in
           let no : true ≡ false = sym hit ∙ miss in
           cc) here
       | else-is_clear-via-else-is_clear w ↦
-        clear_more ks n k c.loop-number.invariant (λ clear clash.
+          clear_more ks n k c.loop-number.invariant (λ clear clash.
           let hit : get_or c.args.flags.now n false ≡ true = (c.requires.flags.each n lt).1 clear in
           let miss : get_or c.args.flags.now n false ≡ false = search rules in
           let no : true ≡ false = sym hit ∙ miss in
