@@ -13,7 +13,7 @@ use Rattle.std.proofs.lemmas.List.Elements.{All-contains, All-from_get_or}
 use Rattle.std.proofs.lemmas.Map.Made.{length-le_from_is_member, IsDistinct-from_AllPairs, is_member-Decides}
 use Rattle.std.proofs.lemmas.Bool.{cases_order}
 use Rattle.lw_mealy.specs.Machine.{Rows, out}
-use Rattle.lw_separate.specs.Separators.{SeparatesUpTo}
+use Rattle.lw_separate.specs.bodies.Walk.{SeparatesUpTo}
 use Rattle.lw_separate.proofs.SearchLemmas.{last_or_before, length-push, at_end}
 use Rattle.lw_separate.proofs.AccessLemmas.{pushed}
 

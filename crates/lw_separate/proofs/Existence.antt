@@ -7,9 +7,9 @@ use Rattle.std.proofs.lemmas.List.Elements.{All-from_get_or}
 use Rattle.lw_words.specs.Word.{IsWord}
 use Rattle.lw_mealy.specs.Machine.{Rows, IsMachine, row, next, out}
 use Rattle.lw_mealy.specs.Minimal.{Differ}
-use Rattle.lw_separate.specs.Canonical.{StandsFor, Merges, Renames, RenamesRow, renamed, SomeCanonical}
-use Rattle.lw_separate.specs.Lengths.{IsFilled, pair_of}
-use Rattle.lw_separate.specs.Names.{IsAllStates, NamesStates, NamesPlaces}
+use Rattle.lw_separate.specs.Canonical.{SomeCanonical}
+use Rattle.lw_separate.specs.bodies.Renaming.{StandsFor, Merges, Renames, RenamesRow, renamed, IsAllStates, NamesStates, NamesPlaces}
+use Rattle.lw_separate.specs.bodies.Lengths.{IsFilled, pair_of}
 use Rattle.lw_separate.proofs.SearchLemmas.{length-push}
 use Rattle.lw_separate.proofs.AccessLemmas.{pushed}
 use Rattle.lw_separate.proofs.MergeLemmas.{pair_differs, pair_agrees, merges, merge_closed, number_closed}

@@ -5,7 +5,7 @@ use Rattle.std.proofs.lemmas.List.{get_or-replicate, get_or_past, length-replica
 use Rattle.std.proofs.lemmas.List.Folds.{sum_by-replicate}
 use Rattle.std.proofs.lemmas.Bool.{cases_lt, cases_order}
 use Rattle.lw_mealy.specs.Machine.{Rows, IsMachine}
-use Rattle.lw_separate.specs.Lengths.{begins, IsKnown, IsFilled, SetsLength, unknown, unknown_at}
+use Rattle.lw_separate.specs.bodies.Lengths.{begins, IsKnown, IsFilled, SetsLength, unknown, unknown_at}
 use Rattle.lw_separate.proofs.SearchLemmas.{last_or_before}
 use Rattle.lw_separate.proofs.LengthLemmas.{InRound, round_start, round_skip, round_set, round_done, settled}
 

@@ -8,10 +8,9 @@ use Rattle.lw_words.specs.Word.{IsWord}
 use Rattle.lw_mealy.specs.Machine.{Rows, next, output, out}
 use Rattle.lw_mealy.specs.Minimal.{Differ}
 use Rattle.lw_mealy.proofs.RowLemmas.{target_below}
-use Rattle.lw_separate.specs.Before.{Lex}
 use Rattle.lw_separate.specs.Least.{IsLeastSeparating, IsSeparatingWord}
-use Rattle.lw_separate.specs.Lengths.{begins, onward, pair_of, first_of, second_of, one_more, IsFilled, FirstLetter, Within}
-use Rattle.lw_separate.proofs.Before.{at_most_not_behind}
+use Rattle.lw_separate.specs.bodies.Lengths.{begins, onward, pair_of, first_of, second_of, one_more, IsFilled, FirstLetter, Within}
+use Rattle.lw_separate.proofs.Before.{Lex, of_cases, at_most_not_behind}
 use Rattle.lw_separate.proofs.LengthLemmas.{begins_cases, one_more_cases}
 
 -- a pair is read off its place
@@ -171,9 +170,9 @@ module _ (a : ℕ) (m : Rows) (ls : List ℕ) (f : IsFilled a m ls) where
         let long = greedy_length w e (get_or ls e 0) g in
         let within : Within ls e (length v) = separates_within v e lt h.0 h.1 in
         at_most_not_behind w v (⊎_elim
-        (λ (l : length w < length v). inr (inl l))
+        (λ (l : length w < length v). inr (of_cases w v (inl l)))
         (λ (l : length v ≤ length w). let same : length v ≡ get_or ls e 0 = omega (arith, long, within.1, l) in
-        ⊎_elim (λ (s : w ≡ v). inl s) (λ (s : Lex w v). inr (inr (omega (arith, long, same), s))) (greedy_least w v e (get_or ls e 0) lt refl g h.0 h.1 same))
+        ⊎_elim (λ (s : w ≡ v). inl s) (λ (s : Lex w v). inr (of_cases w v (inr (omega (arith, long, same), s)))) (greedy_least w v e (get_or ls e 0) lt refl g h.0 h.1 same))
         (cases_lt (length w) (length v)));
   }
 

@@ -7,7 +7,7 @@ use Rattle.std.proofs.lemmas.List.{get_or-set_same, get_or-set_other, length-set
 use Rattle.std.proofs.lemmas.List.Sums.{sum_by-set}
 use Rattle.std.proofs.lemmas.Bool.{cases_order}
 use Rattle.lw_mealy.specs.Machine.{Rows, output}
-use Rattle.lw_separate.specs.Lengths.{begins, onward, first_of, second_of, one_more, IsLengthTable, IsKnown, IsFilled, Met, Within, unknown, unknown_at, SetsLength}
+use Rattle.lw_separate.specs.bodies.Lengths.{begins, onward, first_of, second_of, one_more, IsLengthTable, IsKnown, IsFilled, Met, Within, unknown, unknown_at, SetsLength}
 use Rattle.lw_separate.proofs.SearchLemmas.{last_or_before}
 
 pub one_more_cases : (v : ℕ) → ((v ≡ 0) × (one_more v ≡ 0)) ⊎ ((0 < v) × (one_more v ≡ v + 1))

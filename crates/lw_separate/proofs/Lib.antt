@@ -10,6 +10,7 @@ pub mod ExistenceTable
 pub mod Greedy
 pub mod LengthLemmas
 pub mod MergeLemmas
+pub mod OneLemmas
 pub mod SearchLemmas
 pub mod SourceLemmas
 pub mod UniqueLemmas

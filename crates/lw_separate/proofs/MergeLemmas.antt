@@ -1,17 +1,19 @@
 -- States that agree on all words, and the names that merging and numbering give.
-use Rattle.std.proofs.Common.{◌≡◌, ◌≢◌, ℕ, zero, suc, ◌+◌, ◌<◌, ◌≤◌, ⊎_elim, true, false, List, [], ◌∷◌, length, get_or, Option, Some, None, Result, Ok, Err, IfOk, refl, ap, sym, ◌∙◌, arith, subst}
+use Rattle.std.proofs.Common.{◌≡◌, ◌≢◌, ℕ, zero, suc, ◌+◌, ◌<◌, ◌≤◌, ⊎_elim, true, false, nat_eq, List, [], ◌∷◌, length, get_or, Option, Some, None, Result, Ok, Err, IfOk, refl, ap, sym, ◌∙◌, arith, subst}
 use Rattle.std.specs.Str.{bytes_eq}
 use Rattle.std.proofs.lemmas.Slice.Eq.{bytes_eq-Decides}
 use Rattle.std.proofs.lemmas.Nat.{mul-add-lt}
+use Rattle.std.proofs.lemmas.Bool.{cases_lt}
+use Rattle.std.specs.Cmp.{unsigned_Decides}
 use Rattle.std.proofs.lemmas.List.Elements.{All-cons, All-nil}
 use Rattle.lw_words.specs.Word.{IsWord}
 use Rattle.lw_mealy.specs.Machine.{Rows, IsMachine, out, next, output, cell}
-use Rattle.lw_mealy.specs.Minimal.{Differ}
+use Rattle.lw_mealy.specs.Minimal.{IsMinimal, Differ}
 use Rattle.lw_mealy.proofs.RowLemmas.{target_below}
-use Rattle.lw_separate.specs.Canonical.{StandsFor, Merges, CanRename, Renames, renamed}
-use Rattle.lw_separate.specs.Lengths.{IsFilled, begins, onward, pair_of, first_of, second_of, one_more}
-use Rattle.lw_separate.specs.Names.{IsAllStates, NamesStates, NamesPlaces}
-use Rattle.lw_separate.specs.Search.{IsSearch}
+use Rattle.lw_separate.specs.bodies.Renaming.{StandsFor, Merges, CanRename, Renames, renamed, IsAllStates, NamesStates, NamesPlaces}
+use Rattle.lw_separate.specs.bodies.Alike.{TellsAlike}
+use Rattle.lw_separate.specs.bodies.Lengths.{IsFilled, begins, onward, pair_of, first_of, second_of, one_more}
+use Rattle.lw_separate.specs.bodies.Search.{IsSearch}
 use Rattle.lw_separate.proofs.Greedy.{first-pair, second-pair, none_separates, onward_below, onward_outs, heads, tails_back}
 use Rattle.lw_separate.proofs.LengthLemmas.{begins_cases, one_more_cases}
 
@@ -61,6 +63,14 @@ module _ (a : ℕ) (m : Rows) (ls : List ℕ) (f : IsFilled a m ls) where
       same_lists (out m p w) (out m q w) (λ differ. none_separates a m ls f (pair_of m p q) (place_below p q lp lq) none
       (w, letters, λ same. differ (sym (ap (λ (r : ℕ). out m r w) (first-pair m p q lq)) ∙ (same ∙ ap (λ (r : ℕ). out m r w) (second-pair m p q lq)))))
 
+-- whether the pair has a length tells whether the states agree
+pub length_tells : (a : ℕ) (m : Rows) (ls : List ℕ) → IsFilled a m ls → (p q : ℕ) → p < length m → q < length m → TellsAlike a m p q (nat_eq (get_or ls (pair_of m p q) 0) 0)
+length_tells a m ls f p q lp lq =
+    elim (nat_eq (get_or ls (pair_of m p q) 0) 0) as (λ b. nat_eq (get_or ls (pair_of m p q) 0) 0 ≡ b → TellsAlike a m p q b) [
+      | true ↦ λ is. (λ d. d.2 (pair_agrees a m ls f p q lp lq ((unsigned_Decides (get_or ls (pair_of m p q) 0) 0).0 is) d.0 d.1))
+      | false ↦ λ is. pair_differs a m ls f p q lp lq (⊎_elim (λ (l : 0 < get_or ls (pair_of m p q) 0). l) (λ (l : get_or ls (pair_of m p q) 0 ≤ 0). let no : true ≡ false = sym ((unsigned_Decides (get_or ls (pair_of m p q) 0) 0).1 (omega arith)) ∙ is in absurd (cc)) (cases_lt 0 (get_or ls (pair_of m p q) 0)))
+    ] refl
+
 -- each target is renamed to one of the states
 pub merge_closed : (a : ℕ) (m : Rows) (states names : List ℕ) → IsMachine a m → IsAllStates m states → NamesStates a m names → (k x : ℕ) → k < length states → x < a → get_or names (next m (get_or states k 0) x) 0 < length states
 merge_closed a m states names machine all named k x lk xa =
@@ -91,6 +101,17 @@ merges a m states names h machine all named r = record {
     cells q x lq xa =
         let lk : q < length states = omega (arith, all.long) in
         r.cells q x lk xa ∙ ap (λ (p : ℕ). renamed m names p x) (all.each q lk)
+
+-- in a minimal machine each state stands for itself
+pub merges_itself : (a : ℕ) (m : Rows) → IsMachine a m → IsMinimal a m → Merges a m m
+merges_itself a m machine minimal = record {
+  machine = machine;
+  long = refl;
+  outputs = λ q x lq xa. refl;
+  targets = λ q x lq xa.
+      let t : next m q x < length m = target_below a m q x machine lq xa in
+      record { state = t; agrees = λ w letters. refl; least = λ p lt. minimal.apart p (next m q x) lt t };
+}
 
 pub number_closed : (a : ℕ) (h : Rows) (ws : List (List ℕ)) (ss : List ℕ) (ps : List (Option ℕ)) (names : List ℕ) → IsSearch a h ws ss ps (length ws) 0 → NamesPlaces ps names → (k x : ℕ) → k < length ss → x < a → get_or names (next h (get_or ss k 0) x) 0 < length ss
 number_closed a h ws ss ps names s named k x lk xa =

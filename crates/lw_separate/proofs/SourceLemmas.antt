@@ -7,8 +7,8 @@ use Rattle.std.proofs.lemmas.Bool.{cases_lt}
 use Rattle.std.proofs.lemmas.List.{get_or-set_same, get_or-set_other, length-set, get_or_append_left, get_or-map, map-set, length-map, get_or_past}
 use Rattle.std.proofs.lemmas.List.Elements.{All-get_or, All-map}
 use Rattle.lw_mealy.specs.Machine.{Rows, next}
-use Rattle.lw_separate.specs.Lengths.{pair_of, first_of, second_of}
-use Rattle.lw_separate.specs.Sources.{IsSources, AreSources, StandsIn, list_of}
+use Rattle.lw_separate.specs.bodies.Lengths.{pair_of, first_of, second_of}
+use Rattle.lw_separate.specs.bodies.Sources.{IsSources, AreSources, StandsIn, list_of}
 use Rattle.lw_separate.proofs.Greedy.{first-pair, second-pair}
 use Rattle.lw_separate.proofs.SearchLemmas.{last_or_before, length-push, at_end}
 use Rattle.lw_separate.proofs.AccessLemmas.{pushed}

@@ -6,7 +6,8 @@ use Rattle.std.proofs.lemmas.List.Elements.{All-from_get_or}
 use Rattle.lw_words.specs.Word.{IsWord}
 use Rattle.lw_mealy.specs.Machine.{Rows, out}
 use Rattle.lw_separate.specs.Least.{IsLeastSeparating}
-use Rattle.lw_separate.specs.Separators.{Earlier, SplitAt, SeparatesUpTo, IsSeparators, Splits}
+use Rattle.lw_separate.specs.Separators.{Earlier, SplitAt, IsSeparators}
+use Rattle.lw_separate.specs.bodies.Walk.{SeparatesUpTo, Splits}
 use Rattle.lw_separate.proofs.SearchLemmas.{last_or_before, length-push, at_end, pushed_pairs}
 use Rattle.lw_separate.proofs.AccessLemmas.{pushed}
 
@@ -64,9 +65,15 @@ module _ (a : ℕ) (m : Rows) where
       (λ r t rt lt h. ⊎_elim (λ (l : r < p + 1). ⊎_elim (λ (b : r < p). inl b) (λ (b : r ≡ p). inr (b, omega arith)) (last_or_before r p l)) (λ (l : (r ≡ p + 1) × (t < p + 1 + 1)). absurd (omega (arith, l.0, l.1))) h)
 
   pub walk_done : (p : ℕ) (list : List (List ℕ)) → length m ≤ p → SeparatesUpTo a m (p, p + 1) list → IsSeparators a m list
-  walk_done p list end s = walk_moves (p, p + 1) (length m, 0) list s
-      (λ r t rt lt h. inl (omega arith))
-      (λ r t rt lt h. inl (omega arith))
+  walk_done p list end s = record {
+    pairs = s.pairs;
+    paired = s.paired;
+    states = s.states;
+    least = s.least;
+    needed = s.needed;
+    rising = s.rising;
+    whole = λ r t rt lt. s.whole r t rt lt (inl (omega arith));
+  }
 
   module _ (p q : ℕ) (list : List (List ℕ)) (s : SeparatesUpTo a m (p, q) list) where
     abbrev pair : ℕ → ℕ × ℕ

@@ -8,9 +8,9 @@ use Rattle.std.proofs.lemmas.List.Sums.{sum_by-set}
 use Rattle.std.proofs.lemmas.Bool.{cases_order}
 use Rattle.lw_mealy.specs.Machine.{Rows, next, output}
 use Rattle.lw_mealy.proofs.RowLemmas.{target_below}
-use Rattle.lw_separate.specs.Lengths.{begins, onward, pair_of, first_of, second_of, one_more, IsFilled, Met, Within, unknown, unknown_at, SetsLength}
-use Rattle.lw_separate.specs.Sources.{AreSources}
-use Rattle.lw_separate.specs.Worklist.{IsWorklist, IsMarked, GrowsTo, Visits, ToldBy, RowReached, PairsReached, length_at}
+use Rattle.lw_separate.specs.bodies.Lengths.{begins, onward, pair_of, first_of, second_of, one_more, IsFilled, Met, Within, unknown, unknown_at, SetsLength}
+use Rattle.lw_separate.specs.bodies.Sources.{AreSources}
+use Rattle.lw_separate.specs.bodies.Worklist.{IsWorklist, IsMarked, GrowsTo, Visits, ToldBy, RowReached, PairsReached, length_at}
 use Rattle.lw_separate.proofs.Greedy.{first-pair, second-pair}
 use Rattle.lw_separate.proofs.LengthLemmas.{begins_cases, one_more_cases}
 use Rattle.lw_separate.proofs.SearchLemmas.{last_or_before, length-push, at_end}

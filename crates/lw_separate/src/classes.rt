@@ -1,11 +1,12 @@
+//! Classes of states by their outputs on the words of a list.
 ghost use Rattle.std.specs.Prelude.{◌≡◌, ℕ, ◌<◌, ◌≤◌, [], length, map, slice_index, IfOk, OnOk};
 ghost use Rattle.std.specs.Bool.{OnFalse};
 ghost use Rattle.lw_words.specs.Word.{IsWord};
-ghost use Rattle.lw_separate.specs.Columns.{AreColumns};
-ghost use Rattle.lw_separate.specs.Classes.{AllEqual, AreClasses, AreNames, Observes, IsLeastAlike, Refines, SplitsBy, RefinesBy};
+ghost use Rattle.lw_separate.specs.bodies.Columns.{AreColumns};
+ghost use Rattle.lw_separate.specs.bodies.Classes.{AllEqual, AreClasses, AreNames, Observes, IsLeastAlike, Refines, SplitsBy, RefinesBy};
 
+use crate::canonical_form::all_states;
 use crate::columns::column_of;
-use crate::form::all_states;
 use lw_mealy::Mealy;
 use lw_words::{NoMemory, Word};
 use std::alloc::Global;

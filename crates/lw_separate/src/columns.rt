@@ -1,5 +1,6 @@
+//! The columns of a machine: the cells of all states at a letter.
 ghost use Rattle.std.specs.Prelude.{ℕ, ◌<◌, map, IfOk};
-ghost use Rattle.lw_separate.specs.Columns.{IsColumn, AreColumns};
+ghost use Rattle.lw_separate.specs.bodies.Columns.{IsColumn, AreColumns};
 
 use lw_mealy::Mealy;
 use lw_words::NoMemory;

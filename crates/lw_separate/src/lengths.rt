@@ -1,5 +1,7 @@
+//! The table of the lengths of shortest separating words, by pairs of states.
 ghost use Rattle.std.specs.Prelude.{◌≡◌, ◌≢◌, ℕ, ◌<◌, length, MatchOption};
-ghost use Rattle.lw_separate.specs.Lengths.{begins, IsLengthTable, FirstLetter, SetsLength};
+ghost use Rattle.lw_separate.specs.bodies.Alike.{TellsAlike};
+ghost use Rattle.lw_separate.specs.bodies.Lengths.{begins, IsFilled, IsLengthTable, FirstLetter, SetsLength};
 
 use lw_mealy::Mealy;
 
@@ -50,4 +52,14 @@ pub fn set_length(m: &Mealy, lengths: &mut Vec<u32>, e: usize, d: u32) -> bool
         }
         None => false,
     }
+}
+
+/// Whether two states agree on all words.
+pub fn alike(m: &Mealy, lengths: &[u32], p: u16, q: u16) -> bool
+    requires filled { IsFilled m.now.inputs m.now.rows lengths.now }
+    requires first { p < length m.now.rows }
+    requires second { q < length m.now.rows }
+    ensures { TellsAlike m.now.inputs m.now.rows p q result }
+{
+    lengths[usize::from(p) * usize::from(m.states()) + usize::from(q)] == 0
 }

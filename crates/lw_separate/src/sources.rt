@@ -1,5 +1,6 @@
+//! The states that a letter leads to a state.
 ghost use Rattle.std.specs.Prelude.{◌≡◌, ℕ, ◌+◌, ◌<◌, length, map, IfOk, OnOk};
-ghost use Rattle.lw_separate.specs.Sources.{IsSources, AreSources};
+ghost use Rattle.lw_separate.specs.bodies.Sources.{IsSources, AreSources};
 
 use lw_mealy::Mealy;
 use lw_words::NoMemory;

@@ -1,9 +1,10 @@
+//! The worklist that fills the table of lengths.
 ghost use Rattle.std.specs.Prelude.{◌≡◌, ℕ, ◌+◌, ◌*◌, ◌<◌, length, map, slice_index, IfOk, OnOk};
 ghost use Rattle.lw_mealy.specs.Machine.{next};
-ghost use Rattle.lw_separate.specs.Lengths.{IsFilled, first_of, second_of};
-ghost use Rattle.lw_separate.specs.Sources.{IsSources};
-ghost use Rattle.lw_separate.specs.Working.{Working, Marked, Grows};
-ghost use Rattle.lw_separate.specs.Worklist.{Visits, RowReached, PairsReached};
+ghost use Rattle.lw_separate.specs.bodies.Lengths.{IsFilled, first_of, second_of};
+ghost use Rattle.lw_separate.specs.bodies.Sources.{IsSources};
+ghost use Rattle.lw_separate.specs.bodies.Working.{Working, Marked, Grows};
+ghost use Rattle.lw_separate.specs.bodies.Worklist.{Visits, RowReached, PairsReached};
 
 use crate::lengths::set_length;
 use crate::sources::{sources, sources_of};

@@ -1,5 +1,5 @@
 use Rattle.std.proofs.Common.{◌≢◌, ◌<◌, ℕ}
-use Rattle.lw_separate.specs.Lengths.{begins}
+use Rattle.lw_separate.specs.bodies.Lengths.{begins}
 use Rattle.lw_separate.proofs.lengths.first_letter.Given as goal
 
 abbrev pub invariant-loop-x : goal.invariant-loop-x

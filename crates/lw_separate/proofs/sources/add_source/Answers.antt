@@ -1,6 +1,6 @@
 use Rattle.std.proofs.Common.{rules, ◌≡◌, ◌<◌, ◌+◌, ◌*◌, ℕ, Vec, Global, length, ap, arith}
 use Rattle.lw_mealy.specs.Machine.{next}
-use Rattle.lw_separate.specs.Lengths.{pair_of}
+use Rattle.lw_separate.specs.bodies.Lengths.{pair_of}
 use Rattle.lw_separate.proofs.SourceLemmas.{source_written}
 use Rattle.lw_separate.proofs.sources.add_source.Goals as goal
 

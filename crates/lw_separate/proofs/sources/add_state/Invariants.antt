@@ -1,5 +1,5 @@
 use Rattle.std.proofs.Common.{map}
-use Rattle.lw_separate.specs.Sources.{IsSources}
+use Rattle.lw_separate.specs.bodies.Sources.{IsSources}
 use Rattle.lw_separate.proofs.sources.add_state.Given as goal
 
 abbrev pub invariant-loop-x : goal.invariant-loop-x

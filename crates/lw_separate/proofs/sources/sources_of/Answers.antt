@@ -1,5 +1,5 @@
 use Rattle.std.proofs.Common.{rules, ◌≡◌, ◌+◌, ◌*◌, Vec, Global, ℕ}
-use Rattle.lw_separate.specs.Lengths.{pair_of}
+use Rattle.lw_separate.specs.bodies.Lengths.{pair_of}
 use Rattle.lw_separate.proofs.SourceLemmas.{sources_read}
 use Rattle.lw_separate.proofs.sources.sources_of.Goals as goal
 

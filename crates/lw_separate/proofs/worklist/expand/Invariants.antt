@@ -1,6 +1,6 @@
 use Rattle.std.proofs.Common.{◌<◌, ℕ, get_or}
-use Rattle.lw_separate.specs.Working.{Grows}
-use Rattle.lw_separate.specs.Worklist.{PairsReached}
+use Rattle.lw_separate.specs.bodies.Working.{Grows}
+use Rattle.lw_separate.specs.bodies.Worklist.{PairsReached}
 use Rattle.lw_separate.proofs.worklist.expand.Given as goal
 
 abbrev pub invariant-loop-x : goal.invariant-loop-x

@@ -1,6 +1,6 @@
 use Rattle.std.proofs.Common.{map, length, ◌-◌, ◌*◌}
-use Rattle.lw_separate.specs.Sources.{IsSources}
-use Rattle.lw_separate.specs.Working.{Working}
+use Rattle.lw_separate.specs.bodies.Sources.{IsSources}
+use Rattle.lw_separate.specs.bodies.Working.{Working}
 use Rattle.lw_separate.proofs.worklist.fill.Given as goal
 
 abbrev pub invariant-loop-i : goal.invariant-loop-i

@@ -1,6 +1,6 @@
 use Rattle.std.proofs.Common.{◌+◌, Bool, List, ℕ, true, false, subst, sym}
-use Rattle.lw_separate.specs.Lengths.{SetsLength}
-use Rattle.lw_separate.specs.Worklist.{IsMarked}
+use Rattle.lw_separate.specs.bodies.Lengths.{SetsLength}
+use Rattle.lw_separate.specs.bodies.Worklist.{IsMarked}
 use Rattle.lw_separate.proofs.WorkLemmas.{mark_set, mark_skip}
 use Rattle.lw_separate.proofs.worklist.mark.Goals as goal
 

@@ -1,5 +1,5 @@
 use Rattle.std.proofs.Common.{◌≡◌, length}
-use Rattle.lw_separate.specs.Working.{Marked}
+use Rattle.lw_separate.specs.bodies.Working.{Marked}
 use Rattle.lw_separate.proofs.worklist.marked.Given as goal
 
 abbrev pub invariant-loop-e : goal.invariant-loop-e

@@ -1,7 +1,7 @@
 use Rattle.std.proofs.Common.{◌≡◌, ◌≤◌, ◌/◌, ℕ, length, get_or, subst, arith, ap, ◌∙◌, refl}
 use Rattle.std.proofs.lemmas.List.{get_or_default}
-use Rattle.lw_separate.specs.Lengths.{first_of, second_of}
-use Rattle.lw_separate.specs.Sources.{AreSources}
+use Rattle.lw_separate.specs.bodies.Lengths.{first_of, second_of}
+use Rattle.lw_separate.specs.bodies.Sources.{AreSources}
 use Rattle.lw_separate.proofs.WorkLemmas.{pairs_more, all_rows}
 use Rattle.lw_separate.proofs.worklist.visit_pairs.Goals as goal
 

@@ -1,7 +1,7 @@
 use Rattle.std.proofs.Common.{◌<◌, ℕ, get_or}
-use Rattle.lw_separate.specs.Lengths.{second_of}
-use Rattle.lw_separate.specs.Working.{Grows}
-use Rattle.lw_separate.specs.Worklist.{RowReached}
+use Rattle.lw_separate.specs.bodies.Lengths.{second_of}
+use Rattle.lw_separate.specs.bodies.Working.{Grows}
+use Rattle.lw_separate.specs.bodies.Worklist.{RowReached}
 use Rattle.lw_separate.proofs.worklist.visit_pairs.Given as goal
 
 abbrev pub invariant-loop-p : goal.invariant-loop-p

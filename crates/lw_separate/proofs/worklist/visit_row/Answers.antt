@@ -1,8 +1,8 @@
 use Rattle.std.proofs.Common.{rules, ◌≡◌, ◌<◌, ◌≤◌, ◌+◌, ◌*◌, ◌%◌, ℕ, length, get_or, subst, arith, ap, ◌∙◌}
 use Rattle.std.proofs.lemmas.List.{get_or_default}
-use Rattle.lw_separate.specs.Lengths.{pair_of, second_of}
-use Rattle.lw_separate.specs.Sources.{AreSources}
-use Rattle.lw_separate.specs.Worklist.{Visits}
+use Rattle.lw_separate.specs.bodies.Lengths.{pair_of, second_of}
+use Rattle.lw_separate.specs.bodies.Sources.{AreSources}
+use Rattle.lw_separate.specs.bodies.Worklist.{Visits}
 use Rattle.lw_separate.proofs.WorkLemmas.{row_more, all_in_row}
 use Rattle.lw_separate.proofs.worklist.visit_row.Goals as goal
 

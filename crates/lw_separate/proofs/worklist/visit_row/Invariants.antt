@@ -1,6 +1,6 @@
 use Rattle.std.proofs.Common.{◌<◌, ℕ, get_or}
-use Rattle.lw_separate.specs.Lengths.{pair_of}
-use Rattle.lw_separate.specs.Working.{Grows}
+use Rattle.lw_separate.specs.bodies.Lengths.{pair_of}
+use Rattle.lw_separate.specs.bodies.Working.{Grows}
 use Rattle.lw_separate.proofs.worklist.visit_row.Given as goal
 
 abbrev pub invariant-loop-q : goal.invariant-loop-q

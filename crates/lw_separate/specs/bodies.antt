@@ -1,0 +1,12 @@
+-- What the contracts of private functions cite, and no public clause.
+pub mod Alike
+pub mod Classes
+pub mod Columns
+pub mod Lengths
+pub mod Renaming
+pub mod Search
+pub mod Searched
+pub mod Sources
+pub mod Walk
+pub mod Working
+pub mod Worklist
