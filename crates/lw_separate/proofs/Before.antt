@@ -115,6 +115,16 @@ at_most_trans u v w h k =
 pub at_most_push : (u v : List ℕ) (x : ℕ) → AtMost u v → AtMost (u ++ x ∷ []) (v ++ x ∷ [])
 at_most_push u v x h = ⊎_elim (λ (e : u ≡ v). inl (ap (λ (t : List ℕ). t ++ x ∷ []) e)) (λ (b : Before u v). inr (before_push u v x x b)) h
 
+pub at_most_cons : (x : ℕ) (u v : List ℕ) → length u ≡ length v → AtMost u v → AtMost (x ∷ u) (x ∷ v)
+at_most_cons x u v long h =
+    ⊎_elim
+    (λ (e : u ≡ v). inl (ap (λ (t : List ℕ). x ∷ t) e))
+    (λ (b : Before u v). inr (of_cases (x ∷ u) (x ∷ v) (⊎_elim
+    (λ (lt : length u < length v). absurd (omega (arith, long, lt)))
+    (λ (r : (length u ≡ length v) × Lex u v). inr (omega (arith, long), inr (refl, r.1)))
+    (to_cases u v b))))
+    h
+
 -- a word that is at most another is not behind it
 pub at_most_not_behind : (u v : List ℕ) → AtMost u v → shortlex_cmp v u ≢ Less
 at_most_not_behind u v h less =
@@ -123,11 +133,15 @@ at_most_not_behind u v h less =
     (λ (b : Before u v). before_apart u (before_trans u v u b less))
     h
 
+pub not_behind_at_most : (u v : List ℕ) → shortlex_cmp u v ≢ Less → AtMost v u
+not_behind_at_most u v h =
+    elim (shortlex_cmp u v) as (λ o. shortlex_cmp u v ≡ o → AtMost v u) [
+      | Less ↦ λ is. absurd (h is)
+      | Equal ↦ λ is. inl (sym (is_order.1 u v is))
+      | Greater ↦ λ is. inr (is_order.0.antisymm v u ∙ ap ordering_reverse is)
+    ] refl
+
 -- of two words neither of which comes before the other
 pub neither_before : (u v : List ℕ) → shortlex_cmp u v ≢ Less → shortlex_cmp v u ≢ Less → u ≡ v
 neither_before u v h k =
-    elim (shortlex_cmp u v) as (λ o. shortlex_cmp u v ≡ o → u ≡ v) [
-      | Less ↦ λ is. absurd (h is)
-      | Equal ↦ λ is. is_order.1 u v is
-      | Greater ↦ λ is. absurd (k (is_order.0.antisymm v u ∙ ap ordering_reverse is))
-    ] refl
+    ⊎_elim (λ (e : v ≡ u). sym e) (λ (b : Before v u). absurd (k b)) (not_behind_at_most u v h)

@@ -2,11 +2,9 @@
 pub mod Alike
 pub mod Classes
 pub mod Columns
-pub mod Lengths
+pub mod Levelled
+pub mod Levels
 pub mod Renaming
 pub mod Search
 pub mod Searched
-pub mod Sources
 pub mod Walk
-pub mod Working
-pub mod Worklist

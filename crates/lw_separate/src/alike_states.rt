@@ -2,23 +2,22 @@
 ghost use Rattle.std.specs.Prelude.{ℕ, ◌<◌, length, IfOk};
 ghost use Rattle.lw_separate.specs.FirstAlike.{IsFirstAlike};
 ghost use Rattle.lw_separate.specs.bodies.Alike.{IsAlikeAfter};
-ghost use Rattle.lw_separate.specs.bodies.Lengths.{IsFilled};
+ghost use Rattle.lw_separate.specs.bodies.Renaming.{NamesStates};
 
-use crate::lengths::alike;
-use crate::worklist::fill;
+use crate::levels::fill_levels;
 use lw_mealy::Mealy;
 use lw_words::NoMemory;
 use std::alloc::Global;
 
 /// The least state after p that agrees with it on all words.
-fn alike_after(m: &Mealy, lengths: &[u32], p: u16) -> Option<u16>
-    requires filled { IsFilled m.now.inputs m.now.rows lengths.now }
+fn alike_after(m: &Mealy, names: &[u16], p: u16) -> Option<u16>
+    requires names { NamesStates m.now.inputs m.now.rows names.now }
     requires state { p < length m.now.rows }
     ensures { IsAlikeAfter m.now.inputs m.now.rows p result }
 {
     let n = m.states();
     for q in p + 1..n {
-        if alike(m, lengths, p, q) {
+        if names[usize::from(p)] == names[usize::from(q)] {
             return Some(q);
         }
     }
@@ -26,12 +25,13 @@ fn alike_after(m: &Mealy, lengths: &[u32], p: u16) -> Option<u16>
 }
 
 /// The first pair of states p < q, by p, then by q, that agree on all words, and None exactly where any two differ.
+/// Fills the levels, as `separating`.
 pub fn first_alike(alloc: Global, m: &Mealy) -> Result<Option<(u16, u16)>, NoMemory>
     ensures { IfOk result (IsFirstAlike m.now.inputs m.now.rows) }
 {
-    let lengths = fill(alloc, m)?;
+    let levels = fill_levels(alloc, m)?;
     for p in 0..m.states() {
-        if let Some(q) = alike_after(m, lengths.as_slice(), p) {
+        if let Some(q) = alike_after(m, levels.names.as_slice(), p) {
             return Ok(Some((p, q)));
         }
     }

@@ -3,42 +3,14 @@ ghost use Rattle.std.specs.Prelude.{◌≡◌, ℕ, ◌*◌, ◌<◌, length, sl
 ghost use Rattle.lw_mealy.specs.Minimal.{IsMinimal};
 ghost use Rattle.lw_mealy.specs.Limits.{IsWithinLimits};
 ghost use Rattle.lw_separate.specs.Canonical.{IsCanonical};
-ghost use Rattle.lw_separate.specs.bodies.Renaming.{StandsFor, Merges, Numbers, NamesStates, NamesPlaces, IsAllStates};
-ghost use Rattle.lw_separate.specs.bodies.Lengths.{IsFilled};
+ghost use Rattle.lw_separate.specs.bodies.Renaming.{Merges, Numbers, NamesPlaces, IsAllStates};
 
 use crate::access::breadth_first;
+use crate::levels::fill_levels;
 use crate::rename::rename;
-use crate::worklist::fill;
 use lw_mealy::Mealy;
 use lw_words::NoMemory;
 use std::alloc::Global;
-
-/// The least state that agrees with a state on all words.
-fn representative(m: &Mealy, lengths: &[u32], q: u16) -> u16
-    requires filled { IsFilled m.now.inputs m.now.rows lengths.now }
-    requires state { q < length m.now.rows }
-    ensures { StandsFor m.now.inputs m.now.rows q result }
-{
-    let n = usize::from(m.states());
-    for p in 0..q {
-        if lengths[usize::from(p) * n + usize::from(q)] == 0 {
-            return p;
-        }
-    }
-    q
-}
-
-/// For each state the one that stands for it.
-fn representatives(alloc: Global, m: &Mealy) -> Result<Vec<u16>, NoMemory>
-    ensures { IfOk result (λ names. NamesStates m.now.inputs m.now.rows names.items) }
-{
-    let lengths = fill(alloc, m)?;
-    let mut names = Vec::with_capacity(alloc, usize::from(m.states()))?;
-    for q in 0..m.states() {
-        names.push(representative(m, lengths.as_slice(), q))?;
-    }
-    Ok(names)
-}
 
 /// All states, in their order.
 pub fn all_states(alloc: Global, m: &Mealy) -> Result<Vec<u16>, NoMemory>
@@ -58,9 +30,9 @@ fn merged(alloc: Global, m: &Mealy) -> Result<Mealy, NoMemory>
     ensures alphabets { IfOk result (λ h. (h.inputs ≡ m.now.inputs) × (h.outputs ≡ m.now.outputs)) }
     ensures complete { IfOk result IsWithinLimits }
 {
-    let names = representatives(alloc, m)?;
+    let levels = fill_levels(alloc, m)?;
     let states = all_states(alloc, m)?;
-    rename(alloc, m, states.as_slice(), names.as_slice())
+    rename(alloc, m, states.as_slice(), levels.names.as_slice())
 }
 
 /// For each state its place, or 0 where it has none.

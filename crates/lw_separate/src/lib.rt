@@ -7,12 +7,10 @@ mod canonical_form;
 mod classes;
 mod columns;
 mod laws;
-mod lengths;
+mod levels;
 mod rename;
 mod separating_word;
 mod separator_words;
-mod sources;
-mod worklist;
 
 pub use access::{access_words, least_access};
 pub use alike_states::first_alike;

@@ -1,16 +1,17 @@
 //! The words that separate all states of a machine.
-ghost use Rattle.std.specs.Prelude.{◌+◌, ◌<◌, length, map, IfOk, OnOk};
+ghost use Rattle.std.specs.Prelude.{ℕ, ◌+◌, ◌<◌, length, map, IfOk, OnOk};
+ghost use Rattle.std.specs.Bool.{OnTrue};
 ghost use Rattle.lw_mealy.specs.Minimal.{IsMinimal};
-ghost use Rattle.lw_separate.specs.bodies.Lengths.{IsFilled};
+ghost use Rattle.lw_separate.specs.bodies.Levelled.{LevelsOf};
 ghost use Rattle.lw_separate.specs.bodies.Columns.{AreColumns};
-ghost use Rattle.lw_separate.specs.bodies.Classes.{AreClasses};
+ghost use Rattle.lw_separate.specs.bodies.Classes.{AreClasses, OwnClasses};
 ghost use Rattle.lw_separate.specs.Separators.{IsSeparators};
 ghost use Rattle.lw_separate.specs.bodies.Walk.{SeparatesUpTo};
 
 use crate::classes::{one_class, refine};
 use crate::columns::columns;
+use crate::levels::{Levels, fill_levels};
 use crate::separating_word::least_word;
-use crate::worklist::fill;
 use lw_mealy::Mealy;
 use lw_words::{NoMemory, Word, Words};
 use std::alloc::Global;
@@ -18,8 +19,8 @@ use std::alloc::Global;
 /// What the walk over the pairs of states reads.
 #[derive(Drop)]
 struct Tables {
-    /// The length of a shortest separating word of each pair.
-    lengths: Vec<u32>,
+    /// The classes of states by the words of at most so many letters.
+    levels: Levels,
     /// The targets and outputs of all states at each letter.
     columns: Vec<Vec<(u16, u16)>>,
 }
@@ -34,7 +35,7 @@ fn add_pair(
     p: u16,
     q: u16,
 ) -> Result<(), NoMemory>
-    requires filled { IsFilled m.now.inputs m.now.rows tables.now.lengths.items }
+    requires levels { LevelsOf m.now tables.now.levels }
     requires columns { AreColumns m.now.inputs m.now.rows (map (λ c. c.items) tables.now.columns.items) }
     requires minimal { IsMinimal m.now.inputs m.now.rows }
     requires pair { p < q }
@@ -47,14 +48,8 @@ fn add_pair(
     if classes[usize::from(p)] != classes[usize::from(q)] {
         return Ok(());
     }
-    let n = usize::from(m.states());
-    let Some(word) = least_word(
-        alloc,
-        m,
-        tables.lengths.as_slice(),
-        usize::from(p) * n + usize::from(q),
-    )?
-    else {
+    let found = least_word(alloc, m, &tables.levels, p, q)?;
+    let Some(word) = found else {
         unreachable!();
     };
     refine(alloc, m, tables.columns.as_slice(), classes, p, &word)?;
@@ -73,7 +68,7 @@ fn add_row(
     classes: &mut Vec<u16>,
     p: u16,
 ) -> Result<(), NoMemory>
-    requires filled { IsFilled m.now.inputs m.now.rows tables.now.lengths.items }
+    requires levels { LevelsOf m.now tables.now.levels }
     requires columns { AreColumns m.now.inputs m.now.rows (map (λ c. c.items) tables.now.columns.items) }
     requires minimal { IsMinimal m.now.inputs m.now.rows }
     requires state { p < length m.now.rows }
@@ -89,23 +84,38 @@ fn add_row(
     Ok(())
 }
 
+/// Whether each state from p on is the only one of its class, of the states from p on.
+fn all_apart(classes: &[u16], p: u16) -> bool
+    ensures { OnTrue result (OwnClasses p classes.now) }
+{
+    for q in usize::from(p)..classes.len() {
+        if usize::from(classes[q]) != q {
+            return false;
+        }
+    }
+    true
+}
+
 /// The words W of the W-method (Vasilevskii 1973, Chow 1978): goes through the pairs of states p < q, by p, then by q,
 /// and adds the least word that separates them, where no word of the list does yet.
-/// Fills one table over all pairs of states, as `separating`, and keeps for each state the class of those that no word
-/// of the list separates from it, which splits by each word that is added (Moore 1956): a step for each pair, and a step
-/// for each state and each letter of the words, at most the cube of the number of states.
+/// Fills the levels, as `separating`, and keeps for each state the class of those that no word of the list separates
+/// from it, which splits by each word that is added (Moore 1956); stops where each class has one state. Takes a step for
+/// each pair at most, and a step for each state and each letter of the words, at most the cube of the number of states.
 pub fn separators(alloc: Global, m: &Mealy) -> Result<Words, NoMemory>
     requires minimal { IsMinimal m.now.inputs m.now.rows }
     ensures separators { IfOk result (IsSeparators m.now.inputs m.now.rows) }
     ensures few { IfOk result (λ words. length words < length m.now.rows) }
 {
     let tables = Tables {
-        lengths: fill(alloc, m)?,
+        levels: fill_levels(alloc, m)?,
         columns: columns(alloc, m)?,
     };
     let mut words = Words::new(alloc);
     let mut classes = one_class(alloc, m)?;
     for p in 0..m.states() {
+        if all_apart(classes.as_slice(), p) {
+            return Ok(words);
+        }
         add_row(alloc, m, &tables, &mut words, &mut classes, p)?;
     }
     Ok(words)

@@ -343,3 +343,54 @@ fn drawn_machines_as_the_plain_body(rt: HostRuntime) -> Result<(), Fail> {
     }
     Ok(())
 }
+
+/// Whether the k-th word of the list has k letters.
+fn rises(list: &Words) -> bool {
+    let mut count = 0usize;
+    for word in list.as_slice() {
+        if word.len() != count {
+            return false;
+        }
+        count = count.wrapping_add(1);
+    }
+    true
+}
+
+#[test]
+fn a_chain_of_as_many_states_as_there_may_be(rt: HostRuntime) -> Result<(), Fail> {
+    let alloc = rt.alloc();
+    let m = chain(alloc, 1024)?;
+    assert!(rt; 1 < m.states());
+    assert_eq!(rt; letters(&separating(alloc, &m, 0, 1)?), Some(1023));
+    assert_eq!(rt; first_alike(alloc, &m)?, None);
+    let c = canonical(alloc, &m)?;
+    assert_eq!(rt; c.states(), 1024);
+    assert_eq!(rt; separators(alloc, &c)?.len(), 1);
+    assert!(rt; rises(&least_access(alloc, &c)?));
+    Ok(())
+}
+
+#[test]
+fn as_many_states_and_letters_as_there_may_be(rt: HostRuntime) -> Result<(), Fail> {
+    let alloc = rt.alloc();
+    let m = drawn(alloc, &mut Lcg128Xsl64::seed_from_u64(7), 1024, 64, 4096)?;
+    assert_eq!(rt; first_alike(alloc, &m)?, None);
+    assert_eq!(rt; access_words(alloc, &m)?.len(), 1024);
+    let c = canonical(alloc, &m)?;
+    assert_eq!(rt; renumbered(alloc, &c)?.states(), 1024);
+    assert!(rt; separators(alloc, &c)?.len() > 0);
+    Ok(())
+}
+
+#[test]
+fn as_many_equal_states_as_there_may_be(rt: HostRuntime) -> Result<(), Fail> {
+    let alloc = rt.alloc();
+    let mut rows = Vec::new(alloc);
+    for q in 0..1024u16 {
+        rows.push(vec![in alloc; (q, 0u16); 64]?)?;
+    }
+    let m = Mealy::new(alloc, 64, 1, rows)?;
+    assert_eq!(rt; first_alike(alloc, &m)?, Some((0, 1)));
+    assert_eq!(rt; canonical(alloc, &m)?.states(), 1);
+    Ok(())
+}

@@ -1,12 +1,7 @@
 -- States that agree on all words.
-use Rattle.std.specs.Prelude.{ℕ, ◌<◌, length, Bool, Option, MatchOption}
-use Rattle.std.specs.Bool.{MatchBool}
+use Rattle.std.specs.Prelude.{ℕ, ◌<◌, length, Option, MatchOption}
 use Rattle.lw_mealy.specs.Machine.{Rows}
 use Rattle.lw_mealy.specs.Minimal.{Differ}
-
--- whether the states agree on all words
-abbrev pub TellsAlike : ℕ → Rows → ℕ → ℕ → Bool → Type 0
-TellsAlike a m p q alike = MatchBool alike (¬ Differ a m p q) (Differ a m p q)
 
 -- the least state after p that agrees with it on all words
 pub record IsNextAlike (a : ℕ) (m : Rows) (p q : ℕ) : Type 0 where

@@ -61,3 +61,7 @@ pub record RefinesBy (m : Rows) (first : ℕ) (w : List ℕ) (classes classes' :
   pub names : AreNames m classes'
   pub same : (p q : ℕ) → IsFrom m first p → IsFrom m first q → slice_index classes' p ≡ slice_index classes' q → (slice_index classes p ≡ slice_index classes q) × (out m p w ≡ out m q w)
   pub apart : (p q : ℕ) → IsFrom m first p → IsFrom m first q → slice_index classes p ≡ slice_index classes q → out m p w ≡ out m q w → slice_index classes' p ≡ slice_index classes' q
+
+-- each state from the first one on is named by itself
+abbrev pub OwnClasses : ℕ → List ℕ → Type 0
+OwnClasses first classes = (q : ℕ) → first ≤ q → q < length classes → slice_index classes q ≡ q

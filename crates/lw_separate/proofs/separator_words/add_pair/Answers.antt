@@ -1,11 +1,9 @@
-use Rattle.std.proofs.Common.{rules, ◌≡◌, ◌≢◌, ◌<◌, ◌+◌, ◌*◌, ℕ, List, false, length, get_or, sym, subst, arith, ap, ◌∙◌}
+use Rattle.std.proofs.Common.{rules, ◌≡◌, ◌≢◌, ◌<◌, ◌+◌, ℕ, List, Option, false, length, get_or, sym, subst, arith, ap, ◌∙◌}
 use Rattle.std.proofs.lemmas.List.{get_or_default}
 use Rattle.lw_separate.specs.bodies.Classes.{AreClasses}
-use Rattle.lw_separate.specs.Least.{IsLeastSeparating}
+use Rattle.lw_separate.specs.Least.{IsLeastSeparating, IsSeparatingWord}
 use Rattle.lw_separate.specs.bodies.Walk.{SeparatesUpTo, Splits}
-use Rattle.lw_separate.specs.bodies.Lengths.{pair_of}
 use Rattle.lw_separate.proofs.ClassLemmas.{split_by_class, alike_by_class, classes_push}
-use Rattle.lw_separate.proofs.Greedy.{word_of_pair}
 use Rattle.lw_separate.proofs.WalkLemmas.{pair_split, pair_added}
 use Rattle.lw_separate.proofs.separator_words.add_pair.Goals as goal
 
@@ -25,9 +23,7 @@ returns-clause-so_far c =
     let second : c.index-2.result.now ≡ get_or c.args.classes.now.items c.args.q 0 = c.index-2.ensures ∙ (ap (λ (k : ℕ). get_or c.args.classes.now.items k c.index-2.result.now) c.from-2.ensures ∙ get_or_default c.args.classes.now.items c.args.q c.index-2.result.now 0 (omega (arith, c.requires.classes.names.long, c.requires.state))) in
     let same : c.index.result.now ≡ c.index-2.result.now = grind (arith, rules) in
     let h : Splits c.args.m.now.rows c.args.words.now c.args.p c.args.q false = alike_by_class c.args.m.now.rows c.args.p c.args.words.now c.args.classes.now.items c.args.p c.args.q c.requires.classes (omega arith, lp) (omega (arith, c.requires.pair), c.requires.state) (sym first ∙ (same ∙ second)) in
-    let at : c.from-3.result * c.from-n.result + c.from-4.result ≡ pair_of c.args.m.now.rows c.args.p c.args.q = search rules in
-    let least : IsLeastSeparating c.args.m.now.inputs c.args.m.now.rows c.args.p c.args.q c.in-Some.word =
-    word_of_pair c.args.m.now.inputs c.args.m.now.rows c.args.p c.args.q (c.from-3.result * c.from-n.result + c.from-4.result) c.in_ok-word.field-0 c.in-Some.word c.requires.state at c.in-Some.is c.in_ok-word.ensures in
+    let least : IsLeastSeparating c.args.m.now.inputs c.args.m.now.rows c.args.p c.args.q c.in-Some.word = subst (λ (o : Option (List ℕ)). IsSeparatingWord c.args.m.now.inputs c.args.m.now.rows c.args.p c.args.q o) c.in-Some.is c.in_ok-found.ensures in
     subst (λ (l : List (List ℕ)). SeparatesUpTo c.args.m.now.inputs c.args.m.now.rows (c.args.p, c.args.q + 1) l) (sym c.in-Ok.ensures.ok)
     (pair_added c.args.m.now.inputs c.args.m.now.rows c.args.p c.args.q c.args.words.now c.requires.so_far c.requires.pair c.requires.state h c.in-Some.word least)
 
