@@ -1,4 +1,5 @@
--- The canonical form of a machine: minimal, and numbered breadth first in letter order. Source: Moore (1956).
+-- The canonical form of a machine: minimal, and numbered breadth first in letter order.
+-- Source: Moore (1956).
 use Rattle.std.specs.Prelude.{◌≡◌, ℕ, ◌<◌, List, [], length, slice_index_or}
 use Rattle.std.specs.declared.cmp.Ordering.TheVariants.{Less}
 use Rattle.lw_words.specs.Shortlex.{shortlex_cmp}
@@ -7,7 +8,8 @@ use Rattle.lw_mealy.specs.Minimal.{IsMinimal}
 use Rattle.lw_mealy.specs.Equal.{Equal}
 use Rattle.lw_separate.specs.Least.{AreLeastAccess}
 
--- the machine equals m and is minimal, and the least words to the states 0, 1, 2 and so on rise in shortlex order
+-- the machine equals m and is minimal, and the least words to the states 0, 1, 2 and so on rise
+-- in shortlex order
 pub record IsCanonical (a : ℕ) (m c : Rows) : Type 0 where
   pub machine : IsMachine a c
   pub equal : Equal a c m

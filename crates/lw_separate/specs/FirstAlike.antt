@@ -1,10 +1,12 @@
--- The first pair of states that agree on all words. Source: the equivalence of states of Moore (1956).
+-- The first pair of states that agree on all words.
+-- Source: the equivalence of states of Moore (1956).
 use Rattle.std.specs.Prelude.{ℕ, ◌<◌, length, Option, MatchOption}
 use Rattle.lw_mealy.specs.Machine.{Rows}
 use Rattle.lw_mealy.specs.Minimal.{Differ}
 use Rattle.lw_separate.specs.Separators.{Earlier}
 
--- two states p < q that agree on all words; each earlier pair, by the first state, then by the second, differs
+-- two states p < q that agree on all words;
+-- each earlier pair, by the first state, then by the second, differs
 pub record AreFirstAlike (a : ℕ) (m : Rows) (pair : ℕ × ℕ) : Type 0 where
   pub rising : pair.0 < pair.1
   pub state : pair.1 < length m

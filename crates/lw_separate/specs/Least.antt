@@ -1,5 +1,7 @@
--- Least words in shortlex order. Source: separating words as in Moore (1956), access words as in Angluin (1987).
-use Rattle.std.specs.Prelude.{◌≡◌, ◌≢◌, ℕ, ◌<◌, List, [], length, slice_index_or, Option, None, MatchOption}
+-- Least words in shortlex order.
+-- Source: separating words as in Moore (1956), access words as in Angluin (1987).
+use Rattle.std.specs.Prelude.{◌≡◌, ◌≢◌, ℕ, ◌<◌, List, [], length, slice_index_or}
+use Rattle.std.specs.Prelude.{Option, None, MatchOption}
 use Rattle.std.specs.declared.cmp.Ordering.TheVariants.{Less}
 use Rattle.lw_words.specs.Word.{IsWord}
 use Rattle.lw_words.specs.Shortlex.{shortlex_cmp}
@@ -45,7 +47,8 @@ pub record AreLeastAccess (a : ℕ) (m : Rows) (list : List (List ℕ)) : Type 0
 
 -- a state has one least access word at most
 abbrev pub OneAccessWord : Type 0
-OneAccessWord = (a : ℕ) (m : Rows) (q : ℕ) (u v : List ℕ) → IsLeastAccess a m q u → IsLeastAccess a m q v → u ≡ v
+OneAccessWord = (a : ℕ) (m : Rows) (q : ℕ) (u v : List ℕ)
+    → IsLeastAccess a m q u → IsLeastAccess a m q v → u ≡ v
 
 -- two states have one least separating word at most
 abbrev pub OneSeparatingWord : Type 0
@@ -54,4 +57,5 @@ OneSeparatingWord = (a : ℕ) (m : Rows) (p q : ℕ) (u v : List ℕ)
 
 -- a machine has one list of least access words at most
 abbrev pub OneLeastAccess : Type 0
-OneLeastAccess = (a : ℕ) (m : Rows) (u v : List (List ℕ)) → AreLeastAccess a m u → AreLeastAccess a m v → u ≡ v
+OneLeastAccess = (a : ℕ) (m : Rows) (u v : List (List ℕ))
+    → AreLeastAccess a m u → AreLeastAccess a m v → u ≡ v

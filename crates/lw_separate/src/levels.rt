@@ -1,5 +1,6 @@
 //! The classes of states by the words of at most 0, 1, 2 letters and so on (Moore 1956).
-ghost use Rattle.std.specs.Prelude.{◌≡◌, ℕ, ◌<◌, [], length, map, slice_index_or, MatchOption, IfOk, OnOk};
+ghost use Rattle.std.specs.Prelude.{◌≡◌, ℕ, ◌<◌, [], length, map, slice_index_or};
+ghost use Rattle.std.specs.Prelude.{MatchOption, IfOk, OnOk};
 ghost use Rattle.std.specs.Bool.{MatchBool};
 ghost use Rattle.lw_mealy.specs.Machine.{IsMachine};
 ghost use Rattle.lw_separate.specs.bodies.Levelled.{LevelsOf};
@@ -26,7 +27,8 @@ fn parts_at(m: &Mealy, classes: &[u16], p: u16, q: u16, x: u16) -> bool
     requires first { p < length m.now.rows }
     requires second { q < length m.now.rows }
     requires letter { x < m.now.inputs }
-    ensures { MatchBool result (PartsAt m.now.rows classes.now p q x) (MeetsAt m.now.rows classes.now p q x) }
+    ensures { MatchBool result (PartsAt m.now.rows classes.now p q x)
+        (MeetsAt m.now.rows classes.now p q x) }
 {
     let (r, y) = m.step(p, x);
     let (s, z) = m.step(q, x);
@@ -41,7 +43,8 @@ pub fn first_letter(m: &Mealy, classes: &[u16], p: u16, q: u16) -> Option<u16>
     requires long { length classes.now ≡ length m.now.rows }
     requires first { p < length m.now.rows }
     requires second { q < length m.now.rows }
-    ensures { MatchOption result (NoLetter m.now.inputs m.now.rows classes.now p q) (IsFirstLetter m.now.inputs m.now.rows classes.now p q) }
+    ensures { MatchOption result (NoLetter m.now.inputs m.now.rows classes.now p q)
+        (IsFirstLetter m.now.inputs m.now.rows classes.now p q) }
 {
     for x in 0..m.inputs() {
         if parts_at(m, classes, p, q, x) {
@@ -56,7 +59,8 @@ fn stay_together(m: &Mealy, classes: &[u16], p: u16, q: u16) -> bool
     requires long { length classes.now ≡ length m.now.rows }
     requires first { p < length m.now.rows }
     requires second { q < length m.now.rows }
-    ensures { MatchBool result (StayTogether m.now.inputs m.now.rows classes.now p q) (GoApart m.now.inputs m.now.rows classes.now p q) }
+    ensures { MatchBool result (StayTogether m.now.inputs m.now.rows classes.now p q)
+        (GoApart m.now.inputs m.now.rows classes.now p q) }
 {
     if classes[usize::from(p)] != classes[usize::from(q)] {
         return false;
@@ -95,7 +99,7 @@ fn refined(alloc: Global, m: &Mealy, classes: &[u16]) -> Result<Vec<u16>, NoMemo
 
 /// One class of all states, which no word of no letter separates.
 fn one_level(alloc: Global, m: &Mealy) -> Result<Vec<u16>, NoMemory>
-    ensures classes { IfOk result (λ classes. AreClassesOf m.now.inputs m.now.rows 0 classes.items) }
+    ensures classes { IfOk result (λ cs. AreClassesOf m.now.inputs m.now.rows 0 cs.items) }
     ensures machine { OnOk result (IsMachine m.now.inputs m.now.rows) }
 {
     Ok(vec![in alloc; 0u16; usize::from(m.states())]?)

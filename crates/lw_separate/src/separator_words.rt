@@ -36,7 +36,8 @@ fn add_pair(
     q: u16,
 ) -> Result<(), NoMemory>
     requires levels { LevelsOf m.now tables.now.levels }
-    requires columns { AreColumns m.now.inputs m.now.rows (map (λ c. c.items) tables.now.columns.items) }
+    requires columns { AreColumns m.now.inputs m.now.rows
+        (map (λ c. c.items) tables.now.columns.items) }
     requires minimal { IsMinimal m.now.inputs m.now.rows }
     requires pair { p < q }
     requires state { q < length m.now.rows }
@@ -69,12 +70,14 @@ fn add_row(
     p: u16,
 ) -> Result<(), NoMemory>
     requires levels { LevelsOf m.now tables.now.levels }
-    requires columns { AreColumns m.now.inputs m.now.rows (map (λ c. c.items) tables.now.columns.items) }
+    requires columns { AreColumns m.now.inputs m.now.rows
+        (map (λ c. c.items) tables.now.columns.items) }
     requires minimal { IsMinimal m.now.inputs m.now.rows }
     requires state { p < length m.now.rows }
     requires so_far { SeparatesUpTo m.now.inputs m.now.rows (p, p + 1) words.old }
     requires classes { AreClasses m.now.rows p words.old classes.old.items }
-    ensures so_far { OnOk result (SeparatesUpTo m.now.inputs m.now.rows (p + 1, p + 1 + 1) words.new) }
+    ensures so_far { OnOk result
+        (SeparatesUpTo m.now.inputs m.now.rows (p + 1, p + 1 + 1) words.new) }
     ensures classes { OnOk result (AreClasses m.now.rows (p + 1) words.new classes.new.items) }
 {
     let n = m.states();

@@ -1,5 +1,7 @@
--- Classes of states by the words of at most so many letters. Source: the partitions of Moore (1956).
-use Rattle.std.specs.Prelude.{◌≡◌, ◌≢◌, ℕ, zero, suc, ◌<◌, ◌≤◌, List, [], length, ◌⊎◌, Option, MatchOption, slice_index, slice_index_or}
+-- Classes of states by the words of at most so many letters.
+-- Source: the partitions of Moore (1956).
+use Rattle.std.specs.Prelude.{◌≡◌, ◌≢◌, ℕ, zero, suc, ◌<◌, ◌≤◌, ◌⊎◌}
+use Rattle.std.specs.Prelude.{List, [], length, slice_index, slice_index_or}
 use Rattle.lw_words.specs.Word.{IsWord}
 use Rattle.lw_mealy.specs.Machine.{Rows, IsMachine, out, next, output}
 use Rattle.lw_separate.specs.bodies.Renaming.{NamesStates}
@@ -10,7 +12,8 @@ AgreeUpTo a m letters p q = (w : List ℕ) → IsWord a w → length w ≤ lette
 
 -- on some word of at most so many letters they differ
 abbrev pub DifferWithin : ℕ → Rows → ℕ → ℕ → ℕ → Type 0
-DifferWithin a m letters p q = (w : List ℕ) × IsWord a w × (length w ≤ letters) × (out m p w ≢ out m q w)
+DifferWithin a m letters p q = (w : List ℕ) × IsWord a w × (length w ≤ letters)
+    × (out m p w ≢ out m q w)
 
 -- the shortest words on which two states differ have so many letters; of no letter nothing is said
 abbrev pub AreApartBy : ℕ → Rows → ℕ → ℕ → ℕ → Type 0
@@ -22,7 +25,8 @@ pub record AreNamed (m : Rows) (classes : List ℕ) : Type 0 where
   pub long : length classes ≡ length m
   pub low : (q : ℕ) → q < length m → slice_index classes q ≤ q
 
--- the class of a state is the least state that agrees with it on all words of at most so many letters
+-- the class of a state is the least state that agrees with it
+-- on all words of at most so many letters
 pub record AreClassesOf (a : ℕ) (m : Rows) (letters : ℕ) (classes : List ℕ) : Type 0 where
   pub named : AreNamed m classes
   pub agrees : (q : ℕ) → q < length m → AgreeUpTo a m letters (slice_index classes q) q
@@ -50,7 +54,8 @@ pub record IsFirstLetter (a : ℕ) (m : Rows) (classes : List ℕ) (p q x : ℕ)
 
 -- two states are of one class, and no letter parts them
 abbrev pub StayTogether : ℕ → Rows → List ℕ → ℕ → ℕ → Type 0
-StayTogether a m classes p q = (slice_index classes p ≡ slice_index classes q) × NoLetter a m classes p q
+StayTogether a m classes p q = (slice_index classes p ≡ slice_index classes q)
+    × NoLetter a m classes p q
 
 -- two states are of two classes, or some letter parts them
 abbrev pub GoApart : ℕ → Rows → List ℕ → ℕ → ℕ → Type 0
@@ -68,7 +73,8 @@ pub record AreRefined (a : ℕ) (m : Rows) (classes finer : List ℕ) : Type 0 w
   pub long : length finer ≡ length m
   pub each : (q : ℕ) → q < length finer → IsLeastTogether a m classes q (slice_index finer q)
 
--- the classes by the words of at most 0, 1, 2 letters and so on, and behind them the classes by all words
+-- the classes by the words of at most 0, 1, 2 letters and so on,
+-- and behind them the classes by all words
 pub record AreLevels (a : ℕ) (m : Rows) (below : List (List ℕ)) (names : List ℕ) : Type 0 where
   pub machine : IsMachine a m
   pub each : (l : ℕ) → l < length below → AreClassesOf a m l (slice_index_or below l [])

@@ -1,5 +1,6 @@
 -- A machine with its states renamed: how equal states are merged and how states are numbered.
-use Rattle.std.specs.Prelude.{◌≡◌, ℕ, ◌<◌, ◌≤◌, List, [], length, slice_index, slice_index_or, Option, Some, None}
+use Rattle.std.specs.Prelude.{◌≡◌, ℕ, ◌<◌, ◌≤◌, List, [], length, slice_index, slice_index_or}
+use Rattle.std.specs.Prelude.{Option, Some, None}
 use Rattle.lw_words.specs.Word.{IsWord}
 use Rattle.lw_mealy.specs.Machine.{Rows, IsMachine, out, next, output, cell}
 use Rattle.lw_mealy.specs.Minimal.{Differ}
@@ -39,7 +40,8 @@ pub record CanRename (a : ℕ) (m : Rows) (states names : List ℕ) : Type 0 whe
 pub record Renames (a : ℕ) (m : Rows) (states names : List ℕ) (c : Rows) : Type 0 where
   pub machine : IsMachine a c
   pub long : length c ≡ length states
-  pub cells : (k x : ℕ) → k < length states → x < a → cell c k x ≡ renamed m names (slice_index states k) x
+  pub cells : (k x : ℕ) → k < length states → x < a
+      → cell c k x ≡ renamed m names (slice_index states k) x
 
 -- a row with its targets renamed
 pub record RenamesRow (a : ℕ) (m : Rows) (names : List ℕ) (q : ℕ) (r : List (ℕ × ℕ)) : Type 0 where
@@ -49,7 +51,8 @@ pub record RenamesRow (a : ℕ) (m : Rows) (names : List ℕ) (q : ℕ) (r : Lis
 -- one such row for each of the states
 pub record RenamesRows (a : ℕ) (m : Rows) (states names : List ℕ) (rows : Rows) : Type 0 where
   pub long : length rows ≡ length states
-  pub each : (k : ℕ) → k < length rows → RenamesRow a m names (slice_index states k) (slice_index_or rows k [])
+  pub each : (k : ℕ) → k < length rows
+      → RenamesRow a m names (slice_index states k) (slice_index_or rows k [])
 
 -- each state in its place
 pub record IsAllStates (m : Rows) (states : List ℕ) : Type 0 where
@@ -63,4 +66,5 @@ pub record NamesStates (a : ℕ) (m : Rows) (names : List ℕ) : Type 0 where
 
 -- each state that has a place is named by it
 abbrev pub NamesPlaces : List (Option ℕ) → List ℕ → Type 0
-NamesPlaces places names = (q k : ℕ) → slice_index_or places q None ≡ Some k → slice_index names q ≡ k
+NamesPlaces places names = (q k : ℕ) → slice_index_or places q None ≡ Some k
+    → slice_index names q ≡ k

@@ -1,5 +1,6 @@
 -- The search for access words, as far as it has come.
-use Rattle.std.specs.Prelude.{◌≡◌, ℕ, ◌+◌, ◌<◌, ◌⊎◌, List, [], ◌∷◌, ◌++◌, length, slice_index_or, Option, Some, None}
+use Rattle.std.specs.Prelude.{◌≡◌, ℕ, ◌+◌, ◌<◌, ◌⊎◌, Option, Some, None}
+use Rattle.std.specs.Prelude.{List, [], ◌∷◌, ◌++◌, length, slice_index_or}
 use Rattle.std.specs.declared.cmp.Ordering.TheVariants.{Less}
 use Rattle.std.specs.List.{sum_by}
 use Rattle.lw_words.specs.Word.{IsWord}
@@ -21,12 +22,14 @@ open_at (Some place) = 0
 
 -- the target of the j-th state at a letter has a word that is at most the j-th word and the letter
 abbrev pub Closed : Rows → List (List ℕ) → List ℕ → ℕ → ℕ → Type 0
-Closed m words states j y = (k : ℕ) × (k < length words) × (slice_index_or states k 0 ≡ next m (slice_index_or states j 0) y)
+Closed m words states j y = (k : ℕ) × (k < length words)
+    × (slice_index_or states k 0 ≡ next m (slice_index_or states j 0) y)
     × AtMost (slice_index_or words k []) (slice_index_or words j [] ++ y ∷ [])
 
--- words that were found in their order, each leading to its own state, up to the letter x of the i-th word
-pub record IsSearch (a : ℕ) (m : Rows) (words : List (List ℕ)) (states : List ℕ) (places : List (Option ℕ)) (i x : ℕ)
-    : Type 0 where
+-- words that were found in their order, each leading to its own state,
+-- up to the letter x of the i-th word
+pub record IsSearch (a : ℕ) (m : Rows) (words : List (List ℕ)) (states : List ℕ)
+    (places : List (Option ℕ)) (i x : ℕ) : Type 0 where
   pub machine : IsMachine a m
   pub paired : length words ≡ length states
   pub placed : length places ≡ length m
@@ -34,9 +37,11 @@ pub record IsSearch (a : ℕ) (m : Rows) (words : List (List ℕ)) (states : Lis
   pub some : 0 < length words
   pub first : slice_index_or words 0 [] ≡ []
   pub letters : (k : ℕ) → k < length words → IsWord a (slice_index_or words k [])
-  pub leads : (k : ℕ) → k < length words → after m 0 (slice_index_or words k []) ≡ slice_index_or states k 0
+  pub leads : (k : ℕ) → k < length words
+      → after m 0 (slice_index_or words k []) ≡ slice_index_or states k 0
   pub state : (k : ℕ) → k < length words → slice_index_or states k 0 < length m
-  pub there : (k : ℕ) → k < length words → slice_index_or places (slice_index_or states k 0) None ≡ Some k
+  pub there : (k : ℕ) → k < length words
+      → slice_index_or places (slice_index_or states k 0) None ≡ Some k
   pub back : (q k : ℕ) → slice_index_or places q None ≡ Some k
       → (k < length words) × (slice_index_or states k 0 ≡ q)
   pub rising : (j k : ℕ) → j < k → k < length words
