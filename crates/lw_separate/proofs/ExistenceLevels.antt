@@ -1,9 +1,7 @@
 -- The classes of a machine's states by all words exist: the levels, as a construction.
 use Rattle.std.proofs.Common.{◌≡◌, ◌≢◌, ℕ, zero, suc, ◌+◌, ◌*◌, ◌<◌, ◌≤◌, ◌⊎◌, inl, inr, ⊎_elim, List, [], ◌∷◌, ◌++◌, length, get_or, replicate, refl, sym, subst, arith}
-use Rattle.std.proofs.lemmas.List.{get_or-replicate, length-replicate}
-use Rattle.std.proofs.lemmas.Bool.{cases_lt, cases_order}
-use Rattle.lw_words.specs.Word.{IsWord}
-use Rattle.lw_mealy.specs.Machine.{Rows, IsMachine, next, output, out}
+use Rattle.std.proofs.lemmas.Bool.{cases_order}
+use Rattle.lw_mealy.specs.Machine.{Rows, IsMachine, next, output}
 use Rattle.lw_separate.specs.bodies.Levels.{AreClassesOf, MeetsAt, PartsAt, StayTogether, GoApart, IsLeastTogether, AreRefined}
 use Rattle.lw_separate.specs.bodies.Renaming.{NamesStates}
 use Rattle.lw_separate.proofs.SearchLemmas.{last_or_before, length-push}

@@ -1,5 +1,5 @@
 -- What the classes by the words of so many letters say, and how the next ones follow from them.
-use Rattle.std.proofs.Common.{◌≡◌, ◌≢◌, ℕ, zero, suc, ◌+◌, ◌-◌, ◌*◌, ◌<◌, ◌≤◌, ◌⊎◌, inl, inr, ⊎_elim, true, false, not, List, [], ◌∷◌, ◌++◌, length, map, get_or, replicate, refl, ap, sym, ◌∙◌, arith, subst}
+use Rattle.std.proofs.Common.{◌≡◌, ◌≢◌, ℕ, suc, ◌+◌, ◌-◌, ◌*◌, ◌<◌, ◌≤◌, ◌⊎◌, ⊎_elim, true, false, not, List, [], ◌∷◌, ◌++◌, length, map, get_or, replicate, refl, ap, sym, ◌∙◌, arith, subst}
 use Rattle.std.proofs.lemmas.List.{get_or_past, get_or-replicate, length-replicate, length-map, map-append}
 use Rattle.std.proofs.lemmas.Bool.{cases_lt, cases_order}
 use Rattle.std.proofs.lemmas.List.Elements.{All-cons, All-tail, All-head, All-nil}
@@ -7,7 +7,7 @@ use Rattle.lw_words.specs.Word.{IsWord}
 use Rattle.lw_mealy.specs.Machine.{Rows, IsMachine, next, output, out}
 use Rattle.lw_mealy.specs.Minimal.{Differ}
 use Rattle.lw_mealy.proofs.RowLemmas.{target_below}
-use Rattle.lw_separate.specs.bodies.Levels.{AgreeUpTo, DifferWithin, AreClassesOf, MeetsAt, PartsAt, NoLetter, StayTogether, GoApart, AreRefined, AreLevels}
+use Rattle.lw_separate.specs.bodies.Levels.{AgreeUpTo, DifferWithin, AreClassesOf, MeetsAt, PartsAt, NoLetter, GoApart, AreRefined, AreLevels}
 use Rattle.lw_separate.specs.bodies.Renaming.{NamesStates}
 use Rattle.std.specs.Str.{bytes_eq}
 use Rattle.std.proofs.lemmas.Slice.Eq.{bytes_eq-Decides}
@@ -36,10 +36,6 @@ module _ (a : ℕ) (m : Rows) where
 
   pub differ_of : (l p q : ℕ) → DifferWithin a m l p q → Differ a m p q
   differ_of l p q d = (d.0, d.1, d.3)
-
-  -- p differs from what agrees with what differs from p
-  pub differ_on : (l p q r : ℕ) → DifferWithin a m l p q → AgreeUpTo a m l r q → DifferWithin a m l p r
-  differ_on l p q r d e = (d.0, d.1, d.2, λ same. d.3 (same ∙ e d.0 d.1 d.2))
 
   module _ (l : ℕ) (cs : List ℕ) (c : AreClassesOf a m l cs) where
     pub one_class_agrees : (p q : ℕ) → p < length m → q < length m → get_or cs p 0 ≡ get_or cs q 0 → AgreeUpTo a m l p q

@@ -1,7 +1,7 @@
 -- The names that merging and numbering give, and what they say of the states.
-use Rattle.std.proofs.Common.{◌≡◌, ◌≢◌, ℕ, ◌<◌, ◌≤◌, ◌⊎◌, ⊎_elim, List, [], length, get_or, Option, Some, None, Result, Ok, Err, IfOk, refl, ap, sym, ◌∙◌, arith, subst}
+use Rattle.std.proofs.Common.{◌≡◌, ◌≢◌, ℕ, ◌<◌, ◌≤◌, ◌⊎◌, ⊎_elim, List, length, get_or, Option, Some, None, Result, Ok, Err, IfOk, refl, ap, sym, ◌∙◌, arith, subst}
 use Rattle.std.proofs.lemmas.Bool.{cases_order}
-use Rattle.lw_mealy.specs.Machine.{Rows, IsMachine, out, next, output, cell}
+use Rattle.lw_mealy.specs.Machine.{Rows, IsMachine, next, cell}
 use Rattle.lw_mealy.specs.Minimal.{IsMinimal, Differ}
 use Rattle.lw_mealy.proofs.RowLemmas.{target_below}
 use Rattle.lw_separate.specs.bodies.Renaming.{StandsFor, Merges, CanRename, Renames, renamed, IsAllStates, NamesStates, NamesPlaces}
@@ -14,11 +14,6 @@ if_ok_map P Q (Err e) f h = h
 module _ (a : ℕ) (m : Rows) (names : List ℕ) (n : NamesStates a m names) where
   stands : (q : ℕ) → q < length m → StandsFor a m q (get_or names q 0)
   stands q lq = n.each q (omega (arith, n.long))
-
-  -- states of one name agree on all words
-  pub one_name_agrees : (p q : ℕ) → p < length m → q < length m → get_or names p 0 ≡ get_or names q 0 → ¬ Differ a m p q
-  one_name_agrees p q lp lq same d =
-      d.2 (sym ((stands p lp).agrees d.0 d.1) ∙ (ap (λ (r : ℕ). out m r d.0) same ∙ (stands q lq).agrees d.0 d.1))
 
   lower_name_differs : (p q : ℕ) → p < length m → q < length m → get_or names p 0 < get_or names q 0 → Differ a m p q
   lower_name_differs p q lp lq lt =

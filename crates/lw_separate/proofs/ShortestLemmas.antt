@@ -1,15 +1,14 @@
 -- The word that is read off the levels is the least that separates.
-use Rattle.std.proofs.Common.{◌≡◌, ◌≢◌, ℕ, zero, suc, ◌+◌, ◌-◌, ◌<◌, ◌≤◌, ◌⊎◌, inl, inr, ⊎_elim, List, [], ◌∷◌, ◌++◌, length, get_or, refl, ap, sym, ◌∙◌, arith, subst, append_assoc}
+use Rattle.std.proofs.Common.{◌≡◌, ◌≢◌, ℕ, zero, suc, ◌-◌, ◌<◌, ◌≤◌, ◌⊎◌, inl, inr, ⊎_elim, List, [], ◌∷◌, ◌++◌, length, get_or, refl, ap, sym, ◌∙◌, arith, subst, append_assoc}
 use Rattle.std.proofs.lemmas.Bool.{cases_lt, cases_order}
-use Rattle.std.proofs.lemmas.List.Elements.{All-cons, All-tail, All-head, All-nil}
+use Rattle.std.proofs.lemmas.List.Elements.{All-cons, All-tail, All-head}
 use Rattle.lw_words.specs.Word.{IsWord}
 use Rattle.lw_mealy.specs.Machine.{Rows, IsMachine, next, output, out}
-use Rattle.lw_mealy.specs.Minimal.{Differ}
 use Rattle.lw_mealy.proofs.RowLemmas.{target_below}
 use Rattle.lw_separate.specs.Least.{Separates, IsLeastSeparating}
-use Rattle.lw_separate.specs.bodies.Levels.{AgreeUpTo, DifferWithin, AreApartBy, AreClassesOf, MeetsAt, IsFirstLetter, AreLevels}
+use Rattle.lw_separate.specs.bodies.Levels.{AgreeUpTo, AreApartBy, AreClassesOf, MeetsAt, IsFirstLetter}
 use Rattle.lw_separate.specs.bodies.Search.{AtMost}
-use Rattle.lw_separate.proofs.Before.{Lex, of_cases, at_most_cons, at_most_not_behind, not_behind_at_most}
+use Rattle.lw_separate.proofs.Before.{of_cases, at_most_cons, at_most_not_behind, not_behind_at_most}
 use Rattle.lw_separate.proofs.LevelLemmas.{heads, tails, tails_back, both, one_letter, one_class_agrees, two_classes_differ, no_letter_agrees}
 
 module _ (a : ℕ) (m : Rows) where

@@ -1,10 +1,7 @@
 -- The walk over the pairs of states, pair by pair.
 use Rattle.std.proofs.Common.{◌≡◌, ◌≢◌, ℕ, ◌+◌, ◌<◌, ◌≤◌, ◌⊎◌, inl, inr, ⊎_elim, true, false, List, [], ◌∷◌, ◌++◌, length, get_or, refl, sym, ◌∙◌, arith, subst}
-use Rattle.std.specs.List.{All}
 use Rattle.std.proofs.lemmas.List.{get_or_append_left}
 use Rattle.std.proofs.lemmas.Bool.{cases_lt}
-use Rattle.std.proofs.lemmas.List.Elements.{All-from_get_or}
-use Rattle.lw_words.specs.Word.{IsWord}
 use Rattle.lw_mealy.specs.Machine.{Rows, out}
 use Rattle.lw_separate.specs.Least.{IsLeastSeparating}
 use Rattle.lw_separate.specs.Separators.{Earlier, SplitAt, IsSeparators}
@@ -33,9 +30,6 @@ earlier_last r s p q h =
     h
 
 module _ (a : ℕ) (m : Rows) where
-  pub all_words : (end : ℕ × ℕ) (list : List (List ℕ)) → SeparatesUpTo a m end list → All (IsWord a) list
-  all_words end list s = All-from_get_or (IsWord a) list [] (λ i lt. (s.least i lt).does.0)
-
   -- no pair yet
   pub walk_start : SeparatesUpTo a m (0, 1) []
   walk_start = record {

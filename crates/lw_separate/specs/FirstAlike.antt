@@ -14,9 +14,9 @@ pub record AreFirstAlike (a : ℕ) (m : Rows) (pair : ℕ × ℕ) : Type 0 where
   pub first : (p q : ℕ) → p < q → q < length m → Earlier (p, q) pair → Differ a m p q
 
 -- no two states agree on all words
-abbrev pub AllDiffer : ℕ → Rows → Type 0
-AllDiffer a m = (p q : ℕ) → p < q → q < length m → Differ a m p q
+abbrev pub AnyTwoDiffer : ℕ → Rows → Type 0
+AnyTwoDiffer a m = (p q : ℕ) → p < q → q < length m → Differ a m p q
 
 -- the first such pair, and none exactly where any two states differ
 abbrev pub IsFirstAlike : ℕ → Rows → Option (ℕ × ℕ) → Type 0
-IsFirstAlike a m pair = MatchOption pair (AllDiffer a m) (AreFirstAlike a m)
+IsFirstAlike a m pair = MatchOption pair (AnyTwoDiffer a m) (AreFirstAlike a m)

@@ -41,7 +41,7 @@ pub record IsSeparators (a : ℕ) (m : Rows) (list : List (List ℕ)) : Type 0 w
   pub whole : (p q : ℕ) → p < q → q < length m
       → (i : ℕ) × SplitAt m list p q i × ¬ Earlier (p, q) (slice_index_or pairs i (0, 0))
 
--- a machine has one such list
+-- a machine has one such list at most
 abbrev pub OneSeparators : Type 0
 OneSeparators = (a : ℕ) (m : Rows) (u v : List (List ℕ))
     → IsSeparators a m u → IsSeparators a m v → u ≡ v

@@ -1,4 +1,4 @@
-use Rattle.std.proofs.Common.{arith, ◌≡◌, ◌<◌, ◌++◌, ◌∷◌, ℕ, List, [], Option, length, get_or, ap, sym, ◌∙◌, subst}
+use Rattle.std.proofs.Common.{arith, ◌<◌, ℕ, List, [], Option, length, get_or, ap, sym, subst}
 use Rattle.lw_separate.specs.Least.{IsAccessWord, IsLeastAccess}
 use Rattle.lw_separate.proofs.AccessLemmas.{pushed}
 use Rattle.lw_separate.proofs.SearchLemmas.{length-push}

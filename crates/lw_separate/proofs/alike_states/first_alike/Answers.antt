@@ -1,4 +1,4 @@
-use Rattle.std.proofs.Common.{ℕ, ◌≡◌, ◌<◌, ⊎_elim, length, sym, subst, arith}
+use Rattle.std.proofs.Common.{ℕ, ◌≡◌, ◌<◌, ⊎_elim, sym, subst, arith}
 use Rattle.lw_mealy.specs.Minimal.{Differ}
 use Rattle.lw_separate.specs.bodies.Alike.{LaterDiffer}
 use Rattle.lw_separate.proofs.SearchLemmas.{last_or_before}

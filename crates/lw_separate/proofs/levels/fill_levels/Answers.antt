@@ -1,4 +1,4 @@
-use Rattle.std.proofs.Common.{rules, ◌≡◌, ◌≢◌, ℕ, ◌<◌, ◌+◌, ◌∷◌, ◌++◌, List, [], Vec, Global, length, map, get_or, ap, sym, ◌∙◌, subst, arith}
+use Rattle.std.proofs.Common.{◌≡◌, ◌≢◌, ℕ, ◌<◌, ◌+◌, ◌∷◌, ◌++◌, List, [], Vec, Global, length, map, get_or, ap, sym, ◌∙◌, subst, arith}
 use Rattle.lw_separate.specs.bodies.Levels.{AreClassesOf, AreRefined}
 use Rattle.lw_separate.proofs.SearchLemmas.{length-push}
 use Rattle.lw_separate.proofs.LevelLemmas.{level_more, all_levels, refined_classes, total_left, told_apart, told_equal}

@@ -1,4 +1,4 @@
-use Rattle.std.proofs.Common.{rules, ℕ, suc, ◌≡◌, ◌<◌, ◌-◌, ◌++◌, [], refl, ap, sym, subst, arith, append-nil}
+use Rattle.std.proofs.Common.{ℕ, suc, ◌≡◌, ◌-◌, ◌++◌, [], refl, ap, sym, subst, arith, append-nil}
 use Rattle.lw_separate.specs.bodies.Levels.{AreApartBy, NoLetter}
 use Rattle.lw_separate.proofs.LevelLemmas.{level_at}
 use Rattle.lw_separate.proofs.ShortestLemmas.{Finishes, finished, some_letter, read_on}
