@@ -3,6 +3,9 @@ ghost use Rattle.std.specs.Prelude.{◌<◌, ◌≤◌};
 
 use lw_mealy::Mealy;
 use lw_words::NoMemory;
+use rand_core::SeedableRng;
+use rand_core::utils::NextWord;
+use rand_pcg::Lcg128Xsl64;
 use std::alloc::Global;
 
 #[derive(Clone, Copy)]
@@ -26,7 +29,7 @@ impl Kind {
     }
 
     /// The target and the output of a state at a letter.
-    fn cell(self, draw: &mut Draw, states: u16, q: u16, x: u16) -> (u16, u16)
+    fn cell(self, random: &mut Lcg128Xsl64, states: u16, q: u16, x: u16) -> (u16, u16)
         requires { q < states }
         ensures target { result.0 < states }
         ensures output { result.1 < 2 }
@@ -34,7 +37,7 @@ impl Kind {
         let last = q + 1 == states;
         let next = if last { 0 } else { q + 1 };
         match self {
-            Kind::Drawn => (draw.below(states), draw.below(2)),
+            Kind::Drawn => (below(random, states), below(random, 2)),
             Kind::Counter => (next, u16::from(last)),
             Kind::Ladder => match x {
                 0 => (if last { q } else { next }, 0),
@@ -45,33 +48,24 @@ impl Kind {
     }
 }
 
-/// Draws numbers (Knuth's linear congruential generator).
-#[derive(Drop)]
-struct Draw(u64);
-
-impl Draw {
-    fn below(&mut self, bound: u16) -> u16
-        requires { 0 < bound }
-        ensures { result < bound }
-    {
-        self.0 = self
-            .0
-            .wrapping_mul(6364136223846793005)
-            .wrapping_add(1442695040888963407);
-        ((self.0 >> 33) % u64::from(bound)) as u16
-    }
+/// A drawn number below a bound.
+fn below(random: &mut Lcg128Xsl64, bound: u16) -> u16
+    requires { 0 < bound }
+    ensures { result < bound }
+{
+    (random.next_word() % u64::from(bound)) as u16
 }
 
 /// A machine of this kind with outputs below 2.
 pub fn machine(alloc: Global, kind: Kind, states: u16, letters: u16) -> Result<Mealy, NoMemory>
     requires { (1 ≤ letters) × (letters ≤ 64) }
 {
-    let mut draw = Draw(7);
+    let mut random = Lcg128Xsl64::seed_from_u64(7);
     let mut rows = Vec::with_capacity(alloc, usize::from(states))?;
     for q in 0..states {
         let mut row = Vec::with_capacity(alloc, usize::from(letters))?;
         for x in 0..letters {
-            row.push(kind.cell(&mut draw, states, q, x))?;
+            row.push(kind.cell(&mut random, states, q, x))?;
         }
         rows.push(row)?;
     }

@@ -1,6 +1,8 @@
 //! Times of the calls of `lw_separate` on drawn machines and on chains.
 #![tactic(auto)]
 
+ghost use Rattle.std.specs.Prelude.{◌≤◌};
+
 use lw_words::NoMemory;
 use machines::{Kind, machine};
 use measure::{Row, measure};
@@ -14,24 +16,33 @@ mod measure;
 mod tests;
 
 // The numbers of states where times are asked for, and where not.
-const MANY: [u16; 3] = [64, 256, 1024];
+const MANY: [u16; 2] = [256, 1024];
 
 const FEW: [u16; 2] = [4, 8];
 
 const LETTERS: u16 = 8;
 
 // What the calls took on a machine of this kind.
-fn row(rt: &impl Clock, alloc: Global, kind: Kind, states: u16) -> Result<Row, NoMemory> {
-    let m = machine(alloc, kind, states, LETTERS)?;
+fn row(
+    rt: &impl Clock,
+    alloc: Global,
+    kind: Kind,
+    states: u16,
+    letters: u16,
+) -> Result<Row, NoMemory>
+    requires { (1 ≤ letters) × (letters ≤ 64) }
+{
+    let m = machine(alloc, kind, states, letters)?;
     measure(rt, alloc, &m)
 }
 
-fn print_times(rt: &HostRuntime, kind: Kind, states: u16, row: &Row) -> io::Result<()> {
+fn print_times(rt: &HostRuntime, row: &Row) -> io::Result<()> {
     println!(rt;
-        "{} {states}: canonical {} us, access words {} us, separating {} us, separators {} us ({} words, the longest of {} letters)",
-        kind.name(),
+        "  canonical {} us, access words {} us, first alike {} us, renumbered {} us, separating {} us, separators {} us ({} words, the longest of {} letters)",
         row.canonical,
         row.access_words,
+        row.first_alike,
+        row.renumbered,
         row.separating,
         row.separators,
         row.words,
@@ -42,21 +53,26 @@ fn print_times(rt: &HostRuntime, kind: Kind, states: u16, row: &Row) -> io::Resu
 // How often the times of the row before stand in these.
 fn print_growth(rt: &HostRuntime, now: &Row, before: &Row) -> io::Result<()> {
     println!(rt;
-        "  growth: canonical {}, access words {}, separating {}, separators {}",
+        "  growth: canonical {}, access words {}, first alike {}, renumbered {}, separating {}, separators {}",
         now.canonical / before.canonical.max(1),
         now.access_words / before.access_words.max(1),
+        now.first_alike / before.first_alike.max(1),
+        now.renumbered / before.renumbered.max(1),
         now.separating / before.separating.max(1),
         now.separators / before.separators.max(1)
     )
 }
 
-fn print_kind(rt: &HostRuntime, kind: Kind) -> io::Result<()> {
+fn print_kind(rt: &HostRuntime, kind: Kind, letters: u16) -> io::Result<()>
+    requires { (1 ≤ letters) × (letters ≤ 64) }
+{
     let mut before = None;
     for states in MANY {
-        let Ok(now) = row(rt, rt.alloc(), kind, states) else {
+        let Ok(now) = row(rt, rt.alloc(), kind, states, letters) else {
             return println!(rt; "no memory");
         };
-        print_times(rt, kind, states, &now)?;
+        println!(rt; "{}, {states} states, {letters} letters", kind.name())?;
+        print_times(rt, &now)?;
         if let Some(before) = before {
             print_growth(rt, &now, &before)?;
         }
@@ -65,9 +81,10 @@ fn print_kind(rt: &HostRuntime, kind: Kind) -> io::Result<()> {
     Ok(())
 }
 
+// The separators of small machines.
 fn print_small(rt: &HostRuntime, kind: Kind) -> io::Result<()> {
     for states in FEW {
-        let Ok(now) = row(rt, rt.alloc(), kind, states) else {
+        let Ok(now) = row(rt, rt.alloc(), kind, states, LETTERS) else {
             return println!(rt; "no memory");
         };
         println!(rt;
@@ -80,15 +97,14 @@ fn print_small(rt: &HostRuntime, kind: Kind) -> io::Result<()> {
 }
 
 fn main(rt: HostRuntime) -> io::Result<()> {
-    let timed = std::env::args(&rt)?.count() > 1;
-    if timed {
-        for kind in [Kind::Drawn, Kind::Counter, Kind::Ladder] {
-            print_kind(&rt, kind)?;
-        }
+    if std::env::args(&rt)?.count() > 1 {
+        print_kind(&rt, Kind::Drawn, 2)?;
+        print_kind(&rt, Kind::Drawn, LETTERS)?;
+        print_kind(&rt, Kind::Drawn, 64)?;
+        print_kind(&rt, Kind::Counter, LETTERS)?;
+        print_kind(&rt, Kind::Ladder, LETTERS)
     } else {
-        for kind in [Kind::Counter, Kind::Ladder] {
-            print_small(&rt, kind)?;
-        }
+        print_small(&rt, Kind::Counter)?;
+        print_small(&rt, Kind::Ladder)
     }
-    Ok(())
 }

@@ -1,3 +1,4 @@
+//! How many separators a ladder has.
 use crate::machines::{Kind, machine};
 use lw_separate::{canonical, separators};
 use std::test::Fail;

@@ -5,12 +5,11 @@ use Rattle.std.proofs.lemmas.Bool.{cases_order}
 use Rattle.lw_words.specs.Word.{IsWord}
 use Rattle.lw_mealy.specs.Machine.{Rows, after, out, next, output, cell}
 use Rattle.lw_mealy.specs.Minimal.{Differ}
-use Rattle.lw_separate.specs.Canonical.{IsCanonical, StandsFor, Merges, Renames, renamed}
+use Rattle.lw_separate.specs.Canonical.{IsCanonical}
+use Rattle.lw_separate.specs.bodies.Renaming.{StandsFor, Merges, Renames, renamed, NamesPlaces}
 use Rattle.lw_separate.specs.Least.{IsLeastAccess}
-use Rattle.lw_separate.specs.Names.{NamesPlaces}
-use Rattle.lw_separate.specs.Search.{IsSearch}
+use Rattle.lw_separate.specs.bodies.Search.{IsSearch}
 use Rattle.lw_separate.proofs.AccessLemmas.{one_word, least_word}
-use Rattle.lw_separate.proofs.Before.{cmp_before}
 
 module _ (a : ℕ) (m h : Rows) (g : Merges a m h) where
   out_merged : (w : List ℕ) (q : ℕ) → q < length m → IsWord a w → out h q w ≡ out m q w
@@ -106,13 +105,12 @@ module _ (a : ℕ) (m h : Rows) (g : Merges a m h) where
           apart = apart;
         };
         words = ws;
-        least = λ q lq. numbered_word q (omega (arith, long));
-        rising = λ p q pq lq. cmp_before (get_or ws p []) (get_or ws q []) (s.rising p q pq (omega (arith, long)));
+        least = record { each = sym long; words = λ q lq. numbered_word q (omega (arith, long)) };
+        rising = λ p q pq lq. s.rising p q pq (omega (arith, long));
       }
 
--- the same where the merged machine's number of letters is told by an equation
-pub canonical_of : (a b : ℕ) (m h c : Rows) (ws : List (List ℕ)) (ss : List ℕ) (ps : List (Option ℕ)) (names states : List ℕ) → b ≡ a → Merges a m h → IsSearch b h ws ss ps (length ws) 0 → NamesPlaces ps names → states ≡ ss → Renames b h states names c → IsCanonical a m c
-canonical_of a b m h c ws ss ps names states same g s named is n =
-    let s' : IsSearch a h ws ss ps (length ws) 0 = subst (λ (l : ℕ). IsSearch l h ws ss ps (length ws) 0) same s in
-    let n' : Renames a h ss names c = subst (λ (l : List ℕ). Renames a h l names c) is (subst (λ (l : ℕ). Renames l h states names c) same n) in
-    is_canonical a m h g (omega (arith, g.long, g.machine.some_state)) ws ss ps s' names named c n'
+-- the same where the states are told by an equation
+pub canonical_of : (a : ℕ) (m h c : Rows) (ws : List (List ℕ)) (ss : List ℕ) (ps : List (Option ℕ)) (names states : List ℕ) → Merges a m h → IsSearch a h ws ss ps (length ws) 0 → NamesPlaces ps names → states ≡ ss → Renames a h states names c → IsCanonical a m c
+canonical_of a m h c ws ss ps names states g s named is n =
+    let n' : Renames a h ss names c = subst (λ (l : List ℕ). Renames a h l names c) is n in
+    is_canonical a m h g (omega (arith, g.long, g.machine.some_state)) ws ss ps s names named c n'

@@ -8,9 +8,9 @@ use Rattle.std.proofs.lemmas.List.Elements.{All-get_or}
 use Rattle.lw_words.specs.Word.{IsWord}
 use Rattle.lw_mealy.specs.Machine.{Rows, IsMachine, next, output, out}
 use Rattle.lw_mealy.proofs.RowLemmas.{target_below}
-use Rattle.lw_separate.specs.Classes.{IsFrom, AreNames, AreClasses, Observes, SplitsBy, RefinesBy}
-use Rattle.lw_separate.specs.Columns.{IsColumn}
-use Rattle.lw_separate.specs.Separators.{Splits}
+use Rattle.lw_separate.specs.bodies.Classes.{IsFrom, AreNames, AreClasses, Observes, SplitsBy, RefinesBy}
+use Rattle.lw_separate.specs.bodies.Columns.{IsColumn}
+use Rattle.lw_separate.specs.bodies.Walk.{Splits}
 use Rattle.lw_separate.proofs.CrowdLemmas.{Apart, Alike, apart_or_alike}
 use Rattle.lw_separate.proofs.SearchLemmas.{last_or_before, length-push, at_end}
 

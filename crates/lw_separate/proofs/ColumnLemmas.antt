@@ -2,7 +2,7 @@
 use Rattle.std.proofs.Common.{◌≡◌, ℕ, ◌<◌, List, [], ◌∷◌, ◌++◌, length, get_or, map, ap, sym, ◌∙◌, arith, subst}
 use Rattle.std.proofs.lemmas.List.{get_or-map, length-map, map-append}
 use Rattle.lw_mealy.specs.Machine.{Rows}
-use Rattle.lw_separate.specs.Columns.{IsColumn, AreColumns}
+use Rattle.lw_separate.specs.bodies.Columns.{IsColumn, AreColumns}
 use Rattle.lw_separate.proofs.AccessLemmas.{pushed}
 
 module _ {X : Type 0} (f : X → List (ℕ × ℕ)) (a : ℕ) (m : Rows) (xs : List X) where

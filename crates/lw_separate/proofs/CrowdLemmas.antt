@@ -13,7 +13,7 @@ use Rattle.std.proofs.lemmas.List.Elements.{All-contains, All-from_get_or}
 use Rattle.std.proofs.lemmas.Map.Made.{length-le_from_is_member, IsDistinct-from_AllPairs, is_member-Decides}
 use Rattle.std.proofs.lemmas.Bool.{cases_order}
 use Rattle.lw_mealy.specs.Machine.{Rows, out}
-use Rattle.lw_separate.specs.Separators.{SeparatesUpTo}
+use Rattle.lw_separate.specs.bodies.Walk.{SeparatesUpTo}
 use Rattle.lw_separate.proofs.SearchLemmas.{last_or_before, length-push, at_end}
 use Rattle.lw_separate.proofs.AccessLemmas.{pushed}
 
@@ -29,7 +29,7 @@ below n q xs all m = All-contains (λ x. x < n) xs q all ((is_member-Decides uns
 no_more : (n : ℕ) (xs : List ℕ) → All (λ x. x < n) xs → AllPairs (λ x y. x ≢ y) xs → length xs ≤ n
 no_more n xs all apart = rw (← length-range_with_len 0 n) (length-le_from_is_member nat_eq_equiv xs (range_with_len 0 n) (IsDistinct-from_AllPairs unsigned_Decides xs apart) (λ q m. in_range n q (below n q xs all m)))
 
-same_or_not : (u v : List ℕ) → (u ≡ v) ⊎ (u ≢ v)
+pub same_or_not : (u v : List ℕ) → (u ≡ v) ⊎ (u ≢ v)
 same_or_not u v =
     elim (bytes_eq u v) as (λ b. bytes_eq u v ≡ b → (u ≡ v) ⊎ (u ≢ v)) [
       | true ↦ λ is. inl ((bytes_eq-Decides u v).0 is)

@@ -1,29 +1,15 @@
 -- A canonical machine of each machine exists.
-use Rattle.std.proofs.Common.{◌≡◌, ℕ, zero, suc, ◌<◌, ◌≤◌, inl, inr, ⊎_elim, List, [], ◌∷◌, ◌++◌, length, map, get_or, Option, None, unwrap_or, refl, ap, sym, ◌∙◌, subst, arith}
+use Rattle.std.proofs.Common.{◌≡◌, ℕ, ◌<◌, List, [], length, map, get_or, Option, None, unwrap_or, refl, ap, ◌∙◌, arith}
 use Rattle.std.specs.List.{All}
 use Rattle.std.proofs.Math.ListN.{get_or-map}
-use Rattle.std.proofs.lemmas.Bool.{cases_lt}
 use Rattle.std.proofs.lemmas.List.Elements.{All-from_get_or}
-use Rattle.lw_words.specs.Word.{IsWord}
-use Rattle.lw_mealy.specs.Machine.{Rows, IsMachine, row, next, out}
-use Rattle.lw_mealy.specs.Minimal.{Differ}
-use Rattle.lw_separate.specs.Canonical.{StandsFor, Merges, Renames, RenamesRow, renamed, SomeCanonical}
-use Rattle.lw_separate.specs.Lengths.{IsFilled, pair_of}
-use Rattle.lw_separate.specs.Names.{IsAllStates, NamesStates, NamesPlaces}
-use Rattle.lw_separate.proofs.SearchLemmas.{length-push}
-use Rattle.lw_separate.proofs.AccessLemmas.{pushed}
-use Rattle.lw_separate.proofs.MergeLemmas.{pair_differs, pair_agrees, merges, merge_closed, number_closed}
+use Rattle.lw_mealy.specs.Machine.{Rows, IsMachine, row, next}
+use Rattle.lw_separate.specs.Canonical.{SomeCanonical}
+use Rattle.lw_separate.specs.bodies.Renaming.{Merges, Renames, RenamesRow, renamed, IsAllStates, NamesPlaces}
+use Rattle.lw_separate.proofs.MergeLemmas.{merges, merge_closed, number_closed}
 use Rattle.lw_separate.proofs.CanonicalLemmas.{is_canonical}
-use Rattle.lw_separate.proofs.ExistenceTable.{first_below, filled}
+use Rattle.lw_separate.proofs.ExistenceLevels.{collected, names}
 use Rattle.lw_separate.proofs.ExistenceSearch.{searched}
-
--- a list of what there is for each number below n
-collected : {X : Type 0} (P : ℕ → X → Type 0) (d : X) (n : ℕ) → ((k : ℕ) → k < n → (x : X) × P k x) → (xs : List X) × (length xs ≡ n) × ((k : ℕ) → k < length xs → P k (get_or xs k d))
-collected P d zero each = ([], refl, λ k lt. absurd (omega arith))
-collected {X} P d (suc n) each =
-    let r = collected P d n (λ k lt. each k (omega arith)) in
-    let x = each n (omega arith) in
-    (r.0 ++ x.0 ∷ [], omega (arith, length-push r.0 x.0, r.1), pushed P r.0 x.0 d r.2 (subst (λ (k : ℕ). P k x.0) (sym r.1) x.1))
 
 module _ (a : ℕ) (m : Rows) where
   renamed_row : (names : List ℕ) (q : ℕ) → (r : List (ℕ × ℕ)) × RenamesRow a m names q r
@@ -53,26 +39,13 @@ module _ (a : ℕ) (m : Rows) where
         },
       )
 
-  representative : (ls : List ℕ) → IsFilled a m ls → (q : ℕ) → q < length m → (r : ℕ) × StandsFor a m q r
-  representative ls f q lq =
-      ⊎_elim
-      (λ (r : (p : ℕ) × (p < q) × ((w : List ℕ) → IsWord a w → out m p w ≡ out m q w) × ((s : ℕ) → s < p → Differ a m s q)). (r.0, record { state = omega (arith, r.1); agrees = r.2; least = r.3 }))
-      (λ (none : (p : ℕ) → p < q → Differ a m p q). (q, record { state = lq; agrees = λ w letters. refl; least = none }))
-      (first_below (λ p. (w : List ℕ) → IsWord a w → out m p w ≡ out m q w) (λ p. Differ a m p q) q (λ p lt.
-      ⊎_elim
-      (λ (some : 0 < get_or ls (pair_of m p q) 0). inr (pair_differs a m ls f p q (omega arith) lq some))
-      (λ (none : get_or ls (pair_of m p q) 0 ≤ 0). inl (pair_agrees a m ls f p q (omega arith) lq (omega arith)))
-      (cases_lt 0 (get_or ls (pair_of m p q) 0))))
-
   merged_machine : IsMachine a m → (h : Rows) × Merges a m h
   merged_machine machine =
-      let ls = filled a m machine in
-      let n = collected (λ q r. StandsFor a m q r) 0 (length m) (representative ls.0 ls.1) in
+      let n = names a m machine in
       let s = collected (λ k q. q ≡ k) 0 (length m) (λ k lt. (k, refl)) in
-      let named : NamesStates a m n.0 = record { long = n.1; each = n.2 } in
       let all : IsAllStates m s.0 = record { long = s.1; each = s.2 } in
-      let h = renamed_machine s.0 n.0 (omega (arith, s.1, machine.some_state)) (merge_closed a m s.0 n.0 machine all named) in
-      (h.0, merges a m s.0 n.0 h.0 machine all named h.1)
+      let h = renamed_machine s.0 n.0 (omega (arith, s.1, machine.some_state)) (merge_closed a m s.0 n.0 machine all n.1) in
+      (h.0, merges a m s.0 n.0 h.0 machine all n.1 h.1)
 
 -- the places as names, and 0 where there is none
 abbrev names_of : List (Option ℕ) → List ℕ

@@ -4,7 +4,7 @@ use Rattle.std.proofs.Math.ListN.{set}
 use Rattle.std.proofs.lemmas.Bool.{cases_lt}
 use Rattle.std.proofs.lemmas.Grind.{common_steps}
 use Rattle.lw_mealy.specs.Machine.{Rows, IsMachine, next}
-use Rattle.lw_separate.specs.Search.{IsSearch}
+use Rattle.lw_separate.specs.bodies.Search.{IsSearch}
 use Rattle.lw_separate.proofs.SearchLemmas.{word_done, letter_known, letter_found, length-push}
 
 known_or_new : (o : Option ℕ) → ((k : ℕ) × (o ≡ Some k)) ⊎ (o ≡ None)

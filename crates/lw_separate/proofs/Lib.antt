@@ -5,13 +5,12 @@ pub mod ClassLemmas
 pub mod ColumnLemmas
 pub mod CrowdLemmas
 pub mod Existence
+pub mod ExistenceLevels
 pub mod ExistenceSearch
-pub mod ExistenceTable
-pub mod Greedy
-pub mod LengthLemmas
+pub mod LevelLemmas
 pub mod MergeLemmas
+pub mod OneLemmas
 pub mod SearchLemmas
-pub mod SourceLemmas
+pub mod ShortestLemmas
 pub mod UniqueLemmas
 pub mod WalkLemmas
-pub mod WorkLemmas

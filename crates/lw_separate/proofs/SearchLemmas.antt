@@ -11,8 +11,8 @@ use Rattle.lw_words.specs.Word.{IsWord}
 use Rattle.lw_mealy.specs.Machine.{Rows, after, next, cell}
 use Rattle.lw_mealy.proofs.WordLemmas.{after-append}
 use Rattle.lw_mealy.proofs.RowLemmas.{target_below}
-use Rattle.lw_separate.specs.Before.{Before, AtMost}
-use Rattle.lw_separate.specs.Search.{IsSearch, Closed, open_at}
+use Rattle.lw_separate.specs.bodies.Search.{Before, AtMost}
+use Rattle.lw_separate.specs.bodies.Search.{IsSearch, Closed, open_at}
 use Rattle.lw_separate.proofs.Before.{before_trans, before_last, before_next}
 
 -- what a test of an option says

@@ -9,9 +9,9 @@ use Rattle.lw_mealy.specs.Minimal.{IsMinimal}
 use Rattle.lw_mealy.specs.Equal.{Equal}
 use Rattle.lw_mealy.proofs.RowLemmas.{target_below, is_row}
 use Rattle.lw_mealy.proofs.WordLemmas.{after-append, after_below, out-append}
-use Rattle.lw_separate.specs.Before.{Before}
+use Rattle.lw_separate.specs.bodies.Search.{Before}
 use Rattle.lw_separate.specs.Canonical.{IsCanonical, OneCanonical}
-use Rattle.lw_separate.proofs.Before.{before_cmp, before_apart, before_trans, neither_before}
+use Rattle.lw_separate.proofs.Before.{before_apart, before_trans, neither_before}
 
 cancel : (s r t u : List ℕ) → s ≡ r → s ++ t ≡ r ++ u → t ≡ u
 cancel s r t u is e = append_cancel_left s t u (e ∙ ap (λ (l : List ℕ). l ++ u) (sym is))
@@ -59,7 +59,7 @@ module _ (a : ℕ) (m c d : Rows) (k : IsCanonical a m c) (l : IsCanonical a m d
   to p = after d 0 (u p)
 
   letters : (p : ℕ) → p < length c → IsWord a (u p)
-  letters p lp = (k.least p lp).does.0
+  letters p lp = (k.least.words p lp).does.0
 
   to_below : (p : ℕ) → p < length c → to p < length d
   to_below p lp = after_below a d (u p) 0 l.machine l.machine.some_state (letters p lp)
@@ -67,8 +67,8 @@ module _ (a : ℕ) (m c d : Rows) (k : IsCanonical a m c) (l : IsCanonical a m d
   -- the least word to a state of c is the least word to the state of d
   pub word_same : (p : ℕ) → p < length c → u p ≡ get_or l.words (to p) []
   word_same p lp =
-      let w = k.least p lp in
-      let v = l.least (to p) (to_below p lp) in
+      let w = k.least.words p lp in
+      let v = l.least.words (to p) (to_below p lp) in
       neither_before (u p) (get_or l.words (to p) [])
       (v.least (u p) (w.does.0, refl))
       (w.least (get_or l.words (to p) []) (v.does.0, together a d c l.machine k.machine back k.minimal (get_or l.words (to p) []) (u p) v.does.0 w.does.0 v.does.1 ∙ w.does.1))
@@ -76,14 +76,14 @@ module _ (a : ℕ) (m c d : Rows) (k : IsCanonical a m c) (l : IsCanonical a m d
   to_rises : (p q : ℕ) → p < q → q < length c → to p < to q
   to_rises p q pq lq =
       let lp : p < length c = omega arith in
-      let b : Before (u p) (u q) = before_cmp (u p) (u q) (k.rising p q pq lq) in
+      let b : Before (u p) (u q) = k.rising p q pq lq in
       ⊎_elim
       (λ (s : to p ≡ to q). let e : u p ≡ u q = word_same p lp ∙ (ap (λ (r : ℕ). get_or l.words r []) s ∙ sym (word_same q lq)) in absurd (before_apart (u q) (subst (λ (w : List ℕ). Before w (u q)) e b)))
       (λ (o : (to p < to q) ⊎ (to q < to p)).
       ⊎_elim
       (λ (lt : to p < to q). lt)
       (λ (lt : to q < to p).
-      let r : Before (get_or l.words (to q) []) (get_or l.words (to p) []) = before_cmp (get_or l.words (to q) []) (get_or l.words (to p) []) (l.rising (to q) (to p) lt (to_below p lp)) in
+      let r : Before (get_or l.words (to q) []) (get_or l.words (to p) []) = l.rising (to q) (to p) lt (to_below p lp) in
       let r' : Before (u q) (u p) = subst (λ (w : List ℕ). Before w (u p)) (sym (word_same q lq)) (subst (λ (w : List ℕ). Before (get_or l.words (to q) []) w) (sym (word_same p lp)) r) in
       absurd (before_apart (u p) (before_trans (u p) (u q) (u p) b r')))
       o)
@@ -104,18 +104,18 @@ module _ (a : ℕ) (m c d : Rows) (k : IsCanonical a m c) (l : IsCanonical a m d
 number_same : (a : ℕ) (m c d : Rows) (k : IsCanonical a m c) (l : IsCanonical a m d) (p : ℕ) → p < length c → after d 0 (get_or k.words p []) ≡ p
 number_same a m c d k l p lp =
     let up : List ℕ = get_or k.words p [] in
-    let q : after d 0 (get_or k.words p []) < length d = after_below a d (get_or k.words p []) 0 l.machine l.machine.some_state (k.least p lp).does.0 in
+    let q : after d 0 (get_or k.words p []) < length d = after_below a d (get_or k.words p []) 0 l.machine l.machine.some_state (k.least.words p lp).does.0 in
     let f : p ≤ after d 0 (get_or k.words p []) = to_at_least a m c d k l p lp in
     let g : after d 0 (get_or k.words p []) ≤ after c 0 (get_or l.words (after d 0 (get_or k.words p [])) []) = to_at_least a m d c l k (after d 0 (get_or k.words p [])) q in
-    let e : after c 0 (get_or l.words (after d 0 (get_or k.words p [])) []) ≡ p = ap (after c 0) (sym (word_same a m c d k l p lp)) ∙ (k.least p lp).does.1 in
+    let e : after c 0 (get_or l.words (after d 0 (get_or k.words p [])) []) ≡ p = ap (after c 0) (sym (word_same a m c d k l p lp)) ∙ (k.least.words p lp).does.1 in
     omega (arith, f, g, e)
 
 cell_same : (a : ℕ) (m c d : Rows) (k : IsCanonical a m c) (l : IsCanonical a m d) (p x : ℕ) → p < length c → x < a → cell c p x ≡ cell d p x
 cell_same a m c d k l p x lp xa =
-    let w = (k.least p lp).does in
+    let w = (k.least.words p lp).does in
     let u : List ℕ = get_or k.words p [] in
     let t : next c p x < length c = target_below a c p x k.machine lp xa in
-    let v = (k.least (next c p x) t).does in
+    let v = (k.least.words (next c p x) t).does in
     let at_d : after d 0 (get_or k.words p []) ≡ p = number_same a m c d k l p lp in
     let ix : IsWord a (x ∷ []) = All-cons (λ y. y < a) x [] xa (All-nil (λ y. y < a)) in
     let iux : IsWord a (get_or k.words p [] ++ x ∷ []) = All-append (λ y. y < a) (get_or k.words p []) (x ∷ []) w.0 ix in

@@ -1,12 +1,13 @@
 -- The walk over the pairs of states, pair by pair.
 use Rattle.std.proofs.Common.{◌≡◌, ◌≢◌, ℕ, ◌+◌, ◌<◌, ◌≤◌, ◌⊎◌, inl, inr, ⊎_elim, true, false, List, [], ◌∷◌, ◌++◌, length, get_or, refl, sym, ◌∙◌, arith, subst}
-use Rattle.std.specs.List.{All}
 use Rattle.std.proofs.lemmas.List.{get_or_append_left}
-use Rattle.std.proofs.lemmas.List.Elements.{All-from_get_or}
-use Rattle.lw_words.specs.Word.{IsWord}
+use Rattle.std.proofs.lemmas.Bool.{cases_lt}
 use Rattle.lw_mealy.specs.Machine.{Rows, out}
 use Rattle.lw_separate.specs.Least.{IsLeastSeparating}
-use Rattle.lw_separate.specs.Separators.{Earlier, SplitAt, SeparatesUpTo, IsSeparators, Splits}
+use Rattle.lw_separate.specs.Separators.{Earlier, SplitAt, IsSeparators}
+use Rattle.lw_separate.specs.bodies.Walk.{SeparatesUpTo, Splits}
+use Rattle.lw_separate.specs.bodies.Classes.{AreClasses, OwnClasses}
+use Rattle.lw_separate.proofs.ClassLemmas.{split_by_class}
 use Rattle.lw_separate.proofs.SearchLemmas.{last_or_before, length-push, at_end, pushed_pairs}
 use Rattle.lw_separate.proofs.AccessLemmas.{pushed}
 
@@ -29,9 +30,6 @@ earlier_last r s p q h =
     h
 
 module _ (a : ℕ) (m : Rows) where
-  pub all_words : (end : ℕ × ℕ) (list : List (List ℕ)) → SeparatesUpTo a m end list → All (IsWord a) list
-  all_words end list s = All-from_get_or (IsWord a) list [] (λ i lt. (s.least i lt).does.0)
-
   -- no pair yet
   pub walk_start : SeparatesUpTo a m (0, 1) []
   walk_start = record {
@@ -64,9 +62,41 @@ module _ (a : ℕ) (m : Rows) where
       (λ r t rt lt h. ⊎_elim (λ (l : r < p + 1). ⊎_elim (λ (b : r < p). inl b) (λ (b : r ≡ p). inr (b, omega arith)) (last_or_before r p l)) (λ (l : (r ≡ p + 1) × (t < p + 1 + 1)). absurd (omega (arith, l.0, l.1))) h)
 
   pub walk_done : (p : ℕ) (list : List (List ℕ)) → length m ≤ p → SeparatesUpTo a m (p, p + 1) list → IsSeparators a m list
-  walk_done p list end s = walk_moves (p, p + 1) (length m, 0) list s
-      (λ r t rt lt h. inl (omega arith))
-      (λ r t rt lt h. inl (omega arith))
+  walk_done p list end s = record {
+    pairs = s.pairs;
+    paired = s.paired;
+    states = s.states;
+    least = s.least;
+    needed = s.needed;
+    rising = s.rising;
+    whole = λ r t rt lt. s.whole r t rt lt (inl (omega arith));
+  }
+
+  -- the states that are left are of their own classes, so that no pair is left
+  pub walk_apart : (p : ℕ) (list : List (List ℕ)) (classes : List ℕ) → SeparatesUpTo a m (p, p + 1) list → AreClasses m p list classes → OwnClasses p classes → IsSeparators a m list
+  walk_apart p list classes s c own = record {
+    pairs = s.pairs;
+    paired = s.paired;
+    states = s.states;
+    least = s.least;
+    needed = s.needed;
+    rising = s.rising;
+    whole = λ r t rt lt. ⊎_elim
+        (λ (b : r < p). s.whole r t rt lt (inl b))
+        (λ (b : p ≤ r).
+        let one : get_or classes r 0 ≡ r = own r b (omega (arith, c.names.long, rt, lt)) in
+        let two : get_or classes t 0 ≡ t = own t (omega (arith, b, rt)) (omega (arith, c.names.long, lt)) in
+        let at = split_by_class m p list classes r t c (b, omega (arith, rt, lt)) (omega (arith, b, rt), lt) (λ same. omega (arith, one, two, same, rt)) in
+        (at.0, at.1, not_later p r t (get_or s.pairs at.0 (0, 0)) b rt (s.before at.0 at.1.0)))
+        (cases_lt r p);
+  }
+    where
+      not_later : (p r t : ℕ) (e : ℕ × ℕ) → p ≤ r → r < t → Earlier e (p, p + 1) → ¬ Earlier (r, t) e
+      not_later p r t e le rt before h =
+          ⊎_elim
+          (λ (l : r < e.0). ⊎_elim (λ (b : e.0 < p). omega arith) (λ (b : (e.0 ≡ p) × (e.1 < p + 1)). omega (arith, b.0)) before)
+          (λ (l : (r ≡ e.0) × (t < e.1)). ⊎_elim (λ (b : e.0 < p). omega (arith, l.0)) (λ (b : (e.0 ≡ p) × (e.1 < p + 1)). omega (arith, l.1, b.1)) before)
+          h
 
   module _ (p q : ℕ) (list : List (List ℕ)) (s : SeparatesUpTo a m (p, q) list) where
     abbrev pair : ℕ → ℕ × ℕ

@@ -1,5 +1,7 @@
--- Least words in shortlex order. Source: separating words as in Moore (1956), access words as in Angluin (1987).
-use Rattle.std.specs.Prelude.{◌≡◌, ◌≢◌, ℕ, ◌<◌, List, length, slice_index_or, Option, None, MatchOption}
+-- Least words in shortlex order.
+-- Source: separating words as in Moore (1956), access words as in Angluin (1987).
+use Rattle.std.specs.Prelude.{◌≡◌, ◌≢◌, ℕ, ◌<◌, List, [], length, slice_index_or}
+use Rattle.std.specs.Prelude.{Option, None, MatchOption}
 use Rattle.std.specs.declared.cmp.Ordering.TheVariants.{Less}
 use Rattle.lw_words.specs.Word.{IsWord}
 use Rattle.lw_words.specs.Shortlex.{shortlex_cmp}
@@ -37,3 +39,23 @@ IsSeparatingWord a m p q word = MatchOption word (¬ Differ a m p q) (IsLeastSep
 pub record AreAccessWords (a : ℕ) (m : Rows) (list : List (Option (List ℕ))) : Type 0 where
   pub each : length list ≡ length m
   pub words : (q : ℕ) → q < length m → IsAccessWord a m q (slice_index_or list q None)
+
+-- of each state in their order the least access word: the list S of a machine
+pub record AreLeastAccess (a : ℕ) (m : Rows) (list : List (List ℕ)) : Type 0 where
+  pub each : length list ≡ length m
+  pub words : (q : ℕ) → q < length m → IsLeastAccess a m q (slice_index_or list q [])
+
+-- a state has one least access word at most
+abbrev pub OneAccessWord : Type 0
+OneAccessWord = (a : ℕ) (m : Rows) (q : ℕ) (u v : List ℕ)
+    → IsLeastAccess a m q u → IsLeastAccess a m q v → u ≡ v
+
+-- two states have one least separating word at most
+abbrev pub OneSeparatingWord : Type 0
+OneSeparatingWord = (a : ℕ) (m : Rows) (p q : ℕ) (u v : List ℕ)
+    → IsLeastSeparating a m p q u → IsLeastSeparating a m p q v → u ≡ v
+
+-- a machine has one list of least access words at most
+abbrev pub OneLeastAccess : Type 0
+OneLeastAccess = (a : ℕ) (m : Rows) (u v : List (List ℕ))
+    → AreLeastAccess a m u → AreLeastAccess a m v → u ≡ v

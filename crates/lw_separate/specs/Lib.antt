@@ -1,13 +1,5 @@
-pub mod Before
 pub mod Canonical
-pub mod Columns
-pub mod Classes
+pub mod FirstAlike
 pub mod Least
-pub mod Lengths
-pub mod Names
-pub mod Search
-pub mod Searched
 pub mod Separators
-pub mod Sources
-pub mod Working
-pub mod Worklist
+pub mod bodies

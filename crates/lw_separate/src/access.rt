@@ -1,10 +1,12 @@
+//! The least words that lead to the states, by one breadth-first search.
 ghost use Rattle.std.specs.Prelude.{◌≡◌, ℕ, ◌+◌, ◌<◌, length, IfOk, OnOk};
 ghost use Rattle.lw_mealy.specs.Limits.{MealyMachine, IsWithinLimits};
-ghost use Rattle.lw_separate.specs.Least.{IsAccessWord, AreAccessWords};
-ghost use Rattle.lw_separate.specs.Searched.{Searched};
+ghost use Rattle.lw_mealy.specs.Minimal.{IsMinimal};
+ghost use Rattle.lw_separate.specs.Least.{IsAccessWord, AreAccessWords, AreLeastAccess};
+ghost use Rattle.lw_separate.specs.bodies.Searched.{Searched};
 
 use lw_mealy::Mealy;
-use lw_words::{NoMemory, Word};
+use lw_words::{NoMemory, Word, Words};
 use std::alloc::Global;
 
 /// The words that a search found, in shortlex order, the state to which each leads,
@@ -18,7 +20,8 @@ pub struct Search {
 
 /// The search that has found state 0.
 fn start(alloc: Global, m: &Mealy) -> Result<Search, NoMemory>
-    ensures { IfOk result (λ s. Searched m.now s 0 0) }
+    ensures searched { IfOk result (λ s. Searched m.now s 0 0) }
+    ensures complete { OnOk result (IsWithinLimits m.now) }
 {
     let mut places = vec![in alloc; None; usize::from(m.states())]?;
     places[usize::from(m.initial())] = Some(0);
@@ -66,7 +69,8 @@ fn expand(m: &Mealy, s: &mut Search, i: usize) -> Result<(), NoMemory>
 /// Finds the shortlex-least word to each state that is reached, by breadth-first search in letter order
 /// (Moore 1959).
 pub fn breadth_first(alloc: Global, m: &Mealy) -> Result<Search, NoMemory>
-    ensures { IfOk result (λ s. Searched m.now s (length s.words.items) 0) }
+    ensures searched { IfOk result (λ s. Searched m.now s (length s.words.items) 0) }
+    ensures complete { OnOk result (IsWithinLimits m.now) }
 {
     let mut s = start(alloc, m)?;
     let mut i = 0;
@@ -99,6 +103,26 @@ pub fn access_words(alloc: Global, m: &Mealy) -> Result<Vec<Option<Word>>, NoMem
     let mut words = Vec::with_capacity(alloc, s.places.len())?;
     for q in 0..usize::from(m.states()) {
         words.push(word_to(&s, m, q)?)?;
+    }
+    Ok(words)
+}
+
+/// The shortlex-least word to each state of a minimal machine, in the order of the states: the access words S of the
+/// W-method (Chow 1978). One breadth-first search, as `access_words`.
+pub fn least_access(alloc: Global, m: &Mealy) -> Result<Words, NoMemory>
+    requires minimal { IsMinimal m.now.inputs m.now.rows }
+    ensures { IfOk result (AreLeastAccess m.now.inputs m.now.rows) }
+{
+    let s = breadth_first(alloc, m)?;
+    let mut words = Words::new(alloc);
+    for q in 0..usize::from(m.states()) {
+        let found = word_to(&s, m, q)?;
+        let Some(word) = found else {
+            unreachable!();
+        };
+        let Ok(()) = words.push(word) else {
+            return Err(NoMemory);
+        };
     }
     Ok(words)
 }

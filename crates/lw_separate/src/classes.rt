@@ -1,11 +1,13 @@
+//! Classes of states by their outputs on the words of a list.
 ghost use Rattle.std.specs.Prelude.{◌≡◌, ℕ, ◌<◌, ◌≤◌, [], length, map, slice_index, IfOk, OnOk};
 ghost use Rattle.std.specs.Bool.{OnFalse};
 ghost use Rattle.lw_words.specs.Word.{IsWord};
-ghost use Rattle.lw_separate.specs.Columns.{AreColumns};
-ghost use Rattle.lw_separate.specs.Classes.{AllEqual, AreClasses, AreNames, Observes, IsLeastAlike, Refines, SplitsBy, RefinesBy};
+ghost use Rattle.lw_separate.specs.bodies.Columns.{AreColumns};
+ghost use Rattle.lw_separate.specs.bodies.Classes.{AllEqual, AreClasses, AreNames, Observes};
+ghost use Rattle.lw_separate.specs.bodies.Classes.{IsLeastAlike, Refines, SplitsBy, RefinesBy};
 
+use crate::canonical_form::all_states;
 use crate::columns::column_of;
-use crate::form::all_states;
 use lw_mealy::Mealy;
 use lw_words::{NoMemory, Word};
 use std::alloc::Global;
@@ -19,9 +21,11 @@ pub fn one_class(alloc: Global, m: &Mealy) -> Result<Vec<u16>, NoMemory>
 
 /// Goes on by a letter from each state, from the first one on, and keeps the outputs. Answers whether two of them differ.
 fn observe(column: &[(u16, u16)], ends: &mut Vec<u16>, outputs: &mut Vec<u16>, first: usize) -> bool
-    requires states { (q : ℕ) → q < length ends.old.items → slice_index ends.old.items q < length column.now }
+    requires states { (q : ℕ) → q < length ends.old.items
+        → slice_index ends.old.items q < length column.now }
     requires long { length outputs.old.items ≡ length ends.old.items }
-    ensures observes { Observes column.now first (length ends.old.items) ends.old.items ends.new.items outputs.new.items }
+    ensures observes { Observes column.now first (length ends.old.items)
+        ends.old.items ends.new.items outputs.new.items }
     ensures equal { OnFalse result (AllEqual first (length ends.old.items) outputs.new.items) }
 {
     let mut differ = false;

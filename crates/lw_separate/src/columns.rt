@@ -1,5 +1,6 @@
+//! The columns of a machine: the cells of all states at a letter.
 ghost use Rattle.std.specs.Prelude.{ℕ, ◌<◌, map, IfOk};
-ghost use Rattle.lw_separate.specs.Columns.{IsColumn, AreColumns};
+ghost use Rattle.lw_separate.specs.bodies.Columns.{IsColumn, AreColumns};
 
 use lw_mealy::Mealy;
 use lw_words::NoMemory;
@@ -19,7 +20,8 @@ fn column(alloc: Global, m: &Mealy, x: u16) -> Result<Vec<(u16, u16)>, NoMemory>
 
 /// The targets and outputs of all states at each letter.
 pub fn columns(alloc: Global, m: &Mealy) -> Result<Vec<Vec<(u16, u16)>>, NoMemory>
-    ensures { IfOk result (λ columns. AreColumns m.now.inputs m.now.rows (map (λ c. c.items) columns.items)) }
+    ensures { IfOk result (λ all.
+        AreColumns m.now.inputs m.now.rows (map (λ c. c.items) all.items)) }
 {
     let mut all = Vec::with_capacity(alloc, usize::from(m.inputs()))?;
     for x in 0..m.inputs() {

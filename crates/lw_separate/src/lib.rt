@@ -2,20 +2,25 @@
 #![tactic(auto)]
 
 mod access;
+mod alike_states;
+mod canonical_form;
 mod classes;
 mod columns;
-mod form;
-mod lengths;
+mod laws;
+mod levels;
 mod rename;
-mod separate;
-mod sources;
-mod suite;
-mod worklist;
+mod separating_word;
+mod separator_words;
 
-pub use access::access_words;
-pub use form::{canonical, canonical_exists, canonical_is_unique};
-pub use separate::separating;
-pub use suite::separators;
+pub use access::{access_words, least_access};
+pub use alike_states::first_alike;
+pub use canonical_form::{canonical, renumbered};
+pub use laws::{
+    access_word_is_unique, canonical_exists, canonical_is_unique, least_access_is_unique,
+    separating_word_is_unique, separators_are_unique,
+};
+pub use separating_word::separating;
+pub use separator_words::separators;
 
 #[cfg(test)]
 mod tests;

@@ -1,6 +1,7 @@
+//! A machine with its states renamed.
 ghost use Rattle.std.specs.Prelude.{◌≡◌, ℕ, ◌<◌, length, map, IfOk};
 ghost use Rattle.lw_mealy.specs.Limits.{IsWithinLimits};
-ghost use Rattle.lw_separate.specs.Canonical.{CanRename, Renames, RenamesRow, RenamesRows};
+ghost use Rattle.lw_separate.specs.bodies.Renaming.{CanRename, Renames, RenamesRow, RenamesRows};
 
 use lw_mealy::{Mealy, MealyFault};
 use lw_words::NoMemory;
@@ -28,7 +29,8 @@ fn renamed_rows(
     names: &[u16],
 ) -> Result<Vec<Vec<(u16, u16)>>, NoMemory>
     requires can { CanRename m.now.inputs m.now.rows states.now names.now }
-    ensures { IfOk result (λ rows. RenamesRows m.now.inputs m.now.rows states.now names.now (map (λ r. r.items) rows.items)) }
+    ensures { IfOk result (λ rows.
+        RenamesRows m.now.inputs m.now.rows states.now names.now (map (λ r. r.items) rows.items)) }
 {
     let mut rows = Vec::with_capacity(alloc, states.len())?;
     for state in states {
@@ -40,7 +42,8 @@ fn renamed_rows(
 /// The machine of the rows of these states, in their order, each target under its new name.
 pub fn rename(alloc: Global, m: &Mealy, states: &[u16], names: &[u16]) -> Result<Mealy, NoMemory>
     requires can { CanRename m.now.inputs m.now.rows states.now names.now }
-    ensures renames { IfOk result (λ c. Renames m.now.inputs m.now.rows states.now names.now c.rows) }
+    ensures renames { IfOk result (λ c.
+        Renames m.now.inputs m.now.rows states.now names.now c.rows) }
     ensures alphabets { IfOk result (λ c. (c.inputs ≡ m.now.inputs) × (c.outputs ≡ m.now.outputs)) }
     ensures complete { IfOk result IsWithinLimits }
 {

@@ -1,11 +1,18 @@
+//! The calls on worked, drawn and greatest machines, beside the plain body.
 ghost use Rattle.std.specs.Prelude.{◌<◌, ◌≤◌, length};
 ghost use Rattle.lw_mealy.specs.Minimal.{IsMinimal};
 
+use crate::canonical_form::numbered;
 use crate::{
-    access_words, canonical, canonical_exists, canonical_is_unique, separating, separators,
+    access_word_is_unique, access_words, canonical, canonical_exists, canonical_is_unique,
+    first_alike, least_access, least_access_is_unique, renumbered, separating,
+    separating_word_is_unique, separators, separators_are_unique,
 };
 use lw_mealy::Mealy;
 use lw_words::{Word, Words};
+use rand_core::SeedableRng;
+use rand_core::utils::NextWord;
+use rand_pcg::Lcg128Xsl64;
 use std::alloc::Global;
 use std::test::Fail;
 
@@ -26,12 +33,12 @@ fn machine(alloc: Global, rows: &[&[(u16, u16)]]) -> Result<Mealy, Fail> {
 }
 
 /// The counter modulo three.
-fn c3(alloc: Global) -> Result<Mealy, Fail> {
+fn counter_of_three(alloc: Global) -> Result<Mealy, Fail> {
     machine(alloc, &[&[(1, 0)], &[(2, 0)], &[(0, 1)]])
 }
 
 /// States 0 and 2 are alike, and no word leads to state 3.
-fn fat(alloc: Global) -> Result<Mealy, Fail> {
+fn with_equal_states(alloc: Global) -> Result<Mealy, Fail> {
     machine(alloc, &[&[(1, 0)], &[(2, 1)], &[(1, 0)], &[(0, 1)]])
 }
 
@@ -46,20 +53,20 @@ fn letters(word: &Option<Word>) -> Option<usize> {
 #[test]
 fn worked_separating_words(rt: HostRuntime) -> Result<(), Fail> {
     let alloc = rt.alloc();
-    let counter = c3(alloc)?;
+    let counter = counter_of_three(alloc)?;
     assert_eq!(rt; counter.states(), 3);
     assert_eq!(rt; letters(&separating(alloc, &counter, 0, 1)?), Some(2));
     assert_eq!(rt; letters(&separating(alloc, &counter, 0, 2)?), Some(1));
-    let fat = fat(alloc)?;
-    assert_eq!(rt; fat.states(), 4);
-    assert_eq!(rt; letters(&separating(alloc, &fat, 0, 2)?), None);
+    let equal = with_equal_states(alloc)?;
+    assert_eq!(rt; equal.states(), 4);
+    assert_eq!(rt; letters(&separating(alloc, &equal, 0, 2)?), None);
     Ok(())
 }
 
 #[test]
 fn worked_access_words(rt: HostRuntime) -> Result<(), Fail> {
     let alloc = rt.alloc();
-    let words = access_words(alloc, &fat(alloc)?)?;
+    let words = access_words(alloc, &with_equal_states(alloc)?)?;
     assert_eq!(rt; words.len(), 4);
     assert_eq!(rt; letters(&words[0]), Some(0));
     assert_eq!(rt; letters(&words[1]), Some(1));
@@ -71,7 +78,7 @@ fn worked_access_words(rt: HostRuntime) -> Result<(), Fail> {
 #[test]
 fn worked_separators(rt: HostRuntime) -> Result<(), Fail> {
     let alloc = rt.alloc();
-    let words = separators(alloc, &canonical(alloc, &c3(alloc)?)?)?;
+    let words = separators(alloc, &canonical(alloc, &counter_of_three(alloc)?)?)?;
     assert_eq!(rt; words.len(), 1);
     assert_eq!(rt; words.get(0).as_slice(), [0, 0].as_slice());
     Ok(())
@@ -80,7 +87,7 @@ fn worked_separators(rt: HostRuntime) -> Result<(), Fail> {
 #[test]
 fn worked_canonical_form(rt: HostRuntime) -> Result<(), Fail> {
     let alloc = rt.alloc();
-    let c = canonical(alloc, &fat(alloc)?)?;
+    let c = canonical(alloc, &with_equal_states(alloc)?)?;
     assert_eq!(rt; (c.inputs(), c.outputs(), c.states()), (1, 4, 2));
     assert_eq!(rt; (c.step(0, 0), c.step(1, 0)), ((1, 0), (0, 1)));
     Ok(())
@@ -90,6 +97,10 @@ fn worked_canonical_form(rt: HostRuntime) -> Result<(), Fail> {
 fn calls_the_laws(_rt: HostRuntime) -> Result<(), Fail> {
     canonical_is_unique();
     canonical_exists();
+    access_word_is_unique();
+    separating_word_is_unique();
+    least_access_is_unique();
+    separators_are_unique();
     Ok(())
 }
 
@@ -135,42 +146,34 @@ fn a_chain_needs_long_words(rt: HostRuntime) -> Result<(), Fail> {
     Ok(())
 }
 
-/// Draws numbers (Knuth's linear congruential generator).
-#[derive(Drop)]
-struct Draw(u64);
+/// A drawn number below a bound.
+fn below(random: &mut Lcg128Xsl64, bound: u16) -> u16
+    requires { 0 < bound }
+{
+    (random.next_word() % u64::from(bound)) as u16
+}
 
-impl Draw {
-    fn below(&mut self, bound: u16) -> u16
-        requires { 0 < bound }
-    {
-        self.0 = self
-            .0
-            .wrapping_mul(6364136223846793005)
-            .wrapping_add(1442695040888963407);
-        ((self.0 >> 33) % u64::from(bound)) as u16
-    }
-
-    fn machine(
-        &mut self,
-        alloc: Global,
-        states: u16,
-        letters: u16,
-        outputs: u16,
-    ) -> Result<Mealy, Fail>
-        requires states { 0 < states }
-        requires letters { (1 ≤ letters) × (letters ≤ 64) }
-        requires outputs { (1 ≤ outputs) × (outputs ≤ 4096) }
-    {
-        let mut rows = Vec::new(alloc);
-        for _ in 0..states {
-            let mut row = Vec::new(alloc);
-            for _ in 0..letters {
-                row.push((self.below(states), self.below(outputs)))?;
-            }
-            rows.push(row)?;
+/// A machine whose targets and outputs are drawn.
+fn drawn(
+    alloc: Global,
+    random: &mut Lcg128Xsl64,
+    states: u16,
+    letters: u16,
+    outputs: u16,
+) -> Result<Mealy, Fail>
+    requires states { 0 < states }
+    requires letters { (1 ≤ letters) × (letters ≤ 64) }
+    requires outputs { (1 ≤ outputs) × (outputs ≤ 4096) }
+{
+    let mut rows = Vec::new(alloc);
+    for _ in 0..states {
+        let mut row = Vec::new(alloc);
+        for _ in 0..letters {
+            row.push((below(random, states), below(random, outputs)))?;
         }
-        Ok(Mealy::new(alloc, letters, outputs, rows)?)
+        rows.push(row)?;
     }
+    Ok(Mealy::new(alloc, letters, outputs, rows)?)
 }
 
 /// Whether the access words are those of the plain body.
@@ -221,14 +224,42 @@ fn separators_agree(alloc: Global, m: &Mealy, all: &[Word]) -> Result<bool, Fail
     )
 }
 
-/// Whether all four calls answer as the plain body, on a machine of at most five states over one or two letters.
+/// Whether the words of the list are the access words of the plain body.
+fn least_access_agrees(alloc: Global, m: &Mealy, all: &[Word]) -> Result<bool, Fail>
+    requires { IsMinimal m.now.inputs m.now.rows }
+{
+    let list = least_access(alloc, m)?;
+    let mut q = 0u16;
+    for word in list.as_slice() {
+        match plain::access(m, all, q) {
+            Some(expected) if word.as_slice() == expected.as_slice() => {}
+            _ => return Ok(false),
+        }
+        q = q.wrapping_add(1);
+    }
+    Ok(q == m.states())
+}
+
+/// Whether the states are numbered as in the plain body, where no two are alike.
+fn numbered_agrees(alloc: Global, m: &Mealy, all: &[Word]) -> Result<bool, Fail> {
+    let alike = first_alike(alloc, m)?;
+    if alike != plain::first_alike(m, all) {
+        return Ok(false);
+    }
+    Ok(alike.is_some() || plain::is_canonical(alloc, m, &numbered(alloc, m)?, all)?)
+}
+
+/// Whether all calls answer as the plain body, on a machine of at most five states over one or two letters.
 fn all_agree(alloc: Global, m: &Mealy) -> Result<bool, Fail> {
     let all = plain::words(alloc, m.inputs())?;
     let c = canonical(alloc, m)?;
     Ok(
         access_agrees(alloc, m, all.as_slice())?
             && all_separating_agree(alloc, m, all.as_slice())?
+            && numbered_agrees(alloc, m, all.as_slice())?
             && plain::is_canonical(alloc, m, &c, all.as_slice())?
+            && plain::is_canonical(alloc, m, &renumbered(alloc, &c)?, all.as_slice())?
+            && least_access_agrees(alloc, &c, all.as_slice())?
             && separators_agree(alloc, &c, all.as_slice())?,
     )
 }
@@ -244,7 +275,7 @@ fn one_state_as_the_plain_body(rt: HostRuntime) -> Result<(), Fail> {
 #[test]
 fn equal_and_unreachable_states_as_the_plain_body(rt: HostRuntime) -> Result<(), Fail> {
     let alloc = rt.alloc();
-    assert!(rt; all_agree(alloc, &fat(alloc)?)?);
+    assert!(rt; all_agree(alloc, &with_equal_states(alloc)?)?);
     // No other state is reached from state 0, and no two differ.
     let alike = machine(alloc, &[&[(0, 1)], &[(0, 1)], &[(1, 1)], &[(3, 1)]])?;
     assert!(rt; all_agree(alloc, &alike)?);
@@ -299,15 +330,67 @@ fn a_ladder_needs_a_word_for_each_step(rt: HostRuntime) -> Result<(), Fail> {
 #[test]
 fn drawn_machines_as_the_plain_body(rt: HostRuntime) -> Result<(), Fail> {
     let alloc = rt.alloc();
-    let mut draw = Draw(7);
+    let mut random = Lcg128Xsl64::seed_from_u64(7);
     for _ in 0..300 {
-        let states = draw.below(5).wrapping_add(1);
-        let inputs = if draw.below(2) == 0 { 1 } else { 2 };
-        let outputs = if draw.below(2) == 0 { 1 } else { 2 };
+        let states = below(&mut random, 5).wrapping_add(1);
+        let inputs = if below(&mut random, 2) == 0 { 1 } else { 2 };
+        let outputs = if below(&mut random, 2) == 0 { 1 } else { 2 };
         if states == 0 {
             return Err(Fail::from("no state"));
         }
-        assert!(rt; all_agree(alloc, &draw.machine(alloc, states, inputs, outputs)?)?);
+        let m = drawn(alloc, &mut random, states, inputs, outputs)?;
+        assert!(rt; all_agree(alloc, &m)?);
     }
+    Ok(())
+}
+
+/// Whether the k-th word of the list has k letters.
+fn rises(list: &Words) -> bool {
+    let mut count = 0usize;
+    for word in list.as_slice() {
+        if word.len() != count {
+            return false;
+        }
+        count = count.wrapping_add(1);
+    }
+    true
+}
+
+#[test]
+fn a_chain_of_as_many_states_as_there_may_be(rt: HostRuntime) -> Result<(), Fail> {
+    let alloc = rt.alloc();
+    let m = chain(alloc, 1024)?;
+    assert!(rt; 1 < m.states());
+    assert_eq!(rt; letters(&separating(alloc, &m, 0, 1)?), Some(1023));
+    assert_eq!(rt; first_alike(alloc, &m)?, None);
+    let c = canonical(alloc, &m)?;
+    assert_eq!(rt; c.states(), 1024);
+    assert_eq!(rt; separators(alloc, &c)?.len(), 1);
+    assert!(rt; rises(&least_access(alloc, &c)?));
+    Ok(())
+}
+
+#[test]
+fn as_many_states_and_letters_as_there_may_be(rt: HostRuntime) -> Result<(), Fail> {
+    let alloc = rt.alloc();
+    let m = drawn(alloc, &mut Lcg128Xsl64::seed_from_u64(7), 1024, 64, 4096)?;
+    assert_eq!(rt; first_alike(alloc, &m)?, None);
+    assert_eq!(rt; access_words(alloc, &m)?.len(), 1024);
+    let c = canonical(alloc, &m)?;
+    assert_eq!(rt; renumbered(alloc, &c)?.states(), 1024);
+    assert!(rt; separators(alloc, &c)?.len() > 0);
+    Ok(())
+}
+
+#[test]
+fn as_many_equal_states_as_there_may_be(rt: HostRuntime) -> Result<(), Fail> {
+    let alloc = rt.alloc();
+    let mut rows = Vec::new(alloc);
+    for q in 0..1024u16 {
+        rows.push(vec![in alloc; (q, 0u16); 64]?)?;
+    }
+    let m = Mealy::new(alloc, 64, 1, rows)?;
+    assert_eq!(rt; first_alike(alloc, &m)?, Some((0, 1)));
+    assert_eq!(rt; canonical(alloc, &m)?.states(), 1);
     Ok(())
 }

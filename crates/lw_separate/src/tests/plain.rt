@@ -1,4 +1,4 @@
-//! The four calls by trial: all words in shortlex order, on machines of at most five states.
+//! The calls by trial: all words in shortlex order, on machines of at most five states.
 
 use lw_mealy::Mealy;
 use lw_words::Word;
@@ -69,6 +69,18 @@ pub fn separating<'a>(m: &Mealy, all: &'a [Word], p: u16, q: u16) -> Option<&'a 
     for word in all {
         if differ(m, p, q, word) {
             return Some(word);
+        }
+    }
+    None
+}
+
+/// The first pair of states that no word tells apart.
+pub fn first_alike(m: &Mealy, all: &[Word]) -> Option<(u16, u16)> {
+    for p in 0..m.states() {
+        for q in 0..m.states() {
+            if p < q && separating(m, all, p, q).is_none() {
+                return Some((p, q));
+            }
         }
     }
     None

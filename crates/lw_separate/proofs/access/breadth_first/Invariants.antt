@@ -1,5 +1,5 @@
 use Rattle.std.proofs.Common.{◌≤◌, ◌-◌, length}
-use Rattle.lw_separate.specs.Searched.{Searched}
+use Rattle.lw_separate.specs.bodies.Searched.{Searched}
 use Rattle.lw_separate.proofs.access.breadth_first.Given as goal
 
 abbrev pub invariant-loop-i : goal.invariant-loop-i

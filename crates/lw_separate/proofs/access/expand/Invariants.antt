@@ -1,5 +1,5 @@
 use Rattle.std.proofs.Common.{◌<◌, length}
-use Rattle.lw_separate.specs.Searched.{Searched}
+use Rattle.lw_separate.specs.bodies.Searched.{Searched}
 use Rattle.lw_separate.proofs.access.expand.Given as goal
 
 abbrev pub invariant-loop-x : goal.invariant-loop-x

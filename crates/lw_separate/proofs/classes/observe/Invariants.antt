@@ -1,5 +1,5 @@
 use Rattle.std.specs.Bool.{OnFalse}
-use Rattle.lw_separate.specs.Classes.{Observes, AllEqual}
+use Rattle.lw_separate.specs.bodies.Classes.{Observes, AllEqual}
 use Rattle.lw_separate.proofs.classes.observe.Given as goal
 
 abbrev pub invariant-loop-q : goal.invariant-loop-q

@@ -1,6 +1,6 @@
 use Rattle.std.proofs.Common.{rules, ◌<◌, ℕ, List, length, get_or, ap, subst, sym}
 use Rattle.std.specs.Bool.{OnFalse}
-use Rattle.lw_separate.specs.Classes.{AllEqual, RefinesBy}
+use Rattle.lw_separate.specs.bodies.Classes.{AllEqual, RefinesBy}
 use Rattle.lw_separate.proofs.ClassLemmas.{follows_next, follows_done}
 use Rattle.lw_separate.proofs.classes.refine.Goals as goal
 

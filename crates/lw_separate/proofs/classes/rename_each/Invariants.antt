@@ -1,4 +1,4 @@
-use Rattle.lw_separate.specs.Classes.{Refines}
+use Rattle.lw_separate.specs.bodies.Classes.{Refines}
 use Rattle.lw_separate.proofs.classes.rename_each.Given as goal
 
 abbrev pub invariant-loop-q : goal.invariant-loop-q

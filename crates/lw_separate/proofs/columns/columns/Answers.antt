@@ -1,5 +1,5 @@
 use Rattle.std.proofs.Common.{rules, ◌<◌, ℕ, List, [], Vec, Global, length, map, get_or, subst, sym}
-use Rattle.lw_separate.specs.Columns.{IsColumn}
+use Rattle.lw_separate.specs.bodies.Columns.{IsColumn}
 use Rattle.lw_separate.proofs.ColumnLemmas.{columns_push}
 use Rattle.lw_separate.proofs.columns.columns.Goals as goal
 

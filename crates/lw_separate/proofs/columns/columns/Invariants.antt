@@ -1,5 +1,5 @@
 use Rattle.std.proofs.Common.{◌≡◌, ◌<◌, ℕ, [], length, map, get_or}
-use Rattle.lw_separate.specs.Columns.{IsColumn}
+use Rattle.lw_separate.specs.bodies.Columns.{IsColumn}
 use Rattle.lw_separate.proofs.columns.columns.Given as goal
 
 abbrev pub invariant-loop-x : goal.invariant-loop-x

@@ -1,5 +1,5 @@
 use Rattle.std.proofs.Common.{◌≡◌, ◌<◌, ℕ, length, get_or}
-use Rattle.lw_separate.specs.Canonical.{renamed}
+use Rattle.lw_separate.specs.bodies.Renaming.{renamed}
 use Rattle.lw_separate.proofs.rename.renamed_row.Given as goal
 
 abbrev pub invariant-loop-x : goal.invariant-loop-x

@@ -1,5 +1,5 @@
 use Rattle.std.proofs.Common.{◌≡◌, ◌<◌, ℕ, [], length, map, get_or}
-use Rattle.lw_separate.specs.Canonical.{RenamesRow}
+use Rattle.lw_separate.specs.bodies.Renaming.{RenamesRow}
 use Rattle.lw_separate.proofs.rename.renamed_rows.Given as goal
 
 abbrev pub invariant-loop-state : goal.invariant-loop-state

@@ -1,5 +1,0 @@
-use Rattle.lw_separate.proofs.Existence.{some_canonical}
-use Rattle.lw_separate.proofs.form.canonical_exists.Goals as goal
-
-pub returns : goal.returns
-returns c = some_canonical

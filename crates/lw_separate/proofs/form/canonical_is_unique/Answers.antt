@@ -1,5 +1,0 @@
-use Rattle.lw_separate.proofs.UniqueLemmas.{one_canonical}
-use Rattle.lw_separate.proofs.form.canonical_is_unique.Goals as goal
-
-pub returns : goal.returns
-returns c = one_canonical
