@@ -1,33 +1,16 @@
 -- A list in which each word separates a pair that no earlier word does has fewer words than the machine has states.
-use Rattle.std.proofs.Common.{◌≡◌, ◌≢◌, ℕ, zero, suc, ◌<◌, ◌≤◌, ◌⊎◌, inl, inr, ⊎_elim, true, false, eqb, List, [], ◌∷◌, ◌++◌, length, get_or, refl, ap, sym, ◌∙◌, arith, subst, zero-add}
-use Rattle.std.specs.List.{All, AllPairs, range_with_len}
-use Rattle.std.specs.Set.{is_member}
+use Rattle.std.proofs.Common.{◌≡◌, ◌≢◌, ℕ, zero, suc, ◌<◌, ◌≤◌, ◌⊎◌, inl, inr, ⊎_elim, true, false, List, [], ◌∷◌, ◌++◌, length, get_or, refl, ap, sym, ◌∙◌, arith, subst}
+use Rattle.std.specs.List.{All, AllPairs}
 use Rattle.std.specs.Str.{bytes_eq}
-use Rattle.std.specs.Cmp.{unsigned_Decides}
 use Rattle.std.proofs.lemmas.Slice.Eq.{bytes_eq-Decides}
-use Rattle.std.proofs.lemmas.Cmp.{nat_eq_equiv}
 use Rattle.std.proofs.lemmas.List.{get_or_append_left, get_or_default}
-use Rattle.std.proofs.lemmas.List.Folds.{list_any_at}
-use Rattle.std.proofs.lemmas.List.FromFn.{length-range_with_len, get_or-range_with_len}
-use Rattle.std.proofs.lemmas.List.Elements.{All-contains, All-from_get_or}
-use Rattle.std.proofs.lemmas.Map.Made.{length-le_from_is_member, IsDistinct-from_AllPairs, is_member-Decides}
+use Rattle.std.proofs.lemmas.List.Elements.{All-from_get_or}
 use Rattle.std.proofs.lemmas.Bool.{cases_order}
+use Rattle.lw_words.proofs.Pigeonhole.{no_more_than}
 use Rattle.lw_mealy.specs.Machine.{Rows, out}
 use Rattle.lw_separate.specs.bodies.Walk.{SeparatesUpTo}
 use Rattle.lw_separate.proofs.SearchLemmas.{last_or_before, length-push, at_end}
 use Rattle.lw_separate.proofs.AccessLemmas.{pushed}
-
-in_range : (n q : ℕ) → q < n → is_member eqb (range_with_len 0 n) q ≡ true
-in_range n q lt =
-    let len : q < length (range_with_len 0 n) = rw (length-range_with_len 0 n) lt in
-    list_any_at (eqb q) (range_with_len 0 n) q 0 len (rw (get_or-range_with_len 0 n q 0 lt, zero-add) ((unsigned_Decides q q).1 refl))
-
-below : (n q : ℕ) (xs : List ℕ) → All (λ x. x < n) xs → is_member eqb xs q ≡ true → q < n
-below n q xs all m = All-contains (λ x. x < n) xs q all ((is_member-Decides unsigned_Decides xs q).0 m)
-
--- distinct numbers below n are at most n
-no_more : (n : ℕ) (xs : List ℕ) → All (λ x. x < n) xs → AllPairs (λ x y. x ≢ y) xs → length xs ≤ n
-no_more n xs all apart = rw (← length-range_with_len 0 n) (length-le_from_is_member nat_eq_equiv xs (range_with_len 0 n) (IsDistinct-from_AllPairs unsigned_Decides xs apart) (λ q m. in_range n q (below n q xs all m)))
 
 pub same_or_not : (u v : List ℕ) → (u ≡ v) ⊎ (u ≢ v)
 same_or_not u v =
@@ -135,4 +118,4 @@ module _ (a : ℕ) (m : Rows) (end : ℕ × ℕ) (list : List (List ℕ)) (s : S
       let r = c.1.apart i j ij lj in
       let e : get_or c.0 i 0 ≡ get_or c.0 j 0 = sym (get_or_default c.0 i d 0 (omega arith)) ∙ (same ∙ get_or_default c.0 j d 0 lj) in
       r.2 (ap (λ (q : ℕ). out m q (get_or list r.0 [])) e) in
-      omega (arith, no_more (length m) c.0 states differ, c.1.size)
+      omega (arith, no_more_than (length m) c.0 states differ, c.1.size)
