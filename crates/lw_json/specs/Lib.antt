@@ -1,4 +1,7 @@
 pub mod Each
-pub mod Found
+pub mod Fault
+pub mod MachineFault
 pub mod MachineFile
 pub mod MachineText
+pub mod Members
+pub mod bodies

@@ -1,15 +1,16 @@
-//! Machine files: the grammar that is read, over serde_json's reading, and the one text that is written.
+//! Files in JSON: the grammars that are read, over serde_json's reading, and the one text that is written of a value.
 #![tactic(auto)]
 
 mod fault;
 mod machine;
-mod read;
-mod write;
+mod machine_reader;
+mod machine_writer;
+mod members;
 
-pub use fault::JsonFault;
+pub use fault::{Field, JsonFault};
 pub use machine::Machine;
-pub use read::read_machine;
-pub use write::machine_text;
+pub use machine_reader::read_machine;
+pub use machine_writer::machine_text;
 
 #[cfg(test)]
 mod tests;

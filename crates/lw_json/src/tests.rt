@@ -1,4 +1,9 @@
-use crate::{JsonFault, machine_text, read_machine};
+//! Files that are worked out by hand from the rules.
+
+use crate::{Field, JsonFault, machine_text, read_machine};
+use lw_mealy::MealyFault;
+use lw_words::NamesFault;
+use std::alloc::Global;
 use std::test::Fail;
 
 const ONE: &str = "{\"inputs\":[\"t\"],\"outputs\":[\"0\"],\"states\":[[[0,\"0\"]]]}\n";
@@ -8,50 +13,205 @@ const THREE: &str =
     "{\"inputs\":[\"t\"],\"outputs\":[\"0\",\"1\"],\"states\":[[[1,\"0\"]],[[2,\"0\"]],[[0,\"1\"]]]}\n";
 
 /// Machine files that are written otherwise than they are read.
-const SPELLED: [&str; 3] = [
+const SPELLED: [&str; 5] = [
     "{\"states\":[[[0,\"0\"]]],\"outputs\":[\"0\"],\"inputs\":[\"t\"]}",
     " { \"inputs\" : [ \"t\" ] ,\n\"outputs\":[\"0\"],\t\"states\":[[[0,\"0\"]]] }\n\n",
     "{\"inputs\":[\"t\"],\"outputs\":[\"0\"],\"states\":[[[0,\"0\"]]],\"more\":{\"a\":[null]}}",
+    "{\"inputs\":[\"\\u0074\"],\"outputs\":[\"0\"],\"states\":[[[0,\"\\u0030\"]]]}",
+    "\r\n{\"inputs\":[\"t\"],\r\n\"outputs\":[\"0\"],\"states\":[[[0,\"0\"]]]}\r\n",
 ];
 
-/// One reason each.
-const BAD: [&str; 36] = [
-    "",
-    "x",
-    "[]",
-    "{}",
-    "{\"outputs\":[\"0\"],\"states\":[[[0,\"0\"]]]}",
-    "{\"inputs\":\"t\",\"outputs\":[\"0\"],\"states\":[[[0,\"0\"]]]}",
-    "{\"inputs\":[1],\"outputs\":[\"0\"],\"states\":[[[0,\"0\"]]]}",
-    "{\"inputs\":[],\"outputs\":[\"0\"],\"states\":[[]]}",
-    "{\"inputs\":[\"t\"],\"outputs\":[],\"states\":[[[0,\"0\"]]]}",
-    "{\"inputs\":[\"t t\"],\"outputs\":[\"0\"],\"states\":[[[0,\"0\"]]]}",
-    "{\"inputs\":[\"t\",\"t\"],\"outputs\":[\"0\"],\"states\":[[[0,\"0\"],[0,\"0\"]]]}",
-    "{\"inputs\":[\"t\"],\"outputs\":[\"0\"],\"states\":[]}",
-    "{\"inputs\":[\"t\"],\"outputs\":[\"0\"],\"states\":[[]]}",
-    "{\"inputs\":[\"t\"],\"outputs\":[\"0\"],\"states\":[[[0,\"0\"],[0,\"0\"]]]}",
-    "{\"inputs\":[\"t\"],\"outputs\":[\"0\"],\"states\":[[[0]]]}",
-    "{\"inputs\":[\"t\"],\"outputs\":[\"0\"],\"states\":[[[0,\"0\",0]]]}",
-    "{\"inputs\":[\"t\"],\"outputs\":[\"0\"],\"states\":[[[\"0\",\"0\"]]]}",
-    "{\"inputs\":[\"t\"],\"outputs\":[\"0\"],\"states\":[[[-1,\"0\"]]]}",
-    "{\"inputs\":[\"t\"],\"outputs\":[\"0\"],\"states\":[[[0.5,\"0\"]]]}",
-    "{\"inputs\":[\"t\"],\"outputs\":[\"0\"],\"states\":[[[65536,\"0\"]]]}",
-    "{\"inputs\":[\"t\"],\"outputs\":[\"0\"],\"states\":[[[0,\"1\"]]]}",
-    "{\"inputs\":[\"t\"],\"outputs\":[\"0\"],\"states\":[[[1,\"0\"]]]}",
-    "{\"inputs\":[\"t\"],\"states\":[[[0,\"0\"]]]}",
-    "{\"inputs\":[\"t\"],\"outputs\":[\"0\"]}",
-    "{\"inputs\":[\"t\"],\"outputs\":{\"0\":0},\"states\":[[[0,\"0\"]]]}",
-    "{\"inputs\":[\"t\"],\"outputs\":[\"0\"],\"states\":{}}",
-    "{\"inputs\":[\"t\"],\"outputs\":[\"0\"],\"states\":[0]}",
-    "{\"inputs\":[\"t\"],\"outputs\":[\"0\"],\"states\":[[0]]}",
-    "{\"inputs\":[\"t\"],\"outputs\":[\"0\"],\"states\":[[[0,0]]]}",
-    "{\"inputs\":[\"t\"],\"outputs\":[\"0\"],\"states\":[[[0,1,\"0\"]]]}",
-    "{\"inputs\":[\"\"],\"outputs\":[\"0\"],\"states\":[[[0,\"0\"]]]}",
-    "{\"inputs\":[\"\\u007f\"],\"outputs\":[\"0\"],\"states\":[[[0,\"0\"]]]}",
-    "{\"inputs\":[\"\\u0020\"],\"outputs\":[\"0\"],\"states\":[[[0,\"0\"]]]}",
-    "{\"inputs\":[\"\\u00e9\"],\"outputs\":[\"0\"],\"states\":[[[0,\"0\"]]]}",
-    "{\"inputs\":[\"t\"],\"outputs\":[\"0\",\"0\"],\"states\":[[[0,\"0\"]]]}",
-    "{\"inputs\":[\"t\"],\"outputs\":[\"0\"],\"states\":[[[0,\"0\"]]]} x",
+/// Bytes that are no machine file, each with its first fault.
+const NO_MACHINES: [(&str, JsonFault); 54] = [
+    ("", JsonFault::NotJson),
+    ("x", JsonFault::NotJson),
+    ("{\"inputs\":[\"t\"]", JsonFault::NotJson),
+    (
+        "{\"inputs\":[\"t\"],\"outputs\":[\"0\"],\"states\":[[[0,\"0\"]]]} x",
+        JsonFault::NotJson,
+    ),
+    (
+        "﻿{\"inputs\":[\"t\"],\"outputs\":[\"0\"],\"states\":[[[0,\"0\"]]]}",
+        JsonFault::NotJson,
+    ),
+    ("{\"a\":1e999}", JsonFault::NotJson),
+    ("{\"a\":\"\\ud800\"}", JsonFault::NotJson),
+    ("[]", JsonFault::Shape(Field::Root)),
+    ("null", JsonFault::Shape(Field::Root)),
+    ("7", JsonFault::Shape(Field::Root)),
+    ("{}", JsonFault::Shape(Field::Inputs)),
+    (
+        "{\"outputs\":0,\"states\":0}",
+        JsonFault::Shape(Field::Inputs),
+    ),
+    (
+        "{\"inputs\":\"t\",\"outputs\":0,\"states\":[[[0,\"0\"]]]}",
+        JsonFault::Shape(Field::Inputs),
+    ),
+    (
+        "{\"inputs\":[1],\"outputs\":[\"0\"],\"states\":[[[0,\"0\"]]]}",
+        JsonFault::Shape(Field::Inputs),
+    ),
+    (
+        "{\"inputs\":null,\"outputs\":[\"0\"],\"states\":[[[0,\"0\"]]]}",
+        JsonFault::Shape(Field::Inputs),
+    ),
+    (
+        "{\"inputs\":[],\"states\":0}",
+        JsonFault::Shape(Field::Outputs),
+    ),
+    (
+        "{\"inputs\":[\"t\"],\"outputs\":{\"0\":0},\"states\":0}",
+        JsonFault::Shape(Field::Outputs),
+    ),
+    (
+        "{\"inputs\":[],\"outputs\":[[\"0\"]],\"states\":[[[0,\"0\"]]]}",
+        JsonFault::Shape(Field::Outputs),
+    ),
+    (
+        "{\"inputs\":[],\"outputs\":[]}",
+        JsonFault::Shape(Field::States),
+    ),
+    (
+        "{\"inputs\":[],\"outputs\":[\"0\"],\"states\":{}}",
+        JsonFault::Shape(Field::States),
+    ),
+    (
+        "{\"inputs\":[\"t\"],\"outputs\":[\"0\"],\"states\":[0]}",
+        JsonFault::Shape(Field::States),
+    ),
+    (
+        "{\"inputs\":[\"t\"],\"outputs\":[\"0\"],\"states\":[[0]]}",
+        JsonFault::Shape(Field::States),
+    ),
+    (
+        "{\"inputs\":[\"t\"],\"outputs\":[\"0\"],\"states\":[[[0]]]}",
+        JsonFault::Shape(Field::States),
+    ),
+    (
+        "{\"inputs\":[\"t\"],\"outputs\":[\"0\"],\"states\":[[[0,\"0\",0]]]}",
+        JsonFault::Shape(Field::States),
+    ),
+    (
+        "{\"inputs\":[\"t\"],\"outputs\":[\"0\"],\"states\":[[[\"0\",\"0\"]]]}",
+        JsonFault::Shape(Field::States),
+    ),
+    (
+        "{\"inputs\":[\"t\"],\"outputs\":[\"0\"],\"states\":[[[-1,\"0\"]]]}",
+        JsonFault::Shape(Field::States),
+    ),
+    (
+        "{\"inputs\":[\"t\"],\"outputs\":[\"0\"],\"states\":[[[0.5,\"0\"]]]}",
+        JsonFault::Shape(Field::States),
+    ),
+    (
+        "{\"inputs\":[\"t\"],\"outputs\":[\"0\"],\"states\":[[[0.0,\"0\"]]]}",
+        JsonFault::Shape(Field::States),
+    ),
+    (
+        "{\"inputs\":[\"t\"],\"outputs\":[\"0\"],\"states\":[[[1e0,\"0\"]]]}",
+        JsonFault::Shape(Field::States),
+    ),
+    (
+        "{\"inputs\":[\"t\"],\"outputs\":[\"0\"],\"states\":[[[-0,\"0\"]]]}",
+        JsonFault::Shape(Field::States),
+    ),
+    (
+        "{\"inputs\":[\"t\"],\"outputs\":[\"0\"],\"states\":[[[65536,\"0\"]]]}",
+        JsonFault::Shape(Field::States),
+    ),
+    (
+        "{\"inputs\":[\"t\"],\"outputs\":[\"0\"],\"states\":[[[18446744073709551616,\"0\"]]]}",
+        JsonFault::Shape(Field::States),
+    ),
+    (
+        "{\"inputs\":[\"t\"],\"outputs\":[\"0\"],\"states\":[[[0,0]]]}",
+        JsonFault::Shape(Field::States),
+    ),
+    (
+        "{\"inputs\":[\"t\"],\"outputs\":[\"0\"],\"states\":[[[0,\"x\"],[0]]]}",
+        JsonFault::Shape(Field::States),
+    ),
+    (
+        "{\"inputs\":[],\"outputs\":[],\"states\":[]}",
+        JsonFault::Inputs(NamesFault::Empty),
+    ),
+    (
+        "{\"inputs\":[\"t t\"],\"outputs\":[],\"states\":[[[0,\"0\"]]]}",
+        JsonFault::Inputs(NamesFault::BadName(0)),
+    ),
+    (
+        "{\"inputs\":[\"t\",\"\"],\"outputs\":[\"0\"],\"states\":[[[0,\"0\"]]]}",
+        JsonFault::Inputs(NamesFault::BadName(1)),
+    ),
+    (
+        "{\"inputs\":[\"t\",\"t\",\"t t\"],\"outputs\":[\"0\"],\"states\":[[[0,\"0\"]]]}",
+        JsonFault::Inputs(NamesFault::BadName(2)),
+    ),
+    (
+        "{\"inputs\":[\"a\",\"t\",\"t\"],\"outputs\":[],\"states\":[[[0,\"0\"]]]}",
+        JsonFault::Inputs(NamesFault::Repeated(1, 2)),
+    ),
+    (
+        "{\"inputs\":[\"\\u007f\"],\"outputs\":[\"0\"],\"states\":[[[0,\"0\"]]]}",
+        JsonFault::Inputs(NamesFault::BadName(0)),
+    ),
+    (
+        "{\"inputs\":[\"\\u0020\"],\"outputs\":[\"0\"],\"states\":[[[0,\"0\"]]]}",
+        JsonFault::Inputs(NamesFault::BadName(0)),
+    ),
+    (
+        "{\"inputs\":[\"\\u00e9\"],\"outputs\":[\"0\"],\"states\":[[[0,\"0\"]]]}",
+        JsonFault::Inputs(NamesFault::BadName(0)),
+    ),
+    (
+        "{\"inputs\":[\"nnnnnnnnnnnnnnnnnnnnnnnnnnnnnnnnnnnnnnnnnnnnnnnnnnnnnnnnnnnnnnnnn\"],\"outputs\":[\"0\"],\"states\":[[[0,\"0\"]]]}",
+        JsonFault::Inputs(NamesFault::BadName(0)),
+    ),
+    (
+        "{\"inputs\":[\"t\"],\"outputs\":[],\"states\":[]}",
+        JsonFault::Outputs(NamesFault::Empty),
+    ),
+    (
+        "{\"inputs\":[\"t\"],\"outputs\":[\"0\",\"\"],\"states\":[]}",
+        JsonFault::Outputs(NamesFault::BadName(1)),
+    ),
+    (
+        "{\"inputs\":[\"t\"],\"outputs\":[\"0\",\"0\"],\"states\":[[[0,\"x\"]]]}",
+        JsonFault::Outputs(NamesFault::Repeated(0, 1)),
+    ),
+    (
+        "{\"inputs\":[\"t\"],\"outputs\":[\"0\"],\"states\":[[[0,\"1\"]],[]]}",
+        JsonFault::UnknownOutput(0, 0),
+    ),
+    (
+        "{\"inputs\":[\"a\",\"b\"],\"outputs\":[\"0\"],\"states\":[[[0,\"0\"],[0,\"0\"]],[[9,\"0\"],[0,\"1\"]],[[0,\"2\"]]]}",
+        JsonFault::UnknownOutput(1, 1),
+    ),
+    (
+        "{\"inputs\":[\"t\"],\"outputs\":[\"0\"],\"states\":[[[0,\"0\"],[0,\"1\"]]]}",
+        JsonFault::UnknownOutput(0, 1),
+    ),
+    (
+        "{\"inputs\":[\"t\"],\"outputs\":[\"0\"],\"states\":[]}",
+        JsonFault::Mealy(MealyFault::NoState),
+    ),
+    (
+        "{\"inputs\":[\"t\"],\"outputs\":[\"0\"],\"states\":[[]]}",
+        JsonFault::Mealy(MealyFault::Ragged(0)),
+    ),
+    (
+        "{\"inputs\":[\"t\"],\"outputs\":[\"0\"],\"states\":[[[9,\"0\"]],[[0,\"0\"],[0,\"0\"]]]}",
+        JsonFault::Mealy(MealyFault::Ragged(1)),
+    ),
+    (
+        "{\"inputs\":[\"t\"],\"outputs\":[\"0\"],\"states\":[[[1,\"0\"]]]}",
+        JsonFault::Mealy(MealyFault::Target(0, 0, 1)),
+    ),
+    (
+        "{\"inputs\":[\"t\"],\"outputs\":[\"0\"],\"states\":[[[0,\"0\"]],[[65535,\"0\"]]]}",
+        JsonFault::Mealy(MealyFault::Target(1, 0, 65535)),
+    ),
 ];
 
 #[test]
@@ -88,15 +248,89 @@ fn a_written_machine_is_read_as_the_same(rt: HostRuntime) -> Result<(), Fail> {
 }
 
 #[test]
-fn other_bytes_are_refused(rt: HostRuntime) -> Result<(), Fail> {
+fn the_first_fault_of_a_machine_file_is_told(rt: HostRuntime) -> Result<(), Fail> {
     let alloc = rt.alloc();
-    for text in BAD {
+    for (text, first) in NO_MACHINES {
         match read_machine(alloc, text.as_bytes()) {
             Ok(_) => return Err(Fail::from("bytes outside the grammar were taken")),
-            Err(fault) => assert_eq!(rt; fault, JsonFault::BadMachine, "{text}"),
+            Err(fault) => assert_eq!(rt; fault, first, "{text}"),
         }
     }
-    let bytes = b"\xff{}";
-    assert!(rt; read_machine(alloc, bytes).is_err());
+    let Err(fault) = read_machine(alloc, b"\xff{}") else {
+        return Err(Fail::from("bytes outside the grammar were taken"));
+    };
+    assert_eq!(rt; fault, JsonFault::NotJson);
+    Ok(())
+}
+
+/// So many different names, as a list in JSON.
+fn many_names(alloc: Global, count: usize) -> Result<String, Fail> {
+    let mut text = String::from_str(alloc, "[\"n0\"")?;
+    for n in 1..count {
+        text.push_str(format!(in alloc; ",\"n{n}\"")?.as_str())?;
+    }
+    text.push_str("]")?;
+    Ok(text)
+}
+
+/// A machine file with these lists of names, and of so many states, each with itself as its target.
+fn machine_file(alloc: Global, inputs: &str, outputs: &str, states: usize) -> Result<String, Fail> {
+    let mut text = format!(in alloc; "{{\"inputs\":{inputs},\"outputs\":{outputs},\"states\":[")?;
+    for q in 0..states {
+        if q > 0 {
+            text.push_str(",")?;
+        }
+        text.push_str(format!(in alloc; "[[{q},\"n0\"]]")?.as_str())?;
+    }
+    text.push_str("]}")?;
+    Ok(text)
+}
+
+/// The first fault of a text, which is no machine file.
+fn fault_of(alloc: Global, text: &str) -> Result<JsonFault, Fail> {
+    match read_machine(alloc, text.as_bytes()) {
+        Ok(_) => Err(Fail::from("bytes outside the grammar were taken")),
+        Err(fault) => Ok(fault),
+    }
+}
+
+#[test]
+fn limits_of_a_machine_file(rt: HostRuntime) -> Result<(), Fail> {
+    let alloc = rt.alloc();
+    let one = "[\"n0\"]";
+    let most_outputs = many_names(alloc, 4096)?;
+    let text = machine_file(alloc, one, most_outputs.as_str(), 1024)?;
+    let Ok(machine) = read_machine(alloc, text.as_bytes()) else {
+        return Err(Fail::from("a machine at the limits was refused"));
+    };
+    assert_eq!(rt;
+        (machine.outputs.len(), machine.mealy.states()),
+        (4096, 1024)
+    );
+    let text = machine_file(alloc, one, one, 1025)?;
+    let fault = fault_of(alloc, text.as_str())?;
+    assert_eq!(rt; fault, JsonFault::Mealy(MealyFault::TooMany(1025)));
+    let more_outputs = many_names(alloc, 4097)?;
+    let text = machine_file(alloc, one, more_outputs.as_str(), 1)?;
+    let fault = fault_of(alloc, text.as_str())?;
+    assert_eq!(rt; fault, JsonFault::Outputs(NamesFault::TooMany(4097)));
+    let most_inputs = many_names(alloc, 64)?;
+    let text = machine_file(alloc, most_inputs.as_str(), one, 1)?;
+    let fault = fault_of(alloc, text.as_str())?;
+    assert_eq!(rt; fault, JsonFault::Mealy(MealyFault::Ragged(0)));
+    let more_inputs = many_names(alloc, 65)?;
+    let text = machine_file(alloc, more_inputs.as_str(), "[\"\"]", 1)?;
+    let fault = fault_of(alloc, text.as_str())?;
+    assert_eq!(rt; fault, JsonFault::Inputs(NamesFault::TooMany(65)));
+    Ok(())
+}
+
+#[test]
+fn a_name_has_at_most_64_bytes(rt: HostRuntime) -> Result<(), Fail> {
+    let alloc = rt.alloc();
+    let longest = "nnnnnnnnnnnnnnnnnnnnnnnnnnnnnnnnnnnnnnnnnnnnnnnnnnnnnnnnnnnnnnnn";
+    let names = format!(in alloc; "[\"{longest}\"]")?;
+    let text = machine_file(alloc, names.as_str(), "[\"n0\"]", 1)?;
+    assert!(rt; read_machine(alloc, text.as_bytes()).is_ok());
     Ok(())
 }

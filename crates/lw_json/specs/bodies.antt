@@ -1,0 +1,2 @@
+pub mod MachineParts
+pub mod Told
