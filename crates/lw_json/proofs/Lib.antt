@@ -4,3 +4,4 @@ pub mod LineFeed
 pub mod MachineFaults
 pub mod OneValue
 pub mod RoundTrip
+pub mod SetupFaults

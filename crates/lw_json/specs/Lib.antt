@@ -4,4 +4,5 @@ pub mod MachineFault
 pub mod MachineFile
 pub mod MachineText
 pub mod Members
+pub mod SetupFile
 pub mod bodies

@@ -1,2 +1,3 @@
 pub mod MachineParts
+pub mod SetupParts
 pub mod Told
