@@ -52,6 +52,15 @@ module _ {V X Y : Type 0} (v : V → X) (f : X → Option Y) where
       ∙ ap (option_and_then (λ (z : Y). option_map (λ (ys : List Y). z ∷ ys) rest)) here in
       rw (add-one, gains) (sym (put_after done y rest) ∙ (ap (option_map (λ (ys : List Y). done ++ ys)) (sym front) ∙ so_far))
 
+  -- nothing at an element is nothing at all
+  pub going_none : (done : List Y) (whole : List V) (i : ℕ) (x : V) → i < length whole → x ≡ get_or whole i x → f (v x) ≡ None → Going done (drop i whole) whole → None ≡ each_of f (map v whole)
+  going_none done whole i x lt at none so_far =
+      let rest : Option (List Y) = each_of f (map v (drop (suc i) whole)) in
+      let front : each_of f (map v (drop i whole)) ≡ None =
+      ap (λ (l : List V). each_of f (map v l)) (drop-cons whole i x lt ∙ ap (λ (z : V). z ∷ drop (suc i) whole) (sym at))
+      ∙ ap (option_and_then (λ (z : Y). option_map (λ (ys : List Y). z ∷ ys) rest)) none in
+      ap (option_map (λ (ys : List Y). done ++ ys)) (sym front) ∙ so_far
+
 -- the first place where something fails, in a list that is read through a function
 module _ {V X : Type 0} (v : V → X) (P : X → Type 0) where
   pub fails_here : (xs : List V) (i : ℕ) (x : V) → i < length xs → x ≡ get_or xs i x → ¬ P (v x) → AllWithin P (map v xs) 0 i → FailsFirst P (map v xs) i

@@ -1,7 +1,10 @@
+pub mod AnswersFaults
 pub mod EachLemmas
 pub mod Faults
+pub mod KeptLemmas
 pub mod LineFeed
 pub mod MachineFaults
+pub mod OneAnswers
 pub mod OneValue
 pub mod RoundTrip
 pub mod SetupFaults

@@ -1,3 +1,4 @@
+pub mod AnswersParts
 pub mod MachineParts
 pub mod SetupParts
 pub mod Told

@@ -1,14 +1,21 @@
 //! Files in JSON: the grammars that are read, over serde_json's reading, and the one text that is written of a value.
 #![tactic(auto)]
 
+mod answer_shapes;
+mod answers;
+mod answers_reader;
 mod fault;
 mod machine;
 mod machine_reader;
 mod machine_writer;
+mod members;
+mod said_answer;
 mod setup;
 mod setup_reader;
-mod members;
+mod word_reader;
 
+pub use answers::Answers;
+pub use answers_reader::read_answers;
 pub use fault::{Field, JsonFault};
 pub use machine::Machine;
 pub use machine_reader::read_machine;

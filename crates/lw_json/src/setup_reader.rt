@@ -69,10 +69,7 @@ fn command_member(alloc: Global, root: &Value) -> Result<Option<Vec<String>>, No
 }
 
 /// The outputs, which may be left out, or None where they haven't their shape.
-fn outputs_member(
-    alloc: Global,
-    root: &Value,
-) -> Result<Option<Option<Vec<String>>>, NoMemory>
+fn outputs_member(alloc: Global, root: &Value) -> Result<Option<Option<Vec<String>>>, NoMemory>
     ensures { IfOk result (λ r. option_map (λ o. option_map (λ v. map (λ s. string_bytes s) v.items) o) r ≡ outputs_at (view root.now)) }
 {
     if root.get("outputs").is_none() {

@@ -1,6 +1,8 @@
 //! Files that are worked out by hand from the rules.
 
-use crate::{Field, JsonFault, machine_text, read_machine};
+use crate::{
+    Answers, Field, JsonFault, Setup, machine_text, read_answers, read_machine, read_setup,
+};
 use lw_mealy::MealyFault;
 use lw_words::NamesFault;
 use std::alloc::Global;
@@ -11,6 +13,23 @@ const ONE: &str = "{\"inputs\":[\"t\"],\"outputs\":[\"0\"],\"states\":[[[0,\"0\"
 /// The counter modulo three over one input, as it is written.
 const THREE: &str =
     "{\"inputs\":[\"t\"],\"outputs\":[\"0\",\"1\"],\"states\":[[[1,\"0\"]],[[2,\"0\"]],[[0,\"1\"]]]}\n";
+
+/// A setup with a table, beside members that are then ignored.
+const TABLE: &str = "{\"table\":\"a b.json\",\"inputs\":7,\"outputs\":null}";
+
+/// A setup with the longest command, and outputs that are left out.
+const OPEN: &str =
+    "{\"command\":[\"p\",\"p\",\"p\",\"p\",\"p\",\"p\",\"p\",\"p\",\"p\",\"p\",\"p\",\"p\",\"p\",\"p\",\"p\",\"p\",\"p\",\"p\",\"p\",\"p\",\"p\",\"p\",\"p\",\"p\",\"p\",\"p\",\"p\",\"p\",\"p\",\"p\",\"p\",\"p\",\"p\",\"p\",\"p\",\"p\",\"p\",\"p\",\"p\",\"p\",\"p\",\"p\",\"p\",\"p\",\"p\",\"p\",\"p\",\"p\",\"p\",\"p\",\"p\",\"p\",\"p\",\"p\",\"p\",\"p\",\"p\",\"p\",\"p\",\"p\",\"p\",\"p\",\"p\",\"p\"],\"inputs\":[\"a\",\"b\"]}";
+
+/// A setup with declared outputs.
+const DECLARED: &str = "{\"command\":[\"p\",\"\"],\"inputs\":[\"a\"],\"outputs\":[\"x\",\"y\"]}";
+
+/// Answers files, in both formats.
+const FORMAT_1: &str =
+    "{\"format\":1,\"inputs\":[\"a\",\"b\"],\"outputs\":[\"0\",\"1\"],\"answers\":[[\"a\",\"0\"],[\"\",\"\"],[\"b a\",\"0 1\"]]}";
+
+const FORMAT_2: &str =
+    "{\"format\":2,\"inputs\":[\"a\",\"b\"],\"outputs\":[\"0\",\"1\"],\"answers\":[[16,18446744073709551615,\"a\",\"0\"],[2,0,\"b\",\"1\"]]}";
 
 /// Machine files that are written otherwise than they are read.
 const SPELLED: [&str; 5] = [
@@ -214,6 +233,263 @@ const NO_MACHINES: [(&str, JsonFault); 54] = [
     ),
 ];
 
+/// Bytes that are no setup file, each with its first fault.
+const NO_SETUPS: [(&str, JsonFault); 23] = [
+    ("x", JsonFault::NotJson),
+    ("[]", JsonFault::Shape(Field::Root)),
+    ("{}", JsonFault::Shape(Field::Neither)),
+    (
+        "{\"inputs\":7,\"outputs\":7}",
+        JsonFault::Shape(Field::Neither),
+    ),
+    (
+        "{\"table\":7,\"inputs\":7}",
+        JsonFault::Shape(Field::Neither),
+    ),
+    ("{\"table\":null}", JsonFault::Shape(Field::Neither)),
+    ("{\"command\":[\"p\"]}", JsonFault::Shape(Field::Inputs)),
+    (
+        "{\"command\":7,\"inputs\":7,\"outputs\":7}",
+        JsonFault::Shape(Field::Inputs),
+    ),
+    (
+        "{\"command\":7,\"inputs\":[],\"outputs\":7}",
+        JsonFault::Shape(Field::Outputs),
+    ),
+    (
+        "{\"command\":7,\"inputs\":[],\"outputs\":null}",
+        JsonFault::Shape(Field::Outputs),
+    ),
+    (
+        "{\"table\":\"m\",\"command\":[\"p\"],\"inputs\":7,\"outputs\":7}",
+        JsonFault::Shape(Field::Both),
+    ),
+    (
+        "{\"table\":null,\"command\":null}",
+        JsonFault::Shape(Field::Both),
+    ),
+    (
+        "{\"command\":7,\"inputs\":[]}",
+        JsonFault::Shape(Field::Command),
+    ),
+    (
+        "{\"command\":null,\"inputs\":[\"a\"]}",
+        JsonFault::Shape(Field::Command),
+    ),
+    (
+        "{\"command\":[],\"inputs\":[],\"outputs\":[]}",
+        JsonFault::Shape(Field::Command),
+    ),
+    (
+        "{\"command\":[\"\",\"p\"],\"inputs\":[\"a\"]}",
+        JsonFault::Shape(Field::Command),
+    ),
+    (
+        "{\"command\":[\"p\",7],\"inputs\":[\"a\"]}",
+        JsonFault::Shape(Field::Command),
+    ),
+    (
+        "{\"command\":\"p\",\"inputs\":[\"a\"]}",
+        JsonFault::Shape(Field::Command),
+    ),
+    (
+        "{\"command\":[\"p\",\"p\",\"p\",\"p\",\"p\",\"p\",\"p\",\"p\",\"p\",\"p\",\"p\",\"p\",\"p\",\"p\",\"p\",\"p\",\"p\",\"p\",\"p\",\"p\",\"p\",\"p\",\"p\",\"p\",\"p\",\"p\",\"p\",\"p\",\"p\",\"p\",\"p\",\"p\",\"p\",\"p\",\"p\",\"p\",\"p\",\"p\",\"p\",\"p\",\"p\",\"p\",\"p\",\"p\",\"p\",\"p\",\"p\",\"p\",\"p\",\"p\",\"p\",\"p\",\"p\",\"p\",\"p\",\"p\",\"p\",\"p\",\"p\",\"p\",\"p\",\"p\",\"p\",\"p\",\"p\"],\"inputs\":[\"a\"]}",
+        JsonFault::Shape(Field::Command),
+    ),
+    (
+        "{\"command\":[\"p\"],\"inputs\":[],\"outputs\":[]}",
+        JsonFault::Inputs(NamesFault::Empty),
+    ),
+    (
+        "{\"command\":[\"p\"],\"inputs\":[\"a\",\"a\"],\"outputs\":[\"\"]}",
+        JsonFault::Inputs(NamesFault::Repeated(0, 1)),
+    ),
+    (
+        "{\"command\":[\"p\"],\"inputs\":[\"a\"],\"outputs\":[]}",
+        JsonFault::Outputs(NamesFault::Empty),
+    ),
+    (
+        "{\"command\":[\"p\"],\"inputs\":[\"a\"],\"outputs\":[\"0\",\"\"]}",
+        JsonFault::Outputs(NamesFault::BadName(1)),
+    ),
+];
+
+/// Bytes that are no answers file, each with its first fault.
+const NO_ANSWERS: [(&str, JsonFault); 46] = [
+    ("x", JsonFault::NotJson),
+    ("7", JsonFault::Shape(Field::Root)),
+    ("{}", JsonFault::Shape(Field::Format)),
+    ("{\"inputs\":7}", JsonFault::Shape(Field::Format)),
+    (
+        "{\"format\":0,\"inputs\":[\"a\",\"b\"],\"outputs\":[\"0\",\"1\"],\"answers\":7}",
+        JsonFault::Shape(Field::Format),
+    ),
+    (
+        "{\"format\":3,\"inputs\":[\"a\",\"b\"],\"outputs\":[\"0\",\"1\"],\"answers\":[]}",
+        JsonFault::Shape(Field::Format),
+    ),
+    (
+        "{\"format\":\"1\",\"inputs\":[\"a\",\"b\"],\"outputs\":[\"0\",\"1\"],\"answers\":[]}",
+        JsonFault::Shape(Field::Format),
+    ),
+    (
+        "{\"format\":1.0,\"inputs\":[\"a\",\"b\"],\"outputs\":[\"0\",\"1\"],\"answers\":[]}",
+        JsonFault::Shape(Field::Format),
+    ),
+    (
+        "{\"format\":null,\"inputs\":[\"a\",\"b\"],\"outputs\":[\"0\",\"1\"],\"answers\":[]}",
+        JsonFault::Shape(Field::Format),
+    ),
+    (
+        "{\"format\":1,\"outputs\":7}",
+        JsonFault::Shape(Field::Inputs),
+    ),
+    (
+        "{\"format\":1,\"inputs\":7,\"outputs\":7,\"answers\":7}",
+        JsonFault::Shape(Field::Inputs),
+    ),
+    (
+        "{\"format\":2,\"inputs\":[]}",
+        JsonFault::Shape(Field::Outputs),
+    ),
+    (
+        "{\"format\":2,\"inputs\":[\"a\",\"b\"],\"outputs\":[7],\"answers\":7}",
+        JsonFault::Shape(Field::Outputs),
+    ),
+    (
+        "{\"format\":1,\"inputs\":[],\"outputs\":[]}",
+        JsonFault::Shape(Field::Answers),
+    ),
+    (
+        "{\"format\":1,\"inputs\":[],\"outputs\":[\"0\",\"1\"],\"answers\":{}}",
+        JsonFault::Shape(Field::Answers),
+    ),
+    (
+        "{\"format\":1,\"inputs\":[\"a\",\"b\"],\"outputs\":[\"0\",\"1\"],\"answers\":[\"a\"]}",
+        JsonFault::Shape(Field::Answers),
+    ),
+    (
+        "{\"format\":1,\"inputs\":[\"a\",\"b\"],\"outputs\":[\"0\",\"1\"],\"answers\":[[\"a\"]]}",
+        JsonFault::Shape(Field::Answers),
+    ),
+    (
+        "{\"format\":1,\"inputs\":[\"a\",\"b\"],\"outputs\":[\"0\",\"1\"],\"answers\":[[\"a\",\"0\",\"0\"]]}",
+        JsonFault::Shape(Field::Answers),
+    ),
+    (
+        "{\"format\":1,\"inputs\":[\"a\",\"b\"],\"outputs\":[\"0\",\"1\"],\"answers\":[[\"a\",0]]}",
+        JsonFault::Shape(Field::Answers),
+    ),
+    (
+        "{\"format\":1,\"inputs\":[\"a\",\"b\"],\"outputs\":[\"0\",\"1\"],\"answers\":[[0,0,\"a\",\"0\"]]}",
+        JsonFault::Shape(Field::Answers),
+    ),
+    (
+        "{\"format\":1,\"inputs\":[\"a\",\"b\"],\"outputs\":[\"0\",\"1\"],\"answers\":[[\"x\",\"x\"],[]]}",
+        JsonFault::Shape(Field::Answers),
+    ),
+    (
+        "{\"format\":2,\"inputs\":[\"a\",\"b\"],\"outputs\":[\"0\",\"1\"],\"answers\":[[\"a\",\"0\"]]}",
+        JsonFault::Shape(Field::Answers),
+    ),
+    (
+        "{\"format\":2,\"inputs\":[\"a\",\"b\"],\"outputs\":[\"0\",\"1\"],\"answers\":[[17,0,\"a\",\"0\"]]}",
+        JsonFault::Shape(Field::Answers),
+    ),
+    (
+        "{\"format\":2,\"inputs\":[\"a\",\"b\"],\"outputs\":[\"0\",\"1\"],\"answers\":[[-1,0,\"a\",\"0\"]]}",
+        JsonFault::Shape(Field::Answers),
+    ),
+    (
+        "{\"format\":2,\"inputs\":[\"a\",\"b\"],\"outputs\":[\"0\",\"1\"],\"answers\":[[0,-1,\"a\",\"0\"]]}",
+        JsonFault::Shape(Field::Answers),
+    ),
+    (
+        "{\"format\":2,\"inputs\":[\"a\",\"b\"],\"outputs\":[\"0\",\"1\"],\"answers\":[[0,0.5,\"a\",\"0\"]]}",
+        JsonFault::Shape(Field::Answers),
+    ),
+    (
+        "{\"format\":2,\"inputs\":[\"a\",\"b\"],\"outputs\":[\"0\",\"1\"],\"answers\":[[0,18446744073709551616,\"a\",\"0\"]]}",
+        JsonFault::Shape(Field::Answers),
+    ),
+    (
+        "{\"format\":2,\"inputs\":[\"a\",\"b\"],\"outputs\":[\"0\",\"1\"],\"answers\":[[0,0,7,\"0\"]]}",
+        JsonFault::Shape(Field::Answers),
+    ),
+    (
+        "{\"format\":2,\"inputs\":[\"a\",\"b\"],\"outputs\":[\"0\",\"1\"],\"answers\":[[0,0,\"a\",7]]}",
+        JsonFault::Shape(Field::Answers),
+    ),
+    (
+        "{\"format\":2,\"inputs\":[\"a\",\"b\"],\"outputs\":[\"0\",\"1\"],\"answers\":[[0,0,\"a\",\"0\",0]]}",
+        JsonFault::Shape(Field::Answers),
+    ),
+    (
+        "{\"format\":2,\"inputs\":[\"a\",\"b\"],\"outputs\":[\"0\",\"1\"],\"answers\":[[0,0,\"a\"]]}",
+        JsonFault::Shape(Field::Answers),
+    ),
+    (
+        "{\"format\":1,\"inputs\":[],\"outputs\":[],\"answers\":[[\"x\",\"x\"]]}",
+        JsonFault::Inputs(NamesFault::Empty),
+    ),
+    (
+        "{\"format\":2,\"inputs\":[\"a\",\"a\"],\"outputs\":[\"0\",\"1\"],\"answers\":[[0,0,\"x\",\"x\"]]}",
+        JsonFault::Inputs(NamesFault::Repeated(0, 1)),
+    ),
+    (
+        "{\"format\":1,\"inputs\":[\"a\",\"b\"],\"outputs\":[],\"answers\":[[\"x\",\"x\"]]}",
+        JsonFault::Outputs(NamesFault::Empty),
+    ),
+    (
+        "{\"format\":1,\"inputs\":[\"a\",\"b\"],\"outputs\":[\"0\",\"1\"],\"answers\":[[\"c\",\"0\"]]}",
+        JsonFault::BadWord(0),
+    ),
+    (
+        "{\"format\":1,\"inputs\":[\"a\",\"b\"],\"outputs\":[\"0\",\"1\"],\"answers\":[[\"a\",\"2\"]]}",
+        JsonFault::BadWord(0),
+    ),
+    (
+        "{\"format\":1,\"inputs\":[\"a\",\"b\"],\"outputs\":[\"0\",\"1\"],\"answers\":[[\"\",\"\"],[\"a \",\"0\"]]}",
+        JsonFault::BadWord(1),
+    ),
+    (
+        "{\"format\":1,\"inputs\":[\"a\",\"b\"],\"outputs\":[\"0\",\"1\"],\"answers\":[[\" a\",\"0\"]]}",
+        JsonFault::BadWord(0),
+    ),
+    (
+        "{\"format\":1,\"inputs\":[\"a\",\"b\"],\"outputs\":[\"0\",\"1\"],\"answers\":[[\"a  b\",\"0 0\"]]}",
+        JsonFault::BadWord(0),
+    ),
+    (
+        "{\"format\":1,\"inputs\":[\"a\",\"b\"],\"outputs\":[\"0\",\"1\"],\"answers\":[[\" \",\"\"]]}",
+        JsonFault::BadWord(0),
+    ),
+    (
+        "{\"format\":1,\"inputs\":[\"a\",\"b\"],\"outputs\":[\"0\",\"1\"],\"answers\":[[\"a\\tb\",\"0 0\"]]}",
+        JsonFault::BadWord(0),
+    ),
+    (
+        "{\"format\":1,\"inputs\":[\"a\",\"b\"],\"outputs\":[\"0\",\"1\"],\"answers\":[[\"a\\r\",\"0\"]]}",
+        JsonFault::BadWord(0),
+    ),
+    (
+        "{\"format\":1,\"inputs\":[\"a\",\"b\"],\"outputs\":[\"0\",\"1\"],\"answers\":[[\"A\",\"0\"]]}",
+        JsonFault::BadWord(0),
+    ),
+    (
+        "{\"format\":2,\"inputs\":[\"a\",\"b\"],\"outputs\":[\"0\",\"1\"],\"answers\":[[0,0,\"a\",\"\"],[0,0,\"a\",\"0\"],[0,0,\"b\",\"x\"]]}",
+        JsonFault::BadWord(2),
+    ),
+    (
+        "{\"format\":1,\"inputs\":[\"a\",\"b\"],\"outputs\":[\"0\",\"1\"],\"answers\":[[\"a\",\"0\"],[\"a a\",\"0\"]]}",
+        JsonFault::Lengths(1),
+    ),
+    (
+        "{\"format\":2,\"inputs\":[\"a\",\"b\"],\"outputs\":[\"0\",\"1\"],\"answers\":[[3,4,\"\",\"0\"]]}",
+        JsonFault::Lengths(0),
+    ),
+];
+
 #[test]
 fn a_machine_is_read_and_written(rt: HostRuntime) -> Result<(), Fail> {
     let alloc = rt.alloc();
@@ -332,5 +608,102 @@ fn a_name_has_at_most_64_bytes(rt: HostRuntime) -> Result<(), Fail> {
     let names = format!(in alloc; "[\"{longest}\"]")?;
     let text = machine_file(alloc, names.as_str(), "[\"n0\"]", 1)?;
     assert!(rt; read_machine(alloc, text.as_bytes()).is_ok());
+    Ok(())
+}
+
+#[test]
+fn the_first_fault_of_a_setup_file_is_told(rt: HostRuntime) -> Result<(), Fail> {
+    let alloc = rt.alloc();
+    for (text, first) in NO_SETUPS {
+        match read_setup(alloc, text.as_bytes()) {
+            Ok(_) => return Err(Fail::from("bytes outside the grammar were taken")),
+            Err(fault) => assert_eq!(rt; fault, first, "{text}"),
+        }
+    }
+    Ok(())
+}
+
+/// The setup of a text.
+fn setup_of(alloc: Global, text: &str) -> Result<Setup, Fail> {
+    match read_setup(alloc, text.as_bytes()) {
+        Ok(setup) => Ok(setup),
+        Err(_) => Err(Fail::from("a setup file was refused")),
+    }
+}
+
+#[test]
+fn a_setup_is_read(rt: HostRuntime) -> Result<(), Fail> {
+    let alloc = rt.alloc();
+    let Setup::Table(name) = setup_of(alloc, TABLE)? else {
+        return Err(Fail::from("a table was taken for a command"));
+    };
+    assert_eq!(rt; name.get().as_str(), "a b.json");
+    let Setup::Command {
+        words,
+        inputs,
+        outputs,
+    } = setup_of(alloc, OPEN)?
+    else {
+        return Err(Fail::from("a command was taken for a table"));
+    };
+    assert_eq!(rt;
+        (words.get().len(), inputs.len(), outputs.is_none()),
+        (64, 2, true)
+    );
+    let Setup::Command {
+        words,
+        inputs: _,
+        outputs,
+    } = setup_of(alloc, DECLARED)?
+    else {
+        return Err(Fail::from("a command was taken for a table"));
+    };
+    assert_eq!(rt; words.get()[1].as_str(), "");
+    let Some(outputs) = outputs else {
+        return Err(Fail::from("declared outputs were left out"));
+    };
+    assert_eq!(rt; outputs.name(1), "y");
+    Ok(())
+}
+
+#[test]
+fn the_first_fault_of_an_answers_file_is_told(rt: HostRuntime) -> Result<(), Fail> {
+    let alloc = rt.alloc();
+    for (text, first) in NO_ANSWERS {
+        match read_answers(alloc, text.as_bytes()) {
+            Ok(_) => return Err(Fail::from("bytes outside the grammar were taken")),
+            Err(fault) => assert_eq!(rt; fault, first, "{text}"),
+        }
+    }
+    Ok(())
+}
+
+/// The answers of a text.
+fn answers_of(alloc: Global, text: &str) -> Result<Answers, Fail> {
+    match read_answers(alloc, text.as_bytes()) {
+        Ok(answers) => Ok(answers),
+        Err(_) => Err(Fail::from("an answers file was refused")),
+    }
+}
+
+#[test]
+fn answers_are_read_in_both_formats(rt: HostRuntime) -> Result<(), Fail> {
+    let alloc = rt.alloc();
+    let answers = answers_of(alloc, FORMAT_1)?;
+    assert_eq!(rt; answers.kept.len(), 3);
+    for i in 0..answers.kept.len() {
+        let one = answers.kept.get(i);
+        assert_eq!(rt; (one.instance, one.run), (0, i as u64));
+    }
+    assert_eq!(rt; answers.kept.get(2).word.as_slice(), [1, 0].as_slice());
+    assert_eq!(rt; answers.kept.get(2).outs.as_slice(), [0, 1].as_slice());
+    assert_eq!(rt; answers.kept.get(1).word.len(), 0);
+    let answers = answers_of(alloc, FORMAT_2)?;
+    assert_eq!(rt; answers.kept.len(), 2);
+    let one = answers.kept.get(0);
+    assert_eq!(rt; (one.instance, one.run), (16, 18446744073709551615));
+    let two = answers.kept.get(1);
+    assert_eq!(rt; (two.instance, two.run), (2, 0));
+    assert_eq!(rt; two.word.as_slice(), [1].as_slice());
     Ok(())
 }
