@@ -1,4 +1,5 @@
 pub mod AnswersFaults
+pub mod AnswersRoundTrip
 pub mod EachLemmas
 pub mod Faults
 pub mod KeptLemmas
@@ -8,3 +9,5 @@ pub mod OneAnswers
 pub mod OneValue
 pub mod RoundTrip
 pub mod SetupFaults
+pub mod WordTexts
+pub mod WrittenOrder

@@ -102,7 +102,7 @@ spelled m named =
 
 -- how deep it nests
 module _ {X : Type 0} (f : X → Data) (n : ℕ) (each : (x : X) → depth (f x) ≤ n) where
-  shallow : (xs : List X) → items_depth (items_of (map f xs)) ≤ n
+  pub shallow : (xs : List X) → items_depth (items_of (map f xs)) ≤ n
   shallow [] = omega arith
   shallow (x ∷ xs) =
       let one = each x in

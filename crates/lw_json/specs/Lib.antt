@@ -1,5 +1,6 @@
 pub mod AnswersFault
 pub mod AnswersFile
+pub mod AnswersText
 pub mod Each
 pub mod Fault
 pub mod KeptOver

@@ -4,6 +4,7 @@
 mod answer_shapes;
 mod answers;
 mod answers_reader;
+mod answers_writer;
 mod fault;
 mod machine;
 mod machine_reader;
@@ -12,10 +13,13 @@ mod members;
 mod said_answer;
 mod setup;
 mod setup_reader;
+mod values;
 mod word_reader;
+mod word_writer;
 
 pub use answers::Answers;
 pub use answers_reader::read_answers;
+pub use answers_writer::answers_text;
 pub use fault::{Field, JsonFault};
 pub use machine::Machine;
 pub use machine_reader::read_machine;

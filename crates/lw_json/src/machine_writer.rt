@@ -10,22 +10,11 @@ ghost use Rattle.lw_json.specs.MachineFile.{IsNamed, IsMachineFile};
 ghost use Rattle.lw_json.specs.MachineText.{texts_data, cell_data, row_data, rows_data, machine_data, written_text};
 
 use crate::Machine;
+use crate::values::{names_value, put_member};
 use lw_mealy::Mealy;
 use lw_words::{Names, NoMemory};
 use serde_json::{Map, Value};
 use std::alloc::Global;
-
-/// The names as a list of texts.
-fn names_value(alloc: Global, names: &Names) -> Result<Value, NoMemory>
-    ensures value { IfOk result (λ v. view v ≡ texts_data names.now) }
-    ensures names { OnOk result (IsNames names.now) }
-{
-    let mut items = Vec::with_capacity(alloc, usize::from(names.len()))?;
-    for n in 0..names.len() {
-        items.push(Value::try_from_str(alloc, names.name(n))?)?;
-    }
-    Ok(Value::Array(items))
-}
 
 /// A cell as a list of its target and the name of its output.
 fn cell_value(alloc: Global, cell: (u16, u16), outputs: &Names) -> Result<Value, NoMemory>
@@ -62,19 +51,6 @@ fn rows_value(alloc: Global, mealy: &Mealy, outputs: &Names) -> Result<Value, No
         rows.push(row_value(alloc, mealy, state, outputs)?)?;
     }
     Ok(Value::Array(rows))
-}
-
-/// Puts a member into an object.
-fn put_member(
-    alloc: Global,
-    members: &mut Map<String, Value>,
-    name: &str,
-    value: Value,
-) -> Result<(), NoMemory>
-    ensures { OnOk result (members_view members.new.entries ≡ put name.now (view value) (members_view members.old.entries)) }
-{
-    let _replaced = members.insert(String::from_str(alloc, name)?, value)?;
-    Ok(())
 }
 
 fn machine_value(alloc: Global, m: &Machine) -> Result<Value, NoMemory>

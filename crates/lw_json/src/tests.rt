@@ -31,6 +31,22 @@ const FORMAT_1: &str =
 const FORMAT_2: &str =
     "{\"format\":2,\"inputs\":[\"a\",\"b\"],\"outputs\":[\"0\",\"1\"],\"answers\":[[16,18446744073709551615,\"a\",\"0\"],[2,0,\"b\",\"1\"]]}";
 
+/// Answers files, each with its text in format 2 and in order: by the words' numbers, then instance, run and place.
+const WRITTEN: [(&str, &str); 3] = [
+    (
+        "{\"format\":2,\"outputs\":[\"0\",\"1\"],\"inputs\":[\"b\",\"a\"],\"answers\":[[3,5,\"b a\",\"0 1\"],[0,7,\"a\",\"0\"],[1,2,\"b\",\"1\"],[0,7,\"a\",\"1\"],[0,3,\"a\",\"1\"],[0,0,\"\",\"\"],[0,10,\"a\",\"0\"]]}",
+        "{\"answers\":[[0,0,\"\",\"\"],[1,2,\"b\",\"1\"],[0,3,\"a\",\"1\"],[0,7,\"a\",\"0\"],[0,7,\"a\",\"1\"],[0,10,\"a\",\"0\"],[3,5,\"b a\",\"0 1\"]],\"format\":2,\"inputs\":[\"b\",\"a\"],\"outputs\":[\"0\",\"1\"]}\n",
+    ),
+    (
+        "{\"answers\":[[\"a\",\"0\"],[\"\",\"\"],[\"b a\",\"0 1\"]],\"format\":1,\"inputs\":[\"a\",\"b\"],\"outputs\":[\"0\",\"1\"]}",
+        "{\"answers\":[[0,1,\"\",\"\"],[0,0,\"a\",\"0\"],[0,2,\"b a\",\"0 1\"]],\"format\":2,\"inputs\":[\"a\",\"b\"],\"outputs\":[\"0\",\"1\"]}\n",
+    ),
+    (
+        "{\"format\":1,\"inputs\":[\"a\"],\"outputs\":[\"0\"],\"answers\":[]}",
+        "{\"answers\":[],\"format\":2,\"inputs\":[\"a\"],\"outputs\":[\"0\"]}\n",
+    ),
+];
+
 /// Machine files that are written otherwise than they are read.
 const SPELLED: [&str; 5] = [
     "{\"states\":[[[0,\"0\"]]],\"outputs\":[\"0\"],\"inputs\":[\"t\"]}",
@@ -705,5 +721,19 @@ fn answers_are_read_in_both_formats(rt: HostRuntime) -> Result<(), Fail> {
     let two = answers.kept.get(1);
     assert_eq!(rt; (two.instance, two.run), (2, 0));
     assert_eq!(rt; two.word.as_slice(), [1].as_slice());
+    Ok(())
+}
+
+#[test]
+fn answers_are_written_in_order_and_read_again(rt: HostRuntime) -> Result<(), Fail> {
+    let alloc = rt.alloc();
+    for (text, expected) in WRITTEN {
+        let answers = answers_of(alloc, text)?;
+        let written = answers_text(alloc, &answers.inputs, &answers.outputs, &answers.kept)?;
+        assert_eq!(rt; written.as_slice(), expected.as_bytes());
+        let again = answers_of(alloc, expected)?;
+        let twice = answers_text(alloc, &again.inputs, &again.outputs, &again.kept)?;
+        assert_eq!(rt; twice.as_slice(), expected.as_bytes());
+    }
     Ok(())
 }

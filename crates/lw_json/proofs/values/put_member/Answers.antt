@@ -2,7 +2,7 @@ use Rattle.std.proofs.Common.{◌∙◌, ap, List, ℕ}
 use Rattle.serde_json.specs.Data.{put}
 use Rattle.serde_json.specs.View.{view, members_view}
 use Rattle.serde_json.proofs.Views.{members_view-insert_entry}
-use Rattle.lw_json.proofs.machine_writer.put_member.Goals as goal
+use Rattle.lw_json.proofs.values.put_member.Goals as goal
 
 pub returns : goal.returns
 returns c =

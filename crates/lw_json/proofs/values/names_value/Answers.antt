@@ -4,7 +4,7 @@ use Rattle.serde_json.specs.Data.{string, array}
 use Rattle.serde_json.specs.View.{view, items_of}
 use Rattle.serde_json.proofs.Views.{view-Array}
 use Rattle.lw_json.proofs.EachLemmas.{written_more, written_all}
-use Rattle.lw_json.proofs.machine_writer.names_value.Goals as goal
+use Rattle.lw_json.proofs.values.names_value.Goals as goal
 
 pub loop-n-preserved : goal.loop-n-preserved
 loop-n-preserved c =
