@@ -2,9 +2,11 @@ pub mod AnswersFaults
 pub mod AnswersRoundTrip
 pub mod EachLemmas
 pub mod Faults
+pub mod FilesNoFault
 pub mod KeptLemmas
 pub mod LineFeed
 pub mod MachineFaults
+pub mod NoFault
 pub mod OneAnswers
 pub mod OneValue
 pub mod RoundTrip

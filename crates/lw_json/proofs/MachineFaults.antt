@@ -39,7 +39,7 @@ module _ (outputs : List (List ℕ)) where
   first_known t (Some y) None e = absurd (true≢false (sym e))
   first_known t (Some y) (Some l) e = (refl, refl)
 
-  known_row : (row : NamedRow) → IsSome (each_of (numbered_cell outputs) row) → All (IsKnown outputs) row
+  pub known_row : (row : NamedRow) → IsSome (each_of (numbered_cell outputs) row) → All (IsKnown outputs) row
   known_row [] e = All-nil (IsKnown outputs)
   known_row (c ∷ row) e =
       let h = first_known c.0 (number_of c.1 outputs) (each_of (numbered_cell outputs) row) e in

@@ -23,6 +23,10 @@ pub record IsWrittenOrder (xs ys : List KeptAnswer) : Type 0 where
   pub sorted : IsSorted answer_cmp ys
   pub stable : IsStable answer_cmp xs ys
 
+-- any answers have one written order at most
+abbrev pub HaveOneOrder : Type 0
+HaveOneOrder = (xs ys zs : List KeptAnswer) → IsWrittenOrder xs ys → IsWrittenOrder xs zs → ys ≡ zs
+
 -- an answer: the instance, the run and the two texts
 abbrev pub answer_data : List (List ℕ) → List (List ℕ) → KeptAnswer → Data
 answer_data inputs outputs k = array (items_of (number (unsigned k.instance) ∷ number (unsigned k.run) ∷ string (word_text inputs k.word) ∷ string (word_text outputs k.outs) ∷ []))

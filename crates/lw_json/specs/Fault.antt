@@ -34,3 +34,7 @@ module _ {S : Type 0} (tests : Data → List (Field × Bool)) (Says : Data → S
   HasFault bytes (BadWord place) = SaidFault bytes (BadWord place)
   HasFault bytes (Lengths place) = SaidFault bytes (Lengths place)
   HasFault bytes NoMemory = Unit {0}
+
+-- bytes of a grammar have no fault
+abbrev pub NoneIsFaulty : {V : Type 0} → (List ℕ → V → Type 0) → (List ℕ → JsonFault → Type 0) → Type 0
+NoneIsFaulty {V} IsFile HasFirst = (bytes : List ℕ) (v : V) (fault : JsonFault) → IsFile bytes v → HasFirst bytes fault → fault ≡ NoMemory

@@ -4,6 +4,7 @@ ghost use Rattle.std.specs.Prelude.{◌≡◌, ◌≤◌, IfOk, IfSome, Some, ma
 ghost use Rattle.serde_json.specs.View.{view};
 ghost use Rattle.lw_json.specs.AnswersFile.{pair_of, pairs_from, answer_of, instance_of, format_at, answers_at};
 ghost use Rattle.lw_json.specs.Each.{each_of};
+ghost use Rattle.lw_json.specs.bodies.Found.{FindsAnswers};
 ghost use Rattle.lw_json.specs.bodies.AnswersParts.{said_answer};
 
 use crate::members::{list, list_member};
@@ -27,7 +28,7 @@ fn pair<'a>(value: &'a Value) -> Option<(&'a str, &'a str)>
 
 /// The answers in format 1, or None where one hasn't its shape.
 fn pairs<'a>(alloc: Global, items: &'a [Value]) -> Result<Option<Vec<SaidAnswer<'a>>>, NoMemory>
-    ensures { IfOk result (λ r. option_map (λ v. map said_answer v.items) r ≡ pairs_from 0 (map view items.now)) }
+    ensures { IfOk result (FindsAnswers (pairs_from 0 (map view items.now))) }
 {
     let mut answers = Vec::with_capacity(alloc, items.len())?;
     for (place, item) in items.iter().enumerate() {
@@ -74,7 +75,7 @@ fn answer<'a>(value: &'a Value) -> Option<SaidAnswer<'a>>
 
 /// The answers in format 2, or None where one hasn't its shape.
 fn answers<'a>(alloc: Global, items: &'a [Value]) -> Result<Option<Vec<SaidAnswer<'a>>>, NoMemory>
-    ensures { IfOk result (λ r. option_map (λ v. map said_answer v.items) r ≡ each_of answer_of (map view items.now)) }
+    ensures { IfOk result (FindsAnswers (each_of answer_of (map view items.now))) }
 {
     let mut all = Vec::with_capacity(alloc, items.len())?;
     for item in items {
@@ -104,7 +105,7 @@ pub fn answers_member<'a>(
     format: u64,
 ) -> Result<Option<Vec<SaidAnswer<'a>>>, NoMemory>
     requires { format_at (view root.now) ≡ Some format }
-    ensures { IfOk result (λ r. option_map (λ v. map said_answer v.items) r ≡ answers_at (view root.now)) }
+    ensures { IfOk result (FindsAnswers (answers_at (view root.now))) }
 {
     let Some(items) = list_member(root, "answers") else {
         return Ok(None);

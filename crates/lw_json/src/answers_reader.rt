@@ -10,7 +10,7 @@ ghost use Rattle.lw_json.specs.Each.{each_of};
 ghost use Rattle.lw_json.specs.Fault.{first_failing};
 ghost use Rattle.lw_json.specs.KeptOver.{IsEven};
 ghost use Rattle.lw_json.specs.bodies.AnswersParts.{said_answer, said_answers};
-ghost use Rattle.lw_json.specs.bodies.Told.{Told};
+ghost use Rattle.lw_json.specs.bodies.Told.{Told, IsMisshapen};
 ghost use Rattle.lw_json.specs.declared.answers.Answers.{Answers as Read};
 ghost use Rattle.lw_json.specs.declared.fault.JsonFault.{JsonFault as Fault};
 
@@ -34,7 +34,7 @@ struct Said<'a> {
 /// What the members say, where they have their shapes.
 fn members_of<'a>(alloc: Global, root: &'a Value) -> Result<Said<'a>, JsonFault>
     ensures ok { IfOk result (λ s. SaysAnswers (view root.now) (said_answers s)) }
-    ensures err { IfErr result (Told Fault.Shape (λ field. first_failing (answers_tests (view root.now)) ≡ Some field)) }
+    ensures err { IfErr result (IsMisshapen (answers_tests (view root.now))) }
 {
     if !root.is_object() {
         return Err(JsonFault::Shape(Field::Root));
@@ -88,8 +88,11 @@ fn kept_all(
     inputs: &Names,
     outputs: &Names,
 ) -> Result<Kept, JsonFault>
-    ensures ok { IfOk result (λ kept. each_of (kept_answer inputs.now outputs.now) (map said_answer answers.now) ≡ Some kept.answers) }
-    ensures err { IfErr result (Told Fault.BadWord (FailsFirst (HasWords inputs.now outputs.now) (map said_answer answers.now))) }
+    ensures ok { IfOk result
+        (λ kept. each_of (kept_answer inputs.now outputs.now) (map said_answer answers.now)
+        ≡ Some kept.answers) }
+    ensures err { IfErr result
+        (Told Fault.BadWord (FailsFirst (HasWords inputs.now outputs.now) (map said_answer answers.now))) }
 {
     let mut kept = Kept::new(alloc);
     for (place, said) in answers.iter().enumerate() {

@@ -36,7 +36,8 @@ fn references(alloc: Global, kept: &Kept) -> Result<Vec<&KeptAnswer>, NoMemory>
 
 /// Sorts answers into the order in which they are written.
 fn sort(all: &mut Vec<&KeptAnswer>) -> Result<(), AllocError>
-    ensures { OnOk result (IsWrittenOrder (map (λ k. k.now) all.old.items) (map (λ k. k.now) all.new.items)) }
+    ensures { OnOk result
+        (IsWrittenOrder (map (λ k. k.now) all.old.items) (map (λ k. k.now) all.new.items)) }
 {
     all.sort_by(|a, b| compare(*a, *b))
 }
@@ -69,7 +70,8 @@ fn list_value(
     outputs: &Names,
 ) -> Result<Value, NoMemory>
     requires { AreKeptOver (length inputs.now) (length outputs.now) (map (λ k. k.now) answers.now) }
-    ensures { IfOk result (λ v. view v ≡ list_data inputs.now outputs.now (map (λ k. k.now) answers.now)) }
+    ensures { IfOk result
+        (λ v. view v ≡ list_data inputs.now outputs.now (map (λ k. k.now) answers.now)) }
 {
     let mut items = Vec::with_capacity(alloc, answers.len())?;
     for answer in answers {
@@ -86,7 +88,8 @@ fn file_value(
     outputs: &Names,
 ) -> Result<Value, NoMemory>
     requires { AreKeptOver (length inputs.now) (length outputs.now) (map (λ k. k.now) answers.now) }
-    ensures value { IfOk result (λ v. view v ≡ answers_data inputs.now outputs.now (map (λ k. k.now) answers.now)) }
+    ensures value { IfOk result
+        (λ v. view v ≡ answers_data inputs.now outputs.now (map (λ k. k.now) answers.now)) }
     ensures inputs { OnOk result (IsNames inputs.now) }
     ensures outputs { OnOk result (IsNames outputs.now) }
 {
@@ -111,8 +114,10 @@ pub fn answers_text(
 ) -> Result<Vec<u8>, NoMemory>
     requires few { length inputs.now ≤ 64 }
     requires over { AreKeptOver (length inputs.now) (length outputs.now) kept.now.answers }
-    ensures text { IfOk result (λ text. IsAnswersText inputs.now outputs.now kept.now.answers text.items) }
-    ensures read_back { IfOk result (λ text. IsReadInOrder inputs.now outputs.now kept.now.answers text.items) }
+    ensures text { IfOk result
+        (λ text. IsAnswersText inputs.now outputs.now kept.now.answers text.items) }
+    ensures read_back { IfOk result
+        (λ text. IsReadInOrder inputs.now outputs.now kept.now.answers text.items) }
 {
     let mut answers = references(alloc, kept)?;
     sort(&mut answers)?;

@@ -8,8 +8,9 @@ ghost use Rattle.lw_json.specs.Each.{each_of};
 ghost use Rattle.lw_json.specs.Fault.{first_failing};
 ghost use Rattle.lw_json.specs.MachineFile.{cell_of, row_of, rows_at, numbered_cell, numbered_rows, SaysMachine, Spells, IsMachineFile, SameMachine};
 ghost use Rattle.lw_json.specs.MachineFault.{machine_tests, IsKnown, SaysMachineFault, HasMachineFault};
+ghost use Rattle.lw_json.specs.bodies.Found.{FindsRow, FindsRows, named_row};
 ghost use Rattle.lw_json.specs.bodies.MachineParts.{said_machine, IsFaultOfRows, UnknownAt};
-ghost use Rattle.lw_json.specs.bodies.Told.{Told};
+ghost use Rattle.lw_json.specs.bodies.Told.{Told, IsMisshapen};
 ghost use Rattle.lw_json.specs.declared.fault.JsonFault.{JsonFault as Fault};
 ghost use Rattle.lw_json.specs.declared.machine.Machine.{Machine as Named};
 
@@ -41,7 +42,7 @@ fn cell<'a>(value: &'a Value) -> Option<(u16, &'a str)>
 
 /// The cells of a state, or None where one is no cell.
 fn row<'a>(alloc: Global, value: &'a Value) -> Result<Option<Vec<(u16, &'a str)>>, NoMemory>
-    ensures { IfOk result (λ r. option_map (λ v. map (λ c. (c.0, c.1.now)) v.items) r ≡ row_of (view value.now)) }
+    ensures { IfOk result (FindsRow (row_of (view value.now))) }
 {
     let Some(items) = list(value) else {
         return Ok(None);
@@ -58,7 +59,7 @@ fn row<'a>(alloc: Global, value: &'a Value) -> Result<Option<Vec<(u16, &'a str)>
 
 /// The rows of the states, or None where one is no row.
 fn rows<'a>(alloc: Global, items: &'a [Value]) -> Result<Option<Vec<Vec<(u16, &'a str)>>>, NoMemory>
-    ensures { IfOk result (λ r. option_map (λ v. map (λ w. map (λ c. (c.0, c.1.now)) w.items) v.items) r ≡ each_of row_of (map view items.now)) }
+    ensures { IfOk result (FindsRows (each_of row_of (map view items.now))) }
 {
     let mut all = Vec::with_capacity(alloc, items.len())?;
     for item in items {
@@ -76,7 +77,7 @@ fn rows_member<'a>(
     root: &'a Value,
     key: &str,
 ) -> Result<Option<Vec<Vec<(u16, &'a str)>>>, NoMemory>
-    ensures { IfOk result (λ r. option_map (λ v. map (λ w. map (λ c. (c.0, c.1.now)) w.items) v.items) r ≡ rows_at key.now (view root.now)) }
+    ensures { IfOk result (FindsRows (rows_at key.now (view root.now))) }
 {
     match list_member(root, key) {
         Some(items) => rows(alloc, items),
@@ -87,7 +88,7 @@ fn rows_member<'a>(
 /// What the members say, where they have their shapes.
 fn members_of<'a>(alloc: Global, root: &'a Value) -> Result<Said<'a>, JsonFault>
     ensures ok { IfOk result (λ s. SaysMachine (view root.now) (said_machine s)) }
-    ensures err { IfErr result (Told Fault.Shape (λ field. first_failing (machine_tests (view root.now)) ≡ Some field)) }
+    ensures err { IfErr result (IsMisshapen (machine_tests (view root.now))) }
 {
     if !root.is_object() {
         return Err(JsonFault::Shape(Field::Root));
@@ -115,8 +116,10 @@ fn numbered_row(
     row: &[(u16, &str)],
     outputs: &Names,
 ) -> Result<Vec<(u16, u16)>, JsonFault>
-    ensures ok { IfOk result (λ r. each_of (numbered_cell outputs.now) (map (λ c. (c.0, c.1.now)) row.now) ≡ Some r.items) }
-    ensures err { IfErr result (Told (Fault.UnknownOutput state) (FailsFirst (IsKnown outputs.now) (map (λ c. (c.0, c.1.now)) row.now))) }
+    ensures ok { IfOk result
+        (λ r. each_of (numbered_cell outputs.now) (named_row row.now) ≡ Some r.items) }
+    ensures err { IfErr result
+        (Told (Fault.UnknownOutput state) (FailsFirst (IsKnown outputs.now) (named_row row.now))) }
 {
     let mut cells = Vec::with_capacity(alloc, row.len())?;
     for (letter, cell) in row.iter().enumerate() {
@@ -134,8 +137,9 @@ fn numbered(
     rows: &[Vec<(u16, &str)>],
     outputs: &Names,
 ) -> Result<Vec<Vec<(u16, u16)>>, JsonFault>
-    ensures ok { IfOk result (λ v. numbered_rows outputs.now (map (λ w. map (λ c. (c.0, c.1.now)) w.items) rows.now) ≡ Some (map (λ r. r.items) v.items)) }
-    ensures err { IfErr result (UnknownAt outputs.now (map (λ w. map (λ c. (c.0, c.1.now)) w.items) rows.now)) }
+    ensures ok { IfOk result (λ v. numbered_rows outputs.now (map (λ w. named_row w.items) rows.now)
+        ≡ Some (map (λ r. r.items) v.items)) }
+    ensures err { IfErr result (UnknownAt outputs.now (map (λ w. named_row w.items) rows.now)) }
 {
     let mut all = Vec::with_capacity(alloc, rows.len())?;
     for (state, row) in rows.iter().enumerate() {
@@ -155,7 +159,8 @@ fn mealy_of(
     requires outputs { (1 ≤ outputs) × (outputs ≤ 4096) }
     ensures ok { IfOk result (λ m. m ≡ mealy_of inputs outputs (map (λ r. r.items) rows.items)) }
     ensures machine { IfOk result IsWithinLimits }
-    ensures err { IfErr result (Told Fault.Mealy (IsFaultOfRows inputs outputs (map (λ r. r.items) rows.items))) }
+    ensures err { IfErr result
+        (Told Fault.Mealy (IsFaultOfRows inputs outputs (map (λ r. r.items) rows.items))) }
 {
     match Mealy::new(alloc, inputs, outputs, rows) {
         Ok(mealy) => Ok(mealy),

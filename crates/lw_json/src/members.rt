@@ -8,6 +8,7 @@ ghost use Rattle.lw_json.specs.Each.{each_of};
 ghost use Rattle.lw_json.specs.Fault.{IsFaultOf};
 ghost use Rattle.lw_json.specs.MachineFile.{AreInputs};
 ghost use Rattle.lw_json.specs.Members.{IsJson, list_of, list_at, texts_at};
+ghost use Rattle.lw_json.specs.bodies.Found.{FindsTexts};
 ghost use Rattle.lw_json.specs.bodies.Told.{Told, IsUnread};
 ghost use Rattle.lw_json.specs.declared.fault.JsonFault.{JsonFault as Fault};
 
@@ -47,7 +48,7 @@ pub fn list_member<'a>(root: &'a Value, key: &str) -> Option<&'a Vec<Value>>
 
 /// The texts of a list, or None where one is no text.
 pub fn texts(alloc: Global, items: &[Value]) -> Result<Option<Vec<String>>, NoMemory>
-    ensures { IfOk result (λ r. option_map (λ v. map (λ s. string_bytes s) v.items) r ≡ each_of as_str (map view items.now)) }
+    ensures { IfOk result (FindsTexts (each_of as_str (map view items.now))) }
 {
     let mut all = Vec::with_capacity(alloc, items.len())?;
     for item in items {
@@ -61,7 +62,7 @@ pub fn texts(alloc: Global, items: &[Value]) -> Result<Option<Vec<String>>, NoMe
 
 /// The member that is a list of texts, or None where there is no such member.
 pub fn texts_member(alloc: Global, root: &Value, key: &str) -> Result<Option<Vec<String>>, NoMemory>
-    ensures { IfOk result (λ r. option_map (λ v. map (λ s. string_bytes s) v.items) r ≡ texts_at key.now (view root.now)) }
+    ensures { IfOk result (FindsTexts (texts_at key.now (view root.now))) }
 {
     match list_member(root, key) {
         Some(items) => texts(alloc, items),
@@ -73,7 +74,8 @@ pub fn texts_member(alloc: Global, root: &Value, key: &str) -> Result<Option<Vec
 pub fn inputs_of(alloc: Global, list: &[String]) -> Result<Names, JsonFault>
     ensures ok { IfOk result (λ names. names ≡ map (λ s. string_bytes s) list.now) }
     ensures names { IfOk result AreInputs }
-    ensures err { IfErr result (Told Fault.Inputs (IsFaultOf 64 (map (λ s. string_bytes s) list.now))) }
+    ensures err { IfErr result
+        (Told Fault.Inputs (IsFaultOf 64 (map (λ s. string_bytes s) list.now))) }
 {
     match Names::from_list_within(alloc, list, MOST_INPUTS) {
         Ok(names) => Ok(names),
@@ -86,7 +88,8 @@ pub fn inputs_of(alloc: Global, list: &[String]) -> Result<Names, JsonFault>
 pub fn outputs_of(alloc: Global, list: &[String]) -> Result<Names, JsonFault>
     ensures ok { IfOk result (λ names. names ≡ map (λ s. string_bytes s) list.now) }
     ensures names { IfOk result IsNames }
-    ensures err { IfErr result (Told Fault.Outputs (IsFaultOf 4096 (map (λ s. string_bytes s) list.now))) }
+    ensures err { IfErr result
+        (Told Fault.Outputs (IsFaultOf 4096 (map (λ s. string_bytes s) list.now))) }
 {
     match Names::from_list(alloc, list) {
         Ok(names) => Ok(names),

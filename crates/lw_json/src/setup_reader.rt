@@ -5,8 +5,8 @@ ghost use Rattle.serde_json.specs.View.{view};
 ghost use Rattle.lw_json.specs.Fault.{first_failing};
 ghost use Rattle.lw_json.specs.Members.{is_object};
 ghost use Rattle.lw_json.specs.SetupFile.{has, text_at, is_command, command_at, outputs_at, AreOutputs, DeclaredFault, setup_tests, SaysSetup, SpellsSetup, IsSetupFile, SaysSetupFault, HasSetupFault};
-ghost use Rattle.lw_json.specs.bodies.SetupParts.{said_setup, said_command};
-ghost use Rattle.lw_json.specs.bodies.Told.{Told};
+ghost use Rattle.lw_json.specs.bodies.SetupParts.{said_setup, said_command, said_texts};
+ghost use Rattle.lw_json.specs.bodies.Told.{Told, IsMisshapen};
 ghost use Rattle.lw_json.specs.declared.fault.JsonFault.{JsonFault as Fault};
 ghost use Rattle.lw_json.specs.declared.setup.Setup.{Setup as OneSetup};
 ghost use Rattle.std.specs.Prelude.{codes};
@@ -33,7 +33,8 @@ enum Said {
 
 /// The member that is a text, or None where there is no such member.
 fn text_member(alloc: Global, root: &Value, key: &str) -> Result<Option<String>, NoMemory>
-    ensures { IfOk result (λ r. option_map (λ s. string_bytes s) r ≡ text_at key.now (view root.now)) }
+    ensures { IfOk result
+        (λ r. option_map (λ s. string_bytes s) r ≡ text_at key.now (view root.now)) }
 {
     let Some(value) = root.get(key) else {
         return Ok(None);
@@ -56,7 +57,8 @@ fn is_command(words: &[String]) -> bool
 
 /// The words of the command, or None where there are none.
 fn command_member(alloc: Global, root: &Value) -> Result<Option<Vec<String>>, NoMemory>
-    ensures { IfOk result (λ r. option_map (λ v. map (λ s. string_bytes s) v.items) r ≡ command_at (view root.now)) }
+    ensures { IfOk result (λ r. option_map (λ v. map (λ s. string_bytes s) v.items) r
+        ≡ command_at (view root.now)) }
 {
     let Some(words) = texts_member(alloc, root, "command")? else {
         return Ok(None);
@@ -70,7 +72,7 @@ fn command_member(alloc: Global, root: &Value) -> Result<Option<Vec<String>>, No
 
 /// The outputs, which may be left out, or None where they haven't their shape.
 fn outputs_member(alloc: Global, root: &Value) -> Result<Option<Option<Vec<String>>>, NoMemory>
-    ensures { IfOk result (λ r. option_map (λ o. option_map (λ v. map (λ s. string_bytes s) v.items) o) r ≡ outputs_at (view root.now)) }
+    ensures { IfOk result (λ r. option_map said_texts r ≡ outputs_at (view root.now)) }
 {
     if root.get("outputs").is_none() {
         return Ok(Some(None));
@@ -87,7 +89,7 @@ fn command_of(alloc: Global, root: &Value) -> Result<Said, JsonFault>
     requires command { has (codes "command") (view root.now) ≡ true }
     requires alone { has (codes "table") (view root.now) ≡ false }
     ensures ok { IfOk result (λ s. SaysSetup (view root.now) (said_setup s)) }
-    ensures err { IfErr result (Told Fault.Shape (λ field. first_failing (setup_tests (view root.now)) ≡ Some field)) }
+    ensures err { IfErr result (IsMisshapen (setup_tests (view root.now))) }
 {
     let Some(inputs) = texts_member(alloc, root, "inputs")? else {
         return Err(JsonFault::Shape(Field::Inputs));
@@ -110,7 +112,7 @@ fn table_of(alloc: Global, root: &Value) -> Result<Said, JsonFault>
     requires object { is_object (view root.now) ≡ true }
     requires alone { has (codes "command") (view root.now) ≡ false }
     ensures ok { IfOk result (λ s. SaysSetup (view root.now) (said_setup s)) }
-    ensures err { IfErr result (Told Fault.Shape (λ field. first_failing (setup_tests (view root.now)) ≡ Some field)) }
+    ensures err { IfErr result (IsMisshapen (setup_tests (view root.now))) }
 {
     match text_member(alloc, root, "table")? {
         Some(name) => Ok(Said::Table(name)),
@@ -121,7 +123,7 @@ fn table_of(alloc: Global, root: &Value) -> Result<Said, JsonFault>
 /// What the members say, where they have their shapes.
 fn members_of(alloc: Global, root: &Value) -> Result<Said, JsonFault>
     ensures ok { IfOk result (λ s. SaysSetup (view root.now) (said_setup s)) }
-    ensures err { IfErr result (Told Fault.Shape (λ field. first_failing (setup_tests (view root.now)) ≡ Some field)) }
+    ensures err { IfErr result (IsMisshapen (setup_tests (view root.now))) }
 {
     if !root.is_object() {
         return Err(JsonFault::Shape(Field::Root));
@@ -137,9 +139,12 @@ fn members_of(alloc: Global, root: &Value) -> Result<Said, JsonFault>
 
 /// The names of the outputs, where they aren't left out.
 fn declared(alloc: Global, outputs: Option<Vec<String>>) -> Result<Option<Names>, JsonFault>
-    ensures ok { IfOk result (λ o. o ≡ option_map (λ v. map (λ s. string_bytes s) v.items) outputs) }
+    ensures ok { IfOk result
+        (λ o. o ≡ option_map (λ v. map (λ s. string_bytes s) v.items) outputs) }
     ensures names { IfOk result AreOutputs }
-    ensures err { IfErr result (Told Fault.Outputs (DeclaredFault (option_map (λ v. map (λ s. string_bytes s) v.items) outputs))) }
+    ensures err { IfErr result
+        (Told Fault.Outputs
+        (DeclaredFault (option_map (λ v. map (λ s. string_bytes s) v.items) outputs))) }
 {
     match outputs {
         Some(list) => Ok(Some(outputs_of(alloc, &list)?)),

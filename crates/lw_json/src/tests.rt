@@ -1,7 +1,8 @@
 //! Files that are worked out by hand from the rules.
 
 use crate::{
-    Answers, Field, JsonFault, Setup, machine_text, read_answers, read_machine, read_setup,
+    Answers, Field, JsonFault, Setup, answers_text, machine_text, read_answers, read_machine,
+    read_setup,
 };
 use lw_mealy::MealyFault;
 use lw_words::NamesFault;

@@ -29,7 +29,8 @@ pub fn put_member(
     name: &str,
     value: Value,
 ) -> Result<(), NoMemory>
-    ensures { OnOk result (members_view members.new.entries ≡ put name.now (view value) (members_view members.old.entries)) }
+    ensures { OnOk result (members_view members.new.entries
+        ≡ put name.now (view value) (members_view members.old.entries)) }
 {
     let _replaced = members.insert(String::from_str(alloc, name)?, value)?;
     Ok(())

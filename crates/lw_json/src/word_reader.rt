@@ -19,7 +19,8 @@ fn pieces(alloc: Global, text: &str) -> Result<Vec<&str>, AllocError>
 
 /// The numbers of these names, or None where one is no name.
 fn letters(alloc: Global, names: &Names, pieces: &[&str]) -> Result<Option<Vec<u16>>, NoMemory>
-    ensures { IfOk result (λ r. option_map (λ v. v.items) r ≡ each_of (λ name. number_of name names.now) (map (λ x. x.now) pieces.now)) }
+    ensures { IfOk result (λ r. option_map (λ v. v.items) r
+        ≡ each_of (λ name. number_of name names.now) (map (λ x. x.now) pieces.now)) }
 {
     let mut letters = Vec::with_capacity(alloc, pieces.len())?;
     for piece in pieces {

@@ -14,7 +14,8 @@ use std::alloc::Global;
 /// The name of a letter.
 fn put_name(text: &mut String, letter: u16, names: &Names) -> Result<(), NoMemory>
     requires { letter < length names.now }
-    ensures { OnOk result (string_bytes text.new ≡ string_bytes text.old ++ slice_index_or names.now letter []) }
+    ensures { OnOk result (string_bytes text.new
+        ≡ string_bytes text.old ++ slice_index_or names.now letter []) }
 {
     text.push_str(names.name(letter))?;
     Ok(())
@@ -23,7 +24,8 @@ fn put_name(text: &mut String, letter: u16, names: &Names) -> Result<(), NoMemor
 /// The names of a word's letters.
 fn put_names(text: &mut String, word: &[u16], names: &Names) -> Result<(), NoMemory>
     requires { IsWord (length names.now) word.now }
-    ensures { OnOk result (string_bytes text.new ≡ string_bytes text.old ++ word_text names.now word.now) }
+    ensures { OnOk result (string_bytes text.new
+        ≡ string_bytes text.old ++ word_text names.now word.now) }
 {
     let Some((first, rest)) = word.split_first() else {
         return Ok(());

@@ -96,7 +96,8 @@ fn first_bad_name(list: &[String]) -> Option<usize>
 fn numbered(alloc: Global, list: &[String], limit: usize) -> Result<IndexSet<String>, NamesFault>
     requires few { length list.now ≤ limit }
     requires each { All IsName (map (λ s. string_bytes s) list.now) }
-    ensures ok { IfOk result (λ names. map (λ s. string_bytes s) names.keys ≡ map (λ s. string_bytes s) list.now) }
+    ensures ok { IfOk result (λ names. map (λ s. string_bytes s) names.keys
+        ≡ map (λ s. string_bytes s) list.now) }
     ensures differ { OnOk result (AllDiffer (map (λ s. string_bytes s) list.now)) }
     ensures err { IfErr result (HasFault limit (map (λ s. string_bytes s) list.now)) }
 {
