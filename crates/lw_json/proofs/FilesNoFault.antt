@@ -32,7 +32,7 @@ use Rattle.lw_json.proofs.OneAnswers as answers
 use Rattle.lw_json.proofs.OneValue as machine
 
 -- a machine that is said
-unknown_none : (outputs : List (List ℕ)) (states : List NamedRow) (rows : Rows) (q x : ℕ) → numbered_rows outputs states ≡ Some rows → ¬ UnknownFirst outputs states q x
+pub unknown_none : (outputs : List (List ℕ)) (states : List NamedRow) (rows : Rows) (q x : ℕ) → numbered_rows outputs states ≡ Some rows → ¬ UnknownFirst outputs states q x
 unknown_none outputs states rows q x is h =
     let each = each_some (each_of (numbered_cell outputs)) states (rw is refl) in
     h.0.fails [] (known_row outputs (slice_index_or states q []) (each q [] h.0.within))
@@ -174,14 +174,14 @@ object_setup (string s) w e = absurd (none-some w e)
 object_setup (array ds) w e = absurd (none-some w e)
 object_setup (object ms) w e = refl
 
-machine_passes : (d : Data) (w : WrittenMachine) → SaysMachine d w → first_failing (machine_tests d) ≡ None
+pub machine_passes : (d : Data) (w : WrittenMachine) → SaysMachine d w → first_failing (machine_tests d) ≡ None
 machine_passes d w s = rw (object_texts (codes "inputs") d w.inputs s.inputs, s.inputs, s.outputs, s.states) refl
 
 format_some : (f : Option ℕ) (g : ℕ → Option (List WrittenAnswer)) (l : List WrittenAnswer) → option_and_then g f ≡ Some l → is_some f ≡ true
 format_some None g l e = absurd (none-some l e)
 format_some (Some n) g l e = refl
 
-answers_passes : (d : Data) (w : WrittenAnswers) → SaysAnswers d w → first_failing (answers_tests d) ≡ None
+pub answers_passes : (d : Data) (w : WrittenAnswers) → SaysAnswers d w → first_failing (answers_tests d) ≡ None
 answers_passes d w s =
     rw (object_texts (codes "inputs") d w.inputs s.inputs, format_some (format_at d) (λ format. option_and_then (answers_in format) (list_at (codes "answers") d)) w.answers s.answers, s.inputs, s.outputs, s.answers) refl
 
@@ -197,7 +197,7 @@ setup_cases true false (Some i) (Some o) (Some l) name w e = refl
 setup_cases false has_table inputs outputs words None w e = absurd (none-some w e)
 setup_cases false has_table inputs outputs words (Some n) w e = refl
 
-setup_passes : (d : Data) (w : WrittenSetup) → SaysSetup d w → first_failing (setup_tests d) ≡ None
+pub setup_passes : (d : Data) (w : WrittenSetup) → SaysSetup d w → first_failing (setup_tests d) ≡ None
 setup_passes d w s =
     rw (object_setup d w s) (setup_cases (has (codes "command") d) (has (codes "table") d) (texts_at (codes "inputs") d) (outputs_at d) (command_at d) (text_at (codes "table") d) w s)
 
@@ -207,12 +207,12 @@ said_as i o r = record { inputs = i; outputs = o; states = r }
 abbrev answered_as : List (List ℕ) → List (List ℕ) → List WrittenAnswer → WrittenAnswers
 answered_as i o l = record { inputs = i; outputs = o; answers = l }
 
-machine_same : (d : Data) (v w : WrittenMachine) → SaysMachine d v → SaysMachine d w → v ≡ w
+pub machine_same : (d : Data) (v w : WrittenMachine) → SaysMachine d v → SaysMachine d w → v ≡ w
 machine_same d v w s t =
     let same = machine.says_same d d v w refl s t in
     ap (λ (i : List (List ℕ)). said_as i v.outputs v.states) same.inputs ∙ (ap (λ (o : List (List ℕ)). said_as w.inputs o v.states) same.outputs ∙ ap (λ (r : List NamedRow). said_as w.inputs w.outputs r) same.states)
 
-answers_same : (d : Data) (v w : WrittenAnswers) → SaysAnswers d v → SaysAnswers d w → v ≡ w
+pub answers_same : (d : Data) (v w : WrittenAnswers) → SaysAnswers d v → SaysAnswers d w → v ≡ w
 answers_same d v w s t =
     let same = answers.says_same d d v w refl s t in
     ap (λ (i : List (List ℕ)). answered_as i v.outputs v.answers) same.inputs ∙ (ap (λ (o : List (List ℕ)). answered_as w.inputs o v.answers) same.outputs ∙ ap (λ (l : List WrittenAnswer). answered_as w.inputs w.outputs l) same.answers)

@@ -2,7 +2,9 @@ pub mod AnswersFaults
 pub mod AnswersRoundTrip
 pub mod EachLemmas
 pub mod Faults
+pub mod FilesFirstFault
 pub mod FilesNoFault
+pub mod FirstFault
 pub mod KeptLemmas
 pub mod LineFeed
 pub mod MachineFaults

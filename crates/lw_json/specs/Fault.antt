@@ -38,3 +38,7 @@ module _ {S : Type 0} (tests : Data → List (Field × Bool)) (Says : Data → S
 -- bytes of a grammar have no fault
 abbrev pub NoneIsFaulty : {V : Type 0} → (List ℕ → V → Type 0) → (List ℕ → JsonFault → Type 0) → Type 0
 NoneIsFaulty {V} IsFile HasFirst = (bytes : List ℕ) (v : V) (fault : JsonFault) → IsFile bytes v → HasFirst bytes fault → fault ≡ NoMemory
+
+-- no bytes have two first faults, but that memory may be wanted
+abbrev pub HasOneFault : (List ℕ → JsonFault → Type 0) → Type 0
+HasOneFault HasFirst = (bytes : List ℕ) (f g : JsonFault) → HasFirst bytes f → HasFirst bytes g → f ≢ NoMemory → g ≢ NoMemory → f ≡ g

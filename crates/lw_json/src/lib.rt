@@ -22,7 +22,7 @@ pub use answers::Answers;
 pub use answers_reader::read_answers;
 pub use answers_writer::answers_text;
 pub use fault::{Field, JsonFault};
-pub use laws::{answers_have_one_order, files_have_no_fault};
+pub use laws::{a_first_fault_is_one, answers_have_one_order, files_have_no_fault};
 pub use machine::Machine;
 pub use machine_reader::read_machine;
 pub use machine_writer::machine_text;

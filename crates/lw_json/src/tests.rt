@@ -49,12 +49,13 @@ const WRITTEN: [(&str, &str); 3] = [
 ];
 
 /// Machine files that are written otherwise than they are read.
-const SPELLED: [&str; 5] = [
+const SPELLED: [&str; 6] = [
     "{\"states\":[[[0,\"0\"]]],\"outputs\":[\"0\"],\"inputs\":[\"t\"]}",
     " { \"inputs\" : [ \"t\" ] ,\n\"outputs\":[\"0\"],\t\"states\":[[[0,\"0\"]]] }\n\n",
     "{\"inputs\":[\"t\"],\"outputs\":[\"0\"],\"states\":[[[0,\"0\"]]],\"more\":{\"a\":[null]}}",
     "{\"inputs\":[\"\\u0074\"],\"outputs\":[\"0\"],\"states\":[[[0,\"\\u0030\"]]]}",
     "\r\n{\"inputs\":[\"t\"],\r\n\"outputs\":[\"0\"],\"states\":[[[0,\"0\"]]]}\r\n",
+    "{\"inputs\":7,\"states\":[],\"outputs\":[\"0\"],\"inputs\":[\"t\"],\"states\":[[[0,\"0\"]]]}",
 ];
 
 /// Bytes that are no machine file, each with its first fault.
@@ -736,5 +737,29 @@ fn answers_are_written_in_order_and_read_again(rt: HostRuntime) -> Result<(), Fa
         let twice = answers_text(alloc, &again.inputs, &again.outputs, &again.kept)?;
         assert_eq!(rt; twice.as_slice(), expected.as_bytes());
     }
+    Ok(())
+}
+
+/// A machine file with a further member of so many lists in one another.
+fn nested_file(alloc: Global, lists: usize) -> Result<String, Fail> {
+    let mut text = String::from_str(alloc, "{\"deep\":")?;
+    for _ in 0..lists {
+        text.push_str("[")?;
+    }
+    for _ in 0..lists {
+        text.push_str("]")?;
+    }
+    text.push_str(",\"inputs\":[\"t\"],\"outputs\":[\"0\"],\"states\":[[[0,\"0\"]]]}")?;
+    Ok(text)
+}
+
+#[test]
+fn a_file_nests_to_127_levels(rt: HostRuntime) -> Result<(), Fail> {
+    let alloc = rt.alloc();
+    let text = nested_file(alloc, 126)?;
+    assert!(rt; read_machine(alloc, text.as_bytes()).is_ok());
+    let text = nested_file(alloc, 127)?;
+    let fault = fault_of(alloc, text.as_str())?;
+    assert_eq!(rt; fault, JsonFault::NotJson);
     Ok(())
 }

@@ -1,3 +1,5 @@
+//! Lists of names, and the numbers that they give.
+
 ghost use Rattle.std.specs.Prelude.{◌≡◌, ℕ, ◌<◌, ◌≤◌, ◌↔◌, List, length, map, string_bytes, slice_get, Some, IfOk, OnOk, IfErr, IfSome, IfNone, IsTrue, take};
 ghost use Rattle.std.specs.List.{All};
 ghost use Rattle.lw_words.specs.First.{FailsFirst};
