@@ -1,4 +1,17 @@
+pub mod AnswersFaults
+pub mod AnswersRoundTrip
 pub mod EachLemmas
+pub mod Faults
+pub mod FilesFirstFault
+pub mod FilesNoFault
+pub mod FirstFault
+pub mod KeptLemmas
 pub mod LineFeed
+pub mod MachineFaults
+pub mod NoFault
+pub mod OneAnswers
 pub mod OneValue
 pub mod RoundTrip
+pub mod SetupFaults
+pub mod WordTexts
+pub mod WrittenOrder

@@ -1,4 +1,13 @@
+pub mod AnswersFault
+pub mod AnswersFile
+pub mod AnswersText
 pub mod Each
-pub mod Found
+pub mod Fault
+pub mod KeptOver
+pub mod MachineFault
 pub mod MachineFile
 pub mod MachineText
+pub mod Members
+pub mod SetupFile
+pub mod WordText
+pub mod bodies

@@ -1,15 +1,33 @@
-//! Machine files: the grammar that is read, over serde_json's reading, and the one text that is written.
+//! Files in JSON: the grammars that are read, over serde_json's reading, and the one text that is written of a value.
 #![tactic(auto)]
 
+mod answer_shapes;
+mod answers;
+mod answers_reader;
+mod answers_writer;
 mod fault;
+mod laws;
 mod machine;
-mod read;
-mod write;
+mod machine_reader;
+mod machine_writer;
+mod members;
+mod said_answer;
+mod setup;
+mod setup_reader;
+mod values;
+mod word_reader;
+mod word_writer;
 
-pub use fault::JsonFault;
+pub use answers::Answers;
+pub use answers_reader::read_answers;
+pub use answers_writer::answers_text;
+pub use fault::{Field, JsonFault};
+pub use laws::{a_first_fault_is_one, answers_have_one_order, files_have_no_fault};
 pub use machine::Machine;
-pub use read::read_machine;
-pub use write::machine_text;
+pub use machine_reader::read_machine;
+pub use machine_writer::machine_text;
+pub use setup::{Setup, Text, Texts};
+pub use setup_reader::read_setup;
 
 #[cfg(test)]
 mod tests;

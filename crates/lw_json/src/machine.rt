@@ -1,3 +1,5 @@
+//! A machine with its names.
+
 ghost use Rattle.std.specs.Prelude.{◌≡◌, ◌≤◌, length};
 
 use lw_mealy::Mealy;

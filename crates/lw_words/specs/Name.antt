@@ -34,10 +34,10 @@ pub record RepeatsFirst (names : List (List ℕ)) (first second : ℕ) : Type 0 
   pub same : slice_get names first ≡ slice_get names second
   pub others : AllDiffer (take second names)
 
--- the first fault of a list of names; no list has two, and none is one of names
-abbrev pub HasFault : List (List ℕ) → NamesFault → Type 0
-HasFault names Empty = names ≡ []
-HasFault names (TooMany count) = (count ≡ length names) × (4096 < count)
-HasFault names (BadName place) = (length names ≤ 4096) × FailsFirst IsName names place
-HasFault names (Repeated first second) = (length names ≤ 4096) × All IsName names × RepeatsFirst names first second
-HasFault names NoMemory = Unit {0}
+-- the first fault of a list that is to be one of names, at most `limit` of them; no list has two, and none that is one of names has one
+abbrev pub HasFault : ℕ → List (List ℕ) → NamesFault → Type 0
+HasFault limit names Empty = names ≡ []
+HasFault limit names (TooMany count) = (count ≡ length names) × (limit < count)
+HasFault limit names (BadName place) = (length names ≤ limit) × FailsFirst IsName names place
+HasFault limit names (Repeated first second) = (length names ≤ limit) × All IsName names × RepeatsFirst names first second
+HasFault limit names NoMemory = Unit {0}

@@ -1,5 +1,6 @@
-//! Lists of names, each with its place as its number.
-ghost use Rattle.std.specs.Prelude.{◌≡◌, ℕ, ◌<◌, ◌↔◌, List, length, map, string_bytes, slice_get, Some, IfOk, OnOk, IfErr, IfSome, IfNone, IsTrue, take};
+//! Lists of names, and the numbers that they give.
+
+ghost use Rattle.std.specs.Prelude.{◌≡◌, ℕ, ◌<◌, ◌≤◌, ◌↔◌, List, length, map, string_bytes, slice_get, Some, IfOk, OnOk, IfErr, IfSome, IfNone, IsTrue, take};
 ghost use Rattle.std.specs.List.{All};
 ghost use Rattle.lw_words.specs.First.{FailsFirst};
 ghost use Rattle.lw_words.specs.Name.{IsName, IsNames, AllDiffer, number_of, HasFault};
@@ -20,7 +21,7 @@ const LONGEST_NAME: usize = 64;
 pub enum NamesFault {
     /// There is no name.
     Empty,
-    /// There are this many, and that is above 4,096.
+    /// There are this many, and that is above the limit, which is 4,096 where none is said.
     TooMany(usize),
     /// The first text that isn't 1 to 64 bytes from 0x21 to 0x7E stands here.
     BadName(usize),
@@ -94,12 +95,13 @@ fn first_bad_name(list: &[String]) -> Option<usize>
 }
 
 /// Numbers the names in their order, up to the first that stood before.
-fn numbered(alloc: Global, list: &[String]) -> Result<IndexSet<String>, NamesFault>
-    requires few { length list.now < 4097 }
+fn numbered(alloc: Global, list: &[String], limit: usize) -> Result<IndexSet<String>, NamesFault>
+    requires few { length list.now ≤ limit }
     requires each { All IsName (map (λ s. string_bytes s) list.now) }
-    ensures ok { IfOk result (λ names. map (λ s. string_bytes s) names.keys ≡ map (λ s. string_bytes s) list.now) }
+    ensures ok { IfOk result (λ names. map (λ s. string_bytes s) names.keys
+        ≡ map (λ s. string_bytes s) list.now) }
     ensures differ { OnOk result (AllDiffer (map (λ s. string_bytes s) list.now)) }
-    ensures err { IfErr result (HasFault (map (λ s. string_bytes s) list.now)) }
+    ensures err { IfErr result (HasFault limit (map (λ s. string_bytes s) list.now)) }
 {
     let mut names = IndexSet::with_capacity(alloc, list.len())?;
     for (place, name) in list.iter().enumerate() {
@@ -116,18 +118,33 @@ impl Names {
     pub fn from_list(alloc: Global, list: &[String]) -> Result<Names, NamesFault>
         ensures ok { IfOk result (λ names. names ≡ map (λ s. string_bytes s) list.now) }
         ensures names { IfOk result IsNames }
-        ensures err { IfErr result (HasFault (map (λ s. string_bytes s) list.now)) }
+        ensures err { IfErr result (HasFault 4096 (map (λ s. string_bytes s) list.now)) }
+    {
+        Names::from_list_within(alloc, list, MOST_NAMES)
+    }
+
+    /// Numbers these names from 0 in their order, where there are at most `limit`.
+    pub fn from_list_within(
+        alloc: Global,
+        list: &[String],
+        limit: usize,
+    ) -> Result<Names, NamesFault>
+        requires { limit ≤ 4096 }
+        ensures ok { IfOk result (λ names. names ≡ map (λ s. string_bytes s) list.now) }
+        ensures names { IfOk result IsNames }
+        ensures few { OnOk result (length list.now ≤ limit) }
+        ensures err { IfErr result (HasFault limit (map (λ s. string_bytes s) list.now)) }
     {
         if list.is_empty() {
             return Err(NamesFault::Empty);
         }
-        if list.len() > MOST_NAMES {
+        if list.len() > limit {
             return Err(NamesFault::TooMany(list.len()));
         }
         if let Some(place) = first_bad_name(list) {
             return Err(NamesFault::BadName(place));
         }
-        let names = numbered(alloc, list)?;
+        let names = numbered(alloc, list, limit)?;
         Ok(Names { names, alloc })
     }
 

@@ -1,8 +1,0 @@
-use Rattle.std.proofs.Common.{map, drop}
-use Rattle.serde_json.specs.View.{view}
-use Rattle.lw_json.specs.MachineFile.{row_of}
-use Rattle.lw_json.proofs.EachLemmas.{Going}
-use Rattle.lw_json.proofs.read.rows.Given as goal
-
-abbrev pub invariant-loop-item : goal.invariant-loop-item
-invariant-loop-item l = Going view (row_of l.outputs) (map (λ r. r.items) l.all.items) (drop l.item-index l.items) l.items

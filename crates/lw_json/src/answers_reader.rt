@@ -1,0 +1,151 @@
+//! Reads answers files: the shapes of the members, then the names, then the words.
+
+ghost use Rattle.std.specs.Prelude.{◌≡◌, IfOk, IfErr, IfSome, IfNone, Some, map};
+ghost use Rattle.std.specs.List.{All};
+ghost use Rattle.serde_json.specs.View.{view};
+ghost use Rattle.lw_words.specs.First.{FailsFirst};
+ghost use Rattle.lw_json.specs.AnswersFile.{kept_answer, SaysAnswers, SpellsAnswers, IsAnswersFile, SameAnswers};
+ghost use Rattle.lw_json.specs.AnswersFault.{answers_tests, HasWords, SaysAnswersFault, HasAnswersFault};
+ghost use Rattle.lw_json.specs.Each.{each_of};
+ghost use Rattle.lw_json.specs.Fault.{first_failing};
+ghost use Rattle.lw_json.specs.KeptOver.{IsEven};
+ghost use Rattle.lw_json.specs.bodies.AnswersParts.{said_answer, said_answers};
+ghost use Rattle.lw_json.specs.bodies.Told.{Told, IsMisshapen};
+ghost use Rattle.lw_json.specs.declared.answers.Answers.{Answers as Read};
+ghost use Rattle.lw_json.specs.declared.fault.JsonFault.{JsonFault as Fault};
+
+use crate::answer_shapes::{answers_member, format};
+use crate::members::{inputs_of, outputs_of, texts_member, value_of};
+use crate::said_answer::SaidAnswer;
+use crate::word_reader::read_word;
+use crate::{Answers, Field, JsonFault};
+use lw_words::{Kept, KeptAnswer, Names, NoMemory};
+use serde_json::Value;
+use std::alloc::Global;
+
+/// What an answers file says, before its names are looked at.
+#[derive(Drop)]
+struct Said<'a> {
+    inputs: Vec<String>,
+    outputs: Vec<String>,
+    answers: Vec<SaidAnswer<'a>>,
+}
+
+/// What the members say, where they have their shapes.
+fn members_of<'a>(alloc: Global, root: &'a Value) -> Result<Said<'a>, JsonFault>
+    ensures ok { IfOk result (λ s. SaysAnswers (view root.now) (said_answers s)) }
+    ensures err { IfErr result (IsMisshapen (answers_tests (view root.now))) }
+{
+    if !root.is_object() {
+        return Err(JsonFault::Shape(Field::Root));
+    }
+    let Some(format) = format(root) else {
+        return Err(JsonFault::Shape(Field::Format));
+    };
+    let Some(inputs) = texts_member(alloc, root, "inputs")? else {
+        return Err(JsonFault::Shape(Field::Inputs));
+    };
+    let Some(outputs) = texts_member(alloc, root, "outputs")? else {
+        return Err(JsonFault::Shape(Field::Outputs));
+    };
+    let Some(answers) = answers_member(alloc, root, format)? else {
+        return Err(JsonFault::Shape(Field::Answers));
+    };
+    Ok(Said {
+        inputs,
+        outputs,
+        answers,
+    })
+}
+
+/// The answer with the words of its texts, or None where one is no word.
+fn kept_one(
+    alloc: Global,
+    said: &SaidAnswer<'_>,
+    inputs: &Names,
+    outputs: &Names,
+) -> Result<Option<KeptAnswer>, NoMemory>
+    ensures { IfOk result (λ r. r ≡ kept_answer inputs.now outputs.now (said_answer said.now)) }
+{
+    let Some(word) = read_word(alloc, inputs, said.word)? else {
+        return Ok(None);
+    };
+    let Some(outs) = read_word(alloc, outputs, said.outs)? else {
+        return Ok(None);
+    };
+    Ok(Some(KeptAnswer {
+        instance: said.instance,
+        run: said.run,
+        word,
+        outs,
+    }))
+}
+
+/// The answers with the words of their texts.
+fn kept_all(
+    alloc: Global,
+    answers: &[SaidAnswer<'_>],
+    inputs: &Names,
+    outputs: &Names,
+) -> Result<Kept, JsonFault>
+    ensures ok { IfOk result
+        (λ kept. each_of (kept_answer inputs.now outputs.now) (map said_answer answers.now)
+        ≡ Some kept.answers) }
+    ensures err { IfErr result
+        (Told Fault.BadWord (FailsFirst (HasWords inputs.now outputs.now) (map said_answer answers.now))) }
+{
+    let mut kept = Kept::new(alloc);
+    for (place, said) in answers.iter().enumerate() {
+        let Some(answer) = kept_one(alloc, said, inputs, outputs)? else {
+            return Err(JsonFault::BadWord(place));
+        };
+        let Ok(()) = kept.push(answer) else {
+            return Err(JsonFault::NoMemory);
+        };
+    }
+    Ok(kept)
+}
+
+/// The first answer whose two words have different lengths.
+fn first_uneven(kept: &Kept) -> Option<usize>
+    ensures none { IfNone result (All IsEven kept.now.answers) }
+    ensures some { IfSome result (FailsFirst IsEven kept.now.answers) }
+{
+    for place in 0..kept.len() {
+        let answer = kept.get(place);
+        if answer.outs.len() != answer.word.len() {
+            return Some(place);
+        }
+    }
+    None
+}
+
+/// The answers that are said.
+fn answers_of(alloc: Global, said: Said<'_>) -> Result<Answers, JsonFault>
+    ensures ok { IfOk result (SpellsAnswers (said_answers said.entry)) }
+    ensures err { IfErr result (SaysAnswersFault (said_answers said.entry)) }
+{
+    let inputs = inputs_of(alloc, &said.inputs)?;
+    let outputs = outputs_of(alloc, &said.outputs)?;
+    let kept = kept_all(alloc, &said.answers, &inputs, &outputs)?;
+    match first_uneven(&kept) {
+        Some(place) => Err(JsonFault::Lengths(place)),
+        None => Ok(Answers {
+            inputs,
+            outputs,
+            kept,
+        }),
+    }
+}
+
+/// Reads an answers file: an object with `format`, 1 or 2, `inputs` and `outputs`, lists of names, and `answers`,
+/// a list that has for each answer its two texts, in format 2 after its instance and its run.
+pub fn read_answers(alloc: Global, bytes: &[u8]) -> Result<Answers, JsonFault>
+    ensures ok { IfOk result (IsAnswersFile bytes.now) }
+    ensures only { IfOk result (λ a. (b : Read) → IsAnswersFile bytes.now b → SameAnswers b a) }
+    ensures err { IfErr result (HasAnswersFault bytes.now) }
+{
+    let root = value_of(alloc, bytes)?;
+    let said = members_of(alloc, &root)?;
+    answers_of(alloc, said)
+}

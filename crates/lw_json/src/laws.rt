@@ -1,0 +1,28 @@
+//! Laws over the grammars and the written order, with no code.
+
+ghost use Rattle.lw_json.specs.AnswersFault.{HasAnswersFault};
+ghost use Rattle.lw_json.specs.AnswersFile.{IsAnswersFile};
+ghost use Rattle.lw_json.specs.AnswersText.{HaveOneOrder};
+ghost use Rattle.lw_json.specs.Fault.{HasOneFault, NoneIsFaulty};
+ghost use Rattle.lw_json.specs.MachineFault.{HasMachineFault};
+ghost use Rattle.lw_json.specs.MachineFile.{IsMachineFile};
+ghost use Rattle.lw_json.specs.SetupFile.{IsSetupFile, HasSetupFault};
+
+/// Bytes that are in the grammar of a kind of file have no fault of that kind.
+pub fn files_have_no_fault()
+    ensures machines { NoneIsFaulty IsMachineFile HasMachineFault }
+    ensures setups { NoneIsFaulty IsSetupFile HasSetupFault }
+    ensures answers { NoneIsFaulty IsAnswersFile HasAnswersFault }
+{}
+
+/// Bytes have one first fault of each kind of file.
+pub fn a_first_fault_is_one()
+    ensures machines { HasOneFault HasMachineFault }
+    ensures setups { HasOneFault HasSetupFault }
+    ensures answers { HasOneFault HasAnswersFault }
+{}
+
+/// There is one order in which answers are written.
+pub fn answers_have_one_order()
+    ensures { HaveOneOrder }
+{}
