@@ -1,8 +1,15 @@
 -- Reads of the table file, and what is told of them.
-use Rattle.std.proofs.Common.{◌≡◌, ℕ, ◌+◌, ◌<◌, ◌≤◌, List, [], ◌∷◌, ◌++◌, length, map, String, string_bytes, true, false, Option, Some, None, sym, ◌∙◌, ap, subst, arith}
+use Rattle.std.proofs.Common.{◌≡◌, ℕ, ◌+◌, ◌<◌, ◌≤◌, List, [], ◌∷◌, ◌++◌, length, map, String, string_bytes, Result, Err, true, false, Option, Some, None, sym, ◌∙◌, ap, subst, arith}
 use Rattle.std.specs.declared.alloc.Global.{Global}
 use Rattle.std.proofs.lemmas.List.{append_cancel_left}
 use Rattle.lw_json.specs.MachineFile.{IsMachineFile}
+use Rattle.lw_json.proofs.FilesNoFault.{machines}
+use Rattle.lw_json.specs.MachineFault.{HasMachineFault}
+use Rattle.lw_json.specs.declared.fault.JsonFault.{JsonFault}
+use Rattle.lw_json.specs.declared.fault.JsonFault.TheVariants.{NoMemory as NoMemoryToParse}
+use Rattle.lw_top.specs.Stops.{read_stop}
+use Rattle.lw_top.specs.declared.stops.ReadStop.{ReadStop}
+use Rattle.lw_top.specs.declared.stops.ReadStop.TheVariants.{NoMachine, NoMemory as NoMemoryToRead}
 use Rattle.lw_json.specs.declared.machine.Machine.{Machine}
 use Rattle.lw_outside.specs.Files.{Call, File, Holds, HoldsLong, file_at, longest_file, noted, read_call}
 use Rattle.lw_top.specs.Arguments.{NamesFile, table_file}
@@ -53,3 +60,13 @@ table_not_bad holds before now name told r =
 pub table_not_long : (holds : Option (List File)) (name : List ℕ) → TellsTable holds name → HoldsLong holds name → ⊥
 table_not_long None name told long = absurd told.1
 table_not_long (Some fs) name told long = told.2 (subst (λ (b : List ℕ). longest_file < length b) (sym (same_bytes (file_at name fs) told.0 long.0 told.1 long.1)) long.2)
+
+-- a file that was read as none is no machine's
+pub no_machine : (bytes : List ℕ) (fault : JsonFault) → HasMachineFault bytes fault → read_stop fault ≡ NoMachine → (m : Machine) → ¬ IsMachineFile bytes m
+no_machine bytes fault has is m file =
+    let memory : fault ≡ NoMemoryToParse = machines bytes m fault file has in
+    let no : NoMemoryToRead ≡ NoMachine = subst (λ (f : JsonFault). read_stop f ≡ NoMachine) memory is in
+    cc
+
+pub err_is : (one two : ReadStop) → ◌≡◌ {A = Result Machine ReadStop} (Err one) (Err two) → one ≡ two
+err_is one two e = cc

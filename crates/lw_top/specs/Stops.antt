@@ -2,6 +2,8 @@
 use Rattle.std.specs.Prelude.{◌≡◌, ℕ, ◌+◌, List, length}
 use Rattle.lw_words.specs.Answer.{Answer}
 use Rattle.lw_cache.specs.Crowd.{IsCrowd}
+use Rattle.lw_json.specs.declared.fault.JsonFault.{JsonFault}
+use Rattle.lw_json.specs.declared.fault.JsonFault.TheVariants.{NoMemory as NoMemoryToParse}
 use Rattle.lw_top.specs.declared.first.FirstStop.{FirstStop}
 use Rattle.lw_top.specs.declared.first.FirstStop.TheVariants.{Crowd, NoMemory as NoMemoryToLearn}
 use Rattle.lw_top.specs.declared.stops.ReadStop.{ReadStop}
@@ -10,6 +12,11 @@ use Rattle.lw_top.specs.declared.stops.TellStop.{TellStop}
 use Rattle.lw_top.specs.declared.stops.TellStop.TheVariants.{Refused, NoMemory as NoMemoryToTell}
 use Rattle.lw_top.specs.declared.outcome.Outcome.{Outcome}
 use Rattle.lw_top.specs.declared.outcome.Outcome.TheVariants.{BadFile, FileTooLong, NoMemory, TooManyStates, FileFault, SinkFault}
+
+-- any fault of a file is one that is no machine's
+abbrev pub read_stop : JsonFault → ReadStop
+read_stop NoMemoryToParse = NoMemoryToRead
+read_stop _ = NoMachine
 
 abbrev pub read_outcome : ReadStop → Outcome
 read_outcome Failed = FileFault

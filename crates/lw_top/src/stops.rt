@@ -1,5 +1,6 @@
 //! Why a step of a call ended it, and the outcome that each comes to.
 use crate::{FirstStop, Outcome};
+use lw_json::JsonFault;
 use lw_outside::Failed;
 use lw_words::NoMemory;
 
@@ -21,6 +22,20 @@ pub(crate) enum TellStop {
     /// A stream refused what was to be written.
     Refused,
     NoMemory,
+}
+
+impl From<JsonFault> for ReadStop {
+    ghost use Rattle.std.specs.Prelude.{◌≡◌};
+    ghost use Rattle.lw_top.specs.Stops.{read_stop};
+
+    ghost from_gives = { λ fault stop. stop ≡ read_stop fault };
+
+    fn from(fault: JsonFault) -> ReadStop {
+        match fault {
+            JsonFault::NoMemory => ReadStop::NoMemory,
+            _ => ReadStop::NoMachine,
+        }
+    }
 }
 
 impl From<ReadStop> for Outcome {

@@ -20,7 +20,7 @@ use crate::learning::{Learned, learn};
 use crate::stops::ReadStop;
 use crate::writing::{say, tell_model};
 use crate::{Outcome, status};
-use lw_json::{JsonFault, Machine, read_machine};
+use lw_json::{Machine, read_machine};
 use lw_mealy::Mealy;
 use lw_outside::{Files, FilesStop, Sink};
 use lw_words::{Kept, Names};
@@ -56,6 +56,8 @@ fn read_table<F: Files>(alloc: Global, files: &mut F, name: &str) -> Result<Mach
     ensures bad { result ≡ Err Unread.NoMachine →
         ReadsNoMachine name.now (F.holds files.old) (F.reads files.old) (F.reads files.new) }
     ensures long { result ≡ Err Unread.TooLong → HoldsLong (F.holds files.old) name.now }
+    ensures long_unread { result ≡ Err Unread.TooLong → F.reads files.new ≡ F.reads files.old }
+    ensures failed_unread { result ≡ Err Unread.Failed → F.reads files.new ≡ F.reads files.old }
     ensures failed { result ≡ Err Unread.Failed → CountedFault (F.faults files.old)
         (F.faults files.new) }
     ensures failed_call { result ≡ Err Unread.Failed →
@@ -76,8 +78,7 @@ fn read_table<F: Files>(alloc: Global, files: &mut F, name: &str) -> Result<Mach
     };
     match read_machine(alloc, &bytes) {
         Ok(machine) => Ok(machine),
-        Err(JsonFault::BadMachine) => Err(ReadStop::NoMachine),
-        Err(JsonFault::NoMemory) => Err(ReadStop::NoMemory),
+        Err(fault) => Err(ReadStop::from(fault)),
     }
 }
 
@@ -152,6 +153,9 @@ fn write_out<O: Sink, E: Sink>(
     ensures written { (h : Model) → result.outcome ≡ Came.Unchecked h →
         TakesAll (written_text machine) (O.taken out.old) (O.taken out.new) }
     ensures part { TakesSome (written_text machine) (O.taken out.old) (O.taken out.new) }
+    ensures whole { ¬ CountedFault (O.faults out.old) (O.faults out.new) →
+        (result.outcome ≡ Came.NoMemory) ⊎
+        TakesAll (written_text machine) (O.taken out.old) (O.taken out.new) }
     ensures memory { result.outcome ≡ Came.NoMemory → O.taken out.new ≡ O.taken out.old }
     ensures quiet { (h : Model) → result.outcome ≡ Came.Unchecked h →
         (O.faults out.new ≡ O.faults out.old) ×
@@ -216,6 +220,12 @@ pub fn run<F: Files, O: Sink, E: Sink>(
         (m : Named) ×
         ReadsTable arguments.now (F.holds files.old) (F.reads files.old) (F.reads files.new) m ×
         WritesModel (λ text. TakesSome text (O.taken out.old) (O.taken out.new)) m h) }
+    ensures whole { ¬ CountedFault (O.faults out.old) (O.faults out.new) →
+        (result.outcome ≡ Came.NoMemory) ⊎
+        IfSome result.model (λ h.
+        (m : Named) ×
+        ReadsTable arguments.now (F.holds files.old) (F.reads files.old) (F.reads files.new) m ×
+        WritesModel (λ text. TakesAll text (O.taken out.old) (O.taken out.new)) m h) }
     ensures nothing { result.model ≡ None → O.taken out.new ≡ O.taken out.old }
     ensures memory { result.outcome ≡ Came.NoMemory → O.taken out.new ≡ O.taken out.old }
 
@@ -242,6 +252,10 @@ pub fn run<F: Files, O: Sink, E: Sink>(
     ensures too_long_told { (name : List ℕ) → NamesFile arguments.now name →
         TellsLong (F.holds files.old) name →
         IsUngiven result.outcome }
+    ensures too_long_unread { result.outcome ≡ Came.FileTooLong →
+        F.reads files.new ≡ F.reads files.old }
+    ensures file_fault_unread { result.outcome ≡ Came.FileFault →
+        F.reads files.new ≡ F.reads files.old }
     ensures file_fault { result.outcome ≡ Came.FileFault →
         CountedFault (F.faults files.old) (F.faults files.new) }
     ensures file_call { result.outcome ≡ Came.FileFault → (name : List ℕ) ×
@@ -252,6 +266,7 @@ pub fn run<F: Files, O: Sink, E: Sink>(
     ensures sink_fault { result.outcome ≡ Came.SinkFault →
         CountedFault (O.faults out.old) (O.faults out.new) ⊎
         CountedFault (E.faults err.old) (E.faults err.new) }
+    ensures sink_model { result.outcome ≡ Came.SinkFault → (h : Model) × (result.model ≡ Some h) }
     ensures crowd { (apart : List (List ℕ)) → result.outcome ≡ Came.TooManyStates apart →
         IsCrowdOf (answers_of result.kept.answers) 1025 apart }
     ensures untroubled { (name : List ℕ) → NamesFile arguments.now name →

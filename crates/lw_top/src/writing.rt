@@ -104,6 +104,9 @@ fn write_model<O: Sink, E: Sink>(
     ensures written { OnOk result (TakesAll (written_text machine.now) (O.taken out.old)
         (O.taken out.new)) }
     ensures part { TakesSome (written_text machine.now) (O.taken out.old) (O.taken out.new) }
+    ensures whole { OnErr result (¬ CountedFault (O.faults out.old) (O.faults out.new) →
+        (result ≡ Err Stop.NoMemory) ⊎
+        TakesAll (written_text machine.now) (O.taken out.old) (O.taken out.new)) }
     ensures memory { result ≡ Err Stop.NoMemory → O.taken out.new ≡ O.taken out.old }
     ensures line { IfOk result (λ o. Says (Some machine.now.inputs) answers o (E.taken err.old)
         (E.taken err.new)) }
@@ -137,6 +140,9 @@ pub(crate) fn tell_model<O: Sink, E: Sink>(
     ensures written { (h : Model) → result ≡ Came.Unchecked h →
         TakesAll (written_text machine.now) (O.taken out.old) (O.taken out.new) }
     ensures part { TakesSome (written_text machine.now) (O.taken out.old) (O.taken out.new) }
+    ensures whole { ¬ CountedFault (O.faults out.old) (O.faults out.new) →
+        (result ≡ Came.NoMemory) ⊎
+        TakesAll (written_text machine.now) (O.taken out.old) (O.taken out.new) }
     ensures memory { result ≡ Came.NoMemory → O.taken out.new ≡ O.taken out.old }
     ensures quiet { (h : Model) → result ≡ Came.Unchecked h →
         (O.faults out.new ≡ O.faults out.old) ×

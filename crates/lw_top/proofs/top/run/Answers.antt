@@ -1,14 +1,15 @@
-use Rattle.std.proofs.Common.{◌≡◌, ◌∙◌, ◌⊎◌, inl, inr, refl, sym, ap, subst, length, List, ℕ, Some, Err, IfErr, IfSome, Option, map, string_bytes}
+use Rattle.std.proofs.Common.{◌≡◌, ◌∙◌, ◌⊎◌, ⊎_elim, inl, inr, refl, sym, ap, subst, length, List, ℕ, Some, Err, IfErr, IfSome, Option, map, string_bytes}
 use Rattle.lw_words.specs.Answer.{answers_of}
 use Rattle.lw_words.specs.Cause.{CountedFault}
 use Rattle.lw_words.specs.declared.kept.KeptAnswer.{KeptAnswer}
 use Rattle.lw_mealy.specs.Limits.{MealyMachine}
 use Rattle.lw_json.specs.declared.machine.Machine.{Machine}
-use Rattle.lw_outside.specs.Files.{HoldsLong}
+use Rattle.lw_json.specs.MachineText.{written_text}
+use Rattle.lw_top.specs.declared.outcome.Outcome.TheVariants.{NoMemory}
 use Rattle.lw_top.specs.Kept.{KeepsRuns}
 use Rattle.lw_top.specs.Reading.{ReadsMachine, ReadsNoMachine, ReadsTable, TellsLong, TellsNoTable, TellsTable}
 use Rattle.lw_top.specs.Stops.{CrowdOf, IsCrowdOf}
-use Rattle.lw_top.specs.Writing.{Says, TakesSome, WritesModel}
+use Rattle.lw_top.specs.Writing.{Says, TakesAll, TakesSome, WritesModel}
 use Rattle.lw_top.specs.declared.stops.ReadStop.{ReadStop}
 use Rattle.lw_top.proofs.ReadLemmas.{bad_not_read, long_not_bad, long_not_read, one_file, table_not_bad, table_not_long}
 use Rattle.lw_top.proofs.RunLemmas.{no_model, told_crowd, told_model, told_untroubled, ungiven, unread_untroubled}
@@ -125,3 +126,24 @@ returns-in-Err-closed-clause-crowd g c apart is =
     subst (λ r. IfErr r (CrowdOf (answers_of c.learn-inputs.result.kept.answers) 1025)) c.in-Err-closed.is c.learn-inputs.ensures.crowd in
     subst (λ (k : List KeptAnswer). IsCrowdOf (answers_of k) 1025 apart) (ap (λ k. k.answers) (sym c.refuse-in-Err-closed.ensures.kept))
     (told_crowd (answers_of c.learn-inputs.result.kept.answers) c.in-Err-closed.stop c.from.result c.refuse-in-Err-closed.result.outcome apart stop c.from.ensures c.refuse-in-Err-closed.ensures.outcome is)
+
+pub returns-in-Ok-closed-clause-whole : goal.returns-in-Ok-closed-clause-whole
+returns-in-Ok-closed-clause-whole g c none =
+    let Takes : List ℕ → Type 0 = λ text. TakesAll text (g.O.Sink.taken c.args.out.now) (g.O.Sink.taken c.write_out.new.out) in
+    let Told : MealyMachine → Type 0 = λ h. (m : Machine) × ReadsTable c.args.arguments.now (g.F.Files.holds c.args.files.now) (g.F.Files.reads c.args.files.now) (g.F.Files.reads c.read_table.new.files) m × WritesModel Takes m h in
+    ⊎_elim
+    (λ (memory : c.write_out.result.outcome ≡ NoMemory). inl memory)
+    (λ (takes : Takes (written_text c.named.result)).
+    let told : Told c.named.result.mealy = (
+      c.in-Ok.machine,
+      (c.in-Some.name.now, sym c.in-Some.ensures, c.in-Ok.ensures.ok),
+      record {
+        model = c.named.result;
+        inputs = c.named.ensures.inputs ∙ c.learn-inputs.ensures.names.0;
+        outputs = c.named.ensures.outputs ∙ c.learn-inputs.ensures.names.1;
+        mealy = refl;
+        takes = takes;
+      },
+    ) in
+    inr (subst (λ (o : Option MealyMachine). IfSome o Told) (sym c.write_out.ensures.model) told))
+    (c.write_out.ensures.whole none)
