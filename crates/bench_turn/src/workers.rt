@@ -66,7 +66,8 @@ fn opened(
 ) -> Result<(Turnstile<Tally>, Pass<Tally>), NoMemory>
     requires some { 0 < actors }
     requires few { actors * each < 2 ^ 32 }
-    ensures { IfOk result (λ t. (t.1.turnstile ≡ t.0) × (t.1.knows ≡ first_view (record { actors = actors; each = each }))) }
+    ensures { IfOk result (λ t. (t.1.turnstile ≡ t.0) ×
+        (t.1.knows ≡ first_view (record { actors = actors; each = each }))) }
 {
     match Turnstile::new(alloc, Tally::new(alloc, actors, each)?) {
         Ok(made) => Ok(made),
@@ -85,10 +86,12 @@ fn hire(
     requires first { (first.old.knows.number ≡ 0) × (first.old.knows.made ≡ 1) }
     requires room { more < first.old.knows.opening.actors }
     requires often { each ≤ first.old.knows.opening.each }
-    ensures ours { IfOk result (λ v. (first.new.turnstile ≡ turnstile.now) × All (λ w. w.pass.turnstile ≡ turnstile.now) v.items) }
+    ensures ours { IfOk result (λ v. (first.new.turnstile ≡ turnstile.now) ×
+        All (λ w. w.pass.turnstile ≡ turnstile.now) v.items) }
     ensures fresh { IfOk result (λ v. All (λ w. w.pass.knows.mine ≡ []) v.items) }
     ensures often { IfOk result (λ v. All (λ w. each ≤ w.pass.knows.opening.each) v.items) }
-    ensures first { IfOk result (λ v. (first.new.knows.mine ≡ first.old.knows.mine) × (first.new.knows.opening ≡ first.old.knows.opening)) }
+    ensures first { IfOk result (λ v. (first.new.knows.mine ≡ first.old.knows.mine) ×
+        (first.new.knows.opening ≡ first.old.knows.opening)) }
 {
     let mut workers = Vec::new(alloc);
     for _ in 0..more {

@@ -1,4 +1,5 @@
 pub mod ClashLemmas
 pub mod CrowdLemmas
+pub mod GrowLemmas
 pub mod KnownLemmas
 mod PlainLemmas

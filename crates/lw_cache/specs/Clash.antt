@@ -1,5 +1,5 @@
 -- Answers that no one machine gives, and the answers that stay when, from the front on, those that clash are left out.
-use Rattle.std.specs.Prelude.{◌≡◌, ◌≢◌, ℕ, zero, suc, ◌+◌, ◌<◌, ◌↔◌, List, length, take, slice_index_or}
+use Rattle.std.specs.Prelude.{◌≡◌, ◌≢◌, ℕ, zero, suc, ◌+◌, ◌<◌, ◌↔◌, List, ◌++◌, length, take, slice_index_or}
 use Rattle.std.specs.List.{AllPairs}
 use Rattle.lw_words.specs.Answer.{Answer, answer_at}
 use Rattle.lw_mealy.specs.Machine.{Rows}
@@ -32,6 +32,10 @@ IsClear ks i = (i < length ks) × IsClearAfter ks i (answer_at ks i)
 -- what clear means: an answer is clear exactly where it clashes with no clear answer before it
 abbrev pub ClearIsUnclashed : Type 0
 ClearIsUnclashed = (ks : List Answer) (i : ℕ) → i < length ks → IsClear ks i ↔ ((j : ℕ) → j < i → IsClear ks j → ¬ Clash (answer_at ks j) (answer_at ks i))
+
+-- more answers behind it change nothing of whether an answer is clear
+abbrev pub ClearStays : Type 0
+ClearStays = (ks more : List Answer) (i : ℕ) → i < length ks → IsClear (ks ++ more) i ↔ IsClear ks i
 
 -- where nothing clashes every answer is clear
 abbrev pub AllAreClear : Type 0

@@ -20,6 +20,10 @@ pub record Apart (ks : List Answer) (u v : List ℕ) : Type 0 where
 abbrev pub IsCrowd : List Answer → List (List ℕ) → Type 0
 IsCrowd ks words = AllPairs (Apart ks) words
 
+-- more answers leave a crowd a crowd
+abbrev pub CrowdStays : Type 0
+CrowdStays = (ks more : List Answer) (words : List (List ℕ)) → IsCrowd ks words → IsCrowd (ks ++ more) words
+
 -- a machine that gives the answers has a state for each word of a crowd
 abbrev pub CrowdNeedsStates : Type 0
 CrowdNeedsStates = (a : ℕ) (m : Rows) (ks : List Answer) (words : List (List ℕ)) → IsMachine a m → AreAnswers a ks → Gives m ks → IsCrowd ks words → length words ≤ length m

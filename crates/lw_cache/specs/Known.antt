@@ -1,6 +1,6 @@
 -- What a list of answers says of a word: what its clear answers say. Source: the query cache of a learner, as in LearnLib
 -- (Isberner, Howar, Steffen 2015); clear answers are this project's.
-use Rattle.std.specs.Prelude.{◌≡◌, ◌⊎◌, ◌↔◌, ℕ, List, [], length, take}
+use Rattle.std.specs.Prelude.{◌≡◌, ◌⊎◌, ◌↔◌, ℕ, List, [], ◌++◌, length, take}
 use Rattle.lw_words.specs.Answer.{Answer, AreAnswers, answer_at}
 use Rattle.lw_words.specs.Word.{IsPrefix}
 use Rattle.lw_cache.specs.Clash.{IsClear}
@@ -16,6 +16,10 @@ Reads ks w o = ((w ≡ []) × (o ≡ [])) ⊎ ((i : ℕ) × IsClear ks i × IsPr
 -- a word is known exactly where it has outputs
 abbrev pub KnownIsRead : Type 0
 KnownIsRead = (ks : List Answer) (w : List ℕ) → IsKnown ks w ↔ ((o : List ℕ) × Reads ks w o)
+
+-- more answers behind them change nothing of what is read
+abbrev pub ReadsStay : Type 0
+ReadsStay = (ks more : List Answer) (w o : List ℕ) → Reads ks w o → Reads (ks ++ more) w o
 
 -- the outputs don't depend on the clear answer that they are taken from
 abbrev pub ReadsOnce : Type 0

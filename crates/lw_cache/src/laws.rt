@@ -1,7 +1,7 @@
 //! Laws of the definitions. Each is a function with no code, whose contract is the law.
-ghost use Rattle.lw_cache.specs.Clash.{ClearIsUnclashed, AllAreClear, GivenNeverClash};
-ghost use Rattle.lw_cache.specs.Known.{KnownIsRead, ReadsOnce};
-ghost use Rattle.lw_cache.specs.Crowd.{CrowdNeedsStates};
+ghost use Rattle.lw_cache.specs.Clash.{ClearIsUnclashed, ClearStays, AllAreClear, GivenNeverClash};
+ghost use Rattle.lw_cache.specs.Known.{KnownIsRead, ReadsOnce, ReadsStay};
+ghost use Rattle.lw_cache.specs.Crowd.{CrowdNeedsStates, CrowdStays};
 
 /// An answer is clear exactly where it clashes with no clear answer before it.
 pub fn clear_is_unclashed()
@@ -31,4 +31,19 @@ pub fn reads_once()
 /// A machine that gives the answers has a state for each word of a crowd.
 pub fn crowd_needs_states()
     ensures { CrowdNeedsStates }
+{}
+
+/// More answers behind it change nothing of whether an answer is clear.
+pub fn clear_stays()
+    ensures { ClearStays }
+{}
+
+/// More answers behind them change nothing of what is read.
+pub fn reads_stay()
+    ensures { ReadsStay }
+{}
+
+/// More answers leave a crowd a crowd.
+pub fn crowd_stays()
+    ensures { CrowdStays }
 {}

@@ -49,8 +49,10 @@ fn clashes_with_clear(kept: &Kept, flags: &[bool], answer: &KeptAnswer) -> bool
     requires flags { AreFlags (answers_of kept.now.answers) (length flags.now) flags.now }
     requires few { length flags.now ≤ length kept.now.answers }
     requires answer { IsWhole (answer_of answer.now) }
-    ensures clear { result ≡ false → IsClearAfter (answers_of kept.now.answers) (length flags.now) (answer_of answer.now) }
-    ensures not { result ≡ true → ¬ IsClearAfter (answers_of kept.now.answers) (length flags.now) (answer_of answer.now) }
+    ensures clear { result ≡ false → IsClearAfter (answers_of kept.now.answers) (length flags.now)
+        (answer_of answer.now) }
+    ensures not { result ≡ true → ¬ IsClearAfter (answers_of kept.now.answers) (length flags.now)
+        (answer_of answer.now) }
 {
     for (number, is_clear) in flags.iter().enumerate() {
         if *is_clear && clashes(kept.get(number), answer) {
@@ -64,7 +66,8 @@ fn clashes_with_clear(kept: &Kept, flags: &[bool], answer: &KeptAnswer) -> bool
 /// before it.
 pub fn clear(alloc: Global, kept: &Kept) -> Result<Vec<bool>, NoMemory>
     requires { All IsWhole (answers_of kept.now.answers) }
-    ensures { IfOk result (λ flags. AreFlags (answers_of kept.now.answers) (length kept.now.answers) flags.items) }
+    ensures { IfOk result (λ flags. AreFlags (answers_of kept.now.answers) (length kept.now.answers)
+        flags.items) }
 {
     let mut flags = Vec::with_capacity(alloc, kept.len())?;
     for number in 0..kept.len() {

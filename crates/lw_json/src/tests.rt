@@ -676,10 +676,13 @@ fn a_setup_is_read(rt: HostRuntime) -> Result<(), Fail> {
     else {
         return Err(Fail::from("a command was taken for a table"));
     };
-    assert_eq!(rt; words.get()[1].as_str(), "");
+    let texts = words.get();
+    assert!(rt; texts.len() > 1);
+    assert_eq!(rt; texts[1].as_str(), "");
     let Some(outputs) = outputs else {
         return Err(Fail::from("declared outputs were left out"));
     };
+    assert!(rt; outputs.len() > 1);
     assert_eq!(rt; outputs.name(1), "y");
     Ok(())
 }

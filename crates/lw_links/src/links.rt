@@ -205,7 +205,8 @@ impl Lists {
 fn join(places: &mut [Place], previous: Option<u32>, next: Option<u32>)
     requires previous_exists { IfSome previous (λ c. c < length places.old) }
     requires next_exists { IfSome next (λ c. c < length places.old) }
-    ensures { (cell : ℕ) → place_at places.new cell ≡ joined previous next cell (place_at places.old cell) }
+    ensures { (cell : ℕ) → place_at places.new cell ≡
+        joined previous next cell (place_at places.old cell) }
 {
     if let Some(cell) = previous {
         places[cell as usize].next = next;
@@ -217,9 +218,12 @@ fn join(places: &mut [Place], previous: Option<u32>, next: Option<u32>)
 
 /// Makes an owner that of the cells from `first` on by `next`.
 fn give(places: &mut [Place], first: Option<u32>, owner: u32)
-    requires way_ends { Spells (λ cell. (place_at places.old cell).next) first (way_in places.old first) }
-    requires cells_exist { (cell : ℕ) → has cell (way_in places.old first) ≡ true → cell < length places.old }
-    ensures { (cell : ℕ) → place_at places.new cell ≡ given owner (way_in places.old first) cell (place_at places.old cell) }
+    requires way_ends { Spells (λ cell. (place_at places.old cell).next) first
+        (way_in places.old first) }
+    requires cells_exist { (cell : ℕ) → has cell (way_in places.old first) ≡ true →
+        cell < length places.old }
+    ensures { (cell : ℕ) → place_at places.new cell ≡
+        given owner (way_in places.old first) cell (place_at places.old cell) }
 {
     let mut cursor = first;
     while let Some(cell) = cursor {

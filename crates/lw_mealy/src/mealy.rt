@@ -42,7 +42,8 @@ impl Model for Mealy {
 /// The first row that hasn't so many pairs.
 fn first_ragged(rows: &[Vec<(u16, u16)>], inputs: u16) -> Option<usize>
     ensures none { IfNone result (IsSquare inputs (map (λ r. r.items) rows.now)) }
-    ensures some { IfSome result (FailsFirst (λ r. length r ≡ inputs) (map (λ r. r.items) rows.now)) }
+    ensures some { IfSome result (FailsFirst (λ r. length r ≡ inputs)
+        (map (λ r. r.items) rows.now)) }
 {
     for (state, row) in rows.iter().enumerate() {
         if row.len() != usize::from(inputs) {
@@ -87,8 +88,10 @@ fn first_in_row(row: &[(u16, u16)], half: Half, bound: usize) -> Option<usize>
 
 /// The first pair of all rows whose half is not below a bound, by state, then by letter.
 fn first_in_rows(rows: &[Vec<(u16, u16)>], half: Half, bound: usize) -> Option<(usize, usize)>
-    ensures none { IfNone result (All (λ r. All (IsBelow half bound) r) (map (λ r. r.items) rows.now)) }
-    ensures some { IfSome result (λ at. CellFailsFirst (IsBelow half bound) (map (λ r. r.items) rows.now) at.0 at.1) }
+    ensures none { IfNone result (All (λ r. All (IsBelow half bound) r)
+        (map (λ r. r.items) rows.now)) }
+    ensures some { IfSome result (λ at. CellFailsFirst (IsBelow half bound)
+        (map (λ r. r.items) rows.now) at.0 at.1) }
 {
     for (state, row) in rows.iter().enumerate() {
         if let Some(letter) = first_in_row(row, half, bound) {
@@ -101,7 +104,9 @@ fn first_in_rows(rows: &[Vec<(u16, u16)>], half: Half, bound: usize) -> Option<(
 /// The fault of rows that are 1 to 1,024, if there is one.
 fn fault_of(inputs: u16, outputs: u16, rows: &[Vec<(u16, u16)>]) -> Option<MealyFault>
     requires counted { IsCounted (map (λ r. r.items) rows.now) }
-    ensures none { IfNone result (IsSquare inputs (map (λ r. r.items) rows.now) × IsClosed (map (λ r. r.items) rows.now) × AnswersBelow outputs (map (λ r. r.items) rows.now)) }
+    ensures none { IfNone result (IsSquare inputs (map (λ r. r.items) rows.now) ×
+        IsClosed (map (λ r. r.items) rows.now) × AnswersBelow outputs
+        (map (λ r. r.items) rows.now)) }
     ensures some { IfSome result (HasFault inputs outputs (map (λ r. r.items) rows.now)) }
     ensures memory { ¬ (result ≡ Some Fault.NoMemory) }
 {
@@ -121,7 +126,8 @@ fn fault_of(inputs: u16, outputs: u16, rows: &[Vec<(u16, u16)>]) -> Option<Mealy
 
 /// The same rows once more.
 fn copy_rows(alloc: Global, rows: &[Vec<(u16, u16)>]) -> Result<Vec<Vec<(u16, u16)>>, NoMemory>
-    ensures { IfOk result (λ copies. map (λ r. r.items) copies.items ≡ map (λ r. r.items) rows.now) }
+    ensures { IfOk result (λ copies. map (λ r. r.items) copies.items ≡
+        map (λ r. r.items) rows.now) }
 {
     let mut copies = Vec::with_capacity(alloc, rows.len())?;
     for row in rows {
@@ -141,7 +147,8 @@ impl Mealy {
     ) -> Result<Mealy, MealyFault>
         requires inputs { (1 ≤ inputs) × (inputs ≤ 64) }
         requires outputs { (1 ≤ outputs) × (outputs ≤ 4096) }
-        ensures ok { IfOk result (λ m. m ≡ mealy_of inputs outputs (map (λ r. r.items) rows.items)) }
+        ensures ok { IfOk result (λ m. m ≡ mealy_of inputs outputs
+            (map (λ r. r.items) rows.items)) }
         ensures complete { IfOk result IsWithinLimits }
         ensures err { IfErr result (HasFault inputs outputs (map (λ r. r.items) rows.items)) }
         ensures memory { ¬ (result ≡ Err Fault.NoMemory) }

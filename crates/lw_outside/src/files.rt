@@ -43,13 +43,18 @@ pub trait Files {
     /// The bytes of a file. A missing file is a fault.
     fn read(&mut self, name: &str) -> Result<Vec<u8>, FilesStop>
         ensures told { IfOk result (λ bytes. Holds (holds self.old) name.now bytes.items) }
-        ensures given { IfOk result (λ bytes. reads self.new ≡ reads self.old ++ (name.now, bytes.items) ∷ []) }
+        ensures given { IfOk result (λ bytes. reads self.new ≡ reads self.old ++
+            (name.now, bytes.items) ∷ []) }
         ensures short { IfOk result (λ bytes. length bytes.items ≤ longest_file) }
-        ensures ok { OnOk result (calls self.new ≡ noted (read_call name.now false) (calls self.old)) }
+        ensures ok { OnOk result (calls self.new ≡
+            noted (read_call name.now false) (calls self.old)) }
         ensures long { result ≡ Err ReadRefusal.TooLong → HoldsLong (holds self.old) name.now }
-        ensures long_call { result ≡ Err ReadRefusal.TooLong → calls self.new ≡ noted (read_call name.now false) (calls self.old) }
-        ensures failed { result ≡ Err ReadRefusal.Failed → CountedFault (faults self.old) (faults self.new) }
-        ensures failed_call { result ≡ Err ReadRefusal.Failed → calls self.new ≡ noted (read_call name.now true) (calls self.old) }
+        ensures long_call { result ≡ Err ReadRefusal.TooLong → calls self.new ≡
+            noted (read_call name.now false) (calls self.old) }
+        ensures failed { result ≡ Err ReadRefusal.Failed →
+            CountedFault (faults self.old) (faults self.new) }
+        ensures failed_call { result ≡ Err ReadRefusal.Failed → calls self.new ≡
+            noted (read_call name.now true) (calls self.old) }
         ensures memory { result ≡ Err ReadRefusal.NoMemory → calls self.new ≡ calls self.old }
         ensures withheld { OnErr result (reads self.new ≡ reads self.old) }
         ensures quiet { OnOk result (faults self.new ≡ faults self.old) }
@@ -60,9 +65,12 @@ pub trait Files {
     fn write(&mut self, name: &str, bytes: &[u8]) -> Result<(), WriteStop>
         ensures told { OnOk result (Holds (holds self.new) name.now bytes.now) }
         ensures beside { StaysBeside name.now (holds self.old) (holds self.new) }
-        ensures ok { OnOk result (calls self.new ≡ noted (write_call name.now false) (calls self.old)) }
-        ensures failed { result ≡ Err WriteRefusal.Failed → CountedFault (faults self.old) (faults self.new) }
-        ensures failed_call { result ≡ Err WriteRefusal.Failed → calls self.new ≡ noted (write_call name.now true) (calls self.old) }
+        ensures ok { OnOk result (calls self.new ≡
+            noted (write_call name.now false) (calls self.old)) }
+        ensures failed { result ≡ Err WriteRefusal.Failed →
+            CountedFault (faults self.old) (faults self.new) }
+        ensures failed_call { result ≡ Err WriteRefusal.Failed → calls self.new ≡
+            noted (write_call name.now true) (calls self.old) }
         ensures memory { result ≡ Err WriteRefusal.NoMemory → calls self.new ≡ calls self.old }
         ensures reads { reads self.new ≡ reads self.old }
         ensures quiet { OnOk result (faults self.new ≡ faults self.old) }

@@ -53,7 +53,8 @@ impl Model for MemoryFiles {
 
 /// The bytes under a name, where there are any.
 fn find<'a>(files: &'a [(String, Vec<u8>)], name: &str) -> Option<&'a Vec<u8>>
-    ensures { option_map (λ v. v.now.items) result ≡ file_at name.now (map (λ f. (string_bytes f.0, f.1.items)) files.now) }
+    ensures { option_map (λ v. v.now.items) result ≡
+        file_at name.now (map (λ f. (string_bytes f.0, f.1.items)) files.now) }
 {
     let mut found: Option<&Vec<u8>> = None;
     for file in files {
@@ -91,7 +92,8 @@ impl MemoryFiles {
         files: Vec<(String, Vec<u8>)>,
         plan: Vec<u64>,
     ) -> Result<MemoryFiles, NoMemory>
-        ensures { IfOk result (λ m. m ≡ files_with (map (λ f. (string_bytes f.0, f.1.items)) files.items) plan.items) }
+        ensures { IfOk result (λ m. m ≡ files_with (map (λ f.
+            (string_bytes f.0, f.1.items)) files.items) plan.items) }
     {
         Ok(MemoryFiles {
             files,
@@ -106,7 +108,12 @@ impl MemoryFiles {
 
     /// The calls so far, but those that wanted memory.
     pub fn calls(&self) -> &[FileCall]
-        ensures { map (λ c. record { name = string_bytes c.name; writes = c.writes; failed = c.failed }) result.now ≡ self.now.calls }
+        ensures { map (λ c. record {
+          name = string_bytes c.name;
+          writes = c.writes;
+          failed =
+              c.failed;
+        }) result.now ≡ self.now.calls }
     {
         self.calls.as_slice()
     }
@@ -149,14 +156,20 @@ impl Files for MemoryFiles {
     fn read(&mut self, name: &str) -> Result<Vec<u8>, FilesStop>
         // What every form of files says of a read.
         ensures told { IfOk result (λ bytes. Holds (Some self.old.holds) name.now bytes.items) }
-        ensures given { IfOk result (λ bytes. self.new.reads ≡ self.old.reads ++ (name.now, bytes.items) ∷ []) }
+        ensures given { IfOk result (λ bytes. self.new.reads ≡ self.old.reads ++
+            (name.now, bytes.items) ∷ []) }
         ensures short { IfOk result (λ bytes. length bytes.items ≤ longest_file) }
-        ensures ok { OnOk result (Some self.new.calls ≡ noted (read_call name.now false) (Some self.old.calls)) }
+        ensures ok { OnOk result (Some self.new.calls ≡
+            noted (read_call name.now false) (Some self.old.calls)) }
         ensures long { result ≡ Err ReadRefusal.TooLong → HoldsLong (Some self.old.holds) name.now }
-        ensures long_call { result ≡ Err ReadRefusal.TooLong → Some self.new.calls ≡ noted (read_call name.now false) (Some self.old.calls) }
-        ensures failed { result ≡ Err ReadRefusal.Failed → CountedFault self.old.faults self.new.faults }
-        ensures failed_call { result ≡ Err ReadRefusal.Failed → Some self.new.calls ≡ noted (read_call name.now true) (Some self.old.calls) }
-        ensures memory { result ≡ Err ReadRefusal.NoMemory → Some self.new.calls ≡ Some self.old.calls }
+        ensures long_call { result ≡ Err ReadRefusal.TooLong → Some self.new.calls ≡
+            noted (read_call name.now false) (Some self.old.calls) }
+        ensures failed { result ≡ Err ReadRefusal.Failed →
+            CountedFault self.old.faults self.new.faults }
+        ensures failed_call { result ≡ Err ReadRefusal.Failed → Some self.new.calls ≡
+            noted (read_call name.now true) (Some self.old.calls) }
+        ensures memory { result ≡ Err ReadRefusal.NoMemory → Some self.new.calls ≡
+            Some self.old.calls }
         ensures withheld { OnErr result (self.new.reads ≡ self.old.reads) }
         ensures quiet { OnOk result (self.new.faults ≡ self.old.faults) }
         ensures counts { self.old.faults ≤ self.new.faults }
@@ -165,8 +178,10 @@ impl Files for MemoryFiles {
         // By the plan and the files, and nothing else.
         ensures exact { EndsRead (λ v. v.items) (read_end self.old name.now) result }
         ensures noted_ok { OnOk result (NotesCall self.old (read_call name.now false) self.new) }
-        ensures noted_failed { result ≡ Err ReadRefusal.Failed → NotesCall self.old (read_call name.now true) self.new }
-        ensures noted_long { result ≡ Err ReadRefusal.TooLong → NotesCall self.old (read_call name.now false) self.new }
+        ensures noted_failed { result ≡ Err ReadRefusal.Failed →
+            NotesCall self.old (read_call name.now true) self.new }
+        ensures noted_long { result ≡ Err ReadRefusal.TooLong →
+            NotesCall self.old (read_call name.now false) self.new }
         ensures unnoted { result ≡ Err ReadRefusal.NoMemory → self.new ≡ self.old }
     {
         let called = String::from_str(self.alloc, name)?;
@@ -197,19 +212,25 @@ impl Files for MemoryFiles {
         // What every form of files says of a write.
         ensures told { OnOk result (Holds (Some self.new.holds) name.now bytes.now) }
         ensures beside { StaysBeside name.now (Some self.old.holds) (Some self.new.holds) }
-        ensures ok { OnOk result (Some self.new.calls ≡ noted (write_call name.now false) (Some self.old.calls)) }
-        ensures failed { result ≡ Err WriteRefusal.Failed → CountedFault self.old.faults self.new.faults }
-        ensures failed_call { result ≡ Err WriteRefusal.Failed → Some self.new.calls ≡ noted (write_call name.now true) (Some self.old.calls) }
-        ensures memory { result ≡ Err WriteRefusal.NoMemory → Some self.new.calls ≡ Some self.old.calls }
+        ensures ok { OnOk result (Some self.new.calls ≡
+            noted (write_call name.now false) (Some self.old.calls)) }
+        ensures failed { result ≡ Err WriteRefusal.Failed →
+            CountedFault self.old.faults self.new.faults }
+        ensures failed_call { result ≡ Err WriteRefusal.Failed → Some self.new.calls ≡
+            noted (write_call name.now true) (Some self.old.calls) }
+        ensures memory { result ≡ Err WriteRefusal.NoMemory → Some self.new.calls ≡
+            Some self.old.calls }
         ensures reads { self.new.reads ≡ self.old.reads }
         ensures quiet { OnOk result (self.new.faults ≡ self.old.faults) }
         ensures counts { self.old.faults ≤ self.new.faults }
 
         // By the plan, and nothing else.
-        ensures planned { result ≡ Err WriteRefusal.Failed → is_planned self.old.plan self.old.made ≡ true }
+        ensures planned { result ≡ Err WriteRefusal.Failed →
+            is_planned self.old.plan self.old.made ≡ true }
         ensures unplanned { OnOk result (is_planned self.old.plan self.old.made ≡ false) }
         ensures noted_ok { OnOk result (NotesCall self.old (write_call name.now false) self.new) }
-        ensures noted_failed { result ≡ Err WriteRefusal.Failed → NotesCall self.old (write_call name.now true) self.new }
+        ensures noted_failed { result ≡ Err WriteRefusal.Failed →
+            NotesCall self.old (write_call name.now true) self.new }
         ensures unnoted { result ≡ Err WriteRefusal.NoMemory → self.new ≡ self.old }
     {
         let called = String::from_str(self.alloc, name)?;

@@ -42,7 +42,15 @@ impl MemorySink {
         plan: Vec<u64>,
     ) -> Result<MemorySink, NoMemory>
         requires { 1 ≤ piece }
-        ensures { IfOk result (λ s. s ≡ record { taken = []; room = room; piece = piece; plan = plan.items; made = 0; faults = 0 }) }
+        ensures { IfOk result (λ s. s ≡ record {
+          taken = [];
+          room = room;
+          piece = piece;
+          plan =
+              plan.items;
+          made = 0;
+          faults = 0;
+        }) }
     {
         Ok(MemorySink {
             taken: Vec::with_capacity(alloc, room)?,
@@ -73,16 +81,19 @@ impl Sink for MemorySink {
         requires { 0 < length bytes.now }
         // What every sink says.
         ensures some { IfOk result (λ n. (1 ≤ n) × (n ≤ length bytes.now)) }
-        ensures took { IfOk result (λ n. Some self.new.taken ≡ taken_more n bytes.now (Some self.old.taken)) }
+        ensures took { IfOk result (λ n. Some self.new.taken ≡
+            taken_more n bytes.now (Some self.old.taken)) }
         ensures left { OnErr result (Some self.new.taken ≡ Some self.old.taken) }
         ensures failed { OnErr result (CountedFault self.old.faults self.new.faults) }
         ensures quiet { OnOk result (self.new.faults ≡ self.old.faults) }
         ensures counts { self.old.faults ≤ self.new.faults }
 
         // By the plan, the piece and the room, and nothing else.
-        ensures refused { OnErr result ((is_planned self.old.plan self.old.made ≡ true) ⊎ (self.old.room ≡ 0)) }
+        ensures refused { OnErr result ((is_planned self.old.plan self.old.made ≡ true) ⊎
+            (self.old.room ≡ 0)) }
         ensures unplanned { OnOk result (is_planned self.old.plan self.old.made ≡ false) }
-        ensures whole { IfOk result (λ n. n ≡ min (min (length bytes.now) self.old.piece) self.old.room) }
+        ensures whole { IfOk result (λ n. n ≡ min (min (length bytes.now) self.old.piece)
+            self.old.room) }
         ensures room { IfOk result (λ n. self.new.room ≡ self.old.room - n) }
         ensures kept { OnErr result (self.new.room ≡ self.old.room) }
         ensures made { self.new.made ≡ one_more self.old.made }

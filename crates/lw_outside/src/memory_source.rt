@@ -38,7 +38,8 @@ impl Model for MemorySource {
 fn give(bytes: &[u8], given: usize, piece: usize, buffer: &mut [u8]) -> usize
     requires { given ≤ length bytes.now }
     ensures count { result ≡ min (min (length buffer.old) piece) (length bytes.now - given) }
-    ensures gave { drop given bytes.now ≡ take result buffer.new ++ drop (given + result) bytes.now }
+    ensures gave { drop given bytes.now ≡ take result buffer.new ++
+        drop (given + result) bytes.now }
 {
     let count = buffer.len().min(piece).min(bytes.len() - given);
     buffer[..count].copy_from_slice(&bytes[given..given + count]);
@@ -49,7 +50,15 @@ impl MemorySource {
     /// These bytes, `piece` at most a call. The calls whose numbers from 0 the plan has are to fail.
     pub fn new(bytes: Vec<u8>, piece: usize, plan: Vec<u64>) -> Result<MemorySource, NoMemory>
         requires { 1 ≤ piece }
-        ensures { IfOk result (λ s. s ≡ record { left = bytes.items; piece = piece; plan = plan.items; made = 0; faults = 0; ends = 0 }) }
+        ensures { IfOk result (λ s. s ≡ record {
+          left = bytes.items;
+          piece = piece;
+          plan =
+              plan.items;
+          made = 0;
+          faults = 0;
+          ends = 0;
+        }) }
     {
         Ok(MemorySource {
             bytes,
@@ -76,18 +85,22 @@ impl Source for MemorySource {
         requires { 0 < length buffer.old }
         // What every source says.
         ensures bound { IfOk result (λ n. n ≤ length buffer.new) }
-        ensures gave { IfOk result (λ n. Gave (take n buffer.new) (Some self.old.left) (Some self.new.left)) }
-        ensures end { IfOk result (λ n. n ≡ 0 → IsSpent (Some self.old.left) × CountedFault self.old.ends self.new.ends) }
+        ensures gave { IfOk result (λ n. Gave (take n buffer.new) (Some self.old.left)
+            (Some self.new.left)) }
+        ensures end { IfOk result (λ n. n ≡ 0 → IsSpent (Some self.old.left) ×
+            CountedFault self.old.ends self.new.ends) }
         ensures more { IfOk result (λ n. n ≢ 0 → self.new.ends ≡ self.old.ends) }
         ensures failed { OnErr result (CountedFault self.old.faults self.new.faults) }
-        ensures kept { OnErr result ((Some self.new.left ≡ Some self.old.left) × (self.new.ends ≡ self.old.ends)) }
+        ensures kept { OnErr result ((Some self.new.left ≡ Some self.old.left) ×
+            (self.new.ends ≡ self.old.ends)) }
         ensures quiet { OnOk result (self.new.faults ≡ self.old.faults) }
         ensures counts { (self.old.faults ≤ self.new.faults) × (self.old.ends ≤ self.new.ends) }
 
         // By the plan and the piece, and nothing else.
         ensures planned { OnErr result (is_planned self.old.plan self.old.made ≡ true) }
         ensures unplanned { OnOk result (is_planned self.old.plan self.old.made ≡ false) }
-        ensures whole { IfOk result (λ n. n ≡ min (min (length buffer.old) self.old.piece) (length self.old.left)) }
+        ensures whole { IfOk result (λ n. n ≡ min (min (length buffer.old) self.old.piece)
+            (length self.old.left)) }
         ensures made { self.new.made ≡ one_more self.old.made }
         ensures same { (self.new.plan ≡ self.old.plan) × (self.new.piece ≡ self.old.piece) }
     {

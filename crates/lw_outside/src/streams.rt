@@ -22,10 +22,12 @@ pub trait Source {
         requires { 0 < length buffer.old }
         ensures bound { IfOk result (λ n. n ≤ length buffer.new) }
         ensures gave { IfOk result (λ n. Gave (take n buffer.new) (left self.old) (left self.new)) }
-        ensures end { IfOk result (λ n. n ≡ 0 → IsSpent (left self.old) × CountedFault (ends self.old) (ends self.new)) }
+        ensures end { IfOk result (λ n. n ≡ 0 → IsSpent (left self.old) ×
+            CountedFault (ends self.old) (ends self.new)) }
         ensures more { IfOk result (λ n. n ≢ 0 → ends self.new ≡ ends self.old) }
         ensures failed { OnErr result (CountedFault (faults self.old) (faults self.new)) }
-        ensures kept { OnErr result ((left self.new ≡ left self.old) × (ends self.new ≡ ends self.old)) }
+        ensures kept { OnErr result ((left self.new ≡ left self.old) ×
+            (ends self.new ≡ ends self.old)) }
         ensures quiet { OnOk result (faults self.new ≡ faults self.old) }
         ensures counts { (faults self.old ≤ faults self.new) × (ends self.old ≤ ends self.new) };
 }

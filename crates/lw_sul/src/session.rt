@@ -46,8 +46,10 @@ struct Buffers {
 impl Buffers {
     fn new(alloc: Global, w: &Word) -> Result<Buffers, NoMemory>
         ensures word { IfOk result (λ b. b.word ≡ w.now) }
-        ensures outs { IfOk result (λ b. (b.outs.items ≡ []) × (length w.now ≤ vec_capacity b.outs)) }
-        ensures answer { IfOk result (λ b. (b.answer.items ≡ []) × (length w.now ≤ vec_capacity b.answer)) }
+        ensures outs { IfOk result (λ b. (b.outs.items ≡ []) ×
+            (length w.now ≤ vec_capacity b.outs)) }
+        ensures answer { IfOk result (λ b. (b.answer.items ≡ []) ×
+            (length w.now ≤ vec_capacity b.answer)) }
     {
         Ok(Buffers {
             word: w.copy()?,
@@ -67,13 +69,15 @@ fn perform<S: Sul>(sul: &mut S, w: &Word, outs: &mut Vec<u16>) -> Result<(), Sul
     ensures length { OnOk result (length outs.new.items ≡ length w.now) }
     ensures outputs { OnOk result (All (λ y. y < S.outputs sul.old) outs.new.items) }
     ensures answers { OnOk result (Answers (S.origin sul.old).machine w.now outs.new.items) }
-    ensures runs { OnOk result (S.runs sul.new ≡ option_map (λ rs. rs ++ run_of w.now outs.new.items ∷ []) (S.runs sul.old)) }
+    ensures runs { OnOk result (S.runs sul.new ≡ option_map (λ rs. rs ++
+        run_of w.now outs.new.items ∷ []) (S.runs sul.old)) }
     ensures live { OnOk result (S.stop sul.new ≡ None) }
     ensures err { IfErr result (λ e. S.stop sul.new ≡ Some e) }
     ensures cut { OnErr result (CutOff (S.runs sul.old) (S.runs sul.new) (S.cut sul.new)) }
     ensures failed { result ≡ Err Stop.Failed → CountedFault (S.faults sul.old) (S.faults sul.new) }
     ensures counts { S.faults sul.old ≤ S.faults sul.new }
-    ensures same { (S.origin sul.new ≡ S.origin sul.old) × (S.inputs sul.new ≡ S.inputs sul.old) × (S.outputs sul.new ≡ S.outputs sul.old) }
+    ensures same { (S.origin sul.new ≡ S.origin sul.old) × (S.inputs sul.new ≡ S.inputs sul.old) ×
+        (S.outputs sul.new ≡ S.outputs sul.old) }
 {
     sul.reset()?;
     for x in w.as_slice() {
@@ -106,24 +110,32 @@ impl<S: Sul> Session<S> {
         // An answer is the run that the journal gains, and the machine's where that is told.
         ensures length { IfOk result (λ o. length o ≡ length w.now) }
         ensures outputs { IfOk result (All (λ y. y < S.outputs self.old.sul)) }
-        ensures gains { IfOk result (λ o. self.new.journal ≡ self.old.journal ++ run_of w.now o ∷ []) }
-        ensures runs { IfOk result (λ o. S.runs self.new.sul ≡ option_map (λ rs. rs ++ run_of w.now o ∷ []) (S.runs self.old.sul)) }
+        ensures gains { IfOk result (λ o. self.new.journal ≡ self.old.journal ++
+            run_of w.now o ∷ []) }
+        ensures runs { IfOk result (λ o. S.runs self.new.sul ≡
+            option_map (λ rs. rs ++ run_of w.now o ∷ []) (S.runs self.old.sul)) }
         ensures answers { IfOk result (Answers (S.origin self.old.sul).machine w.now) }
         ensures live { OnOk result (S.stop self.new.sul ≡ None) }
 
         // A stop is the system's, of this call or of the one that stopped it.
-        ensures stopped { IfErr result (λ e. (stop : Stop) → e ≡ RunStop.Sul stop → S.stop self.new.sul ≡ Some stop) }
+        ensures stopped { IfErr result (λ e. (stop : Stop) → e ≡ RunStop.Sul stop →
+            S.stop self.new.sul ≡ Some stop) }
         ensures kept { OnErr result (self.new.journal ≡ self.old.journal) }
-        ensures again { (stop : Stop) → S.stop self.old.sul ≡ Some stop → (result ≡ Err (RunStop.Sul stop)) × (self.new ≡ self.old) }
+        ensures again { (stop : Stop) → S.stop self.old.sul ≡ Some stop →
+            (result ≡ Err (RunStop.Sul stop)) × (self.new ≡ self.old) }
         ensures memory { result ≡ Err RunStop.NoMemory → self.new ≡ self.old }
-        ensures failed { result ≡ Err (RunStop.Sul Stop.Failed) → S.stop self.old.sul ≡ None → CountedFault (S.faults self.old.sul) (S.faults self.new.sul) }
+        ensures failed { result ≡ Err (RunStop.Sul Stop.Failed) → S.stop self.old.sul ≡ None →
+            CountedFault (S.faults self.old.sul) (S.faults self.new.sul) }
 
         // Told runs are the journal, and an unfinished run exactly where this call or an earlier one was stopped in a step.
-        ensures told { IsJournal (S.runs self.new.sul) self.new.journal (S.stop self.new.sul) (S.cut self.new.sul) }
+        ensures told { IsJournal (S.runs self.new.sul) self.new.journal (S.stop self.new.sul)
+            (S.cut self.new.sul) }
 
         ensures counts { S.faults self.old.sul ≤ S.faults self.new.sul }
         ensures instance { self.new.instance ≡ self.old.instance }
-        ensures same { (S.origin self.new.sul ≡ S.origin self.old.sul) × (S.inputs self.new.sul ≡ S.inputs self.old.sul) × (S.outputs self.new.sul ≡ S.outputs self.old.sul) }
+        ensures same { (S.origin self.new.sul ≡ S.origin self.old.sul) ×
+            (S.inputs self.new.sul ≡ S.inputs self.old.sul) ×
+            (S.outputs self.new.sul ≡ S.outputs self.old.sul) }
     {
         if let Some(stop) = &self.stopped {
             return Err(RunStop::Sul(stop.copy()));
@@ -170,7 +182,8 @@ impl<S: Sul> Session<S> {
     /// session stopped in a step.
     pub fn journal(&self) -> &Runs
         ensures journal { result.now ≡ self.now.journal }
-        ensures told { IsJournal (S.runs self.now.sul) self.now.journal (S.stop self.now.sul) (S.cut self.now.sul) }
+        ensures told { IsJournal (S.runs self.now.sul) self.now.journal (S.stop self.now.sul)
+            (S.cut self.now.sul) }
     {
         &self.journal
     }

@@ -54,9 +54,11 @@ pub trait Sul {
         ensures err { IfErr result (λ e. stop self.new ≡ Some e) }
         ensures left { OnErr result (runs self.new ≡ runs self.old) }
         ensures whole { OnErr result (cut self.new ≡ false) }
-        ensures failed { result ≡ Err Stop.Failed → CountedFault (faults self.old) (faults self.new) }
+        ensures failed { result ≡ Err Stop.Failed →
+            CountedFault (faults self.old) (faults self.new) }
         ensures counts { faults self.old ≤ faults self.new }
-        ensures same { (origin self.new ≡ origin self.old) × (inputs self.new ≡ inputs self.old) × (outputs self.new ≡ outputs self.old) };
+        ensures same { (origin self.new ≡ origin self.old) × (inputs self.new ≡ inputs self.old) ×
+            (outputs self.new ≡ outputs self.old) };
 
     /// Sends a letter, and takes its output.
     fn step(&mut self, x: u16) -> Result<u16, SulStop>
@@ -65,12 +67,16 @@ pub trait Sul {
         requires letter { x < inputs self.old }
         ensures ok { OnOk result ((stop self.new ≡ None) × (started self.new ≡ true)) }
         ensures output { IfOk result (λ y. y < outputs self.old) }
-        ensures adds { IfOk result (λ y. runs self.new ≡ option_map (after_step x y) (runs self.old)) }
-        ensures steps { IfOk result (λ y. Steps (origin self.old).machine (state self.old) x y (state self.new)) }
+        ensures adds { IfOk result (λ y. runs self.new ≡
+            option_map (after_step x y) (runs self.old)) }
+        ensures steps { IfOk result (λ y. Steps (origin self.old).machine (state self.old) x y
+            (state self.new)) }
         ensures err { IfErr result (λ e. stop self.new ≡ Some e) }
         ensures left { OnErr result (runs self.new ≡ runs self.old) }
         ensures cut { OnErr result (cut self.new ≡ true) }
-        ensures failed { result ≡ Err Stop.Failed → CountedFault (faults self.old) (faults self.new) }
+        ensures failed { result ≡ Err Stop.Failed →
+            CountedFault (faults self.old) (faults self.new) }
         ensures counts { faults self.old ≤ faults self.new }
-        ensures same { (origin self.new ≡ origin self.old) × (inputs self.new ≡ inputs self.old) × (outputs self.new ≡ outputs self.old) };
+        ensures same { (origin self.new ≡ origin self.old) × (inputs self.new ≡ inputs self.old) ×
+            (outputs self.new ≡ outputs self.old) };
 }

@@ -115,11 +115,13 @@ fn after_two_runs(alloc: Global, last: &[Reply]) -> Result<Session<Scripted>, Fa
 fn keeps_two_runs(alloc: Global, session: &mut Session<Scripted>) -> Result<bool, Fail> {
     let made = session.sul().made();
     let again = fails(alloc, session, &[1])?;
-    Ok(again
-        && session.sul().made() == made
-        && session.journal().len() == 2
-        && run_is(session, 0, &[1], &[2])
-        && run_is(session, 1, &[0, 1], &[1, 0]))
+    Ok(
+        again
+            && session.sul().made() == made
+            && session.journal().len() == 2
+            && run_is(session, 0, &[1], &[2])
+            && run_is(session, 1, &[0, 1], &[1, 0]),
+    )
 }
 
 #[test]

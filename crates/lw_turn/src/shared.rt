@@ -50,7 +50,8 @@ pub trait Core {
     fn on(&mut self, actor: u32, ask: Self::Ask) -> Self::Reply
         requires actor { actor < actor_count (opening self.old) }
         requires may { may (opening self.old) (entries_of actor (entries self.old)) ask }
-        ensures entry { entries self.new ≡ entries self.old ++ record { actor = actor; ask = ask; reply = result } ∷ [] }
+        ensures entry { entries self.new ≡ entries self.old ++
+            record { actor = actor; ask = ask; reply = result } ∷ [] }
         ensures opening { opening self.new ≡ opening self.old }
         ensures legal { legal (opening self.new) (entries self.new) };
 

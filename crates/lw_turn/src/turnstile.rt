@@ -49,7 +49,8 @@ impl<C: Core> Turnstile<C> {
     pub fn new(alloc: Global, core: C) -> Result<(Turnstile<C>, Pass<C>), (C, NoMemory)>
         requires actors { 0 < C.actor_count (C.opening core) }
         requires entries { C.entries core ≡ [] }
-        ensures made { IfOk result (λ t. (t.1.turnstile ≡ t.0) × (t.1.knows ≡ first_view (C.opening core))) }
+        ensures made { IfOk result (λ t. (t.1.turnstile ≡ t.0) ×
+            (t.1.knows ≡ first_view (C.opening core))) }
         ensures back { IfErr result (λ e. e.0 ≡ core) }
     {
         // The count is a `u32`, and the empty list is legal.
@@ -85,7 +86,14 @@ impl<C: Core> Turnstile<C> {
         requires table { seat.old.table_id ≡ self.now }
         requires idle { (seat.old.me.0.stage ≡ Stage.Idle) × (seat.old.me.1 ≡ []) }
         ensures table { seat.new.table_id ≡ seat.old.table_id }
-        ensures waits { seat.new.me ≡ (record { stage = Stage.Waiting result; view = seat.old.me.0.view }, []) }
+        ensures waits { seat.new.me ≡ (
+          record {
+            stage = Stage.Waiting result;
+            view =
+                seat.old.me.0.view;
+          },
+          [],
+        ) }
     {
         self.table.shared.fetch_add::<Draws>(seat, NEXT, 1)
     }
@@ -93,9 +101,17 @@ impl<C: Core> Turnstile<C> {
     // Looks whether the ticket is served. Where it is, the core comes out of the slot.
     fn look(&self, seat: &mut Place<C>, ticket: u64) -> bool
         requires table { seat.old.table_id ≡ self.now }
-        requires waits { seat.old.me ≡ (record { stage = Stage.Waiting ticket; view = seat.old.me.0.view }, []) }
+        requires waits { seat.old.me ≡ (
+          record {
+            stage = Stage.Waiting ticket;
+            view =
+                seat.old.me.0.view;
+          },
+          [],
+        ) }
         ensures table { seat.new.table_id ≡ seat.old.table_id }
-        ensures served { OnTrue result ((core : C) × IsServed C.actor_count C.opening C.entries ticket seat.old.me.0.view core seat.new.me) }
+        ensures served { OnTrue result ((core : C) ×
+            IsServed C.actor_count C.opening C.entries ticket seat.old.me.0.view core seat.new.me) }
         ensures waits { OnFalse result (seat.new.me ≡ seat.old.me) }
     {
         self.table.shared.load::<Looks<C>>(seat, NOW) == ticket
@@ -104,9 +120,17 @@ impl<C: Core> Turnstile<C> {
     // Looks until the ticket is served, and yields between two looks.
     fn wait<R: Wait>(&self, rt: &R, seat: &mut Place<C>, ticket: u64)
         requires table { seat.old.table_id ≡ self.now }
-        requires waits { seat.old.me ≡ (record { stage = Stage.Waiting ticket; view = seat.old.me.0.view }, []) }
+        requires waits { seat.old.me ≡ (
+          record {
+            stage = Stage.Waiting ticket;
+            view =
+                seat.old.me.0.view;
+          },
+          [],
+        ) }
         ensures table { seat.new.table_id ≡ seat.old.table_id }
-        ensures served { (core : C) × IsServed C.actor_count C.opening C.entries ticket seat.old.me.0.view core seat.new.me }
+        ensures served { (core : C) × IsServed C.actor_count C.opening C.entries ticket
+            seat.old.me.0.view core seat.new.me }
     {
         for _ in rt.forever() {
             if self.look(seat, ticket) {
@@ -120,12 +144,15 @@ impl<C: Core> Turnstile<C> {
     // Asks the core that is out with the caller.
     fn apply(&self, seat: &mut Place<C>, number: u32, ask: C::Ask) -> C::Reply
         requires table { seat.old.table_id ≡ self.now }
-        requires carries { (core : C) × Carries C.opening C.entries core seat.old.me.0.view.seen seat.old.me }
+        requires carries { (core : C) × Carries C.opening C.entries core seat.old.me.0.view.seen
+            seat.old.me }
         requires actor { number < C.actor_count seat.old.me.0.view.opening }
-        requires may { C.may seat.old.me.0.view.opening (entries_of number seat.old.me.0.view.seen) ask }
+        requires may { C.may seat.old.me.0.view.opening (entries_of number seat.old.me.0.view.seen)
+            ask }
         ensures table { seat.new.table_id ≡ seat.old.table_id }
         ensures place { seat.new.me.0 ≡ seat.old.me.0 }
-        ensures asked { (core : C) × WasAsked C.opening C.entries C.legal core seat.old.me.0.view number ask result seat.new.me }
+        ensures asked { (core : C) × WasAsked C.opening C.entries C.legal core seat.old.me.0.view
+            number ask result seat.new.me }
     {
         let found = self.table.shared.exchange(seat, 0, None);
         let Some(mut core) = found else {
@@ -141,9 +168,18 @@ impl<C: Core> Turnstile<C> {
     fn end(&self, seat: &mut Place<C>)
         requires table { seat.old.table_id ≡ self.now }
         requires turning { (t : ℕ) × (seat.old.me.0.stage ≡ Stage.Turning t) }
-        requires asked { (core : C) × (ask : C.Ask) × (reply : C.Reply) × WasAsked C.opening C.entries C.legal core seat.old.me.0.view seat.old.me.0.view.number ask reply seat.old.me }
+        requires asked { (core : C) × (ask : C.Ask) × (reply : C.Reply) ×
+            WasAsked C.opening C.entries C.legal core seat.old.me.0.view seat.old.me.0.view.number
+            ask reply seat.old.me }
         ensures table { seat.new.table_id ≡ seat.old.table_id }
-        ensures place { seat.new.me ≡ (record { stage = Stage.Idle; view = grown seat.old.me.0.view (carried_history C.entries seat.old.me.1) }, []) }
+        ensures place { seat.new.me ≡ (
+          record {
+            stage = Stage.Idle;
+            view = grown seat.old.me.0.view
+                (carried_history C.entries seat.old.me.1);
+          },
+          [],
+        ) }
     {
         self.table.shared.fetch_add::<Ends<C>>(seat, NOW, 1);
     }
@@ -167,8 +203,10 @@ impl<C: Core> Turnstile<C> {
         requires ours { first.old.turnstile ≡ self.now }
         requires first { first.old.knows.number ≡ 0 }
         requires room { first.old.knows.made < C.actor_count first.old.knows.opening }
-        ensures ours { (first.new.turnstile ≡ first.old.turnstile) × (result.turnstile ≡ first.old.turnstile) }
-        ensures first { first.new.knows ≡ record first.old.knows { made = first.old.knows.made + 1 } }
+        ensures ours { (first.new.turnstile ≡ first.old.turnstile) ×
+            (result.turnstile ≡ first.old.turnstile) }
+        ensures first { first.new.knows ≡ record first.old.knows
+            { made = first.old.knows.made + 1 } }
         ensures next { result.knows ≡ next_view first.old.knows }
     {
         let number = first.made;
@@ -188,7 +226,8 @@ impl<C: Core> Turnstile<C> {
         requires other { ended.knows.number ≢ 0 }
         ensures ours { first.new.turnstile ≡ first.old.turnstile }
         ensures joined { first.new.knows ≡ joined_view first.old.knows ended.knows }
-        ensures seen { IsPrefix first.old.knows.seen first.new.knows.seen × IsPrefix ended.knows.seen first.new.knows.seen }
+        ensures seen { IsPrefix first.old.knows.seen first.new.knows.seen ×
+            IsPrefix ended.knows.seen first.new.knows.seen }
     {
         let PassParts { seat, .. } = ended;
         self.table
@@ -201,7 +240,8 @@ impl<C: Core> Turnstile<C> {
     pub fn close(self, last: Pass<C>) -> C
         requires ours { last.turnstile ≡ self }
         requires first { last.knows.number ≡ 0 }
-        requires joined { (n : ℕ) → 0 < n → n < last.knows.made → IsSome (ended_of n last.knows.ended) }
+        requires joined { (n : ℕ) → 0 < n → n < last.knows.made →
+            IsSome (ended_of n last.knows.ended) }
         ensures opening { C.opening result ≡ last.knows.opening }
         ensures entries { IsWhole C.legal last.knows (C.entries result) }
     {

@@ -21,7 +21,8 @@ fn opened(
 ) -> Result<(Turnstile<Tally>, Pass<Tally>), NoMemory>
     requires some { 0 < actors }
     requires few { actors * each < 2 ^ 32 }
-    ensures { IfOk result (λ t. (t.1.turnstile ≡ t.0) × (t.1.knows ≡ first_view (record { actors = actors; each = each }))) }
+    ensures { IfOk result (λ t. (t.1.turnstile ≡ t.0) ×
+        (t.1.knows ≡ first_view (record { actors = actors; each = each }))) }
 {
     match Turnstile::new(alloc, Tally::new(alloc, actors, each)?) {
         Ok(made) => Ok(made),
@@ -36,7 +37,8 @@ fn adds<R: Wait>(rt: &R, turnstile: &Turnstile<Tally>, pass: Pass<Tally>, times:
     requires often { times ≤ pass.knows.opening.each }
     ensures ours { result.turnstile ≡ turnstile.now }
     ensures number { result.knows.number ≡ pass.knows.number }
-    ensures parts { (result.knows.made ≡ pass.knows.made) × (result.knows.ended ≡ pass.knows.ended) }
+    ensures parts { (result.knows.made ≡ pass.knows.made) ×
+        (result.knows.ended ≡ pass.knows.ended) }
 {
     let mut own = pass;
     for _ in 0..times {
@@ -135,10 +137,12 @@ fn hire(
     requires first { (first.old.knows.number ≡ 0) × (first.old.knows.made ≡ 1) }
     requires room { more < first.old.knows.opening.actors }
     requires often { each ≤ first.old.knows.opening.each }
-    ensures ours { IfOk result (λ v. (first.new.turnstile ≡ turnstile.now) × All (λ w. w.pass.turnstile ≡ turnstile.now) v.items) }
+    ensures ours { IfOk result (λ v. (first.new.turnstile ≡ turnstile.now) ×
+        All (λ w. w.pass.turnstile ≡ turnstile.now) v.items) }
     ensures fresh { IfOk result (λ v. All (λ w. w.pass.knows.mine ≡ []) v.items) }
     ensures often { IfOk result (λ v. All (λ w. each ≤ w.pass.knows.opening.each) v.items) }
-    ensures first { IfOk result (λ v. (first.new.knows.mine ≡ first.old.knows.mine) × (first.new.knows.opening ≡ first.old.knows.opening)) }
+    ensures first { IfOk result (λ v. (first.new.knows.mine ≡ first.old.knows.mine) ×
+        (first.new.knows.opening ≡ first.old.knows.opening)) }
 {
     let mut workers = Vec::new(alloc);
     for _ in 0..more {
@@ -178,7 +182,8 @@ fn gather(
     mut workers: Vec<Worker>,
     seen: &mut [bool],
 ) -> Pass<Tally>
-    requires ours { (first.turnstile ≡ turnstile.now) × All (λ w. w.pass.turnstile ≡ turnstile.now) workers.items }
+    requires ours { (first.turnstile ≡ turnstile.now) ×
+        All (λ w. w.pass.turnstile ≡ turnstile.now) workers.items }
     requires first { (first.knows.number ≡ 0) × (first.knows.made ≡ 8) }
     ensures ours { result.turnstile ≡ turnstile.now }
     ensures first { (result.knows.number ≡ 0) × (result.knows.made ≡ 8) }
