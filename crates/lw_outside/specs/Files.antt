@@ -35,7 +35,7 @@ abbrev pub StaysBeside : List ℕ → Option (List File) → Option (List File) 
 StaysBeside name None after = after ≡ None
 StaysBeside name (Some fs) after = (gs : List File) × (after ≡ Some gs) × ((other : List ℕ) → other ≢ name → file_at other gs ≡ file_at other fs)
 
--- a call that was answered other than by want of memory: the file's name, whether it writes, whether it failed
+-- a call that was answered other than out of memory: the file's name, whether it writes, whether it failed
 pub record Call : Type 0 where
   pub name : List ℕ
   pub writes : Bool

@@ -41,7 +41,7 @@ found_end (Some bytes) = if nat_lt longest_file (length bytes) then IsLong else 
 abbrev pub read_end : FilesState → List ℕ → ReadEnd
 read_end s name = if is_planned s.plan s.made then Fails else found_end (file_at name s.holds)
 
--- a read was answered as it ends, or memory was wanted
+-- a read was answered as it ends, or there was no memory
 abbrev pub EndsRead : {X : Type 0} → (X → List ℕ) → ReadEnd → Result X FilesStop → Type 0
 EndsRead items end (Ok bytes) = end ≡ Gives (items bytes)
 EndsRead items end (Err Failed) = end ≡ Fails

@@ -1,7 +1,7 @@
 -- Streams: the bytes that a source has left, and those that a sink took.
 use Rattle.std.specs.Prelude.{◌≡◌, ℕ, ◌+◌, ◌≤◌, List, [], ◌++◌, length, take, Option, Some, None, option_map}
 
--- the first n bytes of a buffer were the front of what was told to be left
+-- these bytes were the front of what was told to be left
 abbrev pub Gave : List ℕ → Option (List ℕ) → Option (List ℕ) → Type 0
 Gave bytes None after = after ≡ None
 Gave bytes (Some left) after = (rest : List ℕ) × (after ≡ Some rest) × (left ≡ bytes ++ rest)

@@ -22,7 +22,7 @@ pub struct FileCall {
 }
 
 /// Files in memory. A later file of the same name wins.
-/// Contracts see what they hold, the calls that were answered other than by want of memory, what the reads gave, the plan
+/// Contracts see what they hold, the calls that were answered other than out of memory, what the reads gave, the plan
 /// of the calls that are to fail with the number of the next one, and the count of faults.
 #[derive(Drop)]
 pub struct MemoryFiles {
@@ -106,7 +106,7 @@ impl MemoryFiles {
         })
     }
 
-    /// The calls so far, but those that wanted memory.
+    /// The calls so far, but those for which there was no memory.
     pub fn calls(&self) -> &[FileCall]
         ensures { map (λ c. record {
           name = string_bytes c.name;
@@ -228,6 +228,7 @@ impl Files for MemoryFiles {
         ensures planned { result ≡ Err WriteRefusal.Failed →
             is_planned self.old.plan self.old.made ≡ true }
         ensures unplanned { OnOk result (is_planned self.old.plan self.old.made ≡ false) }
+        ensures unwritten { OnErr result (self.new.holds ≡ self.old.holds) }
         ensures noted_ok { OnOk result (NotesCall self.old (write_call name.now false) self.new) }
         ensures noted_failed { result ≡ Err WriteRefusal.Failed →
             NotesCall self.old (write_call name.now true) self.new }

@@ -96,6 +96,7 @@ impl Sink for MemorySink {
             self.old.room) }
         ensures room { IfOk result (λ n. self.new.room ≡ self.old.room - n) }
         ensures kept { OnErr result (self.new.room ≡ self.old.room) }
+        ensures counted { OnErr result (self.new.faults ≡ one_more self.old.faults) }
         ensures made { self.new.made ≡ one_more self.old.made }
         ensures same { (self.new.plan ≡ self.old.plan) × (self.new.piece ≡ self.old.piece) }
     {

@@ -101,6 +101,8 @@ impl Source for MemorySource {
         ensures unplanned { OnOk result (is_planned self.old.plan self.old.made ≡ false) }
         ensures whole { IfOk result (λ n. n ≡ min (min (length buffer.old) self.old.piece)
             (length self.old.left)) }
+        ensures counted { OnErr result (self.new.faults ≡ one_more self.old.faults) }
+        ensures ended { IfOk result (λ n. n ≡ 0 → self.new.ends ≡ one_more self.old.ends) }
         ensures made { self.new.made ≡ one_more self.old.made }
         ensures same { (self.new.plan ≡ self.old.plan) × (self.new.piece ≡ self.old.piece) }
     {

@@ -17,7 +17,8 @@ pub trait Source {
     /// How often it told its end.
     ghost ends: { Self → ℕ };
 
-    /// Puts some bytes into the front of the buffer, and says how many; 0 is the end.
+    /// Puts some bytes into the front of the buffer, and says how many; 0 is the end. Behind them the buffer may hold
+    /// anything.
     fn read(&mut self, buffer: &mut [u8]) -> Result<usize, Failed>
         requires { 0 < length buffer.old }
         ensures bound { IfOk result (λ n. n ≤ length buffer.new) }

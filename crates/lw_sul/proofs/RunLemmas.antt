@@ -1,11 +1,11 @@
 -- A run, letter by letter.
-use Rattle.std.proofs.Common.{◌≡◌, ℕ, ◌+◌, ◌<◌, List, [], ◌∷◌, ◌++◌, length, Bool, true, false, Option, Some, None, option_map, get_or, take, drop, refl, ap, sym, ◌∙◌}
-use Rattle.std.proofs.lemmas.List.{take_more}
+use Rattle.std.proofs.Common.{◌≡◌, ℕ, ◌+◌, ◌<◌, List, [], ◌∷◌, ◌++◌, length, Bool, true, false, Option, Some, None, option_map, get_or, take, drop, refl, ap, sym, ◌∙◌, arith}
+use Rattle.std.proofs.lemmas.List.{length-take-le, take-append-drop, take_more}
 use Rattle.lw_mealy.specs.Machine.{Rows, out, answer}
 use Rattle.lw_mealy.proofs.WordLemmas.{outs_more, outs_end}
 use Rattle.lw_words.specs.declared.stop.SulStop.{SulStop}
 use Rattle.lw_sul.specs.declared.runs.Run.{Run}
-use Rattle.lw_sul.specs.SessionState.{run_of, CutOff, IsJournal}
+use Rattle.lw_sul.specs.SessionState.{run_of, CutOff, IsJournal, IsUnfinished}
 use Rattle.lw_sul.specs.Runs.{stepped, after_step}
 use Rattle.lw_sul.specs.Told.{Steps, Starts, Answers}
 
@@ -40,20 +40,23 @@ runs_more (Some rs) w done i y lt =
     ∙ ap (λ (v : List ℕ). rs ++ run_of v (done ++ y ∷ []) ∷ []) (sym (take_more w i 0 lt)))
 
 -- a run that was refused at its reset
-pub refused_at_reset : (o new : Option (List Run)) (cut : Bool) → new ≡ o → cut ≡ false → CutOff o new cut
-refused_at_reset None new cut is whole = is
-refused_at_reset (Some rs) new cut is whole = rw whole is
+pub refused_at_reset : (w : List ℕ) (o new : Option (List Run)) (cut : Bool) → new ≡ o → cut ≡ false → CutOff w o new cut
+refused_at_reset w None new cut is whole = is
+refused_at_reset w (Some rs) new cut is whole = rw whole is
 
 -- a run that was cut off by a step
-pub refused_at_step : (o new : Option (List Run)) (cut : Bool) (r : Run) → new ≡ option_map (λ rs. rs ++ r ∷ []) o → cut ≡ true → CutOff o new cut
-refused_at_step None new cut r is cuts = is
-refused_at_step (Some rs) new cut r is cuts = rw cuts (r, is)
+pub refused_at_step : (w : List ℕ) (o new : Option (List Run)) (cut : Bool) (i : ℕ) (outs : List ℕ) → new ≡ option_map (λ rs. rs ++ run_of (take i w) outs ∷ []) o → cut ≡ true → i < length w → length outs ≡ i → CutOff w o new cut
+refused_at_step w None new cut i outs is cuts lt size = is
+refused_at_step w (Some rs) new cut i outs is cuts lt size =
+    let some : length (take i w) ≡ i = length-take-le i w (omega (arith, lt)) in
+    let unfinished : IsUnfinished w (run_of (take i w) outs) = record { short = omega (arith, some, lt); front = (drop i w, sym (take-append-drop i w)); outs = size ∙ sym some } in
+    rw cuts (run_of (take i w) outs, unfinished, is)
 
 -- after a refusal of a session that hadn't stopped
-pub journal_stops : (o new : Option (List Run)) (journal : List Run) (was cut : Bool) (stop : SulStop) → IsJournal o journal None was → CutOff o new cut → IsJournal new journal (Some stop) cut
-journal_stops None new journal was cut stop told refused = rw refused tt
-journal_stops (Some rs) new journal was false stop told refused = rw refused told
-journal_stops (Some rs) new journal was true stop told refused =
-    rw refused.1 (refused.0, ap (λ (l : List Run). l ++ refused.0 ∷ []) told)
+pub journal_stops : (w : List ℕ) (o new : Option (List Run)) (journal : List Run) (was cut : Bool) (stop : SulStop) → IsJournal o journal None was → CutOff w o new cut → IsJournal new journal (Some stop) cut
+journal_stops w None new journal was cut stop told refused = rw refused tt
+journal_stops w (Some rs) new journal was false stop told refused = rw refused told
+journal_stops w (Some rs) new journal was true stop told refused =
+    rw refused.2 (refused.0, ap (λ (l : List Run). l ++ refused.0 ∷ []) told)
 
 pub ruleset run_steps = (rests_begin, rests_more, rests_end, runs_more, refused_at_reset, refused_at_step)

@@ -1,6 +1,7 @@
 -- A session: a system and the journal of the runs that were finished in it.
-use Rattle.std.specs.Prelude.{◌≡◌, ℕ, List, [], ◌∷◌, ◌++◌, Bool, true, false, Option, Some, None}
+use Rattle.std.specs.Prelude.{◌≡◌, ℕ, ◌<◌, List, [], ◌∷◌, ◌++◌, length, Bool, true, false, Option, Some, None}
 use Rattle.lw_words.specs.declared.stop.SulStop.{SulStop}
+use Rattle.lw_words.specs.Word.{IsPrefix}
 use Rattle.lw_sul.specs.declared.runs.Run.{Run}
 
 pub record SessionState (S : Type 0) : Type 0 where
@@ -16,11 +17,17 @@ abbrev pub NoRuns : Option (List Run) → Type 0
 NoRuns None = Unit {0}
 NoRuns (Some rs) = rs ≡ []
 
--- told runs where a run was refused: as before, or with one unfinished run more where it was cut off
-abbrev pub CutOff : Option (List Run) → Option (List Run) → Bool → Type 0
-CutOff None new cut = new ≡ None
-CutOff (Some rs) new false = new ≡ Some rs
-CutOff (Some rs) new true = (r : Run) × (new ≡ Some (rs ++ r ∷ []))
+-- the front of a run of the word, with a letter less at least
+pub record IsUnfinished (w : List ℕ) (r : Run) : Type 0 where
+  pub short : length r.word < length w
+  pub front : IsPrefix r.word w
+  pub outs : length r.outs ≡ length r.word
+
+-- told runs where a run of the word was refused: as before, or with one unfinished run more where it was cut off
+abbrev pub CutOff : List ℕ → Option (List Run) → Option (List Run) → Bool → Type 0
+CutOff w None new cut = new ≡ None
+CutOff w (Some rs) new false = new ≡ Some rs
+CutOff w (Some rs) new true = (r : Run) × IsUnfinished w r × (new ≡ Some (rs ++ r ∷ []))
 
 -- told runs are the journal, followed by one unfinished run exactly where a stop cut a run off
 abbrev pub IsJournal : Option (List Run) → List Run → Option SulStop → Bool → Type 0

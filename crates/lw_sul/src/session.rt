@@ -73,7 +73,7 @@ fn perform<S: Sul>(sul: &mut S, w: &Word, outs: &mut Vec<u16>) -> Result<(), Sul
         run_of w.now outs.new.items ∷ []) (S.runs sul.old)) }
     ensures live { OnOk result (S.stop sul.new ≡ None) }
     ensures err { IfErr result (λ e. S.stop sul.new ≡ Some e) }
-    ensures cut { OnErr result (CutOff (S.runs sul.old) (S.runs sul.new) (S.cut sul.new)) }
+    ensures cut { OnErr result (CutOff w.now (S.runs sul.old) (S.runs sul.new) (S.cut sul.new)) }
     ensures failed { result ≡ Err Stop.Failed → CountedFault (S.faults sul.old) (S.faults sul.new) }
     ensures counts { S.faults sul.old ≤ S.faults sul.new }
     ensures same { (S.origin sul.new ≡ S.origin sul.old) × (S.inputs sul.new ≡ S.inputs sul.old) ×
@@ -130,6 +130,9 @@ impl<S: Sul> Session<S> {
         // Told runs are the journal, and an unfinished run exactly where this call or an earlier one was stopped in a step.
         ensures told { IsJournal (S.runs self.new.sul) self.new.journal (S.stop self.new.sul)
             (S.cut self.new.sul) }
+
+        ensures unfinished { (stop : Stop) → result ≡ Err (RunStop.Sul stop) → S.stop self.old.sul ≡ None →
+            CutOff w.now (S.runs self.old.sul) (S.runs self.new.sul) (S.cut self.new.sul) }
 
         ensures counts { S.faults self.old.sul ≤ S.faults self.new.sul }
         ensures instance { self.new.instance ≡ self.old.instance }

@@ -46,7 +46,7 @@ IsUnread NoMemory = Unit {0}
 IsUnread FileFault = Unit {0}
 IsUnread _ = ⊥
 
--- the file was not read at all
+-- the file's bytes were not given, or there was no memory
 abbrev pub IsUngiven : Outcome → Type 0
 IsUngiven FileTooLong = Unit {0}
 IsUngiven NoMemory = Unit {0}

@@ -45,7 +45,7 @@ TellsNoTable holds name = (bytes : List ℕ) × Tells holds name bytes × ((m : 
 abbrev pub TellsLong : Option (List File) → List ℕ → Type 0
 TellsLong holds name = (bytes : List ℕ) × Tells holds name bytes × (longest_file < length bytes)
 
--- the calls gained one read of the file, or none where memory was wanted
+-- the calls gained one read of the file, or none where there was no memory
 abbrev pub OneRead : List ℕ → Type 0 → Option (List Call) → Option (List Call) → Type 0
 OneRead name wanted before now = (wanted × (now ≡ before)) ⊎ ((failed : Bool) × (now ≡ noted (read_call name failed) before))
 

@@ -2,10 +2,10 @@ use Rattle.std.proofs.Common.{rules, ◌≡◌, ◌∙◌, ℕ, ◌<◌, ◌+◌
 use Rattle.std.specs.List.{All}
 use Rattle.std.proofs.lemmas.List.Elements.{All-push}
 use Rattle.lw_mealy.specs.Origin.{Origin}
-use Rattle.lw_sul.specs.SessionState.{run_of}
+use Rattle.lw_sul.specs.SessionState.{run_of, CutOff}
 use Rattle.lw_sul.specs.Runs.{after_step}
 use Rattle.lw_sul.specs.Told.{Steps}
-use Rattle.lw_sul.proofs.RunLemmas.{Rests, rests_more, runs_more}
+use Rattle.lw_sul.proofs.RunLemmas.{Rests, refused_at_step, rests_more, runs_more}
 use Rattle.lw_sul.proofs.session.perform.Goals as goal
 
 pub loop-x-preserved : goal.loop-x-preserved
@@ -36,3 +36,14 @@ loop-x-preserved g c =
       rests = subst (λ (o : List ℕ). Rests (S.origin c.args.sul.now).machine (S.state c.step.new.self) o (drop (i + 1) w) w) items rests;
       runs = subst (λ (o : List ℕ). S.runs c.step.new.self ≡ option_map (λ rs. rs ++ run_of (take (i + 1) w) o ∷ []) (S.runs c.args.sul.now)) items runs;
     }
+
+pub returns-in_err-step-clause-cut : goal.returns-in_err-step-clause-cut
+returns-in_err-step-clause-cut g c =
+    let S = g.S.Sul in
+    let was = c.loop-x.invariant in
+    let w : List ℕ = c.as_slice-x-items.result.now in
+    let before : S.runs c.step.new.self ≡ option_map (λ rs. rs ++ run_of (take c.loop-x.x-index w) c.loop-x.outs.items ∷ []) (S.runs c.args.sul.now) =
+    c.in_err-step.ensures.left ∙ was.runs in
+    let cut : CutOff w (S.runs c.args.sul.now) (S.runs c.step.new.self) (S.cut c.step.new.self) =
+    refused_at_step w (S.runs c.args.sul.now) (S.runs c.step.new.self) (S.cut c.step.new.self) c.loop-x.x-index c.loop-x.outs.items before c.in_err-step.ensures.cut c.loop-x-test.true was.count in
+    search (rules, cut)
