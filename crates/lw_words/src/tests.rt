@@ -25,6 +25,10 @@ fn words_join_and_copy(rt: HostRuntime) -> Result<(), Fail> {
     let b = join(&a, &a.copy()?)?;
     assert_eq!(rt; b.as_slice(), [3, 3].as_slice());
     assert_eq!(rt; b.prefix(1)?.as_slice(), [3].as_slice());
+    a.clear();
+    a.extend(&[1, 2])?;
+    a.extend(b.as_slice())?;
+    assert_eq!(rt; a.as_slice(), [1, 2, 3, 3].as_slice());
     let mut list = Words::new(rt.alloc());
     assert!(rt; list.push(b).is_ok());
     assert_eq!(rt; (list.len(), list.as_slice().len()), (1, 1));

@@ -57,6 +57,22 @@ impl Word {
         Ok(())
     }
 
+    /// Appends the letters of a slice. The word is unchanged where there is no memory.
+    pub fn extend(&mut self, letters: &[u16]) -> Result<(), NoMemory>
+        ensures ok { OnOk result (self.new ≡ self.old ++ letters.now) }
+        ensures err { OnErr result (self.new ≡ self.old) }
+    {
+        self.letters.extend_from_slice(letters)?;
+        Ok(())
+    }
+
+    /// Makes it the empty word. Keeps the memory that it has, and takes none.
+    pub fn clear(&mut self)
+        ensures { self.new ≡ [] }
+    {
+        self.letters.clear();
+    }
+
     pub fn copy(&self) -> Result<Word, NoMemory>
         ensures { IfOk result (λ word. word ≡ self.now) }
     {
