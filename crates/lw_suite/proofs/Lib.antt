@@ -1,0 +1,5 @@
+pub mod EachLemmas
+pub mod MiddleLemmas
+pub mod PlaceLemmas
+pub mod SizeLemmas
+pub mod SuiteLemmas

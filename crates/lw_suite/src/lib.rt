@@ -1,0 +1,16 @@
+//! The suite of the W-method: the words that tell a machine from all others of not many more states, in chunks.
+#![tactic(auto)]
+
+mod laws;
+mod middle;
+mod parts;
+mod places;
+mod size;
+mod suite;
+
+pub use laws::suite_is_unique;
+pub use size::{GREATEST_SUITE, suite_size};
+pub use suite::{CHUNK, Suite, SuiteFault};
+
+#[cfg(test)]
+mod tests;
