@@ -2,7 +2,7 @@
 ghost use Rattle.std.specs.Prelude.{◌≡◌, ◌≢◌, ◌⊎◌, ℕ, ◌+◌, ◌<◌, ◌≤◌, List, length, drop, slice_index, vec_len, vec_capacity};
 ghost use Rattle.lw_words.specs.Word.{IsPrefix};
 ghost use Rattle.lw_cache.specs.bodies.Trie.{node_at, word_of, IsTrie, IsChildOf, no_answer};
-ghost use Rattle.lw_cache.specs.bodies.Filling.{IsChildAt, IsReached, IsFound};
+ghost use Rattle.lw_cache.specs.bodies.Filling.{HasOneMore, IsChildAt, IsReached, IsFound};
 
 use crate::node::{NONE, Node, UNCLAIMED};
 
@@ -50,4 +50,34 @@ pub(crate) fn find(nodes: &[Node], letters: &[u16]) -> u32
     }
     let (node, depth) = reach(nodes, letters);
     if depth < letters.len() { 0 } else { node }
+}
+/// Puts a node below another one, which has no child with this letter, and answers its number.
+fn append(nodes: &mut Vec<Node>, parent: u32, letter: u16) -> u32
+    requires parent { parent < length nodes.old.items }
+    requires room { vec_len nodes.old < vec_capacity nodes.old }
+    requires few { vec_len nodes.old < no_answer }
+    ensures number { result ≡ length nodes.old.items }
+    ensures one { length nodes.new.items ≡ length nodes.old.items + 1 }
+    ensures len { vec_len nodes.new ≡ vec_len nodes.old + 1 }
+    ensures capacity { vec_capacity nodes.new ≡ vec_capacity nodes.old }
+    ensures nodes { HasOneMore (node_at nodes.old.items) (node_at nodes.new.items)
+        (length nodes.old.items) parent letter }
+{
+    let number = nodes.len() as u32;
+    let above = nodes[parent as usize];
+    nodes.push_reserved(Node {
+        letter,
+        output: 0,
+        parent,
+        first: 0,
+        next: above.first,
+        answer: NONE,
+        claim: UNCLAIMED,
+        ends: UNCLAIMED,
+    });
+    nodes[parent as usize] = Node {
+        first: number,
+        ..above
+    };
+    number
 }
