@@ -1,4 +1,11 @@
+pub mod Against
+pub mod Asked
+pub mod Caching
 pub mod Clash
 pub mod Crowd
+pub mod FirstClash
 pub mod Known
 pub mod Plain
+pub mod Settling
+pub mod Standing
+pub mod bodies

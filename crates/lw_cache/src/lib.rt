@@ -1,8 +1,23 @@
-//! What kept answers say of words: which are known, with which outputs, and which words they tell apart. So far the
-//! definitions with their laws, and a plain body that computes them from the list; the cache itself is not built yet.
+//! What was answered and what is being asked: a cache of kept answers with claims, and the trait of what answers words.
 #![tactic(auto)]
 
+mod cache;
+mod cut;
+mod filling;
+mod known;
 pub mod laws;
+mod node;
+mod oracle;
 pub mod plain;
+mod reckoning;
+mod stops;
+mod trie;
+
+pub use cache::Cache;
+pub use cut::Cut;
+pub use known::Known;
+pub use oracle::Oracle;
+pub use stops::{AskStop, Clash, GrowStop, KeepStop};
+
 #[cfg(test)]
 mod tests;

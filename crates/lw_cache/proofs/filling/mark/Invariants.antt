@@ -1,0 +1,14 @@
+use Rattle.std.proofs.Common.{◌≡◌, ◌≤◌, length}
+use Rattle.lw_cache.specs.bodies.Trie.{node_at, word_of}
+use Rattle.lw_cache.specs.bodies.Filling.{AreMarked}
+use Rattle.lw_cache.proofs.UpLemmas.{IsUp}
+use Rattle.lw_cache.proofs.filling.mark.Given as goal
+
+abbrev pub invariant-loop-depth : goal.invariant-loop-depth
+invariant-loop-depth l = record {
+  up : IsUp (node_at l.initial.nodes) (length l.initial.nodes) (word_of (node_at l.initial.nodes) l.end) l.node l.depth;
+  marked : AreMarked (node_at l.initial.nodes) (node_at l.nodes) (length l.initial.nodes) (word_of (node_at l.initial.nodes) l.end) l.outs l.answer l.depth;
+}
+
+abbrev pub decreases-loop-depth : goal.decreases-loop-depth
+decreases-loop-depth l = l.depth

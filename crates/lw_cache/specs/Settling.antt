@@ -1,0 +1,64 @@
+-- What an oracle keeps, what settling a batch does, and what the layers above leave of an oracle.
+use Rattle.std.specs.Prelude.{◌≡◌, ℕ, ◌<◌, List, ◌++◌, map, Option, Some, None, Result, Ok, Err, option_and_then, slice_get, Contains, Bool, true, false, ⊤}
+use Rattle.std.specs.List.{All}
+use Rattle.lw_words.specs.Answer.{Answer, answer_of, answers_of, IsAnswer}
+use Rattle.lw_words.specs.Word.{IsWord}
+use Rattle.lw_words.specs.declared.kept.KeptAnswer.{KeptAnswer}
+use Rattle.lw_mealy.specs.Machine.{Rows, answer}
+use Rattle.lw_mealy.specs.Origin.{Origin}
+use Rattle.lw_cache.specs.Asked.{AreAsked}
+use Rattle.lw_cache.specs.declared.stops.AskStop.{AskStop}
+use Rattle.lw_cache.specs.declared.stops.AskStop.TheVariants.{Sul, Clash, NoMemory}
+
+-- an answer of a told machine is the machine's
+abbrev pub IsOf : Option Rows → Answer → Type 0
+IsOf None k = Unit {0}
+IsOf (Some m) k = answer m k.word ≡ k.outs
+
+-- the machine that an instance tells, if it is in the list and tells one
+abbrev pub told_machine : List Origin → ℕ → Option Rows
+told_machine origins instance = option_and_then (λ o. o.machine) (slice_get origins instance)
+
+-- each kept answer is to a word over the inputs, with as many outputs, each below their number; and it is the answer of
+-- its instance's machine, where that is told
+pub record KeepsAnswers (inputs outputs : ℕ) (origins : List Origin) (kept : List KeptAnswer) : Type 0 where
+  pub answers : All (λ k. IsAnswer inputs (answer_of k)) kept
+  pub outputs_below : All (λ k. IsWord outputs k.outs) kept
+  pub told : All (λ k. IsOf (told_machine origins k.instance) (answer_of k)) kept
+
+-- the kept answers gain some at their end, each to a word of the batch
+pub record GainsAnswers (batch : List (List ℕ)) (before now : List KeptAnswer) : Type 0 where
+  pub gained : List KeptAnswer
+  pub at_end : now ≡ before ++ gained
+  pub of_batch : All (λ k. Contains batch k.word) gained
+
+-- the words of the answers that are gained are exactly those that had to be asked, each once
+pub record GainsExactly (batch : List (List ℕ)) (before now : List KeptAnswer) : Type 0 where
+  pub gained : List KeptAnswer
+  pub at_end : now ≡ before ++ gained
+  pub asked : AreAsked batch (answers_of before) (map (λ k. k.word) gained)
+
+-- an oracle's stop is the refusal that it answered, or None after Ok
+abbrev pub TellsStop : Result ⊤ AskStop → Option AskStop → Type 0
+TellsStop (Ok _) stop = stop ≡ None
+TellsStop (Err e) stop = stop ≡ Some e
+
+-- whether an oracle ever refused, once this was answered
+abbrev pub refused_after : Bool → Result ⊤ AskStop → Bool
+refused_after refused (Ok _) = refused
+refused_after refused (Err _) = true
+
+-- the stop is neither a system's nor a clash, so an oracle that tells it may be asked again
+abbrev pub MayAsk : Option AskStop → Type 0
+MayAsk None = Unit {0}
+MayAsk (Some (Sul instance stop)) = ⊥
+MayAsk (Some (Clash clash)) = ⊥
+MayAsk (Some NoMemory) = Unit {0}
+
+-- what a call of a layer above leaves as its oracle's stop, by the stop that the call answers, or None where it answers
+-- anything else: a system's stop or a clash is the oracle's, and after all else the oracle may be asked again
+abbrev pub LeavesStop : Option AskStop → Option AskStop → Type 0
+LeavesStop None now = MayAsk now
+LeavesStop (Some (Sul instance stop)) now = now ≡ Some (Sul instance stop)
+LeavesStop (Some (Clash clash)) now = now ≡ Some (Clash clash)
+LeavesStop (Some NoMemory) now = MayAsk now

@@ -1,0 +1,4 @@
+-- What the contracts of private functions cite, and no public clause.
+pub mod Filling
+pub mod Room
+pub mod Trie

@@ -1,0 +1,116 @@
+-- What the steps of a new answer do to the nodes.
+use Rattle.std.specs.Prelude.{◌≡◌, ◌≢◌, ◌⊎◌, ℕ, ◌+◌, ◌-◌, ◌<◌, ◌≤◌, List, [], ◌∷◌, ◌++◌, length, take, drop, slice_index_or, Option, Some, None}
+use Rattle.lw_words.specs.Word.{IsPrefix}
+use Rattle.lw_cache.specs.bodies.Trie.{no_answer, no_claim, word_of, IsChildOf, last_out}
+use Rattle.lw_cache.specs.declared.node.Node.{Node}
+
+-- the child of p with this letter, or 0 where there is none
+abbrev pub IsChildAt : (ℕ → Node) → ℕ → ℕ → ℕ → ℕ → Type 0
+IsChildAt at n p letter c =
+    ((c ≡ 0) × ((j : ℕ) → IsChildOf at p n j → (at j).letter ≢ letter)) ⊎ (IsChildOf at p n c × ((at c).letter ≡ letter))
+
+-- the node of the longest front of a word that has one
+pub record IsReached (at : ℕ → Node) (n : ℕ) (w : List ℕ) (node depth : ℕ) : Type 0 where
+  pub node_within : node < n
+  pub depth_within : depth ≤ length w
+  pub front : word_of at node ≡ take depth w
+  pub last : (depth ≡ length w) ⊎ ((j : ℕ) → IsChildOf at node n j → (at j).letter ≢ slice_index_or w depth 0)
+
+-- where the node has an answer, its output is this one's
+abbrev pub AgreesAt : (ℕ → Node) → List ℕ → ℕ → Type 0
+AgreesAt at outs i = (at i).answer ≢ no_answer → (at i).output ≡ last_out outs (word_of at i)
+
+-- the node of this answer has another output at this place
+pub record DisagreesAt (at : ℕ → Node) (n : ℕ) (w outs : List ℕ) (answer place : ℕ) : Type 0 where
+  pub node : ℕ
+  pub not_root : 0 < node
+  pub within : node < n
+  pub front : word_of at node ≡ take (place + 1) w
+  pub long : place < length w
+  pub told : (at node).answer ≡ answer
+  pub some : answer ≢ no_answer
+  pub other : (at node).output ≢ slice_index_or outs place 0
+
+-- of the nodes on the way to w that are deeper than this, those up to the limit agree
+abbrev pub AgreeBetween : (ℕ → Node) → ℕ → List ℕ → List ℕ → ℕ → ℕ → Type 0
+AgreeBetween at n w outs depth limit =
+    (i : ℕ) → 0 < i → i < n → IsPrefix (word_of at i) w → depth < length (word_of at i) → length (word_of at i) ≤ limit → AgreesAt at outs i
+
+-- as far up as this depth, the first place on the way to w at which an answer has another output
+abbrev pub ComparedTo : (ℕ → Node) → ℕ → List ℕ → List ℕ → ℕ → Option (ℕ × ℕ) → Type 0
+ComparedTo at n w outs depth None = AgreeBetween at n w outs depth (length w)
+ComparedTo at n w outs depth (Some found) = (depth ≤ found.1) × DisagreesAt at n w outs found.0 found.1 × AgreeBetween at n w outs depth found.1
+
+-- the node tells the new answer where it told none
+abbrev pub marked : Node → ℕ → ℕ → Node
+marked b answer output = record {
+  letter = b.letter;
+  output = output;
+  parent = b.parent;
+  first = b.first;
+  next = b.next;
+  answer = answer;
+  claim = b.claim;
+  ends = b.ends;
+}
+
+-- the nodes on the way to w that are deeper than this and told no answer tell this one, and no other node is changed
+pub record AreMarked (was at : ℕ → Node) (n : ℕ) (w outs : List ℕ) (answer depth : ℕ) : Type 0 where
+  pub each : (i : ℕ) → (at i ≡ was i) ⊎ ((0 < i) × (i < n) × IsPrefix (word_of was i) w × ((was i).answer ≡ no_answer) × (at i ≡ marked (was i) answer (last_out outs (word_of was i))))
+  pub way : (i : ℕ) → 0 < i → i < n → IsPrefix (word_of was i) w → depth < length (word_of was i) → ((was i).answer ≡ no_answer) → at i ≡ marked (was i) answer (last_out outs (word_of was i))
+
+-- a node with this claim, and with this claim of its own word
+abbrev pub with_claim : Node → ℕ → Node
+with_claim b claim = record {
+  letter = b.letter;
+  output = b.output;
+  parent = b.parent;
+  first = b.first;
+  next = b.next;
+  answer = b.answer;
+  claim = claim;
+  ends = b.ends;
+}
+
+abbrev pub with_ends : Node → ℕ → Node
+with_ends b ends = record {
+  letter = b.letter;
+  output = b.output;
+  parent = b.parent;
+  first = b.first;
+  next = b.next;
+  answer = b.answer;
+  claim = b.claim;
+  ends = ends;
+}
+
+-- nothing but claims is changed
+abbrev pub SameButClaims : (ℕ → Node) → (ℕ → Node) → Type 0
+SameButClaims was at = (i : ℕ) → at i ≡ with_claim (was i) (at i).claim
+
+-- a node without children, answer and claim
+abbrev pub fresh : ℕ → ℕ → ℕ → Node
+fresh letter parent next = record { letter = letter; output = 0; parent = parent; first = 0; next = next; answer = no_answer; claim = no_claim; ends = no_claim }
+
+abbrev pub with_first : Node → ℕ → Node
+with_first b first = record {
+  letter = b.letter;
+  output = b.output;
+  parent = b.parent;
+  first = first;
+  next = b.next;
+  answer = b.answer;
+  claim = b.claim;
+  ends = b.ends;
+}
+
+-- the nodes with one more at their end, a child of p
+pub record HasOneMore (was at : ℕ → Node) (n p letter : ℕ) : Type 0 where
+  pub new : at n ≡ fresh letter p (was p).first
+  pub parent : at p ≡ with_first (was p) n
+  pub others : (i : ℕ) → i ≢ p → i ≢ n → at i ≡ was i
+
+-- the node of a word; 0 where it is empty, or where no node's word begins with it
+abbrev pub IsFound : (ℕ → Node) → ℕ → List ℕ → ℕ → Type 0
+IsFound at n w node =
+    ((node ≡ 0) × ((i : ℕ) → 0 < i → i < n → IsPrefix w (word_of at i) → w ≡ [])) ⊎ ((0 < node) × (node < n) × (word_of at node ≡ w))

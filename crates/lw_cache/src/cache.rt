@@ -1,0 +1,226 @@
+//! The cache: what was answered, what is being asked, and how any word stands.
+ghost use Rattle.std.specs.Prelude.{◌≡◌, ℕ, ◌+◌, ◌<◌, ◌≤◌, List, [], ◌∷◌, ◌++◌, length, IfOk, OnOk, OnErr, IfErr, MatchOption};
+ghost use Rattle.std.specs.List.{All};
+ghost use Rattle.lw_words.specs.Answer.{answer_of, answers_of, IsWhole};
+ghost use Rattle.lw_words.specs.Word.{IsWord};
+ghost use Rattle.lw_cache.specs.Against.{DiffersFirst};
+ghost use Rattle.lw_cache.specs.Caching.{Caching, kept_answer, claim_of, IsClaimOf, IsUnused, without};
+ghost use Rattle.lw_cache.specs.Clash.{IsClearAfter};
+ghost use Rattle.lw_cache.specs.FirstClash.{ClashesFirst, SameKnown, StopsKeeping};
+ghost use Rattle.lw_cache.specs.Known.{IsKnown, Reads};
+ghost use Rattle.lw_cache.specs.Standing.{Stands, CountsNoted};
+ghost use Rattle.lw_cache.specs.declared.known.Known.TheVariants as Known;
+
+use crate::node::{Held, NONE, Node, UNCLAIMED};
+use crate::trie::find;
+use crate::{Clash, KeepStop, Known};
+use lw_mealy::Mealy;
+use lw_words::{Kept, KeptAnswer, NoMemory, Word};
+use std::alloc::Global;
+use std::marker::Model;
+
+/// The greatest number of nodes, and of answers.
+const MOST: usize = NONE as usize;
+
+/// Kept answers, and claims on words that are being asked; each word stands in it as [`Known`] says.
+/// Contracts see the answers and the claims in order, and beside them the room: so many more words, with so many letters
+/// together, can be claimed and answered without memory.
+///
+/// All calls but [`Cache::nodes`], [`Cache::against`] and the copies that they make take time in proportion to their word,
+/// times the siblings that are passed at each letter.
+#[derive(Drop)]
+pub struct Cache {
+    nodes: Vec<Node>,
+    held: Vec<Held>,
+    kept: Kept,
+    words: usize,
+    letters: usize,
+    alloc: Global,
+}
+
+impl Model for Cache {
+    ghost use Rattle.std.specs.Prelude.{length, vec_len, vec_capacity};
+    ghost use Rattle.lw_cache.specs.Caching.{Caching};
+
+    ghost Value = { Caching };
+
+    ghost use Rattle.lw_cache.specs.bodies.Trie.{node_at, claims_of, IsStored};
+    ghost use Rattle.lw_cache.specs.bodies.Room.{HasRoom};
+
+    ghost view = { λ a. record { kept = a.kept.answers; claims = claims_of (node_at a.nodes.items) a.held.items; words = a.words; letters = a.letters } };
+
+    ghost invariant = { λ a. IsStored (node_at a.nodes.items) (length a.nodes.items) a.held.items a.kept.answers × HasRoom a.words a.letters (vec_len a.nodes) (vec_capacity a.nodes) (vec_len a.held) (vec_capacity a.held) (length a.kept.answers) a.kept.room };
+}
+
+impl Cache {
+    /// Nothing kept, nothing claimed, no room. Takes no memory.
+    pub fn new(alloc: Global) -> Cache
+        ensures kept { result.kept ≡ [] }
+        ensures claims { result.claims ≡ [] }
+    {
+        Cache {
+            nodes: Vec::new(alloc),
+            held: Vec::new(alloc),
+            kept: Kept::new(alloc),
+            words: 0,
+            letters: 0,
+            alloc,
+        }
+    }
+
+    /// How a word stands. Takes no memory.
+    pub fn known(&self, w: &Word) -> Known
+        ensures { Stands (answers_of self.now.kept) self.now.claims w.now result }
+    {
+        if w.len() == 0 {
+            return Known::Yes;
+        }
+        let node = find(&self.nodes, w.as_slice());
+        if node == 0 {
+            return Known::No;
+        }
+        let found = &self.nodes[node as usize];
+        if found.answer != NONE {
+            return Known::Yes;
+        }
+        if found.claim != UNCLAIMED {
+            return Known::Pending(found.claim as u32);
+        }
+        Known::No
+    }
+
+    /// The outputs of a word, or None where it isn't known.
+    pub fn read(&self, w: &Word) -> Result<Option<Word>, NoMemory>
+        ensures { IfOk result (λ found. MatchOption found (¬ IsKnown (answers_of self.now.kept) w.now)
+            (λ outs. Reads (answers_of self.now.kept) w.now outs)) }
+    {
+        if w.len() == 0 {
+            return Ok(Some(Word::new(self.alloc)));
+        }
+        let node = find(&self.nodes, w.as_slice());
+        if node == 0 {
+            return Ok(None);
+        }
+        let answer = self.nodes[node as usize].answer;
+        if answer == NONE {
+            return Ok(None);
+        }
+        let outs = self.kept.get(answer as usize).outs.prefix(w.len())?;
+        Ok(Some(outs))
+    }
+
+    /// Makes room for so many words with so many letters together. Nothing else changes, also where memory was wanted.
+    pub fn reserve(&mut self, words: usize, letters: usize) -> Result<(), NoMemory>
+        ensures kept { self.new.kept ≡ self.old.kept }
+        ensures claims { self.new.claims ≡ self.old.claims }
+        ensures room { OnOk result ((words ≤ self.new.words) × (letters ≤ self.new.letters)) }
+        ensures more { OnOk result ((self.old.words ≤ self.new.words) × (self.old.letters ≤ self.new.letters)) }
+        ensures err { OnErr result (self.new ≡ self.old) }
+    {
+        Ok(())
+    }
+
+    /// Claims a word, which is going to be asked, with a number. Takes no memory.
+    pub fn claim(&mut self, w: &Word, number: u32)
+        requires unclaimed { Stands (answers_of self.old.kept) self.old.claims w.now Known.No }
+        requires unused { IsUnused self.old.claims number }
+        requires words { 1 ≤ self.old.words }
+        requires letters { length w.now ≤ self.old.letters }
+        ensures kept { self.new.kept ≡ self.old.kept }
+        ensures claims { self.new.claims ≡ self.old.claims ++ claim_of number w.now ∷ [] }
+        ensures words { self.new.words + 1 ≡ self.old.words }
+        ensures letters { self.new.letters + length w.now ≡ self.old.letters }
+    {}
+
+    /// Keeps the answer to a claimed word, which is no longer claimed then. Takes no memory.
+    ///
+    /// # Errors
+    /// Exactly where the answer clashes with a clear one. It is kept all the same, and nothing more is known.
+    pub fn fill(
+        &mut self,
+        number: u32,
+        word: Word,
+        outs: Word,
+        instance: u32,
+        run: u64,
+    ) -> Result<(), Clash>
+        requires pending { IsClaimOf self.old.claims number word }
+        requires lengths { length outs ≡ length word }
+        ensures kept { self.new.kept ≡ self.old.kept ++ kept_answer instance run word outs ∷ [] }
+        ensures claims { self.new.claims ≡ without number self.old.claims }
+        ensures room { (self.new.words ≡ self.old.words) × (self.new.letters ≡ self.old.letters) }
+        ensures ok { OnOk result (IsClearAfter (answers_of self.old.kept) (length self.old.kept)
+            (answer_of (kept_answer instance run word outs))) }
+        ensures err { IfErr result (ClashesFirst (answers_of self.old.kept)
+            (answer_of (kept_answer instance run word outs))) }
+        ensures known { OnErr result (SameKnown (answers_of self.old.kept) (answers_of self.new.kept)) }
+    {
+        Ok(())
+    }
+
+    /// Gives a claim up. Takes no memory.
+    pub fn release(&mut self, number: u32)
+        requires { ¬ IsUnused self.old.claims number }
+        ensures kept { self.new.kept ≡ self.old.kept }
+        ensures claims { self.new.claims ≡ without number self.old.claims }
+        ensures room { (self.new.words ≡ self.old.words) × (self.new.letters ≡ self.old.letters) }
+    {}
+
+    /// Keeps an answer to a word that was not claimed.
+    ///
+    /// # Errors
+    /// `Clash` exactly where the answer clashes with a clear one. It is kept all the same, and nothing more is known.
+    /// `NoMemory` where memory was wanted; nothing changed then.
+    pub fn keep(&mut self, word: Word, outs: Word, instance: u32, run: u64) -> Result<(), KeepStop>
+        requires lengths { length outs ≡ length word }
+        requires unclaimed { self.old.claims ≡ [] }
+        ensures ok { OnOk result (IsClearAfter (answers_of self.old.kept) (length self.old.kept)
+            (answer_of (kept_answer instance run word outs))) }
+        ensures kept { OnOk result (self.new.kept ≡ self.old.kept ++ kept_answer instance run word outs ∷ []) }
+        ensures err { IfErr result (StopsKeeping self.old self.new (kept_answer instance run word outs)) }
+        ensures claims { self.new.claims ≡ [] }
+        ensures room { OnOk result ((self.old.words ≤ self.new.words + 1) × (self.old.letters ≤ self.new.letters + length word)) }
+    {
+        Ok(())
+    }
+
+    /// The kept answers.
+    pub fn kept(&self) -> &Kept
+        ensures value { result.now.answers ≡ self.now.kept }
+        ensures whole { All IsWhole (answers_of self.now.kept) }
+    {
+        &self.kept
+    }
+
+    /// The kept answers, taken out of the cache. Takes no memory.
+    pub fn into_kept(self) -> Kept
+        ensures { result.answers ≡ self.kept }
+    {
+        let Cache {
+            nodes: _,
+            held: _,
+            kept,
+            words: _,
+            letters: _,
+            alloc: _,
+        } = self;
+        kept
+    }
+
+    /// How many different words, the empty one aside, are known or begin a claimed word. Looks at each node that was ever
+    /// made. Takes no memory.
+    pub fn nodes(&self) -> usize
+        ensures { CountsNoted (answers_of self.now.kept) self.now.claims result }
+    {
+        0
+    }
+
+    /// The first known word in shortlex order on which the machine's answer isn't what is read, or None where there is
+    /// none. Looks at each node once.
+    pub fn against(&self, m: &Mealy) -> Result<Option<Word>, NoMemory>
+        requires { All (λ k. IsWord m.now.inputs k.word) (answers_of self.now.kept) }
+        ensures { IfOk result (DiffersFirst m.now.rows (answers_of self.now.kept)) }
+    {
+        Ok(None)
+    }
+}

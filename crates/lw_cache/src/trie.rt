@@ -1,0 +1,83 @@
+//! The trie: from a node down by letters, and new nodes.
+ghost use Rattle.std.specs.Prelude.{◌≡◌, ◌≢◌, ◌⊎◌, ℕ, ◌+◌, ◌<◌, ◌≤◌, List, length, drop, slice_index, vec_len, vec_capacity};
+ghost use Rattle.lw_words.specs.Word.{IsPrefix};
+ghost use Rattle.lw_cache.specs.bodies.Trie.{node_at, word_of, IsTrie, IsChildOf, no_answer};
+ghost use Rattle.lw_cache.specs.bodies.Filling.{HasOneMore, IsChildAt, IsReached, IsFound};
+
+use crate::node::{NONE, Node, UNCLAIMED};
+
+/// The child with this letter, or 0 where there is none.
+fn child(nodes: &[Node], parent: u32, letter: u16) -> u32
+    requires trie { IsTrie (node_at nodes.now) (length nodes.now) }
+    requires parent { parent < length nodes.now }
+    ensures { IsChildAt (node_at nodes.now) (length nodes.now) parent letter result }
+{
+    let mut cursor = nodes[parent as usize].first;
+    while cursor != 0 {
+        let node = &nodes[cursor as usize];
+        if node.letter == letter {
+            return cursor;
+        }
+        cursor = node.next;
+    }
+    0
+}
+
+/// The node of the longest front of a word that has one, and the length of that front.
+pub(crate) fn reach(nodes: &[Node], letters: &[u16]) -> (u32, usize)
+    requires trie { IsTrie (node_at nodes.now) (length nodes.now) }
+    requires root { 0 < length nodes.now }
+    ensures { IsReached (node_at nodes.now) (length nodes.now) letters.now result.0 result.1 }
+{
+    let mut node = 0;
+    for (depth, letter) in letters.iter().enumerate() {
+        let next = child(nodes, node, *letter);
+        if next == 0 {
+            return (node, depth);
+        }
+        node = next;
+    }
+    (node, letters.len())
+}
+
+/// The node of a word, or 0 where it is empty or has none.
+pub(crate) fn find(nodes: &[Node], letters: &[u16]) -> u32
+    requires { IsTrie (node_at nodes.now) (length nodes.now) }
+    ensures { IsFound (node_at nodes.now) (length nodes.now) letters.now result }
+{
+    if nodes.is_empty() {
+        return 0;
+    }
+    let (node, depth) = reach(nodes, letters);
+    if depth < letters.len() { 0 } else { node }
+}
+/// Puts a node below another one, which has no child with this letter, and answers its number.
+fn append(nodes: &mut Vec<Node>, parent: u32, letter: u16) -> u32
+    requires parent { parent < length nodes.old.items }
+    requires room { vec_len nodes.old < vec_capacity nodes.old }
+    requires few { vec_len nodes.old < no_answer }
+    ensures number { result ≡ length nodes.old.items }
+    ensures one { length nodes.new.items ≡ length nodes.old.items + 1 }
+    ensures len { vec_len nodes.new ≡ vec_len nodes.old + 1 }
+    ensures capacity { vec_capacity nodes.new ≡ vec_capacity nodes.old }
+    ensures nodes { HasOneMore (node_at nodes.old.items) (node_at nodes.new.items)
+        (length nodes.old.items) parent letter }
+{
+    let number = nodes.len() as u32;
+    let above = nodes[parent as usize];
+    nodes.push_reserved(Node {
+        letter,
+        output: 0,
+        parent,
+        first: 0,
+        next: above.first,
+        answer: NONE,
+        claim: UNCLAIMED,
+        ends: UNCLAIMED,
+    });
+    nodes[parent as usize] = Node {
+        first: number,
+        ..above
+    };
+    number
+}
