@@ -1,0 +1,9 @@
+pub mod CertifyLemmas
+pub mod Cover
+pub mod Known
+pub mod OneVerdict
+pub mod Pigeon
+pub mod Runs
+pub mod SureLemmas
+pub mod Walk
+pub mod WorkedLemmas

@@ -1,0 +1,4 @@
+pub mod Sure
+pub mod Verdict
+pub mod Worked
+pub mod bodies

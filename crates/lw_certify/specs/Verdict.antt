@@ -1,0 +1,61 @@
+-- What a model and kept answers come to: the first of six that applies.
+use Rattle.std.specs.Prelude.{◌≡◌, ℕ, ◌<◌, ◌≤◌, List, length, slice_index_or, []}
+use Rattle.std.specs.List.{All}
+use Rattle.lw_words.specs.Answer.{Answer, answer_at}
+use Rattle.lw_words.specs.First.{FailsFirst}
+use Rattle.lw_mealy.specs.Machine.{Rows, IsMachine, answer}
+use Rattle.lw_mealy.specs.Minimal.{Reached, IsMinimal}
+use Rattle.lw_mealy.specs.Gives.{Gives}
+use Rattle.lw_mealy.specs.Difference.{DifferFirst}
+use Rattle.lw_separate.specs.FirstAlike.{AreFirstAlike}
+use Rattle.lw_suite.specs.Size.{suite_size, greatest_suite}
+use Rattle.lw_suite.specs.Suite.{IsSuite}
+use Rattle.lw_cache.specs.Known.{IsKnown}
+use Rattle.lw_certify.specs.Sure.{Sure}
+use Rattle.lw_certify.specs.declared.verdict.Verdict.{Verdict}
+use Rattle.lw_certify.specs.declared.verdict.Verdict.TheVariants as verdict
+
+-- no word leads to the state, and one leads to each before it
+pub record IsFirstUnreached (a : ℕ) (h : Rows) (q : ℕ) : Type 0 where
+  pub state : q < length h
+  pub unreached : ¬ Reached a h q
+  pub before : (p : ℕ) → p < q → Reached a h p
+
+abbrev pub AllReached : ℕ → Rows → Type 0
+AllReached a h = (q : ℕ) → q < length h → Reached a h q
+
+-- the machine doesn't give this answer, from this place on, and gives those before it
+pub record DiffersAt (h : Rows) (ks : List Answer) (number place : ℕ) : Type 0 where
+  pub first : FailsFirst (λ k. answer h k.word ≡ k.outs) ks number
+  pub here : DifferFirst (answer h (answer_at ks number).word) (answer_at ks number).outs place
+
+-- the word is the first of the suite that isn't known
+pub record IsFirstMissing (a : ℕ) (h : Rows) (ks : List Answer) (k : ℕ) (word : List ℕ) : Type 0 where
+  pub suite : List (List ℕ)
+  pub whole : IsSuite a h k suite
+  pub number : ℕ
+  pub first : FailsFirst (IsKnown ks) suite number
+  pub here : word ≡ slice_index_or suite number []
+
+-- all words of the suite are known
+pub record IsCovered (a : ℕ) (h : Rows) (ks : List Answer) (k : ℕ) : Type 0 where
+  pub suite : List (List ℕ)
+  pub whole : IsSuite a h k suite
+  pub known : All (IsKnown ks) suite
+
+-- what each verdict says; each comes where none before it does
+abbrev pub IsVerdict : ℕ → Rows → List Answer → ℕ → Verdict → Type 0
+IsVerdict a h ks k (verdict.Unreached state) = IsFirstUnreached a h state
+IsVerdict a h ks k (verdict.Alike p q) = AllReached a h × AreFirstAlike a h (p, q)
+IsVerdict a h ks k (verdict.Differs number place) = IsMinimal a h × DiffersAt h ks number place
+IsVerdict a h ks k (verdict.TooLarge size) = IsMinimal a h × Gives h ks × (greatest_suite < size) × (size ≡ suite_size (length h) a k)
+IsVerdict a h ks k (verdict.Missing word) = IsMinimal a h × Gives h ks × (suite_size (length h) a k ≤ greatest_suite) × IsFirstMissing a h ks k word
+IsVerdict a h ks k verdict.Sure = IsMinimal a h × Gives h ks × (suite_size (length h) a k ≤ greatest_suite) × IsCovered a h ks k
+
+-- the completeness of the W-method: where the verdict is that the answers suffice, they do
+abbrev pub SureIsSure : Type 0
+SureIsSure = (a : ℕ) (h : Rows) (ks : List Answer) (k : ℕ) → IsMachine a h → IsVerdict a h ks k verdict.Sure → Sure a h ks k
+
+-- a machine and answers have one verdict at most
+abbrev pub OneVerdict : Type 0
+OneVerdict = (a : ℕ) (h : Rows) (ks : List Answer) (k : ℕ) (v w : Verdict) → IsVerdict a h ks k v → IsVerdict a h ks k w → v ≡ w

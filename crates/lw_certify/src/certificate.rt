@@ -1,0 +1,117 @@
+//! The verdict on a model and kept answers.
+ghost use Rattle.std.specs.Prelude.{◌≡◌, ℕ, ◌≤◌, length, map, IfOk, OnOk, IfNone, IfSome, Ok};
+ghost use Rattle.std.specs.List.{All};
+ghost use Rattle.lw_words.specs.Answer.{answers_of, IsWhole};
+ghost use Rattle.lw_words.specs.Word.{IsWord};
+ghost use Rattle.lw_mealy.specs.Gives.{Gives};
+ghost use Rattle.lw_mealy.specs.Limits.{IsWithinLimits};
+ghost use Rattle.lw_mealy.specs.Minimal.{IsMinimal};
+ghost use Rattle.lw_separate.specs.Least.{AreLeastAccess};
+ghost use Rattle.lw_certify.specs.Sure.{Sure};
+ghost use Rattle.lw_certify.specs.Verdict.{IsVerdict, IsFirstUnreached, AllReached, DiffersAt};
+ghost use Rattle.lw_certify.specs.bodies.Access.{IsAccess};
+ghost use Rattle.lw_certify.specs.declared.verdict.Verdict.{Verdict as Came};
+
+use crate::Verdict;
+use crate::missing::first_missing;
+use lw_cache::Cache;
+use lw_mealy::Mealy;
+use lw_separate::{access_words, first_alike};
+use lw_suite::{Suite, SuiteFault};
+use lw_words::{Kept, NoMemory, Words};
+use std::alloc::Global;
+
+/// The least access words of a machine's states, or the least state that no word reaches.
+#[derive(Drop)]
+enum Access {
+    Words(Words),
+    Unreached(u16),
+}
+
+/// The least access words, one for each state, or the first state that has none.
+fn find_access(alloc: Global, h: &Mealy) -> Result<Access, NoMemory>
+    ensures access { IfOk result (IsAccess h.now.inputs h.now.rows) }
+    ensures complete { OnOk result (IsWithinLimits h.now) }
+{
+    let mut found = access_words(alloc, h)?;
+    let mut words = Words::new(alloc);
+    for state in 0..h.states() {
+        let Some(word) = found[usize::from(state)].take() else {
+            return Ok(Access::Unreached(state));
+        };
+        let Ok(()) = words.push(word) else {
+            return Err(NoMemory);
+        };
+    }
+    Ok(Access::Words(words))
+}
+
+/// The number of the first answer that a machine doesn't give, and its first different place.
+fn first_difference(h: &Mealy, kept: &Kept) -> Option<(usize, usize)>
+    requires letters { All (λ k. IsWord h.now.inputs k.word) (answers_of kept.now.answers) }
+    requires whole { All IsWhole (answers_of kept.now.answers) }
+    ensures none { IfNone result (Gives h.now.rows (answers_of kept.now.answers)) }
+    ensures some { IfSome result (λ at. DiffersAt h.now.rows (answers_of kept.now.answers) at.0 at.1) }
+{
+    for number in 0..kept.len() {
+        let answer = kept.get(number);
+        if let Some(place) = h.agrees(&answer.word, &answer.outs) {
+            return Some((number, place));
+        }
+    }
+    None
+}
+
+/// The verdict on a minimal model that gives the kept answers: whether they answer its suite.
+fn certify_suite(
+    alloc: Global,
+    h: &Mealy,
+    cache: &Cache,
+    access: Words,
+    extra: u8,
+) -> Result<Verdict, NoMemory>
+    requires few { extra ≤ 4 }
+    requires minimal { IsMinimal h.now.inputs h.now.rows }
+    requires least { AreLeastAccess h.now.inputs h.now.rows access }
+    requires given { Gives h.now.rows (answers_of cache.now.kept) }
+    ensures verdict { IfOk result (IsVerdict h.now.inputs h.now.rows
+        (answers_of cache.now.kept) extra) }
+{
+    let suite = match Suite::with_access(alloc, h, access, extra) {
+        Ok(suite) => suite,
+        Err(SuiteFault::TooLarge(size)) => return Ok(Verdict::TooLarge(size)),
+        Err(SuiteFault::NoMemory) => return Err(NoMemory),
+    };
+    match first_missing(alloc, cache, suite)? {
+        Some(word) => Ok(Verdict::Missing(word)),
+        None => Ok(Verdict::Sure),
+    }
+}
+
+/// The verdict on a model and the kept answers of a cache, for `extra` states more: the first that applies of
+/// an unreached state, two states that agree on all words, an answer that the model doesn't give, a suite that is too
+/// large, a word of the suite that isn't known, and `Sure`. Finds the access words, the first alike pair and the separating
+/// words once, and holds one chunk of the suite at a time (Vasilevskii 1973, Chow 1978).
+///
+/// # Errors
+/// Only where memory runs out.
+pub fn certify(alloc: Global, h: &Mealy, cache: &Cache, extra: u8) -> Result<Verdict, NoMemory>
+    requires few { extra ≤ 4 }
+    requires letters { All (λ k. IsWord h.now.inputs k.word) (answers_of cache.now.kept) }
+    ensures verdict { IfOk result (IsVerdict h.now.inputs h.now.rows
+        (answers_of cache.now.kept) extra) }
+    ensures sure { result ≡ Ok Came.Sure →
+        Sure h.now.inputs h.now.rows (answers_of cache.now.kept) extra }
+{
+    let access = match find_access(alloc, h)? {
+        Access::Words(words) => words,
+        Access::Unreached(state) => return Ok(Verdict::Unreached(state)),
+    };
+    if let Some((p, q)) = first_alike(alloc, h)? {
+        return Ok(Verdict::Alike(p, q));
+    }
+    if let Some((answer, place)) = first_difference(h, cache.kept()) {
+        return Ok(Verdict::Differs { answer, place });
+    }
+    certify_suite(alloc, h, cache, access, extra)
+}

@@ -1,0 +1,11 @@
+//! The final certificate: whether kept answers fix a model among all machines of not many more states.
+#![tactic(auto)]
+
+mod certificate;
+mod laws;
+mod missing;
+mod verdict;
+
+pub use certificate::certify;
+pub use laws::{sure_is_not_vacuous, sure_is_sure, verdict_is_unique};
+pub use verdict::Verdict;
