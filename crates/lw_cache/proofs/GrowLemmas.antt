@@ -11,7 +11,7 @@ module _ (ks more : List Answer) where
   same : (i : ℕ) → i < length ks → answer_at (ks ++ more) i ≡ answer_at ks i
   same i lt = get_or_append_left ks more (record { word = []; outs = [] }) i lt
 
-  after_stays : (n : ℕ) (k : Answer) → n ≤ length ks → IsClearAfter (ks ++ more) n k ↔ IsClearAfter ks n k
+  pub after_stays : (n : ℕ) (k : Answer) → n ≤ length ks → IsClearAfter (ks ++ more) n k ↔ IsClearAfter ks n k
   after_stays zero k le = (λ c. c, λ c. c)
   after_stays (suc n) k le =
       let e : answer_at (ks ++ more) n ≡ answer_at ks n = same n (omega arith) in

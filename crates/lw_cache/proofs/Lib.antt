@@ -1,11 +1,20 @@
+mod AnswerLemmas
 pub mod ClashLemmas
 pub mod CrowdLemmas
+mod ExtendLemmas
 pub mod GrowLemmas
+mod KeepLemmas
 pub mod KnownLemmas
 mod LookLemmas
+mod MoreLemmas
 mod PlainLemmas
 mod ReckonLemmas
+mod RoomLemmas
+mod RootLemmas
+mod ShapeLemmas
 mod StoredLemmas
+mod ToldLemmas
 mod TrieLemmas
 mod UpLemmas
 mod WalkLemmas
+mod WholeLemmas

@@ -29,7 +29,7 @@ pub record IsHere (nodes : List Node) (w : List ℕ) (i : ℕ) (b : Node) : Type
 pub here : (slice nodes : List Node) (v w : List ℕ) (i : ℕ) (b : Node) → slice ≡ nodes → v ≡ w → IsFound (node_at slice) (length slice) v i → i ≢ 0 → b ≡ get_or nodes i b → IsHere nodes w i b
 here slice nodes v w i b same is found some at =
     let f : IsFound (node_at nodes) (length nodes) w i =
-        subst (λ (u : List ℕ). IsFound (node_at nodes) (length nodes) u i) is (subst (λ (l : List Node). IsFound (node_at l) (length l) v i) same found) in
+    subst (λ (u : List ℕ). IsFound (node_at nodes) (length nodes) u i) is (subst (λ (l : List Node). IsFound (node_at l) (length l) v i) same found) in
     ⊎_elim
     (λ (none : (i ≡ 0) × ((j : ℕ) → 0 < j → j < length nodes → IsPrefix w (word_of (node_at nodes) j) → w ≡ [])). absurd (some none.0))
     (λ (r : (0 < i) × (i < length nodes) × (word_of (node_at nodes) i ≡ w)).
@@ -56,7 +56,7 @@ module _ (nodes : List Node) (held : List Held) (kept : List KeptAnswer) (words 
   pub look_missing : (slice : List Node) (u w : List ℕ) (i k : ℕ) → slice ≡ nodes → u ≡ w → IsFound (node_at slice) (length slice) u i → i ≡ 0 → k ≡ length w → k ≢ 0 → Stands (answers_of v.kept) v.claims w No
   look_missing slice u w i k same is found none long some =
       let f : IsFound (node_at nodes) (length nodes) w i =
-          subst (λ (x : List ℕ). IsFound (node_at nodes) (length nodes) x i) is (subst (λ (l : List Node). IsFound (node_at l) (length l) u i) same found) in
+      subst (λ (x : List ℕ). IsFound (node_at nodes) (length nodes) x i) is (subst (λ (l : List Node). IsFound (node_at l) (length l) u i) same found) in
       of_view w No (stands_no nodes held kept v.claims (ap (λ (c : Caching). c.claims) view) s w (filled w k long some)
       (⊎_elim
       (λ (r : (i ≡ 0) × ((j : ℕ) → 0 < j → j < length nodes → IsPrefix w (word_of (node_at nodes) j) → w ≡ [])). r.1)
@@ -95,10 +95,9 @@ module _ (nodes : List Node) (held : List Held) (kept : List KeptAnswer) (words 
       let number : (node_at nodes i).answer ≡ b.answer = ap (λ (x : Node). x.answer) h.node in
       let is : answer_at (answers_of kept) b.answer ≡ answer_of k = kept_at kept b.answer k lt at in
       let in_word : IsPrefix w (answer_at (answers_of kept) b.answer).word =
-          subst (λ (u : List ℕ). IsPrefix u (answer_at (answers_of kept) b.answer).word) h.word (subst (λ (a : ℕ). IsPrefix (word_of (node_at nodes) i) (answer_at (answers_of kept) a).word) number r.1) in
-      let whole : length (answer_at (answers_of kept) b.answer).outs ≡ length (answer_at (answers_of kept) b.answer).word = s.whole b.answer (record { word = []; outs = [] }) (omega (arith, lt, kept_count kept)) in
-      (
+      subst (λ (u : List ℕ). IsPrefix u (answer_at (answers_of kept) b.answer).word) h.word (subst (λ (a : ℕ). IsPrefix (word_of (node_at nodes) i) (answer_at (answers_of kept) a).word) number r.1) in
+      let whole : length (answer_at (answers_of kept) b.answer).outs ≡ length (answer_at (answers_of kept) b.answer).word = s.whole b.answer (record { word = []; outs = [] }) (omega (arith, lt, kept_count kept)) in (
         omega (arith, prefix_long w (answer_at (answers_of kept) b.answer).word in_word, whole, ap (λ (a : Answer). length a.outs) is),
         subst (λ (l : List KeptAnswer). Reads (answers_of l) w (take (length w) k.outs)) (ap (λ (c : Caching). c.kept) view)
-        (inr (b.answer, subst (IsClear (answers_of kept)) number r.0, in_word, ap (λ (a : Answer). take (length w) a.outs) (sym is)))
+            (inr (b.answer, subst (IsClear (answers_of kept)) number r.0, in_word, ap (λ (a : Answer). take (length w) a.outs) (sym is))),
       )

@@ -27,8 +27,7 @@ least_begin at n p t lt =
 pub least_more : (at : ℕ → Node) (n p c least now : ℕ) → IsTrie at n → IsLeastTo at n p c least → c ≢ 0 → now ≡ min least (at c).claim → IsLeastTo at n p (at c).next now × ((at c).next < c)
 least_more at n p c least now t was other is =
     let child : IsChildOf at p n c = ⊎_elim (λ (e : c ≡ 0). absurd (other e)) (λ (k : IsChildOf at p n c). k) was.is in
-    let older = t.next c child.0 child.1 in
-    (
+    let older = t.next c child.0 child.1 in (
       record {
         is = ⊎_elim (λ (e : (at c).next ≡ 0). inl e) (λ (k : IsChildOf at (at c).parent c (at c).next). inr (k.0, omega (arith, k.1, child.1), k.2 ∙ child.2)) older.is;
         own = omega (arith, was.own, is);
@@ -44,7 +43,7 @@ least_more at n p c least now t was other is =
             (λ (less : (at c).claim < least). inr (c, child, omega (arith, is, less)))
             (order least (at c).claim);
       },
-      ⊎_elim (λ (e : (at c).next ≡ 0). omega (arith, e, child.0)) (λ (k : IsChildOf at (at c).parent c (at c).next). k.1) older.is
+      ⊎_elim (λ (e : (at c).next ≡ 0). omega (arith, e, child.0)) (λ (k : IsChildOf at (at c).parent c (at c).next). k.1) older.is,
     )
   where
     order : (a b : ℕ) → (a ≤ b) ⊎ (b < a)
@@ -104,22 +103,21 @@ reckon_end was at n node r e i pos lt = r.least i pos lt (λ same. let no : i �
 -- the claim of the node is set right: its parent's may be wrong now
 pub reckon_more : (was at now : ℕ → Node) (n node claim : ℕ) → IsTrie was n → IsReckoned was at n node → node ≢ 0 → IsLeast at n node claim
     → now node ≡ with_claim (at node) claim → ((i : ℕ) → i ≢ node → now i ≡ at i) → IsReckoned was now n (at node).parent × ((at node).parent < node)
-reckon_more was at now n node claim t r some here set others =
-    (
-      record {
-        within = omega (arith, up, r.within);
-        same = λ i. ⊎_elim
-            (λ (is : i ≡ node). subst (λ (k : ℕ). now k ≡ with_claim (was k) (now k).claim) (sym is)
-            (set ∙ (ap (λ (b : Node). with_claim b claim) (r.same node) ∙ ap (with_claim (was node)) (ap (λ (b : Node). b.claim) (sym set)))))
-            (λ (other : i ≡ node → ⊥). others i other ∙ (r.same i ∙ ap (λ (b : Node). with_claim (was i) b.claim) (sym (others i other))))
-            (cases_eq i node);
-        least = λ i pos lt apart. ⊎_elim
-            (λ (is : i ≡ node). subst (λ (k : ℕ). IsLeast now n k (now k).claim) (sym is) (subst (IsLeast now n node) (ap (λ (b : Node). b.claim) (sym set)) own))
-            (λ (other : i ≡ node → ⊥). subst (IsLeast now n i) (ap (λ (b : Node). b.claim) (sym (others i other))) (elsewhere i other apart (r.least i pos lt other)))
-            (cases_eq i node);
-      },
-      up
-    )
+reckon_more was at now n node claim t r some here set others = (
+  record {
+    within = omega (arith, up, r.within);
+    same = λ i. ⊎_elim
+        (λ (is : i ≡ node). subst (λ (k : ℕ). now k ≡ with_claim (was k) (now k).claim) (sym is)
+        (set ∙ (ap (λ (b : Node). with_claim b claim) (r.same node) ∙ ap (with_claim (was node)) (ap (λ (b : Node). b.claim) (sym set)))))
+        (λ (other : i ≡ node → ⊥). others i other ∙ (r.same i ∙ ap (λ (b : Node). with_claim (was i) b.claim) (sym (others i other))))
+        (cases_eq i node);
+    least = λ i pos lt apart. ⊎_elim
+        (λ (is : i ≡ node). subst (λ (k : ℕ). IsLeast now n k (now k).claim) (sym is) (subst (IsLeast now n node) (ap (λ (b : Node). b.claim) (sym set)) own))
+        (λ (other : i ≡ node → ⊥). subst (IsLeast now n i) (ap (λ (b : Node). b.claim) (sym (others i other))) (elsewhere i other apart (r.least i pos lt other)))
+        (cases_eq i node);
+  },
+  up,
+)
   where
     up : (at node).parent < node
     up = omega (arith, parent_same was at r.same node, t.up node (omega (arith, some)) r.within)

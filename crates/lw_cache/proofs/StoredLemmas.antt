@@ -133,22 +133,21 @@ module _ (nodes : List Node) (held : List Held) (kept : List KeptAnswer) (cs : L
       let h = (claimed_is (node_at nodes) (length nodes) s.trie held w m).0 (subst (λ (l : List Claim). IsClaimedBy l w m) (sym claims) by) in
       let e = s.ends.within h.0 h.1 in
       let up : (node_at nodes i).claim ≤ (node_at nodes (held_at held h.0).end).claim =
-          least_above (node_at nodes) (length nodes) s.trie s.least (held_at held h.0).end i (held_at held h.0).end (omega arith) pos lt e.1 (subst (λ (v : List ℕ). IsPrefix v (word_of (node_at nodes) (held_at held h.0).end)) (sym is) h.3) in
+      least_above (node_at nodes) (length nodes) s.trie s.least (held_at held h.0).end i (held_at held h.0).end (omega arith) pos lt e.1 (subst (λ (v : List ℕ). IsPrefix v (word_of (node_at nodes) (held_at held h.0).end)) (sym is) h.3) in
       let own : (node_at nodes (held_at held h.0).end).claim ≤ (node_at nodes (held_at held h.0).end).ends = (s.least (held_at held h.0).end e.0 e.1).own in
       (omega (arith, up, own, s.ends.told h.0 h.1, h.2), omega (arith, s.ends.few h.0 h.1, h.2))
 
   pub stands_pending : (w : List ℕ) (i : ℕ) → length (answers_of kept) ≤ no_answer → 0 < i → i < length nodes → word_of (node_at nodes) i ≡ w → (node_at nodes i).answer ≡ no_answer → (node_at nodes i).claim ≢ no_claim
       → Stands (answers_of kept) cs w (Pending (node_at nodes i).claim) × ((node_at nodes i).claim < no_claim)
   stands_pending w i few pos lt is none some =
-      let h = held_below (node_at nodes) (length nodes) s.trie held s.ends s.least (length nodes) i (omega arith) pos lt some in
-      (
+      let h = held_below (node_at nodes) (length nodes) s.trie held s.ends s.least (length nodes) i (omega arith) pos lt some in (
         (
           unknown_at w i few pos lt is none,
           subst (λ (l : List Claim). IsClaimedBy l w (node_at nodes i).claim) claims ((claimed_is (node_at nodes) (length nodes) s.trie held w (node_at nodes i).claim).1
-          (h.0, h.1, h.2, subst (λ (v : List ℕ). IsPrefix v (word_of (node_at nodes) (held_at held h.0).end)) is h.3)),
-          λ m by. (at_most w i m pos lt is by).0
+              (h.0, h.1, h.2, subst (λ (v : List ℕ). IsPrefix v (word_of (node_at nodes) (held_at held h.0).end)) is h.3)),
+          λ m by. (at_most w i m pos lt is by).0,
         ),
-        omega (arith, s.ends.few h.0 h.1, h.2)
+        omega (arith, s.ends.few h.0 h.1, h.2),
       )
 
   pub stands_free : (w : List ℕ) (i : ℕ) → length (answers_of kept) ≤ no_answer → 0 < i → i < length nodes → word_of (node_at nodes) i ≡ w → (node_at nodes i).answer ≡ no_answer → (node_at nodes i).claim ≡ no_claim → Stands (answers_of kept) cs w No

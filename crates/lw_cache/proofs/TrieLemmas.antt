@@ -43,7 +43,7 @@ same_node at n t (suc most) (suc i) (suc j) le li lj e =
     let up : (at (suc i)).parent < suc i = t.up (suc i) (omega arith) li in
     let other : (at (suc j)).parent < suc j = t.up (suc j) (omega arith) lj in
     let both = same_from_push (word_of at (at (suc i)).parent) (word_of at (at (suc j)).parent) (at (suc i)).letter (at (suc j)).letter
-        (sym (word_step at n t (suc i) (omega arith) li) ∙ (e ∙ word_step at n t (suc j) (omega arith) lj)) in
+    (sym (word_step at n t (suc i) (omega arith) li) ∙ (e ∙ word_step at n t (suc j) (omega arith) lj)) in
     let parents : (at (suc i)).parent ≡ (at (suc j)).parent = same_node at n t most (at (suc i)).parent (at (suc j)).parent (omega arith) (omega arith) (omega arith) both.0 in
     ⊎_elim
     (λ (is : suc i ≡ suc j). is)

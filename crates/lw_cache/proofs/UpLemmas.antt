@@ -30,7 +30,7 @@ module _ (at : ℕ → Node) (n : ℕ) (t : IsTrie at n) (w : List ℕ) (node de
   up_more =
       let parent : (at node).parent < node = t.up node up_positive u.within in
       let here : word_of at node ≡ take (depth - 1) w ++ get_or w (depth - 1) 0 ∷ [] =
-          u.front ∙ (ap (λ (k : ℕ). take k w) (again depth some) ∙ take_more w (depth - 1) 0 (omega (arith, u.short, some))) in
+      u.front ∙ (ap (λ (k : ℕ). take k w) (again depth some) ∙ take_more w (depth - 1) 0 (omega (arith, u.short, some))) in
       record {
         within = omega (arith, parent, u.within);
         short = omega (arith, u.short);
@@ -122,7 +122,7 @@ module _ (was : ℕ → Node) (n : ℕ) (t : IsTrie was n) (w outs : List ℕ) (
   mark_here at now m none here others =
       let is : at node ≡ was node = mark_was at m none in
       let told : now node ≡ marked (was node) answer (last_out outs (word_of was node)) =
-          here ∙ (ap (λ (b : Node). marked b answer (get_or outs (depth - 1) 0)) is ∙ ap (marked (was node) answer) (sym (up_out was n t w node depth u some outs))) in
+      here ∙ (ap (λ (b : Node). marked b answer (get_or outs (depth - 1) 0)) is ∙ ap (marked (was node) answer) (sym (up_out was n t w node depth u some outs))) in
       let front : IsPrefix (word_of was node) w = subst (λ (v : List ℕ). IsPrefix v w) (sym u.front) (prefix_from_take (take depth w) w (ap (λ (k : ℕ). take k w) (length-take-le depth w u.short))) in
       record {
         each = λ i. ⊎_elim

@@ -28,8 +28,7 @@ passing_begin at n p letter t lt =
 pub passing_more : (at : ℕ → Node) (n p letter c : ℕ) → IsTrie at n → IsPassing at n p letter c → c ≢ 0 → (at c).letter ≢ letter → IsPassing at n p letter (at c).next × ((at c).next < c) × (c < n)
 passing_more at n p letter c t was some other =
     let child : IsChildOf at p n c = ⊎_elim (λ (e : c ≡ 0). absurd (some e)) (λ (k : IsChildOf at p n c). k) was.is in
-    let older = t.next c child.0 child.1 in
-    (
+    let older = t.next c child.0 child.1 in (
       record {
         is = ⊎_elim (λ (e : (at c).next ≡ 0). inl e) (λ (k : IsChildOf at (at c).parent c (at c).next). inr (k.0, omega (arith, k.1, child.1), k.2 ∙ child.2)) older.is;
         passed = λ j k later. ⊎_elim
@@ -41,7 +40,7 @@ passing_more at n p letter c t was some other =
             (cases_order j c);
       },
       ⊎_elim (λ (e : (at c).next ≡ 0). omega (arith, e, child.0)) (λ (k : IsChildOf at (at c).parent c (at c).next). k.1) older.is,
-      child.1
+      child.1,
     )
 
 pub passing_here : (at : ℕ → Node) (n p letter c : ℕ) → IsPassing at n p letter c → c ≢ 0 → (at c).letter ≡ letter → IsChildAt at n p letter c
@@ -65,7 +64,7 @@ down_begin at n w lt = record { node_within = lt; front = refl }
 pub down_more : (at : ℕ → Node) (n : ℕ) (w : List ℕ) (node depth c : ℕ) → IsTrie at n → IsDown at n w node depth → depth < length w → IsChildAt at n node (get_or w depth 0) c → c ≢ 0 → IsDown at n w c (depth + 1)
 down_more at n w node depth c t was lt child some =
     let k : IsChildOf at node n c × ((at c).letter ≡ get_or w depth 0) =
-        ⊎_elim (λ (e : (c ≡ 0) × ((j : ℕ) → IsChildOf at node n j → (at j).letter ≢ get_or w depth 0)). absurd (some e.0)) (λ (r : IsChildOf at node n c × ((at c).letter ≡ get_or w depth 0)). r) child in
+    ⊎_elim (λ (e : (c ≡ 0) × ((j : ℕ) → IsChildOf at node n j → (at j).letter ≢ get_or w depth 0)). absurd (some e.0)) (λ (r : IsChildOf at node n c × ((at c).letter ≡ get_or w depth 0)). r) child in
     record {
       node_within = k.0.1;
       front = word_step at n t c k.0.0 k.0.1 ∙ (ap (λ (p : ℕ). word_of at p ++ (at c).letter ∷ []) k.0.2 ∙ (ap (λ (u : List ℕ). u ++ (at c).letter ∷ []) was.front ∙ (ap (λ (x : ℕ). take depth w ++ x ∷ []) k.1 ∙ sym (take_more w depth 0 lt))));
@@ -119,9 +118,12 @@ reached_found at n w node depth t r all =
 
 pub reached_none : (at : ℕ → Node) (n : ℕ) (w : List ℕ) (node depth : ℕ) → IsTrie at n → IsReached at n w node depth → depth < length w → IsFound at n w 0
 reached_none at n w node depth t r lt =
-    inl (refl, λ i pos li p.
-        let f = front_node at n t i (depth + 1) li (omega (arith, prefix_long w (word_of at i) p)) in
-        absurd (reached_last at n w node depth t r lt f.0 f.1 (f.2 ∙ prefix_take (depth + 1) w (word_of at i) p (omega arith))))
+    inl (
+      refl,
+      λ i pos li p.
+          let f = front_node at n t i (depth + 1) li (omega (arith, prefix_long w (word_of at i) p)) in
+          absurd (reached_last at n w node depth t r lt f.0 f.1 (f.2 ∙ prefix_take (depth + 1) w (word_of at i) p (omega arith))),
+    )
 
 pub found_none : (at : ℕ → Node) (n : ℕ) (w : List ℕ) → n ≡ 0 → IsFound at n w 0
 found_none at n w e = inl (refl, λ i pos lt p. absurd (omega (arith, e, lt)))

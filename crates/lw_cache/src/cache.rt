@@ -1,5 +1,5 @@
 //! The cache: what was answered, what is being asked, and how any word stands.
-ghost use Rattle.std.specs.Prelude.{◌≡◌, ℕ, ◌+◌, ◌<◌, ◌≤◌, List, [], ◌∷◌, ◌++◌, length, IfOk, OnOk, OnErr, IfErr, MatchOption};
+ghost use Rattle.std.specs.Prelude.{◌≡◌, ℕ, ◌+◌, ◌<◌, ◌≤◌, List, [], ◌∷◌, ◌++◌, length, IfOk, OnOk, OnErr, IfErr, MatchOption, IfNone, IfSome, IsOk, Err, vec_len, vec_capacity};
 ghost use Rattle.std.specs.List.{All};
 ghost use Rattle.lw_words.specs.Answer.{answer_of, answers_of, IsWhole};
 ghost use Rattle.lw_words.specs.Word.{IsWord};
@@ -9,8 +9,10 @@ ghost use Rattle.lw_cache.specs.Clash.{IsClearAfter};
 ghost use Rattle.lw_cache.specs.FirstClash.{ClashesFirst, SameKnown, StopsKeeping};
 ghost use Rattle.lw_cache.specs.Known.{IsKnown, Reads};
 ghost use Rattle.lw_cache.specs.Standing.{Stands, CountsNoted};
+ghost use Rattle.lw_cache.specs.bodies.Trie.{root};
 ghost use Rattle.lw_cache.specs.declared.known.Known.TheVariants as Known;
 
+use crate::filling::tell;
 use crate::node::{Held, NONE, Node, UNCLAIMED};
 use crate::trie::find;
 use crate::{Clash, KeepStop, Known};
@@ -114,9 +116,20 @@ impl Cache {
         ensures kept { self.new.kept ≡ self.old.kept }
         ensures claims { self.new.claims ≡ self.old.claims }
         ensures room { OnOk result ((words ≤ self.new.words) × (letters ≤ self.new.letters)) }
-        ensures more { OnOk result ((self.old.words ≤ self.new.words) × (self.old.letters ≤ self.new.letters)) }
+        ensures more { OnOk result ((self.old.words ≤ self.new.words) ×
+            (self.old.letters ≤ self.new.letters)) }
         ensures err { OnErr result (self.new ≡ self.old) }
     {
+        let held = self.held.len();
+        if words > MOST - (self.kept.len() + held) || letters >= MOST - self.nodes.len() {
+            return Err(NoMemory);
+        }
+        self.kept.reserve(held + words)?;
+        self.held.reserve(words)?;
+        self.nodes.reserve(letters + 1)?;
+        plant(&mut self.nodes);
+        self.words = self.words.max(words);
+        self.letters = self.letters.max(letters);
         Ok(())
     }
 
@@ -176,12 +189,64 @@ impl Cache {
         requires unclaimed { self.old.claims ≡ [] }
         ensures ok { OnOk result (IsClearAfter (answers_of self.old.kept) (length self.old.kept)
             (answer_of (kept_answer instance run word outs))) }
-        ensures kept { OnOk result (self.new.kept ≡ self.old.kept ++ kept_answer instance run word outs ∷ []) }
-        ensures err { IfErr result (StopsKeeping self.old self.new (kept_answer instance run word outs)) }
+        ensures kept { OnOk result (self.new.kept ≡
+            self.old.kept ++ kept_answer instance run word outs ∷ []) }
+        ensures err { IfErr result (StopsKeeping self.old self.new
+            (kept_answer instance run word outs)) }
         ensures claims { self.new.claims ≡ [] }
-        ensures room { OnOk result ((self.old.words ≤ self.new.words + 1) × (self.old.letters ≤ self.new.letters + length word)) }
+        ensures room { OnOk result ((self.old.words ≤ self.new.words + 1) ×
+            (self.old.letters ≤ self.new.letters + length word)) }
     {
-        Ok(())
+        if self.reserve(1, word.len()).is_err() {
+            return Err(KeepStop::NoMemory);
+        }
+        match self.keep_reserved(word, outs, instance, run) {
+            Ok(()) => Ok(()),
+            Err(clash) => Err(KeepStop::Clash(clash)),
+        }
+    }
+
+    /// Keeps an answer for which there is room.
+    fn keep_reserved(
+        &mut self,
+        word: Word,
+        outs: Word,
+        instance: u32,
+        run: u64,
+    ) -> Result<(), Clash>
+        requires lengths { length outs ≡ length word }
+        requires words { 1 ≤ self.old.words }
+        requires letters { length word ≤ self.old.letters }
+        ensures kept { self.new.kept ≡ self.old.kept ++ kept_answer instance run word outs ∷ [] }
+        ensures claims { self.new.claims ≡ self.old.claims }
+        ensures words { self.new.words + 1 ≡ self.old.words }
+        ensures letters { self.new.letters + length word ≡ self.old.letters }
+        ensures ok { OnOk result (IsClearAfter (answers_of self.old.kept) (length self.old.kept)
+            (answer_of (kept_answer instance run word outs))) }
+        ensures err { IfErr result (ClashesFirst (answers_of self.old.kept)
+            (answer_of (kept_answer instance run word outs))) }
+        ensures known { OnErr result (SameKnown (answers_of self.old.kept)
+            (answers_of self.new.kept)) }
+    {
+        let number = self.kept.len();
+        let found = tell(
+            &mut self.nodes,
+            word.as_slice(),
+            outs.as_slice(),
+            number as u32,
+        );
+        self.words -= 1;
+        self.letters -= word.len();
+        put(
+            &mut self.kept,
+            KeptAnswer {
+                instance,
+                run,
+                word,
+                outs,
+            },
+        );
+        clash_of(found, number)
     }
 
     /// The kept answers.
@@ -222,5 +287,46 @@ impl Cache {
         ensures { IfOk result (DiffersFirst m.now.rows (answers_of self.now.kept)) }
     {
         Ok(None)
+    }
+}
+
+/// Puts the root into nodes that have none yet.
+fn plant(nodes: &mut Vec<Node>)
+    requires room { vec_len nodes.old < vec_capacity nodes.old }
+    ensures first { nodes.old.items ≡ [] → nodes.new.items ≡ root ∷ [] }
+    ensures later { 0 < length nodes.old.items → nodes.new.items ≡ nodes.old.items }
+    ensures some { 0 < vec_len nodes.new }
+    ensures len { vec_len nodes.new ≤ vec_len nodes.old + 1 }
+    ensures capacity { vec_capacity nodes.new ≡ vec_capacity nodes.old }
+{
+    if nodes.is_empty() {
+        nodes.push_reserved(Node::ROOT);
+    }
+}
+
+/// Puts an answer last, for which there is room.
+fn put(kept: &mut Kept, answer: KeptAnswer)
+    requires { 1 ≤ kept.old.room }
+    ensures answers { kept.new.answers ≡ kept.old.answers ++ answer ∷ [] }
+    ensures room { kept.old.room ≤ kept.new.room + 1 }
+{
+    let pushed = kept.push(answer);
+    let Ok(()) = pushed else {
+        unreachable!();
+    };
+}
+
+/// The clash of a new answer with what was found.
+fn clash_of(found: Option<(u32, usize)>, second: usize) -> Result<(), Clash>
+    ensures none { IfNone found (IsOk result) }
+    ensures some { IfSome found (λ f. result ≡ Err (record { first = f.0; second = second; place = f.1 })) }
+{
+    match found {
+        None => Ok(()),
+        Some((first, place)) => Err(Clash {
+            first: first as usize,
+            second,
+            place,
+        }),
     }
 }

@@ -1,9 +1,10 @@
 //! A new answer: where it clashes with those before it, and the nodes that tell it.
-ghost use Rattle.std.specs.Prelude.{◌≡◌, ◌≢◌, ℕ, ◌<◌, ◌≤◌, List, length};
+ghost use Rattle.std.specs.Prelude.{◌≡◌, ◌≢◌, ℕ, ◌+◌, ◌<◌, ◌≤◌, List, length, vec_len, vec_capacity, MatchOption};
 ghost use Rattle.lw_cache.specs.bodies.Trie.{node_at, word_of, IsTrie, no_answer};
-ghost use Rattle.lw_cache.specs.bodies.Filling.{ComparedTo, AreMarked};
+ghost use Rattle.lw_cache.specs.bodies.Filling.{ComparedTo, AreMarked, IsTold};
 
 use crate::node::{NONE, Node};
+use crate::trie::{extend, reach};
 
 /// The answer whose output is another one at the first place on the way to a node, and that place; `outs` are the outputs
 /// of the node's word.
@@ -51,4 +52,34 @@ pub(crate) fn mark(nodes: &mut [Node], end: u32, outs: &[u16], answer: u32)
         }
         node = here.parent;
     }
+}
+
+/// Lets the nodes tell a new answer; or answers where it clashes, and changes nothing then.
+pub(crate) fn tell(
+    nodes: &mut Vec<Node>,
+    word: &[u16],
+    outs: &[u16],
+    answer: u32,
+) -> Option<(u32, usize)>
+    requires trie { IsTrie (node_at nodes.old.items) (length nodes.old.items) }
+    requires root { 0 < length nodes.old.items }
+    requires lengths { length outs.now ≡ length word.now }
+    requires room { vec_len nodes.old + length word.now ≤ vec_capacity nodes.old }
+    requires few { vec_len nodes.old + length word.now ≤ no_answer }
+    requires answer { answer < no_answer }
+    ensures len { vec_len nodes.new ≤ vec_len nodes.old + length word.now }
+    ensures more { vec_len nodes.old ≤ vec_len nodes.new }
+    ensures capacity { vec_capacity nodes.new ≡ vec_capacity nodes.old }
+    ensures found { ComparedTo (node_at nodes.old.items) (length nodes.old.items) word.now outs.now
+        0 result }
+    ensures told { MatchOption result (IsTold nodes.old.items nodes.new.items word.now outs.now
+        answer) (λ _. nodes.new.items ≡ nodes.old.items) }
+{
+    let (node, depth) = reach(nodes, word);
+    if let Some(found) = compare(nodes, node, &outs[..depth]) {
+        return Some(found);
+    }
+    let end = extend(nodes, node, &word[depth..]);
+    mark(nodes.as_mut_slice(), end, outs, answer);
+    None
 }

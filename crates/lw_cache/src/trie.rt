@@ -2,7 +2,7 @@
 ghost use Rattle.std.specs.Prelude.{◌≡◌, ◌≢◌, ◌⊎◌, ℕ, ◌+◌, ◌<◌, ◌≤◌, List, length, drop, slice_index, vec_len, vec_capacity};
 ghost use Rattle.lw_words.specs.Word.{IsPrefix};
 ghost use Rattle.lw_cache.specs.bodies.Trie.{node_at, word_of, IsTrie, IsChildOf, no_answer};
-ghost use Rattle.lw_cache.specs.bodies.Filling.{HasOneMore, IsChildAt, IsReached, IsFound};
+ghost use Rattle.lw_cache.specs.bodies.Filling.{HasOneMore, IsExtended, IsChildAt, IsReached, IsFound};
 
 use crate::node::{NONE, Node, UNCLAIMED};
 
@@ -80,4 +80,26 @@ fn append(nodes: &mut Vec<Node>, parent: u32, letter: u16) -> u32
         ..above
     };
     number
+}
+
+/// Puts a node for each of these letters below a node, each below the one before, and answers the last of them, or the
+/// node. It has no child with the first letter.
+pub(crate) fn extend(nodes: &mut Vec<Node>, parent: u32, letters: &[u16]) -> u32
+    requires trie { IsTrie (node_at nodes.old.items) (length nodes.old.items) }
+    requires parent { parent < length nodes.old.items }
+    requires free { 0 < length letters.now → (j : ℕ) →
+        IsChildOf (node_at nodes.old.items) parent (length nodes.old.items) j →
+        (node_at nodes.old.items j).letter ≢ slice_index letters.now 0 }
+    requires room { vec_len nodes.old + length letters.now ≤ vec_capacity nodes.old }
+    requires few { vec_len nodes.old + length letters.now ≤ no_answer }
+    ensures len { vec_len nodes.new ≡ vec_len nodes.old + length letters.now }
+    ensures capacity { vec_capacity nodes.new ≡ vec_capacity nodes.old }
+    ensures nodes { IsExtended (node_at nodes.old.items) (node_at nodes.new.items)
+        (length nodes.old.items) parent letters.now (length letters.now) result }
+{
+    let mut node = parent;
+    for letter in letters {
+        node = append(nodes, node, *letter);
+    }
+    node
 }

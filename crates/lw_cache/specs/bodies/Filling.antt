@@ -1,7 +1,7 @@
 -- What the steps of a new answer do to the nodes.
 use Rattle.std.specs.Prelude.{◌≡◌, ◌≢◌, ◌⊎◌, ℕ, ◌+◌, ◌-◌, ◌<◌, ◌≤◌, List, [], ◌∷◌, ◌++◌, length, take, drop, slice_index_or, Option, Some, None}
 use Rattle.lw_words.specs.Word.{IsPrefix}
-use Rattle.lw_cache.specs.bodies.Trie.{no_answer, no_claim, word_of, IsChildOf, last_out}
+use Rattle.lw_cache.specs.bodies.Trie.{no_answer, no_claim, node_at, word_of, IsChildOf, IsTrie, last_out}
 use Rattle.lw_cache.specs.declared.node.Node.{Node}
 
 -- the child of p with this letter, or 0 where there is none
@@ -114,3 +114,26 @@ pub record HasOneMore (was at : ℕ → Node) (n p letter : ℕ) : Type 0 where
 abbrev pub IsFound : (ℕ → Node) → ℕ → List ℕ → ℕ → Type 0
 IsFound at n w node =
     ((node ≡ 0) × ((i : ℕ) → 0 < i → i < n → IsPrefix w (word_of at i) → w ≡ [])) ⊎ ((0 < node) × (node < n) × (word_of at node ≡ w))
+
+-- the nodes with k more at their end: one for each of the first k letters, below p and each below the one before; the
+-- last of them, or p, has no child with the next letter
+pub record IsExtended (was at : ℕ → Node) (n p : ℕ) (letters : List ℕ) (k node : ℕ) : Type 0 where
+  pub trie : IsTrie at (n + k)
+  pub old : (i : ℕ) → i < n → at i ≡ with_first (was i) (at i).first
+  pub blank : (i : ℕ) → n ≤ i → i < n + k → ((at i).answer ≡ no_answer) × ((at i).claim ≡ no_claim) × ((at i).ends ≡ no_claim)
+  pub words : (i : ℕ) → n ≤ i → i < n + k → word_of at i ≡ word_of was p ++ take (i - n + 1) letters
+  pub node_within : node < n + k
+  pub node_word : word_of at node ≡ word_of was p ++ take k letters
+  pub free : k < length letters → (j : ℕ) → IsChildOf at node (n + k) j → (at j).letter ≢ slice_index_or letters k 0
+
+-- the nodes after they were made to tell a new answer: first more of them, down to its word, and then marks
+pub record IsTold (was at : List Node) (w outs : List ℕ) (answer : ℕ) : Type 0 where
+  pub mid : List Node
+  pub parent : ℕ
+  pub depth : ℕ
+  pub last : ℕ
+  pub reached : IsReached (node_at was) (length was) w parent depth
+  pub extended : IsExtended (node_at was) (node_at mid) (length was) parent (drop depth w) (length (drop depth w)) last
+  pub mid_long : length mid ≡ length was + length (drop depth w)
+  pub marks : AreMarked (node_at mid) (node_at at) (length mid) (word_of (node_at mid) last) outs answer 0
+  pub long : length at ≡ length mid

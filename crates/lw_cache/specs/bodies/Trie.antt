@@ -19,6 +19,10 @@ no_claim = 4294967296
 abbrev pub no_node : Node
 no_node = record { letter = 0; output = 0; parent = 0; first = 0; next = 0; answer = 0; claim = 0; ends = 0 }
 
+-- the empty word's node, where nothing is below it
+abbrev pub root : Node
+root = record { letter = 0; output = 0; parent = 0; first = 0; next = 0; answer = no_answer; claim = no_claim; ends = no_claim }
+
 abbrev pub node_at : List Node → ℕ → Node
 node_at nodes i = slice_index_or nodes i no_node
 

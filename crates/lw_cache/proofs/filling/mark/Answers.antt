@@ -8,7 +8,7 @@ loop-depth-preserved-then-here c =
     let within : c.loop-depth.node < length c.loop-depth.nodes = omega (arith, c.loop-depth.invariant.up.within) in
     record {
       up = mark_up (node_at c.args.nodes.now) (length c.args.nodes.now) c.requires.trie (word_of (node_at c.args.nodes.now) c.args.end) c.args.outs.now c.args.answer c.loop-depth.node c.loop-depth.depth c.loop-depth.invariant.up c.loop-depth-test.true
-      c.requires.answer (node_at c.loop-depth.nodes) c.loop-depth.invariant.marked;
+          c.requires.answer (node_at c.loop-depth.nodes) c.loop-depth.invariant.marked;
       marked = mark_here (node_at c.args.nodes.now) (length c.args.nodes.now) c.requires.trie (word_of (node_at c.args.nodes.now) c.args.end) c.args.outs.now c.args.answer c.loop-depth.node c.loop-depth.depth c.loop-depth.invariant.up c.loop-depth-test.true
           c.requires.answer (node_at c.loop-depth.nodes) _ c.loop-depth.invariant.marked c.if-here.true (node_set_same c.loop-depth.nodes c.loop-depth.node _ within) (λ i other. node_set_other c.loop-depth.nodes c.loop-depth.node i _ other);
     }

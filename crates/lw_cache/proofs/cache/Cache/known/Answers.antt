@@ -18,9 +18,9 @@ returns-then-found c =
 pub overflow_cast-result : goal.overflow_cast-result
 overflow_cast-result c =
     let r = look_pending c.self.inside.nodes.items c.self.inside.held.items c.self.inside.kept.answers _ _ c.args.self.now c.self.view_is c.self.invariant.0 (omega arith)
-        c.args.w.now c.find-node.result c.index-found.result.now
-        (here c.deref.result.now c.self.inside.nodes.items _ c.args.w.now c.find-node.result c.index-found.result.now c.deref.ensures.value c.as_slice.ensures c.find-node.ensures c.if-node-eq0.false c.index-found.ensures)
-        c.if-found.false c.if-found-ne-UNCLAIMED.true in
+    c.args.w.now c.find-node.result c.index-found.result.now
+    (here c.deref.result.now c.self.inside.nodes.items _ c.args.w.now c.find-node.result c.index-found.result.now c.deref.ensures.value c.as_slice.ensures c.find-node.ensures c.if-node-eq0.false c.index-found.ensures)
+    c.if-found.false c.if-found-ne-UNCLAIMED.true in
     let small : c.index-found.result.now.claim < no_claim = r.1 in
     omega arith
 

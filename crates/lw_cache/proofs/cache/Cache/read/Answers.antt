@@ -26,17 +26,17 @@ get-requires c =
 pub prefix-requires : goal.prefix-requires
 prefix-requires c =
     let r = outputs_seen c.self.inside.nodes.items c.self.inside.held.items c.self.inside.kept.answers _ _ c.args.self.now c.self.view_is c.self.invariant.0 (omega arith)
-        c.args.w.now c.find-node.result c.index.result.now c.get.result.now
-        (here c.deref.result.now c.self.inside.nodes.items _ c.args.w.now c.find-node.result c.index.result.now c.deref.ensures.value c.as_slice.ensures c.find-node.ensures c.if-node-eq0.false c.index.ensures)
-        c.if-answer.false c.get.ensures in
+    c.args.w.now c.find-node.result c.index.result.now c.get.result.now
+    (here c.deref.result.now c.self.inside.nodes.items _ c.args.w.now c.find-node.result c.index.result.now c.deref.ensures.value c.as_slice.ensures c.find-node.ensures c.if-node-eq0.false c.index.ensures)
+    c.if-answer.false c.get.ensures in
     let le : length c.args.w.now ≤ length c.get.result.now.outs = r.0 in
     omega arith
 
 pub returns : goal.returns
 returns c =
     let r = outputs_seen c.self.inside.nodes.items c.self.inside.held.items c.self.inside.kept.answers _ _ c.args.self.now c.self.view_is c.self.invariant.0 (omega arith)
-        c.args.w.now c.find-node.result c.index.result.now c.get.result.now
-        (here c.deref.result.now c.self.inside.nodes.items _ c.args.w.now c.find-node.result c.index.result.now c.deref.ensures.value c.as_slice.ensures c.find-node.ensures c.if-node-eq0.false c.index.ensures)
-        c.if-answer.false c.get.ensures in
+    c.args.w.now c.find-node.result c.index.result.now c.get.result.now
+    (here c.deref.result.now c.self.inside.nodes.items _ c.args.w.now c.find-node.result c.index.result.now c.deref.ensures.value c.as_slice.ensures c.find-node.ensures c.if-node-eq0.false c.index.ensures)
+    c.if-answer.false c.get.ensures in
     let is : c.in_ok-outs.outs ≡ take c.len-2.result c.get.result.now.outs = c.in_ok-outs.ensures in
     subst (λ (o : List ℕ). Reads (answers_of c.args.self.now.kept) c.args.w.now o) (sym (is ∙ ap (λ (k : ℕ). take k c.get.result.now.outs) c.len-2.ensures)) r.1
