@@ -1,0 +1,6 @@
+pub mod Outcomes
+pub mod Reading
+pub mod Reasons
+pub mod Stops
+pub mod Text
+pub mod Writing

@@ -1,0 +1,25 @@
+-- The exit status of each outcome, and which outcomes may come when.
+use Rattle.std.specs.Prelude.{◌≡◌, ◌⊎◌, ℕ}
+use Rattle.lw_report.specs.declared.outcome.Outcome.{Outcome}
+use Rattle.lw_report.specs.declared.outcome.Outcome.TheVariants.{Unchecked, Usage, BadFile, FileTooLong, NoMemory, TooManyStates, FileFault, SinkFault}
+
+abbrev pub status_of : Outcome → ℕ
+status_of (Unchecked model) = 0
+status_of Usage = 2
+status_of (BadFile role fault) = 3
+status_of (FileTooLong role) = 3
+status_of NoMemory = 5
+status_of (TooManyStates words) = 7
+status_of (FileFault role) = 8
+status_of SinkFault = 8
+
+-- making its text takes memory
+abbrev pub HasOwnText : Outcome → Type 0
+HasOwnText (Unchecked model) = Unit {0}
+HasOwnText (BadFile role fault) = Unit {0}
+HasOwnText (TooManyStates words) = Unit {0}
+HasOwnText _ = ⊥
+
+-- an outcome as it was, or out of memory in place of one whose text takes memory
+abbrev pub StandsOrWants : Outcome → Outcome → Type 0
+StandsOrWants outcome result = (result ≡ outcome) ⊎ (HasOwnText outcome × (result ≡ NoMemory))

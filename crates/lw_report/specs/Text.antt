@@ -1,0 +1,48 @@
+-- The text of each outcome, which ends in a line feed: a function of the outcome, of the names of the inputs and outputs, of
+-- the kept answers and of the number of extra states.
+use Rattle.std.specs.Prelude.{ℕ, List, [], ◌++◌, length, codes, slice_index_or, Option, Some, None}
+use Rattle.std.specs.Fmt.{decimal}
+use Rattle.std.specs.List.{flat_map, join_by}
+use Rattle.lw_words.specs.declared.kept.KeptAnswer.{KeptAnswer}
+use Rattle.lw_report.specs.Reasons.{reason_of, role_name}
+use Rattle.lw_report.specs.declared.outcome.Outcome.{Outcome}
+use Rattle.lw_report.specs.declared.outcome.Outcome.TheVariants.{Unchecked, Usage, BadFile, FileTooLong, NoMemory, TooManyStates, FileFault, SinkFault}
+
+-- the name of a letter
+abbrev pub name_of : List (List ℕ) → ℕ → List ℕ
+name_of names x = slice_index_or names x []
+
+-- a word in quotes, its names joined by one blank, on a line of its own
+abbrev pub word_line : List (List ℕ) → List ℕ → List ℕ
+word_line names w = codes "\"" ++ (join_by (name_of names) (codes " ") w ++ codes "\"\n")
+
+-- a model's number of states, and the number of kept answers
+abbrev pub unchecked_line : ℕ → ℕ → List ℕ
+unchecked_line states answers = codes "unchecked: states " ++ (decimal states ++ (codes ", answers " ++ (decimal answers ++ codes "\n")))
+
+-- the number of words that are pairwise apart, and each of them
+abbrev pub crowd_lines : List (List ℕ) → List (List ℕ) → List ℕ
+crowd_lines names words = (codes "too many states: " ++ (decimal (length words) ++ codes " words are pairwise apart\n")) ++ flat_map (word_line names) words
+
+abbrev pub usage_lines : List ℕ
+usage_lines =
+    codes "usage: learn (SETUP | --table FILE) [--workers N] [--extra K] [--learner table|ttt] [--max-states N] [--model FILE] [--answers FILE]\n"
+    ++ (codes "       check MODEL ANSWERS [--extra K]\n"
+    ++ (codes "       serve MODEL\n"
+    ++ codes "       trial --states N --inputs A --seed S [--workers N] [--learner table|ttt]\n"))
+
+-- the text of the outcome
+abbrev pub text_of : List (List ℕ) → List (List ℕ) → List KeptAnswer → ℕ → Outcome → List ℕ
+text_of inputs outputs kept extra (Unchecked model) = unchecked_line (length model.rows) (length kept)
+text_of inputs outputs kept extra Usage = usage_lines
+text_of inputs outputs kept extra (BadFile role fault) = codes "bad file " ++ (role_name role ++ (codes ": " ++ (reason_of fault ++ codes "\n")))
+text_of inputs outputs kept extra (FileTooLong role) = codes "file too long: " ++ (role_name role ++ codes "\n")
+text_of inputs outputs kept extra NoMemory = codes "no memory\n"
+text_of inputs outputs kept extra (TooManyStates words) = crowd_lines inputs words
+text_of inputs outputs kept extra (FileFault role) = codes "file fault: " ++ (role_name role ++ codes "\n")
+text_of inputs outputs kept extra SinkFault = codes "sink fault\n"
+
+-- the names, or none where no file has said any
+abbrev pub names_of : Option (List (List ℕ)) → List (List ℕ)
+names_of None = []
+names_of (Some names) = names

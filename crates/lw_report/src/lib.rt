@@ -1,0 +1,22 @@
+//! What a call of the program comes to: its outcome, exit status and text, and the files and streams that it reads and writes.
+#![tactic(auto)]
+
+mod end;
+mod outcome;
+mod reading;
+mod reasons;
+mod role;
+mod stops;
+mod texts;
+mod writing;
+
+pub use end::{End, refuse};
+pub use outcome::{Outcome, status};
+pub use reading::{read_answers_file, read_machine_file};
+pub use role::Role;
+pub use stops::{ReadStop, TellStop};
+pub use texts::text;
+pub use writing::{put_all, put_report, say, write_file};
+
+#[cfg(test)]
+mod tests;

@@ -1,0 +1,42 @@
+//! What a call of the program comes to, and its exit status.
+ghost use Rattle.std.specs.Prelude.{◌≡◌};
+ghost use Rattle.lw_report.specs.Outcomes.{status_of};
+
+use crate::Role;
+use lw_json::JsonFault;
+use lw_mealy::Mealy;
+use lw_words::Words;
+
+/// What a call of the program came to.
+#[derive(Drop)]
+pub enum Outcome {
+    /// The closed table's machine, which no suite has checked.
+    Unchecked { model: Mealy },
+    /// The arguments are none that the program knows.
+    Usage,
+    /// The file in this role is none of its kind, and this is its first fault.
+    BadFile { role: Role, fault: JsonFault },
+    /// The file in this role has more than 16,777,216 bytes.
+    FileTooLong(Role),
+    NoMemory,
+    /// These words, one more than the limit of states, are pairwise apart.
+    TooManyStates(Words),
+    /// The file in this role could not be read or written.
+    FileFault(Role),
+    /// A stream refused what was to be written.
+    SinkFault,
+}
+
+/// The exit status of an outcome. Takes no memory.
+pub fn status(outcome: &Outcome) -> u8
+    ensures { result ≡ status_of outcome.now }
+{
+    match outcome {
+        Outcome::Unchecked { .. } => 0,
+        Outcome::Usage => 2,
+        Outcome::BadFile { .. } | Outcome::FileTooLong(_) => 3,
+        Outcome::NoMemory => 5,
+        Outcome::TooManyStates(_) => 7,
+        Outcome::FileFault(_) | Outcome::SinkFault => 8,
+    }
+}

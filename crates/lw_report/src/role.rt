@@ -1,0 +1,26 @@
+//! What a file is to a call of the program.
+ghost use Rattle.std.specs.Prelude.{◌≡◌};
+ghost use Rattle.lw_report.specs.Reasons.{role_name};
+
+/// What a file is to a call: a setup, a machine that is learned, a model, or answers.
+#[derive(Clone, Copy, Debug, PartialEq, Eq)]
+pub enum Role {
+    Setup,
+    Table,
+    Model,
+    Answers,
+}
+
+impl Role {
+    /// The role as texts have it.
+    pub fn name(self) -> &'static str
+        ensures { result.now ≡ role_name self }
+    {
+        match self {
+            Role::Setup => "setup",
+            Role::Table => "table",
+            Role::Model => "model",
+            Role::Answers => "answers",
+        }
+    }
+}

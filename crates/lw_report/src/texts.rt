@@ -1,0 +1,170 @@
+//! The texts of outcomes, each of which ends in a line feed.
+ghost use Rattle.std.specs.Prelude.{◌≡◌, ℕ, List, ◌++◌, codes, IfNone, IfOk, IfSome, OnOk, option_map, length, string_bytes};
+ghost use Rattle.std.specs.List.{join_by};
+ghost use Rattle.lw_words.specs.declared.kept.KeptAnswer.{KeptAnswer as Answer};
+ghost use Rattle.lw_report.specs.Outcomes.{HasOwnText};
+ghost use Rattle.lw_report.specs.Reasons.{reason_of, role_name};
+ghost use Rattle.lw_report.specs.Text.{crowd_lines, name_of, names_of, text_of, unchecked_line, word_line};
+
+use crate::reasons::reason;
+use crate::{Outcome, Role};
+use lw_json::JsonFault;
+use lw_words::{Kept, Names, NoMemory, Words};
+use std::alloc::Global;
+
+const USAGE: &str =
+    "usage: learn (SETUP | --table FILE) [--workers N] [--extra K] [--learner table|ttt] [--max-states N] [--model FILE] [--answers FILE]
+       check MODEL ANSWERS [--extra K]
+       serve MODEL
+       trial --states N --inputs A --seed S [--workers N] [--learner table|ttt]
+";
+
+/// What is written where memory runs out. Takes no memory itself.
+pub(crate) const NO_MEMORY: &str = "no memory\n";
+
+/// The name of a letter, where a file has said the names.
+fn put_name(text: &mut String, letter: u16, names: Option<&Names>) -> Result<(), NoMemory>
+    ensures { OnOk result (string_bytes text.new ≡ string_bytes text.old ++
+        name_of (names_of (option_map (λ n. n.now) names.entry)) letter) }
+{
+    if let Some(names) = names {
+        if letter < names.len() {
+            text.push_str(names.name(letter))?;
+        }
+    }
+    Ok(())
+}
+
+/// The names of a word's letters, joined by one blank.
+fn put_names(text: &mut String, word: &[u16], names: Option<&Names>) -> Result<(), NoMemory>
+    ensures { OnOk result (string_bytes text.new ≡ string_bytes text.old ++
+        join_by (name_of (names_of (option_map (λ n. n.now) names.entry))) (codes " ") word.now) }
+{
+    let Some((first, rest)) = word.split_first() else {
+        return Ok(());
+    };
+    put_name(text, *first, names)?;
+    for letter in rest {
+        text.push_str(" ")?;
+        put_name(text, *letter, names)?;
+    }
+    Ok(())
+}
+
+/// A word as its names, in quotes, as a line.
+fn put_word(text: &mut String, word: &[u16], names: Option<&Names>) -> Result<(), NoMemory>
+    ensures { OnOk result (string_bytes text.new ≡ string_bytes text.old ++
+        word_line (names_of (option_map (λ n. n.now) names.entry)) word.now) }
+{
+    text.push_str("\"")?;
+    put_names(text, word, names)?;
+    text.push_str("\"\n")?;
+    Ok(())
+}
+
+/// The words of a crowd, a line each, below their number.
+fn crowd_text(alloc: Global, words: &Words, names: Option<&Names>) -> Result<String, NoMemory>
+    ensures { IfOk result (λ text. string_bytes text ≡
+        crowd_lines (names_of (option_map (λ n. n.now) names.entry)) words.now) }
+{
+    let count = words.len();
+    let mut text = format!(in alloc; "too many states: {count} words are pairwise apart\n")?;
+    for word in words.as_slice() {
+        put_word(&mut text, word.as_slice(), names)?;
+    }
+    Ok(text)
+}
+
+/// The line about a model.
+fn unchecked_text(alloc: Global, states: u16, answers: usize) -> Result<String, NoMemory>
+    ensures { IfOk result (λ text. string_bytes text ≡ unchecked_line states answers) }
+{
+    Ok(format!(in alloc; "unchecked: states {states}, answers {answers}\n")?)
+}
+
+/// The line about a file that is none of its kind.
+fn bad_file_text(alloc: Global, role: Role, fault: JsonFault) -> Result<String, NoMemory>
+    ensures { IfOk result (λ text. string_bytes text ≡ codes "bad file " ++ (role_name role ++
+        (codes ": " ++ (reason_of fault ++ codes "\n")))) }
+{
+    let name = role.name();
+    let reason = reason(alloc, fault)?;
+    Ok(format!(in alloc; "bad file {name}: {reason}\n")?)
+}
+
+fn too_long_text(role: Role) -> &'static str
+    ensures { result.now ≡ codes "file too long: " ++ (role_name role ++ codes "\n") }
+{
+    match role {
+        Role::Setup => "file too long: setup\n",
+        Role::Table => "file too long: table\n",
+        Role::Model => "file too long: model\n",
+        Role::Answers => "file too long: answers\n",
+    }
+}
+
+fn file_fault_text(role: Role) -> &'static str
+    ensures { result.now ≡ codes "file fault: " ++ (role_name role ++ codes "\n") }
+{
+    match role {
+        Role::Setup => "file fault: setup\n",
+        Role::Table => "file fault: table\n",
+        Role::Model => "file fault: model\n",
+        Role::Answers => "file fault: answers\n",
+    }
+}
+
+/// The text of an outcome that takes no memory.
+pub(crate) fn fixed_text(outcome: &Outcome) -> Option<&'static str>
+    ensures none { IfNone result (HasOwnText outcome.now) }
+    ensures some { IfSome result (λ text.
+        (inputs outputs : List (List ℕ)) (kept : List Answer) (extra : ℕ) →
+        text.now ≡ text_of inputs outputs kept extra outcome.now) }
+{
+    match outcome {
+        Outcome::Unchecked { .. } | Outcome::BadFile { .. } | Outcome::TooManyStates(_) => None,
+        Outcome::Usage => Some(USAGE),
+        Outcome::FileTooLong(role) => Some(too_long_text(*role)),
+        Outcome::NoMemory => Some(NO_MEMORY),
+        Outcome::FileFault(role) => Some(file_fault_text(*role)),
+        Outcome::SinkFault => Some("sink fault\n"),
+    }
+}
+
+/// The text of an outcome, with the names that a file has said, if any.
+pub(crate) fn outcome_text(
+    alloc: Global,
+    outcome: &Outcome,
+    inputs: Option<&Names>,
+    outputs: Option<&Names>,
+    kept: &Kept,
+    extra: u8,
+) -> Result<String, NoMemory>
+    ensures { IfOk result (λ text. string_bytes text ≡
+        text_of (names_of (option_map (λ n. n.now) inputs.entry))
+        (names_of (option_map (λ n. n.now) outputs.entry)) kept.now.answers extra outcome.now) }
+{
+    match outcome {
+        Outcome::Unchecked { model } => unchecked_text(alloc, model.states(), kept.len()),
+        Outcome::BadFile { role, fault } => bad_file_text(alloc, *role, *fault),
+        Outcome::TooManyStates(words) => crowd_text(alloc, words, inputs),
+        _ => Ok(String::from_str(alloc, fixed_text(outcome).unwrap_or(NO_MEMORY))?),
+    }
+}
+
+/// The text of an outcome, where the letters and outputs have these names, these answers are kept, and a model is sure up to
+/// so many extra states.
+pub fn text(
+    alloc: Global,
+    outcome: &Outcome,
+    inputs: &Names,
+    outputs: &Names,
+    kept: &Kept,
+    extra: u8,
+) -> Result<Vec<u8>, NoMemory>
+    ensures { IfOk result (λ text. text.items ≡
+        text_of inputs.now outputs.now kept.now.answers extra outcome.now) }
+{
+    let text = outcome_text(alloc, outcome, Some(inputs), Some(outputs), kept, extra)?;
+    Ok(text.into_bytes())
+}

@@ -1,0 +1,146 @@
+//! What is put to streams and written to files.
+ghost use Rattle.std.specs.Prelude.{◌≡◌, ◌+◌, ◌<◌, ◌≤◌, ◌++◌, length, take, drop, true, false, Err, IfOk, OnOk, OnErr, option_map};
+ghost use Rattle.lw_words.specs.Cause.{CountedFault};
+ghost use Rattle.lw_outside.specs.Files.{Holds, StaysBeside, noted, write_call};
+ghost use Rattle.lw_report.specs.Outcomes.{StandsOrWants};
+ghost use Rattle.lw_report.specs.Text.{text_of};
+ghost use Rattle.lw_report.specs.Writing.{TakesAll, TakesSome, said_text};
+ghost use Rattle.lw_report.specs.declared.role.Role.{Role as Part};
+ghost use Rattle.lw_report.specs.declared.stops.TellStop.{TellStop as Stop};
+
+use crate::texts::{NO_MEMORY, fixed_text, outcome_text};
+use crate::{Outcome, Role, TellStop, text};
+use lw_outside::{Failed, Files, Sink, WriteStop};
+use lw_words::{Kept, Names, NoMemory};
+use std::alloc::Global;
+
+/// Puts some of the bytes from a place on, and says how many.
+fn put_from<K: Sink>(sink: &mut K, bytes: &[u8], done: usize) -> Result<usize, Failed>
+    requires { done < length bytes.now }
+    ensures some { IfOk result (λ n. (1 ≤ n) × (done + n ≤ length bytes.now)) }
+    ensures took { IfOk result (λ n. K.taken sink.new ≡
+        option_map (λ t. t ++ take n (drop done bytes.now)) (K.taken sink.old)) }
+    ensures left { OnErr result (K.taken sink.new ≡ K.taken sink.old) }
+    ensures quiet { OnOk result (K.faults sink.new ≡ K.faults sink.old) }
+    ensures failed { OnErr result (CountedFault (K.faults sink.old) (K.faults sink.new)) }
+    ensures counts { K.faults sink.old ≤ K.faults sink.new }
+{
+    sink.put(&bytes[done..])
+}
+
+/// Puts all the bytes into a sink, piece by piece.
+#[tactic(auto, using(crate::proofs::SinkLemmas::sink_steps))]
+pub fn put_all<K: Sink>(sink: &mut K, bytes: &[u8]) -> Result<(), Failed>
+    ensures ok { OnOk result (TakesAll bytes.now (K.taken sink.old) (K.taken sink.new)) }
+    ensures part { TakesSome bytes.now (K.taken sink.old) (K.taken sink.new) }
+    ensures quiet { OnOk result (K.faults sink.new ≡ K.faults sink.old) }
+    ensures failed { OnErr result (CountedFault (K.faults sink.old) (K.faults sink.new)) }
+    ensures counts { K.faults sink.old ≤ K.faults sink.new }
+{
+    let mut done = 0;
+    while done < bytes.len() {
+        done += put_from(sink, bytes, done)?;
+    }
+    Ok(())
+}
+
+/// Puts a text to a stream that may refuse it.
+fn put_text<K: Sink>(sink: &mut K, text: &str)
+    ensures whole { ¬ CountedFault (K.faults sink.old) (K.faults sink.new) →
+        TakesAll text.now (K.taken sink.old) (K.taken sink.new) }
+    ensures part { TakesSome text.now (K.taken sink.old) (K.taken sink.new) }
+    ensures counts { K.faults sink.old ≤ K.faults sink.new }
+{
+    let _refused = put_all(sink, text.as_bytes()).is_err();
+}
+
+/// Puts the text of an outcome to `err`, with the names that a file has said, if any. Where making the text takes more memory
+/// than there is, that is the outcome, and its text is put.
+pub fn say<E: Sink>(
+    alloc: Global,
+    outcome: Outcome,
+    inputs: Option<&Names>,
+    outputs: Option<&Names>,
+    kept: &Kept,
+    extra: u8,
+    err: &mut E,
+) -> Outcome
+    ensures outcome { StandsOrWants outcome result }
+    ensures said { ¬ CountedFault (E.faults err.old) (E.faults err.new) →
+        TakesAll (said_text (option_map (λ n. n.now) inputs.entry)
+        (option_map (λ n. n.now) outputs.entry) kept.now.answers extra result)
+        (E.taken err.old) (E.taken err.new) }
+    ensures part { TakesSome (said_text (option_map (λ n. n.now) inputs.entry)
+        (option_map (λ n. n.now) outputs.entry) kept.now.answers extra result)
+        (E.taken err.old) (E.taken err.new) }
+    ensures counts { E.faults err.old ≤ E.faults err.new }
+{
+    if let Some(text) = fixed_text(&outcome) {
+        put_text(err, text);
+        return outcome;
+    }
+    match outcome_text(alloc, &outcome, inputs, outputs, kept, extra) {
+        Ok(text) => {
+            put_text(err, text.as_str());
+            outcome
+        }
+        Err(NoMemory) => {
+            put_text(err, NO_MEMORY);
+            Outcome::NoMemory
+        }
+    }
+}
+
+/// Puts the text of an outcome to a stream, for an outcome that stands only where its text is put.
+pub fn put_report<K: Sink>(
+    alloc: Global,
+    outcome: &Outcome,
+    inputs: &Names,
+    outputs: &Names,
+    kept: &Kept,
+    extra: u8,
+    sink: &mut K,
+) -> Result<(), TellStop>
+    ensures ok { OnOk result (TakesAll (text_of inputs.now outputs.now kept.now.answers extra
+        outcome.now) (K.taken sink.old) (K.taken sink.new)) }
+    ensures part { TakesSome (text_of inputs.now outputs.now kept.now.answers extra outcome.now)
+        (K.taken sink.old) (K.taken sink.new) }
+    ensures memory { result ≡ Err Stop.NoMemory → K.taken sink.new ≡ K.taken sink.old }
+    ensures failed { result ≡ Err Stop.Sink → CountedFault (K.faults sink.old) (K.faults sink.new) }
+    ensures no_file { (role : Part) → ¬ (result ≡ Err (Stop.File role)) }
+    ensures quiet { OnOk result (K.faults sink.new ≡ K.faults sink.old) }
+    ensures counts { K.faults sink.old ≤ K.faults sink.new }
+{
+    let text = text(alloc, outcome, inputs, outputs, kept, extra)?;
+    put_all(sink, &text)?;
+    Ok(())
+}
+
+/// Writes the file in a role.
+pub fn write_file<F: Files>(
+    files: &mut F,
+    role: Role,
+    name: &str,
+    bytes: &[u8],
+) -> Result<(), TellStop>
+    ensures told { OnOk result (Holds (F.holds files.new) name.now bytes.now) }
+    ensures beside { StaysBeside name.now (F.holds files.old) (F.holds files.new) }
+    ensures ok { OnOk result (F.calls files.new ≡
+        noted (write_call name.now false) (F.calls files.old)) }
+    ensures role { (other : Part) → result ≡ Err (Stop.File other) → other ≡ role }
+    ensures failed { result ≡ Err (Stop.File role) →
+        CountedFault (F.faults files.old) (F.faults files.new) }
+    ensures failed_call { result ≡ Err (Stop.File role) →
+        F.calls files.new ≡ noted (write_call name.now true) (F.calls files.old) }
+    ensures memory { result ≡ Err Stop.NoMemory → F.calls files.new ≡ F.calls files.old }
+    ensures no_sink { ¬ (result ≡ Err Stop.Sink) }
+    ensures reads { F.reads files.new ≡ F.reads files.old }
+    ensures quiet { OnOk result (F.faults files.new ≡ F.faults files.old) }
+    ensures counts { F.faults files.old ≤ F.faults files.new }
+{
+    match files.write(name, bytes) {
+        Ok(()) => Ok(()),
+        Err(WriteStop::Failed) => Err(TellStop::File(role)),
+        Err(WriteStop::NoMemory) => Err(TellStop::NoMemory),
+    }
+}
