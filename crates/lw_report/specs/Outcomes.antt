@@ -1,23 +1,32 @@
 -- The exit status of each outcome, and which outcomes may come when.
 use Rattle.std.specs.Prelude.{◌≡◌, ◌⊎◌, ℕ}
 use Rattle.lw_report.specs.declared.outcome.Outcome.{Outcome}
-use Rattle.lw_report.specs.declared.outcome.Outcome.TheVariants.{Unchecked, Usage, BadFile, FileTooLong, NoMemory, TooManyStates, FileFault, SinkFault}
+use Rattle.lw_report.specs.declared.outcome.Outcome.TheVariants.{Unchecked, Yes, No, Usage, BadFile, Alphabets, FileTooLong, Nondeterministic, NoMemory, TooManyStates, SuiteTooLarge, FileFault, SinkFault}
 
 abbrev pub status_of : Outcome → ℕ
 status_of (Unchecked model) = 0
+status_of (Yes states) = 0
+status_of (No verdict) = 1
 status_of Usage = 2
 status_of (BadFile role fault) = 3
+status_of Alphabets = 3
 status_of (FileTooLong role) = 3
+status_of (Nondeterministic clash) = 4
 status_of NoMemory = 5
 status_of (TooManyStates words) = 7
+status_of (SuiteTooLarge states number) = 7
 status_of (FileFault role) = 8
 status_of SinkFault = 8
 
 -- making its text takes memory
 abbrev pub HasOwnText : Outcome → Type 0
 HasOwnText (Unchecked model) = Unit {0}
+HasOwnText (Yes states) = Unit {0}
+HasOwnText (No verdict) = Unit {0}
 HasOwnText (BadFile role fault) = Unit {0}
+HasOwnText (Nondeterministic clash) = Unit {0}
 HasOwnText (TooManyStates words) = Unit {0}
+HasOwnText (SuiteTooLarge states number) = Unit {0}
 HasOwnText _ = ⊥
 
 -- an outcome as it was, or out of memory in place of one whose text takes memory

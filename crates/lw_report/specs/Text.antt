@@ -1,12 +1,15 @@
 -- The text of each outcome, which ends in a line feed: a function of the outcome, of the names of the inputs and outputs, of
 -- the kept answers and of the number of extra states.
-use Rattle.std.specs.Prelude.{ℕ, List, [], ◌++◌, length, codes, slice_index_or, Option, Some, None}
+use Rattle.std.specs.Prelude.{ℕ, List, [], ◌++◌, length, codes, slice_index_or, slice_get, Option, Some, None}
 use Rattle.std.specs.Fmt.{decimal}
 use Rattle.std.specs.List.{flat_map, join_by}
 use Rattle.lw_words.specs.declared.kept.KeptAnswer.{KeptAnswer}
+use Rattle.lw_cache.specs.declared.stops.Clash.{Clash}
+use Rattle.lw_certify.specs.declared.verdict.Verdict.{Verdict}
+use Rattle.lw_certify.specs.declared.verdict.Verdict.TheVariants as verdict
 use Rattle.lw_report.specs.Reasons.{reason_of, role_name}
 use Rattle.lw_report.specs.declared.outcome.Outcome.{Outcome}
-use Rattle.lw_report.specs.declared.outcome.Outcome.TheVariants.{Unchecked, Usage, BadFile, FileTooLong, NoMemory, TooManyStates, FileFault, SinkFault}
+use Rattle.lw_report.specs.declared.outcome.Outcome.TheVariants.{Unchecked, Yes, No, Usage, BadFile, Alphabets, FileTooLong, Nondeterministic, NoMemory, TooManyStates, SuiteTooLarge, FileFault, SinkFault}
 
 -- the name of a letter
 abbrev pub name_of : List (List ℕ) → ℕ → List ℕ
@@ -31,14 +34,54 @@ usage_lines =
     ++ (codes "       serve MODEL\n"
     ++ codes "       trial --states N --inputs A --seed S [--workers N] [--learner table|ttt]\n"))
 
+abbrev pub differs_line : ℕ → ℕ → List ℕ
+differs_line answer place = codes "no: answer " ++ (decimal answer ++ (codes " differs at place " ++ (decimal place ++ codes "\n")))
+
+-- why answers don't fix a model
+abbrev pub no_line : List (List ℕ) → Verdict → List ℕ
+no_line inputs (verdict.Unreached state) = codes "no: state " ++ (decimal state ++ codes " is unreached\n")
+no_line inputs (verdict.Alike p q) = codes "no: states " ++ (decimal p ++ (codes " and " ++ (decimal q ++ codes " are alike\n")))
+no_line inputs (verdict.Differs answer place) = differs_line answer place
+no_line inputs (verdict.Missing word) = codes "no: word \"" ++ (join_by (name_of inputs) (codes " ") word ++ codes "\" is missing\n")
+no_line inputs (verdict.TooLarge size) = codes "no\n"
+no_line inputs verdict.Sure = codes "no\n"
+
+-- a run by its instance and number, with its word and its outputs by their names
+abbrev pub run_line : List (List ℕ) → List (List ℕ) → Option KeptAnswer → List ℕ
+run_line inputs outputs None = []
+run_line inputs outputs (Some k) =
+    codes "instance "
+    ++ (decimal k.instance
+    ++ (codes " run "
+    ++ (decimal k.run
+    ++ (codes ": " ++ (join_by (name_of inputs) (codes " ") k.word ++ (codes " / " ++ (join_by (name_of outputs) (codes " ") k.outs ++ codes "\n")))))))
+
+-- the place at which two kept answers differ, and both
+abbrev pub clash_lines : List (List ℕ) → List (List ℕ) → List KeptAnswer → Clash → List ℕ
+clash_lines inputs outputs kept clash =
+    codes "nondeterministic at place "
+    ++ (decimal clash.place
+    ++ (codes "\n" ++ (run_line inputs outputs (slice_get kept clash.first) ++ run_line inputs outputs (slice_get kept clash.second))))
+
+abbrev pub yes_line : ℕ → ℕ → ℕ → List ℕ
+yes_line states extra answers = codes "yes: states " ++ (decimal states ++ (codes ", extra " ++ (decimal extra ++ (codes ", answers " ++ (decimal answers ++ codes "\n")))))
+
+abbrev pub suite_line : ℕ → ℕ → ℕ → List ℕ
+suite_line states extra number = codes "suite too large: states " ++ (decimal states ++ (codes ", extra " ++ (decimal extra ++ (codes ", number " ++ (decimal number ++ codes "\n")))))
+
 -- the text of the outcome
 abbrev pub text_of : List (List ℕ) → List (List ℕ) → List KeptAnswer → ℕ → Outcome → List ℕ
 text_of inputs outputs kept extra (Unchecked model) = unchecked_line (length model.rows) (length kept)
+text_of inputs outputs kept extra (Yes states) = yes_line states extra (length kept)
+text_of inputs outputs kept extra (No v) = no_line inputs v
 text_of inputs outputs kept extra Usage = usage_lines
 text_of inputs outputs kept extra (BadFile role fault) = codes "bad file " ++ (role_name role ++ (codes ": " ++ (reason_of fault ++ codes "\n")))
+text_of inputs outputs kept extra Alphabets = codes "bad file answers: names differ from the model\n"
+text_of inputs outputs kept extra (Nondeterministic clash) = clash_lines inputs outputs kept clash
 text_of inputs outputs kept extra (FileTooLong role) = codes "file too long: " ++ (role_name role ++ codes "\n")
 text_of inputs outputs kept extra NoMemory = codes "no memory\n"
 text_of inputs outputs kept extra (TooManyStates words) = crowd_lines inputs words
+text_of inputs outputs kept extra (SuiteTooLarge states number) = suite_line states extra number
 text_of inputs outputs kept extra (FileFault role) = codes "file fault: " ++ (role_name role ++ codes "\n")
 text_of inputs outputs kept extra SinkFault = codes "sink fault\n"
 

@@ -8,6 +8,7 @@ mod reasons;
 mod role;
 mod stops;
 mod texts;
+mod verdict_texts;
 mod writing;
 
 pub use end::{End, refuse};

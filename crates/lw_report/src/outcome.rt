@@ -3,6 +3,8 @@ ghost use Rattle.std.specs.Prelude.{◌≡◌};
 ghost use Rattle.lw_report.specs.Outcomes.{status_of};
 
 use crate::Role;
+use lw_cache::Clash;
+use lw_certify::Verdict;
 use lw_json::JsonFault;
 use lw_mealy::Mealy;
 use lw_words::Words;
@@ -12,15 +14,25 @@ use lw_words::Words;
 pub enum Outcome {
     /// The closed table's machine, which no suite has checked.
     Unchecked { model: Mealy },
+    /// The answers fix the model, of so many states, among all machines of at most so many extra states more.
+    Yes { states: u16 },
+    /// They don't, for this cause, which is none of `TooLarge` and `Sure`.
+    No(Verdict),
     /// The arguments are none that the program knows.
     Usage,
     /// The file in this role is none of its kind, and this is its first fault.
     BadFile { role: Role, fault: JsonFault },
+    /// The names of the answers file aren't the model's.
+    Alphabets,
     /// The file in this role has more than 16,777,216 bytes.
     FileTooLong(Role),
+    /// Two kept answers that no one machine gives.
+    Nondeterministic(Clash),
     NoMemory,
     /// These words, one more than the limit of states, are pairwise apart.
     TooManyStates(Words),
+    /// The suite of a model of so many states would have this size.
+    SuiteTooLarge { states: u16, number: u64 },
     /// The file in this role could not be read or written.
     FileFault(Role),
     /// A stream refused what was to be written.
@@ -32,11 +44,13 @@ pub fn status(outcome: &Outcome) -> u8
     ensures { result ≡ status_of outcome.now }
 {
     match outcome {
-        Outcome::Unchecked { .. } => 0,
+        Outcome::Unchecked { .. } | Outcome::Yes { .. } => 0,
+        Outcome::No(_) => 1,
         Outcome::Usage => 2,
-        Outcome::BadFile { .. } | Outcome::FileTooLong(_) => 3,
+        Outcome::BadFile { .. } | Outcome::Alphabets | Outcome::FileTooLong(_) => 3,
+        Outcome::Nondeterministic(_) => 4,
         Outcome::NoMemory => 5,
-        Outcome::TooManyStates(_) => 7,
+        Outcome::TooManyStates(_) | Outcome::SuiteTooLarge { .. } => 7,
         Outcome::FileFault(_) | Outcome::SinkFault => 8,
     }
 }

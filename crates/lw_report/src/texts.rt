@@ -7,6 +7,7 @@ ghost use Rattle.lw_report.specs.Reasons.{reason_of, role_name};
 ghost use Rattle.lw_report.specs.Text.{crowd_lines, name_of, names_of, text_of, unchecked_line, word_line};
 
 use crate::reasons::reason;
+use crate::verdict_texts::{clash_text, no_text, suite_text, yes_text};
 use crate::{Outcome, Role};
 use lw_json::JsonFault;
 use lw_words::{Kept, Names, NoMemory, Words};
@@ -36,7 +37,11 @@ fn put_name(text: &mut String, letter: u16, names: Option<&Names>) -> Result<(),
 }
 
 /// The names of a word's letters, joined by one blank.
-fn put_names(text: &mut String, word: &[u16], names: Option<&Names>) -> Result<(), NoMemory>
+pub(crate) fn put_names(
+    text: &mut String,
+    word: &[u16],
+    names: Option<&Names>,
+) -> Result<(), NoMemory>
     ensures { OnOk result (string_bytes text.new ≡ string_bytes text.old ++
         join_by (name_of (names_of (option_map (λ n. n.now) names.entry))) (codes " ") word.now) }
 {
@@ -123,6 +128,9 @@ pub(crate) fn fixed_text(outcome: &Outcome) -> Option<&'static str>
 {
     match outcome {
         Outcome::Unchecked { .. } | Outcome::BadFile { .. } | Outcome::TooManyStates(_) => None,
+        Outcome::Yes { .. } | Outcome::No(_) => None,
+        Outcome::Nondeterministic(_) | Outcome::SuiteTooLarge { .. } => None,
+        Outcome::Alphabets => Some("bad file answers: names differ from the model\n"),
         Outcome::Usage => Some(USAGE),
         Outcome::FileTooLong(role) => Some(too_long_text(*role)),
         Outcome::NoMemory => Some(NO_MEMORY),
@@ -148,6 +156,10 @@ pub(crate) fn outcome_text(
         Outcome::Unchecked { model } => unchecked_text(alloc, model.states(), kept.len()),
         Outcome::BadFile { role, fault } => bad_file_text(alloc, *role, *fault),
         Outcome::TooManyStates(words) => crowd_text(alloc, words, inputs),
+        Outcome::Yes { states } => yes_text(alloc, *states, extra, kept.len()),
+        Outcome::No(verdict) => no_text(alloc, verdict, inputs),
+        Outcome::Nondeterministic(clash) => clash_text(alloc, *clash, inputs, outputs, kept),
+        Outcome::SuiteTooLarge { states, number } => suite_text(alloc, *states, extra, *number),
         _ => Ok(String::from_str(alloc, fixed_text(outcome).unwrap_or(NO_MEMORY))?),
     }
 }
