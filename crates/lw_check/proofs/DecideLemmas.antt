@@ -1,0 +1,152 @@
+-- A pair comes to one outcome.
+use Rattle.std.proofs.Common.{◌≡◌, ◌≢◌, ℕ, ◌+◌, ◌<◌, ◌≤◌, ◌⊎◌, ⊎_elim, List, [], ◌∷◌, ◌++◌, length, take, drop, min, get_or, refl, sym, ap, ◌∙◌, subst, arith}
+use Rattle.std.proofs.lemmas.Bool.{cases_order}
+use Rattle.std.proofs.lemmas.List.{length-take, get_or-take, take-append-drop, take_all}
+use Rattle.lw_words.specs.Answer.{Answer, answer_at, answers_of}
+use Rattle.lw_words.specs.Word.{IsPrefix}
+use Rattle.lw_cache.specs.Clash.{Clash, ClashAt, NothingClashes}
+use Rattle.lw_cache.specs.FirstClash.{ClashesFirst}
+use Rattle.lw_cache.specs.declared.stops.Clash.{Clash as Found}
+use Rattle.lw_certify.specs.declared.verdict.Verdict.{Verdict}
+use Rattle.lw_certify.specs.declared.verdict.Verdict.TheVariants as verdict
+use Rattle.lw_certify.proofs.OneVerdict.{one_verdict}
+use Rattle.lw_check.specs.FirstClash.{IsFirstClash}
+use Rattle.lw_check.specs.Decision.{Pair, SameNames, HasVerdict, IsNo, IsDecision, OneDecision}
+use Rattle.lw_report.specs.declared.outcome.Outcome.{Outcome}
+use Rattle.lw_report.specs.declared.outcome.Outcome.TheVariants.{Unchecked, Yes, No, Usage, BadFile, Alphabets, FileTooLong, Nondeterministic, NoMemory, TooManyStates, SuiteTooLarge, FileFault, SinkFault}
+
+blank : Answer
+blank = record { word = []; outs = [] }
+
+clash_within : (ks : List Answer) (c : Found) (n : ℕ) → IsFirstClash ks c → c.second < n → NothingClashes (take n ks) → ⊥
+clash_within ks c n f lt none =
+    let short : length (take c.second ks) ≡ min c.second (length ks) = length-take c.second ks in
+    let long : length (take n ks) ≡ min n (length ks) = length-take n ks in
+    let w = f.within in
+    let in_front = f.here.clear.0 in
+    let below : c.first < c.second = omega arith in
+    let first : get_or (take n ks) c.first (record { word = []; outs = [] }) ≡ answer_at (take c.second ks) c.first = get_or-take n ks c.first (record { word = []; outs = [] }) (omega arith) ∙ sym (get_or-take c.second ks c.first (record { word = []; outs = [] }) below) in
+    let second : get_or (take n ks) c.second (record { word = []; outs = [] }) ≡ answer_at ks c.second = get_or-take n ks c.second (record { word = []; outs = [] }) lt in
+    none c.first c.second (record { word = []; outs = [] }) below (omega arith) (rw (first, second) (c.place, f.here.here))
+
+clash_not_nothing : (ks : List Answer) (c : Found) → IsFirstClash ks c → NothingClashes ks → ⊥
+clash_not_nothing ks c f none = clash_within ks c (length ks) f f.within (rw (take_all (length ks) ks (omega arith)) none)
+
+begins_with : (k l : Answer) (p : ℕ) → ClashAt k l p → IsPrefix (take (p + 1) l.word) k.word
+begins_with k l p c = (drop (p + 1) k.word, sym (take-append-drop (p + 1) k.word) ∙ ap (λ (u : List ℕ). u ++ drop (p + 1) k.word) c.letters)
+
+abbrev found_of : ℕ → ℕ → ℕ → Found
+found_of first second place = record { first = first; second = second; place = place }
+
+one_clash : (ks : List Answer) (c d : Found) → IsFirstClash ks c → IsFirstClash ks d → c ≡ d
+one_clash ks c d f g =
+    let second : c.second ≡ d.second = ⊎_elim (λ (e : c.second ≡ d.second). e) (λ (r : (c.second < d.second) ⊎ (d.second < c.second)).
+    ⊎_elim (λ (lt : c.second < d.second). absurd (clash_within ks c d.second f lt g.before)) (λ (gt : d.second < c.second). absurd (clash_within ks d c.second g gt f.before)) r) (cases_order c.second d.second) in
+    let f' : ClashesFirst (take d.second ks) (answer_at ks d.second) c = subst (λ (n : ℕ). ClashesFirst (take n ks) (answer_at ks n) c) second f.here in
+    let g' = g.here in
+    let le : c.place ≤ d.place = f'.place d.first d.place g'.clear g'.here in
+    let ge : d.place ≤ c.place = g'.place c.first c.place f'.clear f'.here in
+    let place : c.place ≡ d.place = omega arith in
+    let before_d : IsPrefix (take (d.place + 1) (answer_at ks d.second).word) (answer_at (take d.second ks) d.first).word = begins_with (answer_at (take d.second ks) d.first) (answer_at ks d.second) d.place g'.here in
+    let before_c : IsPrefix (take (c.place + 1) (answer_at ks d.second).word) (answer_at (take d.second ks) c.first).word = begins_with (answer_at (take d.second ks) c.first) (answer_at ks d.second) c.place f'.here in
+    let up : c.first ≤ d.first = f'.first d.first g'.clear (subst (λ (p : ℕ). IsPrefix (take (p + 1) (answer_at ks d.second).word) (answer_at (take d.second ks) d.first).word) (sym place) before_d) in
+    let down : d.first ≤ c.first = g'.first c.first f'.clear (subst (λ (p : ℕ). IsPrefix (take (p + 1) (answer_at ks d.second).word) (answer_at (take d.second ks) c.first).word) place before_c) in
+    let first : c.first ≡ d.first = omega arith in
+    ap (λ (n : ℕ). found_of n c.second c.place) first ∙ (ap (λ (n : ℕ). found_of d.first n c.place) second ∙ ap (λ (n : ℕ). found_of d.first d.second n) place)
+
+module _ (p : Pair) (extra : ℕ) where
+  same_verdict : (v w : Verdict) → HasVerdict p extra v → HasVerdict p extra w → v ≡ w
+  same_verdict v w f g = one_verdict p.mealy.inputs p.mealy.rows (answers_of p.kept) extra v w f.2 g.2
+
+  yes_is : (n : ℕ) (two : Outcome) → IsDecision p extra (Yes n) → IsDecision p extra two → Yes n ≡ two
+  yes_is n (Yes m) f g = ap (λ (s : ℕ). Yes s) (f.1 ∙ sym g.1)
+  yes_is n (No v) f g = absurd (subst IsNo (sym (same_verdict verdict.Sure v f.0 g.0)) g.1)
+  yes_is n Alphabets f g = absurd (g f.0.0)
+  yes_is n (Nondeterministic c) f g = absurd (clash_not_nothing (answers_of p.kept) c g.1 f.0.1)
+  yes_is n (SuiteTooLarge m s) f g = let e : verdict.Sure ≡ verdict.TooLarge s = same_verdict verdict.Sure (verdict.TooLarge s) f.0 g.0 in absurd (cc)
+  yes_is n (Unchecked m) f g = absurd g
+  yes_is n Usage f g = absurd g
+  yes_is n (BadFile r b) f g = absurd g
+  yes_is n (FileTooLong r) f g = absurd g
+  yes_is n NoMemory f g = absurd g
+  yes_is n (TooManyStates ws) f g = absurd g
+  yes_is n (FileFault r) f g = absurd g
+  yes_is n SinkFault f g = absurd g
+
+  no_is : (v : Verdict) (two : Outcome) → IsDecision p extra (No v) → IsDecision p extra two → No v ≡ two
+  no_is v (Yes m) f g = absurd (subst IsNo (same_verdict v verdict.Sure f.0 g.0) f.1)
+  no_is v (No w) f g = ap (λ (u : Verdict). No u) (same_verdict v w f.0 g.0)
+  no_is v Alphabets f g = absurd (g f.0.0)
+  no_is v (Nondeterministic c) f g = absurd (clash_not_nothing (answers_of p.kept) c g.1 f.0.1)
+  no_is v (SuiteTooLarge m s) f g = absurd (subst IsNo (same_verdict v (verdict.TooLarge s) f.0 g.0) f.1)
+  no_is v (Unchecked m) f g = absurd g
+  no_is v Usage f g = absurd g
+  no_is v (BadFile r b) f g = absurd g
+  no_is v (FileTooLong r) f g = absurd g
+  no_is v NoMemory f g = absurd g
+  no_is v (TooManyStates ws) f g = absurd g
+  no_is v (FileFault r) f g = absurd g
+  no_is v SinkFault f g = absurd g
+
+  suite_is : (n s : ℕ) (two : Outcome) → IsDecision p extra (SuiteTooLarge n s) → IsDecision p extra two → SuiteTooLarge n s ≡ two
+  suite_is n s (Yes m) f g = let e : verdict.TooLarge s ≡ verdict.Sure = same_verdict (verdict.TooLarge s) verdict.Sure f.0 g.0 in absurd (cc)
+  suite_is n s (No v) f g = absurd (subst IsNo (sym (same_verdict (verdict.TooLarge s) v f.0 g.0)) g.1)
+  suite_is n s Alphabets f g = absurd (g f.0.0)
+  suite_is n s (Nondeterministic c) f g = absurd (clash_not_nothing (answers_of p.kept) c g.1 f.0.1)
+  suite_is n s (SuiteTooLarge m t) f g =
+      let e : verdict.TooLarge s ≡ verdict.TooLarge t = same_verdict (verdict.TooLarge s) (verdict.TooLarge t) f.0 g.0 in
+      let same : s ≡ t = cc in
+      ap (λ (k : ℕ). SuiteTooLarge k s) (f.1 ∙ sym g.1) ∙ ap (λ (k : ℕ). SuiteTooLarge m k) same
+  suite_is n s (Unchecked m) f g = absurd g
+  suite_is n s Usage f g = absurd g
+  suite_is n s (BadFile r b) f g = absurd g
+  suite_is n s (FileTooLong r) f g = absurd g
+  suite_is n s NoMemory f g = absurd g
+  suite_is n s (TooManyStates ws) f g = absurd g
+  suite_is n s (FileFault r) f g = absurd g
+  suite_is n s SinkFault f g = absurd g
+
+  other_names_is : (two : Outcome) → ¬ SameNames p → IsDecision p extra two → Alphabets ≡ two
+  other_names_is (Yes m) f g = absurd (f g.0.0)
+  other_names_is (No v) f g = absurd (f g.0.0)
+  other_names_is Alphabets f g = refl
+  other_names_is (Nondeterministic c) f g = absurd (f g.0)
+  other_names_is (SuiteTooLarge m t) f g = absurd (f g.0.0)
+  other_names_is (Unchecked m) f g = absurd g
+  other_names_is Usage f g = absurd g
+  other_names_is (BadFile r b) f g = absurd g
+  other_names_is (FileTooLong r) f g = absurd g
+  other_names_is NoMemory f g = absurd g
+  other_names_is (TooManyStates ws) f g = absurd g
+  other_names_is (FileFault r) f g = absurd g
+  other_names_is SinkFault f g = absurd g
+
+  clash_is : (c : Found) (two : Outcome) → IsDecision p extra (Nondeterministic c) → IsDecision p extra two → Nondeterministic c ≡ two
+  clash_is c (Yes m) f g = absurd (clash_not_nothing (answers_of p.kept) c f.1 g.0.1)
+  clash_is c (No v) f g = absurd (clash_not_nothing (answers_of p.kept) c f.1 g.0.1)
+  clash_is c Alphabets f g = absurd (g f.0)
+  clash_is c (Nondeterministic d) f g = ap (λ (k : Found). Nondeterministic k) (one_clash (answers_of p.kept) c d f.1 g.1)
+  clash_is c (SuiteTooLarge m t) f g = absurd (clash_not_nothing (answers_of p.kept) c f.1 g.0.1)
+  clash_is c (Unchecked m) f g = absurd g
+  clash_is c Usage f g = absurd g
+  clash_is c (BadFile r b) f g = absurd g
+  clash_is c (FileTooLong r) f g = absurd g
+  clash_is c NoMemory f g = absurd g
+  clash_is c (TooManyStates ws) f g = absurd g
+  clash_is c (FileFault r) f g = absurd g
+  clash_is c SinkFault f g = absurd g
+
+pub one_decision : OneDecision
+one_decision p extra (Yes n) two f g = yes_is p extra n two f g
+one_decision p extra (No v) two f g = no_is p extra v two f g
+one_decision p extra Alphabets two f g = other_names_is p extra two f g
+one_decision p extra (Nondeterministic c) two f g = clash_is p extra c two f g
+one_decision p extra (SuiteTooLarge n s) two f g = suite_is p extra n s two f g
+one_decision p extra (Unchecked m) two f g = absurd f
+one_decision p extra Usage two f g = absurd f
+one_decision p extra (BadFile r b) two f g = absurd f
+one_decision p extra (FileTooLong r) two f g = absurd f
+one_decision p extra NoMemory two f g = absurd f
+one_decision p extra (TooManyStates ws) two f g = absurd f
+one_decision p extra (FileFault r) two f g = absurd f
+one_decision p extra SinkFault two f g = absurd f

@@ -1,0 +1,4 @@
+pub mod DecideLemmas
+pub mod FillLemmas
+pub mod OverLemmas
+pub mod ReadLemmas

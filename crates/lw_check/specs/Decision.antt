@@ -1,0 +1,67 @@
+-- What a model and answers with their names come to.
+use Rattle.std.specs.Prelude.{◌≡◌, ℕ, List, length}
+use Rattle.lw_words.specs.Answer.{answers_of}
+use Rattle.lw_words.specs.declared.kept.KeptAnswer.{KeptAnswer}
+use Rattle.lw_mealy.specs.Limits.{MealyMachine}
+use Rattle.lw_json.specs.declared.machine.Machine.{Machine}
+use Rattle.lw_json.specs.declared.answers.Answers.{Answers}
+use Rattle.lw_cache.specs.Clash.{NothingClashes}
+use Rattle.lw_certify.specs.Verdict.{IsVerdict}
+use Rattle.lw_certify.specs.declared.verdict.Verdict.{Verdict}
+use Rattle.lw_certify.specs.declared.verdict.Verdict.TheVariants as verdict
+use Rattle.lw_check.specs.FirstClash.{IsFirstClash}
+use Rattle.lw_report.specs.declared.outcome.Outcome.{Outcome}
+use Rattle.lw_report.specs.declared.outcome.Outcome.TheVariants.{Yes, No, Alphabets, Nondeterministic, SuiteTooLarge}
+
+-- a model with its names, and answers with theirs
+pub record Pair : Type 0 where
+  pub inputs : List (List ℕ)
+  pub outputs : List (List ℕ)
+  pub mealy : MealyMachine
+  pub answer_inputs : List (List ℕ)
+  pub answer_outputs : List (List ℕ)
+  pub kept : List KeptAnswer
+
+abbrev pub pair_of : Machine → Answers → Pair
+pair_of m a = record { inputs = m.inputs; outputs = m.outputs; mealy = m.mealy; answer_inputs = a.inputs; answer_outputs = a.outputs; kept = a.kept.answers }
+
+abbrev pub SameNames : Pair → Type 0
+SameNames p = (p.answer_inputs ≡ p.inputs) × (p.answer_outputs ≡ p.outputs)
+
+-- the names are the same, nothing clashes, and this is the verdict
+abbrev pub HasVerdict : Pair → ℕ → Verdict → Type 0
+HasVerdict p extra v = SameNames p × NothingClashes (answers_of p.kept) × IsVerdict p.mealy.inputs p.mealy.rows (answers_of p.kept) extra v
+
+-- neither too large nor sure
+abbrev pub IsNo : Verdict → Type 0
+IsNo (verdict.TooLarge size) = ⊥
+IsNo verdict.Sure = ⊥
+IsNo _ = Unit {0}
+
+-- what the pair comes to: the first that applies of other names, two answers that clash, and the verdict
+abbrev pub IsDecision : Pair → ℕ → Outcome → Type 0
+IsDecision p extra Alphabets = ¬ SameNames p
+IsDecision p extra (Nondeterministic clash) = SameNames p × IsFirstClash (answers_of p.kept) clash
+IsDecision p extra (Yes states) = HasVerdict p extra verdict.Sure × (states ≡ length p.mealy.rows)
+IsDecision p extra (No v) = HasVerdict p extra v × IsNo v
+IsDecision p extra (SuiteTooLarge states number) = HasVerdict p extra (verdict.TooLarge number) × (states ≡ length p.mealy.rows)
+IsDecision p extra _ = ⊥
+
+-- a pair comes to one outcome at most
+abbrev pub OneDecision : Type 0
+OneDecision = (p : Pair) (extra : ℕ) (one two : Outcome) → IsDecision p extra one → IsDecision p extra two → one ≡ two
+
+-- an outcome of this kind
+abbrev pub IsDecided : Outcome → Type 0
+IsDecided Alphabets = Unit {0}
+IsDecided (Nondeterministic clash) = Unit {0}
+IsDecided (Yes states) = Unit {0}
+IsDecided (No v) = Unit {0}
+IsDecided (SuiteTooLarge states number) = Unit {0}
+IsDecided _ = ⊥
+
+-- a yes or a no, whose text goes to `out`
+abbrev pub IsAnswered : Outcome → Type 0
+IsAnswered (Yes states) = Unit {0}
+IsAnswered (No v) = Unit {0}
+IsAnswered _ = ⊥

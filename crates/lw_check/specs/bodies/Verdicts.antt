@@ -1,0 +1,18 @@
+-- The outcome of a verdict.
+use Rattle.std.specs.Prelude.{◌≡◌, ℕ, List, length}
+use Rattle.lw_words.specs.Answer.{Answer}
+use Rattle.lw_mealy.specs.Limits.{MealyMachine}
+use Rattle.lw_certify.specs.Verdict.{IsVerdict}
+use Rattle.lw_certify.specs.declared.verdict.Verdict.{Verdict}
+use Rattle.lw_certify.specs.declared.verdict.Verdict.TheVariants as verdict
+use Rattle.lw_report.specs.declared.outcome.Outcome.{Outcome}
+use Rattle.lw_report.specs.declared.outcome.Outcome.TheVariants.{Yes, No, SuiteTooLarge}
+
+abbrev pub outcome_of : ℕ → Verdict → Outcome
+outcome_of states verdict.Sure = Yes states
+outcome_of states (verdict.TooLarge number) = SuiteTooLarge states number
+outcome_of states v = No v
+
+-- the outcome of the verdict
+abbrev pub HasOutcome : MealyMachine → List Answer → ℕ → Outcome → Type 0
+HasOutcome m ks extra outcome = (v : Verdict) × IsVerdict m.inputs m.rows ks extra v × (outcome ≡ outcome_of (length m.rows) v)

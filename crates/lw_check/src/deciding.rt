@@ -1,0 +1,89 @@
+//! What a model and answers come to.
+ghost use Rattle.std.specs.Prelude.{◌≡◌, ◌≤◌, ◌⊎◌, length, true, false};
+ghost use Rattle.std.specs.List.{All};
+ghost use Rattle.lw_words.specs.Answer.{answers_of};
+ghost use Rattle.lw_words.specs.Word.{IsWord};
+ghost use Rattle.lw_json.specs.KeptOver.{AreKeptOver};
+ghost use Rattle.lw_certify.specs.Verdict.{IsVerdict};
+ghost use Rattle.lw_check.specs.Decision.{IsDecision, SameNames, pair_of};
+ghost use Rattle.lw_check.specs.bodies.Filled.{ClashBefore};
+ghost use Rattle.lw_check.specs.bodies.Verdicts.{HasOutcome, outcome_of};
+ghost use Rattle.lw_report.specs.declared.outcome.Outcome.{Outcome as Came};
+
+use crate::filling::{Filled, fill};
+use lw_cache::Cache;
+use lw_certify::{Verdict, certify};
+use lw_json::{Answers, Machine};
+use lw_report::Outcome;
+use std::alloc::Global;
+
+/// The outcome of a verdict on a model of so many states.
+fn verdict_outcome(states: u16, verdict: Verdict) -> Outcome
+    ensures { result ≡ outcome_of states verdict }
+{
+    match verdict {
+        Verdict::Sure => Outcome::Yes { states },
+        Verdict::TooLarge(number) => Outcome::SuiteTooLarge { states, number },
+        verdict => Outcome::No(verdict),
+    }
+}
+
+/// The outcome of a model and answers of which nothing clashes.
+fn certified(alloc: Global, machine: &Machine, cache: &Cache, extra: u8) -> Outcome
+    requires few { extra ≤ 4 }
+    requires letters { All (λ k. IsWord machine.now.mealy.inputs k.word) (answers_of cache.now.kept) }
+    ensures { (result ≡ Came.NoMemory) ⊎ HasOutcome machine.now.mealy (answers_of cache.now.kept) extra result }
+{
+    match certify(alloc, &machine.mealy, cache, extra) {
+        Ok(verdict) => verdict_outcome(machine.mealy.states(), verdict),
+        Err(_) => Outcome::NoMemory,
+    }
+}
+
+/// Whether the names of the answers are the model's.
+fn same_names(machine: &Machine, answers: &Answers) -> bool
+    ensures yes { result ≡ true → SameNames (pair_of machine.now answers.now) }
+    ensures no { result ≡ false → ¬ SameNames (pair_of machine.now answers.now) }
+{
+    if !answers.inputs.same(&machine.inputs) {
+        return false;
+    }
+    answers.outputs.same(&machine.outputs)
+}
+
+/// The outcome of a model and answers that are kept in a cache.
+fn outcome_of_filled(
+    alloc: Global,
+    machine: &Machine,
+    answers: &Answers,
+    filled: &Filled,
+    extra: u8,
+) -> Outcome
+    requires few { extra ≤ 4 }
+    requires names { SameNames (pair_of machine.now answers.now) }
+    requires kept { filled.now.cache.kept ≡ answers.now.kept.answers }
+    requires clash { ClashBefore answers.now.kept.answers (length answers.now.kept.answers)
+        filled.now.clash }
+    ensures { (result ≡ Came.NoMemory) ⊎
+        IsDecision (pair_of machine.now answers.now) extra result }
+{
+    match filled.clash {
+        Some(clash) => Outcome::Nondeterministic(clash),
+        None => certified(alloc, machine, &filled.cache, extra),
+    }
+}
+
+/// What a model and answers come to.
+pub(crate) fn decide(alloc: Global, machine: &Machine, answers: &Answers, extra: u8) -> Outcome
+    requires few { extra ≤ 4 }
+    ensures { (result ≡ Came.NoMemory) ⊎
+        IsDecision (pair_of machine.now answers.now) extra result }
+{
+    if !same_names(machine, answers) {
+        return Outcome::Alphabets;
+    }
+    match fill(alloc, &answers.kept) {
+        Ok(filled) => outcome_of_filled(alloc, machine, answers, &filled, extra),
+        Err(_) => Outcome::NoMemory,
+    }
+}

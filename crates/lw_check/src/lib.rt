@@ -1,0 +1,12 @@
+//! The command `check`: whether an answers file fixes a model.
+#![tactic(auto)]
+
+mod checking;
+mod deciding;
+mod filling;
+mod laws;
+mod reading;
+mod telling;
+
+pub use checking::check;
+pub use laws::decision_is_unique;
