@@ -1,4 +1,5 @@
 pub mod DecideLemmas
+pub mod EndLemmas
 pub mod FillLemmas
 pub mod OverLemmas
 pub mod ReadLemmas

@@ -1,4 +1,5 @@
 pub mod Decision
+pub mod Ending
 pub mod FirstClash
 pub mod Reading
 pub mod Telling

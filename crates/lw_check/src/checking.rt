@@ -1,24 +1,60 @@
 //! The command.
-ghost use Rattle.std.specs.Prelude.{◌≡◌, ◌⊎◌, ◌≤◌, ℕ, [], List, None};
-ghost use Rattle.lw_words.specs.Cause.{CountedFault};
+ghost use Rattle.std.specs.Prelude.{◌≡◌, ◌⊎◌, ◌≤◌, ℕ, None};
 ghost use Rattle.lw_json.specs.AnswersFile.{IsAnswersFile};
 ghost use Rattle.lw_json.specs.MachineFile.{IsMachineFile};
-ghost use Rattle.lw_json.specs.declared.answers.Answers.{Answers as Kept_};
+ghost use Rattle.lw_json.specs.declared.answers.Answers.{Answers as Given};
 ghost use Rattle.lw_json.specs.declared.machine.Machine.{Machine as Model};
-ghost use Rattle.lw_check.specs.Decision.{IsAnswered, IsDecided, IsDecision, Pair, pair_of};
-ghost use Rattle.lw_check.specs.Reading.{IsUnread, ReadsPair, TellsFile, seen};
-ghost use Rattle.lw_report.specs.Outcomes.{status_of};
+ghost use Rattle.lw_check.specs.Decision.{IsAnswered, IsDecision, Pair, pair_of};
+ghost use Rattle.lw_words.specs.Cause.{CountedFault};
 ghost use Rattle.lw_report.specs.Text.{text_of};
-ghost use Rattle.lw_report.specs.Writing.{TakesAll, TakesSome};
+ghost use Rattle.lw_report.specs.Writing.{TakesAll};
+ghost use Rattle.lw_check.specs.Ending.{ComesTo, DecidesAs, EndsRead, EndsUnread, stream};
+ghost use Rattle.lw_check.specs.Reading.{ReadsPair, TellsFile, seen};
+ghost use Rattle.lw_mealy.specs.Limits.{IsWithinLimits};
+ghost use Rattle.lw_certify.specs.Sure.{Sure};
+ghost use Rattle.lw_words.specs.Answer.{answers_of};
+ghost use Rattle.lw_report.specs.Outcomes.{status_of};
 ghost use Rattle.lw_report.specs.declared.outcome.Outcome.{Outcome as Came};
 
 use crate::deciding::decide;
 use crate::reading::{Read, read_pair};
 use crate::telling::tell;
+use lw_json::{Answers, Machine};
 use lw_outside::{Files, Sink};
 use lw_report::{End, refuse};
 use lw_words::Kept;
 use std::alloc::Global;
+
+/// Decides on a model and answers, and writes out what they come to.
+fn finish<O: Sink, E: Sink>(
+    alloc: Global,
+    machine: Machine,
+    answers: Answers,
+    extra: u8,
+    out: &mut O,
+    err: &mut E,
+) -> End
+    requires few { extra ≤ 4 }
+    ensures status { result.status ≡ status_of result.outcome }
+    ensures model { result.model ≡ None }
+    ensures kept { result.kept.answers ≡ answers.kept.answers }
+    ensures complete { IsWithinLimits machine.mealy }
+    ensures comes { ComesTo (pair_of machine answers) extra
+        (stream (O.faults out.old) (O.taken out.old)) (stream (O.faults out.new) (O.taken out.new))
+        result.outcome }
+    ensures written { IsAnswered result.outcome →
+        TakesAll (text_of machine.inputs machine.outputs answers.kept.answers extra result.outcome)
+        (O.taken out.old) (O.taken out.new) × (E.taken err.new ≡ E.taken err.old) }
+    ensures said { ¬ IsAnswered result.outcome → ¬ CountedFault (E.faults err.old) (E.faults err.new) →
+        TakesAll (text_of machine.inputs machine.outputs answers.kept.answers extra result.outcome)
+        (E.taken err.old) (E.taken err.new) }
+    ensures counts { (O.faults out.old ≤ O.faults out.new) × (E.faults err.old ≤ E.faults err.new) }
+{
+    let _states = machine.mealy.states();
+    let decision = decide(alloc, &machine, &answers, extra);
+    let outcome = tell(alloc, decision, &machine, &answers.kept, extra, out, err);
+    End::new(outcome, None, answers.kept)
+}
 
 /// `check MODEL ANSWERS [--extra K]`: whether the answers of a file fix the model of a file among all machines of at most
 /// `extra` states more. Reads the model file, then the answers file; puts a yes or a no to `out`, and the text of every other
@@ -35,7 +71,29 @@ pub fn check<F: Files, O: Sink, E: Sink>(
     requires few { extra ≤ 4 }
     ensures status { result.status ≡ status_of result.outcome }
     ensures model { result.model ≡ None }
-    ensures counts { F.faults files.old ≤ F.faults files.new }
+    ensures ended { EndsUnread model.now answers.now
+        (seen (F.holds files.old) (F.calls files.old) (F.reads files.old) (F.faults files.old))
+        (seen (F.holds files.new) (F.calls files.new) (F.reads files.new) (F.faults files.new))
+        extra (stream (O.faults out.old) (O.taken out.old)) (stream (O.faults out.new) (O.taken out.new))
+        (stream (E.faults err.old) (E.taken err.old)) (stream (E.faults err.new) (E.taken err.new))
+        result.outcome result.kept.answers ⊎
+        EndsRead model.now answers.now
+        (seen (F.holds files.old) (F.calls files.old) (F.reads files.old) (F.faults files.old))
+        (seen (F.holds files.new) (F.calls files.new) (F.reads files.new) (F.faults files.new))
+        extra (stream (O.faults out.old) (O.taken out.old)) (stream (O.faults out.new) (O.taken out.new))
+        (stream (E.faults err.old) (E.taken err.old)) (stream (E.faults err.new) (E.taken err.new))
+        result.outcome result.kept.answers }
+    ensures exact { (m : Model) (a : Given) (decision : Came) →
+        TellsFile IsMachineFile (F.holds files.old) model.now m →
+        TellsFile IsAnswersFile (F.holds files.old) answers.now a →
+        IsDecision (pair_of m a) extra decision → DecidesAs decision result.outcome }
+    ensures sure { (states : ℕ) → result.outcome ≡ Came.Yes states → (p : Pair) ×
+        ReadsPair model.now answers.now
+        (seen (F.holds files.old) (F.calls files.old) (F.reads files.old) (F.faults files.old))
+        (seen (F.holds files.new) (F.calls files.new) (F.reads files.new) (F.faults files.new)) p ×
+        Sure p.mealy.inputs p.mealy.rows (answers_of p.kept) extra }
+    ensures counts { (F.faults files.old ≤ F.faults files.new) ×
+        (O.faults out.old ≤ O.faults out.new) × (E.faults err.old ≤ E.faults err.new) }
 {
     let Read { machine, answers } = match read_pair(alloc, files, model, answers) {
         Ok(read) => read,
@@ -43,7 +101,5 @@ pub fn check<F: Files, O: Sink, E: Sink>(
             return refuse(alloc, outcome, None, None, Kept::new(alloc), extra, err);
         }
     };
-    let decided = decide(alloc, &machine, &answers, extra);
-    let outcome = tell(alloc, decided, &machine, &answers.kept, extra, out, err);
-    End::new(outcome, None, answers.kept)
+    finish(alloc, machine, answers, extra, out, err)
 }

@@ -1,0 +1,115 @@
+-- How the command ends.
+use Rattle.std.proofs.Common.{◌≡◌, ◌⊎◌, inl, inr, ⊎_elim, ℕ, ◌<◌, ◌≤◌, List, [], length, Option, Some, None, refl, sym, ap, ◌∙◌, subst, arith}
+use Rattle.lw_words.specs.Answer.{answers_of}
+use Rattle.lw_words.specs.Cause.{CountedFault}
+use Rattle.lw_mealy.specs.Machine.{IsMachine}
+use Rattle.lw_json.specs.AnswersFile.{IsAnswersFile, SameAnswers}
+use Rattle.lw_json.specs.MachineFile.{IsMachineFile, SameMachine}
+use Rattle.lw_json.specs.declared.answers.Answers.{Answers}
+use Rattle.lw_json.specs.declared.machine.Machine.{Machine}
+use Rattle.lw_json.proofs.OneValue.{one_value}
+use Rattle.lw_json.proofs.OneAnswers.{one_answers}
+use Rattle.lw_outside.specs.Files.{File, Holds, HoldsLong, file_at, longest_file}
+use Rattle.lw_certify.specs.Sure.{Sure}
+use Rattle.lw_certify.proofs.SureLemmas.{sure_is_sure}
+use Rattle.lw_report.specs.Outcomes.{HasOwnText, StandsOrWants}
+use Rattle.lw_report.specs.Text.{text_of}
+use Rattle.lw_report.specs.Writing.{TakesSome}
+use Rattle.lw_report.specs.declared.role.Role.TheVariants as role
+use Rattle.lw_report.specs.declared.outcome.Outcome.{Outcome}
+use Rattle.lw_report.specs.declared.outcome.Outcome.TheVariants.{Unchecked, Yes, No, Usage, BadFile, Alphabets, FileTooLong, Nondeterministic, NoMemory, TooManyStates, SuiteTooLarge, FileFault, SinkFault}
+use Rattle.lw_check.specs.Decision.{IsAnswered, IsDecision, Pair, pair_of}
+use Rattle.lw_check.specs.Ending.{ComesTo, DecidesAs, Stream}
+use Rattle.lw_check.specs.Reading.{IsUnread, ReadsPair, Seen, TellsFile}
+use Rattle.lw_check.specs.Telling.{IsTold}
+use Rattle.lw_check.proofs.DecideLemmas.{one_decision}
+
+pub comes_to : (p : Pair) (extra : ℕ) (out now : Stream) (decision outcome : Outcome) → (decision ≡ NoMemory) ⊎ IsDecision p extra decision → IsTold decision outcome
+    → (outcome ≡ SinkFault → ¬ (decision ≡ SinkFault) → CountedFault out.faults now.faults) → TakesSome (text_of p.inputs p.outputs p.kept extra decision) out.taken now.taken → ComesTo p extra out now outcome
+comes_to p extra out now decision outcome decided told counted some =
+    ⊎_elim
+    (λ (stands : outcome ≡ decision). ⊎_elim (λ (none : decision ≡ NoMemory). inr (inl (stands ∙ none))) (λ (d : IsDecision p extra decision). inl (subst (IsDecision p extra) (sym stands) d)) decided)
+    (λ (r : (outcome ≡ NoMemory) ⊎ (IsAnswered decision × (outcome ≡ SinkFault))). ⊎_elim
+    (λ (none : outcome ≡ NoMemory). inr (inl none))
+    (λ (s : IsAnswered decision × (outcome ≡ SinkFault)). ⊎_elim
+    (λ (none : decision ≡ NoMemory). absurd (subst IsAnswered none s.0))
+    (λ (d : IsDecision p extra decision). inr (inr (s.1, counted s.1 (λ e. subst IsAnswered e s.0), (decision, s.0, d, some))))
+    decided)
+    r)
+    told
+
+-- a cause stands, or memory runs out in telling it
+pub still_unread : (model answers : List ℕ) (before now : Seen) (o r : Outcome) → IsUnread model answers before now o → StandsOrWants o r → IsUnread model answers before now r
+still_unread model answers before now o r u s =
+    ⊎_elim (λ (e : r ≡ o). subst (IsUnread model answers before now) (sym e) u) (λ (w : HasOwnText o × (r ≡ NoMemory)). subst (IsUnread model answers before now) (sym w.1) tt) s
+
+-- bytes that are told and those that were read are the same
+told_bytes : (fs : List File) (name told read : List ℕ) → file_at name fs ≡ Some told → file_at name fs ≡ Some read → read ≡ told
+told_bytes fs name told read t r = cc
+
+module _ {V : Type 0} (IsFile : List ℕ → V → Type 0) (name : List ℕ) (v : V) where
+  not_bad : (holds : Option (List File)) (bytes : List ℕ) → TellsFile IsFile holds name v → Holds holds name bytes → ((w : V) → ¬ IsFile bytes w) → ⊥
+  not_bad None bytes t h bad = t
+  not_bad (Some fs) bytes t h bad = bad v (subst (λ (b : List ℕ). IsFile b v) (sym (told_bytes fs name t.0 bytes t.1 h)) t.3)
+
+  not_long : (holds : Option (List File)) → TellsFile IsFile holds name v → HoldsLong holds name → ⊥
+  not_long None t h = t
+  not_long (Some fs) t h =
+      let e : h.0 ≡ t.0 = told_bytes fs name t.0 h.0 t.1 h.1 in
+      let long = h.2 in
+      let short = t.2 in
+      absurd (omega (arith, ap (λ (b : List ℕ). length b) e))
+
+  told_file : (holds : Option (List File)) (bytes : List ℕ) → TellsFile IsFile holds name v → Holds holds name bytes → IsFile bytes v
+  told_file None bytes t h = absurd t
+  told_file (Some fs) bytes t h = subst (λ (b : List ℕ). IsFile b v) (sym (told_bytes fs name t.0 bytes t.1 h)) t.3
+
+pub exact_unread : (model answers : List ℕ) (before now : Seen) (m : Machine) (a : Answers) (decision outcome : Outcome) → IsUnread model answers before now outcome → TellsFile IsMachineFile before.holds model m → TellsFile IsAnswersFile before.holds answers a
+    → DecidesAs decision outcome
+exact_unread model answers before now m a decision (BadFile role.Model fault) u tm ta = absurd (not_bad IsMachineFile model m before.holds u.0.bytes tm u.0.read.held u.0.bad)
+exact_unread model answers before now m a decision (BadFile role.Answers fault) u tm ta = absurd (not_bad IsAnswersFile answers a before.holds u.0.3.bytes ta u.0.3.read.held u.0.3.bad)
+exact_unread model answers before now m a decision (BadFile role.Setup fault) u tm ta = absurd u
+exact_unread model answers before now m a decision (BadFile role.Table fault) u tm ta = absurd u
+exact_unread model answers before now m a decision (FileTooLong role.Model) u tm ta = absurd (not_long IsMachineFile model m before.holds tm u.0)
+exact_unread model answers before now m a decision (FileTooLong role.Answers) u tm ta = absurd (not_long IsAnswersFile answers a before.holds ta u.0)
+exact_unread model answers before now m a decision (FileTooLong role.Setup) u tm ta = absurd u
+exact_unread model answers before now m a decision (FileTooLong role.Table) u tm ta = absurd u
+exact_unread model answers before now m a decision (FileFault r) u tm ta = inr (inr (inr (r, refl)))
+exact_unread model answers before now m a decision NoMemory u tm ta = inr (inl refl)
+exact_unread model answers before now m a decision (Unchecked t) u tm ta = absurd u
+exact_unread model answers before now m a decision (Yes n) u tm ta = absurd u
+exact_unread model answers before now m a decision (No v) u tm ta = absurd u
+exact_unread model answers before now m a decision Usage u tm ta = absurd u
+exact_unread model answers before now m a decision Alphabets u tm ta = absurd u
+exact_unread model answers before now m a decision (Nondeterministic c) u tm ta = absurd u
+exact_unread model answers before now m a decision (TooManyStates ws) u tm ta = absurd u
+exact_unread model answers before now m a decision (SuiteTooLarge n s) u tm ta = absurd u
+exact_unread model answers before now m a decision SinkFault u tm ta = absurd u
+
+same_pair : (m n : Machine) (a b : Answers) → SameMachine m n → SameAnswers a b → pair_of m a ≡ pair_of n b
+same_pair m n a b sm sa = cc (sm.inputs, sm.outputs, sm.mealy, sa.inputs, sa.outputs, sa.answers)
+
+pub exact_read : (model answers : List ℕ) (before now : Seen) (p : Pair) (extra : ℕ) (out out_now : Stream) (m : Machine) (a : Answers) (decision outcome : Outcome) → ReadsPair model answers before now p → ComesTo p extra out out_now outcome
+    → TellsFile IsMachineFile before.holds model m → TellsFile IsAnswersFile before.holds answers a → IsDecision (pair_of m a) extra decision → DecidesAs decision outcome
+exact_read model answers before now p extra out out_now m a decision outcome r comes tm ta d =
+    let fm : IsMachineFile r.model_file.bytes m = told_file IsMachineFile model m before.holds r.model_file.bytes tm r.model_file.read.held in
+    let fa : IsAnswersFile r.answers_file.bytes a = told_file IsAnswersFile answers a before.holds r.answers_file.bytes ta r.answers_file.read.held in
+    let e : pair_of m a ≡ p = same_pair m r.machine a r.read_answers (one_value r.model_file.bytes m r.machine fm r.model_file.file) (one_answers r.answers_file.bytes a r.read_answers fa r.answers_file.file) ∙ sym r.pair in
+    let d' : IsDecision p extra decision = subst (λ (q : Pair). IsDecision q extra decision) e d in
+    ⊎_elim
+    (λ (o : IsDecision p extra outcome). inl (one_decision p extra outcome decision o d'))
+    (λ (s : (outcome ≡ NoMemory) ⊎ ((outcome ≡ SinkFault) × CountedFault out.faults out_now.faults × ((t : Outcome) × IsAnswered t × IsDecision p extra t × TakesSome (text_of p.inputs p.outputs p.kept extra t) out.taken out_now.taken))). ⊎_elim
+    (λ (none : outcome ≡ NoMemory). inr (inl none))
+    (λ (f : (outcome ≡ SinkFault) × CountedFault out.faults out_now.faults × ((t : Outcome) × IsAnswered t × IsDecision p extra t × TakesSome (text_of p.inputs p.outputs p.kept extra t) out.taken out_now.taken)). inr (inr (inl f.0)))
+    s)
+    comes
+
+pub yes_is_sure : (p : Pair) (extra : ℕ) (out out_now : Stream) (states : ℕ) (outcome : Outcome) → IsMachine p.mealy.inputs p.mealy.rows → ComesTo p extra out out_now outcome → outcome ≡ Yes states → Sure p.mealy.inputs p.mealy.rows (answers_of p.kept) extra
+yes_is_sure p extra out out_now states outcome machine comes is =
+    ⊎_elim
+    (λ (o : IsDecision p extra outcome). let d : IsDecision p extra (Yes states) = subst (IsDecision p extra) is o in sure_is_sure p.mealy.inputs p.mealy.rows (answers_of p.kept) extra machine d.0.2)
+    (λ (s : (outcome ≡ NoMemory) ⊎ ((outcome ≡ SinkFault) × CountedFault out.faults out_now.faults × ((t : Outcome) × IsAnswered t × IsDecision p extra t × TakesSome (text_of p.inputs p.outputs p.kept extra t) out.taken out_now.taken))). ⊎_elim
+    (λ (none : outcome ≡ NoMemory). let no : NoMemory ≡ Yes states = sym none ∙ is in absurd (cc))
+    (λ (f : (outcome ≡ SinkFault) × CountedFault out.faults out_now.faults × ((t : Outcome) × IsAnswered t × IsDecision p extra t × TakesSome (text_of p.inputs p.outputs p.kept extra t) out.taken out_now.taken)). let no : SinkFault ≡ Yes states = sym f.0 ∙ is in absurd (cc))
+    s)
+    comes

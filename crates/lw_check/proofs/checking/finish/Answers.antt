@@ -1,0 +1,10 @@
+use Rattle.lw_check.specs.Decision.{pair_of}
+use Rattle.lw_check.specs.Ending.{stream}
+use Rattle.lw_check.proofs.EndLemmas.{comes_to}
+use Rattle.lw_check.proofs.checking.finish.Goals as goal
+
+pub returns-clause-comes : goal.returns-clause-comes
+returns-clause-comes g c =
+    let O = g.O.Sink in
+    rw c.new.ensures.outcome
+    (comes_to (pair_of c.args.machine c.args.answers) c.args.extra (stream (O.faults c.args.out.now) (O.taken c.args.out.now)) (stream (O.faults c.tell-outcome.new.out) (O.taken c.tell-outcome.new.out)) c.decide-decision.result c.tell-outcome.result c.decide-decision.ensures c.tell-outcome.ensures.outcome c.tell-outcome.ensures.refused c.tell-outcome.ensures.part)
