@@ -14,6 +14,8 @@ mod ReckonLemmas
 mod ReclaimLemmas
 mod RoomLemmas
 mod RootLemmas
+mod ScanLemmas
+mod SeenLemmas
 mod ShapeLemmas
 mod StoredLemmas
 mod ToldLemmas

@@ -35,7 +35,7 @@ prefix_cases u v x p =
     (cases_lt (length v) (length u))
 
 module _ (at : ℕ → Node) (n : ℕ) (trie : IsTrie at n) where
-  child_prefix : (i j : ℕ) → IsChildOf at i n j → IsPrefix (word_of at i) (word_of at j)
+  pub child_prefix : (i j : ℕ) → IsChildOf at i n j → IsPrefix (word_of at i) (word_of at j)
   child_prefix i j child = ((at j).letter ∷ [], word_step at n trie j child.0 child.1 ∙ ap (λ (p : ℕ). word_of at p ++ (at j).letter ∷ []) child.2)
 
   -- a node's claim is at most those further down

@@ -15,6 +15,7 @@ ghost use Rattle.lw_cache.specs.declared.known.Known.TheVariants as Known;
 use crate::filling::{tell, tell_at};
 use crate::node::{Held, NONE, Node, UNCLAIMED};
 use crate::reckoning::{end_of, let_go, reclaim};
+use crate::scanning::{count_live, first_difference};
 use crate::trie::{find, place};
 use crate::{Clash, KeepStop, Known};
 use lw_mealy::Mealy;
@@ -303,7 +304,7 @@ impl Cache {
     pub fn nodes(&self) -> usize
         ensures { CountsNoted (answers_of self.now.kept) self.now.claims result }
     {
-        0
+        count_live(&self.nodes)
     }
 
     /// The first known word in shortlex order on which the machine's answer isn't what is read, or None where there is
@@ -312,7 +313,7 @@ impl Cache {
         requires { All (λ k. IsWord m.now.inputs k.word) (answers_of self.now.kept) }
         ensures { IfOk result (DiffersFirst m.now.rows (answers_of self.now.kept)) }
     {
-        Ok(None)
+        first_difference(self.alloc, &self.nodes, m)
     }
 }
 
