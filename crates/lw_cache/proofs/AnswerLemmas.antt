@@ -20,7 +20,7 @@ use Rattle.lw_cache.proofs.TrieLemmas.{word_step, front_node, prefix_node, not_r
 use Rattle.lw_cache.proofs.WalkLemmas.{reached_last}
 
 -- a front of a prefix is a prefix
-take_prefix : (k : ℕ) (w : List ℕ) → IsPrefix (take k w) w
+pub take_prefix : (k : ℕ) (w : List ℕ) → IsPrefix (take k w) w
 take_prefix k w =
     ⊎_elim
     (λ (le : k ≤ length w). prefix_from_take (take k w) w (ap (λ (j : ℕ). take j w) (length-take-le k w le)))
@@ -98,7 +98,7 @@ unclear_answered at n ks k was not =
 
 module _ (at : ℕ → Node) (n : ℕ) (t : IsTrie at n) (ks : List Answer) (answered : AreAnswered at n ks) (few : length ks ≤ no_answer) where
   -- the node of a clear answer's front, which tells that answer's output
-  clear_node : (a p : ℕ) → IsClear ks a → p < length (answer_at ks a).word
+  pub clear_node : (a p : ℕ) → IsClear ks a → p < length (answer_at ks a).word
       → (i : ℕ) × (0 < i) × (i < n) × (word_of at i ≡ take (p + 1) (answer_at ks a).word) × ((at i).answer ≤ a) × ((at i).answer ≢ no_answer) × ((at i).output ≡ get_or (answer_at ks a).outs p 0)
   clear_node a p clear lt =
       let e = answered.has a clear in

@@ -1,16 +1,21 @@
 mod AnswerLemmas
+mod ClaimLemmas
 pub mod ClashLemmas
 pub mod CrowdLemmas
 mod ExtendLemmas
 pub mod GrowLemmas
+mod HeldLemmas
 mod KeepLemmas
 pub mod KnownLemmas
 mod LookLemmas
 mod MoreLemmas
 mod PlainLemmas
 mod ReckonLemmas
+mod ReclaimLemmas
 mod RoomLemmas
 mod RootLemmas
+mod ScanLemmas
+mod SeenLemmas
 mod ShapeLemmas
 mod StoredLemmas
 mod ToldLemmas

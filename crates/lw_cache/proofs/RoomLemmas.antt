@@ -44,3 +44,46 @@ room_made words letters nodes most held most_held kept room more_words more_lett
     few : (0 < nodes) ⊎ (nodes ≤ 0) → nodes' + max letters more_letters ≤ no_answer
     few (inl any) = omega (arith, same any, r.nodes_few)
     few (inr empty) = omega (arith, none empty)
+
+-- a word is claimed
+pub room_claimed : (words letters nodes most held most_held kept room len nodes' most' held' most_held' : ℕ) → HasRoom words letters nodes most held most_held kept room
+    → 1 ≤ words → len ≤ letters → nodes ≤ nodes' → nodes' ≤ nodes + len → most' ≡ most → held' ≡ held + 1 → most_held' ≡ most_held
+    → HasRoom (words - 1) (letters - len) nodes' most' held' most_held' kept room
+room_claimed words letters nodes most held most_held kept room len nodes' most' held' most_held' r some short more few same one same_held =
+    let rooted : 0 < nodes = r.rooted (omega arith) in
+    record {
+      rooted = λ any. omega arith;
+      nodes_fit = omega (arith, r.nodes_fit);
+      nodes_few = omega (arith, r.nodes_few);
+      held_fit = omega (arith, r.held_fit);
+      kept_fit = omega (arith, r.kept_fit);
+      kept_few = omega (arith, r.kept_few);
+    }
+
+-- a claim is answered
+pub room_filled : (words letters nodes most held most_held kept room nodes' most' held' most_held' kept' room' : ℕ) → HasRoom words letters nodes most held most_held kept room
+    → nodes' ≡ nodes → most' ≡ most → held' + 1 ≤ held → most_held' ≡ most_held → kept' ≡ kept + 1 → room ≤ room' + 1
+    → HasRoom words letters nodes' most' held' most_held' kept' room'
+room_filled words letters nodes most held most_held kept room nodes' most' held' most_held' kept' room' r same same_most less same_held one room_less =
+    record {
+      rooted = λ any. let rooted : 0 < nodes = r.rooted any in omega arith;
+      nodes_fit = omega (arith, r.nodes_fit);
+      nodes_few = omega (arith, r.nodes_few);
+      held_fit = omega (arith, r.held_fit);
+      kept_fit = omega (arith, r.kept_fit);
+      kept_few = omega (arith, r.kept_few);
+    }
+
+-- a claim is given up
+pub room_released : (words letters nodes most held most_held kept room nodes' most' held' most_held' : ℕ) → HasRoom words letters nodes most held most_held kept room
+    → nodes' ≡ nodes → most' ≡ most → held' ≤ held → most_held' ≡ most_held
+    → HasRoom words letters nodes' most' held' most_held' kept room
+room_released words letters nodes most held most_held kept room nodes' most' held' most_held' r same same_most less same_held =
+    record {
+      rooted = λ any. let rooted : 0 < nodes = r.rooted any in omega arith;
+      nodes_fit = omega (arith, r.nodes_fit);
+      nodes_few = omega (arith, r.nodes_few);
+      held_fit = omega (arith, r.held_fit);
+      kept_fit = omega (arith, r.kept_fit);
+      kept_few = omega (arith, r.kept_few);
+    }

@@ -35,7 +35,7 @@ prefix_cases u v x p =
     (cases_lt (length v) (length u))
 
 module _ (at : ℕ → Node) (n : ℕ) (trie : IsTrie at n) where
-  child_prefix : (i j : ℕ) → IsChildOf at i n j → IsPrefix (word_of at i) (word_of at j)
+  pub child_prefix : (i j : ℕ) → IsChildOf at i n j → IsPrefix (word_of at i) (word_of at j)
   child_prefix i j child = ((at j).letter ∷ [], word_step at n trie j child.0 child.1 ∙ ap (λ (p : ℕ). word_of at p ++ (at j).letter ∷ []) child.2)
 
   -- a node's claim is at most those further down
@@ -72,7 +72,7 @@ module _ (at : ℕ → Node) (n : ℕ) (trie : IsTrie at n) where
       (h.0, h.1, h.2 ∙ sym child.2, prefix_over (word_of at i) (word_of at child.0) (word_of at (held_at held h.0).end) (child_prefix i child.0 child.1) h.3))
       (least i pos lt).some
 
-  claim_is : (held : List Held) (k : ℕ) → k < length held → claim_at (claims_of at held) k ≡ record { number = (held_at held k).number; word = word_of at (held_at held k).end }
+  pub claim_is : (held : List Held) (k : ℕ) → k < length held → claim_at (claims_of at held) k ≡ record { number = (held_at held k).number; word = word_of at (held_at held k).end }
   claim_is held k lt = get_or-map (λ (h : Held). let c : Claim = record { number = h.number; word = word_of at h.end } in c) held k (record { number = 0; end = 0 }) (record { number = 0; word = [] }) lt
 
   -- who claims a word

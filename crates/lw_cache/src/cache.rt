@@ -12,9 +12,11 @@ ghost use Rattle.lw_cache.specs.Standing.{Stands, CountsNoted};
 ghost use Rattle.lw_cache.specs.bodies.Trie.{root};
 ghost use Rattle.lw_cache.specs.declared.known.Known.TheVariants as Known;
 
-use crate::filling::tell;
+use crate::filling::{tell, tell_at};
 use crate::node::{Held, NONE, Node, UNCLAIMED};
-use crate::trie::find;
+use crate::reckoning::{end_of, let_go, reclaim};
+use crate::scanning::{count_live, first_difference};
+use crate::trie::{find, place};
 use crate::{Clash, KeepStop, Known};
 use lw_mealy::Mealy;
 use lw_words::{Kept, KeptAnswer, NoMemory, Word};
@@ -143,7 +145,13 @@ impl Cache {
         ensures claims { self.new.claims ≡ self.old.claims ++ claim_of number w.now ∷ [] }
         ensures words { self.new.words + 1 ≡ self.old.words }
         ensures letters { self.new.letters + length w.now ≡ self.old.letters }
-    {}
+    {
+        let end = place(&mut self.nodes, w.as_slice());
+        reclaim(&mut self.nodes, end, number as u64);
+        self.held.push_reserved(Held { number, end });
+        self.words -= 1;
+        self.letters -= w.len();
+    }
 
     /// Keeps the answer to a claimed word, which is no longer claimed then. Takes no memory.
     ///
@@ -166,9 +174,24 @@ impl Cache {
             (answer_of (kept_answer instance run word outs))) }
         ensures err { IfErr result (ClashesFirst (answers_of self.old.kept)
             (answer_of (kept_answer instance run word outs))) }
-        ensures known { OnErr result (SameKnown (answers_of self.old.kept) (answers_of self.new.kept)) }
+        ensures known { OnErr result (SameKnown (answers_of self.old.kept)
+            (answers_of self.new.kept)) }
     {
-        Ok(())
+        let end = end_of(&self.held, number);
+        let second = self.kept.len();
+        let found = tell_at(&mut self.nodes, end, outs.as_slice(), second as u32);
+        reclaim(&mut self.nodes, end, UNCLAIMED);
+        let_go(&mut self.held, number);
+        put(
+            &mut self.kept,
+            KeptAnswer {
+                instance,
+                run,
+                word,
+                outs,
+            },
+        );
+        clash_of(found, second)
     }
 
     /// Gives a claim up. Takes no memory.
@@ -177,7 +200,11 @@ impl Cache {
         ensures kept { self.new.kept ≡ self.old.kept }
         ensures claims { self.new.claims ≡ without number self.old.claims }
         ensures room { (self.new.words ≡ self.old.words) × (self.new.letters ≡ self.old.letters) }
-    {}
+    {
+        let end = end_of(&self.held, number);
+        reclaim(&mut self.nodes, end, UNCLAIMED);
+        let_go(&mut self.held, number);
+    }
 
     /// Keeps an answer to a word that was not claimed.
     ///
@@ -277,7 +304,7 @@ impl Cache {
     pub fn nodes(&self) -> usize
         ensures { CountsNoted (answers_of self.now.kept) self.now.claims result }
     {
-        0
+        count_live(&self.nodes)
     }
 
     /// The first known word in shortlex order on which the machine's answer isn't what is read, or None where there is
@@ -286,7 +313,7 @@ impl Cache {
         requires { All (λ k. IsWord m.now.inputs k.word) (answers_of self.now.kept) }
         ensures { IfOk result (DiffersFirst m.now.rows (answers_of self.now.kept)) }
     {
-        Ok(None)
+        first_difference(self.alloc, &self.nodes, m)
     }
 }
 

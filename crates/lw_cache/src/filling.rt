@@ -83,3 +83,29 @@ pub(crate) fn tell(
     mark(nodes.as_mut_slice(), end, outs, answer);
     None
 }
+
+/// As `tell`, for the outputs of a node's word: no more nodes are needed.
+pub(crate) fn tell_at(
+    nodes: &mut Vec<Node>,
+    end: u32,
+    outs: &[u16],
+    answer: u32,
+) -> Option<(u32, usize)>
+    requires trie { IsTrie (node_at nodes.old.items) (length nodes.old.items) }
+    requires end { end < length nodes.old.items }
+    requires outs { length outs.now ≡ length (word_of (node_at nodes.old.items) end) }
+    requires answer { answer < no_answer }
+    ensures len { vec_len nodes.new ≡ vec_len nodes.old }
+    ensures capacity { vec_capacity nodes.new ≡ vec_capacity nodes.old }
+    ensures found { ComparedTo (node_at nodes.old.items) (length nodes.old.items)
+        (word_of (node_at nodes.old.items) end) outs.now 0 result }
+    ensures told { MatchOption result (AreMarked (node_at nodes.old.items)
+        (node_at nodes.new.items) (length nodes.old.items) (word_of (node_at nodes.old.items) end)
+        outs.now answer 0) (λ _. nodes.new.items ≡ nodes.old.items) }
+{
+    if let Some(found) = compare(nodes, end, outs) {
+        return Some(found);
+    }
+    mark(nodes.as_mut_slice(), end, outs, answer);
+    None
+}

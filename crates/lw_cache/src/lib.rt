@@ -10,6 +10,7 @@ mod node;
 mod oracle;
 pub mod plain;
 mod reckoning;
+mod scanning;
 mod stops;
 mod trie;
 

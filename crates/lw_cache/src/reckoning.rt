@@ -1,9 +1,9 @@
 //! The least claims, reckoned again from a node up.
-ghost use Rattle.std.specs.Prelude.{◌≡◌, ◌≢◌, ℕ, ◌<◌, ◌≤◌, List, length};
+ghost use Rattle.std.specs.Prelude.{◌≡◌, ◌≢◌, ℕ, ◌<◌, ◌≤◌, List, length, vec_len, vec_capacity};
 ghost use Rattle.lw_cache.specs.bodies.Trie.{node_at, IsTrie, IsLeast, AreLeast};
-ghost use Rattle.lw_cache.specs.bodies.Filling.{SameButClaims};
+ghost use Rattle.lw_cache.specs.bodies.Filling.{SameButClaims, IsReclaimed, IsHeld, IsEndOf, without_held};
 
-use crate::node::Node;
+use crate::node::{Held, Node};
 
 /// The least of a node's own claim and its children's.
 fn least_claim(nodes: &[Node], node: u32) -> u64
@@ -40,4 +40,41 @@ pub(crate) fn reckon(nodes: &mut [Node], from: u32)
         nodes[node as usize] = Node { claim, ..here };
         node = here.parent;
     }
+}
+
+/// Gives a node's word a claim of its own, or takes it away with `UNCLAIMED`.
+pub(crate) fn reclaim(nodes: &mut Vec<Node>, end: u32, ends: u64)
+    requires trie { IsTrie (node_at nodes.old.items) (length nodes.old.items) }
+    requires end { end < length nodes.old.items }
+    requires least { AreLeast (node_at nodes.old.items) (length nodes.old.items) }
+    ensures len { vec_len nodes.new ≡ vec_len nodes.old }
+    ensures capacity { vec_capacity nodes.new ≡ vec_capacity nodes.old }
+    ensures nodes { IsReclaimed (node_at nodes.old.items) (node_at nodes.new.items)
+        (length nodes.old.items) end ends }
+{
+    let here = nodes[end as usize];
+    nodes[end as usize] = Node { ends, ..here };
+    reckon(nodes.as_mut_slice(), end);
+}
+
+/// The node at which the claim with this number ends.
+pub(crate) fn end_of(held: &[Held], number: u32) -> u32
+    requires { IsHeld held.now number }
+    ensures { IsEndOf held.now number result }
+{
+    for claim in held {
+        if claim.number == number {
+            return claim.end;
+        }
+    }
+    unreachable!()
+}
+
+/// Leaves the claim with this number out.
+pub(crate) fn let_go(held: &mut Vec<Held>, number: u32)
+    ensures held { held.new.items ≡ without_held number held.old.items }
+    ensures len { vec_len held.new ≤ vec_len held.old }
+    ensures capacity { vec_capacity held.new ≡ vec_capacity held.old }
+{
+    held.retain(|claim| claim.number != number);
 }

@@ -2,7 +2,7 @@
 ghost use Rattle.std.specs.Prelude.{◌≡◌, ◌≢◌, ◌⊎◌, ℕ, ◌+◌, ◌<◌, ◌≤◌, List, length, drop, slice_index, vec_len, vec_capacity};
 ghost use Rattle.lw_words.specs.Word.{IsPrefix};
 ghost use Rattle.lw_cache.specs.bodies.Trie.{node_at, word_of, IsTrie, IsChildOf, no_answer};
-ghost use Rattle.lw_cache.specs.bodies.Filling.{HasOneMore, IsExtended, IsChildAt, IsReached, IsFound};
+ghost use Rattle.lw_cache.specs.bodies.Filling.{HasOneMore, IsExtended, IsPlaced, IsChildAt, IsReached, IsFound};
 
 use crate::node::{NONE, Node, UNCLAIMED};
 
@@ -102,4 +102,19 @@ pub(crate) fn extend(nodes: &mut Vec<Node>, parent: u32, letters: &[u16]) -> u32
         node = append(nodes, node, *letter);
     }
     node
+}
+
+/// The node of a word; puts more nodes at the end where some of its letters have none.
+pub(crate) fn place(nodes: &mut Vec<Node>, letters: &[u16]) -> u32
+    requires trie { IsTrie (node_at nodes.old.items) (length nodes.old.items) }
+    requires root { 0 < length nodes.old.items }
+    requires room { vec_len nodes.old + length letters.now ≤ vec_capacity nodes.old }
+    requires few { vec_len nodes.old + length letters.now ≤ no_answer }
+    ensures len { vec_len nodes.new ≤ vec_len nodes.old + length letters.now }
+    ensures more { vec_len nodes.old ≤ vec_len nodes.new }
+    ensures capacity { vec_capacity nodes.new ≡ vec_capacity nodes.old }
+    ensures placed { IsPlaced nodes.old.items nodes.new.items letters.now result }
+{
+    let (node, depth) = reach(nodes, letters);
+    extend(nodes, node, &letters[depth..])
 }

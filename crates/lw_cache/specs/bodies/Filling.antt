@@ -1,8 +1,9 @@
 -- What the steps of a new answer do to the nodes.
-use Rattle.std.specs.Prelude.{◌≡◌, ◌≢◌, ◌⊎◌, ℕ, ◌+◌, ◌-◌, ◌<◌, ◌≤◌, List, [], ◌∷◌, ◌++◌, length, take, drop, slice_index_or, Option, Some, None}
+use Rattle.std.specs.Prelude.{◌≡◌, ◌≢◌, ◌⊎◌, ℕ, ◌+◌, ◌-◌, ◌<◌, ◌≤◌, List, [], ◌∷◌, ◌++◌, length, take, drop, slice_index_or, Option, Some, None, MatchOption, filter, not, ◌==◌}
 use Rattle.lw_words.specs.Word.{IsPrefix}
-use Rattle.lw_cache.specs.bodies.Trie.{no_answer, no_claim, node_at, word_of, IsChildOf, IsTrie, last_out}
+use Rattle.lw_cache.specs.bodies.Trie.{no_answer, no_claim, node_at, word_of, held_at, IsChildOf, IsTrie, AreLeast, last_out}
 use Rattle.lw_cache.specs.declared.node.Node.{Node}
+use Rattle.lw_cache.specs.declared.node.Held.{Held}
 
 -- the child of p with this letter, or 0 where there is none
 abbrev pub IsChildAt : (ℕ → Node) → ℕ → ℕ → ℕ → ℕ → Type 0
@@ -137,3 +138,29 @@ pub record IsTold (was at : List Node) (w outs : List ℕ) (answer : ℕ) : Type
   pub mid_long : length mid ≡ length was + length (drop depth w)
   pub marks : AreMarked (node_at mid) (node_at at) (length mid) (word_of (node_at mid) last) outs answer 0
   pub long : length at ≡ length mid
+
+-- the node's word has this claim of its own now, and all claims are least ones again
+pub record IsReclaimed (was at : ℕ → Node) (n end ends : ℕ) : Type 0 where
+  pub here : at end ≡ with_claim (with_ends (was end) ends) (at end).claim
+  pub others : (i : ℕ) → i ≢ end → at i ≡ with_claim (was i) (at i).claim
+  pub least : AreLeast at n
+
+-- the nodes once a word has one: more of them at the end, where some of its letters have none
+pub record IsPlaced (was at : List Node) (w : List ℕ) (last : ℕ) : Type 0 where
+  pub parent : ℕ
+  pub depth : ℕ
+  pub reached : IsReached (node_at was) (length was) w parent depth
+  pub extended : IsExtended (node_at was) (node_at at) (length was) parent (drop depth w) (length (drop depth w)) last
+  pub long : length at ≡ length was + length (drop depth w)
+
+-- the held claim with this number ends at this node
+abbrev pub IsEndOf : List Held → ℕ → ℕ → Type 0
+IsEndOf held number end = (k : ℕ) × (k < length held) × ((held_at held k).number ≡ number) × ((held_at held k).end ≡ end)
+
+-- some held claim has this number
+abbrev pub IsHeld : List Held → ℕ → Type 0
+IsHeld held number = (k : ℕ) × (k < length held) × ((held_at held k).number ≡ number)
+
+-- the held claims without that of this number
+abbrev pub without_held : ℕ → List Held → List Held
+without_held number held = filter (λ h. not (h.number == number)) held

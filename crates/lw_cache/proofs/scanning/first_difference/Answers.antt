@@ -1,0 +1,30 @@
+use Rattle.std.proofs.Common.{rules, ◌≡◌, ◌≢◌, ◌↔◌, ℕ, ◌+◌, ◌<◌, ◌≤◌, List, true, length, get_or, ap, sym, ◌∙◌, subst, arith}
+use Rattle.std.proofs.lemmas.Bool.{eqb-false}
+use Rattle.lw_mealy.specs.Machine.{Rows, next, output}
+use Rattle.lw_cache.specs.bodies.Trie.{node_at, no_answer}
+use Rattle.lw_cache.specs.bodies.Scanning.{AreStates, IsFirstTo, DiffersAt}
+use Rattle.lw_cache.proofs.ScanLemmas.{states_begin, parent_before, states_more, differs_here, first_step}
+use Rattle.lw_cache.proofs.scanning.first_difference.Goals as goal
+
+pub loop-i-preserved : goal.loop-i-preserved
+loop-i-preserved c =
+    let i : ℕ = c.loop-i.i in
+    let pos : 0 < c.loop-i.i = omega arith in
+    let lt : c.loop-i.i < length c.args.nodes.now = c.loop-i-test.true in
+    let next_is : (node_at c.args.nodes.now c.loop-i.i).answer ≢ no_answer → c.step_to-state.result.0 ≡ next c.args.m.now.rows (get_or c.loop-i.states.items (node_at c.args.nodes.now c.loop-i.i).parent 0) (node_at c.args.nodes.now c.loop-i.i).letter =
+    λ told. c.step_to-state.ensures.next told ∙ ap (λ (l : List ℕ). next c.args.m.now.rows (get_or l (node_at c.args.nodes.now c.loop-i.i).parent 0) (node_at c.args.nodes.now c.loop-i.i).letter) c.deref.ensures.value in
+    let differs_is : (node_at c.args.nodes.now c.loop-i.i).answer ≢ no_answer → (c.step_to-state.result.1 ≡ true) ↔ ((node_at c.args.nodes.now c.loop-i.i).output ≢ output c.args.m.now.rows (get_or c.loop-i.states.items (node_at c.args.nodes.now c.loop-i.i).parent 0) (node_at c.args.nodes.now c.loop-i.i).letter) =
+    λ told. subst (λ (l : List ℕ). (c.step_to-state.result.1 ≡ true) ↔ ((node_at c.args.nodes.now c.loop-i.i).output ≢ output c.args.m.now.rows (get_or l (node_at c.args.nodes.now c.loop-i.i).parent 0) (node_at c.args.nodes.now c.loop-i.i).letter)) c.deref.ensures.value (c.step_to-state.ensures.differs told) in
+    record {
+      states = states_more (node_at c.args.nodes.now) (length c.args.nodes.now) c.args.m.now.rows c.requires.trie c.args.m.now.inputs c.requires.letters c.loop-i.i pos lt c.loop-i.states.items c.loop-i.invariant.states
+          c.step_to-state.result.0 c.push-in-loop-i.new.self.items c.in_ok-push-2.ensures.items c.step_to-state.ensures.state next_is;
+      best = first_step (node_at c.args.nodes.now) (length c.args.nodes.now) c.args.m.now.rows c.loop-i.i c.step_to-state.result.1 c.loop-i.best c.in_ok-best.best c.loop-i.invariant.best
+          (differs_here (node_at c.args.nodes.now) (length c.args.nodes.now) c.args.m.now.rows c.requires.trie c.args.m.now.inputs c.requires.letters c.loop-i.i pos lt c.loop-i.states.items c.loop-i.invariant.states c.step_to-state.result.1 c.step_to-state.ensures.none differs_is)
+          c.in_ok-best.ensures.same c.in_ok-best.ensures.earlier;
+    }
+
+pub returns : goal.returns
+returns c =
+    let some : length c.args.nodes.now ≢ 0 = eqb-false (length c.args.nodes.now) 0 (sym c.is_empty.ensures ∙ c.if-is_empty.false) in
+    let end : c.loop-i.i ≡ length c.args.nodes.now = omega arith in
+    subst (λ (k : ℕ). IsFirstTo (node_at c.args.nodes.now) (length c.args.nodes.now) c.args.m.now.rows k c.loop-i.best) end c.loop-i.invariant.best
