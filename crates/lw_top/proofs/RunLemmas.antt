@@ -1,82 +1,86 @@
--- What a call of the program comes to, by its outcome.
-use Rattle.std.proofs.Common.{◌≡◌, ◌∙◌, ℕ, List, Some, None, inl, inr, refl, sym, subst}
-use Rattle.lw_words.specs.Answer.{Answer}
+-- Calls for whose arguments there was no memory.
+use Rattle.std.proofs.Common.{◌≡◌, ◌∙◌, ◌⊎◌, ℕ, List, [], ◌∷◌, ◌++◌, length, true, ap, arith, length-append, Option, Some, None, IfSome, inl, inr, refl, sym, subst}
+use Rattle.lw_words.specs.Answer.{answers_of}
+use Rattle.lw_words.specs.Cause.{CountedFault}
 use Rattle.lw_mealy.specs.Limits.{MealyMachine}
-use Rattle.lw_top.specs.Outcomes.{IsTold, IsUngiven, IsUntroubled, StandsOrWants}
-use Rattle.lw_top.specs.Stops.{CrowdOf, IsCrowdOf, learn_outcome, read_outcome}
-use Rattle.lw_top.specs.Text.{IsText}
-use Rattle.lw_top.specs.declared.first.FirstStop.{FirstStop}
-use Rattle.lw_top.specs.declared.first.FirstStop.TheVariants.{Crowd, NoMemory as NoMemoryToLearn}
-use Rattle.lw_top.specs.declared.stops.ReadStop.{ReadStop}
-use Rattle.lw_top.specs.declared.stops.ReadStop.TheVariants.{Failed, TooLong, NoMachine, NoMemory as NoMemoryToRead}
-use Rattle.lw_top.specs.declared.outcome.Outcome.{Outcome}
-use Rattle.lw_top.specs.declared.outcome.Outcome.TheVariants.{Unchecked, Usage, BadFile, FileTooLong, NoMemory, TooManyStates, FileFault, SinkFault}
+use Rattle.lw_report.specs.Writing.{TakesAll, TakesSome, said_text}
+use Rattle.lw_report.specs.declared.«end».End.{End}
+use Rattle.lw_report.specs.declared.outcome.Outcome.{Outcome}
+use Rattle.lw_report.specs.declared.outcome.Outcome.TheVariants.{BadFile, FileFault, FileTooLong, NoMemory, SinkFault, TooManyStates, Unchecked, Usage}
+use Rattle.lw_report.specs.declared.role.Role.TheVariants.{Table}
+use Rattle.lw_report.proofs.SinkLemmas.{sink_none}
+use Rattle.lw_learn.specs.Arguments.{LearnValues}
+use Rattle.lw_learn.specs.Hypothesis.{IsModel}
+use Rattle.lw_learn.specs.LearnRun.{FilesState, IsLearnRun, IsTable, SinkState}
+use Rattle.lw_learn.specs.Outcomes.{IsUnchecked, IsUngiven, IsUnread, IsUntroubled, IsWriteFault}
+use Rattle.lw_learn.specs.Reading.{TellsFailed}
+use Rattle.lw_outside.specs.Files.{Call, read_call}
+use Rattle.lw_learn.specs.Writing.{WritesModel, inputs_of, line_of, outputs_of}
+use Rattle.lw_json.specs.declared.machine.Machine.{Machine}
+use Rattle.lw_learn.proofs.WriteLemmas.{stays_same}
+use Rattle.lw_top.specs.Run.{IsRefused, argument_outcome}
+use Rattle.lw_top.specs.declared.values.ArgumentStop.{ArgumentStop}
+use Rattle.lw_top.specs.declared.values.ArgumentStop.TheVariants as stop
 
--- a text that needs no names is the same with them
-pub text_named : (inputs : List (List ℕ)) (answers : ℕ) (outcome : Outcome) (text : List ℕ) → IsText None answers outcome text → IsText (Some inputs) answers outcome text
-text_named inputs answers (Unchecked model) text is = is
-text_named inputs answers Usage text is = is
-text_named inputs answers BadFile text is = is
-text_named inputs answers FileTooLong text is = is
-text_named inputs answers NoMemory text is = is
-text_named inputs answers (TooManyStates words) text is = let no : None ≡ Some is.0 = is.1 in absurd (cc)
-text_named inputs answers FileFault text is = is
-text_named inputs answers SinkFault text is = is
+-- calls that stay aren't told to have gained one
+longer : (calls : List Call) (c : Call) → calls ≡ calls ++ c ∷ [] → ⊥
+longer calls c e = let size = length-append calls (c ∷ []) in omega (arith, ap (λ (l : List Call). length l) e)
 
--- where the file's bytes weren't given
-pub ungiven : (stop : ReadStop) (outcome : Outcome) → outcome ≡ read_outcome stop → (stop ≡ NoMachine → ⊥) → IsUngiven outcome
-ungiven Failed outcome is given = subst IsUngiven (sym is) tt
-ungiven TooLong outcome is given = subst IsUngiven (sym is) tt
-ungiven NoMachine outcome is given = absurd (given refl)
-ungiven NoMemoryToRead outcome is given = subst IsUngiven (sym is) tt
+untold : (name : List ℕ) (calls : Option (List Call)) → TellsFailed name calls calls → ⊥
+untold name None told = told
+untold name (Some calls) told = let same : calls ≡ calls ++ read_call name true ∷ [] = cc in longer calls (read_call name true) same
 
--- where a machine's file was there and the files didn't fail
-pub unread_untroubled : (stop : ReadStop) (outcome : Outcome) → outcome ≡ read_outcome stop → (stop ≡ Failed → ⊥) → (stop ≡ TooLong → ⊥) → (stop ≡ NoMachine → ⊥) → IsUntroubled outcome
-unread_untroubled Failed outcome is failed long bad = absurd (failed refl)
-unread_untroubled TooLong outcome is failed long bad = absurd (long refl)
-unread_untroubled NoMachine outcome is failed long bad = absurd (bad refl)
-unread_untroubled NoMemoryToRead outcome is failed long bad = subst IsUntroubled (sym is) tt
+-- the end of a call that touched nothing, which is out of memory, is one that `learn` may come to
+pub wanted_run : (a : LearnValues) (f : FilesState) (o e d : SinkState) (end : End) → end.outcome ≡ NoMemory → IsRefused f f o o e d end → IsLearnRun a f f o o e d end
+wanted_run a f o e d end out r =
+    let no-model : IfSome end.model (IsModel (answers_of end.kept.answers)) = subst (λ (m : Option MealyMachine). IfSome m (IsModel (answers_of end.kept.answers))) (sym r.model) tt in
+    let Writes : MealyMachine → Type 0 = λ h. (m : Machine) × IsTable a f f m × WritesModel a end.kept.answers end.outcome f.holds (o.taken, o.taken) (o.faults, o.faults) m h in
+    let said : (oc : Outcome) → oc ≡ NoMemory → TakesAll (said_text None None [] 0 oc) e.taken d.taken → TakesAll (said_text None None end.kept.answers a.extra oc) e.taken d.taken = λ oc is t.
+    subst (λ (x : Outcome). TakesAll (said_text None None end.kept.answers a.extra x) e.taken d.taken) (sym is) (subst (λ (x : Outcome). TakesAll (said_text None None [] 0 x) e.taken d.taken) is t) in
+    let part : (oc : Outcome) → oc ≡ NoMemory → TakesSome (said_text None None [] 0 oc) e.taken d.taken → TakesSome (said_text None None end.kept.answers a.extra oc) e.taken d.taken = λ oc is t.
+    subst (λ (x : Outcome). TakesSome (said_text None None end.kept.answers a.extra x) e.taken d.taken) (sym is) (subst (λ (x : Outcome). TakesSome (said_text None None [] 0 x) e.taken d.taken) is t) in
+    record {
+      model = no-model;
+      told = λ h is. let wrong : NoMemory ≡ Unchecked h = sym out ∙ is in absurd (cc);
+      quiet = λ u. absurd (subst IsUnchecked out u);
+      kept = inl r.kept;
+      written = subst (λ (m : Option MealyMachine). IfSome m Writes) (sym r.model) tt;
+      nothing = λ _. (refl, refl);
+      beside = stays_same a.model a.answers f.holds;
+      said = λ quiet. (None, tt, said end.outcome out (r.said quiet));
+      in_turn = (None, tt, record { between = e.taken; some = (0, sink_none e.taken (line_of None end.kept.answers a.extra end.model)); then = part end.outcome out r.part });
+      bad_file = λ role fault is. let wrong : NoMemory ≡ BadFile role fault = sym out ∙ is in absurd (cc);
+      bad_file_told = λ _. subst IsUnread (sym out) tt;
+      too_long = λ role is. let wrong : NoMemory ≡ FileTooLong role = sym out ∙ is in absurd (cc);
+      too_long_told = λ _. subst IsUngiven (sym out) tt;
+      file_fault = λ role is. let wrong : NoMemory ≡ FileFault role = sym out ∙ is in absurd (cc);
+      file_fault_unread = λ _. refl;
+      file_fault_told = λ told. absurd (untold a.table f.calls told);
+      sink_fault = λ is. let wrong : NoMemory ≡ SinkFault = sym out ∙ is in absurd (cc);
+      nothing_lost = λ w. absurd (subst IsWriteFault out w);
+      crowd = λ apart is. let wrong : NoMemory ≡ TooManyStates apart = sym out ∙ is in absurd (cc);
+      untroubled = λ _ _. subst IsUntroubled (sym out) tt;
+      reads = inl refl;
+      calls = inl (out, refl);
+    }
 
--- where a model was written out and the streams didn't fail
-pub told_untroubled : (model : MealyMachine) (outcome : Outcome) → IsTold model outcome → (outcome ≡ SinkFault → ⊥) → IsUntroubled outcome
-told_untroubled model (Unchecked h) told failed = tt
-told_untroubled model NoMemory told failed = tt
-told_untroubled model SinkFault told failed = absurd (failed refl)
-told_untroubled model Usage told failed = absurd told
-told_untroubled model BadFile told failed = absurd told
-told_untroubled model FileTooLong told failed = absurd told
-told_untroubled model (TooManyStates words) told failed = absurd told
-told_untroubled model FileFault told failed = absurd told
+-- by the reason
+pub refused_usage : (s : ArgumentStop) (outcome : Outcome) → outcome ≡ argument_outcome s → outcome ≡ Usage → s ≡ stop.Usage
+refused_usage stop.Usage outcome is usage = refl
+refused_usage stop.NoMemory outcome is usage = let wrong : NoMemory ≡ Usage = sym is ∙ usage in absurd (cc)
 
--- the model that is told is the machine that was written out
-pub told_model : (model told : MealyMachine) (outcome : Outcome) → outcome ≡ Unchecked told → IsTold model outcome → told ≡ model
-told_model model told outcome is stop = let here : IsTold model (Unchecked told) = subst (λ (o : Outcome). IsTold model o) is stop in here
+pub refused_as : (s : ArgumentStop) (outcome : Outcome) → outcome ≡ argument_outcome s → (outcome ≡ Usage) ⊎ (outcome ≡ NoMemory)
+refused_as stop.Usage outcome is = inl is
+refused_as stop.NoMemory outcome is = inr is
 
--- a learning that was stopped tells no model
-pub no_model : (stop : FirstStop) (outcome result : Outcome) (h : MealyMachine) → outcome ≡ learn_outcome stop → StandsOrWants outcome result → result ≡ Unchecked h → ⊥
-no_model (Crowd words) outcome result h is stands told =
-    elim stands as (λ _. ⊥) [
-      | inl same ↦ let no : TooManyStates words ≡ Unchecked h = sym is ∙ (sym same ∙ told) in cc
-      | inr wants ↦ let no : NoMemory ≡ Unchecked h = sym wants.1 ∙ told in cc
-    ]
-no_model NoMemoryToLearn outcome result h is stands told =
-    elim stands as (λ _. ⊥) [
-      | inl same ↦ let no : NoMemory ≡ Unchecked h = sym is ∙ (sym same ∙ told) in cc
-      | inr wants ↦ let no : NoMemory ≡ Unchecked h = sym wants.1 ∙ told in cc
-    ]
+pub not_usage : (s : ArgumentStop) (outcome : Outcome) → outcome ≡ argument_outcome s → (s ≡ stop.Usage → ⊥) → outcome ≡ NoMemory
+not_usage stop.Usage outcome is other = absurd (other refl)
+not_usage stop.NoMemory outcome is other = is
 
--- the crowd that is told is the table's
-same_words : (one two : List (List ℕ)) → TooManyStates one ≡ TooManyStates two → one ≡ two
-same_words one two e = cc
+-- a value that may be there
+pub by_value : (v : Option LearnValues) (Is : LearnValues → Type 0) → ((a : LearnValues) → v ≡ Some a → Is a) → IfSome v Is
+by_value None Is each = tt
+by_value (Some a) Is each = each a refl
 
-pub told_crowd : (answers : List Answer) (stop : FirstStop) (outcome result : Outcome) (words : List (List ℕ)) → CrowdOf answers 1025 stop → outcome ≡ learn_outcome stop → StandsOrWants outcome result → result ≡ TooManyStates words → IsCrowdOf answers 1025 words
-told_crowd answers (Crowd found) outcome result words crowd is stands told =
-    elim stands as (λ _. IsCrowdOf answers 1025 words) [
-      | inl same ↦ subst (λ (ws : List (List ℕ)). IsCrowdOf answers 1025 ws) (same_words found words (sym is ∙ (sym same ∙ told))) crowd
-      | inr wants ↦ let no : NoMemory ≡ TooManyStates words = sym wants.1 ∙ told in absurd (cc)
-    ]
-told_crowd answers NoMemoryToLearn outcome result words crowd is stands told =
-    elim stands as (λ _. IsCrowdOf answers 1025 words) [
-      | inl same ↦ let no : NoMemory ≡ TooManyStates words = sym is ∙ (sym same ∙ told) in absurd (cc)
-      | inr wants ↦ let no : NoMemory ≡ TooManyStates words = sym wants.1 ∙ told in absurd (cc)
-    ]
+pub none_is_some : (a : LearnValues) → None ≡ Some a → ⊥
+none_is_some a e = cc

@@ -1,10 +1,5 @@
-pub mod Arguments
-pub mod Hypothesis
-pub mod Kept
-pub mod Outcomes
-pub mod PartialTable
-pub mod Reading
-pub mod RowRuns
-pub mod Stops
-pub mod Text
-pub mod Writing
+pub mod CheckCommand
+pub mod CommandLine
+pub mod LearnCommand
+pub mod Options
+pub mod Run

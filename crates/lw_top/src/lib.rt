@@ -1,17 +1,16 @@
 //! The top call: all that the program does, over the files and streams that are handed in.
 #![tactic(auto)]
 
-mod first;
-mod learning;
-mod outcome;
-mod stops;
-mod text;
+mod check_words;
+mod learn_words;
+mod options;
 mod top;
-mod writing;
+mod values;
 
-pub use first::{FirstStop, first_table};
-pub use outcome::{Outcome, status};
-pub use top::{End, run, without_arguments};
+pub use check_words::{CheckArguments, check_arguments};
+pub use learn_words::learn_arguments;
+pub use top::{run, without_arguments};
+pub use values::ArgumentStop;
 
 #[cfg(test)]
 mod tests;

@@ -1,0 +1,29 @@
+use Rattle.std.proofs.Common.{◌≡◌, ◌≢◌, ◌∙◌, ◌++◌, List, ℕ, Option, None, Some, false, length, take, ap, subst, sym, OnOk}
+use Rattle.lw_learn.specs.Calls.{all_writes, gained, write_of}
+use Rattle.lw_learn.specs.Writing.{Stands, StaysBesides}
+use Rattle.lw_outside.specs.Files.{Call}
+use Rattle.lw_learn.proofs.WriteLemmas.{always, stands_beside, take_front}
+use Rattle.lw_learn.proofs.writing.write_files.Goals as goal
+
+pub returns-clause-model : goal.returns-clause-model
+returns-clause-model g c =
+    let F = g.F.Files in
+    let a = c.args.arguments.now in
+    let before = F.holds c.write_named.new.files in
+    let now = F.holds c.write_named-2.new.files in
+    let bytes = c.args.texts.now.model.items in
+    let stands : Stands a.model before bytes =
+    subst (λ (b : List ℕ). Stands a.model before b) c.deref.ensures.value (subst (λ (m : Option (List ℕ)). Stands m before c.deref.result.now) c.model.ensures c.in_ok-write_named.ensures.told) in
+    let stays : StaysBesides a.answers None before now = subst (λ (m : Option (List ℕ)). StaysBesides m None before now) c.answers.ensures c.write_named-2.ensures.beside in
+    always c.write_named-2.result (λ differ. stands_beside a.model a.answers before now bytes differ stays stands)
+
+pub returns-clause-memory : goal.returns-clause-memory
+returns-clause-memory g c is =
+    let F = g.F.Files in
+    let a = c.args.arguments.now in
+    let front = write_of a.model false in
+    let first : F.calls c.write_named.new.files ≡ gained front (F.calls c.args.files.now) =
+    subst (λ (m : Option (List ℕ)). F.calls c.write_named.new.files ≡ gained (write_of m false) (F.calls c.args.files.now)) c.model.ensures c.in_ok-write_named.ensures.ok in (
+      length front,
+      c.write_named-2.ensures.memory is ∙ (first ∙ ap (λ (l : List Call). gained l (F.calls c.args.files.now)) (sym (take_front front (write_of a.answers false)))),
+    )

@@ -1,0 +1,16 @@
+-- The values of the arguments of `learn`, as contracts see them.
+use Rattle.std.specs.Prelude.{◌≡◌, ℕ, ◌≤◌, List, Option}
+
+-- the table file, the extra states, the greatest number of states, the file for the model and that for the answers
+pub record LearnValues : Type 0 where
+  pub table : List ℕ
+  pub extra : ℕ
+  pub max_states : ℕ
+  pub model : Option (List ℕ)
+  pub answers : Option (List ℕ)
+
+-- within their limits
+pub record AreWithinLimits (v : LearnValues) : Type 0 where
+  pub extra : v.extra ≤ 4
+  pub some_state : 1 ≤ v.max_states
+  pub few_states : v.max_states ≤ 1024

@@ -1,0 +1,46 @@
+-- The calls of `learn` on the files: the table file is read, then the model file is written, then the answers file, up to the
+-- call that ends the run.
+use Rattle.std.specs.Prelude.{◌≡◌, ◌⊎◌, ℕ, List, [], ◌∷◌, ◌++◌, take, Bool, true, false, Option, Some, None, option_map}
+use Rattle.lw_learn.specs.Arguments.{LearnValues}
+use Rattle.lw_outside.specs.Files.{Call, noted, read_call, write_call}
+use Rattle.lw_report.specs.declared.outcome.Outcome.{Outcome}
+use Rattle.lw_report.specs.declared.outcome.Outcome.TheVariants.{Unchecked, Usage, BadFile, FileTooLong, NoMemory, TooManyStates, FileFault, SinkFault}
+use Rattle.lw_report.specs.declared.role.Role.{Role}
+use Rattle.lw_report.specs.declared.role.Role.TheVariants.{Setup, Table, Model, Answers}
+
+-- the write of a file, where one is named
+abbrev pub write_of : Option (List ℕ) → Bool → List Call
+write_of None failed = []
+write_of (Some name) failed = write_call name failed ∷ []
+
+-- the writes where none fails
+abbrev pub all_writes : LearnValues → List Call
+all_writes a = write_of a.model false ++ write_of a.answers false
+
+-- the writes up to the one of the file in this role, which failed
+abbrev pub writes_to : LearnValues → Role → List Call
+writes_to a Setup = []
+writes_to a Table = []
+writes_to a Model = write_of a.model true
+writes_to a Answers = write_of a.model false ++ write_of a.answers true
+
+-- told calls, and these
+abbrev pub gained : List Call → Option (List Call) → Option (List Call)
+gained more calls = option_map (λ cs. cs ++ more) calls
+
+-- the writes of a call of `learn` that came to the outcome
+abbrev pub MadeWrites : LearnValues → Outcome → Option (List Call) → Option (List Call) → Type 0
+MadeWrites a (Unchecked model) before now = now ≡ gained (all_writes a) before
+MadeWrites a SinkFault before now = now ≡ gained (all_writes a) before
+MadeWrites a (FileFault role) before now = now ≡ gained (writes_to a role) before
+MadeWrites a NoMemory before now = (n : ℕ) × (now ≡ gained (take n (all_writes a)) before)
+MadeWrites a _ before now = now ≡ before
+
+-- the one call that ends a run before the writes: the table file is read, which fails where the outcome is a fault of it
+abbrev pub read_of : LearnValues → Outcome → Call
+read_of a (FileFault Table) = read_call a.table true
+read_of a _ = read_call a.table false
+
+-- the calls of a call of `learn` that came to the outcome: the read and the writes, or none where memory ran out first
+abbrev pub MadeCalls : LearnValues → Outcome → Option (List Call) → Option (List Call) → Type 0
+MadeCalls a outcome before now = ((outcome ≡ NoMemory) × (now ≡ before)) ⊎ MadeWrites a outcome (noted (read_of a outcome) before) now

@@ -1,0 +1,78 @@
+-- What a call of `learn` did, for callers: all that its contract says, in one record.
+use Rattle.std.specs.Prelude.{◌≡◌, ◌⊎◌, ℕ, ◌+◌, ◌≤◌, List, [], Option, None, Some, IfSome}
+use Rattle.lw_words.specs.Answer.{answers_of}
+use Rattle.lw_words.specs.Cause.{CountedFault}
+use Rattle.lw_mealy.specs.Limits.{MealyMachine}
+use Rattle.lw_json.specs.declared.fault.JsonFault.{JsonFault}
+use Rattle.lw_json.specs.declared.machine.Machine.{Machine}
+use Rattle.lw_outside.specs.Files.{Call, File, HoldsLong}
+use Rattle.lw_report.specs.Outcomes.{status_of}
+use Rattle.lw_report.specs.Reading.{WasRead}
+use Rattle.lw_report.specs.Writing.{TakesAll, said_text}
+use Rattle.lw_report.specs.declared.«end».End.{End}
+use Rattle.lw_report.specs.declared.outcome.Outcome.TheVariants.{BadFile, FileFault, FileTooLong, SinkFault, TooManyStates, Unchecked}
+use Rattle.lw_report.specs.declared.outcome.Outcome.{Outcome}
+use Rattle.lw_report.specs.declared.role.Role.{Role}
+use Rattle.lw_report.specs.declared.role.Role.TheVariants.{Table}
+use Rattle.lw_learn.specs.Arguments.{LearnValues}
+use Rattle.lw_learn.specs.Calls.{MadeCalls}
+use Rattle.lw_learn.specs.Hypothesis.{IsModel}
+use Rattle.lw_learn.specs.Kept.{KeepsRuns}
+use Rattle.lw_learn.specs.Outcomes.{HasRole, IsUnchecked, IsUngiven, IsUnread, IsUntroubled, IsWriteFault}
+use Rattle.lw_learn.specs.Reading.{ReadsNoTable, ReadsTable, TellsFailed, TellsLong, TellsNoTable, TellsTable}
+use Rattle.lw_learn.specs.Stops.{IsCrowdOf}
+use Rattle.lw_learn.specs.Writing.{NothingFailed, StaysBesides, TakesInTurn, WritesModel, inputs_of, line_of, outputs_of}
+
+-- what contracts see of files: what they hold and the calls, where that is told, the reads that gave bytes, and the faults
+pub record FilesState : Type 0 where
+  pub holds : Option (List File)
+  pub calls : Option (List Call)
+  pub reads : List File
+  pub faults : ℕ
+
+-- what contracts see of a stream: what it took, where that is told, and the faults
+pub record SinkState : Type 0 where
+  pub taken : Option (List ℕ)
+  pub faults : ℕ
+
+abbrev pub files_state : Option (List File) → Option (List Call) → List File → ℕ → FilesState
+files_state holds calls reads faults = record { holds = holds; calls = calls; reads = reads; faults = faults }
+
+abbrev pub sink_state : Option (List ℕ) → ℕ → SinkState
+sink_state taken faults = record { taken = taken; faults = faults }
+
+-- the machine is that of the table file, by the bytes that were read
+abbrev pub IsTable : LearnValues → FilesState → FilesState → Machine → Type 0
+IsTable a f g m = ReadsTable a.table f.holds f.reads g.reads m
+
+-- a call with these arguments found files, `out` and `err` as f, o and e, left them as g, p and d, and came to the end
+pub record IsLearnRun (a : LearnValues) (f g : FilesState) (o p : SinkState) (e d : SinkState) (end : End) : Type 0 where
+  pub model : IfSome end.model (IsModel (answers_of end.kept.answers))
+  pub told : (h : MealyMachine) → end.outcome ≡ Unchecked h → end.model ≡ Some h
+  pub quiet : IsUnchecked end.outcome → (g.faults ≡ f.faults) × (p.faults ≡ o.faults) × (d.faults ≡ e.faults)
+  pub kept : (end.kept.answers ≡ []) ⊎ ((m : Machine) × IsTable a f g m × KeepsRuns m.mealy end.kept.answers)
+  pub written :
+      IfSome end.model
+      (λ h. (m : Machine) × IsTable a f g m × WritesModel a end.kept.answers end.outcome g.holds (o.taken, p.taken) (o.faults, p.faults) m h)
+  pub nothing : end.model ≡ None → (p.taken ≡ o.taken) × (g.holds ≡ f.holds)
+  pub beside : StaysBesides a.model a.answers f.holds g.holds
+  pub said :
+      ¬ CountedFault e.faults d.faults
+      → (t : Option Machine) × IfSome t (IsTable a f g) × TakesAll (said_text (inputs_of t) (outputs_of t) end.kept.answers a.extra end.outcome) e.taken d.taken
+  pub in_turn :
+      (t : Option Machine)
+      × IfSome t (IsTable a f g)
+      × TakesInTurn (line_of t end.kept.answers a.extra end.model) (said_text (inputs_of t) (outputs_of t) end.kept.answers a.extra end.outcome) e.taken d.taken
+  pub bad_file : (role : Role) (fault : JsonFault) → end.outcome ≡ BadFile role fault → (role ≡ Table) × ReadsNoTable a.table f.holds f.reads g.reads fault
+  pub bad_file_told : TellsNoTable f.holds a.table → IsUnread end.outcome
+  pub too_long : (role : Role) → end.outcome ≡ FileTooLong role → (role ≡ Table) × HoldsLong f.holds a.table × (g.reads ≡ f.reads)
+  pub too_long_told : TellsLong f.holds a.table → IsUngiven end.outcome
+  pub file_fault : (role : Role) → end.outcome ≡ FileFault role → HasRole a role × CountedFault f.faults g.faults
+  pub file_fault_unread : end.outcome ≡ FileFault Table → g.reads ≡ f.reads
+  pub file_fault_told : TellsFailed a.table f.calls g.calls → end.outcome ≡ FileFault Table
+  pub sink_fault : end.outcome ≡ SinkFault → CountedFault o.faults p.faults ⊎ CountedFault e.faults d.faults
+  pub nothing_lost : IsWriteFault end.outcome → (h : MealyMachine) × (end.model ≡ Some h)
+  pub crowd : (apart : List (List ℕ)) → end.outcome ≡ TooManyStates apart → IsCrowdOf (answers_of end.kept.answers) (a.max_states + 1) apart
+  pub untroubled : TellsTable f.holds a.table → NothingFailed (f.faults, g.faults) (o.faults, p.faults) (e.faults, d.faults) → IsUntroubled end.outcome
+  pub reads : (g.reads ≡ f.reads) ⊎ ((bytes : List ℕ) × WasRead f.holds f.reads g.reads a.table bytes)
+  pub calls : MadeCalls a end.outcome f.calls g.calls

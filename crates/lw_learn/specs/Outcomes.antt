@@ -1,0 +1,82 @@
+-- Which outcomes of `learn` may come when.
+use Rattle.std.specs.Prelude.{◌≡◌, ◌⊎◌, ℕ, List, Option, Some, None, is_some, true, Result, Ok, Err}
+use Rattle.lw_mealy.specs.Limits.{MealyMachine}
+use Rattle.lw_learn.specs.Arguments.{LearnValues}
+use Rattle.lw_report.specs.Stops.{tell_outcome}
+use Rattle.lw_report.specs.declared.stops.TellStop.{TellStop}
+use Rattle.lw_report.specs.declared.outcome.Outcome.{Outcome}
+use Rattle.lw_report.specs.declared.outcome.Outcome.TheVariants.{Unchecked, Usage, BadFile, FileTooLong, NoMemory, TooManyStates, FileFault, SinkFault}
+use Rattle.lw_report.specs.declared.role.Role.{Role}
+use Rattle.lw_report.specs.declared.role.Role.TheVariants.{Setup, Table, Model, Answers}
+
+-- these arguments name a file in the role
+abbrev pub HasRole : LearnValues → Role → Type 0
+HasRole a Setup = ⊥
+HasRole a Table = Unit {0}
+HasRole a Model = is_some a.model ≡ true
+HasRole a Answers = is_some a.answers ≡ true
+
+-- a machine's file is read and nothing outside failed
+abbrev pub IsUntroubled : Outcome → Type 0
+IsUntroubled (Unchecked model) = Unit {0}
+IsUntroubled (TooManyStates words) = Unit {0}
+IsUntroubled NoMemory = Unit {0}
+IsUntroubled _ = ⊥
+
+-- the table file's bytes were not given, or there was no memory
+abbrev pub IsUngiven : Outcome → Type 0
+IsUngiven (FileTooLong role) = role ≡ Table
+IsUngiven NoMemory = Unit {0}
+IsUngiven (FileFault role) = role ≡ Table
+IsUngiven _ = ⊥
+
+-- the table file was not read as a machine
+abbrev pub IsUnread : Outcome → Type 0
+IsUnread (BadFile role fault) = role ≡ Table
+IsUnread (FileTooLong role) = role ≡ Table
+IsUnread NoMemory = Unit {0}
+IsUnread (FileFault role) = role ≡ Table
+IsUnread _ = ⊥
+
+-- what writing a model out comes to
+abbrev pub IsTold : MealyMachine → Outcome → Type 0
+IsTold model (Unchecked told) = told ≡ model
+IsTold model NoMemory = Unit {0}
+IsTold model (FileFault role) = (role ≡ Model) ⊎ (role ≡ Answers)
+IsTold model SinkFault = Unit {0}
+IsTold model _ = ⊥
+
+-- what came of writing the model out
+abbrev pub told_outcome : {T : Type 0} → MealyMachine → Result T TellStop → Outcome
+told_outcome model (Ok done) = Unchecked model
+told_outcome model (Err stop) = tell_outcome stop
+
+-- the outcome of a call whose files were all written
+abbrev pub HasFiles : Outcome → Type 0
+HasFiles (Unchecked model) = Unit {0}
+HasFiles SinkFault = Unit {0}
+HasFiles _ = ⊥
+
+-- the outcome of a call whose model file, if it names one, was written
+abbrev pub HasModelFile : Outcome → Type 0
+HasModelFile (Unchecked model) = Unit {0}
+HasModelFile SinkFault = Unit {0}
+HasModelFile (FileFault role) = role ≡ Answers
+HasModelFile _ = ⊥
+
+-- a write failed
+abbrev pub IsWriteFault : Outcome → Type 0
+IsWriteFault (FileFault role) = (role ≡ Model) ⊎ (role ≡ Answers)
+IsWriteFault SinkFault = Unit {0}
+IsWriteFault _ = ⊥
+
+-- nothing was put to `out`
+abbrev pub IsBeforeOut : Outcome → Type 0
+IsBeforeOut NoMemory = Unit {0}
+IsBeforeOut (FileFault role) = Unit {0}
+IsBeforeOut _ = ⊥
+
+-- the model is told
+abbrev pub IsUnchecked : Outcome → Type 0
+IsUnchecked (Unchecked model) = Unit {0}
+IsUnchecked _ = ⊥

@@ -1,0 +1,89 @@
+-- What `learn` writes: to files, to `out` and to `err`.
+use Rattle.std.specs.Prelude.{◌≡◌, ◌≢◌, ℕ, List, [], ◌++◌, Option, Some, None, option_map}
+use Rattle.lw_words.specs.Cause.{CountedFault}
+use Rattle.lw_words.specs.declared.kept.KeptAnswer.{KeptAnswer}
+use Rattle.lw_mealy.specs.Limits.{MealyMachine}
+use Rattle.lw_json.specs.AnswersText.{IsAnswersText}
+use Rattle.lw_json.specs.MachineText.{written_text}
+use Rattle.lw_json.specs.declared.machine.Machine.{Machine}
+use Rattle.lw_learn.specs.Arguments.{LearnValues}
+use Rattle.lw_learn.specs.Calls.{MadeWrites}
+use Rattle.lw_learn.specs.Outcomes.{HasFiles, HasModelFile, IsBeforeOut, IsUnchecked}
+use Rattle.lw_outside.specs.Files.{Call, File, Holds, file_at}
+use Rattle.lw_report.specs.Writing.{TakesAll, TakesSome, said_text}
+use Rattle.lw_report.specs.declared.outcome.Outcome.{Outcome}
+use Rattle.lw_report.specs.declared.outcome.Outcome.TheVariants.{SinkFault, Unchecked}
+
+-- the text goes to the stream where no file is named for it, and nothing does where one is
+abbrev pub PutsAll : Option (List ℕ) → List ℕ → Option (List ℕ) → Option (List ℕ) → Type 0
+PutsAll None text before now = TakesAll text before now
+PutsAll (Some name) text before now = now ≡ before
+
+abbrev pub PutsSome : Option (List ℕ) → List ℕ → Option (List ℕ) → Option (List ℕ) → Type 0
+PutsSome None text before now = TakesSome text before now
+PutsSome (Some name) text before now = now ≡ before
+
+-- the bytes stand in the file, where one is named
+abbrev pub Stands : Option (List ℕ) → Option (List File) → List ℕ → Type 0
+Stands None holds bytes = Unit {0}
+Stands (Some name) holds bytes = Holds holds name bytes
+
+-- a text of the kept answers under the names of the machine stands in the file, where one is named
+abbrev pub AnswersStand : Option (List ℕ) → Option (List File) → Machine → List KeptAnswer → Type 0
+AnswersStand None holds m kept = Unit {0}
+AnswersStand (Some name) holds m kept = (text : List ℕ) × IsAnswersText m.inputs m.outputs kept text × Holds holds name text
+
+-- what became of the files that are named, by the outcome: the model's file stands, but for a later write under its name; the
+-- answers' file stands; and the calls were these
+pub record WritesFiles (a : LearnValues) (m : Machine) (kept : List KeptAnswer) (outcome : Outcome) (holds : Option (List File)) (made : Option (List Call) × Option (List Call)) : Type 0 where
+  pub model : HasModelFile outcome → a.model ≢ a.answers → Stands a.model holds (written_text m)
+  pub answers : HasFiles outcome → AnswersStand a.answers holds m kept
+  pub calls : MadeWrites a outcome made.0 made.1
+
+-- what became of the text that goes to `out` where no file is named for it, by the outcome: all of it was put where the model
+-- is told, and where `out` counted no fault though a stream did; some in any case; none where the files weren't written
+pub record WritesOut (file : Option (List ℕ)) (text : List ℕ) (outcome : Outcome) (taken : Option (List ℕ) × Option (List ℕ)) (faults : ℕ × ℕ) : Type 0 where
+  pub told : IsUnchecked outcome → PutsAll file text taken.0 taken.1
+  pub whole : outcome ≡ SinkFault → ¬ CountedFault faults.0 faults.1 → PutsAll file text taken.0 taken.1
+  pub part : PutsSome file text taken.0 taken.1
+  pub before : IsBeforeOut outcome → taken.1 ≡ taken.0
+
+-- what is told of the files beside those that are named stays
+abbrev pub StaysBesides : Option (List ℕ) → Option (List ℕ) → Option (List File) → Option (List File) → Type 0
+StaysBesides model answers None after = after ≡ None
+StaysBesides model answers (Some fs) after =
+    (gs : List File) × (after ≡ Some gs) × ((other : List ℕ) → model ≢ Some other → answers ≢ Some other → file_at other gs ≡ file_at other fs)
+
+-- a model under the names of the table file is written out, by the outcome
+pub record WritesModel (a : LearnValues) (kept : List KeptAnswer) (outcome : Outcome) (holds : Option (List File)) (taken : Option (List ℕ) × Option (List ℕ)) (faults : ℕ × ℕ) (table : Machine) (h : MealyMachine) : Type 0 where
+  pub model : Machine
+  pub inputs : model.inputs ≡ table.inputs
+  pub outputs : model.outputs ≡ table.outputs
+  pub mealy : model.mealy ≡ h
+  pub file : HasModelFile outcome → a.model ≢ a.answers → Stands a.model holds (written_text model)
+  pub answers : HasFiles outcome → AnswersStand a.answers holds model kept
+  pub out : WritesOut a.model (written_text model) outcome taken faults
+
+-- the names that the table file says, where it was read
+abbrev pub inputs_of : Option Machine → Option (List (List ℕ))
+inputs_of table = option_map (λ m. m.inputs) table
+
+abbrev pub outputs_of : Option Machine → Option (List (List ℕ))
+outputs_of table = option_map (λ m. m.outputs) table
+
+-- the line about a model
+abbrev pub line_of : Option Machine → List KeptAnswer → ℕ → Option MealyMachine → List ℕ
+line_of table kept extra None = []
+line_of table kept extra (Some h) = said_text (inputs_of table) (outputs_of table) kept extra (Unchecked h)
+
+-- one text was taken in part, then the other
+pub record TakesInTurn (first second : List ℕ) (before now : Option (List ℕ)) : Type 0 where
+  pub between : Option (List ℕ)
+  pub some : TakesSome first before between
+  pub then : TakesSome second between now
+
+-- no object outside counted a fault: the files, the output and the error stream, each with its count before and now
+pub record NothingFailed (files out err : ℕ × ℕ) : Type 0 where
+  pub of_files : ¬ CountedFault files.0 files.1
+  pub of_out : ¬ CountedFault out.0 out.1
+  pub of_err : ¬ CountedFault err.0 err.1

@@ -1,0 +1,76 @@
+-- Numbers that clap has read, and kinds of errors.
+use Rattle.std.proofs.Common.{◌≡◌, ◌∙◌, ℕ, ◌<◌, ◌≤◌, ◌^◌, ◌&&◌, List, [], ◌∷◌, Bool, true, false, Option, Some, None, Ok, Err, Result, IfSome, if◌then◌else◌, inl, inr, refl, sym, ap, subst, arith}
+use Rattle.std.specs.Prelude.{nat_le, option_and_then}
+use Rattle.std.specs.Str.Parse.{IsNumeral, ParsesUnsigned, digits_value, without_leading_plus}
+use Rattle.std.proofs.lemmas.Bool.{le-leb, leb-true}
+use Rattle.clap.proofs.ValueTestLemmas.{Accepts-accepts, accepts-Accepts}
+use Rattle.clap.proofs.WalkLemmas.{both}
+use Rattle.clap.specs.Kinds.{HasKind, IsAmong, Kinds}
+use Rattle.clap.specs.Matches.{ReadsOne}
+use Rattle.clap.specs.ValueTests.{is_unsigned_in}
+use Rattle.clap.specs.Values.{Accepts, kind_of}
+use Rattle.clap.specs.declared.builder.value_parser.ValueParser.TheVariants as vp
+use Rattle.clap.specs.declared.error.Error.{Error}
+use Rattle.clap.specs.declared.error.kind.ErrorKind.{ErrorKind}
+use Rattle.clap.specs.declared.error.kind.ErrorKind.TheVariants.{OutOfMemory}
+use Rattle.lw_top.specs.CommandLine.{is_faultless, number_in, refusal_of}
+use Rattle.lw_top.specs.declared.values.ArgumentStop.{ArgumentStop}
+use Rattle.lw_top.specs.declared.values.ArgumentStop.TheVariants.{NoMemory, Usage}
+
+-- two tests that say the same
+same_tests : (a b : Bool) → (a ≡ true → b ≡ true) → (b ≡ true → a ≡ true) → a ≡ b
+same_tests true true there back = refl
+same_tests true false there back = sym (there refl)
+same_tests false true there back = back refl
+same_tests false false there back = refl
+
+abbrev in_range : ℕ → ℕ → ℕ → Bool
+in_range low high n = nat_le low n && nat_le n high
+
+-- a number that was read is in the range exactly where its text is
+in_range_is : (low high : ℕ) (text : List ℕ) → IsNumeral 10 (without_leading_plus text) → digits_value 10 (without_leading_plus text) < 2 ^ 64
+    → in_range low high (digits_value 10 (without_leading_plus text)) ≡ is_unsigned_in low high text
+in_range_is low high text numeral small =
+    let n = digits_value 10 (without_leading_plus text) in
+    same_tests (in_range low high n) (is_unsigned_in low high text)
+    (λ e. let two = both (nat_le low n) (nat_le n high) e in Accepts-accepts false (vp.Unsigned low high) text (numeral, small, leb-true _ _ two.0, leb-true _ _ two.1))
+    (λ e. let h : Accepts false (vp.Unsigned low high) text = accepts-Accepts false (vp.Unsigned low high) text e in joined (nat_le low n) (nat_le n high) (le-leb _ _ h.2) (le-leb _ _ h.3))
+  where
+    joined : (a b : Bool) → a ≡ true → b ≡ true → (a && b) ≡ true
+    joined true b one two = two
+    joined false b one two = one
+
+-- a text that was not read as a number is in no range
+unread : (low high : ℕ) (text : List ℕ) → ¬ (IsNumeral 10 (without_leading_plus text) × (digits_value 10 (without_leading_plus text) < 2 ^ 64)) → is_unsigned_in low high text ≡ false
+unread low high text other = go (is_unsigned_in low high text) refl
+  where
+    go : (b : Bool) → is_unsigned_in low high text ≡ b → is_unsigned_in low high text ≡ false
+    go true e = let h : Accepts false (vp.Unsigned low high) text = accepts-Accepts false (vp.Unsigned low high) text e in absurd (other (h.0, h.1))
+    go false e = e
+
+-- the number that was read of a text, within a range
+pub reads_number : {E : Type 0} (G : List ℕ → Result ℕ E → Type 0) → ((u : List ℕ) (x : Result ℕ E) → G u x → ParsesUnsigned 64 10 u x) → (low high : ℕ) (t : Option (List ℕ)) (r : Option ℕ)
+    → (t ≡ None → r ≡ None) → ((u : List ℕ) → t ≡ Some u → ReadsOne G u r)
+    → option_and_then (λ n. if nat_le low n && nat_le n high then Some n else None) r ≡ number_in low high t
+reads_number G only low high None r none some = ap (option_and_then (λ n. if nat_le low n && nat_le n high then Some n else None)) (none refl)
+reads_number {E = E} G only low high (Some u) r none some = go r (some u refl)
+  where
+    go : (o : Option ℕ) → ReadsOne {T = ℕ} {E = E} G u o → option_and_then (λ n. if nat_le low n && nat_le n high then Some n else None) o ≡ number_in low high (Some u)
+    go None h = ap (λ (b : Bool). if b then Some (digits_value 10 (without_leading_plus u)) else None) (sym (unread low high u (only u (Err h.0) h.1)))
+    go (Some v) h =
+        let p = only u (Ok v) h in
+        ap (λ (n : ℕ). if nat_le low n && nat_le n high then Some n else None) p.1
+        ∙ ap (λ (b : Bool). if b then Some (digits_value 10 (without_leading_plus u)) else None) (in_range_is low high u p.0.0 p.0.1)
+
+-- an error that isn't memory's is a fault
+pub faulty : (kinds : Kinds) (e : Error) → HasKind kinds e → refusal_of (kind_of e) ≡ Usage → is_faultless kinds ≡ false
+faulty [] e h is =
+    elim h as (λ _. is_faultless [] ≡ false) [
+      | inl memory ↦ let wrong : NoMemory ≡ Usage = ap refusal_of (sym memory) ∙ is in absurd (cc)
+      | inr among ↦ absurd among
+    ]
+faulty (k ∷ ks) e h is = refl
+
+-- the reason in a refusal
+pub stop_is : {V : Type 0} (one : ArgumentStop) {two : ArgumentStop} → ◌≡◌ {A = Result V ArgumentStop} (Err one) (Err two) → one ≡ two
+stop_is one e = cc

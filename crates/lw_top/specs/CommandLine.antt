@@ -1,0 +1,34 @@
+-- What the arguments of the command line say, over clap's meaning of a simple command.
+use Rattle.std.specs.Prelude.{ℕ, Bool, true, false, List, [], ◌∷◌, map, String, string_bytes, Option, Some, None, if◌then◌else◌}
+use Rattle.std.specs.declared.alloc.Global.{Global}
+use Rattle.std.specs.Str.{bytes_eq}
+use Rattle.std.specs.Str.Parse.{digits_value, without_leading_plus}
+use Rattle.clap.specs.Kinds.{Kinds}
+use Rattle.clap.specs.declared.error.kind.ErrorKind.{ErrorKind}
+use Rattle.clap.specs.declared.error.kind.ErrorKind.TheVariants.{OutOfMemory}
+use Rattle.lw_top.specs.declared.values.ArgumentStop.{ArgumentStop}
+use Rattle.lw_top.specs.declared.values.ArgumentStop.TheVariants.{NoMemory, Usage}
+use Rattle.clap.specs.ValueTests.{is_unsigned_in}
+
+abbrev pub texts : List (String Global) → List (List ℕ)
+texts = map (λ s. string_bytes s)
+
+-- the first argument names the command
+abbrev pub is_command : List ℕ → List (List ℕ) → Bool
+is_command name [] = false
+is_command name (w ∷ ws) = bytes_eq w name
+
+-- clap finds no fault
+abbrev pub is_faultless : Kinds → Bool
+is_faultless [] = true
+is_faultless (k ∷ ks) = false
+
+-- the number that a text spells, where it is in the range
+abbrev pub number_in : ℕ → ℕ → Option (List ℕ) → Option ℕ
+number_in low high None = None
+number_in low high (Some text) = if is_unsigned_in low high text then Some (digits_value 10 (without_leading_plus text)) else None
+
+-- why a parse failed, by the kind of its error
+abbrev pub refusal_of : ErrorKind → ArgumentStop
+refusal_of OutOfMemory = NoMemory
+refusal_of _ = Usage

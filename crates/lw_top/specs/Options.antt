@@ -1,0 +1,17 @@
+-- The options of the commands, as clap sees them.
+use Rattle.std.specs.Prelude.{ℕ, List, [], ◌∷◌, true, Some}
+use Rattle.clap.specs.Words.{Rule, new_rule}
+use Rattle.clap.specs.declared.builder.action.ArgAction.TheVariants.{Set}
+use Rattle.clap.specs.declared.builder.value_parser.ValueParser.TheVariants.{Unsigned}
+
+-- an option that takes a text
+abbrev pub text_option : List ℕ → Rule
+text_option name = record (new_rule name) { long = Some name }
+
+-- an option that takes a whole number in a range, with a default
+abbrev pub number_option : List ℕ → ℕ → ℕ → List ℕ → Rule
+number_option name low high default = record (new_rule name) { long = Some name; parser = Some (Unsigned low high); defaults = default ∷ [] }
+
+-- an argument without a name of an option, which has to be there
+abbrev pub required_argument : List ℕ → Rule
+required_argument name = record (new_rule name) { required = true; action = Some Set }

@@ -1,0 +1,76 @@
+//! The arguments of `learn`, read by clap.
+ghost use Rattle.std.specs.Prelude.{◌≡◌, true, false, Some, None, Err, IfOk, OnOk};
+ghost use Rattle.clap.specs.Faults.{fault_of};
+ghost use Rattle.clap.specs.Words.{app_of, found_of, matches_of, rows_of};
+ghost use Rattle.lw_top.specs.CommandLine.{is_faultless, texts};
+ghost use Rattle.lw_top.specs.LearnCommand.{learn_app, learn_values, values_in};
+ghost use Rattle.lw_top.specs.declared.values.ArgumentStop.{ArgumentStop as Stop};
+
+use crate::ArgumentStop;
+use crate::options::{extra_option, states_option, text_option};
+use crate::values::{number_at, stop_of, text_at};
+use clap::{ArgMatches, Command};
+use lw_learn::LearnArguments;
+use std::alloc::{AllocError, Global};
+
+/// The command `learn`: the options that it has today.
+fn learn_command<'a>(alloc: Global) -> Result<Command<'a>, AllocError>
+    ensures { IfOk result (λ c. app_of c ≡ learn_app) }
+{
+    let command = Command::new(alloc, "learn")
+        .arg(text_option(alloc, "table"))?
+        .arg(extra_option(alloc))?
+        .arg(states_option(alloc))?
+        .arg(text_option(alloc, "model"))?
+        .arg(text_option(alloc, "answers"))?;
+    Ok(command)
+}
+
+/// What clap finds in the arguments.
+fn learn_matches<'a>(alloc: Global, arguments: &'a [String]) -> Result<ArgMatches<'a>, ArgumentStop>
+    ensures found { IfOk result (λ m. rows_of (found_of m) ≡
+        matches_of learn_app (texts arguments.entry.now)) }
+    ensures taken { OnOk result (is_faultless (fault_of learn_app (texts arguments.entry.now)) ≡
+        true) }
+    ensures refused { result ≡ Err Stop.Usage →
+        is_faultless (fault_of learn_app (texts arguments.entry.now)) ≡ false }
+{
+    let command = learn_command(alloc)?;
+    match command.try_get_matches_from(arguments) {
+        Ok(matches) => Ok(matches),
+        Err(error) => Err(stop_of(&error)),
+    }
+}
+
+/// The values that clap found, where the table file is named.
+fn values_of(alloc: Global, matches: &ArgMatches) -> Result<LearnArguments, ArgumentStop>
+    ensures ok { IfOk result (λ a. values_in (rows_of (found_of matches.now)) ≡ Some a) }
+    ensures refused { result ≡ Err Stop.Usage → values_in (rows_of (found_of matches.now)) ≡ None }
+{
+    let Some(table) = text_at(alloc, matches, "table")? else {
+        return Err(ArgumentStop::Usage);
+    };
+    let Some(extra) = number_at(matches, "extra", 0, 4) else {
+        return Err(ArgumentStop::Usage);
+    };
+    let Some(max_states) = number_at(matches, "max-states", 1, 1024) else {
+        return Err(ArgumentStop::Usage);
+    };
+    let model = text_at(alloc, matches, "model")?;
+    let answers = text_at(alloc, matches, "answers")?;
+    Ok(LearnArguments::new(table, extra as u8, max_states as u16, model, answers))
+}
+
+/// Reads the arguments of `learn`, of which the first is the command.
+pub fn learn_arguments(alloc: Global, arguments: &[String]) -> Result<LearnArguments, ArgumentStop>
+    ensures ok { IfOk result (λ a. learn_values (texts arguments.now) ≡ Some a) }
+    ensures refused { result ≡ Err Stop.Usage → learn_values (texts arguments.now) ≡ None }
+{
+    match arguments.first() {
+        Some(command) if command.as_str() == "learn" => {
+            let matches = learn_matches(alloc, arguments)?;
+            values_of(alloc, &matches)
+        }
+        _ => Err(ArgumentStop::Usage),
+    }
+}

@@ -1,0 +1,85 @@
+//! The values of arguments that clap has read.
+ghost use Rattle.std.specs.Prelude.{◌≡◌, ◌&&◌, Some, None, nat_le, if◌then◌else◌, option_and_then, option_map, IfOk, string_bytes};
+ghost use Rattle.clap.specs.Words.{first_of, found_of, kind_of, one_of, rows_of};
+ghost use Rattle.lw_top.specs.CommandLine.{number_in, refusal_of};
+
+use clap::error::ErrorKind;
+use clap::{ArgMatches, Error};
+use lw_report::Outcome;
+use std::alloc::{AllocError, Global};
+
+/// Why the arguments weren't taken.
+#[derive(Clone, Copy, Debug, PartialEq, Eq)]
+pub enum ArgumentStop {
+    /// The command doesn't take them.
+    Usage,
+    NoMemory,
+}
+
+impl From<AllocError> for ArgumentStop {
+    ghost use Rattle.std.specs.Prelude.{◌≡◌};
+    ghost use Rattle.lw_top.specs.declared.values.ArgumentStop.TheVariants.{NoMemory};
+
+    ghost from_gives = { λ _ stop. stop ≡ NoMemory };
+
+    fn from(_: AllocError) -> ArgumentStop {
+        ArgumentStop::NoMemory
+    }
+}
+
+impl From<ArgumentStop> for Outcome {
+    ghost use Rattle.std.specs.Prelude.{◌≡◌};
+    ghost use Rattle.lw_top.specs.Run.{argument_outcome};
+
+    ghost from_gives = { λ stop outcome. outcome ≡ argument_outcome stop };
+
+    fn from(stop: ArgumentStop) -> Outcome {
+        match stop {
+            ArgumentStop::Usage => Outcome::Usage,
+            ArgumentStop::NoMemory => Outcome::NoMemory,
+        }
+    }
+}
+
+/// Why a parse failed.
+pub(crate) fn stop_of(error: &Error) -> ArgumentStop
+    ensures { result ≡ refusal_of (kind_of error.now) }
+{
+    match error.kind() {
+        ErrorKind::OutOfMemory => ArgumentStop::NoMemory,
+        _ => ArgumentStop::Usage,
+    }
+}
+
+/// The text of an argument, where it was given.
+pub(crate) fn text_at(
+    alloc: Global,
+    matches: &ArgMatches,
+    id: &str,
+) -> Result<Option<String>, AllocError>
+    ensures { IfOk result (λ text. option_map (λ s. string_bytes s) text ≡
+        first_of id.now (rows_of (found_of matches.now))) }
+{
+    match matches.get_str(id) {
+        Some(text) => Ok(Some(String::from_str(alloc, text)?)),
+        None => Ok(None),
+    }
+}
+
+/// The number, where it is in the range.
+fn within(number: Option<u64>, low: u64, high: u64) -> Option<u64>
+    ensures { result ≡ option_and_then (λ n. if nat_le low n && nat_le n high then Some n else None)
+        number }
+{
+    match number {
+        Some(number) if low <= number && number <= high => Some(number),
+        _ => None,
+    }
+}
+
+/// The number of an argument, where it is in the range.
+pub(crate) fn number_at(matches: &ArgMatches, id: &str, low: u64, high: u64) -> Option<u64>
+    ensures { result ≡ number_in low high (one_of id.now (rows_of (found_of matches.now))) }
+{
+    within(matches.get_one::<u64>(id), low, high)
+}
