@@ -19,12 +19,13 @@ use Rattle.lw_report.specs.declared.role.Role.TheVariants as role
 use Rattle.lw_report.specs.declared.outcome.Outcome.{Outcome}
 use Rattle.lw_report.specs.declared.outcome.Outcome.TheVariants.{Unchecked, Yes, No, Usage, BadFile, Alphabets, FileTooLong, Nondeterministic, NoMemory, TooManyStates, SuiteTooLarge, FileFault, SinkFault}
 use Rattle.lw_check.specs.Decision.{IsAnswered, IsDecision, Pair, pair_of}
-use Rattle.lw_check.specs.Ending.{ComesTo, DecidesAs, Stream}
-use Rattle.lw_check.specs.Reading.{IsUnread, ReadsPair, Seen, TellsFile}
+use Rattle.lw_check.specs.Ending.{ComesTo, DecidesAs}
+use Rattle.lw_report.specs.States.{FilesState, SinkState}
+use Rattle.lw_check.specs.Reading.{IsUnread, ReadsPair, TellsFile}
 use Rattle.lw_check.specs.Telling.{IsTold}
 use Rattle.lw_check.proofs.DecideLemmas.{one_decision}
 
-pub comes_to : (p : Pair) (extra : ℕ) (out now : Stream) (decision outcome : Outcome) → (decision ≡ NoMemory) ⊎ IsDecision p extra decision → IsTold decision outcome
+pub comes_to : (p : Pair) (extra : ℕ) (out now : SinkState) (decision outcome : Outcome) → (decision ≡ NoMemory) ⊎ IsDecision p extra decision → IsTold decision outcome
     → (outcome ≡ SinkFault → ¬ (decision ≡ SinkFault) → CountedFault out.faults now.faults) → TakesSome (text_of p.inputs p.outputs p.kept extra decision) out.taken now.taken → ComesTo p extra out now outcome
 comes_to p extra out now decision outcome decided told counted some =
     ⊎_elim
@@ -39,7 +40,7 @@ comes_to p extra out now decision outcome decided told counted some =
     told
 
 -- a cause stands, or memory runs out in telling it
-pub still_unread : (model answers : List ℕ) (before now : Seen) (o r : Outcome) → IsUnread model answers before now o → StandsOrWants o r → IsUnread model answers before now r
+pub still_unread : (model answers : List ℕ) (before now : FilesState) (o r : Outcome) → IsUnread model answers before now o → StandsOrWants o r → IsUnread model answers before now r
 still_unread model answers before now o r u s =
     ⊎_elim (λ (e : r ≡ o). subst (IsUnread model answers before now) (sym e) u) (λ (w : HasOwnText o × (r ≡ NoMemory)). subst (IsUnread model answers before now) (sym w.1) tt) s
 
@@ -64,7 +65,7 @@ module _ {V : Type 0} (IsFile : List ℕ → V → Type 0) (name : List ℕ) (v 
   told_file None bytes t h = absurd t
   told_file (Some fs) bytes t h = subst (λ (b : List ℕ). IsFile b v) (sym (told_bytes fs name t.0 bytes t.1 h)) t.3
 
-pub exact_unread : (model answers : List ℕ) (before now : Seen) (m : Machine) (a : Answers) (decision outcome : Outcome) → IsUnread model answers before now outcome → TellsFile IsMachineFile before.holds model m → TellsFile IsAnswersFile before.holds answers a
+pub exact_unread : (model answers : List ℕ) (before now : FilesState) (m : Machine) (a : Answers) (decision outcome : Outcome) → IsUnread model answers before now outcome → TellsFile IsMachineFile before.holds model m → TellsFile IsAnswersFile before.holds answers a
     → DecidesAs decision outcome
 exact_unread model answers before now m a decision (BadFile role.Model fault) u tm ta = absurd (not_bad IsMachineFile model m before.holds u.0.bytes tm u.0.read.held u.0.bad)
 exact_unread model answers before now m a decision (BadFile role.Answers fault) u tm ta = absurd (not_bad IsAnswersFile answers a before.holds u.0.3.bytes ta u.0.3.read.held u.0.3.bad)
@@ -89,7 +90,7 @@ exact_unread model answers before now m a decision SinkFault u tm ta = absurd u
 same_pair : (m n : Machine) (a b : Answers) → SameMachine m n → SameAnswers a b → pair_of m a ≡ pair_of n b
 same_pair m n a b sm sa = cc (sm.inputs, sm.outputs, sm.mealy, sa.inputs, sa.outputs, sa.answers)
 
-pub exact_read : (model answers : List ℕ) (before now : Seen) (p : Pair) (extra : ℕ) (out out_now : Stream) (m : Machine) (a : Answers) (decision outcome : Outcome) → ReadsPair model answers before now p → ComesTo p extra out out_now outcome
+pub exact_read : (model answers : List ℕ) (before now : FilesState) (p : Pair) (extra : ℕ) (out out_now : SinkState) (m : Machine) (a : Answers) (decision outcome : Outcome) → ReadsPair model answers before now p → ComesTo p extra out out_now outcome
     → TellsFile IsMachineFile before.holds model m → TellsFile IsAnswersFile before.holds answers a → IsDecision (pair_of m a) extra decision → DecidesAs decision outcome
 exact_read model answers before now p extra out out_now m a decision outcome r comes tm ta d =
     let fm : IsMachineFile r.model_file.bytes m = told_file IsMachineFile model m before.holds r.model_file.bytes tm r.model_file.read.held in
@@ -104,7 +105,7 @@ exact_read model answers before now p extra out out_now m a decision outcome r c
     s)
     comes
 
-pub yes_is_sure : (p : Pair) (extra : ℕ) (out out_now : Stream) (states : ℕ) (outcome : Outcome) → IsMachine p.mealy.inputs p.mealy.rows → ComesTo p extra out out_now outcome → outcome ≡ Yes states → Sure p.mealy.inputs p.mealy.rows (answers_of p.kept) extra
+pub yes_is_sure : (p : Pair) (extra : ℕ) (out out_now : SinkState) (states : ℕ) (outcome : Outcome) → IsMachine p.mealy.inputs p.mealy.rows → ComesTo p extra out out_now outcome → outcome ≡ Yes states → Sure p.mealy.inputs p.mealy.rows (answers_of p.kept) extra
 yes_is_sure p extra out out_now states outcome machine comes is =
     ⊎_elim
     (λ (o : IsDecision p extra outcome). let d : IsDecision p extra (Yes states) = subst (IsDecision p extra) is o in sure_is_sure p.mealy.inputs p.mealy.rows (answers_of p.kept) extra machine d.0.2)

@@ -13,9 +13,10 @@ use Rattle.lw_report.specs.Stops.{read_outcome}
 use Rattle.lw_report.specs.declared.stops.ReadStop.{ReadStop}
 use Rattle.lw_report.specs.declared.stops.ReadStop.TheVariants.{Failed, TooLong, Bad, NoMemory}
 use Rattle.lw_report.specs.declared.role.Role.TheVariants.{Answers}
-use Rattle.lw_check.specs.Reading.{Seen, IsUnread}
+use Rattle.lw_check.specs.Reading.{IsUnread}
+use Rattle.lw_report.specs.States.{FilesState}
 
-pub unread_answers : (model answers : List ℕ) (before now : Seen) (middle : List File) (m : Machine) → ReadsFile IsMachineFile model before.holds before.reads middle m → (stop : ReadStop)
+pub unread_answers : (model answers : List ℕ) (before now : FilesState) (middle : List File) (m : Machine) → ReadsFile IsMachineFile model before.holds before.reads middle m → (stop : ReadStop)
     → ((fault : JsonFault) → stop ≡ Bad fault → ReadsBadFile IsAnswersFile HasAnswersFault answers before.holds middle now.reads fault × (now.calls ≡ noted (read_call answers false) (noted (read_call model false) before.calls)))
     → (stop ≡ TooLong → HoldsLong before.holds answers × (now.calls ≡ noted (read_call answers false) (noted (read_call model false) before.calls)))
     → (stop ≡ Failed → CountedFault before.faults now.faults × (now.calls ≡ noted (read_call answers true) (noted (read_call model false) before.calls)))

@@ -3,23 +3,16 @@ use Rattle.std.specs.Prelude.{◌≡◌, ◌⊎◌, ℕ, List, [], Option}
 use Rattle.lw_words.specs.Cause.{CountedFault}
 use Rattle.lw_words.specs.declared.kept.KeptAnswer.{KeptAnswer}
 use Rattle.lw_check.specs.Decision.{IsAnswered, IsDecision, Pair}
-use Rattle.lw_check.specs.Reading.{IsUnread, ReadsPair, Seen}
+use Rattle.lw_check.specs.Reading.{IsUnread, ReadsPair}
+use Rattle.lw_report.specs.States.{FilesState, SinkState}
 use Rattle.lw_report.specs.Text.{text_of}
 use Rattle.lw_report.specs.Writing.{TakesAll, TakesSome}
 use Rattle.lw_report.specs.declared.outcome.Outcome.{Outcome}
 use Rattle.lw_report.specs.declared.outcome.Outcome.TheVariants.{NoMemory, FileFault, SinkFault}
 use Rattle.lw_report.specs.declared.role.Role.{Role}
 
--- the count of faults of a stream, and what it took, where that is told
-pub record Stream : Type 0 where
-  pub faults : ℕ
-  pub taken : Option (List ℕ)
-
-abbrev pub stream : ℕ → Option (List ℕ) → Stream
-stream faults taken = record { faults = faults; taken = taken }
-
 -- no pair was read: nothing is kept or put to `out`, and the outcome's text goes to `err`, whole where that counts no fault
-pub record EndsUnread (model answers : List ℕ) (before now : Seen) (extra : ℕ) (out out_now err err_now : Stream) (outcome : Outcome) (kept : List KeptAnswer) : Type 0 where
+pub record EndsUnread (model answers : List ℕ) (before now : FilesState) (extra : ℕ) (out out_now err err_now : SinkState) (outcome : Outcome) (kept : List KeptAnswer) : Type 0 where
   pub cause : IsUnread model answers before now outcome
   pub kept_none : kept ≡ []
   pub unwritten : out_now ≡ out
@@ -27,7 +20,7 @@ pub record EndsUnread (model answers : List ℕ) (before now : Seen) (extra : �
   pub said_part : TakesSome (text_of [] [] [] extra outcome) err.taken err_now.taken
 
 -- what the pair comes to; or memory ran out, or a stream refused a yes or a no
-abbrev pub ComesTo : Pair → ℕ → Stream → Stream → Outcome → Type 0
+abbrev pub ComesTo : Pair → ℕ → SinkState → SinkState → Outcome → Type 0
 ComesTo p extra out out_now outcome =
     IsDecision p extra outcome
     ⊎ ((outcome ≡ NoMemory)
@@ -35,7 +28,7 @@ ComesTo p extra out out_now outcome =
 
 -- a pair was read: its answers are kept; a yes or a no is put to `out` and nothing to `err`; the text of any other outcome
 -- goes to `err`, whole where that counts no fault
-pub record EndsRead (model answers : List ℕ) (before now : Seen) (extra : ℕ) (out out_now err err_now : Stream) (outcome : Outcome) (kept : List KeptAnswer) : Type 0 where
+pub record EndsRead (model answers : List ℕ) (before now : FilesState) (extra : ℕ) (out out_now err err_now : SinkState) (outcome : Outcome) (kept : List KeptAnswer) : Type 0 where
   pub pair : Pair
   pub read : ReadsPair model answers before now pair
   pub kept_all : kept ≡ pair.kept

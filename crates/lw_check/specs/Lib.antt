@@ -1,3 +1,4 @@
+pub mod CheckRun
 pub mod Decision
 pub mod Ending
 pub mod FirstClash

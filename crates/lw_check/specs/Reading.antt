@@ -7,25 +7,16 @@ use Rattle.lw_json.specs.MachineFile.{IsMachineFile}
 use Rattle.lw_json.specs.MachineFault.{HasMachineFault}
 use Rattle.lw_json.specs.declared.machine.Machine.{Machine}
 use Rattle.lw_json.specs.declared.answers.Answers.{Answers}
-use Rattle.lw_outside.specs.Files.{Call, File, HoldsLong, file_at, longest_file, noted, read_call}
+use Rattle.lw_outside.specs.Files.{File, HoldsLong, file_at, longest_file, noted, read_call}
 use Rattle.lw_report.specs.Reading.{ReadsFile, ReadsBadFile}
+use Rattle.lw_report.specs.States.{FilesState}
 use Rattle.lw_report.specs.declared.role.Role.TheVariants.{Model, Answers as Answered}
 use Rattle.lw_report.specs.declared.outcome.Outcome.{Outcome}
 use Rattle.lw_report.specs.declared.outcome.Outcome.TheVariants.{BadFile, FileTooLong, FileFault, NoMemory}
 use Rattle.lw_check.specs.Decision.{Pair, pair_of}
 
--- what contracts see of files: what they hold and which calls came, where that is told; what the reads gave; the count of faults
-pub record Seen : Type 0 where
-  pub holds : Option (List File)
-  pub calls : Option (List Call)
-  pub reads : List File
-  pub faults : ℕ
-
-abbrev pub seen : Option (List File) → Option (List Call) → List File → ℕ → Seen
-seen holds calls reads faults = record { holds = holds; calls = calls; reads = reads; faults = faults }
-
 -- one read gave the file of a model, and a second one the file of answers
-pub record ReadsPair (model answers : List ℕ) (before now : Seen) (p : Pair) : Type 0 where
+pub record ReadsPair (model answers : List ℕ) (before now : FilesState) (p : Pair) : Type 0 where
   pub machine : Machine
   pub read_answers : Answers
   pub middle : List File
@@ -35,7 +26,7 @@ pub record ReadsPair (model answers : List ℕ) (before now : Seen) (p : Pair) :
   pub calls : now.calls ≡ noted (read_call answers false) (noted (read_call model false) before.calls)
 
 -- why no pair was read
-abbrev pub IsUnread : List ℕ → List ℕ → Seen → Seen → Outcome → Type 0
+abbrev pub IsUnread : List ℕ → List ℕ → FilesState → FilesState → Outcome → Type 0
 IsUnread model answers before now (BadFile Model fault) =
     ReadsBadFile IsMachineFile HasMachineFault model before.holds before.reads now.reads fault × (now.calls ≡ noted (read_call model false) before.calls)
 IsUnread model answers before now (BadFile Answered fault) =

@@ -8,8 +8,9 @@ ghost use Rattle.lw_check.specs.Decision.{IsAnswered, IsDecision, Pair, pair_of}
 ghost use Rattle.lw_words.specs.Cause.{CountedFault};
 ghost use Rattle.lw_report.specs.Text.{text_of};
 ghost use Rattle.lw_report.specs.Writing.{TakesAll};
-ghost use Rattle.lw_check.specs.Ending.{ComesTo, DecidesAs, EndsRead, EndsUnread, stream};
-ghost use Rattle.lw_check.specs.Reading.{ReadsPair, TellsFile, seen};
+ghost use Rattle.lw_check.specs.Ending.{ComesTo, DecidesAs, EndsRead, EndsUnread};
+ghost use Rattle.lw_report.specs.States.{files_state, sink_state};
+ghost use Rattle.lw_check.specs.Reading.{ReadsPair, TellsFile};
 ghost use Rattle.lw_mealy.specs.Limits.{IsWithinLimits};
 ghost use Rattle.lw_certify.specs.Sure.{Sure};
 ghost use Rattle.lw_words.specs.Answer.{answers_of};
@@ -40,7 +41,7 @@ fn finish<O: Sink, E: Sink>(
     ensures kept { result.kept.answers ≡ answers.kept.answers }
     ensures complete { IsWithinLimits machine.mealy }
     ensures comes { ComesTo (pair_of machine answers) extra
-        (stream (O.faults out.old) (O.taken out.old)) (stream (O.faults out.new) (O.taken out.new))
+        (sink_state (O.taken out.old) (O.faults out.old)) (sink_state (O.taken out.new) (O.faults out.new))
         result.outcome }
     ensures written { IsAnswered result.outcome →
         TakesAll (text_of machine.inputs machine.outputs answers.kept.answers extra result.outcome)
@@ -72,16 +73,16 @@ pub fn check<F: Files, O: Sink, E: Sink>(
     ensures status { result.status ≡ status_of result.outcome }
     ensures model { result.model ≡ None }
     ensures ended { EndsUnread model.now answers.now
-        (seen (F.holds files.old) (F.calls files.old) (F.reads files.old) (F.faults files.old))
-        (seen (F.holds files.new) (F.calls files.new) (F.reads files.new) (F.faults files.new))
-        extra (stream (O.faults out.old) (O.taken out.old)) (stream (O.faults out.new) (O.taken out.new))
-        (stream (E.faults err.old) (E.taken err.old)) (stream (E.faults err.new) (E.taken err.new))
+        (files_state (F.holds files.old) (F.calls files.old) (F.reads files.old) (F.faults files.old))
+        (files_state (F.holds files.new) (F.calls files.new) (F.reads files.new) (F.faults files.new))
+        extra (sink_state (O.taken out.old) (O.faults out.old)) (sink_state (O.taken out.new) (O.faults out.new))
+        (sink_state (E.taken err.old) (E.faults err.old)) (sink_state (E.taken err.new) (E.faults err.new))
         result.outcome result.kept.answers ⊎
         EndsRead model.now answers.now
-        (seen (F.holds files.old) (F.calls files.old) (F.reads files.old) (F.faults files.old))
-        (seen (F.holds files.new) (F.calls files.new) (F.reads files.new) (F.faults files.new))
-        extra (stream (O.faults out.old) (O.taken out.old)) (stream (O.faults out.new) (O.taken out.new))
-        (stream (E.faults err.old) (E.taken err.old)) (stream (E.faults err.new) (E.taken err.new))
+        (files_state (F.holds files.old) (F.calls files.old) (F.reads files.old) (F.faults files.old))
+        (files_state (F.holds files.new) (F.calls files.new) (F.reads files.new) (F.faults files.new))
+        extra (sink_state (O.taken out.old) (O.faults out.old)) (sink_state (O.taken out.new) (O.faults out.new))
+        (sink_state (E.taken err.old) (E.faults err.old)) (sink_state (E.taken err.new) (E.faults err.new))
         result.outcome result.kept.answers }
     ensures exact { (m : Model) (a : Given) (decision : Came) →
         TellsFile IsMachineFile (F.holds files.old) model.now m →
@@ -89,8 +90,8 @@ pub fn check<F: Files, O: Sink, E: Sink>(
         IsDecision (pair_of m a) extra decision → DecidesAs decision result.outcome }
     ensures sure { (states : ℕ) → result.outcome ≡ Came.Yes states → (p : Pair) ×
         ReadsPair model.now answers.now
-        (seen (F.holds files.old) (F.calls files.old) (F.reads files.old) (F.faults files.old))
-        (seen (F.holds files.new) (F.calls files.new) (F.reads files.new) (F.faults files.new)) p ×
+        (files_state (F.holds files.old) (F.calls files.old) (F.reads files.old) (F.faults files.old))
+        (files_state (F.holds files.new) (F.calls files.new) (F.reads files.new) (F.faults files.new)) p ×
         Sure p.mealy.inputs p.mealy.rows (answers_of p.kept) extra }
     ensures counts { (F.faults files.old ≤ F.faults files.new) ×
         (O.faults out.old ≤ O.faults out.new) × (E.faults err.old ≤ E.faults err.new) }

@@ -1,7 +1,8 @@
 //! The two files of the command.
 ghost use Rattle.std.specs.Prelude.{◌≡◌, ℕ, ◌≤◌, List, IfOk, IfErr};
 ghost use Rattle.lw_check.specs.Decision.{Pair, pair_of};
-ghost use Rattle.lw_check.specs.Reading.{IsUnread, ReadsPair, seen};
+ghost use Rattle.lw_check.specs.Reading.{IsUnread, ReadsPair};
+ghost use Rattle.lw_report.specs.States.{files_state};
 
 use lw_json::{Answers, Machine};
 use lw_outside::Files;
@@ -23,12 +24,12 @@ pub(crate) fn read_pair<F: Files>(
     answers: &str,
 ) -> Result<Read, Outcome>
     ensures ok { IfOk result (λ read. ReadsPair model.now answers.now
-        (seen (F.holds files.old) (F.calls files.old) (F.reads files.old) (F.faults files.old))
-        (seen (F.holds files.new) (F.calls files.new) (F.reads files.new) (F.faults files.new))
+        (files_state (F.holds files.old) (F.calls files.old) (F.reads files.old) (F.faults files.old))
+        (files_state (F.holds files.new) (F.calls files.new) (F.reads files.new) (F.faults files.new))
         (pair_of read.machine read.answers)) }
     ensures err { IfErr result (IsUnread model.now answers.now
-        (seen (F.holds files.old) (F.calls files.old) (F.reads files.old) (F.faults files.old))
-        (seen (F.holds files.new) (F.calls files.new) (F.reads files.new) (F.faults files.new))) }
+        (files_state (F.holds files.old) (F.calls files.old) (F.reads files.old) (F.faults files.old))
+        (files_state (F.holds files.new) (F.calls files.new) (F.reads files.new) (F.faults files.new))) }
     ensures counts { F.faults files.old ≤ F.faults files.new }
     ensures same { F.holds files.new ≡ F.holds files.old }
 {

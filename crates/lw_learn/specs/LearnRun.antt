@@ -5,9 +5,10 @@ use Rattle.lw_words.specs.Cause.{CountedFault}
 use Rattle.lw_mealy.specs.Limits.{MealyMachine}
 use Rattle.lw_json.specs.declared.fault.JsonFault.{JsonFault}
 use Rattle.lw_json.specs.declared.machine.Machine.{Machine}
-use Rattle.lw_outside.specs.Files.{Call, File, HoldsLong}
+use Rattle.lw_outside.specs.Files.{HoldsLong}
 use Rattle.lw_report.specs.Outcomes.{status_of}
 use Rattle.lw_report.specs.Reading.{WasRead}
+use Rattle.lw_report.specs.States.{FilesState, SinkState}
 use Rattle.lw_report.specs.Writing.{TakesAll, said_text}
 use Rattle.lw_report.specs.declared.«end».End.{End}
 use Rattle.lw_report.specs.declared.outcome.Outcome.TheVariants.{BadFile, FileFault, FileTooLong, SinkFault, TooManyStates, Unchecked}
@@ -22,24 +23,6 @@ use Rattle.lw_learn.specs.Outcomes.{HasRole, IsUnchecked, IsUngiven, IsUnread, I
 use Rattle.lw_learn.specs.Reading.{ReadsNoTable, ReadsTable, TellsFailed, TellsLong, TellsNoTable, TellsTable}
 use Rattle.lw_learn.specs.Stops.{IsCrowdOf}
 use Rattle.lw_learn.specs.Writing.{NothingFailed, StaysBesides, TakesInTurn, WritesModel, inputs_of, line_of, outputs_of}
-
--- what contracts see of files: what they hold and the calls, where that is told, the reads that gave bytes, and the faults
-pub record FilesState : Type 0 where
-  pub holds : Option (List File)
-  pub calls : Option (List Call)
-  pub reads : List File
-  pub faults : ℕ
-
--- what contracts see of a stream: what it took, where that is told, and the faults
-pub record SinkState : Type 0 where
-  pub taken : Option (List ℕ)
-  pub faults : ℕ
-
-abbrev pub files_state : Option (List File) → Option (List Call) → List File → ℕ → FilesState
-files_state holds calls reads faults = record { holds = holds; calls = calls; reads = reads; faults = faults }
-
-abbrev pub sink_state : Option (List ℕ) → ℕ → SinkState
-sink_state taken faults = record { taken = taken; faults = faults }
 
 -- the machine is that of the table file, by the bytes that were read
 abbrev pub IsTable : LearnValues → FilesState → FilesState → Machine → Type 0

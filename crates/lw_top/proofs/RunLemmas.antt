@@ -11,7 +11,8 @@ use Rattle.lw_report.specs.declared.role.Role.TheVariants.{Table}
 use Rattle.lw_report.proofs.SinkLemmas.{sink_none}
 use Rattle.lw_learn.specs.Arguments.{LearnValues}
 use Rattle.lw_learn.specs.Hypothesis.{IsModel}
-use Rattle.lw_learn.specs.LearnRun.{FilesState, IsLearnRun, IsTable, SinkState}
+use Rattle.lw_learn.specs.LearnRun.{IsLearnRun, IsTable}
+use Rattle.lw_report.specs.States.{FilesState, SinkState}
 use Rattle.lw_learn.specs.Outcomes.{IsUnchecked, IsUngiven, IsUnread, IsUntroubled, IsWriteFault}
 use Rattle.lw_learn.specs.Reading.{TellsFailed}
 use Rattle.lw_outside.specs.Files.{Call, read_call}

@@ -1,7 +1,7 @@
 -- What a call of the program did whose arguments no command takes, or for which there was no memory to read them.
 use Rattle.std.specs.Prelude.{◌≡◌, [], None}
 use Rattle.lw_words.specs.Cause.{CountedFault}
-use Rattle.lw_learn.specs.LearnRun.{FilesState, SinkState}
+use Rattle.lw_report.specs.States.{FilesState, SinkState}
 use Rattle.lw_report.specs.Writing.{TakesAll, TakesSome, said_text}
 use Rattle.lw_report.specs.declared.«end».End.{End}
 use Rattle.lw_report.specs.declared.outcome.Outcome.{Outcome}

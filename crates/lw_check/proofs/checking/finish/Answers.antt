@@ -1,5 +1,5 @@
 use Rattle.lw_check.specs.Decision.{pair_of}
-use Rattle.lw_check.specs.Ending.{stream}
+use Rattle.lw_report.specs.States.{sink_state}
 use Rattle.lw_check.proofs.EndLemmas.{comes_to}
 use Rattle.lw_check.proofs.checking.finish.Goals as goal
 
@@ -7,4 +7,4 @@ pub returns-clause-comes : goal.returns-clause-comes
 returns-clause-comes g c =
     let O = g.O.Sink in
     rw c.new.ensures.outcome
-    (comes_to (pair_of c.args.machine c.args.answers) c.args.extra (stream (O.faults c.args.out.now) (O.taken c.args.out.now)) (stream (O.faults c.tell-outcome.new.out) (O.taken c.tell-outcome.new.out)) c.decide-decision.result c.tell-outcome.result c.decide-decision.ensures c.tell-outcome.ensures.outcome c.tell-outcome.ensures.refused c.tell-outcome.ensures.part)
+    (comes_to (pair_of c.args.machine c.args.answers) c.args.extra (sink_state (O.taken c.args.out.now) (O.faults c.args.out.now)) (sink_state (O.taken c.tell-outcome.new.out) (O.faults c.tell-outcome.new.out)) c.decide-decision.result c.tell-outcome.result c.decide-decision.ensures c.tell-outcome.ensures.outcome c.tell-outcome.ensures.refused c.tell-outcome.ensures.part)

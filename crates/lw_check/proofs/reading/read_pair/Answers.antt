@@ -3,7 +3,8 @@ use Rattle.lw_json.specs.AnswersFile.{IsAnswersFile}
 use Rattle.lw_json.specs.AnswersFault.{HasAnswersFault}
 use Rattle.lw_outside.specs.Files.{File, HoldsLong, noted, read_call}
 use Rattle.lw_report.specs.Reading.{ReadsFile, ReadsBadFile}
-use Rattle.lw_check.specs.Reading.{IsUnread, seen}
+use Rattle.lw_check.specs.Reading.{IsUnread}
+use Rattle.lw_report.specs.States.{files_state}
 use Rattle.lw_words.specs.Cause.{CountedFault}
 use Rattle.lw_report.specs.declared.stops.ReadStop.{ReadStop}
 use Rattle.lw_check.proofs.ReadLemmas.{unread_answers}
@@ -35,7 +36,7 @@ returns-in-Err-read_answers_file-clause-err g c =
     let then = ap (noted (read_call answers false)) first.ok_call in
     let failing = ap (noted (read_call answers true)) first.ok_call in
     rw c.outcome-in-Err-read_answers_file.ensures
-    (unread_answers model answers (seen (F.holds c.args.files.now) (F.calls c.args.files.now) (F.reads c.args.files.now) (F.faults c.args.files.now)) (seen (F.holds c.read_answers_file.new.files) (F.calls c.read_answers_file.new.files) (F.reads c.read_answers_file.new.files) (F.faults c.read_answers_file.new.files)) middle c.in-Ok.machine first.ok c.in-Err-read_answers_file.stop
+    (unread_answers model answers (files_state (F.holds c.args.files.now) (F.calls c.args.files.now) (F.reads c.args.files.now) (F.faults c.args.files.now)) (files_state (F.holds c.read_answers_file.new.files) (F.calls c.read_answers_file.new.files) (F.reads c.read_answers_file.new.files) (F.faults c.read_answers_file.new.files)) middle c.in-Ok.machine first.ok c.in-Err-read_answers_file.stop
     (λ fault kind. (
       subst (λ (h : Option (List File)). ReadsBadFile IsAnswersFile HasAnswersFault answers h middle end fault) first.same (told.bad fault (is ∙ ap (λ (s : ReadStop). Err s) kind)),
       told.bad_call fault (is ∙ ap (λ (s : ReadStop). Err s) kind) ∙ then,

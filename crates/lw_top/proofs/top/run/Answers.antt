@@ -1,6 +1,7 @@
 use Rattle.std.proofs.Common.{◌≡◌, ◌∙◌, List, Option, Some, None, Err, IfSome, IfErr, sym, ap, refl, subst}
 use Rattle.lw_learn.specs.Arguments.{LearnValues}
-use Rattle.lw_learn.specs.LearnRun.{IsLearnRun, files_state, sink_state}
+use Rattle.lw_learn.specs.LearnRun.{IsLearnRun}
+use Rattle.lw_report.specs.States.{files_state, sink_state}
 use Rattle.lw_top.specs.CommandLine.{texts}
 use Rattle.lw_top.specs.LearnCommand.{learn_values}
 use Rattle.lw_top.specs.Run.{IsRefused}

@@ -1,0 +1,29 @@
+-- What a call of `check` did, for callers: all that its contract says, in one record.
+use Rattle.std.specs.Prelude.{◌≡◌, ◌⊎◌, ℕ, List, None}
+use Rattle.lw_words.specs.Answer.{answers_of}
+use Rattle.lw_json.specs.AnswersFile.{IsAnswersFile}
+use Rattle.lw_json.specs.MachineFile.{IsMachineFile}
+use Rattle.lw_json.specs.declared.answers.Answers.{Answers}
+use Rattle.lw_json.specs.declared.machine.Machine.{Machine}
+use Rattle.lw_certify.specs.Sure.{Sure}
+use Rattle.lw_check.specs.Decision.{IsDecision, Pair, pair_of}
+use Rattle.lw_check.specs.Ending.{DecidesAs, EndsRead, EndsUnread}
+use Rattle.lw_check.specs.Reading.{ReadsPair, TellsFile}
+use Rattle.lw_report.specs.States.{FilesState, SinkState}
+use Rattle.lw_report.specs.declared.«end».End.{End}
+use Rattle.lw_report.specs.declared.outcome.Outcome.{Outcome}
+use Rattle.lw_report.specs.declared.outcome.Outcome.TheVariants.{Yes}
+
+-- a call with these arguments found files, `out` and `err` as f, o and e, left them as g, p and d, and came to the end
+pub record IsCheckRun (model answers : List ℕ) (extra : ℕ) (f g : FilesState) (o p : SinkState) (e d : SinkState) (end : End) : Type 0 where
+  pub no_model : end.model ≡ None
+  pub ended : EndsUnread model answers f g extra o p e d end.outcome end.kept.answers ⊎ EndsRead model answers f g extra o p e d end.outcome end.kept.answers
+  -- where both files are told, the outcome is their one decision, but that memory, a file or a stream may fail
+  pub exact :
+      (m : Machine) (a : Answers) (decision : Outcome)
+      → TellsFile IsMachineFile f.holds model m
+      → TellsFile IsAnswersFile f.holds answers a
+      → IsDecision (pair_of m a) extra decision
+      → DecidesAs decision end.outcome
+  -- a yes implies that every machine of at most so many states more that gives the answers equals the model
+  pub sure : (states : ℕ) → end.outcome ≡ Yes states → (pair : Pair) × ReadsPair model answers f g pair × Sure pair.mealy.inputs pair.mealy.rows (answers_of pair.kept) extra
