@@ -10,7 +10,7 @@ use Rattle.lw_report.specs.declared.role.Role.TheVariants.{Table, Model, Answers
 use Rattle.lw_report.specs.declared.stops.ReadStop.{ReadStop}
 use Rattle.lw_report.specs.declared.stops.ReadStop.TheVariants.{Failed, TooLong, Bad, NoMemory as NoMemoryToRead}
 use Rattle.lw_report.specs.declared.outcome.Outcome.{Outcome}
-use Rattle.lw_report.specs.declared.outcome.Outcome.TheVariants.{Unchecked, Usage, BadFile, FileTooLong, NoMemory, TooManyStates, FileFault, SinkFault}
+use Rattle.lw_report.specs.declared.outcome.Outcome.TheVariants.{Unchecked, Yes, No, Usage, BadFile, Alphabets, FileTooLong, Nondeterministic, NoMemory, TooManyStates, SuiteTooLarge, FileFault, SinkFault}
 use Rattle.lw_learn.specs.Outcomes.{IsTold, IsUngiven, IsUnread, IsUntroubled}
 use Rattle.lw_learn.specs.Stops.{CrowdOf, IsCrowdOf, learn_outcome}
 use Rattle.lw_learn.specs.declared.first.FirstStop.{FirstStop}
@@ -51,6 +51,11 @@ told_untroubled model (Unchecked h) told sink file = tt
 told_untroubled model NoMemory told sink file = tt
 told_untroubled model SinkFault told sink file = absurd (sink refl)
 told_untroubled model Usage told sink file = absurd told
+told_untroubled model (Yes states) told sink file = absurd told
+told_untroubled model (No verdict) told sink file = absurd told
+told_untroubled model Alphabets told sink file = absurd told
+told_untroubled model (Nondeterministic clash) told sink file = absurd told
+told_untroubled model (SuiteTooLarge states number) told sink file = absurd told
 told_untroubled model (BadFile role fault) told sink file = absurd told
 told_untroubled model (FileTooLong role) told sink file = absurd told
 told_untroubled model (TooManyStates words) told sink file = absurd told

@@ -13,7 +13,7 @@ use Rattle.lw_report.specs.declared.role.Role.TheVariants.{Model, Answers}
 use Rattle.lw_report.specs.declared.stops.TellStop.{TellStop}
 use Rattle.lw_report.specs.declared.stops.TellStop.TheVariants.{File as FileStop, Sink, NoMemory as NoMemoryToTell}
 use Rattle.lw_report.specs.declared.outcome.Outcome.{Outcome}
-use Rattle.lw_report.specs.declared.outcome.Outcome.TheVariants.{Unchecked, Usage, BadFile, FileTooLong, NoMemory, TooManyStates, FileFault, SinkFault}
+use Rattle.lw_report.specs.declared.outcome.Outcome.TheVariants.{Unchecked, Yes, No, Usage, BadFile, Alphabets, FileTooLong, Nondeterministic, NoMemory, TooManyStates, SuiteTooLarge, FileFault, SinkFault}
 use Rattle.lw_report.proofs.SinkLemmas.{sink_none}
 use Rattle.lw_learn.specs.Arguments.{LearnValues}
 use Rattle.lw_learn.specs.Calls.{MadeCalls, MadeWrites, all_writes, gained, read_of, writes_to}
@@ -86,6 +86,11 @@ some_writes a model SinkFault before now told made = (all_writes a, made)
 some_writes a model (FileFault role) before now told made = (writes_to a role, made)
 some_writes a model NoMemory before now told made = (take made.0 (all_writes a), made.1)
 some_writes a model Usage before now told made = absurd told
+some_writes a model (Yes states) before now told made = absurd told
+some_writes a model (No verdict) before now told made = absurd told
+some_writes a model Alphabets before now told made = absurd told
+some_writes a model (Nondeterministic clash) before now told made = absurd told
+some_writes a model (SuiteTooLarge states number) before now told made = absurd told
 some_writes a model (BadFile role fault) before now told made = absurd told
 some_writes a model (FileTooLong role) before now told made = absurd told
 some_writes a model (TooManyStates words) before now told made = absurd told
@@ -103,6 +108,11 @@ told_read a model SinkFault told = refl
 told_read a model (FileFault role) told = fault_read a role told
 told_read a model NoMemory told = refl
 told_read a model Usage told = absurd told
+told_read a model (Yes states) told = absurd told
+told_read a model (No verdict) told = absurd told
+told_read a model Alphabets told = absurd told
+told_read a model (Nondeterministic clash) told = absurd told
+told_read a model (SuiteTooLarge states number) told = absurd told
 told_read a model (BadFile role fault) told = absurd told
 told_read a model (FileTooLong role) told = absurd told
 told_read a model (TooManyStates words) told = absurd told
