@@ -1,2 +1,4 @@
+pub mod CheckLemmas
+pub mod CommandLemmas
 pub mod RunLemmas
 pub mod ValueLemmas

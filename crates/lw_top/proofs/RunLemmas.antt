@@ -79,9 +79,17 @@ not_usage stop.Usage outcome is other = absurd (other refl)
 not_usage stop.NoMemory outcome is other = is
 
 -- a value that may be there
-pub by_value : (v : Option LearnValues) (Is : LearnValues → Type 0) → ((a : LearnValues) → v ≡ Some a → Is a) → IfSome v Is
+pub by_value : {V : Type 0} (v : Option V) (Is : V → Type 0) → ((a : V) → v ≡ Some a → Is a) → IfSome v Is
 by_value None Is each = tt
 by_value (Some a) Is each = each a refl
 
-pub none_is_some : (a : LearnValues) → None ≡ Some a → ⊥
+pub none_is_some : {V : Type 0} (a : V) → ◌≡◌ {A = Option V} None (Some a) → ⊥
 none_is_some a e = cc
+
+-- what holds of the value that is there
+pub at_value : {V : Type 0} (v : Option V) (a : V) (Is : V → Type 0) → v ≡ Some a → Is a → IfSome v Is
+at_value v a Is e is = subst (λ (o : Option _). IfSome o Is) (sym e) is
+
+-- no value is there
+pub at_none : {V : Type 0} (v : Option V) (Is : V → Type 0) → v ≡ None → IfSome v Is
+at_none v Is e = subst (λ (o : Option _). IfSome o Is) (sym e) tt

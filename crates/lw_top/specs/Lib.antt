@@ -1,3 +1,4 @@
+pub mod Call
 pub mod CheckCommand
 pub mod CommandLine
 pub mod LearnCommand

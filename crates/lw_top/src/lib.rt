@@ -1,6 +1,7 @@
 //! The top call: all that the program does, over the files and streams that are handed in.
 #![tactic(auto)]
 
+mod call;
 mod check_words;
 mod learn_words;
 mod options;

@@ -6,12 +6,16 @@ ghost use Rattle.lw_report.specs.Writing.{TakesAll, TakesSome, said_text};
 ghost use Rattle.lw_report.specs.declared.outcome.Outcome.{Outcome as Came};
 ghost use Rattle.lw_learn.specs.LearnRun.{IsLearnRun};
 ghost use Rattle.lw_report.specs.States.{files_state, sink_state};
+ghost use Rattle.lw_check.specs.CheckRun.{IsCheckRun};
+ghost use Rattle.lw_top.specs.Call.{IsNoCall};
+ghost use Rattle.lw_top.specs.CheckCommand.{check_values};
 ghost use Rattle.lw_top.specs.CommandLine.{texts};
 ghost use Rattle.lw_top.specs.LearnCommand.{learn_values};
 ghost use Rattle.lw_top.specs.Run.{IsRefused, argument_outcome};
 
 use crate::ArgumentStop;
-use crate::learn_words::learn_arguments;
+use crate::call::{Call, read_call};
+use lw_check::check;
 use lw_learn::learn;
 use lw_outside::{Files, Sink};
 use lw_report::{End, Outcome, refuse};
@@ -65,8 +69,8 @@ pub fn run<F: Files, O: Sink, E: Sink>(
     ensures status { result.status ≡ status_of result.outcome }
 
     // The arguments: the usage exactly where no command takes them, but that memory may run out.
-    ensures usage { result.outcome ≡ Came.Usage → learn_values (texts arguments.now) ≡ None }
-    ensures refused { learn_values (texts arguments.now) ≡ None →
+    ensures usage { result.outcome ≡ Came.Usage → IsNoCall (texts arguments.now) }
+    ensures refused { IsNoCall (texts arguments.now) →
         ((result.outcome ≡ Came.Usage) ⊎ (result.outcome ≡ Came.NoMemory)) ×
         IsRefused
         (files_state (F.holds files.old) (F.calls files.old) (F.reads files.old) (F.faults files.old))
@@ -84,9 +88,26 @@ pub fn run<F: Files, O: Sink, E: Sink>(
         (sink_state (O.taken out.new) (O.faults out.new))
         (sink_state (E.taken err.old) (E.faults err.old))
         (sink_state (E.taken err.new) (E.faults err.new)) result) }
+
+    // `check`, where it takes the arguments: all that its contract says.
+    ensures check { IfSome (check_values (texts arguments.now)) (λ values. IsCheckRun
+        values.model values.answers values.extra
+        (files_state (F.holds files.old) (F.calls files.old) (F.reads files.old) (F.faults files.old))
+        (files_state (F.holds files.new) (F.calls files.new) (F.reads files.new) (F.faults files.new))
+        (sink_state (O.taken out.old) (O.faults out.old))
+        (sink_state (O.taken out.new) (O.faults out.new))
+        (sink_state (E.taken err.old) (E.faults err.old))
+        (sink_state (E.taken err.new) (E.faults err.new)) result) }
 {
-    match learn_arguments(alloc, arguments) {
-        Ok(values) => learn(alloc, &values, files, out, err),
-        Err(stop) => refuse_arguments(alloc, stop, err),
+    let call = match read_call(alloc, arguments) {
+        Ok(call) => call,
+        Err(stop) => return refuse_arguments(alloc, stop, err),
+    };
+    match call {
+        Call::Learn(values) => learn(alloc, &values, files, out, err),
+        Call::Check(values) => {
+            let (model, answers) = (values.model(), values.answers());
+            check(alloc, model, answers, values.extra(), files, out, err)
+        }
     }
 }

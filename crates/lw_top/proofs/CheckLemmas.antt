@@ -1,0 +1,45 @@
+-- Calls of `check`, and those for whose arguments there was no memory.
+use Rattle.std.proofs.Common.{◌≡◌, ◌∙◌, ◌⊎◌, ⊎_elim, ℕ, List, [], inl, inr, refl, sym, subst}
+use Rattle.lw_words.specs.Cause.{CountedFault}
+use Rattle.lw_report.specs.States.{FilesState, SinkState}
+use Rattle.lw_report.specs.Text.{text_of}
+use Rattle.lw_report.specs.Writing.{TakesAll, TakesSome}
+use Rattle.lw_report.specs.declared.«end».End.{End}
+use Rattle.lw_report.specs.declared.outcome.Outcome.{Outcome}
+use Rattle.lw_report.specs.declared.outcome.Outcome.TheVariants.{NoMemory, SinkFault, Usage, Yes}
+use Rattle.lw_check.specs.CheckRun.{IsCheckRun}
+use Rattle.lw_check.specs.Decision.{IsDecision}
+use Rattle.lw_check.specs.Ending.{EndsRead, EndsUnread}
+use Rattle.lw_check.specs.Reading.{IsUnread}
+use Rattle.lw_top.specs.Run.{IsRefused}
+
+-- the end of a call that touched nothing, which is out of memory, is one that `check` may come to
+pub wanted_check : (model answers : List ℕ) (extra : ℕ) (f : FilesState) (o e d : SinkState) (end : End) → end.outcome ≡ NoMemory → IsRefused f f o o e d end → IsCheckRun model answers extra f f o o e d end
+wanted_check model answers extra f o e d end out r =
+    let said : (oc : Outcome) → oc ≡ NoMemory → TakesAll (text_of [] [] [] 0 oc) e.taken d.taken → TakesAll (text_of [] [] [] extra oc) e.taken d.taken = λ oc is t.
+    subst (λ (x : Outcome). TakesAll (text_of [] [] [] extra x) e.taken d.taken) (sym is) (subst (λ (x : Outcome). TakesAll (text_of [] [] [] 0 x) e.taken d.taken) is t) in
+    let part : (oc : Outcome) → oc ≡ NoMemory → TakesSome (text_of [] [] [] 0 oc) e.taken d.taken → TakesSome (text_of [] [] [] extra oc) e.taken d.taken = λ oc is t.
+    subst (λ (x : Outcome). TakesSome (text_of [] [] [] extra x) e.taken d.taken) (sym is) (subst (λ (x : Outcome). TakesSome (text_of [] [] [] 0 x) e.taken d.taken) is t) in
+    record {
+      no_model = r.model;
+      ended = inl (record {
+        cause = subst (IsUnread model answers f f) (sym out) tt;
+        kept_none = r.kept;
+        unwritten = refl;
+        said = λ quiet. said end.outcome out (r.said quiet);
+        said_part = part end.outcome out r.part;
+      });
+      exact = λ m a decision tm ta is. inr (inl out);
+      sure = λ states is. let wrong : NoMemory ≡ Yes states = sym out ∙ is in absurd (cc);
+    }
+
+-- `check` never comes to the usage
+pub no_usage : (model answers : List ℕ) (extra : ℕ) (f g : FilesState) (o p e d : SinkState) (end : End) → EndsUnread model answers f g extra o p e d end.outcome end.kept.answers ⊎ EndsRead model answers f g extra o p e d end.outcome end.kept.answers → end.outcome ≡ Usage → ⊥
+no_usage model answers extra f g o p e d end ended is =
+    ⊎_elim
+    (λ (u : EndsUnread model answers f g extra o p e d end.outcome end.kept.answers). subst (IsUnread model answers f g) is u.cause)
+    (λ (r : EndsRead model answers f g extra o p e d end.outcome end.kept.answers). ⊎_elim
+    (λ decided. subst (IsDecision r.pair extra) is decided)
+    (λ s. ⊎_elim (λ none. let wrong : NoMemory ≡ Usage = sym none ∙ is in absurd (cc)) (λ t. let wrong : SinkFault ≡ Usage = sym t.0 ∙ is in absurd (cc)) s)
+    r.comes)
+    ended
