@@ -1,11 +1,10 @@
-use Rattle.std.proofs.Common.{◌≡◌, ◌∙◌, List, Option, Some, None, Err, IfSome, IfErr, sym, ap, refl, subst}
+use Rattle.std.proofs.Common.{◌∙◌, Option, Err, IfSome, sym, ap, refl, subst}
 use Rattle.lw_learn.specs.Arguments.{LearnValues}
 use Rattle.lw_learn.specs.LearnRun.{IsLearnRun, files_state, sink_state}
 use Rattle.lw_top.specs.CommandLine.{texts}
 use Rattle.lw_top.specs.LearnCommand.{learn_values}
 use Rattle.lw_top.specs.Run.{IsRefused}
 use Rattle.lw_top.specs.declared.values.ArgumentStop.{ArgumentStop}
-use Rattle.lw_top.specs.declared.values.ArgumentStop.TheVariants.{Usage}
 use Rattle.lw_top.proofs.RunLemmas.{by_value, none_is_some, not_usage, refused_as, refused_usage, wanted_run}
 use Rattle.lw_top.proofs.top.run.Goals as goal
 
