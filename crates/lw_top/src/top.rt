@@ -68,8 +68,10 @@ pub fn run<F: Files, O: Sink, E: Sink>(
     ensures refused { learn_values (texts arguments.now) ≡ None →
         ((result.outcome ≡ Came.Usage) ⊎ (result.outcome ≡ Came.NoMemory)) ×
         IsRefused
-        (files_state (F.holds files.old) (F.calls files.old) (F.reads files.old) (F.faults files.old))
-        (files_state (F.holds files.new) (F.calls files.new) (F.reads files.new) (F.faults files.new))
+        (files_state (F.holds files.old) (F.calls files.old) (F.reads files.old)
+        (F.faults files.old))
+        (files_state (F.holds files.new) (F.calls files.new) (F.reads files.new)
+        (F.faults files.new))
         (sink_state (O.taken out.old) (O.faults out.old))
         (sink_state (O.taken out.new) (O.faults out.new))
         (sink_state (E.taken err.old) (E.faults err.old))
@@ -77,8 +79,10 @@ pub fn run<F: Files, O: Sink, E: Sink>(
 
     // `learn`, where it takes the arguments: all that its contract says.
     ensures learn { IfSome (learn_values (texts arguments.now)) (λ values. IsLearnRun values
-        (files_state (F.holds files.old) (F.calls files.old) (F.reads files.old) (F.faults files.old))
-        (files_state (F.holds files.new) (F.calls files.new) (F.reads files.new) (F.faults files.new))
+        (files_state (F.holds files.old) (F.calls files.old) (F.reads files.old)
+        (F.faults files.old))
+        (files_state (F.holds files.new) (F.calls files.new) (F.reads files.new)
+        (F.faults files.new))
         (sink_state (O.taken out.old) (O.faults out.old))
         (sink_state (O.taken out.new) (O.faults out.new))
         (sink_state (E.taken err.old) (E.faults err.old))
