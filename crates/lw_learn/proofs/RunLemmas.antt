@@ -1,12 +1,12 @@
 -- What a call of `learn` comes to, by its outcome.
-use Rattle.std.proofs.Common.{◌≡◌, ◌∙◌, ◌⊎◌, ℕ, List, Some, None, inl, inr, refl, sym, subst}
+use Rattle.std.proofs.Common.{◌≡◌, ◌∙◌, ℕ, List, inl, inr, refl, sym, subst}
 use Rattle.lw_words.specs.Answer.{Answer}
 use Rattle.lw_mealy.specs.Limits.{MealyMachine}
 use Rattle.lw_json.specs.declared.fault.JsonFault.{JsonFault}
 use Rattle.lw_report.specs.Outcomes.{StandsOrWants}
 use Rattle.lw_report.specs.Stops.{read_outcome}
 use Rattle.lw_report.specs.declared.role.Role.{Role}
-use Rattle.lw_report.specs.declared.role.Role.TheVariants.{Table, Model, Answers}
+use Rattle.lw_report.specs.declared.role.Role.TheVariants.{Table}
 use Rattle.lw_report.specs.declared.stops.ReadStop.{ReadStop}
 use Rattle.lw_report.specs.declared.stops.ReadStop.TheVariants.{Failed, TooLong, Bad, NoMemory as NoMemoryToRead}
 use Rattle.lw_report.specs.declared.outcome.Outcome.{Outcome}

@@ -1,5 +1,5 @@
 -- Writing out: what the files hold, which calls were made, and what `out` took, by the outcome.
-use Rattle.std.proofs.Common.{◌≡◌, ◌≢◌, ◌∙◌, ◌⊎◌, ℕ, ◌++◌, List, [], ◌∷◌, take, false, Option, Some, None, Result, Ok, Err, OnOk, IsErrAnd, length, option_map, inl, inr, refl, sym, subst, ap, append_assoc, append-nil}
+use Rattle.std.proofs.Common.{◌≡◌, ◌≢◌, ◌∙◌, ◌⊎◌, ℕ, ◌++◌, List, [], ◌∷◌, take, false, Option, Some, None, Result, Ok, Err, OnOk, IsErrAnd, length, inl, inr, refl, sym, subst, ap, append_assoc, append-nil}
 use Rattle.lw_words.specs.declared.kept.KeptAnswer.{KeptAnswer}
 use Rattle.lw_mealy.specs.Limits.{MealyMachine}
 use Rattle.lw_json.specs.AnswersText.{IsAnswersText}

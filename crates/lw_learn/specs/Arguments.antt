@@ -1,5 +1,5 @@
 -- The values of the arguments of `learn`, as contracts see them.
-use Rattle.std.specs.Prelude.{◌≡◌, ℕ, ◌≤◌, List, Option}
+use Rattle.std.specs.Prelude.{ℕ, ◌≤◌, List, Option}
 
 -- the table file, the extra states, the greatest number of states, the file for the model and that for the answers
 pub record LearnValues : Type 0 where

@@ -1,18 +1,16 @@
 -- What a call of `learn` did, for callers: all that its contract says, in one record.
-use Rattle.std.specs.Prelude.{◌≡◌, ◌⊎◌, ℕ, ◌+◌, ◌≤◌, List, [], Option, None, Some, IfSome}
+use Rattle.std.specs.Prelude.{◌≡◌, ◌⊎◌, ℕ, ◌+◌, List, [], Option, None, Some, IfSome}
 use Rattle.lw_words.specs.Answer.{answers_of}
 use Rattle.lw_words.specs.Cause.{CountedFault}
 use Rattle.lw_mealy.specs.Limits.{MealyMachine}
 use Rattle.lw_json.specs.declared.fault.JsonFault.{JsonFault}
 use Rattle.lw_json.specs.declared.machine.Machine.{Machine}
 use Rattle.lw_outside.specs.Files.{HoldsLong}
-use Rattle.lw_report.specs.Outcomes.{status_of}
 use Rattle.lw_report.specs.Reading.{WasRead}
 use Rattle.lw_report.specs.States.{FilesState, SinkState}
 use Rattle.lw_report.specs.Writing.{TakesAll, said_text}
 use Rattle.lw_report.specs.declared.«end».End.{End}
 use Rattle.lw_report.specs.declared.outcome.Outcome.TheVariants.{BadFile, FileFault, FileTooLong, SinkFault, TooManyStates, Unchecked}
-use Rattle.lw_report.specs.declared.outcome.Outcome.{Outcome}
 use Rattle.lw_report.specs.declared.role.Role.{Role}
 use Rattle.lw_report.specs.declared.role.Role.TheVariants.{Table}
 use Rattle.lw_learn.specs.Arguments.{LearnValues}

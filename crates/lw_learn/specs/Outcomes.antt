@@ -1,11 +1,11 @@
 -- Which outcomes of `learn` may come when.
-use Rattle.std.specs.Prelude.{◌≡◌, ◌⊎◌, ℕ, List, Option, Some, None, is_some, true, Result, Ok, Err}
+use Rattle.std.specs.Prelude.{◌≡◌, ◌⊎◌, is_some, true, Result, Ok, Err}
 use Rattle.lw_mealy.specs.Limits.{MealyMachine}
 use Rattle.lw_learn.specs.Arguments.{LearnValues}
 use Rattle.lw_report.specs.Stops.{tell_outcome}
 use Rattle.lw_report.specs.declared.stops.TellStop.{TellStop}
 use Rattle.lw_report.specs.declared.outcome.Outcome.{Outcome}
-use Rattle.lw_report.specs.declared.outcome.Outcome.TheVariants.{Unchecked, Usage, BadFile, FileTooLong, NoMemory, TooManyStates, FileFault, SinkFault}
+use Rattle.lw_report.specs.declared.outcome.Outcome.TheVariants.{Unchecked, BadFile, FileTooLong, NoMemory, TooManyStates, FileFault, SinkFault}
 use Rattle.lw_report.specs.declared.role.Role.{Role}
 use Rattle.lw_report.specs.declared.role.Role.TheVariants.{Setup, Table, Model, Answers}
 

@@ -138,12 +138,14 @@ pub fn learn<F: Files, O: Sink, E: Sink>(
     // The kept answers: none, or runs of the machine whose file was read.
     ensures kept { (result.kept.answers ≡ []) ⊎
         ((m : Named) ×
-        ReadsTable arguments.now.table (F.holds files.old) (F.reads files.old) (F.reads files.new) m ×
+        ReadsTable arguments.now.table (F.holds files.old) (F.reads files.old)
+        (F.reads files.new) m ×
         KeepsRuns m.mealy result.kept.answers) }
 
     // What was written: by the outcome, to files and to `out`; nothing where there is no model.
     ensures written { IfSome result.model (λ h. (m : Named) ×
-        ReadsTable arguments.now.table (F.holds files.old) (F.reads files.old) (F.reads files.new) m ×
+        ReadsTable arguments.now.table (F.holds files.old) (F.reads files.old)
+        (F.reads files.new) m ×
         WritesModel arguments.now result.kept.answers result.outcome (F.holds files.new)
         (O.taken out.old, O.taken out.new) (O.faults out.old, O.faults out.new) m h) }
     ensures nothing { result.model ≡ None → (O.taken out.new ≡ O.taken out.old) ×

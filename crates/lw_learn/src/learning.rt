@@ -74,7 +74,8 @@ pub(crate) fn learn_table(alloc: Global, machine: Machine, max_states: u16) -> L
     ensures alphabets { IfOk result.closed (λ h. (h.inputs ≡ length machine.inputs) ×
         (h.outputs ≡ length machine.outputs)) }
     ensures model { IfOk result.closed (IsModel (answers_of result.kept.answers)) }
-    ensures crowd { IfErr result.closed (CrowdOf (answers_of result.kept.answers) (max_states + 1)) }
+    ensures crowd { IfErr result.closed (CrowdOf (answers_of result.kept.answers)
+        (max_states + 1)) }
     ensures kept { KeepsRuns machine.mealy result.kept.answers }
     ensures over { AreKeptOver (length machine.inputs) (length machine.outputs)
         result.kept.answers }

@@ -216,7 +216,8 @@ fn write_model<F: Files, O: Sink, E: Sink>(
         kept.now.answers arguments.now.extra (Came.Unchecked machine.now.mealy)) (E.taken err.old)
         (E.taken err.new)) }
     ensures line_part { TakesSome (text_of machine.now.inputs machine.now.outputs kept.now.answers
-        arguments.now.extra (Came.Unchecked machine.now.mealy)) (E.taken err.old) (E.taken err.new) }
+        arguments.now.extra (Came.Unchecked machine.now.mealy)) (E.taken err.old)
+        (E.taken err.new) }
     ensures unsaid { OnErr result (¬ CountedFault (E.faults err.old) (E.faults err.new) →
         E.taken err.new ≡ E.taken err.old) }
     ensures reads { F.reads files.new ≡ F.reads files.old }

@@ -1,13 +1,11 @@
 -- Calls for whose arguments there was no memory.
 use Rattle.std.proofs.Common.{◌≡◌, ◌∙◌, ◌⊎◌, ℕ, List, [], ◌∷◌, ◌++◌, length, true, ap, arith, length-append, Option, Some, None, IfSome, inl, inr, refl, sym, subst}
 use Rattle.lw_words.specs.Answer.{answers_of}
-use Rattle.lw_words.specs.Cause.{CountedFault}
 use Rattle.lw_mealy.specs.Limits.{MealyMachine}
 use Rattle.lw_report.specs.Writing.{TakesAll, TakesSome, said_text}
 use Rattle.lw_report.specs.declared.«end».End.{End}
 use Rattle.lw_report.specs.declared.outcome.Outcome.{Outcome}
 use Rattle.lw_report.specs.declared.outcome.Outcome.TheVariants.{BadFile, FileFault, FileTooLong, NoMemory, SinkFault, TooManyStates, Unchecked, Usage}
-use Rattle.lw_report.specs.declared.role.Role.TheVariants.{Table}
 use Rattle.lw_report.proofs.SinkLemmas.{sink_none}
 use Rattle.lw_learn.specs.Arguments.{LearnValues}
 use Rattle.lw_learn.specs.Hypothesis.{IsModel}
@@ -16,7 +14,7 @@ use Rattle.lw_report.specs.States.{FilesState, SinkState}
 use Rattle.lw_learn.specs.Outcomes.{IsUnchecked, IsUngiven, IsUnread, IsUntroubled, IsWriteFault}
 use Rattle.lw_learn.specs.Reading.{TellsFailed}
 use Rattle.lw_outside.specs.Files.{Call, read_call}
-use Rattle.lw_learn.specs.Writing.{WritesModel, inputs_of, line_of, outputs_of}
+use Rattle.lw_learn.specs.Writing.{WritesModel, line_of}
 use Rattle.lw_json.specs.declared.machine.Machine.{Machine}
 use Rattle.lw_learn.proofs.WriteLemmas.{stays_same}
 use Rattle.lw_top.specs.Run.{IsRefused, argument_outcome}

@@ -27,7 +27,11 @@ impl Model for CheckArguments {
 
     ghost Value = { CheckValues };
 
-    ghost view = { λ a. record { model = string_bytes a.model; answers = string_bytes a.answers; extra = a.extra } };
+    ghost view = { λ a. record {
+      model = string_bytes a.model;
+      answers = string_bytes a.answers;
+      extra = a.extra;
+    } };
 
     ghost invariant = { λ a. a.extra ≤ 4 };
 }

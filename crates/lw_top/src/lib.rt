@@ -3,6 +3,7 @@
 
 mod call;
 mod check_words;
+mod commands;
 mod learn_words;
 mod options;
 mod top;

@@ -294,6 +294,14 @@ fn failing_files_and_streams(rt: HostRuntime) -> Result<(), Fail> {
         },
         Case { piece: 1, ..PLAIN },
         Case {
+            file: "x",
+            err_plan: &[0],
+            status: 3,
+            out: "",
+            err: "",
+            ..PLAIN
+        },
+        Case {
             err_plan: &[0],
             status: 8,
             err: "sink fault\n",

@@ -15,8 +15,7 @@ ghost use Rattle.lw_top.specs.Run.{IsRefused, argument_outcome};
 
 use crate::ArgumentStop;
 use crate::call::{Call, read_call};
-use lw_check::check;
-use lw_learn::learn;
+use crate::commands::{run_check, run_learn};
 use lw_outside::{Files, Sink};
 use lw_report::{End, Outcome, refuse};
 use lw_words::Kept;
@@ -73,8 +72,10 @@ pub fn run<F: Files, O: Sink, E: Sink>(
     ensures refused { IsNoCall (texts arguments.now) →
         ((result.outcome ≡ Came.Usage) ⊎ (result.outcome ≡ Came.NoMemory)) ×
         IsRefused
-        (files_state (F.holds files.old) (F.calls files.old) (F.reads files.old) (F.faults files.old))
-        (files_state (F.holds files.new) (F.calls files.new) (F.reads files.new) (F.faults files.new))
+        (files_state (F.holds files.old) (F.calls files.old) (F.reads files.old)
+        (F.faults files.old))
+        (files_state (F.holds files.new) (F.calls files.new) (F.reads files.new)
+        (F.faults files.new))
         (sink_state (O.taken out.old) (O.faults out.old))
         (sink_state (O.taken out.new) (O.faults out.new))
         (sink_state (E.taken err.old) (E.faults err.old))
@@ -82,8 +83,10 @@ pub fn run<F: Files, O: Sink, E: Sink>(
 
     // `learn`, where it takes the arguments: all that its contract says.
     ensures learn { IfSome (learn_values (texts arguments.now)) (λ values. IsLearnRun values
-        (files_state (F.holds files.old) (F.calls files.old) (F.reads files.old) (F.faults files.old))
-        (files_state (F.holds files.new) (F.calls files.new) (F.reads files.new) (F.faults files.new))
+        (files_state (F.holds files.old) (F.calls files.old) (F.reads files.old)
+        (F.faults files.old))
+        (files_state (F.holds files.new) (F.calls files.new) (F.reads files.new)
+        (F.faults files.new))
         (sink_state (O.taken out.old) (O.faults out.old))
         (sink_state (O.taken out.new) (O.faults out.new))
         (sink_state (E.taken err.old) (E.faults err.old))
@@ -92,8 +95,10 @@ pub fn run<F: Files, O: Sink, E: Sink>(
     // `check`, where it takes the arguments: all that its contract says.
     ensures check { IfSome (check_values (texts arguments.now)) (λ values. IsCheckRun
         values.model values.answers values.extra
-        (files_state (F.holds files.old) (F.calls files.old) (F.reads files.old) (F.faults files.old))
-        (files_state (F.holds files.new) (F.calls files.new) (F.reads files.new) (F.faults files.new))
+        (files_state (F.holds files.old) (F.calls files.old) (F.reads files.old)
+        (F.faults files.old))
+        (files_state (F.holds files.new) (F.calls files.new) (F.reads files.new)
+        (F.faults files.new))
         (sink_state (O.taken out.old) (O.faults out.old))
         (sink_state (O.taken out.new) (O.faults out.new))
         (sink_state (E.taken err.old) (E.faults err.old))
@@ -104,10 +109,7 @@ pub fn run<F: Files, O: Sink, E: Sink>(
         Err(stop) => return refuse_arguments(alloc, stop, err),
     };
     match call {
-        Call::Learn(values) => learn(alloc, &values, files, out, err),
-        Call::Check(values) => {
-            let (model, answers) = (values.model(), values.answers());
-            check(alloc, model, answers, values.extra(), files, out, err)
-        }
+        Call::Learn(values) => run_learn(alloc, &values, files, out, err),
+        Call::Check(values) => run_check(alloc, &values, files, out, err),
     }
 }

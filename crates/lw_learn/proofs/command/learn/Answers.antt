@@ -1,9 +1,8 @@
-use Rattle.std.proofs.Common.{◌≡◌, ◌∙◌, ◌+◌, ◌⊎◌, List, ℕ, Option, Some, Err, IfErr, IfSome, false, inl, inr, refl, ap, subst, sym}
+use Rattle.std.proofs.Common.{◌≡◌, ◌∙◌, ◌+◌, List, ℕ, Option, Some, Err, IfErr, IfSome, false, inr, refl, ap, subst, sym}
 use Rattle.lw_words.specs.Answer.{answers_of}
 use Rattle.lw_words.specs.declared.kept.KeptAnswer.{KeptAnswer}
 use Rattle.lw_mealy.specs.Limits.{MealyMachine}
 use Rattle.lw_json.specs.declared.machine.Machine.{Machine}
-use Rattle.lw_json.specs.declared.fault.JsonFault.{JsonFault}
 use Rattle.lw_outside.specs.Files.{Call, noted, read_call}
 use Rattle.lw_report.specs.Outcomes.{StandsOrWants}
 use Rattle.lw_report.specs.Stops.{read_outcome}
@@ -16,13 +15,13 @@ use Rattle.lw_report.specs.declared.stops.ReadStop.{ReadStop}
 use Rattle.lw_report.proofs.SinkLemmas.{sink_none}
 use Rattle.lw_learn.specs.Calls.{MadeCalls, MadeWrites}
 use Rattle.lw_learn.specs.Kept.{KeepsRuns}
-use Rattle.lw_learn.specs.Outcomes.{HasFiles, IsUngiven, IsUnread, IsUntroubled}
-use Rattle.lw_learn.specs.Reading.{ReadsTable, TellsFailed, TellsLong, TellsNoTable, TellsTable}
+use Rattle.lw_learn.specs.Outcomes.{IsUngiven, IsUntroubled}
+use Rattle.lw_learn.specs.Reading.{ReadsTable, TellsLong, TellsNoTable, TellsTable}
 use Rattle.lw_learn.specs.Stops.{CrowdOf, IsCrowdOf, learn_outcome}
-use Rattle.lw_learn.specs.Writing.{AnswersStand, TakesInTurn, WritesModel, line_of}
+use Rattle.lw_learn.specs.Writing.{AnswersStand, WritesModel, line_of}
 use Rattle.lw_learn.specs.declared.first.FirstStop.TheVariants.{NoMemory as NoMemoryToLearn}
 use Rattle.lw_learn.proofs.ReadLemmas.{bad_not_read, long_not_bad, long_not_read, not_failed, table_not_bad, table_not_long}
-use Rattle.lw_learn.proofs.RunLemmas.{learned_untroubled, stands_as, told_crowd, ungiven, unread_untroubled}
+use Rattle.lw_learn.proofs.RunLemmas.{stands_as, told_crowd, ungiven, unread_untroubled}
 use Rattle.lw_learn.proofs.WriteLemmas.{learned_no_bad, learned_no_long, some_writes, stopped_calls, text_same, told_read}
 use Rattle.lw_learn.proofs.command.learn.Goals as goal
 

@@ -1,4 +1,4 @@
-use Rattle.std.proofs.Common.{◌∙◌, rules, ◌≤◌, arith}
+use Rattle.std.proofs.Common.{◌∙◌, rules, ◌≤◌}
 use Rattle.lw_learn.proofs.RowSteps.{only_asked}
 use Rattle.lw_learn.proofs.first.ask_row.Goals as goal
 

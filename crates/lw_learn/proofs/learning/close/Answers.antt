@@ -1,7 +1,7 @@
 use Rattle.std.proofs.Common.{ℕ, sym, subst}
 use Rattle.lw_separate.specs.Canonical.{IsCanonical}
 use Rattle.lw_sul.specs.Runs.{journal_answers}
-use Rattle.lw_learn.specs.Hypothesis.{IsHypothesis, IsModel}
+use Rattle.lw_learn.specs.Hypothesis.{IsHypothesis}
 use Rattle.lw_learn.proofs.Numbered.{numbered, own_form}
 use Rattle.lw_learn.proofs.learning.close.Goals as goal
 

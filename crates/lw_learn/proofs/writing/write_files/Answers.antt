@@ -1,5 +1,5 @@
-use Rattle.std.proofs.Common.{◌≡◌, ◌≢◌, ◌∙◌, ◌++◌, List, ℕ, Option, None, Some, false, length, take, ap, subst, sym, OnOk}
-use Rattle.lw_learn.specs.Calls.{all_writes, gained, write_of}
+use Rattle.std.proofs.Common.{◌≡◌, ◌∙◌, List, ℕ, Option, None, false, length, ap, subst, sym}
+use Rattle.lw_learn.specs.Calls.{gained, write_of}
 use Rattle.lw_learn.specs.Writing.{Stands, StaysBesides}
 use Rattle.lw_outside.specs.Files.{Call}
 use Rattle.lw_learn.proofs.WriteLemmas.{always, stands_beside, take_front}

@@ -9,7 +9,7 @@ use Rattle.lw_report.specs.declared.outcome.Outcome.{Outcome}
 use Rattle.lw_report.specs.declared.outcome.Outcome.TheVariants.{SinkFault, Unchecked}
 use Rattle.lw_report.specs.declared.stops.TellStop.{TellStop}
 use Rattle.lw_report.specs.declared.stops.TellStop.TheVariants.{NoMemory, Sink}
-use Rattle.lw_learn.specs.Writing.{AnswersStand, Stands, WritesFiles, WritesOut}
+use Rattle.lw_learn.specs.Writing.{Stands, WritesFiles, WritesOut}
 use Rattle.lw_learn.proofs.WriteLemmas.{answers_stand, out_before, told_err}
 use Rattle.lw_learn.proofs.writing.write_model.Goals as goal
 

@@ -1,0 +1,90 @@
+use Rattle.std.proofs.Common.{◌∙◌, Option, Err, IfSome, sym, ap, refl, subst}
+use Rattle.lw_learn.specs.Arguments.{LearnValues}
+use Rattle.lw_learn.specs.LearnRun.{IsLearnRun}
+use Rattle.lw_report.specs.States.{files_state, sink_state}
+use Rattle.lw_check.specs.CheckRun.{IsCheckRun}
+use Rattle.lw_top.specs.Call.{IsCall}
+use Rattle.lw_top.specs.CheckCommand.{CheckValues, check_values}
+use Rattle.lw_top.specs.CommandLine.{texts}
+use Rattle.lw_top.specs.LearnCommand.{learn_values}
+use Rattle.lw_top.specs.Run.{IsRefused}
+use Rattle.lw_top.specs.declared.values.ArgumentStop.{ArgumentStop}
+use Rattle.lw_top.proofs.CheckLemmas.{wanted_check}
+use Rattle.lw_top.proofs.RunLemmas.{at_value, by_value, none_is_some, not_usage, wanted_run}
+use Rattle.lw_top.proofs.top.run.Goals as goal
+
+pub returns-in-Learn-clause-learn : goal.returns-in-Learn-clause-learn
+returns-in-Learn-clause-learn g c =
+    let F = g.F.Files in
+    let O = g.O.Sink in
+    let E = g.E.Sink in
+    let f = files_state (F.holds c.args.files.now) (F.calls c.args.files.now) (F.reads c.args.files.now) (F.faults c.args.files.now) in
+    let h = files_state (F.holds c.run_learn.new.files) (F.calls c.run_learn.new.files) (F.reads c.run_learn.new.files) (F.faults c.run_learn.new.files) in
+    let o = sink_state (O.taken c.args.out.now) (O.faults c.args.out.now) in
+    let p = sink_state (O.taken c.run_learn.new.out) (O.faults c.run_learn.new.out) in
+    let e = sink_state (E.taken c.args.err.now) (E.faults c.args.err.now) in
+    let d = sink_state (E.taken c.run_learn.new.err) (E.faults c.run_learn.new.err) in
+    let words = texts c.args.arguments.now in
+    let is = subst (IsCall words) c.in-Learn.is c.in-Ok.ensures.ok in
+    at_value (learn_values words) c.in-Learn.values (λ a. IsLearnRun a f h o p e d c.run_learn.result) is.0 c.run_learn.ensures.all
+
+pub returns-in-Check-clause-check : goal.returns-in-Check-clause-check
+returns-in-Check-clause-check g c =
+    let F = g.F.Files in
+    let O = g.O.Sink in
+    let E = g.E.Sink in
+    let f = files_state (F.holds c.args.files.now) (F.calls c.args.files.now) (F.reads c.args.files.now) (F.faults c.args.files.now) in
+    let h = files_state (F.holds c.run_check.new.files) (F.calls c.run_check.new.files) (F.reads c.run_check.new.files) (F.faults c.run_check.new.files) in
+    let o = sink_state (O.taken c.args.out.now) (O.faults c.args.out.now) in
+    let p = sink_state (O.taken c.run_check.new.out) (O.faults c.run_check.new.out) in
+    let e = sink_state (E.taken c.args.err.now) (E.faults c.args.err.now) in
+    let d = sink_state (E.taken c.run_check.new.err) (E.faults c.run_check.new.err) in
+    let words = texts c.args.arguments.now in
+    let is = subst (IsCall words) c.in-Check.is c.in-Ok.ensures.ok in
+    at_value (check_values words) c.in-Check.values (λ a. IsCheckRun a.model a.answers a.extra f h o p e d c.run_check.result) is.1 c.run_check.ensures.all
+
+pub returns-in-Err-clause-learn : goal.returns-in-Err-clause-learn
+returns-in-Err-clause-learn g c =
+    let F = g.F.Files in
+    let O = g.O.Sink in
+    let E = g.E.Sink in
+    let f = files_state (F.holds c.args.files.now) (F.calls c.args.files.now) (F.reads c.args.files.now) (F.faults c.args.files.now) in
+    let o = sink_state (O.taken c.args.out.now) (O.faults c.args.out.now) in
+    let e = sink_state (E.taken c.args.err.now) (E.faults c.args.err.now) in
+    let d = sink_state (E.taken c.refuse_arguments.new.err) (E.faults c.refuse_arguments.new.err) in
+    let end = c.refuse_arguments.result in
+    let outcome = c.refuse_arguments.ensures.outcome in
+    let refused : IsRefused f f o o e d end = record {
+      files = refl;
+      out = refl;
+      model = c.refuse_arguments.ensures.model;
+      kept = c.refuse_arguments.ensures.kept;
+      said = c.refuse_arguments.ensures.said;
+      part = c.refuse_arguments.ensures.part;
+    } in
+    by_value (learn_values (texts c.args.arguments.now)) (λ a. IsLearnRun a f f o o e d end) (λ a is.
+    wanted_run a f o e d end (not_usage c.in-Err.stop end.outcome outcome (λ u.
+    none_is_some a (sym (c.in-Err.ensures.refused (ap (λ (s : ArgumentStop). Err s) u)).0 ∙ is))) refused)
+
+pub returns-in-Err-clause-check : goal.returns-in-Err-clause-check
+returns-in-Err-clause-check g c =
+    let F = g.F.Files in
+    let O = g.O.Sink in
+    let E = g.E.Sink in
+    let f = files_state (F.holds c.args.files.now) (F.calls c.args.files.now) (F.reads c.args.files.now) (F.faults c.args.files.now) in
+    let o = sink_state (O.taken c.args.out.now) (O.faults c.args.out.now) in
+    let e = sink_state (E.taken c.args.err.now) (E.faults c.args.err.now) in
+    let d = sink_state (E.taken c.refuse_arguments.new.err) (E.faults c.refuse_arguments.new.err) in
+    let end = c.refuse_arguments.result in
+    let outcome = c.refuse_arguments.ensures.outcome in
+    let refused : IsRefused f f o o e d end = record {
+      files = refl;
+      out = refl;
+      model = c.refuse_arguments.ensures.model;
+      kept = c.refuse_arguments.ensures.kept;
+      said = c.refuse_arguments.ensures.said;
+      part = c.refuse_arguments.ensures.part;
+    } in
+    by_value (check_values (texts c.args.arguments.now)) (λ a. IsCheckRun a.model a.answers a.extra f f o o e d end) (λ a is.
+    wanted_check a.model a.answers a.extra f o e d end (not_usage c.in-Err.stop end.outcome outcome (λ u.
+    none_is_some a (sym (c.in-Err.ensures.refused (ap (λ (s : ArgumentStop). Err s) u)).1 ∙ is))) refused)

@@ -1,0 +1,61 @@
+//! The commands with the values of their arguments: each says all that its contract says in one record.
+ghost use Rattle.std.specs.Prelude.{◌≡◌};
+ghost use Rattle.lw_report.specs.Outcomes.{status_of};
+ghost use Rattle.lw_report.specs.States.{files_state, sink_state};
+ghost use Rattle.lw_report.specs.declared.outcome.Outcome.{Outcome as Came};
+ghost use Rattle.lw_learn.specs.LearnRun.{IsLearnRun};
+ghost use Rattle.lw_check.specs.CheckRun.{IsCheckRun};
+
+use crate::check_words::CheckArguments;
+use lw_check::check;
+use lw_learn::{LearnArguments, learn};
+use lw_outside::{Files, Sink};
+use lw_report::End;
+use std::alloc::Global;
+
+/// `learn` with these values.
+pub(crate) fn run_learn<F: Files, O: Sink, E: Sink>(
+    alloc: Global,
+    values: &LearnArguments,
+    files: &mut F,
+    out: &mut O,
+    err: &mut E,
+) -> End
+    ensures status { result.status ≡ status_of result.outcome }
+    ensures taken { ¬ (result.outcome ≡ Came.Usage) }
+    ensures all { IsLearnRun values.now
+        (files_state (F.holds files.old) (F.calls files.old) (F.reads files.old)
+        (F.faults files.old))
+        (files_state (F.holds files.new) (F.calls files.new) (F.reads files.new)
+        (F.faults files.new))
+        (sink_state (O.taken out.old) (O.faults out.old))
+        (sink_state (O.taken out.new) (O.faults out.new))
+        (sink_state (E.taken err.old) (E.faults err.old))
+        (sink_state (E.taken err.new) (E.faults err.new)) result }
+{
+    learn(alloc, values, files, out, err)
+}
+
+/// `check` with these values.
+pub(crate) fn run_check<F: Files, O: Sink, E: Sink>(
+    alloc: Global,
+    values: &CheckArguments,
+    files: &mut F,
+    out: &mut O,
+    err: &mut E,
+) -> End
+    ensures status { result.status ≡ status_of result.outcome }
+    ensures taken { ¬ (result.outcome ≡ Came.Usage) }
+    ensures all { IsCheckRun values.now.model values.now.answers values.now.extra
+        (files_state (F.holds files.old) (F.calls files.old) (F.reads files.old)
+        (F.faults files.old))
+        (files_state (F.holds files.new) (F.calls files.new) (F.reads files.new)
+        (F.faults files.new))
+        (sink_state (O.taken out.old) (O.faults out.old))
+        (sink_state (O.taken out.new) (O.faults out.new))
+        (sink_state (E.taken err.old) (E.faults err.old))
+        (sink_state (E.taken err.new) (E.faults err.new)) result }
+{
+    let (model, answers) = (values.model(), values.answers());
+    check(alloc, model, answers, values.extra(), files, out, err)
+}
