@@ -130,7 +130,7 @@ fn shipped_machines(rt: HostRuntime) -> Result<(), Fail> {
 
 #[test]
 fn arguments_that_are_not_taken(rt: HostRuntime) -> Result<(), Fail> {
-    let refused: [&'static [&'static str]; 14] = [
+    let refused: [&'static [&'static str]; 13] = [
         &[],
         &["learn"],
         &["learn", "--table"],
@@ -144,7 +144,6 @@ fn arguments_that_are_not_taken(rt: HostRuntime) -> Result<(), Fail> {
         &["--version"],
         &["serve", "m"],
         &["check", "--table", "m"],
-        &["check", "m", "k"],
     ];
     for arguments in refused {
         let _usage = check(
@@ -386,5 +385,43 @@ fn the_longest_file_and_a_longer_one(rt: HostRuntime) -> Result<(), Fail> {
     let learned = "unchecked: states 1, answers 2\n";
     assert!(rt; ends_with(alloc, 16_777_216, 0, learned)?);
     assert!(rt; ends_with(alloc, 16_777_217, 3, "file too long: table\n")?);
+    Ok(())
+}
+
+#[test]
+fn check_of_what_was_learned(rt: HostRuntime) -> Result<(), Fail> {
+    let alloc = rt.alloc();
+    let learned = Case {
+        arguments: &["learn", "--table", "m", "--model", "h", "--answers", "k"],
+        out: "",
+        ..PLAIN
+    };
+    let mut files = files_of(alloc, ONE, &[])?;
+    let _end = play(&rt, alloc, &learned, &mut files)?;
+    let cases = [
+        Case {
+            arguments: &["check", "h", "k", "--extra", "0"],
+            out: "yes: states 1, extra 0, answers 2\n",
+            err: "",
+            ..PLAIN
+        },
+        Case {
+            arguments: &["check", "--extra=2", "h", "k"],
+            status: 1,
+            out: "no: word \"t t t\" is missing\n",
+            err: "",
+            ..PLAIN
+        },
+        Case {
+            arguments: &["check", "h", "other"],
+            status: 8,
+            out: "",
+            err: "file fault: answers\n",
+            ..PLAIN
+        },
+    ];
+    for case in &cases {
+        let _end = play(&rt, alloc, case, &mut files)?;
+    }
     Ok(())
 }
