@@ -228,6 +228,26 @@ fn same_known(alloc: Global, cache: &Cache, w: &Word) -> Result<bool, Fail> {
     Ok(plain == (cache.known(w) == Known::Yes))
 }
 
+/// Keeps a drawn answer, and tells whether it clashes.
+fn keeps_drawn(
+    alloc: Global,
+    numbers: &mut Lcg128Xsl64,
+    cache: &mut Cache,
+    run: u64,
+) -> Result<bool, Fail>
+    requires { cache.old.claims ≡ [] }
+    ensures { cache.new.claims ≡ [] }
+{
+    let len = draw(numbers, 5) as usize;
+    let w = drawn(alloc, numbers, len)?;
+    let outs = drawn(alloc, numbers, len)?;
+    match cache.keep(w, outs, 0, run) {
+        Ok(()) => Ok(false),
+        Err(KeepStop::Clash(_)) => Ok(true),
+        Err(KeepStop::NoMemory) => Err(Fail::from("no memory")),
+    }
+}
+
 #[test]
 fn drawn_answers_beside_the_plain_body(rt: HostRuntime) -> Result<(), Fail> {
     let alloc = rt.alloc();
@@ -235,15 +255,8 @@ fn drawn_answers_beside_the_plain_body(rt: HostRuntime) -> Result<(), Fail> {
     let mut cache = Cache::new(alloc);
     let mut clashes = 0u32;
     for run in 0..24u64 {
-        let len = draw(&mut numbers, 5) as usize;
-        let (w, outs) = (
-            drawn(alloc, &mut numbers, len)?,
-            drawn(alloc, &mut numbers, len)?,
-        );
-        match cache.keep(w, outs, 0, run) {
-            Ok(()) => {}
-            Err(KeepStop::Clash(_)) => clashes = clashes.saturating_add(1),
-            Err(KeepStop::NoMemory) => return Err(Fail::from("no memory")),
+        if keeps_drawn(alloc, &mut numbers, &mut cache, run)? {
+            clashes = clashes.saturating_add(1);
         }
         let len = draw(&mut numbers, 4) as usize;
         let w = drawn(alloc, &mut numbers, len)?;
@@ -277,6 +290,7 @@ fn stops_are_copied_and_carried_up(rt: HostRuntime) -> Result<(), Fail> {
 /// Settles one word, and answers how many answers are kept then.
 fn settles<O: Oracle>(oracle: &mut O, w: Word, alloc: Global) -> Result<usize, Fail>
     requires { IsWord (O.inputs oracle.old) w }
+    ensures { O.inputs oracle.new ≡ O.inputs oracle.old }
 {
     let batch = vec![in alloc; w]?;
     let settled = oracle.settle(&batch);
