@@ -1,5 +1,5 @@
 -- A machine that answers one word after another.
-use Rattle.std.proofs.Common.{◌≡◌, ℕ, ◌+◌, ◌<◌, ◌≤◌, ◌⊎◌, inl, inr, ⊎_elim, List, [], ◌∷◌, ◌++◌, length, take, get_or, Contains, refl, ap, sym, ◌∙◌, subst, arith, append-nil, append_assoc}
+use Rattle.std.proofs.Common.{◌≡◌, ℕ, ◌+◌, ◌<◌, inr, ⊎_elim, List, [], ◌∷◌, ◌++◌, length, take, get_or, Contains, ap, sym, ◌∙◌, subst, arith, append-nil, append_assoc}
 use Rattle.std.specs.List.{All}
 use Rattle.std.proofs.lemmas.List.{get_or_default, length_push, map_push}
 use Rattle.std.proofs.lemmas.List.Elements.{All-nil, All-cons, All-head, All-tail, All-push, All-more, All-weaker}
@@ -12,7 +12,7 @@ use Rattle.lw_mealy.specs.Machine.{out, output, next, answer}
 use Rattle.lw_mealy.proofs.RowLemmas.{target_below, output_below}
 use Rattle.lw_mealy.proofs.WordLemmas.{length-out}
 use Rattle.lw_cache.specs.Caching.{kept_answer}
-use Rattle.lw_cache.specs.Clash.{Clash, NothingClashes, IsClear, IsClearAfter}
+use Rattle.lw_cache.specs.Clash.{Clash, NothingClashes, IsClearAfter}
 use Rattle.lw_cache.specs.Known.{IsKnown}
 use Rattle.lw_cache.specs.Settling.{IsOf, told_machine, GainsAnswers}
 use Rattle.lw_cache.specs.TestOracle.{origins_of, KeepsOf, HasAsked}

@@ -1,7 +1,6 @@
 use Rattle.std.proofs.Common.{◌≡◌, ℕ, List, [], ◌∷◌, ◌++◌, length, subst, ap, sym, ◌∙◌}
 use Rattle.lw_words.specs.Answer.{answers_of}
 use Rattle.lw_words.specs.declared.kept.KeptAnswer.{KeptAnswer}
-use Rattle.lw_mealy.specs.Machine.{answer}
 use Rattle.lw_mealy.proofs.WordLemmas.{length-out}
 use Rattle.lw_cache.specs.Caching.{kept_answer}
 use Rattle.lw_cache.specs.Clash.{NothingClashes}
