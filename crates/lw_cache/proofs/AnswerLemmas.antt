@@ -1,23 +1,20 @@
 -- What the nodes tell of the answers, when one more is kept.
-use Rattle.std.proofs.Common.{◌≡◌, ◌≢◌, ◌↔◌, ℕ, zero, suc, ◌+◌, ◌-◌, ◌<◌, ◌≤◌, ◌⊎◌, inl, inr, ⊎_elim, List, [], ◌∷◌, ◌++◌, length, take, get_or, Option, Some, None, refl, ap, sym, ◌∙◌, subst, arith}
+use Rattle.std.proofs.Common.{◌≡◌, ◌≢◌, ℕ, zero, suc, ◌+◌, ◌-◌, ◌<◌, ◌≤◌, ◌⊎◌, inl, inr, ⊎_elim, List, [], ◌∷◌, ◌++◌, length, take, get_or, Some, None, refl, ap, sym, ◌∙◌, subst, arith}
 use Rattle.std.specs.List.{All}
-use Rattle.std.proofs.lemmas.Bool.{cases_eq, cases_lt, cases_order}
+use Rattle.std.proofs.lemmas.Bool.{cases_lt}
 use Rattle.std.proofs.lemmas.List.{length_push, get_or_push, get_or_append_left, length-take-le, get_or-take, ext_get_or, take-take}
 use Rattle.lw_words.specs.Answer.{Answer, answer_at, IsWhole}
 use Rattle.lw_words.specs.Word.{IsPrefix}
-use Rattle.lw_cache.specs.Clash.{Clash, ClashAt, IsClear, IsClearAfter}
+use Rattle.lw_cache.specs.Clash.{Clash, IsClear, IsClearAfter}
 use Rattle.lw_cache.specs.FirstClash.{ClashesFirst, SameKnown}
-use Rattle.lw_cache.specs.Known.{IsKnown}
-use Rattle.lw_cache.specs.bodies.Trie.{word_of, IsChildOf, IsTrie, no_answer, last_out, AreAnswered}
-use Rattle.lw_cache.specs.bodies.Filling.{AgreesAt, DisagreesAt, AgreeBetween, ComparedTo, marked, AreMarked, IsReached}
+use Rattle.lw_cache.specs.bodies.Trie.{word_of, IsTrie, no_answer, last_out, AreAnswered}
+use Rattle.lw_cache.specs.bodies.Filling.{AgreeBetween, ComparedTo}
 use Rattle.lw_cache.specs.declared.node.Node.{Node}
 use Rattle.lw_cache.proofs.ClashLemmas.{clear_after, unclashed_after}
 use Rattle.lw_cache.proofs.GrowLemmas.{clear_stays}
-use Rattle.lw_cache.proofs.KnownLemmas.{prefix_long, prefix_take}
+use Rattle.lw_cache.proofs.KnownLemmas.{prefix_long}
 use Rattle.lw_cache.proofs.PlainLemmas.{take_from_prefix, prefix_from_take}
-use Rattle.lw_cache.proofs.StoredLemmas.{prefix_over}
-use Rattle.lw_cache.proofs.TrieLemmas.{word_step, front_node, prefix_node, not_root, some_word}
-use Rattle.lw_cache.proofs.WalkLemmas.{reached_last}
+use Rattle.lw_cache.proofs.TrieLemmas.{front_node, not_root}
 
 -- a front of a prefix is a prefix
 pub take_prefix : (k : ℕ) (w : List ℕ) → IsPrefix (take k w) w

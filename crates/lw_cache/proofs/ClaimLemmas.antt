@@ -1,18 +1,15 @@
 -- What comes of a claim, of its answer and of giving it up, as contracts see it.
-use Rattle.std.proofs.Common.{◌≡◌, ◌≢◌, ℕ, ◌+◌, ◌<◌, ◌≤◌, ◌⊎◌, ⊎_elim, List, [], ◌∷◌, ◌++◌, length, take, drop, map, get_or, Option, Some, None, Result, Ok, Err, IfNone, IfSome, IfErr, OnOk, OnErr, IsOk, MatchOption, inl, inr, refl, ap, sym, ◌∙◌, subst, arith}
+use Rattle.std.proofs.Common.{◌≡◌, ◌≢◌, ℕ, ◌<◌, ◌≤◌, ◌⊎◌, ⊎_elim, List, [], ◌∷◌, ◌++◌, length, drop, get_or, Option, Some, None, Result, Ok, Err, IfNone, IfSome, IsOk, MatchOption, inl, refl, ap, sym, ◌∙◌, subst, arith}
 use Rattle.std.specs.Bool.{⊤}
 use Rattle.std.proofs.lemmas.Bool.{false≢true, cases_order, cases_eq}
 use Rattle.std.proofs.lemmas.List.{take_all, length-map}
-use Rattle.lw_words.specs.Answer.{Answer, answer_of, answers_of}
-use Rattle.lw_words.specs.Word.{IsPrefix}
+use Rattle.lw_words.specs.Answer.{answer_of, answers_of}
 use Rattle.lw_words.specs.declared.kept.KeptAnswer.{KeptAnswer}
-use Rattle.lw_cache.specs.Caching.{Claim, Caching, claim_of, claim_at, IsClaimOf, IsClaimedBy, IsUnused, without}
+use Rattle.lw_cache.specs.Caching.{Claim, claim_of, IsClaimOf, IsClaimedBy, IsUnused, without}
 use Rattle.lw_cache.specs.Clash.{IsClearAfter}
-use Rattle.lw_cache.specs.FirstClash.{ClashesFirst, SameKnown}
-use Rattle.lw_cache.specs.Known.{IsKnown}
 use Rattle.lw_cache.specs.Standing.{Stands}
 use Rattle.lw_cache.specs.declared.known.Known.TheVariants.{No}
-use Rattle.lw_cache.specs.bodies.Trie.{node_at, word_of, held_at, claims_of, no_answer, no_claim, IsTrie, IsChildOf, AreLeast, IsStored}
+use Rattle.lw_cache.specs.bodies.Trie.{node_at, word_of, held_at, claims_of, no_answer, no_claim, IsChildOf, IsStored}
 use Rattle.lw_cache.specs.bodies.Filling.{ComparedTo, AreMarked, IsPlaced, IsReclaimed, IsHeld, IsEndOf, without_held}
 use Rattle.lw_cache.specs.declared.node.Node.{Node}
 use Rattle.lw_cache.specs.declared.node.Held.{Held}

@@ -1,12 +1,11 @@
 -- Clashes, and clear answers.
-use Rattle.std.proofs.Common.{◌≡◌, ℕ, zero, suc, ◌+◌, ◌<◌, ◌≤◌, ◌↔◌, ⊎_elim, List, [], ◌∷◌, length, take, get_or, refl, ap, sym, ◌∙◌, subst, arith}
+use Rattle.std.proofs.Common.{◌≡◌, ℕ, zero, suc, ◌+◌, ◌<◌, ◌≤◌, ⊎_elim, List, [], length, take, get_or, ap, sym, ◌∙◌, subst, arith}
 use Rattle.std.proofs.lemmas.Bool.{cases_lt}
 use Rattle.std.proofs.lemmas.List.{get_or-take}
 use Rattle.lw_words.specs.Answer.{Answer, answer_at}
 use Rattle.lw_mealy.specs.Machine.{Rows, answer}
-use Rattle.lw_mealy.specs.Gives.{Gives}
 use Rattle.lw_mealy.proofs.WordLemmas.{out-take}
-use Rattle.lw_cache.specs.Clash.{Clash, NothingClashes, IsClearAfter, IsClear, ClearIsUnclashed, AllAreClear, GivenNeverClash}
+use Rattle.lw_cache.specs.Clash.{Clash, IsClearAfter, IsClear, ClearIsUnclashed, AllAreClear, GivenNeverClash}
 
 -- what is clear after n answers clashes with none of them that is clear
 pub unclashed_after : (ks : List Answer) (n : ℕ) (k : Answer) → IsClearAfter ks n k → (j : ℕ) → j < n → IsClear ks j → ¬ Clash (answer_at ks j) k

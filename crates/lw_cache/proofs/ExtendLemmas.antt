@@ -1,9 +1,9 @@
 -- More nodes at the end.
-use Rattle.std.proofs.Common.{◌≡◌, ◌≢◌, ℕ, zero, suc, ◌+◌, ◌-◌, ◌<◌, ◌≤◌, ◌⊎◌, inl, inr, ⊎_elim, List, [], ◌∷◌, ◌++◌, length, take, get_or, refl, ap, sym, ◌∙◌, subst, arith, append-nil, append_assoc}
-use Rattle.std.proofs.lemmas.Bool.{cases_eq, cases_lt, cases_order}
+use Rattle.std.proofs.Common.{◌≡◌, ◌≢◌, ℕ, zero, suc, ◌+◌, ◌-◌, ◌<◌, ◌≤◌, inl, inr, ⊎_elim, List, [], ◌∷◌, ◌++◌, length, take, get_or, refl, ap, sym, ◌∙◌, subst, arith, append-nil, append_assoc}
+use Rattle.std.proofs.lemmas.Bool.{cases_eq}
 use Rattle.std.proofs.lemmas.List.{take_more}
-use Rattle.lw_cache.specs.bodies.Trie.{word_of, spell, IsChildOf, IsNewest, IsTrie, no_answer, no_claim}
-use Rattle.lw_cache.specs.bodies.Filling.{fresh, with_first, HasOneMore, IsExtended}
+use Rattle.lw_cache.specs.bodies.Trie.{word_of, spell, IsChildOf, IsNewest, IsTrie}
+use Rattle.lw_cache.specs.bodies.Filling.{with_first, HasOneMore, IsExtended}
 use Rattle.lw_cache.specs.declared.node.Node.{Node}
 use Rattle.lw_cache.proofs.TrieLemmas.{word_step}
 

@@ -1,10 +1,10 @@
 -- What comes of an answer that is kept, as contracts see it.
-use Rattle.std.proofs.Common.{◌≡◌, ℕ, ◌+◌, ◌<◌, ◌≤◌, List, [], ◌∷◌, ◌++◌, length, Option, Some, None, Result, Ok, Err, IfNone, IfSome, IfErr, OnOk, OnErr, IsOk, MatchOption, true, false, refl, ap, sym, ◌∙◌, subst, arith}
+use Rattle.std.proofs.Common.{◌≡◌, ℕ, ◌<◌, ◌≤◌, List, [], ◌∷◌, ◌++◌, length, Option, Some, None, Result, Ok, Err, IfNone, IfSome, IfErr, OnOk, OnErr, IsOk, MatchOption, ap, sym, ◌∙◌, subst, arith}
 use Rattle.std.specs.Bool.{⊤}
 use Rattle.std.proofs.lemmas.Bool.{false≢true}
-use Rattle.lw_words.specs.Answer.{Answer, answer_of, answers_of}
+use Rattle.lw_words.specs.Answer.{answer_of, answers_of}
 use Rattle.lw_words.specs.declared.kept.KeptAnswer.{KeptAnswer}
-use Rattle.lw_cache.specs.Caching.{Claim, Caching}
+use Rattle.lw_cache.specs.Caching.{Caching}
 use Rattle.lw_cache.specs.Clash.{IsClearAfter}
 use Rattle.lw_cache.specs.FirstClash.{ClashesFirst, SameKnown}
 use Rattle.lw_cache.specs.bodies.Trie.{node_at, claims_of, no_answer, IsStored}

@@ -9,6 +9,7 @@ mod KeepLemmas
 pub mod KnownLemmas
 mod LookLemmas
 mod MoreLemmas
+mod OracleLemmas
 mod PlainLemmas
 mod ReckonLemmas
 mod ReclaimLemmas

@@ -1,11 +1,10 @@
 -- What is looked up in a cache, as contracts see it.
-use Rattle.std.proofs.Common.{◌≡◌, ◌≢◌, ℕ, ◌+◌, ◌<◌, ◌≤◌, ◌⊎◌, inl, inr, ⊎_elim, List, [], ◌∷◌, ◌++◌, length, take, get_or, slice_get, Some, refl, ap, sym, ◌∙◌, subst, arith}
-use Rattle.std.specs.List.{All}
-use Rattle.std.proofs.lemmas.List.{get_or_default, length-map}
-use Rattle.lw_words.specs.Answer.{Answer, answer_at, answer_of, answers_of, IsWhole}
+use Rattle.std.proofs.Common.{◌≡◌, ◌≢◌, ℕ, ◌<◌, ◌≤◌, inr, ⊎_elim, List, [], length, take, get_or, slice_get, Some, ap, sym, ◌∙◌, subst, arith}
+use Rattle.std.proofs.lemmas.List.{get_or_default}
+use Rattle.lw_words.specs.Answer.{Answer, answer_at, answer_of, answers_of}
 use Rattle.lw_words.specs.Word.{IsPrefix}
 use Rattle.lw_words.specs.declared.kept.KeptAnswer.{KeptAnswer}
-use Rattle.lw_cache.specs.Caching.{Claim, Caching}
+use Rattle.lw_cache.specs.Caching.{Caching}
 use Rattle.lw_cache.specs.Clash.{IsClear}
 use Rattle.lw_cache.specs.Known.{IsKnown, Reads}
 use Rattle.lw_cache.specs.Standing.{Stands}

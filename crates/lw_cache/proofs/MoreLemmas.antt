@@ -1,27 +1,23 @@
 -- What is stored once nodes were put at the end, or marked.
-use Rattle.std.proofs.Common.{◌≡◌, ◌≢◌, ℕ, zero, suc, ◌+◌, ◌-◌, ◌<◌, ◌≤◌, ◌⊎◌, inl, inr, ⊎_elim, List, [], ◌∷◌, ◌++◌, length, take, drop, map, get_or, Option, Some, None, refl, ap, sym, ◌∙◌, subst, arith, append_assoc}
-use Rattle.std.specs.List.{All}
+use Rattle.std.proofs.Common.{◌≡◌, ◌≢◌, ℕ, suc, ◌+◌, ◌-◌, ◌<◌, ◌≤◌, inl, inr, ⊎_elim, List, [], ◌∷◌, ◌++◌, length, take, get_or, refl, ap, sym, ◌∙◌, subst, arith, append_assoc}
 use Rattle.std.proofs.lemmas.Bool.{cases_eq, cases_lt}
-use Rattle.std.proofs.lemmas.List.{length_push, get_or_push, get_or_append_left, length-take-le, map_push, length-map, get_or-map, same_from_push, take_all}
-use Rattle.std.proofs.lemmas.List.Elements.{All-push}
-use Rattle.lw_words.specs.Answer.{Answer, answer_at, answer_of, answers_of, IsWhole}
+use Rattle.std.proofs.lemmas.List.{length_push, same_from_push}
+use Rattle.lw_words.specs.Answer.{Answer, answer_at, answers_of}
 use Rattle.lw_words.specs.Word.{IsPrefix}
 use Rattle.lw_words.specs.declared.kept.KeptAnswer.{KeptAnswer}
 use Rattle.lw_cache.specs.Caching.{Claim}
 use Rattle.lw_cache.specs.Clash.{IsClear, IsClearAfter}
-use Rattle.lw_cache.specs.bodies.Trie.{node_at, word_of, held_at, claims_of, IsChildOf, IsTrie, no_answer, no_claim, last_out, AreAnswered, AreEnds, IsLeast, AreLeast, IsStored}
-use Rattle.lw_cache.specs.bodies.Filling.{AgreesAt, AgreeBetween, ComparedTo, marked, AreMarked, IsReached, IsExtended, IsTold, with_first}
+use Rattle.lw_cache.specs.bodies.Trie.{word_of, held_at, claims_of, IsChildOf, IsTrie, no_answer, no_claim, last_out, AreAnswered, AreEnds, IsLeast, AreLeast, IsStored}
+use Rattle.lw_cache.specs.bodies.Filling.{AgreeBetween, marked, AreMarked, IsExtended}
 use Rattle.lw_cache.specs.declared.node.Node.{Node}
 use Rattle.lw_cache.specs.declared.node.Held.{Held}
-use Rattle.lw_cache.proofs.AnswerLemmas.{clear_push, clear_kept, at_kept, at_last, unclashed, unclear_answered, clash_unclear}
+use Rattle.lw_cache.proofs.AnswerLemmas.{clear_push, clear_kept, at_kept, at_last}
 use Rattle.lw_cache.proofs.ExtendLemmas.{word_same}
 use Rattle.lw_cache.proofs.GrowLemmas.{after_stays}
-use Rattle.lw_cache.proofs.KnownLemmas.{prefix_long, prefix_take}
-use Rattle.lw_cache.proofs.PlainLemmas.{take_from_prefix, prefix_from_take, kept_count}
-use Rattle.lw_cache.proofs.ShapeLemmas.{SameShape, shape_word, shape_trie, shape_least, shape_ends}
+use Rattle.lw_cache.proofs.KnownLemmas.{prefix_long}
+use Rattle.lw_cache.proofs.ShapeLemmas.{SameShape, shape_word}
 use Rattle.lw_cache.proofs.StoredLemmas.{prefix_over}
 use Rattle.lw_cache.proofs.TrieLemmas.{word_step, one_node, prefix_node, not_root, some_word}
-use Rattle.lw_cache.proofs.WholeLemmas.{next_free, whole_word}
 
 -- no node's own claim is above none
 ends_small : (at : ℕ → Node) (n : ℕ) (held : List Held) → AreEnds at n held → (i : ℕ) → 0 < i → i < n → (at i).ends ≤ no_claim

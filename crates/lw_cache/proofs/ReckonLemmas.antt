@@ -1,7 +1,7 @@
 -- The least claims, from a node up.
-use Rattle.std.proofs.Common.{◌≡◌, ◌≢◌, ℕ, zero, suc, ◌+◌, ◌-◌, ◌<◌, ◌≤◌, ◌⊎◌, inl, inr, ⊎_elim, min, List, [], ◌∷◌, ◌++◌, length, get_or, set, refl, ap, sym, ◌∙◌, subst, arith}
+use Rattle.std.proofs.Common.{◌≡◌, ◌≢◌, ℕ, ◌<◌, ◌≤◌, ◌⊎◌, inl, inr, ⊎_elim, min, set, refl, ap, sym, ◌∙◌, subst, arith}
 use Rattle.std.proofs.lemmas.Bool.{cases_eq, cases_lt, cases_order}
-use Rattle.lw_cache.specs.bodies.Trie.{no_node, node_at, word_of, IsChildOf, IsNewest, IsTrie, IsLeast, AreLeast, no_claim}
+use Rattle.lw_cache.specs.bodies.Trie.{IsChildOf, IsNewest, IsTrie, IsLeast, AreLeast}
 use Rattle.lw_cache.specs.bodies.Filling.{with_claim, SameButClaims}
 use Rattle.lw_cache.specs.declared.node.Node.{Node}
 

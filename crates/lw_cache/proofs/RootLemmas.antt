@@ -1,8 +1,7 @@
 -- The first node.
-use Rattle.std.proofs.Common.{◌≡◌, ℕ, zero, suc, ◌+◌, ◌<◌, ◌≤◌, inl, List, [], ◌∷◌, length, refl, ap, sym, ◌∙◌, subst, arith}
-use Rattle.lw_words.specs.Answer.{answers_of}
+use Rattle.std.proofs.Common.{◌≡◌, ℕ, ◌<◌, ◌≤◌, inl, List, [], ◌∷◌, length, refl, ap, sym, ◌∙◌, subst, arith}
 use Rattle.lw_words.specs.declared.kept.KeptAnswer.{KeptAnswer}
-use Rattle.lw_cache.specs.bodies.Trie.{root, node_at, held_at, claims_of, IsChildOf, IsNewest, IsStored}
+use Rattle.lw_cache.specs.bodies.Trie.{root, node_at, claims_of, IsChildOf, IsNewest, IsStored}
 use Rattle.lw_cache.specs.declared.node.Node.{Node}
 use Rattle.lw_cache.specs.declared.node.Held.{Held}
 

@@ -1,18 +1,17 @@
 -- Going through all nodes once.
-use Rattle.std.proofs.Common.{◌≡◌, ◌≢◌, ◌↔◌, ℕ, zero, suc, ◌+◌, ◌-◌, ◌<◌, ◌≤◌, ◌⊎◌, inl, inr, ⊎_elim, Bool, true, false, List, [], ◌∷◌, ◌++◌, length, take, get_or, reverse, Contains, Option, Some, None, refl, ap, sym, ◌∙◌, subst, arith, append_assoc, append-nil}
-use Rattle.std.proofs.lemmas.Bool.{cases_eq, cases_lt, cases_Bool, false≢true}
+use Rattle.std.proofs.Common.{◌≡◌, ◌≢◌, ◌↔◌, ℕ, ◌+◌, ◌<◌, ◌≤◌, ⊎_elim, Bool, true, false, List, [], ◌∷◌, ◌++◌, length, get_or, reverse, Contains, Option, Some, None, refl, ap, sym, ◌∙◌, subst, arith, append_assoc}
+use Rattle.std.proofs.lemmas.Bool.{cases_eq, cases_lt, false≢true}
 use Rattle.std.proofs.lemmas.List.{length_push, get_or_push, get_or_append_left, reverse-append}
 use Rattle.std.proofs.lemmas.List.Elements.{Contains-push, Contains-push_cases, Contains-append_left, Contains-get_or}
 use Rattle.std.proofs.lemmas.List.Quantifiers.{all_pairs_push}
-use Rattle.std.specs.declared.cmp.Ordering.{Ordering}
-use Rattle.std.specs.declared.cmp.Ordering.TheVariants.{Less, Equal, Greater}
+use Rattle.std.specs.declared.cmp.Ordering.TheVariants.{Less, Equal}
 use Rattle.std.proofs.lemmas.Cmp.{tied_itself}
 use Rattle.lw_words.proofs.Orders.{is_order}
 use Rattle.lw_words.specs.Shortlex.{shortlex_cmp}
 use Rattle.lw_mealy.specs.Machine.{Rows, after, next, output}
 use Rattle.lw_mealy.proofs.WordLemmas.{after-append}
-use Rattle.lw_cache.specs.bodies.Trie.{node_at, word_of, IsTrie, no_answer, no_claim}
-use Rattle.lw_cache.specs.bodies.Scanning.{IsLive, IsLiveWord, CountsLive, DiffersAt, IsFirstTo, AreStates, AreLetters, IsEarlierOf}
+use Rattle.lw_cache.specs.bodies.Trie.{word_of, IsTrie, no_answer}
+use Rattle.lw_cache.specs.bodies.Scanning.{IsLive, CountsLive, DiffersAt, IsFirstTo, AreStates, AreLetters, IsEarlierOf}
 use Rattle.lw_cache.specs.declared.node.Node.{Node}
 use Rattle.lw_cache.proofs.TrieLemmas.{word_step, one_node}
 

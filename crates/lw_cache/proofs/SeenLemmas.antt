@@ -1,5 +1,5 @@
 -- What was seen of the nodes, as contracts see it.
-use Rattle.std.proofs.Common.{◌≡◌, ◌≢◌, ◌↔◌, ℕ, zero, suc, ◌+◌, ◌-◌, ◌<◌, ◌≤◌, ◌⊎◌, inl, inr, ⊎_elim, List, [], ◌∷◌, ◌++◌, length, take, get_or, Contains, Option, Some, None, refl, ap, sym, ◌∙◌, subst, arith, length-append}
+use Rattle.std.proofs.Common.{◌≡◌, ◌≢◌, ℕ, zero, suc, ◌+◌, ◌-◌, ◌<◌, ◌≤◌, ◌⊎◌, inl, inr, ⊎_elim, List, [], ◌∷◌, length, take, get_or, Option, Some, None, refl, ap, sym, ◌∙◌, subst, arith}
 use Rattle.std.specs.List.{All}
 use Rattle.std.specs.Ordering.{nat_cmp, ordering_then}
 use Rattle.std.specs.Cmp.{nat_cmp_is}
@@ -7,27 +7,26 @@ use Rattle.std.specs.Cmp.Lexicographic.{slice_cmp}
 use Rattle.std.specs.declared.cmp.Ordering.{Ordering}
 use Rattle.std.specs.declared.cmp.Ordering.TheVariants.{Less}
 use Rattle.std.proofs.lemmas.Bool.{cases_eq, cases_lt}
-use Rattle.std.proofs.lemmas.List.{length-take-le, get_or-take, get_or_push, get_or_append_left, take_all, take_more_same, take-take, take-append-le, get_or-append-add}
-use Rattle.std.proofs.lemmas.List.Elements.{All-get_or}
+use Rattle.std.proofs.lemmas.List.{length-take-le, get_or-take, get_or_push, get_or_append_left, take_all, take_more_same}
 use Rattle.lw_words.proofs.Orders.{is_order}
-use Rattle.lw_words.specs.Answer.{Answer, answer_at, answer_of, answers_of, IsWhole}
+use Rattle.lw_words.specs.Answer.{answer_at, answers_of}
 use Rattle.lw_words.specs.Shortlex.{shortlex_cmp}
 use Rattle.lw_words.specs.Word.{IsPrefix, IsWord}
 use Rattle.lw_words.specs.declared.kept.KeptAnswer.{KeptAnswer}
 use Rattle.lw_mealy.specs.Machine.{Rows, after, output, out, answer}
 use Rattle.lw_mealy.proofs.WordLemmas.{length-out, out-append, out-take}
 use Rattle.lw_cache.specs.Against.{Differs, DiffersFirst}
-use Rattle.lw_cache.specs.Caching.{Claim, Caching, IsClaimedBy}
+use Rattle.lw_cache.specs.Caching.{IsClaimedBy}
 use Rattle.lw_cache.specs.Clash.{IsClear}
-use Rattle.lw_cache.specs.Known.{IsKnown, Reads}
+use Rattle.lw_cache.specs.Known.{IsKnown}
 use Rattle.lw_cache.specs.Standing.{IsNoted, CountsNoted}
-use Rattle.lw_cache.specs.bodies.Trie.{node_at, word_of, claims_of, held_at, IsTrie, no_answer, no_claim, last_out, AreAnswered, IsStored}
-use Rattle.lw_cache.specs.bodies.Scanning.{IsLive, IsLiveWord, CountsLive, DiffersAt, IsFirstTo, AreLetters}
+use Rattle.lw_cache.specs.bodies.Trie.{word_of, claims_of, held_at, no_answer, no_claim, IsStored}
+use Rattle.lw_cache.specs.bodies.Scanning.{IsLiveWord, CountsLive, DiffersAt, IsFirstTo, AreLetters}
 use Rattle.lw_cache.specs.declared.node.Node.{Node}
 use Rattle.lw_cache.specs.declared.node.Held.{Held}
 use Rattle.lw_cache.proofs.AnswerLemmas.{take_prefix, clear_node}
 use Rattle.lw_cache.proofs.KnownLemmas.{prefix_long, prefix_take}
-use Rattle.lw_cache.proofs.PlainLemmas.{take_from_prefix, prefix_from_take, kept_count}
+use Rattle.lw_cache.proofs.PlainLemmas.{take_from_prefix, kept_count}
 use Rattle.lw_cache.proofs.StoredLemmas.{child_prefix, least_above, held_below, claimed_is, known_here, prefix_over}
 use Rattle.lw_cache.proofs.TrieLemmas.{word_step, word_long, some_word, not_root, prefix_node}
 

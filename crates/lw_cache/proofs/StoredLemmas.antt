@@ -1,23 +1,21 @@
 -- What the nodes tell of a word.
-use Rattle.std.proofs.Common.{◌≡◌, ◌≢◌, ◌↔◌, ℕ, zero, suc, ◌+◌, ◌-◌, ◌<◌, ◌≤◌, ◌⊎◌, inl, inr, ⊎_elim, List, [], ◌∷◌, ◌++◌, length, take, map, get_or, refl, ap, sym, ◌∙◌, subst, arith, append-nil, append_assoc}
-use Rattle.std.specs.List.{All}
-use Rattle.std.proofs.lemmas.Bool.{cases_eq, cases_lt, cases_order}
-use Rattle.std.proofs.lemmas.List.{length-append, length_push, take_all, take-append-le, take_more, length-take-le, nil_from_length, get_or-map, length-map}
-use Rattle.lw_words.specs.Answer.{Answer, answer_at, answers_of, IsWhole}
+use Rattle.std.proofs.Common.{◌≡◌, ◌≢◌, ◌↔◌, ℕ, zero, suc, ◌+◌, ◌<◌, ◌≤◌, ◌⊎◌, inl, inr, ⊎_elim, List, [], ◌∷◌, ◌++◌, length, refl, ap, sym, ◌∙◌, subst, arith, append-nil, append_assoc}
+use Rattle.std.proofs.lemmas.Bool.{cases_lt}
+use Rattle.std.proofs.lemmas.List.{length_push, take_all, take-append-le, get_or-map, length-map}
+use Rattle.lw_words.specs.Answer.{Answer, answer_at, answers_of}
 use Rattle.lw_words.specs.Word.{IsPrefix}
 use Rattle.lw_words.specs.declared.kept.KeptAnswer.{KeptAnswer}
 use Rattle.lw_cache.specs.Caching.{Claim, claim_at, IsClaimedBy}
 use Rattle.lw_cache.specs.Clash.{IsClear}
-use Rattle.lw_cache.specs.Known.{IsKnown, Reads}
+use Rattle.lw_cache.specs.Known.{IsKnown}
 use Rattle.lw_cache.specs.Standing.{Stands}
 use Rattle.lw_cache.specs.declared.known.Known.TheVariants.{Yes, Pending, No}
 use Rattle.lw_cache.specs.declared.node.Node.{Node}
 use Rattle.lw_cache.specs.declared.node.Held.{Held}
 use Rattle.lw_cache.specs.bodies.Trie.{node_at, word_of, held_at, claims_of, no_answer, no_claim, IsChildOf, IsTrie, AreAnswered, AreEnds, AreLeast, IsStored}
-use Rattle.lw_cache.specs.bodies.Filling.{IsFound}
-use Rattle.lw_cache.proofs.KnownLemmas.{prefix_long, prefix_take}
+use Rattle.lw_cache.proofs.KnownLemmas.{prefix_long}
 use Rattle.lw_cache.proofs.PlainLemmas.{prefix_from_take, take_from_prefix}
-use Rattle.lw_cache.proofs.TrieLemmas.{word_step, word_long, one_node, prefix_node, some_word, not_root}
+use Rattle.lw_cache.proofs.TrieLemmas.{word_step, one_node, some_word, not_root}
 
 pub prefix_same : (w v : List ℕ) → w ≡ v → IsPrefix w v
 prefix_same w v e = ([], sym e ∙ sym (append-nil w))

@@ -1,18 +1,17 @@
 -- What is stored once an answer is kept.
-use Rattle.std.proofs.Common.{◌≡◌, ◌≢◌, ℕ, ◌+◌, ◌-◌, ◌<◌, ◌≤◌, List, [], ◌∷◌, ◌++◌, length, take, drop, map, get_or, Option, Some, None, refl, ap, sym, ◌∙◌, subst, arith}
+use Rattle.std.proofs.Common.{◌≡◌, ◌≢◌, ℕ, ◌<◌, ◌≤◌, List, [], ◌∷◌, ◌++◌, length, drop, get_or, None, refl, ap, sym, ◌∙◌, subst, arith}
 use Rattle.std.specs.List.{All}
-use Rattle.std.proofs.lemmas.List.{map_push, length_push, take_all}
+use Rattle.std.proofs.lemmas.List.{map_push, take_all}
 use Rattle.std.proofs.lemmas.List.Elements.{All-push}
-use Rattle.lw_words.specs.Answer.{Answer, answer_at, answer_of, answers_of, IsWhole}
+use Rattle.lw_words.specs.Answer.{Answer, answer_of, answers_of, IsWhole}
 use Rattle.lw_words.specs.declared.kept.KeptAnswer.{KeptAnswer}
-use Rattle.lw_cache.specs.Caching.{Claim, kept_answer}
 use Rattle.lw_cache.specs.Clash.{IsClearAfter}
-use Rattle.lw_cache.specs.FirstClash.{ClashesFirst, SameKnown}
-use Rattle.lw_cache.specs.bodies.Trie.{node_at, word_of, held_at, claims_of, IsChildOf, IsTrie, no_answer, AreAnswered, IsStored}
-use Rattle.lw_cache.specs.bodies.Filling.{AgreeBetween, ComparedTo, AreMarked, IsReached, IsExtended, IsTold}
+use Rattle.lw_cache.specs.FirstClash.{SameKnown}
+use Rattle.lw_cache.specs.bodies.Trie.{node_at, word_of, held_at, claims_of, IsChildOf, no_answer, AreAnswered, IsStored}
+use Rattle.lw_cache.specs.bodies.Filling.{AgreeBetween, ComparedTo, AreMarked, IsTold}
 use Rattle.lw_cache.specs.declared.node.Node.{Node}
 use Rattle.lw_cache.specs.declared.node.Held.{Held}
-use Rattle.lw_cache.proofs.AnswerLemmas.{unclashed, clashes, clash_unclear, unclear_answered, unclear_known}
+use Rattle.lw_cache.proofs.AnswerLemmas.{unclashed, unclear_answered, unclear_known}
 use Rattle.lw_cache.proofs.MoreLemmas.{extended_word, extended_stored, extended_agree, claims_same, marked_shape, marked_answered, marked_claim, marked_ends}
 use Rattle.lw_cache.proofs.PlainLemmas.{kept_count}
 use Rattle.lw_cache.proofs.ShapeLemmas.{shape_word, shape_trie, shape_least, shape_ends}

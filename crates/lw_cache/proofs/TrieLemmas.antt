@@ -1,12 +1,12 @@
 -- The words of the nodes.
-use Rattle.std.proofs.Common.{◌≡◌, ◌≢◌, ℕ, zero, suc, ◌+◌, ◌-◌, ◌<◌, ◌≤◌, ◌⊎◌, inl, inr, ⊎_elim, List, [], ◌∷◌, ◌++◌, length, take, get_or, refl, ap, sym, ◌∙◌, subst, arith, append-nil, append_assoc}
-use Rattle.std.proofs.lemmas.Bool.{cases_eq, cases_lt, cases_order}
-use Rattle.std.proofs.lemmas.List.{length-append, length_push, same_from_push, take_all, take-append-le, take_more, length-take-le, nil_from_length, get_or_append_left}
+use Rattle.std.proofs.Common.{◌≡◌, ℕ, zero, suc, ◌+◌, ◌<◌, ◌≤◌, ◌⊎◌, ⊎_elim, List, [], ◌∷◌, ◌++◌, length, take, refl, ap, sym, ◌∙◌, arith}
+use Rattle.std.proofs.lemmas.Bool.{cases_lt, cases_order}
+use Rattle.std.proofs.lemmas.List.{length_push, same_from_push, take_all, take-append-le}
 use Rattle.lw_words.specs.Word.{IsPrefix}
-use Rattle.lw_cache.specs.bodies.Trie.{node_at, spell, word_of, IsChildOf, IsNewest, IsTrie}
+use Rattle.lw_cache.specs.bodies.Trie.{spell, word_of, IsTrie}
 use Rattle.lw_cache.specs.declared.node.Node.{Node}
-use Rattle.lw_cache.proofs.KnownLemmas.{prefix_long, prefix_take}
-use Rattle.lw_cache.proofs.PlainLemmas.{prefix_from_take, take_from_prefix}
+use Rattle.lw_cache.proofs.KnownLemmas.{prefix_long}
+use Rattle.lw_cache.proofs.PlainLemmas.{take_from_prefix}
 
 -- any fuel that is enough spells the same
 stable : (at : ℕ → Node) (n : ℕ) → IsTrie at n → (k j i : ℕ) → i < n → i ≤ k → i ≤ j → spell at k i ≡ spell at j i

@@ -1,14 +1,14 @@
 -- From a node up to the root: comparing, and marking.
-use Rattle.std.proofs.Common.{◌≡◌, ◌≢◌, ℕ, zero, suc, ◌+◌, ◌-◌, ◌<◌, ◌≤◌, ◌⊎◌, inl, inr, ⊎_elim, List, [], ◌∷◌, ◌++◌, length, take, get_or, set, Option, Some, None, refl, ap, sym, ◌∙◌, subst, arith}
-use Rattle.std.proofs.lemmas.Bool.{cases_eq, cases_lt, cases_order}
+use Rattle.std.proofs.Common.{◌≡◌, ◌≢◌, ℕ, ◌+◌, ◌-◌, ◌<◌, ◌≤◌, inl, inr, ⊎_elim, List, [], ◌∷◌, ◌++◌, length, take, get_or, set, Option, Some, None, refl, ap, sym, ◌∙◌, subst, arith}
+use Rattle.std.proofs.lemmas.Bool.{cases_eq}
 use Rattle.std.proofs.lemmas.List.{same_from_push, take_all, take_more, length-take-le, get_or-set_same, get_or-set_other}
 use Rattle.lw_words.specs.Word.{IsPrefix}
-use Rattle.lw_cache.specs.bodies.Trie.{no_node, node_at, word_of, IsChildOf, IsTrie, no_answer, last_out}
-use Rattle.lw_cache.specs.bodies.Filling.{AgreesAt, DisagreesAt, AgreeBetween, ComparedTo, marked, AreMarked}
+use Rattle.lw_cache.specs.bodies.Trie.{no_node, node_at, word_of, IsTrie, no_answer, last_out}
+use Rattle.lw_cache.specs.bodies.Filling.{AgreesAt, AgreeBetween, ComparedTo, marked, AreMarked}
 use Rattle.lw_cache.specs.declared.node.Node.{Node}
-use Rattle.lw_cache.proofs.KnownLemmas.{prefix_long, prefix_take}
+use Rattle.lw_cache.proofs.KnownLemmas.{prefix_long}
 use Rattle.lw_cache.proofs.PlainLemmas.{take_from_prefix, prefix_from_take}
-use Rattle.lw_cache.proofs.TrieLemmas.{word_step, word_long, one_node, not_root}
+use Rattle.lw_cache.proofs.TrieLemmas.{word_step, one_node, not_root}
 
 -- the walk up: the node has the first letters of the word
 pub record IsUp (at : ℕ → Node) (n : ℕ) (w : List ℕ) (node depth : ℕ) : Type 0 where

@@ -1,14 +1,12 @@
 -- From a node down, by letters.
-use Rattle.std.proofs.Common.{◌≡◌, ◌≢◌, ℕ, zero, suc, ◌+◌, ◌-◌, ◌<◌, ◌≤◌, ◌⊎◌, inl, inr, ⊎_elim, List, [], ◌∷◌, ◌++◌, length, take, get_or, refl, ap, sym, ◌∙◌, subst, arith}
-use Rattle.std.proofs.lemmas.Bool.{cases_eq, cases_lt, cases_order}
-use Rattle.std.proofs.lemmas.List.{length_push, same_from_push, take_all, take_more, length-take-le, nil_from_length}
-use Rattle.lw_words.specs.Word.{IsPrefix}
-use Rattle.lw_cache.specs.bodies.Trie.{node_at, word_of, IsChildOf, IsNewest, IsTrie}
+use Rattle.std.proofs.Common.{◌≡◌, ◌≢◌, ℕ, zero, suc, ◌+◌, ◌<◌, ◌≤◌, ◌⊎◌, inl, inr, ⊎_elim, List, [], ◌∷◌, ◌++◌, length, take, get_or, refl, ap, sym, ◌∙◌, subst, arith}
+use Rattle.std.proofs.lemmas.Bool.{cases_eq, cases_order}
+use Rattle.std.proofs.lemmas.List.{same_from_push, take_all, take_more, length-take-le}
+use Rattle.lw_cache.specs.bodies.Trie.{word_of, IsChildOf, IsTrie}
 use Rattle.lw_cache.specs.bodies.Filling.{IsChildAt, IsReached, IsFound}
 use Rattle.lw_cache.specs.declared.node.Node.{Node}
 use Rattle.lw_cache.proofs.KnownLemmas.{prefix_long, prefix_take}
-use Rattle.lw_cache.proofs.PlainLemmas.{take_from_prefix}
-use Rattle.lw_cache.proofs.TrieLemmas.{word_step, word_long, one_node, front_node, prefix_node, root_only}
+use Rattle.lw_cache.proofs.TrieLemmas.{word_step, one_node, front_node}
 
 -- the walk over the children of p: it stands at one or at the end, and those that it has passed have another letter
 pub record IsPassing (at : ℕ → Node) (n p letter cursor : ℕ) : Type 0 where

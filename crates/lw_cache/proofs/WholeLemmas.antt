@@ -1,10 +1,10 @@
 -- An answer to a word that has no node yet: the fronts that have one tell all.
-use Rattle.std.proofs.Common.{◌≡◌, ◌≢◌, ℕ, zero, suc, ◌+◌, ◌-◌, ◌<◌, ◌≤◌, ◌⊎◌, inl, inr, ⊎_elim, List, [], ◌∷◌, ◌++◌, length, take, drop, get_or, Option, Some, None, refl, ap, sym, ◌∙◌, subst, arith}
-use Rattle.std.proofs.lemmas.Bool.{cases_eq, cases_lt}
-use Rattle.std.proofs.lemmas.List.{length-take-le, get_or-take, take-take, take-append-drop, take_all, get_or-drop}
+use Rattle.std.proofs.Common.{◌≡◌, ◌≢◌, ℕ, zero, suc, ◌+◌, ◌-◌, ◌<◌, ◌≤◌, ⊎_elim, List, [], ◌∷◌, ◌++◌, length, take, drop, get_or, Option, Some, None, refl, ap, sym, ◌∙◌, subst, arith}
+use Rattle.std.proofs.lemmas.Bool.{cases_lt}
+use Rattle.std.proofs.lemmas.List.{length-take-le, get_or-take, take-take, take-append-drop, get_or-drop}
 use Rattle.lw_words.specs.Word.{IsPrefix}
-use Rattle.lw_cache.specs.bodies.Trie.{word_of, IsChildOf, IsTrie, no_answer, last_out}
-use Rattle.lw_cache.specs.bodies.Filling.{AgreesAt, DisagreesAt, AgreeBetween, ComparedTo, IsReached}
+use Rattle.lw_cache.specs.bodies.Trie.{word_of, IsChildOf, IsTrie}
+use Rattle.lw_cache.specs.bodies.Filling.{AgreeBetween, ComparedTo, IsReached}
 use Rattle.lw_cache.specs.declared.node.Node.{Node}
 use Rattle.lw_cache.proofs.KnownLemmas.{prefix_long, prefix_take}
 use Rattle.lw_cache.proofs.PlainLemmas.{take_from_prefix, prefix_from_take}

@@ -1,5 +1,5 @@
 -- The known words on which a machine answers otherwise.
-use Rattle.std.specs.Prelude.{◌≡◌, ◌≢◌, List, ℕ, Option, Some, None}
+use Rattle.std.specs.Prelude.{◌≢◌, List, ℕ, Option, Some, None}
 use Rattle.std.specs.declared.cmp.Ordering.TheVariants.{Less}
 use Rattle.lw_words.specs.Answer.{Answer}
 use Rattle.lw_words.specs.Shortlex.{shortlex_cmp}

@@ -1,5 +1,5 @@
 -- What contracts see of a cache: its kept answers, its claims and its room.
-use Rattle.std.specs.Prelude.{◌≡◌, ◌≢◌, ℕ, ◌<◌, ◌==◌, Bool, not, List, [], length, filter, slice_index_or}
+use Rattle.std.specs.Prelude.{◌≡◌, ◌≢◌, ℕ, ◌<◌, ◌==◌, not, List, [], length, filter, slice_index_or}
 use Rattle.lw_words.specs.Word.{IsPrefix}
 use Rattle.lw_words.specs.declared.kept.KeptAnswer.{KeptAnswer}
 

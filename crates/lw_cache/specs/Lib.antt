@@ -8,4 +8,5 @@ pub mod Known
 pub mod Plain
 pub mod Settling
 pub mod Standing
+pub mod TestOracle
 pub mod bodies

@@ -1,5 +1,5 @@
 -- What an oracle keeps, what settling a batch does, and what the layers above leave of an oracle.
-use Rattle.std.specs.Prelude.{◌≡◌, ℕ, ◌<◌, List, ◌++◌, map, Option, Some, None, Result, Ok, Err, option_and_then, slice_get, Contains, Bool, true, false, ⊤}
+use Rattle.std.specs.Prelude.{◌≡◌, ℕ, List, ◌++◌, map, Option, Some, None, Result, Ok, Err, option_and_then, slice_get, Contains, Bool, true, ⊤}
 use Rattle.std.specs.List.{All}
 use Rattle.lw_words.specs.Answer.{Answer, answer_of, answers_of, IsAnswer}
 use Rattle.lw_words.specs.Word.{IsWord}

@@ -30,8 +30,8 @@ const MOST: usize = NONE as usize;
 /// Contracts see the answers and the claims in order, and beside them the room: so many more words, with so many letters
 /// together, can be claimed and answered without memory.
 ///
-/// All calls but [`Cache::nodes`], [`Cache::against`] and the copies that they make take time in proportion to their word,
-/// times the siblings that are passed at each letter.
+/// A call takes time in proportion to its word, times the siblings that are passed at each letter, and where it ends a claim
+/// also to the number of claims. [`Cache::nodes`] and [`Cache::against`] look at each node once.
 #[derive(Drop)]
 pub struct Cache {
     nodes: Vec<Node>,

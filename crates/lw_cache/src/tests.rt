@@ -5,8 +5,11 @@ ghost use Rattle.lw_words.specs.Answer.{answer_of, answers_of, IsWhole};
 ghost use Rattle.lw_words.specs.Word.{IsWord};
 ghost use Rattle.lw_cache.specs.Caching.{claim_of};
 
+mod answering;
+
 use crate::plain::{clash, clear, known};
-use crate::{AskStop, Cache, Clash, GrowStop, KeepStop, Known};
+use crate::tests::answering::Answering;
+use crate::{AskStop, Cache, Clash, GrowStop, KeepStop, Known, Oracle};
 use lw_mealy::Mealy;
 use lw_words::{Kept, KeptAnswer, NoMemory, SulStop, Word, Words};
 use rand_core::SeedableRng;
@@ -225,6 +228,26 @@ fn same_known(alloc: Global, cache: &Cache, w: &Word) -> Result<bool, Fail> {
     Ok(plain == (cache.known(w) == Known::Yes))
 }
 
+/// Keeps a drawn answer, and tells whether it clashes.
+fn keeps_drawn(
+    alloc: Global,
+    numbers: &mut Lcg128Xsl64,
+    cache: &mut Cache,
+    run: u64,
+) -> Result<bool, Fail>
+    requires { cache.old.claims ≡ [] }
+    ensures { cache.new.claims ≡ [] }
+{
+    let len = draw(numbers, 5) as usize;
+    let w = drawn(alloc, numbers, len)?;
+    let outs = drawn(alloc, numbers, len)?;
+    match cache.keep(w, outs, 0, run) {
+        Ok(()) => Ok(false),
+        Err(KeepStop::Clash(_)) => Ok(true),
+        Err(KeepStop::NoMemory) => Err(Fail::from("no memory")),
+    }
+}
+
 #[test]
 fn drawn_answers_beside_the_plain_body(rt: HostRuntime) -> Result<(), Fail> {
     let alloc = rt.alloc();
@@ -232,15 +255,8 @@ fn drawn_answers_beside_the_plain_body(rt: HostRuntime) -> Result<(), Fail> {
     let mut cache = Cache::new(alloc);
     let mut clashes = 0u32;
     for run in 0..24u64 {
-        let len = draw(&mut numbers, 5) as usize;
-        let (w, outs) = (
-            drawn(alloc, &mut numbers, len)?,
-            drawn(alloc, &mut numbers, len)?,
-        );
-        match cache.keep(w, outs, 0, run) {
-            Ok(()) => {}
-            Err(KeepStop::Clash(_)) => clashes = clashes.saturating_add(1),
-            Err(KeepStop::NoMemory) => return Err(Fail::from("no memory")),
+        if keeps_drawn(alloc, &mut numbers, &mut cache, run)? {
+            clashes = clashes.saturating_add(1);
         }
         let len = draw(&mut numbers, 4) as usize;
         let w = drawn(alloc, &mut numbers, len)?;
@@ -268,5 +284,32 @@ fn stops_are_copied_and_carried_up(rt: HostRuntime) -> Result<(), Fail> {
         GrowStop::Crowd(words) => assert_eq!(rt; words.len(), 0),
         GrowStop::Ask(_) => return Err(Fail::from("another stop")),
     }
+    Ok(())
+}
+
+/// Settles one word, and answers how many answers are kept then.
+fn settles<O: Oracle>(oracle: &mut O, w: Word, alloc: Global) -> Result<usize, Fail>
+    requires { IsWord (O.inputs oracle.old) w }
+    ensures { O.inputs oracle.new ≡ O.inputs oracle.old }
+{
+    let batch = vec![in alloc; w]?;
+    let settled = oracle.settle(&batch);
+    let Ok(()) = settled else {
+        return Err(Fail::from("the batch was refused"));
+    };
+    Ok(oracle.cache().kept().len())
+}
+
+#[test]
+fn an_oracle_settles_each_word_once(rt: HostRuntime) -> Result<(), Fail> {
+    let alloc = rt.alloc();
+    let rows = vec![in alloc; vec![in alloc; (0u16, 0u16), (0, 1)]?]?;
+    let Ok(mealy) = Mealy::new(alloc, 2, 2, rows) else {
+        return Err(Fail::from("the machine is one"));
+    };
+    let mut oracle = Answering::new(alloc, mealy);
+    let (long, short) = (word(alloc, &[0, 1])?, word(alloc, &[0])?);
+    assert_eq!(rt; settles(&mut oracle, long, alloc)?, 1);
+    assert_eq!(rt; settles(&mut oracle, short, alloc)?, 1);
     Ok(())
 }

@@ -1,5 +1,5 @@
 -- What the steps of a new answer do to the nodes.
-use Rattle.std.specs.Prelude.{◌≡◌, ◌≢◌, ◌⊎◌, ℕ, ◌+◌, ◌-◌, ◌<◌, ◌≤◌, List, [], ◌∷◌, ◌++◌, length, take, drop, slice_index_or, Option, Some, None, MatchOption, filter, not, ◌==◌}
+use Rattle.std.specs.Prelude.{◌≡◌, ◌≢◌, ◌⊎◌, ℕ, ◌+◌, ◌-◌, ◌<◌, ◌≤◌, List, [], ◌++◌, length, take, drop, slice_index_or, Option, Some, None, filter, not, ◌==◌}
 use Rattle.lw_words.specs.Word.{IsPrefix}
 use Rattle.lw_cache.specs.bodies.Trie.{no_answer, no_claim, node_at, word_of, held_at, IsChildOf, IsTrie, AreLeast, last_out}
 use Rattle.lw_cache.specs.declared.node.Node.{Node}

@@ -1,5 +1,5 @@
 -- What is seen of the nodes as they are gone through once.
-use Rattle.std.specs.Prelude.{◌≡◌, ◌≢◌, ◌⊎◌, ◌↔◌, ℕ, ◌<◌, List, [], length, Contains, Option, Some, None, slice_index}
+use Rattle.std.specs.Prelude.{◌≡◌, ◌≢◌, ◌⊎◌, ◌↔◌, ℕ, ◌<◌, List, length, Contains, Option, Some, None, slice_index}
 use Rattle.std.specs.declared.cmp.Ordering.TheVariants.{Less}
 use Rattle.lw_words.specs.Name.{AllDiffer}
 use Rattle.lw_words.specs.Shortlex.{shortlex_cmp}

@@ -1,4 +1,4 @@
-use Rattle.std.proofs.Common.{length, arith}
+use Rattle.std.proofs.Common.{length}
 use Rattle.lw_cache.specs.bodies.Trie.{node_at, word_of}
 use Rattle.lw_cache.proofs.UpLemmas.{up_more, compare_same, compare_other}
 use Rattle.lw_cache.proofs.filling.compare.Goals.{else-here-via-then-here+else-here-outs, else-here-via-else-here}

@@ -1,4 +1,4 @@
-use Rattle.std.proofs.Common.{◌<◌, length, refl, arith}
+use Rattle.std.proofs.Common.{◌<◌, length, arith}
 use Rattle.lw_cache.specs.bodies.Trie.{node_at, word_of}
 use Rattle.lw_cache.proofs.UpLemmas.{mark_up, mark_told, mark_here, node_set_same, node_set_other}
 use Rattle.lw_cache.proofs.filling.mark.Goals as goal

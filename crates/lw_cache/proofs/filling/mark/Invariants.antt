@@ -1,4 +1,4 @@
-use Rattle.std.proofs.Common.{◌≡◌, ◌≤◌, length}
+use Rattle.std.proofs.Common.{length}
 use Rattle.lw_cache.specs.bodies.Trie.{node_at, word_of}
 use Rattle.lw_cache.specs.bodies.Filling.{AreMarked}
 use Rattle.lw_cache.proofs.UpLemmas.{IsUp}

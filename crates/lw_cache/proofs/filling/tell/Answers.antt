@@ -1,4 +1,4 @@
-use Rattle.std.proofs.Common.{◌≡◌, ℕ, List, length, take, Some, None, subst, arith}
+use Rattle.std.proofs.Common.{List, length, take, Some, None, subst}
 use Rattle.lw_cache.specs.bodies.Trie.{node_at, word_of}
 use Rattle.lw_cache.specs.bodies.Filling.{ComparedTo, IsReached}
 use Rattle.lw_cache.specs.declared.node.Node.{Node}

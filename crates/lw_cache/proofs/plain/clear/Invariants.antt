@@ -1,4 +1,3 @@
-use Rattle.std.proofs.Common.{◌≡◌}
 use Rattle.lw_words.specs.Answer.{answers_of}
 use Rattle.lw_cache.specs.Plain.{AreFlags}
 use Rattle.lw_cache.proofs.plain.clear.Given as goal

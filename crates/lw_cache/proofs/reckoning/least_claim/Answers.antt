@@ -1,4 +1,4 @@
-use Rattle.std.proofs.Common.{length, arith}
+use Rattle.std.proofs.Common.{length}
 use Rattle.lw_cache.specs.bodies.Trie.{node_at}
 use Rattle.lw_cache.proofs.ReckonLemmas.{least_more}
 use Rattle.lw_cache.proofs.reckoning.least_claim.Goals as goal

@@ -1,4 +1,4 @@
-use Rattle.std.proofs.Common.{rules, ◌≡◌, ◌==◌, not}
+use Rattle.std.proofs.Common.{rules, ◌==◌, not}
 use Rattle.std.proofs.lemmas.Fn.{filter_same}
 use Rattle.lw_cache.specs.declared.node.Held.{Held}
 use Rattle.lw_cache.proofs.reckoning.let_go.Goals as goal

@@ -1,8 +1,7 @@
-use Rattle.std.proofs.Common.{◌<◌, ◌≡◌, ◌≤◌, ◌≢◌, ℕ, List, length, subst, sym, arith}
+use Rattle.std.proofs.Common.{◌<◌, ℕ, length, subst, arith}
 use Rattle.lw_cache.specs.bodies.Trie.{node_at, IsLeast}
-use Rattle.lw_cache.specs.declared.node.Node.{Node}
 use Rattle.lw_cache.proofs.UpLemmas.{node_set_same, node_set_other}
-use Rattle.lw_cache.proofs.ReckonLemmas.{reckon_right, reckon_more, claims_trie}
+use Rattle.lw_cache.proofs.ReckonLemmas.{reckon_right, reckon_more}
 use Rattle.lw_cache.proofs.reckoning.reckon.Goals as goal
 
 pub returns-then-claim-here-clause-least : goal.returns-then-claim-here-clause-least

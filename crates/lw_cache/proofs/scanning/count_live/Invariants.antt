@@ -1,4 +1,4 @@
-use Rattle.std.proofs.Common.{◌≤◌, length}
+use Rattle.std.proofs.Common.{◌≤◌}
 use Rattle.lw_cache.specs.bodies.Trie.{node_at}
 use Rattle.lw_cache.specs.bodies.Scanning.{CountsLive}
 use Rattle.lw_cache.proofs.scanning.count_live.Given as goal

@@ -1,9 +1,9 @@
-use Rattle.std.proofs.Common.{rules, ◌≡◌, ◌≢◌, ◌↔◌, ℕ, ◌+◌, ◌<◌, ◌≤◌, List, true, length, get_or, ap, sym, ◌∙◌, subst, arith}
+use Rattle.std.proofs.Common.{◌≡◌, ◌≢◌, ◌↔◌, ℕ, ◌<◌, List, true, length, get_or, ap, sym, ◌∙◌, subst, arith}
 use Rattle.std.proofs.lemmas.Bool.{eqb-false}
-use Rattle.lw_mealy.specs.Machine.{Rows, next, output}
+use Rattle.lw_mealy.specs.Machine.{next, output}
 use Rattle.lw_cache.specs.bodies.Trie.{node_at, no_answer}
-use Rattle.lw_cache.specs.bodies.Scanning.{AreStates, IsFirstTo, DiffersAt}
-use Rattle.lw_cache.proofs.ScanLemmas.{states_begin, parent_before, states_more, differs_here, first_step}
+use Rattle.lw_cache.specs.bodies.Scanning.{IsFirstTo}
+use Rattle.lw_cache.proofs.ScanLemmas.{states_more, differs_here, first_step}
 use Rattle.lw_cache.proofs.scanning.first_difference.Goals as goal
 
 pub loop-i-preserved : goal.loop-i-preserved

@@ -1,4 +1,4 @@
-use Rattle.std.proofs.Common.{◌≤◌, length}
+use Rattle.std.proofs.Common.{length}
 use Rattle.lw_cache.specs.bodies.Trie.{node_at}
 use Rattle.lw_cache.specs.bodies.Scanning.{AreStates, IsFirstTo}
 use Rattle.lw_cache.proofs.scanning.first_difference.Given as goal

@@ -1,4 +1,4 @@
-use Rattle.std.proofs.Common.{◌≡◌, ◌≢◌, ℕ, ◌<◌, length, arith}
+use Rattle.std.proofs.Common.{length}
 use Rattle.lw_cache.specs.bodies.Trie.{node_at}
 use Rattle.lw_cache.proofs.WalkLemmas.{down_more}
 use Rattle.lw_cache.proofs.trie.reach.Goals as goal

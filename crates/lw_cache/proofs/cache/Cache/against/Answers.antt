@@ -1,4 +1,4 @@
-use Rattle.std.proofs.Common.{◌≤◌, List, length, Option, Some, None, Result, Ok, Err, IfOk, subst, sym, ap, arith, ℕ}
+use Rattle.std.proofs.Common.{◌≤◌, List, length, Option, Result, Ok, Err, IfOk, subst, sym, ap, arith, ℕ}
 use Rattle.std.specs.List.{All}
 use Rattle.lw_words.specs.Answer.{answers_of}
 use Rattle.lw_words.specs.Word.{IsWord}

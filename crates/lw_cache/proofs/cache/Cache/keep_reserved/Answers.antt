@@ -1,11 +1,9 @@
-use Rattle.std.proofs.Common.{rules, ◌≡◌, ℕ, ◌+◌, ◌-◌, ◌<◌, ◌≤◌, List, [], ◌∷◌, ◌++◌, length, vec_len, vec_capacity, subst, sym, ap, ◌∙◌, arith, MatchOption}
+use Rattle.std.proofs.Common.{rules, ◌≡◌, ℕ, ◌+◌, ◌<◌, ◌≤◌, List, length, vec_len, vec_capacity, subst, sym, ap, ◌∙◌, arith, MatchOption}
 use Rattle.std.proofs.lemmas.List.{length_push}
 use Rattle.lw_words.specs.declared.kept.KeptAnswer.{KeptAnswer}
 use Rattle.lw_cache.specs.Caching.{Caching, kept_answer}
 use Rattle.lw_cache.specs.bodies.Trie.{node_at, IsStored, no_answer}
-use Rattle.lw_cache.specs.bodies.Room.{HasRoom}
 use Rattle.lw_cache.specs.bodies.Filling.{ComparedTo, IsTold}
-use Rattle.lw_cache.specs.declared.node.Node.{Node}
 use Rattle.lw_cache.proofs.KeepLemmas.{IsKeptMade, kept_made, see_claims, see_ok, see_err, see_known}
 use Rattle.lw_cache.proofs.RoomLemmas.{room_kept}
 use Rattle.lw_cache.proofs.cache.Cache.keep_reserved.Goals as goal

@@ -1,4 +1,4 @@
-use Rattle.std.proofs.Common.{arith, ◌<◌, ◌^◌}
+use Rattle.std.proofs.Common.{arith, ◌<◌}
 use Rattle.lw_cache.specs.bodies.Trie.{no_claim}
 use Rattle.lw_cache.proofs.LookLemmas.{here, look_missing, look_known, look_pending, look_free}
 use Rattle.lw_cache.proofs.cache.Cache.known.Goals as goal

@@ -3,7 +3,7 @@ use Rattle.lw_words.specs.Answer.{answers_of}
 use Rattle.lw_words.specs.declared.kept.KeptAnswer.{KeptAnswer}
 use Rattle.lw_cache.specs.Caching.{Claim, Caching}
 use Rattle.lw_cache.specs.Standing.{CountsNoted}
-use Rattle.lw_cache.specs.bodies.Trie.{node_at, claims_of}
+use Rattle.lw_cache.specs.bodies.Trie.{node_at}
 use Rattle.lw_cache.specs.bodies.Scanning.{CountsLive}
 use Rattle.lw_cache.specs.declared.node.Node.{Node}
 use Rattle.lw_cache.proofs.SeenLemmas.{counted}

@@ -1,4 +1,4 @@
-use Rattle.std.proofs.Common.{◌≡◌, ◌<◌, ◌≤◌, length, arith, subst, take, ap, sym, ◌∙◌, List, ℕ, slice_get, Some}
+use Rattle.std.proofs.Common.{◌≡◌, ◌≤◌, length, arith, subst, take, ap, sym, ◌∙◌, List, ℕ}
 use Rattle.lw_words.specs.Answer.{answers_of}
 use Rattle.lw_cache.specs.Known.{Reads}
 use Rattle.lw_cache.proofs.LookLemmas.{here, look_missing, unknown_seen, answer_seen, outputs_seen}

@@ -1,8 +1,7 @@
-use Rattle.std.proofs.Common.{rules, ◌≡◌, ◌≢◌, ℕ, ◌+◌, ◌-◌, ◌<◌, ◌≤◌, List, length, vec_len, vec_capacity, subst, ap, sym, ◌∙◌, arith}
+use Rattle.std.proofs.Common.{◌≡◌, List, length, vec_len, vec_capacity, subst, ap, sym, ◌∙◌, arith}
 use Rattle.lw_cache.specs.Caching.{Claim, Caching, IsUnused, without}
 use Rattle.lw_cache.specs.bodies.Trie.{node_at, claims_of, IsStored}
-use Rattle.lw_cache.specs.bodies.Room.{HasRoom}
-use Rattle.lw_cache.specs.bodies.Filling.{IsHeld, IsEndOf, without_held}
+use Rattle.lw_cache.specs.bodies.Filling.{IsHeld, IsEndOf}
 use Rattle.lw_cache.specs.declared.node.Held.{Held}
 use Rattle.lw_cache.proofs.ClaimLemmas.{held_used, end_within, release_stored, release_claims}
 use Rattle.lw_cache.proofs.RoomLemmas.{room_released}

@@ -1,4 +1,4 @@
-use Rattle.std.proofs.Common.{◌≡◌, ℕ, ◌+◌, ◌-◌, ◌<◌, ◌≤◌, List, length, max, vec_len, vec_capacity, subst, ap, sym, ◌∙◌, arith}
+use Rattle.std.proofs.Common.{◌≡◌, ℕ, List, length, max, vec_len, vec_capacity, subst, ap, sym, arith}
 use Rattle.lw_words.specs.declared.kept.KeptAnswer.{KeptAnswer}
 use Rattle.lw_cache.specs.bodies.Trie.{node_at, IsStored}
 use Rattle.lw_cache.specs.bodies.Room.{HasRoom}

@@ -1,0 +1,100 @@
+-- A machine that answers one word after another.
+use Rattle.std.proofs.Common.{◌≡◌, ℕ, ◌+◌, ◌<◌, inr, ⊎_elim, List, [], ◌∷◌, ◌++◌, length, take, get_or, Contains, ap, sym, ◌∙◌, subst, arith, append-nil, append_assoc}
+use Rattle.std.specs.List.{All}
+use Rattle.std.proofs.lemmas.List.{get_or_default, length_push, map_push}
+use Rattle.std.proofs.lemmas.List.Elements.{All-nil, All-cons, All-head, All-tail, All-push, All-more, All-weaker}
+use Rattle.std.proofs.lemmas.List.Quantifiers.{all_pairs_push}
+use Rattle.lw_words.specs.Answer.{Answer, answer_at, answer_of, answers_of, IsAnswer}
+use Rattle.lw_words.specs.Word.{IsWord}
+use Rattle.lw_words.specs.declared.kept.KeptAnswer.{KeptAnswer}
+use Rattle.lw_mealy.specs.Limits.{MealyMachine, IsWithinLimits}
+use Rattle.lw_mealy.specs.Machine.{out, output, next, answer}
+use Rattle.lw_mealy.proofs.RowLemmas.{target_below, output_below}
+use Rattle.lw_mealy.proofs.WordLemmas.{length-out}
+use Rattle.lw_cache.specs.Caching.{kept_answer}
+use Rattle.lw_cache.specs.Clash.{Clash, NothingClashes, IsClearAfter}
+use Rattle.lw_cache.specs.Known.{IsKnown}
+use Rattle.lw_cache.specs.Settling.{IsOf, told_machine, GainsAnswers}
+use Rattle.lw_cache.specs.TestOracle.{origins_of, KeepsOf, HasAsked}
+use Rattle.lw_cache.proofs.AnswerLemmas.{at_last}
+use Rattle.lw_cache.proofs.ClashLemmas.{all_are_clear, unclashed_after}
+use Rattle.lw_cache.proofs.GrowLemmas.{after_stays, reads_stay}
+use Rattle.lw_cache.proofs.KnownLemmas.{known_is_read}
+use Rattle.lw_cache.proofs.StoredLemmas.{prefix_same}
+
+outs_below : (t : MealyMachine) → IsWithinLimits t → (w : List ℕ) (q : ℕ) → q < length t.rows → IsWord t.inputs w → IsWord t.outputs (out t.rows q w)
+outs_below t is [] q lt letters = All-nil (λ y. y < t.outputs)
+outs_below t is (x ∷ w) q lt letters =
+    let first : x < t.inputs = All-head (λ y. y < t.inputs) x w letters in
+    All-cons (λ y. y < t.outputs) (output t.rows q x) (out t.rows (next t.rows q x) w) (output_below t q x is lt first)
+    (outs_below t is w (next t.rows q x) (target_below t.inputs t.rows q x is.machine lt first) (All-tail (λ y. y < t.inputs) x w letters))
+
+pub answers_more : (t : MealyMachine) (kept : List KeptAnswer) (w outs : List ℕ) → IsWithinLimits t → KeepsOf t kept → IsWord t.inputs w → outs ≡ answer t.rows w → KeepsOf t (kept ++ kept_answer 0 0 w outs ∷ [])
+answers_more t kept w outs is was letters given =
+    record {
+      answers = All-push (λ k. IsAnswer t.inputs (answer_of k)) kept (kept_answer 0 0 w outs) was.answers (letters, ap (λ (o : List ℕ). length o) given ∙ length-out t.rows 0 w);
+      outputs_below = All-push (λ k. IsWord t.outputs k.outs) kept (kept_answer 0 0 w outs) was.outputs_below (subst (IsWord t.outputs) (sym given) (outs_below t is w 0 is.machine.some_state letters));
+      told = All-push (λ k. IsOf (told_machine (origins_of t) k.instance) (answer_of k)) kept (kept_answer 0 0 w outs) was.told (sym given);
+    }
+
+-- an answer that is clear makes its word known, and brings no clash
+pub known_new : (kept : List KeptAnswer) (k : KeptAnswer) → IsClearAfter (answers_of kept) (length kept) (answer_of k) → length (answers_of kept) ≡ length kept → IsKnown (answers_of (kept ++ k ∷ [])) k.word
+known_new kept k clear size =
+    subst (λ (l : List Answer). IsKnown l k.word) (sym (map_push answer_of kept k))
+    (inr (
+      length (answers_of kept),
+      (
+        omega (arith, length_push (answers_of kept) (answer_of k)),
+        subst (λ (a : Answer). IsClearAfter (answers_of kept ++ answer_of k ∷ []) (length (answers_of kept)) a) (sym (at_last (answers_of kept) (answer_of k)))
+            ((after_stays (answers_of kept) (answer_of k ∷ []) (length (answers_of kept)) (answer_of k) (omega arith)).1 (subst (λ (n : ℕ). IsClearAfter (answers_of kept) n (answer_of k)) (sym size) clear)),
+      ),
+      prefix_same k.word (answer_at (answers_of kept ++ answer_of k ∷ []) (length (answers_of kept))).word (ap (λ (a : Answer). a.word) (sym (at_last (answers_of kept) (answer_of k)))),
+    ))
+
+pub nothing_more : (kept : List KeptAnswer) (k : KeptAnswer) → IsClearAfter (answers_of kept) (length kept) (answer_of k) → length (answers_of kept) ≡ length kept → NothingClashes (answers_of kept) → NothingClashes (answers_of (kept ++ k ∷ []))
+nothing_more kept k clear size nothing =
+    subst NothingClashes (sym (map_push answer_of kept k))
+    (all_pairs_push (λ a b. ¬ Clash a b) (answers_of kept) (answer_of k) nothing (λ i d lt.
+    subst (λ (a : Answer). ¬ Clash a (answer_of k)) (get_or_default (answers_of kept) i (record { word = []; outs = [] }) d lt)
+    (unclashed_after (answers_of kept) (length kept) (answer_of k) clear i (omega (arith, lt, size)) (all_are_clear (answers_of kept) nothing i lt))))
+
+known_stays : (kept : List KeptAnswer) (k : KeptAnswer) (w : List ℕ) → IsKnown (answers_of kept) w → IsKnown (answers_of (kept ++ k ∷ [])) w
+known_stays kept k w known =
+    let r = (known_is_read (answers_of kept) w).0 known in
+    subst (λ (l : List Answer). IsKnown l w) (sym (map_push answer_of kept k)) ((known_is_read (answers_of kept ++ answer_of k ∷ []) w).1 (r.0, reads_stay (answers_of kept) (answer_of k ∷ []) w r.0 r.1))
+
+-- the words that were known stay known
+pub asked_known : (t : MealyMachine) (w : List ℕ) (before now : List KeptAnswer) (v : List ℕ) → HasAsked t w before now → IsKnown (answers_of before) v → IsKnown (answers_of now) v
+asked_known t w before now v a known =
+    ⊎_elim
+    (λ (same : now ≡ before). subst (λ (l : List KeptAnswer). IsKnown (answers_of l) v) (sym same) known)
+    (λ (r : (k : KeptAnswer) × (now ≡ before ++ k ∷ []) × (k.word ≡ w)). subst (λ (l : List KeptAnswer). IsKnown (answers_of l) v) (sym r.1) (known_stays before r.0 v known))
+    a.gains
+
+pub gains_none : (batch : List (List ℕ)) (kept : List KeptAnswer) → GainsAnswers batch kept kept
+gains_none batch kept = record { gained = []; at_end = sym (append-nil kept); of_batch = All-nil (λ k. Contains batch k.word) }
+
+pub gains_more : (batch : List (List ℕ)) (t : MealyMachine) (w : List ℕ) (first before now : List KeptAnswer) → Contains batch w → GainsAnswers batch first before → HasAsked t w before now → GainsAnswers batch first now
+gains_more batch t w first before now has was a =
+    ⊎_elim
+    (λ (same : now ≡ before). subst (GainsAnswers batch first) (sym same) was)
+    (λ (r : (k : KeptAnswer) × (now ≡ before ++ k ∷ []) × (k.word ≡ w)).
+    record {
+      gained = was.gained ++ r.0 ∷ [];
+      at_end = r.1 ∙ (ap (λ (l : List KeptAnswer). l ++ r.0 ∷ []) was.at_end ∙ append_assoc first was.gained (r.0 ∷ []));
+      of_batch = All-push (λ k. Contains batch k.word) was.gained r.0 was.of_batch (subst (Contains batch) (sym r.2) has);
+    })
+    a.gains
+
+-- the machine's answer is kept, whether it clashes or not
+pub asked_new : (t : MealyMachine) (before now : List KeptAnswer) (w word outs : List ℕ) → IsWithinLimits t → KeepsOf t before → IsWord t.inputs w → word ≡ w → outs ≡ answer t.rows w → now ≡ before ++ kept_answer 0 0 word outs ∷ [] → HasAsked t w before now
+asked_new t before now w word outs is was letters same given grown =
+    record {
+      gains = inr (kept_answer 0 0 word outs, grown, same);
+      keeps = subst (KeepsOf t) (sym grown) (answers_more t before word outs is was (subst (IsWord t.inputs) (sym same) letters) (given ∙ ap (answer t.rows) (sym same)));
+    }
+
+-- all words so far are known
+pub known_more : (t : MealyMachine) (w : List ℕ) (before now : List KeptAnswer) (batch : List (List ℕ)) (i : ℕ) → i < length batch → get_or batch i [] ≡ w → HasAsked t w before now → All (IsKnown (answers_of before)) (take i batch) → IsKnown (answers_of now) w → All (IsKnown (answers_of now)) (take (i + 1) batch)
+known_more t w before now batch i lt is a was known =
+    All-more (IsKnown (answers_of now)) batch i [] lt (All-weaker (IsKnown (answers_of before)) (IsKnown (answers_of now)) (λ v k. asked_known t w before now v a k) (take i batch) was) (subst (IsKnown (answers_of now)) (sym is) known)

@@ -1,0 +1,25 @@
+-- What contracts see of the oracle of the tests: a machine that answers one word after another.
+use Rattle.std.specs.Prelude.{◌≡◌, ◌⊎◌, ℕ, List, [], ◌∷◌, ◌++◌, Option, Some, None, Bool}
+use Rattle.lw_words.specs.declared.kept.KeptAnswer.{KeptAnswer}
+use Rattle.lw_mealy.specs.Limits.{MealyMachine}
+use Rattle.lw_mealy.specs.Origin.{Origin}
+use Rattle.lw_cache.specs.Settling.{KeepsAnswers}
+use Rattle.lw_cache.specs.declared.stops.AskStop.{AskStop}
+
+pub record TestOracle : Type 0 where
+  pub machine : MealyMachine
+  pub kept : List KeptAnswer
+  pub stop : Option AskStop
+  pub refused : Bool
+
+-- one instance, which tells the machine
+abbrev pub origins_of : MealyMachine → List Origin
+origins_of t = record { machine = Some t.rows; link = None } ∷ []
+
+abbrev pub KeepsOf : MealyMachine → List KeptAnswer → Type 0
+KeepsOf t kept = KeepsAnswers t.inputs t.outputs (origins_of t) kept
+
+-- at most one answer more, to the word
+pub record HasAsked (t : MealyMachine) (w : List ℕ) (before now : List KeptAnswer) : Type 0 where
+  pub gains : (now ≡ before) ⊎ ((k : KeptAnswer) × (now ≡ before ++ k ∷ []) × (k.word ≡ w))
+  pub keeps : KeepsOf t now
