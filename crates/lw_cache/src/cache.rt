@@ -95,7 +95,8 @@ impl Cache {
 
     /// The outputs of a word, or None where it isn't known.
     pub fn read(&self, w: &Word) -> Result<Option<Word>, NoMemory>
-        ensures { IfOk result (λ found. MatchOption found (¬ IsKnown (answers_of self.now.kept) w.now)
+        ensures { IfOk result (λ found. MatchOption found
+            (¬ IsKnown (answers_of self.now.kept) w.now)
             (λ outs. Reads (answers_of self.now.kept) w.now outs)) }
     {
         if w.len() == 0 {
@@ -346,7 +347,8 @@ fn put(kept: &mut Kept, answer: KeptAnswer)
 /// The clash of a new answer with what was found.
 fn clash_of(found: Option<(u32, usize)>, second: usize) -> Result<(), Clash>
     ensures none { IfNone found (IsOk result) }
-    ensures some { IfSome found (λ f. result ≡ Err (record { first = f.0; second = second; place = f.1 })) }
+    ensures some { IfSome found (λ f.
+        result ≡ Err (record { first = f.0; second = second; place = f.1 })) }
 {
     match found {
         None => Ok(()),

@@ -51,7 +51,8 @@ fn first_difference(h: &Mealy, kept: &Kept) -> Option<(usize, usize)>
     requires letters { All (λ k. IsWord h.now.inputs k.word) (answers_of kept.now.answers) }
     requires whole { All IsWhole (answers_of kept.now.answers) }
     ensures none { IfNone result (Gives h.now.rows (answers_of kept.now.answers)) }
-    ensures some { IfSome result (λ at. DiffersAt h.now.rows (answers_of kept.now.answers) at.0 at.1) }
+    ensures some { IfSome result (λ at.
+        DiffersAt h.now.rows (answers_of kept.now.answers) at.0 at.1) }
 {
     for number in 0..kept.len() {
         let answer = kept.get(number);

@@ -1,10 +1,10 @@
 -- A pair comes to one outcome.
-use Rattle.std.proofs.Common.{◌≡◌, ◌≢◌, ℕ, ◌+◌, ◌<◌, ◌≤◌, ◌⊎◌, ⊎_elim, List, [], ◌∷◌, ◌++◌, length, take, drop, min, get_or, refl, sym, ap, ◌∙◌, subst, arith}
+use Rattle.std.proofs.Common.{◌≡◌, ℕ, ◌+◌, ◌<◌, ◌≤◌, ◌⊎◌, ⊎_elim, List, [], ◌++◌, length, take, drop, min, get_or, refl, sym, ap, ◌∙◌, subst, arith}
 use Rattle.std.proofs.lemmas.Bool.{cases_order}
 use Rattle.std.proofs.lemmas.List.{length-take, get_or-take, take-append-drop, take_all}
 use Rattle.lw_words.specs.Answer.{Answer, answer_at, answers_of}
 use Rattle.lw_words.specs.Word.{IsPrefix}
-use Rattle.lw_cache.specs.Clash.{Clash, ClashAt, NothingClashes}
+use Rattle.lw_cache.specs.Clash.{ClashAt, NothingClashes}
 use Rattle.lw_cache.specs.FirstClash.{ClashesFirst}
 use Rattle.lw_cache.specs.declared.stops.Clash.{Clash as Found}
 use Rattle.lw_certify.specs.declared.verdict.Verdict.{Verdict}

@@ -1,5 +1,5 @@
 -- How the command ends.
-use Rattle.std.proofs.Common.{◌≡◌, ◌⊎◌, inl, inr, ⊎_elim, ℕ, ◌<◌, ◌≤◌, List, [], length, Option, Some, None, refl, sym, ap, ◌∙◌, subst, arith}
+use Rattle.std.proofs.Common.{◌≡◌, ◌⊎◌, inl, inr, ⊎_elim, ℕ, List, length, Option, Some, None, refl, sym, ap, ◌∙◌, subst, arith}
 use Rattle.lw_words.specs.Answer.{answers_of}
 use Rattle.lw_words.specs.Cause.{CountedFault}
 use Rattle.lw_mealy.specs.Machine.{IsMachine}
@@ -9,7 +9,7 @@ use Rattle.lw_json.specs.declared.answers.Answers.{Answers}
 use Rattle.lw_json.specs.declared.machine.Machine.{Machine}
 use Rattle.lw_json.proofs.OneValue.{one_value}
 use Rattle.lw_json.proofs.OneAnswers.{one_answers}
-use Rattle.lw_outside.specs.Files.{File, Holds, HoldsLong, file_at, longest_file}
+use Rattle.lw_outside.specs.Files.{File, Holds, HoldsLong, file_at}
 use Rattle.lw_certify.specs.Sure.{Sure}
 use Rattle.lw_certify.proofs.SureLemmas.{sure_is_sure}
 use Rattle.lw_report.specs.Outcomes.{HasOwnText, StandsOrWants}

@@ -1,5 +1,5 @@
 -- Answers that are kept one after the other.
-use Rattle.std.proofs.Common.{◌≡◌, ℕ, ◌+◌, ◌<◌, ◌≤◌, List, [], ◌∷◌, ◌++◌, length, map, take, min, get_or, slice_get, Option, Some, None, Result, Ok, Err, IfErr, refl, sym, ap, ap₂, ◌∙◌, subst, arith}
+use Rattle.std.proofs.Common.{◌≡◌, ℕ, ◌+◌, ◌<◌, List, [], ◌∷◌, ◌++◌, length, take, min, slice_get, Option, Some, None, Result, Err, IfErr, refl, sym, ap, ap₂, ◌∙◌, subst, arith}
 use Rattle.std.specs.List.{All}
 use Rattle.std.specs.Option.{option_or}
 use Rattle.std.proofs.lemmas.List.{length-map, length-take, map-append, take-map, take_more, get_or-map, get_or_default}
@@ -9,7 +9,7 @@ use Rattle.std.proofs.lemmas.Option.{get_or_from_slice_get}
 use Rattle.lw_words.specs.Answer.{Answer, answer_of, answers_of, answer_at, IsWhole}
 use Rattle.lw_words.specs.declared.kept.KeptAnswer.{KeptAnswer}
 use Rattle.lw_cache.specs.Caching.{Caching, kept_answer}
-use Rattle.lw_cache.specs.Clash.{Clash, NothingClashes, IsClear, IsClearAfter}
+use Rattle.lw_cache.specs.Clash.{Clash, NothingClashes, IsClearAfter}
 use Rattle.lw_cache.specs.FirstClash.{ClashesFirst, StopsKeeping}
 use Rattle.lw_cache.specs.declared.stops.KeepStop.{KeepStop}
 use Rattle.lw_cache.specs.declared.stops.KeepStop.TheVariants as Stopped

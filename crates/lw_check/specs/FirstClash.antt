@@ -1,5 +1,5 @@
 -- The first two answers, in the order of a file, that no one machine gives.
-use Rattle.std.specs.Prelude.{◌≡◌, ℕ, ◌<◌, List, length, take}
+use Rattle.std.specs.Prelude.{◌<◌, List, length, take}
 use Rattle.lw_words.specs.Answer.{Answer, answer_at}
 use Rattle.lw_cache.specs.Clash.{NothingClashes}
 use Rattle.lw_cache.specs.FirstClash.{ClashesFirst}

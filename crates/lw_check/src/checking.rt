@@ -41,12 +41,14 @@ fn finish<O: Sink, E: Sink>(
     ensures kept { result.kept.answers ≡ answers.kept.answers }
     ensures complete { IsWithinLimits machine.mealy }
     ensures comes { ComesTo (pair_of machine answers) extra
-        (sink_state (O.taken out.old) (O.faults out.old)) (sink_state (O.taken out.new) (O.faults out.new))
+        (sink_state (O.taken out.old) (O.faults out.old))
+        (sink_state (O.taken out.new) (O.faults out.new))
         result.outcome }
     ensures written { IsAnswered result.outcome →
         TakesAll (text_of machine.inputs machine.outputs answers.kept.answers extra result.outcome)
         (O.taken out.old) (O.taken out.new) × (E.taken err.new ≡ E.taken err.old) }
-    ensures said { ¬ IsAnswered result.outcome → ¬ CountedFault (E.faults err.old) (E.faults err.new) →
+    ensures said { ¬ IsAnswered result.outcome →
+        ¬ CountedFault (E.faults err.old) (E.faults err.new) →
         TakesAll (text_of machine.inputs machine.outputs answers.kept.answers extra result.outcome)
         (E.taken err.old) (E.taken err.new) }
     ensures counts { (O.faults out.old ≤ O.faults out.new) × (E.faults err.old ≤ E.faults err.new) }
@@ -73,16 +75,24 @@ pub fn check<F: Files, O: Sink, E: Sink>(
     ensures status { result.status ≡ status_of result.outcome }
     ensures model { result.model ≡ None }
     ensures ended { EndsUnread model.now answers.now
-        (files_state (F.holds files.old) (F.calls files.old) (F.reads files.old) (F.faults files.old))
-        (files_state (F.holds files.new) (F.calls files.new) (F.reads files.new) (F.faults files.new))
-        extra (sink_state (O.taken out.old) (O.faults out.old)) (sink_state (O.taken out.new) (O.faults out.new))
-        (sink_state (E.taken err.old) (E.faults err.old)) (sink_state (E.taken err.new) (E.faults err.new))
+        (files_state (F.holds files.old) (F.calls files.old) (F.reads files.old)
+        (F.faults files.old))
+        (files_state (F.holds files.new) (F.calls files.new) (F.reads files.new)
+        (F.faults files.new))
+        extra (sink_state (O.taken out.old) (O.faults out.old))
+        (sink_state (O.taken out.new) (O.faults out.new))
+        (sink_state (E.taken err.old) (E.faults err.old))
+        (sink_state (E.taken err.new) (E.faults err.new))
         result.outcome result.kept.answers ⊎
         EndsRead model.now answers.now
-        (files_state (F.holds files.old) (F.calls files.old) (F.reads files.old) (F.faults files.old))
-        (files_state (F.holds files.new) (F.calls files.new) (F.reads files.new) (F.faults files.new))
-        extra (sink_state (O.taken out.old) (O.faults out.old)) (sink_state (O.taken out.new) (O.faults out.new))
-        (sink_state (E.taken err.old) (E.faults err.old)) (sink_state (E.taken err.new) (E.faults err.new))
+        (files_state (F.holds files.old) (F.calls files.old) (F.reads files.old)
+        (F.faults files.old))
+        (files_state (F.holds files.new) (F.calls files.new) (F.reads files.new)
+        (F.faults files.new))
+        extra (sink_state (O.taken out.old) (O.faults out.old))
+        (sink_state (O.taken out.new) (O.faults out.new))
+        (sink_state (E.taken err.old) (E.faults err.old))
+        (sink_state (E.taken err.new) (E.faults err.new))
         result.outcome result.kept.answers }
     ensures exact { (m : Model) (a : Given) (decision : Came) →
         TellsFile IsMachineFile (F.holds files.old) model.now m →
@@ -90,8 +100,10 @@ pub fn check<F: Files, O: Sink, E: Sink>(
         IsDecision (pair_of m a) extra decision → DecidesAs decision result.outcome }
     ensures sure { (states : ℕ) → result.outcome ≡ Came.Yes states → (p : Pair) ×
         ReadsPair model.now answers.now
-        (files_state (F.holds files.old) (F.calls files.old) (F.reads files.old) (F.faults files.old))
-        (files_state (F.holds files.new) (F.calls files.new) (F.reads files.new) (F.faults files.new)) p ×
+        (files_state (F.holds files.old) (F.calls files.old) (F.reads files.old)
+        (F.faults files.old))
+        (files_state (F.holds files.new) (F.calls files.new) (F.reads files.new)
+        (F.faults files.new)) p ×
         Sure p.mealy.inputs p.mealy.rows (answers_of p.kept) extra }
     ensures counts { (F.faults files.old ≤ F.faults files.new) ×
         (O.faults out.old ≤ O.faults out.new) × (E.faults err.old ≤ E.faults err.new) }

@@ -31,8 +31,10 @@ fn verdict_outcome(states: u16, verdict: Verdict) -> Outcome
 /// The outcome of a model and answers of which nothing clashes.
 fn certified(alloc: Global, machine: &Machine, cache: &Cache, extra: u8) -> Outcome
     requires few { extra ≤ 4 }
-    requires letters { All (λ k. IsWord machine.now.mealy.inputs k.word) (answers_of cache.now.kept) }
-    ensures { (result ≡ Came.NoMemory) ⊎ HasOutcome machine.now.mealy (answers_of cache.now.kept) extra result }
+    requires letters { All (λ k. IsWord machine.now.mealy.inputs k.word)
+        (answers_of cache.now.kept) }
+    ensures { (result ≡ Came.NoMemory) ⊎
+        HasOutcome machine.now.mealy (answers_of cache.now.kept) extra result }
 {
     match certify(alloc, &machine.mealy, cache, extra) {
         Ok(verdict) => verdict_outcome(machine.mealy.states(), verdict),

@@ -51,7 +51,8 @@ fn keep(
 pub(crate) fn fill(alloc: Global, kept: &Kept) -> Result<Filled, NoMemory>
     requires { All IsWhole (answers_of kept.now.answers) }
     ensures kept { IfOk result (λ f. f.cache.kept ≡ kept.now.answers) }
-    ensures clash { IfOk result (λ f. ClashBefore kept.now.answers (length kept.now.answers) f.clash) }
+    ensures clash { IfOk result (λ f.
+        ClashBefore kept.now.answers (length kept.now.answers) f.clash) }
 {
     let mut cache = Cache::new(alloc);
     let mut clash = None;

@@ -24,12 +24,16 @@ pub(crate) fn read_pair<F: Files>(
     answers: &str,
 ) -> Result<Read, Outcome>
     ensures ok { IfOk result (λ read. ReadsPair model.now answers.now
-        (files_state (F.holds files.old) (F.calls files.old) (F.reads files.old) (F.faults files.old))
-        (files_state (F.holds files.new) (F.calls files.new) (F.reads files.new) (F.faults files.new))
+        (files_state (F.holds files.old) (F.calls files.old) (F.reads files.old)
+        (F.faults files.old))
+        (files_state (F.holds files.new) (F.calls files.new) (F.reads files.new)
+        (F.faults files.new))
         (pair_of read.machine read.answers)) }
     ensures err { IfErr result (IsUnread model.now answers.now
-        (files_state (F.holds files.old) (F.calls files.old) (F.reads files.old) (F.faults files.old))
-        (files_state (F.holds files.new) (F.calls files.new) (F.reads files.new) (F.faults files.new))) }
+        (files_state (F.holds files.old) (F.calls files.old) (F.reads files.old)
+        (F.faults files.old))
+        (files_state (F.holds files.new) (F.calls files.new) (F.reads files.new)
+        (F.faults files.new))) }
     ensures counts { F.faults files.old ≤ F.faults files.new }
     ensures same { F.holds files.new ≡ F.holds files.old }
 {

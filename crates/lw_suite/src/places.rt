@@ -59,7 +59,8 @@ pub(crate) fn step(parts: &Parts, place: Place, front: &mut Word) -> Result<Plac
     requires more { place.front < length parts.now.access * parts.now.middles }
     requires front { IsFront parts.now place front.old }
     ensures place { IfOk result (IsPlace parts.now) }
-    ensures number { IfOk result (λ next. number_of parts.now next ≡ number_of parts.now place + 1) }
+    ensures number { IfOk result (λ next.
+        number_of parts.now next ≡ number_of parts.now place + 1) }
     ensures front { IfOk result (λ next. IsFront parts.now next front.new) }
 {
     if place.end < parts.ends.len() {

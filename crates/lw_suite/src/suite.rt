@@ -43,7 +43,8 @@ impl From<NoMemory> for SuiteFault {
 fn check_size(m: &Mealy, extra: u8) -> Result<(), SuiteFault>
     requires { extra ≤ 4 }
     ensures ok { OnOk result (suite_size (length m.now.rows) m.now.inputs extra ≤ greatest_suite) }
-    ensures err { IfErr result (λ fault. (greatest_suite < suite_size (length m.now.rows) m.now.inputs extra) ×
+    ensures err { IfErr result (λ fault.
+        (greatest_suite < suite_size (length m.now.rows) m.now.inputs extra) ×
         (fault ≡ Fault.TooLarge (suite_size (length m.now.rows) m.now.inputs extra))) }
 {
     let size = suite_size(m.states(), m.inputs(), extra);

@@ -1,12 +1,12 @@
 -- Arguments are those of one command at most.
-use Rattle.std.proofs.Common.{◌≡◌, ◌∙◌, List, ℕ, [], ◌∷◌, Bool, true, false, cond, codes, Option, Some, None, refl, sym, ap, subst}
+use Rattle.std.proofs.Common.{◌≡◌, List, ℕ, [], ◌∷◌, Bool, true, false, codes, Option, Some, None, refl}
 use Rattle.std.specs.Str.{bytes_eq}
 use Rattle.std.specs.Prelude.{◌&&◌, if◌then◌else◌}
 use Rattle.std.proofs.lemmas.Slice.Eq.{bytes_eq-Decides}
 use Rattle.clap.specs.Faults.{fault_of}
 use Rattle.clap.specs.Words.{matches_of}
 use Rattle.lw_learn.specs.Arguments.{LearnValues}
-use Rattle.lw_top.specs.CheckCommand.{CheckValues, check_app, check_values, values_in as check_values_in}
+use Rattle.lw_top.specs.CheckCommand.{check_app, check_values, values_in as check_values_in}
 use Rattle.lw_top.specs.CommandLine.{is_command, is_faultless}
 use Rattle.lw_top.specs.LearnCommand.{learn_app, learn_values, values_in}
 

@@ -1,5 +1,5 @@
 -- Answers that are kept one after the other.
-use Rattle.std.specs.Prelude.{◌≡◌, ℕ, List, length, take, Option, None, Some}
+use Rattle.std.specs.Prelude.{ℕ, List, take, Option, None, Some}
 use Rattle.lw_words.specs.Answer.{answers_of}
 use Rattle.lw_words.specs.declared.kept.KeptAnswer.{KeptAnswer}
 use Rattle.lw_cache.specs.Clash.{NothingClashes}

@@ -1,9 +1,8 @@
-use Rattle.std.proofs.Common.{◌≡◌, ◌∙◌, ℕ, List, [], ap, refl, sym, subst, inl}
-use Rattle.lw_words.specs.Answer.{answers_of}
+use Rattle.std.proofs.Common.{◌≡◌, ◌∙◌, List, [], ap, refl, subst, inl}
 use Rattle.lw_words.specs.declared.kept.KeptAnswer.{KeptAnswer}
 use Rattle.lw_report.specs.Text.{text_of}
 use Rattle.lw_report.specs.Writing.{TakesAll, TakesSome}
-use Rattle.lw_check.specs.Decision.{Pair, pair_of}
+use Rattle.lw_check.specs.Decision.{pair_of}
 use Rattle.lw_report.specs.States.{files_state, sink_state}
 use Rattle.lw_check.proofs.EndLemmas.{still_unread, exact_unread, exact_read, yes_is_sure}
 use Rattle.lw_check.proofs.checking.check.Goals as goal

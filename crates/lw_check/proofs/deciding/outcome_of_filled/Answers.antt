@@ -1,4 +1,4 @@
-use Rattle.std.proofs.Common.{◌≡◌, ◌∙◌, ℕ, List, Option, length, ap, sym, subst, inr}
+use Rattle.std.proofs.Common.{◌∙◌, ℕ, List, Option, length, ap, sym, subst, inr}
 use Rattle.lw_cache.specs.declared.stops.Clash.{Clash}
 use Rattle.lw_check.specs.Decision.{pair_of}
 use Rattle.lw_check.specs.bodies.Filled.{ClashBefore}

@@ -1,4 +1,4 @@
-use Rattle.std.proofs.Common.{◌≡◌, ℕ, Some, sym, ap, ◌∙◌, length}
+use Rattle.std.proofs.Common.{Some, sym, ap, ◌∙◌, length}
 use Rattle.lw_check.proofs.FillLemmas.{whole_at, filled_more, so_far_ok, so_far_err, stopped, or_none, or_some}
 use Rattle.lw_check.proofs.filling.keep.Goals as goal
 

@@ -1,9 +1,8 @@
-use Rattle.std.proofs.Common.{◌≡◌, ◌∙◌, List, ℕ, Option, Err, true, false, refl, ap, subst}
+use Rattle.std.proofs.Common.{◌∙◌, List, ℕ, Option, Err, true, false, refl, ap, subst}
 use Rattle.lw_json.specs.AnswersFile.{IsAnswersFile}
 use Rattle.lw_json.specs.AnswersFault.{HasAnswersFault}
 use Rattle.lw_outside.specs.Files.{File, HoldsLong, noted, read_call}
 use Rattle.lw_report.specs.Reading.{ReadsFile, ReadsBadFile}
-use Rattle.lw_check.specs.Reading.{IsUnread}
 use Rattle.lw_report.specs.States.{files_state}
 use Rattle.lw_words.specs.Cause.{CountedFault}
 use Rattle.lw_report.specs.declared.stops.ReadStop.{ReadStop}

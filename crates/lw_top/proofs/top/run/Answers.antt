@@ -1,10 +1,9 @@
-use Rattle.std.proofs.Common.{◌∙◌, Option, Err, IfSome, sym, ap, refl, subst}
-use Rattle.lw_learn.specs.Arguments.{LearnValues}
+use Rattle.std.proofs.Common.{◌∙◌, Err, sym, ap, refl, subst}
 use Rattle.lw_learn.specs.LearnRun.{IsLearnRun}
 use Rattle.lw_report.specs.States.{files_state, sink_state}
 use Rattle.lw_check.specs.CheckRun.{IsCheckRun}
 use Rattle.lw_top.specs.Call.{IsCall}
-use Rattle.lw_top.specs.CheckCommand.{CheckValues, check_values}
+use Rattle.lw_top.specs.CheckCommand.{check_values}
 use Rattle.lw_top.specs.CommandLine.{texts}
 use Rattle.lw_top.specs.LearnCommand.{learn_values}
 use Rattle.lw_top.specs.Run.{IsRefused}
