@@ -39,10 +39,32 @@ comes_to p extra out now decision outcome decided told counted some =
     r)
     told
 
+-- where memory runs out in telling a cause, the calls were its calls
+no_text : (model answers : List ℕ) (before now : FilesState) (o : Outcome) → HasOwnText o → IsUnread model answers before now o → IsUnread model answers before now NoMemory
+no_text model answers before now (BadFile role.Model fault) own u = inr (inl u.1)
+no_text model answers before now (BadFile role.Answers fault) own u = inr (inr u.1)
+no_text model answers before now (BadFile role.Setup fault) own u = absurd u
+no_text model answers before now (BadFile role.Table fault) own u = absurd u
+no_text model answers before now (FileTooLong r) own u = absurd own
+no_text model answers before now (FileFault r) own u = absurd own
+no_text model answers before now NoMemory own u = absurd own
+no_text model answers before now (Unchecked t) own u = absurd u
+no_text model answers before now (Yes n) own u = absurd u
+no_text model answers before now (No v) own u = absurd u
+no_text model answers before now Usage own u = absurd u
+no_text model answers before now Alphabets own u = absurd u
+no_text model answers before now (Nondeterministic c) own u = absurd u
+no_text model answers before now (TooManyStates ws) own u = absurd u
+no_text model answers before now (SuiteTooLarge n s) own u = absurd u
+no_text model answers before now SinkFault own u = absurd u
+
 -- a cause stands, or memory runs out in telling it
 pub still_unread : (model answers : List ℕ) (before now : FilesState) (o r : Outcome) → IsUnread model answers before now o → StandsOrWants o r → IsUnread model answers before now r
 still_unread model answers before now o r u s =
-    ⊎_elim (λ (e : r ≡ o). subst (IsUnread model answers before now) (sym e) u) (λ (w : HasOwnText o × (r ≡ NoMemory)). subst (IsUnread model answers before now) (sym w.1) tt) s
+    ⊎_elim
+    (λ (e : r ≡ o). subst (IsUnread model answers before now) (sym e) u)
+    (λ (w : HasOwnText o × (r ≡ NoMemory)). subst (IsUnread model answers before now) (sym w.1) (no_text model answers before now o w.0 u))
+    s
 
 -- bytes that are told and those that were read are the same
 told_bytes : (fs : List File) (name told read : List ℕ) → file_at name fs ≡ Some told → file_at name fs ≡ Some read → read ≡ told

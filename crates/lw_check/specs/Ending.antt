@@ -1,5 +1,5 @@
 -- How the command ends.
-use Rattle.std.specs.Prelude.{◌≡◌, ◌⊎◌, ℕ, List, []}
+use Rattle.std.specs.Prelude.{◌≡◌, ◌≢◌, ◌⊎◌, ℕ, List, []}
 use Rattle.lw_words.specs.Cause.{CountedFault}
 use Rattle.lw_words.specs.declared.kept.KeptAnswer.{KeptAnswer}
 use Rattle.lw_check.specs.Decision.{IsAnswered, IsDecision, Pair}
@@ -26,15 +26,18 @@ ComesTo p extra out out_now outcome =
     ⊎ ((outcome ≡ NoMemory)
     ⊎ ((outcome ≡ SinkFault) × CountedFault out.faults out_now.faults × ((decision : Outcome) × IsAnswered decision × IsDecision p extra decision × TakesSome (text_of p.inputs p.outputs p.kept extra decision) out.taken out_now.taken)))
 
--- a pair was read: its answers are kept; a yes or a no is put to `out` and nothing to `err`; the text of any other outcome
--- goes to `err`, whole where that counts no fault
+-- a pair was read: its answers are kept; a yes or a no is put to `out`, without a fault, and nothing to `err`; of any other
+-- outcome but a fault of a stream nothing is put to `out`, and its text goes to `err`, whole where that counts no fault
 pub record EndsRead (model answers : List ℕ) (before now : FilesState) (extra : ℕ) (out out_now err err_now : SinkState) (outcome : Outcome) (kept : List KeptAnswer) : Type 0 where
   pub pair : Pair
   pub read : ReadsPair model answers before now pair
   pub kept_all : kept ≡ pair.kept
   pub comes : ComesTo pair extra out out_now outcome
+  pub quiet : IsAnswered outcome → (out_now.faults ≡ out.faults) × (err_now.faults ≡ err.faults)
   pub written : IsAnswered outcome → TakesAll (text_of pair.inputs pair.outputs pair.kept extra outcome) out.taken out_now.taken × (err_now.taken ≡ err.taken)
+  pub unwritten : ¬ IsAnswered outcome → outcome ≢ SinkFault → out_now.taken ≡ out.taken
   pub said : ¬ IsAnswered outcome → ¬ CountedFault err.faults err_now.faults → TakesAll (text_of pair.inputs pair.outputs pair.kept extra outcome) err.taken err_now.taken
+  pub said_part : ¬ IsAnswered outcome → TakesSome (text_of pair.inputs pair.outputs pair.kept extra outcome) err.taken err_now.taken
 
 -- where files are told, the outcome is their decision, or a fault or memory came between
 abbrev pub DecidesAs : Outcome → Outcome → Type 0

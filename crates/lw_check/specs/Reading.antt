@@ -1,5 +1,5 @@
 -- What the command read: the model file, then the answers file.
-use Rattle.std.specs.Prelude.{◌≡◌, ℕ, ◌≤◌, List, length, true, false, Option, Some, None}
+use Rattle.std.specs.Prelude.{◌≡◌, ◌⊎◌, ℕ, ◌≤◌, List, length, Bool, true, false, Option, Some, None}
 use Rattle.lw_words.specs.Cause.{CountedFault}
 use Rattle.lw_json.specs.AnswersFault.{HasAnswersFault}
 use Rattle.lw_json.specs.AnswersFile.{IsAnswersFile}
@@ -7,7 +7,7 @@ use Rattle.lw_json.specs.MachineFile.{IsMachineFile}
 use Rattle.lw_json.specs.MachineFault.{HasMachineFault}
 use Rattle.lw_json.specs.declared.machine.Machine.{Machine}
 use Rattle.lw_json.specs.declared.answers.Answers.{Answers}
-use Rattle.lw_outside.specs.Files.{File, HoldsLong, file_at, longest_file, noted, read_call}
+use Rattle.lw_outside.specs.Files.{Call, File, HoldsLong, file_at, longest_file, noted, read_call}
 use Rattle.lw_report.specs.Reading.{ReadsFile, ReadsBadFile}
 use Rattle.lw_report.specs.States.{FilesState}
 use Rattle.lw_report.specs.declared.role.Role.TheVariants.{Model, Answers as Answered}
@@ -15,7 +15,18 @@ use Rattle.lw_report.specs.declared.outcome.Outcome.{Outcome}
 use Rattle.lw_report.specs.declared.outcome.Outcome.TheVariants.{BadFile, FileTooLong, FileFault, NoMemory}
 use Rattle.lw_check.specs.Decision.{Pair, pair_of}
 
--- one read gave the file of a model, and a second one the file of answers
+-- the calls after the read of the model, and after that of the answers, which failed or not
+abbrev pub model_read : List ℕ → Bool → FilesState → Option (List Call)
+model_read model failed before = noted (read_call model failed) before.calls
+
+abbrev pub answers_read : List ℕ → List ℕ → Bool → FilesState → Option (List Call)
+answers_read model answers failed before = noted (read_call answers failed) (model_read model false before)
+
+-- one read gave the file of a model
+abbrev pub ReadsModel : List ℕ → FilesState → List File → Type 0
+ReadsModel model before reads = (m : Machine) × ReadsFile IsMachineFile model before.holds before.reads reads m
+
+-- one read gave the file of a model, and a second one the file of answers, and the files counted no fault
 pub record ReadsPair (model answers : List ℕ) (before now : FilesState) (p : Pair) : Type 0 where
   pub machine : Machine
   pub read_answers : Answers
@@ -23,20 +34,21 @@ pub record ReadsPair (model answers : List ℕ) (before now : FilesState) (p : P
   pub model_file : ReadsFile IsMachineFile model before.holds before.reads middle machine
   pub answers_file : ReadsFile IsAnswersFile answers before.holds middle now.reads read_answers
   pub pair : p ≡ pair_of machine read_answers
-  pub calls : now.calls ≡ noted (read_call answers false) (noted (read_call model false) before.calls)
+  pub calls : now.calls ≡ answers_read model answers false before
+  pub quiet : now.faults ≡ before.faults
 
 -- why no pair was read
 abbrev pub IsUnread : List ℕ → List ℕ → FilesState → FilesState → Outcome → Type 0
 IsUnread model answers before now (BadFile Model fault) =
-    ReadsBadFile IsMachineFile HasMachineFault model before.holds before.reads now.reads fault × (now.calls ≡ noted (read_call model false) before.calls)
+    ReadsBadFile IsMachineFile HasMachineFault model before.holds before.reads now.reads fault × (now.calls ≡ model_read model false before)
 IsUnread model answers before now (BadFile Answered fault) =
     ((middle : List File) × (m : Machine) × ReadsFile IsMachineFile model before.holds before.reads middle m × ReadsBadFile IsAnswersFile HasAnswersFault answers before.holds middle now.reads fault)
-    × (now.calls ≡ noted (read_call answers false) (noted (read_call model false) before.calls))
-IsUnread model answers before now (FileTooLong Model) = HoldsLong before.holds model × (now.calls ≡ noted (read_call model false) before.calls)
-IsUnread model answers before now (FileTooLong Answered) = HoldsLong before.holds answers × (now.calls ≡ noted (read_call answers false) (noted (read_call model false) before.calls))
-IsUnread model answers before now (FileFault Model) = CountedFault before.faults now.faults × (now.calls ≡ noted (read_call model true) before.calls)
-IsUnread model answers before now (FileFault Answered) = CountedFault before.faults now.faults × (now.calls ≡ noted (read_call answers true) (noted (read_call model false) before.calls))
-IsUnread model answers before now NoMemory = Unit {0}
+    × (now.calls ≡ answers_read model answers false before)
+IsUnread model answers before now (FileTooLong Model) = HoldsLong before.holds model × (now.calls ≡ model_read model false before) × (now.reads ≡ before.reads)
+IsUnread model answers before now (FileTooLong Answered) = HoldsLong before.holds answers × (now.calls ≡ answers_read model answers false before) × ReadsModel model before now.reads
+IsUnread model answers before now (FileFault Model) = CountedFault before.faults now.faults × (now.calls ≡ model_read model true before) × (now.reads ≡ before.reads)
+IsUnread model answers before now (FileFault Answered) = CountedFault before.faults now.faults × (now.calls ≡ answers_read model answers true before) × ReadsModel model before now.reads
+IsUnread model answers before now NoMemory = (now.calls ≡ before.calls) ⊎ ((now.calls ≡ model_read model false before) ⊎ (now.calls ≡ answers_read model answers false before))
 IsUnread model answers before now _ = ⊥
 
 -- it is told that the file of this value stands under the name, and it isn't too long

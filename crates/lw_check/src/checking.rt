@@ -1,5 +1,5 @@
 //! The command.
-ghost use Rattle.std.specs.Prelude.{◌≡◌, ◌⊎◌, ◌≤◌, ℕ, None};
+ghost use Rattle.std.specs.Prelude.{◌≡◌, ◌≢◌, ◌⊎◌, ◌≤◌, ℕ, None};
 ghost use Rattle.lw_json.specs.AnswersFile.{IsAnswersFile};
 ghost use Rattle.lw_json.specs.MachineFile.{IsMachineFile};
 ghost use Rattle.lw_json.specs.declared.answers.Answers.{Answers as Given};
@@ -7,7 +7,7 @@ ghost use Rattle.lw_json.specs.declared.machine.Machine.{Machine as Model};
 ghost use Rattle.lw_check.specs.Decision.{IsAnswered, IsDecision, Pair, pair_of};
 ghost use Rattle.lw_words.specs.Cause.{CountedFault};
 ghost use Rattle.lw_report.specs.Text.{text_of};
-ghost use Rattle.lw_report.specs.Writing.{TakesAll};
+ghost use Rattle.lw_report.specs.Writing.{TakesAll, TakesSome};
 ghost use Rattle.lw_check.specs.Ending.{ComesTo, DecidesAs, EndsRead, EndsUnread};
 ghost use Rattle.lw_report.specs.States.{files_state, sink_state};
 ghost use Rattle.lw_check.specs.Reading.{ReadsPair, TellsFile};
@@ -51,6 +51,13 @@ fn finish<O: Sink, E: Sink>(
         ¬ CountedFault (E.faults err.old) (E.faults err.new) →
         TakesAll (text_of machine.inputs machine.outputs answers.kept.answers extra result.outcome)
         (E.taken err.old) (E.taken err.new) }
+    ensures said_part { ¬ IsAnswered result.outcome → TakesSome (text_of machine.inputs
+        machine.outputs answers.kept.answers extra result.outcome)
+        (E.taken err.old) (E.taken err.new) }
+    ensures unwritten { ¬ IsAnswered result.outcome → result.outcome ≢ Came.SinkFault →
+        O.taken out.new ≡ O.taken out.old }
+    ensures quiet { IsAnswered result.outcome → (O.faults out.new ≡ O.faults out.old) ×
+        (E.faults err.new ≡ E.faults err.old) }
     ensures counts { (O.faults out.old ≤ O.faults out.new) × (E.faults err.old ≤ E.faults err.new) }
 {
     let _states = machine.mealy.states();
@@ -74,6 +81,7 @@ pub fn check<F: Files, O: Sink, E: Sink>(
     requires few { extra ≤ 4 }
     ensures status { result.status ≡ status_of result.outcome }
     ensures model { result.model ≡ None }
+    ensures untouched { F.holds files.new ≡ F.holds files.old }
     ensures ended { EndsUnread model.now answers.now
         (files_state (F.holds files.old) (F.calls files.old) (F.reads files.old)
         (F.faults files.old))

@@ -1,5 +1,5 @@
 //! What the command writes.
-ghost use Rattle.std.specs.Prelude.{◌≡◌, ◌⊎◌, ◌≤◌, true, false};
+ghost use Rattle.std.specs.Prelude.{◌≡◌, ◌≢◌, ◌⊎◌, ◌≤◌, true, false};
 ghost use Rattle.lw_words.specs.Cause.{CountedFault};
 ghost use Rattle.lw_check.specs.Decision.{IsAnswered};
 ghost use Rattle.lw_check.specs.Telling.{IsTold};
@@ -41,10 +41,16 @@ pub(crate) fn tell<O: Sink, E: Sink>(
         kept.now.answers extra result) (O.taken out.old) (O.taken out.new) }
     ensures part { TakesSome (text_of machine.now.inputs machine.now.outputs
         kept.now.answers extra outcome) (O.taken out.old) (O.taken out.new) }
+    ensures unwritten { ¬ IsAnswered result → result ≢ Came.SinkFault →
+        O.taken out.new ≡ O.taken out.old }
+    ensures quiet { IsAnswered result → (O.faults out.new ≡ O.faults out.old) ×
+        (E.faults err.new ≡ E.faults err.old) }
     ensures left { ¬ IsAnswered outcome → O.taken out.new ≡ O.taken out.old }
     ensures said { ¬ IsAnswered result → ¬ CountedFault (E.faults err.old) (E.faults err.new) →
         TakesAll (text_of machine.now.inputs machine.now.outputs kept.now.answers extra result)
         (E.taken err.old) (E.taken err.new) }
+    ensures said_part { ¬ IsAnswered result → TakesSome (text_of machine.now.inputs
+        machine.now.outputs kept.now.answers extra result) (E.taken err.old) (E.taken err.new) }
     ensures silent { IsAnswered result → E.taken err.new ≡ E.taken err.old }
     ensures counts { (O.faults out.old ≤ O.faults out.new) × (E.faults err.old ≤ E.faults err.new) }
 {

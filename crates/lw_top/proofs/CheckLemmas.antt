@@ -21,8 +21,9 @@ wanted_check model answers extra f o e d end out r =
     subst (λ (x : Outcome). TakesSome (text_of [] [] [] extra x) e.taken d.taken) (sym is) (subst (λ (x : Outcome). TakesSome (text_of [] [] [] 0 x) e.taken d.taken) is t) in
     record {
       no_model = r.model;
+      untouched = refl;
       ended = inl (record {
-        cause = subst (IsUnread model answers f f) (sym out) tt;
+        cause = subst (IsUnread model answers f f) (sym out) (inl refl);
         kept_none = r.kept;
         unwritten = refl;
         said = λ quiet. said end.outcome out (r.said quiet);

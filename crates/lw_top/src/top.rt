@@ -52,6 +52,9 @@ pub fn without_arguments<E: Sink>(alloc: Global, err: &mut E) -> End
     ensures kept { result.kept.answers ≡ [] }
     ensures said { ¬ CountedFault (E.faults err.old) (E.faults err.new) →
         TakesAll (said_text None None [] 0 Came.NoMemory) (E.taken err.old) (E.taken err.new) }
+    ensures part { TakesSome (said_text None None [] 0 Came.NoMemory) (E.taken err.old)
+        (E.taken err.new) }
+    ensures counts { E.faults err.old ≤ E.faults err.new }
 {
     refuse_arguments(alloc, ArgumentStop::NoMemory, err)
 }

@@ -1,12 +1,14 @@
-use Rattle.std.proofs.Common.{◌∙◌, List, ℕ, Option, Err, true, false, refl, ap, subst}
+use Rattle.std.proofs.Common.{◌≡◌, ◌∙◌, ◌⊎◌, ⊎_elim, inl, inr, sym, List, ℕ, Option, Err, true, false, refl, ap, subst}
 use Rattle.lw_json.specs.AnswersFile.{IsAnswersFile}
 use Rattle.lw_json.specs.AnswersFault.{HasAnswersFault}
+use Rattle.lw_json.specs.MachineFile.{IsMachineFile}
 use Rattle.lw_outside.specs.Files.{File, HoldsLong, noted, read_call}
 use Rattle.lw_report.specs.Reading.{ReadsFile, ReadsBadFile}
 use Rattle.lw_report.specs.States.{files_state}
 use Rattle.lw_words.specs.Cause.{CountedFault}
 use Rattle.lw_report.specs.declared.stops.ReadStop.{ReadStop}
-use Rattle.lw_check.proofs.ReadLemmas.{unread_answers}
+use Rattle.lw_check.specs.Reading.{answers_read, model_read}
+use Rattle.lw_check.proofs.ReadLemmas.{unread_answers, unread_model}
 use Rattle.lw_check.proofs.reading.read_pair.Goals as goal
 
 pub returns-in-Ok-read_answers_file-clause-ok : goal.returns-in-Ok-read_answers_file-clause-ok
@@ -20,6 +22,7 @@ returns-in-Ok-read_answers_file-clause-ok g c =
       answers_file = subst (λ (h : Option (List File)). ReadsFile IsAnswersFile c.args.answers.now h (F.reads c.read_machine_file.new.files) (F.reads c.read_answers_file.new.files) c.in-Ok-read_answers_file.answers) c.in-Ok.ensures.same c.in-Ok-read_answers_file.ensures.ok;
       pair = refl;
       calls = c.in-Ok-read_answers_file.ensures.ok_call ∙ ap (noted (read_call c.args.answers.now false)) c.in-Ok.ensures.ok_call;
+      quiet = c.in-Ok-read_answers_file.ensures.quiet ∙ c.in-Ok.ensures.quiet;
     }
 
 pub returns-in-Err-read_answers_file-clause-err : goal.returns-in-Err-read_answers_file-clause-err
@@ -32,6 +35,9 @@ returns-in-Err-read_answers_file-clause-err g c =
     let answers = c.args.answers.now in
     let middle = F.reads c.read_machine_file.new.files in
     let end = F.reads c.read_answers_file.new.files in
+    let before = files_state (F.holds c.args.files.now) (F.calls c.args.files.now) (F.reads c.args.files.now) (F.faults c.args.files.now) in
+    let calls = F.calls c.read_answers_file.new.files in
+    let model_file : end ≡ middle → ReadsFile IsMachineFile model (F.holds c.args.files.now) (F.reads c.args.files.now) end c.in-Ok.machine = λ same. subst (λ (r : List File). ReadsFile IsMachineFile model (F.holds c.args.files.now) (F.reads c.args.files.now) r c.in-Ok.machine) (sym same) first.ok in
     let then = ap (noted (read_call answers false)) first.ok_call in
     let failing = ap (noted (read_call answers true)) first.ok_call in
     rw c.outcome-in-Err-read_answers_file.ensures
@@ -43,8 +49,26 @@ returns-in-Err-read_answers_file-clause-err g c =
     (λ kind. (
       subst (λ (h : Option (List File)). HoldsLong h answers) first.same (told.long (is ∙ ap (λ (s : ReadStop). Err s) kind)),
       told.long_call (is ∙ ap (λ (s : ReadStop). Err s) kind) ∙ then,
+      (c.in-Ok.machine, model_file (told.long_unread (is ∙ ap (λ (s : ReadStop). Err s) kind))),
     ))
     (λ kind. (
       subst (λ (n : ℕ). CountedFault n (F.faults c.read_answers_file.new.files)) first.quiet (told.failed (is ∙ ap (λ (s : ReadStop). Err s) kind)),
       told.failed_call (is ∙ ap (λ (s : ReadStop). Err s) kind) ∙ failing,
-    )))
+      (c.in-Ok.machine, model_file (told.failed_unread (is ∙ ap (λ (s : ReadStop). Err s) kind))),
+    ))
+    (λ kind. ⊎_elim
+    (λ (none : calls ≡ F.calls c.read_machine_file.new.files). inl (none ∙ first.ok_call))
+    (λ (one : calls ≡ noted (read_call answers false) (F.calls c.read_machine_file.new.files)). inr (one ∙ then))
+    (told.memory (is ∙ ap (λ (s : ReadStop). Err s) kind))))
+
+pub returns-in-Err-clause-err : goal.returns-in-Err-clause-err
+returns-in-Err-clause-err g c =
+    let F = g.F.Files in
+    let told = c.read_machine_file.ensures in
+    let is = c.in-Err.is in
+    rw c.outcome.ensures
+    (unread_model c.args.model.now c.args.answers.now (files_state (F.holds c.args.files.now) (F.calls c.args.files.now) (F.reads c.args.files.now) (F.faults c.args.files.now)) (files_state (F.holds c.read_machine_file.new.files) (F.calls c.read_machine_file.new.files) (F.reads c.read_machine_file.new.files) (F.faults c.read_machine_file.new.files)) c.in-Err.stop
+    (λ fault kind. let e = is ∙ ap (λ (s : ReadStop). Err s) kind in (told.bad fault e, told.bad_call fault e))
+    (λ kind. let e = is ∙ ap (λ (s : ReadStop). Err s) kind in (told.long e, told.long_call e, told.long_unread e))
+    (λ kind. let e = is ∙ ap (λ (s : ReadStop). Err s) kind in (told.failed e, told.failed_call e, told.failed_unread e))
+    (λ kind. told.memory (is ∙ ap (λ (s : ReadStop). Err s) kind)))
