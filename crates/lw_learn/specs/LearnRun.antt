@@ -20,7 +20,7 @@ use Rattle.lw_learn.specs.Kept.{KeepsRuns}
 use Rattle.lw_learn.specs.Outcomes.{HasRole, IsUnchecked, IsUngiven, IsUnread, IsUntroubled, IsWriteFault}
 use Rattle.lw_learn.specs.Reading.{ReadsNoTable, ReadsTable, TellsFailed, TellsLong, TellsNoTable, TellsTable}
 use Rattle.lw_learn.specs.Stops.{IsCrowdOf}
-use Rattle.lw_learn.specs.Writing.{NothingFailed, StaysBesides, TakesInTurn, WritesModel, inputs_of, line_of, outputs_of}
+use Rattle.lw_learn.specs.Writing.{HasNames, NothingFailed, StaysBesides, TakesInTurn, WritesModel, inputs_of, line_of, outputs_of}
 
 -- the machine is that of the table file, by the bytes that were read
 abbrev pub IsTable : LearnValues → FilesState → FilesState → Machine → Type 0
@@ -39,10 +39,11 @@ pub record IsLearnRun (a : LearnValues) (f g : FilesState) (o p : SinkState) (e 
   pub beside : StaysBesides a.model a.answers f.holds g.holds
   pub said :
       ¬ CountedFault e.faults d.faults
-      → (t : Option Machine) × IfSome t (IsTable a f g) × TakesAll (said_text (inputs_of t) (outputs_of t) end.kept.answers a.extra end.outcome) e.taken d.taken
+      → (t : Option Machine) × IfSome t (IsTable a f g) × HasNames end.outcome t × TakesAll (said_text (inputs_of t) (outputs_of t) end.kept.answers a.extra end.outcome) e.taken d.taken
   pub in_turn :
       (t : Option Machine)
       × IfSome t (IsTable a f g)
+      × HasNames end.outcome t
       × TakesInTurn (line_of t end.kept.answers a.extra end.model) (said_text (inputs_of t) (outputs_of t) end.kept.answers a.extra end.outcome) e.taken d.taken
   pub bad_file : (role : Role) (fault : JsonFault) → end.outcome ≡ BadFile role fault → (role ≡ Table) × ReadsNoTable a.table f.holds f.reads g.reads fault
   pub bad_file_told : TellsNoTable f.holds a.table → IsUnread end.outcome

@@ -1,5 +1,5 @@
 -- What `learn` writes: to files, to `out` and to `err`.
-use Rattle.std.specs.Prelude.{◌≡◌, ◌≢◌, ℕ, List, [], Option, Some, None, option_map}
+use Rattle.std.specs.Prelude.{◌≡◌, ◌≢◌, ℕ, List, [], Option, Some, None, IsSome, option_map}
 use Rattle.lw_words.specs.Cause.{CountedFault}
 use Rattle.lw_words.specs.declared.kept.KeptAnswer.{KeptAnswer}
 use Rattle.lw_mealy.specs.Limits.{MealyMachine}
@@ -12,7 +12,7 @@ use Rattle.lw_learn.specs.Outcomes.{HasFiles, HasModelFile, IsBeforeOut, IsUnche
 use Rattle.lw_outside.specs.Files.{Call, File, Holds, file_at}
 use Rattle.lw_report.specs.Writing.{TakesAll, TakesSome, said_text}
 use Rattle.lw_report.specs.declared.outcome.Outcome.{Outcome}
-use Rattle.lw_report.specs.declared.outcome.Outcome.TheVariants.{SinkFault, Unchecked}
+use Rattle.lw_report.specs.declared.outcome.Outcome.TheVariants.{SinkFault, TooManyStates, Unchecked}
 
 -- the text goes to the stream where no file is named for it, and nothing does where one is
 abbrev pub PutsAll : Option (List ℕ) → List ℕ → Option (List ℕ) → Option (List ℕ) → Type 0
@@ -70,6 +70,10 @@ inputs_of table = option_map (λ m. m.inputs) table
 
 abbrev pub outputs_of : Option Machine → Option (List (List ℕ))
 outputs_of table = option_map (λ m. m.outputs) table
+
+-- the words of a crowd are told by the names of a table that was read
+abbrev pub HasNames : Outcome → Option Machine → Type 0
+HasNames outcome table = (words : List (List ℕ)) → outcome ≡ TooManyStates words → IsSome table
 
 -- the line about a model
 abbrev pub line_of : Option Machine → List KeptAnswer → ℕ → Option MealyMachine → List ℕ

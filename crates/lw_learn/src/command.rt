@@ -22,7 +22,7 @@ ghost use Rattle.lw_learn.specs.Kept.{KeepsRuns};
 ghost use Rattle.lw_learn.specs.Outcomes.{HasRole, IsTold, IsUnchecked, IsUngiven, IsUnread, IsUntroubled, IsWriteFault};
 ghost use Rattle.lw_learn.specs.Reading.{ReadsNoTable, ReadsTable, TellsFailed, TellsLong, TellsNoTable, TellsTable};
 ghost use Rattle.lw_learn.specs.Stops.{IsCrowdOf};
-ghost use Rattle.lw_learn.specs.Writing.{NothingFailed, StaysBesides, TakesInTurn, WritesFiles, WritesModel, WritesOut, inputs_of, line_of, outputs_of};
+ghost use Rattle.lw_learn.specs.Writing.{HasNames, NothingFailed, StaysBesides, TakesInTurn, WritesFiles, WritesModel, WritesOut, inputs_of, line_of, outputs_of};
 
 use crate::LearnArguments;
 use crate::learning::{Learned, learn_table};
@@ -154,12 +154,12 @@ pub fn learn<F: Files, O: Sink, E: Sink>(
         (F.holds files.new) }
     ensures said { ¬ CountedFault (E.faults err.old) (E.faults err.new) → (table : Option Named) ×
         IfSome table (ReadsTable arguments.now.table (F.holds files.old) (F.reads files.old)
-        (F.reads files.new)) ×
+        (F.reads files.new)) × HasNames result.outcome table ×
         TakesAll (said_text (inputs_of table) (outputs_of table) result.kept.answers
         arguments.now.extra result.outcome) (E.taken err.old) (E.taken err.new) }
     ensures in_turn { (table : Option Named) ×
         IfSome table (ReadsTable arguments.now.table (F.holds files.old) (F.reads files.old)
-        (F.reads files.new)) ×
+        (F.reads files.new)) × HasNames result.outcome table ×
         TakesInTurn (line_of table result.kept.answers arguments.now.extra result.model)
         (said_text (inputs_of table) (outputs_of table) result.kept.answers arguments.now.extra
         result.outcome) (E.taken err.old) (E.taken err.new) }

@@ -14,7 +14,7 @@ use Rattle.lw_report.specs.States.{FilesState, SinkState}
 use Rattle.lw_learn.specs.Outcomes.{IsUnchecked, IsUngiven, IsUnread, IsUntroubled, IsWriteFault}
 use Rattle.lw_learn.specs.Reading.{TellsFailed}
 use Rattle.lw_outside.specs.Files.{Call, read_call}
-use Rattle.lw_learn.specs.Writing.{WritesModel, line_of}
+use Rattle.lw_learn.specs.Writing.{HasNames, WritesModel, line_of}
 use Rattle.lw_json.specs.declared.machine.Machine.{Machine}
 use Rattle.lw_learn.proofs.WriteLemmas.{stays_same}
 use Rattle.lw_top.specs.Run.{IsRefused, argument_outcome}
@@ -38,6 +38,7 @@ wanted_run a f o e d end out r =
     subst (λ (x : Outcome). TakesAll (said_text None None end.kept.answers a.extra x) e.taken d.taken) (sym is) (subst (λ (x : Outcome). TakesAll (said_text None None [] 0 x) e.taken d.taken) is t) in
     let part : (oc : Outcome) → oc ≡ NoMemory → TakesSome (said_text None None [] 0 oc) e.taken d.taken → TakesSome (said_text None None end.kept.answers a.extra oc) e.taken d.taken = λ oc is t.
     subst (λ (x : Outcome). TakesSome (said_text None None end.kept.answers a.extra x) e.taken d.taken) (sym is) (subst (λ (x : Outcome). TakesSome (said_text None None [] 0 x) e.taken d.taken) is t) in
+    let no_crowd : HasNames end.outcome None = λ words is. let wrong : NoMemory ≡ TooManyStates words = sym out ∙ is in absurd (cc) in
     record {
       model = no-model;
       told = λ h is. let wrong : NoMemory ≡ Unchecked h = sym out ∙ is in absurd (cc);
@@ -46,8 +47,8 @@ wanted_run a f o e d end out r =
       written = subst (λ (m : Option MealyMachine). IfSome m Writes) (sym r.model) tt;
       nothing = λ _. (refl, refl);
       beside = stays_same a.model a.answers f.holds;
-      said = λ quiet. (None, tt, said end.outcome out (r.said quiet));
-      in_turn = (None, tt, record { between = e.taken; some = (0, sink_none e.taken (line_of None end.kept.answers a.extra end.model)); then = part end.outcome out r.part });
+      said = λ quiet. (None, tt, no_crowd, said end.outcome out (r.said quiet));
+      in_turn = (None, tt, no_crowd, record { between = e.taken; some = (0, sink_none e.taken (line_of None end.kept.answers a.extra end.model)); then = part end.outcome out r.part });
       bad_file = λ role fault is. let wrong : NoMemory ≡ BadFile role fault = sym out ∙ is in absurd (cc);
       bad_file_told = λ _. subst IsUnread (sym out) tt;
       too_long = λ role is. let wrong : NoMemory ≡ FileTooLong role = sym out ∙ is in absurd (cc);

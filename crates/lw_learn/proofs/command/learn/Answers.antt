@@ -92,7 +92,7 @@ returns-in-Ok-closed-clause-said g c none =
     (subst (λ r. ReadsTable c.table.result.now (F.holds c.args.files.now) (F.reads c.args.files.now) r m) (sym c.write_out.ensures.reads) c.in-Ok.ensures.ok) in
     let same = text_same own.inputs m.inputs own.outputs m.outputs c.learn_table-inputs.result.kept.answers end.kept.answers a.extra end.outcome
     (c.named-machine.ensures.inputs ∙ c.learn_table-inputs.ensures.names.0) (c.named-machine.ensures.outputs ∙ c.learn_table-inputs.ensures.names.1) (ap (λ k. k.answers) (sym c.write_out.ensures.kept)) in
-    (Some m, read, subst (λ (t : List ℕ). TakesAll t (E.taken c.args.err.now) (E.taken c.write_out.new.err)) same (c.write_out.ensures.said none))
+    (Some m, read, λ words crowd. refl, subst (λ (t : List ℕ). TakesAll t (E.taken c.args.err.now) (E.taken c.write_out.new.err)) same (c.write_out.ensures.said none))
 
 pub returns-in-Ok-closed-clause-in_turn : goal.returns-in-Ok-closed-clause-in_turn
 returns-in-Ok-closed-clause-in_turn g c =
@@ -113,6 +113,7 @@ returns-in-Ok-closed-clause-in_turn g c =
     let part = c.write_out.ensures.part in (
       Some m,
       read,
+      λ words crowd. refl,
       record {
         between = part.between;
         some = subst (λ (t : List ℕ). TakesSome t (E.taken c.args.err.now) part.between) line part.some;
@@ -167,7 +168,7 @@ returns-in-Err-closed-clause-said g c none =
     let same = text_same c.learn_table-inputs.result.inputs m.inputs c.learn_table-inputs.result.outputs m.outputs c.learn_table-inputs.result.kept.answers end.kept.answers a.extra end.outcome
     c.learn_table-inputs.ensures.names.0 c.learn_table-inputs.ensures.names.1 (ap (λ k. k.answers) (sym c.refuse.ensures.kept)) in
     let said = subst (λ (x : ℕ). TakesAll (text_of c.learn_table-inputs.result.inputs c.learn_table-inputs.result.outputs c.learn_table-inputs.result.kept.answers x end.outcome) (E.taken c.args.err.now) (E.taken c.refuse.new.err)) c.extra-in-Err-closed.ensures (c.refuse.ensures.said none) in
-    (Some m, read, subst (λ (t : List ℕ). TakesAll t (E.taken c.args.err.now) (E.taken c.refuse.new.err)) same said)
+    (Some m, read, λ words crowd. refl, subst (λ (t : List ℕ). TakesAll t (E.taken c.args.err.now) (E.taken c.refuse.new.err)) same said)
 
 pub returns-in-Err-closed-clause-in_turn : goal.returns-in-Err-closed-clause-in_turn
 returns-in-Err-closed-clause-in_turn g c =
@@ -183,6 +184,7 @@ returns-in-Err-closed-clause-in_turn g c =
     let said = subst (λ (x : ℕ). TakesSome (text_of c.learn_table-inputs.result.inputs c.learn_table-inputs.result.outputs c.learn_table-inputs.result.kept.answers x end.outcome) (E.taken c.args.err.now) (E.taken c.refuse.new.err)) c.extra-in-Err-closed.ensures c.refuse.ensures.part in (
       Some m,
       read,
+      λ words crowd. refl,
       record {
         between = E.taken c.args.err.now;
         some = (0, sink_none (E.taken c.args.err.now) (line_of (Some m) end.kept.answers a.extra end.model));
