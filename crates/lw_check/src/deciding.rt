@@ -3,8 +3,6 @@ ghost use Rattle.std.specs.Prelude.{◌≡◌, ◌≤◌, ◌⊎◌, length, tru
 ghost use Rattle.std.specs.List.{All};
 ghost use Rattle.lw_words.specs.Answer.{answers_of};
 ghost use Rattle.lw_words.specs.Word.{IsWord};
-ghost use Rattle.lw_json.specs.KeptOver.{AreKeptOver};
-ghost use Rattle.lw_certify.specs.Verdict.{IsVerdict};
 ghost use Rattle.lw_check.specs.Decision.{IsDecision, SameNames, pair_of};
 ghost use Rattle.lw_check.specs.bodies.Filled.{ClashBefore};
 ghost use Rattle.lw_check.specs.bodies.Verdicts.{HasOutcome, outcome_of};

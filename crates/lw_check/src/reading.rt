@@ -1,6 +1,6 @@
 //! The two files of the command.
-ghost use Rattle.std.specs.Prelude.{◌≡◌, ℕ, ◌≤◌, List, IfOk, IfErr};
-ghost use Rattle.lw_check.specs.Decision.{Pair, pair_of};
+ghost use Rattle.std.specs.Prelude.{◌≡◌, ◌≤◌, IfOk, IfErr};
+ghost use Rattle.lw_check.specs.Decision.{pair_of};
 ghost use Rattle.lw_check.specs.Reading.{IsUnread, ReadsPair};
 ghost use Rattle.lw_report.specs.States.{files_state};
 

@@ -1,4 +1,4 @@
-use Rattle.std.proofs.Common.{◌≡◌, ◌∙◌, ◌⊎◌, ⊎_elim, inl, inr, sym, List, ℕ, Option, Err, true, false, refl, ap, subst}
+use Rattle.std.proofs.Common.{◌≡◌, ◌∙◌, ⊎_elim, inl, inr, sym, List, ℕ, Option, Err, true, false, refl, ap, subst}
 use Rattle.lw_json.specs.AnswersFile.{IsAnswersFile}
 use Rattle.lw_json.specs.AnswersFault.{HasAnswersFault}
 use Rattle.lw_json.specs.MachineFile.{IsMachineFile}
@@ -7,7 +7,6 @@ use Rattle.lw_report.specs.Reading.{ReadsFile, ReadsBadFile}
 use Rattle.lw_report.specs.States.{files_state}
 use Rattle.lw_words.specs.Cause.{CountedFault}
 use Rattle.lw_report.specs.declared.stops.ReadStop.{ReadStop}
-use Rattle.lw_check.specs.Reading.{answers_read, model_read}
 use Rattle.lw_check.proofs.ReadLemmas.{unread_answers, unread_model}
 use Rattle.lw_check.proofs.reading.read_pair.Goals as goal
 
