@@ -14,9 +14,12 @@ const ALIKE: &str =
 const UNREACHED: &str =
     "{\"inputs\":[\"t\"],\"outputs\":[\"0\",\"1\"],\"states\":[[[0,\"0\"]],[[0,\"0\"]]]}\n";
 
-/// A model and the list of an answers file over the names of the counter, and what comes of them.
+/// A model and the list of an answers file over the names of the counter, which calls fail, and what comes of them.
 #[derive(Drop)]
 struct Case {
+    file_plan: &'static [u64],
+    out_plan: &'static [u64],
+    err_plan: &'static [u64],
     model: &'static str,
     answers: &'static str,
     extra: u8,
@@ -24,6 +27,19 @@ struct Case {
     out: &'static str,
     err: &'static str,
 }
+
+/// Answers that are enough for the counter, one letter short of what two extra states need.
+const PLAIN: Case = Case {
+    file_plan: &[],
+    out_plan: &[],
+    err_plan: &[],
+    model: COUNTER,
+    answers: "[\"t t t t t t\",\"0 0 1 0 0 1\"]",
+    extra: 1,
+    status: 0,
+    out: "yes: states 3, extra 1, answers 1\n",
+    err: "",
+};
 
 fn file(alloc: Global, name: &str, parts: &[&str]) -> Result<(String, Vec<u8>), Fail> {
     let mut text = String::new(alloc);
@@ -38,9 +54,12 @@ fn checks(rt: &impl Abort, alloc: Global, case: &Case) -> Result<(), Fail> {
     files.push(file(alloc, "m", &[case.model])?)?;
     let parts = ["{\"answers\":[", case.answers, "],\"format\":1,", NAMES];
     files.push(file(alloc, "k", &parts)?)?;
-    let mut files = MemoryFiles::new(alloc, files, Vec::new(alloc))?;
-    let mut out = MemorySink::new(alloc, 200, 7, Vec::new(alloc))?;
-    let mut err = MemorySink::new(alloc, 200, 7, Vec::new(alloc))?;
+    let file_plan = Vec::from_slice(alloc, case.file_plan)?;
+    let mut files = MemoryFiles::new(alloc, files, file_plan)?;
+    let out_plan = Vec::from_slice(alloc, case.out_plan)?;
+    let mut out = MemorySink::new(alloc, 200, 7, out_plan)?;
+    let err_plan = Vec::from_slice(alloc, case.err_plan)?;
+    let mut err = MemorySink::new(alloc, 200, 7, err_plan)?;
     let extra = case.extra.min(4);
     let end = check(alloc, "m", "k", extra, &mut files, &mut out, &mut err);
     assert_eq!(rt; out.taken(), case.out.as_bytes());
@@ -61,6 +80,7 @@ fn enough_answers_and_one_too_short(rt: HostRuntime) -> Result<(), Fail> {
         status: 0,
         out: "yes: states 3, extra 2, answers 1\n",
         err: "",
+        ..PLAIN
     };
     checks(&rt, alloc, &case)?;
     case.answers = "[\"t t t t t t\",\"0 0 1 0 0 1\"]";
@@ -84,6 +104,7 @@ fn models_that_are_not_minimal(rt: HostRuntime) -> Result<(), Fail> {
         status: 1,
         out: "no: states 0 and 1 are alike\n",
         err: "",
+        ..PLAIN
     };
     checks(&rt, alloc, &case)?;
     case.model = UNREACHED;
@@ -103,6 +124,7 @@ fn answers_that_differ_or_clash(rt: HostRuntime) -> Result<(), Fail> {
         status: 1,
         out: "no: answer 0 differs at place 1\n",
         err: "",
+        ..PLAIN
     };
     checks(&rt, alloc, &case)?;
     case.answers = "[\"t\",\"0\"],[\"t\",\"1\"]";
@@ -114,5 +136,52 @@ fn answers_that_differ_or_clash(rt: HostRuntime) -> Result<(), Fail> {
     case.err = "bad file answers: names differ from the model\n";
     case.status = 3;
     checks(&rt, alloc, &case)?;
+    Ok(())
+}
+
+#[test]
+fn failing_files_and_streams(rt: HostRuntime) -> Result<(), Fail> {
+    let fault = Case {
+        status: 8,
+        out: "",
+        ..PLAIN
+    };
+    let cases = [
+        Case {
+            file_plan: &[0],
+            err: "file fault: model\n",
+            ..fault
+        },
+        Case {
+            file_plan: &[1],
+            err: "file fault: answers\n",
+            ..fault
+        },
+        Case {
+            out_plan: &[0],
+            err: "sink fault\n",
+            ..fault
+        },
+        Case {
+            out_plan: &[1],
+            out: "yes: st",
+            err: "sink fault\n",
+            ..fault
+        },
+        Case {
+            answers: "[\"t\",\"0\"],[\"t\",\"1\"]",
+            err_plan: &[1],
+            status: 4,
+            err: "nondete",
+            ..fault
+        },
+        Case {
+            err_plan: &[0],
+            ..PLAIN
+        },
+    ];
+    for case in &cases {
+        checks(&rt, rt.alloc(), case)?;
+    }
     Ok(())
 }
