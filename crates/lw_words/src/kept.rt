@@ -65,6 +65,14 @@ impl Kept {
         }
     }
 
+    /// The answers, taken out of the list. Takes no memory.
+    pub fn into_answers(self) -> Vec<KeptAnswer>
+        ensures { result.items ≡ self.answers }
+    {
+        let Kept { answers } = self;
+        answers
+    }
+
     pub fn len(&self) -> usize
         ensures { result ≡ length self.now.answers }
     {

@@ -99,6 +99,8 @@ fn answers_are_kept_in_their_room(rt: HostRuntime) -> Result<(), Fail> {
     };
     assert!(rt; kept.push(answer).is_ok());
     assert_eq!(rt; kept.len(), 1);
+    let answers = kept.into_answers();
+    assert_eq!(rt; answers.len(), 1);
     Ok(())
 }
 
@@ -136,6 +138,7 @@ fn long_words_and_many_names(rt: HostRuntime) -> Result<(), Fail> {
     let both = join(&long, &long.copy()?)?;
     assert_eq!(rt; both.len(), 140_002);
     assert_eq!(rt; both.as_slice().last(), Some(&9));
+    assert_eq!(rt; both.into_letters().len(), 140_002);
     let mut many = Vec::new(alloc);
     for n in 0..4096u32 {
         many.push(format!(in alloc; "n{n}")?)?;

@@ -36,6 +36,14 @@ impl Word {
         Word { letters, alloc }
     }
 
+    /// Its letters, taken out of it. Takes no memory.
+    pub fn into_letters(self) -> Vec<u16>
+        ensures { result.items ≡ self }
+    {
+        let Word { letters, alloc: _ } = self;
+        letters
+    }
+
     pub fn as_slice(&self) -> &[u16]
         ensures { result.now ≡ self.now }
     {
