@@ -1,4 +1,4 @@
-mod AnswerLemmas
+pub mod AnswerLemmas
 mod ClaimLemmas
 pub mod ClashLemmas
 pub mod CrowdLemmas
@@ -9,7 +9,7 @@ mod KeepLemmas
 pub mod KnownLemmas
 mod LookLemmas
 mod MoreLemmas
-mod OracleLemmas
+pub mod OracleLemmas
 mod PlainLemmas
 mod ReckonLemmas
 mod ReclaimLemmas
@@ -18,7 +18,7 @@ mod RootLemmas
 mod ScanLemmas
 mod SeenLemmas
 mod ShapeLemmas
-mod StoredLemmas
+pub mod StoredLemmas
 mod ToldLemmas
 mod TrieLemmas
 mod UpLemmas

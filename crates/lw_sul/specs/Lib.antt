@@ -3,3 +3,4 @@ pub mod Runs
 pub mod TableState
 pub mod Told
 pub mod TestScript
+pub mod Names
