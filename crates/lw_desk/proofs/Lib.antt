@@ -1,0 +1,6 @@
+pub mod ClaimLists
+pub mod Members
+pub mod NamingLemmas
+pub mod ReplayLemmas
+pub mod SeatLemmas
+pub mod StepLemmas
