@@ -1,4 +1,6 @@
+pub mod Bounds
 pub mod ClaimLists
+pub mod CoverLemmas
 pub mod Members
 pub mod NamingLemmas
 pub mod ReplayLemmas

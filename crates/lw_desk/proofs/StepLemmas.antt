@@ -1,5 +1,5 @@
 -- What the parts of an ask leave as it was, and the claims after them.
-use Rattle.std.proofs.Common.{◌≡◌, inr, ℕ, ◌-◌, List, [], ◌∷◌, ◌++◌, map, Bool, true, false, ◌==◌, Option, Some, None, refl, ap, sym, ◌∙◌, subst, append_assoc, append-nil}
+use Rattle.std.proofs.Common.{◌≡◌, inr, ℕ, ◌-◌, length, ◌+◌, List, [], ◌∷◌, ◌++◌, map, Bool, true, false, ◌==◌, Option, Some, None, refl, ap, sym, ◌∙◌, subst, append_assoc, append-nil, length-append, arith}
 use Rattle.lw_words.specs.Word.{IsPrefix}
 use Rattle.lw_turn.specs.declared.shared.Entry.{Entry}
 use Rattle.lw_desk.specs.Step.{Claimed, DeskState, word_at, IsFirstFree, TakesAll, GivesAll, after_take, after_fail, after_done, without_place, without_places}
@@ -51,6 +51,11 @@ module _ (batch : List (List ℕ)) (actor : ℕ) where
       takes_own (wanted - 1) ps (after_take actor p s) t takes.3
       ∙ (ap (λ (l : List ℕ). l ++ ps) (places_more actor s.claims (record { actor = actor; place = p }) (is_same actor actor refl))
       ∙ append_assoc (places_of actor s.claims) (p ∷ []) ps)
+
+  pub takes_length : (wanted : ℕ) (places : List ℕ) (s t : DeskState) → TakesAll batch actor wanted places s t → length t.claims ≡ length s.claims + length places
+  takes_length wanted [] s t takes = omega (arith, ap (λ (x : DeskState). length x.claims) takes.0)
+  takes_length wanted (p ∷ ps) s t takes =
+      omega (arith, takes_length (wanted - 1) ps (after_take actor p s) t takes.3, length-append s.claims (record { actor = actor; place = p } ∷ []))
 
   pub takes_other : (other wanted : ℕ) (places : List ℕ) (s t : DeskState) → (actor == other) ≡ false → TakesAll batch actor wanted places s t → places_of other t.claims ≡ places_of other s.claims
   takes_other other wanted [] s t differ takes = ap (λ (x : DeskState). places_of other x.claims) takes.0
