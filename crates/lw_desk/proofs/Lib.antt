@@ -6,3 +6,4 @@ pub mod NamingLemmas
 pub mod ReplayLemmas
 pub mod SeatLemmas
 pub mod StepLemmas
+pub mod TidyLemmas
