@@ -1,9 +1,13 @@
 pub mod Bounds
 pub mod ClaimLists
 pub mod CoverLemmas
+pub mod Endings
 pub mod Members
+pub mod NameNumbers
 pub mod NamingLemmas
 pub mod ReplayLemmas
+pub mod RunLemmas
 pub mod SeatLemmas
 pub mod StepLemmas
+pub mod StopLemmas
 pub mod TidyLemmas
