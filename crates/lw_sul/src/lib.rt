@@ -1,13 +1,18 @@
-//! Systems under learning, and sessions that ask them words and keep a journal of the finished runs.
+//! Systems under learning, whose outputs have names, and sessions that ask them words.
+//! A session's journal of finished runs is a value for contracts alone.
 #![tactic(auto)]
 
+mod named;
+mod out_name;
 mod runs;
 mod session;
 mod system;
 mod table;
 
-pub use runs::{Run, Runs};
-pub use session::Session;
+pub use named::Named;
+pub use out_name::OutName;
+pub use runs::Run;
+pub use session::{NamedAnswer, Session};
 pub use system::Sul;
 pub use table::TableSul;
 
