@@ -1,3 +1,4 @@
+pub mod Names
 pub mod SessionState
 pub mod Runs
 pub mod TableState

@@ -1,5 +1,5 @@
 -- A session: a system and the journal of the runs that were finished in it.
-use Rattle.std.specs.Prelude.{◌≡◌, ℕ, ◌<◌, List, [], ◌∷◌, ◌++◌, length, Bool, true, false, Option, Some, None}
+use Rattle.std.specs.Prelude.{◌≡◌, ℕ, ◌<◌, List, [], ◌∷◌, ◌++◌, length, map, Bool, true, false, Option, Some, None}
 use Rattle.lw_words.specs.declared.stop.SulStop.{SulStop}
 use Rattle.lw_words.specs.Word.{IsPrefix}
 use Rattle.lw_sul.specs.declared.runs.Run.{Run}
@@ -11,6 +11,10 @@ pub record SessionState (S : Type 0) : Type 0 where
 
 abbrev pub run_of : List ℕ → List ℕ → Run
 run_of w o = record { word = w; outs = o }
+
+-- the runs of a list of words with their outputs
+abbrev pub runs_of_pairs : List (List ℕ × List ℕ) → List Run
+runs_of_pairs pairs = map (λ p. run_of p.0 p.1) pairs
 
 -- told runs that are none
 abbrev pub NoRuns : Option (List Run) → Type 0

@@ -1,7 +1,8 @@
--- A table system: its machine and the state that it is in.
-use Rattle.std.specs.Prelude.{ℕ}
+-- A table system: its machine, the state that it is in and the names of its outputs.
+use Rattle.std.specs.Prelude.{ℕ, List}
 use Rattle.lw_mealy.specs.Limits.{MealyMachine}
 
 pub record TableState : Type 0 where
   pub table : MealyMachine
   pub state : ℕ
+  pub names : List (List ℕ)

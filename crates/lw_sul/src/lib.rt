@@ -1,4 +1,5 @@
-//! Systems under learning, and sessions that ask them words and keep a journal of the finished runs.
+//! Systems under learning, whose outputs have names, and sessions that ask them words.
+//! A session's journal of finished runs is a value for contracts alone.
 #![tactic(auto)]
 
 mod named;
@@ -10,8 +11,8 @@ mod table;
 
 pub use named::Named;
 pub use out_name::OutName;
-pub use runs::{Run, Runs};
-pub use session::Session;
+pub use runs::Run;
+pub use session::{NamedAnswer, Session};
 pub use system::Sul;
 pub use table::TableSul;
 

@@ -1,27 +1,27 @@
-//! Lists of output names.
-ghost use Rattle.std.specs.Prelude.{◌≡◌, ℕ, ◌<◌, ◌++◌, ◌∷◌, [], IfOk, OnOk, OnErr, length, slice_index_or};
+//! Lists of the names of outputs.
+ghost use Rattle.std.specs.Prelude.{◌≡◌, ◌<◌, [], ◌∷◌, ◌++◌, length, slice_get, Some, IfOk, OnOk, OnErr};
 
 use crate::OutName;
 use lw_words::NoMemory;
 use std::alloc::Global;
 use std::marker::Model;
 
-/// A list of names. Contracts see the list.
+/// A list of names of outputs. Contracts see the list of their lists of bytes.
 #[derive(Drop)]
 pub struct Named {
     names: Vec<OutName>,
 }
 
 impl Model for Named {
-    ghost use Rattle.std.specs.Prelude.{List, ℕ};
+    ghost use Rattle.std.specs.Prelude.{ℕ, List};
 
     ghost Value = { List (List ℕ) };
 
-    ghost view = { λ n. n.names.items };
+    ghost view = { λ list. list.names.items };
 }
 
 impl Named {
-    /// No name. Takes no memory.
+    /// The empty list. Takes no memory.
     pub fn new(alloc: Global) -> Named
         ensures { result ≡ [] }
     {
@@ -30,6 +30,23 @@ impl Named {
         }
     }
 
+    /// The empty list, with room for `n` names.
+    pub fn with_room(alloc: Global, n: usize) -> Result<Named, NoMemory>
+        ensures { IfOk result (λ list. list ≡ []) }
+    {
+        Ok(Named {
+            names: Vec::with_capacity(alloc, n)?,
+        })
+    }
+
+    /// The list of these names. Takes no memory.
+    pub(crate) fn from_names(names: Vec<OutName>) -> Named
+        ensures { result ≡ names.items }
+    {
+        Named { names }
+    }
+
+    /// Puts a name last. The list is unchanged where there is no memory.
     pub fn push(&mut self, name: OutName) -> Result<(), NoMemory>
         ensures ok { OnOk result (self.new ≡ self.old ++ name ∷ []) }
         ensures err { OnErr result (self.new ≡ self.old) }
@@ -46,7 +63,7 @@ impl Named {
 
     pub fn get(&self, i: usize) -> &OutName
         requires { i < length self.now }
-        ensures { result.now ≡ slice_index_or self.now i [] }
+        ensures { slice_get self.now i ≡ Some result.now }
     {
         &self.names[i]
     }

@@ -1,28 +1,59 @@
 //! The name of an output.
-ghost use Rattle.std.specs.Prelude.{◌≡◌, ℕ, ◌↔◌, IfSome, IfNone, IsTrue, length, take};
+ghost use Rattle.std.specs.Prelude.{◌≡◌, ◌↔◌, ◌<◌, length, IfSome, IfNone, IsTrue};
 ghost use Rattle.lw_words.specs.Name.{IsName};
+ghost use Rattle.lw_sul.specs.Names.{name_at};
 
+use lw_words::Names;
 use std::marker::Model;
 
-/// The name of an output, kept without memory. Contracts see the list of its bytes.
+/// The greatest number of bytes of a name.
+const LONGEST_NAME: usize = 64;
+
+/// The name of an output, 1 to 64 bytes from 0x21 to 0x7E, kept without memory. Contracts see the list of its bytes.
 #[derive(Drop)]
 pub struct OutName {
-    bytes: [u8; 64],
+    bytes: [u8; LONGEST_NAME],
     len: u8,
 }
 
 impl Model for OutName {
-    ghost use Rattle.std.specs.Prelude.{List, ℕ, ◌≤◌, take};
+    ghost use Rattle.std.specs.Prelude.{ℕ, ◌≤◌, List, take};
     ghost use Rattle.lw_words.specs.Name.{IsName};
 
     ghost Value = { List ℕ };
 
-    ghost view = { λ n. take n.len n.bytes };
+    ghost view = { λ name. take name.len name.bytes };
 
-    ghost invariant = { λ n. (n.len ≤ 64) × IsName (take n.len n.bytes) };
+    ghost invariant = { λ name. (name.len ≤ 64) × IsName (take name.len name.bytes) };
+}
+
+/// Whether these bytes are a name.
+fn is_name(bytes: &[u8]) -> bool
+    ensures { IsTrue result ↔ IsName bytes.now }
+{
+    !bytes.is_empty()
+        && bytes.len() <= LONGEST_NAME
+        && bytes.iter().all(|b| 0x21 <= *b && *b <= 0x7e)
 }
 
 impl OutName {
+    /// The text as a name, or None where it is none.
+    pub fn new(name: &str) -> Option<OutName>
+        ensures some { IfSome result (λ n. n ≡ name.now) }
+        ensures none { IfNone result (¬ IsName name.now) }
+    {
+        let text = name.as_bytes();
+        if !is_name(text) {
+            return None;
+        }
+        let mut bytes = [0u8; LONGEST_NAME];
+        bytes[..text.len()].copy_from_slice(text);
+        Some(OutName {
+            bytes,
+            len: text.len() as u8,
+        })
+    }
+
     pub fn as_slice(&self) -> &[u8]
         ensures value { result.now ≡ self.now }
         ensures name { IsName self.now }
@@ -40,10 +71,22 @@ impl OutName {
         }
     }
 
-    /// Whether both are one name.
+    /// Whether both are the same name.
     pub fn same(&self, other: &OutName) -> bool
         ensures { IsTrue result ↔ (self.now ≡ other.now) }
     {
         self.as_slice() == other.as_slice()
     }
+}
+
+/// The name with this number. Takes no memory.
+pub(crate) fn name_of(names: &Names, y: u16) -> OutName
+    requires { y < length names.now }
+    ensures { result ≡ name_at names.now y }
+{
+    let _names = names.len();
+    let Some(name) = OutName::new(names.name(y)) else {
+        unreachable!();
+    };
+    name
 }

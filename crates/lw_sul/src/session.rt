@@ -1,5 +1,5 @@
 //! Sessions: a system that is asked words, and the journal of its finished runs.
-ghost use Rattle.std.specs.Prelude.{◌≡◌, ◌⊎◌, ◌<◌, ◌≤◌, List, [], ◌∷◌, ◌++◌, length, Some, None, option_map, IfOk, OnOk, IfErr, OnErr, vec_capacity, vec_len};
+ghost use Rattle.std.specs.Prelude.{◌≡◌, ◌⊎◌, ◌+◌, ◌-◌, ◌<◌, ◌≤◌, List, [], ◌∷◌, ◌++◌, length, drop, min, Some, None, option_map, IfOk, OnOk, IfErr, OnErr, vec_capacity, vec_len};
 ghost use Rattle.std.specs.List.{All};
 ghost use Rattle.lw_words.specs.Word.{IsWord};
 ghost use Rattle.lw_words.specs.declared.stop.SulStop.{SulStop as Stop};
@@ -7,81 +7,124 @@ ghost use Rattle.std.specs.Prelude.{Err};
 ghost use Rattle.lw_sul.specs.SessionState.{SessionState, run_of, NoRuns, CutOff, IsJournal};
 ghost use Rattle.lw_words.specs.Cause.{CountedFault};
 ghost use Rattle.lw_sul.specs.Told.{Answers};
+ghost use Rattle.lw_sul.specs.Names.{AreNamed, IsGrown, named, with_names};
 
-use crate::{Run, Runs, Sul};
+use crate::{Named, OutName, Sul};
+use http_server::Log;
 use lw_words::{NoMemory, RunStop, SulStop, Word};
 use std::alloc::Global;
 use std::marker::Model;
 
-/// A system that is asked words, and the journal of its finished runs.
-/// Contracts see its number, the system and the journal.
+/// A system that is asked words, and the journal of its finished runs, which only contracts see: at run time it is their
+/// number. Contracts see the session's number, the system and the journal.
 #[derive(Drop)]
 pub struct Session<S: Sul> {
     instance: u32,
     sul: S,
     stopped: Option<SulStop>,
-    journal: Runs,
+    journal: Log<Word, Word>,
+    runs: u64,
     alloc: Global,
 }
 
 impl<S: Sul> Model for Session<S> {
-    ghost use Rattle.std.specs.Prelude.{◌≡◌};
-    ghost use Rattle.lw_sul.specs.SessionState.{SessionState, IsJournal};
+    ghost use Rattle.std.specs.Prelude.{◌≡◌, length};
+    ghost use Rattle.lw_sul.specs.Names.{AreNamed};
+    ghost use Rattle.lw_sul.specs.SessionState.{SessionState, IsJournal, runs_of_pairs};
 
     ghost Value = { SessionState S };
 
-    ghost view = { λ s. record { instance = s.instance; sul = s.sul; journal = s.journal } };
+    ghost view = { λ s. record { instance = s.instance; sul = s.sul; journal = runs_of_pairs s.journal.items } };
 
-    ghost invariant = { λ s. (s.stopped ≡ S.stop s.sul) × IsJournal (S.runs s.sul) s.journal s.stopped (S.cut s.sul) };
+    ghost invariant = { λ s. (s.stopped ≡ S.stop s.sul)
+        × IsJournal (S.runs s.sul) (runs_of_pairs s.journal.items) s.stopped (S.cut s.sul)
+        × (s.runs ≡ length (runs_of_pairs s.journal.items))
+        × AreNamed (S.most s.sul) (S.names s.sul) };
 }
 
-/// The memory of a run: its word, and room for its outputs, twice.
+/// What a run answered: the outputs in the system's numbers, and the names that came up first in it.
+#[derive(Drop)]
+pub struct NamedAnswer {
+    pub outs: Word,
+    pub names: Named,
+}
+
+/// The memory of a run: room for its outputs, and for as many names as can come up in it.
 #[derive(Drop)]
 struct Buffers {
-    word: Word,
     outs: Vec<u16>,
-    answer: Vec<u16>,
+    names: Vec<OutName>,
 }
 
-impl Buffers {
-    fn new(alloc: Global, w: &Word) -> Result<Buffers, NoMemory>
-        ensures word { IfOk result (λ b. b.word ≡ w.now) }
-        ensures outs { IfOk result (λ b. (b.outs.items ≡ []) ×
-            (length w.now ≤ vec_capacity b.outs)) }
-        ensures answer { IfOk result (λ b. (b.answer.items ≡ []) ×
-            (length w.now ≤ vec_capacity b.answer)) }
-    {
-        Ok(Buffers {
-            word: w.copy()?,
-            outs: Vec::with_capacity(alloc, w.len())?,
-            answer: Vec::with_capacity(alloc, w.len())?,
-        })
+fn make_room<S: Sul>(alloc: Global, w: &Word, sul: &S) -> Result<Buffers, NoMemory>
+    ensures outs { IfOk result (λ b. (b.outs.items ≡ []) ×
+        (length w.now ≤ vec_capacity b.outs)) }
+    ensures names { IfOk result (λ b. (b.names.items ≡ []) ×
+        (min (length w.now) (S.most sul.now - length (S.names sul.now)) ≤ vec_capacity b.names)) }
+{
+    let known = sul.named();
+    let free = usize::from(sul.most() - known);
+    Ok(Buffers {
+        outs: Vec::with_capacity(alloc, w.len())?,
+        names: Vec::with_capacity(alloc, w.len().min(free))?,
+    })
+}
+
+/// Puts the name of an output last where it came up in the last step, before which so many outputs had names.
+#[tactic(auto, using(crate::proofs::NameLemmas::note_steps))]
+fn note<S: Sul>(sul: &S, known: u16, y: u16, names: &mut Vec<OutName>)
+    requires one { (length (S.names sul.now) ≡ known) ⊎
+        ((length (S.names sul.now) ≡ known + 1) × (y ≡ known)) }
+    requires room { known < S.most sul.now → vec_len names.old < vec_capacity names.old }
+    ensures names { names.new.items ≡ names.old.items ++ drop known (S.names sul.now) }
+    ensures room { vec_capacity names.new ≡ vec_capacity names.old }
+    ensures lawful { AreNamed (S.most sul.now) (S.names sul.now) }
+{
+    if sul.named() == known {
+        return;
     }
+    names.push_reserved(sul.name(y));
 }
 
-/// Resets the system and sends it the letters of a word, whose outputs go into `outs`. Takes no memory.
+/// Resets the system and sends it the letters of a word. The outputs go into `outs`, and the names that come up first in
+/// the run into `names`. Takes no memory.
 #[tactic(auto, using(crate::proofs::RunLemmas::run_steps, lw_mealy::proofs::WordLemmas::letter))]
-fn perform<S: Sul>(sul: &mut S, w: &Word, outs: &mut Vec<u16>) -> Result<(), SulStop>
+fn perform<S: Sul>(
+    sul: &mut S,
+    w: &Word,
+    outs: &mut Vec<u16>,
+    names: &mut Vec<OutName>,
+) -> Result<(), SulStop>
     requires live { S.stop sul.old ≡ None }
     requires letters { IsWord (S.inputs sul.old) w.now }
-    requires empty { outs.old.items ≡ [] }
+    requires empty { (outs.old.items ≡ []) × (names.old.items ≡ []) }
     requires room { length w.now ≤ vec_capacity outs.old }
+    requires names_room { min (length w.now) (S.most sul.old - length (S.names sul.old)) ≤
+        vec_capacity names.old }
     ensures length { OnOk result (length outs.new.items ≡ length w.now) }
     ensures outputs { OnOk result (All (λ y. y < S.outputs sul.old) outs.new.items) }
     ensures answers { OnOk result (Answers (S.origin sul.old).machine w.now outs.new.items) }
     ensures runs { OnOk result (S.runs sul.new ≡ option_map (λ rs. rs ++
         run_of w.now outs.new.items ∷ []) (S.runs sul.old)) }
+    ensures names { OnOk result (S.names sul.new ≡ S.names sul.old ++ names.new.items) }
+    ensures brought { OnOk result (S.names sul.new ≡
+        with_names (S.names sul.old) (named (S.names sul.new) outs.new.items)) }
+    ensures numbers { OnOk result (All (λ y. y < length (S.names sul.new)) outs.new.items) }
+    ensures grown { IsGrown (S.names sul.old) (S.names sul.new) }
     ensures live { OnOk result (S.stop sul.new ≡ None) }
     ensures err { IfErr result (λ e. S.stop sul.new ≡ Some e) }
     ensures cut { OnErr result (CutOff w.now (S.runs sul.old) (S.runs sul.new) (S.cut sul.new)) }
     ensures failed { result ≡ Err Stop.Failed → CountedFault (S.faults sul.old) (S.faults sul.new) }
     ensures counts { S.faults sul.old ≤ S.faults sul.new }
     ensures same { (S.origin sul.new ≡ S.origin sul.old) × (S.inputs sul.new ≡ S.inputs sul.old) ×
-        (S.outputs sul.new ≡ S.outputs sul.old) }
+        (S.outputs sul.new ≡ S.outputs sul.old) × (S.most sul.new ≡ S.most sul.old) }
 {
     sul.reset()?;
     for x in w.as_slice() {
-        outs.push_reserved(sul.step(*x)?);
+        let known = sul.named();
+        let y = sul.step(*x)?;
+        note(sul, known, y, names);
+        outs.push_reserved(y);
     }
     Ok(())
 }
@@ -93,17 +136,20 @@ impl<S: Sul> Session<S> {
         requires fresh { NoRuns (S.runs sul) }
         ensures { result ≡ record { instance = instance; sul = sul; journal = [] } }
     {
+        let _named = sul.named();
         Session {
             instance,
             sul,
             stopped: None,
-            journal: Runs::new(alloc),
+            journal: Log::new(),
+            runs: 0,
             alloc,
         }
     }
 
     /// Asks a word from a reset on: takes all its memory, then resets, then steps.
-    /// After a stop every later call answers the same stop and touches nothing.
+    /// After a stop every later call answers the same stop and touches nothing. Where the number of runs can't be counted
+    /// any further, it answers that there is no memory.
     pub fn ask(&mut self, w: &Word) -> Result<Word, RunStop>
         requires letters { IsWord (S.inputs self.old.sul) w.now }
 
@@ -140,25 +186,79 @@ impl<S: Sul> Session<S> {
             (S.inputs self.new.sul ≡ S.inputs self.old.sul) ×
             (S.outputs self.new.sul ≡ S.outputs self.old.sul) }
     {
+        match self.ask_named(w) {
+            Ok(NamedAnswer { outs, names: _ }) => Ok(outs),
+            Err(stop) => Err(stop),
+        }
+    }
+
+    /// What `ask` does, and the names that came up first in the run. Its memory has room for those too.
+    pub fn ask_named(&mut self, w: &Word) -> Result<NamedAnswer, RunStop>
+        requires letters { IsWord (S.inputs self.old.sul) w.now }
+
+        // An answer is the run that the journal gains, and the machine's where that is told.
+        ensures length { IfOk result (λ a. length a.outs ≡ length w.now) }
+        ensures outputs { IfOk result (λ a. All (λ y. y < S.outputs self.old.sul) a.outs) }
+        ensures gains { IfOk result (λ a. self.new.journal ≡ self.old.journal ++
+            run_of w.now a.outs ∷ []) }
+        ensures runs { IfOk result (λ a. S.runs self.new.sul ≡
+            option_map (λ rs. rs ++ run_of w.now a.outs ∷ []) (S.runs self.old.sul)) }
+        ensures answers { IfOk result (λ a. Answers (S.origin self.old.sul).machine w.now a.outs) }
+        ensures live { OnOk result (S.stop self.new.sul ≡ None) }
+
+        // A stop is the system's, of this call or of the one that stopped it.
+        ensures stopped { IfErr result (λ e. (stop : Stop) → e ≡ RunStop.Sul stop →
+            S.stop self.new.sul ≡ Some stop) }
+        ensures kept { OnErr result (self.new.journal ≡ self.old.journal) }
+        ensures again { (stop : Stop) → S.stop self.old.sul ≡ Some stop →
+            (result ≡ Err (RunStop.Sul stop)) × (self.new ≡ self.old) }
+        ensures memory { result ≡ Err RunStop.NoMemory → self.new ≡ self.old }
+        ensures failed { result ≡ Err (RunStop.Sul Stop.Failed) → S.stop self.old.sul ≡ None →
+            CountedFault (S.faults self.old.sul) (S.faults self.new.sul) }
+
+        // Told runs are the journal, and an unfinished run exactly where this call or an earlier one was stopped in a step.
+        ensures told { IsJournal (S.runs self.new.sul) self.new.journal (S.stop self.new.sul)
+            (S.cut self.new.sul) }
+
+        ensures unfinished { (stop : Stop) → result ≡ Err (RunStop.Sul stop) → S.stop self.old.sul ≡ None →
+            CutOff w.now (S.runs self.old.sul) (S.runs self.new.sul) (S.cut self.new.sul) }
+
+        ensures counts { S.faults self.old.sul ≤ S.faults self.new.sul }
+        ensures instance { self.new.instance ≡ self.old.instance }
+        ensures same { (S.origin self.new.sul ≡ S.origin self.old.sul) ×
+            (S.inputs self.new.sul ≡ S.inputs self.old.sul) ×
+            (S.outputs self.new.sul ≡ S.outputs self.old.sul) }
+
+        // The names of an answer are those that the system's list gained, in the order in which the outputs had them first.
+        ensures names { IfOk result (λ a. S.names self.new.sul ≡ S.names self.old.sul ++ a.names) }
+        ensures brought { IfOk result (λ a. S.names self.new.sul ≡
+            with_names (S.names self.old.sul) (named (S.names self.new.sul) a.outs)) }
+        ensures numbers { IfOk result (λ a. All (λ y. y < length (S.names self.new.sul)) a.outs) }
+        ensures lawful { AreNamed (S.most self.new.sul) (S.names self.new.sul) }
+        ensures grown { IsGrown (S.names self.old.sul) (S.names self.new.sul) }
+        ensures most { S.most self.new.sul ≡ S.most self.old.sul }
+    {
         if let Some(stop) = &self.stopped {
             return Err(RunStop::Sul(stop.copy()));
         }
+        if self.runs == u64::MAX {
+            return Err(RunStop::NoMemory);
+        }
         let Buffers {
-            word,
             mut outs,
-            mut answer,
-        } = Buffers::new(self.alloc, w)?;
-        self.journal.runs.reserve(1).map_err(|_| NoMemory)?;
-        if let Err(stop) = perform(&mut self.sul, w, &mut outs) {
+            mut names,
+        } = make_room(self.alloc, w, &self.sul)?;
+        let done = perform(&mut self.sul, w, &mut outs, &mut names);
+        let _named = self.sul.named();
+        if let Err(stop) = done {
             self.stopped = Some(stop.copy());
             return Err(RunStop::Sul(stop));
         }
-        if answer.extend_from_slice(&outs).is_err() {
-            unreachable!();
-        }
         let outs = Word::from_letters(self.alloc, outs);
-        self.journal.runs.push_reserved(Run { word, outs });
-        Ok(Word::from_letters(self.alloc, answer))
+        self.journal = self.journal.and(w, &outs);
+        self.runs += 1;
+        let names = Named::from_names(names);
+        Ok(NamedAnswer { outs, names })
     }
 
     pub fn instance(&self) -> u32
@@ -181,14 +281,14 @@ impl<S: Sul> Session<S> {
         self.sul.outputs()
     }
 
-    /// The finished runs. Where the system tells its runs, they are these, and one unfinished run exactly where the
-    /// session stopped in a step.
-    pub fn journal(&self) -> &Runs
-        ensures journal { result.now ≡ self.now.journal }
+    /// The number of the finished runs. Where the system tells its runs, they are the journal, and one unfinished run
+    /// exactly where the session stopped in a step.
+    pub fn runs(&self) -> u64
+        ensures count { result ≡ length self.now.journal }
         ensures told { IsJournal (S.runs self.now.sul) self.now.journal (S.stop self.now.sul)
             (S.cut self.now.sul) }
     {
-        &self.journal
+        self.runs
     }
 
     /// Why the system stopped, or None where it didn't. Takes no memory.
@@ -207,22 +307,6 @@ impl<S: Sul> Session<S> {
         &self.sul
     }
 
-    /// The journal, taken out of the session. Takes no memory.
-    pub fn into_journal(self) -> Runs
-    where
-        S: Drop,
-        ensures { result ≡ self.journal }
-    {
-        let Session {
-            instance: _,
-            sul: _,
-            stopped: _,
-            journal,
-            alloc: _,
-        } = self;
-        journal
-    }
-
     /// The system.
     pub fn into_sul(self) -> S
         ensures { result ≡ self.sul }
@@ -232,6 +316,7 @@ impl<S: Sul> Session<S> {
             sul,
             stopped: _,
             journal: _,
+            runs: _,
             alloc: _,
         } = self;
         sul

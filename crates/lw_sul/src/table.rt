@@ -1,37 +1,46 @@
 //! A machine that is learned from itself.
-ghost use Rattle.std.specs.Prelude.{◌≡◌};
+ghost use Rattle.std.specs.Prelude.{◌≡◌, length};
 
-use crate::Sul;
+use crate::out_name::name_of;
+use crate::{OutName, Sul};
 use lw_mealy::Mealy;
-use lw_words::SulStop;
+use lw_words::{Names, SulStop};
 use std::marker::Model;
 
-/// A system that is a table: it never stops. Contracts see its machine and its state.
+/// A system that is a table: it never stops, and its outputs have their names from the start.
+/// Contracts see its machine, its state and the names.
 #[derive(Drop)]
 pub struct TableSul {
     mealy: Mealy,
     state: u16,
+    names: Names,
 }
 
 impl Model for TableSul {
-    ghost use Rattle.std.specs.Prelude.{◌<◌, length};
+    ghost use Rattle.std.specs.Prelude.{◌≡◌, ◌<◌, length};
     ghost use Rattle.lw_sul.specs.TableState.{TableState};
 
     ghost Value = { TableState };
 
-    ghost view = { λ s. record { table = s.mealy; state = s.state } };
+    ghost view = { λ s. record { table = s.mealy; state = s.state; names = s.names } };
 
-    ghost invariant = { λ s. s.state < length s.mealy.rows };
+    ghost invariant = { λ s. (s.state < length s.mealy.rows) × (length s.names ≡ s.mealy.outputs) };
 }
 
 impl TableSul {
-    /// The system of a machine. Takes no memory.
-    pub fn new(mealy: Mealy) -> TableSul
+    /// The system of a machine, with a name for each output. Takes no memory.
+    pub fn new(mealy: Mealy, names: Names) -> TableSul
+        requires { length names ≡ mealy.outputs }
         ensures table { result.table ≡ mealy }
         ensures state { result.state ≡ 0 }
+        ensures names { result.names ≡ names }
     {
         let state = mealy.initial();
-        TableSul { mealy, state }
+        TableSul {
+            mealy,
+            state,
+            names,
+        }
     }
 
     /// The machine.
@@ -43,7 +52,7 @@ impl TableSul {
 }
 
 impl Sul for TableSul {
-    ghost use Rattle.std.specs.Prelude.{true, false, Some, None};
+    ghost use Rattle.std.specs.Prelude.{length, true, false, Some, None};
 
     ghost inputs = { λ s. s.table.inputs };
 
@@ -63,12 +72,28 @@ impl Sul for TableSul {
 
     ghost runs = { λ _. None };
 
+    ghost names = { λ s. s.names };
+
+    ghost most = { λ s. length s.names };
+
     fn inputs(&self) -> u16 {
         self.mealy.inputs()
     }
 
     fn outputs(&self) -> u16 {
         self.mealy.outputs()
+    }
+
+    fn named(&self) -> u16 {
+        self.names.len()
+    }
+
+    fn most(&self) -> u16 {
+        self.names.len()
+    }
+
+    fn name(&self, y: u16) -> OutName {
+        name_of(&self.names, y)
     }
 
     fn reset(&mut self) -> Result<(), SulStop> {

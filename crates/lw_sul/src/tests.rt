@@ -1,11 +1,11 @@
 //! What no clause says: that the calls succeed, and sessions by hand.
-ghost use Rattle.std.specs.Prelude.{◌≡◌, IfOk};
+ghost use Rattle.std.specs.Prelude.{◌≡◌, [], None, IfOk};
 
 mod scripted;
 
-use crate::{Session, Sul, TableSul};
+use crate::{Named, NamedAnswer, OutName, Session, Sul, TableSul};
 use lw_mealy::Mealy;
-use lw_words::{RunStop, SulStop, Word};
+use lw_words::{Names, RunStop, SulStop, Word};
 use scripted::{Reply, Scripted};
 use std::alloc::Global;
 use std::test::Fail;
@@ -19,6 +19,27 @@ fn counter(alloc: Global) -> Result<Mealy, Fail> {
     Ok(Mealy::new(alloc, 1, 2, rows)?)
 }
 
+fn names(alloc: Global, list: &[&str]) -> Result<Names, Fail> {
+    let mut texts = Vec::new(alloc);
+    for name in list {
+        texts.push(String::from_str(alloc, name)?)?;
+    }
+    match Names::from_list(alloc, &texts) {
+        Ok(names) => Ok(names),
+        Err(_) => Err(Fail::from("names were refused")),
+    }
+}
+
+/// The counter as a system.
+fn table(alloc: Global) -> Result<TableSul, Fail> {
+    let mealy = counter(alloc)?;
+    let names = names(alloc, &["tick", "tock"])?;
+    if names.len() != mealy.outputs() {
+        return Err(Fail::from("another number of names"));
+    }
+    Ok(TableSul::new(mealy, names))
+}
+
 fn numbers_of<S: Sul>(sul: &S) -> (u16, u16) {
     (sul.inputs(), sul.outputs())
 }
@@ -27,15 +48,6 @@ fn word(alloc: Global, letters: &[u16]) -> Result<Word, Fail>
     ensures { IfOk result (λ w. w ≡ letters.now) }
 {
     Ok(Word::from_letters(alloc, letters.to_vec(alloc)?))
-}
-
-/// The letters and outputs of a run of a session's journal.
-fn run_is<S: Sul>(session: &Session<S>, i: usize, letters: &[u16], outs: &[u16]) -> bool {
-    if i >= session.journal().len() {
-        return false;
-    }
-    let run = session.journal().get(i);
-    run.word.as_slice() == letters && run.outs.as_slice() == outs
 }
 
 /// What a session answers to these letters.
@@ -72,9 +84,9 @@ fn fails<S: Sul>(alloc: Global, session: &mut Session<S>, letters: &[u16]) -> Re
 }
 
 #[test]
-fn a_session_keeps_its_runs(rt: HostRuntime) -> Result<(), Fail> {
+fn a_session_counts_its_runs(rt: HostRuntime) -> Result<(), Fail> {
     let alloc = rt.alloc();
-    let sul = TableSul::new(counter(alloc)?);
+    let sul = table(alloc)?;
     assert_eq!(rt; numbers_of(&sul), (1, 2));
     let mut session = Session::new(alloc, 4, sul);
     assert_eq!(rt;
@@ -84,12 +96,20 @@ fn a_session_keeps_its_runs(rt: HostRuntime) -> Result<(), Fail> {
     assert!(rt; answers(alloc, &mut session, &[0, 0], &[0, 0])?);
     assert!(rt; answers(alloc, &mut session, &[0, 0, 0, 0], &[0, 0, 1, 0])?);
     assert!(rt; answers(alloc, &mut session, &[], &[])?);
-    assert_eq!(rt; session.journal().len(), 3);
-    assert!(rt; run_is(&session, 0, &[0, 0], &[0, 0]));
-    assert!(rt; run_is(&session, 1, &[0, 0, 0, 0], &[0, 0, 1, 0]));
-    assert!(rt; run_is(&session, 2, &[], &[]));
+    assert_eq!(rt; session.runs(), 3);
     assert!(rt; session.stopped().is_none());
     Ok(())
+}
+
+/// A system of three names, so many of which came already.
+fn three_names(alloc: Global, script: Vec<Reply>, known: u16) -> Result<Scripted, Fail>
+    ensures { IfOk result (λ s. (s.stop ≡ None) × (s.log.items ≡ [])) }
+{
+    let names = names(alloc, &["a", "b", "c"])?;
+    if known > names.len() {
+        return Err(Fail::from("more names than three"));
+    }
+    Ok(Scripted::new(alloc, script, names, known)?)
 }
 
 /// A session over a script that has two finished runs, and then these replies.
@@ -103,7 +123,7 @@ fn after_two_runs(alloc: Global, last: &[Reply]) -> Result<Session<Scripted>, Fa
     ]
     .to_vec(alloc)?;
     script.extend_from_slice(last)?;
-    let mut session = Session::new(alloc, 0, Scripted::new(alloc, script)?);
+    let mut session = Session::new(alloc, 0, three_names(alloc, script, 3)?);
     let first = answers(alloc, &mut session, &[1], &[2])?;
     if !first || !answers(alloc, &mut session, &[0, 1], &[1, 0])? {
         return Err(Fail::from("the script answers otherwise"));
@@ -111,17 +131,11 @@ fn after_two_runs(alloc: Global, last: &[Reply]) -> Result<Session<Scripted>, Fa
     Ok(session)
 }
 
-/// The two finished runs alone stand in the journal, and the system isn't asked again.
+/// The two finished runs alone are counted, and the system isn't asked again.
 fn keeps_two_runs(alloc: Global, session: &mut Session<Scripted>) -> Result<bool, Fail> {
     let made = session.sul().made();
     let again = fails(alloc, session, &[1])?;
-    Ok(
-        again
-            && session.sul().made() == made
-            && session.journal().len() == 2
-            && run_is(session, 0, &[1], &[2])
-            && run_is(session, 1, &[0, 1], &[1, 0]),
-    )
+    Ok(again && session.sul().made() == made && session.runs() == 2)
 }
 
 #[test]
@@ -150,7 +164,7 @@ fn a_stop_in_a_step_cuts_the_run_off(rt: HostRuntime) -> Result<(), Fail> {
 #[test]
 fn long_runs_and_many(rt: HostRuntime) -> Result<(), Fail> {
     let alloc = rt.alloc();
-    let mut session = Session::new(alloc, 0, TableSul::new(counter(alloc)?));
+    let mut session = Session::new(alloc, 0, table(alloc)?);
     let long = vec![in alloc; 0u16; 70_000]?;
     match ask(alloc, &mut session, long.as_slice())? {
         Ok(answer) => assert_eq!(rt; answer.len(), 70_000),
@@ -161,7 +175,92 @@ fn long_runs_and_many(rt: HostRuntime) -> Result<(), Fail> {
             return Err(Fail::from("a run isn't answered"));
         }
     }
-    assert_eq!(rt; session.journal().len(), 100_001);
-    assert!(rt; run_is(&session, 100_000, &[0, 0, 0], &[0, 0, 1]));
+    assert_eq!(rt; session.runs(), 100_001);
+    Ok(())
+}
+
+/// Whether the names of an answer are these.
+fn names_are(answer: &NamedAnswer, list: &[&str]) -> bool {
+    if answer.names.len() != list.len() {
+        return false;
+    }
+    for (i, text) in list.iter().enumerate() {
+        match OutName::new(text) {
+            Some(name) if name.same(answer.names.get(i)) => {}
+            _ => return false,
+        }
+    }
+    true
+}
+
+/// Whether a session answers these outputs to the letters, and these names came up first.
+fn brings<S: Sul>(
+    alloc: Global,
+    session: &mut Session<S>,
+    letters: &[u16],
+    outs: &[u16],
+    list: &[&str],
+) -> Result<bool, Fail> {
+    let inputs = session.inputs();
+    if !letters.iter().all(|x| *x < inputs) {
+        return Err(Fail::from("a letter is out of range"));
+    }
+    match session.ask_named(&word(alloc, letters)?) {
+        Ok(answer) => Ok(answer.outs.as_slice() == outs && names_are(&answer, list)),
+        Err(_) => Ok(false),
+    }
+}
+
+#[test]
+fn names_come_once_and_in_order(rt: HostRuntime) -> Result<(), Fail> {
+    let alloc = rt.alloc();
+    let script = [
+        Reply::Ready,
+        Reply::Output(0),
+        Reply::Output(1),
+        Reply::Output(0),
+        Reply::Ready,
+        Reply::Output(1),
+        Reply::Output(0),
+        Reply::Ready,
+        Reply::Output(2),
+        Reply::Ready,
+        Reply::Output(3),
+    ]
+    .to_vec(alloc)?;
+    let mut session = Session::new(alloc, 0, three_names(alloc, script, 0)?);
+    assert_eq!(rt; (session.sul().named(), session.sul().most()), (0, 3));
+    assert!(rt; brings(alloc, &mut session, &[0, 1, 0], &[0, 1, 0], &["a", "b"])?);
+    assert!(rt; brings(alloc, &mut session, &[1, 0], &[1, 0], &[])?);
+    assert!(rt; brings(alloc, &mut session, &[0], &[2], &["c"])?);
+    assert_eq!(rt; (session.sul().named(), session.sul().most()), (3, 3));
+    assert_eq!(rt; session.runs(), 3);
+    assert!(rt; fails(alloc, &mut session, &[0])?);
+    assert_eq!(rt; session.runs(), 3);
+    Ok(())
+}
+
+#[test]
+fn a_table_has_its_names(rt: HostRuntime) -> Result<(), Fail> {
+    let alloc = rt.alloc();
+    let mut session = Session::new(alloc, 0, table(alloc)?);
+    assert!(rt; brings(alloc, &mut session, &[0, 0, 0], &[0, 0, 1], &[])?);
+    let sul = session.sul();
+    if sul.named() > 1 {
+        let tock = sul.name(1).copy();
+        assert_eq!(rt; tock.as_slice(), b"tock".as_slice());
+    }
+    assert!(rt; OutName::new("a b").is_none());
+    Ok(())
+}
+
+#[test]
+fn names_are_put_last(rt: HostRuntime) -> Result<(), Fail> {
+    let mut list = Named::with_room(rt.alloc(), 1)?;
+    match OutName::new("a") {
+        Some(name) => list.push(name)?,
+        None => return Err(Fail::from("a name was refused")),
+    }
+    assert_eq!(rt; (list.len(), Named::new(rt.alloc()).len()), (1, 0));
     Ok(())
 }
