@@ -10,7 +10,7 @@ use Rattle.std.proofs.lemmas.List.Sums.{fails_before_first, passes_at_first}
 use Rattle.std.proofs.lemmas.Option.{slice_get_within, get_or_from_slice_get}
 use Rattle.lw_words.proofs.NumberLemmas.{name_at_number}
 use Rattle.lw_words.specs.Name.{number_of}
-use Rattle.lw_sul.specs.Names.{name_at, with_found, with_name, with_names}
+use Rattle.lw_sul.specs.Names.{name_at, added_name, with_name, with_names}
 use Rattle.lw_desk.specs.Naming.{number_in}
 use Rattle.lw_desk.proofs.Members.{In, in_contains, contains_in, in_left, in_right}
 
@@ -55,13 +55,13 @@ pub grew_length : (was now : List (List ℕ)) → Grew was now → length was �
 grew_length was now g = omega (arith, ap (λ (l : List (List ℕ)). length l) g.1, length-append was g.0)
 
 -- one name, and more of them
-with_found_grew : (names : List (List ℕ)) (n : List ℕ) (o : Option ℕ) → Grew names (with_found names n o)
-with_found_grew names n None = (n ∷ [], refl)
-with_found_grew names n (Some k) = grew_not names
+added_name_grew : (names : List (List ℕ)) (n : List ℕ) (o : Option ℕ) → Grew names (added_name names n o)
+added_name_grew names n None = (n ∷ [], refl)
+added_name_grew names n (Some k) = grew_not names
 
 pub with_names_grew : (names ns : List (List ℕ)) → Grew names (with_names names ns)
 with_names_grew names [] = grew_not names
-with_names_grew names (n ∷ ns) = grew_both names (with_name names n) (with_names (with_name names n) ns) (with_found_grew names n (number_of n names)) (with_names_grew (with_name names n) ns)
+with_names_grew names (n ∷ ns) = grew_both names (with_name names n) (with_names (with_name names n) ns) (added_name_grew names n (number_of n names)) (with_names_grew (with_name names n) ns)
 
 pub in_grew : (was now : List (List ℕ)) (n : List ℕ) → Grew was now → In n was → In n now
 in_grew was now n g i = subst (In n) (sym g.1) (in_left n was g.0 i)
@@ -71,14 +71,14 @@ at_found names n k e =
     let at = name_at_number n names k e in
     contains_in n names (k, slice_get_within names k n at, get_or_from_slice_get names k n n at)
 
-in_found : (names : List (List ℕ)) (n : List ℕ) (o : Option ℕ) → number_of n names ≡ o → In n (with_found names n o)
-in_found names n None e = in_right n names (n ∷ []) (inl refl)
-in_found names n (Some k) e = at_found names n k e
+in_added : (names : List (List ℕ)) (n : List ℕ) (o : Option ℕ) → number_of n names ≡ o → In n (added_name names n o)
+in_added names n None e = in_right n names (n ∷ []) (inl refl)
+in_added names n (Some k) e = at_found names n k e
 
 pub in_with_names : (names ns : List (List ℕ)) (n : List ℕ) → In n ns → In n (with_names names ns)
 in_with_names names [] n i = absurd i
 in_with_names names (m ∷ ns) n i =
     ⊎_elim
-    (λ (same : n ≡ m). in_grew (with_name names m) (with_names (with_name names m) ns) n (with_names_grew (with_name names m) ns) (subst (λ (x : List ℕ). In x (with_name names m)) (sym same) (in_found names m (number_of m names) refl)))
+    (λ (same : n ≡ m). in_grew (with_name names m) (with_names (with_name names m) ns) n (with_names_grew (with_name names m) ns) (subst (λ (x : List ℕ). In x (with_name names m)) (sym same) (in_added names m (number_of m names) refl)))
     (λ (j : In n ns). in_with_names (with_name names m) ns n j)
     i

@@ -4,4 +4,3 @@ pub mod Runs
 pub mod TableState
 pub mod Told
 pub mod TestScript
-pub mod Names
