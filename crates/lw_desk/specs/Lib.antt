@@ -1,3 +1,4 @@
 pub mod History
 pub mod Naming
 pub mod Step
+pub mod bodies

@@ -2,7 +2,9 @@
 #![tactic(auto)]
 
 mod ask;
+mod out_names;
 mod places;
 
 pub use ask::{Ask, Failed, Give, Reply};
+pub use out_names::OutNames;
 pub use places::{MOST_PLACES, Places};

@@ -22,7 +22,31 @@ impl Model for OutName {
     ghost invariant = { λ n. (n.len ≤ 64) × IsName (take n.len n.bytes) };
 }
 
+/// Whether these bytes are a name.
+fn is_name(bytes: &[u8]) -> bool
+    ensures { IsTrue result ↔ IsName bytes.now }
+{
+    !bytes.is_empty() && bytes.len() <= 64 && bytes.iter().all(|b| 0x21 <= *b && *b <= 0x7e)
+}
+
 impl OutName {
+    /// The text as a name, or None where it is none. Takes no memory.
+    pub fn new(name: &str) -> Option<OutName>
+        ensures some { IfSome result (λ n. n ≡ name.now) }
+        ensures none { IfNone result (¬ IsName name.now) }
+    {
+        let text = name.as_bytes();
+        if !is_name(text) {
+            return None;
+        }
+        let mut bytes = [0u8; 64];
+        bytes[..text.len()].copy_from_slice(text);
+        Some(OutName {
+            bytes,
+            len: text.len() as u8,
+        })
+    }
+
     pub fn as_slice(&self) -> &[u8]
         ensures value { result.now ≡ self.now }
         ensures name { IsName self.now }
