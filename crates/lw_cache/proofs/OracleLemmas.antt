@@ -58,7 +58,7 @@ nothing_more kept k clear size nothing =
     subst (λ (a : Answer). ¬ Clash a (answer_of k)) (get_or_default (answers_of kept) i (record { word = []; outs = [] }) d lt)
     (unclashed_after (answers_of kept) (length kept) (answer_of k) clear i (omega (arith, lt, size)) (all_are_clear (answers_of kept) nothing i lt))))
 
-known_stays : (kept : List KeptAnswer) (k : KeptAnswer) (w : List ℕ) → IsKnown (answers_of kept) w → IsKnown (answers_of (kept ++ k ∷ [])) w
+pub known_stays : (kept : List KeptAnswer) (k : KeptAnswer) (w : List ℕ) → IsKnown (answers_of kept) w → IsKnown (answers_of (kept ++ k ∷ [])) w
 known_stays kept k w known =
     let r = (known_is_read (answers_of kept) w).0 known in
     subst (λ (l : List Answer). IsKnown l w) (sym (map_push answer_of kept k)) ((known_is_read (answers_of kept ++ answer_of k ∷ []) w).1 (r.0, reads_stay (answers_of kept) (answer_of k ∷ []) w r.0 r.1))

@@ -76,10 +76,16 @@ abbrev pub Replays : DeskOpening → DeskState → List (Entry Ask Reply) → De
 Replays o s [] t = t ≡ s
 Replays o s (e ∷ es) t = (u : DeskState) × Makes o s e u × Replays o u es t
 
+-- where names are free each actor has a list of those that it brought
+abbrev pub HasLists : Option (List (List (List ℕ))) → ℕ → Type 0
+HasLists None actors = Unit {0}
+HasLists (Some brought) actors = actors ≤ length brought
+
 -- a history of a desk from its opening on
 pub record Legal (o : DeskOpening) (es : List (Entry Ask Reply)) : Type 0 where
   pub few_actors : o.actors ≤ 16
   pub few_words : length o.batch < 2 ^ 32
+  pub lists : HasLists o.naming.brought o.actors
   pub state : DeskState
   pub replays : Replays o (opened o) es state
 
