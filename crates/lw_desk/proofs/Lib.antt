@@ -1,12 +1,8 @@
 pub mod BoardLemmas
-pub mod Bounds
 pub mod Bringing
-pub mod ClaimLists
-pub mod CoverLemmas
 pub mod GatherLemmas
-pub mod Members
 pub mod NamingLemmas
 pub mod ReplayLemmas
 pub mod SeatLemmas
-pub mod StepLemmas
+pub mod TidyLemmas
 pub mod TurnLemmas

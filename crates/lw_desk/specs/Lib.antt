@@ -1,4 +1,6 @@
+pub mod Desk
 pub mod History
 pub mod Naming
 pub mod Step
 pub mod bodies
+pub mod laws
