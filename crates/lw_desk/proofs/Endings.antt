@@ -11,10 +11,10 @@ use Rattle.lw_turn.specs.History.{entries_of}
 use Rattle.lw_desk.specs.Naming.{own_names}
 use Rattle.lw_desk.specs.Step.{Claimed, DeskState, word_at}
 use Rattle.lw_desk.specs.History.{DeskOpening, opened, HasLists, Replays}
-use Rattle.lw_desk.specs.Laws.{kept_runs, given_runs, gives_of, IsShared, Brought, Settled}
+use Rattle.lw_desk.specs.Ending.{kept_runs, given_runs, gives_of, IsShared, Brought, Settled}
 use Rattle.lw_desk.specs.declared.ask.Ask.{Ask}
 use Rattle.lw_desk.specs.declared.ask.Reply.{Reply}
-use Rattle.lw_desk.proofs.Members.{In, in_contains, contains_in, in_map, in_mapped}
+use Rattle.lw_desk.specs.laws.Members.{In, in_contains, contains_in, in_map, in_mapped}
 use Rattle.lw_desk.proofs.SeatLemmas.{opened_stands}
 use Rattle.lw_desk.proofs.TidyLemmas.{Tidy, since_opening, all_covered, known_in_more, at_place}
 use Rattle.lw_desk.proofs.RunLemmas.{later_not, Running, running_replays, running_opened}

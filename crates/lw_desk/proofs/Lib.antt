@@ -1,13 +1,12 @@
-pub mod Bounds
-pub mod ClaimLists
-pub mod CoverLemmas
+pub mod BoardLemmas
+pub mod Bringing
 pub mod Endings
-pub mod Members
+pub mod GatherLemmas
 pub mod NameNumbers
 pub mod NamingLemmas
 pub mod ReplayLemmas
 pub mod RunLemmas
 pub mod SeatLemmas
-pub mod StepLemmas
 pub mod StopLemmas
 pub mod TidyLemmas
+pub mod TurnLemmas

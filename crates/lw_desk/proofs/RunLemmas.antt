@@ -8,15 +8,15 @@ use Rattle.lw_turn.specs.History.{entries_of}
 use Rattle.lw_desk.specs.Naming.{Naming, own_names, bring, shared, number_in}
 use Rattle.lw_desk.specs.Step.{DeskState, word_at, kept_of, Gives, GivesAll}
 use Rattle.lw_desk.specs.History.{DeskOpening, opened, HasLists, MayGiveAll, Makes, Replays}
-use Rattle.lw_desk.specs.Laws.{NamedRun, kept_runs, given_runs, gives_of, IsShared}
+use Rattle.lw_desk.specs.Ending.{NamedRun, kept_runs, given_runs, gives_of, IsShared}
 use Rattle.lw_desk.specs.declared.ask.Ask.{Ask}
 use Rattle.lw_desk.specs.declared.ask.Reply.{Reply}
 use Rattle.lw_desk.specs.declared.ask.Give.{Give}
-use Rattle.lw_desk.proofs.Members.{In, in_contains, contains_in, in_either, same_number}
+use Rattle.lw_desk.specs.laws.Members.{In, in_contains, contains_in, in_either, same_number}
 use Rattle.lw_desk.proofs.NameNumbers.{IsNumbered, numbered, Grew, grew_not, grew_both, grew_name, with_names_grew, in_grew, in_with_names}
 use Rattle.lw_desk.proofs.NamingLemmas.{OwnMore, own_more}
 use Rattle.lw_desk.proofs.SeatLemmas.{Stands, makes_stands}
-use Rattle.lw_desk.proofs.StepLemmas.{end_naming, end_kept}
+use Rattle.lw_desk.specs.laws.StepLemmas.{end_naming, end_kept}
 
 -- names that came later
 pub record Later (was now : Naming) : Type 0 where

@@ -18,14 +18,14 @@ use Rattle.lw_turn.specs.declared.shared.Entry.{Entry}
 use Rattle.lw_desk.specs.Naming.{bring}
 use Rattle.lw_desk.specs.Step.{DeskState, GivesAll, StopsBy, kept_of, after_fail, first_stop, stop_of}
 use Rattle.lw_desk.specs.History.{DeskOpening, opened, Replays}
-use Rattle.lw_desk.specs.Laws.{StopIs}
+use Rattle.lw_desk.specs.Ending.{StopIs}
 use Rattle.lw_desk.specs.declared.ask.Ask.{Ask}
 use Rattle.lw_desk.specs.declared.ask.Reply.{Reply}
 use Rattle.lw_desk.specs.declared.ask.Give.{Give}
 use Rattle.lw_desk.specs.declared.ask.Failed.{Failed}
-use Rattle.lw_desk.proofs.Members.{In, in_contains}
-use Rattle.lw_desk.proofs.CoverLemmas.{some_none}
-use Rattle.lw_desk.proofs.StepLemmas.{end_stop, end_kept}
+use Rattle.lw_desk.specs.laws.Members.{In, in_contains}
+use Rattle.lw_desk.specs.laws.CoverLemmas.{some_none}
+use Rattle.lw_desk.specs.laws.StepLemmas.{end_stop, end_kept}
 
 abbrev is_sul : AskStop → Bool
 is_sul (Stop.Sul i s) = true

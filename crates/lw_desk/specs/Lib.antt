@@ -1,4 +1,7 @@
+pub mod Desk
 pub mod History
-pub mod Laws
+pub mod Ending
 pub mod Naming
 pub mod Step
+pub mod bodies
+pub mod laws

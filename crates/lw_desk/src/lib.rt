@@ -2,7 +2,17 @@
 #![tactic(auto)]
 
 mod ask;
+mod asked;
+mod board;
+mod desk;
+mod gathering;
+mod opening;
+mod out_names;
 mod places;
+mod turn;
 
 pub use ask::{Ask, Failed, Give, Reply};
+pub use desk::Desk;
+pub use opening::Opening;
+pub use out_names::OutNames;
 pub use places::{MOST_PLACES, Places};

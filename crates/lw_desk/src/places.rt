@@ -1,5 +1,5 @@
 //! A few places of a batch.
-ghost use Rattle.std.specs.Prelude.{◌≡◌, ℕ, ◌<◌, ◌≤◌, List, [], ◌∷◌, ◌++◌, length, take, slice_get, Some};
+ghost use Rattle.std.specs.Prelude.{◌≡◌, ◌↔◌, IsTrue, ℕ, ◌<◌, ◌≤◌, List, [], ◌∷◌, ◌++◌, length, take, slice_get, Some};
 
 use std::marker::Model;
 
@@ -41,6 +41,13 @@ impl Places {
     {
         self.places[usize::from(self.len)] = place;
         self.len += 1;
+    }
+
+    /// Whether there is no place.
+    pub fn is_empty(&self) -> bool
+        ensures { IsTrue result ↔ (self.now ≡ []) }
+    {
+        self.len == 0
     }
 
     pub fn as_slice(&self) -> &[u32]

@@ -1,0 +1,24 @@
+-- What contracts see of a desk, and what it leaves at the end.
+use Rattle.std.specs.Prelude.{◌≡◌, List, [], Option}
+use Rattle.lw_cache.specs.Caching.{Caching}
+use Rattle.lw_cache.specs.declared.stops.AskStop.{AskStop}
+use Rattle.lw_turn.specs.declared.shared.Entry.{Entry}
+use Rattle.lw_desk.specs.Naming.{Naming}
+use Rattle.lw_desk.specs.Step.{DeskState}
+use Rattle.lw_desk.specs.History.{DeskOpening, opened, Replays}
+use Rattle.lw_desk.specs.declared.ask.Ask.{Ask}
+use Rattle.lw_desk.specs.declared.ask.Reply.{Reply}
+
+-- what it began with, and the entries since
+pub record DeskHistory : Type 0 where
+  pub opening : DeskOpening
+  pub entries : List (Entry Ask Reply)
+
+-- the answers, the names and the stop are those to which the entries lead, and nothing is claimed
+pub record Finishes (d : DeskHistory) (result : Caching × Naming × Option AskStop) : Type 0 where
+  pub state : DeskState
+  pub replays : Replays d.opening (opened d.opening) d.entries state
+  pub kept : result.0.kept ≡ state.kept
+  pub claims : result.0.claims ≡ []
+  pub naming : result.1 ≡ state.naming
+  pub stop : result.2 ≡ state.stop

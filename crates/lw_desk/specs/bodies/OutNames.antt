@@ -1,0 +1,25 @@
+-- How the shared names of outputs are kept: by tables from each instance's own numbers to the shared ones.
+use Rattle.std.specs.Prelude.{◌≡◌, ℕ, ◌<◌, ◌≤◌, List, length, map, Bool, true, false, Option, Some, None}
+use Rattle.std.specs.List.{All, sum_by}
+use Rattle.lw_words.specs.Name.{IsName, AllDiffer}
+use Rattle.lw_sul.specs.Names.{named}
+
+-- for free names, the names that each table's numbers stand for
+abbrev pub brought_of : Bool → List (List ℕ) → List (List ℕ) → Option (List (List (List ℕ)))
+brought_of false names tables = None
+brought_of true names tables = Some (map (named names) tables)
+
+-- for free names there are 16 tables, which name all the names, and room for the greatest number of names and in each table
+pub record HasTables (names tables : List (List ℕ)) (spare : ℕ) (spares : List ℕ) : Type 0 where
+  pub count : length tables ≡ 16
+  pub named : length names ≤ sum_by (λ t. length t) tables
+  pub room : 4096 ≤ spare
+  pub rooms : All (λ n. 256 ≤ n) spares
+
+pub record IsOutNames (free : Bool) (names tables : List (List ℕ)) (spare : ℕ) (spares : List ℕ) : Type 0 where
+  pub each : All IsName names
+  pub differ : AllDiffer names
+  pub few : length names ≤ 4096
+  pub within : All (All (λ y. y < length names)) tables
+  pub short : All (λ t. length t ≤ 256) tables
+  pub free_names : free ≡ true → HasTables names tables spare spares
