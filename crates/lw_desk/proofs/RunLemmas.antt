@@ -12,8 +12,8 @@ use Rattle.lw_desk.specs.Ending.{NamedRun, kept_runs, given_runs, gives_of, IsSh
 use Rattle.lw_desk.specs.declared.ask.Ask.{Ask}
 use Rattle.lw_desk.specs.declared.ask.Reply.{Reply}
 use Rattle.lw_desk.specs.declared.ask.Give.{Give}
-use Rattle.lw_desk.specs.laws.Members.{In, in_contains, contains_in, in_either, same_number}
-use Rattle.lw_desk.proofs.NameNumbers.{IsNumbered, numbered, Grew, grew_not, grew_both, grew_name, with_names_grew, in_grew, in_with_names}
+use Rattle.lw_desk.specs.laws.Members.{In, in_contains, contains_in, in_either, in_mapped, same_number}
+use Rattle.lw_desk.proofs.NameNumbers.{IsNumbered, numbered, Grew, grew_not, grew_both, grew_name, grew_length, with_names_grew, in_grew, in_with_names}
 use Rattle.lw_desk.proofs.NamingLemmas.{OwnMore, own_more}
 use Rattle.lw_desk.proofs.SeatLemmas.{Stands, makes_stands}
 use Rattle.lw_desk.specs.laws.StepLemmas.{end_naming, end_kept}
@@ -46,6 +46,13 @@ same_names at later actor (y ∷ ys) l is below =
     ∙ (n.is ∙ sym (grew_name (own_names at actor) (own_names later actor) y (l.own actor) lt)) in
     subst (λ (x : List ℕ). x ∷ named later.names (shared at actor ys) ≡ name_at (own_names later actor) y ∷ named (own_names later actor) ys) (sym first)
     (ap (λ (xs : List (List ℕ)). name_at (own_names later actor) y ∷ xs) (same_names at later actor ys l is (λ x i. below x (inr i))))
+
+-- and those numbers are numbers of the list
+shared_below : (at : Naming) (actor : ℕ) (outs : List ℕ) → IsShared at → ((y : ℕ) → In y outs → y < length (own_names at actor)) → (z : ℕ) → In z (shared at actor outs) → z < length at.names
+shared_below at actor outs is below z i =
+    let y = in_mapped (λ (y : ℕ). number_in at.names (name_at (own_names at actor) y)) z outs i in
+    let n : IsNumbered at.names (name_at (own_names at actor) y.0) = numbered at.names (name_at (own_names at actor) y.0) (contains_in (name_at (own_names at actor) y.0) at.names (is actor y.0 (below y.0 y.1))) in
+    subst (λ (x : ℕ). x < length at.names) y.2 n.within
 
 -- one answer more
 more_own : (names : List (List ℕ)) (actor : ℕ) (kept : List KeptAnswer) (k : KeptAnswer) → (k.instance == actor) ≡ true → kept_runs names actor (kept ++ k ∷ []) ≡ kept_runs names actor kept ++ record { run = k.run; word = k.word; names = named names k.outs } ∷ []
@@ -81,6 +88,7 @@ module _ (o : DeskOpening) where
     pub gained : List KeptAnswer
     pub at_end : s.kept ≡ o.kept ++ gained
     pub actors : (k : KeptAnswer) → In k gained → k.instance < o.actors
+    pub below : (k : KeptAnswer) → In k gained → (y : ℕ) → In y k.outs → y < length s.naming.names
     pub runs : (later : Naming) → Later s.naming later → kept_runs later.names actor gained ≡ given_runs o.batch (own_names later actor) gs
 
   -- names stay shared as one actor brings more
@@ -139,6 +147,15 @@ module _ (o : DeskOpening) where
             (λ (no_one : ⊥). absurd no_one)
             r)
             (in_either k was.gained (kept_of o.batch (bring s.naming maker g.names) maker g ∷ []) i);
+        below = λ k i y j. ⊎_elim
+            (λ (l : In k was.gained). subst (λ (n : Naming). y < length n.names) (sym (ap (λ (x : DeskState). x.naming) gives.after)) (omega (arith, was.below k l y j, grew_length s.naming.names (with_names s.naming.names g.names) (with_names_grew s.naming.names g.names))))
+            (λ (r : In k (kept_of o.batch (bring s.naming maker g.names) maker g ∷ [])). ⊎_elim
+            (λ (same : k ≡ kept_of o.batch (bring s.naming maker g.names) maker g).
+            subst (λ (n : Naming). y < length n.names) (sym (ap (λ (x : DeskState). x.naming) gives.after))
+            (shared_below (bring s.naming maker g.names) maker g.outs is below y (subst (λ (x : KeptAnswer). In y x.outs) same j)))
+            (λ (no_one : ⊥). absurd no_one)
+            r)
+            (in_either k was.gained (kept_of o.batch (bring s.naming maker g.names) maker g ∷ []) i);
         runs = λ later l. by (maker == actor) refl later (subst (λ (n : Naming). Later n later) (ap (λ (x : DeskState). x.naming) gives.after) l);
       }
     where
@@ -189,6 +206,7 @@ module _ (o : DeskOpening) where
     gained = was.gained;
     at_end = kept ∙ was.at_end;
     actors = was.actors;
+    below = λ k i y j. subst (λ (n : Naming). y < length n.names) (sym names) (was.below k i y j);
     runs = λ later l. was.runs later (subst (λ (n : Naming). Later n later) names l);
   }
 
@@ -215,4 +233,4 @@ module _ (o : DeskOpening) where
       (rest.0, subst (λ (l : List Give). Running t actor l) (append_assoc gs (of_actor e.actor actor e.ask.gives.items) (gives_of (entries_of actor es)) ∙ ap (λ (l : List Give). gs ++ l) (gives_of_own actor e es)) rest.1)
 
   pub running_opened : (actor : ℕ) → Running (opened o) actor []
-  running_opened actor = record { gained = []; at_end = sym (append-nil o.kept); actors = λ k i. absurd i; runs = λ later l. refl }
+  running_opened actor = record { gained = []; at_end = sym (append-nil o.kept); actors = λ k i. absurd i; below = λ k i. absurd i; runs = λ later l. refl }

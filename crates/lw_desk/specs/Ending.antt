@@ -53,6 +53,7 @@ pub record Brought (o : DeskOpening) (es : List (Entry Ask Reply)) (t : DeskStat
   pub asked : All (λ k. IsAsked o.batch (answers_of o.kept) k.word) gained
   pub once : AllDiffer (map (λ k. k.word) gained)
   pub actors : All (λ k. k.instance < o.actors) gained
+  pub below : All (λ k. All (λ y. y < length t.naming.names) k.outs) gained
   pub runs : (actor : ℕ) → kept_runs t.naming.names actor gained ≡ given_runs o.batch (own_names t.naming actor) (gives_of (entries_of actor es))
   pub clear : t.stop ≡ None → NothingClashes (answers_of o.kept) → NothingClashes (answers_of t.kept)
 
