@@ -1,5 +1,5 @@
 //! A few places of a batch.
-ghost use Rattle.std.specs.Prelude.{◌≡◌, ◌↔◌, IsTrue, ℕ, ◌<◌, ◌≤◌, List, [], ◌∷◌, ◌++◌, length, take, slice_get, Some};
+ghost use Rattle.std.specs.Prelude.{◌≡◌, ◌↔◌, IsTrue, ℕ, ◌<◌, ◌≤◌, List, [], ◌∷◌, ◌++◌, length, take, drop, slice_get, Some};
 
 use std::marker::Model;
 
@@ -55,5 +55,17 @@ impl Places {
         ensures few { length self.now ≤ 16 }
     {
         &self.places[..usize::from(self.len)]
+    }
+
+    /// Its places from this one on.
+    pub fn from(&self, first: usize) -> Places
+        requires { first ≤ length self.now }
+        ensures { result ≡ drop first self.now }
+    {
+        let mut rest = Places::new();
+        for place in &self.as_slice()[first..] {
+            rest.push(*place);
+        }
+        rest
     }
 }

@@ -1,0 +1,3 @@
+pub mod Fitting
+pub mod Pool
+pub mod bodies

@@ -1,0 +1,4 @@
+//! Workers over one desk: the words of a batch are divided among sessions, and all share one cache.
+#![tactic(auto)]
+
+mod worker;

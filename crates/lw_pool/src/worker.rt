@@ -1,0 +1,46 @@
+//! A worker: a session, and its place in a batch that is under way.
+ghost use Rattle.std.specs.Prelude.{◌≡◌, ◌<◌, ◌≤◌, length, IfOk, IfErr};
+ghost use Rattle.std.specs.List.{All};
+ghost use Rattle.lw_words.specs.Word.{IsWord};
+ghost use Rattle.lw_pool.specs.bodies.Working.{HasGiven, HasRefused, HasAnswered};
+
+use lw_desk::{Ask, Desk, Failed, Give, Places, Reply};
+use lw_sul::{NamedAnswer, Session, Sul};
+use lw_turn::Pass;
+use lw_words::{RunStop, Word};
+use std::alloc::Global;
+use std::marker::Model;
+
+/// A session. Contracts see it, and beside it what its system tells.
+#[derive(Drop)]
+pub(crate) struct Worker<S: Sul> {
+    pub(crate) session: Session<S>,
+}
+
+impl<S: Sul> Model for Worker<S> {
+    ghost use Rattle.lw_pool.specs.Pool.{Member};
+
+    ghost Value = { Member S };
+
+    ghost view = { λ w. record { session = w.session; seen = record { instance = w.session.instance; journal = w.session.journal; names = S.names w.session.sul; most = S.most w.session.sul; stop = S.stop w.session.sul; origin = S.origin w.session.sul; inputs = S.inputs w.session.sul; outputs = S.outputs w.session.sul } } };
+}
+
+impl<S: Sul> Worker<S> {
+    /// Asks its system the word of a place.
+    fn ask(&mut self, batch: &[Word], place: u32) -> Result<Give, RunStop>
+        requires within { place < length batch.now }
+        requires letters { All (IsWord self.old.seen.inputs) batch.now }
+        ensures place { IfOk result (λ g. g.place ≡ place) }
+        ensures given { IfOk result (HasGiven batch.now self.old.seen self.new.seen) }
+        ensures refused { IfErr result (HasRefused self.old.seen self.new.seen) }
+    {
+        let run = self.session.runs();
+        let NamedAnswer { outs, names } = self.session.ask_named(&batch[place as usize])?;
+        Ok(Give {
+            place,
+            outs,
+            names,
+            run,
+        })
+    }
+}
