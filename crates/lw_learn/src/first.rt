@@ -11,10 +11,10 @@ ghost use Rattle.lw_learn.specs.Hypothesis.{IsHypothesis};
 ghost use Rattle.lw_sul.specs.Runs.{journal_answers};
 ghost use Rattle.lw_learn.specs.PartialTable.{row_after, word_at, IsPair, Enters, IsFilling};
 
+use crate::table_session::TableSession;
 use indexmap::IndexSet;
 use lw_mealy::{Mealy, MealyFault};
-use lw_sul::{Session, TableSul};
-use lw_words::{NoMemory, RunStop, Word, Words};
+use lw_words::{NoMemory, Word, Words};
 use std::alloc::Global;
 
 /// Why the first table was not closed.
@@ -47,7 +47,7 @@ fn extension(word: &Word, letter: u16) -> Result<Word, NoMemory>
 
 /// The last output of the answer to a word and one letter more.
 #[tactic(auto, using(crate::proofs::WordEnds::last_output))]
-fn ask_after(session: &mut Session<TableSul>, word: &Word, letter: u16) -> Result<u16, NoMemory>
+fn ask_after(session: &mut TableSession, word: &Word, letter: u16) -> Result<u16, NoMemory>
     requires word { IsWord session.old.sul.table.inputs word.now }
     requires letter { letter < session.old.sul.table.inputs }
     ensures ok { IfOk result (λ y. y ≡ output session.old.sul.table.rows
@@ -60,18 +60,15 @@ fn ask_after(session: &mut Session<TableSul>, word: &Word, letter: u16) -> Resul
     ensures instance { session.new.instance ≡ session.old.instance }
 {
     let longer = extension(word, letter)?;
-    match session.ask(&longer) {
-        Ok(outs) => Ok(outs.as_slice()[word.len()]),
-        Err(RunStop::NoMemory) => Err(NoMemory),
-        Err(RunStop::Sul(_)) => unreachable!(),
-    }
+    let outs = session.ask(&longer)?;
+    Ok(outs.as_slice()[word.len()])
 }
 
 /// The row of a word: asks the word and each letter after it, in order.
 #[tactic(auto, using(crate::proofs::RowSteps::row_steps))]
 fn ask_row(
     alloc: Global,
-    session: &mut Session<TableSul>,
+    session: &mut TableSession,
     word: &Word,
     letters: u16,
 ) -> Result<Vec<u16>, NoMemory>
@@ -103,7 +100,7 @@ struct FirstTable {
 
 impl FirstTable {
     /// The table of the empty word alone.
-    fn new(alloc: Global, session: &mut Session<TableSul>) -> Result<FirstTable, NoMemory>
+    fn new(alloc: Global, session: &mut TableSession) -> Result<FirstTable, NoMemory>
         ensures ok { IfOk result (λ t. IsFilling (λ r. r.items) session.old.sul.table t.access.items
             t.rows.keys (map (λ r. r.items) t.cells.items) × (t.cells.items ≡ [])) }
         ensures gains { OnOk result (session.new.journal ≡ session.old.journal ++
@@ -145,7 +142,7 @@ impl FirstTable {
     fn pair(
         &mut self,
         alloc: Global,
-        session: &mut Session<TableSul>,
+        session: &mut TableSession,
         state: usize,
         letter: u16,
     ) -> Result<(u16, u16), NoMemory>
@@ -176,7 +173,7 @@ impl FirstTable {
 
     /// Asks the rows of the extensions of the next access word, and enters them.
     #[tactic(auto, using(crate::proofs::Parts::part_steps))]
-    fn explore(&mut self, alloc: Global, session: &mut Session<TableSul>) -> Result<(), NoMemory>
+    fn explore(&mut self, alloc: Global, session: &mut TableSession) -> Result<(), NoMemory>
         requires filling { IsFilling (λ r. r.items) session.old.sul.table self.old.access.items
             self.old.rows.keys (map (λ r. r.items) self.old.cells.items) }
         requires more { length self.old.cells.items < length self.old.access.items }
@@ -237,11 +234,7 @@ fn first_words(alloc: Global, words: Vec<Word>, count: usize) -> Result<Words, N
 }
 
 /// Fills a table until each access word's extensions are entered, or those of so many access words.
-fn filled(
-    alloc: Global,
-    session: &mut Session<TableSul>,
-    most: usize,
-) -> Result<FirstTable, NoMemory>
+fn filled(alloc: Global, session: &mut TableSession, most: usize) -> Result<FirstTable, NoMemory>
     requires empty { session.old.journal ≡ [] }
     ensures filling { IfOk result (λ t. IsFilling (λ r. r.items) session.old.sul.table
         t.access.items t.rows.keys (map (λ r. r.items) t.cells.items)) }
@@ -266,7 +259,7 @@ fn filled(
 /// with a new row becomes the next access word.
 pub fn first_table(
     alloc: Global,
-    session: &mut Session<TableSul>,
+    session: &mut TableSession,
     max_states: u16,
 ) -> Result<Mealy, FirstStop>
     requires empty { session.old.journal ≡ [] }

@@ -1,5 +1,5 @@
 //! What is learned of a table: its first closed table, in canonical form, and the finished runs.
-ghost use Rattle.std.specs.Prelude.{◌≡◌, ◌+◌, ◌≤◌, [], length, IfOk, IfErr};
+ghost use Rattle.std.specs.Prelude.{◌≡◌, ◌+◌, ◌≤◌, [], length, Err, IfOk, IfErr};
 ghost use Rattle.lw_json.specs.KeptOver.{AreKeptOver};
 ghost use Rattle.lw_mealy.specs.Limits.{IsWithinLimits};
 ghost use Rattle.lw_learn.specs.RowRuns.{AnswersOnly};
@@ -9,11 +9,12 @@ ghost use Rattle.lw_sul.specs.Runs.{journal_answers};
 ghost use Rattle.lw_words.specs.Answer.{answers_of};
 ghost use Rattle.lw_learn.specs.Stops.{CrowdOf};
 
+use crate::table_session::TableSession;
 use crate::{FirstStop, first_table};
 use lw_json::Machine;
 use lw_mealy::Mealy;
 use lw_separate::canonical;
-use lw_sul::{Run, Session, TableSul};
+use lw_sul::{Run, TableSul};
 use lw_words::{Kept, KeptAnswer, Names, NoMemory};
 use std::alloc::Global;
 
@@ -48,11 +49,7 @@ fn keep(alloc: Global, runs: Vec<Run>) -> Result<Kept, NoMemory>
 }
 
 /// The canonical form of the closed table's machine.
-fn close(
-    alloc: Global,
-    session: &mut Session<TableSul>,
-    max_states: u16,
-) -> Result<Mealy, FirstStop>
+fn close(alloc: Global, session: &mut TableSession, max_states: u16) -> Result<Mealy, FirstStop>
     requires empty { session.old.journal ≡ [] }
     requires limit { (1 ≤ max_states) × (max_states ≤ 1024) }
     ensures alphabets { IfOk result (λ h. (h.inputs ≡ session.old.sul.table.inputs) ×
@@ -65,6 +62,20 @@ fn close(
 {
     let table = first_table(alloc, session, max_states)?;
     Ok(canonical(alloc, &table)?)
+}
+
+/// What is learned where there is no memory.
+fn nothing(alloc: Global, inputs: Names, outputs: Names) -> Learned
+    ensures names { (result.inputs ≡ inputs) × (result.outputs ≡ outputs) }
+    ensures closed { result.closed ≡ Err FirstStop.NoMemory }
+    ensures kept { result.kept.answers ≡ [] }
+{
+    Learned {
+        inputs,
+        outputs,
+        closed: Err(FirstStop::NoMemory),
+        kept: Kept::new(alloc),
+    }
 }
 
 /// Closes a table over the machine's single letters, and keeps the finished runs.
@@ -85,20 +96,18 @@ pub(crate) fn learn_table(alloc: Global, machine: Machine, max_states: u16) -> L
         outputs,
         mealy,
     } = machine;
-    let mut session = Session::new(alloc, 0, TableSul::new(mealy));
+    let Ok(names) = outputs.copy() else {
+        return nothing(alloc, inputs, outputs);
+    };
+    let mut session = TableSession::new(alloc, 0, TableSul::new(mealy, names));
     let closed = close(alloc, &mut session, max_states);
-    match keep(alloc, session.into_journal().into_runs()) {
+    match keep(alloc, session.into_runs()) {
         Ok(kept) => Learned {
             inputs,
             outputs,
             closed,
             kept,
         },
-        Err(NoMemory) => Learned {
-            inputs,
-            outputs,
-            closed: Err(FirstStop::NoMemory),
-            kept: Kept::new(alloc),
-        },
+        Err(NoMemory) => nothing(alloc, inputs, outputs),
     }
 }

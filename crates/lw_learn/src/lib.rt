@@ -6,6 +6,7 @@ mod command;
 mod first;
 mod learning;
 mod stops;
+mod table_session;
 mod writing;
 
 pub use arguments::LearnArguments;

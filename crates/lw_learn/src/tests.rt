@@ -1,11 +1,13 @@
 //! What no clause says: that the calls succeed, and tables at their limits.
-ghost use Rattle.std.specs.Prelude.{◌<◌, ◌≤◌};
+ghost use Rattle.std.specs.Prelude.{◌≡◌, ◌<◌, ◌≤◌, [], IfOk};
 
+use crate::table_session::TableSession;
 use crate::{FirstStop, LearnArguments, first_table, learn};
 use lw_mealy::Mealy;
 use lw_outside::{MemoryFiles, MemorySink};
 use lw_report::Outcome;
-use lw_sul::{Session, TableSul};
+use lw_sul::TableSul;
+use lw_words::Names;
 use std::alloc::Global;
 use std::process::Abort;
 use std::test::Fail;
@@ -21,16 +23,36 @@ fn ring(alloc: Global, states: u16) -> Result<Mealy, Fail>
     Ok(Mealy::new(alloc, 1, states, rows)?)
 }
 
+/// A session over a ring, whose outputs are named by their numbers.
+fn ring_session(alloc: Global, states: u16) -> Result<TableSession, Fail>
+    requires { (1 ≤ states) × (states ≤ 1024) }
+    ensures { IfOk result (λ s. s.journal ≡ []) }
+{
+    let mut texts = Vec::new(alloc);
+    for state in 0..states {
+        texts.push(format!(in alloc; "{state}")?)?;
+    }
+    let names = match Names::from_list(alloc, &texts) {
+        Ok(names) => names,
+        Err(_) => return Err(Fail::from("names were refused")),
+    };
+    let mealy = ring(alloc, states)?;
+    if names.len() != mealy.outputs() {
+        return Err(Fail::from("another number of names"));
+    }
+    Ok(TableSession::new(alloc, 0, TableSul::new(mealy, names)))
+}
+
 /// Closes the table of a ring, which has so many states.
 fn closes(rt: &impl Abort, alloc: Global, states: u16) -> Result<(), Fail>
     requires { (1 ≤ states) × (states ≤ 1024) }
 {
-    let mut session = Session::new(alloc, 0, TableSul::new(ring(alloc, states)?));
+    let mut session = ring_session(alloc, states)?;
     match first_table(alloc, &mut session, 1024) {
         Ok(table) => assert_eq!(rt; table.states(), states),
         Err(_) => return Err(Fail::from("a ring's table was not closed")),
     }
-    assert_eq!(rt; session.journal().len(), usize::from(states) + 1);
+    assert_eq!(rt; session.into_runs().len(), usize::from(states) + 1);
     Ok(())
 }
 
@@ -39,7 +61,7 @@ fn overflows(rt: &impl Abort, alloc: Global, states: u16, limit: u16) -> Result<
     requires states { (1 ≤ states) × (states ≤ 1024) }
     requires limit { (1 ≤ limit) × (limit < states) }
 {
-    let mut session = Session::new(alloc, 0, TableSul::new(ring(alloc, states)?));
+    let mut session = ring_session(alloc, states)?;
     let Err(FirstStop::Crowd(words)) = first_table(alloc, &mut session, limit) else {
         return Err(Fail::from("a ring's table was closed below its states"));
     };
@@ -47,7 +69,7 @@ fn overflows(rt: &impl Abort, alloc: Global, states: u16, limit: u16) -> Result<
     for (length, word) in words.as_slice().iter().enumerate() {
         assert_eq!(rt; word.len(), length);
     }
-    assert_eq!(rt; session.journal().len(), usize::from(limit) + 1);
+    assert_eq!(rt; session.into_runs().len(), usize::from(limit) + 1);
     Ok(())
 }
 

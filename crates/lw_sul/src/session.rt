@@ -15,8 +15,8 @@ use lw_words::{NoMemory, RunStop, SulStop, Word};
 use std::alloc::Global;
 use std::marker::Model;
 
-/// A system that is asked words, and the journal of its finished runs, which only contracts see: at run time it is their
-/// number. Contracts see the session's number, the system and the journal.
+/// A system that is asked words, and the journal of its finished runs, which at run time is their number alone.
+/// Contracts see the session's number, the system and the journal.
 #[derive(Drop)]
 pub struct Session<S: Sul> {
     instance: u32,
@@ -86,8 +86,8 @@ fn note<S: Sul>(sul: &S, known: u16, y: u16, names: &mut Vec<OutName>)
     names.push_reserved(sul.name(y));
 }
 
-/// Resets the system and sends it the letters of a word. The outputs go into `outs`, and the names that come up first in
-/// the run into `names`. Takes no memory.
+/// Resets the system and sends it the letters of a word. The outputs go into `outs`, and the names that come up first
+/// in the run into `names`. Takes no memory.
 #[tactic(auto, using(crate::proofs::RunLemmas::run_steps, lw_mealy::proofs::WordLemmas::letter))]
 fn perform<S: Sul>(
     sul: &mut S,
@@ -148,8 +148,8 @@ impl<S: Sul> Session<S> {
     }
 
     /// Asks a word from a reset on: takes all its memory, then resets, then steps.
-    /// After a stop every later call answers the same stop and touches nothing. Where the number of runs can't be counted
-    /// any further, it answers that there is no memory.
+    /// After a stop every later call answers the same stop and touches nothing. Where the number of runs can't be
+    /// counted any further, it answers that there is no memory.
     pub fn ask(&mut self, w: &Word) -> Result<Word, RunStop>
         requires letters { IsWord (S.inputs self.old.sul) w.now }
 
@@ -216,11 +216,12 @@ impl<S: Sul> Session<S> {
         ensures failed { result ≡ Err (RunStop.Sul Stop.Failed) → S.stop self.old.sul ≡ None →
             CountedFault (S.faults self.old.sul) (S.faults self.new.sul) }
 
-        // Told runs are the journal, and an unfinished run exactly where this call or an earlier one was stopped in a step.
+        // Told runs are the journal, and an unfinished run exactly where a call was stopped in a step.
         ensures told { IsJournal (S.runs self.new.sul) self.new.journal (S.stop self.new.sul)
             (S.cut self.new.sul) }
 
-        ensures unfinished { (stop : Stop) → result ≡ Err (RunStop.Sul stop) → S.stop self.old.sul ≡ None →
+        ensures unfinished { (stop : Stop) → result ≡ Err (RunStop.Sul stop) →
+            S.stop self.old.sul ≡ None →
             CutOff w.now (S.runs self.old.sul) (S.runs self.new.sul) (S.cut self.new.sul) }
 
         ensures counts { S.faults self.old.sul ≤ S.faults self.new.sul }
@@ -229,7 +230,7 @@ impl<S: Sul> Session<S> {
             (S.inputs self.new.sul ≡ S.inputs self.old.sul) ×
             (S.outputs self.new.sul ≡ S.outputs self.old.sul) }
 
-        // The names of an answer are those that the system's list gained, in the order in which the outputs had them first.
+        // The names of an answer are those that the system's list gained, in the order in which they came up.
         ensures names { IfOk result (λ a. S.names self.new.sul ≡ S.names self.old.sul ++ a.names) }
         ensures brought { IfOk result (λ a. S.names self.new.sul ≡
             with_names (S.names self.old.sul) (named (S.names self.new.sul) a.outs)) }

@@ -83,12 +83,21 @@ fn fails<S: Sul>(alloc: Global, session: &mut Session<S>, letters: &[u16]) -> Re
     }
 }
 
+/// Takes what may go to another thread.
+fn sends<T: Send>(_value: &T) {}
+
+/// A session may go to another thread where its system may.
+fn session_sends<S: Sul + Send>(session: &Session<S>) {
+    sends(session);
+}
+
 #[test]
 fn a_session_counts_its_runs(rt: HostRuntime) -> Result<(), Fail> {
     let alloc = rt.alloc();
     let sul = table(alloc)?;
     assert_eq!(rt; numbers_of(&sul), (1, 2));
     let mut session = Session::new(alloc, 4, sul);
+    session_sends(&session);
     assert_eq!(rt;
         (session.instance(), session.inputs(), session.outputs()),
         (4, 1, 2)

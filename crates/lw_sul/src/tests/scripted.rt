@@ -20,8 +20,8 @@ pub enum Reply {
     Refused,
 }
 
-/// A system of two inputs and three outputs, of whose names the first few came. A call for which the script has no fitting
-/// reply is refused, and so is an output past the next one that has no name.
+/// A system of two inputs and three outputs, of whose names the first few came. A call for which the script has no
+/// fitting reply is refused, and so is an output past the next one that has no name.
 #[derive(Drop)]
 pub struct Scripted {
     script: Vec<Reply>,
