@@ -1,5 +1,6 @@
 pub mod BoardLemmas
 pub mod Bringing
+pub mod DeskLemmas
 pub mod GatherLemmas
 pub mod NamingLemmas
 pub mod ReplayLemmas
