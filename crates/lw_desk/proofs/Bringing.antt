@@ -11,8 +11,9 @@ use Rattle.std.proofs.lemmas.Option.{slice_get-get_or}
 use Rattle.std.proofs.lemmas.Slice.Eq.{bytes_eq-Decides}
 use Rattle.lw_words.specs.Name.{IsName, AllDiffer, number_of}
 use Rattle.lw_words.proofs.NumberLemmas.{number_at_place}
-use Rattle.lw_sul.specs.Names.{name_at, named, with_found, with_name, with_names}
+use Rattle.lw_sul.specs.Names.{name_at, named, added_name, with_name, with_names}
 use Rattle.lw_desk.specs.Naming.{Naming, own_names, own_by, bring, brought_more, number_in, shared}
+use Rattle.lw_desk.specs.History.{HasLists}
 use Rattle.lw_desk.specs.bodies.OutNames.{brought_of, HasTables, IsOutNames}
 
 -- a number that is found names the name
@@ -31,7 +32,7 @@ module _ (names : List (List ℕ)) (name : List ℕ) where
   found_cases : (P : List (List ℕ) → Type 0) → ((n : ℕ) → number_of name names ≡ Some n → P names) → (number_of name names ≡ None → P (names ++ name ∷ [])) → P (with_name names name)
   found_cases P some none = by (number_of name names) some none
     where
-      by : (o : Option ℕ) → ((n : ℕ) → o ≡ Some n → P names) → (o ≡ None → P (names ++ name ∷ [])) → P (with_found names name o)
+      by : (o : Option ℕ) → ((n : ℕ) → o ≡ Some n → P names) → (o ≡ None → P (names ++ name ∷ [])) → P (added_name names name o)
       by None some none = none refl
       by (Some n) some none = some n refl
 
@@ -293,3 +294,13 @@ module _ (free : Bool) (names tables : List (List ℕ)) (spare : ℕ) (spares : 
 
   pub shared_seen_free : map (λ y. get_or (get_or tables a []) y 0) outs ≡ shared w a outs
   shared_seen_free = shared_free names is.differ tables a outs here_inside is.within here_below ∙ ap (λ (v : Naming). shared v a outs) here_view
+
+-- where names are free there are 16 lists of them
+pub sixteen_lists : (free : Bool) (names tables : List (List ℕ)) (spare : ℕ) (spares : List ℕ) (w : Naming) → naming_of free names tables ≡ w → IsOutNames free names tables spare spares → HasLists w.brought 16
+sixteen_lists true names tables spare spares w view is =
+    subst (λ (v : Naming). HasLists v.brought 16) view (omega (arith, (is.free_names refl).count, length-map tables (named names)))
+sixteen_lists false names tables spare spares w view is = subst (λ (v : Naming). HasLists v.brought 16) view tt
+
+pub fewer_lists : (b : Option (List (List (List ℕ)))) (m n : ℕ) → n ≤ m → HasLists b m → HasLists b n
+fewer_lists None m n le lists = tt
+fewer_lists (Some b) m n le lists = omega (arith, le, lists)

@@ -1,6 +1,7 @@
 pub mod BoardLemmas
 pub mod Bringing
 pub mod Endings
+pub mod DeskLemmas
 pub mod GatherLemmas
 pub mod NameNumbers
 pub mod NamingLemmas

@@ -1,17 +1,18 @@
 //! The board: what a desk keeps between two turns.
-ghost use Rattle.std.specs.Prelude.{◌≡◌, ◌≢◌, ℕ, ◌+◌, ◌^◌, ◌<◌, ◌≤◌, List, [], ◌∷◌, ◌++◌, length, map, drop, slice_index, Contains, IfOk, IfErr, IfSome, IfNone, Some, None, is_some, IsTrue};
+ghost use Rattle.std.specs.Prelude.{◌≡◌, ◌≢◌, ◌↔◌, ℕ, ◌+◌, ◌^◌, ◌<◌, ◌≤◌, List, [], ◌∷◌, ◌++◌, length, map, drop, slice_index, Contains, IfOk, IfErr, IfSome, IfNone, Some, None, is_some, IsTrue};
 ghost use Rattle.std.specs.List.{All};
 ghost use Rattle.lw_desk.specs.Naming.{own_names, MayBring};
 ghost use Rattle.lw_desk.specs.Step.{DeskState, word_at, IsFirstFree, NothingToTake, Gives, GivesAll, TakesAll, after_take, after_fail, first_stop, stop_of};
-ghost use Rattle.lw_desk.specs.History.{MayGiveAll, failed_places};
-ghost use Rattle.lw_desk.specs.bodies.Board.{BoardState, Agrees, AreHeld, stop_after, without_number, without_numbers};
+ghost use Rattle.lw_desk.specs.History.{DeskOpening, Makes, MayAsk, MayGiveAll, seat_in, failed_places};
+ghost use Rattle.lw_desk.specs.bodies.DeskBody.{entry};
+ghost use Rattle.lw_desk.specs.bodies.Board.{BoardState, Agrees, AreHeld, numbers_of, stop_after, without_all, without_number, without_numbers};
 ghost use Rattle.lw_words.specs.Answer.{answers_of};
 ghost use Rattle.lw_cache.specs.Standing.{Stands};
 ghost use Rattle.lw_cache.specs.declared.known.Known.TheVariants as Known;
 ghost use Rattle.lw_cache.specs.declared.known.Known.{Known};
 
 use crate::gathering::{Needs, gather_sorted};
-use crate::{Failed, Give, OutNames, Places};
+use crate::{Ask, Failed, Give, OutNames, Places, Reply};
 use http_server::Log;
 use lw_cache::{AskStop, Cache, Clash, Known};
 use lw_words::{NoMemory, RunStop, Word};
@@ -80,10 +81,10 @@ fn first_free(cache: &Cache, words: &[Word], order: &[u32], from: usize) -> usiz
     ensures within { result ≤ length order.now }
     ensures taken { (k : ℕ) → from ≤ k → k < result →
         (known : Known) × (known ≢ Known.No) × Stands (answers_of cache.now.kept) cache.now.claims
-            (word_at words.now (slice_index order.now k)) known }
+        (word_at words.now (slice_index order.now k)) known }
     ensures free { result < length order.now →
         Stands (answers_of cache.now.kept) cache.now.claims
-            (word_at words.now (slice_index order.now result)) Known.No }
+        (word_at words.now (slice_index order.now result)) Known.No }
 {
     let mut at = from;
     while at < order.len() {
@@ -94,6 +95,26 @@ fn first_free(cache: &Cache, words: &[Word], order: &[u32], from: usize) -> usiz
         break;
     }
     at
+}
+
+/// Whether nothing was left for one who wanted places.
+fn is_done(wanted: u32, places: &Places) -> bool
+    ensures { IsTrue result ↔ ((0 < wanted) × (places.now ≡ [])) }
+{
+    wanted > 0 && places.is_empty()
+}
+
+/// Gives up claims one after the other.
+fn release_all(cache: &mut Cache, places: &[u32])
+    requires held { AreHeld (numbers_of cache.old.claims) places.now }
+    ensures kept { cache.new.kept ≡ cache.old.kept }
+    ensures claims { cache.new.claims ≡ without_all places.now cache.old.claims }
+    ensures room { (cache.new.words ≡ cache.old.words) ×
+        (cache.new.letters ≡ cache.old.letters) }
+{
+    for place in places {
+        cache.release(*place);
+    }
 }
 
 impl Board {
@@ -197,9 +218,7 @@ impl Board {
         let Failed { places, stop: last } = failed;
         let stop = mem::replace(&mut self.stop, None);
         self.stop = stop_first(stop, actor, last);
-        for place in places.as_slice() {
-            self.cache.release(*place);
-        }
+        release_all(&mut self.cache, places.as_slice());
     }
 
     /// The same, where anything failed.
@@ -272,6 +291,36 @@ impl Board {
         ensures { result ≡ is_some self.now.stop }
     {
         self.stop.is_some()
+    }
+
+    /// An actor gives, fails and takes in one turn. Takes no memory.
+    pub(crate) fn turn(&mut self, actor: u32, ask: Ask) -> Reply
+        requires actor { actor < 16 }
+        requires may { (s : DeskState) × Agrees self.old s × MayAsk self.old.batch
+            (is_some self.old.naming.brought) (seat_in s actor) ask }
+        ensures makes { (o : DeskOpening) (s : DeskState) → o.batch ≡ self.old.batch → actor < o.actors →
+            MayAsk o.batch (is_some o.naming.brought) (seat_in s actor) ask →
+            Agrees self.old s → (t : DeskState) × Makes o s (entry actor ask result) t ×
+            Agrees self.new t }
+        ensures kind { is_some self.new.naming.brought ≡ is_some self.old.naming.brought }
+        ensures batch { self.new.batch ≡ self.old.batch }
+    {
+        let _ = &self.next;
+        let Ask {
+            gives,
+            failed,
+            wanted,
+        } = ask;
+        self.give_all(actor, gives);
+        self.fail_some(actor, failed);
+        let places = self.take(wanted);
+        let done = is_done(wanted, &places);
+        Reply {
+            places,
+            done,
+            stopped: self.is_stopped(),
+            left: self.left(),
+        }
     }
 
     /// The cache, the names and the first stop. Takes no memory.

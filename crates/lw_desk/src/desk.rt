@@ -50,8 +50,12 @@ impl Desk {
         requires actors { (1 ≤ actors) × (actors ≤ 16) }
         requires few { length batch.now < 2 ^ 32 }
         requires unclaimed { cache.claims ≡ [] }
-        ensures opening { IfOk result (λ d. d.opening ≡ record { kept = cache.kept;
-            naming = names; batch = batch.now; actors = actors }) }
+        ensures opening { IfOk result (λ d. d.opening ≡ record {
+          kept = cache.kept;
+          naming = names;
+          batch = batch.now;
+          actors = actors;
+        }) }
         ensures entries { IfOk result (λ d. d.entries ≡ []) }
         ensures back { IfErr result (λ e. (e.0.kept ≡ cache.kept) × (e.0.claims ≡ []) ×
             (e.1 ≡ names)) }

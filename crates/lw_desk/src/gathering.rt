@@ -75,9 +75,9 @@ fn sort_places(places: &mut Vec<u32>, words: &[Word])
     ensures permutation { IsPermutation places.old.items places.new.items }
     ensures order { ComeBefore words.now places.new.items }
 {
-    places.sort_unstable_by_key(
-        |place: &u32| -> (Reverse<usize>, u32) { (Reverse(letters_at(words, *place)), *place) },
-    );
+    places.sort_unstable_by_key(|place: &u32| -> (Reverse<usize>, u32) {
+        (Reverse(letters_at(words, *place)), *place)
+    });
 }
 
 /// What a batch needs, where nothing is claimed.

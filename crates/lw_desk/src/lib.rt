@@ -9,7 +9,6 @@ mod gathering;
 mod opening;
 mod out_names;
 mod places;
-mod turn;
 
 pub use ask::{Ask, Failed, Give, Reply};
 pub use desk::Desk;

@@ -4,6 +4,7 @@ ghost use Rattle.std.specs.List.{All};
 ghost use Rattle.lw_words.specs.Name.{IsName, IsNames, AllDiffer, number_of};
 ghost use Rattle.lw_sul.specs.Names.{name_at, with_name};
 ghost use Rattle.lw_desk.specs.Naming.{Naming, own_names, bring, shared};
+ghost use Rattle.lw_desk.specs.History.{HasLists};
 
 use lw_sul::{Named, OutName};
 use lw_words::{Names, NoMemory, Word};
@@ -154,7 +155,8 @@ impl OutNames {
 
     /// Whether instances bring the names.
     pub fn is_free(&self) -> bool
-        ensures { result ≡ is_some self.now.brought }
+        ensures free { result ≡ is_some self.now.brought }
+        ensures lists { HasLists self.now.brought 16 }
     {
         self.free
     }

@@ -5,7 +5,7 @@ use Rattle.std.specs.List.{All, sum_by}
 use Rattle.lw_words.specs.Answer.{answers_of}
 use Rattle.lw_words.specs.Word.{IsPrefix}
 use Rattle.lw_words.specs.declared.kept.KeptAnswer.{KeptAnswer}
-use Rattle.lw_cache.specs.Caching.{Claim}
+use Rattle.lw_cache.specs.Caching.{Claim, without}
 use Rattle.lw_cache.specs.Known.{IsKnown}
 use Rattle.lw_cache.specs.declared.stops.AskStop.{AskStop}
 use Rattle.lw_cache.specs.declared.stops.AskStop.TheVariants as Ask
@@ -40,6 +40,10 @@ without_number p numbers = filter (λ n. not (n == p)) numbers
 abbrev pub without_numbers : List ℕ → List ℕ → List ℕ
 without_numbers [] numbers = numbers
 without_numbers (p ∷ ps) numbers = without_numbers ps (without_number p numbers)
+
+abbrev pub without_all : List ℕ → List Claim → List Claim
+without_all [] claims = claims
+without_all (p ∷ ps) claims = without_all ps (without p claims)
 
 -- the word is known, or the word of a claimed place begins with it
 abbrev pub IsTaken : List (List ℕ) → List KeptAnswer → List ℕ → List ℕ → Type 0

@@ -1,0 +1,10 @@
+use Rattle.std.proofs.Common.{ℕ, drop, arith}
+use Rattle.std.proofs.lemmas.List.{length-drop}
+use Rattle.lw_desk.proofs.TurnLemmas.{none_waits}
+use Rattle.lw_desk.proofs.board.Board.left.Goals as goal
+
+pub returns-clause-none : goal.returns-clause-none
+returns-clause-none c zero =
+    let b = c.self.inside in
+    none_waits c.args.self.now b.names _ b.cache.kept b.cache.claims b.stop b.words.items (drop b.next b.order.items) b.cache.words b.cache.letters c.self.view_is c.self.invariant.1
+    (omega (arith, zero, length-drop b.next b.order.items, b.order.ok))
