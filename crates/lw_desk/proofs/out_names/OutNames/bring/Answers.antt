@@ -12,7 +12,7 @@ loop-i-preserved c =
     let i : ℕ = c.loop-i.i in
     let lt : i < length names = omega arith in
     let front : take i names ++ c.get.result.now ∷ [] ≡ take (i + 1) names =
-    ap (λ (x : List ℕ). take i names ++ x ∷ []) (sym (get_or_from_slice_get names i [] c.get.result.now c.get.ensures)) ∙ sym (take_more names i [] lt) in
+    ap (λ (x : List ℕ). take i names ++ x ∷ []) (sym (get_or_from_slice_get names i c.get.result.now [] c.get.ensures)) ∙ sym (take_more names i [] lt) in
     record {
       brings = c.bring_one.ensures.brings
           ∙ (ap (λ (n : Naming). bring n a (c.get.result.now ∷ [])) c.loop-i.invariant.brings
