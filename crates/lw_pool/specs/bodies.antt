@@ -1,2 +1,4 @@
 -- What the contracts of private functions cite, and no public clause.
+pub mod Crew
+pub mod Engaged
 pub mod Working

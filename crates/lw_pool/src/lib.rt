@@ -1,4 +1,5 @@
 //! Workers over one desk: the words of a batch are divided among sessions, and all share one cache.
 #![tactic(auto)]
 
+mod crew;
 mod worker;

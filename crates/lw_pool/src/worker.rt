@@ -1,5 +1,5 @@
 //! A worker: a session, and its place in a batch that is under way.
-ghost use Rattle.std.specs.Prelude.{◌≡◌, ◌<◌, ◌≤◌, length, IfOk, IfErr};
+ghost use Rattle.std.specs.Prelude.{◌≡◌, ◌<◌, ◌≤◌, length, Some, IfOk, IfErr};
 ghost use Rattle.std.specs.List.{All};
 ghost use Rattle.lw_words.specs.Word.{IsWord};
 ghost use Rattle.lw_pool.specs.bodies.Working.{HasGiven, HasRefused, HasAnswered};
@@ -42,5 +42,42 @@ impl<S: Sul> Worker<S> {
             names,
             run,
         })
+    }
+
+    /// Asks its system the words of its places, up to the first that is refused, and takes the memory for the answers first.
+    pub(crate) fn answer(&mut self, alloc: Global, batch: &[Word], places: &Places, wanted: u32) -> Ask
+        requires within { All (λ p. p < length batch.now) places.now }
+        requires letters { All (IsWord self.old.seen.inputs) batch.now }
+        requires some { 0 < length places.now }
+        requires wanted { (0 < wanted) × (wanted ≤ 16) }
+        ensures { HasAnswered batch.now places.now self.old.seen self.new.seen result }
+    {
+        let Ok(mut gives) = Vec::with_capacity(alloc, places.as_slice().len()) else {
+            return refused(Vec::new(alloc), places.from(0), RunStop::NoMemory);
+        };
+        for (i, place) in places.as_slice().iter().enumerate() {
+            match self.ask(batch, *place) {
+                Ok(give) => gives.push_reserved(give),
+                Err(stop) => return refused(gives, places.from(i), stop),
+            }
+        }
+        Ask {
+            gives,
+            failed: None,
+            wanted,
+        }
+    }
+}
+
+/// An ask that gives these answers, and fails these places.
+fn refused(gives: Vec<Give>, places: Places, stop: RunStop) -> Ask
+    ensures gives { result.gives.items ≡ gives.items }
+    ensures failed { result.failed ≡ Some (record { places = places; stop = stop }) }
+    ensures wanted { result.wanted ≡ 0 }
+{
+    Ask {
+        gives,
+        failed: Some(Failed { places, stop }),
+        wanted: 0,
     }
 }

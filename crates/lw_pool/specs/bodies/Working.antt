@@ -44,6 +44,7 @@ pub record HasGiven (batch : List (List ℕ)) (was now : Seen) (g : Give) : Type
   pub each : All IsName now.names
   pub differ : AllDiffer now.names
   pub live : now.stop ≡ None
+  pub was_live : was.stop ≡ None
 
 -- a word was asked, and not answered
 pub record HasRefused (was now : Seen) (stop : RunStop) : Type 0 where

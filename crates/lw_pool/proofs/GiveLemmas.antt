@@ -1,0 +1,97 @@
+-- Answers that are given one after the other.
+use Rattle.std.proofs.Common.{◌≡◌, ◌⊎◌, inl, inr, ⊎_elim, ℕ, zero, suc, ◌+◌, ◌<◌, ◌≤◌, List, [], ◌∷◌, ◌++◌, length, map, take, drop, get_or, Bool, true, false, Option, Some, None, is_some, refl, ap, sym, ◌∙◌, subst, arith, append_assoc, append-nil, take-append-drop, ◌==◌, ◌≢◌, pos_of_ne-zero}
+use Rattle.lw_desk.specs.laws.Members.{other_number}
+use Rattle.std.proofs.lemmas.Bool.{true≢false, false≢true}
+use Rattle.std.proofs.lemmas.List.{map_push, take_more, length-drop}
+use Rattle.lw_words.specs.declared.stop.RunStop.{RunStop}
+use Rattle.lw_sul.specs.Names.{IsGrown}
+use Rattle.lw_desk.specs.History.{settled_places, failed_places}
+use Rattle.lw_desk.specs.declared.ask.Ask.{Ask}
+use Rattle.lw_desk.specs.declared.ask.Give.{Give}
+use Rattle.lw_desk.specs.declared.ask.Failed.{Failed}
+use Rattle.lw_pool.specs.Pool.{Seen}
+use Rattle.lw_pool.specs.bodies.Working.{Same, HasGiven, HasRefused, GivesBetween, FailsAfter, HasAnswered}
+
+pub gives_both : (batch : List (List ℕ)) (was mid now : Seen) (gs hs : List Give) → GivesBetween batch was mid gs → GivesBetween batch mid now hs → GivesBetween batch was now (gs ++ hs)
+gives_both batch was mid now [] hs same rest = subst (λ (s : Seen). GivesBetween batch s now hs) same rest
+gives_both batch was mid now (g ∷ gs) hs gives rest = (gives.0, gives.1, gives_both batch gives.0 mid now gs hs gives.2 rest)
+
+pub gives_more : (batch : List (List ℕ)) (was mid now : Seen) (gs : List Give) (g : Give) → GivesBetween batch was mid gs → HasGiven batch mid now g → GivesBetween batch was now (gs ++ g ∷ [])
+gives_more batch was mid now gs g gives given = gives_both batch was mid now gs (g ∷ []) gives (now, given, refl)
+
+pub same_both : (a b c : Seen) → Same a b → Same b c → Same a c
+same_both a b c one two = record {
+  instance = two.instance ∙ one.instance;
+  most = two.most ∙ one.most;
+  origin = two.origin ∙ one.origin;
+  inputs = two.inputs ∙ one.inputs;
+  outputs = two.outputs ∙ one.outputs;
+}
+
+pub same_not : (a : Seen) → Same a a
+same_not a = record { instance = refl; most = refl; origin = refl; inputs = refl; outputs = refl }
+
+pub gives_same : (batch : List (List ℕ)) (was now : Seen) (gs : List Give) → GivesBetween batch was now gs → Same was now
+gives_same batch was now [] same = subst (Same was) (sym same) (same_not was)
+gives_same batch was now (g ∷ gs) gives = same_both was gives.0 now gives.1.same (gives_same batch gives.0 now gs gives.2)
+
+-- nothing was asked, since there was no memory
+pub refused_first : (s : Seen) → HasRefused s s Rattle.lw_words.specs.declared.stop.RunStop.TheVariants.NoMemory
+refused_first s = record {
+  same = same_not s;
+  journal = refl;
+  names = ([], sym (append-nil s.names));
+  sul = λ x e. absurd (no_sul x e);
+  memory = λ e. refl;
+}
+  where
+    is_memory : RunStop → Bool
+    is_memory (Rattle.lw_words.specs.declared.stop.RunStop.TheVariants.Sul x) = false
+    is_memory Rattle.lw_words.specs.declared.stop.RunStop.TheVariants.NoMemory = true
+
+    no_sul : (x : _) → Rattle.lw_words.specs.declared.stop.RunStop.TheVariants.NoMemory ≡ Rattle.lw_words.specs.declared.stop.RunStop.TheVariants.Sul x → ⊥
+    no_sul x e = true≢false (ap is_memory e)
+
+-- the places of the answers, and those that were not asked
+module _ (batch : List (List ℕ)) (held : List ℕ) (was now : Seen) (ask : Ask) where
+  pub answered_all : GivesBetween batch was now ask.gives.items → map (λ g. g.place) ask.gives.items ≡ held → ask.failed ≡ None → 0 < ask.wanted → ask.wanted ≤ 16 → HasAnswered batch held was now ask
+  answered_all gives places none some few = record {
+    places = ap (λ (f : Option Failed). map (λ (g : Give). g.place) ask.gives.items ++ failed_places f) none ∙ (append-nil (map (λ (g : Give). g.place) ask.gives.items) ∙ places);
+    mid = now;
+    gives = gives;
+    fails = subst (FailsAfter now now) (sym none) refl;
+    some = λ e. some;
+    none = λ failed. absurd (false≢true (ap is_some (sym none) ∙ failed));
+    few = few;
+  }
+
+  pub answered_some : (mid : Seen) (n : ℕ) (rest : List ℕ) (stop : RunStop) → n < length held → GivesBetween batch was mid ask.gives.items → map (λ g. g.place) ask.gives.items ≡ take n held → rest ≡ drop n held → ask.failed ≡ Some (record { places = rest; stop = stop }) → ask.wanted ≡ 0
+      → HasRefused mid now stop → HasAnswered batch held was now ask
+  answered_some mid n rest stop lt gives places left failed zero_wanted refused = record {
+    places = ap (λ (f : Option Failed). map (λ (g : Give). g.place) ask.gives.items ++ failed_places f) failed
+        ∙ (ap (λ (l : List ℕ). l ++ rest) places ∙ (ap (λ (l : List ℕ). take n held ++ l) left ∙ take-append-drop n held));
+    mid = mid;
+    gives = gives;
+    fails = subst (FailsAfter mid now) (sym failed) refused;
+    some = λ e. absurd (false≢true (ap is_some (sym e ∙ failed)));
+    none = λ e. (subst (λ (f : Option Failed). 0 < length (failed_places f)) (sym failed) (omega (arith, lt, ap (λ (l : List ℕ). length l) left, length-drop n held)), zero_wanted);
+    few = omega (arith, zero_wanted);
+  }
+
+pub places_more : (gs : List Give) (g : Give) (held : List ℕ) (i place : ℕ) → map (λ g. g.place) gs ≡ take i held → i < length held → get_or held i 0 ≡ place → g.place ≡ place → map (λ g. g.place) (gs ++ g ∷ []) ≡ take (i + 1) held
+places_more gs g held i place front lt at is =
+    map_push (λ (g : Give). g.place) gs g
+    ∙ (ap (λ (l : List ℕ). l ++ g.place ∷ []) front
+    ∙ (ap (λ (p : ℕ). take i held ++ p ∷ []) (is ∙ sym at) ∙ sym (take_more held i 0 lt)))
+
+pub answered_same : (batch : List (List ℕ)) (held : List ℕ) (was now : Seen) (ask : Ask) → HasAnswered batch held was now ask → Same was now
+answered_same batch held was now ask a = same_both was a.mid now (gives_same batch was a.mid ask.gives.items a.gives) (by ask.failed a.fails)
+  where
+    by : (f : Option Failed) → FailsAfter a.mid now f → Same a.mid now
+    by None same = subst (Same a.mid) (sym same) (same_not a.mid)
+    by (Some f) refused = refused.same
+
+pub some_places : (xs ys : List ℕ) (b : Bool) → b ≡ false → b ≡ (length xs == 0) → xs ≡ ys → 0 < length ys
+some_places xs ys b lacks is same =
+    let other : length xs ≢ 0 = other_number (length xs) 0 (sym is ∙ lacks) in
+    pos_of_ne-zero (λ e. other (ap (λ (l : List ℕ). length l) same ∙ e))

@@ -1,0 +1,2 @@
+pub mod GiveLemmas
+pub mod WorkLemmas
