@@ -33,6 +33,7 @@ module _ (o : DeskOpening) (es : List (Entry Ask Reply)) (t : DeskState) (r : Re
         at_end = is.grown;
         asked = all_of (λ k. IsAsked o.batch (answers_of o.kept) k.word) tidy.0 is.answered;
         once = is.differ;
+        fresh = is.fresh;
         actors = all_of (λ k. k.instance < o.actors) tidy.0 (λ k i. (running 0 lists shares).actors k (subst (In k) (sym (same 0)) i));
         below = all_of (λ k. All (λ y. y < length t.naming.names) k.outs) tidy.0 (λ k i. all_of (λ y. y < length t.naming.names) k.outs (λ y j. (running 0 lists shares).below k (subst (In k) (sym (same 0)) i) y j));
         runs = λ actor. subst (λ (l : List KeptAnswer). kept_runs t.naming.names actor l ≡ given_runs o.batch (own_names t.naming actor) (gives_of (entries_of actor es))) (same actor) ((running actor lists shares).runs t.naming (later_not t.naming));

@@ -15,6 +15,7 @@ use Rattle.lw_cache.proofs.OracleLemmas.{known_stays, nothing_more}
 use Rattle.lw_turn.specs.declared.shared.Entry.{Entry}
 use Rattle.lw_desk.specs.Naming.{bring}
 use Rattle.lw_desk.specs.Step.{Claimed, DeskState, word_at, ComesBefore, IsCovered, IsFirstFree, NothingToTake, TakesAll, Gives, GivesAll, kept_of, after_take, after_fail, after_done, without_place, without_places}
+use Rattle.lw_desk.specs.Ending.{FreshFrom}
 use Rattle.lw_desk.specs.History.{DeskOpening, opened, Makes, Replays, failed_places}
 use Rattle.lw_desk.specs.declared.ask.Ask.{Ask}
 use Rattle.lw_desk.specs.declared.ask.Reply.{Reply}
@@ -25,6 +26,10 @@ use Rattle.lw_desk.specs.laws.ClaimLists.{EachOnce, once_more, places_of, at_non
 use Rattle.lw_desk.specs.laws.StepLemmas.{prefix_whole, free_unclaimed, end_stop}
 use Rattle.lw_desk.specs.laws.CoverLemmas.{some_none, stops_none, cover_prefix, cover_take, cover_give, give_known, fail_none, cover_done, cover_makes, makes_none}
 use Rattle.lw_desk.specs.laws.Bounds.{NoneTwice}
+
+fresh_more : (kept gained : List KeptAnswer) (k : KeptAnswer) → FreshFrom kept gained → (IsKnown (answers_of (kept ++ gained)) k.word → ⊥) → FreshFrom kept (gained ++ k ∷ [])
+fresh_more kept [] k fresh new = (λ known. new (subst (λ (l : List KeptAnswer). IsKnown (answers_of l) k.word) (sym (append-nil kept)) known), tt)
+fresh_more kept (x ∷ gained) k fresh new = (fresh.0, fresh_more (kept ++ x ∷ []) gained k fresh.1 (λ known. new (subst (λ (l : List KeptAnswer). IsKnown (answers_of l) k.word) (append_assoc kept (x ∷ []) gained) known)))
 
 -- what holds of a state whose answers since the opening are these
 pub record Tidy (o : DeskOpening) (s : DeskState) (gained : List KeptAnswer) : Type 0 where
@@ -39,6 +44,7 @@ pub record Tidy (o : DeskOpening) (s : DeskState) (gained : List KeptAnswer) : T
   pub answered : (k : KeptAnswer) → In k gained → IsAsked o.batch (answers_of o.kept) k.word
   pub differ : AllDiffer (map (λ k. k.word) gained)
   pub others : (c : Claimed) → In c s.claims → In (word_at o.batch c.place) (map (λ k. k.word) gained) → ⊥
+  pub fresh : FreshFrom o.kept gained
   pub known : s.stop ≡ None → (k : KeptAnswer) → In k gained → IsKnown (answers_of s.kept) k.word
   pub clear : s.stop ≡ None → NothingClashes (answers_of o.kept) → NothingClashes (answers_of s.kept)
 
@@ -107,6 +113,7 @@ module _ (o : DeskOpening) where
             (in_either d s.claims (c ∷ []) i));
         answered = is.answered;
         differ = is.differ;
+        fresh = is.fresh;
         others = λ d i w. ⊎_elim
             (λ (l : In d s.claims). is.others d l w)
             (λ (r : In d (c ∷ [])).
@@ -183,6 +190,7 @@ module _ (o : DeskOpening) where
           answered = λ k j. ⊎_elim (λ (l : In k gained). is.answered k l) (λ (r : In k (new ∷ [])). subst (λ (x : KeptAnswer). IsAsked o.batch (answers_of o.kept) x.word) (sym (only k r)) asked_new) (in_either k gained (new ∷ []) j);
           differ = subst AllDiffer (sym (map_push (λ (k : KeptAnswer). k.word) gained new))
               (differ_more (map (λ (k : KeptAnswer). k.word) gained) (word_at o.batch g.place) is.differ (λ w. is.others c i (subst (λ (p : ℕ). In (word_at o.batch p) (map (λ (k : KeptAnswer). k.word) gained)) (sym here) w)));
+          fresh = fresh_more o.kept gained new is.fresh (λ known. is.unknown c i (subst (λ (p : ℕ). IsKnown (answers_of s.kept) (word_at o.batch p)) (sym here) (subst (λ (l : List KeptAnswer). IsKnown (answers_of l) (word_at o.batch g.place)) (sym is.grown) known)));
           others = λ d j w. ⊎_elim
               (λ (l : In (word_at o.batch d.place) (map (λ (k : KeptAnswer). k.word) gained)). is.others d (was d j).0 l)
               (λ (r : In (word_at o.batch d.place) (word_at o.batch g.place ∷ [])). ⊎_elim
@@ -255,6 +263,7 @@ module _ (o : DeskOpening) where
     longer = λ none c i p lt before. absurd (some_none f (fail_none actor (Some f) s none).0);
     answered = is.answered;
     differ = is.differ;
+    fresh = is.fresh;
     others = λ c i. is.others c (was c i);
     known = λ none k i. absurd (some_none f (fail_none actor (Some f) s none).0);
     clear = λ none nothing. absurd (some_none f (fail_none actor (Some f) s none).0);
@@ -278,6 +287,7 @@ module _ (o : DeskOpening) where
     longer = λ none c i p lt before. cover_done o.batch actor true s (word_at o.batch p) (is.longer none c i p lt before);
     answered = is.answered;
     differ = is.differ;
+    fresh = is.fresh;
     others = is.others;
     known = is.known;
     clear = is.clear;
@@ -302,6 +312,7 @@ module _ (o : DeskOpening) where
     longer = λ none c i p lt before. absurd i;
     answered = λ k i. absurd i;
     differ = λ i j d before lt. absurd (omega arith);
+    fresh = tt;
     others = λ c i w. i;
     known = λ none k i. absurd i;
     clear = λ none nothing. nothing;

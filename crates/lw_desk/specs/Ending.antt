@@ -45,6 +45,11 @@ gives_of (e ∷ es) = e.ask.gives.items ++ gives_of es
 abbrev pub IsShared : Naming → Type 0
 IsShared naming = (instance y : ℕ) → y < length (own_names naming instance) → Contains naming.names (name_at (own_names naming instance) y)
 
+-- answers that are kept one after the other, the word of each not known before: it begins no earlier clear answer's word
+abbrev pub FreshFrom : List KeptAnswer → List KeptAnswer → Type 0
+FreshFrom kept [] = Unit {0}
+FreshFrom kept (k ∷ ks) = (¬ IsKnown (answers_of kept) k.word) × FreshFrom (kept ++ k ∷ []) ks
+
 -- the answers that a history has brought: to words that had to be asked, each once; and those of an instance are the answers
 -- that its actor gave, in its order
 pub record Brought (o : DeskOpening) (es : List (Entry Ask Reply)) (t : DeskState) : Type 0 where
@@ -52,6 +57,7 @@ pub record Brought (o : DeskOpening) (es : List (Entry Ask Reply)) (t : DeskStat
   pub at_end : t.kept ≡ o.kept ++ gained
   pub asked : All (λ k. IsAsked o.batch (answers_of o.kept) k.word) gained
   pub once : AllDiffer (map (λ k. k.word) gained)
+  pub fresh : FreshFrom o.kept gained
   pub actors : All (λ k. k.instance < o.actors) gained
   pub below : All (λ k. All (λ y. y < length t.naming.names) k.outs) gained
   pub runs : (actor : ℕ) → kept_runs t.naming.names actor gained ≡ given_runs o.batch (own_names t.naming actor) (gives_of (entries_of actor es))

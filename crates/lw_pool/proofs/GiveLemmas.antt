@@ -41,6 +41,7 @@ refused_first s = record {
   same = same_not s;
   journal = refl;
   names = ([], sym (append-nil s.names));
+  few = inl refl;
   sul = λ x e. absurd (no_sul x e);
   memory = λ e. refl;
 }

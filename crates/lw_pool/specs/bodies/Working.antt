@@ -51,6 +51,7 @@ pub record HasRefused (was now : Seen) (stop : RunStop) : Type 0 where
   pub same : Same was now
   pub journal : now.journal ≡ was.journal
   pub names : IsGrown was.names now.names
+  pub few : (now.names ≡ was.names) ⊎ (length now.names ≤ was.most)
   pub sul : (s : SulStop) → stop ≡ Run.Sul s → now.stop ≡ Some s
   pub memory : stop ≡ Run.NoMemory → now ≡ was
 
