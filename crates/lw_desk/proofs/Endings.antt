@@ -1,5 +1,5 @@
 -- What a history of a desk has come to.
-use Rattle.std.proofs.Common.{◌≡◌, ◌⊎◌, inl, inr, ⊎_elim, ℕ, ◌<◌, List, [], ◌∷◌, ◌++◌, length, map, get_or, Contains, All, true, None, refl, ap, sym, ◌∙◌, subst, append_assoc, append-nil}
+use Rattle.std.proofs.Common.{◌≡◌, ◌⊎◌, inl, inr, ⊎_elim, ℕ, ◌<◌, List, [], ◌∷◌, ◌++◌, length, map, get_or, Contains, All, true, None, refl, ap, sym, ◌∙◌, subst, append_assoc, append-nil, ◌-◌}
 use Rattle.std.proofs.lemmas.List.{append_cancel_left, get_or_default}
 use Rattle.lw_words.specs.Answer.{answers_of}
 use Rattle.lw_words.specs.Word.{IsPrefix}
@@ -9,14 +9,17 @@ use Rattle.lw_cache.specs.Known.{IsKnown}
 use Rattle.lw_turn.specs.declared.shared.Entry.{Entry}
 use Rattle.lw_turn.specs.History.{entries_of}
 use Rattle.lw_desk.specs.Naming.{own_names}
-use Rattle.lw_desk.specs.Step.{Claimed, DeskState, word_at}
-use Rattle.lw_desk.specs.History.{DeskOpening, opened, HasLists, Replays}
+use Rattle.lw_desk.specs.Step.{Claimed, DeskState, word_at, TakesAll, after_take, after_fail}
+use Rattle.lw_desk.specs.History.{DeskOpening, opened, HasLists, Makes, Replays}
 use Rattle.lw_desk.specs.Ending.{kept_runs, given_runs, gives_of, IsShared, Brought, Settled}
 use Rattle.lw_desk.specs.declared.ask.Ask.{Ask}
 use Rattle.lw_desk.specs.declared.ask.Reply.{Reply}
-use Rattle.lw_desk.specs.laws.Members.{In, in_contains, contains_in, in_map, in_mapped}
+use Rattle.lw_desk.specs.laws.Members.{In, in_contains, contains_in, in_either, in_map, in_mapped, is_same}
+use Rattle.lw_desk.specs.laws.ClaimLists.{places_of, place_is}
+use Rattle.lw_desk.specs.laws.CoverLemmas.{nobody_failed}
+use Rattle.lw_desk.specs.laws.StepLemmas.{between_claims, end_claims}
 use Rattle.lw_desk.proofs.SeatLemmas.{opened_stands}
-use Rattle.lw_desk.proofs.TidyLemmas.{Tidy, since_opening, all_covered, known_in_more, at_place}
+use Rattle.lw_desk.proofs.TidyLemmas.{Tidy, since_opening, all_covered, known_in_more, at_place, in_without_all, replays_none}
 use Rattle.lw_desk.proofs.RunLemmas.{later_not, Running, running_replays, running_opened}
 
 pub all_of : {X : Type 0} (P : X → Type 0) (xs : List X) → ((x : X) → In x xs → P x) → All P xs
@@ -89,3 +92,48 @@ module _ (o : DeskOpening) (es : List (Entry Ask Reply)) (t : DeskState) (r : Re
           let same : (new.0).word ≡ w = asked.whole (new.0).word whole.within new.2 in
           subst (Contains (map (λ k. k.word) b.gained)) same (in_contains (new.0).word (map (λ k. k.word) b.gained) (in_map (λ (k : KeptAnswer). k.word) new.0 b.gained new.1)))
           (known_gained b.gained o.kept w known)
+
+-- whose the claims are
+takes_actors : (batch : List (List ℕ)) (actor wanted : ℕ) (places : List ℕ) (s t : DeskState) (c : Claimed) → TakesAll batch actor wanted places s t → In c t.claims → In c s.claims ⊎ (c.actor ≡ actor)
+takes_actors batch actor wanted [] s t c takes i = inl (subst (λ (x : DeskState). In c x.claims) takes.0 i)
+takes_actors batch actor wanted (p ∷ ps) s t c takes i =
+    ⊎_elim
+    (λ (old : In c (s.claims ++ record { actor = actor; place = p } ∷ [])). ⊎_elim
+    (λ (l : In c s.claims). inl l)
+    (λ (n : In c (record { actor = actor; place = p } ∷ [])). ⊎_elim
+    (λ (same : c ≡ record { actor = actor; place = p }). inr (ap (λ (x : Claimed). x.actor) same))
+    (λ (no_one : ⊥). absurd no_one)
+    n)
+    (in_either c s.claims (record { actor = actor; place = p } ∷ []) old))
+    (λ (own : c.actor ≡ actor). inr own)
+    (takes_actors batch actor (wanted - 1) ps (after_take actor p s) t c takes.3 i)
+
+pub claims_actors : (o : DeskOpening) (s t : DeskState) (es : List (Entry Ask Reply)) → Replays o s es t → ((c : Claimed) → In c s.claims → c.actor < o.actors) → (c : Claimed) → In c t.claims → c.actor < o.actors
+claims_actors o s t [] same below c i = below c (subst (λ (x : DeskState). In c x.claims) same i)
+claims_actors o s t (e ∷ es) r below c i =
+    claims_actors o r.0 t es r.2
+    (λ d j. ⊎_elim
+    (λ (old : In d (after_fail e.actor e.ask.failed r.1.given).claims). below d (in_without_all (places_of e.actor s.claims) s.claims d (subst (In d) (between_claims o s r.0 e r.1) old)))
+    (λ (own : d.actor ≡ e.actor). subst (λ (x : ℕ). x < o.actors) (sym own) r.1.actor)
+    (takes_actors o.batch e.actor e.ask.wanted e.reply.places (after_fail e.actor e.ask.failed r.1.given) r.1.taken d r.1.takes (subst (In d) (end_claims o s r.0 e r.1) j)))
+    c i
+
+-- where each actor holds nothing, nothing is claimed
+pub nothing_claimed : (o : DeskOpening) (t : DeskState) (es : List (Entry Ask Reply)) → Replays o (opened o) es t → ((i : ℕ) → i < o.actors → places_of i t.claims ≡ []) → t.claims ≡ []
+nothing_claimed o t es r none = by t.claims refl
+  where
+    by : (cs : List Claimed) → t.claims ≡ cs → cs ≡ []
+    by [] same = refl
+    by (c ∷ cs) same =
+        let here : In c t.claims = subst (In c) (sym same) (inl refl) in
+        let lt : c.actor < o.actors = claims_actors o (opened o) t es r (λ d j. absurd j) c here in
+        absurd (subst (In c.place) (none c.actor lt) (place_is c.actor c t.claims here (is_same c.actor c.actor refl)))
+
+-- where nothing stopped the desk, nobody failed
+pub nobody_has_failed : (o : DeskOpening) (s t : DeskState) (es : List (Entry Ask Reply)) → Replays o s es t → t.stop ≡ None → (e : Entry Ask Reply) → In e es → e.ask.failed ≡ None
+nobody_has_failed o s t [] same none e i = absurd i
+nobody_has_failed o s t (f ∷ es) r none e i =
+    ⊎_elim
+    (λ (same : e ≡ f). ap (λ (x : Entry Ask Reply). x.ask.failed) same ∙ nobody_failed o s r.0 f r.1 (replays_none o r.0 t es r.2 none))
+    (λ (j : In e es). nobody_has_failed o r.0 t es r.2 none e j)
+    i

@@ -227,7 +227,7 @@ removed_none p (x ∷ xs) none =
 removed_first : (p : ℕ) (xs : List ℕ) → NoneTwice (p ∷ xs) → removed p (p ∷ xs) ≡ xs
 removed_first p xs none = ap (λ (b : Bool). cond (not b) (p ∷ removed p xs) (removed p xs)) (is_same p p refl) ∙ removed_none p xs none.0
 
-in_without_all : (ps : List ℕ) (cs : List Claimed) (c : Claimed) → In c (without_places ps cs) → In c cs
+pub in_without_all : (ps : List ℕ) (cs : List Claimed) (c : Claimed) → In c (without_places ps cs) → In c cs
 in_without_all [] cs c i = i
 in_without_all (p ∷ ps) cs c i = (in_without p cs c (in_without_all ps (without_place p cs) c i)).0
 

@@ -1,2 +1,3 @@
 pub mod GiveLemmas
+pub mod JournalLemmas
 pub mod WorkLemmas

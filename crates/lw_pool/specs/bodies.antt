@@ -1,4 +1,5 @@
 -- What the contracts of private functions cite, and no public clause.
 pub mod Crew
 pub mod Engaged
+pub mod Standing
 pub mod Working

@@ -1,0 +1,35 @@
+-- What holds of a pool between its calls.
+use Rattle.std.specs.Prelude.{◌≡◌, ℕ, ◌<◌, ◌≤◌, List, length, Bool, false, Option, Some, None}
+use Rattle.std.specs.List.{All}
+use Rattle.lw_words.specs.declared.kept.KeptAnswer.{KeptAnswer}
+use Rattle.lw_sul.specs.Names.{IsGrown}
+use Rattle.lw_cache.specs.Settling.{KeepsAnswers}
+use Rattle.lw_cache.specs.declared.stops.AskStop.{AskStop}
+use Rattle.lw_desk.specs.Naming.{Naming, own_names}
+use Rattle.lw_desk.specs.History.{HasLists}
+use Rattle.lw_desk.specs.Ending.{IsShared}
+use Rattle.lw_pool.specs.Fitting.{Fits}
+use Rattle.lw_pool.specs.Pool.{Seen, seen_at, StandsFor, AskedOnce, IsStopOf, origins_of}
+
+-- a session's outputs have the names that the pool has of it, if it is live, and else those and perhaps more
+pub record IsMember (naming : Naming) (inputs outputs number : ℕ) (s : Seen) : Type 0 where
+  pub instance : s.instance ≡ number
+  pub inputs_is : s.inputs ≡ inputs
+  pub outputs_is : s.outputs ≡ outputs
+  pub fits : Fits naming s.names s.most s.outputs s.origin.machine
+  pub grown : IsGrown (own_names naming number) s.names
+  pub live : s.stop ≡ None → s.names ≡ own_names naming number
+  pub journal : All (λ r. All (λ y. y < length (own_names naming number)) r.outs) s.journal
+
+pub record IsPool (seen : List Seen) (naming : Naming) (prior kept : List KeptAnswer) (stop : Option AskStop) (refused : Bool) (inputs outputs : ℕ) : Type 0 where
+  pub some : 0 < length seen
+  pub few : length seen ≤ 16
+  pub members : (i : ℕ) → i < length seen → IsMember naming inputs outputs i (seen_at seen i)
+  pub lists : HasLists naming.brought (length seen)
+  pub shared : IsShared naming
+  pub below : All (λ k. All (λ y. y < length naming.names) k.outs) kept
+  pub stands : StandsFor naming prior kept seen
+  pub keeps : KeepsAnswers inputs outputs (origins_of seen) kept
+  pub once : AskedOnce prior kept
+  pub why : IsStopOf seen kept stop
+  pub unrefused : refused ≡ false → (stop ≡ None) × ((i : ℕ) → i < length seen → (seen_at seen i).stop ≡ None)
