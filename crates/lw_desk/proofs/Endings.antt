@@ -8,8 +8,8 @@ use Rattle.lw_cache.specs.Asked.{IsAsked}
 use Rattle.lw_cache.specs.Known.{IsKnown}
 use Rattle.lw_turn.specs.declared.shared.Entry.{Entry}
 use Rattle.lw_turn.specs.History.{entries_of}
-use Rattle.lw_desk.specs.Naming.{own_names}
-use Rattle.lw_desk.specs.Step.{Claimed, DeskState, word_at, TakesAll, after_take, after_fail}
+use Rattle.lw_desk.specs.Naming.{Naming, own_names}
+use Rattle.lw_desk.specs.Step.{Claimed, DeskState, word_at, TakesAll, GivesAll, after_take, after_fail}
 use Rattle.lw_desk.specs.History.{DeskOpening, opened, HasLists, Makes, Replays}
 use Rattle.lw_desk.specs.Ending.{kept_runs, given_runs, gives_of, IsShared, Brought, Settled}
 use Rattle.lw_desk.specs.declared.ask.Ask.{Ask}
@@ -17,7 +17,9 @@ use Rattle.lw_desk.specs.declared.ask.Reply.{Reply}
 use Rattle.lw_desk.specs.laws.Members.{In, in_contains, contains_in, in_either, in_map, in_mapped, is_same}
 use Rattle.lw_desk.specs.laws.ClaimLists.{places_of, place_is}
 use Rattle.lw_desk.specs.laws.CoverLemmas.{nobody_failed}
-use Rattle.lw_desk.specs.laws.StepLemmas.{between_claims, end_claims}
+use Rattle.lw_desk.specs.laws.StepLemmas.{between_claims, end_claims, end_naming}
+use Rattle.lw_desk.specs.declared.ask.Give.{Give}
+use Rattle.lw_desk.proofs.NameNumbers.{Grew, grew_not, grew_both, with_names_grew}
 use Rattle.lw_desk.proofs.SeatLemmas.{opened_stands}
 use Rattle.lw_desk.proofs.TidyLemmas.{Tidy, since_opening, all_covered, known_in_more, at_place, in_without_all, replays_none}
 use Rattle.lw_desk.proofs.RunLemmas.{later_not, Running, running_replays, running_opened}
@@ -137,3 +139,18 @@ nobody_has_failed o s t (f ∷ es) r none e i =
     (λ (same : e ≡ f). ap (λ (x : Entry Ask Reply). x.ask.failed) same ∙ nobody_failed o s r.0 f r.1 (replays_none o r.0 t es r.2 none))
     (λ (j : In e es). nobody_has_failed o r.0 t es r.2 none e j)
     i
+
+-- the shared names only grow at their end
+gives_grew : (batch : List (List ℕ)) (maker : ℕ) (gs : List Give) (s t : DeskState) → GivesAll batch maker gs s t → Grew s.naming.names t.naming.names
+gives_grew batch maker [] s t same = subst (λ (x : DeskState). Grew s.naming.names x.naming.names) (sym same) (grew_not s.naming.names)
+gives_grew batch maker (g ∷ gs) s t gives =
+    grew_both s.naming.names gives.0.naming.names t.naming.names
+    (subst (λ (x : DeskState). Grew s.naming.names x.naming.names) (sym gives.1.after) (with_names_grew s.naming.names g.names))
+    (gives_grew batch maker gs gives.0 t gives.2)
+
+pub names_grew : (o : DeskOpening) (s t : DeskState) (es : List (Entry Ask Reply)) → Replays o s es t → Grew s.naming.names t.naming.names
+names_grew o s t [] same = subst (λ (x : DeskState). Grew s.naming.names x.naming.names) (sym same) (grew_not s.naming.names)
+names_grew o s t (e ∷ es) r =
+    grew_both s.naming.names r.0.naming.names t.naming.names
+    (subst (λ (n : Naming). Grew s.naming.names n.names) (sym (end_naming o s r.0 e r.1)) (gives_grew o.batch e.actor e.ask.gives.items s r.1.given r.1.gives))
+    (names_grew o r.0 t es r.2)

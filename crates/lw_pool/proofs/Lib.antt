@@ -1,3 +1,4 @@
+pub mod BatchLemmas
 pub mod GiveLemmas
 pub mod JournalLemmas
 pub mod WorkLemmas

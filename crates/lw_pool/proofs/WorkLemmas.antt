@@ -97,7 +97,7 @@ may_give batch free was now (g ∷ gs) own mine declared few gives =
     )
 
 -- a session that gave anything was live
-first_live : (batch : List (List ℕ)) (was now : Seen) (gs : List Give) → GivesBetween batch was now gs → (gs ≡ []) ⊎ (was.stop ≡ None)
+pub first_live : (batch : List (List ℕ)) (was now : Seen) (gs : List Give) → GivesBetween batch was now gs → (gs ≡ []) ⊎ (was.stop ≡ None)
 first_live batch was now [] same = inl refl
 first_live batch was now (g ∷ gs) gives = inr gives.1.was_live
 
