@@ -1,14 +1,22 @@
 -- What a batch leaves of a pool.
-use Rattle.std.proofs.Common.{◌≡◌, ◌⊎◌, ◌≢◌, inl, inr, ⊎_elim, ℕ, zero, suc, ◌+◌, ◌<◌, ◌≤◌, ◌==◌, ◌||◌, eqb, List, [], ◌∷◌, ◌++◌, length, map, filter, get_or, take, Contains, All, Bool, true, false, cond, Option, Some, None, is_some, refl, ap, sym, ◌∙◌, subst, subst₂, arith, append_assoc, append-nil, length-append}
+use Rattle.std.proofs.Common.{◌≡◌, ◌⊎◌, ◌≢◌, inl, inr, ⊎_elim, ℕ, zero, suc, ◌+◌, ◌<◌, ◌≤◌, ◌==◌, ◌||◌, eqb, List, [], ◌∷◌, ◌++◌, length, map, filter, get_or, take, Contains, All, Bool, true, false, cond, Option, Some, None, is_some, refl, ap, sym, ◌∙◌, subst, subst₂, arith, append_assoc, append-nil, length-append, ◌-◌, drop, unwrap_or, get_or-append-add, option_and_then}
 use Rattle.std.proofs.lemmas.Bool.{true≢false, false≢true, cases_lt}
-use Rattle.std.proofs.lemmas.List.{get_or_default, get_or_append_left, length-map}
-use Rattle.std.proofs.lemmas.List.Elements.{All-append, All-weaker}
+use Rattle.std.proofs.lemmas.List.{get_or_default, get_or_append_left, length-map, get_or-map, take-append-le}
+use Rattle.std.proofs.lemmas.List.Elements.{All-append, All-head, All-tail, All-weaker}
 use Rattle.lw_words.specs.Answer.{Answer, answer_at, answer_of, answers_of, IsAnswer, IsWhole}
 use Rattle.lw_words.specs.Word.{IsWord}
 use Rattle.lw_words.specs.declared.kept.KeptAnswer.{KeptAnswer}
 use Rattle.lw_words.specs.declared.stop.SulStop.{SulStop}
+use Rattle.lw_words.specs.declared.stop.RunStop.{RunStop}
+use Rattle.lw_words.specs.declared.stop.RunStop.TheVariants as Run
+use Rattle.lw_mealy.specs.Origin.{Origin}
+use Rattle.lw_mealy.specs.Machine.{Rows, answer}
+use Rattle.std.proofs.lemmas.Option.{slice_get-get_or}
+use Rattle.lw_cache.specs.declared.stops.AskStop.TheVariants as Stop
 use Rattle.lw_sul.specs.Names.{name_at, named, with_names, IsGrown}
 use Rattle.lw_sul.specs.Told.{Answers}
+use Rattle.lw_sul.proofs.NameLemmas.{number_of-name_at}
+use Rattle.lw_words.specs.Name.{AllDiffer, number_of}
 use Rattle.lw_sul.specs.declared.runs.Run.{Run}
 use Rattle.lw_cache.specs.Asked.{IsAsked, AreAsked}
 use Rattle.lw_cache.specs.Known.{IsKnown}
@@ -17,7 +25,7 @@ use Rattle.lw_cache.specs.declared.stops.AskStop.{AskStop}
 use Rattle.lw_turn.specs.declared.shared.Entry.{Entry}
 use Rattle.lw_turn.specs.declared.view.View.{View}
 use Rattle.lw_turn.specs.History.{entries_of}
-use Rattle.lw_desk.specs.Naming.{Naming, own_names}
+use Rattle.lw_desk.specs.Naming.{Naming, own_by, own_names}
 use Rattle.lw_desk.specs.Step.{DeskState, Claimed, word_at}
 use Rattle.lw_desk.specs.History.{DeskOpening, opened, Seat, seat_in, seat_after, seat_from, seat_of, actor_of, HasLists, Replays, names_given}
 use Rattle.lw_desk.specs.Ending.{NamedRun, kept_runs, given_runs, gives_of, IsShared, Brought, Settled, FailedBy, StopIs, FreshFrom}
@@ -25,18 +33,18 @@ use Rattle.lw_desk.specs.declared.ask.Ask.{Ask}
 use Rattle.lw_desk.specs.declared.ask.Reply.{Reply}
 use Rattle.lw_desk.specs.declared.ask.Give.{Give}
 use Rattle.lw_desk.specs.declared.ask.Failed.{Failed}
-use Rattle.lw_desk.specs.laws.Members.{In, in_contains, contains_in, in_filter, in_mapped, same_number, is_same}
+use Rattle.lw_desk.specs.laws.Members.{In, in_contains, contains_in, in_filter, in_filter_of, in_map, in_mapped, in_right, same_number, is_same}
 use Rattle.lw_desk.specs.laws.ClaimLists.{places_of}
 use Rattle.lw_desk.proofs.Endings.{brought, stays_shared, settled, nothing_claimed, nobody_has_failed, names_grew, all_of}
 use Rattle.lw_desk.proofs.SeatLemmas.{Stands, opened_stands, seat_after_all, replays_stands}
 use Rattle.lw_desk.proofs.StopLemmas.{stop_is}
 use Rattle.lw_pool.specs.Fitting.{Fits, FitsBy}
-use Rattle.lw_pool.specs.Pool.{Seen, seen_at, journal_runs, StandsFor, AskedOnce, IsStopOf, origins_of}
+use Rattle.lw_pool.specs.Pool.{Seen, nobody, seen_at, journal_runs, StandsFor, AskedOnce, IsStopOf, origins_of}
 use Rattle.lw_pool.specs.bodies.Working.{Same, HasGiven, HasRefused, GivesBetween}
 use Rattle.lw_pool.specs.bodies.Engaged.{Working, NobodyFailed}
 use Rattle.lw_pool.specs.bodies.Crew.{HasWorkedOff}
 use Rattle.lw_pool.specs.bodies.Standing.{IsMember, IsPool}
-use Rattle.lw_pool.proofs.GiveLemmas.{gives_same}
+use Rattle.lw_pool.proofs.GiveLemmas.{gives_same, gives_few, refused_few, each_given}
 use Rattle.lw_pool.proofs.JournalLemmas.{grown_not, grown_both, same_named, runs_both, runs_grown, kept_grown, kept_both, runs_given, gives_journal, gives_grown, gives_below, gives_runs}
 use Rattle.lw_pool.proofs.WorkLemmas.{gives_names, first_live}
 
@@ -71,7 +79,7 @@ last_done seat (e ∷ es) ended going none = by (λ still. last_done (seat_after
         (r.0, inr r.1, r.2)
 
 module _ (o : DeskOpening) (es : List (Entry Ask Reply)) (start now : List Seen) (long : length now ≡ length start) (crew : o.actors ≡ length start) (lists : HasLists o.naming.brought o.actors)
-    (worked : (i : ℕ) → i < length start → HasWorkedOff o es i (seen_at start i) (seen_at now i)) where
+    (worked : (i : ℕ) → i < length start → HasWorkedOff o es i (seen_at start i) (seen_at now i)) (others : (n : ℕ) → length start ≤ n → entries_of n es ≡ []) where
   -- how a worker stands at the end
   seat_end : (t : DeskState) → Replays o (opened o) es t → (i : ℕ) → (lt : i < length start) → seat_in t i ≡ seat_of o (entries_of i es)
   seat_end t r i lt =
@@ -188,7 +196,7 @@ module _ (o : DeskOpening) (es : List (Entry Ask Reply)) (start now : List Seen)
     runs_end i lt =
         let names : IsGrown o.naming.names t.naming.names = names_grew o (opened o) t es r in
         let since_below : All (λ k. All (λ y. y < length o.naming.names) k.outs) is.stands.since = all_of (λ k. All (λ y. y < length o.naming.names) k.outs) is.stands.since (λ k j.
-            let c = in_contains k o.kept (subst (In k) (sym is.stands.first) (Rattle.lw_desk.specs.laws.Members.in_right k prior is.stands.since j)) in
+            let c = in_contains k o.kept (subst (In k) (sym is.stands.first) (in_right k prior is.stands.since j)) in
             subst (λ (x : KeptAnswer). All (λ y. y < length o.naming.names) x.outs) c.2 (is.below c.0 k c.1)) in
         let old_names : IsGrown (seen_at start i).names (seen_at now i).names = grown_both (seen_at start i).names (worked i lt).working.mid.names (seen_at now i).names (gives_grown o.batch (seen_at start i) (worked i lt).working.mid (gives_of (entries_of i es)) (end_gives i lt)) (end_grown i lt) in
         let start_below : All (λ x. All (λ y. y < length (seen_at start i).names) x.outs) (seen_at start i).journal =
@@ -221,7 +229,7 @@ module _ (o : DeskOpening) (es : List (Entry Ask Reply)) (start now : List Seen)
     live_end i lt none =
         ⊎_elim
         (λ (same : seen_at now i ≡ (worked i lt).working.mid). ap (λ (s : Seen). s.names) same ∙ from_mid (ap (λ (s : Seen). s.stop) (sym same) ∙ none))
-        (λ (x : (stop : Rattle.lw_words.specs.declared.stop.RunStop.RunStop) × HasRefused (worked i lt).working.mid (seen_at now i) stop × ((worked i lt).reply.places ≡ [])). by x.0 x.1)
+        (λ (x : (stop : RunStop) × HasRefused (worked i lt).working.mid (seen_at now i) stop × ((worked i lt).reply.places ≡ [])). by x.0 x.1)
         (worked i lt).working.after
       where
         from_mid : (worked i lt).working.mid.stop ≡ None → (worked i lt).working.mid.names ≡ own_names t.naming i
@@ -235,8 +243,198 @@ module _ (o : DeskOpening) (es : List (Entry Ask Reply)) (start now : List Seen)
             (λ (own : (worked i lt).working.mid.names ≡ own_names t.naming i). own)
             (mid_own i lt)
 
-        by : (stop : Rattle.lw_words.specs.declared.stop.RunStop.RunStop) → HasRefused (worked i lt).working.mid (seen_at now i) stop → (seen_at now i).names ≡ own_names t.naming i
-        by (Rattle.lw_words.specs.declared.stop.RunStop.TheVariants.Sul s) refused = absurd (false≢true (ap is_some (sym none ∙ refused.sul s refl)))
-        by Rattle.lw_words.specs.declared.stop.RunStop.TheVariants.NoMemory refused =
+        by : (stop : RunStop) → HasRefused (worked i lt).working.mid (seen_at now i) stop → (seen_at now i).names ≡ own_names t.naming i
+        by (Run.Sul s) refused = absurd (false≢true (ap is_some (sym none ∙ refused.sul s refl)))
+        by Run.NoMemory refused =
             let same : seen_at now i ≡ (worked i lt).working.mid = refused.memory refl in
             ap (λ (s : Seen). s.names) same ∙ from_mid (ap (λ (s : Seen). s.stop) (sym same) ∙ none)
+
+    kinds : is_some t.naming.brought ≡ is_some o.naming.brought
+    kinds = (replays_stands o (opened o) t es (opened_stands o lists) r).kind
+
+    lists_end : HasLists t.naming.brought (length now)
+    lists_end = subst (HasLists t.naming.brought) (crew ∙ sym long) (replays_stands o (opened o) t es (opened_stands o lists) r).lists
+
+    -- a system of declared names still has just these
+    fits_end : (i : ℕ) (lt : i < length start) → Fits t.naming (seen_at now i).names (seen_at now i).most (seen_at now i).outputs (seen_at now i).origin.machine
+    fits_end i lt = by o.naming.brought refl t.naming.brought refl (member i lt).fits
+      where
+        by : (a : Option (List (List (List ℕ)))) → o.naming.brought ≡ a → (c : Option (List (List (List ℕ)))) → t.naming.brought ≡ c → FitsBy a o.naming.names (seen_at start i).names (seen_at start i).most (seen_at start i).outputs (seen_at start i).origin.machine
+            → FitsBy c t.naming.names (seen_at now i).names (seen_at now i).most (seen_at now i).outputs (seen_at now i).origin.machine
+        by None e (Some y) g fits = absurd (true≢false (ap is_some (sym g) ∙ (kinds ∙ ap is_some e)))
+        by (Some x) e None g fits = absurd (false≢true (ap is_some (sym g) ∙ (kinds ∙ ap is_some e)))
+        by (Some x) e (Some y) g fits = (
+          (worked i lt).same.outputs ∙ fits.0,
+          omega (arith, (worked i lt).same.most, fits.1),
+          ap (λ (z : Origin). z.machine) (worked i lt).same.origin ∙ fits.2,
+        )
+        by None e None g fits =
+            let le : (seen_at start i).most ≤ length (seen_at start i).names = omega (arith, fits.1, ap (λ (l : List (List ℕ)). length l) fits.0) in
+            let mid : (worked i lt).working.mid.names ≡ (seen_at start i).names = gives_few o.batch (seen_at start i) (worked i lt).working.mid (gives_of (entries_of i es)) (end_gives i lt) le in
+            let mid_le : (worked i lt).working.mid.most ≤ length (worked i lt).working.mid.names = omega (arith, le, (gives_same o.batch (seen_at start i) (worked i lt).working.mid (gives_of (entries_of i es)) (end_gives i lt)).most, ap (λ (l : List (List ℕ)). length l) mid) in
+            let names : (seen_at now i).names ≡ (seen_at start i).names =
+                ⊎_elim
+                (λ (same : seen_at now i ≡ (worked i lt).working.mid). ap (λ (s : Seen). s.names) same ∙ mid)
+                (λ (x : (stop : RunStop) × HasRefused (worked i lt).working.mid (seen_at now i) stop × ((worked i lt).reply.places ≡ [])). refused_few (worked i lt).working.mid (seen_at now i) x.0 x.1 mid_le ∙ mid)
+                (worked i lt).working.after in
+            let given : names_given (gives_of (entries_of i es)) ≡ [] = append_nothing (seen_at start i).names (names_given (gives_of (entries_of i es))) (sym (gives_names o.batch (seen_at start i) (worked i lt).working.mid (gives_of (entries_of i es)) (end_gives i lt)) ∙ mid) in
+            let shared : t.naming.names ≡ o.naming.names =
+                sym (ap (λ (k : Option (List (List (List ℕ)))). own_by t.naming.names k i) g)
+                ∙ (end_own t r i lt
+                ∙ (ap (λ (l : List (List ℕ)). own_names o.naming i ++ l) given
+                ∙ (append-nil (own_names o.naming i) ∙ ap (λ (k : Option (List (List (List ℕ)))). own_by o.naming.names k i) e))) in
+            (
+              names ∙ (fits.0 ∙ sym shared),
+              (worked i lt).same.most ∙ (fits.1 ∙ ap (λ (l : List (List ℕ)). length l) (sym shared)),
+              (worked i lt).same.outputs ∙ (fits.2 ∙ ap (λ (l : List (List ℕ)). length l) (sym shared)),
+            )
+          where
+            append_nothing : (xs ys : List (List ℕ)) → xs ++ ys ≡ xs → ys ≡ []
+            append_nothing xs [] same = refl
+            append_nothing xs (y ∷ ys) same = absurd (omega (arith, ap (λ (l : List (List ℕ)). length l) same, length-append xs (y ∷ ys)))
+
+    member_end : (i : ℕ) → i < length now → IsMember t.naming inputs outputs i (seen_at now i)
+    member_end i within =
+        let lt : i < length start = omega (arith, within, long) in
+        record {
+          instance = (worked i lt).same.instance ∙ (member i lt).instance;
+          inputs_is = (worked i lt).same.inputs ∙ (member i lt).inputs_is;
+          outputs_is = (worked i lt).same.outputs ∙ (member i lt).outputs_is;
+          fits = fits_end i lt;
+          grown = all_grown i lt;
+          live = live_end i lt;
+          journal = journal_below i lt;
+        }
+
+    below_end : All (λ k. All (λ y. y < length t.naming.names) k.outs) t.kept
+    below_end =
+        let names : IsGrown o.naming.names t.naming.names = names_grew o (opened o) t es r in
+        subst (All (λ (k : KeptAnswer). All (λ y. y < length t.naming.names) k.outs)) (sym b.at_end)
+        (All-append (λ (k : KeptAnswer). All (λ y. y < length t.naming.names) k.outs) o.kept b.gained
+        (All-weaker (λ (k : KeptAnswer). All (λ y. y < length o.naming.names) k.outs) (λ (k : KeptAnswer). All (λ y. y < length t.naming.names) k.outs)
+        (λ k all. All-weaker (λ y. y < length o.naming.names) (λ y. y < length t.naming.names) (λ y le. omega (arith, le, longer_list o.naming.names t.naming.names names)) k.outs all) o.kept is.below)
+        b.below)
+
+    -- why the desk was stopped
+    why_end : IsStopOf now t.kept t.stop
+    why_end = by t.stop refl
+      where
+        told : StopIs o es t
+        told = stop_is o t es r
+
+        by : (stop : Option AskStop) → t.stop ≡ stop → IsStopOf now t.kept stop
+        by None e = tt
+        by (Some (Stop.Sul i stop)) e =
+            let f : FailedBy es i stop = told.sul i stop e in
+            let entry : In f.0 (entries_of i es) = own_entry i f.0 es (contains_in f.0 es f.1) f.2 in
+            let lt : i < length start = within i f.0 entry in
+            let w : HasWorkedOff o es i (seen_at start i) (seen_at now i) = worked i lt in
+            let c : Contains w.view.mine f.0 = in_contains f.0 w.view.mine (subst (In f.0) (sym w.mine) entry) in
+            (omega (arith, lt, long), w.working.failed f.0 f.3.0 stop c f.3.1 f.3.2)
+          where
+            within : (i : ℕ) (x : Entry Ask Reply) → In x (entries_of i es) → i < length start
+            within i x j = ⊎_elim (λ (lt : i < length start). lt) (λ (le : length start ≤ i). absurd (subst (In x) (others i le) j)) (cases_lt i (length start))
+        by (Some (Stop.Clash c)) e = told.clash c e
+        by (Some Stop.NoMemory) e = tt
+
+    -- no word was known before its answer came
+    fresh_at : (kept gained : List KeptAnswer) (j : ℕ) (d : KeptAnswer) → FreshFrom kept gained → j < length gained → IsKnown (answers_of (kept ++ take j gained)) (get_or gained j d).word → ⊥
+    fresh_at kept [] j d fresh lt = absurd (omega arith)
+    fresh_at kept (k ∷ gained) zero d fresh lt = λ known. fresh.0 (subst (λ (l : List KeptAnswer). IsKnown (answers_of l) k.word) (append-nil kept) known)
+    fresh_at kept (k ∷ gained) (suc j) d fresh lt = λ known. fresh_at (kept ++ k ∷ []) gained j d fresh.1 (omega arith) (subst (λ (l : List KeptAnswer). IsKnown (answers_of l) (get_or gained j d).word) (sym (append_assoc kept (k ∷ []) (take j gained))) known)
+
+    once_end : AskedOnce prior t.kept
+    once_end i d from within = subst (λ (l : List KeptAnswer). IsKnown (answers_of (take i l)) (get_or l i d).word → ⊥) (sym b.at_end) (by (cases_lt i (length o.kept)))
+      where
+        many : i < length o.kept + length b.gained
+        many = omega (arith, within, ap (λ (l : List KeptAnswer). length l) b.at_end, length-append o.kept b.gained)
+
+        by : (i < length o.kept) ⊎ (length o.kept ≤ i) → IsKnown (answers_of (take i (o.kept ++ b.gained))) (get_or (o.kept ++ b.gained) i d).word → ⊥
+        by (inl lt) = λ known. is.once i d from lt (subst (λ (l : List KeptAnswer). IsKnown (answers_of l) (get_or o.kept i d).word) (take-append-le i o.kept b.gained (omega arith)) (subst (λ (k : KeptAnswer). IsKnown (answers_of (take i (o.kept ++ b.gained))) k.word) (get_or_append_left o.kept b.gained d i lt) known))
+        by (inr le) = λ known.
+            let j : ℕ = i - length o.kept in
+            let same : length o.kept + j ≡ i = omega (arith, le) in
+            let at : get_or (o.kept ++ b.gained) i d ≡ get_or b.gained j d = ap (λ (n : ℕ). get_or (o.kept ++ b.gained) n d) (sym same) ∙ get_or-append-add o.kept b.gained j d in
+            let front : take i (o.kept ++ b.gained) ≡ o.kept ++ take j b.gained = ap (λ (n : ℕ). take n (o.kept ++ b.gained)) (sym same) ∙ take_over o.kept b.gained j in
+            fresh_at o.kept b.gained j d b.fresh (omega (arith, many, same))
+            (subst (λ (l : List KeptAnswer). IsKnown (answers_of l) (get_or b.gained j d).word) front (subst (λ (k : KeptAnswer). IsKnown (answers_of (take i (o.kept ++ b.gained))) k.word) at known))
+          where
+            take_over : (xs ys : List KeptAnswer) (n : ℕ) → take (length xs + n) (xs ++ ys) ≡ xs ++ take n ys
+            take_over [] ys n = ap (λ (k : ℕ). take k ys) (omega arith)
+            take_over (x ∷ xs) ys n =
+                let e : length (x ∷ xs) + n ≡ suc (length xs + n) = omega arith in
+                ap (λ (k : ℕ). take k (x ∷ (xs ++ ys))) e ∙ ap (λ (l : List KeptAnswer). x ∷ l) (take_over xs ys n)
+
+    -- a kept answer of a told machine is the machine's
+    named_once : (names : List (List ℕ)) (xs ys : List ℕ) → AllDiffer names → All (λ y. y < length names) xs → All (λ y. y < length names) ys → named names xs ≡ named names ys → xs ≡ ys
+    named_once names [] [] differ below within same = refl
+    named_once names [] (y ∷ ys) differ below within same = absurd (omega (arith, ap (λ (l : List (List ℕ)). length l) same))
+    named_once names (x ∷ xs) [] differ below within same = absurd (omega (arith, ap (λ (l : List (List ℕ)). length l) same))
+    named_once names (x ∷ xs) (y ∷ ys) differ below within same =
+        let x_below : x < length names = All-head (λ y. y < length names) x xs below in
+        let y_below : y < length names = All-head (λ y. y < length names) y ys within in
+        let names_same : name_at names x ≡ name_at names y = ap (λ (l : List (List ℕ)). get_or l 0 []) same in
+        let numbers : Some x ≡ Some y = sym (number_of-name_at names x differ x_below) ∙ (ap (λ (n : List ℕ). number_of n names) names_same ∙ number_of-name_at names y differ y_below) in
+        let head : x ≡ y = ap (λ (z : Option ℕ). unwrap_or z x) numbers in
+        ap (λ (n : ℕ). n ∷ xs) head ∙ ap (λ (l : List ℕ). y ∷ l) (named_once names xs ys differ (All-tail (λ y. y < length names) x xs below) (All-tail (λ y. y < length names) y ys within) (ap (drop 1) same))
+
+    same_list : (xs ys : List Origin) (d : Origin) → length xs ≡ length ys → ((i : ℕ) → i < length xs → get_or xs i d ≡ get_or ys i d) → xs ≡ ys
+    same_list [] [] d size each = refl
+    same_list [] (y ∷ ys) d size each = absurd (omega (arith, size))
+    same_list (x ∷ xs) [] d size each = absurd (omega (arith, size))
+    same_list (x ∷ xs) (y ∷ ys) d size each = ap (λ (o : Origin). o ∷ xs) (each 0 (omega arith)) ∙ ap (λ (l : List Origin). y ∷ l) (same_list xs ys d (omega (arith, size)) (λ i lt. each (suc i) (omega arith)))
+
+    pub origins_end : origins_of now ≡ origins_of start
+    origins_end = same_list (origins_of now) (origins_of start) (nobody.origin) (length-map now (λ (s : Seen). s.origin) ∙ (long ∙ sym (length-map start (λ (s : Seen). s.origin))))
+        (λ i lt.
+        let within : i < length now = omega (arith, lt, length-map now (λ (s : Seen). s.origin)) in
+        let before : i < length start = omega (arith, within, long) in
+        get_or-map (λ (s : Seen). s.origin) now i (nobody) (nobody.origin) within
+        ∙ ((worked i before).same.origin ∙ sym (get_or-map (λ (s : Seen). s.origin) start i (nobody) (nobody.origin) before)))
+
+    told_at : (i : ℕ) → i < length start → told_machine (origins_of start) i ≡ (seen_at start i).origin.machine
+    told_at i lt =
+        let within : i < length (origins_of start) = omega (arith, lt, length-map start (λ (s : Seen). s.origin)) in
+        ap (λ (x : Option Origin). option_and_then (λ (o : Origin). o.machine) x) (slice_get-get_or (origins_of start) i (nobody.origin) within)
+        ∙ ap (λ (o : Origin). o.machine) (get_or-map (λ (s : Seen). s.origin) start i (nobody) (nobody.origin) lt)
+
+    -- a new answer is one that its instance's session gave
+    gave : (k : KeptAnswer) → In k b.gained → (i : ℕ) → k.instance ≡ i → (g : Give) × In g (gives_of (entries_of i es)) × (word_at o.batch g.place ≡ k.word) × (named (own_names t.naming i) g.outs ≡ named t.naming.names k.outs)
+    gave k j i own =
+        let here : In k (filter (λ (x : KeptAnswer). x.instance == i) b.gained) = in_filter_of (λ (x : KeptAnswer). x.instance == i) k b.gained j (is_same k.instance i own) in
+        let run : In (run_told k) (kept_runs t.naming.names i b.gained) = in_map (λ (x : KeptAnswer). run_told x) k (filter (λ (x : KeptAnswer). x.instance == i) b.gained) here in
+        let given : In (run_told k) (given_runs o.batch (own_names t.naming i) (gives_of (entries_of i es))) = subst (In (run_told k)) (b.runs i) run in
+        let g = in_mapped (λ (x : Give). let n : NamedRun = record { run = x.run; word = word_at o.batch x.place; names = named (own_names t.naming i) x.outs } in n) (run_told k) (gives_of (entries_of i es)) given in
+        (g.0, g.1, ap (λ (n : NamedRun). n.word) g.2, ap (λ (n : NamedRun). n.names) g.2)
+      where
+        run_told : KeptAnswer → NamedRun
+        run_told x = record { run = x.run; word = x.word; names = named t.naming.names x.outs }
+
+    told_end : AllDiffer t.naming.names → (k : KeptAnswer) → In k b.gained → IsOf (told_machine (origins_of start) k.instance) (answer_of k)
+    told_end differ k j =
+        let c = in_contains k b.gained j in
+        let lt : k.instance < length start = subst (λ (n : ℕ). k.instance < n) crew (subst (λ (x : KeptAnswer). x.instance < o.actors) c.2 (b.actors c.0 k c.1)) in
+        subst (λ (m : Option Rows). IsOf m (answer_of k)) (sym (told_at k.instance lt)) (by k.instance lt refl (seen_at start k.instance).origin.machine refl)
+      where
+        by : (i : ℕ) → i < length start → k.instance ≡ i → (m : Option Rows) → (seen_at start i).origin.machine ≡ m → IsOf m (answer_of k)
+        by i lt own None e = tt
+        by i lt own (Some m) e = declared t.naming.brought refl (fits_end i lt)
+          where
+            now_machine : (seen_at now i).origin.machine ≡ Some m
+            now_machine = ap (λ (z : Origin). z.machine) (worked i lt).same.origin ∙ e
+
+            declared : (c : Option (List (List (List ℕ)))) → t.naming.brought ≡ c → FitsBy c t.naming.names (seen_at now i).names (seen_at now i).most (seen_at now i).outputs (seen_at now i).origin.machine → answer m k.word ≡ k.outs
+            declared (Some x) f fits = absurd (false≢true (ap is_some (sym fits.2 ∙ now_machine)))
+            declared None f fits =
+                let g = gave k j i own in
+                let own_is : own_names t.naming i ≡ t.naming.names = ap (λ (z : Option (List (List (List ℕ)))). own_by t.naming.names z i) f in
+                let facts : Answers (seen_at start i).origin.machine (word_at o.batch (g.0).place) (g.0).outs × All (λ y. y < length (worked i lt).working.mid.names) (g.0).outs = each_given o.batch (seen_at start i) (worked i lt).working.mid (gives_of (entries_of i es)) g.0 (end_gives i lt) g.1 in
+                let mid_is : (worked i lt).working.mid.names ≡ t.naming.names =
+                    ⊎_elim
+                    (λ (none : gives_of (entries_of i es) ≡ []). absurd (subst (In g.0) none g.1))
+                    (λ (same : (worked i lt).working.mid.names ≡ own_names t.naming i). same ∙ own_is)
+                    (mid_own i lt) in
+                let kept_outs : All (λ y. y < length t.naming.names) k.outs = (let c = in_contains k b.gained j in subst (λ (x : KeptAnswer). All (λ y. y < length t.naming.names) x.outs) c.2 (b.below c.0 k c.1)) in
+                let outs : (g.0).outs ≡ k.outs = named_once t.naming.names (g.0).outs k.outs differ (subst (λ (l : List (List ℕ)). All (λ y. y < length l) (g.0).outs) mid_is facts.1) kept_outs (ap (λ (l : List (List ℕ)). named l (g.0).outs) (sym own_is) ∙ g.3) in
+                let given : answer m (word_at o.batch (g.0).place) ≡ (g.0).outs = subst (λ (z : Option Rows). Answers z (word_at o.batch (g.0).place) (g.0).outs) e facts.0 in
+                ap (answer m) (sym g.2) ∙ (given ∙ outs)

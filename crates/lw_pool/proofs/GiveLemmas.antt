@@ -1,10 +1,14 @@
 -- Answers that are given one after the other.
-use Rattle.std.proofs.Common.{◌≡◌, ◌⊎◌, inl, inr, ⊎_elim, ℕ, zero, suc, ◌+◌, ◌<◌, ◌≤◌, List, [], ◌∷◌, ◌++◌, length, map, take, drop, get_or, Bool, true, false, Option, Some, None, is_some, refl, ap, sym, ◌∙◌, subst, arith, append_assoc, append-nil, take-append-drop, ◌==◌, ◌≢◌, pos_of_ne-zero}
-use Rattle.lw_desk.specs.laws.Members.{other_number}
+use Rattle.std.proofs.Common.{◌≡◌, ◌⊎◌, inl, inr, ⊎_elim, ℕ, zero, suc, ◌+◌, ◌<◌, ◌≤◌, List, [], ◌∷◌, ◌++◌, length, map, take, drop, get_or, Bool, true, false, Option, Some, None, is_some, refl, ap, sym, ◌∙◌, subst, arith, append_assoc, append-nil, take-append-drop, ◌==◌, ◌≢◌, pos_of_ne-zero, All, length-append}
+use Rattle.lw_desk.specs.laws.Members.{In, other_number}
 use Rattle.std.proofs.lemmas.Bool.{true≢false, false≢true}
 use Rattle.std.proofs.lemmas.List.{map_push, take_more, length-drop}
 use Rattle.lw_words.specs.declared.stop.RunStop.{RunStop}
 use Rattle.lw_sul.specs.Names.{IsGrown}
+use Rattle.lw_sul.specs.Told.{Answers}
+use Rattle.lw_mealy.specs.Origin.{Origin}
+use Rattle.lw_desk.specs.Step.{word_at}
+use Rattle.std.proofs.lemmas.List.Elements.{All-weaker}
 use Rattle.lw_desk.specs.History.{settled_places, failed_places}
 use Rattle.lw_desk.specs.declared.ask.Ask.{Ask}
 use Rattle.lw_desk.specs.declared.ask.Give.{Give}
@@ -96,3 +100,39 @@ pub some_places : (xs ys : List ℕ) (b : Bool) → b ≡ false → b ≡ (lengt
 some_places xs ys b lacks is same =
     let other : length xs ≢ 0 = other_number (length xs) 0 (sym is ∙ lacks) in
     pos_of_ne-zero (λ e. other (ap (λ (l : List ℕ). length l) same ∙ e))
+
+no_more : (was now more : List (List ℕ)) → now ≡ was ++ more → length now ≤ length was → now ≡ was
+no_more was now [] same le = same ∙ append-nil was
+no_more was now (x ∷ more) same le = absurd (omega (arith, le, ap (λ (l : List (List ℕ)). length l) same, length-append was (x ∷ more)))
+
+names_longer : (batch : List (List ℕ)) (was now : Seen) (gs : List Give) → GivesBetween batch was now gs → length was.names ≤ length now.names
+names_longer batch was now [] same = omega (arith, ap (λ (s : Seen). length s.names) same)
+names_longer batch was now (g ∷ gs) gives = omega (arith, names_longer batch gives.0 now gs gives.2, ap (λ (l : List (List ℕ)). length l) gives.1.names, length-append was.names g.names)
+
+-- what holds of each answer that was given
+pub each_given : (batch : List (List ℕ)) (was now : Seen) (gs : List Give) (g : Give) → GivesBetween batch was now gs → In g gs → Answers was.origin.machine (word_at batch g.place) g.outs × All (λ y. y < length now.names) g.outs
+each_given batch was now [] g same i = absurd i
+each_given batch was now (h ∷ gs) g gives i =
+    ⊎_elim
+    (λ (same : g ≡ h).
+    let first : Answers was.origin.machine (word_at batch h.place) h.outs × All (λ y. y < length now.names) h.outs =
+    (gives.1.answers, All-weaker (λ y. y < length gives.0.names) (λ y. y < length now.names) (λ y lt. omega (arith, lt, names_longer batch gives.0 now gs gives.2)) h.outs gives.1.numbers) in
+    subst (λ (x : Give). Answers was.origin.machine (word_at batch x.place) x.outs × All (λ y. y < length now.names) x.outs) (sym same) first)
+    (λ (j : In g gs).
+    let rest = each_given batch gives.0 now gs g gives.2 j in
+    (subst (λ (o : Origin). Answers o.machine (word_at batch g.place) g.outs) gives.1.same.origin rest.0, rest.1))
+    i
+
+-- the names of a system that may have no more than it had are as they were
+pub gives_few : (batch : List (List ℕ)) (was now : Seen) (gs : List Give) → GivesBetween batch was now gs → was.most ≤ length was.names → now.names ≡ was.names
+gives_few batch was now [] same le = ap (λ (s : Seen). s.names) same
+gives_few batch was now (g ∷ gs) gives le =
+    let first : gives.0.names ≡ was.names = no_more was.names gives.0.names g.names gives.1.names (omega (arith, gives.1.few, le)) in
+    gives_few batch gives.0 now gs gives.2 (omega (arith, le, gives.1.same.most, ap (λ (l : List (List ℕ)). length l) first)) ∙ first
+
+pub refused_few : (was now : Seen) (stop : RunStop) → HasRefused was now stop → was.most ≤ length was.names → now.names ≡ was.names
+refused_few was now stop refused le =
+    ⊎_elim
+    (λ (same : now.names ≡ was.names). same)
+    (λ (few : length now.names ≤ was.most). no_more was.names now.names refused.names.0 refused.names.1 (omega (arith, few, le)))
+    refused.few
