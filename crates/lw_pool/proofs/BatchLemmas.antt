@@ -44,7 +44,7 @@ use Rattle.lw_pool.specs.bodies.Working.{Same, HasGiven, HasRefused, GivesBetwee
 use Rattle.lw_pool.specs.bodies.Engaged.{Working, NobodyFailed}
 use Rattle.lw_pool.specs.bodies.Crew.{HasWorkedOff}
 use Rattle.lw_pool.specs.bodies.Standing.{IsMember, IsPool}
-use Rattle.lw_pool.proofs.GiveLemmas.{gives_same, gives_few, refused_few, each_given}
+use Rattle.lw_pool.proofs.GiveLemmas.{gives_same, gives_few, gives_live, refused_few, each_given}
 use Rattle.lw_pool.proofs.JournalLemmas.{grown_not, grown_both, same_named, runs_both, runs_grown, kept_grown, kept_both, runs_given, gives_journal, gives_grown, gives_below, gives_runs}
 use Rattle.lw_pool.proofs.WorkLemmas.{gives_names, first_live}
 
@@ -128,7 +128,7 @@ module _ (o : DeskOpening) (es : List (Entry Ask Reply)) (start now : List Seen)
       (worked i lt).working.after
 
   module _ (prior : List KeptAnswer) (stop0 : Option AskStop) (refused0 : Bool) (inputs outputs : ℕ) (is : IsPool start o.naming prior o.kept stop0 refused0 inputs outputs) (t : DeskState) (r : Replays o (opened o) es t) where
-    b : Brought o es t
+    pub b : Brought o es t
     b = brought o es t r lists is.shared
 
     member : (i : ℕ) → i < length start → IsMember o.naming inputs outputs i (seen_at start i)
@@ -438,3 +438,73 @@ module _ (o : DeskOpening) (es : List (Entry Ask Reply)) (start now : List Seen)
                 let outs : (g.0).outs ≡ k.outs = named_once t.naming.names (g.0).outs k.outs differ (subst (λ (l : List (List ℕ)). All (λ y. y < length l) (g.0).outs) mid_is facts.1) kept_outs (ap (λ (l : List (List ℕ)). named l (g.0).outs) (sym own_is) ∙ g.3) in
                 let given : answer m (word_at o.batch (g.0).place) ≡ (g.0).outs = subst (λ (z : Option Rows). Answers z (word_at o.batch (g.0).place) (g.0).outs) e facts.0 in
                 ap (answer m) (sym g.2) ∙ (given ∙ outs)
+
+    -- the pool after a batch
+    module _ (letters : All (IsWord inputs) o.batch) (whole : All IsWhole (answers_of t.kept)) (few : length t.naming.names ≤ 4096) (differ : AllDiffer t.naming.names) where
+      first_in : 0 < length start
+      first_in = is.some
+
+      outputs_enough : length t.naming.names ≤ outputs
+      outputs_enough = by t.naming.brought (fits_end 0 first_in)
+        where
+          out_is : (seen_at now 0).outputs ≡ outputs
+          out_is = (worked 0 first_in).same.outputs ∙ (member 0 first_in).outputs_is
+
+          by : (c : Option (List (List (List ℕ)))) → FitsBy c t.naming.names (seen_at now 0).names (seen_at now 0).most (seen_at now 0).outputs (seen_at now 0).origin.machine → length t.naming.names ≤ outputs
+          by None fits = omega (arith, fits.2, out_is)
+          by (Some x) fits = omega (arith, fits.0, out_is, few)
+
+      batch_word : (w : List ℕ) → Contains o.batch w → IsWord inputs w
+      batch_word w c = subst (IsWord inputs) c.2 (letters c.0 w c.1)
+
+      new_answer : (k : KeptAnswer) → In k b.gained → IsAnswer inputs (answer_of k)
+      new_answer k j =
+          let c = in_contains k b.gained j in
+          let asked : IsAsked o.batch (answers_of o.kept) k.word = subst (λ (x : KeptAnswer). IsAsked o.batch (answers_of o.kept) x.word) c.2 (b.asked c.0 k c.1) in
+          let d = in_contains (answer_of k) (answers_of t.kept) (in_map answer_of k t.kept (subst (In k) (sym b.at_end) (in_right k o.kept b.gained j))) in
+          (batch_word k.word asked.within, subst IsWhole d.2 (whole d.0 (answer_of k) d.1))
+
+      pub keeps_end : KeepsAnswers inputs outputs (origins_of now) t.kept
+      keeps_end = record {
+        answers = subst (All (λ (k : KeptAnswer). IsAnswer inputs (answer_of k))) (sym b.at_end) (All-append (λ (k : KeptAnswer). IsAnswer inputs (answer_of k)) o.kept b.gained is.keeps.answers (all_of (λ (k : KeptAnswer). IsAnswer inputs (answer_of k)) b.gained new_answer));
+        outputs_below = All-weaker (λ (k : KeptAnswer). All (λ y. y < length t.naming.names) k.outs) (λ (k : KeptAnswer). IsWord outputs k.outs) (λ k all. All-weaker (λ y. y < length t.naming.names) (λ y. y < outputs) (λ y lt. omega (arith, lt, outputs_enough)) k.outs all) t.kept below_end;
+        told = subst (λ (l : List Origin). All (λ (k : KeptAnswer). IsOf (told_machine l k.instance) (answer_of k)) t.kept) (sym origins_end)
+            (subst (All (λ (k : KeptAnswer). IsOf (told_machine (origins_of start) k.instance) (answer_of k))) (sym b.at_end) (All-append (λ (k : KeptAnswer). IsOf (told_machine (origins_of start) k.instance) (answer_of k)) o.kept b.gained is.keeps.told (all_of (λ (k : KeptAnswer). IsOf (told_machine (origins_of start) k.instance) (answer_of k)) b.gained (told_end differ))));
+      }
+
+      nobody_failed_at : t.stop ≡ None → (i : ℕ) → (lt : i < length start) → NobodyFailed (worked i lt).view.mine
+      nobody_failed_at none i lt = all_of (λ (e : Entry Ask Reply). e.ask.failed ≡ None) (worked i lt).view.mine (λ e j. nobody_has_failed o (opened o) t es r none e (of_history i e es (subst (In e) (worked i lt).mine j)))
+
+      live_still : refused0 ≡ false → t.stop ≡ None → (i : ℕ) → i < length now → (seen_at now i).stop ≡ None
+      live_still unrefused none i within =
+          let lt : i < length start = omega (arith, within, long) in
+          let same : seen_at now i ≡ (worked i lt).working.mid = (worked i lt).working.live (nobody_failed_at none i lt) in
+          ap (λ (s : Seen). s.stop) same ∙ gives_live o.batch (seen_at start i) (worked i lt).working.mid (gives_of (entries_of i es)) (end_gives i lt) ((is.unrefused unrefused).1 i lt)
+
+      pub pool_end : (stop : Option AskStop) (refused : Bool) → stop ≡ t.stop → (refused ≡ false → (refused0 ≡ false) × (t.stop ≡ None)) → IsPool now t.naming prior t.kept stop refused inputs outputs
+      pool_end stop refused stop_same flags = record {
+        some = omega (arith, is.some, long);
+        few = omega (arith, is.few, long);
+        members = member_end;
+        lists = lists_end;
+        shared = stays_shared o es t r lists is.shared;
+        below = below_end;
+        stands = stands_end;
+        keeps = keeps_end;
+        once = once_end;
+        why = subst (IsStopOf now t.kept) (sym stop_same) why_end;
+        unrefused = λ e. let f = flags e in (stop_same ∙ f.1, live_still f.0 f.1);
+      }
+
+      -- where nothing stopped the desk
+      pub settled_end : t.stop ≡ None → Settled o t b.gained
+      settled_end none =
+          let w : HasWorkedOff o es 0 (seen_at start 0) (seen_at now 0) = worked 0 first_in in
+          let ended : (seat_of w.view.opening w.view.mine).ended ≡ true = w.working.ended w.idle in
+          let own : actor_of w.view.mine ≡ 0 = w.working.own ∙ w.number_is in
+          let d = last_done (record { held = []; ended = false; own = own_names w.view.opening.naming (actor_of w.view.mine) }) w.view.mine ended refl
+              (λ e j. nobody_has_failed o (opened o) t es r none e (of_history 0 e es (subst (In e) w.mine j))) in
+          settled o es t r d.0 b none (end_idle t r) (of_history 0 d.0 es (subst (In d.0) w.mine d.1)) d.2
+
+      pub gained_end : Brought o es t
+      gained_end = b

@@ -136,3 +136,7 @@ refused_few was now stop refused le =
     (λ (same : now.names ≡ was.names). same)
     (λ (few : length now.names ≤ was.most). no_more was.names now.names refused.names.0 refused.names.1 (omega (arith, few, le)))
     refused.few
+
+pub gives_live : (batch : List (List ℕ)) (was now : Seen) (gs : List Give) → GivesBetween batch was now gs → was.stop ≡ None → now.stop ≡ None
+gives_live batch was now [] same live = ap (λ (s : Seen). s.stop) same ∙ live
+gives_live batch was now (g ∷ gs) gives live = gives_live batch gives.0 now gs gives.2 gives.1.live
