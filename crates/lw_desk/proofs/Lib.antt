@@ -5,5 +5,6 @@ pub mod GatherLemmas
 pub mod NamingLemmas
 pub mod ReplayLemmas
 pub mod SeatLemmas
+pub mod TestTrials
 pub mod TidyLemmas
 pub mod TurnLemmas

@@ -2,5 +2,6 @@ pub mod Desk
 pub mod History
 pub mod Naming
 pub mod Step
+pub mod TestTrial
 pub mod bodies
 pub mod laws

@@ -71,7 +71,7 @@ fn empty_tables(alloc: Global) -> Result<Vec<Vec<u16>>, NoMemory>
 }
 
 /// The number of a name, where the list has it.
-fn find(names: &[OutName], name: &[u8]) -> Option<usize>
+pub(crate) fn find(names: &[OutName], name: &[u8]) -> Option<usize>
     ensures { result ≡ number_of name.now names.now }
 {
     names.iter().position(|n| name == n.as_slice())
