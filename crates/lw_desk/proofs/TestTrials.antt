@@ -17,9 +17,9 @@ use Rattle.lw_desk.specs.TestTrial.{seat_by, seat_at, IsTrial}
 use Rattle.lw_desk.specs.declared.ask.Ask.{Ask}
 use Rattle.lw_desk.specs.declared.ask.Reply.{Reply}
 use Rattle.lw_desk.specs.declared.ask.Give.{Give}
-use Rattle.lw_desk.specs.laws.Members.{In, in_either, same_number, is_same, is_other}
-use Rattle.lw_desk.specs.laws.ClaimLists.{places_of, place_is, in_without}
-use Rattle.lw_desk.specs.laws.StepLemmas.{between, between_claims, end_claims}
+use Rattle.lw_desk.specs.lemmas.Members.{In, in_either, same_number, is_same, is_other}
+use Rattle.lw_desk.specs.lemmas.ClaimLists.{places_of, place_is, in_without}
+use Rattle.lw_desk.specs.lemmas.StepLemmas.{between, between_claims, end_claims}
 use Rattle.lw_desk.proofs.SeatLemmas.{opened_stands, seat_after_all}
 use Rattle.lw_desk.proofs.Bringing.{with_names-append, with_name_differ}
 

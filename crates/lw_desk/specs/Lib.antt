@@ -4,4 +4,4 @@ pub mod Naming
 pub mod Step
 pub mod TestTrial
 pub mod bodies
-pub mod laws
+pub mod lemmas

@@ -61,7 +61,8 @@ fn copy_names(alloc: Global, names: &Names) -> Result<Vec<OutName>, NoMemory>
 /// An empty table for each instance, with room for all that it may bring.
 fn empty_tables(alloc: Global) -> Result<Vec<Vec<u16>>, NoMemory>
     ensures empty { IfOk result (λ tables. map (λ t. t.items) tables.items ≡ replicate 16 []) }
-    ensures rooms { IfOk result (λ tables. All (λ n. 256 ≤ n) (map (λ t. vec_capacity t) tables.items)) }
+    ensures rooms { IfOk result (λ tables.
+        All (λ n. 256 ≤ n) (map (λ t. vec_capacity t) tables.items)) }
 {
     let mut tables = Vec::with_capacity(alloc, MOST_INSTANCES)?;
     for _ in 0..MOST_INSTANCES {

@@ -226,8 +226,10 @@ fn after_ask(
     seat: &Standing,
     ask: &Ask,
 ) -> Result<Vec<OutName>, Fail>
-    ensures may { IfOk result (λ v. MayAsk words.now free (seat_by seat.now.held seat.now.ended seat.now.own.items) ask.now) }
-    ensures own { IfOk result (λ v. v.items ≡ seat.now.own.items ++ names_given ask.now.gives.items) }
+    ensures may { IfOk result (λ v. MayAsk words.now free
+        (seat_by seat.now.held seat.now.ended seat.now.own.items) ask.now) }
+    ensures own { IfOk result (λ v.
+        v.items ≡ seat.now.own.items ++ names_given ask.now.gives.items) }
 {
     let places = settled(alloc, ask)?;
     if seat.ended {
