@@ -1,10 +1,14 @@
 pub mod BoardLemmas
 pub mod Bringing
 pub mod DeskLemmas
+pub mod Endings
 pub mod GatherLemmas
+pub mod NameNumbers
 pub mod NamingLemmas
 pub mod ReplayLemmas
+pub mod RunLemmas
 pub mod SeatLemmas
+pub mod StopLemmas
 pub mod TestTrials
 pub mod TidyLemmas
 pub mod TurnLemmas

@@ -1,5 +1,6 @@
 pub mod Desk
 pub mod History
+pub mod Laws
 pub mod Naming
 pub mod Step
 pub mod TestTrial

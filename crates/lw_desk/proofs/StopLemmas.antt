@@ -1,0 +1,167 @@
+-- Where the first stop of a history comes from.
+use Rattle.std.proofs.Common.{◌≡◌, ◌⊎◌, inl, inr, ⊎_elim, ℕ, ◌<◌, List, [], ◌∷◌, ◌++◌, length, Bool, true, false, Option, Some, None, unwrap_or, refl, ap, sym, ◌∙◌, subst, arith}
+use Rattle.std.proofs.lemmas.Bool.{false≢true}
+use Rattle.std.proofs.lemmas.List.{map_push, length_push}
+use Rattle.lw_words.specs.Answer.{Answer, answer_at, answer_of, answers_of}
+use Rattle.lw_words.specs.declared.kept.KeptAnswer.{KeptAnswer}
+use Rattle.lw_words.specs.declared.stop.SulStop.{SulStop}
+use Rattle.lw_words.specs.declared.stop.SulStop.TheVariants.{Failed as SulFailed}
+use Rattle.lw_words.specs.declared.stop.RunStop.{RunStop}
+use Rattle.lw_words.specs.declared.stop.RunStop.TheVariants as Run
+use Rattle.lw_cache.specs.Clash.{IsClearAfter, ClashAt}
+use Rattle.lw_cache.specs.FirstClash.{ClashesFirst}
+use Rattle.lw_cache.specs.declared.stops.Clash.{Clash}
+use Rattle.lw_cache.specs.declared.stops.AskStop.{AskStop}
+use Rattle.lw_cache.specs.declared.stops.AskStop.TheVariants as Stop
+use Rattle.lw_cache.proofs.AnswerLemmas.{at_kept, at_last}
+use Rattle.lw_turn.specs.declared.shared.Entry.{Entry}
+use Rattle.lw_desk.specs.Naming.{bring}
+use Rattle.lw_desk.specs.Step.{DeskState, GivesAll, StopsBy, kept_of, after_fail, first_stop, stop_of}
+use Rattle.lw_desk.specs.History.{DeskOpening, opened, Replays}
+use Rattle.lw_desk.specs.Laws.{StopIs}
+use Rattle.lw_desk.specs.declared.ask.Ask.{Ask}
+use Rattle.lw_desk.specs.declared.ask.Reply.{Reply}
+use Rattle.lw_desk.specs.declared.ask.Give.{Give}
+use Rattle.lw_desk.specs.declared.ask.Failed.{Failed}
+use Rattle.lw_desk.specs.lemmas.Members.{In, in_contains}
+use Rattle.lw_desk.specs.lemmas.CoverLemmas.{some_none}
+use Rattle.lw_desk.specs.lemmas.StepLemmas.{end_stop, end_kept}
+
+abbrev is_sul : AskStop → Bool
+is_sul (Stop.Sul i s) = true
+is_sul (Stop.Clash c) = false
+is_sul Stop.NoMemory = false
+
+abbrev is_clash : AskStop → Bool
+is_clash (Stop.Sul i s) = false
+is_clash (Stop.Clash c) = true
+is_clash Stop.NoMemory = false
+
+abbrev instance_of : AskStop → ℕ
+instance_of (Stop.Sul i s) = i
+instance_of (Stop.Clash c) = 0
+instance_of Stop.NoMemory = 0
+
+abbrev sul_stop_of : AskStop → SulStop
+sul_stop_of (Stop.Sul i s) = s
+sul_stop_of (Stop.Clash c) = SulFailed
+sul_stop_of Stop.NoMemory = SulFailed
+
+some_is : {X : Type 0} (x y : X) → Some x ≡ Some y → x ≡ y
+some_is x y e = ap (λ o. unwrap_or o x) e
+
+-- what is given stops no desk for a system
+give_sul : (was now : Option AskStop) (ks : List Answer) (k : Answer) (actor : ℕ) (stop : SulStop) → StopsBy was ks k now → now ≡ Some (Stop.Sul actor stop) → was ≡ Some (Stop.Sul actor stop)
+give_sul (Some x) now ks k actor stop by is = sym by ∙ is
+give_sul None now ks k actor stop by is =
+    ⊎_elim
+    (λ (r : IsClearAfter ks (length ks) k × (now ≡ None)). absurd (some_none (Stop.Sul actor stop) (sym is ∙ r.1)))
+    (λ (r : (clash : Clash) × ClashesFirst ks k clash × (now ≡ Some (Stop.Clash clash))). absurd (false≢true (ap is_sul (some_is (Stop.Clash r.0) (Stop.Sul actor stop) (sym r.2 ∙ is)))))
+    by
+
+gives_sul : (batch : List (List ℕ)) (maker : ℕ) (gs : List Give) (s t : DeskState) (actor : ℕ) (stop : SulStop) → GivesAll batch maker gs s t → t.stop ≡ Some (Stop.Sul actor stop) → s.stop ≡ Some (Stop.Sul actor stop)
+gives_sul batch maker [] s t actor stop same is = ap (λ (x : DeskState). x.stop) (sym same) ∙ is
+gives_sul batch maker (g ∷ gs) s t actor stop gives is =
+    give_sul s.stop gives.0.stop (answers_of s.kept) (answer_of (kept_of batch (bring s.naming maker g.names) maker g)) actor stop gives.1.stop (gives_sul batch maker gs gives.0 t actor stop gives.2 is)
+
+abbrev FailedWith : ℕ → Option Failed → ℕ → SulStop → Type 0
+FailedWith maker failed actor stop = (maker ≡ actor) × ((f : Failed) × (failed ≡ Some f) × (f.stop ≡ Run.Sul stop))
+
+fail_sul : (maker : ℕ) (failed : Option Failed) (s : DeskState) (actor : ℕ) (stop : SulStop) → (after_fail maker failed s).stop ≡ Some (Stop.Sul actor stop) → (s.stop ≡ Some (Stop.Sul actor stop)) ⊎ FailedWith maker failed actor stop
+fail_sul maker None s actor stop is = inl is
+fail_sul maker (Some f) s actor stop is = by s.stop refl is
+  where
+    from_run : (r : RunStop) → f.stop ≡ r → stop_of maker r ≡ Stop.Sul actor stop → (maker ≡ actor) × ((h : Failed) × (Some f ≡ Some h) × (h.stop ≡ Run.Sul stop))
+    from_run (Run.Sul x) here same = (ap instance_of same, (f, refl, here ∙ ap (λ (y : SulStop). Run.Sul y) (ap sul_stop_of same)))
+    from_run Run.NoMemory here same = absurd (false≢true (ap is_sul same))
+
+    by : (o : Option AskStop) → s.stop ≡ o → first_stop o (stop_of maker f.stop) ≡ Some (Stop.Sul actor stop) → (s.stop ≡ Some (Stop.Sul actor stop)) ⊎ ((maker ≡ actor) × ((h : Failed) × (Some f ≡ Some h) × (h.stop ≡ Run.Sul stop)))
+    by None here e = inr (from_run f.stop refl (some_is (stop_of maker f.stop) (Stop.Sul actor stop) e))
+    by (Some x) here e = inl (here ∙ e)
+
+module _ (o : DeskOpening) where
+  replays_sul : (s t : DeskState) (es : List (Entry Ask Reply)) (actor : ℕ) (stop : SulStop) → Replays o s es t → t.stop ≡ Some (Stop.Sul actor stop) → (s.stop ≡ Some (Stop.Sul actor stop)) ⊎ ((e : Entry Ask Reply) × In e es × FailedWith e.actor e.ask.failed actor stop)
+  replays_sul s t [] actor stop same is = inl (ap (λ (x : DeskState). x.stop) (sym same) ∙ is)
+  replays_sul s t (e ∷ es) actor stop r is =
+      ⊎_elim
+      (λ (here : r.0.stop ≡ Some (Stop.Sul actor stop)). ⊎_elim
+      (λ (before : r.1.given.stop ≡ Some (Stop.Sul actor stop)). inl (gives_sul o.batch e.actor e.ask.gives.items s r.1.given actor stop r.1.gives before))
+      (λ (f : FailedWith e.actor e.ask.failed actor stop). inr (e, inl refl, f))
+      (fail_sul e.actor e.ask.failed r.1.given actor stop (sym (end_stop o s r.0 e r.1) ∙ here)))
+      (λ (later : (f : Entry Ask Reply) × In f es × FailedWith f.actor f.ask.failed actor stop). inr (later.0, inr later.1, later.2))
+      (replays_sul r.0 t es actor stop r.2 is)
+
+  -- a clash that is told is one of two kept answers
+  abbrev ClashIs : List KeptAnswer → Option AskStop → Type 0
+  ClashIs kept stop = (c : Clash) → stop ≡ Some (Stop.Clash c) → (c.first < length (answers_of kept)) × (c.second < length (answers_of kept)) × ClashAt (answer_at (answers_of kept) c.first) (answer_at (answers_of kept) c.second) c.place
+
+  give_clash : (kept : List KeptAnswer) (k : KeptAnswer) (was now : Option AskStop) → StopsBy was (answers_of kept) (answer_of k) now → ClashIs kept was → ClashIs (kept ++ k ∷ []) now
+  give_clash kept k was now by is c told = subst (λ (ks : List Answer). (c.first < length ks) × (c.second < length ks) × ClashAt (answer_at ks c.first) (answer_at ks c.second) c.place) (sym (map_push answer_of kept k)) (from was by is)
+    where
+      old : (c.first < length (answers_of kept)) × (c.second < length (answers_of kept)) × ClashAt (answer_at (answers_of kept) c.first) (answer_at (answers_of kept) c.second) c.place
+          → (c.first < length (answers_of kept ++ answer_of k ∷ [])) × (c.second < length (answers_of kept ++ answer_of k ∷ [])) × ClashAt (answer_at (answers_of kept ++ answer_of k ∷ []) c.first) (answer_at (answers_of kept ++ answer_of k ∷ []) c.second) c.place
+      old r = (
+        omega (arith, r.0, length_push (answers_of kept) (answer_of k)),
+        omega (arith, r.1, length_push (answers_of kept) (answer_of k)),
+        subst (λ (a : Answer). ClashAt a (answer_at (answers_of kept ++ answer_of k ∷ []) c.second) c.place) (sym (at_kept (answers_of kept) (answer_of k) c.first r.0))
+            (subst (λ (a : Answer). ClashAt (answer_at (answers_of kept) c.first) a c.place) (sym (at_kept (answers_of kept) (answer_of k) c.second r.1)) r.2),
+      )
+
+      new : (d : Clash) → d ≡ c → ClashesFirst (answers_of kept) (answer_of k) d → (d.first < length (answers_of kept ++ answer_of k ∷ [])) × (d.second < length (answers_of kept ++ answer_of k ∷ [])) × ClashAt (answer_at (answers_of kept ++ answer_of k ∷ []) d.first) (answer_at (answers_of kept ++ answer_of k ∷ []) d.second) d.place
+      new d same f = (
+        omega (arith, f.clear.0, length_push (answers_of kept) (answer_of k)),
+        omega (arith, f.second, length_push (answers_of kept) (answer_of k)),
+        subst (λ (a : Answer). ClashAt a (answer_at (answers_of kept ++ answer_of k ∷ []) d.second) d.place) (sym (at_kept (answers_of kept) (answer_of k) d.first f.clear.0))
+            (subst (λ (a : Answer). ClashAt (answer_at (answers_of kept) d.first) a d.place) (sym (ap (answer_at (answers_of kept ++ answer_of k ∷ [])) f.second ∙ at_last (answers_of kept) (answer_of k))) f.here),
+      )
+
+      clash_in : Option AskStop → Clash → Clash
+      clash_in None d = d
+      clash_in (Some (Stop.Clash x)) d = x
+      clash_in (Some (Stop.Sul i s)) d = d
+      clash_in (Some Stop.NoMemory) d = d
+
+      from : (o : Option AskStop) → StopsBy o (answers_of kept) (answer_of k) now → ClashIs kept o → (c.first < length (answers_of kept ++ answer_of k ∷ [])) × (c.second < length (answers_of kept ++ answer_of k ∷ [])) × ClashAt (answer_at (answers_of kept ++ answer_of k ∷ []) c.first) (answer_at (answers_of kept ++ answer_of k ∷ []) c.second) c.place
+      from (Some x) b i = old (i c (sym b ∙ told))
+      from None b i =
+          ⊎_elim
+          (λ (r : IsClearAfter (answers_of kept) (length (answers_of kept)) (answer_of k) × (now ≡ None)). absurd (some_none (Stop.Clash c) (sym told ∙ r.1)))
+          (λ (r : (clash : Clash) × ClashesFirst (answers_of kept) (answer_of k) clash × (now ≡ Some (Stop.Clash clash))).
+          let same : r.0 ≡ c = ap (λ (o : Option AskStop). clash_in o c) (sym r.2 ∙ told) in
+          subst (λ (d : Clash). (d.first < length (answers_of kept ++ answer_of k ∷ [])) × (d.second < length (answers_of kept ++ answer_of k ∷ [])) × ClashAt (answer_at (answers_of kept ++ answer_of k ∷ []) d.first) (answer_at (answers_of kept ++ answer_of k ∷ []) d.second) d.place) same (new r.0 same r.1))
+          b
+
+  gives_clash : (maker : ℕ) (gs : List Give) (s t : DeskState) → GivesAll o.batch maker gs s t → ClashIs s.kept s.stop → ClashIs t.kept t.stop
+  gives_clash maker [] s t same is = subst (λ (x : DeskState). ClashIs x.kept x.stop) (sym same) is
+  gives_clash maker (g ∷ gs) s t gives is =
+      gives_clash maker gs gives.0 t gives.2
+      (subst (λ (l : List KeptAnswer). ClashIs l gives.0.stop) (sym (ap (λ (x : DeskState). x.kept) gives.1.after))
+      (give_clash s.kept (kept_of o.batch (bring s.naming maker g.names) maker g) s.stop gives.0.stop gives.1.stop is))
+
+  fail_clash : (maker : ℕ) (failed : Option Failed) (s : DeskState) → ClashIs s.kept s.stop → ClashIs s.kept (after_fail maker failed s).stop
+  fail_clash maker None s is = is
+  fail_clash maker (Some f) s is = by s.stop is
+    where
+      no_clash : (r : RunStop) (c : Clash) → stop_of maker r ≡ Stop.Clash c → ⊥
+      no_clash (Run.Sul x) c e = false≢true (ap is_clash e)
+      no_clash Run.NoMemory c e = false≢true (ap is_clash e)
+
+      by : (o : Option AskStop) → ClashIs s.kept o → ClashIs s.kept (first_stop o (stop_of maker f.stop))
+      by None i = λ c told. absurd (no_clash f.stop c (some_is (stop_of maker f.stop) (Stop.Clash c) told))
+      by (Some x) i = i
+
+  replays_clash : (s t : DeskState) (es : List (Entry Ask Reply)) → Replays o s es t → ClashIs s.kept s.stop → ClashIs t.kept t.stop
+  replays_clash s t [] same is = subst (λ (x : DeskState). ClashIs x.kept x.stop) (sym same) is
+  replays_clash s t (e ∷ es) r is =
+      let given : ClashIs r.1.given.kept (after_fail e.actor e.ask.failed r.1.given).stop = fail_clash e.actor e.ask.failed r.1.given (gives_clash e.actor e.ask.gives.items s r.1.given r.1.gives is) in
+      replays_clash r.0 t es r.2
+      (subst (λ (l : List KeptAnswer). ClashIs l r.0.stop) (sym (end_kept o s r.0 e r.1)) (subst (ClashIs r.1.given.kept) (sym (end_stop o s r.0 e r.1)) given))
+
+  pub stop_is : (t : DeskState) (es : List (Entry Ask Reply)) → Replays o (opened o) es t → StopIs o es t
+  stop_is t es r = record {
+    sul = λ actor stop told. ⊎_elim
+        (λ (begun : None ≡ Some (Stop.Sul actor stop)). absurd (some_none (Stop.Sul actor stop) (sym begun)))
+        (λ (f : (e : Entry Ask Reply) × In e es × FailedWith e.actor e.ask.failed actor stop). (f.0, in_contains f.0 es f.1, f.2.0, f.2.1))
+        (replays_sul (opened o) t es actor stop r told);
+    clash = λ c told. (replays_clash (opened o) t es r (λ d begun. absurd (some_none (Stop.Clash d) (sym begun))) c told).2;
+  }
