@@ -17,9 +17,9 @@ use Rattle.lw_cache.specs.declared.stops.AskStop.{AskStop}
 use Rattle.lw_cache.proofs.OracleLemmas.{known_stays}
 use Rattle.lw_desk.specs.Step.{word_at, ComesBefore}
 use Rattle.lw_desk.specs.bodies.Board.{numbers_of, without_number, without_numbers, without_all, AreHeld, IsTaken, AreApart, AreInOrder, IsAtHand, IsPlaces, Waits, letters_of, IsBoard}
-use Rattle.lw_desk.specs.laws.Members.{In, in_contains, contains_in, in_filter, in_filter_of, is_same, is_other}
-use Rattle.lw_desk.specs.laws.StepLemmas.{prefix_whole}
-use Rattle.lw_desk.specs.laws.CoverLemmas.{known_prefix}
+use Rattle.lw_desk.specs.lemmas.Members.{In, in_contains, contains_in, in_filter, in_filter_of, is_same, is_other}
+use Rattle.lw_desk.specs.lemmas.StepLemmas.{prefix_whole}
+use Rattle.lw_desk.specs.lemmas.CoverLemmas.{known_prefix}
 
 -- numbers that are left out
 pub map-filter : {X : Type 0} (f : X → ℕ) (q : ℕ → Bool) (xs : List X) → map f (filter (λ x. q (f x)) xs) ≡ filter q (map f xs)

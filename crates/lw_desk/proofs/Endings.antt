@@ -14,10 +14,10 @@ use Rattle.lw_desk.specs.History.{DeskOpening, opened, HasLists, Makes, Replays}
 use Rattle.lw_desk.specs.Ending.{kept_runs, given_runs, gives_of, IsShared, Brought, Settled}
 use Rattle.lw_desk.specs.declared.ask.Ask.{Ask}
 use Rattle.lw_desk.specs.declared.ask.Reply.{Reply}
-use Rattle.lw_desk.specs.laws.Members.{In, in_contains, contains_in, in_either, in_map, in_mapped, is_same}
-use Rattle.lw_desk.specs.laws.ClaimLists.{places_of, place_is}
-use Rattle.lw_desk.specs.laws.CoverLemmas.{nobody_failed}
-use Rattle.lw_desk.specs.laws.StepLemmas.{between_claims, end_claims, end_naming}
+use Rattle.lw_desk.specs.lemmas.Members.{In, in_contains, contains_in, in_either, in_map, in_mapped, is_same}
+use Rattle.lw_desk.specs.lemmas.ClaimLists.{places_of, place_is}
+use Rattle.lw_desk.specs.lemmas.CoverLemmas.{nobody_failed}
+use Rattle.lw_desk.specs.lemmas.StepLemmas.{between_claims, end_claims, end_naming}
 use Rattle.lw_desk.specs.declared.ask.Give.{Give}
 use Rattle.lw_desk.proofs.NameNumbers.{Grew, grew_not, grew_both, with_names_grew}
 use Rattle.lw_desk.proofs.SeatLemmas.{opened_stands}

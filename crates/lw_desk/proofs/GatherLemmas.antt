@@ -21,7 +21,7 @@ use Rattle.lw_cache.specs.declared.known.Known.TheVariants.{Yes, Pending, No}
 use Rattle.lw_desk.specs.Step.{word_at, ComesBefore}
 use Rattle.lw_desk.specs.bodies.Board.{AreInOrder, IsAtHand, letters_of}
 use Rattle.lw_desk.specs.bodies.Gathering.{IsGathered, NotAfter, ComeBefore, IsReady}
-use Rattle.lw_desk.specs.laws.Members.{is_same, is_other}
+use Rattle.lw_desk.specs.lemmas.Members.{is_same, is_other}
 use Rattle.lw_desk.proofs.Bringing.{map_agree}
 
 -- where nothing is claimed, a word that isn't free is known

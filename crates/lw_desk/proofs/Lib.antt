@@ -1,7 +1,7 @@
 pub mod BoardLemmas
 pub mod Bringing
-pub mod Endings
 pub mod DeskLemmas
+pub mod Endings
 pub mod GatherLemmas
 pub mod NameNumbers
 pub mod NamingLemmas
@@ -9,5 +9,6 @@ pub mod ReplayLemmas
 pub mod RunLemmas
 pub mod SeatLemmas
 pub mod StopLemmas
+pub mod TestTrials
 pub mod TidyLemmas
 pub mod TurnLemmas

@@ -12,7 +12,7 @@ use Rattle.lw_words.proofs.NumberLemmas.{name_at_number}
 use Rattle.lw_words.specs.Name.{number_of}
 use Rattle.lw_sul.specs.Names.{name_at, added_name, with_name, with_names}
 use Rattle.lw_desk.specs.Naming.{number_in}
-use Rattle.lw_desk.specs.laws.Members.{In, in_contains, contains_in, in_left, in_right}
+use Rattle.lw_desk.specs.lemmas.Members.{In, in_contains, contains_in, in_left, in_right}
 
 -- a name that is in the list has a number there, and the number is the name's
 pub record IsNumbered (names : List (List ℕ)) (n : List ℕ) : Type 0 where

@@ -12,11 +12,11 @@ use Rattle.lw_desk.specs.Ending.{NamedRun, kept_runs, given_runs, gives_of, IsSh
 use Rattle.lw_desk.specs.declared.ask.Ask.{Ask}
 use Rattle.lw_desk.specs.declared.ask.Reply.{Reply}
 use Rattle.lw_desk.specs.declared.ask.Give.{Give}
-use Rattle.lw_desk.specs.laws.Members.{In, in_contains, contains_in, in_either, in_mapped, same_number}
+use Rattle.lw_desk.specs.lemmas.Members.{In, in_contains, contains_in, in_either, in_mapped, same_number}
 use Rattle.lw_desk.proofs.NameNumbers.{IsNumbered, numbered, Grew, grew_not, grew_both, grew_name, grew_length, with_names_grew, in_grew, in_with_names}
 use Rattle.lw_desk.proofs.NamingLemmas.{OwnMore, own_more}
 use Rattle.lw_desk.proofs.SeatLemmas.{Stands, makes_stands}
-use Rattle.lw_desk.specs.laws.StepLemmas.{end_naming, end_kept}
+use Rattle.lw_desk.specs.lemmas.StepLemmas.{end_naming, end_kept}
 
 -- names that came later
 pub record Later (was now : Naming) : Type 0 where

@@ -10,9 +10,9 @@ use Rattle.lw_desk.specs.declared.ask.Ask.{Ask}
 use Rattle.lw_desk.specs.declared.ask.Reply.{Reply}
 use Rattle.lw_desk.specs.declared.ask.Give.{Give}
 use Rattle.lw_desk.specs.declared.ask.Failed.{Failed}
-use Rattle.lw_desk.specs.laws.Members.{same_number, is_same, is_other, other_number}
-use Rattle.lw_desk.specs.laws.ClaimLists.{EachOnce, places_of}
-use Rattle.lw_desk.specs.laws.StepLemmas.{gives_ended, takes_only, makes_once, makes_own, makes_other, end_naming}
+use Rattle.lw_desk.specs.lemmas.Members.{same_number, is_same, is_other, other_number}
+use Rattle.lw_desk.specs.lemmas.ClaimLists.{EachOnce, places_of}
+use Rattle.lw_desk.specs.lemmas.StepLemmas.{gives_ended, takes_only, makes_once, makes_own, makes_other, end_naming}
 use Rattle.lw_desk.proofs.NamingLemmas.{OwnMore, gives_names}
 
 -- what holds between entries: each place is claimed once, there is a list for each actor, and the names are of the kind that

@@ -23,9 +23,9 @@ use Rattle.lw_desk.specs.declared.ask.Ask.{Ask}
 use Rattle.lw_desk.specs.declared.ask.Reply.{Reply}
 use Rattle.lw_desk.specs.declared.ask.Give.{Give}
 use Rattle.lw_desk.specs.declared.ask.Failed.{Failed}
-use Rattle.lw_desk.specs.laws.Members.{In, in_contains}
-use Rattle.lw_desk.specs.laws.CoverLemmas.{some_none}
-use Rattle.lw_desk.specs.laws.StepLemmas.{end_stop, end_kept}
+use Rattle.lw_desk.specs.lemmas.Members.{In, in_contains}
+use Rattle.lw_desk.specs.lemmas.CoverLemmas.{some_none}
+use Rattle.lw_desk.specs.lemmas.StepLemmas.{end_stop, end_kept}
 
 abbrev is_sul : AskStop → Bool
 is_sul (Stop.Sul i s) = true

@@ -21,11 +21,11 @@ use Rattle.lw_desk.specs.declared.ask.Ask.{Ask}
 use Rattle.lw_desk.specs.declared.ask.Reply.{Reply}
 use Rattle.lw_desk.specs.declared.ask.Give.{Give}
 use Rattle.lw_desk.specs.declared.ask.Failed.{Failed}
-use Rattle.lw_desk.specs.laws.Members.{In, in_contains, in_either, in_mapped, is_same, is_other, removed}
-use Rattle.lw_desk.specs.laws.ClaimLists.{EachOnce, once_more, places_of, at_none, once_without, once_without_all, in_without, own_without, place_of_actor, places_own, places_other}
-use Rattle.lw_desk.specs.laws.StepLemmas.{prefix_whole, free_unclaimed, end_stop}
-use Rattle.lw_desk.specs.laws.CoverLemmas.{some_none, stops_none, cover_prefix, cover_take, cover_give, give_known, fail_none, cover_done, cover_makes, makes_none}
-use Rattle.lw_desk.specs.laws.Bounds.{NoneTwice}
+use Rattle.lw_desk.specs.lemmas.Members.{In, in_contains, in_either, in_mapped, is_same, is_other, removed}
+use Rattle.lw_desk.specs.lemmas.ClaimLists.{EachOnce, once_more, places_of, at_none, once_without, once_without_all, in_without, own_without, place_of_actor, places_own, places_other}
+use Rattle.lw_desk.specs.lemmas.StepLemmas.{prefix_whole, free_unclaimed, end_stop}
+use Rattle.lw_desk.specs.lemmas.CoverLemmas.{some_none, stops_none, cover_prefix, cover_take, cover_give, give_known, fail_none, cover_done, cover_makes, makes_none}
+use Rattle.lw_desk.specs.lemmas.Bounds.{NoneTwice}
 
 fresh_more : (kept gained : List KeptAnswer) (k : KeptAnswer) → FreshFrom kept gained → (IsKnown (answers_of (kept ++ gained)) k.word → ⊥) → FreshFrom kept (gained ++ k ∷ [])
 fresh_more kept [] k fresh new = (λ known. new (subst (λ (l : List KeptAnswer). IsKnown (answers_of l) k.word) (sym (append-nil kept)) known), tt)

@@ -20,10 +20,10 @@ use Rattle.lw_desk.specs.declared.ask.Give.{Give}
 use Rattle.lw_desk.specs.declared.ask.Failed.{Failed}
 use Rattle.std.proofs.Common.{All, cond, get_or}
 use Rattle.std.proofs.lemmas.List.Elements.{Contains-get_or}
-use Rattle.lw_desk.specs.laws.StepLemmas.{done_only}
+use Rattle.lw_desk.specs.lemmas.StepLemmas.{done_only}
 use Rattle.lw_desk.specs.Step.{after_done}
-use Rattle.lw_desk.specs.laws.Members.{in_filter, In, in_contains, contains_in, in_map, in_mapped}
-use Rattle.lw_desk.specs.laws.CoverLemmas.{some_none}
+use Rattle.lw_desk.specs.lemmas.Members.{in_filter, In, in_contains, contains_in, in_map, in_mapped}
+use Rattle.lw_desk.specs.lemmas.CoverLemmas.{some_none}
 use Rattle.lw_desk.proofs.BoardLemmas.{map-filter, held_front, held_back}
 
 module _ (b : BoardState) (s : DeskState) (agrees : Agrees b s) where

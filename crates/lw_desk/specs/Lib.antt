@@ -3,5 +3,6 @@ pub mod History
 pub mod Ending
 pub mod Naming
 pub mod Step
+pub mod TestTrial
 pub mod bodies
-pub mod laws
+pub mod lemmas

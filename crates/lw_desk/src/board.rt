@@ -298,7 +298,8 @@ impl Board {
         requires actor { actor < 16 }
         requires may { (s : DeskState) × Agrees self.old s × MayAsk self.old.batch
             (is_some self.old.naming.brought) (seat_in s actor) ask }
-        ensures makes { (o : DeskOpening) (s : DeskState) → o.batch ≡ self.old.batch → actor < o.actors →
+        ensures makes { (o : DeskOpening) (s : DeskState) → o.batch ≡ self.old.batch →
+            actor < o.actors →
             MayAsk o.batch (is_some o.naming.brought) (seat_in s actor) ask →
             Agrees self.old s → (t : DeskState) × Makes o s (entry actor ask result) t ×
             Agrees self.new t }

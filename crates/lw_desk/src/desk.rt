@@ -75,7 +75,8 @@ impl Desk {
 
     /// The cache, the names, and why the desk was stopped, or None where it wasn't. Takes no memory.
     pub fn finish(self) -> (Cache, OutNames, Option<AskStop>)
-        requires idle { (t : DeskState) → Replays self.opening (opened self.opening) self.entries t →
+        requires idle { (t : DeskState) →
+            Replays self.opening (opened self.opening) self.entries t →
             t.claims ≡ [] }
         ensures { Finishes self result }
     {
@@ -99,7 +100,7 @@ impl Core for Desk {
 
     ghost use Rattle.std.specs.Prelude.{None, []};
     ghost use Rattle.lw_desk.specs.History.{Legal, May, most_entries};
-    ghost use Rattle.lw_desk.specs.laws.Bounds.{bounded as few_entries};
+    ghost use Rattle.lw_desk.specs.lemmas.Bounds.{bounded as few_entries};
 
     ghost opening = { λ d. d.opening };
 

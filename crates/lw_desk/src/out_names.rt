@@ -61,7 +61,8 @@ fn copy_names(alloc: Global, names: &Names) -> Result<Vec<OutName>, NoMemory>
 /// An empty table for each instance, with room for all that it may bring.
 fn empty_tables(alloc: Global) -> Result<Vec<Vec<u16>>, NoMemory>
     ensures empty { IfOk result (λ tables. map (λ t. t.items) tables.items ≡ replicate 16 []) }
-    ensures rooms { IfOk result (λ tables. All (λ n. 256 ≤ n) (map (λ t. vec_capacity t) tables.items)) }
+    ensures rooms { IfOk result (λ tables.
+        All (λ n. 256 ≤ n) (map (λ t. vec_capacity t) tables.items)) }
 {
     let mut tables = Vec::with_capacity(alloc, MOST_INSTANCES)?;
     for _ in 0..MOST_INSTANCES {
@@ -71,7 +72,7 @@ fn empty_tables(alloc: Global) -> Result<Vec<Vec<u16>>, NoMemory>
 }
 
 /// The number of a name, where the list has it.
-fn find(names: &[OutName], name: &[u8]) -> Option<usize>
+pub(crate) fn find(names: &[OutName], name: &[u8]) -> Option<usize>
     ensures { result ≡ number_of name.now names.now }
 {
     names.iter().position(|n| name == n.as_slice())

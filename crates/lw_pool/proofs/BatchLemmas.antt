@@ -33,8 +33,8 @@ use Rattle.lw_desk.specs.declared.ask.Ask.{Ask}
 use Rattle.lw_desk.specs.declared.ask.Reply.{Reply}
 use Rattle.lw_desk.specs.declared.ask.Give.{Give}
 use Rattle.lw_desk.specs.declared.ask.Failed.{Failed}
-use Rattle.lw_desk.specs.laws.Members.{In, in_contains, contains_in, in_filter, in_filter_of, in_map, in_mapped, in_right, same_number, is_same}
-use Rattle.lw_desk.specs.laws.ClaimLists.{places_of}
+use Rattle.lw_desk.specs.lemmas.Members.{In, in_contains, contains_in, in_filter, in_filter_of, in_map, in_mapped, in_right, same_number, is_same}
+use Rattle.lw_desk.specs.lemmas.ClaimLists.{places_of}
 use Rattle.lw_desk.proofs.Endings.{brought, stays_shared, settled, nothing_claimed, nobody_has_failed, names_grew, all_of}
 use Rattle.lw_desk.proofs.SeatLemmas.{Stands, opened_stands, seat_after_all, replays_stands}
 use Rattle.lw_desk.proofs.StopLemmas.{stop_is}

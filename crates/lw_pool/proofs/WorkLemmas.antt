@@ -18,8 +18,8 @@ use Rattle.lw_desk.specs.declared.ask.Ask.{Ask}
 use Rattle.lw_desk.specs.declared.ask.Reply.{Reply}
 use Rattle.lw_desk.specs.declared.ask.Give.{Give}
 use Rattle.lw_desk.specs.declared.ask.Failed.{Failed}
-use Rattle.lw_desk.specs.laws.Members.{In, in_contains, contains_in, in_left, in_right, in_either}
-use Rattle.lw_desk.specs.laws.Bounds.{AreNew, all_new, taken}
+use Rattle.lw_desk.specs.lemmas.Members.{In, in_contains, contains_in, in_left, in_right, in_either}
+use Rattle.lw_desk.specs.lemmas.Bounds.{AreNew, all_new, taken}
 use Rattle.lw_desk.proofs.Endings.{all_of}
 use Rattle.lw_pool.specs.Pool.{Seen}
 use Rattle.lw_pool.specs.bodies.Working.{HasGiven, HasRefused, GivesBetween, FailsAfter, HasAnswered}

@@ -9,10 +9,10 @@ use Rattle.lw_desk.specs.History.{DeskOpening, opened, Makes, Replays, Legal, mo
 use Rattle.lw_desk.specs.declared.ask.Ask.{Ask}
 use Rattle.lw_desk.specs.declared.ask.Reply.{Reply}
 use Rattle.lw_desk.specs.declared.ask.Failed.{Failed}
-use Rattle.lw_desk.specs.laws.Members.{In, in_left, in_right, in_either, is_same}
-use Rattle.lw_desk.specs.laws.ClaimLists.{places_of, place_is}
-use Rattle.lw_desk.specs.laws.StepLemmas.{gives_ended, takes_only, end_claims, between_claims, end_stop, takes_length}
-use Rattle.lw_desk.specs.laws.CoverLemmas.{cover_take, taken_covered, cover_between, cover_done, makes_none}
+use Rattle.lw_desk.specs.lemmas.Members.{In, in_left, in_right, in_either, is_same}
+use Rattle.lw_desk.specs.lemmas.ClaimLists.{places_of, place_is}
+use Rattle.lw_desk.specs.lemmas.StepLemmas.{gives_ended, takes_only, end_claims, between_claims, end_stop, takes_length}
+use Rattle.lw_desk.specs.lemmas.CoverLemmas.{cover_take, taken_covered, cover_between, cover_done, makes_none}
 
 -- no number twice
 abbrev pub NoneTwice : List ℕ → Type 0

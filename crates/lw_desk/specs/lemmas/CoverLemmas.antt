@@ -17,9 +17,9 @@ use Rattle.lw_desk.specs.declared.ask.Ask.{Ask}
 use Rattle.lw_desk.specs.declared.ask.Reply.{Reply}
 use Rattle.lw_desk.specs.declared.ask.Give.{Give}
 use Rattle.lw_desk.specs.declared.ask.Failed.{Failed}
-use Rattle.lw_desk.specs.laws.Members.{In, in_contains, contains_in, in_left, in_right}
-use Rattle.lw_desk.specs.laws.ClaimLists.{in_without_of}
-use Rattle.lw_desk.specs.laws.StepLemmas.{prefix_whole, end_stop}
+use Rattle.lw_desk.specs.lemmas.Members.{In, in_contains, contains_in, in_left, in_right}
+use Rattle.lw_desk.specs.lemmas.ClaimLists.{in_without_of}
+use Rattle.lw_desk.specs.lemmas.StepLemmas.{prefix_whole, end_stop}
 
 pub some_none : {X : Type 0} (x : X) → Some x ≡ None → ⊥
 some_none x e = true≢false (ap is_some e)
