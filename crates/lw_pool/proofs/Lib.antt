@@ -1,4 +1,6 @@
 pub mod BatchLemmas
+pub mod CrewLemmas
 pub mod GiveLemmas
+pub mod HandLemmas
 pub mod JournalLemmas
 pub mod WorkLemmas

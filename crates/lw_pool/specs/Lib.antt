@@ -1,3 +1,4 @@
 pub mod Fitting
 pub mod Pool
+pub mod Settling
 pub mod bodies

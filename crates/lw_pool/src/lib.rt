@@ -2,4 +2,9 @@
 #![tactic(auto)]
 
 mod crew;
+mod hands;
+mod parts;
+mod pool;
 mod worker;
+
+pub use pool::Pool;

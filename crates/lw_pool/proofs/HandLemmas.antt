@@ -1,0 +1,29 @@
+-- Hands, and what their sessions tell.
+use Rattle.std.proofs.Common.{◌≡◌, ℕ, zero, suc, ◌<◌, List, [], ◌∷◌, length, map, get_or, refl, ap, sym, ◌∙◌, subst, subst₂, arith}
+use Rattle.std.proofs.lemmas.List.{get_or-map, length-map}
+use Rattle.lw_turn.specs.declared.shared.Entry.{Entry}
+use Rattle.lw_desk.specs.History.{DeskOpening}
+use Rattle.lw_desk.specs.declared.ask.Ask.{Ask}
+use Rattle.lw_desk.specs.declared.ask.Reply.{Reply}
+use Rattle.lw_pool.specs.Pool.{Seen, Member, nobody, seen_at}
+use Rattle.lw_pool.specs.declared.hands.Hand.{Hand}
+use Rattle.lw_pool.specs.bodies.Crew.{HasWorkedOff, AllWorkedOff}
+
+-- what the sessions of hands tell
+abbrev pub seen_in : {S : Type 0} → List (Hand S) → List Seen
+seen_in hands = map (λ m. m.seen) (map (λ h. h.worker) hands)
+
+module _ {S : Type 0} where
+  pub seen_long : (hands : List (Hand S)) → length (seen_in hands) ≡ length hands
+  seen_long hands = length-map (map (λ (h : Hand S). h.worker) hands) (λ (m : Member S). m.seen) ∙ length-map hands (λ (h : Hand S). h.worker)
+
+  pub seen_here : (hands : List (Hand S)) (i : ℕ) (d : Hand S) → i < length hands → seen_at (seen_in hands) i ≡ (get_or hands i d).worker.seen
+  seen_here hands i d lt =
+      get_or-map (λ (m : Member S). m.seen) (map (λ (h : Hand S). h.worker) hands) i d.worker nobody (omega (arith, lt, length-map hands (λ (h : Hand S). h.worker)))
+      ∙ ap (λ (m : Member S). m.seen) (get_or-map (λ (h : Hand S). h.worker) hands i d d.worker lt)
+
+  pub worked_seen : (o : DeskOpening) (es : List (Entry Ask Reply)) (was now : List (Hand S)) → length now ≡ length was → AllWorkedOff o es was now → (i : ℕ) → i < length (seen_in was) → HasWorkedOff o es i (seen_at (seen_in was) i) (seen_at (seen_in now) i)
+  worked_seen o es [] now long worked i lt = absurd (omega arith)
+  worked_seen o es (h ∷ was) now long worked i lt =
+      let here : i < length (h ∷ was) = omega (arith, lt, seen_long (h ∷ was)) in
+      subst₂ (HasWorkedOff o es i) (sym (seen_here (h ∷ was) i h here)) (sym (seen_here now i h (omega (arith, here, long)))) (worked i h here)

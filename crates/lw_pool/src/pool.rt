@@ -1,0 +1,132 @@
+//! Pools: several sessions that settle batches together, over one cache.
+ghost use Rattle.std.specs.Prelude.{◌≡◌, ℕ, ◌^◌, ◌<◌, ◌≤◌, List, [], length, IfOk, IfErr, OnOk, Option, Some, None};
+ghost use Rattle.std.specs.List.{All};
+ghost use Rattle.lw_words.specs.Answer.{answers_of};
+ghost use Rattle.lw_words.specs.Word.{IsWord};
+ghost use Rattle.lw_turn.specs.Views.{first_view};
+ghost use Rattle.lw_cache.specs.Clash.{NothingClashes};
+ghost use Rattle.lw_cache.specs.Known.{IsKnown};
+ghost use Rattle.lw_cache.specs.Settling.{KeepsAnswers, GainsAnswers, GainsExactly, TellsStop, refused_after};
+ghost use Rattle.lw_desk.specs.Desk.{Finishes};
+ghost use Rattle.lw_desk.specs.History.{HasLists, Replays, opened};
+ghost use Rattle.lw_desk.specs.Step.{DeskState};
+ghost use Rattle.lw_pool.specs.Pool.{PoolState, StandsFor, AskedOnce, IsStopOf, seen_of, origins_of};
+ghost use Rattle.lw_pool.specs.Settling.{GainsSome};
+ghost use Rattle.lw_pool.specs.bodies.Crew.{AllReady, AllRead};
+ghost use Rattle.lw_pool.specs.bodies.Running.{AfterBatch, AreWhole, opening_of};
+
+use crate::hands::{Hand, work_off};
+use crate::parts::Parts;
+use lw_cache::{AskStop, Cache};
+use lw_desk::{Desk, OutNames};
+use lw_sul::Sul;
+use lw_turn::{Pass, Turnstile};
+use lw_words::{NoMemory, Word};
+use std::alloc::Global;
+use std::marker::Model;
+use std::snapshot::Snapshot;
+use std::sync::Wait;
+use std::thread::Threads;
+
+/// Sessions that settle batches together: each word is asked by one of them, and what one has answered all know.
+/// Contracts see them, the names, the prior answers and all that is kept (`PoolState`).
+#[derive(Drop)]
+pub struct Pool<S: Sul, R> {
+    rt: R,
+    hands: Vec<Hand<S>>,
+    parts: Option<Parts>,
+    prior: Snapshot<Cache>,
+    stop: Option<AskStop>,
+    refused: bool,
+    inputs: u16,
+    outputs: u16,
+    alloc: Global,
+}
+
+impl<S: Sul, R> Model for Pool<S, R> {
+    ghost use Rattle.std.specs.Prelude.{map};
+    ghost use Rattle.lw_pool.specs.Pool.{PoolState};
+    ghost use Rattle.lw_pool.specs.bodies.PoolBody.{kept_in, naming_in, AreThere};
+    ghost use Rattle.lw_pool.specs.bodies.Standing.{IsPool};
+
+    ghost Value = { PoolState S };
+
+    ghost view = { λ p. record { members = map (λ h. h.worker) p.hands.items; naming = naming_in p.parts; prior = p.prior.value.kept; kept = kept_in p.parts; stop = p.stop; refused = p.refused; inputs = p.inputs; outputs = p.outputs } };
+
+    ghost invariant = { λ p. AreThere p.parts × IsPool (map (λ m. m.seen) (map (λ h. h.worker) p.hands.items)) (naming_in p.parts) p.prior.value.kept (kept_in p.parts) p.stop p.refused p.inputs p.outputs };
+}
+
+/// A desk of a batch behind a turnstile, and its first pass; or the parts, where there is no memory.
+fn open(
+    alloc: Global,
+    parts: Parts,
+    batch: &[Word],
+    actors: u32,
+) -> Result<(Turnstile<Desk>, Pass<Desk>), Parts>
+    requires actors { (1 ≤ actors) × (actors ≤ 16) }
+    requires few { length batch.now < 2 ^ 32 }
+    requires unclaimed { parts.cache.claims ≡ [] }
+    ensures ours { IfOk result (λ t. t.1.turnstile ≡ t.0) }
+    ensures first { IfOk result (λ t. t.1.knows ≡ first_view (record { kept = parts.cache.kept;
+        naming = parts.names; batch = batch.now; actors = actors })) }
+    ensures back { IfErr result (λ p. (p.cache.kept ≡ parts.cache.kept) ×
+        (p.cache.claims ≡ []) × (p.names ≡ parts.names)) }
+{
+    let Parts { cache, names } = parts;
+    let desk = match Desk::new(alloc, cache, names, batch, actors) {
+        Ok(desk) => desk,
+        Err((cache, names, NoMemory)) => return Err(Parts { cache, names }),
+    };
+    match Turnstile::new(alloc, desk) {
+        Ok(opened) => Ok(opened),
+        Err((desk, NoMemory)) => {
+            let (cache, names, _stop) = desk.finish();
+            Err(Parts { cache, names })
+        }
+    }
+}
+
+/// The parts of a desk that is done, and its stop.
+fn close(desk: Desk) -> (Parts, Option<AskStop>)
+    requires idle { (t : DeskState) → Replays desk.opening (opened desk.opening) desk.entries t →
+        t.claims ≡ [] }
+    ensures finishes { Finishes desk (result.0.cache, (result.0.names, result.1)) }
+    ensures whole { AreWhole result.0 }
+{
+    let (cache, names, stop) = desk.finish();
+    let _ = cache.kept();
+    let _ = names.len();
+    (Parts { cache, names }, stop)
+}
+
+/// Lets the hands work a batch off, where there is memory to begin it.
+fn run<S: Sul + Send, R: Threads + Wait + Sync>(
+    rt: &R,
+    alloc: Global,
+    parts: Parts,
+    hands: &mut [Hand<S>],
+    batch: &[Word],
+) -> (Parts, Option<AskStop>)
+    requires some { 0 < length hands.old }
+    requires few_hands { length hands.old ≤ 16 }
+    requires few { length batch.now < 2 ^ 32 }
+    requires unclaimed { parts.cache.claims ≡ [] }
+    requires lists { HasLists parts.names.brought (length hands.old) }
+    requires ready { AllReady (opening_of parts batch.now (length hands.old)) hands.old }
+    requires letters { AllRead batch.now hands.old }
+    ensures after { AfterBatch (opening_of parts batch.now (length hands.old)) hands.old hands.new
+        result.0 result.1 }
+    ensures whole { AreWhole result.0 }
+{
+    match open(alloc, parts, batch, hands.len() as u32) {
+        Ok((turnstile, first)) => {
+            let desk = work_off(rt, alloc, turnstile, first, hands, batch);
+            close(desk)
+        }
+        Err(parts) => {
+            let _ = parts.cache.kept();
+            let _ = parts.names.len();
+            (parts, Some(AskStop::NoMemory))
+        }
+    }
+}
