@@ -1,2 +1,3 @@
+pub mod CrewLemmas
 pub mod GiveLemmas
 pub mod WorkLemmas

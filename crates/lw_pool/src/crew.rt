@@ -17,6 +17,7 @@ use std::alloc::Global;
 use std::sync::Wait;
 
 /// A pass of the turnstile, and the reply that it was given last.
+#[derive(Drop)]
 pub(crate) struct Engaged {
     pub(crate) pass: Pass<Desk>,
     pub(crate) reply: Reply,

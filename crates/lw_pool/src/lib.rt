@@ -2,4 +2,5 @@
 #![tactic(auto)]
 
 mod crew;
+mod hands;
 mod worker;
