@@ -6,7 +6,7 @@ use Rattle.lw_turn.specs.declared.shared.Entry.{Entry}
 use Rattle.lw_turn.specs.declared.view.View.{View}
 use Rattle.lw_turn.specs.Held.{Held}
 use Rattle.lw_turn.specs.History.{entries_of}
-use Rattle.lw_turn.specs.Views.{own_of}
+use Rattle.lw_turn.specs.Views.{ended_of, ended_view}
 use Rattle.lw_desk.specs.Naming.{own_names}
 use Rattle.lw_desk.specs.History.{DeskOpening}
 use Rattle.lw_desk.specs.declared.ask.Ask.{Ask}
@@ -61,3 +61,46 @@ module _ {S : Type 0} (Ours : Held DeskOpening Ask Reply → Type 0) where
 
   abbrev pub AllRun : List (Hand S) → List (Hand S) → Type 0
   AllRun was now = (i : ℕ) (d : Hand S) → i < length was → HasRun (slice_index_or was i d) (slice_index_or now i d)
+
+  -- a hand was given the place of this number, and nothing was asked yet
+  pub record IsHired (o : DeskOpening) (number : ℕ) (was now : Hand S) : Type 0 where
+    pub worker : now.worker ≡ was.worker
+    pub place : Engaged
+    pub is : now.engaged ≡ Some place
+    pub ours : Ours place.pass
+    pub opening : place.pass.knows.opening ≡ o
+    pub number_is : place.pass.knows.number ≡ number
+    pub begun : (start : Seen) → Working start start place.pass.knows place.reply
+    pub first : number ≡ 0 → (place.pass.knows.made ≡ o.actors) × (place.pass.knows.ended ≡ [])
+
+  abbrev pub AllHired : DeskOpening → List (Hand S) → List (Hand S) → Type 0
+  AllHired o was now = (i : ℕ) (d : Hand S) → i < length was → IsHired o i (slice_index_or was i d) (slice_index_or now i d)
+
+  -- a hand holds the pass of this number
+  pub record Holds (number : ℕ) (h : Hand S) : Type 0 where
+    pub place : Engaged
+    pub is : h.engaged ≡ Some place
+    pub ours : Ours place.pass
+    pub number_is : place.pass.knows.number ≡ number
+
+  -- the hands after the first one hold the passes of their numbers
+  abbrev pub OthersHold : List (Hand S) → Type 0
+  OthersHold hands = (i : ℕ) (d : Hand S) → 0 < i → i < length hands → Holds i (slice_index_or hands i d)
+
+module _ {S : Type 0} where
+  -- the passes of the hands after the first one were joined
+  abbrev pub OthersJoined : View DeskOpening Ask Reply → List (Hand S) → Type 0
+  OthersJoined v hands = (i : ℕ) (d : Hand S) (e : Engaged) → 0 < i → i < length hands → (slice_index_or hands i d).engaged ≡ Some e → ended_of i v.ended ≡ Some (ended_view e.pass.knows)
+
+  abbrev pub SameWorkers : List (Hand S) → List (Hand S) → Type 0
+  SameWorkers was now = (i : ℕ) (d : Hand S) → i < length was → (slice_index_or now i d).worker ≡ (slice_index_or was i d).worker
+
+  -- each session has the names and the letters that its number's part of the batch takes
+  abbrev pub AllReady : DeskOpening → List (Hand S) → Type 0
+  AllReady o hands = (i : ℕ) (d : Hand S) → i < length hands → IsReady (is_some o.naming.brought) (own_names o.naming i) (slice_index_or hands i d).worker.seen
+
+  abbrev pub AllRead : List (List ℕ) → List (Hand S) → Type 0
+  AllRead batch hands = (i : ℕ) (d : Hand S) → i < length hands → All (IsWord (slice_index_or hands i d).worker.seen.inputs) batch
+
+  abbrev pub AllWorkedOff : DeskOpening → List (Entry Ask Reply) → List (Hand S) → List (Hand S) → Type 0
+  AllWorkedOff o es was now = (i : ℕ) (d : Hand S) → i < length was → HasWorkedOff o es i (slice_index_or was i d).worker.seen (slice_index_or now i d).worker.seen
