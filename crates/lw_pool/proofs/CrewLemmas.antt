@@ -1,7 +1,14 @@
 -- Loops that write one hand after the other.
-use Rattle.std.proofs.Common.{◌≡◌, ◌⊎◌, ◌≢◌, ⊎_elim, ℕ, ◌+◌, ◌<◌, ◌≤◌, List, length, get_or, set, refl, ap, sym, ◌∙◌, subst, subst₂, arith, eqb, inl, inr, true, false}
+use Rattle.std.proofs.Common.{◌≡◌, ◌⊎◌, ◌≢◌, inl, inr, ⊎_elim, ℕ, zero, suc, ◌+◌, ◌<◌, ◌≤◌, List, [], ◌∷◌, ◌++◌, length, get_or, set, All, Bool, true, false, cond, Some, refl, ap, sym, ◌∙◌, subst, arith, eqb, length-append}
 use Rattle.std.proofs.lemmas.Bool.Decides.{eqb_tells}
-use Rattle.std.proofs.lemmas.List.{get_or_default, get_or-set_same, get_or-set_other}
+use Rattle.std.proofs.lemmas.List.{get_or-set_same, get_or-set_other, get_or_append_left, get_or-append_right}
+use Rattle.lw_turn.specs.declared.view.View.{View}
+use Rattle.lw_turn.specs.Views.{ended_of, ended_view, joined_view}
+use Rattle.lw_desk.specs.History.{DeskOpening}
+use Rattle.lw_desk.specs.declared.ask.Ask.{Ask}
+use Rattle.lw_desk.specs.declared.ask.Reply.{Reply}
+use Rattle.lw_pool.specs.Pool.{Seen}
+use Rattle.lw_pool.specs.bodies.Engaged.{Working}
 
 same_or_not : (a b : ℕ) → (a ≡ b) ⊎ (a ≢ b)
 same_or_not a b = ⊎_elim (λ (e : (eqb a b ≡ true) × (a ≡ b)). inl e.1) (λ (e : (eqb a b ≡ false) × (a ≢ b)). inr e.1) (eqb_tells a b)
@@ -26,3 +33,45 @@ write_place R old now i y lt k d other at =
     (λ (e : k ≡ i). subst (λ (n : ℕ). R n (get_or old n d) (get_or (set now i y) n d)) (sym e) (subst (R i (get_or old i d)) (sym (get_or-set_same now i y d lt)) at))
     (λ (e : k ≢ i). subst (R k (get_or old k d)) (sym (get_or-set_other now i k y d e)) (other e))
     (same_or_not k i)
+
+-- what holds of each of two pairs of lists holds of the pair of their joins
+pub both_parts : {X : Type 0} (R : X → X → Type 0) (xs ys us vs : List X) → length us ≡ length xs → ((i : ℕ) (d : X) → i < length xs → R (get_or xs i d) (get_or us i d)) → ((i : ℕ) (d : X) → i < length ys → R (get_or ys i d) (get_or vs i d)) → (i : ℕ) (d : X) → i < length (xs ++ ys) → R (get_or (xs ++ ys) i d) (get_or (us ++ vs) i d)
+both_parts R [] ys [] vs len front back i d lt = back i d lt
+both_parts R [] ys (u ∷ us) vs len front back i d lt = absurd (omega (arith, len))
+both_parts R (x ∷ xs) ys [] vs len front back i d lt = absurd (omega (arith, len))
+both_parts R (x ∷ xs) ys (u ∷ us) vs len front back zero d lt = front zero d (omega arith)
+both_parts R (x ∷ xs) ys (u ∷ us) vs len front back (suc i) d lt = both_parts R xs ys us vs (omega (arith, len)) (λ j e l. front (suc j) e (omega (arith, l))) back i d (omega (arith, lt))
+
+pub left_part : {X : Type 0} (P : X → Type 0) (xs ys : List X) → All P (xs ++ ys) → All P xs
+left_part P xs ys all k d lt = subst P (get_or_append_left xs ys d k lt) (all k d (omega (arith, lt, length-append xs ys)))
+
+pub right_part : {X : Type 0} (P : X → Type 0) (xs ys : List X) → All P (xs ++ ys) → All P ys
+right_part P xs ys all k d lt = subst P (get_or-append_right xs ys (length xs) (length xs + k) d refl (omega arith) ∙ ap (λ (n : ℕ). get_or ys n d) (omega arith)) (all (length xs + k) d (omega (arith, lt, length-append xs ys)))
+
+-- a pass that made one more has worked as far
+pub working_made : (start now : Seen) (v w : View DeskOpening Ask Reply) (reply : Reply) → w ≡ record v { made = v.made + 1 } → Working start now v reply → Working start now w reply
+working_made start now v w reply same is = subst (λ (x : View DeskOpening Ask Reply). Working start now x reply) (sym same)
+    (record {
+      own = is.own;
+      begun = is.begun;
+      held = is.held;
+      going = is.going;
+      ended = is.ended;
+      names = is.names;
+      within = is.within;
+      mid = is.mid;
+      gives = is.gives;
+      after = is.after;
+      failed = is.failed;
+      unfailed = is.unfailed;
+      live = is.live;
+    })
+
+-- the pass of the number i is joined, after those of the numbers before it
+pub joined_more : (v x w : View DeskOpening Ask Reply) (i k : ℕ) (e : View DeskOpening Ask Reply) → x ≡ joined_view v w → w.number ≡ i → (k ≢ i → ended_of k v.ended ≡ Some (ended_view e)) → (k ≡ i → w ≡ e) → ended_of k x.ended ≡ Some (ended_view e)
+joined_more v x w i k e same number before at =
+    ap (λ (y : View DeskOpening Ask Reply). ended_of k y.ended) same
+    ∙ ⊎_elim
+    (λ (t : (eqb w.number k ≡ true) × (w.number ≡ k)). ap (λ (b : Bool). cond b (Some (ended_view w)) (ended_of k v.ended)) t.0 ∙ ap (λ (y : View DeskOpening Ask Reply). Some (ended_view y)) (at (sym t.1 ∙ number)))
+    (λ (t : (eqb w.number k ≡ false) × (w.number ≢ k)). ap (λ (b : Bool). cond b (Some (ended_view w)) (ended_of k v.ended)) t.0 ∙ before (λ s. t.1 (number ∙ sym s)))
+    (eqb_tells w.number k)

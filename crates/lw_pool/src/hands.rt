@@ -199,6 +199,7 @@ fn run_all<S: Sul + Send, R: Threads + Wait + Sync>(
     turnstile: &Turnstile<Desk>,
     batch: &[Word],
     busy: usize,
+    crew: u32,
     hands: &mut [Hand<S>],
 )
     requires busy { busy ≤ length hands.old }
@@ -206,7 +207,6 @@ fn run_all<S: Sul + Send, R: Threads + Wait + Sync>(
     ensures run { AllRun (λ p. p.turnstile ≡ turnstile.now) hands.old hands.new }
     ensures length { length hands.new ≡ length hands.old }
 {
-    let crew = hands.len() as u32;
     if busy <= 1 {
         run_each(rt, alloc, turnstile, batch, crew, hands);
         return;
@@ -238,8 +238,10 @@ pub(crate) fn work_off<S: Sul + Send, R: Threads + Wait + Sync>(
     ensures others { (n : ℕ) → length hands.old ≤ n → entries_of n result.entries ≡ [] }
     ensures length { length hands.new ≡ length hands.old }
 {
-    let busy = hire(rt, alloc, &turnstile, first, hands, batch.len() as u32);
-    run_all(rt, alloc, &turnstile, batch, busy, hands);
+    let crew = hands.len() as u32;
+    let words = u32::try_from(batch.len()).unwrap_or(u32::MAX);
+    let busy = hire(rt, alloc, &turnstile, first, hands, words);
+    run_all(rt, alloc, &turnstile, batch, busy, crew, hands);
     let own = hands[0].leave();
     let last = gather(&turnstile, own, hands);
     turnstile.close(last)
