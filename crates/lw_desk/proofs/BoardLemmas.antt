@@ -1,11 +1,10 @@
 -- What the steps of a board keep.
-use Rattle.std.proofs.Common.{◌≡◌, ◌≢◌, ◌⊎◌, inl, inr, ⊎_elim, ℕ, zero, suc, ◌+◌, ◌-◌, ◌<◌, ◌≤◌, ◌==◌, not, List, [], ◌∷◌, ◌++◌, length, map, filter, take, drop, get_or, set, All, Contains, Bool, true, false, cond, Option, Some, None, is_some, refl, ap, sym, ◌∙◌, subst, arith}
-use Rattle.std.specs.List.{sum_by}
-use Rattle.std.proofs.lemmas.Bool.{true≢false, false≢true, cases_eq}
-use Rattle.std.proofs.lemmas.List.{get_or-map, get_or_default, get_or_append_left, length-append, get_or-set_other, drop-drop, drop_more, get_or-drop, length-drop, length-map, length-set, length_push, map_push}
+use Rattle.std.proofs.Common.{◌≡◌, ◌≢◌, ◌⊎◌, inl, inr, ⊎_elim, ℕ, zero, suc, ◌+◌, ◌-◌, ◌<◌, ◌≤◌, ◌==◌, not, List, [], ◌∷◌, ◌++◌, length, map, filter, take, drop, get_or, set, All, Contains, Bool, true, false, cond, Option, None, refl, ap, sym, ◌∙◌, subst, arith}
+use Rattle.std.proofs.lemmas.Bool.{false≢true, cases_eq}
+use Rattle.std.proofs.lemmas.List.{get_or-map, get_or_default, get_or_append_left, length-append, get_or-set_other, drop-drop, drop_more, get_or-drop, length-drop, length-map, length-set, map_push}
 use Rattle.std.proofs.lemmas.List.Elements.{All-head, All-tail, All-push, All-weaker, All-filter, All-contains, Contains-get_or, Contains-push_cases, Contains-push, Contains-append_left}
 use Rattle.std.proofs.lemmas.List.Sums.{sum_by-cons}
-use Rattle.lw_words.specs.Answer.{Answer, answer_of, answers_of}
+use Rattle.lw_words.specs.Answer.{answers_of}
 use Rattle.lw_words.specs.Word.{IsPrefix}
 use Rattle.lw_words.specs.declared.kept.KeptAnswer.{KeptAnswer}
 use Rattle.lw_cache.specs.Caching.{Claim, claim_of, claim_at, IsClaimOf, IsClaimedBy, IsUnused, without}
@@ -16,7 +15,7 @@ use Rattle.lw_cache.specs.declared.known.Known.TheVariants.{Yes, Pending, No}
 use Rattle.lw_cache.specs.declared.stops.AskStop.{AskStop}
 use Rattle.lw_cache.proofs.OracleLemmas.{known_stays}
 use Rattle.lw_desk.specs.Step.{word_at, ComesBefore}
-use Rattle.lw_desk.specs.bodies.Board.{numbers_of, without_number, without_numbers, without_all, AreHeld, IsTaken, AreApart, AreInOrder, IsAtHand, IsPlaces, Waits, letters_of, IsBoard}
+use Rattle.lw_desk.specs.bodies.Board.{numbers_of, without_number, without_numbers, without_all, AreHeld, IsTaken, AreApart, IsAtHand, IsPlaces, Waits, letters_of, IsBoard}
 use Rattle.lw_desk.specs.lemmas.Members.{In, in_contains, contains_in, in_filter, in_filter_of, is_same, is_other}
 use Rattle.lw_desk.specs.lemmas.StepLemmas.{prefix_whole}
 use Rattle.lw_desk.specs.lemmas.CoverLemmas.{known_prefix}

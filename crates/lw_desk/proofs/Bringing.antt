@@ -1,12 +1,12 @@
 -- Names that an instance brings, and outputs by their shared numbers.
-use Rattle.std.proofs.Common.{◌≡◌, ◌≢◌, ℕ, zero, suc, ◌+◌, ◌*◌, ◌<◌, ◌≤◌, List, [], ◌∷◌, ◌++◌, length, map, get_or, set, Bool, true, false, Option, Some, None, unwrap_or, is_some, slice_get, refl, ap, sym, ◌∙◌, subst, arith, append-nil, append_assoc, ⊎_elim}
-use Rattle.std.specs.List.{All, sum_by}
+use Rattle.std.proofs.Common.{◌≡◌, ◌≢◌, ℕ, ◌+◌, ◌*◌, ◌<◌, ◌≤◌, List, [], ◌∷◌, ◌++◌, length, map, get_or, set, Bool, true, false, Option, Some, None, unwrap_or, is_some, refl, ap, sym, ◌∙◌, subst, arith, append-nil, append_assoc, ⊎_elim}
+use Rattle.std.specs.List.{All}
 use Rattle.std.specs.Str.{bytes_eq}
-use Rattle.std.proofs.lemmas.List.{get_or_append_left, get_or_push, length_push, length-map, length-set, map-set, map_push, set-get_or, get_or-map, get_or_default, set-set, get_or-set_same, map-append, length-append, map-id, set_past}
+use Rattle.std.proofs.lemmas.List.{get_or_append_left, length_push, length-map, length-set, map-set, map_push, set-get_or, get_or-map, set-set, get_or-set_same, map-id, set_past}
 use Rattle.std.proofs.lemmas.Bool.{cases_lt}
-use Rattle.std.proofs.lemmas.List.Elements.{All-head, All-tail, All-cons, All-push, All-set, All-weaker, All-get_or, All-nil}
+use Rattle.std.proofs.lemmas.List.Elements.{All-head, All-tail, All-push, All-set, All-weaker, All-get_or}
 use Rattle.std.proofs.lemmas.List.Quantifiers.{position-Some, all_pairs_push}
-use Rattle.std.proofs.lemmas.List.Sums.{sum_by-cons, sum_by-set, sum_by-le}
+use Rattle.std.proofs.lemmas.List.Sums.{sum_by-set, sum_by-le}
 use Rattle.std.proofs.lemmas.Option.{slice_get-get_or}
 use Rattle.std.proofs.lemmas.Slice.Eq.{bytes_eq-Decides}
 use Rattle.lw_words.specs.Name.{IsName, AllDiffer, number_of}

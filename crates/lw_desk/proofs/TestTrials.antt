@@ -1,9 +1,9 @@
 -- Desks whose actors' standings are kept beside them.
-use Rattle.std.proofs.Common.{◌≡◌, ◌≢◌, ◌⊎◌, ⊎_elim, inl, inr, ℕ, zero, suc, ◌+◌, ◌-◌, ◌<◌, ◌≤◌, ◌==◌, ◌||◌, List, [], ◌∷◌, ◌++◌, length, map, filter, take, drop, get_or, set, slice_get, All, Bool, true, false, cond, Option, Some, None, is_some, refl, ap, sym, ◌∙◌, subst, arith, append-nil, append_assoc}
-use Rattle.std.proofs.lemmas.Bool.{cases_eq, cases_lt, true≢false}
-use Rattle.std.proofs.lemmas.List.{get_or-set_same, get_or-set_other, get_or_default, get_or-take, length-set, length-take-le, take_more, get_or-map, length-map}
+use Rattle.std.proofs.Common.{◌≡◌, ◌≢◌, ◌⊎◌, ⊎_elim, inl, ℕ, zero, suc, ◌+◌, ◌-◌, ◌<◌, ◌≤◌, ◌==◌, ◌||◌, List, [], ◌∷◌, ◌++◌, length, map, take, set, slice_get, All, Bool, false, cond, Option, Some, None, is_some, refl, ap, sym, ◌∙◌, subst, arith, append-nil, append_assoc}
+use Rattle.std.proofs.lemmas.Bool.{cases_eq, true≢false}
+use Rattle.std.proofs.lemmas.List.{get_or-set_same, get_or-set_other, get_or-take, length-set, length-take-le, take_more}
 use Rattle.std.proofs.lemmas.List.Elements.{filter-append, All-head, All-tail}
-use Rattle.std.proofs.lemmas.Option.{slice_get-get_or, slice_get_within, get_or_from_slice_get}
+use Rattle.std.proofs.lemmas.Option.{slice_get-get_or, get_or_from_slice_get}
 use Rattle.lw_words.specs.Name.{AllDiffer, number_of}
 use Rattle.lw_words.proofs.NumberLemmas.{number_at_place, name_at_number, slice_get-take}
 use Rattle.lw_sul.specs.Names.{name_at, named, added_name, with_name, with_names}
@@ -12,12 +12,12 @@ use Rattle.lw_turn.specs.History.{entries_of}
 use Rattle.lw_desk.specs.Naming.{own_names}
 use Rattle.lw_desk.specs.Desk.{DeskHistory}
 use Rattle.lw_desk.specs.Step.{Claimed, DeskState, TakesAll, after_take, without_place, without_places}
-use Rattle.lw_desk.specs.History.{DeskOpening, opened, Seat, seat_of, seat_from, seat_after, seat_in, actor_of, Makes, Replays, May, MayAsk, HasLists, names_given}
+use Rattle.lw_desk.specs.History.{DeskOpening, opened, Seat, seat_of, seat_from, seat_after, actor_of, Replays, May, MayAsk, HasLists, names_given}
 use Rattle.lw_desk.specs.TestTrial.{seat_by, seat_at, IsTrial}
 use Rattle.lw_desk.specs.declared.ask.Ask.{Ask}
 use Rattle.lw_desk.specs.declared.ask.Reply.{Reply}
 use Rattle.lw_desk.specs.declared.ask.Give.{Give}
-use Rattle.lw_desk.specs.lemmas.Members.{In, in_either, same_number, is_same, is_other}
+use Rattle.lw_desk.specs.lemmas.Members.{In, in_either, is_same, is_other}
 use Rattle.lw_desk.specs.lemmas.ClaimLists.{places_of, place_is, in_without}
 use Rattle.lw_desk.specs.lemmas.StepLemmas.{between, between_claims, end_claims}
 use Rattle.lw_desk.proofs.SeatLemmas.{opened_stands, seat_after_all}

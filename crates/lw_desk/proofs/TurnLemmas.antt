@@ -1,11 +1,11 @@
 -- What the calls of a board do, as steps of a desk.
-use Rattle.std.proofs.Common.{◌≡◌, ◌⊎◌, inl, inr, ⊎_elim, ℕ, zero, suc, ◌+◌, ◌-◌, ◌<◌, ◌≤◌, ◌==◌, not, List, [], ◌∷◌, ◌++◌, length, map, filter, Contains, Bool, true, false, Option, Some, None, Result, Ok, Err, OnOk, IfErr, is_some, refl, ap, sym, ◌∙◌, subst, arith}
+use Rattle.std.proofs.Common.{◌≡◌, ◌⊎◌, inl, inr, ⊎_elim, ℕ, ◌-◌, ◌<◌, ◌≤◌, ◌==◌, not, List, [], ◌∷◌, ◌++◌, length, map, filter, Contains, Bool, true, false, Option, Some, None, Result, Ok, Err, OnOk, IfErr, refl, ap, sym, ◌∙◌, subst, arith}
 use Rattle.std.specs.Bool.{⊤}
-use Rattle.std.proofs.lemmas.List.{map_push, length-map, length-append}
-use Rattle.lw_words.specs.Answer.{Answer, answer_of, answers_of}
+use Rattle.std.proofs.lemmas.List.{map_push, length-map}
+use Rattle.lw_words.specs.Answer.{answer_of, answers_of}
 use Rattle.lw_words.specs.Word.{IsPrefix}
 use Rattle.lw_words.specs.declared.kept.KeptAnswer.{KeptAnswer}
-use Rattle.lw_cache.specs.Caching.{Claim, kept_answer}
+use Rattle.lw_cache.specs.Caching.{Claim}
 use Rattle.lw_cache.specs.Clash.{IsClearAfter}
 use Rattle.lw_cache.specs.FirstClash.{ClashesFirst}
 use Rattle.lw_cache.specs.Known.{IsKnown}
@@ -13,18 +13,18 @@ use Rattle.lw_cache.specs.declared.stops.AskStop.{AskStop}
 use Rattle.lw_cache.specs.declared.stops.AskStop.TheVariants as Ask
 use Rattle.lw_cache.specs.declared.stops.Clash.{Clash}
 use Rattle.lw_cache.proofs.OracleLemmas.{known_new}
-use Rattle.lw_desk.specs.Naming.{Naming, bring, shared}
+use Rattle.lw_desk.specs.Naming.{Naming, bring}
 use Rattle.lw_desk.specs.Step.{Claimed, DeskState, word_at, IsCovered, ComesBefore, IsFirstFree, NothingToTake, TakesAll, Gives, GivesAll, StopsBy, after_take, after_give, after_fail, kept_of, without_place, without_places, first_stop, stop_of}
 use Rattle.lw_desk.specs.bodies.Board.{BoardState, Agrees, IsTaken, AreApart, AreHeld, numbers_of, IsBoard, stop_after, without_number, without_numbers}
 use Rattle.lw_desk.specs.declared.ask.Give.{Give}
 use Rattle.lw_desk.specs.declared.ask.Failed.{Failed}
-use Rattle.std.proofs.Common.{All, cond, get_or}
+use Rattle.std.proofs.Common.{cond, get_or}
 use Rattle.std.proofs.lemmas.List.Elements.{Contains-get_or}
 use Rattle.lw_desk.specs.lemmas.StepLemmas.{done_only}
 use Rattle.lw_desk.specs.Step.{after_done}
 use Rattle.lw_desk.specs.lemmas.Members.{in_filter, In, in_contains, contains_in, in_map, in_mapped}
 use Rattle.lw_desk.specs.lemmas.CoverLemmas.{some_none}
-use Rattle.lw_desk.proofs.BoardLemmas.{map-filter, held_front, held_back}
+use Rattle.lw_desk.proofs.BoardLemmas.{map-filter}
 
 module _ (b : BoardState) (s : DeskState) (agrees : Agrees b s) where
   pub covered_is : (w : List ℕ) → IsCovered b.batch s w → IsTaken b.batch b.kept b.claimed w

@@ -1,5 +1,5 @@
 -- The board of a desk: what it keeps between two turns.
-use Rattle.std.specs.Prelude.{◌≡◌, ◌≢◌, ◌⊎◌, ℕ, ◌<◌, ◌≤◌, ◌^◌, ◌==◌, not, List, [], ◌∷◌, length, map, filter, Contains, Option, Some, None, Result, Ok, Err}
+use Rattle.std.specs.Prelude.{◌≡◌, ◌⊎◌, ℕ, ◌<◌, ◌≤◌, ◌^◌, ◌==◌, not, List, [], ◌∷◌, length, map, filter, Contains, Option, Some, None, Result, Ok, Err}
 use Rattle.std.specs.Bool.{⊤}
 use Rattle.std.specs.List.{All, sum_by}
 use Rattle.lw_words.specs.Answer.{answers_of}

@@ -1,9 +1,8 @@
-use Rattle.std.proofs.Common.{◌≡◌, ◌≢◌, ◌<◌, ◌≤◌, ◌+◌, ◌-◌, ℕ, List, [], length, get_or, drop, ⊎_elim, refl, ap, sym, ◌∙◌, subst, arith}
+use Rattle.std.proofs.Common.{◌≡◌, ◌<◌, ◌≤◌, ℕ, List, [], length, get_or, ⊎_elim, subst, arith}
 use Rattle.std.proofs.lemmas.Bool.{cases_lt}
-use Rattle.std.proofs.lemmas.List.{get_or-drop, length-drop, get_or_read}
+use Rattle.std.proofs.lemmas.List.{get_or_read}
 use Rattle.lw_words.specs.Answer.{answers_of}
 use Rattle.lw_cache.specs.Standing.{Stands}
-use Rattle.lw_cache.specs.declared.known.Known.{Known}
 use Rattle.lw_cache.specs.declared.known.Known.TheVariants.{No}
 use Rattle.lw_desk.specs.Step.{word_at}
 use Rattle.lw_desk.proofs.BoardLemmas.{at_from}

@@ -1,4 +1,4 @@
-use Rattle.std.proofs.Common.{◌≡◌, ◌≢◌, ◌<◌, ◌≤◌, ◌-◌, ℕ, length, get_or}
+use Rattle.std.proofs.Common.{◌≢◌, ◌<◌, ◌≤◌, ◌-◌, ℕ, length, get_or}
 use Rattle.lw_words.specs.Answer.{answers_of}
 use Rattle.lw_cache.specs.Standing.{Stands}
 use Rattle.lw_cache.specs.declared.known.Known.{Known}

@@ -1,6 +1,6 @@
-use Rattle.std.proofs.Common.{◌≡◌, ◌<◌, ◌+◌, ℕ, List, [], ◌∷◌, ◌++◌, length, get_or, take, Contains, ap, sym, ◌∙◌, subst, arith}
+use Rattle.std.proofs.Common.{◌≡◌, ◌<◌, ℕ, List, length, get_or, take, Contains, ap, sym, ◌∙◌, subst, arith}
 use Rattle.std.proofs.lemmas.List.{take_more}
-use Rattle.lw_cache.specs.Caching.{Claim, without}
+use Rattle.lw_cache.specs.Caching.{without}
 use Rattle.lw_desk.specs.bodies.Board.{numbers_of, without_all, without_numbers}
 use Rattle.lw_desk.proofs.BoardLemmas.{used, held_at, numbers_without_all, without_all_more}
 use Rattle.lw_desk.proofs.board.release_all.Goals as goal

@@ -1,4 +1,4 @@
-use Rattle.std.proofs.Common.{ℕ, List, length, arith, rules}
+use Rattle.std.proofs.Common.{length, arith, rules}
 use Rattle.std.proofs.lemmas.Fn.{always_returns_same}
 use Rattle.lw_desk.specs.Step.{word_at}
 use Rattle.lw_desk.specs.bodies.Gathering.{NotAfter}

@@ -1,4 +1,4 @@
-use Rattle.std.proofs.Common.{◌≡◌, ℕ, List, None, Option, map, drop, ap, sym, ◌∙◌, subst}
+use Rattle.std.proofs.Common.{ℕ, List, Option, drop, ap, sym, ◌∙◌, subst}
 use Rattle.lw_cache.specs.declared.stops.AskStop.{AskStop}
 use Rattle.lw_desk.specs.Step.{first_stop, stop_of}
 use Rattle.lw_desk.specs.bodies.Board.{BoardState, AreHeld, numbers_of, without_all, without_numbers}

@@ -2,7 +2,7 @@ use Rattle.std.proofs.Common.{◌≡◌, ℕ, List, [], ◌∷◌, ◌++◌, map
 use Rattle.std.proofs.lemmas.List.{map_push}
 use Rattle.std.specs.Vec.Iter.{into_iter_items}
 use Rattle.lw_desk.specs.Naming.{own_names}
-use Rattle.lw_desk.specs.Step.{DeskState, Gives}
+use Rattle.lw_desk.specs.Step.{Gives}
 use Rattle.lw_desk.specs.History.{MayGiveAll}
 use Rattle.lw_desk.specs.bodies.Board.{AreHeld, without_number, without_numbers}
 use Rattle.lw_desk.specs.declared.ask.Give.{Give}

@@ -1,4 +1,4 @@
-use Rattle.std.proofs.Common.{◌≡◌, ◌++◌, ℕ, map, is_some}
+use Rattle.std.proofs.Common.{◌≡◌, ◌++◌, map, is_some}
 use Rattle.std.specs.Vec.Iter.{into_iter_items}
 use Rattle.lw_desk.specs.Naming.{own_names}
 use Rattle.lw_desk.specs.Step.{DeskState, GivesAll}

@@ -1,4 +1,4 @@
-use Rattle.std.proofs.Common.{ℕ, drop, arith}
+use Rattle.std.proofs.Common.{drop, arith}
 use Rattle.std.proofs.lemmas.List.{length-drop}
 use Rattle.lw_desk.proofs.TurnLemmas.{none_waits}
 use Rattle.lw_desk.proofs.board.Board.left.Goals as goal

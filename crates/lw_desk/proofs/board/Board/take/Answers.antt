@@ -1,6 +1,6 @@
-use Rattle.std.proofs.Common.{◌≡◌, ◌<◌, inl, inr, ℕ, List, [], ◌∷◌, length, ap, sym, ◌∙◌, subst, arith}
+use Rattle.std.proofs.Common.{inl, inr, ℕ, List, length, ap, sym, ◌∙◌, subst, arith}
 use Rattle.std.proofs.lemmas.List.{length_push}
-use Rattle.lw_desk.specs.Step.{DeskState, NothingToTake, IsFirstFree, after_take}
+use Rattle.lw_desk.specs.Step.{NothingToTake, IsFirstFree, after_take}
 use Rattle.lw_desk.proofs.TurnLemmas.{TakesFront, front_more, front_all}
 use Rattle.lw_desk.proofs.board.Board.take.Goals as goal
 

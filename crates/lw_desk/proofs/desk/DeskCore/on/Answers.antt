@@ -1,9 +1,9 @@
-use Rattle.std.proofs.Common.{◌≡◌, ◌<◌, ℕ, List, [], ◌∷◌, ◌++◌, Bool, is_some, refl, ap, sym, ◌∙◌, subst}
+use Rattle.std.proofs.Common.{◌≡◌, ◌<◌, ℕ, List, [], ◌∷◌, ◌++◌, Bool, refl, ap, sym, ◌∙◌, subst}
 use Rattle.std.proofs.lemmas.List.{map_push}
 use Rattle.lw_turn.specs.declared.shared.Entry.{Entry}
 use Rattle.lw_turn.specs.History.{entries_of}
 use Rattle.lw_desk.specs.Desk.{DeskHistory}
-use Rattle.lw_desk.specs.History.{DeskOpening, May, MayAsk, Legal, seat_in}
+use Rattle.lw_desk.specs.History.{DeskOpening, May, MayAsk, seat_in}
 use Rattle.lw_desk.specs.bodies.DeskBody.{entry, entry_of, entries_in, opening_of, IsDesk}
 use Rattle.lw_desk.specs.declared.ask.Ask.{Ask}
 use Rattle.lw_desk.specs.declared.ask.Reply.{Reply}

@@ -1,4 +1,4 @@
-use Rattle.std.proofs.Common.{◌≡◌, ◌<◌, ◌≤◌, ℕ, List, [], ◌∷◌, length, get_or, map, sym, ap, ◌∙◌, subst, arith, vec_len, vec_capacity, Vec, Global}
+use Rattle.std.proofs.Common.{◌<◌, ◌≤◌, ℕ, List, length, get_or, map, subst, arith, vec_capacity, Vec, Global}
 use Rattle.std.proofs.lemmas.List.{length-map}
 use Rattle.std.proofs.lemmas.List.Elements.{All-get_or}
 use Rattle.lw_desk.proofs.Bringing.{few_names, room_names, inside_tables, room_table, rooms_tables, brings_one, owns_one, keeps_one, old_items, old_room, put_items, put_rooms}

@@ -1,4 +1,4 @@
-use Rattle.std.proofs.Common.{◌≡◌, ◌<◌, ℕ, List, [], length, get_or, map, sym, ap, ◌∙◌, subst, arith, vec_capacity, Vec, Global}
+use Rattle.std.proofs.Common.{◌<◌, ℕ, List, [], length, get_or, map, sym, ap, ◌∙◌, subst, arith, vec_capacity, Vec, Global}
 use Rattle.std.specs.List.{All}
 use Rattle.std.proofs.lemmas.List.{take_at, length-map}
 use Rattle.lw_desk.proofs.Bringing.{shared_seen_declared, below_table, shared_seen_free, here_inside, old_items}

@@ -1,4 +1,4 @@
-use Rattle.std.proofs.Common.{◌≡◌, List, [], All, map, subst}
+use Rattle.std.proofs.Common.{◌≡◌, [], All, map, subst}
 use Rattle.lw_desk.specs.TestTrial.{seat_by}
 use Rattle.lw_desk.specs.declared.tests.trial.Standing.{Standing}
 use Rattle.lw_desk.proofs.TestTrials.{trial_idle, none_held}
