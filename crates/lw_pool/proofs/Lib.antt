@@ -3,4 +3,5 @@ pub mod CrewLemmas
 pub mod GiveLemmas
 pub mod HandLemmas
 pub mod JournalLemmas
+pub mod PoolLemmas
 pub mod WorkLemmas

@@ -1,24 +1,20 @@
 //! Pools: several sessions that settle batches together, over one cache.
-ghost use Rattle.std.specs.Prelude.{◌≡◌, ℕ, ◌^◌, ◌<◌, ◌≤◌, List, [], length, IfOk, IfErr, OnOk, Option, Some, None};
+ghost use Rattle.std.specs.Prelude.{◌≡◌, ℕ, ◌^◌, ◌<◌, ◌≤◌, List, [], length, IfOk, IfErr, IfSome, IfNone, OnOk, Option, Some, None};
 ghost use Rattle.std.specs.List.{All};
-ghost use Rattle.lw_words.specs.Answer.{answers_of};
 ghost use Rattle.lw_words.specs.Word.{IsWord};
 ghost use Rattle.lw_turn.specs.Views.{first_view};
-ghost use Rattle.lw_cache.specs.Clash.{NothingClashes};
-ghost use Rattle.lw_cache.specs.Known.{IsKnown};
-ghost use Rattle.lw_cache.specs.Settling.{KeepsAnswers, GainsAnswers, GainsExactly, TellsStop, refused_after};
+ghost use Rattle.lw_cache.specs.Settling.{MayAsk, TellsStop};
 ghost use Rattle.lw_desk.specs.Desk.{Finishes};
 ghost use Rattle.lw_desk.specs.History.{HasLists, Replays, opened};
 ghost use Rattle.lw_desk.specs.Step.{DeskState};
-ghost use Rattle.lw_pool.specs.Pool.{PoolState, StandsFor, AskedOnce, IsStopOf, seen_of, origins_of};
-ghost use Rattle.lw_pool.specs.Settling.{GainsSome};
+ghost use Rattle.lw_pool.specs.Settling.{HasSettled};
 ghost use Rattle.lw_pool.specs.bodies.Crew.{AllReady, AllRead};
 ghost use Rattle.lw_pool.specs.bodies.Running.{AfterBatch, AreWhole, opening_of};
 
 use crate::hands::{Hand, work_off};
 use crate::parts::Parts;
 use lw_cache::{AskStop, Cache};
-use lw_desk::{Desk, OutNames};
+use lw_desk::Desk;
 use lw_sul::Sul;
 use lw_turn::{Pass, Turnstile};
 use lw_words::{NoMemory, Word};
@@ -90,7 +86,7 @@ fn open(
 fn close(desk: Desk) -> (Parts, Option<AskStop>)
     requires idle { (t : DeskState) → Replays desk.opening (opened desk.opening) desk.entries t →
         t.claims ≡ [] }
-    ensures finishes { Finishes desk (result.0.cache, (result.0.names, result.1)) }
+    ensures finishes { Finishes desk (result.0.cache, result.0.names, result.1) }
     ensures whole { AreWhole result.0 }
 {
     let (cache, names, stop) = desk.finish();
@@ -128,5 +124,66 @@ fn run<S: Sul + Send, R: Threads + Wait + Sync>(
             let _ = parts.names.len();
             (parts, Some(AskStop::NoMemory))
         }
+    }
+}
+
+/// The stop after which nothing more is asked: of a system, or a clash.
+fn last_stop(stop: &Option<AskStop>) -> Option<AskStop>
+    ensures some { IfSome result (λ s. stop.now ≡ Some s) }
+    ensures none { IfNone result (MayAsk stop.now) }
+{
+    match stop {
+        Some(AskStop::Sul { instance, stop }) => Some(AskStop::Sul {
+            instance: *instance,
+            stop: stop.copy(),
+        }),
+        Some(AskStop::Clash(clash)) => Some(AskStop::Clash(*clash)),
+        Some(AskStop::NoMemory) => None,
+        None => None,
+    }
+}
+
+/// The same stop once more.
+fn copy_of(stop: &Option<AskStop>) -> Option<AskStop>
+    ensures { result ≡ stop.now }
+{
+    match stop {
+        Some(stop) => Some(stop.copy()),
+        None => None,
+    }
+}
+
+/// What a settling answers that was stopped so, or not at all.
+fn answer_of(stop: Option<AskStop>) -> Result<(), AskStop>
+    ensures { TellsStop result stop }
+{
+    match stop {
+        Some(stop) => Err(stop),
+        None => Ok(()),
+    }
+}
+
+impl<S: Sul + Send, R: Threads + Wait + Sync> Pool<S, R> {
+    /// Settles a batch: each word that has to be asked is asked once, by one of the sessions. May wait for a system.
+    ///
+    /// # Errors
+    /// The first stop of the batch. After a stop of a system or a clash every later call answers the same and asks nothing;
+    /// after `NoMemory` a later call may succeed.
+    pub fn settle_all(&mut self, batch: &[Word]) -> Result<(), AskStop>
+        requires letters { All (IsWord self.old.inputs) batch.now }
+        requires few { length batch.now < 2 ^ 32 }
+        ensures { HasSettled batch.now self.old self.new result }
+    {
+        if let Some(stop) = last_stop(&self.stop) {
+            return Err(stop);
+        }
+        let Some(parts) = self.parts.take() else {
+            unreachable!()
+        };
+        let (parts, stop) = run(&self.rt, self.alloc, parts, &mut self.hands, batch);
+        self.parts = Some(parts);
+        self.stop = copy_of(&stop);
+        self.refused = self.refused || stop.is_some();
+        answer_of(stop)
     }
 }

@@ -1,0 +1,195 @@
+-- A pool before a batch and after it.
+use Rattle.std.proofs.Common.{◌≡◌, ◌⊎◌, inl, inr, ⊎_elim, ℕ, ◌<◌, ◌≤◌, ◌||◌, List, [], ◌∷◌, ◌++◌, length, map, All, Bool, true, false, Option, Some, None, is_some, Result, Ok, Err, OnOk, refl, ap, sym, ◌∙◌, subst, subst₂, arith, append-nil}
+use Rattle.std.specs.Bool.{⊤}
+use Rattle.std.proofs.lemmas.Bool.{true≢false, false≢true}
+use Rattle.lw_words.specs.Answer.{answers_of, IsWhole}
+use Rattle.lw_words.specs.Name.{AllDiffer}
+use Rattle.lw_words.specs.Word.{IsWord}
+use Rattle.lw_words.specs.declared.kept.KeptAnswer.{KeptAnswer}
+use Rattle.lw_cache.specs.Asked.{IsAsked}
+use Rattle.lw_cache.specs.Clash.{NothingClashes}
+use Rattle.lw_cache.specs.Known.{IsKnown}
+use Rattle.lw_cache.specs.Settling.{GainsExactly, TellsStop, refused_after}
+use Rattle.lw_cache.specs.declared.stops.AskStop.{AskStop}
+use Rattle.lw_cache.specs.declared.stops.AskStop.TheVariants as Stop
+use Rattle.lw_turn.specs.History.{entries_of}
+use Rattle.lw_desk.specs.Naming.{Naming}
+use Rattle.lw_desk.specs.Step.{DeskState}
+use Rattle.lw_desk.specs.History.{DeskOpening, HasLists}
+use Rattle.lw_desk.specs.Ending.{Brought, Settled}
+use Rattle.lw_pool.specs.Pool.{Seen, PoolState, seen_at, seen_of, origins_of, IsStopOf}
+use Rattle.lw_pool.specs.Settling.{GainsSome, HasSettled}
+use Rattle.lw_pool.specs.declared.hands.Hand.{Hand}
+use Rattle.lw_pool.specs.declared.parts.Parts.{Parts}
+use Rattle.lw_pool.specs.bodies.Crew.{HasWorkedOff}
+use Rattle.lw_pool.specs.bodies.Running.{opening_of, AreWhole, NotBegun, WasRun, AfterBatch}
+use Rattle.lw_pool.specs.bodies.Standing.{IsPool}
+use Rattle.lw_pool.proofs.BatchLemmas.{b, pool_end, settled_end, origins_end}
+use Rattle.lw_pool.proofs.HandLemmas.{seen_in, seen_long, worked_seen}
+
+-- a pool as contracts see it
+abbrev pub pool_of : {S : Type 0} → List (Hand S) → Naming → List KeptAnswer → List KeptAnswer → Option AskStop → Bool → ℕ → ℕ → PoolState S
+pool_of hands naming prior kept stop refused inputs outputs = record { members = map (λ h. h.worker) hands; naming = naming; prior = prior; kept = kept; stop = stop; refused = refused; inputs = inputs; outputs = outputs }
+
+gains_nothing : (batch : List (List ℕ)) (kept : List KeptAnswer) → GainsSome batch kept kept
+gains_nothing batch kept = record { gained = []; at_end = sym (append-nil kept); asked = λ k d lt. absurd (omega arith); once = λ i j d before lt. absurd (omega arith) }
+
+refused_is : (refused : Bool) (stop : Option AskStop) (result : Result ⊤ AskStop) → TellsStop result stop → (refused || is_some stop) ≡ refused_after refused result
+refused_is refused stop (Ok x) told = ap (λ (o : Option AskStop). refused || is_some o) told ∙ by refused
+  where
+    by : (b : Bool) → (b || false) ≡ b
+    by true = refl
+    by false = refl
+refused_is refused stop (Err e) told = ap (λ (o : Option AskStop). refused || is_some o) told ∙ by refused
+  where
+    by : (b : Bool) → (b || true) ≡ true
+    by true = refl
+    by false = refl
+
+flags_of : (refused again : Bool) (stop : Option AskStop) → again ≡ (refused || is_some stop) → again ≡ false → (refused ≡ false) × (stop ≡ None)
+flags_of true again stop e f = absurd (true≢false (sym e ∙ f))
+flags_of false again None e f = (refl, refl)
+flags_of false again (Some x) e f = absurd (true≢false (sym e ∙ f))
+
+module _ {S : Type 0} (batch : List (List ℕ)) where
+  -- a pool that answers its stop again
+  pub settled_again : (hands : List (Hand S)) (naming : Naming) (prior kept : List KeptAnswer) (stop : Option AskStop) (refused : Bool) (inputs outputs : ℕ) (e : AskStop) → stop ≡ Some e → IsPool (seen_in hands) naming prior kept stop refused inputs outputs
+      → HasSettled batch (pool_of hands naming prior kept stop refused inputs outputs) (pool_of hands naming prior kept stop refused inputs outputs) (Err e)
+  settled_again hands naming prior kept stop refused inputs outputs e told is = record {
+    known = tt;
+    exactly = tt;
+    unclashed = tt;
+    gains = gains_nothing batch kept;
+    stands = is.stands;
+    once = is.once;
+    keeps = is.keeps;
+    stop = told;
+    why = is.why;
+    refused = was_refused refused refl;
+    origins = refl;
+    inputs = refl;
+    outputs = refl;
+    prior = refl;
+  }
+    where
+      was_refused : (r : Bool) → refused ≡ r → refused ≡ true
+      was_refused true same = same
+      was_refused false same = absurd (false≢true (ap is_some (sym (is.unrefused same).0 ∙ told)))
+
+  module _ (hands after : List (Hand S)) (parts now : Parts) (prior : List KeptAnswer) (was stop : Option AskStop) (refused again : Bool) (inputs outputs : ℕ) (is : IsPool (seen_in hands) parts.names prior parts.cache.kept was refused inputs outputs) (ran : AfterBatch (opening_of parts batch (length hands)) hands after now stop)
+      (whole : AreWhole now) (letters : All (IsWord inputs) batch) (again_is : again ≡ (refused || is_some stop)) where
+    abbrev IsAfter : Type 0
+    IsAfter = IsPool (seen_in after) now.names prior now.cache.kept stop again inputs outputs
+
+    not_begun : NotBegun (opening_of parts batch (length hands)) hands after now stop → IsAfter
+    not_begun n =
+        subst₂ (λ (names : Naming) (kept : List KeptAnswer). IsPool (seen_in after) names prior kept stop again inputs outputs) (sym n.names) (sym n.kept)
+        (subst (λ (hs : List (Hand S)). IsPool (seen_in hs) parts.names prior parts.cache.kept stop again inputs outputs) (sym n.hands)
+        (record {
+          some = is.some;
+          few = is.few;
+          members = is.members;
+          lists = is.lists;
+          shared = is.shared;
+          below = is.below;
+          stands = is.stands;
+          keeps = is.keeps;
+          once = is.once;
+          why = subst (IsStopOf (seen_in hands) parts.cache.kept) (sym n.memory) tt;
+          unrefused = λ f. absurd (false≢true (ap is_some (sym (flags_of refused again stop again_is f).1 ∙ n.memory)));
+        }))
+
+    module _ (w : WasRun (opening_of parts batch (length hands)) hands after now stop) where
+      abbrev o : DeskOpening
+      o = opening_of parts batch (length hands)
+
+      long : length (seen_in after) ≡ length (seen_in hands)
+      long = seen_long after ∙ (w.long ∙ sym (seen_long hands))
+
+      crew : o.actors ≡ length (seen_in hands)
+      crew = sym (seen_long hands)
+
+      lists : HasLists o.naming.brought o.actors
+      lists = subst (HasLists parts.names.brought) (seen_long hands) is.lists
+
+      worked : (i : ℕ) → i < length (seen_in hands) → HasWorkedOff o w.entries i (seen_at (seen_in hands) i) (seen_at (seen_in after) i)
+      worked = worked_seen o w.entries hands after w.long w.worked
+
+      others : (n : ℕ) → length (seen_in hands) ≤ n → entries_of n w.entries ≡ []
+      others n le = w.others n (omega (arith, le, seen_long hands))
+
+      brings : Brought o w.entries w.state
+      brings = b o w.entries (seen_in hands) (seen_in after) long crew lists worked others prior was refused inputs outputs is w.state w.replays
+
+      run_after : IsAfter
+      run_after =
+          subst₂ (λ (names : Naming) (kept : List KeptAnswer). IsPool (seen_in after) names prior kept stop again inputs outputs) (sym w.names) (sym w.kept)
+          (pool_end o w.entries (seen_in hands) (seen_in after) long crew lists worked others prior was refused inputs outputs is w.state w.replays letters
+          (subst (λ (l : List KeptAnswer). All IsWhole (answers_of l)) w.kept whole.whole)
+          (subst (λ (n : Naming). length n.names ≤ 4096) w.names whole.few)
+          (subst (λ (n : Naming). AllDiffer n.names) w.names whole.differ)
+          stop again w.stop_is (λ f. let g = flags_of refused again stop again_is f in (g.0, sym w.stop_is ∙ g.1)))
+
+      run_settled : w.state.stop ≡ None → Settled o w.state brings.gained
+      run_settled none =
+          settled_end o w.entries (seen_in hands) (seen_in after) long crew lists worked others prior was refused inputs outputs is w.state w.replays letters
+          (subst (λ (l : List KeptAnswer). All IsWhole (answers_of l)) w.kept whole.whole)
+          (subst (λ (n : Naming). length n.names ≤ 4096) w.names whole.few)
+          (subst (λ (n : Naming). AllDiffer n.names) w.names whole.differ) none
+
+      run_origins : origins_of (seen_in after) ≡ origins_of (seen_in hands)
+      run_origins = origins_end o w.entries (seen_in hands) (seen_in after) long crew lists worked others prior was refused inputs outputs is w.state w.replays
+
+    pub pool_after : IsAfter
+    pool_after = ⊎_elim (λ n. not_begun n) (λ w. run_after w) ran
+
+    module _ (result : Result ⊤ AskStop) (told : TellsStop result stop) where
+      abbrev Settles : Type 0
+      Settles = HasSettled batch (pool_of hands parts.names prior parts.cache.kept was refused inputs outputs) (pool_of after now.names prior now.cache.kept stop again inputs outputs) result
+
+      by_memory : NotBegun (opening_of parts batch (length hands)) hands after now stop → Settles
+      by_memory n = record {
+        known = no_ok result told (All (IsKnown (answers_of now.cache.kept)) batch);
+        exactly = no_ok result told (GainsExactly batch parts.cache.kept now.cache.kept);
+        unclashed = no_ok result told (NothingClashes (answers_of parts.cache.kept) → NothingClashes (answers_of now.cache.kept));
+        gains = subst (GainsSome batch parts.cache.kept) (sym n.kept) (gains_nothing batch parts.cache.kept);
+        stands = (not_begun n).stands;
+        once = (not_begun n).once;
+        keeps = (not_begun n).keeps;
+        stop = told;
+        why = (not_begun n).why;
+        refused = again_is ∙ refused_is refused stop result told;
+        origins = ap (λ (hs : List (Hand S)). origins_of (seen_in hs)) n.hands;
+        inputs = refl;
+        outputs = refl;
+        prior = refl;
+      }
+        where
+          no_ok : (r : Result ⊤ AskStop) → TellsStop r stop → (P : Type 0) → OnOk r P
+          no_ok (Ok x) t P = absurd (false≢true (ap is_some (sym t ∙ n.memory)))
+          no_ok (Err e) t P = tt
+
+      by_run : WasRun (opening_of parts batch (length hands)) hands after now stop → Settles
+      by_run w = record {
+        known = on_ok result told (All (IsKnown (answers_of now.cache.kept)) batch) (λ none. subst (λ (l : List KeptAnswer). All (IsKnown (answers_of l)) batch) (sym w.kept) (run_settled w none).known);
+        exactly = on_ok result told (GainsExactly batch parts.cache.kept now.cache.kept) (λ none. record { gained = (brings w).gained; at_end = w.kept ∙ (brings w).at_end; asked = (run_settled w none).exactly });
+        unclashed = on_ok result told (NothingClashes (answers_of parts.cache.kept) → NothingClashes (answers_of now.cache.kept)) (λ none nothing. subst (λ (l : List KeptAnswer). NothingClashes (answers_of l)) (sym w.kept) ((brings w).clear none nothing));
+        gains = record { gained = (brings w).gained; at_end = w.kept ∙ (brings w).at_end; asked = (brings w).asked; once = (brings w).once };
+        stands = (run_after w).stands;
+        once = (run_after w).once;
+        keeps = (run_after w).keeps;
+        stop = told;
+        why = (run_after w).why;
+        refused = again_is ∙ refused_is refused stop result told;
+        origins = run_origins w;
+        inputs = refl;
+        outputs = refl;
+        prior = refl;
+      }
+        where
+          on_ok : (r : Result ⊤ AskStop) → TellsStop r stop → (P : Type 0) → (w.state.stop ≡ None → P) → OnOk r P
+          on_ok (Ok x) t P p = p (sym w.stop_is ∙ t)
+          on_ok (Err e) t P p = tt
+
+      pub settled_after : Settles
+      settled_after = ⊎_elim (λ n. by_memory n) (λ w. by_run w) ran
