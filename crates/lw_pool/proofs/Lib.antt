@@ -1,5 +1,6 @@
 pub mod BatchLemmas
 pub mod CrewLemmas
+pub mod CrewSends
 pub mod GiveLemmas
 pub mod HandLemmas
 pub mod JournalLemmas
