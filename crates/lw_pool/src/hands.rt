@@ -184,12 +184,11 @@ fn run_threads<S: Sul + Send, R: Threads + Wait + Sync>(
     ensures length { length hands.new ≡ length hands.old }
 {
     let threads = hands.len().max(1);
-    thread::for_each_mut(
-        rt,
-        hands,
-        threads,
-        &|_, hand| hand.run(rt, alloc, turnstile, batch, crew),
-    );
+    let run = |_: usize, hand: &mut Hand<S>|
+        requires { CanRun (λ p. p.turnstile ≡ turnstile.now) batch.now hand.now }
+        ensures { HasRun (λ p. p.turnstile ≡ turnstile.entry.now) hand.entry.now hand.exit.now }
+    { hand.run(rt, alloc, turnstile, batch, crew) };
+    thread::for_each_mut(rt, hands, threads, &run);
 }
 
 /// Runs so many hands at once, and then the others one after the other.

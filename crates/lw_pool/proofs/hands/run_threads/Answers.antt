@@ -7,6 +7,3 @@ for_each_mut-requires-send-T g c κs within = ?
 
 pub for_each_mut-requires-sync-F : goal.for_each_mut-requires-sync-F
 for_each_mut-requires-sync-F g c κs within = ?
-
-pub returns-clause-run : goal.returns-clause-run
-returns-clause-run g c i d lt = let e = (c.for_each_mut.ensures i d lt).1 in subst₂ (HasRun (λ p. p.turnstile ≡ c.args.turnstile.now)) e.argument_is e.left e.call
