@@ -1,3 +1,4 @@
 pub mod CrewLemmas
+pub mod CrewSends
 pub mod GiveLemmas
 pub mod WorkLemmas
