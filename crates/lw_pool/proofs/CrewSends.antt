@@ -1,6 +1,10 @@
 -- A desk may go to another thread, and so may a pass of its turnstile, which threads may share.
 use denote.Param.Send.{IsSend, IsSync, view_send, sendable, owning_send}
-use denote.Param.SendFields.{declared_send}
+use denote.Param.SendFields.{declared_send, declared_sync, as_row_sync}
+use denote.Struct.Field.{row_field}
+use denote.Struct.Tuple.{TupleAt, type_at}
+use mathlib.Core.List.{List, [], ◌∷◌}
+use Prim.Native.Nat.{ℕ}
 use denote.RattleType.{RattleType}
 use Rattle.std.proofs.Crossing.{crosses}
 use Rattle.lw_sul.specs.declared.system.Sul as sul
@@ -40,3 +44,7 @@ pub hand_send : (S : RattleType) (g : sul.Ghosts S.Denot) → IsSend S → IsSen
 hand_send S g s =
     let w : IsSend (worker.the_row S g) = worker_crosses.the_send S g s in
     declared_send (hand.the_type S g) (search (crosses, sendable, w) depth 60 fits 20000, (search (crosses, sendable, engaged_send) depth 60 fits 20000, tt))
+
+-- what a closure captures may be shared where each part may
+pub capture_sync : (ν : List ℕ) (a b c d e : RattleType) → IsSync a → IsSync b → IsSync c → IsSync d → IsSync e → IsSync (TupleAt ν (a ∷ b ∷ c ∷ d ∷ e ∷ []))
+capture_sync ν a b c d e p q r s t = declared_sync (type_at ν (a ∷ b ∷ c ∷ d ∷ e ∷ [])) (as_row_sync (row_field a) p, (as_row_sync (row_field b) q, (as_row_sync (row_field c) r, (as_row_sync (row_field d) s, (as_row_sync (row_field e) t, tt)))))

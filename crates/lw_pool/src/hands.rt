@@ -42,9 +42,7 @@ impl<S: Sul> Hand<S> {
         let Some(engaged) = self.engaged.take() else {
             unreachable!()
         };
-        let done = self
-            .worker
-            .work(rt, alloc, turnstile, batch, engaged, crew);
+        let done = self.worker.work(rt, alloc, turnstile, batch, engaged, crew);
         self.engaged = Some(done);
     }
 

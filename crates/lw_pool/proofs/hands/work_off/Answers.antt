@@ -76,10 +76,10 @@ returns-clause-worked g c i d within =
     let within_run : i < length c.run_all.new.hands = omega (arith, within, c.run_all.ensures.length, c.hire-busy.ensures.length) in
     let within_left : i < length (Rattle.std.proofs.Common.set c.run_all.new.hands 0 c.leave-own.new.self) = omega (arith, within_run, length-set c.run_all.new.hands 0 c.leave-own.new.self) in
     let kept = c.gather-last.ensures.workers i d within_left
-        ∙ write_place (λ n was now. now.worker ≡ was.worker) c.run_all.new.hands c.run_all.new.hands 0 c.leave-own.new.self zero_in i d (λ other. refl) (c.leave-own.ensures.worker ∙ ap (λ h. h.worker) (get_or_default c.run_all.new.hands 0 x d zero_in)) in
+    ∙ write_place (λ n was now. now.worker ≡ was.worker) c.run_all.new.hands c.run_all.new.hands 0 c.leave-own.new.self zero_in i d (λ other. refl) (c.leave-own.ensures.worker ∙ ap (λ h. h.worker) (get_or_default c.run_all.new.hands 0 x d zero_in)) in
     worked_off (λ p. p.turnstile ≡ c.args.turnstile) c.args.first.knows.opening c.close.result.entries i (get_or c.args.hands.now i d).worker.seen (get_or c.run_all.new.hands i d) (get_or c.gather-last.new.hands i d) ended kept
     (c.close.ensures.entries.own i ∙ ⊎_elim
-        (λ (z : i ≡ 0). own_first c.gather-last.result.knows i (z ∙ sym c.gather-last.ensures.same.0) ∙ (c.gather-last.ensures.same.3 ∙ ap (λ p. p.knows.mine) (c.leave-own.ensures.pass ended.place (ap (λ h. h.engaged) (get_or_default c.run_all.new.hands 0 x d zero_in ∙ ap (λ (n : ℕ). get_or c.run_all.new.hands n d) (sym z)) ∙ ended.is))))
-        (λ (o : i ≢ 0). own_other c.gather-last.result.knows ended.place.pass.knows i (λ e. o (e ∙ c.gather-last.ensures.same.0))
-        (c.gather-last.ensures.joined i d ended.place (omega (arith, o)) within_left (ap (λ h. h.engaged) (get_or-set_other c.run_all.new.hands 0 i c.leave-own.new.self d o) ∙ ended.is)))
-        (same_or_not i 0))
+    (λ (z : i ≡ 0). own_first c.gather-last.result.knows i (z ∙ sym c.gather-last.ensures.same.0) ∙ (c.gather-last.ensures.same.3 ∙ ap (λ p. p.knows.mine) (c.leave-own.ensures.pass ended.place (ap (λ h. h.engaged) (get_or_default c.run_all.new.hands 0 x d zero_in ∙ ap (λ (n : ℕ). get_or c.run_all.new.hands n d) (sym z)) ∙ ended.is))))
+    (λ (o : i ≢ 0). own_other c.gather-last.result.knows ended.place.pass.knows i (λ e. o (e ∙ c.gather-last.ensures.same.0))
+    (c.gather-last.ensures.joined i d ended.place (omega (arith, o)) within_left (ap (λ h. h.engaged) (get_or-set_other c.run_all.new.hands 0 i c.leave-own.new.self d o) ∙ ended.is)))
+    (same_or_not i 0))
