@@ -1,5 +1,5 @@
 //! The hands of a crew: sessions, each with its place in a batch.
-ghost use Rattle.std.specs.Prelude.{◌≡◌, ℕ, ◌+◌, ◌*◌, ◌<◌, ◌≤◌, [], length, Some, slice_index_or};
+ghost use Rattle.std.specs.Prelude.{◌≡◌, ℕ, ◌+◌, ◌<◌, ◌≤◌, [], length, Some};
 ghost use Rattle.std.specs.List.{All};
 ghost use Rattle.lw_turn.specs.History.{entries_of};
 ghost use Rattle.lw_turn.specs.Views.{first_view};

@@ -1,4 +1,4 @@
-use Rattle.std.proofs.Common.{◌≡◌, ℕ, ◌<◌, length, get_or, subst₂}
+use Rattle.std.proofs.Common.{◌≡◌, subst₂}
 use denote.Exit.{no}
 use denote.Param.{param}
 use denote.Plain.{UInt}

@@ -1,9 +1,6 @@
 use Rattle.std.proofs.Common.{◌≡◌, ◌⊎◌, ◌≢◌, ⊎_elim, ℕ, ◌<◌, ◌≤◌, List, [], length, get_or, Option, Some, is_some, refl, sym, ◌∙◌, subst, ap, arith, length-set}
 use Rattle.std.proofs.lemmas.List.{get_or_default, get_or-set_other}
-use Rattle.lw_turn.specs.declared.view.View.{View}
-use Rattle.lw_turn.specs.Views.{ended_of, ended_view}
 use Rattle.lw_desk.specs.History.{DeskOpening, Legal}
-use Rattle.lw_pool.specs.bodies.Crew.{CanRun, HasRun, Holds, HasWorkedOff, SameWorkers}
 use Rattle.lw_pool.proofs.CrewLemmas.{same_or_not, write_place, can_run, has_ended, worked_off, own_first, own_other}
 use Rattle.lw_pool.proofs.hands.work_off.Goals as goal
 
