@@ -1,16 +1,25 @@
 -- Loops that write one hand after the other.
-use Rattle.std.proofs.Common.{◌≡◌, ◌⊎◌, ◌≢◌, inl, inr, ⊎_elim, ℕ, zero, suc, ◌+◌, ◌<◌, ◌≤◌, List, [], ◌∷◌, ◌++◌, length, get_or, set, All, Bool, true, false, cond, Some, refl, ap, sym, ◌∙◌, subst, arith, eqb, length-append}
+use Rattle.std.proofs.Common.{◌≡◌, ◌⊎◌, ◌≢◌, eq-eqb, ne_eqb, subst₂, Option, is_some, unwrap_or, inl, inr, ⊎_elim, ℕ, zero, suc, ◌+◌, ◌<◌, ◌≤◌, List, [], ◌∷◌, ◌++◌, length, get_or, set, All, Bool, true, false, cond, Some, refl, ap, sym, ◌∙◌, subst, arith, eqb, length-append}
 use Rattle.std.proofs.lemmas.Bool.Decides.{eqb_tells}
 use Rattle.std.proofs.lemmas.List.{get_or-set_same, get_or-set_other, get_or_append_left, get_or-append_right}
 use Rattle.lw_turn.specs.declared.view.View.{View}
-use Rattle.lw_turn.specs.Views.{ended_of, ended_view, joined_view}
+use Rattle.lw_turn.specs.Views.{ended_of, ended_view, joined_view, mine_of, own_of}
+use Rattle.lw_turn.specs.Held.{Held}
+use Rattle.lw_turn.specs.History.{entries_of}
+use Rattle.lw_turn.specs.declared.shared.Entry.{Entry}
+use Rattle.lw_words.specs.Word.{IsWord}
+use Rattle.lw_desk.specs.Naming.{own_names}
 use Rattle.lw_desk.specs.History.{DeskOpening}
 use Rattle.lw_desk.specs.declared.ask.Ask.{Ask}
 use Rattle.lw_desk.specs.declared.ask.Reply.{Reply}
-use Rattle.lw_pool.specs.Pool.{Seen}
-use Rattle.lw_pool.specs.bodies.Engaged.{Working}
+use Rattle.lw_pool.specs.Pool.{Seen, Member}
+use Rattle.lw_pool.specs.declared.crew.Engaged.{Engaged}
+use Rattle.lw_pool.specs.declared.hands.Hand.{Hand}
+use Rattle.lw_pool.specs.bodies.Working.{Same}
+use Rattle.lw_pool.specs.bodies.Engaged.{Working, IsReady}
+use Rattle.lw_pool.specs.bodies.Crew.{CanRun, HasRun, IsHired, MayWork, HasWorkedOff}
 
-same_or_not : (a b : ℕ) → (a ≡ b) ⊎ (a ≢ b)
+pub same_or_not : (a b : ℕ) → (a ≡ b) ⊎ (a ≢ b)
 same_or_not a b = ⊎_elim (λ (e : (eqb a b ≡ true) × (a ≡ b)). inl e.1) (λ (e : (eqb a b ≡ false) × (a ≢ b)). inr e.1) (eqb_tells a b)
 
 module _ {X : Type 0} (old now : List X) (i : ℕ) (y : X) (len : length now ≡ length old) (lt : i < length old) where
@@ -75,3 +84,75 @@ joined_more v x w i k e same number before at =
     (λ (t : (eqb w.number k ≡ true) × (w.number ≡ k)). ap (λ (b : Bool). cond b (Some (ended_view w)) (ended_of k v.ended)) t.0 ∙ ap (λ (y : View DeskOpening Ask Reply). Some (ended_view y)) (at (sym t.1 ∙ number)))
     (λ (t : (eqb w.number k ≡ false) × (w.number ≢ k)). ap (λ (b : Bool). cond b (Some (ended_view w)) (ended_of k v.ended)) t.0 ∙ before (λ s. t.1 (number ∙ sym s)))
     (eqb_tells w.number k)
+
+module _ {S : Type 0} (Ours : Held DeskOpening Ask Reply → Type 0) where
+  -- a hand that was hired can run
+  pub can_run : (o : DeskOpening) (batch : List (List ℕ)) (number : ℕ) (was now : Hand S) → o.batch ≡ batch → IsReady (is_some o.naming.brought) (own_names o.naming number) was.worker.seen → All (IsWord was.worker.seen.inputs) batch → IsHired Ours o number was now → CanRun Ours batch now
+  can_run o batch number was now same ready letters h =
+      let opening : h.place.pass.knows.opening ≡ o = h.opening in
+      let seen : now.worker.seen ≡ was.worker.seen = ap (λ (m : Member S). m.seen) h.worker in
+      record {
+        place = h.place;
+        is = h.is;
+        ours = h.ours;
+        batch_is = ap (λ (p : DeskOpening). p.batch) opening ∙ same;
+        begun = h.begun now.worker.seen;
+        may = subst₂ (λ (p : DeskOpening) (n : ℕ). MayWork p n now.worker.seen) (sym opening) (sym h.number_is)
+            (subst (MayWork o number) (sym seen) (record { ready = ready; letters = subst (All (IsWord was.worker.seen.inputs)) (sym same) letters }));
+      }
+
+  -- the place that a hand has after its run
+  pub record HasEnded (o : DeskOpening) (number : ℕ) (start : Seen) (h : Hand S) : Type 0 where
+    pub place : Engaged
+    pub is : h.engaged ≡ Some place
+    pub ours : Ours place.pass
+    pub opening : place.pass.knows.opening ≡ o
+    pub number_is : place.pass.knows.number ≡ number
+    pub first : number ≡ 0 → (place.pass.knows.made ≡ o.actors) × (place.pass.knows.ended ≡ [])
+    pub working : Working start h.worker.seen place.pass.knows place.reply
+    pub idle : place.reply.places ≡ []
+    pub same : Same start h.worker.seen
+
+  pub has_ended : (o : DeskOpening) (number : ℕ) (was mid now : Hand S) → IsHired Ours o number was mid → HasRun Ours mid now → HasEnded o number was.worker.seen now
+  has_ended o number was mid now h r =
+      let before : r.before ≡ h.place = some_same r.before h.place (sym r.was_is ∙ h.is) in
+      let seen : mid.worker.seen ≡ was.worker.seen = ap (λ (m : Member S). m.seen) h.worker in
+      record {
+        place = r.place;
+        is = r.is;
+        ours = r.ours;
+        opening = r.opening ∙ (ap (λ (e : Engaged). e.pass.knows.opening) before ∙ h.opening);
+        number_is = r.number ∙ (ap (λ (e : Engaged). e.pass.knows.number) before ∙ h.number_is);
+        first = λ z. (
+          r.made ∙ (ap (λ (e : Engaged). e.pass.knows.made) before ∙ (h.first z).0),
+          r.ended ∙ (ap (λ (e : Engaged). e.pass.knows.ended) before ∙ (h.first z).1),
+        );
+        working = subst (λ (s : Seen). Working s now.worker.seen r.place.pass.knows r.place.reply) seen r.working;
+        idle = r.idle;
+        same = subst (λ (s : Seen). Same s now.worker.seen) seen r.session;
+      }
+    where
+      some_same : (a b : Engaged) → Some a ≡ Some b → a ≡ b
+      some_same a b e = ap (λ (x : Option Engaged). unwrap_or x a) e
+
+  -- and what the history has of it
+  pub worked_off : (o : DeskOpening) (es : List (Entry Ask Reply)) (number : ℕ) (start : Seen) (h last : Hand S) → (e : HasEnded o number start h) → last.worker ≡ h.worker → entries_of number es ≡ e.place.pass.knows.mine → HasWorkedOff o es number start last.worker.seen
+  worked_off o es number start h last e same mine =
+      let seen : h.worker.seen ≡ last.worker.seen = ap (λ (m : Member S). m.seen) (sym same) in
+      record {
+        view = e.place.pass.knows;
+        opening = e.opening;
+        number_is = e.number_is;
+        mine = sym mine;
+        reply = e.place.reply;
+        working = subst (λ (s : Seen). Working start s e.place.pass.knows e.place.reply) seen e.working;
+        idle = e.idle;
+        same = subst (Same start) seen e.same;
+      }
+
+-- the entries of a number in a whole history: those of the last pass, or of a pass that was joined
+pub own_first : (v : View DeskOpening Ask Reply) (n : ℕ) → n ≡ v.number → own_of v n ≡ v.mine
+own_first v n same = ap (λ (b : Bool). cond b v.mine (mine_of (ended_of n v.ended))) (eq-eqb n v.number same)
+
+pub own_other : (v w : View DeskOpening Ask Reply) (n : ℕ) → n ≢ v.number → ended_of n v.ended ≡ Some (ended_view w) → own_of v n ≡ w.mine
+own_other v w n other ended = ap (λ (b : Bool). cond b v.mine (mine_of (ended_of n v.ended))) (ne_eqb n v.number other) ∙ ap mine_of ended

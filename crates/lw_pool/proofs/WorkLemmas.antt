@@ -80,8 +80,7 @@ pub may_give : (batch : List (List ℕ)) (free : Bool) (was now : Seen) (gs : Li
 may_give batch free was now [] own mine declared few gives = tt
 may_give batch free was now (g ∷ gs) own mine declared few gives =
     let h : HasGiven batch was gives.0 g = gives.1 in
-    let names : gives.0.names ≡ own ++ g.names = h.names ∙ ap (λ (l : List (List ℕ)). l ++ g.names) mine in
-    (
+    let names : gives.0.names ≡ own ++ g.names = h.names ∙ ap (λ (l : List (List ℕ)). l ++ g.names) mine in (
       record {
         numbers = subst (λ (l : List (List ℕ)). All (λ y. y < length l) g.outs) names h.numbers;
         new = sym names ∙ (h.brought ∙ (ap (λ (l : List (List ℕ)). with_names l (named gives.0.names g.outs)) mine ∙ ap (λ (l : List (List ℕ)). with_names own (named l g.outs)) names));
@@ -185,11 +184,10 @@ module _ (start now next : Seen) (v w : View DeskOpening Ask Reply) (reply again
         by false e (Some f) g = absurd (omega (arith, last.1.1 more, (answered.none (ap is_some g)).1))
 
     nobody : NobodyFailed w.mine → NobodyFailed v.mine × (ask.failed ≡ None)
-    nobody all =
-        (
-          all_of (λ (e : Entry Ask Reply). e.ask.failed ≡ None) v.mine (λ e i. all_in_mine e (in_left e v.mine (entry ∷ []) i)),
-          all_in_mine entry (in_right entry v.mine (entry ∷ []) (inl refl)),
-        )
+    nobody all = (
+      all_of (λ (e : Entry Ask Reply). e.ask.failed ≡ None) v.mine (λ e i. all_in_mine e (in_left e v.mine (entry ∷ []) i)),
+      all_in_mine entry (in_right entry v.mine (entry ∷ []) (inl refl)),
+    )
       where
         all_in_mine : (e : Entry Ask Reply) → In e (v.mine ++ entry ∷ []) → e.ask.failed ≡ None
         all_in_mine e i =

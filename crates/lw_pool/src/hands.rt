@@ -1,5 +1,5 @@
 //! The hands of a crew: sessions, each with its place in a batch.
-ghost use Rattle.std.specs.Prelude.{◌≡◌, ℕ, ◌+◌, ◌*◌, ◌<◌, ◌≤◌, [], length, Some, slice_index_or};
+ghost use Rattle.std.specs.Prelude.{◌≡◌, ℕ, ◌+◌, ◌<◌, ◌≤◌, [], length, Some};
 ghost use Rattle.std.specs.List.{All};
 ghost use Rattle.lw_turn.specs.History.{entries_of};
 ghost use Rattle.lw_turn.specs.Views.{first_view};
@@ -42,9 +42,7 @@ impl<S: Sul> Hand<S> {
         let Some(engaged) = self.engaged.take() else {
             unreachable!()
         };
-        let done = self
-            .worker
-            .work(rt, alloc, turnstile, batch, engaged, crew);
+        let done = self.worker.work(rt, alloc, turnstile, batch, engaged, crew);
         self.engaged = Some(done);
     }
 
@@ -184,12 +182,11 @@ fn run_threads<S: Sul + Send, R: Threads + Wait + Sync>(
     ensures length { length hands.new ≡ length hands.old }
 {
     let threads = hands.len().max(1);
-    thread::for_each_mut(
-        rt,
-        hands,
-        threads,
-        &|_, hand| hand.run(rt, alloc, turnstile, batch, crew),
-    );
+    let run = |_: usize, hand: &mut Hand<S>|
+        requires { CanRun (λ p. p.turnstile ≡ turnstile.now) batch.now hand.now }
+        ensures { HasRun (λ p. p.turnstile ≡ turnstile.entry.now) hand.entry.now hand.exit.now }
+    { hand.run(rt, alloc, turnstile, batch, crew) };
+    thread::for_each_mut(rt, hands, threads, &run);
 }
 
 /// Runs so many hands at once, and then the others one after the other.

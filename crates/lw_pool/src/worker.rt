@@ -45,7 +45,13 @@ impl<S: Sul> Worker<S> {
     }
 
     /// Asks its system the words of its places, up to the first that is refused, and takes the memory for the answers first.
-    pub(crate) fn answer(&mut self, alloc: Global, batch: &[Word], places: &Places, wanted: u32) -> Ask
+    pub(crate) fn answer(
+        &mut self,
+        alloc: Global,
+        batch: &[Word],
+        places: &Places,
+        wanted: u32,
+    ) -> Ask
         requires within { All (λ p. p < length batch.now) places.now }
         requires letters { All (IsWord self.old.seen.inputs) batch.now }
         requires some { 0 < length places.now }

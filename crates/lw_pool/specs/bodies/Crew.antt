@@ -1,5 +1,5 @@
 -- What a crew leaves of a batch.
-use Rattle.std.specs.Prelude.{◌≡◌, ℕ, ◌<◌, List, [], length, slice_index_or, Option, Some, is_some}
+use Rattle.std.specs.Prelude.{◌≡◌, ℕ, ◌<◌, List, [], length, slice_index_or, Some, is_some}
 use Rattle.std.specs.List.{All}
 use Rattle.lw_words.specs.Word.{IsWord}
 use Rattle.lw_turn.specs.declared.shared.Entry.{Entry}
@@ -11,7 +11,7 @@ use Rattle.lw_desk.specs.Naming.{own_names}
 use Rattle.lw_desk.specs.History.{DeskOpening}
 use Rattle.lw_desk.specs.declared.ask.Ask.{Ask}
 use Rattle.lw_desk.specs.declared.ask.Reply.{Reply}
-use Rattle.lw_pool.specs.Pool.{Seen, Member}
+use Rattle.lw_pool.specs.Pool.{Seen}
 use Rattle.lw_pool.specs.declared.crew.Engaged.{Engaged}
 use Rattle.lw_pool.specs.declared.hands.Hand.{Hand}
 use Rattle.lw_pool.specs.bodies.Working.{Same}

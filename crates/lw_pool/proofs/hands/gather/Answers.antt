@@ -1,10 +1,9 @@
-use Rattle.std.proofs.Common.{◌≡◌, ◌≢◌, ℕ, ◌+◌, ◌<◌, ◌≤◌, length, get_or, Option, Some, refl, sym, ◌∙◌, subst, ap, arith, length-set}
-use Rattle.std.proofs.lemmas.List.{get_or_default, get_or-set_other}
+use Rattle.std.proofs.Common.{◌≡◌, ℕ, ◌<◌, length, get_or, sym, ◌∙◌, ap, arith, length-set}
+use Rattle.std.proofs.lemmas.List.{get_or_default}
 use Rattle.lw_turn.specs.declared.view.View.{View}
 use Rattle.lw_desk.specs.History.{DeskOpening}
 use Rattle.lw_desk.specs.declared.ask.Ask.{Ask}
 use Rattle.lw_desk.specs.declared.ask.Reply.{Reply}
-use Rattle.lw_pool.specs.declared.crew.Engaged.{Engaged}
 use Rattle.lw_pool.proofs.CrewLemmas.{left_places, write_place, joined_more}
 use Rattle.lw_pool.proofs.hands.gather.Goals as goal
 

@@ -1,4 +1,4 @@
-use Rattle.std.proofs.Common.{◌≡◌, ◌≢◌, ℕ, ◌+◌, ◌<◌, ◌≤◌, [], length, get_or, refl, sym, ◌∙◌, subst, ap, arith, length-set}
+use Rattle.std.proofs.Common.{◌≡◌, ℕ, ◌+◌, ◌<◌, length, refl, sym, ◌∙◌, ap, arith, length-set}
 use Rattle.std.proofs.lemmas.List.{get_or_default, get_or-set_other}
 use Rattle.lw_turn.specs.declared.view.View.{View}
 use Rattle.lw_desk.specs.History.{DeskOpening}
@@ -39,11 +39,12 @@ loop-i-preserved g c =
       begun = λ start. working_made start start c.loop-i.pass.knows c.engage_next-place.new.first.knows c.engage-reply.result first (c.loop-i.invariant.begun start);
       some = omega arith;
       busy = omega (arith, c.loop-i.invariant.busy, c.holding-busy-in-loop-i.ensures);
+      most = omega (arith, lt);
     }
 
 pub returns-clause-hired : goal.returns-clause-hired
 returns-clause-hired g c i d lt =
-    let all : c.loop-i.i ≡ length c.args.hands.now = omega (arith, c.loop-i-test.false, c.loop-i.invariant.len, c.requires.some) in
+    let all : c.loop-i.i ≡ length c.args.hands.now = omega (arith, c.loop-i-test.false, c.loop-i.invariant.len, c.loop-i.invariant.most) in
     write_place (IsHired (λ p. p.turnstile ≡ c.args.turnstile.now) c.args.first.knows.opening) c.args.hands.now c.loop-i.hands 0 _ (omega (arith, c.loop-i.invariant.len, c.requires.some)) i d
     (λ other. c.loop-i.invariant.hired i d (omega (arith, lt, all)) (omega (arith, other)))
     (record {

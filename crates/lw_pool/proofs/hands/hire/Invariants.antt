@@ -18,4 +18,5 @@ invariant-loop-i g l = record {
   begun : (start : Seen) → Working start start l.pass.knows l.reply;
   some : 0 < l.i;
   busy : l.busy ≤ l.i;
+  most : l.i ≤ length l.fn.hands;
 }

@@ -1,4 +1,4 @@
-use Rattle.std.proofs.Common.{◌≡◌, ℕ, ◌<◌, List, length, get_or, ◌++◌, sym, ◌∙◌, subst}
+use Rattle.std.proofs.Common.{◌≡◌, ◌++◌, sym, subst}
 use Rattle.std.specs.List.{All}
 use Rattle.lw_pool.specs.bodies.Crew.{CanRun, HasRun, AllRun}
 use Rattle.lw_pool.proofs.CrewLemmas.{both_parts, left_part, right_part}

@@ -1,4 +1,4 @@
-use Rattle.std.proofs.Common.{◌≡◌, ℕ, ◌<◌, length, get_or, refl, sym, ◌∙◌, subst, ap, arith, length-set}
+use Rattle.std.proofs.Common.{◌≡◌, ◌<◌, length, sym, ◌∙◌, subst, arith, length-set}
 use Rattle.std.proofs.lemmas.List.{get_or_default}
 use Rattle.std.proofs.lemmas.List.Elements.{All-get_or}
 use Rattle.lw_pool.specs.bodies.Crew.{CanRun, HasRun}
@@ -6,7 +6,7 @@ use Rattle.lw_pool.proofs.CrewLemmas.{more_places, left_places}
 use Rattle.lw_pool.proofs.hands.run_each.Goals as goal
 
 pub run-requires : goal.run-requires
-run-requires g c = 
+run-requires g c =
     let i = c.loop-i.i in let x = c.index-hands-i.result in
     let lt : i < length c.args.hands.now = omega (arith, c.loop-i-test.true, c.loop-i.invariant.len) in
     record { can = subst (CanRun (λ p. p.turnstile ≡ c.args.turnstile.now) c.args.batch.now) (sym (c.loop-i.invariant.left i x (omega arith) lt)) (All-get_or (CanRun (λ p. p.turnstile ≡ c.args.turnstile.now) c.args.batch.now) c.args.hands.now i x lt c.requires.can) }

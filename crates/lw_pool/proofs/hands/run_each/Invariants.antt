@@ -1,5 +1,5 @@
 use Rattle.std.proofs.Common.{◌≡◌, ℕ, ◌<◌, ◌≤◌, length, get_or}
-use Rattle.lw_pool.specs.bodies.Crew.{CanRun, HasRun, AllRun}
+use Rattle.lw_pool.specs.bodies.Crew.{HasRun}
 use Rattle.lw_pool.proofs.hands.run_each.Given as goal
 
 abbrev pub invariant-loop-i : goal.invariant-loop-i

@@ -63,8 +63,7 @@ loop-preserved g c =
     let ready : IsReady (is_some v.opening.naming.brought) (own_names v.opening.naming v.number) c.args.self.now.seen = subst₂ (λ (o : DeskOpening) (n : ℕ). IsReady (is_some o.naming.brought) (own_names o.naming n) c.args.self.now.seen) (sym c.loop.invariant.2.opening) (sym c.loop.invariant.2.number) c.requires.ready in
     let answered : HasAnswered v.opening.batch c.loop.reply.places c.loop.self.seen c.answer-ask.new.self.seen c.answer-ask.result = subst (λ (b : List (List ℕ)). HasAnswered b c.loop.reply.places c.loop.self.seen c.answer-ask.new.self.seen c.answer-ask.result) (sym (ap (λ (o : DeskOpening). o.batch) c.loop.invariant.2.opening ∙ c.requires.batch)) c.answer-ask.ensures in
     let w = c.turn-reply.new.pass.knows in
-    let turned = c.turn-reply.ensures.entry in
-    (
+    let turned = c.turn-reply.ensures.entry in (
       search rules,
       search rules,
       record {
