@@ -1,5 +1,5 @@
 -- Hands, and what their sessions tell.
-use Rattle.std.proofs.Common.{◌≡◌, ℕ, zero, suc, ◌<◌, List, [], ◌∷◌, length, map, get_or, refl, ap, sym, ◌∙◌, subst, subst₂, arith}
+use Rattle.std.proofs.Common.{◌≡◌, ℕ, zero, suc, ◌<◌, List, [], ◌∷◌, length, map, get_or, take, drop, ◌++◌, take_at, refl, ap, sym, ◌∙◌, subst, subst₂, arith}
 use Rattle.std.proofs.lemmas.List.{get_or-map, length-map}
 use Rattle.lw_turn.specs.declared.shared.Entry.{Entry}
 use Rattle.lw_desk.specs.History.{DeskOpening}
@@ -27,3 +27,7 @@ module _ {S : Type 0} where
   worked_seen o es (h ∷ was) now long worked i lt =
       let here : i < length (h ∷ was) = omega (arith, lt, seen_long (h ∷ was)) in
       subst₂ (HasWorkedOff o es i) (sym (seen_here (h ∷ was) i h here)) (sym (seen_here now i h (omega (arith, here, long)))) (worked i h here)
+
+-- a slice that was handed on and written back
+pub taken_all : {X : Type 0} (now items : List X) (n : ℕ) → length now ≡ n → take n (now ++ drop (length now) items) ≡ now
+taken_all now items n long = take_at now (drop (length now) items) n long

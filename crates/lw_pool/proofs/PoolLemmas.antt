@@ -1,5 +1,5 @@
 -- A pool before a batch and after it.
-use Rattle.std.proofs.Common.{◌≡◌, ◌⊎◌, inl, inr, ⊎_elim, ℕ, ◌<◌, ◌≤◌, ◌||◌, List, [], ◌∷◌, ◌++◌, length, map, All, Bool, true, false, Option, Some, None, is_some, Result, Ok, Err, OnOk, refl, ap, sym, ◌∙◌, subst, subst₂, arith, append-nil}
+use Rattle.std.proofs.Common.{◌≡◌, ◌⊎◌, inl, inr, ⊎_elim, ℕ, ◌<◌, ◌≤◌, ◌||◌, List, [], ◌∷◌, ◌++◌, length, map, All, Bool, true, false, Option, Some, None, is_some, Result, Ok, Err, OnOk, slice_index_or, take, drop, refl, ap, sym, ◌∙◌, subst, subst₂, arith, append-nil}
 use Rattle.std.specs.Bool.{⊤}
 use Rattle.std.proofs.lemmas.Bool.{true≢false, false≢true}
 use Rattle.lw_words.specs.Answer.{answers_of, IsWhole}
@@ -13,19 +13,26 @@ use Rattle.lw_cache.specs.Settling.{GainsExactly, TellsStop, refused_after}
 use Rattle.lw_cache.specs.declared.stops.AskStop.{AskStop}
 use Rattle.lw_cache.specs.declared.stops.AskStop.TheVariants as Stop
 use Rattle.lw_turn.specs.History.{entries_of}
-use Rattle.lw_desk.specs.Naming.{Naming}
+use Rattle.lw_turn.specs.declared.shared.Entry.{Entry}
+use Rattle.lw_cache.specs.Caching.{Caching}
+use Rattle.lw_desk.specs.Desk.{DeskHistory, Finishes}
+use Rattle.lw_desk.specs.declared.ask.Ask.{Ask}
+use Rattle.lw_desk.specs.declared.ask.Reply.{Reply}
+use Rattle.lw_desk.specs.Naming.{Naming, own_names}
 use Rattle.lw_desk.specs.Step.{DeskState}
-use Rattle.lw_desk.specs.History.{DeskOpening, HasLists}
+use Rattle.lw_desk.specs.History.{DeskOpening, opened, HasLists, Replays}
 use Rattle.lw_desk.specs.Ending.{Brought, Settled}
 use Rattle.lw_pool.specs.Pool.{Seen, PoolState, seen_at, seen_of, origins_of, IsStopOf}
 use Rattle.lw_pool.specs.Settling.{GainsSome, HasSettled}
 use Rattle.lw_pool.specs.declared.hands.Hand.{Hand}
 use Rattle.lw_pool.specs.declared.parts.Parts.{Parts}
-use Rattle.lw_pool.specs.bodies.Crew.{HasWorkedOff}
+use Rattle.lw_pool.specs.bodies.Crew.{HasWorkedOff, AllWorkedOff}
 use Rattle.lw_pool.specs.bodies.Running.{opening_of, AreWhole, NotBegun, WasRun, AfterBatch}
-use Rattle.lw_pool.specs.bodies.Standing.{IsPool}
-use Rattle.lw_pool.proofs.BatchLemmas.{b, pool_end, settled_end, origins_end}
-use Rattle.lw_pool.proofs.HandLemmas.{seen_in, seen_long, worked_seen}
+use Rattle.lw_pool.specs.bodies.Standing.{IsMember, IsPool}
+use Rattle.lw_pool.specs.bodies.Engaged.{IsReady}
+use Rattle.lw_pool.specs.Fitting.{FitsBy}
+use Rattle.lw_pool.proofs.BatchLemmas.{b, end_idle, pool_end, settled_end, origins_end}
+use Rattle.lw_pool.proofs.HandLemmas.{seen_in, seen_here, seen_long, taken_all, worked_seen}
 
 -- a pool as contracts see it
 abbrev pub pool_of : {S : Type 0} → List (Hand S) → Naming → List KeptAnswer → List KeptAnswer → Option AskStop → Bool → ℕ → ℕ → PoolState S
@@ -118,7 +125,7 @@ module _ {S : Type 0} (batch : List (List ℕ)) where
       others : (n : ℕ) → length (seen_in hands) ≤ n → entries_of n w.entries ≡ []
       others n le = w.others n (omega (arith, le, seen_long hands))
 
-      brings : Brought o w.entries w.state
+      abbrev brings : Brought o w.entries w.state
       brings = b o w.entries (seen_in hands) (seen_in after) long crew lists worked others prior was refused inputs outputs is w.state w.replays
 
       run_after : IsAfter
@@ -193,3 +200,58 @@ module _ {S : Type 0} (batch : List (List ℕ)) where
 
       pub settled_after : Settles
       settled_after = ⊎_elim (λ n. by_memory n) (λ w. by_run w) ran
+
+-- the sessions of a pool may work for it
+module _ {S : Type 0} (hands : List (Hand S)) (naming : Naming) (prior kept : List KeptAnswer) (stop : Option AskStop) (refused : Bool) (inputs outputs : ℕ) (is : IsPool (seen_in hands) naming prior kept stop refused inputs outputs) where
+  member_here : (i : ℕ) (d : Hand S) → i < length hands → IsMember naming inputs outputs i (slice_index_or hands i d).worker.seen
+  member_here i d lt = subst (IsMember naming inputs outputs i) (seen_here hands i d lt) (is.members i (omega (arith, lt, seen_long hands)))
+
+  pub all_ready : (i : ℕ) (d : Hand S) → i < length hands → IsReady (is_some naming.brought) (own_names naming i) (slice_index_or hands i d).worker.seen
+  all_ready i d lt =
+      let m : IsMember naming inputs outputs i (slice_index_or hands i d).worker.seen = member_here i d lt in
+      record { names = m.live; declared = declared m naming.brought refl m.fits; few = few m naming.brought refl m.fits }
+    where
+      declared : IsMember naming inputs outputs i (slice_index_or hands i d).worker.seen → (b : Option (List (List (List ℕ)))) → naming.brought ≡ b → FitsBy b naming.names (slice_index_or hands i d).worker.seen.names (slice_index_or hands i d).worker.seen.most (slice_index_or hands i d).worker.seen.outputs (slice_index_or hands i d).worker.seen.origin.machine → is_some naming.brought ≡ false → (slice_index_or hands i d).worker.seen.most ≤ length (slice_index_or hands i d).worker.seen.names
+      declared m None e fits kind = omega (arith, fits.1, ap (λ (l : List (List ℕ)). length l) fits.0)
+      declared m (Some x) e fits kind = absurd (false≢true (sym kind ∙ ap is_some e))
+
+      few : IsMember naming inputs outputs i (slice_index_or hands i d).worker.seen → (b : Option (List (List (List ℕ)))) → naming.brought ≡ b → FitsBy b naming.names (slice_index_or hands i d).worker.seen.names (slice_index_or hands i d).worker.seen.most (slice_index_or hands i d).worker.seen.outputs (slice_index_or hands i d).worker.seen.origin.machine → is_some naming.brought ≡ true → (slice_index_or hands i d).worker.seen.most ≤ 256
+      few m None e fits kind = absurd (false≢true (sym (ap is_some e) ∙ kind))
+      few m (Some x) e fits kind = fits.1
+
+  pub all_read : (batch : List (List ℕ)) → All (IsWord inputs) batch → (i : ℕ) (d : Hand S) → i < length hands → All (IsWord (slice_index_or hands i d).worker.seen.inputs) batch
+  all_read batch letters i d lt = subst (λ (n : ℕ). All (IsWord n) batch) (sym (member_here i d lt).inputs_is) letters
+
+-- as many hands after a batch as before
+pub after_long : {S : Type 0} (o : DeskOpening) (hands after : List (Hand S)) (now : Parts) (stop : Option AskStop) → AfterBatch o hands after now stop → length after ≡ length hands
+after_long o hands after now stop ran = ⊎_elim (λ (n : NotBegun o hands after now stop). ap (λ (l : List (Hand _)). length l) n.hands) (λ (w : WasRun o hands after now stop). w.long) ran
+
+-- the same of a pool whose fields are written another way
+pub settled_as : {S : Type 0} (batch : List (List ℕ)) (before : PoolState S) (items hands after : List (Hand S)) (n : ℕ) (naming : Naming) (kept : List KeptAnswer) (parts now : Parts) (prior : List KeptAnswer) (was stop copied : Option AskStop) (refused again : Bool) (inputs outputs : ℕ) (result : Result ⊤ AskStop) → before ≡ pool_of items naming prior kept was refused inputs outputs → hands ≡ items → naming ≡ parts.names → kept ≡ parts.cache.kept → copied ≡ stop → length after ≡ n
+    → HasSettled batch (pool_of hands parts.names prior parts.cache.kept was refused inputs outputs) (pool_of after now.names prior now.cache.kept stop again inputs outputs) result
+    → HasSettled batch before (pool_of (take n (after ++ drop (length after) items)) now.names prior now.cache.kept copied again inputs outputs) result
+settled_as batch before items hands after n naming kept parts now prior was stop copied refused again inputs outputs result view hands_are names_are kept_are copy long settled =
+    subst (λ (s : PoolState _). HasSettled batch s (pool_of (take n (after ++ drop (length after) items)) now.names prior now.cache.kept copied again inputs outputs) result) (sym view)
+    (subst₂ (λ (x : Naming) (k : List KeptAnswer). HasSettled batch (pool_of items x prior k was refused inputs outputs) (pool_of (take n (after ++ drop (length after) items)) now.names prior now.cache.kept copied again inputs outputs) result) (sym names_are) (sym kept_are)
+    (subst₂ (λ (hs : List (Hand _)) (o : Option AskStop). HasSettled batch (pool_of items parts.names prior parts.cache.kept was refused inputs outputs) (pool_of hs now.names prior now.cache.kept o again inputs outputs) result) (sym (taken_all after items n long)) (sym copy)
+    (subst (λ (hs : List (Hand _)). HasSettled batch (pool_of hs parts.names prior parts.cache.kept was refused inputs outputs) (pool_of after now.names prior now.cache.kept stop again inputs outputs) result) hands_are settled)))
+
+-- a desk that a crew has worked off holds nothing for anyone
+pub idle_after : {S : Type 0} (o : DeskOpening) (entries : List (Entry Ask Reply)) (hands after : List (Hand S)) → o.actors ≡ length hands → HasLists o.naming.brought (length hands) → AllWorkedOff o entries hands after → ((n : ℕ) → length hands ≤ n → entries_of n entries ≡ []) → length after ≡ length hands → (t : DeskState) → Replays o (opened o) entries t → t.claims ≡ []
+idle_after o entries hands after crew lists worked others long t r =
+    end_idle o entries (seen_in hands) (seen_in after) (seen_long after ∙ (long ∙ sym (seen_long hands))) (crew ∙ sym (seen_long hands)) (subst (HasLists o.naming.brought) (sym crew) lists) (worked_seen o entries hands after long worked) (λ n le. others n (omega (arith, le, seen_long hands))) t r
+
+-- and what it leaves
+pub run_of_desk : {S : Type 0} (o from : DeskOpening) (desk : DeskHistory) (hands after : List (Hand S)) (result : Caching × Naming × Option AskStop) (now : Parts) (stop : Option AskStop) → desk.opening ≡ from → from ≡ o → Finishes desk result → result.0 ≡ now.cache → result.1 ≡ now.names → result.2 ≡ stop → AllWorkedOff from desk.entries hands after → ((n : ℕ) → length hands ≤ n → entries_of n desk.entries ≡ []) → length after ≡ length hands → AfterBatch o hands after now stop
+run_of_desk o from desk hands after result now stop opening same ends cache names stopped worked others long =
+    inr (record {
+      entries = desk.entries;
+      state = ends.state;
+      replays = subst (λ (x : DeskOpening). Replays x (opened x) desk.entries ends.state) (opening ∙ same) ends.replays;
+      worked = subst (λ (x : DeskOpening). AllWorkedOff x desk.entries hands after) same worked;
+      others = others;
+      long = long;
+      kept = ap (λ (x : Caching). x.kept) (sym cache) ∙ ends.kept;
+      names = sym names ∙ ends.naming;
+      stop_is = sym stopped ∙ ends.stop;
+    })

@@ -1,5 +1,5 @@
 //! Pools: several sessions that settle batches together, over one cache.
-ghost use Rattle.std.specs.Prelude.{◌≡◌, ℕ, ◌^◌, ◌<◌, ◌≤◌, List, [], length, IfOk, IfErr, IfSome, IfNone, OnOk, Option, Some, None};
+ghost use Rattle.std.specs.Prelude.{◌≡◌, ℕ, ◌^◌, ◌<◌, ◌≤◌, List, [], length, IfOk, IfErr, IfSome, IfNone, Option, Some, None, is_some, ◌||◌};
 ghost use Rattle.std.specs.List.{All};
 ghost use Rattle.lw_words.specs.Word.{IsWord};
 ghost use Rattle.lw_turn.specs.Views.{first_view};
@@ -153,6 +153,13 @@ fn copy_of(stop: &Option<AskStop>) -> Option<AskStop>
     }
 }
 
+/// Whether a settling was ever refused, once this one was stopped so, or not at all.
+fn was_refused(refused: bool, stop: &Option<AskStop>) -> bool
+    ensures { result ≡ (refused || is_some stop.now) }
+{
+    refused || stop.is_some()
+}
+
 /// What a settling answers that was stopped so, or not at all.
 fn answer_of(stop: Option<AskStop>) -> Result<(), AskStop>
     ensures { TellsStop result stop }
@@ -183,7 +190,7 @@ impl<S: Sul + Send, R: Threads + Wait + Sync> Pool<S, R> {
         let (parts, stop) = run(&self.rt, self.alloc, parts, &mut self.hands, batch);
         self.parts = Some(parts);
         self.stop = copy_of(&stop);
-        self.refused = self.refused || stop.is_some();
+        self.refused = was_refused(self.refused, &stop);
         answer_of(stop)
     }
 }
