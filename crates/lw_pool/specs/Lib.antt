@@ -1,4 +1,5 @@
 pub mod Fitting
+pub mod Opening
 pub mod Pool
 pub mod Settling
 pub mod bodies

@@ -1,9 +1,10 @@
 //! The hands of a crew: sessions, each with its place in a batch.
-ghost use Rattle.std.specs.Prelude.{◌≡◌, ℕ, ◌+◌, ◌<◌, ◌≤◌, [], length, Some};
+ghost use Rattle.std.specs.Prelude.{IfOk, IfErr, map, ◌≡◌, ℕ, ◌+◌, ◌<◌, ◌≤◌, [], length, Some};
 ghost use Rattle.std.specs.List.{All};
 ghost use Rattle.lw_turn.specs.History.{entries_of};
 ghost use Rattle.lw_turn.specs.Views.{first_view};
 ghost use Rattle.lw_desk.specs.History.{Legal};
+ghost use Rattle.lw_pool.specs.Opening.{member_of};
 ghost use Rattle.lw_pool.specs.declared.crew.Engaged.{Engaged};
 ghost use Rattle.lw_pool.specs.bodies.Engaged.{Working};
 ghost use Rattle.lw_pool.specs.bodies.Crew.{CanRun, HasRun, AllRun, AllHired, OthersHold, OthersJoined, SameWorkers, AllReady, AllRead, AllWorkedOff};
@@ -11,7 +12,7 @@ ghost use Rattle.lw_pool.specs.bodies.Crew.{CanRun, HasRun, AllRun, AllHired, Ot
 use crate::crew::{Engaged, engage};
 use crate::worker::Worker;
 use lw_desk::{Desk, Reply};
-use lw_sul::Sul;
+use lw_sul::{Session, Sul};
 use lw_turn::{Pass, Turnstile};
 use lw_words::Word;
 use std::alloc::Global;
@@ -57,6 +58,28 @@ impl<S: Sul> Hand<S> {
         };
         pass
     }
+}
+
+/// Hands for these sessions, or the sessions, where there is no memory.
+pub(crate) fn hands_of<S: Sul + Drop>(
+    alloc: Global,
+    sessions: Vec<Session<S>>,
+) -> Result<Vec<Hand<S>>, Vec<Session<S>>>
+    ensures hands { IfOk result (λ hs. map (λ h. h.worker) hs.items ≡
+        map (member_of S.names S.most S.stop S.origin S.inputs S.outputs) sessions.items) }
+    ensures back { IfErr result (λ back. back ≡ sessions) }
+{
+    let Ok(mut hands) = Vec::with_capacity(alloc, sessions.len()) else {
+        return Err(sessions);
+    };
+    for session in sessions {
+        let worker = Worker { session };
+        hands.push_reserved(Hand {
+            worker,
+            engaged: None,
+        });
+    }
+    Ok(hands)
 }
 
 /// 1 for a hand that holds a place, and else 0.

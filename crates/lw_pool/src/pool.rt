@@ -1,5 +1,5 @@
 //! Pools: several sessions that settle batches together, over one cache.
-ghost use Rattle.std.specs.Prelude.{◌≡◌, ℕ, ◌^◌, ◌<◌, ◌≤◌, List, [], length, IfOk, IfErr, IfSome, IfNone, Option, Some, None, is_some, ◌||◌};
+ghost use Rattle.std.specs.Prelude.{◌≡◌, ℕ, ◌^◌, ◌<◌, ◌≤◌, List, [], length, map, slice_index, slice_index_or, false, IfOk, IfErr, IfSome, IfNone, Option, Some, None, is_some, ◌||◌};
 ghost use Rattle.std.specs.List.{All};
 ghost use Rattle.lw_words.specs.Word.{IsWord};
 ghost use Rattle.lw_turn.specs.Views.{first_view};
@@ -7,15 +7,17 @@ ghost use Rattle.lw_cache.specs.Settling.{MayAsk, TellsStop};
 ghost use Rattle.lw_desk.specs.Desk.{Finishes};
 ghost use Rattle.lw_desk.specs.History.{HasLists, Replays, opened};
 ghost use Rattle.lw_desk.specs.Step.{DeskState};
+ghost use Rattle.lw_pool.specs.Opening.{MayBegin, MayJoin, member_of};
 ghost use Rattle.lw_pool.specs.Settling.{HasSettled};
+ghost use Rattle.lw_desk.specs.Ending.{IsShared};
 ghost use Rattle.lw_pool.specs.bodies.Crew.{AllReady, AllRead};
 ghost use Rattle.lw_pool.specs.bodies.Running.{AfterBatch, AreWhole, opening_of};
 
-use crate::hands::{Hand, work_off};
+use crate::hands::{Hand, hands_of, work_off};
 use crate::parts::Parts;
 use lw_cache::{AskStop, Cache};
-use lw_desk::Desk;
-use lw_sul::Sul;
+use lw_desk::{Desk, OutNames};
+use lw_sul::{Session, Sul};
 use lw_turn::{Pass, Turnstile};
 use lw_words::{NoMemory, Word};
 use std::alloc::Global;
@@ -167,6 +169,57 @@ fn answer_of(stop: Option<AskStop>) -> Result<(), AskStop>
     match stop {
         Some(stop) => Err(stop),
         None => Ok(()),
+    }
+}
+
+impl<S: Sul + Drop, R: Drop> Pool<S, R> {
+    /// A pool of these sessions, in the order of their instances, over these names. What the cache keeps are prior answers.
+    /// Where there is no memory all is handed back.
+    pub fn new(
+        rt: R,
+        alloc: Global,
+        sessions: Vec<Session<S>>,
+        names: OutNames,
+        cache: Cache,
+    ) -> Result<Pool<S, R>, (Vec<Session<S>>, OutNames, Cache, NoMemory)>
+        requires some { 0 < length sessions.items }
+        requires few { length sessions.items ≤ 16 }
+        requires unclaimed { cache.claims ≡ [] }
+        requires lists { HasLists names.brought (length sessions.items) }
+        requires shared { IsShared names }
+        requires join { (i : ℕ) (d : _) → i < length sessions.items →
+            MayJoin names (S.inputs (slice_index sessions.items 0).sul)
+                (S.outputs (slice_index sessions.items 0).sul) i
+                (member_of S.names S.most S.stop S.origin S.inputs S.outputs
+                    (slice_index_or sessions.items i d)).seen }
+        requires prior { MayBegin names (S.inputs (slice_index sessions.items 0).sul)
+            (S.outputs (slice_index sessions.items 0).sul) cache.kept }
+        ensures members { IfOk result (λ p. p.members ≡
+            map (member_of S.names S.most S.stop S.origin S.inputs S.outputs) sessions.items) }
+        ensures begun { IfOk result (λ p. (p.naming ≡ names) × (p.prior ≡ cache.kept) ×
+            (p.kept ≡ cache.kept) × (p.stop ≡ None) × (p.refused ≡ false)) }
+        ensures numbers { IfOk result (λ p.
+            (p.inputs ≡ S.inputs (slice_index sessions.items 0).sul) ×
+            (p.outputs ≡ S.outputs (slice_index sessions.items 0).sul)) }
+        ensures back { IfErr result (λ e. (e.0 ≡ sessions) × (e.1 ≡ names) × (e.2 ≡ cache)) }
+    {
+        let (inputs, outputs) = (sessions[0].inputs(), sessions[0].outputs());
+        let prior = Snapshot::of(&cache);
+        let hands = match hands_of(alloc, sessions) {
+            Ok(hands) => hands,
+            Err(sessions) => return Err((sessions, names, cache, NoMemory)),
+        };
+        Ok(Pool {
+            rt,
+            hands,
+            parts: Some(Parts { cache, names }),
+            prior,
+            stop: None,
+            refused: false,
+            inputs,
+            outputs,
+            alloc,
+        })
     }
 }
 

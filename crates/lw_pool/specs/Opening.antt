@@ -1,0 +1,37 @@
+-- Which sessions may make a pool.
+use Rattle.std.specs.Prelude.{◌≡◌, ℕ, ◌<◌, List, [], length, slice_index_or, map, Option, None}
+use Rattle.std.specs.List.{All}
+use Rattle.lw_words.specs.Answer.{answer_of, IsAnswer}
+use Rattle.lw_words.specs.declared.kept.KeptAnswer.{KeptAnswer}
+use Rattle.lw_words.specs.declared.stop.SulStop.{SulStop}
+use Rattle.lw_mealy.specs.Origin.{Origin}
+use Rattle.lw_sul.specs.SessionState.{SessionState}
+use Rattle.lw_desk.specs.Naming.{Naming, own_names}
+use Rattle.lw_desk.specs.History.{HasLists}
+use Rattle.lw_desk.specs.Ending.{IsShared}
+use Rattle.lw_pool.specs.Fitting.{Fits}
+use Rattle.lw_pool.specs.Pool.{Seen, Member, ArePrior}
+
+-- a session, and beside it what its system tells, by what a system tells of itself
+abbrev pub member_of : {S : Type 0} → (S → List (List ℕ)) → (S → ℕ) → (S → Option SulStop) → (S → Origin) → (S → ℕ) → (S → ℕ) → SessionState S → Member S
+member_of names most stop origin inputs outputs s = record {
+  session = s;
+  seen = record { instance = s.instance; journal = s.journal; names = names s.sul; most = most s.sul; stop = stop s.sul; origin = origin s.sul; inputs = inputs s.sul; outputs = outputs s.sul };
+}
+
+-- a session that may be this one of a pool: its journal is empty, it has not stopped, and its outputs have the pool's names
+pub record MayJoin (naming : Naming) (inputs outputs number : ℕ) (s : Seen) : Type 0 where
+  pub instance : s.instance ≡ number
+  pub inputs_is : s.inputs ≡ inputs
+  pub outputs_is : s.outputs ≡ outputs
+  pub journal : s.journal ≡ []
+  pub live : s.stop ≡ None
+  pub fits : Fits naming s.names s.most s.outputs s.origin.machine
+  pub names : s.names ≡ own_names naming number
+
+-- answers that a pool may begin with: of the instance 16, in the runs of their places, over its letters and its names
+pub record MayBegin (naming : Naming) (inputs outputs : ℕ) (prior : List KeptAnswer) : Type 0 where
+  pub prior_is : ArePrior prior
+  pub answers : All (λ k. IsAnswer inputs (answer_of k)) prior
+  pub named : All (λ k. All (λ y. y < length naming.names) k.outs) prior
+  pub below : All (λ k. All (λ y. y < outputs) k.outs) prior
