@@ -1,6 +1,7 @@
 -- Hands, and what their sessions tell.
-use Rattle.std.proofs.Common.{◌≡◌, ℕ, zero, suc, ◌<◌, List, [], ◌∷◌, length, map, get_or, take, drop, ◌++◌, take_at, refl, ap, sym, ◌∙◌, subst, subst₂, arith}
-use Rattle.std.proofs.lemmas.List.{get_or-map, length-map}
+use Rattle.std.proofs.Common.{◌≡◌, ℕ, zero, suc, ◌<◌, List, [], ◌∷◌, length, map, get_or, take, drop, ◌++◌, take_at, append_assoc, append-nil, refl, ap, sym, ◌∙◌, subst, subst₂, arith}
+use Rattle.std.proofs.lemmas.List.{get_or-map, length-map, map_push}
+use Rattle.lw_sul.specs.SessionState.{SessionState}
 use Rattle.lw_turn.specs.declared.shared.Entry.{Entry}
 use Rattle.lw_desk.specs.History.{DeskOpening}
 use Rattle.lw_desk.specs.declared.ask.Ask.{Ask}
@@ -31,3 +32,16 @@ module _ {S : Type 0} where
 -- a slice that was handed on and written back
 pub taken_all : {X : Type 0} (now items : List X) (n : ℕ) → length now ≡ n → take n (now ++ drop (length now) items) ≡ now
 taken_all now items n long = take_at now (drop (length now) items) n long
+
+-- one session more in a hand of its own
+pub hand_more : {S : Type 0} (f : SessionState S → Member S) (hands after : List (Hand S)) (rest left all : List (SessionState S)) (s : SessionState S) (h : Hand S) → map (λ h. h.worker) hands ++ map f rest ≡ map f all → rest ≡ s ∷ left → after ≡ hands ++ h ∷ [] → h.worker ≡ f s → map (λ h. h.worker) after ++ map f left ≡ map f all
+hand_more f hands after rest left all s h made steps pushed is =
+    ap (λ (hs : List (Hand _)). map (λ (h : Hand _). h.worker) hs ++ map f left) pushed
+    ∙ (ap (λ (ms : List (Member _)). ms ++ map f left) (map_push (λ (h : Hand _). h.worker) hands h)
+    ∙ (append_assoc (map (λ (h : Hand _). h.worker) hands) (h.worker ∷ []) (map f left)
+    ∙ (ap (λ (m : Member _). map (λ (h : Hand _). h.worker) hands ++ m ∷ map f left) is
+    ∙ (ap (λ (ss : List (SessionState _)). map (λ (h : Hand _). h.worker) hands ++ map f ss) (sym steps) ∙ made))))
+
+pub hands_all : {S : Type 0} (f : SessionState S → Member S) (hands : List (Hand S)) (rest all : List (SessionState S)) → map (λ h. h.worker) hands ++ map f rest ≡ map f all → length rest ≡ 0 → map (λ h. h.worker) hands ≡ map f all
+hands_all f hands [] all made done = sym (append-nil (map (λ (h : Hand _). h.worker) hands)) ∙ made
+hands_all f hands (s ∷ rest) all made done = absurd (omega (arith, done))

@@ -1,15 +1,15 @@
 -- A pool before a batch and after it.
-use Rattle.std.proofs.Common.{◌≡◌, ◌⊎◌, inl, inr, ⊎_elim, ℕ, ◌<◌, ◌≤◌, ◌||◌, List, [], ◌∷◌, ◌++◌, length, map, All, Bool, true, false, Option, Some, None, is_some, Result, Ok, Err, OnOk, slice_index_or, take, drop, refl, ap, sym, ◌∙◌, subst, subst₂, arith, append-nil}
+use Rattle.std.proofs.Common.{◌≡◌, ◌⊎◌, inl, inr, ⊎_elim, ℕ, ◌<◌, ◌≤◌, ◌||◌, List, [], ◌∷◌, ◌++◌, length, map, All, Bool, true, false, Option, Some, None, is_some, Result, Ok, Err, OnOk, slice_index_or, slice_get, option_and_then, take, drop, refl, ap, sym, ◌∙◌, subst, subst₂, arith, append-nil}
 use Rattle.std.specs.Bool.{⊤}
 use Rattle.std.proofs.lemmas.Bool.{true≢false, false≢true}
-use Rattle.lw_words.specs.Answer.{answers_of, IsWhole}
+use Rattle.lw_words.specs.Answer.{answer_of, answers_of, IsWhole}
 use Rattle.lw_words.specs.Name.{AllDiffer}
 use Rattle.lw_words.specs.Word.{IsWord}
 use Rattle.lw_words.specs.declared.kept.KeptAnswer.{KeptAnswer}
 use Rattle.lw_cache.specs.Asked.{IsAsked}
 use Rattle.lw_cache.specs.Clash.{NothingClashes}
 use Rattle.lw_cache.specs.Known.{IsKnown}
-use Rattle.lw_cache.specs.Settling.{GainsExactly, TellsStop, refused_after}
+use Rattle.lw_cache.specs.Settling.{GainsExactly, TellsStop, refused_after, IsOf, told_machine}
 use Rattle.lw_cache.specs.declared.stops.AskStop.{AskStop}
 use Rattle.lw_cache.specs.declared.stops.AskStop.TheVariants as Stop
 use Rattle.lw_turn.specs.History.{entries_of}
@@ -21,8 +21,14 @@ use Rattle.lw_desk.specs.declared.ask.Reply.{Reply}
 use Rattle.lw_desk.specs.Naming.{Naming, own_names}
 use Rattle.lw_desk.specs.Step.{DeskState}
 use Rattle.lw_desk.specs.History.{DeskOpening, opened, HasLists, Replays}
-use Rattle.lw_desk.specs.Ending.{Brought, Settled}
-use Rattle.lw_pool.specs.Pool.{Seen, PoolState, seen_at, seen_of, origins_of, IsStopOf}
+use Rattle.lw_desk.specs.Ending.{Brought, IsShared, Settled}
+use Rattle.lw_pool.specs.Pool.{Seen, Member, PoolState, nobody, seen_at, seen_of, origins_of, journal_runs, IsStopOf}
+use Rattle.lw_pool.specs.Opening.{MayBegin, MayJoin}
+use Rattle.lw_mealy.specs.Origin.{Origin}
+use Rattle.lw_sul.specs.SessionState.{SessionState}
+use Rattle.lw_sul.specs.declared.runs.Run.{Run}
+use Rattle.std.proofs.lemmas.List.{get_or-map, length-map}
+use Rattle.std.proofs.lemmas.Option.{slice_get_past}
 use Rattle.lw_pool.specs.Settling.{GainsSome, HasSettled}
 use Rattle.lw_pool.specs.declared.hands.Hand.{Hand}
 use Rattle.lw_pool.specs.declared.parts.Parts.{Parts}
@@ -255,3 +261,59 @@ run_of_desk o from desk hands after result now stop opening same ends cache name
       names = sym names ∙ ends.naming;
       stop_is = sym stopped ∙ ends.stop;
     })
+
+-- sessions that may make a pool make one
+module _ {S : Type 0} (f : SessionState S → Member S) (sessions : List (SessionState S)) (hands : List (Hand S)) (naming : Naming) (inputs outputs : ℕ) (prior : List KeptAnswer) (made : map (λ h. h.worker) hands ≡ map f sessions) (some : 0 < length sessions) (few : length sessions ≤ 16) (lists : HasLists naming.brought (length sessions)) (shared : IsShared naming)
+    (join : (i : ℕ) (d : SessionState S) → i < length sessions → MayJoin naming inputs outputs i (f (slice_index_or sessions i d)).seen) (begin : MayBegin naming inputs outputs prior) where
+  long_new : length (seen_in hands) ≡ length sessions
+  long_new = length-map (map (λ (h : Hand S). h.worker) hands) (λ (m : Member S). m.seen) ∙ (ap (λ (ms : List (Member S)). length ms) made ∙ length-map sessions f)
+
+  joined : (i : ℕ) → i < length sessions → MayJoin naming inputs outputs i (seen_at (seen_in hands) i)
+  joined i lt = by sessions refl
+    where
+      by : (ss : List (SessionState S)) → sessions ≡ ss → MayJoin naming inputs outputs i (seen_at (seen_in hands) i)
+      by [] none = absurd (omega (arith, lt, ap (λ (l : List (SessionState S)). length l) none))
+      by (d ∷ ss) same =
+          subst (MayJoin naming inputs outputs i)
+          (sym (ap (λ (ms : List (Member S)). seen_at (map (λ (m : Member S). m.seen) ms) i) made
+          ∙ (get_or-map (λ (m : Member S). m.seen) (map f sessions) i (f d) nobody (omega (arith, lt, length-map sessions f))
+          ∙ ap (λ (m : Member S). m.seen) (get_or-map f sessions i d (f d) lt))))
+          (join i d lt)
+
+  pub pool_new : IsPool (seen_in hands) naming prior prior None false inputs outputs
+  pool_new = record {
+    some = omega (arith, some, long_new);
+    few = omega (arith, few, long_new);
+    members = λ i within.
+        let m : MayJoin naming inputs outputs i (seen_at (seen_in hands) i) = joined i (omega (arith, within, long_new)) in
+        record {
+          instance = m.instance;
+          inputs_is = m.inputs_is;
+          outputs_is = m.outputs_is;
+          fits = m.fits;
+          grown = ([], sym (append-nil (own_names naming i) ∙ sym m.names));
+          live = λ none. m.names;
+          journal = subst (All (λ (r : Run). All (λ y. y < length (own_names naming i)) r.outs)) (sym m.journal) (λ k d lt. absurd (omega arith));
+        };
+    lists = subst (HasLists naming.brought) (sym long_new) lists;
+    shared = shared;
+    below = begin.named;
+    stands = record {
+      since = [];
+      first = sym (append-nil prior);
+      instances = λ k d lt. absurd (omega arith);
+      runs = λ i within. sym (ap (journal_runs (seen_at (seen_in hands) i).names 0) (joined i (omega (arith, within, long_new))).journal);
+    };
+    keeps = record {
+      answers = begin.answers;
+      outputs_below = begin.below;
+      told = λ i d lt. subst (λ (n : ℕ). IsOf (told_machine (origins_of (seen_in hands)) n) (answer_of (slice_index_or prior i d))) (sym (begin.prior_is i d lt).0) (told_none (slice_index_or prior i d));
+    };
+    once = λ i d from within. absurd (omega (arith, from, within));
+    why = tt;
+    unrefused = λ f. (refl, λ i within. (joined i (omega (arith, within, long_new))).live);
+  }
+    where
+      -- no instance of the pool has the number of the prior answers
+      told_none : (k : KeptAnswer) → IsOf (told_machine (origins_of (seen_in hands)) 16) (answer_of k)
+      told_none k = subst (λ (o : Option Origin). IsOf (option_and_then (λ (x : Origin). x.machine) o) (answer_of k)) (sym (slice_get_past (origins_of (seen_in hands)) 16 (omega (arith, few, long_new, length-map (seen_in hands) (λ (s : Seen). s.origin))))) tt

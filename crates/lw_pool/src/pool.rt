@@ -1,5 +1,5 @@
 //! Pools: several sessions that settle batches together, over one cache.
-ghost use Rattle.std.specs.Prelude.{◌≡◌, ℕ, ◌^◌, ◌<◌, ◌≤◌, List, [], length, map, slice_index, slice_index_or, false, IfOk, IfErr, IfSome, IfNone, Option, Some, None, is_some, ◌||◌};
+ghost use Rattle.std.specs.Prelude.{◌≡◌, ℕ, ◌^◌, ◌<◌, ◌≤◌, List, [], length, map, slice_index_or, false, IfOk, IfErr, IfSome, IfNone, Option, Some, None, is_some, ◌||◌};
 ghost use Rattle.std.specs.List.{All};
 ghost use Rattle.lw_words.specs.Word.{IsWord};
 ghost use Rattle.lw_turn.specs.Views.{first_view};
@@ -15,7 +15,7 @@ ghost use Rattle.lw_pool.specs.bodies.Running.{AfterBatch, AreWhole, opening_of}
 
 use crate::hands::{Hand, hands_of, work_off};
 use crate::parts::Parts;
-use lw_cache::{AskStop, Cache};
+use lw_cache::{AskStop, Cache, Oracle};
 use lw_desk::{Desk, OutNames};
 use lw_sul::{Session, Sul};
 use lw_turn::{Pass, Turnstile};
@@ -173,11 +173,14 @@ fn answer_of(stop: Option<AskStop>) -> Result<(), AskStop>
 }
 
 impl<S: Sul + Drop, R: Drop> Pool<S, R> {
-    /// A pool of these sessions, in the order of their instances, over these names. What the cache keeps are prior answers.
+    /// A pool of these sessions, in the order of their instances, over these names; all systems have so many inputs and
+    /// outputs. What the cache keeps are prior answers.
     /// Where there is no memory all is handed back.
     pub fn new(
         rt: R,
         alloc: Global,
+        inputs: u16,
+        outputs: u16,
         sessions: Vec<Session<S>>,
         names: OutNames,
         cache: Cache,
@@ -188,22 +191,18 @@ impl<S: Sul + Drop, R: Drop> Pool<S, R> {
         requires lists { HasLists names.brought (length sessions.items) }
         requires shared { IsShared names }
         requires join { (i : ℕ) (d : _) → i < length sessions.items →
-            MayJoin names (S.inputs (slice_index sessions.items 0).sul)
-                (S.outputs (slice_index sessions.items 0).sul) i
+            MayJoin names inputs outputs i
                 (member_of S.names S.most S.stop S.origin S.inputs S.outputs
                     (slice_index_or sessions.items i d)).seen }
-        requires prior { MayBegin names (S.inputs (slice_index sessions.items 0).sul)
-            (S.outputs (slice_index sessions.items 0).sul) cache.kept }
+        requires prior { MayBegin names inputs outputs cache.kept }
         ensures members { IfOk result (λ p. p.members ≡
             map (member_of S.names S.most S.stop S.origin S.inputs S.outputs) sessions.items) }
         ensures begun { IfOk result (λ p. (p.naming ≡ names) × (p.prior ≡ cache.kept) ×
             (p.kept ≡ cache.kept) × (p.stop ≡ None) × (p.refused ≡ false)) }
         ensures numbers { IfOk result (λ p.
-            (p.inputs ≡ S.inputs (slice_index sessions.items 0).sul) ×
-            (p.outputs ≡ S.outputs (slice_index sessions.items 0).sul)) }
+            (p.inputs ≡ inputs) × (p.outputs ≡ outputs)) }
         ensures back { IfErr result (λ e. (e.0 ≡ sessions) × (e.1 ≡ names) × (e.2 ≡ cache)) }
     {
-        let (inputs, outputs) = (sessions[0].inputs(), sessions[0].outputs());
         let prior = Snapshot::of(&cache);
         let hands = match hands_of(alloc, sessions) {
             Ok(hands) => hands,
@@ -245,5 +244,43 @@ impl<S: Sul + Send, R: Threads + Wait + Sync> Pool<S, R> {
         self.stop = copy_of(&stop);
         self.refused = was_refused(self.refused, &stop);
         answer_of(stop)
+    }
+}
+
+impl<S: Sul + Send, R: Threads + Wait + Sync> Oracle for Pool<S, R> {
+    ghost use Rattle.std.specs.Prelude.{true};
+    ghost use Rattle.lw_pool.specs.Pool.{seen_of, origins_of};
+
+    ghost inputs = { λ p. p.inputs };
+
+    ghost outputs = { λ p. p.outputs };
+
+    ghost kept = { λ p. p.kept };
+
+    ghost origins = { λ p. origins_of (seen_of p) };
+
+    ghost stop = { λ p. p.stop };
+
+    ghost refused = { λ p. p.refused };
+
+    ghost exact = { λ _. true };
+
+    fn inputs(&self) -> u16 {
+        self.inputs
+    }
+
+    fn outputs(&self) -> u16 {
+        self.outputs
+    }
+
+    fn cache(&self) -> &Cache {
+        let Some(parts) = &self.parts else {
+            unreachable!()
+        };
+        &parts.cache
+    }
+
+    fn settle(&mut self, batch: &[Word]) -> Result<(), AskStop> {
+        self.settle_all(batch)
     }
 }
