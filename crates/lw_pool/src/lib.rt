@@ -8,3 +8,6 @@ mod pool;
 mod worker;
 
 pub use pool::Pool;
+
+#[cfg(test)]
+mod tests;
