@@ -196,16 +196,16 @@ module _ (o : DeskOpening) (es : List (Entry Ask Reply)) (start now : List Seen)
     runs_end i lt =
         let names : IsGrown o.naming.names t.naming.names = names_grew o (opened o) t es r in
         let since_below : All (λ k. All (λ y. y < length o.naming.names) k.outs) is.stands.since = all_of (λ k. All (λ y. y < length o.naming.names) k.outs) is.stands.since (λ k j.
-            let c = in_contains k o.kept (subst (In k) (sym is.stands.first) (in_right k prior is.stands.since j)) in
-            subst (λ (x : KeptAnswer). All (λ y. y < length o.naming.names) x.outs) c.2 (is.below c.0 k c.1)) in
+        let c = in_contains k o.kept (subst (In k) (sym is.stands.first) (in_right k prior is.stands.since j)) in
+        subst (λ (x : KeptAnswer). All (λ y. y < length o.naming.names) x.outs) c.2 (is.below c.0 k c.1)) in
         let old_names : IsGrown (seen_at start i).names (seen_at now i).names = grown_both (seen_at start i).names (worked i lt).working.mid.names (seen_at now i).names (gives_grown o.batch (seen_at start i) (worked i lt).working.mid (gives_of (entries_of i es)) (end_gives i lt)) (end_grown i lt) in
         let start_below : All (λ x. All (λ y. y < length (seen_at start i).names) x.outs) (seen_at start i).journal =
-            All-weaker (λ (x : Run). All (λ y. y < length (own_names o.naming i)) x.outs) (λ (x : Run). All (λ y. y < length (seen_at start i).names) x.outs)
-            (λ x all. All-weaker (λ y. y < length (own_names o.naming i)) (λ y. y < length (seen_at start i).names) (λ y le. omega (arith, le, longer_list (own_names o.naming i) (seen_at start i).names (member i lt).grown)) x.outs all)
-            (seen_at start i).journal (member i lt).journal in
+        All-weaker (λ (x : Run). All (λ y. y < length (own_names o.naming i)) x.outs) (λ (x : Run). All (λ y. y < length (seen_at start i).names) x.outs)
+        (λ x all. All-weaker (λ y. y < length (own_names o.naming i)) (λ y. y < length (seen_at start i).names) (λ y le. omega (arith, le, longer_list (own_names o.naming i) (seen_at start i).names (member i lt).grown)) x.outs all)
+        (seen_at start i).journal (member i lt).journal in
         let old : kept_runs t.naming.names i is.stands.since ≡ journal_runs (seen_at now i).names 0 (seen_at start i).journal =
-            kept_grown o.naming.names t.naming.names i is.stands.since names since_below
-            ∙ (is.stands.runs i lt ∙ sym (runs_grown (seen_at start i).names (seen_at now i).names 0 (seen_at start i).journal old_names start_below)) in
+        kept_grown o.naming.names t.naming.names i is.stands.since names since_below
+        ∙ (is.stands.runs i lt ∙ sym (runs_grown (seen_at start i).names (seen_at now i).names 0 (seen_at start i).journal old_names start_below)) in
         let new : kept_runs t.naming.names i b.gained ≡ journal_runs (seen_at now i).names (length (seen_at start i).journal) (runs_given o.batch (gives_of (entries_of i es))) = b.runs i ∙ new_runs i lt in
         kept_both t.naming.names i is.stands.since b.gained
         ∙ (ap (λ (l : List NamedRun). l ++ kept_runs t.naming.names i b.gained) old
@@ -273,17 +273,16 @@ module _ (o : DeskOpening) (es : List (Entry Ask Reply)) (start now : List Seen)
             let mid : (worked i lt).working.mid.names ≡ (seen_at start i).names = gives_few o.batch (seen_at start i) (worked i lt).working.mid (gives_of (entries_of i es)) (end_gives i lt) le in
             let mid_le : (worked i lt).working.mid.most ≤ length (worked i lt).working.mid.names = omega (arith, le, (gives_same o.batch (seen_at start i) (worked i lt).working.mid (gives_of (entries_of i es)) (end_gives i lt)).most, ap (λ (l : List (List ℕ)). length l) mid) in
             let names : (seen_at now i).names ≡ (seen_at start i).names =
-                ⊎_elim
-                (λ (same : seen_at now i ≡ (worked i lt).working.mid). ap (λ (s : Seen). s.names) same ∙ mid)
-                (λ (x : (stop : RunStop) × HasRefused (worked i lt).working.mid (seen_at now i) stop × ((worked i lt).reply.places ≡ [])). refused_few (worked i lt).working.mid (seen_at now i) x.0 x.1 mid_le ∙ mid)
-                (worked i lt).working.after in
+            ⊎_elim
+            (λ (same : seen_at now i ≡ (worked i lt).working.mid). ap (λ (s : Seen). s.names) same ∙ mid)
+            (λ (x : (stop : RunStop) × HasRefused (worked i lt).working.mid (seen_at now i) stop × ((worked i lt).reply.places ≡ [])). refused_few (worked i lt).working.mid (seen_at now i) x.0 x.1 mid_le ∙ mid)
+            (worked i lt).working.after in
             let given : names_given (gives_of (entries_of i es)) ≡ [] = append_nothing (seen_at start i).names (names_given (gives_of (entries_of i es))) (sym (gives_names o.batch (seen_at start i) (worked i lt).working.mid (gives_of (entries_of i es)) (end_gives i lt)) ∙ mid) in
             let shared : t.naming.names ≡ o.naming.names =
-                sym (ap (λ (k : Option (List (List (List ℕ)))). own_by t.naming.names k i) g)
-                ∙ (end_own t r i lt
-                ∙ (ap (λ (l : List (List ℕ)). own_names o.naming i ++ l) given
-                ∙ (append-nil (own_names o.naming i) ∙ ap (λ (k : Option (List (List (List ℕ)))). own_by o.naming.names k i) e))) in
-            (
+            sym (ap (λ (k : Option (List (List (List ℕ)))). own_by t.naming.names k i) g)
+            ∙ (end_own t r i lt
+            ∙ (ap (λ (l : List (List ℕ)). own_names o.naming i ++ l) given
+            ∙ (append-nil (own_names o.naming i) ∙ ap (λ (k : Option (List (List (List ℕ)))). own_by o.naming.names k i) e))) in (
               names ∙ (fits.0 ∙ sym shared),
               (worked i lt).same.most ∙ (fits.1 ∙ ap (λ (l : List (List ℕ)). length l) (sym shared)),
               (worked i lt).same.outputs ∙ (fits.2 ∙ ap (λ (l : List (List ℕ)). length l) (sym shared)),
@@ -430,10 +429,10 @@ module _ (o : DeskOpening) (es : List (Entry Ask Reply)) (start now : List Seen)
                 let own_is : own_names t.naming i ≡ t.naming.names = ap (λ (z : Option (List (List (List ℕ)))). own_by t.naming.names z i) f in
                 let facts : Answers (seen_at start i).origin.machine (word_at o.batch (g.0).place) (g.0).outs × All (λ y. y < length (worked i lt).working.mid.names) (g.0).outs = each_given o.batch (seen_at start i) (worked i lt).working.mid (gives_of (entries_of i es)) g.0 (end_gives i lt) g.1 in
                 let mid_is : (worked i lt).working.mid.names ≡ t.naming.names =
-                    ⊎_elim
-                    (λ (none : gives_of (entries_of i es) ≡ []). absurd (subst (In g.0) none g.1))
-                    (λ (same : (worked i lt).working.mid.names ≡ own_names t.naming i). same ∙ own_is)
-                    (mid_own i lt) in
+                ⊎_elim
+                (λ (none : gives_of (entries_of i es) ≡ []). absurd (subst (In g.0) none g.1))
+                (λ (same : (worked i lt).working.mid.names ≡ own_names t.naming i). same ∙ own_is)
+                (mid_own i lt) in
                 let kept_outs : All (λ y. y < length t.naming.names) k.outs = (let c = in_contains k b.gained j in subst (λ (x : KeptAnswer). All (λ y. y < length t.naming.names) x.outs) c.2 (b.below c.0 k c.1)) in
                 let outs : (g.0).outs ≡ k.outs = named_once t.naming.names (g.0).outs k.outs differ (subst (λ (l : List (List ℕ)). All (λ y. y < length l) (g.0).outs) mid_is facts.1) kept_outs (ap (λ (l : List (List ℕ)). named l (g.0).outs) (sym own_is) ∙ g.3) in
                 let given : answer m (word_at o.batch (g.0).place) ≡ (g.0).outs = subst (λ (z : Option Rows). Answers z (word_at o.batch (g.0).place) (g.0).outs) e facts.0 in
@@ -503,7 +502,7 @@ module _ (o : DeskOpening) (es : List (Entry Ask Reply)) (start now : List Seen)
           let ended : (seat_of w.view.opening w.view.mine).ended ≡ true = w.working.ended w.idle in
           let own : actor_of w.view.mine ≡ 0 = w.working.own ∙ w.number_is in
           let d = last_done (record { held = []; ended = false; own = own_names w.view.opening.naming (actor_of w.view.mine) }) w.view.mine ended refl
-              (λ e j. nobody_has_failed o (opened o) t es r none e (of_history 0 e es (subst (In e) w.mine j))) in
+          (λ e j. nobody_has_failed o (opened o) t es r none e (of_history 0 e es (subst (In e) w.mine j))) in
           settled o es t r d.0 b none (end_idle t r) (of_history 0 d.0 es (subst (In d.0) w.mine d.1)) d.2
 
       pub gained_end : Brought o es t

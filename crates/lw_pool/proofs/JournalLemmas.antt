@@ -84,8 +84,8 @@ gives_runs batch was now [] own names same g h = refl
 gives_runs batch was now (x ∷ gs) own names gives g h =
     let grown : IsGrown gives.0.names now.names = gives_grown batch gives.0 now gs gives.2 in
     let same : named own x.outs ≡ named names x.outs =
-        same_named gives.0.names own x.outs (grown_both gives.0.names now.names own grown g) gives.1.numbers
-        ∙ sym (same_named gives.0.names names x.outs (grown_both gives.0.names now.names names grown h) gives.1.numbers) in
+    same_named gives.0.names own x.outs (grown_both gives.0.names now.names own grown g) gives.1.numbers
+    ∙ sym (same_named gives.0.names names x.outs (grown_both gives.0.names now.names names grown h) gives.1.numbers) in
     let count : length gives.0.journal ≡ length was.journal + 1 = ap (λ (l : List Run). length l) gives.1.journal ∙ length-append was.journal (run_of (word_at batch x.place) x.outs ∷ []) in
     ap (λ (n : ℕ). record { run = n; word = word_at batch x.place; names = named own x.outs } ∷ given_runs batch own gs) gives.1.run
     ∙ (ap (λ (ns : List (List ℕ)). record { run = length was.journal; word = word_at batch x.place; names = ns } ∷ given_runs batch own gs) same

@@ -65,8 +65,12 @@ fn open(
     requires few { length batch.now < 2 ^ 32 }
     requires unclaimed { parts.cache.claims ≡ [] }
     ensures ours { IfOk result (λ t. t.1.turnstile ≡ t.0) }
-    ensures first { IfOk result (λ t. t.1.knows ≡ first_view (record { kept = parts.cache.kept;
-        naming = parts.names; batch = batch.now; actors = actors })) }
+    ensures first { IfOk result (λ t. t.1.knows ≡ first_view (record {
+      kept = parts.cache.kept;
+      naming = parts.names;
+      batch = batch.now;
+      actors = actors;
+    })) }
     ensures back { IfErr result (λ p. (p.cache.kept ≡ parts.cache.kept) ×
         (p.cache.claims ≡ []) × (p.names ≡ parts.names)) }
 {
@@ -192,8 +196,8 @@ impl<S: Sul + Drop, R: Drop> Pool<S, R> {
         requires shared { IsShared names }
         requires join { (i : ℕ) (d : _) → i < length sessions.items →
             MayJoin names inputs outputs i
-                (member_of S.names S.most S.stop S.origin S.inputs S.outputs
-                    (slice_index_or sessions.items i d)).seen }
+            (member_of S.names S.most S.stop S.origin S.inputs S.outputs
+            (slice_index_or sessions.items i d)).seen }
         requires prior { MayBegin names inputs outputs cache.kept }
         ensures members { IfOk result (λ p. p.members ≡
             map (member_of S.names S.most S.stop S.origin S.inputs S.outputs) sessions.items) }

@@ -8,9 +8,8 @@ use Rattle.lw_pool.proofs.PoolLemmas.{pool_new}
 use Rattle.lw_pool.proofs.pool.Pool.new.Goals as goal
 
 pub invariant_of-result : goal.invariant_of-result
-invariant_of-result g c =
-    (
-      c.requires.unclaimed,
-      subst (λ (k : List KeptAnswer). IsPool (seen_in c.in-Ok.hands.items) c.args.names k c.args.cache.kept None false c.args.inputs c.args.outputs) (sym (ap (λ (x : Caching). x.kept) c.of-prior.ensures))
-          (pool_new (member_of g.S.Sul.names g.S.Sul.most g.S.Sul.stop g.S.Sul.origin g.S.Sul.inputs g.S.Sul.outputs) c.args.sessions.items c.in-Ok.hands.items c.args.names c.args.inputs c.args.outputs c.args.cache.kept c.in-Ok.ensures.hands c.requires.some c.requires.few c.requires.lists c.requires.shared c.requires.join c.requires.prior),
-    )
+invariant_of-result g c = (
+  c.requires.unclaimed,
+  subst (λ (k : List KeptAnswer). IsPool (seen_in c.in-Ok.hands.items) c.args.names k c.args.cache.kept None false c.args.inputs c.args.outputs) (sym (ap (λ (x : Caching). x.kept) c.of-prior.ensures))
+      (pool_new (member_of g.S.Sul.names g.S.Sul.most g.S.Sul.stop g.S.Sul.origin g.S.Sul.inputs g.S.Sul.outputs) c.args.sessions.items c.in-Ok.hands.items c.args.names c.args.inputs c.args.outputs c.args.cache.kept c.in-Ok.ensures.hands c.requires.some c.requires.few c.requires.lists c.requires.shared c.requires.join c.requires.prior),
+)

@@ -43,8 +43,7 @@ invariant_of-self g c =
     subst (λ (hs : List (Hand _)). IsPool (seen_in hs) c.in-Some-take.parts.names p.prior.value.kept c.in-Some-take.parts.cache.kept p.stop p.refused p.inputs p.outputs) (sym c.deref_mut.ensures.value)
     (subst (λ (x : Option Parts). IsPool (seen_in p.hands.items) (naming_in x) p.prior.value.kept (kept_in x) p.stop p.refused p.inputs p.outputs) there c.self.invariant.1) in
     let letters : All (IsWord p.inputs) c.args.batch.now = subst (λ (s : PoolState _). All (IsWord s.inputs) c.args.batch.now) (sym c.self.view_is) c.requires.letters in
-    let long : length c.run-parts.new.hands ≡ p.hands.len = after_long (opening_of c.in-Some-take.parts c.args.batch.now (length c.deref_mut.result.now)) c.deref_mut.result.now c.run-parts.new.hands c.run-parts.result.0 c.run-parts.result.1 c.run-parts.ensures.after ∙ c.deref_mut.ensures.len in
-    (
+    let long : length c.run-parts.new.hands ≡ p.hands.len = after_long (opening_of c.in-Some-take.parts c.args.batch.now (length c.deref_mut.result.now)) c.deref_mut.result.now c.run-parts.new.hands c.run-parts.result.0 c.run-parts.result.1 c.run-parts.ensures.after ∙ c.deref_mut.ensures.len in (
       c.run-parts.ensures.whole.claims,
       subst (λ (hs : List (Hand _)). IsPool (seen_in hs) c.run-parts.result.0.names p.prior.value.kept c.run-parts.result.0.cache.kept c.copy_of-self-inside.result c.was_refused-self-inside.result p.inputs p.outputs) (sym (taken_all c.run-parts.new.hands p.hands.items p.hands.len long))
           (subst (λ (o : Option _). IsPool (seen_in c.run-parts.new.hands) c.run-parts.result.0.names p.prior.value.kept c.run-parts.result.0.cache.kept o c.was_refused-self-inside.result p.inputs p.outputs) (sym c.copy_of-self-inside.ensures)
