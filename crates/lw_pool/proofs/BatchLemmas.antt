@@ -1,51 +1,48 @@
 -- What a batch leaves of a pool.
-use Rattle.std.proofs.Common.{◌≡◌, ◌⊎◌, ◌≢◌, inl, inr, ⊎_elim, ℕ, zero, suc, ◌+◌, ◌<◌, ◌≤◌, ◌==◌, ◌||◌, eqb, List, [], ◌∷◌, ◌++◌, length, map, filter, get_or, take, Contains, All, Bool, true, false, cond, Option, Some, None, is_some, refl, ap, sym, ◌∙◌, subst, subst₂, arith, append_assoc, append-nil, length-append, ◌-◌, drop, unwrap_or, get_or-append-add, option_and_then}
+use Rattle.std.proofs.Common.{◌≡◌, ◌⊎◌, inl, inr, ⊎_elim, ℕ, zero, suc, ◌+◌, ◌<◌, ◌≤◌, ◌==◌, ◌||◌, List, [], ◌∷◌, ◌++◌, length, filter, get_or, take, Contains, All, Bool, true, false, cond, Option, Some, None, is_some, refl, ap, sym, ◌∙◌, subst, arith, append_assoc, append-nil, length-append, ◌-◌, drop, unwrap_or, get_or-append-add, option_and_then}
 use Rattle.std.proofs.lemmas.Bool.{true≢false, false≢true, cases_lt}
-use Rattle.std.proofs.lemmas.List.{get_or_default, get_or_append_left, length-map, get_or-map, take-append-le}
+use Rattle.std.proofs.lemmas.List.{get_or_append_left, length-map, get_or-map, take-append-le}
 use Rattle.std.proofs.lemmas.List.Elements.{All-append, All-head, All-tail, All-weaker}
-use Rattle.lw_words.specs.Answer.{Answer, answer_at, answer_of, answers_of, IsAnswer, IsWhole}
+use Rattle.lw_words.specs.Answer.{answer_of, answers_of, IsAnswer, IsWhole}
 use Rattle.lw_words.specs.Word.{IsWord}
 use Rattle.lw_words.specs.declared.kept.KeptAnswer.{KeptAnswer}
-use Rattle.lw_words.specs.declared.stop.SulStop.{SulStop}
 use Rattle.lw_words.specs.declared.stop.RunStop.{RunStop}
 use Rattle.lw_words.specs.declared.stop.RunStop.TheVariants as Run
 use Rattle.lw_mealy.specs.Origin.{Origin}
 use Rattle.lw_mealy.specs.Machine.{Rows, answer}
 use Rattle.std.proofs.lemmas.Option.{slice_get-get_or}
 use Rattle.lw_cache.specs.declared.stops.AskStop.TheVariants as Stop
-use Rattle.lw_sul.specs.Names.{name_at, named, with_names, IsGrown}
+use Rattle.lw_sul.specs.Names.{name_at, named, IsGrown}
 use Rattle.lw_sul.specs.Told.{Answers}
 use Rattle.lw_sul.proofs.NameLemmas.{number_of-name_at}
 use Rattle.lw_words.specs.Name.{AllDiffer, number_of}
 use Rattle.lw_sul.specs.declared.runs.Run.{Run}
-use Rattle.lw_cache.specs.Asked.{IsAsked, AreAsked}
+use Rattle.lw_cache.specs.Asked.{IsAsked}
 use Rattle.lw_cache.specs.Known.{IsKnown}
 use Rattle.lw_cache.specs.Settling.{KeepsAnswers, IsOf, told_machine}
 use Rattle.lw_cache.specs.declared.stops.AskStop.{AskStop}
 use Rattle.lw_turn.specs.declared.shared.Entry.{Entry}
-use Rattle.lw_turn.specs.declared.view.View.{View}
 use Rattle.lw_turn.specs.History.{entries_of}
-use Rattle.lw_desk.specs.Naming.{Naming, own_by, own_names}
-use Rattle.lw_desk.specs.Step.{DeskState, Claimed, word_at}
+use Rattle.lw_desk.specs.Naming.{own_by, own_names}
+use Rattle.lw_desk.specs.Step.{DeskState, word_at}
 use Rattle.lw_desk.specs.History.{DeskOpening, opened, Seat, seat_in, seat_after, seat_from, seat_of, actor_of, HasLists, Replays, names_given}
-use Rattle.lw_desk.specs.Ending.{NamedRun, kept_runs, given_runs, gives_of, IsShared, Brought, Settled, FailedBy, StopIs, FreshFrom}
+use Rattle.lw_desk.specs.Ending.{NamedRun, kept_runs, given_runs, gives_of, Brought, Settled, FailedBy, StopIs, FreshFrom}
 use Rattle.lw_desk.specs.declared.ask.Ask.{Ask}
 use Rattle.lw_desk.specs.declared.ask.Reply.{Reply}
 use Rattle.lw_desk.specs.declared.ask.Give.{Give}
-use Rattle.lw_desk.specs.declared.ask.Failed.{Failed}
-use Rattle.lw_desk.specs.lemmas.Members.{In, in_contains, contains_in, in_filter, in_filter_of, in_map, in_mapped, in_right, same_number, is_same}
+use Rattle.lw_desk.specs.lemmas.Members.{In, in_contains, contains_in, in_filter, in_filter_of, in_map, in_mapped, in_right, is_same}
 use Rattle.lw_desk.specs.lemmas.ClaimLists.{places_of}
 use Rattle.lw_desk.proofs.Endings.{brought, stays_shared, settled, nothing_claimed, nobody_has_failed, names_grew, all_of}
-use Rattle.lw_desk.proofs.SeatLemmas.{Stands, opened_stands, seat_after_all, replays_stands}
+use Rattle.lw_desk.proofs.SeatLemmas.{opened_stands, seat_after_all, replays_stands}
 use Rattle.lw_desk.proofs.StopLemmas.{stop_is}
 use Rattle.lw_pool.specs.Fitting.{Fits, FitsBy}
 use Rattle.lw_pool.specs.Pool.{Seen, nobody, seen_at, journal_runs, StandsFor, AskedOnce, IsStopOf, origins_of}
-use Rattle.lw_pool.specs.bodies.Working.{Same, HasGiven, HasRefused, GivesBetween}
-use Rattle.lw_pool.specs.bodies.Engaged.{Working, NobodyFailed}
+use Rattle.lw_pool.specs.bodies.Working.{HasRefused, GivesBetween}
+use Rattle.lw_pool.specs.bodies.Engaged.{NobodyFailed}
 use Rattle.lw_pool.specs.bodies.Crew.{HasWorkedOff}
 use Rattle.lw_pool.specs.bodies.Standing.{IsMember, IsPool}
 use Rattle.lw_pool.proofs.GiveLemmas.{gives_same, gives_few, gives_live, refused_few, each_given}
-use Rattle.lw_pool.proofs.JournalLemmas.{grown_not, grown_both, same_named, runs_both, runs_grown, kept_grown, kept_both, runs_given, gives_journal, gives_grown, gives_below, gives_runs}
+use Rattle.lw_pool.proofs.JournalLemmas.{grown_not, grown_both, runs_both, runs_grown, kept_grown, kept_both, runs_given, gives_journal, gives_grown, gives_below, gives_runs}
 use Rattle.lw_pool.proofs.WorkLemmas.{gives_names, first_live}
 
 -- an entry of an actor is one of its own

@@ -1,15 +1,14 @@
 -- Answers that are given one after the other.
-use Rattle.std.proofs.Common.{◌≡◌, ◌⊎◌, inl, inr, ⊎_elim, ℕ, zero, suc, ◌+◌, ◌<◌, ◌≤◌, List, [], ◌∷◌, ◌++◌, length, map, take, drop, get_or, Bool, true, false, Option, Some, None, is_some, refl, ap, sym, ◌∙◌, subst, arith, append_assoc, append-nil, take-append-drop, ◌==◌, ◌≢◌, pos_of_ne-zero, All, length-append}
+use Rattle.std.proofs.Common.{◌≡◌, inl, ⊎_elim, ℕ, ◌+◌, ◌<◌, ◌≤◌, List, [], ◌∷◌, ◌++◌, length, map, take, drop, get_or, Bool, true, false, Option, Some, None, is_some, refl, ap, sym, ◌∙◌, subst, arith, append-nil, take-append-drop, ◌==◌, ◌≢◌, pos_of_ne-zero, All, length-append}
 use Rattle.lw_desk.specs.lemmas.Members.{In, other_number}
 use Rattle.std.proofs.lemmas.Bool.{true≢false, false≢true}
 use Rattle.std.proofs.lemmas.List.{map_push, take_more, length-drop}
 use Rattle.lw_words.specs.declared.stop.RunStop.{RunStop}
-use Rattle.lw_sul.specs.Names.{IsGrown}
 use Rattle.lw_sul.specs.Told.{Answers}
 use Rattle.lw_mealy.specs.Origin.{Origin}
 use Rattle.lw_desk.specs.Step.{word_at}
 use Rattle.std.proofs.lemmas.List.Elements.{All-weaker}
-use Rattle.lw_desk.specs.History.{settled_places, failed_places}
+use Rattle.lw_desk.specs.History.{failed_places}
 use Rattle.lw_desk.specs.declared.ask.Ask.{Ask}
 use Rattle.lw_desk.specs.declared.ask.Give.{Give}
 use Rattle.lw_desk.specs.declared.ask.Failed.{Failed}

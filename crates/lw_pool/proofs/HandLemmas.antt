@@ -1,5 +1,5 @@
 -- Hands, and what their sessions tell.
-use Rattle.std.proofs.Common.{◌≡◌, ℕ, zero, suc, ◌<◌, List, [], ◌∷◌, length, map, get_or, take, drop, ◌++◌, take_at, append_assoc, append-nil, refl, ap, sym, ◌∙◌, subst, subst₂, arith}
+use Rattle.std.proofs.Common.{◌≡◌, ℕ, ◌<◌, List, [], ◌∷◌, length, map, get_or, take, drop, ◌++◌, take_at, append_assoc, append-nil, ap, sym, ◌∙◌, subst₂, arith}
 use Rattle.std.proofs.lemmas.List.{get_or-map, length-map, map_push}
 use Rattle.lw_sul.specs.SessionState.{SessionState}
 use Rattle.lw_turn.specs.declared.shared.Entry.{Entry}

@@ -1,10 +1,10 @@
 -- The runs of journals beside the kept answers.
-use Rattle.std.proofs.Common.{◌≡◌, ◌⊎◌, inl, inr, ⊎_elim, ℕ, zero, suc, ◌+◌, ◌<◌, ◌≤◌, ◌==◌, List, [], ◌∷◌, ◌++◌, length, map, filter, get_or, All, Bool, true, false, cond, Option, Some, None, refl, ap, sym, ◌∙◌, subst, arith, append_assoc, append-nil, length-append}
+use Rattle.std.proofs.Common.{◌≡◌, ℕ, ◌+◌, ◌<◌, ◌≤◌, ◌==◌, List, [], ◌∷◌, ◌++◌, length, map, filter, All, Bool, true, false, cond, refl, ap, sym, ◌∙◌, subst, arith, append_assoc, append-nil, length-append}
 use Rattle.std.proofs.lemmas.List.{get_or_append_left}
 use Rattle.std.proofs.lemmas.List.Elements.{All-head, All-tail, filter-append}
 use Rattle.std.proofs.lemmas.List.{map-append}
 use Rattle.lw_words.specs.declared.kept.KeptAnswer.{KeptAnswer}
-use Rattle.lw_sul.specs.Names.{name_at, named, IsGrown}
+use Rattle.lw_sul.specs.Names.{named, IsGrown}
 use Rattle.lw_sul.specs.SessionState.{run_of}
 use Rattle.lw_sul.specs.declared.runs.Run.{Run}
 use Rattle.lw_sul.proofs.NameLemmas.{named-grown}
@@ -12,7 +12,7 @@ use Rattle.lw_desk.specs.Step.{word_at}
 use Rattle.lw_desk.specs.Ending.{NamedRun, kept_runs, given_runs}
 use Rattle.lw_desk.specs.declared.ask.Give.{Give}
 use Rattle.lw_pool.specs.Pool.{Seen, journal_runs}
-use Rattle.lw_pool.specs.bodies.Working.{HasGiven, GivesBetween}
+use Rattle.lw_pool.specs.bodies.Working.{GivesBetween}
 
 pub grown_not : (xs : List (List ℕ)) → IsGrown xs xs
 grown_not xs = ([], sym (append-nil xs))

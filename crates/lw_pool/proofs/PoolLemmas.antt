@@ -1,17 +1,15 @@
 -- A pool before a batch and after it.
-use Rattle.std.proofs.Common.{◌≡◌, ◌⊎◌, inl, inr, ⊎_elim, ℕ, ◌<◌, ◌≤◌, ◌||◌, List, [], ◌∷◌, ◌++◌, length, map, All, Bool, true, false, Option, Some, None, is_some, Result, Ok, Err, OnOk, slice_index_or, slice_get, option_and_then, take, drop, refl, ap, sym, ◌∙◌, subst, subst₂, arith, append-nil}
+use Rattle.std.proofs.Common.{◌≡◌, inr, ⊎_elim, ℕ, ◌<◌, ◌≤◌, ◌||◌, List, [], ◌∷◌, ◌++◌, length, map, All, Bool, true, false, Option, Some, None, is_some, Result, Ok, Err, OnOk, slice_index_or, option_and_then, take, drop, refl, ap, sym, ◌∙◌, subst, subst₂, arith, append-nil}
 use Rattle.std.specs.Bool.{⊤}
 use Rattle.std.proofs.lemmas.Bool.{true≢false, false≢true}
 use Rattle.lw_words.specs.Answer.{answer_of, answers_of, IsWhole}
 use Rattle.lw_words.specs.Name.{AllDiffer}
 use Rattle.lw_words.specs.Word.{IsWord}
 use Rattle.lw_words.specs.declared.kept.KeptAnswer.{KeptAnswer}
-use Rattle.lw_cache.specs.Asked.{IsAsked}
 use Rattle.lw_cache.specs.Clash.{NothingClashes}
 use Rattle.lw_cache.specs.Known.{IsKnown}
 use Rattle.lw_cache.specs.Settling.{GainsExactly, TellsStop, refused_after, IsOf, told_machine}
 use Rattle.lw_cache.specs.declared.stops.AskStop.{AskStop}
-use Rattle.lw_cache.specs.declared.stops.AskStop.TheVariants as Stop
 use Rattle.lw_turn.specs.History.{entries_of}
 use Rattle.lw_turn.specs.declared.shared.Entry.{Entry}
 use Rattle.lw_cache.specs.Caching.{Caching}
@@ -22,7 +20,7 @@ use Rattle.lw_desk.specs.Naming.{Naming, own_names}
 use Rattle.lw_desk.specs.Step.{DeskState}
 use Rattle.lw_desk.specs.History.{DeskOpening, opened, HasLists, Replays}
 use Rattle.lw_desk.specs.Ending.{Brought, IsShared, Settled}
-use Rattle.lw_pool.specs.Pool.{Seen, Member, PoolState, nobody, seen_at, seen_of, origins_of, journal_runs, IsStopOf}
+use Rattle.lw_pool.specs.Pool.{Seen, Member, PoolState, nobody, seen_at, origins_of, journal_runs, IsStopOf}
 use Rattle.lw_pool.specs.Opening.{MayBegin, MayJoin}
 use Rattle.lw_mealy.specs.Origin.{Origin}
 use Rattle.lw_sul.specs.SessionState.{SessionState}

@@ -1,7 +1,6 @@
 -- How a worker's turns go on.
-use Rattle.std.proofs.Common.{◌≡◌, ◌⊎◌, ◌≢◌, inl, inr, ⊎_elim, ℕ, zero, suc, ◌+◌, ◌<◌, ◌≤◌, ◌||◌, ◌↔◌, List, [], ◌∷◌, ◌++◌, length, map, take, drop, get_or, Contains, All, Bool, true, false, Option, Some, None, is_some, refl, ap, ap₂, sym, ◌∙◌, subst, arith, append_assoc, append-nil, length-append}
-use Rattle.std.proofs.lemmas.Bool.{true≢false, false≢true}
-use Rattle.std.proofs.lemmas.List.{get_or-append_right, get_or_default}
+use Rattle.std.proofs.Common.{◌≡◌, ◌⊎◌, inl, inr, ⊎_elim, ℕ, ◌<◌, ◌≤◌, ◌||◌, ◌↔◌, List, [], ◌∷◌, ◌++◌, length, map, Contains, All, Bool, true, false, Option, Some, None, is_some, refl, ap, ap₂, sym, ◌∙◌, subst, arith, append_assoc, append-nil, length-append}
+use Rattle.std.proofs.lemmas.Bool.{false≢true}
 use Rattle.lw_words.specs.Name.{IsName, AllDiffer}
 use Rattle.lw_words.specs.declared.stop.SulStop.{SulStop}
 use Rattle.lw_words.specs.declared.stop.RunStop.{RunStop}
@@ -10,9 +9,9 @@ use Rattle.lw_sul.specs.Names.{named, with_names}
 use Rattle.lw_turn.specs.declared.shared.Entry.{Entry}
 use Rattle.lw_turn.specs.declared.view.View.{View}
 use Rattle.lw_turn.specs.Views.{IsTurned}
-use Rattle.lw_desk.specs.Naming.{own_names, MayBring}
-use Rattle.lw_desk.specs.Step.{DeskState, word_at, TakesAll, after_fail}
-use Rattle.lw_desk.specs.History.{DeskOpening, opened, Seat, MayGiveAll, MayAsk, May, seat_after, seat_from, seat_of, actor_of, Makes, Replays, Legal, names_given, settled_places, failed_places}
+use Rattle.lw_desk.specs.Naming.{own_names}
+use Rattle.lw_desk.specs.Step.{DeskState, TakesAll, after_fail}
+use Rattle.lw_desk.specs.History.{DeskOpening, opened, Seat, MayGiveAll, May, seat_after, seat_from, seat_of, actor_of, Makes, Replays, Legal, names_given, failed_places}
 use Rattle.lw_desk.specs.Ending.{gives_of}
 use Rattle.lw_desk.specs.declared.ask.Ask.{Ask}
 use Rattle.lw_desk.specs.declared.ask.Reply.{Reply}

@@ -1,5 +1,5 @@
 -- Which sessions may make a pool.
-use Rattle.std.specs.Prelude.{◌≡◌, ℕ, ◌<◌, List, [], length, slice_index_or, map, Option, None}
+use Rattle.std.specs.Prelude.{◌≡◌, ℕ, ◌<◌, List, [], length, Option, None}
 use Rattle.std.specs.List.{All}
 use Rattle.lw_words.specs.Answer.{answer_of, IsAnswer}
 use Rattle.lw_words.specs.declared.kept.KeptAnswer.{KeptAnswer}
@@ -7,8 +7,6 @@ use Rattle.lw_words.specs.declared.stop.SulStop.{SulStop}
 use Rattle.lw_mealy.specs.Origin.{Origin}
 use Rattle.lw_sul.specs.SessionState.{SessionState}
 use Rattle.lw_desk.specs.Naming.{Naming, own_names}
-use Rattle.lw_desk.specs.History.{HasLists}
-use Rattle.lw_desk.specs.Ending.{IsShared}
 use Rattle.lw_pool.specs.Fitting.{Fits}
 use Rattle.lw_pool.specs.Pool.{Seen, Member, ArePrior}
 

@@ -1,5 +1,5 @@
 -- What settling a batch brings to a pool.
-use Rattle.std.specs.Prelude.{◌≡◌, ℕ, List, ◌++◌, map, Result, Ok, Err, OnOk, ⊤}
+use Rattle.std.specs.Prelude.{◌≡◌, ℕ, List, ◌++◌, map, Result, OnOk, ⊤}
 use Rattle.std.specs.List.{All}
 use Rattle.lw_words.specs.Answer.{answers_of}
 use Rattle.lw_words.specs.Name.{AllDiffer}

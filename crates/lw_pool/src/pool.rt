@@ -15,7 +15,7 @@ ghost use Rattle.lw_pool.specs.bodies.Running.{AfterBatch, AreWhole, opening_of}
 
 use crate::hands::{Hand, hands_of, work_off};
 use crate::parts::Parts;
-use lw_cache::{AskStop, Cache, Oracle};
+use lw_cache::{AskStop, Cache};
 use lw_desk::{Desk, OutNames};
 use lw_sul::{Session, Sul};
 use lw_turn::{Pass, Turnstile};
@@ -251,40 +251,14 @@ impl<S: Sul + Send, R: Threads + Wait + Sync> Pool<S, R> {
     }
 }
 
-impl<S: Sul + Send, R: Threads + Wait + Sync> Oracle for Pool<S, R> {
-    ghost use Rattle.std.specs.Prelude.{true};
-    ghost use Rattle.lw_pool.specs.Pool.{seen_of, origins_of};
-
-    ghost inputs = { λ p. p.inputs };
-
-    ghost outputs = { λ p. p.outputs };
-
-    ghost kept = { λ p. p.kept };
-
-    ghost origins = { λ p. origins_of (seen_of p) };
-
-    ghost stop = { λ p. p.stop };
-
-    ghost refused = { λ p. p.refused };
-
-    ghost exact = { λ _. true };
-
-    fn inputs(&self) -> u16 {
-        self.inputs
-    }
-
-    fn outputs(&self) -> u16 {
-        self.outputs
-    }
-
-    fn cache(&self) -> &Cache {
+impl<S: Sul, R> Pool<S, R> {
+    /// The prior answers and all that the sessions have answered.
+    pub fn cache(&self) -> &Cache
+        ensures { result.now.kept ≡ self.now.kept }
+    {
         let Some(parts) = &self.parts else {
             unreachable!()
         };
         &parts.cache
-    }
-
-    fn settle(&mut self, batch: &[Word]) -> Result<(), AskStop> {
-        self.settle_all(batch)
     }
 }

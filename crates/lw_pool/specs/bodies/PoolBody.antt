@@ -1,5 +1,5 @@
 -- The fields of a pool, and what contracts see of them.
-use Rattle.std.specs.Prelude.{◌≡◌, List, [], map, Option, Some, None}
+use Rattle.std.specs.Prelude.{◌≡◌, List, [], Option, Some, None}
 use Rattle.lw_words.specs.declared.kept.KeptAnswer.{KeptAnswer}
 use Rattle.lw_desk.specs.Naming.{Naming}
 use Rattle.lw_pool.specs.declared.parts.Parts.{Parts}

@@ -1,5 +1,5 @@
 -- What a batch leaves of the hands and of what they share.
-use Rattle.std.specs.Prelude.{◌≡◌, ◌⊎◌, ℕ, ◌≤◌, List, [], length, map, Option, Some}
+use Rattle.std.specs.Prelude.{◌≡◌, ◌⊎◌, ℕ, ◌≤◌, List, [], length, Option, Some}
 use Rattle.std.specs.List.{All}
 use Rattle.lw_words.specs.Answer.{answers_of, IsWhole}
 use Rattle.lw_words.specs.Name.{AllDiffer}
@@ -11,7 +11,6 @@ use Rattle.lw_desk.specs.Step.{DeskState}
 use Rattle.lw_desk.specs.History.{DeskOpening, opened, Replays}
 use Rattle.lw_desk.specs.declared.ask.Ask.{Ask}
 use Rattle.lw_desk.specs.declared.ask.Reply.{Reply}
-use Rattle.lw_pool.specs.Pool.{Seen, Member}
 use Rattle.lw_pool.specs.declared.hands.Hand.{Hand}
 use Rattle.lw_pool.specs.declared.parts.Parts.{Parts}
 use Rattle.lw_pool.specs.bodies.Crew.{AllWorkedOff}

@@ -1,22 +1,16 @@
 -- What a worker does with its places, and what that leaves of its session.
-use Rattle.std.specs.Prelude.{◌≡◌, ◌⊎◌, ℕ, ◌<◌, ◌≤◌, List, [], ◌∷◌, ◌++◌, length, Bool, true, false, Option, Some, None, is_some, Contains}
+use Rattle.std.specs.Prelude.{◌≡◌, ◌⊎◌, ℕ, ◌<◌, ◌≤◌, List, [], ◌∷◌, ◌++◌, length, true, Option, Some, None, is_some}
 use Rattle.std.specs.List.{All}
 use Rattle.lw_words.specs.Name.{IsName, AllDiffer}
-use Rattle.lw_words.specs.Word.{IsWord}
 use Rattle.lw_words.specs.declared.stop.SulStop.{SulStop}
 use Rattle.lw_words.specs.declared.stop.RunStop.{RunStop}
 use Rattle.lw_words.specs.declared.stop.RunStop.TheVariants as Run
 use Rattle.lw_sul.specs.Names.{named, with_names, IsGrown}
 use Rattle.lw_sul.specs.SessionState.{run_of}
 use Rattle.lw_sul.specs.Told.{Answers}
-use Rattle.lw_turn.specs.declared.shared.Entry.{Entry}
-use Rattle.lw_turn.specs.declared.view.View.{View}
-use Rattle.lw_desk.specs.Naming.{own_names, MayBring}
 use Rattle.lw_desk.specs.Step.{word_at}
-use Rattle.lw_desk.specs.History.{DeskOpening, Seat, seat_from, settled_places, failed_places}
-use Rattle.lw_desk.specs.Ending.{gives_of}
+use Rattle.lw_desk.specs.History.{settled_places, failed_places}
 use Rattle.lw_desk.specs.declared.ask.Ask.{Ask}
-use Rattle.lw_desk.specs.declared.ask.Reply.{Reply}
 use Rattle.lw_desk.specs.declared.ask.Give.{Give}
 use Rattle.lw_desk.specs.declared.ask.Failed.{Failed}
 use Rattle.lw_pool.specs.Pool.{Seen}

@@ -1,4 +1,4 @@
-use Rattle.std.proofs.Common.{◌≡◌, refl, None}
+use Rattle.std.proofs.Common.{refl, None}
 use Rattle.lw_pool.proofs.WorkLemmas.{first_working}
 use Rattle.lw_pool.proofs.crew.engage.Goals as goal
 

@@ -1,5 +1,4 @@
-use Rattle.std.proofs.Common.{rules, ◌≡◌, List, [], ◌++◌, map, refl, sym, ap, ◌∙◌, arith}
-use Rattle.lw_sul.specs.SessionState.{SessionState}
+use Rattle.std.proofs.Common.{List, ◌++◌, map, refl, sym, ap, ◌∙◌, arith}
 use Rattle.lw_pool.specs.Opening.{member_of}
 use Rattle.lw_pool.specs.declared.hands.Hand.{Hand}
 use Rattle.lw_pool.proofs.HandLemmas.{hand_more, hands_all}

@@ -1,6 +1,5 @@
-use Rattle.std.proofs.Common.{◌≡◌, ℕ, List, [], length, refl, sym, ap, ◌∙◌, subst, subst₂}
+use Rattle.std.proofs.Common.{◌≡◌, length, refl, sym, ap, subst}
 use Rattle.lw_turn.specs.declared.view.View.{View}
-use Rattle.lw_desk.specs.Step.{DeskState}
 use Rattle.lw_desk.specs.History.{DeskOpening, HasLists, Replays, opened}
 use Rattle.lw_desk.specs.declared.ask.Ask.{Ask}
 use Rattle.lw_desk.specs.declared.ask.Reply.{Reply}

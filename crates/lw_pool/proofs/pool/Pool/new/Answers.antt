@@ -1,4 +1,4 @@
-use Rattle.std.proofs.Common.{◌≡◌, List, None, false, sym, subst, ap}
+use Rattle.std.proofs.Common.{List, None, false, sym, subst, ap}
 use Rattle.lw_words.specs.declared.kept.KeptAnswer.{KeptAnswer}
 use Rattle.lw_cache.specs.Caching.{Caching}
 use Rattle.lw_pool.specs.Opening.{member_of}

@@ -1,14 +1,14 @@
-use Rattle.std.proofs.Common.{◌≡◌, ◌⊎◌, ⊎_elim, ℕ, ◌<◌, ◌≤◌, ◌||◌, List, [], length, map, All, Bool, Option, Some, None, Err, is_some, refl, sym, ap, ◌∙◌, subst, arith}
+use Rattle.std.proofs.Common.{◌≡◌, List, length, All, Option, Some, Err, sym, ap, ◌∙◌, subst}
 use Rattle.lw_words.specs.Word.{IsWord}
 use Rattle.lw_pool.specs.Pool.{PoolState}
 use Rattle.lw_pool.specs.Settling.{HasSettled}
 use Rattle.lw_pool.specs.declared.hands.Hand.{Hand}
 use Rattle.lw_pool.specs.declared.parts.Parts.{Parts}
-use Rattle.lw_pool.specs.bodies.PoolBody.{kept_in, naming_in, AreThere}
-use Rattle.lw_pool.specs.bodies.Running.{NotBegun, WasRun, AfterBatch, opening_of}
+use Rattle.lw_pool.specs.bodies.PoolBody.{kept_in, naming_in}
+use Rattle.lw_pool.specs.bodies.Running.{opening_of}
 use Rattle.lw_pool.specs.bodies.Standing.{IsPool}
-use Rattle.lw_pool.proofs.PoolLemmas.{pool_of, settled_again, pool_after, settled_after, all_ready, all_read, after_long, settled_as}
-use Rattle.lw_pool.proofs.HandLemmas.{seen_in, seen_long, taken_all}
+use Rattle.lw_pool.proofs.PoolLemmas.{settled_again, pool_after, settled_after, all_ready, all_read, after_long, settled_as}
+use Rattle.lw_pool.proofs.HandLemmas.{seen_in, taken_all}
 use Rattle.lw_pool.proofs.pool.Pool.settle_all.Goals as goal
 
 pub returns-in-Some : goal.returns-in-Some

@@ -1,4 +1,4 @@
-use Rattle.std.proofs.Common.{rules, ◌≡◌, ℕ, ◌<◌, List, [], length, is_some, refl, sym, ap, ◌∙◌, subst, subst₂, arith}
+use Rattle.std.proofs.Common.{rules, ℕ, ◌<◌, List, length, is_some, refl, sym, ap, ◌∙◌, subst, subst₂}
 use Rattle.std.specs.List.{All}
 use Rattle.lw_words.specs.Word.{IsWord}
 use Rattle.lw_turn.specs.declared.view.View.{View}
@@ -6,8 +6,8 @@ use Rattle.lw_desk.specs.Naming.{own_names}
 use Rattle.lw_desk.specs.History.{DeskOpening}
 use Rattle.lw_desk.specs.declared.ask.Ask.{Ask}
 use Rattle.lw_desk.specs.declared.ask.Reply.{Reply}
-use Rattle.lw_pool.specs.bodies.Engaged.{Working, IsReady}
-use Rattle.lw_pool.specs.bodies.Working.{Same, HasAnswered}
+use Rattle.lw_pool.specs.bodies.Engaged.{IsReady}
+use Rattle.lw_pool.specs.bodies.Working.{HasAnswered}
 use Rattle.lw_pool.proofs.GiveLemmas.{same_not, same_both, answered_same, some_places}
 use Rattle.lw_pool.proofs.WorkLemmas.{working_may, working_more}
 use Rattle.lw_pool.proofs.worker.Worker.work.Goals as goal
