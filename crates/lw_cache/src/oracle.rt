@@ -1,5 +1,5 @@
 //! Oracles: what answers words, and keeps what it answered.
-ghost use Rattle.std.specs.Prelude.{◌≡◌, ℕ, ◌^◌, ◌<◌, List, [], length, Bool, true, Option, Some, None, OnOk};
+ghost use Rattle.std.specs.Prelude.{◌≡◌, ℕ, ◌^◌, ◌<◌, List, [], length, Bool, true, Option, Some, None, OnOk, ⊤};
 ghost use Rattle.std.specs.List.{All};
 ghost use Rattle.lw_words.specs.Answer.{answers_of};
 ghost use Rattle.lw_words.specs.Word.{IsWord};
@@ -32,6 +32,9 @@ pub trait Oracle {
     /// Whether a settling was ever refused.
     ghost refused: { Self → Bool };
 
+    /// What a settling asks of the oracle itself, where it calls a closure; nothing where it doesn't.
+    ghost can_settle: { Self → Type 0 } = { λ _. ⊤ };
+
     /// Whether it asks exactly the words that have to be asked, each once.
     ghost exact: { Self → Bool };
 
@@ -52,6 +55,8 @@ pub trait Oracle {
     fn settle(&mut self, batch: &[Word]) -> Result<(), AskStop>
         requires letters { All (IsWord (inputs self.old)) batch.now }
         requires few { length batch.now < 2 ^ 32 }
+        requires can { can_settle self.old }
+        ensures can { can_settle self.new }
         ensures known { OnOk result (All (IsKnown (answers_of (kept self.new))) batch.now) }
         ensures unclashed { OnOk result (NothingClashes (answers_of (kept self.old)) →
             NothingClashes (answers_of (kept self.new))) }
