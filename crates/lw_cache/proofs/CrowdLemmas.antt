@@ -41,7 +41,7 @@ reads_word a ks w o are read =
 -- words that are apart are words over the letters, and lead to different states
 apart_words : (a : ℕ) (ks : List Answer) (u v : List ℕ) → AreAnswers a ks → Apart ks u v → IsWord a u × IsWord a v
 apart_words a ks u v are p =
-    (front_word a u p.suffix (reads_word a ks (u ++ p.suffix) p.one are p.one_read), front_word a v p.suffix (reads_word a ks (v ++ p.suffix) p.other are p.other_read))
+    (front_word a u p.0 (reads_word a ks (u ++ p.0) p.1.one are p.1.one_read), front_word a v p.0 (reads_word a ks (v ++ p.0) p.1.other are p.1.other_read))
 
 rest_read : (m : Rows) (ks : List Answer) (u e o : List ℕ) → Gives m ks → Reads ks (u ++ e) o → drop (length u) o ≡ out m (after m 0 u) e
 rest_read m ks u e o gives read =
@@ -50,7 +50,7 @@ rest_read m ks u e o gives read =
 
 apart_states : (m : Rows) (ks : List Answer) (u v : List ℕ) → Gives m ks → Apart ks u v → after m 0 u ≢ after m 0 v
 apart_states m ks u v gives p same =
-    p.differ (rest_read m ks u p.suffix p.one gives p.one_read ∙ (ap (λ (q : ℕ). out m q p.suffix) same ∙ sym (rest_read m ks v p.suffix p.other gives p.other_read)))
+    p.1.differ (rest_read m ks u p.0 p.1.one gives p.1.one_read ∙ (ap (λ (q : ℕ). out m q p.0) same ∙ sym (rest_read m ks v p.0 p.1.other gives p.1.other_read)))
 
 module _ (a : ℕ) (m : Rows) (ks : List Answer) (words : List (List ℕ)) (machine : IsMachine a m) (are : AreAnswers a ks) (gives : Gives m ks) (crowd : IsCrowd ks words) where
   -- the state after the i-th word

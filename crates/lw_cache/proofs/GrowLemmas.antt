@@ -5,7 +5,7 @@ use Rattle.lw_words.specs.Answer.{Answer, answer_at}
 use Rattle.lw_words.specs.Word.{IsPrefix}
 use Rattle.lw_cache.specs.Clash.{Clash, IsClearAfter, IsClear, ClearStays}
 use Rattle.lw_cache.specs.Known.{Reads, ReadsStay}
-use Rattle.lw_cache.specs.Crowd.{Apart, CrowdStays}
+use Rattle.lw_cache.specs.Crowd.{Separates, Apart, CrowdStays}
 
 module _ (ks more : List Answer) where
   same : (i : ℕ) → i < length ks → answer_at (ks ++ more) i ≡ answer_at ks i
@@ -38,16 +38,18 @@ module _ (ks more : List Answer) where
       inr (r.0, (stays r.0 r.1.0).1 r.1, subst (λ (a : Answer). IsPrefix w a.word) (sym e) r.2, r.3 ∙ ap (λ (a : Answer). take (length w) a.outs) (sym e)))
       read
 
-  apart : (u v : List ℕ) → Apart ks u v → Apart (ks ++ more) u v
-  apart u v p =
+  separates : (suffix u v : List ℕ) → Separates ks suffix u v → Separates (ks ++ more) suffix u v
+  separates suffix u v p =
       record {
-        suffix = p.suffix;
         one = p.one;
         other = p.other;
-        one_read = reads (u ++ p.suffix) p.one p.one_read;
-        other_read = reads (v ++ p.suffix) p.other p.other_read;
+        one_read = reads (u ++ suffix) p.one p.one_read;
+        other_read = reads (v ++ suffix) p.other p.other_read;
         differ = p.differ;
       }
+
+  apart : (u v : List ℕ) → Apart ks u v → Apart (ks ++ more) u v
+  apart u v p = (p.0, separates p.0 u v p.1)
 
 pub clear_stays : ClearStays
 clear_stays ks more i lt = stays ks more i lt

@@ -7,14 +7,17 @@ use Rattle.lw_mealy.specs.Machine.{Rows, IsMachine}
 use Rattle.lw_mealy.specs.Gives.{Gives}
 use Rattle.lw_cache.specs.Known.{Reads}
 
--- for some word e, u·e and v·e are known, and their outputs on e differ
-pub record Apart (ks : List Answer) (u v : List ℕ) : Type 0 where
-  pub suffix : List ℕ
+-- both words followed by the suffix are known, and their outputs on the suffix differ
+pub record Separates (ks : List Answer) (suffix u v : List ℕ) : Type 0 where
   pub one : List ℕ
   pub other : List ℕ
   pub one_read : Reads ks (u ++ suffix) one
   pub other_read : Reads ks (v ++ suffix) other
   pub differ : drop (length u) one ≢ drop (length v) other
+
+-- some suffix separates the words
+abbrev pub Apart : List Answer → List ℕ → List ℕ → Type 0
+Apart ks u v = (suffix : List ℕ) × Separates ks suffix u v
 
 -- any two of the words are apart
 abbrev pub IsCrowd : List Answer → List (List ℕ) → Type 0

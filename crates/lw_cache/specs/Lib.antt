@@ -3,6 +3,7 @@ pub mod Asked
 pub mod Caching
 pub mod Clash
 pub mod Crowd
+pub mod Cut
 pub mod FirstClash
 pub mod Known
 pub mod Plain

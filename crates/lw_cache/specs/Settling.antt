@@ -1,5 +1,5 @@
--- What an oracle keeps, what settling a batch does, and what the layers above leave of an oracle.
-use Rattle.std.specs.Prelude.{◌≡◌, ℕ, List, ◌++◌, map, Option, Some, None, Result, Ok, Err, option_and_then, slice_get, Contains, Bool, true, ⊤}
+-- What an oracle is, what settling a batch does, and what the layers above leave of an oracle.
+use Rattle.std.specs.Prelude.{◌≡◌, ℕ, List, ◌++◌, map, Option, Some, None, Result, Ok, Err, OnOk, option_and_then, slice_get, Contains, Bool, true, ⊤}
 use Rattle.std.specs.List.{All}
 use Rattle.lw_words.specs.Answer.{Answer, answer_of, answers_of, IsAnswer}
 use Rattle.lw_words.specs.Word.{IsWord}
@@ -7,8 +7,31 @@ use Rattle.lw_words.specs.declared.kept.KeptAnswer.{KeptAnswer}
 use Rattle.lw_mealy.specs.Machine.{Rows, answer}
 use Rattle.lw_mealy.specs.Origin.{Origin}
 use Rattle.lw_cache.specs.Asked.{AreAsked}
+use Rattle.lw_cache.specs.Clash.{NothingClashes}
+use Rattle.lw_cache.specs.Known.{IsKnown}
 use Rattle.lw_cache.specs.declared.stops.AskStop.{AskStop}
 use Rattle.lw_cache.specs.declared.stops.AskStop.TheVariants.{Sul, Clash, NoMemory}
+use Rattle.lw_cache.specs.declared.stops.GrowStop.{GrowStop}
+use Rattle.lw_cache.specs.declared.stops.GrowStop.TheVariants.{Ask, Crowd}
+
+-- the numbers of inputs and outputs; the kept answers; where the runs of the instances come from, by instance; the refusal
+-- of the last settling, or None where that was answered Ok or there was none; whether one was ever refused; and whether a
+-- settling asks exactly the words that have to be asked, each once
+pub record OracleState : Type 0 where
+  pub inputs : ℕ
+  pub outputs : ℕ
+  pub kept : List KeptAnswer
+  pub origins : List Origin
+  pub stop : Option AskStop
+  pub refused : Bool
+  pub exact : Bool
+
+-- what nothing changes of an oracle
+pub record IsSame (before now : OracleState) : Type 0 where
+  pub inputs : now.inputs ≡ before.inputs
+  pub outputs : now.outputs ≡ before.outputs
+  pub origins : now.origins ≡ before.origins
+  pub exact : now.exact ≡ before.exact
 
 -- an answer of a told machine is the machine's
 abbrev pub IsOf : Option Rows → Answer → Type 0
@@ -25,6 +48,9 @@ pub record KeepsAnswers (inputs outputs : ℕ) (origins : List Origin) (kept : L
   pub answers : All (λ k. IsAnswer inputs (answer_of k)) kept
   pub outputs_below : All (λ k. IsWord outputs k.outs) kept
   pub told : All (λ k. IsOf (told_machine origins k.instance) (answer_of k)) kept
+
+abbrev pub Keeps : OracleState → Type 0
+Keeps o = KeepsAnswers o.inputs o.outputs o.origins o.kept
 
 -- the kept answers gain some at their end, each to a word of the batch
 pub record GainsAnswers (batch : List (List ℕ)) (before now : List KeptAnswer) : Type 0 where
@@ -48,6 +74,17 @@ abbrev pub refused_after : Bool → Result ⊤ AskStop → Bool
 refused_after refused (Ok _) = refused
 refused_after refused (Err _) = true
 
+-- an oracle once it has settled a batch, or was refused
+pub record Settles (batch : List (List ℕ)) (before now : OracleState) (result : Result ⊤ AskStop) : Type 0 where
+  pub known : OnOk result (All (IsKnown (answers_of now.kept)) batch)
+  pub unclashed : OnOk result (NothingClashes (answers_of before.kept) → NothingClashes (answers_of now.kept))
+  pub gains : GainsAnswers batch before.kept now.kept
+  pub exactly : OnOk result (before.exact ≡ true → GainsExactly batch before.kept now.kept)
+  pub keeps : Keeps now
+  pub stop : TellsStop result now.stop
+  pub refused : now.refused ≡ refused_after before.refused result
+  pub same : IsSame before now
+
 -- the stop is neither a system's nor a clash, so an oracle that tells it may be asked again
 abbrev pub MayAsk : Option AskStop → Type 0
 MayAsk None = Unit {0}
@@ -62,3 +99,24 @@ LeavesStop None now = MayAsk now
 LeavesStop (Some (Sul instance stop)) now = now ≡ Some (Sul instance stop)
 LeavesStop (Some (Clash clash)) now = now ≡ Some (Clash clash)
 LeavesStop (Some NoMemory) now = MayAsk now
+
+-- the stop of the oracle that a call answers, or None where it answers anything else
+abbrev pub asked_stop : {X : Type 0} → Result X AskStop → Option AskStop
+asked_stop (Ok x) = None
+asked_stop (Err stop) = Some stop
+
+abbrev pub grown_stop : {X : Type 0} → Result X GrowStop → Option AskStop
+grown_stop (Ok x) = None
+grown_stop (Err (Ask stop)) = Some stop
+grown_stop (Err (Crowd words)) = None
+
+-- what a call of a layer above leaves of its oracle, by that stop: more answers at the end of those it kept; where no stop is
+-- answered, none was refused, and no clash came
+pub record Leaves (before now : OracleState) (stop : Option AskStop) : Type 0 where
+  pub gained : List KeptAnswer
+  pub at_end : now.kept ≡ before.kept ++ gained
+  pub keeps : Keeps now
+  pub same : IsSame before now
+  pub told : LeavesStop stop now.stop
+  pub refused : stop ≡ None → now.refused ≡ before.refused
+  pub unclashed : stop ≡ None → NothingClashes (answers_of before.kept) → NothingClashes (answers_of now.kept)

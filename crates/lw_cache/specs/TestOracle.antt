@@ -1,9 +1,9 @@
 -- What contracts see of the oracle of the tests: a machine that answers one word after another.
-use Rattle.std.specs.Prelude.{◌≡◌, ◌⊎◌, ℕ, List, [], ◌∷◌, ◌++◌, Option, Some, None, Bool}
+use Rattle.std.specs.Prelude.{◌≡◌, ◌⊎◌, ℕ, List, [], ◌∷◌, ◌++◌, Option, Some, None, Bool, false}
 use Rattle.lw_words.specs.declared.kept.KeptAnswer.{KeptAnswer}
 use Rattle.lw_mealy.specs.Limits.{MealyMachine}
 use Rattle.lw_mealy.specs.Origin.{Origin}
-use Rattle.lw_cache.specs.Settling.{KeepsAnswers}
+use Rattle.lw_cache.specs.Settling.{OracleState, KeepsAnswers}
 use Rattle.lw_cache.specs.declared.stops.AskStop.{AskStop}
 
 pub record TestOracle : Type 0 where
@@ -18,6 +18,17 @@ origins_of t = record { machine = Some t.rows; link = None } ∷ []
 
 abbrev pub KeepsOf : MealyMachine → List KeptAnswer → Type 0
 KeepsOf t kept = KeepsAnswers t.inputs t.outputs (origins_of t) kept
+
+abbrev pub state_of : TestOracle → OracleState
+state_of t = record {
+  inputs = t.machine.inputs;
+  outputs = t.machine.outputs;
+  kept = t.kept;
+  origins = origins_of t.machine;
+  stop = t.stop;
+  refused = t.refused;
+  exact = false;
+}
 
 -- at most one answer more, to the word
 pub record HasAsked (t : MealyMachine) (w : List ℕ) (before now : List KeptAnswer) : Type 0 where

@@ -289,9 +289,9 @@ fn stops_are_copied_and_carried_up(rt: HostRuntime) -> Result<(), Fail> {
 
 /// Settles one word, and answers how many answers are kept then.
 fn settles<O: Oracle>(oracle: &mut O, w: Word, alloc: Global) -> Result<usize, Fail>
-    requires letters { IsWord (O.inputs oracle.old) w }
+    requires letters { IsWord (O.state oracle.old).inputs w }
     requires can { O.can_settle oracle.old }
-    ensures { O.inputs oracle.new ≡ O.inputs oracle.old }
+    ensures { (O.state oracle.new).inputs ≡ (O.state oracle.old).inputs }
 {
     let batch = vec![in alloc; w]?;
     let settled = oracle.settle(&batch);

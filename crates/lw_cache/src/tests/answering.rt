@@ -91,22 +91,9 @@ fn answer_all(m: &Mealy, cache: &mut Cache, batch: &[Word]) -> Result<(), AskSto
 }
 
 impl Oracle for Answering {
-    ghost use Rattle.std.specs.Prelude.{false};
-    ghost use Rattle.lw_cache.specs.TestOracle.{origins_of};
+    ghost use Rattle.lw_cache.specs.TestOracle.{state_of};
 
-    ghost inputs = { λ a. a.machine.inputs };
-
-    ghost outputs = { λ a. a.machine.outputs };
-
-    ghost kept = { λ a. a.kept };
-
-    ghost origins = { λ a. origins_of a.machine };
-
-    ghost stop = { λ a. a.stop };
-
-    ghost refused = { λ a. a.refused };
-
-    ghost exact = { λ _. false };
+    ghost state = { state_of };
 
     fn inputs(&self) -> u16 {
         self.mealy.inputs()

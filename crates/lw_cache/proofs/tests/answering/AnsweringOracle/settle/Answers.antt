@@ -1,10 +1,22 @@
-use Rattle.std.proofs.Common.{List, subst, ap, sym}
-use Rattle.lw_words.specs.Answer.{answers_of}
-use Rattle.lw_words.specs.declared.kept.KeptAnswer.{KeptAnswer}
-use Rattle.lw_cache.specs.Clash.{NothingClashes}
-use Rattle.lw_cache.specs.TestOracle.{TestOracle}
+use Rattle.std.proofs.Common.{Ok, refl, subst}
+use Rattle.std.proofs.lemmas.Bool.{false≢true}
+use Rattle.lw_cache.specs.Settling.{Settles}
+use Rattle.lw_cache.specs.TestOracle.{TestOracle, state_of}
+use Rattle.lw_cache.specs.contracts.tests.answering.Answering.{the_view}
 use Rattle.lw_cache.proofs.tests.answering.AnsweringOracle.settle.Goals as goal
 
-pub returns-in-Ok-clause-unclashed : goal.returns-in-Ok-clause-unclashed
-returns-in-Ok-clause-unclashed c =
-    λ nothing. c.in-Ok.ensures.unclashed (subst (λ (l : List KeptAnswer). NothingClashes (answers_of l)) (ap (λ (v : TestOracle). v.kept) (sym c.self.view_is)) nothing)
+pub returns-in-Ok-clause-settles : goal.returns-in-Ok-clause-settles
+returns-in-Ok-clause-settles c =
+    subst
+    (λ (t : TestOracle). Settles c.args.batch.now (state_of t) (state_of (record (the_view c.self.inside) { kept = c.answer_all.new.cache.kept; stop = _ })) (Ok tt))
+    c.self.view_is
+    (record {
+      known = c.in-Ok.ensures.known;
+      unclashed = c.in-Ok.ensures.unclashed;
+      gains = c.answer_all.ensures.gains;
+      exactly = λ exact. absurd (false≢true exact);
+      keeps = c.answer_all.ensures.keeps;
+      stop = refl;
+      refused = refl;
+      same = record { inputs = refl; outputs = refl; origins = refl; exact = refl };
+    })
