@@ -9,8 +9,7 @@ mod KeepLemmas
 pub mod KnownLemmas
 mod LookLemmas
 mod MoreLemmas
-pub mod OracleLemmas
-mod PlainLemmas
+pub mod PlainLemmas
 mod ReckonLemmas
 mod ReclaimLemmas
 mod RoomLemmas

@@ -9,5 +9,4 @@ pub mod Known
 pub mod Plain
 pub mod Settling
 pub mod Standing
-pub mod TestOracle
 pub mod bodies

@@ -5,11 +5,8 @@ ghost use Rattle.lw_words.specs.Answer.{answer_of, answers_of, IsWhole};
 ghost use Rattle.lw_words.specs.Word.{IsWord};
 ghost use Rattle.lw_cache.specs.Caching.{claim_of};
 
-mod answering;
-
 use crate::plain::{clash, clear, known};
-use crate::tests::answering::Answering;
-use crate::{AskStop, Cache, Clash, GrowStop, KeepStop, Known, Oracle};
+use crate::{AskStop, Cache, Clash, GrowStop, KeepStop, Known};
 use lw_mealy::Mealy;
 use lw_words::{Kept, KeptAnswer, NoMemory, SulStop, Word, Words};
 use rand_core::SeedableRng;
@@ -284,33 +281,5 @@ fn stops_are_copied_and_carried_up(rt: HostRuntime) -> Result<(), Fail> {
         GrowStop::Crowd(words) => assert_eq!(rt; words.len(), 0),
         GrowStop::Ask(_) => return Err(Fail::from("another stop")),
     }
-    Ok(())
-}
-
-/// Settles one word, and answers how many answers are kept then.
-fn settles<O: Oracle>(oracle: &mut O, w: Word, alloc: Global) -> Result<usize, Fail>
-    requires letters { IsWord (O.state oracle.old).inputs w }
-    requires can { O.can_settle oracle.old }
-    ensures { (O.state oracle.new).inputs ≡ (O.state oracle.old).inputs }
-{
-    let batch = vec![in alloc; w]?;
-    let settled = oracle.settle(&batch);
-    let Ok(()) = settled else {
-        return Err(Fail::from("the batch was refused"));
-    };
-    Ok(oracle.cache().kept().len())
-}
-
-#[test]
-fn an_oracle_settles_each_word_once(rt: HostRuntime) -> Result<(), Fail> {
-    let alloc = rt.alloc();
-    let rows = vec![in alloc; vec![in alloc; (0u16, 0u16), (0, 1)]?]?;
-    let Ok(mealy) = Mealy::new(alloc, 2, 2, rows) else {
-        return Err(Fail::from("the machine is one"));
-    };
-    let mut oracle = Answering::new(alloc, mealy);
-    let (long, short) = (word(alloc, &[0, 1])?, word(alloc, &[0])?);
-    assert_eq!(rt; settles(&mut oracle, long, alloc)?, 1);
-    assert_eq!(rt; settles(&mut oracle, short, alloc)?, 1);
     Ok(())
 }

@@ -15,7 +15,7 @@ use Rattle.lw_cache.specs.Caching.{kept_answer}
 use Rattle.lw_cache.specs.Clash.{Clash, NothingClashes, IsClearAfter}
 use Rattle.lw_cache.specs.Known.{IsKnown}
 use Rattle.lw_cache.specs.Settling.{IsOf, told_machine, GainsAnswers}
-use Rattle.lw_cache.specs.TestOracle.{origins_of, KeepsOf, HasAsked}
+use Rattle.test_oracle.specs.Recording.{origins_of, KeepsOf, HasAsked}
 use Rattle.lw_cache.proofs.AnswerLemmas.{at_last}
 use Rattle.lw_cache.proofs.ClashLemmas.{all_are_clear, unclashed_after}
 use Rattle.lw_cache.proofs.GrowLemmas.{after_stays, reads_stay}

@@ -1,21 +1,21 @@
 use Rattle.std.proofs.Common.{Ok, refl, subst}
 use Rattle.std.proofs.lemmas.Bool.{false≢true}
 use Rattle.lw_cache.specs.Settling.{Settles}
-use Rattle.lw_cache.specs.TestOracle.{TestOracle, state_of}
-use Rattle.lw_cache.specs.contracts.tests.answering.Answering.{the_view}
-use Rattle.lw_cache.proofs.tests.answering.AnsweringOracle.settle.Goals as goal
+use Rattle.test_oracle.specs.Recording.{RecordingState, state_of}
+use Rattle.test_oracle.specs.contracts.recording.Recording.{the_view}
+use Rattle.test_oracle.proofs.recording.RecordingOracle.settle.Goals as goal
 
 pub returns-in-Ok-clause-settles : goal.returns-in-Ok-clause-settles
 returns-in-Ok-clause-settles c =
     subst
-    (λ (t : TestOracle). Settles c.args.batch.now (state_of t) (state_of (record (the_view c.self.inside) { kept = c.answer_all.new.cache.kept; stop = _ })) (Ok tt))
+    (λ (t : RecordingState). Settles c.args.batch.now (state_of t) (state_of (record (the_view c.self.inside) { kept = c.record_and_answer.new.cache.kept; stop = _ })) (Ok tt))
     c.self.view_is
     (record {
       known = c.in-Ok.ensures.known;
       unclashed = c.in-Ok.ensures.unclashed;
-      gains = c.answer_all.ensures.gains;
+      gains = c.record_and_answer.ensures.gains;
       exactly = λ exact. absurd (false≢true exact);
-      keeps = c.answer_all.ensures.keeps;
+      keeps = c.record_and_answer.ensures.keeps;
       stop = refl;
       refused = refl;
       same = record { inputs = refl; outputs = refl; origins = refl; exact = refl };

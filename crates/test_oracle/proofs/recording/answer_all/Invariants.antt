@@ -4,8 +4,8 @@ use Rattle.lw_words.specs.Answer.{answers_of}
 use Rattle.lw_cache.specs.Clash.{NothingClashes}
 use Rattle.lw_cache.specs.Known.{IsKnown}
 use Rattle.lw_cache.specs.Settling.{GainsAnswers}
-use Rattle.lw_cache.specs.TestOracle.{KeepsOf}
-use Rattle.lw_cache.proofs.tests.answering.answer_all.Given as goal
+use Rattle.test_oracle.specs.Recording.{KeepsOf}
+use Rattle.test_oracle.proofs.recording.answer_all.Given as goal
 
 abbrev pub invariant-loop-w : goal.invariant-loop-w
 invariant-loop-w l = record {

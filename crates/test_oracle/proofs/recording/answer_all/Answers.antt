@@ -3,8 +3,8 @@ use Rattle.std.specs.List.{All}
 use Rattle.std.proofs.lemmas.List.{get_or_default, take_all}
 use Rattle.lw_words.specs.Answer.{answers_of}
 use Rattle.lw_cache.specs.Known.{IsKnown}
-use Rattle.lw_cache.proofs.OracleLemmas.{gains_more, known_more}
-use Rattle.lw_cache.proofs.tests.answering.answer_all.Goals as goal
+use Rattle.test_oracle.proofs.RecordingLemmas.{gains_more, known_more}
+use Rattle.test_oracle.proofs.recording.answer_all.Goals as goal
 
 pub returns-in_err-answer_one-clause-gains : goal.returns-in_err-answer_one-clause-gains
 returns-in_err-answer_one-clause-gains c =

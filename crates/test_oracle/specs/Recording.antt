@@ -1,4 +1,4 @@
--- What contracts see of the oracle of the tests: a machine that answers one word after another.
+-- What contracts see of an oracle that is a machine.
 use Rattle.std.specs.Prelude.{◌≡◌, ◌⊎◌, ℕ, List, [], ◌∷◌, ◌++◌, Option, Some, None, Bool, false}
 use Rattle.lw_words.specs.declared.kept.KeptAnswer.{KeptAnswer}
 use Rattle.lw_mealy.specs.Limits.{MealyMachine}
@@ -6,7 +6,7 @@ use Rattle.lw_mealy.specs.Origin.{Origin}
 use Rattle.lw_cache.specs.Settling.{OracleState, KeepsAnswers}
 use Rattle.lw_cache.specs.declared.stops.AskStop.{AskStop}
 
-pub record TestOracle : Type 0 where
+pub record RecordingState : Type 0 where
   pub machine : MealyMachine
   pub kept : List KeptAnswer
   pub stop : Option AskStop
@@ -19,7 +19,7 @@ origins_of t = record { machine = Some t.rows; link = None } ∷ []
 abbrev pub KeepsOf : MealyMachine → List KeptAnswer → Type 0
 KeepsOf t kept = KeepsAnswers t.inputs t.outputs (origins_of t) kept
 
-abbrev pub state_of : TestOracle → OracleState
+abbrev pub state_of : RecordingState → OracleState
 state_of t = record {
   inputs = t.machine.inputs;
   outputs = t.machine.outputs;

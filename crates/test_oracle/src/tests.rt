@@ -1,0 +1,49 @@
+//! That the calls succeed, and that the batches are kept in their order.
+ghost use Rattle.std.specs.Prelude.{◌≡◌, IfOk};
+ghost use Rattle.lw_words.specs.Word.{IsWord};
+
+use crate::Recording;
+use lw_cache::Oracle;
+use lw_mealy::Mealy;
+use lw_words::Word;
+use std::alloc::Global;
+use std::test::Fail;
+
+fn word(alloc: Global, letters: &[u16]) -> Result<Word, Fail>
+    ensures { IfOk result (λ w. w ≡ letters.now) }
+{
+    Ok(Word::from_letters(alloc, letters.to_vec(alloc)?))
+}
+
+/// Settles one word, and answers how many answers are kept then.
+fn settles<O: Oracle>(oracle: &mut O, w: Word, alloc: Global) -> Result<usize, Fail>
+    requires letters { IsWord (O.state oracle.old).inputs w }
+    requires can { O.can_settle oracle.old }
+    ensures { (O.state oracle.new).inputs ≡ (O.state oracle.old).inputs }
+{
+    let batch = vec![in alloc; w]?;
+    let settled = oracle.settle(&batch);
+    let Ok(()) = settled else {
+        return Err(Fail::from("the batch was refused"));
+    };
+    Ok(oracle.cache().kept().len())
+}
+
+#[test]
+fn an_oracle_settles_each_word_once(rt: HostRuntime) -> Result<(), Fail> {
+    let alloc = rt.alloc();
+    let rows = vec![in alloc; vec![in alloc; (0u16, 0u16), (0, 1)]?]?;
+    let Ok(mealy) = Mealy::new(alloc, 2, 2, rows) else {
+        return Err(Fail::from("the machine is one"));
+    };
+    let mut oracle = Recording::new(alloc, mealy);
+    let (long, short) = (word(alloc, &[0, 1])?, word(alloc, &[0])?);
+    assert_eq!(rt; settles(&mut oracle, long, alloc)?, 1);
+    assert_eq!(rt; settles(&mut oracle, short, alloc)?, 1);
+    assert_eq!(rt; oracle.batches().len(), 2);
+    assert!(rt; oracle.asked(0, [[0u16, 1].as_slice()].as_slice()));
+    assert!(rt; oracle.asked(1, [[0u16].as_slice()].as_slice()));
+    assert!(rt; !oracle.asked(1, [[1u16].as_slice()].as_slice()));
+    assert!(rt; !oracle.asked(2, [[0u16].as_slice()].as_slice()));
+    Ok(())
+}
