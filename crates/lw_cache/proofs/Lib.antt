@@ -3,6 +3,7 @@ mod ClaimLemmas
 pub mod ClashLemmas
 pub mod CrowdLemmas
 mod ExtendLemmas
+pub mod GainLemmas
 pub mod GrowLemmas
 mod HeldLemmas
 mod KeepLemmas

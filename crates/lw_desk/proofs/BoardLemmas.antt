@@ -13,7 +13,7 @@ use Rattle.lw_cache.specs.Standing.{Stands}
 use Rattle.lw_cache.specs.declared.known.Known.{Known}
 use Rattle.lw_cache.specs.declared.known.Known.TheVariants.{Yes, Pending, No}
 use Rattle.lw_cache.specs.declared.stops.AskStop.{AskStop}
-use Rattle.lw_cache.proofs.OracleLemmas.{known_stays}
+use Rattle.lw_cache.proofs.GainLemmas.{known_stays}
 use Rattle.lw_desk.specs.Step.{word_at, ComesBefore}
 use Rattle.lw_desk.specs.bodies.Board.{numbers_of, without_number, without_numbers, without_all, AreHeld, IsTaken, AreApart, IsAtHand, IsPlaces, Waits, letters_of, IsBoard}
 use Rattle.lw_desk.specs.lemmas.Members.{In, in_contains, contains_in, in_filter, in_filter_of, is_same, is_other}

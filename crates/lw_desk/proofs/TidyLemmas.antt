@@ -11,7 +11,7 @@ use Rattle.lw_cache.specs.Asked.{IsAsked}
 use Rattle.lw_cache.specs.Clash.{IsClear, IsClearAfter, NothingClashes}
 use Rattle.lw_cache.specs.Known.{IsKnown}
 use Rattle.lw_cache.specs.declared.stops.AskStop.{AskStop}
-use Rattle.lw_cache.proofs.OracleLemmas.{known_stays, nothing_more}
+use Rattle.lw_cache.proofs.GainLemmas.{known_stays, nothing_more}
 use Rattle.lw_turn.specs.declared.shared.Entry.{Entry}
 use Rattle.lw_desk.specs.Naming.{bring}
 use Rattle.lw_desk.specs.Step.{Claimed, DeskState, word_at, ComesBefore, IsCovered, IsFirstFree, NothingToTake, TakesAll, Gives, GivesAll, kept_of, after_take, after_fail, after_done, without_place, without_places}

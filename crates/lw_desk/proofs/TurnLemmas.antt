@@ -12,7 +12,7 @@ use Rattle.lw_cache.specs.Known.{IsKnown}
 use Rattle.lw_cache.specs.declared.stops.AskStop.{AskStop}
 use Rattle.lw_cache.specs.declared.stops.AskStop.TheVariants as Ask
 use Rattle.lw_cache.specs.declared.stops.Clash.{Clash}
-use Rattle.lw_cache.proofs.OracleLemmas.{known_new}
+use Rattle.lw_cache.proofs.GainLemmas.{known_new}
 use Rattle.lw_desk.specs.Naming.{Naming, bring}
 use Rattle.lw_desk.specs.Step.{Claimed, DeskState, word_at, IsCovered, ComesBefore, IsFirstFree, NothingToTake, TakesAll, Gives, GivesAll, StopsBy, after_take, after_give, after_fail, kept_of, without_place, without_places, first_stop, stop_of}
 use Rattle.lw_desk.specs.bodies.Board.{BoardState, Agrees, IsTaken, AreApart, AreHeld, numbers_of, IsBoard, stop_after, without_number, without_numbers}

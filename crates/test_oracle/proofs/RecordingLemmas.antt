@@ -1,10 +1,8 @@
 -- A machine that answers one word after another.
-use Rattle.std.proofs.Common.{◌≡◌, ℕ, ◌+◌, ◌<◌, inr, ⊎_elim, List, [], ◌∷◌, ◌++◌, length, take, get_or, Contains, ap, sym, ◌∙◌, subst, arith, append-nil, append_assoc}
+use Rattle.std.proofs.Common.{◌≡◌, ℕ, ◌+◌, ◌<◌, inr, ⊎_elim, List, [], ◌∷◌, ◌++◌, length, take, get_or, Contains, ap, sym, ◌∙◌, subst, append-nil, append_assoc}
 use Rattle.std.specs.List.{All}
-use Rattle.std.proofs.lemmas.List.{get_or_default, length_push, map_push}
 use Rattle.std.proofs.lemmas.List.Elements.{All-nil, All-cons, All-head, All-tail, All-push, All-more, All-weaker}
-use Rattle.std.proofs.lemmas.List.Quantifiers.{all_pairs_push}
-use Rattle.lw_words.specs.Answer.{Answer, answer_at, answer_of, answers_of, IsAnswer}
+use Rattle.lw_words.specs.Answer.{answer_of, answers_of, IsAnswer}
 use Rattle.lw_words.specs.Word.{IsWord}
 use Rattle.lw_words.specs.declared.kept.KeptAnswer.{KeptAnswer}
 use Rattle.lw_mealy.specs.Limits.{MealyMachine, IsWithinLimits}
@@ -12,15 +10,10 @@ use Rattle.lw_mealy.specs.Machine.{out, output, next, answer}
 use Rattle.lw_mealy.proofs.RowLemmas.{target_below, output_below}
 use Rattle.lw_mealy.proofs.WordLemmas.{length-out}
 use Rattle.lw_cache.specs.Caching.{kept_answer}
-use Rattle.lw_cache.specs.Clash.{Clash, NothingClashes, IsClearAfter}
 use Rattle.lw_cache.specs.Known.{IsKnown}
 use Rattle.lw_cache.specs.Settling.{IsOf, told_machine, GainsAnswers}
 use Rattle.test_oracle.specs.Recording.{origins_of, KeepsOf, HasAsked}
-use Rattle.lw_cache.proofs.AnswerLemmas.{at_last}
-use Rattle.lw_cache.proofs.ClashLemmas.{all_are_clear, unclashed_after}
-use Rattle.lw_cache.proofs.GrowLemmas.{after_stays, reads_stay}
-use Rattle.lw_cache.proofs.KnownLemmas.{known_is_read}
-use Rattle.lw_cache.proofs.StoredLemmas.{prefix_same}
+use Rattle.lw_cache.proofs.GainLemmas.{known_stays}
 
 outs_below : (t : MealyMachine) → IsWithinLimits t → (w : List ℕ) (q : ℕ) → q < length t.rows → IsWord t.inputs w → IsWord t.outputs (out t.rows q w)
 outs_below t is [] q lt letters = All-nil (λ y. y < t.outputs)
@@ -36,32 +29,6 @@ answers_more t kept w outs is was letters given =
       outputs_below = All-push (λ k. IsWord t.outputs k.outs) kept (kept_answer 0 0 w outs) was.outputs_below (subst (IsWord t.outputs) (sym given) (outs_below t is w 0 is.machine.some_state letters));
       told = All-push (λ k. IsOf (told_machine (origins_of t) k.instance) (answer_of k)) kept (kept_answer 0 0 w outs) was.told (sym given);
     }
-
--- an answer that is clear makes its word known, and brings no clash
-pub known_new : (kept : List KeptAnswer) (k : KeptAnswer) → IsClearAfter (answers_of kept) (length kept) (answer_of k) → length (answers_of kept) ≡ length kept → IsKnown (answers_of (kept ++ k ∷ [])) k.word
-known_new kept k clear size =
-    subst (λ (l : List Answer). IsKnown l k.word) (sym (map_push answer_of kept k))
-    (inr (
-      length (answers_of kept),
-      (
-        omega (arith, length_push (answers_of kept) (answer_of k)),
-        subst (λ (a : Answer). IsClearAfter (answers_of kept ++ answer_of k ∷ []) (length (answers_of kept)) a) (sym (at_last (answers_of kept) (answer_of k)))
-            ((after_stays (answers_of kept) (answer_of k ∷ []) (length (answers_of kept)) (answer_of k) (omega arith)).1 (subst (λ (n : ℕ). IsClearAfter (answers_of kept) n (answer_of k)) (sym size) clear)),
-      ),
-      prefix_same k.word (answer_at (answers_of kept ++ answer_of k ∷ []) (length (answers_of kept))).word (ap (λ (a : Answer). a.word) (sym (at_last (answers_of kept) (answer_of k)))),
-    ))
-
-pub nothing_more : (kept : List KeptAnswer) (k : KeptAnswer) → IsClearAfter (answers_of kept) (length kept) (answer_of k) → length (answers_of kept) ≡ length kept → NothingClashes (answers_of kept) → NothingClashes (answers_of (kept ++ k ∷ []))
-nothing_more kept k clear size nothing =
-    subst NothingClashes (sym (map_push answer_of kept k))
-    (all_pairs_push (λ a b. ¬ Clash a b) (answers_of kept) (answer_of k) nothing (λ i d lt.
-    subst (λ (a : Answer). ¬ Clash a (answer_of k)) (get_or_default (answers_of kept) i (record { word = []; outs = [] }) d lt)
-    (unclashed_after (answers_of kept) (length kept) (answer_of k) clear i (omega (arith, lt, size)) (all_are_clear (answers_of kept) nothing i lt))))
-
-pub known_stays : (kept : List KeptAnswer) (k : KeptAnswer) (w : List ℕ) → IsKnown (answers_of kept) w → IsKnown (answers_of (kept ++ k ∷ [])) w
-known_stays kept k w known =
-    let r = (known_is_read (answers_of kept) w).0 known in
-    subst (λ (l : List Answer). IsKnown l w) (sym (map_push answer_of kept k)) ((known_is_read (answers_of kept ++ answer_of k ∷ []) w).1 (r.0, reads_stay (answers_of kept) (answer_of k ∷ []) w r.0 r.1))
 
 -- the words that were known stay known
 pub asked_known : (t : MealyMachine) (w : List ℕ) (before now : List KeptAnswer) (v : List ℕ) → HasAsked t w before now → IsKnown (answers_of before) v → IsKnown (answers_of now) v

@@ -8,7 +8,7 @@ use Rattle.lw_words.specs.declared.kept.KeptAnswer.{KeptAnswer}
 use Rattle.lw_cache.specs.Clash.{IsClear, IsClearAfter}
 use Rattle.lw_cache.specs.Known.{IsKnown}
 use Rattle.lw_cache.specs.declared.stops.AskStop.{AskStop}
-use Rattle.lw_cache.proofs.OracleLemmas.{known_new, known_stays}
+use Rattle.lw_cache.proofs.GainLemmas.{known_new, known_stays}
 use Rattle.lw_turn.specs.declared.shared.Entry.{Entry}
 use Rattle.lw_desk.specs.Naming.{bring}
 use Rattle.lw_desk.specs.Step.{Claimed, DeskState, word_at, IsCovered, TakesAll, Gives, GivesAll, StopsBy, kept_of, after_take, after_fail, after_done, without_place, first_stop, stop_of}

@@ -8,7 +8,8 @@ use Rattle.lw_cache.specs.FirstClash.{StopsKeeping}
 use Rattle.lw_cache.specs.Known.{IsKnown}
 use Rattle.lw_cache.specs.declared.stops.KeepStop.{KeepStop}
 use Rattle.lw_cache.specs.declared.stops.KeepStop.TheVariants.{Clash}
-use Rattle.test_oracle.proofs.RecordingLemmas.{asked_new, known_new, nothing_more}
+use Rattle.lw_cache.proofs.GainLemmas.{known_new, nothing_more}
+use Rattle.test_oracle.proofs.RecordingLemmas.{asked_new}
 use Rattle.lw_cache.proofs.PlainLemmas.{kept_count}
 use Rattle.test_oracle.proofs.recording.answer_one.Goals as goal
 
