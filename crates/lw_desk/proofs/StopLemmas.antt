@@ -1,14 +1,14 @@
 -- Where the first stop of a history comes from.
-use Rattle.std.proofs.Common.{◌≡◌, ◌⊎◌, inl, inr, ⊎_elim, ℕ, ◌<◌, List, [], ◌∷◌, ◌++◌, length, Bool, true, false, Option, Some, None, unwrap_or, refl, ap, sym, ◌∙◌, subst, arith}
+use Rattle.std.proofs.Common.{◌≡◌, ◌⊎◌, inl, inr, ⊎_elim, ℕ, ◌<◌, ◌≤◌, List, [], ◌∷◌, ◌++◌, length, take, Bool, true, false, Option, Some, None, unwrap_or, refl, ap, ap₂, sym, ◌∙◌, subst, subst₂, arith}
 use Rattle.std.proofs.lemmas.Bool.{false≢true}
-use Rattle.std.proofs.lemmas.List.{map_push, length_push}
+use Rattle.std.proofs.lemmas.List.{map_push, length_push, length-map, take_all, take-append-le}
 use Rattle.lw_words.specs.Answer.{Answer, answer_at, answer_of, answers_of}
 use Rattle.lw_words.specs.declared.kept.KeptAnswer.{KeptAnswer}
 use Rattle.lw_words.specs.declared.stop.SulStop.{SulStop}
 use Rattle.lw_words.specs.declared.stop.SulStop.TheVariants.{Failed as SulFailed}
 use Rattle.lw_words.specs.declared.stop.RunStop.{RunStop}
 use Rattle.lw_words.specs.declared.stop.RunStop.TheVariants as Run
-use Rattle.lw_cache.specs.Clash.{IsClearAfter, ClashAt}
+use Rattle.lw_cache.specs.Clash.{IsClearAfter}
 use Rattle.lw_cache.specs.FirstClash.{ClashesFirst}
 use Rattle.lw_cache.specs.declared.stops.Clash.{Clash}
 use Rattle.lw_cache.specs.declared.stops.AskStop.{AskStop}
@@ -18,7 +18,7 @@ use Rattle.lw_turn.specs.declared.shared.Entry.{Entry}
 use Rattle.lw_desk.specs.Naming.{bring}
 use Rattle.lw_desk.specs.Step.{DeskState, GivesAll, StopsBy, kept_of, after_fail, first_stop, stop_of}
 use Rattle.lw_desk.specs.History.{DeskOpening, opened, Replays}
-use Rattle.lw_desk.specs.Ending.{StopIs}
+use Rattle.lw_desk.specs.Ending.{CameFirst, StopIs}
 use Rattle.lw_desk.specs.declared.ask.Ask.{Ask}
 use Rattle.lw_desk.specs.declared.ask.Reply.{Reply}
 use Rattle.lw_desk.specs.declared.ask.Give.{Give}
@@ -91,44 +91,53 @@ module _ (o : DeskOpening) where
       (λ (later : (f : Entry Ask Reply) × In f es × FailedWith f.actor f.ask.failed actor stop). inr (later.0, inr later.1, later.2))
       (replays_sul r.0 t es actor stop r.2 is)
 
-  -- a clash that is told is one of two kept answers
+  -- a clash that is told is one of an answer that came since
+  abbrev CameSince : List KeptAnswer → Clash → Type 0
+  CameSince kept c = (length o.kept ≤ c.second) × CameFirst kept c
+
   abbrev ClashIs : List KeptAnswer → Option AskStop → Type 0
-  ClashIs kept stop = (c : Clash) → stop ≡ Some (Stop.Clash c) → (c.first < length (answers_of kept)) × (c.second < length (answers_of kept)) × ClashAt (answer_at (answers_of kept) c.first) (answer_at (answers_of kept) c.second) c.place
+  ClashIs kept stop = (length o.kept ≤ length kept) × ((c : Clash) → stop ≡ Some (Stop.Clash c) → CameSince kept c)
+
+  -- the answers before a place, and the one at it, with one more behind them
+  front_stays : (kept : List KeptAnswer) (k : KeptAnswer) (n : ℕ) → n ≤ length kept → take n (kept ++ k ∷ []) ≡ take n kept
+  front_stays kept k n le = take-append-le n kept (k ∷ []) le
+
+  answer_stays : (kept : List KeptAnswer) (k : KeptAnswer) (n : ℕ) → n < length kept → answer_at (answers_of (kept ++ k ∷ [])) n ≡ answer_at (answers_of kept) n
+  answer_stays kept k n lt = ap (λ (ks : List Answer). answer_at ks n) (map_push answer_of kept k) ∙ at_kept (answers_of kept) (answer_of k) n (omega (arith, lt, length-map kept answer_of))
+
+  came_before : (kept : List KeptAnswer) (k : KeptAnswer) (c : Clash) → CameFirst kept c → CameFirst (kept ++ k ∷ []) c
+  came_before kept k c was = record {
+    within = omega (arith, was.within, length_push kept k);
+    came = subst₂ (λ (ks : List KeptAnswer) (a : Answer). ClashesFirst (answers_of ks) a c) (sym (front_stays kept k c.second (omega (arith, was.within)))) (sym (answer_stays kept k c.second was.within)) was.came;
+  }
+
+  came_now : (kept : List KeptAnswer) (k : KeptAnswer) (c : Clash) → ClashesFirst (answers_of kept) (answer_of k) c → CameFirst (kept ++ k ∷ []) c
+  came_now kept k c first =
+      let here : c.second ≡ length kept = first.second ∙ length-map kept answer_of in
+      let last : answer_at (answers_of (kept ++ k ∷ [])) c.second ≡ answer_of k = ap₂ answer_at (map_push answer_of kept k) first.second ∙ at_last (answers_of kept) (answer_of k) in
+      let front : take c.second (kept ++ k ∷ []) ≡ kept = front_stays kept k c.second (omega (arith, here)) ∙ take_all c.second kept (omega (arith, here)) in
+      record {
+        within = omega (arith, here, length_push kept k);
+        came = subst₂ (λ (ks : List KeptAnswer) (a : Answer). ClashesFirst (answers_of ks) a c) (sym front) (sym last) first;
+      }
 
   give_clash : (kept : List KeptAnswer) (k : KeptAnswer) (was now : Option AskStop) → StopsBy was (answers_of kept) (answer_of k) now → ClashIs kept was → ClashIs (kept ++ k ∷ []) now
-  give_clash kept k was now by is c told = subst (λ (ks : List Answer). (c.first < length ks) × (c.second < length ks) × ClashAt (answer_at ks c.first) (answer_at ks c.second) c.place) (sym (map_push answer_of kept k)) (from was by is)
+  give_clash kept k was now by is = (omega (arith, is.0, length_push kept k), λ c told. from was by is.1 c told)
     where
-      old : (c.first < length (answers_of kept)) × (c.second < length (answers_of kept)) × ClashAt (answer_at (answers_of kept) c.first) (answer_at (answers_of kept) c.second) c.place
-          → (c.first < length (answers_of kept ++ answer_of k ∷ [])) × (c.second < length (answers_of kept ++ answer_of k ∷ [])) × ClashAt (answer_at (answers_of kept ++ answer_of k ∷ []) c.first) (answer_at (answers_of kept ++ answer_of k ∷ []) c.second) c.place
-      old r = (
-        omega (arith, r.0, length_push (answers_of kept) (answer_of k)),
-        omega (arith, r.1, length_push (answers_of kept) (answer_of k)),
-        subst (λ (a : Answer). ClashAt a (answer_at (answers_of kept ++ answer_of k ∷ []) c.second) c.place) (sym (at_kept (answers_of kept) (answer_of k) c.first r.0))
-            (subst (λ (a : Answer). ClashAt (answer_at (answers_of kept) c.first) a c.place) (sym (at_kept (answers_of kept) (answer_of k) c.second r.1)) r.2),
-      )
-
-      new : (d : Clash) → d ≡ c → ClashesFirst (answers_of kept) (answer_of k) d → (d.first < length (answers_of kept ++ answer_of k ∷ [])) × (d.second < length (answers_of kept ++ answer_of k ∷ [])) × ClashAt (answer_at (answers_of kept ++ answer_of k ∷ []) d.first) (answer_at (answers_of kept ++ answer_of k ∷ []) d.second) d.place
-      new d same f = (
-        omega (arith, f.clear.0, length_push (answers_of kept) (answer_of k)),
-        omega (arith, f.second, length_push (answers_of kept) (answer_of k)),
-        subst (λ (a : Answer). ClashAt a (answer_at (answers_of kept ++ answer_of k ∷ []) d.second) d.place) (sym (at_kept (answers_of kept) (answer_of k) d.first f.clear.0))
-            (subst (λ (a : Answer). ClashAt (answer_at (answers_of kept) d.first) a d.place) (sym (ap (answer_at (answers_of kept ++ answer_of k ∷ [])) f.second ∙ at_last (answers_of kept) (answer_of k))) f.here),
-      )
-
       clash_in : Option AskStop → Clash → Clash
       clash_in None d = d
       clash_in (Some (Stop.Clash x)) d = x
       clash_in (Some (Stop.Sul i s)) d = d
       clash_in (Some Stop.NoMemory) d = d
 
-      from : (o : Option AskStop) → StopsBy o (answers_of kept) (answer_of k) now → ClashIs kept o → (c.first < length (answers_of kept ++ answer_of k ∷ [])) × (c.second < length (answers_of kept ++ answer_of k ∷ [])) × ClashAt (answer_at (answers_of kept ++ answer_of k ∷ []) c.first) (answer_at (answers_of kept ++ answer_of k ∷ []) c.second) c.place
-      from (Some x) b i = old (i c (sym b ∙ told))
-      from None b i =
+      from : (was : Option AskStop) → StopsBy was (answers_of kept) (answer_of k) now → ((c : Clash) → was ≡ Some (Stop.Clash c) → CameSince kept c) → (c : Clash) → now ≡ Some (Stop.Clash c) → CameSince (kept ++ k ∷ []) c
+      from (Some x) b i c told = let r : CameSince kept c = i c (sym b ∙ told) in (r.0, came_before kept k c r.1)
+      from None b i c told =
           ⊎_elim
           (λ (r : IsClearAfter (answers_of kept) (length (answers_of kept)) (answer_of k) × (now ≡ None)). absurd (some_none (Stop.Clash c) (sym told ∙ r.1)))
           (λ (r : (clash : Clash) × ClashesFirst (answers_of kept) (answer_of k) clash × (now ≡ Some (Stop.Clash clash))).
-          let same : r.0 ≡ c = ap (λ (o : Option AskStop). clash_in o c) (sym r.2 ∙ told) in
-          subst (λ (d : Clash). (d.first < length (answers_of kept ++ answer_of k ∷ [])) × (d.second < length (answers_of kept ++ answer_of k ∷ [])) × ClashAt (answer_at (answers_of kept ++ answer_of k ∷ []) d.first) (answer_at (answers_of kept ++ answer_of k ∷ []) d.second) d.place) same (new r.0 same r.1))
+          let first : ClashesFirst (answers_of kept) (answer_of k) c = subst (ClashesFirst (answers_of kept) (answer_of k)) (ap (λ (o : Option AskStop). clash_in o c) (sym r.2 ∙ told)) r.1 in
+          (omega (arith, is.0, first.second, length-map kept answer_of), came_now kept k c first))
           b
 
   gives_clash : (maker : ℕ) (gs : List Give) (s t : DeskState) → GivesAll o.batch maker gs s t → ClashIs s.kept s.stop → ClashIs t.kept t.stop
@@ -147,7 +156,7 @@ module _ (o : DeskOpening) where
       no_clash Run.NoMemory c e = false≢true (ap is_clash e)
 
       by : (o : Option AskStop) → ClashIs s.kept o → ClashIs s.kept (first_stop o (stop_of maker f.stop))
-      by None i = λ c told. absurd (no_clash f.stop c (some_is (stop_of maker f.stop) (Stop.Clash c) told))
+      by None i = (i.0, λ c told. absurd (no_clash f.stop c (some_is (stop_of maker f.stop) (Stop.Clash c) told)))
       by (Some x) i = i
 
   replays_clash : (s t : DeskState) (es : List (Entry Ask Reply)) → Replays o s es t → ClashIs s.kept s.stop → ClashIs t.kept t.stop
@@ -163,5 +172,5 @@ module _ (o : DeskOpening) where
         (λ (begun : None ≡ Some (Stop.Sul actor stop)). absurd (some_none (Stop.Sul actor stop) (sym begun)))
         (λ (f : (e : Entry Ask Reply) × In e es × FailedWith e.actor e.ask.failed actor stop). (f.0, in_contains f.0 es f.1, f.2.0, f.2.1))
         (replays_sul (opened o) t es actor stop r told);
-    clash = λ c told. (replays_clash (opened o) t es r (λ d begun. absurd (some_none (Stop.Clash d) (sym begun))) c told).2;
+    clash = (replays_clash (opened o) t es r (omega arith, λ d begun. absurd (some_none (Stop.Clash d) (sym begun)))).1;
   }

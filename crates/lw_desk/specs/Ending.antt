@@ -1,5 +1,5 @@
 -- What a history of a desk has come to: which words were answered, and which instance's runs the answers are.
-use Rattle.std.specs.Prelude.{◌≡◌, ℕ, ◌<◌, ◌==◌, List, [], ◌∷◌, ◌++◌, length, map, filter, Some, None, Contains}
+use Rattle.std.specs.Prelude.{◌≡◌, ℕ, ◌<◌, ◌≤◌, ◌==◌, List, [], ◌∷◌, ◌++◌, length, map, filter, take, Some, None, Contains}
 use Rattle.std.specs.List.{All}
 use Rattle.lw_words.specs.Answer.{answer_at, answers_of}
 use Rattle.lw_words.specs.Name.{AllDiffer}
@@ -8,7 +8,8 @@ use Rattle.lw_words.specs.declared.stop.SulStop.{SulStop}
 use Rattle.lw_words.specs.declared.stop.RunStop.TheVariants as Run
 use Rattle.lw_sul.specs.Names.{name_at, named}
 use Rattle.lw_cache.specs.Asked.{IsAsked, AreAsked}
-use Rattle.lw_cache.specs.Clash.{ClashAt, NothingClashes}
+use Rattle.lw_cache.specs.Clash.{NothingClashes}
+use Rattle.lw_cache.specs.FirstClash.{ClashesFirst}
 use Rattle.lw_cache.specs.Known.{IsKnown}
 use Rattle.lw_cache.specs.declared.stops.Clash.{Clash}
 use Rattle.lw_cache.specs.declared.stops.AskStop.TheVariants as Ask
@@ -69,10 +70,16 @@ pub record Settled (o : DeskOpening) (t : DeskState) (gained : List KeptAnswer) 
   pub known : All (IsKnown (answers_of t.kept)) o.batch
   pub exactly : AreAsked o.batch (answers_of o.kept) (map (λ k. k.word) gained)
 
--- a system's stop is one that its actor failed with, and a clash is one of two kept answers
+-- among the entries is one in which the actor failed with this stop of its system
 abbrev pub FailedBy : List (Entry Ask Reply) → ℕ → SulStop → Type 0
 FailedBy es actor stop = (e : Entry Ask Reply) × Contains es e × (e.actor ≡ actor) × ((f : Failed) × (e.ask.failed ≡ Some f) × (f.stop ≡ Run.Sul stop))
 
+-- the second answer of the clash came when those before it were kept, and so clashed first
+pub record CameFirst (kept : List KeptAnswer) (c : Clash) : Type 0 where
+  pub within : c.second < length kept
+  pub came : ClashesFirst (answers_of (take c.second kept)) (answer_at (answers_of kept) c.second) c
+
+-- a system's stop is one that its actor failed with, and a clash is one of an answer that the history has brought
 pub record StopIs (o : DeskOpening) (es : List (Entry Ask Reply)) (t : DeskState) : Type 0 where
   pub sul : (actor : ℕ) (stop : SulStop) → t.stop ≡ Some (Ask.Sul actor stop) → FailedBy es actor stop
-  pub clash : (c : Clash) → t.stop ≡ Some (Ask.Clash c) → ClashAt (answer_at (answers_of t.kept) c.first) (answer_at (answers_of t.kept) c.second) c.place
+  pub clash : (c : Clash) → t.stop ≡ Some (Ask.Clash c) → (length o.kept ≤ c.second) × CameFirst t.kept c

@@ -73,6 +73,13 @@ impl Desk {
         })
     }
 
+    /// How many places wait, at most: those of the words that were not known at the opening, before any of them is taken.
+    pub fn left(&self) -> u32
+        ensures { result ≤ length self.now.opening.batch }
+    {
+        self.board.left()
+    }
+
     /// The cache, the names, and why the desk was stopped, or None where it wasn't. Takes no memory.
     pub fn finish(self) -> (Cache, OutNames, Option<AskStop>)
         requires idle { (t : DeskState) →

@@ -53,14 +53,16 @@ module _ (m : Rows) (a : ℕ) (rs : List (List ℕ)) where
         | inl all ↦ absurd (differ (same_number_lists (row_after m a u) (row_after m a v) (length-row_after m a u ∙ sym (length-row_after m a v)) (λ k below.
             let le : k < a = subst (λ (n : ℕ). k < n) (length-row_after m a u) below in
             row_at m a u k 0 le ∙ (all k le ∙ sym (row_at m a v k 0 le)))))
-        | inr at ↦ record {
-          suffix = at.0 ∷ [];
-          one = answer m (u ++ at.0 ∷ []);
-          other = answer m (v ++ at.0 ∷ []);
-          one_read = asked_known u at.0 at.1 hu;
-          other_read = asked_known v at.0 at.1 hv;
-          differ = λ e. at.2 (ap (λ (l : List ℕ). get_or l 0 0) (sym (last u at.0) ∙ (e ∙ last v at.0)));
-        }
+        | inr at ↦ (
+          at.0 ∷ [],
+          record {
+            one = answer m (u ++ at.0 ∷ []);
+            other = answer m (v ++ at.0 ∷ []);
+            one_read = asked_known u at.0 at.1 hu;
+            other_read = asked_known v at.0 at.1 hv;
+            differ = λ e. at.2 (ap (λ (l : List ℕ). get_or l 0 0) (sym (last u at.0) ∙ (e ∙ last v at.0)));
+          },
+        )
       ]
 
 -- each of the first access words is a row word of those before it

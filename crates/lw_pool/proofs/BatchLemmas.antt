@@ -1,5 +1,5 @@
 -- What a batch leaves of a pool.
-use Rattle.std.proofs.Common.{◌≡◌, ◌⊎◌, inl, inr, ⊎_elim, ℕ, zero, suc, ◌+◌, ◌<◌, ◌≤◌, ◌==◌, ◌||◌, List, [], ◌∷◌, ◌++◌, length, filter, get_or, take, Contains, All, Bool, true, false, cond, Option, Some, None, is_some, refl, ap, sym, ◌∙◌, subst, arith, append_assoc, append-nil, length-append, ◌-◌, drop, unwrap_or, get_or-append-add, option_and_then}
+use Rattle.std.proofs.Common.{◌≡◌, ◌⊎◌, inl, inr, ⊎_elim, ℕ, zero, suc, ◌+◌, ◌<◌, ◌≤◌, ◌==◌, ◌||◌, List, [], ◌∷◌, ◌++◌, length, filter, get_or, take, Contains, All, Bool, true, false, cond, Option, Some, None, is_some, refl, ap, ap₂, sym, ◌∙◌, subst, arith, append_assoc, append-nil, length-append, ◌-◌, drop, unwrap_or, get_or-append-add, option_and_then}
 use Rattle.std.proofs.lemmas.Bool.{true≢false, false≢true, cases_lt}
 use Rattle.std.proofs.lemmas.List.{get_or_append_left, length-map, get_or-map, take-append-le}
 use Rattle.std.proofs.lemmas.List.Elements.{All-append, All-head, All-tail, All-weaker}
@@ -12,6 +12,7 @@ use Rattle.lw_mealy.specs.Origin.{Origin}
 use Rattle.lw_mealy.specs.Machine.{Rows, answer}
 use Rattle.std.proofs.lemmas.Option.{slice_get-get_or}
 use Rattle.lw_cache.specs.declared.stops.AskStop.TheVariants as Stop
+use Rattle.lw_cache.specs.declared.stops.Clash.{Clash}
 use Rattle.lw_sul.specs.Names.{name_at, named, IsGrown}
 use Rattle.lw_sul.specs.Told.{Answers}
 use Rattle.lw_sul.proofs.NameLemmas.{number_of-name_at}
@@ -23,7 +24,7 @@ use Rattle.lw_cache.specs.Settling.{KeepsAnswers, IsOf, told_machine}
 use Rattle.lw_cache.specs.declared.stops.AskStop.{AskStop}
 use Rattle.lw_turn.specs.declared.shared.Entry.{Entry}
 use Rattle.lw_turn.specs.History.{entries_of}
-use Rattle.lw_desk.specs.Naming.{own_by, own_names}
+use Rattle.lw_desk.specs.Naming.{Naming, own_by, own_names}
 use Rattle.lw_desk.specs.Step.{DeskState, word_at}
 use Rattle.lw_desk.specs.History.{DeskOpening, opened, Seat, seat_in, seat_after, seat_from, seat_of, actor_of, HasLists, Replays, names_given}
 use Rattle.lw_desk.specs.Ending.{NamedRun, kept_runs, given_runs, gives_of, Brought, Settled, FailedBy, StopIs, FreshFrom}
@@ -36,12 +37,12 @@ use Rattle.lw_desk.proofs.Endings.{brought, stays_shared, settled, nothing_claim
 use Rattle.lw_desk.proofs.SeatLemmas.{opened_stands, seat_after_all, replays_stands}
 use Rattle.lw_desk.proofs.StopLemmas.{stop_is}
 use Rattle.lw_pool.specs.Fitting.{Fits, FitsBy}
-use Rattle.lw_pool.specs.Pool.{Seen, nobody, seen_at, journal_runs, StandsFor, AskedOnce, IsStopOf, origins_of}
+use Rattle.lw_pool.specs.Pool.{Seen, WentOn, nobody, seen_at, journal_runs, StandsFor, AskedOnce, IsStopOf, origins_of}
 use Rattle.lw_pool.specs.bodies.Working.{HasRefused, GivesBetween}
 use Rattle.lw_pool.specs.bodies.Engaged.{NobodyFailed}
 use Rattle.lw_pool.specs.bodies.Crew.{HasWorkedOff}
-use Rattle.lw_pool.specs.bodies.Standing.{IsMember, IsPool}
-use Rattle.lw_pool.proofs.GiveLemmas.{gives_same, gives_few, gives_live, refused_few, each_given}
+use Rattle.lw_pool.specs.Standing.{IsMember, IsPool}
+use Rattle.lw_pool.proofs.GiveLemmas.{gives_same, gives_stopped, gives_few, gives_live, refused_few, each_given}
 use Rattle.lw_pool.proofs.JournalLemmas.{grown_not, grown_both, runs_both, runs_grown, kept_grown, kept_both, runs_given, gives_journal, gives_grown, gives_below, gives_runs}
 use Rattle.lw_pool.proofs.WorkLemmas.{gives_names, first_live}
 
@@ -330,8 +331,49 @@ module _ (o : DeskOpening) (es : List (Entry Ask Reply)) (start now : List Seen)
           where
             within : (i : ℕ) (x : Entry Ask Reply) → In x (entries_of i es) → i < length start
             within i x j = ⊎_elim (λ (lt : i < length start). lt) (λ (le : length start ≤ i). absurd (subst (In x) (others i le) j)) (cases_lt i (length start))
-        by (Some (Stop.Clash c)) e = told.clash c e
+        by (Some (Stop.Clash c)) e = (told.clash c e).1
         by (Some Stop.NoMemory) e = tt
+
+    pub new_end : (c : Clash) → t.stop ≡ Some (Stop.Clash c) → length o.kept ≤ c.second
+    new_end c e = ((stop_is o t es r).clash c e).0
+
+    -- the names, and how each session went on
+    pub names_end : IsGrown o.naming.names t.naming.names
+    names_end = names_grew o (opened o) t es r
+
+    pub declared_end : o.naming.brought ≡ None → t.naming ≡ o.naming
+    declared_end none = ap₂ (λ (names : List (List ℕ)) (b : Option (List (List (List ℕ)))). let n : Naming = record { names = names; brought = b } in n) (by t.naming.brought refl (fits_end 0 is.some) o.naming.brought refl (member 0 is.some).fits) (kind t.naming.brought refl ∙ sym none)
+      where
+        kind : (b : Option (List (List (List ℕ)))) → t.naming.brought ≡ b → t.naming.brought ≡ None
+        kind None e = e
+        kind (Some x) e = absurd (false≢true (ap is_some (sym none) ∙ (sym kinds ∙ ap is_some e)))
+
+        no_more_names : (xs ys : List (List ℕ)) → IsGrown xs ys → length ys ≤ length xs → ys ≡ xs
+        no_more_names xs ys g le = g.1 ∙ (ap (λ (l : List (List ℕ)). xs ++ l) (nothing g.0 (omega (arith, le, ap (λ (l : List (List ℕ)). length l) g.1, length-append xs g.0))) ∙ append-nil xs)
+          where
+            nothing : (l : List (List ℕ)) → length l ≤ 0 → l ≡ []
+            nothing [] few = refl
+            nothing (x ∷ l) few = absurd (omega (arith, few))
+
+        by : (c : Option (List (List (List ℕ)))) → t.naming.brought ≡ c → FitsBy c t.naming.names (seen_at now 0).names (seen_at now 0).most (seen_at now 0).outputs (seen_at now 0).origin.machine → (a : Option (List (List (List ℕ)))) → o.naming.brought ≡ a → FitsBy a o.naming.names (seen_at start 0).names (seen_at start 0).most (seen_at start 0).outputs (seen_at start 0).origin.machine → t.naming.names ≡ o.naming.names
+        by c f ends (Some x) e begins = absurd (false≢true (ap is_some (sym none) ∙ ap is_some e))
+        by (Some y) f ends None e begins = absurd (false≢true (ap is_some (sym (kind t.naming.brought refl)) ∙ ap is_some f))
+        by None f ends None e begins = no_more_names o.naming.names t.naming.names names_end (omega (arith, ends.1, begins.1, (worked 0 is.some).same.most))
+
+    pub went_on_end : (i : ℕ) → i < length start → WentOn (seen_at start i) (seen_at now i)
+    went_on_end i lt = record {
+      same = (worked i lt).same;
+      more = runs_given o.batch (gives_of (entries_of i es));
+      journal = journal_end i lt;
+      names = grown_both (seen_at start i).names (worked i lt).working.mid.names (seen_at now i).names (gives_grown o.batch (seen_at start i) (worked i lt).working.mid (gives_of (entries_of i es)) (end_gives i lt)) (end_grown i lt);
+      stopped = λ x told.
+          let still : (worked i lt).working.mid ≡ seen_at start i = gives_stopped o.batch (seen_at start i) (worked i lt).working.mid (gives_of (entries_of i es)) x told (end_gives i lt) in
+          ⊎_elim
+          (λ (same : seen_at now i ≡ (worked i lt).working.mid). same)
+          (λ (f : (stop : RunStop) × HasRefused (worked i lt).working.mid (seen_at now i) stop × ((worked i lt).reply.places ≡ [])). f.1.again x (ap (λ (s : Seen). s.stop) still ∙ told))
+          (worked i lt).working.after
+          ∙ still;
+    }
 
     -- no word was known before its answer came
     fresh_at : (kept gained : List KeptAnswer) (j : ℕ) (d : KeptAnswer) → FreshFrom kept gained → j < length gained → IsKnown (answers_of (kept ++ take j gained)) (get_or gained j d).word → ⊥

@@ -12,10 +12,9 @@ use Rattle.lw_desk.specs.Naming.{own_names}
 use Rattle.lw_desk.specs.History.{DeskOpening}
 use Rattle.lw_desk.specs.declared.ask.Ask.{Ask}
 use Rattle.lw_desk.specs.declared.ask.Reply.{Reply}
-use Rattle.lw_pool.specs.Pool.{Seen, Member}
+use Rattle.lw_pool.specs.Pool.{Seen, Same, Member}
 use Rattle.lw_pool.specs.declared.crew.Engaged.{Engaged}
 use Rattle.lw_pool.specs.declared.hands.Hand.{Hand}
-use Rattle.lw_pool.specs.bodies.Working.{Same}
 use Rattle.lw_pool.specs.bodies.Engaged.{Working, IsReady}
 use Rattle.lw_pool.specs.bodies.Crew.{CanRun, HasRun, IsHired, MayWork, HasWorkedOff}
 

@@ -3,6 +3,7 @@ use Rattle.std.proofs.Common.{◌≡◌, inl, ⊎_elim, ℕ, ◌+◌, ◌<◌, �
 use Rattle.lw_desk.specs.lemmas.Members.{In, other_number}
 use Rattle.std.proofs.lemmas.Bool.{true≢false, false≢true}
 use Rattle.std.proofs.lemmas.List.{map_push, take_more, length-drop}
+use Rattle.lw_words.specs.declared.stop.SulStop.{SulStop}
 use Rattle.lw_words.specs.declared.stop.RunStop.{RunStop}
 use Rattle.lw_sul.specs.Told.{Answers}
 use Rattle.lw_mealy.specs.Origin.{Origin}
@@ -12,8 +13,8 @@ use Rattle.lw_desk.specs.History.{failed_places}
 use Rattle.lw_desk.specs.declared.ask.Ask.{Ask}
 use Rattle.lw_desk.specs.declared.ask.Give.{Give}
 use Rattle.lw_desk.specs.declared.ask.Failed.{Failed}
-use Rattle.lw_pool.specs.Pool.{Seen}
-use Rattle.lw_pool.specs.bodies.Working.{Same, HasGiven, HasRefused, GivesBetween, FailsAfter, HasAnswered}
+use Rattle.lw_pool.specs.Pool.{Seen, Same, WentOn}
+use Rattle.lw_pool.specs.bodies.Working.{HasGiven, HasRefused, GivesBetween, FailsAfter, HasAnswered}
 
 pub gives_both : (batch : List (List ℕ)) (was mid now : Seen) (gs hs : List Give) → GivesBetween batch was mid gs → GivesBetween batch mid now hs → GivesBetween batch was now (gs ++ hs)
 gives_both batch was mid now [] hs same rest = subst (λ (s : Seen). GivesBetween batch s now hs) same rest
@@ -47,6 +48,7 @@ refused_first s = record {
   few = inl refl;
   sul = λ x e. absurd (no_sul x e);
   memory = λ e. refl;
+  again = λ x e. refl;
 }
   where
     is_memory : RunStop → Bool
@@ -135,6 +137,20 @@ refused_few was now stop refused le =
     (λ (same : now.names ≡ was.names). same)
     (λ (few : length now.names ≤ was.most). no_more was.names now.names refused.names.0 refused.names.1 (omega (arith, few, le)))
     refused.few
+
+-- a session that was stopped answers nothing
+pub gives_stopped : (batch : List (List ℕ)) (was now : Seen) (gs : List Give) (x : SulStop) → was.stop ≡ Some x → GivesBetween batch was now gs → now ≡ was
+gives_stopped batch was now [] x told same = same
+gives_stopped batch was now (g ∷ gs) x told gives = absurd (false≢true (ap is_some (sym gives.1.was_live ∙ told)))
+
+pub went_on_not : (s : Seen) → WentOn s s
+went_on_not s = record {
+  same = same_not s;
+  more = [];
+  journal = sym (append-nil s.journal);
+  names = ([], sym (append-nil s.names));
+  stopped = λ x told. refl;
+}
 
 pub gives_live : (batch : List (List ℕ)) (was now : Seen) (gs : List Give) → GivesBetween batch was now gs → was.stop ≡ None → now.stop ≡ None
 gives_live batch was now [] same live = ap (λ (s : Seen). s.stop) same ∙ live

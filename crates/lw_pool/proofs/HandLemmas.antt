@@ -45,3 +45,16 @@ hand_more f hands after rest left all s h made steps pushed is =
 pub hands_all : {S : Type 0} (f : SessionState S → Member S) (hands : List (Hand S)) (rest all : List (SessionState S)) → map (λ h. h.worker) hands ++ map f rest ≡ map f all → length rest ≡ 0 → map (λ h. h.worker) hands ≡ map f all
 hands_all f hands [] all made done = sym (append-nil (map (λ (h : Hand _). h.worker) hands)) ∙ made
 hands_all f hands (s ∷ rest) all made done = absurd (omega (arith, done))
+
+-- one hand less whose session was put behind the others
+pub session_more : {S : Type 0} (f : SessionState S → Member S) (sessions after : List (SessionState S)) (rest left all : List (Hand S)) (s : SessionState S) (h : Hand S) → map f sessions ++ map (λ h. h.worker) rest ≡ map (λ h. h.worker) all → rest ≡ h ∷ left → after ≡ sessions ++ s ∷ [] → h.worker ≡ f s → map f after ++ map (λ h. h.worker) left ≡ map (λ h. h.worker) all
+session_more f sessions after rest left all s h given steps pushed is =
+    ap (λ (ss : List (SessionState _)). map f ss ++ map (λ (h : Hand _). h.worker) left) pushed
+    ∙ (ap (λ (ms : List (Member _)). ms ++ map (λ (h : Hand _). h.worker) left) (map_push f sessions s)
+    ∙ (append_assoc (map f sessions) (f s ∷ []) (map (λ (h : Hand _). h.worker) left)
+    ∙ (ap (λ (m : Member _). map f sessions ++ m ∷ map (λ (h : Hand _). h.worker) left) (sym is)
+    ∙ (ap (λ (hs : List (Hand _)). map f sessions ++ map (λ (h : Hand _). h.worker) hs) (sym steps) ∙ given))))
+
+pub sessions_all : {S : Type 0} (f : SessionState S → Member S) (sessions : List (SessionState S)) (rest all : List (Hand S)) → map f sessions ++ map (λ h. h.worker) rest ≡ map (λ h. h.worker) all → length rest ≡ 0 → map f sessions ≡ map (λ h. h.worker) all
+sessions_all f sessions [] all given done = sym (append-nil (map f sessions)) ∙ given
+sessions_all f sessions (h ∷ rest) all given done = absurd (omega (arith, done))

@@ -8,8 +8,10 @@ use Rattle.lw_words.specs.Word.{IsWord}
 use Rattle.lw_words.specs.declared.kept.KeptAnswer.{KeptAnswer}
 use Rattle.lw_cache.specs.Clash.{NothingClashes}
 use Rattle.lw_cache.specs.Known.{IsKnown}
-use Rattle.lw_cache.specs.Settling.{GainsExactly, TellsStop, refused_after, IsOf, told_machine}
+use Rattle.lw_cache.specs.Settling.{GainsExactly, TellsStop, MayAsk, refused_after, IsOf, told_machine}
 use Rattle.lw_cache.specs.declared.stops.AskStop.{AskStop}
+use Rattle.lw_cache.specs.declared.stops.AskStop.TheVariants.{Sul, Clash, NoMemory}
+use Rattle.lw_sul.specs.Names.{IsGrown}
 use Rattle.lw_turn.specs.History.{entries_of}
 use Rattle.lw_turn.specs.declared.shared.Entry.{Entry}
 use Rattle.lw_cache.specs.Caching.{Caching}
@@ -20,7 +22,7 @@ use Rattle.lw_desk.specs.Naming.{Naming, own_names}
 use Rattle.lw_desk.specs.Step.{DeskState}
 use Rattle.lw_desk.specs.History.{DeskOpening, opened, HasLists, Replays}
 use Rattle.lw_desk.specs.Ending.{Brought, IsShared, Settled}
-use Rattle.lw_pool.specs.Pool.{Seen, Member, PoolState, nobody, seen_at, origins_of, journal_runs, IsStopOf}
+use Rattle.lw_pool.specs.Pool.{Seen, Member, WentOn, PoolState, nobody, seen_at, origins_of, journal_runs, IsStopOf}
 use Rattle.lw_pool.specs.Opening.{MayBegin, MayJoin}
 use Rattle.lw_mealy.specs.Origin.{Origin}
 use Rattle.lw_sul.specs.SessionState.{SessionState}
@@ -32,10 +34,12 @@ use Rattle.lw_pool.specs.declared.hands.Hand.{Hand}
 use Rattle.lw_pool.specs.declared.parts.Parts.{Parts}
 use Rattle.lw_pool.specs.bodies.Crew.{HasWorkedOff, AllWorkedOff}
 use Rattle.lw_pool.specs.bodies.Running.{opening_of, AreWhole, NotBegun, WasRun, AfterBatch}
-use Rattle.lw_pool.specs.bodies.Standing.{IsMember, IsPool}
+use Rattle.lw_pool.specs.Standing.{IsMember, IsPool}
 use Rattle.lw_pool.specs.bodies.Engaged.{IsReady}
 use Rattle.lw_pool.specs.Fitting.{FitsBy}
-use Rattle.lw_pool.proofs.BatchLemmas.{b, end_idle, pool_end, settled_end, origins_end}
+use Rattle.lw_pool.proofs.BatchLemmas.{b, end_idle, pool_end, settled_end, origins_end, new_end, names_end, declared_end, went_on_end}
+use Rattle.lw_pool.proofs.GiveLemmas.{went_on_not}
+use Rattle.lw_pool.proofs.JournalLemmas.{grown_not}
 use Rattle.lw_pool.proofs.HandLemmas.{seen_in, seen_here, seen_long, taken_all, worked_seen}
 
 -- a pool as contracts see it
@@ -57,6 +61,22 @@ refused_is refused stop (Err e) told = ap (λ (o : Option AskStop). refused || i
     by true = refl
     by false = refl
 
+abbrev is_clash : Option AskStop → Bool
+is_clash (Some (Clash c)) = true
+is_clash (Some (Sul i x)) = false
+is_clash (Some NoMemory) = false
+is_clash None = false
+
+err_is : (x y : AskStop) (r : Result ⊤ AskStop) → r ≡ Err x → r ≡ Err y → x ≡ y
+err_is x y r one other = ap refusal (sym one ∙ other)
+  where
+    refusal : Result ⊤ AskStop → AskStop
+    refusal (Ok v) = x
+    refusal (Err v) = v
+
+stop_told : {stop : Option AskStop} (result : Result ⊤ AskStop) → TellsStop result stop → (x : AskStop) → result ≡ Err x → stop ≡ Some x
+stop_told {stop} result told x same = subst (λ (r : Result ⊤ AskStop). TellsStop r stop) same told
+
 flags_of : (refused again : Bool) (stop : Option AskStop) → again ≡ (refused || is_some stop) → again ≡ false → (refused ≡ false) × (stop ≡ None)
 flags_of true again stop e f = absurd (true≢false (sym e ∙ f))
 flags_of false again None e f = (refl, refl)
@@ -71,12 +91,15 @@ module _ {S : Type 0} (batch : List (List ℕ)) where
     exactly = tt;
     unclashed = tt;
     gains = gains_nothing batch kept;
-    stands = is.stands;
-    once = is.once;
-    keeps = is.keeps;
+    stands = is;
     stop = told;
-    why = is.why;
     refused = was_refused refused refl;
+    sticks = λ no. refl;
+    new = λ may c same. absurd (subst MayAsk (told ∙ ap (λ (x : AskStop). Some x) (err_is e (Clash c) (Err e) refl same)) may);
+    sessions = refl;
+    went_on = λ i lt. went_on_not (seen_at (seen_in hands) i);
+    names = grown_not naming.names;
+    declared = λ none. refl;
     origins = refl;
     inputs = refl;
     outputs = refl;
@@ -148,13 +171,25 @@ module _ {S : Type 0} (batch : List (List ℕ)) where
           (subst (λ (n : Naming). length n.names ≤ 4096) w.names whole.few)
           (subst (λ (n : Naming). AllDiffer n.names) w.names whole.differ) none
 
+      run_new : (c : _) → w.state.stop ≡ Some (Clash c) → length parts.cache.kept ≤ c.second
+      run_new = new_end o w.entries (seen_in hands) (seen_in after) long crew lists worked others prior was refused inputs outputs is w.state w.replays
+
+      run_went_on : (i : ℕ) → i < length (seen_in hands) → WentOn (seen_at (seen_in hands) i) (seen_at (seen_in after) i)
+      run_went_on = went_on_end o w.entries (seen_in hands) (seen_in after) long crew lists worked others prior was refused inputs outputs is w.state w.replays
+
+      run_names : IsGrown parts.names.names w.state.naming.names
+      run_names = names_end o w.entries (seen_in hands) (seen_in after) long crew lists worked others prior was refused inputs outputs is w.state w.replays
+
+      run_declared : parts.names.brought ≡ None → w.state.naming ≡ parts.names
+      run_declared = declared_end o w.entries (seen_in hands) (seen_in after) long crew lists worked others prior was refused inputs outputs is w.state w.replays
+
       run_origins : origins_of (seen_in after) ≡ origins_of (seen_in hands)
       run_origins = origins_end o w.entries (seen_in hands) (seen_in after) long crew lists worked others prior was refused inputs outputs is w.state w.replays
 
     pub pool_after : IsAfter
     pool_after = ⊎_elim (λ n. not_begun n) (λ w. run_after w) ran
 
-    module _ (result : Result ⊤ AskStop) (told : TellsStop result stop) where
+    module _ (result : Result ⊤ AskStop) (told : TellsStop result stop) (may : MayAsk was) where
       abbrev Settles : Type 0
       Settles = HasSettled batch (pool_of hands parts.names prior parts.cache.kept was refused inputs outputs) (pool_of after now.names prior now.cache.kept stop again inputs outputs) result
 
@@ -164,12 +199,15 @@ module _ {S : Type 0} (batch : List (List ℕ)) where
         exactly = no_ok result told (GainsExactly batch parts.cache.kept now.cache.kept);
         unclashed = no_ok result told (NothingClashes (answers_of parts.cache.kept) → NothingClashes (answers_of now.cache.kept));
         gains = subst (GainsSome batch parts.cache.kept) (sym n.kept) (gains_nothing batch parts.cache.kept);
-        stands = (not_begun n).stands;
-        once = (not_begun n).once;
-        keeps = (not_begun n).keeps;
+        stands = not_begun n;
         stop = told;
-        why = (not_begun n).why;
         refused = again_is ∙ refused_is refused stop result told;
+        sticks = λ no. absurd (no may);
+        new = λ m c same. absurd (false≢true (ap is_clash (sym n.memory ∙ stop_told result told (Clash c) same)));
+        sessions = ap (λ (hs : List (Hand S)). length (seen_in hs)) n.hands;
+        went_on = λ i lt. subst (λ (hs : List (Hand S)). WentOn (seen_at (seen_in hands) i) (seen_at (seen_in hs) i)) (sym n.hands) (went_on_not (seen_at (seen_in hands) i));
+        names = subst (λ (x : Naming). IsGrown parts.names.names x.names) (sym n.names) (grown_not parts.names.names);
+        declared = λ none. n.names;
         origins = ap (λ (hs : List (Hand S)). origins_of (seen_in hs)) n.hands;
         inputs = refl;
         outputs = refl;
@@ -186,12 +224,15 @@ module _ {S : Type 0} (batch : List (List ℕ)) where
         exactly = on_ok result told (GainsExactly batch parts.cache.kept now.cache.kept) (λ none. record { gained = (brings w).gained; at_end = w.kept ∙ (brings w).at_end; asked = (run_settled w none).exactly });
         unclashed = on_ok result told (NothingClashes (answers_of parts.cache.kept) → NothingClashes (answers_of now.cache.kept)) (λ none nothing. subst (λ (l : List KeptAnswer). NothingClashes (answers_of l)) (sym w.kept) ((brings w).clear none nothing));
         gains = record { gained = (brings w).gained; at_end = w.kept ∙ (brings w).at_end; asked = (brings w).asked; once = (brings w).once };
-        stands = (run_after w).stands;
-        once = (run_after w).once;
-        keeps = (run_after w).keeps;
+        stands = run_after w;
         stop = told;
-        why = (run_after w).why;
         refused = again_is ∙ refused_is refused stop result told;
+        sticks = λ no. absurd (no may);
+        new = λ m c same. run_new w c (sym w.stop_is ∙ stop_told result told (Clash c) same);
+        sessions = long w;
+        went_on = run_went_on w;
+        names = subst (λ (x : Naming). IsGrown parts.names.names x.names) (sym w.names) (run_names w);
+        declared = λ none. w.names ∙ run_declared w none;
         origins = run_origins w;
         inputs = refl;
         outputs = refl;

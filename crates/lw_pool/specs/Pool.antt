@@ -1,19 +1,18 @@
 -- A pool: its workers, and what it has kept of prior answers and of their runs.
 use Rattle.std.specs.Prelude.{◌≡◌, ℕ, ◌+◌, ◌<◌, ◌≤◌, List, [], ◌∷◌, ◌++◌, length, map, take, slice_index_or, Bool, Option, Some, None}
 use Rattle.std.specs.List.{All}
-use Rattle.lw_words.specs.Answer.{answer_at, answers_of}
+use Rattle.lw_words.specs.Answer.{answers_of}
 use Rattle.lw_words.specs.declared.kept.KeptAnswer.{KeptAnswer}
 use Rattle.lw_words.specs.declared.stop.SulStop.{SulStop}
 use Rattle.lw_mealy.specs.Origin.{Origin}
-use Rattle.lw_sul.specs.Names.{named}
+use Rattle.lw_sul.specs.Names.{named, IsGrown}
 use Rattle.lw_sul.specs.SessionState.{SessionState}
 use Rattle.lw_sul.specs.declared.runs.Run.{Run}
-use Rattle.lw_cache.specs.Clash.{ClashAt}
 use Rattle.lw_cache.specs.Known.{IsKnown}
 use Rattle.lw_cache.specs.declared.stops.AskStop.{AskStop}
 use Rattle.lw_cache.specs.declared.stops.AskStop.TheVariants as Ask
 use Rattle.lw_desk.specs.Naming.{Naming}
-use Rattle.lw_desk.specs.Ending.{NamedRun, kept_runs}
+use Rattle.lw_desk.specs.Ending.{NamedRun, CameFirst, kept_runs}
 
 -- what a session's system tells, and its journal
 pub record Seen : Type 0 where
@@ -25,6 +24,22 @@ pub record Seen : Type 0 where
   pub origin : Origin
   pub inputs : ℕ
   pub outputs : ℕ
+
+-- what no ask changes of a system and its session
+pub record Same (was now : Seen) : Type 0 where
+  pub instance : now.instance ≡ was.instance
+  pub most : now.most ≡ was.most
+  pub origin : now.origin ≡ was.origin
+  pub inputs : now.inputs ≡ was.inputs
+  pub outputs : now.outputs ≡ was.outputs
+
+-- a session that went on: its journal and its names may have more at their end; one that was stopped stays as it is
+pub record WentOn (was now : Seen) : Type 0 where
+  pub same : Same was now
+  pub more : List Run
+  pub journal : now.journal ≡ was.journal ++ more
+  pub names : IsGrown was.names now.names
+  pub stopped : (s : SulStop) → was.stop ≡ Some s → now ≡ was
 
 -- a session, and beside it what its system tells
 pub record Member (S : Type 0) : Type 0 where
@@ -73,11 +88,11 @@ ArePrior prior = (i : ℕ) (d : KeptAnswer) → i < length prior → ((slice_ind
 abbrev pub AskedOnce : List KeptAnswer → List KeptAnswer → Type 0
 AskedOnce prior kept = (i : ℕ) (d : KeptAnswer) → length prior ≤ i → i < length kept → ¬ IsKnown (answers_of (take i kept)) (slice_index_or kept i d).word
 
--- a system's stop is that of its session, and a clash is one of two kept answers
+-- a system's stop is that of its session; a clash is that of an answer that clashed with those kept before it
 abbrev pub IsStopOf : List Seen → List KeptAnswer → Option AskStop → Type 0
 IsStopOf seen kept None = Unit {0}
 IsStopOf seen kept (Some (Ask.Sul i stop)) = (i < length seen) × ((seen_at seen i).stop ≡ Some stop)
-IsStopOf seen kept (Some (Ask.Clash c)) = ClashAt (answer_at (answers_of kept) c.first) (answer_at (answers_of kept) c.second) c.place
+IsStopOf seen kept (Some (Ask.Clash c)) = CameFirst kept c
 IsStopOf seen kept (Some Ask.NoMemory) = Unit {0}
 
 abbrev pub origins_of : List Seen → List Origin

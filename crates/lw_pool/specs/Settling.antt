@@ -1,5 +1,5 @@
 -- What settling a batch brings to a pool.
-use Rattle.std.specs.Prelude.{◌≡◌, ℕ, List, ◌++◌, map, Result, OnOk, ⊤}
+use Rattle.std.specs.Prelude.{◌≡◌, ℕ, ◌<◌, ◌≤◌, List, ◌++◌, length, map, None, Result, Err, OnOk, ⊤}
 use Rattle.std.specs.List.{All}
 use Rattle.lw_words.specs.Answer.{answers_of}
 use Rattle.lw_words.specs.Name.{AllDiffer}
@@ -7,9 +7,13 @@ use Rattle.lw_words.specs.declared.kept.KeptAnswer.{KeptAnswer}
 use Rattle.lw_cache.specs.Asked.{IsAsked}
 use Rattle.lw_cache.specs.Clash.{NothingClashes}
 use Rattle.lw_cache.specs.Known.{IsKnown}
-use Rattle.lw_cache.specs.Settling.{KeepsAnswers, GainsExactly, TellsStop, refused_after}
+use Rattle.lw_cache.specs.Settling.{GainsExactly, TellsStop, MayAsk, refused_after}
+use Rattle.lw_cache.specs.declared.stops.Clash.{Clash}
 use Rattle.lw_cache.specs.declared.stops.AskStop.{AskStop}
-use Rattle.lw_pool.specs.Pool.{PoolState, StandsFor, AskedOnce, IsStopOf, seen_of, origins_of}
+use Rattle.lw_cache.specs.declared.stops.AskStop.TheVariants as Ask
+use Rattle.lw_sul.specs.Names.{IsGrown}
+use Rattle.lw_pool.specs.Pool.{PoolState, WentOn, seen_at, seen_of, origins_of}
+use Rattle.lw_pool.specs.Standing.{Stands}
 
 -- the kept answers gain some at their end, to words that had to be asked, each at most once
 pub record GainsSome (batch : List (List ℕ)) (before now : List KeptAnswer) : Type 0 where
@@ -26,14 +30,18 @@ pub record HasSettled {S : Type 0} (batch : List (List ℕ)) (before now : PoolS
   pub unclashed : OnOk result (NothingClashes (answers_of before.kept) → NothingClashes (answers_of now.kept))
   -- else some of them, each at most once
   pub gains : GainsSome batch before.kept now.kept
-  -- the kept answers are the prior ones and the journals, each of a word that was not known before
-  pub stands : StandsFor now.naming now.prior now.kept (seen_of now)
-  pub once : AskedOnce now.prior now.kept
-  pub keeps : KeepsAnswers now.inputs now.outputs (origins_of (seen_of now)) now.kept
-  -- the refusal is told, and its cause
+  -- between its calls a pool is one
+  pub stands : Stands now
+  -- the refusal is told; after a system's stop or a clash nothing more is asked; and a clash is one of an answer of this batch
   pub stop : TellsStop result now.stop
-  pub why : IsStopOf (seen_of now) now.kept now.stop
   pub refused : now.refused ≡ refused_after before.refused result
+  pub sticks : ¬ MayAsk before.stop → now ≡ before
+  pub new : MayAsk before.stop → (c : Clash) → result ≡ Err (Ask.Clash c) → length before.kept ≤ c.second
+  -- the sessions have gone on, and names only came to their end
+  pub sessions : length (seen_of now) ≡ length (seen_of before)
+  pub went_on : (i : ℕ) → i < length (seen_of before) → WentOn (seen_at (seen_of before) i) (seen_at (seen_of now) i)
+  pub names : IsGrown before.naming.names now.naming.names
+  pub declared : before.naming.brought ≡ None → now.naming ≡ before.naming
   -- what no settling changes
   pub origins : origins_of (seen_of now) ≡ origins_of (seen_of before)
   pub inputs : now.inputs ≡ before.inputs

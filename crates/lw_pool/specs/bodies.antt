@@ -3,5 +3,4 @@ pub mod Crew
 pub mod Engaged
 pub mod PoolBody
 pub mod Running
-pub mod Standing
 pub mod Working

@@ -6,7 +6,7 @@ ghost use Rattle.lw_turn.specs.Views.{IsTurned};
 ghost use Rattle.lw_desk.specs.Naming.{own_names};
 ghost use Rattle.lw_desk.specs.History.{Legal};
 ghost use Rattle.lw_pool.specs.bodies.Engaged.{Working, IsReady};
-ghost use Rattle.lw_pool.specs.bodies.Working.{Same};
+ghost use Rattle.lw_pool.specs.Pool.{Same};
 
 use crate::worker::Worker;
 use lw_desk::{Ask, Desk, Reply};

@@ -5,6 +5,7 @@ ghost use Rattle.lw_turn.specs.History.{entries_of};
 ghost use Rattle.lw_turn.specs.Views.{first_view};
 ghost use Rattle.lw_desk.specs.History.{Legal};
 ghost use Rattle.lw_pool.specs.Opening.{member_of};
+ghost use Rattle.lw_pool.specs.bodies.PoolBody.{HasRoom};
 ghost use Rattle.lw_pool.specs.declared.crew.Engaged.{Engaged};
 ghost use Rattle.lw_pool.specs.bodies.Engaged.{Working};
 ghost use Rattle.lw_pool.specs.bodies.Crew.{CanRun, HasRun, AllRun, AllHired, OthersHold, OthersJoined, SameWorkers, AllReady, AllRead, AllWorkedOff};
@@ -82,6 +83,22 @@ pub(crate) fn hands_of<S: Sul + Drop>(
     Ok(hands)
 }
 
+/// The sessions of these hands, in a list that has room for them.
+pub(crate) fn sessions_of<S: Sul + Drop>(
+    hands: Vec<Hand<S>>,
+    room: Vec<Session<S>>,
+) -> Vec<Session<S>>
+    requires { HasRoom room hands }
+    ensures { map (member_of S.names S.most S.stop S.origin S.inputs S.outputs) result.items ≡
+        map (λ h. h.worker) hands.items }
+{
+    let mut sessions = room;
+    for hand in hands {
+        sessions.push_reserved(hand.worker.session);
+    }
+    sessions
+}
+
 /// 1 for a hand that holds a place, and else 0.
 fn holding(reply: &Reply) -> usize
     ensures { result ≤ 1 }
@@ -122,8 +139,8 @@ fn hire<S: Sul, R: Wait>(
     alloc: Global,
     turnstile: &Turnstile<Desk>,
     first: Pass<Desk>,
+    left: u32,
     hands: &mut [Hand<S>],
-    words: u32,
 ) -> usize
     requires ours { first.turnstile ≡ turnstile.now }
     requires fresh { first.knows ≡ first_view first.knows.opening }
@@ -136,7 +153,7 @@ fn hire<S: Sul, R: Wait>(
 {
     let crew = hands.len() as u32;
     let mut pass = first;
-    let reply = engage(rt, alloc, turnstile, &mut pass, words, crew);
+    let reply = engage(rt, alloc, turnstile, &mut pass, left, crew);
     let mut left = reply.left;
     let mut busy = holding(&reply);
     for i in 1..hands.len() {
@@ -242,6 +259,7 @@ pub(crate) fn work_off<S: Sul + Send, R: Threads + Wait + Sync>(
     alloc: Global,
     turnstile: Turnstile<Desk>,
     first: Pass<Desk>,
+    left: u32,
     hands: &mut [Hand<S>],
     batch: &[Word],
 ) -> Desk
@@ -259,8 +277,7 @@ pub(crate) fn work_off<S: Sul + Send, R: Threads + Wait + Sync>(
     ensures length { length hands.new ≡ length hands.old }
 {
     let crew = hands.len() as u32;
-    let words = u32::try_from(batch.len()).unwrap_or(u32::MAX);
-    let busy = hire(rt, alloc, &turnstile, first, hands, words);
+    let busy = hire(rt, alloc, &turnstile, first, left, hands);
     run_all(rt, alloc, &turnstile, batch, busy, crew, hands);
     let own = hands[0].leave();
     let last = gather(&turnstile, own, hands);

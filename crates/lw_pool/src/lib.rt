@@ -3,10 +3,12 @@
 
 mod crew;
 mod hands;
+mod oracle;
 mod parts;
 mod pool;
 mod worker;
 
+pub use oracle::{ByCall, Telling};
 pub use pool::Pool;
 
 #[cfg(test)]

@@ -3,17 +3,18 @@ ghost use Rattle.std.specs.Prelude.{◌≡◌, ℕ, ◌^◌, ◌<◌, ◌≤◌,
 ghost use Rattle.std.specs.List.{All};
 ghost use Rattle.lw_words.specs.Word.{IsWord};
 ghost use Rattle.lw_turn.specs.Views.{first_view};
-ghost use Rattle.lw_cache.specs.Settling.{MayAsk, TellsStop};
+ghost use Rattle.lw_cache.specs.Settling.{KeepsAnswers, MayAsk, TellsStop};
 ghost use Rattle.lw_desk.specs.Desk.{Finishes};
 ghost use Rattle.lw_desk.specs.History.{HasLists, Replays, opened};
 ghost use Rattle.lw_desk.specs.Step.{DeskState};
 ghost use Rattle.lw_pool.specs.Opening.{MayBegin, MayJoin, member_of};
+ghost use Rattle.lw_pool.specs.Pool.{seen_of, origins_of};
 ghost use Rattle.lw_pool.specs.Settling.{HasSettled};
 ghost use Rattle.lw_desk.specs.Ending.{IsShared};
 ghost use Rattle.lw_pool.specs.bodies.Crew.{AllReady, AllRead};
 ghost use Rattle.lw_pool.specs.bodies.Running.{AfterBatch, AreWhole, opening_of};
 
-use crate::hands::{Hand, hands_of, work_off};
+use crate::hands::{Hand, hands_of, sessions_of, work_off};
 use crate::parts::Parts;
 use lw_cache::{AskStop, Cache};
 use lw_desk::{Desk, OutNames};
@@ -27,11 +28,12 @@ use std::sync::Wait;
 use std::thread::Threads;
 
 /// Sessions that settle batches together: each word is asked by one of them, and what one has answered all know.
-/// Contracts see them, the names, the prior answers and all that is kept (`PoolState`).
+/// Contracts see them, the names, the prior answers and all that is kept (`PoolState`). `spare` has room for the sessions.
 #[derive(Drop)]
 pub struct Pool<S: Sul, R> {
     rt: R,
     hands: Vec<Hand<S>>,
+    spare: Vec<Session<S>>,
     parts: Option<Parts>,
     prior: Snapshot<Cache>,
     stop: Option<AskStop>,
@@ -44,23 +46,23 @@ pub struct Pool<S: Sul, R> {
 impl<S: Sul, R> Model for Pool<S, R> {
     ghost use Rattle.std.specs.Prelude.{map};
     ghost use Rattle.lw_pool.specs.Pool.{PoolState};
-    ghost use Rattle.lw_pool.specs.bodies.PoolBody.{kept_in, naming_in, AreThere};
-    ghost use Rattle.lw_pool.specs.bodies.Standing.{IsPool};
+    ghost use Rattle.lw_pool.specs.bodies.PoolBody.{kept_in, naming_in, AreThere, HasRoom};
+    ghost use Rattle.lw_pool.specs.Standing.{IsPool};
 
     ghost Value = { PoolState S };
 
     ghost view = { λ p. record { members = map (λ h. h.worker) p.hands.items; naming = naming_in p.parts; prior = p.prior.value.kept; kept = kept_in p.parts; stop = p.stop; refused = p.refused; inputs = p.inputs; outputs = p.outputs } };
 
-    ghost invariant = { λ p. AreThere p.parts × IsPool (map (λ m. m.seen) (map (λ h. h.worker) p.hands.items)) (naming_in p.parts) p.prior.value.kept (kept_in p.parts) p.stop p.refused p.inputs p.outputs };
+    ghost invariant = { λ p. AreThere p.parts × HasRoom p.spare p.hands × IsPool (map (λ m. m.seen) (map (λ h. h.worker) p.hands.items)) (naming_in p.parts) p.prior.value.kept (kept_in p.parts) p.stop p.refused p.inputs p.outputs };
 }
 
-/// A desk of a batch behind a turnstile, and its first pass; or the parts, where there is no memory.
+/// A desk of a batch behind a turnstile, its first pass, and how many places wait; or the parts, where there is no memory.
 fn open(
     alloc: Global,
     parts: Parts,
     batch: &[Word],
     actors: u32,
-) -> Result<(Turnstile<Desk>, Pass<Desk>), Parts>
+) -> Result<(Turnstile<Desk>, Pass<Desk>, u32), Parts>
     requires actors { (1 ≤ actors) × (actors ≤ 16) }
     requires few { length batch.now < 2 ^ 32 }
     requires unclaimed { parts.cache.claims ≡ [] }
@@ -79,8 +81,9 @@ fn open(
         Ok(desk) => desk,
         Err((cache, names, NoMemory)) => return Err(Parts { cache, names }),
     };
+    let left = desk.left();
     match Turnstile::new(alloc, desk) {
-        Ok(opened) => Ok(opened),
+        Ok((turnstile, first)) => Ok((turnstile, first, left)),
         Err((desk, NoMemory)) => {
             let (cache, names, _stop) = desk.finish();
             Err(Parts { cache, names })
@@ -121,8 +124,8 @@ fn run<S: Sul + Send, R: Threads + Wait + Sync>(
     ensures whole { AreWhole result.0 }
 {
     match open(alloc, parts, batch, hands.len() as u32) {
-        Ok((turnstile, first)) => {
-            let desk = work_off(rt, alloc, turnstile, first, hands, batch);
+        Ok((turnstile, first, left)) => {
+            let desk = work_off(rt, alloc, turnstile, first, left, hands, batch);
             close(desk)
         }
         Err(parts) => {
@@ -208,6 +211,9 @@ impl<S: Sul + Drop, R: Drop> Pool<S, R> {
         ensures back { IfErr result (λ e. (e.0 ≡ sessions) × (e.1 ≡ names) × (e.2 ≡ cache)) }
     {
         let prior = Snapshot::of(&cache);
+        let Ok(spare) = Vec::with_capacity(alloc, sessions.len()) else {
+            return Err((sessions, names, cache, NoMemory));
+        };
         let hands = match hands_of(alloc, sessions) {
             Ok(hands) => hands,
             Err(sessions) => return Err((sessions, names, cache, NoMemory)),
@@ -215,6 +221,7 @@ impl<S: Sul + Drop, R: Drop> Pool<S, R> {
         Ok(Pool {
             rt,
             hands,
+            spare,
             parts: Some(Parts { cache, names }),
             prior,
             stop: None,
@@ -230,8 +237,9 @@ impl<S: Sul + Send, R: Threads + Wait + Sync> Pool<S, R> {
     /// Settles a batch: each word that has to be asked is asked once, by one of the sessions. May wait for a system.
     ///
     /// # Errors
-    /// The first stop of the batch. After a stop of a system or a clash every later call answers the same and asks nothing;
-    /// after `NoMemory` a later call may succeed.
+    /// The first stop of the batch, in the order of the turns. After a stop of a system or a clash every later call answers the
+    /// same and asks nothing. After `NoMemory` a later call may succeed; what came behind it in that batch, a clash too, is
+    /// kept and not told, and a system that stopped then tells it again when it is asked.
     pub fn settle_all(&mut self, batch: &[Word]) -> Result<(), AskStop>
         requires letters { All (IsWord self.old.inputs) batch.now }
         requires few { length batch.now < 2 ^ 32 }
@@ -254,11 +262,73 @@ impl<S: Sul + Send, R: Threads + Wait + Sync> Pool<S, R> {
 impl<S: Sul, R> Pool<S, R> {
     /// The prior answers and all that the sessions have answered.
     pub fn cache(&self) -> &Cache
-        ensures { result.now.kept ≡ self.now.kept }
+        ensures kept { result.now.kept ≡ self.now.kept }
+        ensures claims { result.now.claims ≡ [] }
+        ensures keeps { KeepsAnswers self.now.inputs self.now.outputs (origins_of (seen_of self.now))
+            self.now.kept }
     {
         let Some(parts) = &self.parts else {
             unreachable!()
         };
         &parts.cache
+    }
+
+    /// The names of the kept answers' outputs.
+    pub fn names(&self) -> &OutNames
+        ensures { result.now ≡ self.now.naming }
+    {
+        let Some(parts) = &self.parts else {
+            unreachable!()
+        };
+        &parts.names
+    }
+
+    pub fn inputs(&self) -> u16
+        ensures { result ≡ self.now.inputs }
+    {
+        self.inputs
+    }
+
+    pub fn outputs(&self) -> u16
+        ensures { result ≡ self.now.outputs }
+    {
+        self.outputs
+    }
+
+    /// How many sessions there are.
+    pub fn sessions(&self) -> usize
+        ensures { result ≡ length self.now.members }
+    {
+        self.hands.len()
+    }
+
+    /// The session of an instance.
+    pub fn session(&self, instance: usize) -> &Session<S>
+        requires { instance < length self.now.members }
+        ensures { (d : _) → member_of S.names S.most S.stop S.origin S.inputs S.outputs result.now ≡
+            slice_index_or self.now.members instance d }
+    {
+        &self.hands[instance].worker.session
+    }
+}
+
+impl<S: Sul + Drop, R: Drop> Pool<S, R> {
+    /// The sessions by instance, the names, and all that is known. Takes no memory.
+    pub fn into_parts(self) -> (Vec<Session<S>>, OutNames, Cache)
+        ensures sessions { map (member_of S.names S.most S.stop S.origin S.inputs S.outputs)
+            result.0.items ≡ self.members }
+        ensures names { result.1 ≡ self.naming }
+        ensures cache { (result.2.kept ≡ self.kept) × (result.2.claims ≡ []) }
+    {
+        let Pool {
+            hands,
+            spare,
+            parts,
+            ..
+        } = self;
+        let Some(Parts { cache, names }) = parts else {
+            unreachable!()
+        };
+        (sessions_of(hands, spare), names, cache)
     }
 }

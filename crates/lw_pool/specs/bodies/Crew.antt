@@ -11,10 +11,9 @@ use Rattle.lw_desk.specs.Naming.{own_names}
 use Rattle.lw_desk.specs.History.{DeskOpening}
 use Rattle.lw_desk.specs.declared.ask.Ask.{Ask}
 use Rattle.lw_desk.specs.declared.ask.Reply.{Reply}
-use Rattle.lw_pool.specs.Pool.{Seen}
+use Rattle.lw_pool.specs.Pool.{Seen, Same}
 use Rattle.lw_pool.specs.declared.crew.Engaged.{Engaged}
 use Rattle.lw_pool.specs.declared.hands.Hand.{Hand}
-use Rattle.lw_pool.specs.bodies.Working.{Same}
 use Rattle.lw_pool.specs.bodies.Engaged.{Working, IsReady}
 
 -- the worker with this number has done its part of a batch: its own entries are those of the history, and it holds no place

@@ -13,15 +13,7 @@ use Rattle.lw_desk.specs.History.{settled_places, failed_places}
 use Rattle.lw_desk.specs.declared.ask.Ask.{Ask}
 use Rattle.lw_desk.specs.declared.ask.Give.{Give}
 use Rattle.lw_desk.specs.declared.ask.Failed.{Failed}
-use Rattle.lw_pool.specs.Pool.{Seen}
-
--- what no ask changes
-pub record Same (was now : Seen) : Type 0 where
-  pub instance : now.instance ≡ was.instance
-  pub most : now.most ≡ was.most
-  pub origin : now.origin ≡ was.origin
-  pub inputs : now.inputs ≡ was.inputs
-  pub outputs : now.outputs ≡ was.outputs
+use Rattle.lw_pool.specs.Pool.{Seen, Same}
 
 -- the word of a place was asked, and this is its answer
 pub record HasGiven (batch : List (List ℕ)) (was now : Seen) (g : Give) : Type 0 where
@@ -48,6 +40,7 @@ pub record HasRefused (was now : Seen) (stop : RunStop) : Type 0 where
   pub few : (now.names ≡ was.names) ⊎ (length now.names ≤ was.most)
   pub sul : (s : SulStop) → stop ≡ Run.Sul s → now.stop ≡ Some s
   pub memory : stop ≡ Run.NoMemory → now ≡ was
+  pub again : (s : SulStop) → was.stop ≡ Some s → now ≡ was
 
 -- answers that were given one after the other
 abbrev pub GivesBetween : List (List ℕ) → Seen → Seen → List Give → Type 0

@@ -1,6 +1,6 @@
 use Rattle.std.proofs.Common.{◌≡◌}
 use Rattle.lw_pool.specs.bodies.Engaged.{Working}
-use Rattle.lw_pool.specs.bodies.Working.{Same}
+use Rattle.lw_pool.specs.Pool.{Same}
 use Rattle.lw_pool.proofs.worker.Worker.work.Given as goal
 
 abbrev pub invariant-loop : goal.invariant-loop

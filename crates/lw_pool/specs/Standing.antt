@@ -9,7 +9,7 @@ use Rattle.lw_desk.specs.Naming.{Naming, own_names}
 use Rattle.lw_desk.specs.History.{HasLists}
 use Rattle.lw_desk.specs.Ending.{IsShared}
 use Rattle.lw_pool.specs.Fitting.{Fits}
-use Rattle.lw_pool.specs.Pool.{Seen, seen_at, StandsFor, AskedOnce, IsStopOf, origins_of}
+use Rattle.lw_pool.specs.Pool.{Seen, PoolState, seen_at, seen_of, StandsFor, AskedOnce, IsStopOf, origins_of}
 
 -- a session's outputs have the names that the pool has of it, if it is live, and else those and perhaps more
 pub record IsMember (naming : Naming) (inputs outputs number : ℕ) (s : Seen) : Type 0 where
@@ -21,6 +21,8 @@ pub record IsMember (naming : Naming) (inputs outputs number : ℕ) (s : Seen) :
   pub live : s.stop ≡ None → s.names ≡ own_names naming number
   pub journal : All (λ r. All (λ y. y < length (own_names naming number)) r.outs) s.journal
 
+-- sessions by instance, names, prior and all kept answers, the last refusal, and whether there was one, that are a pool's: no
+-- system has stopped where nothing was ever refused
 pub record IsPool (seen : List Seen) (naming : Naming) (prior kept : List KeptAnswer) (stop : Option AskStop) (refused : Bool) (inputs outputs : ℕ) : Type 0 where
   pub some : 0 < length seen
   pub few : length seen ≤ 16
@@ -33,3 +35,6 @@ pub record IsPool (seen : List Seen) (naming : Naming) (prior kept : List KeptAn
   pub once : AskedOnce prior kept
   pub why : IsStopOf seen kept stop
   pub unrefused : refused ≡ false → (stop ≡ None) × ((i : ℕ) → i < length seen → (seen_at seen i).stop ≡ None)
+
+abbrev pub Stands : {S : Type 0} → PoolState S → Type 0
+Stands p = IsPool (seen_of p) p.naming p.prior p.kept p.stop p.refused p.inputs p.outputs
