@@ -1,7 +1,6 @@
 -- The search of counterexample analysis, and the cut that it ends at.
-use Rattle.std.proofs.Common.{◌≡◌, ◌≢◌, ℕ, zero, suc, ◌+◌, ◌<◌, ◌≤◌, List, [], ◌∷◌, ◌++◌, length, map, get_or, Contains, Bool, true, false, ◌-◌, ◌/◌, take, drop, refl, ap, sym, ◌∙◌, subst, arith, add-one, append-nil, append_assoc, drop-cons}
-use Rattle.std.specs.List.{All}
-use Rattle.std.proofs.lemmas.List.{drop_all, map-append, take_more, take-append-drop}
+use Rattle.std.proofs.Common.{◌≡◌, ◌≢◌, inl, ℕ, zero, suc, ◌+◌, ◌<◌, List, [], ◌∷◌, ◌++◌, length, get_or, Contains, Bool, true, false, ◌-◌, ◌/◌, take, drop, refl, ap, sym, ◌∙◌, subst, arith, add-one, append-nil, append_assoc, drop-cons}
+use Rattle.std.proofs.lemmas.List.{drop_all, map-append, take_more}
 use Rattle.std.proofs.lemmas.List.Elements.{All-nil, All-append, All-weaker, All-take, All-drop}
 use Rattle.lw_words.specs.Answer.{Answer, AreAnswers, answer_of, answers_of}
 use Rattle.lw_words.specs.Word.{IsWord}
@@ -17,7 +16,7 @@ use Rattle.lw_cache.specs.Settling.{GainsAnswers}
 use Rattle.lw_cache.specs.declared.cut.Cut.{Cut}
 use Rattle.lw_cache.proofs.GrowLemmas.{reads_stay}
 use Rattle.lw_cache.proofs.KnownLemmas.{reads_once}
-use Rattle.lw_cex.specs.Probe.{probe, IsProbe, AsksProbes, CutsWord}
+use Rattle.lw_cex.specs.Probe.{probe, IsProbe, AsksProbes}
 use Rattle.lw_cex.specs.bodies.Search.{AgreesOn, Tells, IsBetween, IsCutAt}
 use Rattle.lw_cex.proofs.ReadLemmas.{front_agrees, front_and_rest, rest_of_answer}
 
@@ -70,6 +69,11 @@ reads_more before gained now w o grown read =
 
 pub steps_more : (a : ℕ) (m : Rows) (access : List (List ℕ)) (before gained now : List KeptAnswer) → now ≡ before ++ gained → StepsAreRead (answers_of before) a m access → StepsAreRead (answers_of now) a m access
 steps_more a m access before gained now grown steps q x state inside = reads_more before gained now (word_at access q ++ x ∷ []) (answer m (word_at access q ++ x ∷ [])) grown (steps q x state inside)
+
+-- a word on which a machine differs has a letter
+pub some_letter : (a : ℕ) (m : Rows) (ks : List Answer) (w : List ℕ) → AreAnswers a ks → Differs m ks w → 0 < length w
+some_letter a m ks [] are differs = absurd (differs.2 (reads_once a ks [] [] differs.0 are (inl (refl, refl)) differs.1))
+some_letter a m ks (x ∷ w) are differs = omega arith
 
 -- the probe in the middle becomes the upper one or the lower one, by what is told of it
 module _ (m : Rows) (access : List (List ℕ)) (w : List ℕ) (before gained now : List KeptAnswer) (low high : ℕ) (grown : now ≡ before ++ gained) (was : IsBetween m (answers_of before) access w low high) (wide : 1 < high - low) where
@@ -154,12 +158,6 @@ module _ (a : ℕ) (m : Rows) (access : List (List ℕ)) (w : List ℕ) (machine
         separates = subst (λ (t : ℕ). Separates ks cut.suffix (word_at access cut.state ++ cut.letter ∷ []) (word_at access t)) (sym at.target)
             (separated a m ks access cut.state cut.letter cut.suffix are acc steps is_state is_letter is_target differs agrees);
       }
-
-  pub cuts_word : (place : ℕ) (cut : Cut) → place < length w → IsCutAt m w place cut → CutsWord m w cut
-  cuts_word place cut lt at =
-      let rest = from place lt in
-      let whole = take-append-drop place w in
-      (take place w, (cc), at.state)
 
 only_at : (v u : List ℕ) (k : ℕ) → k < 1 → get_or (v ∷ []) k u ≡ u → v ≡ u
 only_at v u zero lt is = is

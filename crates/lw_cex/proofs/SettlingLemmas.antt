@@ -1,12 +1,16 @@
 -- What a caller leaves of an oracle, from one settling to the next.
-use Rattle.std.proofs.Common.{◌≡◌, ℕ, List, [], ◌++◌, Option, Some, None, Result, Ok, Err, Bool, refl, ap, sym, ◌∙◌, subst, append-nil, append_assoc}
+use Rattle.std.proofs.Common.{◌≡◌, ℕ, List, [], ◌++◌, Option, Some, None, Result, Ok, Err, refl, ap, sym, ◌∙◌, subst, append-nil, append_assoc}
 use Rattle.std.specs.Prelude.{⊤}
-use Rattle.lw_words.specs.Answer.{answers_of}
+use Rattle.std.proofs.lemmas.List.Elements.{All-map}
+use Rattle.lw_words.specs.Answer.{AreAnswers, IsAnswer, answer_of, answers_of}
 use Rattle.lw_words.specs.declared.kept.KeptAnswer.{KeptAnswer}
-use Rattle.lw_cache.specs.Clash.{NothingClashes}
-use Rattle.lw_cache.specs.Settling.{OracleState, IsSame, Keeps, Settles, MayAsk, LeavesStop, Leaves, TellsStop, refused_after, asked_stop}
+use Rattle.lw_words.specs.Word.{IsWord}
+use Rattle.lw_mealy.specs.Machine.{Rows}
+use Rattle.lw_cache.specs.Against.{Differs}
+use Rattle.lw_cache.specs.Settling.{OracleState, IsSame, Keeps, Settles, MayAsk, LeavesStop, Leaves, asked_stop}
 use Rattle.lw_cache.specs.declared.stops.AskStop.{AskStop}
 use Rattle.lw_cache.specs.declared.stops.AskStop.TheVariants.{Sul, Clash, NoMemory}
+use Rattle.lw_cex.proofs.ReadLemmas.{read_is_word}
 
 pub same_still : (o : OracleState) → IsSame o o
 same_still o = record { inputs = refl; outputs = refl; origins = refl; exact = refl }
@@ -77,3 +81,11 @@ settling_leaves batch a b (Err e) s =
       refused = λ none. cc;
       unclashed = λ none. cc;
     }
+
+-- an oracle's kept answers are answers over its inputs
+pub kept_are_answers : (o : OracleState) (a : ℕ) → a ≡ o.inputs → Keeps o → AreAnswers a (answers_of o.kept)
+kept_are_answers o a same keeps = subst (λ (n : ℕ). AreAnswers n (answers_of o.kept)) (sym same) (All-map (IsAnswer o.inputs) answer_of o.kept keeps.answers)
+
+-- a word on which a machine differs from them is one over its inputs
+pub differs_is_word : (o : OracleState) (a : ℕ) (m : Rows) (w : List ℕ) → a ≡ o.inputs → Keeps o → Differs m (answers_of o.kept) w → IsWord a w
+differs_is_word o a m w same keeps differs = read_is_word a (answers_of o.kept) w differs.0 (kept_are_answers o a same keeps) differs.1

@@ -11,8 +11,9 @@ use Rattle.lw_cache.specs.declared.cut.Cut.{Cut}
 abbrev pub probe : Rows → List (List ℕ) → List ℕ → ℕ → List ℕ
 probe m access w i = word_at access (after m 0 (take i w)) ++ drop i w
 
+-- the probe at a place within the word; the one at its start would be the word itself
 abbrev pub IsProbe : Rows → List (List ℕ) → List ℕ → List ℕ → Type 0
-IsProbe m access w v = (i : ℕ) × (i < length w) × (v ≡ probe m access w i)
+IsProbe m access w v = (i : ℕ) × (0 < i) × (i < length w) × (v ≡ probe m access w i)
 
 -- the kept answers gain some at their end, each to a probe of the word
 pub record AsksProbes (m : Rows) (access : List (List ℕ)) (w : List ℕ) (before now : List KeptAnswer) : Type 0 where

@@ -1,15 +1,16 @@
 //! The binary search for the place at which a counterexample is cut.
-ghost use Rattle.std.specs.Prelude.{◌≡◌, ◌<◌, [], ◌∷◌, ◌+◌, length, IfOk, None};
-ghost use Rattle.lw_words.specs.Answer.{answers_of};
+ghost use Rattle.std.specs.Prelude.{◌≡◌, ◌<◌, [], ◌∷◌, ◌+◌, length, IfOk};
+ghost use Rattle.std.specs.List.{All};
+ghost use Rattle.lw_words.specs.Answer.{answer_of, answers_of, IsAnswer};
 ghost use Rattle.lw_words.specs.Word.{IsWord};
-ghost use Rattle.lw_cache.specs.Against.{Differs};
-ghost use Rattle.lw_cache.specs.Cut.{AreAccess, StepsAreRead};
+ghost use Rattle.lw_cache.specs.Cut.{AreAccess};
+ghost use Rattle.lw_cache.specs.Known.{IsKnown};
 ghost use Rattle.lw_cache.specs.Settling.{Keeps, GainsAnswers, MayAsk, Leaves, asked_stop};
 ghost use Rattle.lw_cex.specs.Probe.{probe, AsksProbes};
 ghost use Rattle.lw_cex.specs.bodies.Search.{Tells, IsBetween};
 
-use crate::probe::{is_as_read, probe_at};
-use lw_cache::{AskStop, Oracle};
+use crate::probe::probe_at;
+use lw_cache::{AskStop, Cache, Oracle};
 use lw_mealy::Mealy;
 use lw_words::{NoMemory, Word, Words};
 use std::alloc::Global;
@@ -23,6 +24,18 @@ fn batch_of(alloc: Global, word: Word) -> Result<Words, NoMemory>
         Ok(()) => Ok(words),
         Err(_) => Err(NoMemory),
     }
+}
+
+/// Whether the model's answer to a known word is what is read.
+fn is_as_read(cache: &Cache, model: &Mealy, word: &Word) -> Result<bool, NoMemory>
+    requires answers { All (λ k. IsAnswer model.now.inputs (answer_of k)) cache.now.kept }
+    requires known { IsKnown (answers_of cache.now.kept) word.now }
+    requires letters { IsWord model.now.inputs word.now }
+    ensures { IfOk result (Tells model.now.rows (answers_of cache.now.kept) word.now) }
+{
+    let found = cache.read(word)?;
+    let Some(outs) = found else { unreachable!() };
+    Ok(model.agrees(word, &outs).is_none())
 }
 
 /// Settles a word, and tells whether the model's answer to it is what is read then.
@@ -62,7 +75,7 @@ fn agrees_at<O: Oracle>(
     requires inputs { model.now.inputs ≡ (O.state oracle.old).inputs }
     requires access { AreAccess model.now.inputs model.now.rows access.now }
     requires letters { IsWord model.now.inputs word.now }
-    requires place { place < length word.now }
+    requires inside { (0 < place) × (place < length word.now) }
     ensures tells { IfOk result (Tells model.now.rows (answers_of (O.state oracle.new).kept)
         (probe model.now.rows access.now word.now place)) }
     ensures asks { AsksProbes model.now.rows access.now word.now (O.state oracle.old).kept
@@ -74,8 +87,8 @@ fn agrees_at<O: Oracle>(
     is_as_settled(oracle, alloc, model, asked)
 }
 
-/// A place such that the model differs on the probe there and agrees on the next one.
-pub fn last_difference<O: Oracle>(
+/// A place such that the model differs on the probe there, and agrees on the one at the next place.
+pub fn breakpoint<O: Oracle>(
     oracle: &mut O,
     alloc: Global,
     model: &Mealy,

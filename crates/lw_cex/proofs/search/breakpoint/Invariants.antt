@@ -1,9 +1,9 @@
-use Rattle.std.proofs.Common.{◌≡◌, None, ◌-◌}
+use Rattle.std.proofs.Common.{None, ◌-◌}
 use Rattle.lw_words.specs.Answer.{answers_of}
 use Rattle.lw_cache.specs.Settling.{Leaves}
 use Rattle.lw_cex.specs.Probe.{AsksProbes}
 use Rattle.lw_cex.specs.bodies.Search.{IsBetween}
-use Rattle.lw_cex.proofs.search.last_difference.Given as goal
+use Rattle.lw_cex.proofs.search.breakpoint.Given as goal
 
 abbrev pub invariant-loop-high : goal.invariant-loop-high
 invariant-loop-high g l = record {
