@@ -27,7 +27,7 @@ fn batch_of(alloc: Global, word: Word) -> Result<Words, NoMemory>
 }
 
 /// Whether the model's answer to a known word is what is read.
-fn is_as_read(cache: &Cache, model: &Mealy, word: &Word) -> Result<bool, NoMemory>
+pub fn is_as_read(cache: &Cache, model: &Mealy, word: &Word) -> Result<bool, NoMemory>
     requires answers { All (λ k. IsAnswer model.now.inputs (answer_of k)) cache.now.kept }
     requires known { IsKnown (answers_of cache.now.kept) word.now }
     requires letters { IsWord model.now.inputs word.now }
