@@ -1,7 +1,7 @@
 -- The search of counterexample analysis, and the cut that it ends at.
 use Rattle.std.proofs.Common.{◌≡◌, ◌≢◌, inl, ℕ, zero, suc, ◌+◌, ◌<◌, List, [], ◌∷◌, ◌++◌, length, get_or, Contains, Bool, true, false, ◌-◌, ◌/◌, take, drop, refl, ap, sym, ◌∙◌, subst, arith, add-one, append-nil, append_assoc, drop-cons}
 use Rattle.std.proofs.lemmas.List.{drop_all, map-append, take_more}
-use Rattle.std.proofs.lemmas.List.Elements.{All-nil, All-append, All-weaker, All-take, All-drop}
+use Rattle.std.proofs.lemmas.List.Elements.{All-append, All-weaker, All-take, All-drop}
 use Rattle.lw_words.specs.Answer.{Answer, AreAnswers, answer_of, answers_of}
 use Rattle.lw_words.specs.Word.{IsWord}
 use Rattle.lw_words.specs.declared.kept.KeptAnswer.{KeptAnswer}
@@ -99,7 +99,7 @@ module _ (m : Rows) (access : List (List ℕ)) (w : List ℕ) (before gained now
       }
 
 -- an access word is known with the machine's outputs, where there is a letter
-pub access_read : (a : ℕ) (m : Rows) (ks : List Answer) (access : List (List ℕ)) (q : ℕ) → 0 < a → StepsAreRead ks a m access → q < length m → Reads ks (word_at access q) (answer m (word_at access q))
+access_read : (a : ℕ) (m : Rows) (ks : List Answer) (access : List (List ℕ)) (q : ℕ) → 0 < a → StepsAreRead ks a m access → q < length m → Reads ks (word_at access q) (answer m (word_at access q))
 access_read a m ks access q some steps state = front_agrees m ks (word_at access q) (0 ∷ []) (steps q 0 state some)
 
 module _ (a : ℕ) (m : Rows) (access : List (List ℕ)) (w : List ℕ) (machine : IsMachine a m) (acc : AreAccess a m access) (letters : IsWord a w) where
@@ -107,11 +107,8 @@ module _ (a : ℕ) (m : Rows) (access : List (List ℕ)) (w : List ℕ) (machine
   abbrev state : ℕ → ℕ
   state i = after m 0 (take i w)
 
-  pub state_below : (i : ℕ) → state i < length m
+  state_below : (i : ℕ) → state i < length m
   state_below i = after_below a m (take i w) 0 machine machine.some_state (All-take (λ x. x < a) i w letters)
-
-  pub probe_is_word : (i : ℕ) → IsWord a (probe m access w i)
-  probe_is_word i = All-append (λ x. x < a) (word_at access (state i)) (drop i w) (acc.words (state i) [] (omega (arith, acc.count, state_below i))) (All-drop (λ x. x < a) i w letters)
 
   -- the word itself is the first probe
   first_probe : probe m access w 0 ≡ w
@@ -174,9 +171,6 @@ asks_probe m access w v before now is gains =
       at_end = gains.at_end;
       probes = All-weaker (λ k. Contains (v ∷ []) k.word) (λ k. IsProbe m access w k.word) (λ k has. subst (IsProbe m access w) (only v k.word has) is) gains.gained gains.of_batch;
     }
-
-pub asks_nothing : (m : Rows) (access : List (List ℕ)) (w : List ℕ) (kept : List KeptAnswer) → AsksProbes m access w kept kept
-asks_nothing m access w kept = record { gained = []; at_end = sym (append-nil kept); probes = All-nil (λ k. IsProbe m access w k.word) }
 
 pub asks_then : (m : Rows) (access : List (List ℕ)) (w : List ℕ) (a b c : List KeptAnswer) → AsksProbes m access w a b → AsksProbes m access w b c → AsksProbes m access w a c
 asks_then m access w a b c first next =

@@ -1,19 +1,14 @@
 -- What a caller leaves of an oracle, from one settling to the next.
-use Rattle.std.proofs.Common.{◌≡◌, ℕ, List, [], ◌++◌, Option, Some, None, Result, Ok, Err, refl, ap, sym, ◌∙◌, subst, append-nil, append_assoc}
-use Rattle.std.specs.Prelude.{⊤}
+use Rattle.std.proofs.Common.{◌≡◌, ℕ, List, ◌++◌, Option, None, refl, ap, sym, ◌∙◌, subst, append_assoc}
 use Rattle.std.proofs.lemmas.List.Elements.{All-map}
 use Rattle.lw_words.specs.Answer.{AreAnswers, IsAnswer, answer_of, answers_of}
 use Rattle.lw_words.specs.declared.kept.KeptAnswer.{KeptAnswer}
 use Rattle.lw_words.specs.Word.{IsWord}
 use Rattle.lw_mealy.specs.Machine.{Rows}
 use Rattle.lw_cache.specs.Against.{Differs}
-use Rattle.lw_cache.specs.Settling.{OracleState, IsSame, Keeps, Settles, MayAsk, LeavesStop, Leaves, asked_stop}
+use Rattle.lw_cache.specs.Settling.{OracleState, IsSame, Keeps, Leaves}
 use Rattle.lw_cache.specs.declared.stops.AskStop.{AskStop}
-use Rattle.lw_cache.specs.declared.stops.AskStop.TheVariants.{Sul, Clash, NoMemory}
 use Rattle.lw_cex.proofs.ReadLemmas.{read_is_word}
-
-pub same_still : (o : OracleState) → IsSame o o
-same_still o = record { inputs = refl; outputs = refl; origins = refl; exact = refl }
 
 pub same_then : (a b c : OracleState) → IsSame a b → IsSame b c → IsSame a c
 same_then a b c first next =
@@ -22,19 +17,6 @@ same_then a b c first next =
       outputs = next.outputs ∙ first.outputs;
       origins = next.origins ∙ first.origins;
       exact = next.exact ∙ first.exact;
-    }
-
--- an oracle that isn't asked stays as it is
-pub leaves_still : (o : OracleState) (stop : Option AskStop) → Keeps o → LeavesStop stop o.stop → Leaves o o stop
-leaves_still o stop keeps may =
-    record {
-      gained = [];
-      at_end = sym (append-nil o.kept);
-      keeps = keeps;
-      same = same_still o;
-      told = may;
-      refused = λ none. refl;
-      unclashed = λ none nothing. nothing;
     }
 
 -- one call after another that answered no stop
@@ -48,38 +30,6 @@ leaves_then a b c stop first next =
       told = next.told;
       refused = λ none. next.refused none ∙ first.refused refl;
       unclashed = λ none nothing. next.unclashed none (first.unclashed refl nothing);
-    }
-
--- a caller's own lack of memory, after calls that answered no stop
-pub leaves_memory : (a b : OracleState) → Leaves a b None → Leaves a b (Some NoMemory)
-leaves_memory a b l = leaves_then a b b (Some NoMemory) l (leaves_still b (Some NoMemory) l.keeps l.told)
-
-stops : (e : AskStop) (now : Option AskStop) → now ≡ Some e → LeavesStop (Some e) now
-stops (Sul instance stop) now is = is
-stops (Clash clash) now is = is
-stops NoMemory now is = subst MayAsk (sym is) tt
-
--- a settling, by what it answers
-pub settling_leaves : (batch : List (List ℕ)) (a b : OracleState) (result : Result ⊤ AskStop) → Settles batch a b result → Leaves a b (asked_stop result)
-settling_leaves batch a b (Ok x) s =
-    record {
-      gained = s.gains.gained;
-      at_end = s.gains.at_end;
-      keeps = s.keeps;
-      same = s.same;
-      told = subst MayAsk (sym s.stop) tt;
-      refused = λ none. s.refused;
-      unclashed = λ none. s.unclashed;
-    }
-settling_leaves batch a b (Err e) s =
-    record {
-      gained = s.gains.gained;
-      at_end = s.gains.at_end;
-      keeps = s.keeps;
-      same = s.same;
-      told = stops e b.stop s.stop;
-      refused = λ none. cc;
-      unclashed = λ none. cc;
     }
 
 -- an oracle's kept answers are answers over its inputs

@@ -57,7 +57,7 @@ fn the_probe_in_the_middle_agrees(rt: HostRuntime) -> Result<(), Fail> {
     let mut oracle = Recording::new(alloc, counter);
     let known = words(alloc, &[&[A, A, A]])?;
     let access = words(alloc, &[&[]])?;
-    let cut = split_after(&mut oracle, alloc, &known, &model, &access, known.get(0))?;
+    let cut = split_after(&mut oracle, alloc, &known, &model, &access)?;
     assert!(rt; is_cut(&cut, 0, A, &[A, A], 0));
     assert_eq!(rt; oracle.batches().len(), 2);
     assert!(rt; oracle.asked(1, &[&[A, A]]));
@@ -78,7 +78,7 @@ fn the_search_goes_both_ways(rt: HostRuntime) -> Result<(), Fail> {
     let model = of_two_letters(alloc, &[[(1, 0), (0, 0)], [(1, 0), (1, 0)]])?;
     let known = words(alloc, &[&[A, B, A, A, B, A], &[A, A], &[B]])?;
     let access = words(alloc, &[&[], &[A]])?;
-    let cut = split_after(&mut oracle, alloc, &known, &model, &access, known.get(0))?;
+    let cut = split_after(&mut oracle, alloc, &known, &model, &access)?;
     assert!(rt; is_cut(&cut, 1, A, &[A, B, A], 1));
     assert_eq!(rt; oracle.batches().len(), 4);
     assert!(rt; oracle.asked(1, &[&[A, A, B, A]]));
@@ -106,7 +106,7 @@ fn the_first_letter_is_cut_off(rt: HostRuntime) -> Result<(), Fail> {
     let model = of_two_letters(alloc, &[[(0, 0), (0, 0)]])?;
     let known = words(alloc, &[&[A, B, A, B], &[B]])?;
     let access = words(alloc, &[&[]])?;
-    let cut = split_after(&mut oracle, alloc, &known, &model, &access, known.get(0))?;
+    let cut = split_after(&mut oracle, alloc, &known, &model, &access)?;
     assert!(rt; is_cut(&cut, 0, A, &[B, A, B], 0));
     assert_eq!(rt; oracle.batches().len(), 3);
     assert!(rt; oracle.asked(1, &[&[A, B]]));
@@ -121,7 +121,7 @@ fn the_word_itself_is_a_probe(rt: HostRuntime) -> Result<(), Fail> {
     let model = of_two_letters(alloc, &[[(1, 0), (0, 0)], [(0, 0), (0, 0)]])?;
     let known = words(alloc, &[&[A, B, A, B], &[B], &[A, A]])?;
     let access = words(alloc, &[&[], &[A]])?;
-    let cut = split_after(&mut oracle, alloc, &known, &model, &access, known.get(0))?;
+    let cut = split_after(&mut oracle, alloc, &known, &model, &access)?;
     assert!(rt; is_cut(&cut, 1, B, &[A, B], 0));
     assert_eq!(rt; oracle.batches().len(), 3);
     assert!(rt; oracle.asked(1, &[&[A, B]]));

@@ -116,20 +116,22 @@ fn steps_are_read(cache: &Cache, model: &Mealy, access: &Words) -> Result<(), Fa
     Ok(())
 }
 
-/// Settles a batch, and splits the model then.
+/// Settles a batch, and splits the model by its first word then.
 pub fn split_after<O: Oracle>(
     oracle: &mut O,
     alloc: Global,
     batch: &Words,
     model: &Mealy,
     access: &Words,
-    word: &Word,
 ) -> Result<Cut, Fail>
     requires can { O.can_settle oracle.old }
 {
     if model.inputs() != oracle.inputs() || batch.len() > 100 {
         return Err(Fail::from("other inputs, or a large batch"));
     }
+    let Some(word) = batch.as_slice().first() else {
+        return Err(Fail::from("no word"));
+    };
     have_letters(model, batch.as_slice())?;
     let settled = oracle.settle(batch.as_slice());
     let Ok(()) = settled else {
