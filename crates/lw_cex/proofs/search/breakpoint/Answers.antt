@@ -1,0 +1,31 @@
+use Rattle.std.proofs.Common.{None}
+use Rattle.lw_cex.proofs.SearchLemmas.{asks_then, lower_half, upper_half}
+use Rattle.lw_cex.proofs.SettlingLemmas.{leaves_then}
+use Rattle.lw_cex.proofs.search.breakpoint.Goals as goal
+
+pub returns-in_err-agrees_at-clause-asks : goal.returns-in_err-agrees_at-clause-asks
+returns-in_err-agrees_at-clause-asks g c =
+    asks_then c.args.model.now.rows c.args.access.now c.args.word.now (g.O.Oracle.state c.args.oracle.now).kept (g.O.Oracle.state c.loop-high.oracle).kept (g.O.Oracle.state c.agrees_at.new.oracle).kept
+    c.loop-high.invariant.asks c.agrees_at.ensures.asks
+
+pub loop-high-preserved-then-branch : goal.loop-high-preserved-then-branch
+loop-high-preserved-then-branch g c =
+    record {
+      between = lower_half c.args.model.now.rows c.args.access.now c.args.word.now (g.O.Oracle.state c.loop-high.oracle).kept c.in_ok-agrees_at.ensures.leaves.gained (g.O.Oracle.state c.agrees_at.new.oracle).kept c.loop-high.low c.loop-high.high
+          c.in_ok-agrees_at.ensures.leaves.at_end c.loop-high.invariant.between c.loop-high-test.true c.in_ok-agrees_at.field-0 c.if-branch.true c.in_ok-agrees_at.ensures.tells;
+      asks = asks_then c.args.model.now.rows c.args.access.now c.args.word.now (g.O.Oracle.state c.args.oracle.now).kept (g.O.Oracle.state c.loop-high.oracle).kept (g.O.Oracle.state c.agrees_at.new.oracle).kept
+          c.loop-high.invariant.asks c.agrees_at.ensures.asks;
+      leaves = leaves_then (g.O.Oracle.state c.args.oracle.now) (g.O.Oracle.state c.loop-high.oracle) (g.O.Oracle.state c.agrees_at.new.oracle) None c.loop-high.invariant.leaves c.in_ok-agrees_at.ensures.leaves;
+      can = c.agrees_at.ensures.can;
+    }
+
+pub loop-high-preserved : goal.loop-high-preserved
+loop-high-preserved g c =
+    record {
+      between = upper_half c.args.model.now.rows c.args.access.now c.args.word.now (g.O.Oracle.state c.loop-high.oracle).kept c.in_ok-agrees_at.ensures.leaves.gained (g.O.Oracle.state c.agrees_at.new.oracle).kept c.loop-high.low c.loop-high.high
+          c.in_ok-agrees_at.ensures.leaves.at_end c.loop-high.invariant.between c.loop-high-test.true c.in_ok-agrees_at.field-0 c.if-branch.false c.in_ok-agrees_at.ensures.tells;
+      asks = asks_then c.args.model.now.rows c.args.access.now c.args.word.now (g.O.Oracle.state c.args.oracle.now).kept (g.O.Oracle.state c.loop-high.oracle).kept (g.O.Oracle.state c.agrees_at.new.oracle).kept
+          c.loop-high.invariant.asks c.agrees_at.ensures.asks;
+      leaves = leaves_then (g.O.Oracle.state c.args.oracle.now) (g.O.Oracle.state c.loop-high.oracle) (g.O.Oracle.state c.agrees_at.new.oracle) None c.loop-high.invariant.leaves c.in_ok-agrees_at.ensures.leaves;
+      can = c.agrees_at.ensures.can;
+    }
