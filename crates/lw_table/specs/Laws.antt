@@ -1,10 +1,14 @@
 -- What the machine of a closed table is.
-use Rattle.std.specs.Prelude.{◌≡◌, List}
+use Rattle.std.specs.Prelude.{◌≡◌, ℕ, List}
 use Rattle.lw_words.specs.Answer.{Answer, AreAnswers}
 use Rattle.lw_mealy.specs.Machine.{Rows}
 use Rattle.lw_cache.specs.Crowd.{IsCrowd}
 use Rattle.lw_cache.specs.Cut.{AreAccess, StepsAreRead}
-use Rattle.lw_table.specs.Table.{TableState, IsTable, CellsAreRead, IsClosed, IsMachineOf}
+use Rattle.lw_table.specs.Table.{TableState, IsTable, CellsAreRead, IsClosed, IsMachineOf, new_table}
+
+-- a new table has no cell that could be read otherwise
+abbrev pub NewIsRead : Type 0
+NewIsRead = (ks : List Answer) (a b most : ℕ) → CellsAreRead ks (new_table a b most)
 
 -- a table has one machine at most
 abbrev pub OneMachine : Type 0

@@ -1,6 +1,6 @@
 -- The observation table, of which each row is a word and each column a suffix. Source: Angluin (1987), with outputs for
 -- cells as in Niese (2003).
-use Rattle.std.specs.Prelude.{◌≡◌, ◌≢◌, ◌⊎◌, ℕ, ◌+◌, ◌*◌, ◌<◌, ◌≤◌, List, [], ◌∷◌, ◌++◌, length, map, take, drop, slice_index_or}
+use Rattle.std.specs.Prelude.{◌≡◌, ◌≢◌, ◌⊎◌, ℕ, ◌+◌, ◌*◌, ◌<◌, ◌≤◌, List, [], ◌∷◌, ◌++◌, length, map, replicate, take, drop, slice_index_or}
 use Rattle.std.specs.List.{All, range_with_len}
 use Rattle.lw_words.specs.Answer.{Answer}
 use Rattle.lw_words.specs.Word.{IsWord}
@@ -95,3 +95,16 @@ pub record IsMachineOf (t : TableState) (m : Rows) : Type 0 where
   pub outs : (q x : ℕ) → q < length t.access → x < t.inputs → word_at (access_row t q) x ≡ output m q x ∷ []
   pub within : (q x : ℕ) → q < length t.access → x < t.inputs → next m q x < length t.access
   pub targets : (q x : ℕ) → q < length t.access → x < t.inputs → extension_row t q x ≡ access_row t (next m q x)
+
+-- the table before anything was asked: the empty word and its extensions by the letters, without cells
+abbrev pub new_table : ℕ → ℕ → ℕ → TableState
+new_table a b most = record {
+  inputs = a;
+  outputs = b;
+  most = most;
+  access = [] ∷ [];
+  suffixes = map (λ x. x ∷ []) (range_with_len 0 a);
+  cells = replicate (1 + a) [];
+  homes = 0 ∷ [];
+  refinements = 0;
+}

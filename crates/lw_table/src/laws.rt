@@ -1,5 +1,10 @@
 //! Laws of the definitions. Each is a function with no code, whose contract is the law.
-ghost use Rattle.lw_table.specs.Laws.{OneMachine, AccessLeads, MachineGivesCells, AccessIsCrowd};
+ghost use Rattle.lw_table.specs.Laws.{NewIsRead, OneMachine, AccessLeads, MachineGivesCells, AccessIsCrowd};
+
+/// A new table has no cell that could be read otherwise.
+pub fn new_is_read()
+    ensures { NewIsRead }
+{}
 
 /// A closed table has one machine.
 pub fn one_machine()
