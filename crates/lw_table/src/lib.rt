@@ -7,3 +7,6 @@ mod table;
 
 pub use laws::{access_is_crowd, access_leads, machine_gives_cells, new_is_read, one_machine};
 pub use table::ObservationTable;
+
+#[cfg(test)]
+mod tests;
