@@ -1,0 +1,27 @@
+//! Laws of the definitions. Each is a function with no code, whose contract is the law.
+ghost use Rattle.lw_table.specs.Laws.{NewIsRead, OneMachine, AccessLeads, MachineGivesCells, AccessIsCrowd};
+
+/// A new table has no cell that could be read otherwise.
+pub fn new_is_read()
+    ensures { NewIsRead }
+{}
+
+/// A closed table has one machine.
+pub fn one_machine()
+    ensures { OneMachine }
+{}
+
+/// Each access word leads to its state.
+pub fn access_leads()
+    ensures { AccessLeads }
+{}
+
+/// Each access word followed by each letter is known, with the outputs of the table's machine.
+pub fn machine_gives_cells()
+    ensures { MachineGivesCells }
+{}
+
+/// Any two access words are apart.
+pub fn access_is_crowd()
+    ensures { AccessIsCrowd }
+{}
