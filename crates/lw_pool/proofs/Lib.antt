@@ -3,6 +3,7 @@ pub mod CrewLemmas
 pub mod CrewSends
 pub mod GiveLemmas
 pub mod HandLemmas
+pub mod JoinLemmas
 pub mod JournalLemmas
 pub mod PoolLemmas
 pub mod WorkLemmas

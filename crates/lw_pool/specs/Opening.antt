@@ -1,5 +1,5 @@
 -- Which sessions may make a pool.
-use Rattle.std.specs.Prelude.{◌≡◌, ℕ, ◌<◌, List, [], length, Option, None}
+use Rattle.std.specs.Prelude.{◌≡◌, ℕ, ◌<◌, List, [], length, slice_index_or, Option, None}
 use Rattle.std.specs.List.{All}
 use Rattle.lw_words.specs.Answer.{answer_of, IsAnswer}
 use Rattle.lw_words.specs.declared.kept.KeptAnswer.{KeptAnswer}
@@ -26,6 +26,10 @@ pub record MayJoin (naming : Naming) (inputs outputs number : ℕ) (s : Seen) : 
   pub live : s.stop ≡ None
   pub fits : Fits naming s.names s.most s.outputs s.origin.machine
   pub names : s.names ≡ own_names naming number
+
+-- sessions that may be those of a pool, each under the number of its place
+abbrev pub AllMayJoin : {S : Type 0} → (SessionState S → Member S) → Naming → (inputs outputs : ℕ) → List (SessionState S) → Type 0
+AllMayJoin f naming inputs outputs sessions = (i : ℕ) (d : SessionState _) → i < length sessions → MayJoin naming inputs outputs i (f (slice_index_or sessions i d)).seen
 
 -- answers that a pool may begin with: of the instance 16, in the runs of their places, over its letters and its names
 pub record MayBegin (naming : Naming) (inputs outputs : ℕ) (prior : List KeptAnswer) : Type 0 where

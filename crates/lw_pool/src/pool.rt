@@ -7,7 +7,7 @@ ghost use Rattle.lw_cache.specs.Settling.{KeepsAnswers, MayAsk, TellsStop};
 ghost use Rattle.lw_desk.specs.Desk.{Finishes};
 ghost use Rattle.lw_desk.specs.History.{HasLists, Replays, opened};
 ghost use Rattle.lw_desk.specs.Step.{DeskState};
-ghost use Rattle.lw_pool.specs.Opening.{MayBegin, MayJoin, member_of};
+ghost use Rattle.lw_pool.specs.Opening.{MayBegin, AllMayJoin, member_of};
 ghost use Rattle.lw_pool.specs.Pool.{seen_of, origins_of};
 ghost use Rattle.lw_pool.specs.Settling.{HasSettled};
 ghost use Rattle.lw_desk.specs.Ending.{IsShared};
@@ -197,10 +197,9 @@ impl<S: Sul + Drop, R: Drop> Pool<S, R> {
         requires unclaimed { cache.claims ≡ [] }
         requires lists { HasLists names.brought (length sessions.items) }
         requires shared { IsShared names }
-        requires join { (i : ℕ) (d : _) → i < length sessions.items →
-            MayJoin names inputs outputs i
-            (member_of S.names S.most S.stop S.origin S.inputs S.outputs
-            (slice_index_or sessions.items i d)).seen }
+        requires join { AllMayJoin
+            (member_of S.names S.most S.stop S.origin S.inputs S.outputs)
+            names inputs outputs sessions.items }
         requires prior { MayBegin names inputs outputs cache.kept }
         ensures members { IfOk result (λ p. p.members ≡
             map (member_of S.names S.most S.stop S.origin S.inputs S.outputs) sessions.items) }

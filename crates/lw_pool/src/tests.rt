@@ -1,14 +1,16 @@
-//! How a crew shares a batch, and a pool of tables.
-ghost use Rattle.std.specs.Prelude.{◌≡◌, ◌<◌, ◌∷◌, [], IfOk, length};
-ghost use Rattle.std.specs.List.{All};
+//! How a crew shares a batch, and pools: what is asked, two at once, sessions that disagree and one that stops.
+ghost use Rattle.std.specs.Prelude.{◌≡◌, IfOk};
+
+mod acting;
+mod crews;
 
 use crate::Pool;
 use crate::crew::share;
-use lw_cache::Cache;
-use lw_desk::OutNames;
+use crate::tests::acting::Acting;
+use crate::tests::crews::{Plan, all_words, machine, meeting, pool_of, settle, words};
+use lw_cache::{AskStop, Clash};
 use lw_mealy::Mealy;
-use lw_sul::{Session, TableSul};
-use lw_words::{Names, Word};
+use lw_words::{Kept, KeptAnswer, SulStop, Word};
 use std::alloc::Global;
 use std::sync::Wait;
 use std::test::Fail;
@@ -23,70 +25,201 @@ fn the_end_of_a_batch_is_shared_word_by_word(rt: HostRuntime) -> Result<(), Fail
     Ok(())
 }
 
-/// A counter modulo three.
-fn counter(alloc: Global) -> Result<Mealy, Fail>
-    ensures { IfOk result (λ m. (m.inputs ≡ 1) × (m.outputs ≡ 2)) }
-{
-    let mut rows = Vec::new(alloc);
-    for (target, output) in [(1u16, 0u16), (2, 0), (0, 1)] {
-        rows.push(Vec::from_slice(alloc, &[(target, output)])?)?;
-    }
-    Ok(Mealy::new(alloc, 1, 2, rows)?)
+/// Five states, in which letters and outputs matter.
+const ROWS: [[(u16, u16); 2]; 5] = [
+    [(1, 0), (4, 1)],
+    [(3, 1), (1, 0)],
+    [(0, 0), (2, 0)],
+    [(2, 1), (4, 1)],
+    [(4, 0), (0, 1)],
+];
+
+/// A system of this machine that does as it should.
+fn sound(alloc: Global, rows: &[[(u16, u16); 2]]) -> Result<Plan, Fail> {
+    Ok(Plan {
+        machine: machine(alloc, rows)?,
+        refused: None,
+        meeting: None,
+    })
 }
 
-/// Its outputs.
-fn outputs(alloc: Global) -> Result<Names, Fail>
-    ensures { IfOk result (λ names. length names ≡ 2) }
-{
-    let mut texts = Vec::new(alloc);
-    texts.push(String::from_str(alloc, "0")?)?;
-    texts.push(String::from_str(alloc, "1")?)?;
-    match Names::from_list(alloc, &texts) {
-        Ok(names) if names.len() == 2 => Ok(names),
-        _ => Err(Fail::from("the names are refused")),
+/// So many of them.
+fn sound_plans(alloc: Global, count: usize) -> Result<Vec<Plan>, Fail> {
+    let mut plans = Vec::new(alloc);
+    for _ in 0..count {
+        plans.push(sound(alloc, &ROWS)?)?;
     }
+    Ok(plans)
 }
 
-/// A pool of one counter.
-fn pool<R: Drop>(rt: R, alloc: Global) -> Result<Pool<TableSul, R>, Fail>
-    ensures { IfOk result (λ p. p.inputs ≡ 1) }
-{
-    let names = outputs(alloc)?;
-    let shared = OutNames::declared(alloc, &names)?;
-    let mut sessions = Vec::new(alloc);
-    sessions.push(Session::new(alloc, 0, TableSul::new(counter(alloc)?, names)))?;
-    match Pool::new(rt, alloc, 1, 2, sessions, shared, Cache::new(alloc)) {
-        Ok(pool) => Ok(pool),
-        Err(_) => Err(Fail::from("there is no memory")),
+/// Whether an answer is the machine's to a word of four letters.
+fn is_answer(m: &Mealy, k: &KeptAnswer) -> Result<bool, Fail> {
+    if m.inputs() != 2 || k.word.len() != 4 || !k.word.as_slice().iter().all(|x| *x < 2) {
+        return Ok(false);
     }
+    let outs = m.answer(&k.word)?;
+    Ok(outs.as_slice() == k.outs.as_slice())
 }
 
-/// Settles words of so many letters.
-fn settle<R: Threads + Wait + Sync>(
-    alloc: Global,
-    pool: &mut Pool<TableSul, R>,
-    lengths: &[usize],
-) -> Result<bool, Fail>
-    requires { pool.old.inputs ≡ 1 }
-    ensures { IfOk result (λ _. pool.new.inputs ≡ 1) }
-{
-    let mut batch = Vec::new(alloc);
-    for length in lengths {
-        batch.push(Word::from_letters(alloc, vec![in alloc; 0u16; *length]?))?;
+/// How many of the kept answers are the machine's to this word of four letters.
+fn answers_to(m: &Mealy, kept: &Kept, w: &Word) -> Result<usize, Fail> {
+    let mut count = 0usize;
+    for i in 0..kept.len() {
+        let k = kept.get(i);
+        if k.word.as_slice() == w.as_slice() && is_answer(m, k)? {
+            count = count.saturating_add(1);
+        }
     }
-    if batch.len() > 100 || !batch.iter().all(|w| w.as_slice().iter().all(|x| *x < 1)) {
-        return Err(Fail::from("another batch was meant"));
+    Ok(count)
+}
+
+/// Whether these are the machine's answers to all words of four letters, each once.
+fn are_all_answers(alloc: Global, m: &Mealy, kept: &Kept) -> Result<bool, Fail> {
+    let all = all_words(alloc, 4)?;
+    let mut right = kept.len() == all.len();
+    for w in &all {
+        right = right && answers_to(m, kept, w)? == 1;
     }
-    Ok(pool.settle_all(&batch).is_ok())
+    Ok(right)
 }
 
 #[test]
-fn a_word_is_asked_once(rt: HostRuntime) -> Result<(), Fail> {
+fn each_word_is_asked_once_by_however_many(rt: HostRuntime) -> Result<(), Fail> {
     let alloc = rt.alloc();
-    let mut pool = pool(rt, alloc)?;
-    assert!(rt; settle(alloc, &mut pool, &[1, 3, 1])?);
-    assert_eq!(rt; pool.cache().kept().len(), 1);
-    assert!(rt; settle(alloc, &mut pool, &[1, 3, 1])?);
-    assert_eq!(rt; pool.cache().kept().len(), 1);
+    let m = machine(alloc, &ROWS)?;
+    for count in [1usize, 2, 8, 16] {
+        let mut pool = pool_of(rt, alloc, sound_plans(alloc, count)?)?;
+        let long = all_words(alloc, 4)?;
+        assert!(rt; settle(&mut pool, &all_words(alloc, 0)?)?.is_ok());
+        assert!(rt; pool.cache().kept().len() == 0);
+        assert!(rt; settle(&mut pool, &long)?.is_ok());
+        assert!(rt; are_all_answers(alloc, &m, pool.cache().kept())?);
+        assert!(rt; settle(&mut pool, &all_words(alloc, 3)?)?.is_ok());
+        assert!(rt; settle(&mut pool, &long)?.is_ok());
+        assert_eq!(rt; pool.cache().kept().len(), 16);
+    }
+    Ok(())
+}
+
+#[test]
+fn a_prefix_and_a_repeated_word_are_not_asked(rt: HostRuntime) -> Result<(), Fail> {
+    let alloc = rt.alloc();
+    for count in [1usize, 2, 8] {
+        let mut pool = pool_of(rt, alloc, sound_plans(alloc, count)?)?;
+        let (one, three) = ([0u16], [0u16, 0, 0]);
+        let batch = words(alloc, &[one.as_slice(), three.as_slice(), one.as_slice()])?;
+        assert!(rt; settle(&mut pool, &batch)?.is_ok());
+        assert!(rt; settle(&mut pool, &batch)?.is_ok());
+        assert_eq!(rt; pool.cache().kept().len(), 1);
+        let (sessions, _, cache) = pool.into_parts();
+        assert_eq!(rt; sessions.len(), count);
+        assert_eq!(rt; cache.kept().len(), 1);
+    }
+    Ok(())
+}
+
+/// Two systems that meet in their first steps: one that answers 0 to each letter, and another.
+fn meeting_pool<R: Drop>(rt: R, alloc: Global, output: u16) -> Result<Pool<Acting, R>, Fail>
+    ensures { IfOk result (λ p. p.inputs ≡ 2) }
+{
+    let (here, there) = meeting(alloc)?;
+    let mut first = sound(alloc, &[[(0, 0), (0, 0)]])?;
+    first.meeting = Some(here);
+    let mut second = sound(alloc, &[[(0, output), (0, output)]])?;
+    second.meeting = Some(there);
+    let mut plans = Vec::new(alloc);
+    plans.push(first)?;
+    plans.push(second)?;
+    pool_of(rt, alloc, plans)
+}
+
+#[test]
+fn two_words_are_asked_at_once(rt: HostRuntime) -> Result<(), Fail> {
+    let alloc = rt.alloc();
+    let mut pool = meeting_pool(rt, alloc, 0)?;
+    let batch = words(alloc, &[[0u16].as_slice(), [1u16].as_slice()])?;
+    assert!(rt; settle(&mut pool, &batch)?.is_ok());
+    assert_eq!(rt; pool.cache().kept().len(), 2);
+    Ok(())
+}
+
+/// Settles a batch; whether the first two answers clash in their first outputs, and no more than these are kept.
+fn clashes<R: Threads + Wait + Sync>(
+    pool: &mut Pool<Acting, R>,
+    batch: &[Word],
+) -> Result<bool, Fail>
+    requires { pool.old.inputs ≡ 2 }
+    ensures { IfOk result (λ _. pool.new.inputs ≡ 2) }
+{
+    let Err(AskStop::Clash(clash)) = settle(pool, batch)? else {
+        return Ok(false);
+    };
+    let expected = Clash {
+        first: 0,
+        second: 1,
+        place: 0,
+    };
+    Ok(clash == expected && pool.cache().kept().len() == 2)
+}
+
+#[test]
+fn sessions_that_disagree_clash_and_stay_so(rt: HostRuntime) -> Result<(), Fail> {
+    let alloc = rt.alloc();
+    let mut pool = meeting_pool(rt, alloc, 1)?;
+    let batch = words(alloc, &[[0u16, 0].as_slice(), [0u16, 1].as_slice()])?;
+    assert!(rt; clashes(&mut pool, &batch)?);
+    assert!(rt; clashes(&mut pool, &batch)?);
+    Ok(())
+}
+
+/// Whether all of them are answers of the first system to words of three letters.
+fn all_of_first(kept: &Kept) -> bool {
+    let mut all = true;
+    for i in 0..kept.len() {
+        all = all && kept.get(i).instance == 0 && kept.get(i).word.len() == 3;
+    }
+    all
+}
+
+/// Settles all words of three letters with a second system that refuses this call of its own, twice; whether each time this
+/// stop was answered, and only whole runs of the first one were kept, and no more the second time.
+fn stops_at<R: Threads + Wait + Sync + Drop>(
+    rt: R,
+    alloc: Global,
+    call: u32,
+) -> Result<bool, Fail> {
+    let mut plans = sound_plans(alloc, 1)?;
+    let mut second = sound(alloc, &ROWS)?;
+    second.refused = Some(call);
+    plans.push(second)?;
+    let mut pool = pool_of(rt, alloc, plans)?;
+    let batch = all_words(alloc, 3)?;
+    let first = settle(&mut pool, &batch)?;
+    let kept = pool.cache().kept().len();
+    let again = settle(&mut pool, &batch)?;
+    let all = pool.cache().kept();
+    let whole = all_of_first(all);
+    Ok(
+        is_stop_of_second(&first)
+            && is_stop_of_second(&again)
+            && all.len() == kept
+            && whole
+            && kept > 0,
+    )
+}
+
+fn is_stop_of_second(answered: &Result<(), AskStop>) -> bool {
+    let Err(AskStop::Sul { instance, stop }) = answered else {
+        return false;
+    };
+    *instance == 1 && matches!(stop, SulStop::Failed)
+}
+
+#[test]
+fn a_session_that_stops_ends_the_batch(rt: HostRuntime) -> Result<(), Fail> {
+    let alloc = rt.alloc();
+    for call in 0..4u32 {
+        assert!(rt; stops_at(rt, alloc, call)?);
+    }
     Ok(())
 }

@@ -1,0 +1,21 @@
+-- Sessions that may make a pool, one after the other.
+use Rattle.std.proofs.Common.{◌≡◌, ⊎_elim, ℕ, ◌<◌, ◌≤◌, List, [], ◌∷◌, ◌++◌, length, get_or, refl, subst, sym, arith}
+use Rattle.std.proofs.lemmas.Bool.{cases_lt}
+use Rattle.std.proofs.lemmas.List.{get_or_append_left, length_push, get_or_push}
+use Rattle.lw_sul.specs.SessionState.{SessionState}
+use Rattle.lw_desk.specs.Naming.{Naming}
+use Rattle.lw_pool.specs.Pool.{Member}
+use Rattle.lw_pool.specs.Opening.{MayJoin, AllMayJoin}
+
+module _ {S : Type 0} (f : SessionState S → Member S) (naming : Naming) (inputs outputs : ℕ) where
+  pub none_joins : AllMayJoin f naming inputs outputs []
+  none_joins i d lt = absurd (omega arith)
+
+  pub one_more_joins : (sessions : List (SessionState S)) (s : SessionState S) → AllMayJoin f naming inputs outputs sessions → MayJoin naming inputs outputs (length sessions) (f s).seen → AllMayJoin f naming inputs outputs (sessions ++ s ∷ [])
+  one_more_joins sessions s all one i d lt =
+      ⊎_elim
+      (λ (before : i < length sessions). subst (λ (x : SessionState S). MayJoin naming inputs outputs i (f x).seen) (sym (get_or_append_left sessions (s ∷ []) d i before)) (all i d before))
+      (λ (le : length sessions ≤ i).
+      let same : i ≡ length sessions = omega (arith, le, lt, length_push sessions s) in
+      subst (λ (n : ℕ). MayJoin naming inputs outputs n (f (get_or (sessions ++ s ∷ []) n d)).seen) (sym same) (subst (λ (x : SessionState S). MayJoin naming inputs outputs (length sessions) (f x).seen) (sym (get_or_push sessions s d (length sessions) refl)) one))
+      (cases_lt i (length sessions))
