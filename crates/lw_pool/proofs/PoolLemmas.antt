@@ -8,7 +8,7 @@ use Rattle.lw_words.specs.Word.{IsWord}
 use Rattle.lw_words.specs.declared.kept.KeptAnswer.{KeptAnswer}
 use Rattle.lw_cache.specs.Clash.{NothingClashes}
 use Rattle.lw_cache.specs.Known.{IsKnown}
-use Rattle.lw_cache.specs.Settling.{GainsExactly, TellsStop, MayAsk, refused_after, IsOf, told_machine}
+use Rattle.lw_cache.specs.Settling.{GainsExactly, TellsStop, Settles, MayAsk, refused_after, IsOf, told_machine}
 use Rattle.lw_cache.specs.declared.stops.AskStop.{AskStop}
 use Rattle.lw_cache.specs.declared.stops.AskStop.TheVariants.{Sul, Clash, NoMemory}
 use Rattle.lw_sul.specs.Names.{IsGrown}
@@ -30,6 +30,7 @@ use Rattle.lw_sul.specs.declared.runs.Run.{Run}
 use Rattle.std.proofs.lemmas.List.{get_or-map, length-map}
 use Rattle.std.proofs.lemmas.Option.{slice_get_past}
 use Rattle.lw_pool.specs.Settling.{GainsSome, HasSettled}
+use Rattle.lw_pool.specs.Sharing.{oracle_of}
 use Rattle.lw_pool.specs.declared.hands.Hand.{Hand}
 use Rattle.lw_pool.specs.declared.parts.Parts.{Parts}
 use Rattle.lw_pool.specs.bodies.Crew.{HasWorkedOff, AllWorkedOff}
@@ -190,10 +191,10 @@ module _ {S : Type 0} (batch : List (List ℕ)) where
     pool_after = ⊎_elim (λ n. not_begun n) (λ w. run_after w) ran
 
     module _ (result : Result ⊤ AskStop) (told : TellsStop result stop) (may : MayAsk was) where
-      abbrev Settles : Type 0
-      Settles = HasSettled batch (pool_of hands parts.names prior parts.cache.kept was refused inputs outputs) (pool_of after now.names prior now.cache.kept stop again inputs outputs) result
+      abbrev HasDone : Type 0
+      HasDone = HasSettled batch (pool_of hands parts.names prior parts.cache.kept was refused inputs outputs) (pool_of after now.names prior now.cache.kept stop again inputs outputs) result
 
-      by_memory : NotBegun (opening_of parts batch (length hands)) hands after now stop → Settles
+      by_memory : NotBegun (opening_of parts batch (length hands)) hands after now stop → HasDone
       by_memory n = record {
         known = no_ok result told (All (IsKnown (answers_of now.cache.kept)) batch);
         exactly = no_ok result told (GainsExactly batch parts.cache.kept now.cache.kept);
@@ -218,7 +219,7 @@ module _ {S : Type 0} (batch : List (List ℕ)) where
           no_ok (Ok x) t P = absurd (false≢true (ap is_some (sym t ∙ n.memory)))
           no_ok (Err e) t P = tt
 
-      by_run : WasRun (opening_of parts batch (length hands)) hands after now stop → Settles
+      by_run : WasRun (opening_of parts batch (length hands)) hands after now stop → HasDone
       by_run w = record {
         known = on_ok result told (All (IsKnown (answers_of now.cache.kept)) batch) (λ none. subst (λ (l : List KeptAnswer). All (IsKnown (answers_of l)) batch) (sym w.kept) (run_settled w none).known);
         exactly = on_ok result told (GainsExactly batch parts.cache.kept now.cache.kept) (λ none. record { gained = (brings w).gained; at_end = w.kept ∙ (brings w).at_end; asked = (run_settled w none).exactly });
@@ -243,7 +244,7 @@ module _ {S : Type 0} (batch : List (List ℕ)) where
           on_ok (Ok x) t P p = p (sym w.stop_is ∙ t)
           on_ok (Err e) t P p = tt
 
-      pub settled_after : Settles
+      pub settled_after : HasDone
       settled_after = ⊎_elim (λ n. by_memory n) (λ w. by_run w) ran
 
 -- the sessions of a pool may work for it
@@ -356,3 +357,20 @@ module _ {S : Type 0} (f : SessionState S → Member S) (sessions : List (Sessio
       -- no instance of the pool has the number of the prior answers
       told_none : (k : KeptAnswer) → IsOf (told_machine (origins_of (seen_in hands)) 16) (answer_of k)
       told_none k = subst (λ (o : Option Origin). IsOf (option_and_then (λ (x : Origin). x.machine) o) (answer_of k)) (sym (slice_get_past (origins_of (seen_in hands)) 16 (omega (arith, few, long_new, length-map (seen_in hands) (λ (s : Seen). s.origin))))) tt
+
+-- what settles a pool settles the oracle that it is
+pub oracle_settled : {S : Type 0} (batch : List (List ℕ)) (before now : PoolState S) (result : Result ⊤ AskStop) → HasSettled batch before now result → Settles batch (oracle_of before) (oracle_of now) result
+oracle_settled batch before now result h = record {
+  known = h.known;
+  unclashed = h.unclashed;
+  gains = record { gained = h.gains.gained; at_end = h.gains.at_end; of_batch = λ k d lt. (h.gains.asked k d lt).within };
+  exactly = exactly result h.exactly;
+  keeps = h.stands.keeps;
+  stop = h.stop;
+  refused = h.refused;
+  same = record { inputs = h.inputs; outputs = h.outputs; origins = h.origins; exact = refl };
+}
+  where
+    exactly : (r : Result ⊤ AskStop) → OnOk r (GainsExactly batch before.kept now.kept) → OnOk r (true ≡ true → GainsExactly batch before.kept now.kept)
+    exactly (Ok x) g = λ same. g
+    exactly (Err e) g = tt

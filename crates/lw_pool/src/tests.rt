@@ -1,14 +1,17 @@
 //! How a crew shares a batch, and pools: what is asked, two at once, sessions that disagree and one that stops.
-ghost use Rattle.std.specs.Prelude.{◌≡◌, IfOk};
+ghost use Rattle.std.specs.Prelude.{◌≡◌, ◌<◌, ◌^◌, IfOk, length};
+ghost use Rattle.std.specs.List.{All};
+ghost use Rattle.lw_words.specs.Word.{IsWord};
+ghost use Rattle.lw_pool.specs.Settling.{HasSettled};
 
 mod acting;
 mod crews;
 
-use crate::Pool;
 use crate::crew::share;
 use crate::tests::acting::Acting;
 use crate::tests::crews::{Plan, all_words, machine, meeting, pool_of, settle, words};
-use lw_cache::{AskStop, Clash};
+use crate::{ByCall, Pool};
+use lw_cache::{AskStop, Clash, Oracle};
 use lw_mealy::Mealy;
 use lw_words::{Kept, KeptAnswer, SulStop, Word};
 use std::alloc::Global;
@@ -221,5 +224,47 @@ fn a_session_that_stops_ends_the_batch(rt: HostRuntime) -> Result<(), Fail> {
     for call in 0..4u32 {
         assert!(rt; stops_at(rt, alloc, call)?);
     }
+    Ok(())
+}
+
+/// Settles a batch of words over two letters by any oracle; how many answers are kept then, where it was settled.
+fn kept_by<O: Oracle>(oracle: &mut O, batch: &[Word]) -> Result<usize, Fail>
+    requires can { O.can_settle oracle.old }
+    requires inputs { (O.state oracle.old).inputs ≡ 2 }
+    ensures can { O.can_settle oracle.new }
+    ensures inputs { IfOk result (λ _. (O.state oracle.new).inputs ≡ 2) }
+{
+    if batch.len() > 1000 || !batch.iter().all(|w| w.as_slice().iter().all(|x| *x < 2)) {
+        return Err(Fail::from("another batch was meant"));
+    }
+    match oracle.settle(batch) {
+        Ok(()) => Ok(oracle.cache().kept().len()),
+        Err(_) => Err(Fail::from("the batch was refused")),
+    }
+}
+
+/// How many answers a pool of three keeps, asked as an oracle, once and again.
+fn kept_by_three<R: Threads + Wait + Sync + Drop>(
+    rt: R,
+    alloc: Global,
+    batch: &[Word],
+) -> Result<(usize, usize), Fail> {
+    let pool = pool_of(rt, alloc, sound_plans(alloc, 3)?)?;
+    let settle = |pool: &mut Pool<Acting, R>, batch: &[Word]|
+        requires letters { All (IsWord pool.now.inputs) batch.now }
+        requires few { length batch.now < 2 ^ 32 }
+        ensures { HasSettled batch.entry.now pool.entry.now pool.exit.now result }
+    { pool.settle_all(batch) };
+    let mut oracle = ByCall { pool, settle };
+    let first = kept_by(&mut oracle, batch)?;
+    Ok((first, kept_by(&mut oracle, batch)?))
+}
+
+#[test]
+fn a_pool_is_an_oracle(rt: HostRuntime) -> Result<(), Fail> {
+    let alloc = rt.alloc();
+    let (first, second) = kept_by_three(rt, alloc, &all_words(alloc, 3)?)?;
+    assert_eq!(rt; first, 8);
+    assert_eq!(rt; second, 8);
     Ok(())
 }
