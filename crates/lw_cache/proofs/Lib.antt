@@ -11,12 +11,14 @@ pub mod KnownLemmas
 mod LookLemmas
 mod MoreLemmas
 pub mod PlainLemmas
+pub mod ReadLemmas
 mod ReckonLemmas
 mod ReclaimLemmas
 mod RoomLemmas
 mod RootLemmas
 mod ScanLemmas
 mod SeenLemmas
+pub mod SettlingLemmas
 mod ShapeLemmas
 pub mod StoredLemmas
 mod ToldLemmas

@@ -39,9 +39,7 @@ fn find_access(alloc: Global, h: &Mealy) -> Result<Access, NoMemory>
         let Some(word) = found[usize::from(state)].take() else {
             return Ok(Access::Unreached(state));
         };
-        let Ok(()) = words.push(word) else {
-            return Err(NoMemory);
-        };
+        words.push(word)?;
     }
     Ok(Access::Words(words))
 }

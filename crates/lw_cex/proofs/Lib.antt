@@ -1,3 +1,1 @@
-pub mod ReadLemmas
-pub mod SettlingLemmas
 mod SearchLemmas

@@ -14,11 +14,10 @@ use Rattle.lw_cache.specs.Cut.{AreAccess, StepsAreRead, IsCut, word_at}
 use Rattle.lw_cache.specs.Known.{Reads}
 use Rattle.lw_cache.specs.Settling.{GainsAnswers}
 use Rattle.lw_cache.specs.declared.cut.Cut.{Cut}
-use Rattle.lw_cache.proofs.GrowLemmas.{reads_stay}
 use Rattle.lw_cache.proofs.KnownLemmas.{reads_once}
 use Rattle.lw_cex.specs.Probe.{probe, IsProbe, AsksProbes}
 use Rattle.lw_cex.specs.bodies.Search.{AgreesOn, Tells, IsBetween, IsCutAt}
-use Rattle.lw_cex.proofs.ReadLemmas.{front_agrees, front_and_rest, rest_of_answer}
+use Rattle.lw_cache.proofs.ReadLemmas.{front_agrees, front_and_rest, reads_more, rest_of_answer}
 
 -- a machine that agrees on an access word and the letter, and differs once the suffix follows, is cut there
 module _ (a : ℕ) (m : Rows) (ks : List Answer) (access : List (List ℕ)) (q x : ℕ) (v : List ℕ) (are : AreAnswers a ks) (acc : AreAccess a m access) (steps : StepsAreRead ks a m access) (state : q < length m) (inside : x < a) (target : next m q x < length m) (differs : Differs m ks (word_at access q ++ x ∷ v)) (agrees : AgreesOn m ks (word_at access (next m q x) ++ v)) where
@@ -61,11 +60,6 @@ module _ (a : ℕ) (m : Rows) (ks : List Answer) (access : List (List ℕ)) (q x
         other_read = agrees;
         differ = λ same. not_the_rest (same ∙ (rest_of_answer m other v ∙ ap (λ (s : ℕ). out m s v) (acc.lead (next m q x) target)));
       }
-
--- what is read stays so where answers are gained
-reads_more : (before gained now : List KeptAnswer) (w o : List ℕ) → now ≡ before ++ gained → Reads (answers_of before) w o → Reads (answers_of now) w o
-reads_more before gained now w o grown read =
-    subst (λ (ks : List Answer). Reads ks w o) (sym (ap answers_of grown ∙ map-append answer_of before gained)) (reads_stay (answers_of before) (answers_of gained) w o read)
 
 pub steps_more : (a : ℕ) (m : Rows) (access : List (List ℕ)) (before gained now : List KeptAnswer) → now ≡ before ++ gained → StepsAreRead (answers_of before) a m access → StepsAreRead (answers_of now) a m access
 steps_more a m access before gained now grown steps q x state inside = reads_more before gained now (word_at access q ++ x ∷ []) (answer m (word_at access q ++ x ∷ [])) grown (steps q x state inside)

@@ -20,10 +20,8 @@ fn batch_of(alloc: Global, word: Word) -> Result<Words, NoMemory>
     ensures { IfOk result (λ words. words ≡ word ∷ []) }
 {
     let mut words = Words::new(alloc);
-    match words.push(word) {
-        Ok(()) => Ok(words),
-        Err(_) => Err(NoMemory),
-    }
+    words.push(word)?;
+    Ok(words)
 }
 
 /// Whether the model's answer to a known word is what is read.

@@ -226,9 +226,7 @@ fn first_words(alloc: Global, words: Vec<Word>, count: usize) -> Result<Words, N
     let mut words = words;
     words.truncate(count);
     for word in words {
-        if list.push(word).is_err() {
-            return Err(NoMemory);
-        }
+        list.push(word)?;
     }
     Ok(list)
 }

@@ -120,9 +120,7 @@ pub fn least_access(alloc: Global, m: &Mealy) -> Result<Words, NoMemory>
         let Some(word) = found else {
             unreachable!();
         };
-        let Ok(()) = words.push(word) else {
-            return Err(NoMemory);
-        };
+        words.push(word)?;
     }
     Ok(words)
 }

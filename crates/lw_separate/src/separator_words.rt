@@ -54,9 +54,7 @@ fn add_pair(
         unreachable!();
     };
     refine(alloc, m, tables.columns.as_slice(), classes, p, &word)?;
-    let Ok(()) = words.push(word) else {
-        return Err(NoMemory);
-    };
+    words.push(word)?;
     Ok(())
 }
 

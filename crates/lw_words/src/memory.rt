@@ -25,3 +25,10 @@ impl<T: Drop> From<AllocFailed<T>> for NoMemory {
         NoMemory
     }
 }
+
+/// What a call hands back beside `NoMemory` is let go.
+impl<T: Drop> From<(T, NoMemory)> for NoMemory {
+    fn from(_: (T, NoMemory)) -> NoMemory {
+        NoMemory
+    }
+}

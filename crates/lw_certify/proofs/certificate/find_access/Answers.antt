@@ -25,7 +25,7 @@ loop-state-preserved c =
     let within : c.loop-state.state < length c.loop-state.found.items = omega (arith, c.loop-state.invariant.long, c.in_ok-found.ensures.each) in
     taken_more c.args.h.now.inputs c.args.h.now.rows c.in_ok-found.found.items c.in_ok-found.ensures c.loop-state.state c.loop-state.found.items _ c.loop-state.words c.push.new.self c.in-Some.word c.loop-state.invariant within
     (element_is c.loop-state.found.items c.loop-state.state c.from.result c.index_mut.result.now None f within i ∙ (sym c.take.ensures.value ∙ c.in-Some.is))
-    (ap₂ (λ (n : ℕ) (o : Option (List ℕ)). set c.loop-state.found.items n o) f t) c.in-Ok.ensures.ok
+    (ap₂ (λ (n : ℕ) (o : Option (List ℕ)). set c.loop-state.found.items n o) f t) c.in_ok-push.ensures.ok
 
 pub returns-clause-access : goal.returns-clause-access
 returns-clause-access c =

@@ -1,6 +1,6 @@
 use Rattle.std.proofs.Common.{None}
 use Rattle.lw_cex.proofs.SearchLemmas.{asks_then, lower_half, upper_half}
-use Rattle.lw_cex.proofs.SettlingLemmas.{leaves_then}
+use Rattle.lw_cache.proofs.SettlingLemmas.{leaves_then}
 use Rattle.lw_cex.proofs.search.breakpoint.Goals as goal
 
 pub returns-in_err-agrees_at-clause-asks : goal.returns-in_err-agrees_at-clause-asks

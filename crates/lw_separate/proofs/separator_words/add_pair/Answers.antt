@@ -24,10 +24,10 @@ returns-clause-so_far c =
     let same : c.index.result.now ≡ c.index-2.result.now = grind (arith, rules) in
     let h : Splits c.args.m.now.rows c.args.words.now c.args.p c.args.q false = alike_by_class c.args.m.now.rows c.args.p c.args.words.now c.args.classes.now.items c.args.p c.args.q c.requires.classes (omega arith, lp) (omega (arith, c.requires.pair), c.requires.state) (sym first ∙ (same ∙ second)) in
     let least : IsLeastSeparating c.args.m.now.inputs c.args.m.now.rows c.args.p c.args.q c.in-Some.word = subst (λ (o : Option (List ℕ)). IsSeparatingWord c.args.m.now.inputs c.args.m.now.rows c.args.p c.args.q o) c.in-Some.is c.in_ok-found.ensures in
-    subst (λ (l : List (List ℕ)). SeparatesUpTo c.args.m.now.inputs c.args.m.now.rows (c.args.p, c.args.q + 1) l) (sym c.in-Ok.ensures.ok)
+    subst (λ (l : List (List ℕ)). SeparatesUpTo c.args.m.now.inputs c.args.m.now.rows (c.args.p, c.args.q + 1) l) (sym c.in_ok-push.ensures.ok)
     (pair_added c.args.m.now.inputs c.args.m.now.rows c.args.p c.args.q c.args.words.now c.requires.so_far c.requires.pair c.requires.state h c.in-Some.word least)
 
 pub returns-clause-classes : goal.returns-clause-classes
 returns-clause-classes c =
-    subst (λ (l : List (List ℕ)). AreClasses c.args.m.now.rows c.args.p l c.refine.new.classes.items) (sym c.in-Ok.ensures.ok)
+    subst (λ (l : List (List ℕ)). AreClasses c.args.m.now.rows c.args.p l c.refine.new.classes.items) (sym c.in_ok-push.ensures.ok)
     (classes_push c.args.m.now.rows c.args.p c.args.words.now c.in-Some.word c.args.classes.now.items c.refine.new.classes.items c.requires.classes c.in_ok-refine.ensures)

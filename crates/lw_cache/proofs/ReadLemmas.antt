@@ -1,14 +1,16 @@
 -- What is read of a word and of its front.
 use Rattle.std.proofs.Common.{◌≡◌, ℕ, ◌<◌, ◌≤◌, inl, inr, ⊎_elim, List, [], ◌∷◌, ◌++◌, length, take, drop, refl, ap, sym, ◌∙◌, subst, arith, append_assoc}
 use Rattle.std.proofs.Math.Seq.{drop-append_seam, take-append_seam}
-use Rattle.std.proofs.lemmas.List.{length-append, length-take-le, take-append-drop, take-take}
+use Rattle.std.proofs.lemmas.List.{length-append, length-take-le, map-append, take-append-drop, take-take}
 use Rattle.std.proofs.lemmas.List.Elements.{All-nil, All-take}
-use Rattle.lw_words.specs.Answer.{Answer, AreAnswers, answer_at}
+use Rattle.lw_words.specs.Answer.{Answer, AreAnswers, answer_at, answer_of, answers_of}
+use Rattle.lw_words.specs.declared.kept.KeptAnswer.{KeptAnswer}
 use Rattle.lw_words.specs.Word.{IsWord, IsPrefix}
 use Rattle.lw_mealy.specs.Machine.{Rows, after, out, answer}
 use Rattle.lw_mealy.proofs.WordLemmas.{length-out, out-append}
 use Rattle.lw_cache.specs.Clash.{IsClear}
 use Rattle.lw_cache.specs.Known.{Reads}
+use Rattle.lw_cache.proofs.GrowLemmas.{reads_stay}
 use Rattle.lw_cache.proofs.KnownLemmas.{prefix_long, reads_once}
 
 -- the front of a word is a word
@@ -66,3 +68,8 @@ front_and_rest a m ks u v o are front read =
 pub rest_of_answer : (m : Rows) (u v : List ℕ) → drop (length u) (answer m (u ++ v)) ≡ out m (after m 0 u) v
 rest_of_answer m u v =
     ap (drop (length u)) (out-append m 0 u v) ∙ (ap (λ (n : ℕ). drop n (answer m u ++ out m (after m 0 u) v)) (sym (length-out m 0 u)) ∙ drop-append_seam (answer m u) (out m (after m 0 u) v))
+
+-- what is read stays so where answers are gained
+pub reads_more : (before gained now : List KeptAnswer) (w o : List ℕ) → now ≡ before ++ gained → Reads (answers_of before) w o → Reads (answers_of now) w o
+reads_more before gained now w o grown read =
+    subst (λ (ks : List Answer). Reads ks w o) (sym (ap answers_of grown ∙ map-append answer_of before gained)) (reads_stay (answers_of before) (answers_of gained) w o read)

@@ -8,7 +8,7 @@ use Rattle.lw_mealy.specs.Machine.{Rows}
 use Rattle.lw_cache.specs.Against.{Differs}
 use Rattle.lw_cache.specs.Settling.{OracleState, IsSame, Keeps, Leaves}
 use Rattle.lw_cache.specs.declared.stops.AskStop.{AskStop}
-use Rattle.lw_cex.proofs.ReadLemmas.{read_is_word}
+use Rattle.lw_cache.proofs.ReadLemmas.{read_is_word}
 
 pub same_then : (a b c : OracleState) → IsSame a b → IsSame b c → IsSame a c
 same_then a b c first next =
