@@ -1,7 +1,7 @@
 -- What is read of a word and of its front.
-use Rattle.std.proofs.Common.{◌≡◌, ℕ, ◌<◌, ◌≤◌, inl, inr, ⊎_elim, List, [], ◌∷◌, ◌++◌, length, take, drop, refl, ap, sym, ◌∙◌, subst, arith, append_assoc}
+use Rattle.std.proofs.Common.{◌≡◌, ℕ, ◌<◌, ◌≤◌, inl, inr, ⊎_elim, List, [], ◌∷◌, ◌++◌, length, take, drop, refl, ap, sym, ◌∙◌, subst, arith, append-nil, append_assoc}
 use Rattle.std.proofs.Math.Seq.{drop-append_seam, take-append_seam}
-use Rattle.std.proofs.lemmas.List.{length-append, length-take-le, map-append, take-append-drop, take-take}
+use Rattle.std.proofs.lemmas.List.{length-append, length-take-le, map-append, take-append-drop, take-take, take_all}
 use Rattle.std.proofs.lemmas.List.Elements.{All-nil, All-take}
 use Rattle.lw_words.specs.Answer.{Answer, AreAnswers, answer_at, answer_of, answers_of}
 use Rattle.lw_words.specs.declared.kept.KeptAnswer.{KeptAnswer}
@@ -73,3 +73,10 @@ rest_of_answer m u v =
 pub reads_more : (before gained now : List KeptAnswer) (w o : List ℕ) → now ≡ before ++ gained → Reads (answers_of before) w o → Reads (answers_of now) w o
 reads_more before gained now w o grown read =
     subst (λ (ks : List Answer). Reads ks w o) (sym (ap answers_of grown ∙ map-append answer_of before gained)) (reads_stay (answers_of before) (answers_of gained) w o read)
+
+-- a clear answer's word is read with its own outputs
+pub own_is_read : (a : ℕ) (ks : List Answer) (i : ℕ) → AreAnswers a ks → IsClear ks i → Reads ks (answer_at ks i).word (answer_at ks i).outs
+own_is_read a ks i are clear =
+    let k : Answer = answer_at ks i in
+    let whole : length k.outs ≡ length k.word = (are i (record { word = []; outs = [] }) clear.0).1 in
+    inr (i, clear, ([], sym (append-nil k.word)), sym (take_all (length k.word) k.outs (omega (arith, whole))))

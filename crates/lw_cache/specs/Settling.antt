@@ -1,5 +1,5 @@
 -- What an oracle is, what settling a batch does, and what the layers above leave of an oracle.
-use Rattle.std.specs.Prelude.{◌≡◌, ℕ, List, ◌++◌, map, Option, Some, None, Result, Ok, Err, OnOk, option_and_then, slice_get, Contains, Bool, true, ⊤}
+use Rattle.std.specs.Prelude.{◌≡◌, ℕ, ◌<◌, List, ◌++◌, length, map, Option, Some, None, Result, Ok, Err, OnOk, option_and_then, slice_get, Contains, Bool, true, ⊤}
 use Rattle.std.specs.List.{All}
 use Rattle.lw_words.specs.Answer.{Answer, answer_of, answers_of, IsAnswer}
 use Rattle.lw_words.specs.Word.{IsWord}
@@ -14,12 +14,14 @@ use Rattle.lw_cache.specs.declared.stops.AskStop.TheVariants.{Sul, Clash, NoMemo
 use Rattle.lw_cache.specs.declared.stops.GrowStop.{GrowStop}
 use Rattle.lw_cache.specs.declared.stops.GrowStop.TheVariants.{Ask, Crowd}
 
--- the numbers of inputs and outputs; the kept answers; where the runs of the instances come from, by instance; the refusal
--- of the last settling, or None where that was answered Ok or there was none; whether one was ever refused; and whether a
--- settling asks exactly the words that have to be asked, each once
+-- the numbers of inputs and outputs; the names of the outputs, or None where there are none or a settling may bring more;
+-- the kept answers; where the runs of the instances come from, by instance; the refusal of the last settling, or None where
+-- that was answered Ok or there was none; whether one was ever refused; and whether a settling asks exactly the words that
+-- have to be asked, each once
 pub record OracleState : Type 0 where
   pub inputs : ℕ
   pub outputs : ℕ
+  pub names : Option (List (List ℕ))
   pub kept : List KeptAnswer
   pub origins : List Origin
   pub stop : Option AskStop
@@ -30,6 +32,7 @@ pub record OracleState : Type 0 where
 pub record IsSame (before now : OracleState) : Type 0 where
   pub inputs : now.inputs ≡ before.inputs
   pub outputs : now.outputs ≡ before.outputs
+  pub names : now.names ≡ before.names
   pub origins : now.origins ≡ before.origins
   pub exact : now.exact ≡ before.exact
 
@@ -74,11 +77,12 @@ abbrev pub refused_after : Bool → Result ⊤ AskStop → Bool
 refused_after refused (Ok _) = refused
 refused_after refused (Err _) = true
 
--- an oracle once it has settled a batch, or was refused
+-- an oracle once it has settled a batch, or was refused; the answers that it gained are runs of its instances
 pub record Settles (batch : List (List ℕ)) (before now : OracleState) (result : Result ⊤ AskStop) : Type 0 where
   pub known : OnOk result (All (IsKnown (answers_of now.kept)) batch)
   pub unclashed : OnOk result (NothingClashes (answers_of before.kept) → NothingClashes (answers_of now.kept))
   pub gains : GainsAnswers batch before.kept now.kept
+  pub instances : All (λ k. k.instance < length before.origins) gains.gained
   pub exactly : OnOk result (before.exact ≡ true → GainsExactly batch before.kept now.kept)
   pub keeps : Keeps now
   pub stop : TellsStop result now.stop
@@ -110,11 +114,12 @@ grown_stop (Ok x) = None
 grown_stop (Err (Ask stop)) = Some stop
 grown_stop (Err (Crowd words)) = None
 
--- what a call of a layer above leaves of its oracle, by that stop: more answers at the end of those it kept; where no stop is
--- answered, none was refused, and no clash came
+-- what a call of a layer above leaves of its oracle, by that stop: more answers at the end of those it kept, each a run of an
+-- instance; where no stop is answered, none was refused, and no clash came
 pub record Leaves (before now : OracleState) (stop : Option AskStop) : Type 0 where
   pub gained : List KeptAnswer
   pub at_end : now.kept ≡ before.kept ++ gained
+  pub instances : All (λ k. k.instance < length before.origins) gained
   pub keeps : Keeps now
   pub same : IsSame before now
   pub told : LeavesStop stop now.stop

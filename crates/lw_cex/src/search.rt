@@ -36,6 +36,7 @@ pub fn is_as_read(cache: &Cache, model: &Mealy, word: &Word) -> Result<bool, NoM
     Ok(model.agrees(word, &outs).is_none())
 }
 
+#[tactic(auto, using(lw_cache::proofs::SettlingLemmas::leaves_nothing, lw_cache::proofs::SettlingLemmas::leaves_own))]
 /// Settles a word, and tells whether the model's answer to it is what is read then.
 fn is_as_settled<O: Oracle>(
     oracle: &mut O,
@@ -58,6 +59,7 @@ fn is_as_settled<O: Oracle>(
     Ok(is_as_read(oracle.cache(), model, batch.get(0))?)
 }
 
+#[tactic(auto, using(lw_cache::proofs::SettlingLemmas::leaves_nothing, lw_cache::proofs::SettlingLemmas::leaves_own))]
 /// Settles the probe at a place, and tells whether the model's answer to it is what is read then.
 fn agrees_at<O: Oracle>(
     oracle: &mut O,

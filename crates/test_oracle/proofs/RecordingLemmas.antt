@@ -1,7 +1,8 @@
 -- A machine that answers one word after another.
-use Rattle.std.proofs.Common.{◌≡◌, ℕ, ◌+◌, ◌<◌, inr, ⊎_elim, List, [], ◌∷◌, ◌++◌, length, take, get_or, Contains, ap, sym, ◌∙◌, subst, append-nil, append_assoc}
+use Rattle.std.proofs.Common.{◌≡◌, ℕ, ◌+◌, ◌<◌, inr, ⊎_elim, List, [], ◌∷◌, ◌++◌, length, take, get_or, Contains, ap, sym, ◌∙◌, subst, append-nil, append_assoc, arith}
 use Rattle.std.specs.List.{All}
-use Rattle.std.proofs.lemmas.List.Elements.{All-nil, All-cons, All-head, All-tail, All-push, All-more, All-weaker}
+use Rattle.std.proofs.Math.Seq.{drop-append_seam}
+use Rattle.std.proofs.lemmas.List.Elements.{All-nil, All-cons, All-head, All-tail, All-push, All-more, All-weaker, All-drop}
 use Rattle.lw_words.specs.Answer.{answer_of, answers_of, IsAnswer}
 use Rattle.lw_words.specs.Word.{IsWord}
 use Rattle.lw_words.specs.declared.kept.KeptAnswer.{KeptAnswer}
@@ -22,13 +23,23 @@ outs_below t is (x ∷ w) q lt letters =
     All-cons (λ y. y < t.outputs) (output t.rows q x) (out t.rows (next t.rows q x) w) (output_below t q x is lt first)
     (outs_below t is w (next t.rows q x) (target_below t.inputs t.rows q x is.machine lt first) (All-tail (λ y. y < t.inputs) x w letters))
 
-pub answers_more : (t : MealyMachine) (kept : List KeptAnswer) (w outs : List ℕ) → IsWithinLimits t → KeepsOf t kept → IsWord t.inputs w → outs ≡ answer t.rows w → KeepsOf t (kept ++ kept_answer 0 0 w outs ∷ [])
-answers_more t kept w outs is was letters given =
+pub answers_more : (t : MealyMachine) (kept : List KeptAnswer) (run : ℕ) (w outs : List ℕ) → IsWithinLimits t → KeepsOf t kept → IsWord t.inputs w → outs ≡ answer t.rows w → KeepsOf t (kept ++ kept_answer 0 run w outs ∷ [])
+answers_more t kept run w outs is was letters given =
+    let k : KeptAnswer = kept_answer 0 run w outs in
     record {
-      answers = All-push (λ k. IsAnswer t.inputs (answer_of k)) kept (kept_answer 0 0 w outs) was.answers (letters, ap (λ (o : List ℕ). length o) given ∙ length-out t.rows 0 w);
-      outputs_below = All-push (λ k. IsWord t.outputs k.outs) kept (kept_answer 0 0 w outs) was.outputs_below (subst (IsWord t.outputs) (sym given) (outs_below t is w 0 is.machine.some_state letters));
-      told = All-push (λ k. IsOf (told_machine (origins_of t) k.instance) (answer_of k)) kept (kept_answer 0 0 w outs) was.told (sym given);
+      answers = record {
+        answers = All-push (λ (k : KeptAnswer). IsAnswer t.inputs (answer_of k)) kept k was.answers.answers (letters, ap (λ (o : List ℕ). length o) given ∙ length-out t.rows 0 w);
+        outputs_below = All-push (λ (k : KeptAnswer). IsWord t.outputs k.outs) kept k was.answers.outputs_below (subst (IsWord t.outputs) (sym given) (outs_below t is w 0 is.machine.some_state letters));
+        told = All-push (λ (k : KeptAnswer). IsOf (told_machine (origins_of t) k.instance) (answer_of k)) kept k was.answers.told (sym given);
+      };
+      own = All-push (λ (k : KeptAnswer). k.instance < 1) kept k was.own (omega arith);
     }
+
+-- so those that came are of that instance too
+pub gained_own : (t : MealyMachine) (before gained now : List KeptAnswer) → now ≡ before ++ gained → KeepsOf t now → All (λ k. k.instance < 1) gained
+gained_own t before gained now grown keeps =
+    subst (All (λ (k : KeptAnswer). k.instance < 1)) (drop-append_seam before gained)
+    (All-drop (λ (k : KeptAnswer). k.instance < 1) (length before) (before ++ gained) (subst (All (λ (k : KeptAnswer). k.instance < 1)) grown keeps.own))
 
 -- the words that were known stay known
 pub asked_known : (t : MealyMachine) (w : List ℕ) (before now : List KeptAnswer) (v : List ℕ) → HasAsked t w before now → IsKnown (answers_of before) v → IsKnown (answers_of now) v
@@ -54,11 +65,11 @@ gains_more batch t w first before now has was a =
     a.gains
 
 -- the machine's answer is kept, whether it clashes or not
-pub asked_new : (t : MealyMachine) (before now : List KeptAnswer) (w word outs : List ℕ) → IsWithinLimits t → KeepsOf t before → IsWord t.inputs w → word ≡ w → outs ≡ answer t.rows w → now ≡ before ++ kept_answer 0 0 word outs ∷ [] → HasAsked t w before now
-asked_new t before now w word outs is was letters same given grown =
+pub asked_new : (t : MealyMachine) (before now : List KeptAnswer) (run : ℕ) (w word outs : List ℕ) → IsWithinLimits t → KeepsOf t before → IsWord t.inputs w → word ≡ w → outs ≡ answer t.rows w → now ≡ before ++ kept_answer 0 run word outs ∷ [] → HasAsked t w before now
+asked_new t before now run w word outs is was letters same given grown =
     record {
-      gains = inr (kept_answer 0 0 word outs, grown, same);
-      keeps = subst (KeepsOf t) (sym grown) (answers_more t before word outs is was (subst (IsWord t.inputs) (sym same) letters) (given ∙ ap (answer t.rows) (sym same)));
+      gains = inr (kept_answer 0 run word outs, grown, same);
+      keeps = subst (KeepsOf t) (sym grown) (answers_more t before run word outs is was (subst (IsWord t.inputs) (sym same) letters) (given ∙ ap (answer t.rows) (sym same)));
     }
 
 -- all words so far are known

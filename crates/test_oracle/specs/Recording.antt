@@ -1,5 +1,6 @@
 -- What contracts see of an oracle that is a machine.
-use Rattle.std.specs.Prelude.{◌≡◌, ◌⊎◌, ℕ, List, [], ◌∷◌, ◌++◌, Option, Some, None, Bool, false}
+use Rattle.std.specs.Prelude.{◌≡◌, ◌⊎◌, ℕ, ◌<◌, List, [], ◌∷◌, ◌++◌, Option, Some, None, Bool, false}
+use Rattle.std.specs.List.{All}
 use Rattle.lw_words.specs.declared.kept.KeptAnswer.{KeptAnswer}
 use Rattle.lw_mealy.specs.Limits.{MealyMachine}
 use Rattle.lw_mealy.specs.Origin.{Origin}
@@ -16,13 +17,16 @@ pub record RecordingState : Type 0 where
 abbrev pub origins_of : MealyMachine → List Origin
 origins_of t = record { machine = Some t.rows; link = None } ∷ []
 
-abbrev pub KeepsOf : MealyMachine → List KeptAnswer → Type 0
-KeepsOf t kept = KeepsAnswers t.inputs t.outputs (origins_of t) kept
+-- each kept answer is the machine's, of that instance
+pub record KeepsOf (t : MealyMachine) (kept : List KeptAnswer) : Type 0 where
+  pub answers : KeepsAnswers t.inputs t.outputs (origins_of t) kept
+  pub own : All (λ k. k.instance < 1) kept
 
 abbrev pub state_of : RecordingState → OracleState
 state_of t = record {
   inputs = t.machine.inputs;
   outputs = t.machine.outputs;
+  names = None;
   kept = t.kept;
   origins = origins_of t.machine;
   stop = t.stop;

@@ -1,5 +1,5 @@
 //! A machine that answers one word after another, and keeps the batches that it was asked.
-ghost use Rattle.std.specs.Prelude.{◌≡◌, ◌^◌, ◌<◌, List, [], length, OnOk};
+ghost use Rattle.std.specs.Prelude.{◌≡◌, ◌^◌, ◌<◌, List, [], length, OnOk, None, false};
 ghost use Rattle.std.specs.List.{All};
 ghost use Rattle.lw_words.specs.Answer.{answers_of};
 ghost use Rattle.lw_words.specs.Word.{IsWord};
@@ -39,7 +39,10 @@ impl Model for Recording {
 impl Recording {
     /// The oracle of this machine, before its first batch.
     pub fn new(alloc: Global, mealy: Mealy) -> Recording
-        ensures { result.machine ≡ mealy }
+        ensures machine { result.machine ≡ mealy }
+        ensures kept { result.kept ≡ [] }
+        ensures stop { result.stop ≡ None }
+        ensures refused { result.refused ≡ false }
     {
         Recording {
             mealy,
@@ -50,10 +53,9 @@ impl Recording {
             alloc,
         }
     }
-}
 
-impl Recording {
-    /// The batches that were settled, or refused, in their order.
+    /// The batches that were recorded, in their order: each that was to be settled, but for one that there was no memory to
+    /// record.
     pub fn batches(&self) -> &[Words] {
         self.batches.as_slice()
     }
@@ -73,9 +75,7 @@ fn copied(alloc: Global, batch: &[Word]) -> Result<Words, NoMemory> {
     let mut words = Words::new(alloc);
     for w in batch {
         let copy = w.copy()?;
-        if words.push(copy).is_err() {
-            return Err(NoMemory);
-        }
+        words.push(copy)?;
     }
     Ok(words)
 }
@@ -104,7 +104,8 @@ fn answer_one(m: &Mealy, cache: &mut Cache, w: &Word) -> Result<(), AskStop>
     }
     let word = w.copy()?;
     let outs = m.answer(w)?;
-    match cache.keep(word, outs, 0, 0) {
+    let run = cache.kept().len() as u64;
+    match cache.keep(word, outs, 0, run) {
         Ok(()) => Ok(()),
         Err(KeepStop::Clash(clash)) => Err(AskStop::Clash(clash)),
         Err(KeepStop::NoMemory) => Err(AskStop::NoMemory),

@@ -1,12 +1,17 @@
-use Rattle.std.proofs.Common.{None}
+use Rattle.std.proofs.Common.{None, rules}
 use Rattle.lw_cex.proofs.SearchLemmas.{asks_then, lower_half, upper_half}
-use Rattle.lw_cache.proofs.SettlingLemmas.{leaves_then}
+use Rattle.lw_cache.proofs.SettlingLemmas.{leaves_handed, leaves_then}
 use Rattle.lw_cex.proofs.search.breakpoint.Goals as goal
 
 pub returns-in_err-agrees_at-clause-asks : goal.returns-in_err-agrees_at-clause-asks
 returns-in_err-agrees_at-clause-asks g c =
     asks_then c.args.model.now.rows c.args.access.now c.args.word.now (g.O.Oracle.state c.args.oracle.now).kept (g.O.Oracle.state c.loop-high.oracle).kept (g.O.Oracle.state c.agrees_at.new.oracle).kept
     c.loop-high.invariant.asks c.agrees_at.ensures.asks
+
+pub returns-in_err-agrees_at-clause-leaves : goal.returns-in_err-agrees_at-clause-leaves
+returns-in_err-agrees_at-clause-leaves g c =
+    leaves_handed (g.O.Oracle.state c.args.oracle.now) (g.O.Oracle.state c.agrees_at.new.oracle) c.in_err-agrees_at.field-0.0 c.from_residual.result
+    (leaves_then (g.O.Oracle.state c.args.oracle.now) (g.O.Oracle.state c.loop-high.oracle) (g.O.Oracle.state c.agrees_at.new.oracle) _ c.loop-high.invariant.leaves c.in_err-agrees_at.ensures.leaves) (search rules)
 
 pub loop-high-preserved-then-branch : goal.loop-high-preserved-then-branch
 loop-high-preserved-then-branch g c =

@@ -21,22 +21,22 @@ keep-requires c = record {
 
 pub returns-in-Ok : goal.returns-in-Ok
 returns-in-Ok c =
-    let new : KeptAnswer = kept_answer 0 0 c.in_ok-word.word c.in_ok-outs.outs in
+    let new : KeptAnswer = kept_answer 0 c.len-run.result c.in_ok-word.word c.in_ok-outs.outs in
     let grown : c.keep.new.self.kept ≡ c.args.cache.now.kept ++ new ∷ [] = c.in-Ok.ensures.kept in
     record {
       known = subst (λ (l : List KeptAnswer). IsKnown (answers_of l) c.args.w.now) (sym grown) (subst (IsKnown (answers_of (c.args.cache.now.kept ++ new ∷ []))) c.in_ok-word.ensures (known_new c.args.cache.now.kept new c.in-Ok.ensures.ok (kept_count c.args.cache.now.kept)));
-      asked = asked_new c.args.m.now c.args.cache.now.kept c.keep.new.self.kept c.args.w.now c.in_ok-word.word c.in_ok-outs.outs c.inputs.ensures.complete c.requires.keeps c.requires.letters c.in_ok-word.ensures c.in_ok-outs.ensures grown;
+      asked = asked_new c.args.m.now c.args.cache.now.kept c.keep.new.self.kept c.len-run.result c.args.w.now c.in_ok-word.word c.in_ok-outs.outs c.inputs.ensures.complete c.requires.keeps c.requires.letters c.in_ok-word.ensures c.in_ok-outs.ensures grown;
       unclashed = λ nothing. subst (λ (l : List KeptAnswer). NothingClashes (answers_of l)) (sym grown) (nothing_more c.args.cache.now.kept new c.in-Ok.ensures.ok (kept_count c.args.cache.now.kept) nothing);
       claims = c.keep.ensures.claims;
     }
 
 pub returns-in-Err-Clash : goal.returns-in-Err-Clash
 returns-in-Err-Clash c =
-    let new : KeptAnswer = kept_answer 0 0 c.in_ok-word.word c.in_ok-outs.outs in
+    let new : KeptAnswer = kept_answer 0 c.len-run.result c.in_ok-word.word c.in_ok-outs.outs in
     let stops : StopsKeeping c.args.cache.now c.keep.new.self new (Clash c.in-Err-Clash.clash) = subst (λ (e : KeepStop). StopsKeeping c.args.cache.now c.keep.new.self new e) c.in-Err-Clash.field-0-is c.in-Err-Clash.ensures.err in
     record {
       known = tt;
-      asked = asked_new c.args.m.now c.args.cache.now.kept c.keep.new.self.kept c.args.w.now c.in_ok-word.word c.in_ok-outs.outs c.inputs.ensures.complete c.requires.keeps c.requires.letters c.in_ok-word.ensures c.in_ok-outs.ensures stops.0;
+      asked = asked_new c.args.m.now c.args.cache.now.kept c.keep.new.self.kept c.len-run.result c.args.w.now c.in_ok-word.word c.in_ok-outs.outs c.inputs.ensures.complete c.requires.keeps c.requires.letters c.in_ok-word.ensures c.in_ok-outs.ensures stops.0;
       unclashed = tt;
       claims = c.keep.ensures.claims;
     }
