@@ -9,11 +9,13 @@ mod crews;
 
 use crate::crew::share;
 use crate::tests::acting::Acting;
-use crate::tests::crews::{Plan, all_words, machine, meeting, pool_of, settle, words};
+use crate::tests::crews::{
+    Plan, ROWS, all_words, are_all_answers, machine, meeting_pool, pool_of, settle, sound,
+    sound_plans, words,
+};
 use crate::{ByCall, Pool};
 use lw_cache::{AskStop, Clash, Oracle};
-use lw_mealy::Mealy;
-use lw_words::{Kept, KeptAnswer, SulStop, Word};
+use lw_words::{Kept, SulStop, Word};
 use std::alloc::Global;
 use std::sync::Wait;
 use std::test::Fail;
@@ -28,121 +30,160 @@ fn the_end_of_a_batch_is_shared_word_by_word(rt: HostRuntime) -> Result<(), Fail
     Ok(())
 }
 
-/// Five states, in which letters and outputs matter.
-const ROWS: [[(u16, u16); 2]; 5] = [
-    [(1, 0), (4, 1)],
-    [(3, 1), (1, 0)],
-    [(0, 0), (2, 0)],
-    [(2, 1), (4, 1)],
-    [(4, 0), (0, 1)],
-];
-
-/// A system of this machine that does as it should.
-fn sound(alloc: Global, rows: &[[(u16, u16); 2]]) -> Result<Plan, Fail> {
-    Ok(Plan {
-        machine: machine(alloc, rows)?,
-        refused: None,
-        meeting: None,
-    })
+/// Settles all words of so many letters; whether that succeeds.
+fn settles_all<R: Threads + Wait + Sync>(
+    pool: &mut Pool<Acting, R>,
+    alloc: Global,
+    letters: u32,
+) -> Result<bool, Fail>
+    requires { pool.old.inputs ≡ 2 }
+    ensures { IfOk result (λ _. pool.new.inputs ≡ 2) }
+{
+    Ok(settle(pool, &all_words(alloc, letters)?)?.is_ok())
 }
 
-/// So many of them.
-fn sound_plans(alloc: Global, count: usize) -> Result<Vec<Plan>, Fail> {
-    let mut plans = Vec::new(alloc);
-    for _ in 0..count {
-        plans.push(sound(alloc, &ROWS)?)?;
-    }
-    Ok(plans)
+/// Settles the empty word; whether that succeeds, and nothing is kept.
+fn keeps_nothing<R: Threads + Wait + Sync>(
+    pool: &mut Pool<Acting, R>,
+    alloc: Global,
+) -> Result<bool, Fail>
+    requires { pool.old.inputs ≡ 2 }
+    ensures { IfOk result (λ _. pool.new.inputs ≡ 2) }
+{
+    let settled = settles_all(pool, alloc, 0)?;
+    Ok(settled && pool.cache().kept().len() == 0)
 }
 
-/// Whether an answer is the machine's to a word of four letters.
-fn is_answer(m: &Mealy, k: &KeptAnswer) -> Result<bool, Fail> {
-    if m.inputs() != 2 || k.word.len() != 4 || !k.word.as_slice().iter().all(|x| *x < 2) {
-        return Ok(false);
-    }
-    let outs = m.answer(&k.word)?;
-    Ok(outs.as_slice() == k.outs.as_slice())
+/// Settles all words of four letters; whether that succeeds, and the machine's answers are kept, each once.
+fn keeps_all<R: Threads + Wait + Sync>(
+    pool: &mut Pool<Acting, R>,
+    alloc: Global,
+) -> Result<bool, Fail>
+    requires { pool.old.inputs ≡ 2 }
+    ensures { IfOk result (λ _. pool.new.inputs ≡ 2) }
+{
+    let m = machine(alloc, &ROWS)?;
+    let settled = settles_all(pool, alloc, 4)?;
+    Ok(settled && are_all_answers(alloc, &m, pool.cache().kept())?)
 }
 
-/// How many of the kept answers are the machine's to this word of four letters.
-fn answers_to(m: &Mealy, kept: &Kept, w: &Word) -> Result<usize, Fail> {
-    let mut count = 0usize;
-    for i in 0..kept.len() {
-        let k = kept.get(i);
-        if k.word.as_slice() == w.as_slice() && is_answer(m, k)? {
-            count = count.saturating_add(1);
-        }
-    }
-    Ok(count)
+/// Settles all words of three letters, and all of four once more; whether that succeeds, and no more is kept.
+fn keeps_no_more<R: Threads + Wait + Sync>(
+    pool: &mut Pool<Acting, R>,
+    alloc: Global,
+) -> Result<bool, Fail>
+    requires { pool.old.inputs ≡ 2 }
+{
+    let shorter = settles_all(pool, alloc, 3)?;
+    let again = settles_all(pool, alloc, 4)?;
+    Ok(shorter && again && pool.cache().kept().len() == 16)
 }
 
-/// Whether these are the machine's answers to all words of four letters, each once.
-fn are_all_answers(alloc: Global, m: &Mealy, kept: &Kept) -> Result<bool, Fail> {
-    let all = all_words(alloc, 4)?;
-    let mut right = kept.len() == all.len();
-    for w in &all {
-        right = right && answers_to(m, kept, w)? == 1;
-    }
-    Ok(right)
+/// Whether a pool asks each word of four letters once, and none that is known.
+fn keeps_each_once<R: Threads + Wait + Sync>(
+    pool: &mut Pool<Acting, R>,
+    alloc: Global,
+) -> Result<bool, Fail>
+    requires { pool.old.inputs ≡ 2 }
+{
+    let empty = keeps_nothing(pool, alloc)?;
+    let long = keeps_all(pool, alloc)?;
+    let known = keeps_no_more(pool, alloc)?;
+    Ok(empty && long && known)
+}
+
+/// The same of a pool of so many.
+fn asks_each_once<R: Threads + Wait + Sync + Drop>(
+    rt: R,
+    alloc: Global,
+    count: usize,
+) -> Result<bool, Fail> {
+    let mut pool = pool_of(rt, alloc, sound_plans(alloc, count)?)?;
+    keeps_each_once(&mut pool, alloc)
 }
 
 #[test]
 fn each_word_is_asked_once_by_however_many(rt: HostRuntime) -> Result<(), Fail> {
     let alloc = rt.alloc();
-    let m = machine(alloc, &ROWS)?;
     for count in [1usize, 2, 8, 16] {
-        let mut pool = pool_of(rt, alloc, sound_plans(alloc, count)?)?;
-        let long = all_words(alloc, 4)?;
-        assert!(rt; settle(&mut pool, &all_words(alloc, 0)?)?.is_ok());
-        assert!(rt; pool.cache().kept().len() == 0);
-        assert!(rt; settle(&mut pool, &long)?.is_ok());
-        assert!(rt; are_all_answers(alloc, &m, pool.cache().kept())?);
-        assert!(rt; settle(&mut pool, &all_words(alloc, 3)?)?.is_ok());
-        assert!(rt; settle(&mut pool, &long)?.is_ok());
-        assert_eq!(rt; pool.cache().kept().len(), 16);
+        assert!(rt; asks_each_once(rt, alloc, count)?, "{count} sessions");
     }
     Ok(())
+}
+
+/// Settles a word behind one of its prefixes, and the prefix again; whether that succeeds.
+fn settles_prefixes<R: Threads + Wait + Sync>(
+    pool: &mut Pool<Acting, R>,
+    alloc: Global,
+) -> Result<bool, Fail>
+    requires { pool.old.inputs ≡ 2 }
+    ensures { IfOk result (λ _. pool.new.inputs ≡ 2) }
+{
+    let (one, three) = ([0u16], [0u16, 0, 0]);
+    let batch = words(alloc, &[one.as_slice(), three.as_slice(), one.as_slice()])?;
+    Ok(settle(pool, &batch)?.is_ok())
+}
+
+/// Settles them twice; whether that succeeds, and one answer is kept.
+fn keeps_longest<R: Threads + Wait + Sync>(
+    pool: &mut Pool<Acting, R>,
+    alloc: Global,
+) -> Result<bool, Fail>
+    requires { pool.old.inputs ≡ 2 }
+{
+    let first = settles_prefixes(pool, alloc)?;
+    let again = settles_prefixes(pool, alloc)?;
+    Ok(first && again && pool.cache().kept().len() == 1)
+}
+
+/// Whether a pool leaves so many sessions and one answer.
+fn leaves_one<R: Drop>(pool: Pool<Acting, R>, count: usize) -> bool {
+    let (sessions, _, cache) = pool.into_parts();
+    sessions.len() == count && cache.kept().len() == 1
+}
+
+/// Whether a pool of so many keeps and leaves one answer to a word and its prefixes.
+fn keeps_one<R: Threads + Wait + Sync + Drop>(
+    rt: R,
+    alloc: Global,
+    count: usize,
+) -> Result<bool, Fail> {
+    let mut pool = pool_of(rt, alloc, sound_plans(alloc, count)?)?;
+    let settled = keeps_longest(&mut pool, alloc)?;
+    let left = leaves_one(pool, count);
+    Ok(settled && left)
 }
 
 #[test]
 fn a_prefix_and_a_repeated_word_are_not_asked(rt: HostRuntime) -> Result<(), Fail> {
     let alloc = rt.alloc();
     for count in [1usize, 2, 8] {
-        let mut pool = pool_of(rt, alloc, sound_plans(alloc, count)?)?;
-        let (one, three) = ([0u16], [0u16, 0, 0]);
-        let batch = words(alloc, &[one.as_slice(), three.as_slice(), one.as_slice()])?;
-        assert!(rt; settle(&mut pool, &batch)?.is_ok());
-        assert!(rt; settle(&mut pool, &batch)?.is_ok());
-        assert_eq!(rt; pool.cache().kept().len(), 1);
-        let (sessions, _, cache) = pool.into_parts();
-        assert_eq!(rt; sessions.len(), count);
-        assert_eq!(rt; cache.kept().len(), 1);
+        assert!(rt; keeps_one(rt, alloc, count)?, "{count} sessions");
     }
     Ok(())
 }
 
-/// Two systems that meet in their first steps: one that answers 0 to each letter, and another.
-fn meeting_pool<R: Drop>(rt: R, alloc: Global, output: u16) -> Result<Pool<Acting, R>, Fail>
-    ensures { IfOk result (λ p. p.inputs ≡ 2) }
+/// Settles two words; whether that succeeds, and both are kept.
+fn keeps_two<R: Threads + Wait + Sync>(
+    pool: &mut Pool<Acting, R>,
+    alloc: Global,
+) -> Result<bool, Fail>
+    requires { pool.old.inputs ≡ 2 }
 {
-    let (here, there) = meeting(alloc)?;
-    let mut first = sound(alloc, &[[(0, 0), (0, 0)]])?;
-    first.meeting = Some(here);
-    let mut second = sound(alloc, &[[(0, output), (0, output)]])?;
-    second.meeting = Some(there);
-    let mut plans = Vec::new(alloc);
-    plans.push(first)?;
-    plans.push(second)?;
-    pool_of(rt, alloc, plans)
+    let batch = words(alloc, &[[0u16].as_slice(), [1u16].as_slice()])?;
+    let settled = settle(pool, &batch)?.is_ok();
+    Ok(settled && pool.cache().kept().len() == 2)
+}
+
+/// The same of two systems that meet.
+fn asks_two_at_once<R: Threads + Wait + Sync + Drop>(rt: R, alloc: Global) -> Result<bool, Fail> {
+    let mut pool = meeting_pool(rt, alloc, 0)?;
+    keeps_two(&mut pool, alloc)
 }
 
 #[test]
 fn two_words_are_asked_at_once(rt: HostRuntime) -> Result<(), Fail> {
-    let alloc = rt.alloc();
-    let mut pool = meeting_pool(rt, alloc, 0)?;
-    let batch = words(alloc, &[[0u16].as_slice(), [1u16].as_slice()])?;
-    assert!(rt; settle(&mut pool, &batch)?.is_ok());
-    assert_eq!(rt; pool.cache().kept().len(), 2);
+    assert!(rt; asks_two_at_once(rt, rt.alloc())?);
     Ok(())
 }
 
@@ -165,13 +206,28 @@ fn clashes<R: Threads + Wait + Sync>(
     Ok(clash == expected && pool.cache().kept().len() == 2)
 }
 
+/// Settles two words twice; whether they clash each time.
+fn stays_clashed<R: Threads + Wait + Sync>(
+    pool: &mut Pool<Acting, R>,
+    alloc: Global,
+) -> Result<bool, Fail>
+    requires { pool.old.inputs ≡ 2 }
+{
+    let batch = words(alloc, &[[0u16, 0].as_slice(), [0u16, 1].as_slice()])?;
+    let first = clashes(pool, &batch)?;
+    let again = clashes(pool, &batch)?;
+    Ok(first && again)
+}
+
+/// The same of two systems that disagree.
+fn disagrees<R: Threads + Wait + Sync + Drop>(rt: R, alloc: Global) -> Result<bool, Fail> {
+    let mut pool = meeting_pool(rt, alloc, 1)?;
+    stays_clashed(&mut pool, alloc)
+}
+
 #[test]
 fn sessions_that_disagree_clash_and_stay_so(rt: HostRuntime) -> Result<(), Fail> {
-    let alloc = rt.alloc();
-    let mut pool = meeting_pool(rt, alloc, 1)?;
-    let batch = words(alloc, &[[0u16, 0].as_slice(), [0u16, 1].as_slice()])?;
-    assert!(rt; clashes(&mut pool, &batch)?);
-    assert!(rt; clashes(&mut pool, &batch)?);
+    assert!(rt; disagrees(rt, rt.alloc())?);
     Ok(())
 }
 
@@ -184,38 +240,55 @@ fn all_of_first(kept: &Kept) -> bool {
     all
 }
 
-/// Settles all words of three letters with a second system that refuses this call of its own, twice; whether each time this
-/// stop was answered, and only whole runs of the first one were kept, and no more the second time.
-fn stops_at<R: Threads + Wait + Sync + Drop>(
-    rt: R,
-    alloc: Global,
-    call: u32,
-) -> Result<bool, Fail> {
-    let mut plans = sound_plans(alloc, 1)?;
-    let mut second = sound(alloc, &ROWS)?;
-    second.refused = Some(call);
-    plans.push(second)?;
-    let mut pool = pool_of(rt, alloc, plans)?;
-    let batch = all_words(alloc, 3)?;
-    let first = settle(&mut pool, &batch)?;
-    let kept = pool.cache().kept().len();
-    let again = settle(&mut pool, &batch)?;
-    let all = pool.cache().kept();
-    let whole = all_of_first(all);
-    Ok(
-        is_stop_of_second(&first)
-            && is_stop_of_second(&again)
-            && all.len() == kept
-            && whole
-            && kept > 0,
-    )
-}
-
 fn is_stop_of_second(answered: &Result<(), AskStop>) -> bool {
     let Err(AskStop::Sul { instance, stop }) = answered else {
         return false;
     };
     *instance == 1 && matches!(stop, SulStop::Failed)
+}
+
+/// A system of the machine that does as it should, and one that refuses this call of its own.
+fn one_refusing(alloc: Global, call: u32) -> Result<Vec<Plan>, Fail> {
+    let mut plans = sound_plans(alloc, 1)?;
+    let mut second = sound(alloc, &ROWS)?;
+    second.refused = Some(call);
+    plans.push(second)?;
+    Ok(plans)
+}
+
+/// Settles all words of three letters; whether the second system stops that, and only whole runs of the first are kept.
+fn is_stopped<R: Threads + Wait + Sync>(
+    pool: &mut Pool<Acting, R>,
+    alloc: Global,
+) -> Result<bool, Fail>
+    requires { pool.old.inputs ≡ 2 }
+    ensures { IfOk result (λ _. pool.new.inputs ≡ 2) }
+{
+    let answered = settle(pool, &all_words(alloc, 3)?)?;
+    Ok(is_stop_of_second(&answered) && all_of_first(pool.cache().kept()))
+}
+
+/// Settles them twice; whether each time that is so, and no more is kept the second time.
+fn stays_stopped<R: Threads + Wait + Sync>(
+    pool: &mut Pool<Acting, R>,
+    alloc: Global,
+) -> Result<bool, Fail>
+    requires { pool.old.inputs ≡ 2 }
+{
+    let first = is_stopped(pool, alloc)?;
+    let kept = pool.cache().kept().len();
+    let again = is_stopped(pool, alloc)?;
+    Ok(first && again && kept > 0 && pool.cache().kept().len() == kept)
+}
+
+/// The same with a second system that refuses this call of its own.
+fn stops_at<R: Threads + Wait + Sync + Drop>(
+    rt: R,
+    alloc: Global,
+    call: u32,
+) -> Result<bool, Fail> {
+    let mut pool = pool_of(rt, alloc, one_refusing(alloc, call)?)?;
+    stays_stopped(&mut pool, alloc)
 }
 
 #[test]

@@ -9,7 +9,7 @@ use lw_cache::{AskStop, Cache};
 use lw_desk::OutNames;
 use lw_mealy::Mealy;
 use lw_sul::{Session, Sul, TableSul};
-use lw_words::{Names, Word};
+use lw_words::{Kept, KeptAnswer, Names, Word};
 use std::alloc::Global;
 use std::sync::atomic::AtomicU32;
 use std::sync::{Arc, Wait};
@@ -114,6 +114,48 @@ pub fn pool_of<R: Drop>(rt: R, alloc: Global, plans: Vec<Plan>) -> Result<Pool<A
     }
 }
 
+/// Five states, in which letters and outputs matter.
+pub const ROWS: [[(u16, u16); 2]; 5] = [
+    [(1, 0), (4, 1)],
+    [(3, 1), (1, 0)],
+    [(0, 0), (2, 0)],
+    [(2, 1), (4, 1)],
+    [(4, 0), (0, 1)],
+];
+
+/// A system of this machine that does as it should.
+pub fn sound(alloc: Global, rows: &[[(u16, u16); 2]]) -> Result<Plan, Fail> {
+    Ok(Plan {
+        machine: machine(alloc, rows)?,
+        refused: None,
+        meeting: None,
+    })
+}
+
+/// So many of them.
+pub fn sound_plans(alloc: Global, count: usize) -> Result<Vec<Plan>, Fail> {
+    let mut plans = Vec::new(alloc);
+    for _ in 0..count {
+        plans.push(sound(alloc, &ROWS)?)?;
+    }
+    Ok(plans)
+}
+
+/// Two systems that meet in their first steps: one that answers 0 to each letter, and another.
+pub fn meeting_pool<R: Drop>(rt: R, alloc: Global, output: u16) -> Result<Pool<Acting, R>, Fail>
+    ensures { IfOk result (λ p. p.inputs ≡ 2) }
+{
+    let (here, there) = meeting(alloc)?;
+    let mut first = sound(alloc, &[[(0, 0), (0, 0)]])?;
+    first.meeting = Some(here);
+    let mut second = sound(alloc, &[[(0, output), (0, output)]])?;
+    second.meeting = Some(there);
+    let mut plans = Vec::new(alloc);
+    plans.push(first)?;
+    plans.push(second)?;
+    pool_of(rt, alloc, plans)
+}
+
 /// Settles a batch of words over two letters.
 pub fn settle<S: Sul + Send, R: Threads + Wait + Sync>(
     pool: &mut Pool<S, R>,
@@ -153,4 +195,35 @@ pub fn all_words(alloc: Global, letters: u32) -> Result<Vec<Word>, Fail> {
         words.push(word_of_bits(alloc, bits, letters)?)?;
     }
     Ok(words)
+}
+
+/// Whether an answer is the machine's to a word of four letters.
+fn is_answer(m: &Mealy, k: &KeptAnswer) -> Result<bool, Fail> {
+    if m.inputs() != 2 || k.word.len() != 4 || !k.word.as_slice().iter().all(|x| *x < 2) {
+        return Ok(false);
+    }
+    let outs = m.answer(&k.word)?;
+    Ok(outs.as_slice() == k.outs.as_slice())
+}
+
+/// How many of the kept answers are the machine's to this word of four letters.
+fn answers_to(m: &Mealy, kept: &Kept, w: &Word) -> Result<usize, Fail> {
+    let mut count = 0usize;
+    for i in 0..kept.len() {
+        let k = kept.get(i);
+        if k.word.as_slice() == w.as_slice() && is_answer(m, k)? {
+            count = count.saturating_add(1);
+        }
+    }
+    Ok(count)
+}
+
+/// Whether these are the machine's answers to all words of four letters, each once.
+pub fn are_all_answers(alloc: Global, m: &Mealy, kept: &Kept) -> Result<bool, Fail> {
+    let all = all_words(alloc, 4)?;
+    let mut right = kept.len() == all.len();
+    for w in &all {
+        right = right && answers_to(m, kept, w)? == 1;
+    }
+    Ok(right)
 }
