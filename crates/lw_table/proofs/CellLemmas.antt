@@ -1,14 +1,21 @@
 -- What is known of the words of a table, and that its access words are apart.
 use Rattle.std.proofs.Common.{◌≡◌, ◌≢◌, ℕ, zero, suc, ◌<◌, ◌≤◌, ◌⊎◌, inl, inr, ⊎_elim, List, [], ◌∷◌, ◌++◌, length, take, drop, get_or, refl, ap, sym, ◌∙◌, subst, arith}
-use Rattle.std.specs.List.{range_with_len}
+use Rattle.std.specs.List.{All, range_with_len}
 use Rattle.std.proofs.lemmas.Bool.{cases_lt, cases_eq}
-use Rattle.std.proofs.lemmas.List.{length-take, length-map, get_or-take, get_or-map, get_or_default, ext_get_or}
+use Rattle.std.proofs.lemmas.List.{length-take, length-map, get_or-take, get_or-map, get_or_default, ext_get_or, map-append}
 use Rattle.std.proofs.lemmas.List.FromFn.{length-range_with_len, get_or-range_with_len}
-use Rattle.lw_words.specs.Answer.{Answer}
+use Rattle.std.proofs.lemmas.List.Elements.{All-map}
+use Rattle.lw_words.specs.Answer.{Answer, AreAnswers, answer_of, answers_of}
+use Rattle.lw_words.specs.Word.{IsWord}
+use Rattle.lw_words.specs.declared.kept.KeptAnswer.{KeptAnswer}
 use Rattle.lw_cache.specs.Crowd.{Separates}
 use Rattle.lw_cache.specs.Cut.{word_at}
-use Rattle.lw_table.specs.Table.{TableState, row_at, home_at, access_row, IsTable, Extends, RowIsRead, CellsAreRead}
-use Rattle.lw_table.specs.Laws.{AccessIsCrowd}
+use Rattle.lw_cache.specs.Settling.{OracleState, Keeps}
+use Rattle.lw_cache.proofs.GrowLemmas.{reads_stay}
+use Rattle.lw_cache.proofs.SettlingLemmas.{kept_are_answers}
+use Rattle.lw_table.specs.Table.{TableState, row_number, row_at, home_at, access_row, IsTable, Extends, RowIsRead, CellsAreRead}
+use Rattle.lw_table.specs.bodies.Rows.{IsRowWord}
+use Rattle.lw_table.specs.Laws.{AccessIsCrowd, CellsStay}
 
 -- words are equal or not
 cases_word : (u v : List ℕ) → (u ≡ v) ⊎ (u ≢ v)
@@ -112,3 +119,40 @@ access_is_crowd ks t g read = λ i j d lt lj.
     let li : i < length t.access = omega arith in
     let pair = apart t g ks read i j lt lj in
     (pair.0, subst (λ (u : List ℕ). Separates ks pair.0 u (get_or t.access j d)) (get_or_default t.access i [] d li) (subst (λ (v : List ℕ). Separates ks pair.0 (word_at t.access i) v) (get_or_default t.access j [] d lj) pair.1))
+
+-- what was read stays so where answers come
+pub cells_stay : CellsStay
+cells_stay ks more t read =
+    record {
+      first = λ k lt. let r = read.first k lt in (r.0, reads_stay ks more (word_at t.suffixes k) r.0 r.1, r.2);
+      extensions = λ q x lq lx k lt. let r = read.extensions q x lq lx k lt in (r.0, reads_stay ks more ((word_at t.access q ++ x ∷ []) ++ word_at t.suffixes k) r.0 r.1, r.2);
+    }
+
+pub cells_more : (before gained now : List KeptAnswer) (t : TableState) → now ≡ before ++ gained → CellsAreRead (answers_of before) t → CellsAreRead (answers_of now) t
+cells_more before gained now t grown read = subst (λ (ks : List Answer). CellsAreRead ks t) (sym (ap answers_of grown ∙ map-append answer_of before gained)) (cells_stay (answers_of before) (answers_of gained) t read)
+
+-- the answers that an oracle keeps, over a table's numbers
+pub kept_words : (o : OracleState) (a b : ℕ) → a ≡ o.inputs → b ≡ o.outputs → Keeps o → AreAnswers a (answers_of o.kept) × All (λ k. IsWord b k.outs) (answers_of o.kept)
+kept_words o a b same_a same_b keeps = (
+  kept_are_answers o a same_a keeps,
+  subst (λ (n : ℕ). All (λ k. IsWord n k.outs) (answers_of o.kept)) (sym same_b) (All-map (λ k. IsWord o.outputs k.outs) answer_of o.kept keeps.outputs_below),
+)
+
+-- words of rows that are read, of one length and not equal, are apart
+pub rows_apart : (ks : List Answer) (suffixes : List (List ℕ)) (u v : List ℕ) (r s : List (List ℕ)) → RowIsRead ks u suffixes r → RowIsRead ks v suffixes s → length r ≡ length s → r ≢ s → (e : List ℕ) × Separates ks e u v
+rows_apart ks suffixes u v r s read_u read_v size other =
+    let at = differ_at r s size other in
+    let one = read_u at.0 at.1 in
+    let two = read_v at.0 (subst (λ (n : ℕ). at.0 < n) size at.1) in (
+      word_at suffixes at.0,
+      record { one = one.0; other = two.0; one_read = one.1; other_read = two.1; differ = λ same. at.2 (one.2 ∙ (same ∙ sym two.2)) },
+    )
+
+-- each row is read of its word
+pub row_word_read : (ks : List Answer) (t : TableState) (j : ℕ) (w : List ℕ) → CellsAreRead ks t → IsRowWord t.inputs t.access j w → RowIsRead ks w t.suffixes (row_at t j)
+row_word_read ks t j w read is =
+    ⊎_elim
+    (λ (z : (j ≡ 0) × (w ≡ [])). subst (λ (v : List ℕ). RowIsRead ks v t.suffixes (row_at t j)) (sym z.1) (subst (λ (i : ℕ). RowIsRead ks [] t.suffixes (row_at t i)) (sym z.0) read.first))
+    (λ (e : (q : ℕ) × (x : ℕ) × (q < length t.access) × (x < t.inputs) × (j ≡ row_number t.inputs q x) × (w ≡ word_at t.access q ++ x ∷ [])).
+    subst (λ (v : List ℕ). RowIsRead ks v t.suffixes (row_at t j)) (sym e.5) (subst (λ (i : ℕ). RowIsRead ks (word_at t.access e.0 ++ e.1 ∷ []) t.suffixes (row_at t i)) (sym e.4) (read.extensions e.0 e.1 e.2 e.3)))
+    is

@@ -1,3 +1,15 @@
-pub mod CellLemmas
-pub mod MachineLemmas
-pub mod NewLemmas
+mod AccessLemmas
+mod CellLemmas
+mod CloseLemmas
+mod FillLemmas
+mod FilledLemmas
+mod GrownLemmas
+mod IndexLemmas
+mod ListingLemmas
+mod MachineLemmas
+mod NewLemmas
+mod RefineLemmas
+mod RowLemmas
+mod StepLemmas
+mod SuffixLemmas
+mod TransitionLemmas

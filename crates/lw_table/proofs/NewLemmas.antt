@@ -8,18 +8,19 @@ use Rattle.lw_words.specs.Answer.{Answer}
 use Rattle.lw_words.specs.Word.{IsWord}
 use Rattle.lw_cache.specs.Cut.{word_at}
 use Rattle.lw_table.specs.Table.{row_number, IsTable, IsRow, RowIsRead, new_table}
-use Rattle.lw_table.specs.bodies.Classes.{row_of, table_of, AreClasses}
-use Rattle.lw_table.specs.declared.classes.Step.{Step}
+use Rattle.lw_table.specs.bodies.Classes.{row_of}
+use Rattle.lw_table.specs.bodies.Rows.{no_cells, class_at, table_of, AreIndexed}
+use Rattle.lw_table.specs.declared.rows.Row.{Row}
 use Rattle.lw_table.specs.Laws.{NewIsRead}
 
 -- each row of a new table is without cells
-no_cells : (n j : ℕ) → length (get_or {A = List (List ℕ)} (replicate n []) j []) ≡ 0
-no_cells zero j = refl
-no_cells (suc n) zero = refl
-no_cells (suc n) (suc j) = no_cells n j
+without_cells : (n j : ℕ) → length (get_or {A = List (List ℕ)} (replicate n []) j []) ≡ 0
+without_cells zero j = refl
+without_cells (suc n) zero = refl
+without_cells (suc n) (suc j) = without_cells n j
 
 nothing_read : (ks : List Answer) (word : List ℕ) (suffixes : List (List ℕ)) (n j : ℕ) → RowIsRead ks word suffixes (get_or (replicate n []) j [])
-nothing_read ks word suffixes n j k lt = absurd (omega (arith, lt, no_cells n j))
+nothing_read ks word suffixes n j k lt = absurd (omega (arith, lt, without_cells n j))
 
 pub new_is_read : NewIsRead
 new_is_read ks a b most = record {
@@ -54,12 +55,13 @@ new_is_table a b most in_a in_b in_most =
       letters = take_all a letters (omega (arith, count));
       suffixes = All-from_get_or (λ e. IsWord a e × (e ≢ [])) letters [] (λ k lt. let le : k < a = omega (arith, count) in subst (λ (e : List ℕ). IsWord a e × (e ≢ [])) (sym (single a k le)) (letter_word a k le));
       shape = All-from_get_or (IsRow b letters) (replicate (1 + a) []) [] (λ j lt. record {
-        few = omega (arith, no_cells (1 + a) j);
-        whole = λ k le. absurd (omega (arith, le, no_cells (1 + a) j));
-        below = λ k d le. absurd (omega (arith, le, no_cells (1 + a) j));
+        few = omega (arith, without_cells (1 + a) j);
+        whole = λ k le. absurd (omega (arith, le, without_cells (1 + a) j));
+        below = λ k d le. absurd (omega (arith, le, without_cells (1 + a) j));
       });
-      even = λ q lt. no_cells (1 + a) (get_or {A = ℕ} (0 ∷ []) q 0) ∙ sym (no_cells (1 + a) 0);
+      even = λ q lt. without_cells (1 + a) (get_or {A = ℕ} (0 ∷ []) q 0) ∙ sym (without_cells (1 + a) 0);
       differ = λ p q lt le. absurd (omega arith);
+      refined = omega arith;
     }
 
 -- one letter more
@@ -67,27 +69,35 @@ pub letters_more : (n : ℕ) → map (λ (x : ℕ). x ∷ []) (range_with_len 0 
 letters_more n = map-range_with_len_more (λ (x : ℕ). x ∷ []) 0 n n (omega arith)
 
 -- rows of class 0 are without cells
-of_class_none : (n : ℕ) → map (row_of ([] ∷ [])) (replicate n 0) ≡ replicate n []
+of_class_none : (n : ℕ) → map (λ (r : Row). row_of ([] ∷ []) r.class) (replicate n no_cells) ≡ replicate n []
 of_class_none zero = refl
 of_class_none (suc n) = ap (λ (rows : List (List (List ℕ))). [] ∷ rows) (of_class_none n)
 
-pub made_new : (a b most : ℕ) (access suffixes : List (List ℕ)) (steps : List Step) (classes homes : List ℕ) → access ≡ [] ∷ [] → suffixes ≡ map (λ (x : ℕ). x ∷ []) (range_with_len 0 a) → steps ≡ [] → classes ≡ replicate (a + 1) 0 → homes ≡ 0 ∷ []
-    → table_of a b most access suffixes steps classes homes 0 ≡ new_table a b most
-made_new a b most access suffixes steps classes homes e f g h i =
+pub made_new : (a b most : ℕ) (access suffixes : List (List ℕ)) (classes : List (List (List ℕ))) (rows : List Row) (homes : List ℕ) → access ≡ [] ∷ [] → suffixes ≡ map (λ (x : ℕ). x ∷ []) (range_with_len 0 a) → classes ≡ [] ∷ [] → rows ≡ replicate (a + 1) no_cells → homes ≡ 0 ∷ []
+    → table_of a b most access suffixes classes rows homes 0 ≡ new_table a b most
+made_new a b most access suffixes classes rows homes e f g h i =
     let letters : List (List ℕ) = map (λ (x : ℕ). x ∷ []) (range_with_len 0 a) in
     let count : a + 1 ≡ 1 + a = omega arith in
-    ap (λ (l : List (List ℕ)). table_of a b most l suffixes steps classes homes 0) e
-    ∙ (ap (λ (l : List (List ℕ)). table_of a b most ([] ∷ []) l steps classes homes 0) f
-    ∙ (ap (λ (l : List Step). table_of a b most ([] ∷ []) letters l classes homes 0) g
-    ∙ (ap (λ (l : List ℕ). table_of a b most ([] ∷ []) letters [] l homes 0) (h ∙ ap (λ (n : ℕ). replicate n 0) count)
-    ∙ (ap (λ (l : List ℕ). table_of a b most ([] ∷ []) letters [] (replicate (1 + a) 0) l 0) i
+    ap (λ (l : List (List ℕ)). table_of a b most l suffixes classes rows homes 0) e
+    ∙ (ap (λ (l : List (List ℕ)). table_of a b most ([] ∷ []) l classes rows homes 0) f
+    ∙ (ap (λ (l : List (List (List ℕ))). table_of a b most ([] ∷ []) letters l rows homes 0) g
+    ∙ (ap (λ (l : List Row). table_of a b most ([] ∷ []) letters ([] ∷ []) l homes 0) (h ∙ ap (λ (n : ℕ). replicate n no_cells) count)
+    ∙ (ap (λ (l : List ℕ). table_of a b most ([] ∷ []) letters ([] ∷ []) (replicate (1 + a) no_cells) l 0) i
     ∙ ap (λ (rows : List (List (List ℕ))). record { inputs = a; outputs = b; most = most; access = [] ∷ []; suffixes = letters; cells = rows; homes = 0 ∷ []; refinements = 0 }) (of_class_none (1 + a))))))
 
-pub none_are_classes : (steps : List Step) (classes : List ℕ) (n : ℕ) → steps ≡ [] → classes ≡ replicate n 0 → AreClasses steps classes
-none_are_classes steps classes n e f =
-    subst (λ (l : List Step). AreClasses l classes) (sym e)
-    (subst (λ (l : List ℕ). AreClasses [] l) (sym f)
+all_empty : (n j : ℕ) (d : Row) → j < n → get_or (replicate n no_cells) j d ≡ no_cells
+all_empty n j d lt = get_or-replicate {A = Row} n j no_cells d lt
+
+pub new_is_indexed : (classes : List (List (List ℕ))) (rows : List Row) (homes listed : List ℕ) (a : ℕ) → classes ≡ [] ∷ [] → rows ≡ replicate (a + 1) no_cells → homes ≡ 0 ∷ [] → listed ≡ 0 ∷ [] → AreIndexed classes rows homes listed
+new_is_indexed classes rows homes listed a e f g h =
+    let size : length (replicate {A = Row} (a + 1) no_cells) ≡ a + 1 = length-replicate {A = Row} (a + 1) no_cells in
+    subst (λ (l : List (List (List ℕ))). AreIndexed l rows homes listed) (sym e)
+    (subst (λ (l : List Row). AreIndexed ([] ∷ []) l homes listed) (sym f)
     (record {
-      within = All-from_get_or (λ class. class < 1) (replicate n 0) 0 (λ i lt. let size : length (replicate {A = ℕ} n 0) ≡ n = length-replicate {A = ℕ} n 0 in subst (λ (k : ℕ). k < 1) (sym (get_or-replicate {A = ℕ} n i 0 0 (omega arith))) (omega arith));
+      some = omega arith;
+      first = refl;
       differ = λ i j d lt le. absurd (omega arith);
+      within = λ j d lt. subst (λ (r : Row). r.class < 1) (sym (all_empty (a + 1) j d (omega arith))) (omega arith);
+      counts = λ j d lt. subst (λ (r : Row). r.cells ≡ length (row_of ([] ∷ []) r.class)) (sym (all_empty (a + 1) j d (omega arith))) refl;
+      keys = h ∙ (ap (λ (k : ℕ). k ∷ []) (sym (ap (λ (r : Row). r.class) (all_empty (a + 1) 0 no_cells (omega arith)))) ∙ ap (map (class_at (replicate (a + 1) no_cells))) (sym g));
     }))

@@ -1,5 +1,5 @@
 -- What the machine of a closed table is.
-use Rattle.std.specs.Prelude.{◌≡◌, ℕ, List}
+use Rattle.std.specs.Prelude.{◌≡◌, ℕ, List, ◌++◌}
 use Rattle.lw_words.specs.Answer.{Answer, AreAnswers}
 use Rattle.lw_mealy.specs.Machine.{Rows}
 use Rattle.lw_cache.specs.Crowd.{IsCrowd}
@@ -9,6 +9,14 @@ use Rattle.lw_table.specs.Table.{TableState, IsTable, CellsAreRead, IsClosed, Is
 -- a new table has no cell that could be read otherwise
 abbrev pub NewIsRead : Type 0
 NewIsRead = (ks : List Answer) (a b most : ℕ) → CellsAreRead ks (new_table a b most)
+
+-- answers that come leave what the cells are
+abbrev pub CellsStay : Type 0
+CellsStay = (ks more : List Answer) (t : TableState) → CellsAreRead ks t → CellsAreRead (ks ++ more) t
+
+-- a closed table has a machine
+abbrev pub HasMachine : Type 0
+HasMachine = (t : TableState) → IsTable t → IsClosed t → (m : Rows) × IsMachineOf t m
 
 -- a table has one machine at most
 abbrev pub OneMachine : Type 0

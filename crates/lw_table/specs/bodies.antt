@@ -1,2 +1,7 @@
 -- What the contracts of private functions cite, and no public clause.
 pub mod Classes
+pub mod Filling
+pub mod Growing
+pub mod Rows
+pub mod Steps
+pub mod Transitions

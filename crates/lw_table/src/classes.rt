@@ -1,8 +1,88 @@
 //! Rows as numbers, so that two rows are equal exactly where their numbers are.
+ghost use Rattle.std.specs.Prelude.{◌≡◌, ◌≢◌, ℕ, ◌<◌, ◌≤◌, List, [], ◌∷◌, length, slice_index_or, IfOk, OnErr};
+ghost use Rattle.std.specs.List.{AllPairs};
+ghost use Rattle.lw_table.specs.bodies.Classes.{row_of, HasEntered, AreSingles};
+
+use indexmap::IndexSet;
+use lw_words::NoMemory;
+use std::alloc::Global;
+use std::marker::Model;
 
 /// A row of an earlier class, and the outputs of one cell more.
 #[derive(Drop, PartialEq, Eq, Hash)]
 pub(crate) struct Step {
-    pub(crate) class: usize,
-    pub(crate) outputs: Vec<u16>,
+    class: usize,
+    outputs: Vec<u16>,
+}
+
+/// Rows, each once. Class 0 is the row without cells, and each other class a row of an earlier class with a cell more.
+/// Contracts see the row of each class.
+#[derive(Drop)]
+pub(crate) struct Classes {
+    steps: IndexSet<Step>,
+    pub(crate) alloc: Global,
+}
+
+impl Model for Classes {
+    ghost use Rattle.std.specs.Prelude.{ℕ, List};
+    ghost use Rattle.lw_table.specs.bodies.Steps.{rows_of, AreClasses};
+
+    ghost Value = { List (List (List ℕ)) };
+
+    ghost view = { λ c. rows_of c.steps.keys };
+
+    ghost invariant = { λ c. AreClasses c.steps.keys };
+}
+
+impl Classes {
+    /// The row without cells alone. Takes no memory.
+    pub(crate) fn new(alloc: Global) -> Classes
+        ensures { result ≡ [] ∷ [] }
+    {
+        Classes {
+            steps: IndexSet::new(alloc),
+            alloc,
+        }
+    }
+
+    /// The class of a row with a cell more.
+    pub(crate) fn enter(&mut self, class: usize, outputs: Vec<u16>) -> Result<usize, NoMemory>
+        requires class { class < length self.old }
+        ensures entered { IfOk result (HasEntered self.old self.new class outputs.items) }
+        ensures differ { AllPairs (λ r s. r ≢ s) self.new }
+        ensures err { OnErr result (self.new ≡ self.old) }
+    {
+        let (number, _) = self.steps.insert_full(Step { class, outputs })?;
+        // A set's length fits, so the class does.
+        let _ = self.steps.len();
+        Ok(number + 1)
+    }
+
+    /// The outputs of the first cells of a row of so many cells, each of which has one.
+    pub(crate) fn singles(
+        &self,
+        class: usize,
+        cells: usize,
+        count: usize,
+    ) -> Result<Vec<u16>, NoMemory>
+        requires class { class < length self.now }
+        requires cells { cells ≡ length (row_of self.now class) }
+        requires count { count ≤ cells }
+        requires each { (k : ℕ) → k < count →
+            length (slice_index_or (row_of self.now class) k []) ≡ 1 }
+        ensures { IfOk result (λ outs. AreSingles (row_of self.now class) count outs.items) }
+    {
+        let mut outputs = vec![in self.alloc; 0; count]?;
+        let mut class = class;
+        let mut place = cells;
+        while place > 0 {
+            let step = &self.steps[class - 1];
+            place -= 1;
+            if place < count {
+                outputs[place] = step.outputs[0];
+            }
+            class = step.class;
+        }
+        Ok(outputs)
+    }
 }

@@ -1,12 +1,22 @@
 //! Laws of the definitions. Each is a function with no code, whose contract is the law.
-ghost use Rattle.lw_table.specs.Laws.{NewIsRead, OneMachine, AccessLeads, MachineGivesCells, AccessIsCrowd};
+ghost use Rattle.lw_table.specs.Laws.{NewIsRead, CellsStay, HasMachine, OneMachine, AccessLeads, MachineGivesCells, AccessIsCrowd};
 
 /// A new table has no cell that could be read otherwise.
 pub fn new_is_read()
     ensures { NewIsRead }
 {}
 
-/// A closed table has one machine.
+/// Answers that come leave what the cells of a table are.
+pub fn cells_stay()
+    ensures { CellsStay }
+{}
+
+/// A closed table has a machine.
+pub fn closed_has_machine()
+    ensures { HasMachine }
+{}
+
+/// It has one at most.
 pub fn one_machine()
     ensures { OneMachine }
 {}

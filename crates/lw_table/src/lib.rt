@@ -2,10 +2,18 @@
 #![tactic(auto)]
 
 mod classes;
+mod filling;
+mod growing;
 mod laws;
+mod machine;
+mod rows;
+mod steps;
 mod table;
 
-pub use laws::{access_is_crowd, access_leads, machine_gives_cells, new_is_read, one_machine};
+pub use laws::{
+    access_is_crowd, access_leads, cells_stay, closed_has_machine, machine_gives_cells,
+    new_is_read, one_machine,
+};
 pub use table::ObservationTable;
 
 #[cfg(test)]

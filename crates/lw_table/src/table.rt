@@ -3,7 +3,8 @@ ghost use Rattle.std.specs.Prelude.{◌≡◌, ℕ, ◌≤◌, List, [], ◌∷�
 ghost use Rattle.std.specs.List.{range_with_len};
 ghost use Rattle.lw_table.specs.Table.{IsTable, new_table};
 
-use crate::classes::Step;
+use crate::classes::Classes;
+use crate::rows::{EMPTY, Row};
 use indexmap::IndexSet;
 use lw_words::{NoMemory, Word, Words};
 use std::alloc::Global;
@@ -15,30 +16,33 @@ use std::marker::Model;
 /// Each row is kept as the number of its class, so equal rows are found without comparing them cell by cell.
 #[derive(Drop)]
 pub struct ObservationTable {
-    inputs: u16,
-    outputs: u16,
-    most: u16,
-    access: Words,
-    suffixes: Words,
-    steps: IndexSet<Step>,
-    classes: Vec<usize>,
-    homes: Vec<usize>,
-    refinements: u32,
-    alloc: Global,
+    pub(crate) inputs: u16,
+    pub(crate) outputs: u16,
+    pub(crate) most: u16,
+    pub(crate) access: Words,
+    pub(crate) suffixes: Words,
+    pub(crate) classes: Classes,
+    pub(crate) rows: Vec<Row>,
+    /// The row of each access word.
+    pub(crate) homes: Vec<usize>,
+    /// The class of each access word's row.
+    pub(crate) states: IndexSet<usize>,
+    pub(crate) refinements: u32,
+    pub(crate) alloc: Global,
 }
 
 impl Model for ObservationTable {
     ghost use Rattle.lw_table.specs.Table.{TableState, IsTable};
-    ghost use Rattle.lw_table.specs.bodies.Classes.{table_of, AreClasses};
+    ghost use Rattle.lw_table.specs.bodies.Rows.{table_of, AreIndexed};
 
     ghost Value = { TableState };
 
-    ghost view = { λ t. table_of t.inputs t.outputs t.most t.access t.suffixes t.steps.keys
-        t.classes.items t.homes.items t.refinements };
+    ghost view = { λ t. table_of t.inputs t.outputs t.most t.access t.suffixes t.classes
+        t.rows.items t.homes.items t.refinements };
 
     ghost invariant = { λ t. IsTable (table_of t.inputs t.outputs t.most t.access t.suffixes
-        t.steps.keys t.classes.items t.homes.items t.refinements) ×
-        AreClasses t.steps.keys t.classes.items };
+        t.classes t.rows.items t.homes.items t.refinements) ×
+        AreIndexed t.classes t.rows.items t.homes.items t.states.keys };
 }
 
 /// The list of the empty word alone.
@@ -46,9 +50,7 @@ fn the_empty_word(alloc: Global) -> Result<Words, NoMemory>
     ensures { IfOk result (λ words. words ≡ [] ∷ []) }
 {
     let mut words = Words::new(alloc);
-    let Ok(()) = words.push(Word::new(alloc)) else {
-        return Err(NoMemory);
-    };
+    words.push(Word::new(alloc))?;
     Ok(words)
 }
 
@@ -61,9 +63,7 @@ fn single_letters(alloc: Global, inputs: u16) -> Result<Words, NoMemory>
     for letter in 0..inputs {
         let mut word = Word::new(alloc);
         word.push(letter)?;
-        let Ok(()) = words.push(word) else {
-            return Err(NoMemory);
-        };
+        words.push(word)?;
     }
     Ok(words)
 }
@@ -82,15 +82,18 @@ impl ObservationTable {
         ensures value { IfOk result (λ t. t ≡ new_table inputs outputs max_states) }
         ensures table { IfOk result IsTable }
     {
+        let mut states = IndexSet::new(alloc);
+        states.insert(0)?;
         Ok(ObservationTable {
             inputs,
             outputs,
             most: max_states,
             access: the_empty_word(alloc)?,
             suffixes: single_letters(alloc, inputs)?,
-            steps: IndexSet::new(alloc),
-            classes: vec![in alloc; 0; usize::from(inputs) + 1]?,
+            classes: Classes::new(alloc),
+            rows: vec![in alloc; EMPTY; usize::from(inputs) + 1]?,
             homes: vec![in alloc; 0; 1]?,
+            states,
             refinements: 0,
             alloc,
         })
@@ -114,7 +117,8 @@ impl ObservationTable {
 
     /// How often the table was refined.
     pub fn refinements(&self) -> u32
-        ensures { result ≡ self.now.refinements }
+        ensures value { result ≡ self.now.refinements }
+        ensures table { IsTable self.now }
     {
         self.refinements
     }

@@ -1,6 +1,9 @@
-//! A new table of two letters, and the laws.
+//! New tables, tables that are closed over machines, and the laws.
+mod closing;
+
 use crate::{
-    ObservationTable, access_is_crowd, access_leads, machine_gives_cells, new_is_read, one_machine,
+    ObservationTable, access_is_crowd, access_leads, cells_stay, closed_has_machine,
+    machine_gives_cells, new_is_read, one_machine,
 };
 use lw_words::Words;
 use std::test::Fail;
@@ -29,6 +32,8 @@ fn a_new_table_of_two_letters(rt: HostRuntime) -> Result<(), Fail> {
 #[test]
 fn the_laws() {
     new_is_read();
+    cells_stay();
+    closed_has_machine();
     one_machine();
     access_leads();
     machine_gives_cells();

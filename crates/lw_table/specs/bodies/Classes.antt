@@ -1,36 +1,26 @@
--- Rows as classes: class 0 is the row without cells, and each other class a row of an earlier class with a cell more.
-use Rattle.std.specs.Prelude.{◌≢◌, ℕ, ◌<◌, List, [], ◌∷◌, ◌++◌, length, map, slice_index_or}
-use Rattle.std.specs.List.{All, AllPairs}
-use Rattle.lw_table.specs.Table.{TableState}
-use Rattle.lw_table.specs.declared.classes.Step.{Step}
+-- Rows by class.
+use Rattle.std.specs.Prelude.{◌≡◌, ℕ, ◌<◌, ◌≤◌, List, [], ◌∷◌, ◌++◌, length, take, slice_index_or}
 
--- a row of this class
+-- the row of a class
 abbrev pub row_of : List (List (List ℕ)) → ℕ → List (List ℕ)
 row_of rows class = slice_index_or rows class []
 
--- the rows of the classes, followed by those that the steps make
-abbrev pub more_rows : List (List (List ℕ)) → List Step → List (List (List ℕ))
-more_rows rows [] = rows
-more_rows rows (step ∷ steps) = more_rows (rows ++ (row_of rows step.class ++ step.outputs.items ∷ []) ∷ []) steps
+-- a class has the row of another with a cell more, and the rows before it stay
+pub record HasEntered (before now : List (List (List ℕ))) (class : ℕ) (outputs : List ℕ) (entered : ℕ) : Type 0 where
+  pub within : entered < length now
+  pub row : row_of now entered ≡ row_of before class ++ outputs ∷ []
+  pub more : List (List (List ℕ))
+  pub stay : now ≡ before ++ more
 
--- the rows of all classes, by class
-abbrev pub rows_of : List Step → List (List (List ℕ))
-rows_of steps = more_rows ([] ∷ []) steps
+-- the outputs of the first cells of a row, each of which has one
+pub record AreSingles (row : List (List ℕ)) (many : ℕ) (outs : List ℕ) : Type 0 where
+  pub count : length outs ≡ many
+  pub each : (k : ℕ) → k < many → slice_index_or row k [] ≡ slice_index_or outs k 0 ∷ []
 
--- a table whose rows are of these classes
-abbrev pub table_of : ℕ → ℕ → ℕ → List (List ℕ) → List (List ℕ) → List Step → List ℕ → List ℕ → ℕ → TableState
-table_of inputs outputs most access suffixes steps classes homes refinements = record {
-  inputs = inputs;
-  outputs = outputs;
-  most = most;
-  access = access;
-  suffixes = suffixes;
-  cells = map (row_of (rows_of steps)) classes;
-  homes = homes;
-  refinements = refinements;
-}
-
--- each of these is a class, and no two classes have one row
-pub record AreClasses (steps : List Step) (classes : List ℕ) : Type 0 where
-  pub within : All (λ class. class < length (rows_of steps)) classes
-  pub differ : AllPairs (λ r s. r ≢ s) (rows_of steps)
+-- the outputs of the first cells so far, from the last one on: so many cells are left, those of a class
+pub record InSingles (rows : List (List (List ℕ))) (row : List (List ℕ)) (many left class : ℕ) (outs : List ℕ) : Type 0 where
+  pub within : class < length rows
+  pub size : length (row_of rows class) ≡ left
+  pub front : take left row ≡ row_of rows class
+  pub count : length outs ≡ many
+  pub each : (k : ℕ) → left ≤ k → k < many → slice_index_or row k [] ≡ slice_index_or outs k 0 ∷ []

@@ -1,0 +1,21 @@
+use Rattle.std.proofs.Common.{rules, List, refl, sym, subst}
+use Rattle.lw_words.specs.Answer.{AreAnswers, answers_of}
+use Rattle.lw_words.specs.declared.kept.KeptAnswer.{KeptAnswer}
+use Rattle.lw_cache.specs.Known.{IsKnown}
+use Rattle.lw_cache.proofs.SettlingLemmas.{kept_are_answers, leaves_nothing, leaves_own}
+use Rattle.lw_table.proofs.FillLemmas.{rows_known}
+use Rattle.lw_table.proofs.steps.answered.Goals as goal
+
+pub returns-in_err-batch-clause-leaves : goal.returns-in_err-batch-clause-leaves
+returns-in_err-batch-clause-leaves g c =
+    let state = g.O.Oracle.state c.args.oracle.now in
+    leaves_own state state c.from_residual.result (leaves_nothing state c.requires.keeps c.requires.may) (search rules)
+
+pub fill_rows-requires-clause-answers : goal.fill_rows-requires-clause-answers
+fill_rows-requires-clause-answers g c =
+    let state = g.O.Oracle.state c.settle.new.self in
+    (state.inputs, subst (λ (kept : List KeptAnswer). AreAnswers state.inputs (answers_of kept)) (sym c.cache-cache.ensures.kept) (kept_are_answers state state.inputs refl c.cache-cache.ensures.keeps))
+
+pub fill_rows-requires-clause-known : goal.fill_rows-requires-clause-known
+fill_rows-requires-clause-known g c =
+    rows_known (IsKnown (answers_of c.cache-cache.result.now.kept)) c.in_ok-batch.batch c.args.inputs c.args.access.now c.args.suffixes.now c.args.rows.now c.args.first _ c.in_ok-batch.ensures.each (search rules)

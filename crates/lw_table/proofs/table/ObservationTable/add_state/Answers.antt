@@ -1,0 +1,87 @@
+use Rattle.std.proofs.Common.{rules, ◌≡◌, ℕ, ◌<◌, length, sym, ◌∙◌, subst}
+use Rattle.lw_words.specs.Answer.{answers_of}
+use Rattle.lw_cache.proofs.SettlingLemmas.{leaves_nothing, leaves_grown_own}
+use Rattle.lw_table.specs.Grown.{HasGrown}
+use Rattle.lw_table.specs.Table.{TableState, home_at, IsTable, CellsAreRead}
+use Rattle.lw_table.proofs.AccessLemmas.{access_read, access_grown, homes_before, has_state}
+use Rattle.lw_table.proofs.IndexLemmas.{length-rows_by}
+use Rattle.lw_table.proofs.GrownLemmas.{not_grown, grown_then, crowd_of, tells_crowd}
+use Rattle.lw_table.proofs.table.ObservationTable.add_state.Goals as goal
+
+pub returns-in_err-with_row_word-clause-grown : goal.returns-in_err-with_row_word-clause-grown
+returns-in_err-with_row_word-clause-grown g c =
+    let t : TableState = c.args.self.now in
+    not_grown (answers_of (g.O.Oracle.state c.args.oracle.now).kept) t (subst (λ (u : TableState). IsTable u) c.self.view_is c.self.invariant.0) c.requires.read
+
+pub returns-in_err-with_row_word-clause-leaves : goal.returns-in_err-with_row_word-clause-leaves
+returns-in_err-with_row_word-clause-leaves g c =
+    let state = g.O.Oracle.state c.args.oracle.now in
+    leaves_grown_own state state c.from_residual.result (leaves_nothing state c.requires.keeps c.requires.may) (search rules)
+
+pub returns-then-len-from-clause-grown : goal.returns-then-len-from-clause-grown
+returns-then-len-from-clause-grown g c =
+    let t : TableState = c.args.self.now in
+    not_grown (answers_of (g.O.Oracle.state c.args.oracle.now).kept) t (subst (λ (u : TableState). IsTable u) c.self.view_is c.self.invariant.0) c.requires.read
+
+pub returns-then-len-from-clause-crowd : goal.returns-then-len-from-clause-crowd
+returns-then-len-from-clause-crowd g c =
+    let t : TableState = c.args.self.now in
+    let ks = answers_of (g.O.Oracle.state c.args.oracle.now).kept in
+    let table : IsTable t = subst (λ (u : TableState). IsTable u) c.self.view_is c.self.invariant.0 in
+    let r = c.in_ok-with_row_word.ensures in
+    let many : length t.access ≡ t.most = subst (λ (u : TableState). length u.access ≡ u.most) c.self.view_is (search rules) in
+    tells_crowd ks t c.in_ok-with_row_word.field-0 (crowd_of ks t c.args.row r.0 c.in_ok-with_row_word.field-0 table c.requires.read c.requires.full c.requires.row r.1 c.requires.new many r.2)
+
+pub returns-in_err-add_access-clause-grown : goal.returns-in_err-add_access-clause-grown
+returns-in_err-add_access-clause-grown g c =
+    let t : TableState = c.args.self.now in
+    let ks = answers_of (g.O.Oracle.state c.args.oracle.now).kept in
+    subst (λ (u : TableState). HasGrown ks t u) (sym c.in_err-add_access.ensures.err) (not_grown ks t (subst (λ (u : TableState). IsTable u) c.self.view_is c.self.invariant.0) c.requires.read)
+
+pub returns-in_err-add_access-clause-leaves : goal.returns-in_err-add_access-clause-leaves
+returns-in_err-add_access-clause-leaves g c =
+    let state = g.O.Oracle.state c.args.oracle.now in
+    leaves_grown_own state state c.from_residual-in_err-add_access.result (leaves_nothing state c.requires.keeps c.requires.may) (search rules)
+
+pub fill_new-requires-clause-read : goal.fill_new-requires-clause-read
+fill_new-requires-clause-read g c =
+    let t : TableState = c.args.self.now in
+    let ks = answers_of (g.O.Oracle.state c.args.oracle.now).kept in
+    let table : IsTable t = subst (λ (u : TableState). IsTable u) c.self.view_is c.self.invariant.0 in
+    let added = c.in_ok-add_access.ensures.ok in
+    subst (λ (u : TableState). CellsAreRead ks u) (sym added.is) (access_read t added.word c.args.row table added.of_row c.requires.row ks c.requires.read)
+
+pub fill_new-requires-clause-homes : goal.fill_new-requires-clause-homes
+fill_new-requires-clause-homes g c =
+    let t : TableState = c.args.self.now in
+    let table : IsTable t = subst (λ (u : TableState). IsTable u) c.self.view_is c.self.invariant.0 in
+    let added = c.in_ok-add_access.ensures.ok in
+    let rows : c.len-first.result ≡ length c.self.inside.rows.items = search rules in
+    let first : c.len-first.result ≡ length t.cells = subst (λ (u : TableState). c.len-first.result ≡ length u.cells) c.self.view_is (rows ∙ sym (length-rows_by c.self.inside.classes c.self.inside.rows.items)) in
+    λ q lt. subst (λ (n : ℕ). home_at c.add_access.new.self q < n) (sym first)
+    (subst (λ (u : TableState). q < length u.access → home_at u q < length t.cells) (sym added.is) (homes_before t added.word c.args.row table added.of_row c.requires.row q) lt)
+
+pub returns-in_err-fill_new-clause-grown : goal.returns-in_err-fill_new-clause-grown
+returns-in_err-fill_new-clause-grown g c =
+    let t : TableState = c.args.self.now in
+    let ks = answers_of (g.O.Oracle.state c.args.oracle.now).kept in
+    let table : IsTable t = subst (λ (u : TableState). IsTable u) c.self.view_is c.self.invariant.0 in
+    let added = c.in_ok-add_access.ensures.ok in
+    let one : HasGrown ks t c.add_access.new.self = subst (λ (u : TableState). HasGrown ks t u) (sym added.is) (access_grown t added.word c.args.row table added.of_row c.requires.row ks (subst (λ (u : TableState). IsTable u) added.is c.add_access.ensures.table) c.requires.read) in
+    grown_then ks (answers_of (g.O.Oracle.state c.fill_new.new.oracle).kept) t c.add_access.new.self c.fill_new.new.self one c.fill_new.ensures.grown
+
+pub returns-clause-grown : goal.returns-clause-grown
+returns-clause-grown g c =
+    let t : TableState = c.args.self.now in
+    let ks = answers_of (g.O.Oracle.state c.args.oracle.now).kept in
+    let table : IsTable t = subst (λ (u : TableState). IsTable u) c.self.view_is c.self.invariant.0 in
+    let added = c.in_ok-add_access.ensures.ok in
+    let one : HasGrown ks t c.add_access.new.self = subst (λ (u : TableState). HasGrown ks t u) (sym added.is) (access_grown t added.word c.args.row table added.of_row c.requires.row ks (subst (λ (u : TableState). IsTable u) added.is c.add_access.ensures.table) c.requires.read) in
+    grown_then ks (answers_of (g.O.Oracle.state c.fill_new.new.oracle).kept) t c.add_access.new.self c.fill_new.new.self one c.fill_new.ensures.grown
+
+pub returns-clause-state : goal.returns-clause-state
+returns-clause-state g c =
+    let t : TableState = c.args.self.now in
+    let table : IsTable t = subst (λ (u : TableState). IsTable u) c.self.view_is c.self.invariant.0 in
+    let added = c.in_ok-add_access.ensures.ok in
+    has_state (answers_of (g.O.Oracle.state c.fill_new.new.oracle).kept) t c.add_access.new.self c.fill_new.new.self added.word c.args.row table added.of_row c.requires.row added.is c.fill_new.ensures.grown

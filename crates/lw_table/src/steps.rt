@@ -1,0 +1,209 @@
+//! The steps by which a table grows: cells are filled, an access word is added, a suffix is added.
+ghost use Rattle.std.specs.Prelude.{◌≡◌, ◌≢◌, ℕ, ◌+◌, ◌*◌, ◌<◌, ◌≤◌, List, [], ◌++◌, length, map, take, replicate, ◌∷◌, Contains, vec_len, vec_capacity, OnOk, OnErr, IfOk, MatchOption};
+ghost use Rattle.std.specs.List.{All, AllPairs};
+ghost use Rattle.lw_words.specs.Answer.{Answer, answers_of};
+ghost use Rattle.lw_words.specs.Word.{IsWord};
+ghost use Rattle.lw_cache.specs.Settling.{Keeps, MayAsk, Leaves, asked_stop};
+ghost use Rattle.lw_table.specs.Grown.{HasGrown};
+ghost use Rattle.lw_table.specs.Table.{row_at, home_at, access_row, IsTable, CellsAreRead};
+ghost use Rattle.lw_table.specs.bodies.Classes.{row_of};
+ghost use Rattle.lw_table.specs.bodies.Filling.{GoOn};
+ghost use Rattle.lw_table.specs.bodies.Growing.{AreFull, AreFullBelow, ChangesCells, HasAdded, with_suffix};
+ghost use Rattle.lw_table.specs.bodies.Rows.{no_cells, class_at};
+ghost use Rattle.indexmap.specs.IndexSet.{spare};
+
+use crate::ObservationTable;
+use crate::classes::Classes;
+use crate::filling::{fill_rows, unfilled};
+use crate::rows::{EMPTY, Row, row_word};
+use indexmap::IndexSet;
+use lw_cache::{AskStop, Oracle};
+use lw_words::{NoMemory, Word, Words};
+use std::alloc::Global;
+
+/// Asks for the cells that aren't filled, of the rows from one on: these rows, with their cells filled.
+fn answered<O: Oracle>(
+    oracle: &mut O,
+    inputs: u16,
+    access: &Words,
+    suffixes: &Words,
+    classes: &mut Classes,
+    rows: &[Row],
+    first: usize,
+) -> Result<Vec<Row>, AskStop>
+    requires can { O.can_settle oracle.old }
+    requires may { MayAsk (O.state oracle.old).stop }
+    requires keeps { Keeps (O.state oracle.old) }
+    requires same { inputs ≡ (O.state oracle.old).inputs }
+    requires inputs { 1 ≤ inputs }
+    requires access { All (IsWord inputs) access.now }
+    requires suffixes { All (IsWord inputs) suffixes.now }
+    requires rows { length rows.now ≡ 1 + length access.now * inputs }
+    requires within { All (λ r. r.class < length classes.old) rows.now }
+    requires counts { All (λ r. r.cells ≡ length (row_of classes.old r.class)) rows.now }
+    requires few { All (λ r. r.cells ≤ length suffixes.now) rows.now }
+    requires first { first ≤ length rows.now }
+    requires differ { AllPairs (λ r s. r ≢ s) classes.old }
+    ensures more { (more : List (List (List ℕ))) × (classes.new ≡ classes.old ++ more) }
+    ensures differ { AllPairs (λ r s. r ≢ s) classes.new }
+    ensures all { IfOk result (λ filled. first + length filled.items ≡ length rows.now) }
+    ensures go_on { IfOk result (λ filled. GoOn (answers_of (O.state oracle.new).kept) inputs
+        access.now suffixes.now classes.old rows.now first classes.new filled.items) }
+    ensures leaves { Leaves (O.state oracle.old) (O.state oracle.new) (asked_stop result) }
+    ensures can { O.can_settle oracle.new }
+{
+    let batch = unfilled(classes.alloc, inputs, access, suffixes, rows, first)?;
+    oracle.settle(batch.as_slice())?;
+    let cache = oracle.cache();
+    Ok(fill_rows(inputs, access, suffixes, classes, rows, first, cache)?)
+}
+
+/// The classes of the access words' rows, in the order of the access words.
+fn classes_of(alloc: Global, rows: &[Row], homes: &[usize]) -> Result<IndexSet<usize>, NoMemory>
+    requires within { All (λ home. home < length rows.now) homes.now }
+    requires distinct { AllPairs (λ p q. p ≢ q) (map (class_at rows.now) homes.now) }
+    ensures { IfOk result (λ states. states.keys ≡ map (class_at rows.now) homes.now) }
+{
+    let mut states = IndexSet::with_capacity(alloc, homes.len())?;
+    for home in homes {
+        states.insert(rows[*home].class)?;
+    }
+    Ok(states)
+}
+
+impl ObservationTable {
+    /// Fills all cells, in one step.
+    pub(crate) fn fill_all<O: Oracle>(&mut self, oracle: &mut O) -> Result<(), AskStop>
+        requires can { O.can_settle oracle.old }
+        requires may { MayAsk (O.state oracle.old).stop }
+        requires keeps { Keeps (O.state oracle.old) }
+        requires inputs { self.old.inputs ≡ (O.state oracle.old).inputs }
+        requires outputs { self.old.outputs ≡ (O.state oracle.old).outputs }
+        requires read { CellsAreRead (answers_of (O.state oracle.old).kept) self.old }
+        ensures grown { HasGrown (answers_of (O.state oracle.new).kept) self.old self.new }
+        ensures cells { ChangesCells self.old self.new }
+        ensures full { OnOk result (AreFull self.new) }
+        ensures leaves { Leaves (O.state oracle.old) (O.state oracle.new) (asked_stop result) }
+        ensures can { O.can_settle oracle.new }
+    {
+        let suffixes = &self.suffixes;
+        let classes = &mut self.classes;
+        let old = self.rows.as_slice();
+        let rows = answered(oracle, self.inputs, &self.access, suffixes, classes, old, 0)?;
+        self.states = classes_of(self.alloc, &rows, &self.homes)?;
+        self.rows = rows;
+        Ok(())
+    }
+
+    /// Fills the cells of the rows from one on, in one step. The rows before it have theirs.
+    pub(crate) fn fill_new<O: Oracle>(
+        &mut self,
+        oracle: &mut O,
+        first: usize,
+    ) -> Result<(), AskStop>
+        requires can { O.can_settle oracle.old }
+        requires may { MayAsk (O.state oracle.old).stop }
+        requires keeps { Keeps (O.state oracle.old) }
+        requires inputs { self.old.inputs ≡ (O.state oracle.old).inputs }
+        requires outputs { self.old.outputs ≡ (O.state oracle.old).outputs }
+        requires read { CellsAreRead (answers_of (O.state oracle.old).kept) self.old }
+        requires first { first ≤ length self.old.cells }
+        requires full { AreFullBelow self.old first }
+        requires homes { (q : ℕ) → q < length self.old.access → home_at self.old q < first }
+        ensures grown { HasGrown (answers_of (O.state oracle.new).kept) self.old self.new }
+        ensures cells { ChangesCells self.old self.new }
+        ensures full { OnOk result (AreFull self.new) }
+        ensures leaves { Leaves (O.state oracle.old) (O.state oracle.new) (asked_stop result) }
+        ensures can { O.can_settle oracle.new }
+    {
+        let suffixes = &self.suffixes;
+        let classes = &mut self.classes;
+        let old = self.rows.as_slice();
+        let filled = answered(
+            oracle,
+            self.inputs,
+            &self.access,
+            suffixes,
+            classes,
+            old,
+            first,
+        )?;
+        replace(&mut self.rows, first, &filled);
+        Ok(())
+    }
+
+    /// The number of the access word that has a row, if there is one.
+    pub(crate) fn state_of_row(&self, row: usize) -> Option<usize>
+        requires row { row < length self.now.cells }
+        ensures { MatchOption result
+            ((q : ℕ) → q < length self.now.access → row_at self.now row ≢ access_row self.now q)
+            (λ q. (q < length self.now.access) × (row_at self.now row ≡ access_row self.now q)) }
+    {
+        self.states.get_index_of(&self.rows[row].class)
+    }
+
+    /// Makes the word of a row an access word, whose extensions have no cells yet.
+    pub(crate) fn add_access(&mut self, row: usize) -> Result<(), NoMemory>
+        requires row { row < length self.old.cells }
+        requires room { length self.old.access < self.old.most }
+        requires full { AreFull self.old }
+        requires new { (q : ℕ) → q < length self.old.access →
+            row_at self.old row ≢ access_row self.old q }
+        ensures ok { OnOk result (HasAdded row self.old self.new) }
+        ensures err { OnErr result (self.new ≡ self.old) }
+        ensures table { IsTable self.new }
+    {
+        let letters = usize::from(self.inputs);
+        let word = row_word(self.alloc, self.inputs, &self.access, row)?;
+        self.rows.reserve(letters)?;
+        self.homes.reserve(1)?;
+        self.states.reserve(1)?;
+        self.access.push(word)?;
+        self.homes.push_reserved(row);
+        add_empty(&mut self.rows, letters);
+        add_class(&mut self.states, self.rows[row].class);
+        Ok(())
+    }
+
+    /// Adds a suffix, of which no row has a cell yet.
+    pub(crate) fn add_suffix(&mut self, suffix: &Word) -> Result<(), NoMemory>
+        requires letters { IsWord self.old.inputs suffix.now }
+        requires some { suffix.now ≢ [] }
+        ensures was { IsTable self.old }
+        ensures ok { OnOk result (self.new ≡ with_suffix self.old suffix.now) }
+        ensures err { OnErr result (self.new ≡ self.old) }
+        ensures table { IsTable self.new }
+    {
+        self.suffixes.push(suffix.copy()?)?;
+        Ok(())
+    }
+}
+
+/// Puts rows in the place of those from one on.
+fn replace(rows: &mut Vec<Row>, first: usize, by: &[Row])
+    requires { first + length by.now ≡ length rows.old.items }
+    ensures { rows.new.items ≡ take first rows.old.items ++ by.now }
+{
+    rows[first..].copy_from_slice(by);
+}
+
+/// Adds rows without cells. There is room for them.
+fn add_empty(rows: &mut Vec<Row>, count: usize)
+    requires room { vec_len rows.old + count ≤ vec_capacity rows.old }
+    ensures { rows.new.items ≡ rows.old.items ++ replicate count no_cells }
+{
+    for _ in 0..count {
+        rows.push_reserved(EMPTY);
+    }
+}
+
+/// Lists a class that isn't listed. There is room for it.
+fn add_class(states: &mut IndexSet<usize>, class: usize)
+    requires room { 0 < spare states.old }
+    requires new { ¬ (Contains states.old.keys class) }
+    ensures { states.new.keys ≡ states.old.keys ++ class ∷ [] }
+{
+    let Ok(_) = states.insert(class) else {
+        unreachable!();
+    };
+}
