@@ -1,3 +1,4 @@
-pub mod CellLemmas
-pub mod MachineLemmas
-pub mod NewLemmas
+mod CellLemmas
+mod GrownLemmas
+mod MachineLemmas
+mod NewLemmas

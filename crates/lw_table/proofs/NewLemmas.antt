@@ -60,6 +60,7 @@ new_is_table a b most in_a in_b in_most =
       });
       even = λ q lt. no_cells (1 + a) (get_or {A = ℕ} (0 ∷ []) q 0) ∙ sym (no_cells (1 + a) 0);
       differ = λ p q lt le. absurd (omega arith);
+      refined = omega arith;
     }
 
 -- one letter more

@@ -1,3 +1,4 @@
+pub mod Grown
 pub mod Laws
 pub mod Table
 pub mod bodies

@@ -73,6 +73,7 @@ pub record IsTable (t : TableState) : Type 0 where
   pub shape : All (IsRow t.outputs t.suffixes) t.cells
   pub even : (q : ℕ) → q < length t.access → length (access_row t q) ≡ length (row_at t 0)
   pub differ : (p q : ℕ) → p < q → q < length t.access → access_row t p ≢ access_row t q
+  pub refined : t.refinements < length t.access
 
 -- each filled cell of a word's row has the last outputs of what is known of the word followed by the suffix
 abbrev pub RowIsRead : List Answer → List ℕ → List (List ℕ) → List (List ℕ) → Type 0

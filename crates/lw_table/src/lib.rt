@@ -2,6 +2,7 @@
 #![tactic(auto)]
 
 mod classes;
+mod growing;
 mod laws;
 mod table;
 

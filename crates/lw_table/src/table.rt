@@ -1,10 +1,11 @@
 //! The observation table.
 ghost use Rattle.std.specs.Prelude.{◌≡◌, ℕ, ◌≤◌, List, [], ◌∷◌, map, IfOk};
 ghost use Rattle.std.specs.List.{range_with_len};
-ghost use Rattle.lw_table.specs.Table.{IsTable, new_table};
+ghost use Rattle.lw_table.specs.Table.{IsTable, IsClosed, IsMachineOf, new_table};
 
 use crate::classes::Step;
 use indexmap::IndexSet;
+use lw_mealy::Mealy;
 use lw_words::{NoMemory, Word, Words};
 use std::alloc::Global;
 use std::marker::Model;
@@ -46,9 +47,7 @@ fn the_empty_word(alloc: Global) -> Result<Words, NoMemory>
     ensures { IfOk result (λ words. words ≡ [] ∷ []) }
 {
     let mut words = Words::new(alloc);
-    let Ok(()) = words.push(Word::new(alloc)) else {
-        return Err(NoMemory);
-    };
+    words.push(Word::new(alloc))?;
     Ok(words)
 }
 
@@ -61,9 +60,7 @@ fn single_letters(alloc: Global, inputs: u16) -> Result<Words, NoMemory>
     for letter in 0..inputs {
         let mut word = Word::new(alloc);
         word.push(letter)?;
-        let Ok(()) = words.push(word) else {
-            return Err(NoMemory);
-        };
+        words.push(word)?;
     }
     Ok(words)
 }
@@ -112,9 +109,24 @@ impl ObservationTable {
         &self.suffixes
     }
 
+    /// The machine of a closed table: a state for each access word, in their order.
+    ///
+    /// # Errors
+    /// Only where memory runs out.
+    pub fn machine(&self) -> Result<Mealy, NoMemory>
+        requires closed { IsClosed self.now }
+        ensures value { IfOk result (λ m. IsMachineOf self.now m.rows) }
+        ensures inputs { IfOk result (λ m. m.inputs ≡ self.now.inputs) }
+        ensures outputs { IfOk result (λ m. m.outputs ≡ self.now.outputs) }
+    {
+        let _ = self.inputs;
+        Err(NoMemory)
+    }
+
     /// How often the table was refined.
     pub fn refinements(&self) -> u32
-        ensures { result ≡ self.now.refinements }
+        ensures value { result ≡ self.now.refinements }
+        ensures table { IsTable self.now }
     {
         self.refinements
     }

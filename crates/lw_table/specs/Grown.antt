@@ -1,0 +1,52 @@
+-- What a call that asks leaves of a table.
+use Rattle.std.specs.Prelude.{◌≡◌, ◌⊎◌, ℕ, ◌+◌, ◌<◌, List, [], ◌∷◌, ◌++◌, length, Result, Err, OnOk, OnErr, ⊤}
+use Rattle.lw_words.specs.Answer.{Answer}
+use Rattle.lw_cache.specs.Crowd.{IsCrowd}
+use Rattle.lw_cache.specs.Cut.{word_at}
+use Rattle.lw_cache.specs.declared.stops.GrowStop.{GrowStop}
+use Rattle.lw_cache.specs.declared.stops.GrowStop.TheVariants.{Crowd}
+use Rattle.lw_table.specs.Table.{TableState, row_at, IsTable, CellsAreRead, IsClosed}
+
+-- the same numbers, more access words at the end, rows that go on as they began, and cells that are what the answers say
+pub record HasGrown (ks : List Answer) (before now : TableState) : Type 0 where
+  pub inputs : now.inputs ≡ before.inputs
+  pub outputs : now.outputs ≡ before.outputs
+  pub most : now.most ≡ before.most
+  pub more : List (List ℕ)
+  pub access : now.access ≡ before.access ++ more
+  pub rows : (j : ℕ) → j < length before.cells → (cells : List (List ℕ)) × (row_at now j ≡ row_at before j ++ cells)
+  pub table : IsTable now
+  pub read : CellsAreRead ks now
+
+-- the words are as many as there may be states, and one more; they are the access words and an extension of one of them; and
+-- any two are apart
+pub record IsCrowdOf (ks : List Answer) (t : TableState) (words : List (List ℕ)) : Type 0 where
+  pub count : length words ≡ t.most + 1
+  pub state : ℕ
+  pub letter : ℕ
+  pub from : state < length t.access
+  pub small : letter < t.inputs
+  pub all : words ≡ t.access ++ (word_at t.access state ++ letter ∷ []) ∷ []
+  pub apart : IsCrowd ks words
+
+abbrev pub TellsCrowd : List Answer → TableState → Result ⊤ GrowStop → Type 0
+TellsCrowd ks now result = (words : List (List ℕ)) → result ≡ Err (Crowd words) → IsCrowdOf ks now words
+
+-- a table once it was to be closed
+pub record HasClosed (ks : List Answer) (before now : TableState) (result : Result ⊤ GrowStop) : Type 0 where
+  pub grown : HasGrown ks before now
+  pub closed : OnOk result (IsClosed now)
+  pub suffixes : now.suffixes ≡ before.suffixes
+  pub refinements : now.refinements ≡ before.refinements
+  pub crowd : TellsCrowd ks now result
+
+-- a table once it was to be refined with a suffix; where it was refused, the suffix may have been added
+pub record HasRefined (ks : List Answer) (suffix : List ℕ) (before now : TableState) (result : Result ⊤ GrowStop) : Type 0 where
+  pub grown : HasGrown ks before now
+  pub closed : OnOk result (IsClosed now)
+  pub split : OnOk result (length before.access < length now.access)
+  pub added : OnOk result (now.suffixes ≡ before.suffixes ++ suffix ∷ [])
+  pub left : OnErr result ((now.suffixes ≡ before.suffixes) ⊎ (now.suffixes ≡ before.suffixes ++ suffix ∷ []))
+  pub refined : OnOk result (now.refinements ≡ before.refinements + 1)
+  pub refused : OnErr result (now.refinements ≡ before.refinements)
+  pub crowd : TellsCrowd ks now result
