@@ -1,0 +1,3 @@
+mod ConformanceLemmas
+mod DifferenceLemmas
+mod StopLemmas

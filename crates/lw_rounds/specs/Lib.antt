@@ -1,0 +1,3 @@
+pub mod Learned
+pub mod Stops
+pub mod bodies
