@@ -1,21 +1,21 @@
 -- What answers that were gained say of a machine.
-use Rattle.std.proofs.Common.{◌≡◌, refl, ℕ, ◌+◌, ◌<◌, ⊎_elim, List, [], ◌++◌, length, take, drop, map, get_or, Option, Some, None, MatchOption, Contains, Bool, true, ap, sym, ◌∙◌, subst, arith, append-nil, append_assoc}
+use Rattle.std.proofs.Common.{◌≡◌, refl, ℕ, ◌+◌, ◌<◌, ⊎_elim, List, [], ◌++◌, length, take, drop, Option, Some, None, Contains, ap, sym, ◌∙◌, subst, arith, append-nil, append_assoc}
 use Rattle.std.specs.List.{All}
 use Rattle.std.proofs.lemmas.List.{length-append, length-map, length-take, map-append, get_or-append-add, take-append-drop}
-use Rattle.std.proofs.lemmas.List.Elements.{All-nil, All-append, All-map, All-weaker, All-contains, All-get_or, All-from_get_or, All-take, All-drop}
+use Rattle.std.proofs.lemmas.List.Elements.{All-nil, All-append, All-map, All-weaker, All-contains, All-get_or, All-from_get_or, All-drop}
 use Rattle.lw_words.specs.Answer.{Answer, AreAnswers, answer_at, answer_of, answers_of}
 use Rattle.lw_words.specs.Word.{IsWord}
 use Rattle.lw_words.specs.declared.kept.KeptAnswer.{KeptAnswer}
 use Rattle.lw_mealy.specs.Machine.{Rows, answer}
 use Rattle.lw_mealy.specs.Gives.{Gives}
 use Rattle.lw_separate.proofs.CrowdLemmas.{same_or_not}
-use Rattle.lw_cache.specs.Against.{Differs, DiffersFirst}
+use Rattle.lw_cache.specs.Against.{DiffersFirst}
 use Rattle.lw_cache.specs.Clash.{NothingClashes}
 use Rattle.lw_cache.specs.Known.{IsKnown, Reads}
 use Rattle.lw_cache.proofs.ClashLemmas.{all_are_clear}
 use Rattle.lw_cache.proofs.KnownLemmas.{known_is_read, reads_once}
 use Rattle.lw_cache.proofs.ReadLemmas.{own_is_read, reads_more}
-use Rattle.lw_rounds.specs.bodies.Conformance.{AgreesOn, IsFirstShortest, FindsFirst, Passes, Comes}
+use Rattle.lw_rounds.specs.bodies.Conformance.{AgreesOn, FindsFirst, Passes, Comes}
 
 -- where nothing clashes each answer is read of its own word
 own : (a : ℕ) (ks : List Answer) → AreAnswers a ks → NothingClashes ks → (i : ℕ) → i < length ks → Reads ks (answer_at ks i).word (answer_at ks i).outs

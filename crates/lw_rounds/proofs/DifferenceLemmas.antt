@@ -1,15 +1,14 @@
 -- The shortest front of a known word on which a machine differs.
-use Rattle.std.proofs.Common.{◌≡◌, ℕ, ◌+◌, ◌<◌, ◌≤◌, List, [], ◌++◌, length, take, drop, get_or, Option, Some, None, ap, sym, ◌∙◌, subst, arith}
-use Rattle.std.specs.List.{All, AllWithin}
+use Rattle.std.proofs.Common.{◌≡◌, ℕ, ◌+◌, ◌<◌, ◌≤◌, List, length, take, drop, get_or, ap, sym, ◌∙◌, subst, arith}
 use Rattle.std.proofs.lemmas.List.{length-take-le, get_or-take, take-append-drop}
-use Rattle.lw_words.specs.Answer.{Answer, AreAnswers}
+use Rattle.lw_words.specs.Answer.{Answer}
 use Rattle.lw_mealy.specs.Machine.{Rows, answer}
 use Rattle.lw_mealy.specs.Difference.{DifferFirst}
 use Rattle.lw_mealy.proofs.WordLemmas.{length-out, out-take}
 use Rattle.lw_cache.specs.Against.{Differs}
 use Rattle.lw_cache.specs.Known.{Reads}
 use Rattle.lw_cache.proofs.ReadLemmas.{read_front}
-use Rattle.lw_rounds.specs.bodies.Conformance.{AgreesOn, IsShortest}
+use Rattle.lw_rounds.specs.bodies.Conformance.{IsShortest}
 
 module _ (h : Rows) (ks : List Answer) (word outs : List ℕ) (read : Reads ks word outs) where
   -- the front of so many letters is read as the first outputs

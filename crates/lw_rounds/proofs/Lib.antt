@@ -1,3 +1,8 @@
+mod CanonicalLemmas
 mod ConformanceLemmas
 mod DifferenceLemmas
+mod HypothesisLemmas
+mod LawLemmas
+mod ReadLemmas
+mod RoundLemmas
 mod StopLemmas

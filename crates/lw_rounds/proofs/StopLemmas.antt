@@ -1,6 +1,6 @@
 -- What a learning leaves of its oracle, by its stop.
 use Rattle.std.proofs.Common.{◌≡◌, Option, Some, None, Result, Ok, Err, IsErrAnd, refl, ap, sym, ◌∙◌, subst}
-use Rattle.lw_cache.specs.Settling.{OracleState, Leaves, asked_stop, grown_stop}
+use Rattle.lw_cache.specs.Settling.{OracleState, Leaves, grown_stop}
 use Rattle.lw_cache.specs.declared.stops.AskStop.{AskStop}
 use Rattle.lw_cache.specs.declared.stops.AskStop.TheVariants.{NoMemory}
 use Rattle.lw_cache.specs.declared.stops.GrowStop.{GrowStop}
@@ -32,3 +32,15 @@ leaves_learn_own before now result leaves is = subst (Leaves before now) (sym (t
 -- a stop of the oracle that is handed on
 pub leaves_learn_asked : {X : Type 0} (before now : OracleState) (stop : AskStop) (result : Result X LearnStop) → Leaves before now (Some stop) → IsErrAnd result (λ e. e ≡ learn.Ask stop) → Leaves before now (learn_stop result)
 leaves_learn_asked before now stop result leaves is = subst (Leaves before now) (sym (told_stop (learn.Ask stop) result is)) leaves
+
+-- the stop of a table that grew
+grown_is : (X : Type 0) (stop : GrowStop) → grown_stop {X = X} (Err stop) ≡ stop_of (of_growth stop)
+grown_is X (grow.Ask stop) = refl
+grown_is X (grow.Crowd words) = refl
+
+pub leaves_learn_grown : {X : Type 0} (Y : Type 0) (before now : OracleState) (stop : GrowStop) (result : Result X LearnStop) → Leaves before now (grown_stop {X = Y} (Err stop)) → IsErrAnd result (λ e. e ≡ of_growth stop) → Leaves before now (learn_stop result)
+leaves_learn_grown Y before now stop result leaves is = subst (Leaves before now) (grown_is Y stop ∙ sym (told_stop (of_growth stop) result is)) leaves
+
+-- a stop of the learning that is handed on
+pub leaves_learn_handed : {X : Type 0} (Y : Type 0) (before now : OracleState) (stop : LearnStop) (result : Result X LearnStop) → Leaves before now (learn_stop {X = Y} (Err stop)) → IsErrAnd result (λ e. e ≡ stop) → Leaves before now (learn_stop result)
+leaves_learn_handed Y before now stop result leaves is = subst (Leaves before now) (err_stop Y stop ∙ sym (told_stop stop result is)) leaves

@@ -5,7 +5,6 @@ use Rattle.lw_words.specs.Answer.{Answer}
 use Rattle.lw_mealy.specs.Gives.{Gives}
 use Rattle.lw_mealy.specs.Limits.{MealyMachine, IsWithinLimits}
 use Rattle.lw_mealy.specs.Machine.{Rows}
-use Rattle.lw_mealy.specs.Minimal.{IsMinimal}
 use Rattle.lw_cache.specs.Crowd.{IsCrowd}
 use Rattle.lw_separate.specs.Canonical.{IsCanonical}
 use Rattle.lw_suite.specs.Size.{suite_size, greatest_suite}

@@ -3,10 +3,14 @@
 
 mod conformance;
 mod difference;
+mod hypothesis;
+mod laws;
 mod learned;
 mod learning;
+mod rounds;
 mod stops;
 
+pub use laws::{model_is_canonical, model_is_least, too_large_is_least, too_many_is_none};
 pub use learned::{Kind, Learned};
 pub use learning::learn;
 pub use stops::LearnStop;

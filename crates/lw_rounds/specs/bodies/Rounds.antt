@@ -1,19 +1,23 @@
 -- The rounds: what is so of an oracle and a table between them, and what a test comes to.
-use Rattle.std.specs.Prelude.{◌≡◌, ℕ, ◌<◌, List, length}
+use Rattle.std.specs.Prelude.{◌≡◌, ℕ, List, length}
 use Rattle.lw_words.specs.Answer.{Answer, answers_of}
-use Rattle.lw_mealy.specs.Machine.{Rows}
 use Rattle.lw_mealy.specs.Limits.{MealyMachine}
 use Rattle.lw_cache.specs.Against.{Differs}
 use Rattle.lw_cache.specs.Clash.{NothingClashes}
 use Rattle.lw_cache.specs.Crowd.{IsCrowd}
 use Rattle.lw_cache.specs.Settling.{OracleState, Keeps, MayAsk}
 use Rattle.lw_separate.specs.Canonical.{IsCanonical}
+use Rattle.lw_cache.specs.declared.stops.AskStop.TheVariants.{NoMemory}
+use Rattle.lw_cache.specs.declared.stops.GrowStop.{GrowStop}
+use Rattle.lw_cache.specs.declared.stops.GrowStop.TheVariants as grow
+use Rattle.lw_suite.specs.declared.suite.SuiteFault.{SuiteFault}
+use Rattle.lw_suite.specs.declared.suite.SuiteFault.TheVariants as fault
 use Rattle.lw_table.specs.Table.{TableState, IsTable, CellsAreRead, IsClosed}
-use Rattle.lw_rounds.specs.Learned.{IsCertified, IsTooLarge}
+use Rattle.lw_rounds.specs.Learned.{IsCertified, IsTooLarge, IsTooMany}
 use Rattle.lw_rounds.specs.declared.stops.LearnStop.{LearnStop}
 use Rattle.lw_rounds.specs.declared.stops.LearnStop.TheVariants as learn
-use Rattle.lw_rounds.specs.declared.conformance.Tested.{Tested}
-use Rattle.lw_rounds.specs.declared.conformance.Tested.TheVariants as tested
+use Rattle.lw_rounds.specs.declared.hypothesis.Tested.{Tested}
+use Rattle.lw_rounds.specs.declared.hypothesis.Tested.TheVariants as tested
 
 -- so many words are pairwise apart
 pub record HasCrowd (ks : List Answer) (n : ℕ) : Type 0 where
@@ -36,6 +40,16 @@ abbrev pub StopsTest : ℕ → ℕ → ℕ → List Answer → LearnStop → Typ
 StopsTest a b k ks (learn.Ask stop) = Unit {0}
 StopsTest a b k ks (learn.Crowd words) = ⊥
 StopsTest a b k ks (learn.TooLarge model number) = IsTooLarge a b k ks model number
+
+-- what is so where a table that was to be refined stops
+abbrev pub StopsGrowth : ℕ → List Answer → GrowStop → Type 0
+StopsGrowth most ks (grow.Ask stop) = Unit {0}
+StopsGrowth most ks (grow.Crowd words) = IsTooMany most ks words
+
+-- why there is no suite of a model is why a test stops
+abbrev pub of_fault : MealyMachine → SuiteFault → LearnStop
+of_fault model (fault.TooLarge number) = learn.TooLarge model number
+of_fault model fault.NoMemory = learn.Ask NoMemory
 
 -- an oracle that may be asked, and a closed table over what it knows
 pub record IsReady (o : OracleState) (t : TableState) : Type 0 where

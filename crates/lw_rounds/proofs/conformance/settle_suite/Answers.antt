@@ -1,12 +1,10 @@
 use Rattle.std.proofs.Common.{List, ℕ, None, rules, sym, refl, ◌∙◌, subst, arith}
 use Rattle.std.specs.List.{All}
 use Rattle.std.proofs.lemmas.List.Elements.{All-take}
-use Rattle.lw_words.specs.Answer.{answers_of}
 use Rattle.lw_words.specs.Word.{IsWord}
-use Rattle.lw_cache.proofs.SettlingLemmas.{leaves_handed, leaves_nothing, leaves_then}
-use Rattle.lw_certify.proofs.CertifyLemmas.{fewer, nothing_left}
-use Rattle.lw_rounds.specs.bodies.Conformance.{Passes}
-use Rattle.lw_rounds.proofs.ConformanceLemmas.{few_in_chunk, settled_none, settled_more, settled_all}
+use Rattle.lw_cache.proofs.SettlingLemmas.{leaves_handed, leaves_then}
+use Rattle.lw_certify.proofs.CertifyLemmas.{fewer}
+use Rattle.lw_rounds.proofs.ConformanceLemmas.{few_in_chunk, settled_more}
 use Rattle.lw_rounds.proofs.conformance.settle_suite.Goals as goal
 
 pub settle_words-requires-clause-nothing : goal.settle_words-requires-clause-nothing
@@ -14,7 +12,7 @@ settle_words-requires-clause-nothing g c = c.loop-chunk.invariant.leaves.unclash
 
 pub settle_words-requires-clause-letters : goal.settle_words-requires-clause-letters
 settle_words-requires-clause-letters g c =
-    let a = c.args.machine.now.inputs in
+    let a = c.args.hypothesis.now.inputs in
     subst (λ (words : List (List ℕ)). All (IsWord a) words) (sym (c.as_slice.ensures.value ∙ c.in_ok-next_chunk.ensures.chunk)) (All-take (IsWord a) 512 c.loop-chunk.suite c.loop-chunk.invariant.settled.letters)
 
 pub settle_words-requires-clause-few : goal.settle_words-requires-clause-few
@@ -37,10 +35,10 @@ loop-chunk-preserved g c =
     let start = g.O.Oracle.state c.args.oracle.now in
     let before = g.O.Oracle.state c.loop-chunk.oracle in
     let now = g.O.Oracle.state c.settle_words.new.oracle in
-    let h = c.args.machine.now.rows in
+    let h = c.args.hypothesis.now.rows in
     let leaves = c.in_ok-word.ensures.leaves in
     record {
-      settled = settled_more c.args.machine.now.inputs h before.kept leaves.gained now.kept c.args.suite c.loop-chunk.suite c.as_slice.result.now c.next_chunk.new.self 512 leaves.at_end
+      settled = settled_more c.args.hypothesis.now.inputs h before.kept leaves.gained now.kept c.args.suite c.loop-chunk.suite c.as_slice.result.now c.next_chunk.new.self 512 leaves.at_end
           (c.as_slice.ensures.value ∙ c.in_ok-next_chunk.ensures.chunk) c.in_ok-next_chunk.ensures.left c.loop-chunk.invariant.settled (rw c.in_default.is at c.in_ok-word.ensures.comes);
       leaves = leaves_then start before now None c.loop-chunk.invariant.leaves leaves;
       can = c.settle_words.ensures.can;

@@ -6,7 +6,7 @@ use Rattle.lw_rounds.proofs.conformance.settle_suite.Given as goal
 
 abbrev pub invariant-loop-chunk : goal.invariant-loop-chunk
 invariant-loop-chunk g l = record {
-  settled : HasSettled l.machine.inputs l.machine.rows (answers_of (g.O.Oracle.state l.oracle).kept) l.fn.suite l.suite;
+  settled : HasSettled l.hypothesis.inputs l.hypothesis.rows (answers_of (g.O.Oracle.state l.oracle).kept) l.fn.suite l.suite;
   leaves : Leaves (g.O.Oracle.state l.initial.oracle) (g.O.Oracle.state l.oracle) None;
   can : g.O.Oracle.can_settle l.oracle;
 }

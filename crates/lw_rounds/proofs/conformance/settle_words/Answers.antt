@@ -10,8 +10,8 @@ pub returns-clause-comes : goal.returns-clause-comes
 returns-clause-comes g c =
     let before = g.O.Oracle.state c.args.oracle.now in
     let now = g.O.Oracle.state c.settle.new.self in
-    let a = c.args.machine.now.inputs in
-    let h = c.args.machine.now.rows in
+    let a = c.args.hypothesis.now.inputs in
+    let h = c.args.hypothesis.now.rows in
     let s = c.in_ok-settle.ensures.settles in
     comes h (answers_of now.kept) c.args.words.now c.in_ok-first_difference.field-0
     (λ agrees. record {
