@@ -14,3 +14,6 @@ pub use laws::{model_is_canonical, model_is_least, too_large_is_least, too_many_
 pub use learned::{Kind, Learned};
 pub use learning::learn;
 pub use stops::LearnStop;
+
+#[cfg(test)]
+mod tests;
