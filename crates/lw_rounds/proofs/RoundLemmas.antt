@@ -58,6 +58,9 @@ growth_stops ks before now (Err (grow.Crowd words)) most tells =
     let crowd = tells words refl in
     record { count = crowd.count ∙ ap (λ (n : ℕ). n + 1) most; crowd = crowd.apart }
 
+pub closing_stops : (ks : List Answer) (most : ℕ) (before now : TableState) (stop : GrowStop) → before.most ≡ most → now.most ≡ before.most → TellsCrowd ks now (Err stop) → StopsGrowth most ks stop
+closing_stops ks most before now stop same stays tells = subst (λ (n : ℕ). StopsGrowth n ks stop) same (growth_stops ks before now (Err stop) stays tells)
+
 pub growth_as : (a b k most : ℕ) (ks : List Answer) (stop : GrowStop) → StopsGrowth most ks stop → StopsAs a b k most ks (of_growth stop)
 growth_as a b k most ks (grow.Ask stop) is = tt
 growth_as a b k most ks (grow.Crowd words) is = is

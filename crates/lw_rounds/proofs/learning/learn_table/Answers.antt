@@ -1,4 +1,4 @@
-use Rattle.std.proofs.Common.{Err, None, Ok, rules, ap, subst, ◌∙◌}
+use Rattle.std.proofs.Common.{None, Ok, rules, ap, ◌∙◌}
 use Rattle.std.specs.Prelude.{⊤}
 use Rattle.lw_words.specs.Answer.{answers_of}
 use Rattle.lw_mealy.specs.Limits.{MealyMachine}
@@ -6,9 +6,8 @@ use Rattle.lw_cache.proofs.SettlingLemmas.{leaves_then}
 use Rattle.lw_table.specs.Table.{TableState}
 use Rattle.lw_rounds.specs.Learned.{StopsAs}
 use Rattle.lw_rounds.specs.Stops.{of_growth}
-use Rattle.lw_rounds.specs.bodies.Rounds.{StopsGrowth}
 use Rattle.lw_rounds.proofs.StopLemmas.{leaves_learn_grown, leaves_learn_handed}
-use Rattle.lw_rounds.proofs.RoundLemmas.{growth_stops, growth_as, ready_after, told_stops}
+use Rattle.lw_rounds.proofs.RoundLemmas.{closing_stops, growth_as, ready_after, told_stops}
 use Rattle.lw_rounds.proofs.learning.learn_table.Goals as goal
 
 pub returns-in_err-close-clause-stops : goal.returns-in_err-close-clause-stops
@@ -18,7 +17,7 @@ returns-in_err-close-clause-stops g c =
     let closes = c.in_err-close.ensures.closes in
     told_stops (StopsAs c.args.inputs c.args.outputs c.args.extra c.args.max_states ks) (of_growth stop) c.from_residual-in_err-close.result (search rules)
     (growth_as c.args.inputs c.args.outputs c.args.extra c.args.max_states ks stop
-    (subst (λ (t : TableState). StopsGrowth t.most ks stop) c.in_ok-table.ensures.value (growth_stops ks c.in_ok-table.table c.close.new.self (Err stop) closes.grown.most closes.crowd)))
+    (closing_stops ks c.args.max_states c.in_ok-table.table c.close.new.self stop (ap (λ (t : TableState). t.most) c.in_ok-table.ensures.value) closes.grown.most closes.crowd))
 
 pub returns-in_err-close-clause-leaves : goal.returns-in_err-close-clause-leaves
 returns-in_err-close-clause-leaves g c =
