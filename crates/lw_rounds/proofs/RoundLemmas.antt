@@ -11,7 +11,7 @@ use Rattle.lw_cache.specs.declared.stops.GrowStop.{GrowStop}
 use Rattle.lw_cache.specs.declared.stops.GrowStop.TheVariants as grow
 use Rattle.lw_cache.proofs.SettlingLemmas.{kept_are_answers}
 use Rattle.lw_separate.specs.Canonical.{IsCanonical}
-use Rattle.lw_table.specs.Table.{TableState, IsClosed, IsMachineOf}
+use Rattle.lw_table.specs.Table.{TableState, IsClosed, IsMachineOf, new_table}
 use Rattle.lw_table.specs.Grown.{HasGrown, TellsCrowd}
 use Rattle.lw_table.specs.Laws.{AccessIsCrowd}
 use Rattle.lw_rounds.specs.Learned.{IsCertified, IsLearned, StopsAs}
@@ -58,8 +58,9 @@ growth_stops ks before now (Err (grow.Crowd words)) most tells =
     let crowd = tells words refl in
     record { count = crowd.count ∙ ap (λ (n : ℕ). n + 1) most; crowd = crowd.apart }
 
-pub closing_stops : (ks : List Answer) (most : ℕ) (before now : TableState) (stop : GrowStop) → before.most ≡ most → now.most ≡ before.most → TellsCrowd ks now (Err stop) → StopsGrowth most ks stop
-closing_stops ks most before now stop same stays tells = subst (λ (n : ℕ). StopsGrowth n ks stop) same (growth_stops ks before now (Err stop) stays tells)
+-- where a table that was just made is closed
+pub closing_stops : (a b most : ℕ) (ks : List Answer) (before now : TableState) (stop : GrowStop) → before ≡ new_table a b most → now.most ≡ before.most → TellsCrowd ks now (Err stop) → StopsGrowth most ks stop
+closing_stops a b most ks before now stop fresh stays tells = subst (λ (t : TableState). StopsGrowth t.most ks stop) fresh (growth_stops ks before now (Err stop) stays tells)
 
 pub growth_as : (a b k most : ℕ) (ks : List Answer) (stop : GrowStop) → StopsGrowth most ks stop → StopsAs a b k most ks (of_growth stop)
 growth_as a b k most ks (grow.Ask stop) is = tt

@@ -17,7 +17,7 @@ returns-in_err-close-clause-stops g c =
     let closes = c.in_err-close.ensures.closes in
     told_stops (StopsAs c.args.inputs c.args.outputs c.args.extra c.args.max_states ks) (of_growth stop) c.from_residual-in_err-close.result (search rules)
     (growth_as c.args.inputs c.args.outputs c.args.extra c.args.max_states ks stop
-    (closing_stops ks c.args.max_states c.in_ok-table.table c.close.new.self stop (ap (λ (t : TableState). t.most) c.in_ok-table.ensures.value) closes.grown.most closes.crowd))
+    (closing_stops c.args.inputs c.args.outputs c.args.max_states ks c.in_ok-table.table c.close.new.self stop c.in_ok-table.ensures.value closes.grown.most closes.crowd))
 
 pub returns-in_err-close-clause-leaves : goal.returns-in_err-close-clause-leaves
 returns-in_err-close-clause-leaves g c =
