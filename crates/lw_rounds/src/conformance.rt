@@ -31,12 +31,11 @@ fn settle_words<O: Oracle>(
     requires gives { Gives hypothesis.now.rows (answers_of (O.state oracle.old).kept) }
     ensures comes { IfOk result (Comes hypothesis.now.rows (answers_of (O.state oracle.new).kept)
         words.now) }
-    ensures first { IfOk result (FindsFirst hypothesis.now.rows (answers_of (O.state oracle.new).kept)
-        words.now) }
+    ensures first { IfOk result (FindsFirst hypothesis.now.rows
+        (answers_of (O.state oracle.new).kept) words.now) }
     ensures leaves { Leaves (O.state oracle.old) (O.state oracle.new) (asked_stop result) }
     ensures can { O.can_settle oracle.new }
 {
-    let _ = hypothesis.inputs();
     oracle.settle(words)?;
     Ok(first_difference(oracle.cache(), hypothesis, words)?)
 }

@@ -43,6 +43,7 @@ fn certified(alloc: Global, model: Mealy, cache: &Cache, extra: u8) -> Result<Me
     ensures certified { IfOk result (IsCertified model.inputs model.outputs extra
         (answers_of cache.now.kept)) }
 {
+    // The model tells that it is within the limits.
     let _ = model.inputs();
     let verdict = certify(alloc, &model, cache, extra)?;
     match verdict {
@@ -119,6 +120,7 @@ fn test_by_suite<O: Oracle>(
     ensures leaves { Leaves (O.state oracle.old) (O.state oracle.new) (learn_stop result) }
     ensures can { O.can_settle oracle.new }
 {
+    // The hypothesis tells that it is a machine.
     let _ = hypothesis.inputs();
     let model = canonical(alloc, hypothesis)?;
     match Suite::new(alloc, &model, extra) {

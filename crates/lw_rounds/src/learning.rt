@@ -39,6 +39,7 @@ fn learn_table<O: Oracle>(
     ensures can { O.can_settle oracle.new }
 {
     new_is_read();
+    // The cache tells that its answers are over the inputs and outputs.
     let _ = oracle.cache();
     let mut table = ObservationTable::new(alloc, inputs, outputs, max_states)?;
     table.close(oracle)?;

@@ -38,6 +38,7 @@ fn refine<O: Oracle>(
     ensures leaves { Leaves (O.state oracle.old) (O.state oracle.new) (grown_stop result) }
     ensures can { O.can_settle oracle.new }
 {
+    // The laws of a closed table say what a cut asks of its access words.
     access_leads();
     machine_gives_cells();
     let cut = split(oracle, alloc, hypothesis, table.access(), word)?;
@@ -66,8 +67,10 @@ fn round<O: Oracle>(
     ensures leaves { Leaves (O.state oracle.old) (O.state oracle.new) (learn_stop result) }
     ensures can { O.can_settle oracle.new }
 {
+    // The access words are the crowd that a test asks for.
     access_is_crowd();
     let hypothesis = table.machine()?;
+    // The hypothesis tells that it is a machine.
     let _ = hypothesis.inputs();
     match test(oracle, alloc, &hypothesis, extra)? {
         Tested::Differs(word) => {
