@@ -1,7 +1,9 @@
 -- What the answers of a learning mean.
-use Rattle.std.proofs.Common.{ℕ, ◌≤◌, length, sym, subst, arith}
+use Rattle.std.proofs.Common.{ℕ, ◌+◌, ◌*◌, ◌≤◌, length, sym, subst, arith}
+use Rattle.std.proofs.Math.Nat.{mul-le-mul_right}
+use Rattle.lw_suite.specs.Size.{powers, suite_size}
 use Rattle.lw_cache.proofs.CrowdLemmas.{crowd_needs_states}
-use Rattle.lw_rounds.specs.Laws.{ModelIsCanonical, ModelIsLeast, TooManyIsNone, TooLargeIsLeast}
+use Rattle.lw_rounds.specs.Laws.{ModelIsCanonical, ModelIsLeast, TooManyIsNone, TooLargeIsLeast, TooLargeForAll}
 
 pub model_is_canonical : ModelIsCanonical
 model_is_canonical a b k most ks model table is m machine few gives =
@@ -29,3 +31,15 @@ too_many_is_none a most ks words are is m machine few gives =
 pub too_large_is_least : TooLargeIsLeast
 too_large_is_least a b k ks model number are is m machine gives =
     subst (λ (n : ℕ). n ≤ length m) is.each (crowd_needs_states a m ks is.words machine are gives is.crowd)
+
+size_rises : (n m a k : ℕ) → n ≤ m → suite_size n a k ≤ suite_size m a k
+size_rises n m a k le =
+    let one : n * n ≤ m * n = mul-le-mul_right n le in
+    let other : n * m ≤ m * m = mul-le-mul_right m le in
+    let squares : n * n ≤ m * m = omega arith in
+    mul-le-mul_right (powers a (k + 1)) squares
+
+pub too_large_for_all : TooLargeForAll
+too_large_for_all a b k ks model number are is m machine gives =
+    let rises = size_rises (length model.rows) (length m) a k (too_large_is_least a b k ks model number are is m machine gives) in
+    omega (arith, is.size, is.large, rises)

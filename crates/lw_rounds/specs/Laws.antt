@@ -1,10 +1,11 @@
 -- What the answers of a learning mean for the machines that give the kept answers.
-use Rattle.std.specs.Prelude.{ℕ, ◌+◌, ◌≤◌, List, length}
+use Rattle.std.specs.Prelude.{ℕ, ◌+◌, ◌<◌, ◌≤◌, List, length}
 use Rattle.lw_words.specs.Answer.{Answer, AreAnswers}
 use Rattle.lw_mealy.specs.Gives.{Gives}
 use Rattle.lw_mealy.specs.Limits.{MealyMachine}
 use Rattle.lw_mealy.specs.Machine.{Rows, IsMachine}
 use Rattle.lw_separate.specs.Canonical.{IsCanonical}
+use Rattle.lw_suite.specs.Size.{suite_size, greatest_suite}
 use Rattle.lw_table.specs.Table.{TableState}
 use Rattle.lw_rounds.specs.Learned.{IsLearned, IsTooMany, IsTooLarge}
 
@@ -23,3 +24,7 @@ TooManyIsNone = (a most : ℕ) (ks : List Answer) (words : List (List ℕ)) → 
 -- where a suite is too large, no machine of fewer states than the model gives the answers
 abbrev pub TooLargeIsLeast : Type 0
 TooLargeIsLeast = (a b k : ℕ) (ks : List Answer) (model : MealyMachine) (number : ℕ) → AreAnswers a ks → IsTooLarge a b k ks model number → (m : Rows) → IsMachine a m → Gives m ks → length model.rows ≤ length m
+
+-- and a suite for each machine that gives them would be as large
+abbrev pub TooLargeForAll : Type 0
+TooLargeForAll = (a b k : ℕ) (ks : List Answer) (model : MealyMachine) (number : ℕ) → AreAnswers a ks → IsTooLarge a b k ks model number → (m : Rows) → IsMachine a m → Gives m ks → greatest_suite < suite_size (length m) a k

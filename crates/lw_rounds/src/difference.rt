@@ -1,5 +1,5 @@
 //! Where a model differs from what is read.
-ghost use Rattle.std.specs.Prelude.{◌≡◌, IfOk};
+ghost use Rattle.std.specs.Prelude.{IfOk};
 ghost use Rattle.std.specs.List.{All};
 ghost use Rattle.lw_words.specs.Answer.{answer_of, answers_of, IsAnswer};
 ghost use Rattle.lw_words.specs.Word.{IsWord};

@@ -10,7 +10,9 @@ mod learning;
 mod rounds;
 mod stops;
 
-pub use laws::{model_is_canonical, model_is_least, too_large_is_least, too_many_is_none};
+pub use laws::{
+    model_is_canonical, model_is_least, too_large_for_all, too_large_is_least, too_many_is_none,
+};
 pub use learned::{Kind, Learned};
 pub use learning::learn;
 pub use stops::LearnStop;

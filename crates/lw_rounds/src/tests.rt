@@ -2,8 +2,8 @@
 ghost use Rattle.std.specs.Prelude.{◌≡◌, IfOk};
 
 use crate::{
-    Kind, LearnStop, Learned, learn, model_is_canonical, model_is_least, too_large_is_least,
-    too_many_is_none,
+    Kind, LearnStop, Learned, learn, model_is_canonical, model_is_least, too_large_for_all,
+    too_large_is_least, too_many_is_none,
 };
 use lw_cache::Oracle;
 use lw_mealy::Mealy;
@@ -195,4 +195,5 @@ fn the_laws() {
     model_is_least();
     too_many_is_none();
     too_large_is_least();
+    too_large_for_all();
 }
