@@ -1,4 +1,5 @@
 pub mod EachLemmas
+pub mod LetterLemmas
 pub mod MiddleLemmas
 pub mod PlaceLemmas
 pub mod SizeLemmas

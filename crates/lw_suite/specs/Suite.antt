@@ -1,7 +1,8 @@
 -- The suite of the W-method: words that tell a machine from every other of at most so many states more.
 -- Source: Vasilevskii (1973) and Chow (1978); the order of the words is this project's.
 use Rattle.std.specs.Prelude.{◌≡◌, ℕ, zero, suc, ◌+◌, List, [], ◌∷◌, ◌++◌, map}
-use Rattle.std.specs.List.{flat_map, range_with_len}
+use Rattle.std.specs.List.{All, flat_map, range_with_len}
+use Rattle.lw_words.specs.Word.{IsWord}
 use Rattle.lw_mealy.specs.Machine.{Rows}
 use Rattle.lw_separate.specs.Least.{AreLeastAccess}
 use Rattle.lw_separate.specs.Separators.{IsSeparators}
@@ -36,3 +37,7 @@ pub record IsSuite (a : ℕ) (m : Rows) (k : ℕ) (suite : List (List ℕ)) : Ty
 -- a machine has one suite at most
 abbrev pub OneSuite : Type 0
 OneSuite = (a : ℕ) (m : Rows) (k : ℕ) (s t : List (List ℕ)) → IsSuite a m k s → IsSuite a m k t → s ≡ t
+
+-- the words of a machine's suite are words over its letters
+abbrev pub SuiteIsOfWords : Type 0
+SuiteIsOfWords = (a : ℕ) (m : Rows) (k : ℕ) (suite : List (List ℕ)) → IsSuite a m k suite → All (IsWord a) suite

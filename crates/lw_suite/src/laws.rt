@@ -1,7 +1,12 @@
 //! Laws about the definitions alone, with no code.
-ghost use Rattle.lw_suite.specs.Suite.{OneSuite};
+ghost use Rattle.lw_suite.specs.Suite.{OneSuite, SuiteIsOfWords};
 
 /// Two suites of one machine are one.
 pub fn suite_is_unique()
     ensures { OneSuite }
+{}
+
+/// The words of a suite are words over the machine's letters.
+pub fn suite_is_of_words()
+    ensures { SuiteIsOfWords }
 {}

@@ -1,7 +1,7 @@
 //! Suites worked by hand, their chunks, and drawn machines beside the plain body.
 ghost use Rattle.std.specs.Prelude.{◌≤◌};
 
-use crate::{Suite, SuiteFault, suite_is_unique, suite_size};
+use crate::{Suite, SuiteFault, suite_is_of_words, suite_is_unique, suite_size};
 use lw_mealy::Mealy;
 use lw_separate::canonical;
 use lw_words::{Word, Words};
@@ -63,6 +63,7 @@ fn a_suite_in_three_chunks(rt: HostRuntime) -> Result<(), Fail> {
     assert_eq!(rt; words.get(512).as_slice(), [0, 2, 2, 2, 3].as_slice());
     assert_eq!(rt; words.get(1024).as_slice(), [2, 2, 2, 2, 3].as_slice());
     suite_is_unique();
+    suite_is_of_words();
     Ok(())
 }
 

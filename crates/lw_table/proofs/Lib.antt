@@ -1,13 +1,13 @@
 mod AccessLemmas
-mod CellLemmas
+pub mod CellLemmas
 mod CloseLemmas
 mod FillLemmas
 mod FilledLemmas
 mod GrownLemmas
 mod IndexLemmas
 mod ListingLemmas
-mod MachineLemmas
-mod NewLemmas
+pub mod MachineLemmas
+pub mod NewLemmas
 mod RefineLemmas
 mod RowLemmas
 mod StepLemmas

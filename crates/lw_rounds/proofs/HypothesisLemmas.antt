@@ -1,0 +1,69 @@
+-- What a test comes to, by its suite.
+use Rattle.std.proofs.Common.{◌≡◌, ℕ, ◌<◌, ◌≤◌, List, length, None, Err, refl, ap, sym, ◌∙◌, subst}
+use Rattle.std.specs.List.{All}
+use Rattle.lw_words.specs.Answer.{Answer, AreAnswers, answers_of}
+use Rattle.lw_words.specs.Word.{IsWord}
+use Rattle.lw_words.specs.declared.kept.KeptAnswer.{KeptAnswer}
+use Rattle.lw_mealy.specs.Gives.{Gives}
+use Rattle.lw_mealy.specs.Limits.{MealyMachine, IsWithinLimits}
+use Rattle.lw_mealy.specs.Machine.{Rows, IsMachine}
+use Rattle.lw_mealy.specs.Minimal.{IsMinimal}
+use Rattle.lw_separate.specs.Canonical.{IsCanonical}
+use Rattle.lw_suite.specs.Size.{suite_size, greatest_suite}
+use Rattle.lw_suite.specs.Suite.{IsSuite}
+use Rattle.lw_suite.specs.declared.suite.SuiteFault.{SuiteFault}
+use Rattle.lw_suite.specs.declared.suite.SuiteFault.TheVariants as fault
+use Rattle.lw_suite.proofs.LetterLemmas.{suite_is_of_words}
+use Rattle.lw_cache.specs.Settling.{OracleState, Keeps, Leaves}
+use Rattle.lw_cache.proofs.SettlingLemmas.{kept_are_answers, leaves_short}
+use Rattle.lw_certify.specs.Verdict.{IsVerdict}
+use Rattle.lw_certify.specs.declared.verdict.Verdict.TheVariants as verdict
+use Rattle.lw_rounds.specs.Learned.{IsTooLarge}
+use Rattle.lw_rounds.specs.Stops.{learn_stop}
+use Rattle.lw_rounds.specs.bodies.Conformance.{Passes}
+use Rattle.lw_rounds.specs.bodies.Rounds.{HasCrowd, StopsTest, of_fault}
+use Rattle.lw_rounds.proofs.CanonicalLemmas.{equal_gives, of_itself, as_many}
+
+-- the words of a model's suite are words over the hypothesis's letters
+pub suite_words : (a b : ℕ) (c : Rows) (k : ℕ) (suite : List (List ℕ)) → b ≡ a → IsSuite b c k suite → All (IsWord a) suite
+suite_words a b c k suite same is = subst (λ (n : ℕ). All (IsWord n) suite) same (suite_is_of_words b c k suite is)
+
+-- what an oracle keeps, as a cache has it, are answers to words over the letters of a machine
+pub kept_words : (o : OracleState) (a : ℕ) (kept : List KeptAnswer) → a ≡ o.inputs → kept ≡ o.kept → Keeps o → All (λ k. IsWord a k.word) (answers_of kept)
+kept_words o a kept inputs is keeps =
+    subst (λ (l : List KeptAnswer). All (λ k. IsWord a k.word) (answers_of l)) (sym is) (λ i d lt. (kept_are_answers o a inputs keeps i d lt).0)
+
+-- where all words of the suite are known, and the hypothesis gives the answers, the verdict is sure
+pub passes_sure : (a b : ℕ) (h c : Rows) (ks : List Answer) (k : ℕ) (suite : List (List ℕ)) → b ≡ a → IsCanonical a h c → AreAnswers a ks → IsSuite b c k suite → suite_size (length c) b k ≤ greatest_suite → Passes h ks suite
+    → IsVerdict b c ks k verdict.Sure
+passes_sure a b h c ks k suite same is are whole size passes = (
+  subst (λ (n : ℕ). IsMinimal n c) (sym same) is.minimal,
+  equal_gives a c h ks is.equal are passes.gives,
+  size,
+  record { suite = suite; whole = whole; known = passes.known },
+)
+
+module _ (h model : MealyMachine) (ks : List Answer) (k : ℕ) (machine : IsMachine h.inputs h.rows) (inputs : model.inputs ≡ h.inputs) (outputs : model.outputs ≡ h.outputs) (complete : IsWithinLimits model)
+    (is : IsCanonical h.inputs h.rows model.rows) (are : AreAnswers h.inputs ks) (gives : Gives h.rows ks) (crowd : HasCrowd ks (length h.rows)) where
+  too_large : (number : ℕ) → (number ≡ suite_size (length model.rows) model.inputs k) × (greatest_suite < number) → IsTooLarge h.inputs h.outputs k ks model number
+  too_large number size =
+      record {
+        inputs = inputs;
+        outputs = outputs;
+        complete = complete;
+        canonical = of_itself h.inputs h.rows model.rows is;
+        gives = equal_gives h.inputs model.rows h.rows ks is.equal are gives;
+        words = crowd.words;
+        crowd = crowd.crowd;
+        each = as_many h.inputs h.rows model.rows machine is ks crowd.words are gives crowd.crowd crowd.each;
+        size = size.0 ∙ ap (λ (n : ℕ). suite_size (length model.rows) n k) inputs;
+        large = size.1;
+      }
+
+  pub without_suite_stops : (why : SuiteFault) → ((number : ℕ) → why ≡ fault.TooLarge number → (number ≡ suite_size (length model.rows) model.inputs k) × (greatest_suite < number)) → StopsTest h.inputs h.outputs k ks (of_fault model why)
+  without_suite_stops (fault.TooLarge number) size = too_large number (size number refl)
+  without_suite_stops fault.NoMemory size = tt
+
+pub without_suite_leaves : (X : Type 0) (o : OracleState) (model : MealyMachine) (why : SuiteFault) → Leaves o o None → Leaves o o (learn_stop {X = X} (Err (of_fault model why)))
+without_suite_leaves X o model (fault.TooLarge number) leaves = leaves
+without_suite_leaves X o model fault.NoMemory leaves = leaves_short o o leaves

@@ -1,0 +1,7 @@
+mod CanonicalLemmas
+mod ConformanceLemmas
+mod DifferenceLemmas
+mod HypothesisLemmas
+mod LawLemmas
+mod RoundLemmas
+mod StopLemmas

@@ -1,0 +1,69 @@
+-- What a learning says by its answer. Source: the learner of Angluin (1987), whose equivalence query is here the W-method of
+-- Vasilevskii (1973) and Chow (1978).
+use Rattle.std.specs.Prelude.{◌≡◌, ℕ, ◌+◌, ◌<◌, List, length}
+use Rattle.lw_words.specs.Answer.{Answer}
+use Rattle.lw_mealy.specs.Gives.{Gives}
+use Rattle.lw_mealy.specs.Limits.{MealyMachine, IsWithinLimits}
+use Rattle.lw_mealy.specs.Machine.{Rows}
+use Rattle.lw_cache.specs.Crowd.{IsCrowd}
+use Rattle.lw_separate.specs.Canonical.{IsCanonical}
+use Rattle.lw_suite.specs.Size.{suite_size, greatest_suite}
+use Rattle.lw_certify.specs.Sure.{Sure}
+use Rattle.lw_certify.specs.Verdict.{IsVerdict}
+use Rattle.lw_certify.specs.declared.verdict.Verdict.TheVariants as verdict
+use Rattle.lw_table.specs.Table.{TableState, IsTable, CellsAreRead, IsClosed, IsMachineOf}
+use Rattle.lw_rounds.specs.declared.stops.LearnStop.{LearnStop}
+use Rattle.lw_rounds.specs.declared.stops.LearnStop.TheVariants as learn
+
+-- the answers fix the model among all machines of at most k states more: the verdict on it, and what that means
+pub record IsCertified (a b k : ℕ) (ks : List Answer) (model : MealyMachine) : Type 0 where
+  pub inputs : model.inputs ≡ a
+  pub outputs : model.outputs ≡ b
+  pub complete : IsWithinLimits model
+  pub verdict : IsVerdict a model.rows ks k verdict.Sure
+  pub sure : Sure a model.rows ks k
+
+-- the table is closed, the rows are the canonical form of its machine, and its access words are a crowd of as many words
+pub record IsReadOff (a b most : ℕ) (ks : List Answer) (rows : Rows) (t : TableState) : Type 0 where
+  pub inputs : t.inputs ≡ a
+  pub outputs : t.outputs ≡ b
+  pub limit : t.most ≡ most
+  pub table : IsTable t
+  pub closed : IsClosed t
+  pub read : CellsAreRead ks t
+  pub machine : Rows
+  pub of_table : IsMachineOf t machine
+  pub canonical : IsCanonical a machine rows
+  pub crowd : IsCrowd ks t.access
+  pub each : length t.access ≡ length rows
+  pub refined : t.refinements < length rows
+
+-- what a learning answers
+pub record IsLearned (a b k most : ℕ) (ks : List Answer) (model : MealyMachine) (table : TableState) : Type 0 where
+  pub certified : IsCertified a b k ks model
+  pub carried : IsReadOff a b most ks model.rows table
+
+-- one word more than there may be states, any two apart
+pub record IsTooMany (most : ℕ) (ks : List Answer) (words : List (List ℕ)) : Type 0 where
+  pub count : length words ≡ most + 1
+  pub crowd : IsCrowd ks words
+
+-- a canonical model that gives the answers, of which a crowd of as many words shows that no machine of fewer states does;
+-- and the size of its suite, which is above the greatest
+pub record IsTooLarge (a b k : ℕ) (ks : List Answer) (model : MealyMachine) (number : ℕ) : Type 0 where
+  pub inputs : model.inputs ≡ a
+  pub outputs : model.outputs ≡ b
+  pub complete : IsWithinLimits model
+  pub canonical : IsCanonical a model.rows model.rows
+  pub gives : Gives model.rows ks
+  pub words : List (List ℕ)
+  pub crowd : IsCrowd ks words
+  pub each : length words ≡ length model.rows
+  pub size : number ≡ suite_size (length model.rows) a k
+  pub large : greatest_suite < number
+
+-- what is so where a learning stops; of a stop of its oracle it says nothing more
+abbrev pub StopsAs : ℕ → ℕ → ℕ → ℕ → List Answer → LearnStop → Type 0
+StopsAs a b k most ks (learn.Ask stop) = Unit {0}
+StopsAs a b k most ks (learn.Crowd words) = IsTooMany most ks words
+StopsAs a b k most ks (learn.TooLarge model number) = IsTooLarge a b k ks model number

@@ -1,0 +1,4 @@
+pub mod Laws
+pub mod Learned
+pub mod Stops
+pub mod bodies

@@ -1,0 +1,70 @@
+//! The words of a suite are settled until the hypothesis differs on one.
+ghost use Rattle.std.specs.Prelude.{◌≡◌, ◌<◌, ◌^◌, length, IfOk};
+ghost use Rattle.std.specs.List.{All};
+ghost use Rattle.lw_words.specs.Answer.{answers_of};
+ghost use Rattle.lw_words.specs.Word.{IsWord};
+ghost use Rattle.lw_mealy.specs.Gives.{Gives};
+ghost use Rattle.lw_cache.specs.Clash.{NothingClashes};
+ghost use Rattle.lw_cache.specs.Settling.{Keeps, MayAsk, Leaves, asked_stop};
+ghost use Rattle.lw_rounds.specs.bodies.Conformance.{FindsFirst, Comes};
+
+use crate::difference::first_difference;
+use lw_cache::{AskStop, Oracle};
+use lw_mealy::Mealy;
+use lw_suite::Suite;
+use lw_words::Word;
+use std::alloc::Global;
+
+/// Settles some words, and tells the shortest front of the first of them on which the hypothesis differs.
+fn settle_words<O: Oracle>(
+    oracle: &mut O,
+    hypothesis: &Mealy,
+    words: &[Word],
+) -> Result<Option<Word>, AskStop>
+    requires can { O.can_settle oracle.old }
+    requires may { MayAsk (O.state oracle.old).stop }
+    requires keeps { Keeps (O.state oracle.old) }
+    requires nothing { NothingClashes (answers_of (O.state oracle.old).kept) }
+    requires inputs { hypothesis.now.inputs ≡ (O.state oracle.old).inputs }
+    requires letters { All (IsWord hypothesis.now.inputs) words.now }
+    requires few { length words.now < 2 ^ 32 }
+    requires gives { Gives hypothesis.now.rows (answers_of (O.state oracle.old).kept) }
+    ensures comes { IfOk result (Comes hypothesis.now.rows (answers_of (O.state oracle.new).kept)
+        words.now) }
+    ensures first { IfOk result (FindsFirst hypothesis.now.rows
+        (answers_of (O.state oracle.new).kept) words.now) }
+    ensures leaves { Leaves (O.state oracle.old) (O.state oracle.new) (asked_stop result) }
+    ensures can { O.can_settle oracle.new }
+{
+    oracle.settle(words)?;
+    Ok(first_difference(oracle.cache(), hypothesis, words)?)
+}
+
+/// Settles a suite, chunk by chunk, until the hypothesis differs.
+pub fn settle_suite<O: Oracle>(
+    oracle: &mut O,
+    alloc: Global,
+    hypothesis: &Mealy,
+    suite: Suite,
+) -> Result<Option<Word>, AskStop>
+    requires can { O.can_settle oracle.old }
+    requires may { MayAsk (O.state oracle.old).stop }
+    requires keeps { Keeps (O.state oracle.old) }
+    requires nothing { NothingClashes (answers_of (O.state oracle.old).kept) }
+    requires inputs { hypothesis.now.inputs ≡ (O.state oracle.old).inputs }
+    requires letters { All (IsWord hypothesis.now.inputs) suite }
+    requires gives { Gives hypothesis.now.rows (answers_of (O.state oracle.old).kept) }
+    ensures comes { IfOk result (Comes hypothesis.now.rows (answers_of (O.state oracle.new).kept)
+        suite) }
+    ensures leaves { Leaves (O.state oracle.old) (O.state oracle.new) (asked_stop result) }
+    ensures can { O.can_settle oracle.new }
+{
+    let mut suite = suite;
+    let mut chunk = Vec::new(alloc);
+    while suite.next_chunk(&mut chunk)? {
+        if let Some(word) = settle_words(oracle, hypothesis, chunk.as_slice())? {
+            return Ok(Some(word));
+        }
+    }
+    Ok(None)
+}

@@ -1,0 +1,159 @@
+//! The test of a hypothesis: by what is known, then by the words of its suite, then by the certificate.
+ghost use Rattle.std.specs.Prelude.{◌≡◌, ◌≤◌, length, IfOk, IfErr};
+ghost use Rattle.std.specs.List.{All};
+ghost use Rattle.lw_words.specs.Answer.{answers_of};
+ghost use Rattle.lw_words.specs.Word.{IsWord};
+ghost use Rattle.lw_mealy.specs.Gives.{Gives};
+ghost use Rattle.lw_cache.specs.Clash.{NothingClashes};
+ghost use Rattle.lw_cache.specs.Settling.{Keeps, MayAsk, Leaves};
+ghost use Rattle.lw_separate.specs.Canonical.{IsCanonical};
+ghost use Rattle.lw_suite.specs.Size.{suite_size, greatest_suite};
+ghost use Rattle.lw_suite.specs.Suite.{IsSuite};
+ghost use Rattle.lw_certify.specs.Verdict.{IsVerdict};
+ghost use Rattle.lw_certify.specs.declared.verdict.Verdict.{Verdict as Came};
+ghost use Rattle.lw_rounds.specs.Learned.{IsCertified};
+ghost use Rattle.lw_rounds.specs.Stops.{learn_stop};
+ghost use Rattle.lw_rounds.specs.bodies.Rounds.{HasCrowd, IsTested, StopsTest, of_fault};
+
+use crate::LearnStop;
+use crate::conformance::settle_suite;
+use lw_cache::{AskStop, Cache, Oracle};
+use lw_certify::{Verdict, certify};
+use lw_mealy::Mealy;
+use lw_separate::canonical;
+use lw_suite::{Suite, SuiteFault};
+use lw_words::{NoMemory, Word};
+use std::alloc::Global;
+
+/// What a test comes to.
+#[derive(Drop)]
+pub enum Tested {
+    /// The hypothesis differs on this word, which is known.
+    Differs(Word),
+    /// The hypothesis in canonical form, which is certified.
+    Sure(Mealy),
+}
+
+/// A model that the kept answers suffice for, once `certify` has said so.
+fn certified(alloc: Global, model: Mealy, cache: &Cache, extra: u8) -> Result<Mealy, NoMemory>
+    requires few { extra ≤ 4 }
+    requires letters { All (λ k. IsWord model.inputs k.word) (answers_of cache.now.kept) }
+    requires sure { IsVerdict model.inputs model.rows (answers_of cache.now.kept) extra Came.Sure }
+    ensures value { IfOk result (λ m. m ≡ model) }
+    ensures certified { IfOk result (IsCertified model.inputs model.outputs extra
+        (answers_of cache.now.kept)) }
+{
+    // The model tells that it is within the limits.
+    let _ = model.inputs();
+    let verdict = certify(alloc, &model, cache, extra)?;
+    match verdict {
+        Verdict::Sure => Ok(model),
+        _ => unreachable!(),
+    }
+}
+
+/// Settles the suite of a model, which is the canonical form of the hypothesis.
+fn settle_and_certify<O: Oracle>(
+    oracle: &mut O,
+    alloc: Global,
+    hypothesis: &Mealy,
+    model: Mealy,
+    suite: Suite,
+    extra: u8,
+) -> Result<Tested, LearnStop>
+    requires can { O.can_settle oracle.old }
+    requires may { MayAsk (O.state oracle.old).stop }
+    requires keeps { Keeps (O.state oracle.old) }
+    requires nothing { NothingClashes (answers_of (O.state oracle.old).kept) }
+    requires inputs { hypothesis.now.inputs ≡ (O.state oracle.old).inputs }
+    requires few { extra ≤ 4 }
+    requires gives { Gives hypothesis.now.rows (answers_of (O.state oracle.old).kept) }
+    requires alphabets { (model.inputs ≡ hypothesis.now.inputs) ×
+        (model.outputs ≡ hypothesis.now.outputs) }
+    requires canonical { IsCanonical hypothesis.now.inputs hypothesis.now.rows model.rows }
+    requires suite { IsSuite model.inputs model.rows extra suite }
+    requires size { suite_size (length model.rows) model.inputs extra ≤ greatest_suite }
+    ensures tested { IfOk result (IsTested hypothesis.now extra
+        (answers_of (O.state oracle.new).kept)) }
+    ensures stops { IfErr result (StopsTest hypothesis.now.inputs hypothesis.now.outputs extra
+        (answers_of (O.state oracle.new).kept)) }
+    ensures leaves { Leaves (O.state oracle.old) (O.state oracle.new) (learn_stop result) }
+    ensures can { O.can_settle oracle.new }
+{
+    let found = settle_suite(oracle, alloc, hypothesis, suite)?;
+    match found {
+        Some(word) => Ok(Tested::Differs(word)),
+        None => Ok(Tested::Sure(certified(alloc, model, oracle.cache(), extra)?)),
+    }
+}
+
+/// What a model without a suite comes to.
+fn without_suite(model: Mealy, fault: SuiteFault) -> LearnStop
+    ensures { result ≡ of_fault model fault }
+{
+    match fault {
+        SuiteFault::TooLarge(number) => LearnStop::TooLarge { model, number },
+        SuiteFault::NoMemory => LearnStop::Ask(AskStop::NoMemory),
+    }
+}
+
+#[tactic(auto, using(lw_cache::proofs::SettlingLemmas::leaves_nothing, crate::proofs::StopLemmas::leaves_learn_own))]
+/// Tests a hypothesis that gives the kept answers by the suite of its canonical form.
+fn test_by_suite<O: Oracle>(
+    oracle: &mut O,
+    alloc: Global,
+    hypothesis: &Mealy,
+    extra: u8,
+) -> Result<Tested, LearnStop>
+    requires can { O.can_settle oracle.old }
+    requires may { MayAsk (O.state oracle.old).stop }
+    requires keeps { Keeps (O.state oracle.old) }
+    requires nothing { NothingClashes (answers_of (O.state oracle.old).kept) }
+    requires inputs { hypothesis.now.inputs ≡ (O.state oracle.old).inputs }
+    requires few { extra ≤ 4 }
+    requires gives { Gives hypothesis.now.rows (answers_of (O.state oracle.old).kept) }
+    requires crowd { HasCrowd (answers_of (O.state oracle.old).kept) (length hypothesis.now.rows) }
+    ensures tested { IfOk result (IsTested hypothesis.now extra
+        (answers_of (O.state oracle.new).kept)) }
+    ensures stops { IfErr result (StopsTest hypothesis.now.inputs hypothesis.now.outputs extra
+        (answers_of (O.state oracle.new).kept)) }
+    ensures leaves { Leaves (O.state oracle.old) (O.state oracle.new) (learn_stop result) }
+    ensures can { O.can_settle oracle.new }
+{
+    // The hypothesis tells that it is a machine.
+    let _ = hypothesis.inputs();
+    let model = canonical(alloc, hypothesis)?;
+    match Suite::new(alloc, &model, extra) {
+        Ok(suite) => settle_and_certify(oracle, alloc, hypothesis, model, suite, extra),
+        Err(fault) => Err(without_suite(model, fault)),
+    }
+}
+
+#[tactic(auto, using(lw_cache::proofs::SettlingLemmas::leaves_nothing, crate::proofs::StopLemmas::leaves_learn_own))]
+/// Tests a hypothesis: whether it gives what is known, and then by its suite.
+pub fn test<O: Oracle>(
+    oracle: &mut O,
+    alloc: Global,
+    hypothesis: &Mealy,
+    extra: u8,
+) -> Result<Tested, LearnStop>
+    requires can { O.can_settle oracle.old }
+    requires may { MayAsk (O.state oracle.old).stop }
+    requires keeps { Keeps (O.state oracle.old) }
+    requires nothing { NothingClashes (answers_of (O.state oracle.old).kept) }
+    requires inputs { hypothesis.now.inputs ≡ (O.state oracle.old).inputs }
+    requires few { extra ≤ 4 }
+    requires crowd { HasCrowd (answers_of (O.state oracle.old).kept) (length hypothesis.now.rows) }
+    ensures tested { IfOk result (IsTested hypothesis.now extra
+        (answers_of (O.state oracle.new).kept)) }
+    ensures stops { IfErr result (StopsTest hypothesis.now.inputs hypothesis.now.outputs extra
+        (answers_of (O.state oracle.new).kept)) }
+    ensures leaves { Leaves (O.state oracle.old) (O.state oracle.new) (learn_stop result) }
+    ensures can { O.can_settle oracle.new }
+{
+    let known = oracle.cache().against(hypothesis)?;
+    match known {
+        Some(word) => Ok(Tested::Differs(word)),
+        None => test_by_suite(oracle, alloc, hypothesis, extra),
+    }
+}

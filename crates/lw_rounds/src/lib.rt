@@ -1,0 +1,21 @@
+//! The rounds of a learning: a table is closed, its machine is tested, and a difference refines it.
+#![tactic(auto)]
+
+mod conformance;
+mod difference;
+mod hypothesis;
+mod laws;
+mod learned;
+mod learning;
+mod rounds;
+mod stops;
+
+pub use laws::{
+    model_is_canonical, model_is_least, too_large_for_all, too_large_is_least, too_many_is_none,
+};
+pub use learned::{Kind, Learned};
+pub use learning::learn;
+pub use stops::LearnStop;
+
+#[cfg(test)]
+mod tests;
