@@ -3,7 +3,7 @@ ghost use Rattle.std.specs.Prelude.{◌≡◌, ◌≢◌, ◌↔◌, ℕ, ◌+�
 ghost use Rattle.std.specs.List.{All};
 ghost use Rattle.lw_desk.specs.Naming.{own_names, MayBring};
 ghost use Rattle.lw_desk.specs.Step.{DeskState, word_at, IsFirstFree, NothingToTake, Gives, GivesAll, TakesAll, after_take, after_fail, first_stop, stop_of};
-ghost use Rattle.lw_desk.specs.History.{DeskOpening, Makes, MayAsk, MayGiveAll, seat_in, failed_places};
+ghost use Rattle.lw_desk.specs.History.{DeskOpening, Makes, MayMake, MayGiveAll, seat_in, failed_places};
 ghost use Rattle.lw_desk.specs.bodies.DeskBody.{entry};
 ghost use Rattle.lw_desk.specs.bodies.Board.{BoardState, Agrees, AreHeld, numbers_of, stop_after, without_all, without_number, without_numbers};
 ghost use Rattle.lw_words.specs.Answer.{answers_of};
@@ -296,11 +296,11 @@ impl Board {
     /// An actor gives, fails and takes in one turn. Takes no memory.
     pub(crate) fn turn(&mut self, actor: u32, ask: Ask) -> Reply
         requires actor { actor < 16 }
-        requires may { (s : DeskState) × Agrees self.old s × MayAsk self.old.batch
+        requires may { (s : DeskState) × Agrees self.old s × MayMake self.old.batch
             (is_some self.old.naming.brought) (seat_in s actor) ask }
         ensures makes { (o : DeskOpening) (s : DeskState) → o.batch ≡ self.old.batch →
             actor < o.actors →
-            MayAsk o.batch (is_some o.naming.brought) (seat_in s actor) ask →
+            MayMake o.batch (is_some o.naming.brought) (seat_in s actor) ask →
             Agrees self.old s → (t : DeskState) × Makes o s (entry actor ask result) t ×
             Agrees self.new t }
         ensures kind { is_some self.new.naming.brought ≡ is_some self.old.naming.brought }
