@@ -4,7 +4,7 @@ use Rattle.std.specs.List.{list_any}
 use Rattle.lw_words.specs.declared.kept.KeptAnswer.{KeptAnswer}
 use Rattle.lw_turn.specs.declared.shared.Entry.{Entry}
 use Rattle.lw_desk.specs.Naming.{Naming, own_names, MayBring}
-use Rattle.lw_desk.specs.Step.{DeskState, word_at, GivesAll, TakesAll, NothingToTake, after_fail, after_done}
+use Rattle.lw_desk.specs.Step.{DeskState, word_at, GivesAll, TakesAll, NothingToTake, CountsLeft, after_fail, after_done}
 use Rattle.lw_desk.specs.declared.ask.Ask.{Ask}
 use Rattle.lw_desk.specs.declared.ask.Reply.{Reply}
 use Rattle.lw_desk.specs.declared.ask.Give.{Give}
@@ -68,7 +68,8 @@ pub record Makes (o : DeskOpening) (s : DeskState) (e : Entry Ask Reply) (t : De
   pub done : (e.reply.done ≡ true) ↔ ((0 < e.ask.wanted) × (e.reply.places ≡ []))
   pub after : t ≡ after_done e.actor e.reply.done taken
   pub stopped : e.reply.stopped ≡ is_some t.stop
-  pub left : e.reply.left ≡ 0 → NothingToTake o.batch t
+  pub left : CountsLeft o.batch t e.reply.left
+  pub none_left : e.reply.left ≡ 0 → NothingToTake o.batch t
   pub few_left : e.reply.left ≤ length o.batch
 
 -- each entry in turn

@@ -100,6 +100,7 @@ fn close(desk: Desk) -> (Parts, Option<AskStop>)
     ensures whole { AreWhole result.0 }
 {
     let (cache, names, stop) = desk.finish();
+    // for the proof alone: the answers are whole, and the names are few and differ
     let _ = cache.kept();
     let _ = names.len();
     (Parts { cache, names }, stop)
@@ -130,6 +131,7 @@ fn run<S: Sul + Send, R: Threads + Wait + Sync>(
             close(desk)
         }
         Err(parts) => {
+            // for the proof alone, as in `close`
             let _ = parts.cache.kept();
             let _ = parts.names.len();
             (parts, Some(AskStop::NoMemory))
