@@ -22,7 +22,7 @@ use Rattle.lw_rounds.specs.Learned.{IsTooLarge}
 use Rattle.lw_rounds.specs.Stops.{learn_stop}
 use Rattle.lw_rounds.specs.bodies.Conformance.{Passes}
 use Rattle.lw_rounds.specs.bodies.Rounds.{HasCrowd, StopsTest, of_fault}
-use Rattle.lw_rounds.proofs.CanonicalLemmas.{equal_gives, of_itself, as_many}
+use Rattle.lw_rounds.proofs.CanonicalLemmas.{equal_gives, of_itself, no_more_states, as_many}
 
 -- the words of a model's suite are words over the hypothesis's letters
 pub suite_words : (a b : ℕ) (c : Rows) (k : ℕ) (suite : List (List ℕ)) → b ≡ a → IsSuite b c k suite → All (IsWord a) suite
@@ -45,12 +45,13 @@ passes_sure a b h c ks k suite same is are whole size passes = (
 
 module _ (h model : MealyMachine) (ks : List Answer) (k : ℕ) (machine : IsMachine h.inputs h.rows) (inputs : model.inputs ≡ h.inputs) (outputs : model.outputs ≡ h.outputs) (complete : IsWithinLimits model)
     (is : IsCanonical h.inputs h.rows model.rows) (are : AreAnswers h.inputs ks) (gives : Gives h.rows ks) (crowd : HasCrowd ks (length h.rows)) where
-  too_large : (number : ℕ) → (number ≡ suite_size (length model.rows) model.inputs k) × (greatest_suite < number) → IsTooLarge h.inputs h.outputs k ks model number
+  too_large : (number : ℕ) → (number ≡ suite_size (length model.rows) model.inputs k) × (greatest_suite < number) → IsTooLarge h.inputs h.outputs k (length h.rows) ks model number
   too_large number size =
       record {
         inputs = inputs;
         outputs = outputs;
         complete = complete;
+        few = no_more_states h.inputs h.rows model.rows machine is;
         canonical = of_itself h.inputs h.rows model.rows is;
         gives = equal_gives h.inputs model.rows h.rows ks is.equal are gives;
         words = crowd.words;
@@ -60,7 +61,7 @@ module _ (h model : MealyMachine) (ks : List Answer) (k : ℕ) (machine : IsMach
         large = size.1;
       }
 
-  pub without_suite_stops : (why : SuiteFault) → ((number : ℕ) → why ≡ fault.TooLarge number → (number ≡ suite_size (length model.rows) model.inputs k) × (greatest_suite < number)) → StopsTest h.inputs h.outputs k ks (of_fault model why)
+  pub without_suite_stops : (why : SuiteFault) → ((number : ℕ) → why ≡ fault.TooLarge number → (number ≡ suite_size (length model.rows) model.inputs k) × (greatest_suite < number)) → StopsTest h.inputs h.outputs k (length h.rows) ks (of_fault model why)
   without_suite_stops (fault.TooLarge number) size = too_large number (size number refl)
   without_suite_stops fault.NoMemory size = tt
 

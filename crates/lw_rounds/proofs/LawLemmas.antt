@@ -6,9 +6,9 @@ use Rattle.lw_cache.proofs.CrowdLemmas.{crowd_needs_states}
 use Rattle.lw_rounds.specs.Laws.{ModelIsCanonical, ModelIsLeast, TooManyIsNone, TooLargeIsLeast, TooLargeForAll}
 
 pub model_is_canonical : ModelIsCanonical
-model_is_canonical a b k most ks model table is m machine few gives =
-    let canonical = is.carried.canonical in
-    let same = is.certified.sure m machine few gives in
+model_is_canonical a b k ks model is m machine few gives =
+    let canonical = is.canonical in
+    let same = is.sure m machine few gives in
     record {
       machine = canonical.machine;
       equal = λ w letters. sym (same w letters);
@@ -29,7 +29,7 @@ too_many_is_none a most ks words are is m machine few gives =
     omega arith
 
 pub too_large_is_least : TooLargeIsLeast
-too_large_is_least a b k ks model number are is m machine gives =
+too_large_is_least a b k most ks model number are is m machine gives =
     subst (λ (n : ℕ). n ≤ length m) is.each (crowd_needs_states a m ks is.words machine are gives is.crowd)
 
 size_rises : (n m a k : ℕ) → n ≤ m → suite_size n a k ≤ suite_size m a k
@@ -40,6 +40,6 @@ size_rises n m a k le =
     mul-le-mul_right (powers a (k + 1)) squares
 
 pub too_large_for_all : TooLargeForAll
-too_large_for_all a b k ks model number are is m machine gives =
-    let rises = size_rises (length model.rows) (length m) a k (too_large_is_least a b k ks model number are is m machine gives) in
+too_large_for_all a b k most ks model number are is m machine gives =
+    let rises = size_rises (length model.rows) (length m) a k (too_large_is_least a b k most ks model number are is m machine gives) in
     omega (arith, is.size, is.large, rises)

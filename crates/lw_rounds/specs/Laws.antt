@@ -7,13 +7,13 @@ use Rattle.lw_mealy.specs.Machine.{Rows, IsMachine}
 use Rattle.lw_separate.specs.Canonical.{IsCanonical}
 use Rattle.lw_suite.specs.Size.{suite_size, greatest_suite}
 use Rattle.lw_table.specs.Table.{TableState}
-use Rattle.lw_rounds.specs.Learned.{IsLearned, IsTooMany, IsTooLarge}
+use Rattle.lw_rounds.specs.Learned.{IsCertified, IsLearned, IsTooMany, IsTooLarge}
 
 -- a machine of at most k states more than the model that gives the answers has the model as its canonical form
 abbrev pub ModelIsCanonical : Type 0
-ModelIsCanonical = (a b k most : ℕ) (ks : List Answer) (model : MealyMachine) (table : TableState) → IsLearned a b k most ks model table → (m : Rows) → IsMachine a m → length m ≤ length model.rows + k → Gives m ks → IsCanonical a m model.rows
+ModelIsCanonical = (a b k : ℕ) (ks : List Answer) (model : MealyMachine) → IsCertified a b k ks model → (m : Rows) → IsMachine a m → length m ≤ length model.rows + k → Gives m ks → IsCanonical a m model.rows
 
--- no machine of fewer states than the model gives the answers, and each takes as many as the table has access words
+-- no machine of fewer states than the model gives the answers
 abbrev pub ModelIsLeast : Type 0
 ModelIsLeast = (a b k most : ℕ) (ks : List Answer) (model : MealyMachine) (table : TableState) → AreAnswers a ks → IsLearned a b k most ks model table → (m : Rows) → IsMachine a m → Gives m ks → length model.rows ≤ length m
 
@@ -23,8 +23,8 @@ TooManyIsNone = (a most : ℕ) (ks : List Answer) (words : List (List ℕ)) → 
 
 -- where a suite is too large, no machine of fewer states than the model gives the answers
 abbrev pub TooLargeIsLeast : Type 0
-TooLargeIsLeast = (a b k : ℕ) (ks : List Answer) (model : MealyMachine) (number : ℕ) → AreAnswers a ks → IsTooLarge a b k ks model number → (m : Rows) → IsMachine a m → Gives m ks → length model.rows ≤ length m
+TooLargeIsLeast = (a b k most : ℕ) (ks : List Answer) (model : MealyMachine) (number : ℕ) → AreAnswers a ks → IsTooLarge a b k most ks model number → (m : Rows) → IsMachine a m → Gives m ks → length model.rows ≤ length m
 
 -- and a suite for each machine that gives them would be as large
 abbrev pub TooLargeForAll : Type 0
-TooLargeForAll = (a b k : ℕ) (ks : List Answer) (model : MealyMachine) (number : ℕ) → AreAnswers a ks → IsTooLarge a b k ks model number → (m : Rows) → IsMachine a m → Gives m ks → greatest_suite < suite_size (length m) a k
+TooLargeForAll = (a b k most : ℕ) (ks : List Answer) (model : MealyMachine) (number : ℕ) → AreAnswers a ks → IsTooLarge a b k most ks model number → (m : Rows) → IsMachine a m → Gives m ks → greatest_suite < suite_size (length m) a k

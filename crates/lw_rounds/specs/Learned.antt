@@ -1,6 +1,6 @@
 -- What a learning says by its answer. Source: the learner of Angluin (1987), whose equivalence query is here the W-method of
 -- Vasilevskii (1973) and Chow (1978).
-use Rattle.std.specs.Prelude.{◌≡◌, ℕ, ◌+◌, ◌<◌, List, length}
+use Rattle.std.specs.Prelude.{◌≡◌, ℕ, ◌+◌, ◌<◌, ◌≤◌, List, length}
 use Rattle.lw_words.specs.Answer.{Answer}
 use Rattle.lw_mealy.specs.Gives.{Gives}
 use Rattle.lw_mealy.specs.Limits.{MealyMachine, IsWithinLimits}
@@ -15,11 +15,13 @@ use Rattle.lw_table.specs.Table.{TableState, IsTable, CellsAreRead, IsClosed, Is
 use Rattle.lw_rounds.specs.declared.stops.LearnStop.{LearnStop}
 use Rattle.lw_rounds.specs.declared.stops.LearnStop.TheVariants as learn
 
--- the answers fix the model among all machines of at most k states more: the verdict on it, and what that means
+-- the model is canonical, and the answers fix it among all machines of at most k states more: the verdict on it, and what that
+-- means
 pub record IsCertified (a b k : ℕ) (ks : List Answer) (model : MealyMachine) : Type 0 where
   pub inputs : model.inputs ≡ a
   pub outputs : model.outputs ≡ b
   pub complete : IsWithinLimits model
+  pub canonical : IsCanonical a model.rows model.rows
   pub verdict : IsVerdict a model.rows ks k verdict.Sure
   pub sure : Sure a model.rows ks k
 
@@ -48,12 +50,13 @@ pub record IsTooMany (most : ℕ) (ks : List Answer) (words : List (List ℕ)) :
   pub count : length words ≡ most + 1
   pub crowd : IsCrowd ks words
 
--- a canonical model that gives the answers, of which a crowd of as many words shows that no machine of fewer states does;
+-- a canonical model of no more states than there may be that gives the answers, of which a crowd of as many words shows that no machine of fewer states does;
 -- and the size of its suite, which is above the greatest
-pub record IsTooLarge (a b k : ℕ) (ks : List Answer) (model : MealyMachine) (number : ℕ) : Type 0 where
+pub record IsTooLarge (a b k most : ℕ) (ks : List Answer) (model : MealyMachine) (number : ℕ) : Type 0 where
   pub inputs : model.inputs ≡ a
   pub outputs : model.outputs ≡ b
   pub complete : IsWithinLimits model
+  pub few : length model.rows ≤ most
   pub canonical : IsCanonical a model.rows model.rows
   pub gives : Gives model.rows ks
   pub words : List (List ℕ)
@@ -66,4 +69,4 @@ pub record IsTooLarge (a b k : ℕ) (ks : List Answer) (model : MealyMachine) (n
 abbrev pub StopsAs : ℕ → ℕ → ℕ → ℕ → List Answer → LearnStop → Type 0
 StopsAs a b k most ks (learn.Ask stop) = Unit {0}
 StopsAs a b k most ks (learn.Crowd words) = IsTooMany most ks words
-StopsAs a b k most ks (learn.TooLarge model number) = IsTooLarge a b k ks model number
+StopsAs a b k most ks (learn.TooLarge model number) = IsTooLarge a b k most ks model number

@@ -38,6 +38,7 @@ pub enum Tested {
 fn certified(alloc: Global, model: Mealy, cache: &Cache, extra: u8) -> Result<Mealy, NoMemory>
     requires few { extra ≤ 4 }
     requires letters { All (λ k. IsWord model.inputs k.word) (answers_of cache.now.kept) }
+    requires canonical { IsCanonical model.inputs model.rows model.rows }
     requires sure { IsVerdict model.inputs model.rows (answers_of cache.now.kept) extra Came.Sure }
     ensures value { IfOk result (λ m. m ≡ model) }
     ensures certified { IfOk result (IsCertified model.inputs model.outputs extra
@@ -76,7 +77,7 @@ fn settle_and_certify<O: Oracle>(
     ensures tested { IfOk result (IsTested hypothesis.now extra
         (answers_of (O.state oracle.new).kept)) }
     ensures stops { IfErr result (StopsTest hypothesis.now.inputs hypothesis.now.outputs extra
-        (answers_of (O.state oracle.new).kept)) }
+        (length hypothesis.now.rows) (answers_of (O.state oracle.new).kept)) }
     ensures leaves { Leaves (O.state oracle.old) (O.state oracle.new) (learn_stop result) }
     ensures can { O.can_settle oracle.new }
 {
@@ -116,7 +117,7 @@ fn test_by_suite<O: Oracle>(
     ensures tested { IfOk result (IsTested hypothesis.now extra
         (answers_of (O.state oracle.new).kept)) }
     ensures stops { IfErr result (StopsTest hypothesis.now.inputs hypothesis.now.outputs extra
-        (answers_of (O.state oracle.new).kept)) }
+        (length hypothesis.now.rows) (answers_of (O.state oracle.new).kept)) }
     ensures leaves { Leaves (O.state oracle.old) (O.state oracle.new) (learn_stop result) }
     ensures can { O.can_settle oracle.new }
 {
@@ -147,7 +148,7 @@ pub fn test<O: Oracle>(
     ensures tested { IfOk result (IsTested hypothesis.now extra
         (answers_of (O.state oracle.new).kept)) }
     ensures stops { IfErr result (StopsTest hypothesis.now.inputs hypothesis.now.outputs extra
-        (answers_of (O.state oracle.new).kept)) }
+        (length hypothesis.now.rows) (answers_of (O.state oracle.new).kept)) }
     ensures leaves { Leaves (O.state oracle.old) (O.state oracle.new) (learn_stop result) }
     ensures can { O.can_settle oracle.new }
 {

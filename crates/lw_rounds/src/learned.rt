@@ -5,7 +5,7 @@ ghost use Rattle.lw_table.specs.Table.{IsTable};
 use lw_mealy::Mealy;
 use lw_table::ObservationTable;
 
-/// What keeps the answers of a learning.
+/// The learner that a model is read off.
 #[derive(Clone, Copy, Debug, PartialEq, Eq)]
 pub enum Kind {
     /// An observation table.

@@ -81,7 +81,7 @@ fn round<O: Oracle>(
     }
 }
 
-/// Rounds until a model is sure. Each one but the last adds a state, of which there may be no more than so many.
+/// Rounds until a model is sure. Each one but the last adds at least one state, of which there may be no more than so many.
 pub fn rounds<O: Oracle>(
     oracle: &mut O,
     alloc: Global,

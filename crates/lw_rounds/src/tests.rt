@@ -1,4 +1,6 @@
 //! Learnings worked by hand: the batches that are settled, in their order, and what is answered.
+mod chunks;
+
 ghost use Rattle.std.specs.Prelude.{◌≡◌, IfOk};
 
 use crate::{
@@ -151,17 +153,45 @@ fn what_is_known_comes_before_the_suite(rt: HostRuntime) -> Result<(), Fail> {
     Ok(())
 }
 
-/// The second suite has a a b a a as the first word on which the machine differs, and it differs at the fourth letter.
+/// Of the words that are known and tell the machine apart the least is taken.
 #[test]
-fn a_word_of_the_suite_is_cut_to_its_front(rt: HostRuntime) -> Result<(), Fail> {
+fn the_least_known_word_comes_first(rt: HostRuntime) -> Result<(), Fail> {
     let alloc = rt.alloc();
+    let counter = of_one_letter(alloc, &[(1, 0), (2, 0), (0, 1)])?;
+    let mut oracle = Recording::new(alloc, counter);
+    let mut known = Words::new(alloc);
+    let six = Word::from_letters(alloc, vec![in alloc; A; 6]?);
+    if known.push(six).is_err() {
+        return Err(Fail::from("out of memory"));
+    }
+    let Ok(()) = oracle.settle(known.as_slice()) else {
+        return Err(Fail::from("the word was refused"));
+    };
+    let learned = learn(&mut oracle, alloc, 1, 2, Kind::Table, 0, 4);
+    assert!(rt; learned.is_ok());
+    assert_eq!(rt; oracle.batches().len(), 7);
+    assert!(rt; asked(&oracle, 2, &[2]));
+    Ok(())
+}
+
+/// A machine of four states whose learning takes two refinements.
+fn of_four_states(alloc: Global) -> Result<Mealy, Fail>
+    ensures { IfOk result (λ m. (m.inputs ≡ 2) × (m.outputs ≡ 2)) }
+{
     let rows = [
         [(1, 1), (2, 0)],
         [(3, 1), (3, 0)],
         [(2, 0), (2, 0)],
         [(3, 0), (1, 0)],
     ];
-    let mut oracle = Recording::new(alloc, of_two_letters(alloc, &rows)?);
+    of_two_letters(alloc, &rows)
+}
+
+/// The second suite has a a b a a as the first word on which the machine differs, and it differs at the fourth letter.
+#[test]
+fn a_word_of_the_suite_is_cut_to_its_front(rt: HostRuntime) -> Result<(), Fail> {
+    let alloc = rt.alloc();
+    let mut oracle = Recording::new(alloc, of_four_states(alloc)?);
     let learned = found(learn(&mut oracle, alloc, 2, 2, Kind::Table, 1, 12))?;
     assert_eq!(rt; learned.model.states(), 4);
     assert_eq!(rt; learned.refinements(), 2);
@@ -172,6 +202,62 @@ fn a_word_of_the_suite_is_cut_to_its_front(rt: HostRuntime) -> Result<(), Fail> 
     assert!(rt; oracle.asked(8, &[&[A, A, B, A]]));
     Ok(())
 }
+
+/// A new suffix is asked of the rows by number, whatever the length of their words, and an access word's cells stand where its
+/// word is an extension.
+#[test]
+fn cells_are_asked_row_by_row(rt: HostRuntime) -> Result<(), Fail> {
+    let alloc = rt.alloc();
+    let mut oracle = Recording::new(alloc, of_four_states(alloc)?);
+    let learned = learn(&mut oracle, alloc, 2, 2, Kind::Table, 1, 12);
+    assert!(rt; learned.is_ok());
+    assert!(rt;
+        oracle.asked(
+            4,
+            &[
+                &[A, A],
+                &[A, A, A],
+                &[B, A, A],
+                &[B, A, A, A],
+                &[B, B, A, A]
+            ]
+        )
+    );
+    assert!(rt; oracle.asked(5, FIFTH));
+    assert!(rt; oracle.asked(9, NINTH));
+    assert!(rt; oracle.asked(10, TENTH));
+    Ok(())
+}
+
+static FIFTH: &[&[u16]] = &[
+    &[A, A, A],
+    &[A, A, B],
+    &[A, A, A, A],
+    &[A, B, A],
+    &[A, B, B],
+    &[A, B, A, A],
+];
+
+static NINTH: &[&[u16]] = &[
+    &[B, A],
+    &[A, B, A],
+    &[B, B, A],
+    &[B, A, B, A],
+    &[B, B, B, A],
+    &[A, A, B, A],
+    &[A, B, B, A],
+];
+
+static TENTH: &[&[u16]] = &[
+    &[A, A, A, A],
+    &[A, A, A, B],
+    &[A, A, A, A, A],
+    &[A, A, A, B, A],
+    &[A, A, B, A],
+    &[A, A, B, B],
+    &[A, A, B, A, A],
+    &[A, A, B, B, A],
+];
 
 /// Of 25 letters and four extra states a suite is too large even for one state: 1 + 25 + .. + 25^5.
 #[test]

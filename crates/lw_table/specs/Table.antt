@@ -44,7 +44,7 @@ pub record IsRow (b : ℕ) (suffixes row : List (List ℕ)) : Type 0 where
   pub whole : (k : ℕ) → k < length row → length (word_at row k) ≡ length (word_at suffixes k)
   pub below : All (IsWord b) row
 
--- the access word q is the extension of an earlier one, whose row it has
+-- the access word q is an extension of an earlier one, and has that extension's row
 pub record Extends (a : ℕ) (access : List (List ℕ)) (q home : ℕ) : Type 0 where
   pub from : ℕ
   pub letter : ℕ

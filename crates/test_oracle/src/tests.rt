@@ -47,3 +47,31 @@ fn an_oracle_settles_each_word_once(rt: HostRuntime) -> Result<(), Fail> {
     assert!(rt; !oracle.asked(2, [[0u16].as_slice()].as_slice()));
     Ok(())
 }
+
+/// Settles three words, of which one stands twice.
+fn settles_three<O: Oracle>(oracle: &mut O, alloc: Global) -> Result<(), Fail>
+    requires inputs { (O.state oracle.old).inputs ≡ 2 }
+    requires can { O.can_settle oracle.old }
+{
+    let batch = vec![in alloc; word(alloc, &[1])?, word(alloc, &[0])?, word(alloc, &[1])?]?;
+    let settled = oracle.settle(&batch);
+    let Ok(()) = settled else {
+        return Err(Fail::from("the batch was refused"));
+    };
+    Ok(())
+}
+
+#[test]
+fn a_batch_keeps_its_order(rt: HostRuntime) -> Result<(), Fail> {
+    let alloc = rt.alloc();
+    let rows = vec![in alloc; vec![in alloc; (0u16, 0u16), (0, 1)]?]?;
+    let Ok(mealy) = Mealy::new(alloc, 2, 2, rows) else {
+        return Err(Fail::from("the machine is one"));
+    };
+    let mut oracle = Recording::new(alloc, mealy);
+    settles_three(&mut oracle, alloc)?;
+    let expected = [[1u16].as_slice(), [0u16].as_slice(), [1u16].as_slice()];
+    assert!(rt; oracle.asked(0, expected.as_slice()));
+    assert_eq!(rt; oracle.cache().kept().len(), 2);
+    Ok(())
+}

@@ -35,11 +35,11 @@ abbrev pub IsTested : MealyMachine → ℕ → List Answer → Tested → Type 0
 IsTested h k ks (tested.Differs word) = Differs h.rows ks word
 IsTested h k ks (tested.Sure model) = IsSureOf h k ks model
 
--- what is so where a test stops; it finds no crowd
-abbrev pub StopsTest : ℕ → ℕ → ℕ → List Answer → LearnStop → Type 0
-StopsTest a b k ks (learn.Ask stop) = Unit {0}
-StopsTest a b k ks (learn.Crowd words) = ⊥
-StopsTest a b k ks (learn.TooLarge model number) = IsTooLarge a b k ks model number
+-- what is so where a test of a machine of n states stops; it finds no crowd
+abbrev pub StopsTest : ℕ → ℕ → ℕ → ℕ → List Answer → LearnStop → Type 0
+StopsTest a b k n ks (learn.Ask stop) = Unit {0}
+StopsTest a b k n ks (learn.Crowd words) = ⊥
+StopsTest a b k n ks (learn.TooLarge model number) = IsTooLarge a b k n ks model number
 
 -- what is so where a table that was to be refined stops
 abbrev pub StopsGrowth : ℕ → List Answer → GrowStop → Type 0

@@ -133,7 +133,7 @@ fn one_access_word_too_many(rt: HostRuntime) -> Result<(), Fail> {
     Ok(())
 }
 
-/// The machine that answers 1 to the last letter of a b a b alone.
+/// The machine that answers 1 to the last letter of a b a b, each time from its start.
 fn lock(alloc: Global) -> Result<Mealy, Fail> {
     let rows = [
         [(1, 0), (4, 0)],
@@ -151,5 +151,26 @@ fn a_lock_shows_nothing_at_first(rt: HostRuntime) -> Result<(), Fail> {
     let trial = closed(alloc, lock(alloc)?, 5)?;
     assert_eq!(rt; trial.oracle.batches().len(), 1);
     assert!(rt; are(trial.table.suffixes(), &[&[A], &[B]]));
+    Ok(())
+}
+
+/// Two rows are open at once: that of a becomes an access word's first, its extensions are asked, and then that of b.
+#[test]
+fn the_first_open_row_comes_first(rt: HostRuntime) -> Result<(), Fail> {
+    let alloc = rt.alloc();
+    let rows = [[(1, 0), (2, 0)], [(1, 1), (1, 0)], [(2, 0), (2, 1)]];
+    let trial = closed(alloc, of_two_letters(alloc, &rows)?, 3)?;
+    assert!(rt;
+        trial
+            .oracle
+            .asked(1, &[&[A, A, A], &[A, A, B], &[A, B, A], &[A, B, B]])
+    );
+    assert!(rt;
+        trial
+            .oracle
+            .asked(2, &[&[B, A, A], &[B, A, B], &[B, B, A], &[B, B, B]])
+    );
+    assert_eq!(rt; trial.oracle.batches().len(), 3);
+    assert!(rt; are(trial.table.access(), &[&[], &[A], &[B]]));
     Ok(())
 }

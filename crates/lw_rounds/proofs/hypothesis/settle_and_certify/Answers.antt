@@ -1,9 +1,11 @@
-use Rattle.std.proofs.Common.{List, sym, ◌∙◌, subst}
+use Rattle.std.proofs.Common.{ℕ, List, sym, ◌∙◌, subst}
 use Rattle.lw_words.specs.Answer.{answers_of}
 use Rattle.lw_words.specs.declared.kept.KeptAnswer.{KeptAnswer}
 use Rattle.lw_certify.specs.Verdict.{IsVerdict}
 use Rattle.lw_certify.specs.declared.verdict.Verdict.TheVariants.{Sure}
 use Rattle.lw_cache.proofs.SettlingLemmas.{kept_are_answers}
+use Rattle.lw_separate.specs.Canonical.{IsCanonical}
+use Rattle.lw_rounds.proofs.CanonicalLemmas.{of_itself}
 use Rattle.lw_rounds.proofs.HypothesisLemmas.{suite_words, kept_words, passes_sure}
 use Rattle.lw_rounds.proofs.hypothesis.settle_and_certify.Goals as goal
 
@@ -23,3 +25,7 @@ certified-requires-clause-sure g c =
     subst (λ (kept : List KeptAnswer). IsVerdict c.args.model.inputs c.args.model.rows (answers_of kept) c.args.extra Sure) (sym c.cache.ensures.kept)
     (passes_sure a c.args.model.inputs c.args.hypothesis.now.rows c.args.model.rows (answers_of now.kept) c.args.extra c.args.suite c.requires.alphabets.0 c.requires.canonical
     (kept_are_answers now a (c.requires.inputs ∙ sym leaves.same.inputs) leaves.keeps) c.requires.suite c.requires.size (rw c.in-None.is at c.in_ok-found.ensures.comes))
+
+pub certified-requires-clause-canonical : goal.certified-requires-clause-canonical
+certified-requires-clause-canonical g c =
+    subst (λ (a : ℕ). IsCanonical a c.args.model.rows c.args.model.rows) (sym c.requires.alphabets.0) (of_itself c.args.hypothesis.now.inputs c.args.hypothesis.now.rows c.args.model.rows c.requires.canonical)

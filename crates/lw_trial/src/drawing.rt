@@ -1,0 +1,92 @@
+//! Machines that are drawn by a number.
+ghost use Rattle.std.specs.Prelude.{◌≡◌, ℕ, ◌+◌, ◌*◌, ◌-◌, ◌%◌, ◌<◌, ◌≤◌, map, nat_eq, if◌then◌else◌, IfOk, OnOk};
+ghost use Rattle.std.specs.List.{range_with_len};
+ghost use Rattle.lw_mealy.specs.Limits.{IsWithinLimits, mealy_of};
+ghost use Rattle.lw_trial.specs.Drawn.{after_words, word_at, drawn_cell, drawn_rows};
+
+use lw_mealy::{Mealy, MealyFault};
+use lw_words::NoMemory;
+use rand_core::SeedableRng;
+use rand_core::utils::NextWord;
+use rand_pcg::Lcg128Xsl64;
+use std::alloc::Global;
+
+/// The next state, and from the last the first; the last alone has output 1.
+fn round_pair(states: u16, state: u16) -> (u16, u16)
+    requires state { state < states }
+    requires few { states ≤ 1024 }
+    ensures target { result.0 ≡ (state + 1) % states }
+    ensures output { result.1 ≡ (if nat_eq (state + 1) states then 1 else 0) }
+{
+    ((state + 1) % states, u16::from(state + 1 == states))
+}
+
+/// A target among so many states, and an output: two words.
+fn drawn_pair(random: &mut Lcg128Xsl64, states: u16) -> (u16, u16)
+    requires { 0 < states }
+    ensures target { result.0 ≡ word_at random.old 0 % states }
+    ensures output { result.1 ≡ word_at random.old 1 % 2 }
+    ensures random { random.new ≡ after_words random.old 2 }
+{
+    let target = random.next_word() % u64::from(states);
+    let output = random.next_word() % 2;
+    (target as u16, output as u16)
+}
+
+/// The row of a state.
+fn drawn_state(
+    alloc: Global,
+    random: &mut Lcg128Xsl64,
+    states: u16,
+    inputs: u16,
+    state: u16,
+) -> Result<Vec<(u16, u16)>, NoMemory>
+    requires state { state < states }
+    requires few { states ≤ 1024 }
+    requires inputs { 1 ≤ inputs }
+    ensures row { IfOk result (λ row. row.items ≡ map (drawn_cell random.old states state)
+        (range_with_len 0 inputs)) }
+    ensures random { OnOk result (random.new ≡ after_words random.old (2 * (inputs - 1))) }
+{
+    let mut row = Vec::with_capacity(alloc, usize::from(inputs))?;
+    row.push(round_pair(states, state))?;
+    for _ in 1..inputs {
+        row.push(drawn_pair(random, states))?;
+    }
+    Ok(row)
+}
+
+/// The machine of these rows.
+fn machine_of(
+    alloc: Global,
+    inputs: u16,
+    outputs: u16,
+    rows: Vec<Vec<(u16, u16)>>,
+) -> Result<Mealy, NoMemory>
+    requires { IsWithinLimits (mealy_of inputs outputs (map (λ r. r.items) rows.items)) }
+    ensures { IfOk result (λ m. m ≡ mealy_of inputs outputs (map (λ r. r.items) rows.items)) }
+{
+    match Mealy::new(alloc, inputs, outputs, rows) {
+        Ok(mealy) => Ok(mealy),
+        Err(MealyFault::NoMemory) => Err(NoMemory),
+        Err(_) => unreachable!(),
+    }
+}
+
+/// A machine of so many states and inputs and two outputs, drawn by a seed. Letter 0 goes round the states, and has output 1 at
+/// the last alone; targets and outputs of the other letters are the words of PCG with 128 bits of state (O'Neill 2014).
+///
+/// # Errors
+/// Only where memory runs out.
+pub fn drawn(alloc: Global, states: u16, inputs: u16, seed: u64) -> Result<Mealy, NoMemory>
+    requires states { (1 ≤ states) × (states ≤ 1024) }
+    requires inputs { (1 ≤ inputs) × (inputs ≤ 64) }
+    ensures { IfOk result (λ m. m ≡ mealy_of inputs 2 (drawn_rows states inputs seed)) }
+{
+    let mut random = Lcg128Xsl64::seed_from_u64(seed);
+    let mut rows = Vec::with_capacity(alloc, usize::from(states))?;
+    for state in 0..states {
+        rows.push(drawn_state(alloc, &mut random, states, inputs, state)?)?;
+    }
+    machine_of(alloc, inputs, 2, rows)
+}
