@@ -175,7 +175,7 @@ fn a_word_that_begins_a_claimed_one_is_not_handed_out(rt: HostRuntime) -> Result
     let alloc = rt.alloc();
     let batch = words(alloc, &[&[0], &[0, 1], &[]])?;
     let mut desk = Trial::declared(alloc, &names(alloc, &["0"])?, batch, 2)?;
-    assert_eq!(rt; desk.ask(0, wants(alloc, 1))?, (false, false, 1));
+    assert_eq!(rt; desk.ask(0, wants(alloc, 1))?, (false, false, 0));
     assert_eq!(rt; desk.held(0), [1].as_slice());
     assert_eq!(rt; desk.ask(1, wants(alloc, 1))?, (true, false, 0));
     assert_eq!(rt; desk.held(1), [].as_slice());
