@@ -1,7 +1,7 @@
 -- What the steps of a board keep.
-use Rattle.std.proofs.Common.{◌≡◌, ◌≢◌, ◌⊎◌, inl, inr, ⊎_elim, ℕ, zero, suc, ◌+◌, ◌-◌, ◌<◌, ◌≤◌, ◌==◌, not, List, [], ◌∷◌, ◌++◌, length, map, filter, take, drop, get_or, set, All, Contains, Bool, true, false, cond, Option, None, refl, ap, sym, ◌∙◌, subst, arith, ◌^◌, append-nil}
+use Rattle.std.proofs.Common.{◌≡◌, ◌≢◌, ◌⊎◌, inl, inr, ⊎_elim, ℕ, zero, suc, ◌+◌, ◌<◌, ◌≤◌, ◌==◌, not, List, [], ◌∷◌, ◌++◌, length, map, filter, take, drop, get_or, set, All, Contains, Bool, true, false, cond, Option, None, refl, ap, sym, ◌∙◌, subst, arith, ◌^◌, append-nil}
 use Rattle.std.proofs.lemmas.Bool.{false≢true, cases_eq}
-use Rattle.std.proofs.lemmas.List.{get_or-map, get_or_default, get_or_append_left, length-append, get_or-set_other, drop_more, get_or-drop, length-drop, length-map, length-set, map_push, nil_from_length}
+use Rattle.std.proofs.lemmas.List.{get_or-map, get_or_default, get_or_append_left, length-append, get_or-set_other, drop_more, length-map, length-set, map_push, nil_from_length}
 use Rattle.std.proofs.lemmas.List.Elements.{All-head, All-tail, All-push, All-weaker, All-filter, All-contains, Contains-get_or, Contains-push_cases, Contains-push, Contains-append_left}
 use Rattle.std.proofs.lemmas.List.Sums.{sum_by-cons}
 use Rattle.lw_words.specs.Answer.{answers_of}
@@ -74,15 +74,6 @@ apart_push p (n ∷ ns) apart new = (
   apart_push p ns apart.1 (λ c. new (contains_cons n p ns c)),
 )
 
--- what holds of a list from a place on holds of each later place
-pub at_from : (n : ℕ) (xs : List ℕ) (from at : ℕ) → from ≤ at → at < length xs → All (λ p. p < n) (drop from xs) → get_or xs at 0 < n
-at_from n xs from at le lt all =
-    let h : get_or (drop from xs) (at - from) 0 < n = all (at - from) 0 (omega (arith, lt, length-drop from xs)) in
-    subst (λ (p : ℕ). p < n) (get_or-drop from xs (at - from) 0 ∙ ap (λ (i : ℕ). get_or xs i 0) sum) h
-  where
-    sum : from + (at - from) ≡ at
-    sum = omega (arith, le)
-
 -- a number that is claimed is in use
 pub used : (claims : List Claim) (n : ℕ) → Contains (numbers_of claims) n → ¬ IsUnused claims n
 used claims n c unused =
@@ -132,9 +123,6 @@ module _ (batch words : List (List ℕ)) (claims : List Claim) (places : All (Is
 
   pub claim_of_place : (n : ℕ) → Contains (numbers_of claims) n → IsClaimOf claims n (word_at batch n)
   claim_of_place n c = number_found n c
-
-  pub claimed_by : (n : ℕ) (w : List ℕ) → Contains (numbers_of claims) n → IsPrefix w (word_at batch n) → IsClaimedBy claims w n
-  claimed_by n w c p = let f = number_found n c in (f.0, f.1, f.2, subst (IsPrefix w) (sym f.3) p)
 
   pub claimed_at : (n : ℕ) (w : List ℕ) → IsClaimedBy claims w n → Contains (numbers_of claims) n × IsPrefix w (word_at batch n)
   claimed_at n w c = (

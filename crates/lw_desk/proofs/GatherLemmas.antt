@@ -441,10 +441,7 @@ words_rank words = record {
       | Greater ↦ λ e less. refl
     ]
 
--- whether a place is one of them, from the last one on
-pub whole_drops : (words : List (List ℕ)) (places : List ℕ) (at : ℕ) (whole : List ℕ) → (lt : at < length places) → BeginsNext words (get_or places at 0) (drop (at + 1) places) → AreWholeOf words (drop (at + 1) places) whole → AreWholeOf words (drop at places) whole
-whole_drops words places at whole lt begins are = subst (λ (l : List ℕ). AreWholeOf words l whole) (sym (drop_more places at 0 lt)) (inl (begins, are))
-
+-- a place is one of them, from the last one on
 pub whole_keeps : (words : List (List ℕ)) (places : List ℕ) (at p : ℕ) (whole : List ℕ) → (lt : at < length places) → p ≡ get_or places at 0 → ¬ BeginsNext words (get_or places at 0) (drop (at + 1) places) → AreWholeOf words (drop (at + 1) places) whole → AreWholeOf words (drop at places) (whole ++ p ∷ [])
 whole_keeps words places at p whole lt here begins are =
     subst (λ (q : ℕ). AreWholeOf words (drop at places) (whole ++ q ∷ [])) (sym here)

@@ -70,11 +70,6 @@ module _ (b : BoardState) (s : DeskState) (agrees : Agrees b s) where
         stop = agrees.stop ∙ sym stop;
       }
 
-  -- nothing changes
-  pub agrees_same : (now : BoardState) → now.naming ≡ b.naming → now.kept ≡ b.kept → now.claimed ≡ b.claimed → now.stop ≡ b.stop → Agrees now s
-  agrees_same now naming kept claimed stop =
-      record { naming = agrees.naming ∙ sym naming; kept = agrees.kept ∙ sym kept; claims = agrees.claims ∙ sym claimed; stop = agrees.stop ∙ sym stop }
-
   -- an answer is given
   pub agrees_give : (now : BoardState) (actor : ℕ) (g : Give) → now.naming ≡ bring b.naming actor g.names → now.kept ≡ b.kept ++ kept_of b.batch (bring b.naming actor g.names) actor g ∷ [] → now.claimed ≡ without_number g.place b.claimed
       → StopsBy b.stop (answers_of b.kept) (answer_of (kept_of b.batch (bring b.naming actor g.names) actor g)) now.stop → (t : DeskState) × Gives b.batch actor g s t × Agrees now t

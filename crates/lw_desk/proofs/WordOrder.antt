@@ -17,10 +17,6 @@ cmp_equal a b same = grind (arith, nat_tests)
 pub cmp_greater : (a b : ℕ) → b < a → nat_cmp a b ≡ Greater
 cmp_greater a b lt = grind (arith, nat_tests)
 
-pub up_to_self : (u : List ℕ) → IsUpTo u u
-up_to_self [] = tt
-up_to_self (x ∷ u) = inr (refl, up_to_self u)
-
 pub up_to_both : (u v : List ℕ) → IsUpTo u v → IsUpTo v u → u ≡ v
 up_to_both [] [] a b = refl
 up_to_both [] (y ∷ v) a b = absurd b

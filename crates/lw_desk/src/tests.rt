@@ -127,7 +127,6 @@ fn longer_words_come_first_and_then_smaller_places(rt: HostRuntime) -> Result<()
 
 static CLAIMED: [Turn; 3] = [
     Turn {
-        told: (false, false, 1),
         held: &[1],
         ..WANTS
     },
