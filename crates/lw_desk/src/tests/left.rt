@@ -1,5 +1,5 @@
 //! How many words are left: only those that have to be asked.
-use crate::tests::words;
+use crate::tests::turns::words;
 use crate::{Desk, OutNames};
 use lw_cache::Cache;
 use lw_words::Word;

@@ -11,7 +11,7 @@ fn word(alloc: Global, letters: &[u16]) -> Result<Word, Fail> {
     Ok(Word::from_letters(alloc, letters.to_vec(alloc)?))
 }
 
-fn words(alloc: Global, list: &[&[u16]]) -> Result<Vec<Word>, Fail> {
+pub fn words(alloc: Global, list: &[&[u16]]) -> Result<Vec<Word>, Fail> {
     let mut words = Vec::new(alloc);
     for letters in list {
         words.push(word(alloc, letters)?)?;
