@@ -3,7 +3,7 @@ use Rattle.std.proofs.Common.{◌≡◌, ◌≢◌, inl, inr, ⊎_elim, ℕ, zer
 use Rattle.std.proofs.Math.ListN.{get_or-append}
 use Rattle.std.proofs.Math.Seq.{get_or-append_seam}
 use Rattle.std.proofs.lemmas.Bool.{cases_lt}
-use Rattle.std.proofs.lemmas.List.{length-append, length-replicate, get_or-append_right}
+use Rattle.std.proofs.lemmas.List.{length-append, length-replicate, get_or-append_right, get_or_past}
 use Rattle.std.proofs.lemmas.List.Elements.{All-append, All-push, All-replicate, All-nil}
 use Rattle.lw_words.specs.Answer.{Answer}
 use Rattle.lw_words.specs.Word.{IsWord}
@@ -160,6 +160,14 @@ module _ (t : TableState) (word : List ℕ) (j : ℕ) (g : IsTable t) (is : IsRo
             (cases_lt q (length t.access));
       }
 
+  -- past the rows that were there are rows without cells, or none
+  empty_past : (i : ℕ) → length t.cells ≤ i → row_at after i ≡ []
+  empty_past i past = get_or-append_right t.cells (replicate t.inputs []) (length t.cells) i [] refl past ∙ nothing t.inputs (i - length t.cells)
+
+  row_still : (i : ℕ) → row_at after i ≡ row_at t i
+  row_still i =
+      ⊎_elim (λ (inside : i < length t.cells). row_stays_at i inside) (λ (past : length t.cells ≤ i). empty_past i past ∙ sym (get_or_past t.cells i [] past)) (cases_lt i (length t.cells))
+
   pub access_grown : (ks : List Answer) → IsTable after → CellsAreRead ks t → HasGrown ks t after
   access_grown ks table read =
       record {
@@ -169,6 +177,9 @@ module _ (t : TableState) (word : List ℕ) (j : ℕ) (g : IsTable t) (is : IsRo
         more = word ∷ [];
         access = refl;
         rows = rows_on t.cells after.cells (λ i lt. ([], row_stays_at i lt ∙ sym (append-nil (row_at t i))));
+        longer = omega (arith, cells_longer);
+        whole = inl row_still;
+        each_new = λ i ge lt. inl (empty_past i ge);
         homes = home_stays;
         table = table;
         read = access_read ks read;

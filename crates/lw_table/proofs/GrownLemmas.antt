@@ -1,6 +1,7 @@
 -- What a table gains, from one step to the next.
-use Rattle.std.proofs.Common.{◌≡◌, ◌≢◌, inl, ℕ, ◌+◌, ◌<◌, List, [], ◌∷◌, ◌++◌, length, refl, ap, sym, ◌∙◌, subst, Result, Ok, Err, arith, append-nil, append_assoc}
+use Rattle.std.proofs.Common.{◌≤◌, ◌≡◌, ◌≢◌, ⊎_elim, inl, inr, ℕ, ◌+◌, ◌<◌, List, [], ◌∷◌, ◌++◌, length, refl, ap, sym, ◌∙◌, subst, Result, Ok, Err, arith, append-nil, append_assoc}
 use Rattle.std.specs.Bool.{⊤}
+use Rattle.std.proofs.lemmas.Bool.{cases_lt}
 use Rattle.std.proofs.lemmas.List.{length-append, get_or_default}
 use Rattle.std.proofs.lemmas.List.Quantifiers.{all_pairs_push}
 use Rattle.lw_words.specs.Answer.{Answer}
@@ -26,6 +27,9 @@ not_grown ks t table read =
       more = [];
       access = sym (append-nil t.access);
       rows = λ j. ([], sym (append-nil (row_at t j)));
+      longer = omega arith;
+      whole = inl (λ j. refl);
+      each_new = λ j ge lt. absurd (omega (arith, ge, lt));
       homes = λ q lt. refl;
       table = table;
       read = read;
@@ -59,8 +63,8 @@ not_refined ks suffix t stop table read =
     }
 
 -- one step after another
-pub grown_then : (first ks : List Answer) (a b c : TableState) → HasGrown first a b → HasGrown ks b c → HasGrown ks a c
-grown_then first ks a b c one two =
+pub grown_then : (first ks : List Answer) (a b c : TableState) → HasGrown first a b → HasGrown ks b c → c.suffixes ≡ b.suffixes → HasGrown ks a c
+grown_then first ks a b c one two same =
     record {
       inputs = two.inputs ∙ one.inputs;
       outputs = two.outputs ∙ one.outputs;
@@ -71,11 +75,32 @@ grown_then first ks a b c one two =
           let r = one.rows j in
           let s = two.rows j in
           (r.0 ++ s.0, s.1 ∙ (ap (λ (l : List (List ℕ)). l ++ s.0) r.1 ∙ append_assoc (row_at a j) r.0 s.0));
+      longer = omega (arith, one.longer, two.longer);
+      whole = ⊎_elim
+          (λ (still : (j : ℕ) → row_at c j ≡ row_at b j). ⊎_elim
+          (λ (before : (j : ℕ) → row_at b j ≡ row_at a j). inl (λ j. still j ∙ before j))
+          (λ (full : (j : ℕ) → j < length a.cells → length (row_at b j) ≡ length b.suffixes). inr (λ j lt. full_still j (still j) (full j lt)))
+          one.whole)
+          (λ (full : (j : ℕ) → j < length b.cells → length (row_at c j) ≡ length c.suffixes). inr (λ j lt. full j (omega (arith, lt, one.longer))))
+          two.whole;
+      each_new = λ j ge lt. ⊎_elim
+          (λ (inside : j < length b.cells). ⊎_elim
+          (λ (still : (i : ℕ) → row_at c i ≡ row_at b i). ⊎_elim
+          (λ (none : row_at b j ≡ []). inl (still j ∙ none))
+          (λ (full : length (row_at b j) ≡ length b.suffixes). inr (full_still j (still j) full))
+          (one.each_new j ge inside))
+          (λ (full : (i : ℕ) → i < length b.cells → length (row_at c i) ≡ length c.suffixes). inr (full j inside))
+          two.whole)
+          (λ (past : length b.cells ≤ j). two.each_new j past lt)
+          (cases_lt j (length b.cells));
       homes = λ q lt. two.homes q (omega (arith, lt, count)) ∙ one.homes q lt;
       table = two.table;
       read = two.read;
     }
   where
+    full_still : (j : ℕ) → row_at c j ≡ row_at b j → length (row_at b j) ≡ length b.suffixes → length (row_at c j) ≡ length c.suffixes
+    full_still j still full = ap (λ (r : List (List ℕ)). length r) still ∙ (full ∙ ap (λ (l : List (List ℕ)). length l) (sym same))
+
     count : length b.access ≡ length a.access + length one.more
     count = ap (λ (l : List (List ℕ)). length l) one.access ∙ length-append a.access one.more
 

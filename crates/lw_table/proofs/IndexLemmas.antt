@@ -1,5 +1,5 @@
 -- Tables whose rows are kept by class.
-use Rattle.std.proofs.Common.{◌≡◌, ◌≢◌, ⊎_elim, ℕ, zero, suc, ◌+◌, ◌-◌, ◌<◌, ◌≤◌, List, [], ◌∷◌, ◌++◌, length, map, take, get_or, replicate, Option, Some, None, refl, ap, sym, ◌∙◌, subst, arith, append-nil}
+use Rattle.std.proofs.Common.{inr, ◌≡◌, ◌≢◌, ⊎_elim, ℕ, zero, suc, ◌+◌, ◌-◌, ◌<◌, ◌≤◌, List, [], ◌∷◌, ◌++◌, length, map, take, get_or, replicate, Option, Some, None, refl, ap, sym, ◌∙◌, subst, arith, append-nil}
 use Rattle.std.specs.List.{All, AllPairs}
 use Rattle.std.specs.Option.{MatchOption}
 use Rattle.std.proofs.Math.ListN.{get_or-append}
@@ -131,6 +131,9 @@ module _ (ks : List Answer) (a b most : ℕ) (access suffixes : List (List ℕ))
           more = [];
           access = sym (append-nil access);
           rows = rows_on (rows_by classes rows) (rows_by now filled) (λ j lt. let w = some_word j lt in let on = has_filled.each j w.0 (omega (arith, lt, has_filled.size)) w.1 in (on.cells, on.longer));
+          longer = let even = has_filled.size in omega (arith, even);
+          whole = inr (λ j lt. has_filled.full j (let even = has_filled.size in omega (arith, lt, even)));
+          each_new = λ j ge lt. absurd (let even = has_filled.size in omega (arith, ge, lt, even));
           homes = λ q lt. refl;
           table = after_is_table;
           read = filled_is_read ks before (rows_by now filled) g are below has_filled read;

@@ -135,10 +135,10 @@ room_to_count t now g more same = let r = g.refined in omega (arith, r, more, sa
 
 pub has_refined : (first ks : List Answer) (suffix : List ℕ) (t now last : TableState) → HasGrown first t (with_suffix t suffix) → HasClosed ks (with_suffix t suffix) now (Ok tt) → length t.access < length now.access → last ≡ refined_once now → IsTable last → HasRefined ks suffix t last (Ok tt)
 has_refined first ks suffix t now last one done more is table =
-    let grown = grown_then first ks t (with_suffix t suffix) now one done.grown in
+    let grown = grown_then first ks t (with_suffix t suffix) now one done.grown done.suffixes in
     subst (λ (u : TableState). HasRefined ks suffix t u (Ok tt)) (sym is)
     (record {
-      grown = record { inputs = grown.inputs; outputs = grown.outputs; most = grown.most; more = grown.more; access = grown.access; rows = grown.rows; homes = grown.homes; table = subst (λ (u : TableState). IsTable u) is table; read = record { first = grown.read.first; extensions = grown.read.extensions } };
+      grown = record { inputs = grown.inputs; outputs = grown.outputs; most = grown.most; more = grown.more; access = grown.access; rows = grown.rows; longer = grown.longer; whole = grown.whole; each_new = grown.each_new; homes = grown.homes; table = subst (λ (u : TableState). IsTable u) is table; read = record { first = grown.read.first; extensions = grown.read.extensions } };
       closed = record { filled = done.closed.filled; targets = done.closed.targets };
       split = more;
       added = done.suffixes;
@@ -151,7 +151,7 @@ has_refined first ks suffix t now last one done more is table =
 pub not_all_refined : (first ks : List Answer) (suffix : List ℕ) (t now : TableState) (stop : GrowStop) → HasGrown first t (with_suffix t suffix) → HasClosed ks (with_suffix t suffix) now (Err stop) → HasRefined ks suffix t now (Err stop)
 not_all_refined first ks suffix t now stop one done =
     record {
-      grown = grown_then first ks t (with_suffix t suffix) now one done.grown;
+      grown = grown_then first ks t (with_suffix t suffix) now one done.grown done.suffixes;
       closed = tt;
       split = tt;
       added = tt;

@@ -1,5 +1,5 @@
 -- A table with a suffix more.
-use Rattle.std.proofs.Common.{◌≡◌, ◌≢◌, ℕ, ◌+◌, ◌<◌, List, [], ◌∷◌, ◌++◌, length, refl, ap, sym, ◌∙◌, subst, arith, append-nil}
+use Rattle.std.proofs.Common.{◌≡◌, ◌≢◌, inl, ℕ, ◌+◌, ◌<◌, List, [], ◌∷◌, ◌++◌, length, refl, ap, sym, ◌∙◌, subst, arith, append-nil}
 use Rattle.std.proofs.Math.ListN.{get_or-append}
 use Rattle.std.proofs.lemmas.List.{length-append, take-append-le}
 use Rattle.std.proofs.lemmas.List.Elements.{All-push}
@@ -66,6 +66,9 @@ module _ (t : TableState) (e : List ℕ) (g : IsTable t) where
         more = [];
         access = sym (append-nil t.access);
         rows = λ j. ([], sym (append-nil (row_at t j)));
+        longer = omega arith;
+        whole = inl (λ j. refl);
+        each_new = λ j ge lt. absurd (omega (arith, ge, lt));
         homes = λ q lt. refl;
         table = suffixed letters some;
         read = suffix_read ks read;

@@ -1,5 +1,5 @@
 -- What a call that asks leaves of a table.
-use Rattle.std.specs.Prelude.{◌≡◌, ◌⊎◌, ℕ, ◌+◌, ◌<◌, List, [], ◌∷◌, ◌++◌, length, Result, Err, OnOk, OnErr, ⊤}
+use Rattle.std.specs.Prelude.{◌≡◌, ◌⊎◌, ℕ, ◌+◌, ◌<◌, ◌≤◌, List, [], ◌∷◌, ◌++◌, length, Result, Err, OnOk, OnErr, ⊤}
 use Rattle.lw_words.specs.Answer.{Answer}
 use Rattle.lw_cache.specs.Crowd.{IsCrowd}
 use Rattle.lw_cache.specs.Cut.{word_at}
@@ -8,7 +8,8 @@ use Rattle.lw_cache.specs.declared.stops.GrowStop.TheVariants.{Crowd}
 use Rattle.lw_table.specs.Table.{TableState, row_at, home_at, IsTable, CellsAreRead, IsClosed}
 
 -- the same numbers, more access words at the end, rows that go on as they began, access words whose rows are where they were,
--- and cells that are what the answers say
+-- and cells that are what the answers say; cells are filled together: the rows that were there are as they were, or each has a
+-- cell for each suffix, and a row that is new has none or one for each
 pub record HasGrown (ks : List Answer) (before now : TableState) : Type 0 where
   pub inputs : now.inputs ≡ before.inputs
   pub outputs : now.outputs ≡ before.outputs
@@ -16,6 +17,9 @@ pub record HasGrown (ks : List Answer) (before now : TableState) : Type 0 where
   pub more : List (List ℕ)
   pub access : now.access ≡ before.access ++ more
   pub rows : (j : ℕ) → (cells : List (List ℕ)) × (row_at now j ≡ row_at before j ++ cells)
+  pub longer : length before.cells ≤ length now.cells
+  pub whole : ((j : ℕ) → row_at now j ≡ row_at before j) ⊎ ((j : ℕ) → j < length before.cells → length (row_at now j) ≡ length now.suffixes)
+  pub each_new : (j : ℕ) → length before.cells ≤ j → j < length now.cells → (row_at now j ≡ []) ⊎ (length (row_at now j) ≡ length now.suffixes)
   pub homes : (q : ℕ) → q < length before.access → home_at now q ≡ home_at before q
   pub table : IsTable now
   pub read : CellsAreRead ks now

@@ -1,4 +1,4 @@
-use Rattle.std.proofs.Common.{rules, ◌≡◌, ℕ, ◌<◌, length, sym, ◌∙◌, subst}
+use Rattle.std.proofs.Common.{ap, rules, ◌≡◌, ℕ, ◌<◌, length, sym, ◌∙◌, subst}
 use Rattle.lw_words.specs.Answer.{answers_of}
 use Rattle.lw_cache.proofs.SettlingLemmas.{leaves_nothing, leaves_grown_own}
 use Rattle.lw_table.specs.Grown.{HasGrown}
@@ -68,7 +68,7 @@ returns-in_err-fill_new-clause-grown g c =
     let table : IsTable t = subst (λ (u : TableState). IsTable u) c.self.view_is c.self.invariant.0 in
     let added = c.in_ok-add_access.ensures.ok in
     let one : HasGrown ks t c.add_access.new.self = subst (λ (u : TableState). HasGrown ks t u) (sym added.is) (access_grown t added.word c.args.row table added.of_row c.requires.row ks (subst (λ (u : TableState). IsTable u) added.is c.add_access.ensures.table) c.requires.read) in
-    grown_then ks (answers_of (g.O.Oracle.state c.fill_new.new.oracle).kept) t c.add_access.new.self c.fill_new.new.self one c.fill_new.ensures.grown
+    grown_then ks (answers_of (g.O.Oracle.state c.fill_new.new.oracle).kept) t c.add_access.new.self c.fill_new.new.self one c.fill_new.ensures.grown (ap (λ (u : TableState). u.suffixes) c.fill_new.ensures.cells)
 
 pub returns-clause-grown : goal.returns-clause-grown
 returns-clause-grown g c =
@@ -77,7 +77,7 @@ returns-clause-grown g c =
     let table : IsTable t = subst (λ (u : TableState). IsTable u) c.self.view_is c.self.invariant.0 in
     let added = c.in_ok-add_access.ensures.ok in
     let one : HasGrown ks t c.add_access.new.self = subst (λ (u : TableState). HasGrown ks t u) (sym added.is) (access_grown t added.word c.args.row table added.of_row c.requires.row ks (subst (λ (u : TableState). IsTable u) added.is c.add_access.ensures.table) c.requires.read) in
-    grown_then ks (answers_of (g.O.Oracle.state c.fill_new.new.oracle).kept) t c.add_access.new.self c.fill_new.new.self one c.fill_new.ensures.grown
+    grown_then ks (answers_of (g.O.Oracle.state c.fill_new.new.oracle).kept) t c.add_access.new.self c.fill_new.new.self one c.fill_new.ensures.grown (ap (λ (u : TableState). u.suffixes) c.fill_new.ensures.cells)
 
 pub returns-clause-state : goal.returns-clause-state
 returns-clause-state g c =

@@ -12,7 +12,7 @@ returns-in_err-add_state-clause-closes g c =
     let l = c.loop-row in
     let ks = answers_of (g.O.Oracle.state c.add_state.new.oracle).kept in
     let done = c.in_err-add_state.ensures in
-    let grown = grown_then (answers_of (g.O.Oracle.state l.oracle).kept) ks c.args.self.now l.self c.add_state.new.self l.invariant.grown done.grown in
+    let grown = grown_then (answers_of (g.O.Oracle.state l.oracle).kept) ks c.args.self.now l.self c.add_state.new.self l.invariant.grown done.grown done.suffixes in
     handed_closed ks c.args.self.now c.add_state.new.self c.in_err-add_state.field-0.0 c.from_residual-in_err-add_state.result
     (stopped_closed ks c.args.self.now c.add_state.new.self c.in_err-add_state.field-0.0 grown (done.suffixes ∙ l.invariant.suffixes) (done.refinements ∙ l.invariant.refinements) done.crowd) (search rules)
 
@@ -32,7 +32,7 @@ loop-row-preserved g c =
     let inside = c.in-Some.ensures.some in
     let states = states_then 1 l.from c.in-Some.row l.self l.invariant.states inside.2 in
     record {
-      grown = grown_then (answers_of (g.O.Oracle.state l.oracle).kept) ks c.args.self.now l.self c.add_state.new.self l.invariant.grown done.grown;
+      grown = grown_then (answers_of (g.O.Oracle.state l.oracle).kept) ks c.args.self.now l.self c.add_state.new.self l.invariant.grown done.grown done.suffixes;
       full = done.full;
       states = states_more ks l.self c.add_state.new.self l.invariant.grown.table done.grown l.invariant.full done.full done.suffixes c.in-Some.row inside.1 states done.state;
       from = rows_left ks l.self c.add_state.new.self l.invariant.grown.table done.grown l.invariant.full done.full done.suffixes c.in-Some.row inside.1;
