@@ -21,6 +21,8 @@ pub struct Recording {
     cache: Cache,
     stop: Option<AskStop>,
     refused: bool,
+    /// The number of a batch that is refused.
+    refuses: Option<usize>,
     batches: Vec<Words>,
     alloc: Global,
 }
@@ -49,8 +51,22 @@ impl Recording {
             cache: Cache::new(alloc),
             stop: None,
             refused: false,
+            refuses: None,
             batches: Vec::new(alloc),
             alloc,
+        }
+    }
+
+    /// The same, but that the batch with this number is out of memory before any of its words is answered.
+    pub fn refusing(alloc: Global, mealy: Mealy, number: usize) -> Recording
+        ensures machine { result.machine ≡ mealy }
+        ensures kept { result.kept ≡ [] }
+        ensures stop { result.stop ≡ None }
+        ensures refused { result.refused ≡ false }
+    {
+        Recording {
+            refuses: Some(number),
+            ..Recording::new(alloc, mealy)
         }
     }
 
@@ -130,12 +146,13 @@ fn answer_all(m: &Mealy, cache: &mut Cache, batch: &[Word]) -> Result<(), AskSto
     Ok(())
 }
 
-/// Keeps a batch, and lets the machine answer its words.
+/// Keeps a batch, and lets the machine answer its words, where it isn't the one that is refused.
 fn record_and_answer(
     alloc: Global,
     m: &Mealy,
     cache: &mut Cache,
     batches: &mut Vec<Words>,
+    refuses: Option<usize>,
     batch: &[Word],
 ) -> Result<(), AskStop>
     requires letters { All (IsWord m.now.inputs) batch.now }
@@ -148,7 +165,11 @@ fn record_and_answer(
         NothingClashes (answers_of cache.new.kept)) }
     ensures claims { cache.new.claims ≡ [] }
 {
+    let is_refused = refuses == Some(batches.len());
     record(alloc, batches, batch)?;
+    if is_refused {
+        return Err(AskStop::NoMemory);
+    }
     answer_all(m, cache, batch)
 }
 
@@ -171,7 +192,8 @@ impl Oracle for Recording {
 
     fn settle(&mut self, batch: &[Word]) -> Result<(), AskStop> {
         let batches = &mut self.batches;
-        match record_and_answer(self.alloc, &self.mealy, &mut self.cache, batches, batch) {
+        let cache = &mut self.cache;
+        match record_and_answer(self.alloc, &self.mealy, cache, batches, self.refuses, batch) {
             Ok(()) => {
                 self.stop = None;
                 Ok(())

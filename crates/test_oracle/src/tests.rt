@@ -48,17 +48,16 @@ fn an_oracle_settles_each_word_once(rt: HostRuntime) -> Result<(), Fail> {
     Ok(())
 }
 
-/// Settles three words, of which one stands twice.
-fn settles_three<O: Oracle>(oracle: &mut O, alloc: Global) -> Result<(), Fail>
+/// Settles three words, of which one stands twice: whether it was answered Ok.
+fn settles_three<O: Oracle>(oracle: &mut O, alloc: Global) -> Result<bool, Fail>
     requires inputs { (O.state oracle.old).inputs ≡ 2 }
     requires can { O.can_settle oracle.old }
+    ensures inputs { (O.state oracle.new).inputs ≡ 2 }
+    ensures can { O.can_settle oracle.new }
 {
     let batch = vec![in alloc; word(alloc, &[1])?, word(alloc, &[0])?, word(alloc, &[1])?]?;
     let settled = oracle.settle(&batch);
-    let Ok(()) = settled else {
-        return Err(Fail::from("the batch was refused"));
-    };
-    Ok(())
+    Ok(settled.is_ok())
 }
 
 #[test]
@@ -69,9 +68,25 @@ fn a_batch_keeps_its_order(rt: HostRuntime) -> Result<(), Fail> {
         return Err(Fail::from("the machine is one"));
     };
     let mut oracle = Recording::new(alloc, mealy);
-    settles_three(&mut oracle, alloc)?;
+    assert!(rt; settles_three(&mut oracle, alloc)?);
     let expected = [[1u16].as_slice(), [0u16].as_slice(), [1u16].as_slice()];
     assert!(rt; oracle.asked(0, expected.as_slice()));
+    assert_eq!(rt; oracle.cache().kept().len(), 2);
+    Ok(())
+}
+
+#[test]
+fn a_batch_is_refused_once(rt: HostRuntime) -> Result<(), Fail> {
+    let alloc = rt.alloc();
+    let rows = vec![in alloc; vec![in alloc; (0u16, 0u16), (0, 1)]?]?;
+    let Ok(mealy) = Mealy::new(alloc, 2, 2, rows) else {
+        return Err(Fail::from("the machine is one"));
+    };
+    let mut oracle = Recording::refusing(alloc, mealy, 0);
+    assert!(rt; !settles_three(&mut oracle, alloc)?);
+    assert_eq!(rt; oracle.cache().kept().len(), 0);
+    assert!(rt; settles_three(&mut oracle, alloc)?);
+    assert_eq!(rt; oracle.batches().len(), 2);
     assert_eq!(rt; oracle.cache().kept().len(), 2);
     Ok(())
 }

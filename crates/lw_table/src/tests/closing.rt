@@ -4,7 +4,7 @@ ghost use Rattle.lw_table.specs.Table.{IsClosed};
 
 use super::are;
 use crate::ObservationTable;
-use lw_cache::GrowStop;
+use lw_cache::{AskStop, GrowStop};
 use lw_mealy::Mealy;
 use std::alloc::Global;
 use std::test::Fail;
@@ -172,5 +172,40 @@ fn the_first_open_row_comes_first(rt: HostRuntime) -> Result<(), Fail> {
     );
     assert_eq!(rt; trial.oracle.batches().len(), 3);
     assert!(rt; are(trial.table.access(), &[&[], &[A], &[B]]));
+    Ok(())
+}
+
+/// A table whose first closing is refused at its second batch, and that is closed again.
+#[tactic(auto, using(crate::proofs::NewLemmas::new_is_read))]
+fn closed_again(alloc: Global, mealy: Mealy) -> Result<Trial, Fail> {
+    let inputs = mealy.inputs();
+    let outputs = mealy.outputs();
+    let mut oracle = Recording::refusing(alloc, mealy, 1);
+    let mut table = ObservationTable::new(alloc, inputs, outputs, 2)?;
+    let Err(GrowStop::Ask(AskStop::NoMemory)) = table.close(&mut oracle) else {
+        return Err(Fail::from("no batch was refused"));
+    };
+    let Ok(()) = table.close(&mut oracle) else {
+        return Err(Fail::from("the table isn't closed"));
+    };
+    Ok(Trial { oracle, table })
+}
+
+#[test]
+fn a_closing_goes_on_after_a_refusal(rt: HostRuntime) -> Result<(), Fail> {
+    let alloc = rt.alloc();
+    let trial = closed_again(alloc, toggle(alloc)?)?;
+    assert_eq!(rt; trial.oracle.batches().len(), 3);
+    assert!(rt;
+        trial
+            .oracle
+            .asked(1, &[&[A, A, A], &[A, A, B], &[A, B, A], &[A, B, B]])
+    );
+    assert!(rt;
+        trial
+            .oracle
+            .asked(2, &[&[A, A, A], &[A, A, B], &[A, B, A], &[A, B, B]])
+    );
+    assert!(rt; are(trial.table.access(), &[&[], &[A]]));
     Ok(())
 }
