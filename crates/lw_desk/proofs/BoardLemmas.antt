@@ -1,7 +1,7 @@
 -- What the steps of a board keep.
-use Rattle.std.proofs.Common.{◌≡◌, ◌≢◌, ◌⊎◌, inl, inr, ⊎_elim, ℕ, zero, suc, ◌+◌, ◌-◌, ◌<◌, ◌≤◌, ◌==◌, not, List, [], ◌∷◌, ◌++◌, length, map, filter, take, drop, get_or, set, All, Contains, Bool, true, false, cond, Option, None, refl, ap, sym, ◌∙◌, subst, arith}
+use Rattle.std.proofs.Common.{◌≡◌, ◌≢◌, ◌⊎◌, inl, inr, ⊎_elim, ℕ, zero, suc, ◌+◌, ◌-◌, ◌<◌, ◌≤◌, ◌==◌, not, List, [], ◌∷◌, ◌++◌, length, map, filter, take, drop, get_or, set, All, Contains, Bool, true, false, cond, Option, None, refl, ap, sym, ◌∙◌, subst, arith, ◌^◌, append-nil}
 use Rattle.std.proofs.lemmas.Bool.{false≢true, cases_eq}
-use Rattle.std.proofs.lemmas.List.{get_or-map, get_or_default, get_or_append_left, length-append, get_or-set_other, drop-drop, drop_more, get_or-drop, length-drop, length-map, length-set, map_push}
+use Rattle.std.proofs.lemmas.List.{get_or-map, get_or_default, get_or_append_left, length-append, get_or-set_other, drop_more, get_or-drop, length-drop, length-map, length-set, map_push, nil_from_length}
 use Rattle.std.proofs.lemmas.List.Elements.{All-head, All-tail, All-push, All-weaker, All-filter, All-contains, Contains-get_or, Contains-push_cases, Contains-push, Contains-append_left}
 use Rattle.std.proofs.lemmas.List.Sums.{sum_by-cons}
 use Rattle.lw_words.specs.Answer.{answers_of}
@@ -10,15 +10,15 @@ use Rattle.lw_words.specs.declared.kept.KeptAnswer.{KeptAnswer}
 use Rattle.lw_cache.specs.Caching.{Claim, claim_of, claim_at, IsClaimOf, IsClaimedBy, IsUnused, without}
 use Rattle.lw_cache.specs.Known.{IsKnown}
 use Rattle.lw_cache.specs.Standing.{Stands}
-use Rattle.lw_cache.specs.declared.known.Known.{Known}
-use Rattle.lw_cache.specs.declared.known.Known.TheVariants.{Yes, Pending, No}
+use Rattle.lw_cache.specs.declared.known.Known.TheVariants.{No}
 use Rattle.lw_cache.specs.declared.stops.AskStop.{AskStop}
 use Rattle.lw_cache.proofs.GainLemmas.{known_stays}
 use Rattle.lw_desk.specs.Step.{word_at, ComesBefore}
-use Rattle.lw_desk.specs.bodies.Board.{numbers_of, without_number, without_numbers, without_all, AreHeld, IsTaken, AreApart, IsAtHand, IsPlaces, Waits, letters_of, IsBoard}
+use Rattle.lw_desk.specs.bodies.Board.{numbers_of, without_number, without_numbers, without_all, AreHeld, IsTaken, AreApart, AreInOrder, AreWhole, IsLeast, BeginsOne, IsAtHand, IsPlaces, Waits, letters_of, IsBoard}
 use Rattle.lw_desk.specs.lemmas.Members.{In, in_contains, contains_in, in_filter, in_filter_of, is_same, is_other}
-use Rattle.lw_desk.specs.lemmas.StepLemmas.{prefix_whole}
-use Rattle.lw_desk.specs.lemmas.CoverLemmas.{known_prefix}
+use Rattle.lw_desk.specs.lemmas.CoverLemmas.{known_prefix, prefix_of_prefix}
+use Rattle.lw_desk.specs.bodies.Gathering.{IsReady}
+use Rattle.lw_desk.proofs.TidyLemmas.{known_in_more}
 
 -- numbers that are left out
 pub map-filter : {X : Type 0} (f : X → ℕ) (q : ℕ → Bool) (xs : List X) → map f (filter (λ x. q (f x)) xs) ≡ filter q (map f xs)
@@ -145,97 +145,131 @@ module _ (batch words : List (List ℕ)) (claims : List Claim) (places : All (Is
   pub unused_of : (n : ℕ) → ¬ Contains (numbers_of claims) n → IsUnused claims n
   unused_of n new i lt is = new (number_in i n lt is)
 
-  -- how a word stands in the cache
-  pub taken_of : (kept : List KeptAnswer) (w : List ℕ) (known : Known) → known ≢ No → Stands (answers_of kept) claims w known → IsTaken batch kept (numbers_of claims) w
-  taken_of kept w Yes other stands = inl stands
-  taken_of kept w (Pending n) other stands = let c = claimed_at n w stands.1 in inr (n, c.0, c.1)
-  taken_of kept w No other stands = absurd (other refl)
+  -- how a word that isn't taken stands in the cache
+  pub free_stands : (kept : List KeptAnswer) (w : List ℕ) → ¬ IsTaken batch kept (numbers_of claims) w → Stands (answers_of kept) claims w No
+  free_stands kept w free = (
+    λ known. free (inl known),
+    λ n by. let c = claimed_at n w by in free (inr (n, c.0, c.1)),
+  )
 
-  pub free_of_taken : (kept : List KeptAnswer) (w : List ℕ) → Stands (answers_of kept) claims w No → ¬ IsTaken batch kept (numbers_of claims) w
-  free_of_taken kept w stands taken =
-      ⊎_elim
-      (λ (known : IsKnown (answers_of kept) w). stands.0 known)
-      (λ (r : (p : ℕ) × Contains (numbers_of claims) p × IsPrefix w (word_at batch p)). stands.1 r.0 (claimed_by r.0 w r.1 r.2))
-      taken
+-- what begins a word that is taken is taken
+pub taken_prefix : (batch : List (List ℕ)) (kept : List KeptAnswer) (claimed : List ℕ) (u v : List ℕ) → IsPrefix u v → IsTaken batch kept claimed v → IsTaken batch kept claimed u
+taken_prefix batch kept claimed u v pre taken =
+    ⊎_elim
+    (λ (known : IsKnown (answers_of kept) v). inl (known_prefix (answers_of kept) u v pre known))
+    (λ (r : (p : ℕ) × Contains claimed p × IsPrefix v (word_at batch p)). inr (r.0, r.1, prefix_of_prefix u v (word_at batch r.0) pre r.2))
+    taken
 
--- a place of the list is passed, or taken
+-- a word that begins one that isn't longer is this one
+pub prefix_alike : (u v : List ℕ) → IsPrefix u v → length v ≤ length u → u ≡ v
+prefix_alike u v pre le = sym (pre.1 ∙ (ap (λ (l : List ℕ). u ++ l) (nil_from_length pre.0 (omega (arith, le, ap (λ (l : List ℕ). length l) pre.1, length-append u pre.0))) ∙ append-nil u))
+
+prefix_length : (u v : List ℕ) → IsPrefix u v → length u ≤ length v
+prefix_length u v pre = omega (arith, ap (λ (l : List ℕ). length l) pre.1, length-append u pre.0)
+
+begins_either : (batch : List (List ℕ)) (p : ℕ) (ps : List ℕ) (w : List ℕ) → BeginsOne batch (p ∷ ps) w → IsPrefix w (word_at batch p) ⊎ BeginsOne batch ps w
+begins_either batch p ps w r =
+    ⊎_elim
+    (λ (e : p ≡ r.0). inl (subst (λ (q : ℕ). IsPrefix w (word_at batch q)) (sym e) r.2))
+    (λ (c : Contains ps r.0). inr (r.0, c, r.2))
+    (contains_either p r.0 ps r.1)
+
+-- of words that stand in order none begins another one
+pub whole_words : (batch : List (List ℕ)) (ps : List ℕ) → AreInOrder batch ps → AreWhole batch ps → (q r : ℕ) → In q ps → In r ps → IsPrefix (word_at batch q) (word_at batch r) → word_at batch q ≡ word_at batch r
+whole_words batch [] order whole q r i j pre = absurd i
+whole_words batch (p ∷ ps) order whole q r i j pre =
+    ⊎_elim
+    (λ (e : q ≡ p). ⊎_elim
+    (λ (f : r ≡ p). ap (word_at batch) (e ∙ sym f))
+    (λ (l : In r ps). prefix_alike (word_at batch q) (word_at batch r) pre (subst (λ (x : ℕ). length (word_at batch r) ≤ length (word_at batch x)) (sym e) (not_longer p r (All-contains (ComesBefore batch p) ps r order.0 (in_contains r ps l)))))
+    j)
+    (λ (k : In q ps). ⊎_elim
+    (λ (f : r ≡ p). absurd (All-contains (λ x. ¬ IsPrefix (word_at batch x) (word_at batch p)) ps q whole.0 (in_contains q ps k) (subst (λ (x : ℕ). IsPrefix (word_at batch q) (word_at batch x)) f pre)))
+    (λ (l : In r ps). whole_words batch ps order.1 whole.1 q r k l pre)
+    j)
+    i
+  where
+    not_longer : (x y : ℕ) → ComesBefore batch x y → length (word_at batch y) ≤ length (word_at batch x)
+    not_longer x y before =
+        ⊎_elim
+        (λ (l : length (word_at batch y) < length (word_at batch x)). omega (arith, l))
+        (λ (l : (length (word_at batch x) ≡ length (word_at batch y)) × (x < y)). omega (arith, l.0))
+        before
+
+pub whole_pairs : (batch : List (List ℕ)) (ps : List ℕ) → AreWhole batch ps → (i j : ℕ) → i < j → j < length ps → ¬ IsPrefix (word_at batch (get_or ps j 0)) (word_at batch (get_or ps i 0))
+whole_pairs batch [] whole i j lt within = absurd (omega arith)
+whole_pairs batch (p ∷ ps) whole zero zero lt within = absurd (omega arith)
+whole_pairs batch (p ∷ ps) whole zero (suc j) lt within = whole.0 j 0 (omega arith)
+whole_pairs batch (p ∷ ps) whole (suc i) zero lt within = absurd (omega arith)
+whole_pairs batch (p ∷ ps) whole (suc i) (suc j) lt within = whole_pairs batch ps whole.1 i j (omega arith) (omega arith)
+
+-- the first place of the list
 module _ (batch : List (List ℕ)) (kept : List KeptAnswer) (claims : List Claim) (stop : Option AskStop) (words : List (List ℕ)) (p : ℕ) (ps : List ℕ) (room letters : ℕ) (is : IsBoard batch kept claims stop words (p ∷ ps) room letters) where
   letters_cons : letters_of batch (p ∷ ps) ≡ length (word_at batch p) + letters_of batch ps
   letters_cons = sum_by-cons (λ (q : ℕ). length (word_at batch q)) p ps
 
-  pub skip_one : IsTaken batch kept (numbers_of claims) (word_at batch p) → IsBoard batch kept claims stop words ps room letters
-  skip_one taken = record {
-    few = is.few;
-    size = is.size;
-    places = is.places;
-    apart = is.apart;
-    waits = All-tail (Waits batch words claims) p ps is.waits;
-    order = is.order.1;
-    count = omega (arith, is.count);
-    room_fits = omega (arith, is.room_fits);
-    letters_fit = omega (arith, is.letters_fit, letters_cons);
-    covered = λ live q within. ⊎_elim
-        (λ (c : Contains (p ∷ ps) q). ⊎_elim
-        (λ (e : p ≡ q). inr (subst (λ (r : ℕ). IsTaken batch kept (numbers_of claims) (word_at batch r)) e taken))
-        (λ (c : Contains ps q). inl c)
-        (contains_either p q ps c))
-        (λ (t : IsTaken batch kept (numbers_of claims) (word_at batch q)). inr t)
-        (is.covered live q within);
-  }
+  first_waits : Waits batch words kept claims p
+  first_waits = All-head (Waits batch words kept claims) p ps is.waits
 
-  pub first_waits : Waits batch words claims p
-  first_waits = All-head (Waits batch words claims) p ps is.waits
-
-  -- no place before the first one is free
-  pub none_before : stop ≡ None → (other : ℕ) → other < length batch → ComesBefore batch other p → IsTaken batch kept (numbers_of claims) (word_at batch other)
+  -- no place before it is free
+  none_before : stop ≡ None → (other : ℕ) → other < length batch → ComesBefore batch other p → IsTaken batch kept (numbers_of claims) (word_at batch other)
   none_before live other within before =
       ⊎_elim
-      (λ (c : Contains (p ∷ ps) other). absurd (⊎_elim
-      (λ (e : p ≡ other). after_itself batch p other (sym e) before)
-      (λ (c : Contains ps other). after_both batch p other (All-contains (ComesBefore batch p) ps other is.order.0 c) before)
-      (contains_either p other ps c)))
+      (λ (b : BeginsOne batch (p ∷ ps) (word_at batch other)). absurd (⊎_elim
+      (λ (pre : IsPrefix (word_at batch other) (word_at batch p)). itself pre)
+      (λ (r : BeginsOne batch ps (word_at batch other)). later r.0 (All-contains (ComesBefore batch p) ps r.0 is.order.0 r.1) (All-contains (Waits batch words kept claims) ps r.0 (All-tail (Waits batch words kept claims) p ps is.waits) r.1).least r.2)
+      (begins_either batch p ps (word_at batch other) b)))
       (λ (t : IsTaken batch kept (numbers_of claims) (word_at batch other)). t)
       (is.covered live other within)
     where
-      after_both : (b : List (List ℕ)) (q r : ℕ) → ComesBefore b q r → ComesBefore b r q → ⊥
-      after_both b q r one two =
+      itself : IsPrefix (word_at batch other) (word_at batch p) → ⊥
+      itself pre =
           ⊎_elim
-          (λ (l : length (word_at b r) < length (word_at b q)). ⊎_elim
-          (λ (m : length (word_at b q) < length (word_at b r)). omega arith)
-          (λ (m : (length (word_at b r) ≡ length (word_at b q)) × (r < q)). omega (arith, l, m.0))
-          two)
-          (λ (l : (length (word_at b q) ≡ length (word_at b r)) × (q < r)). ⊎_elim
-          (λ (m : length (word_at b q) < length (word_at b r)). omega (arith, m, l.0))
-          (λ (m : (length (word_at b r) ≡ length (word_at b q)) × (r < q)). omega (arith, l.1, m.1))
-          two)
-          one
+          (λ (l : length (word_at batch p) < length (word_at batch other)). omega (arith, l, prefix_length (word_at batch other) (word_at batch p) pre))
+          (λ (l : (length (word_at batch other) ≡ length (word_at batch p)) × (other < p)).
+          omega (arith, l.1, first_waits.least other within (prefix_alike (word_at batch other) (word_at batch p) pre (omega (arith, l.0)))))
+          before
 
-      after_itself : (b : List (List ℕ)) (q r : ℕ) → r ≡ q → ComesBefore b r q → ⊥
-      after_itself b q r same before =
-          let here : ComesBefore b q q = subst (λ (k : ℕ). ComesBefore b k q) same before in
-          after_both b q q here here
+      later : (q : ℕ) → ComesBefore batch p q → IsLeast batch q → IsPrefix (word_at batch other) (word_at batch q) → ⊥
+      later q behind least pre =
+          ⊎_elim
+          (λ (l : length (word_at batch p) < length (word_at batch other)). omega (arith, l, not_longer, prefix_length (word_at batch other) (word_at batch q) pre))
+          (λ (l : (length (word_at batch other) ≡ length (word_at batch p)) × (other < p)).
+          let same : word_at batch other ≡ word_at batch q = prefix_alike (word_at batch other) (word_at batch q) pre (omega (arith, l.0, not_longer)) in
+          ⊎_elim
+          (λ (m : length (word_at batch q) < length (word_at batch p)). omega (arith, m, l.0, ap (λ (w : List ℕ). length w) same))
+          (λ (m : (length (word_at batch p) ≡ length (word_at batch q)) × (p < q)). omega (arith, m.1, l.1, least other within same))
+          behind)
+          before
+        where
+          not_longer : length (word_at batch q) ≤ length (word_at batch p)
+          not_longer =
+              ⊎_elim
+              (λ (m : length (word_at batch q) < length (word_at batch p)). omega (arith, m))
+              (λ (m : (length (word_at batch p) ≡ length (word_at batch q)) × (p < q)). omega (arith, m.0))
+              behind
 
-  pub take_first : (room_now letters_now : ℕ) → ¬ IsTaken batch kept (numbers_of claims) (word_at batch p) → room_now + 1 ≡ room → letters_now + length (word_at batch p) ≡ letters
+  take_first : (room_now letters_now : ℕ) → room_now + 1 ≡ room → letters_now + length (word_at batch p) ≡ letters
       → IsBoard batch kept (claims ++ claim_of p (word_at batch p) ∷ []) stop words ps room_now letters_now
-  take_first room_now letters_now free less fewer =
+  take_first room_now letters_now less fewer =
       let new : Claim = claim_of p (word_at batch p) in
-      let first : Waits batch words claims p = first_waits in
-      let more : numbers_of (claims ++ new ∷ []) ≡ numbers_of claims ++ p ∷ [] = map_push (λ (c : Claim). c.number) claims new in
+      let first : Waits batch words kept claims p = first_waits in
       record {
         few = is.few;
         size = is.size;
         places = All-push (IsPlaces batch words) claims new is.places (record { at_hand = first.at_hand; word = refl });
         apart = subst AreApart (sym more) (apart_push p (numbers_of claims) is.apart first.unclaimed);
-        waits = waiting (All-tail (Waits batch words claims) p ps is.waits);
+        waits = waiting (All-tail (Waits batch words kept claims) p ps is.waits);
         order = is.order.1;
+        whole = is.whole.1;
         count = omega (arith, is.count);
         room_fits = omega (arith, is.room_fits, less);
         letters_fit = omega (arith, is.letters_fit, letters_cons, fewer);
         covered = λ live q within. ⊎_elim
-            (λ (c : Contains (p ∷ ps) q). ⊎_elim
-            (λ (e : p ≡ q). inr (inr (p, subst (λ (l : List ℕ). Contains l p) (sym more) (Contains-push (numbers_of claims) p), subst (λ (r : ℕ). IsPrefix (word_at batch r) (word_at batch p)) e (prefix_whole (word_at batch p)))))
-            (λ (c : Contains ps q). inl c)
-            (contains_either p q ps c))
+            (λ (b : BeginsOne batch (p ∷ ps) (word_at batch q)). ⊎_elim
+            (λ (pre : IsPrefix (word_at batch q) (word_at batch p)). inr (inr (p, subst (λ (l : List ℕ). Contains l p) (sym more) (Contains-push (numbers_of claims) p), pre)))
+            (λ (r : BeginsOne batch ps (word_at batch q)). inl r)
+            (begins_either batch p ps (word_at batch q) b))
             (λ (t : IsTaken batch kept (numbers_of claims) (word_at batch q)). inr (⊎_elim
             (λ (known : IsKnown (answers_of kept) (word_at batch q)). inl known)
             (λ (r : (n : ℕ) × Contains (numbers_of claims) n × IsPrefix (word_at batch q) (word_at batch n)).
@@ -244,6 +278,12 @@ module _ (batch : List (List ℕ)) (kept : List KeptAnswer) (claims : List Claim
             (is.covered live q within);
       }
     where
+      more : numbers_of (claims ++ claim_of p (word_at batch p) ∷ []) ≡ numbers_of claims ++ p ∷ []
+      more = map_push (λ (c : Claim). c.number) claims (claim_of p (word_at batch p))
+
+      either : (n : ℕ) → Contains (numbers_of (claims ++ claim_of p (word_at batch p) ∷ [])) n → Contains (numbers_of claims) n ⊎ (p ≡ n)
+      either n c = Contains-push_cases (numbers_of claims) p n (subst (λ (l : List ℕ). Contains l n) more c)
+
       later : (q : ℕ) → Contains ps q → q ≢ p
       later q c same =
           let before : ComesBefore batch p q = All-contains (ComesBefore batch p) ps q is.order.0 c in
@@ -253,24 +293,25 @@ module _ (batch : List (List ℕ)) (kept : List KeptAnswer) (claims : List Claim
           (λ (l : (length (word_at batch p) ≡ length (word_at batch p)) × (p < p)). omega (arith, l.1))
           here
 
-      waiting : All (Waits batch words claims) ps → All (Waits batch words (claims ++ claim_of p (word_at batch p) ∷ [])) ps
+      waiting : All (Waits batch words kept claims) ps → All (Waits batch words kept (claims ++ claim_of p (word_at batch p) ∷ [])) ps
       waiting all k d lt =
-          let w : Waits batch words claims (get_or ps k d) = all k d lt in
+          let q : ℕ = get_or ps k d in
+          let w : Waits batch words kept claims q = all k d lt in
           record {
             at_hand = w.at_hand;
+            least = w.least;
+            free = λ taken. ⊎_elim
+                (λ (known : IsKnown (answers_of kept) (word_at batch q)). w.free (inl known))
+                (λ (r : (n : ℕ) × Contains (numbers_of (claims ++ claim_of p (word_at batch p) ∷ [])) n × IsPrefix (word_at batch q) (word_at batch n)). ⊎_elim
+                (λ (i : Contains (numbers_of claims) r.0). w.free (inr (r.0, i, r.2)))
+                (λ (e : p ≡ r.0). is.whole.0 k d lt (subst (λ (n : ℕ). IsPrefix (word_at batch q) (word_at batch n)) (sym e) r.2))
+                (either r.0 r.1))
+                taken;
             unclaimed = λ c. ⊎_elim
-                (λ (i : Contains (numbers_of claims) (get_or ps k d)). w.unclaimed i)
-                (λ (e : p ≡ get_or ps k d). later (get_or ps k d) (Contains-get_or ps k d lt) (sym e))
-                (Contains-push_cases (numbers_of claims) p (get_or ps k d) (subst (λ (l : List ℕ). Contains l (get_or ps k d)) (map_push (λ (c : Claim). c.number) claims (claim_of p (word_at batch p))) c));
+                (λ (i : Contains (numbers_of claims) q). w.unclaimed i)
+                (λ (e : p ≡ q). later q (Contains-get_or ps k d lt) (sym e))
+                (either q c);
           }
-
--- the places before the first free one are passed
-pub skip_many : (batch : List (List ℕ)) (kept : List KeptAnswer) (claims : List Claim) (stop : Option AskStop) (words : List (List ℕ)) (n : ℕ) (waiting : List ℕ) (room letters : ℕ) → IsBoard batch kept claims stop words waiting room letters → n ≤ length waiting
-    → ((k : ℕ) → k < n → IsTaken batch kept (numbers_of claims) (word_at batch (get_or waiting k 0))) → IsBoard batch kept claims stop words (drop n waiting) room letters
-skip_many batch kept claims stop words zero waiting room letters is le taken = is
-skip_many batch kept claims stop words (suc n) [] room letters is le taken = absurd (omega arith)
-skip_many batch kept claims stop words (suc n) (p ∷ ps) room letters is le taken =
-    skip_many batch kept claims stop words n ps room letters (skip_one batch kept claims stop words p ps room letters is (taken 0 (omega arith))) (omega arith) (λ k lt. taken (suc k) (omega arith))
 
 -- a claim is gone
 module _ (batch : List (List ℕ)) (kept : List KeptAnswer) (claims : List Claim) (stop : Option AskStop) (words : List (List ℕ)) (waiting : List ℕ) (room letters : ℕ) (is : IsBoard batch kept claims stop words waiting room letters) (p : ℕ) where
@@ -283,8 +324,15 @@ module _ (batch : List (List ℕ)) (kept : List KeptAnswer) (claims : List Claim
   rest_in : (n : ℕ) → Contains (numbers_of (without p claims)) n → Contains (numbers_of claims) n × (n ≢ p)
   rest_in n c = in_without p n (numbers_of claims) (subst (λ (l : List ℕ). Contains l n) (numbers_without p claims) c)
 
-  rest_waits : All (Waits batch words (without p claims)) waiting
-  rest_waits = All-weaker (Waits batch words claims) (Waits batch words (without p claims)) (λ q w. record { at_hand = w.at_hand; unclaimed = λ c. w.unclaimed (rest_in q c).0 }) waiting is.waits
+  rest_taken : (w : List ℕ) → IsTaken batch kept (numbers_of (without p claims)) w → IsTaken batch kept (numbers_of claims) w
+  rest_taken w taken =
+      ⊎_elim
+      (λ (known : IsKnown (answers_of kept) w). inl known)
+      (λ (r : (n : ℕ) × Contains (numbers_of (without p claims)) n × IsPrefix w (word_at batch n)). inr (r.0, (rest_in r.0 r.1).0, r.2))
+      taken
+
+  rest_waits : All (Waits batch words kept (without p claims)) waiting
+  rest_waits = All-weaker (Waits batch words kept claims) (Waits batch words kept (without p claims)) (λ q w. record { at_hand = w.at_hand; least = w.least; free = λ taken. w.free (rest_taken (word_at batch q) taken); unclaimed = λ c. w.unclaimed (rest_in q c).0 }) waiting is.waits
 
   -- it is given up by one who failed
   pub released : (now : Option AskStop) → (now ≡ None → ⊥) → IsBoard batch kept (without p claims) now words waiting room letters
@@ -295,6 +343,7 @@ module _ (batch : List (List ℕ)) (kept : List KeptAnswer) (claims : List Claim
     apart = rest_apart;
     waits = rest_waits;
     order = is.order;
+    whole = is.whole;
     count = is.count;
     room_fits = is.room_fits;
     letters_fit = is.letters_fit;
@@ -302,7 +351,7 @@ module _ (batch : List (List ℕ)) (kept : List KeptAnswer) (claims : List Claim
   }
 
   -- it is answered, and its word goes from the list into the answer
-  module _ (claimed : Contains (numbers_of claims) p) (new : KeptAnswer) (now : Option AskStop) (known : now ≡ None → (stop ≡ None) × IsKnown (answers_of (kept ++ new ∷ [])) (word_at batch p)) where
+  module _ (claimed : Contains (numbers_of claims) p) (new : KeptAnswer) (answers : new.word ≡ word_at batch p) (now : Option AskStop) (known : now ≡ None → (stop ≡ None) × IsKnown (answers_of (kept ++ new ∷ [])) (word_at batch p)) where
     other_at_hand : (q : ℕ) → q ≢ p → IsAtHand batch words q → IsAtHand batch (set words p []) q
     other_at_hand q other h = record { within = h.within; word = get_or-set_other words p q [] [] other ∙ h.word }
 
@@ -316,6 +365,16 @@ module _ (batch : List (List ℕ)) (kept : List KeptAnswer) (claims : List Claim
         (cases_eq r.0 p))
         taken
 
+    still_free : (q : ℕ) → ¬ IsTaken batch kept (numbers_of claims) (word_at batch q) → ¬ IsTaken batch (kept ++ new ∷ []) (numbers_of (without p claims)) (word_at batch q)
+    still_free q free taken =
+        ⊎_elim
+        (λ (known : IsKnown (answers_of (kept ++ new ∷ [])) (word_at batch q)). ⊎_elim
+        (λ (old : IsKnown (answers_of kept) (word_at batch q)). free (inl old))
+        (λ (pre : IsPrefix (word_at batch q) new.word). free (inr (p, claimed, subst (IsPrefix (word_at batch q)) answers pre)))
+        (known_in_more kept new (word_at batch q) known))
+        (λ (r : (n : ℕ) × Contains (numbers_of (without p claims)) n × IsPrefix (word_at batch q) (word_at batch n)). free (inr (r.0, (rest_in r.0 r.1).0, r.2)))
+        taken
+
     pub given : IsBoard batch (kept ++ new ∷ []) (without p claims) now (set words p []) waiting room letters
     given = record {
       few = is.few;
@@ -327,17 +386,20 @@ module _ (batch : List (List ℕ)) (kept : List KeptAnswer) (claims : List Claim
           record { at_hand = other_at_hand c.number (rest_in c.number i).1 h.at_hand; word = h.word };
       apart = rest_apart;
       waits = λ k d lt.
-          let w : Waits batch words claims (get_or waiting k d) = is.waits k d lt in
+          let w : Waits batch words kept claims (get_or waiting k d) = is.waits k d lt in
           record {
+            least = w.least;
+            free = still_free (get_or waiting k d) w.free;
             at_hand = other_at_hand (get_or waiting k d) (λ same. w.unclaimed (subst (Contains (numbers_of claims)) (sym same) claimed)) w.at_hand;
             unclaimed = λ c. w.unclaimed (rest_in (get_or waiting k d) c).0;
           };
       order = is.order;
+      whole = is.whole;
       count = is.count;
       room_fits = is.room_fits;
       letters_fit = is.letters_fit;
       covered = λ live q within. ⊎_elim
-          (λ (c : Contains waiting q). inl c)
+          (λ (b : BeginsOne batch waiting (word_at batch q)). inl b)
           (λ (t : IsTaken batch kept (numbers_of claims) (word_at batch q)). inr (given_taken q live t))
           (is.covered (known live).0 q within);
     }
@@ -351,6 +413,7 @@ restopped batch kept claims stop now words waiting room letters is stopped = rec
   apart = is.apart;
   waits = is.waits;
   order = is.order;
+  whole = is.whole;
   count = is.count;
   room_fits = is.room_fits;
   letters_fit = is.letters_fit;
@@ -371,62 +434,63 @@ fail_board batch kept kept_now claims claims_now stop now words waiting room let
     (subst (λ (n : ℕ). IsBoard batch kept (without_all ps claims) now words waiting room n) (sym same_letters)
     (released_all batch kept claims now words waiting room letters ps (restopped batch kept claims stop now words waiting room letters is stopped) stopped))))
 
--- the list is passed up to the first free place
-module _ (batch : List (List ℕ)) (kept : List KeptAnswer) (claims : List Claim) (stop : Option AskStop) (words : List (List ℕ)) (order : List ℕ) (next at room letters : ℕ) (is : IsBoard batch kept claims stop words (drop next order) room letters) (behind : next ≤ at) (within : at ≤ length order)
-    (taken : (k : ℕ) → next ≤ k → k < at → (known : Known) × (known ≢ No) × Stands (answers_of kept) claims (word_at words (get_or order k 0)) known) where
-  passed_one : (k : ℕ) → k < at - next → IsTaken batch kept (numbers_of claims) (word_at batch (get_or (drop next order) k 0))
-  passed_one k lt =
-      let h : Waits batch words claims (get_or (drop next order) k 0) = is.waits k 0 (omega (arith, lt, within, behind, length-drop next order)) in
-      let t = taken (next + k) (omega arith) (omega (arith, lt)) in
-      let same : word_at words (get_or order (next + k) 0) ≡ word_at batch (get_or (drop next order) k 0) = ap (word_at words) (sym (get_or-drop next order k 0)) ∙ h.at_hand.word in
-      subst (IsTaken batch kept (numbers_of claims)) same (taken_of batch words claims is.places kept (word_at words (get_or order (next + k) 0)) t.0 t.1 t.2)
+-- the place that comes next
+module _ (batch : List (List ℕ)) (kept : List KeptAnswer) (claims : List Claim) (stop : Option AskStop) (words : List (List ℕ)) (order : List ℕ) (next room letters : ℕ) (is : IsBoard batch kept claims stop words (drop next order) room letters) (lt : next < length order) (p : ℕ) (place : p ≡ get_or order next 0) where
+  here : IsBoard batch kept claims stop words (p ∷ drop (next + 1) order) room letters
+  here =
+      subst (λ (n : ℕ). IsBoard batch kept claims stop words (n ∷ drop (next + 1) order) room letters) (sym place)
+      (subst (λ (l : List ℕ). IsBoard batch kept claims stop words l room letters) (drop_more order next 0 lt) is)
 
-  pub passed : IsBoard batch kept claims stop words (drop at order) room letters
-  passed =
-      subst (λ (l : List ℕ). IsBoard batch kept claims stop words l room letters) (drop-drop (at - next) next order ∙ ap (λ (n : ℕ). drop n order) sum)
-      (skip_many batch kept claims stop words (at - next) (drop next order) room letters is (omega (arith, within, behind, length-drop next order)) passed_one)
-    where
-      sum : next + (at - next) ≡ at
-      sum = omega (arith, behind)
+  pub here_waits : Waits batch words kept claims p
+  here_waits = first_waits batch kept claims stop words p (drop (next + 1) order) room letters here
 
-  -- nothing is left
-  pub passed_all : at ≡ length order → stop ≡ None → (p : ℕ) → p < length batch → IsTaken batch kept (numbers_of claims) (word_at batch p)
-  passed_all end live p below =
-      ⊎_elim
-      (λ (c : Contains (drop at order) p). absurd (omega (arith, c.1, end, length-drop at order)))
-      (λ (t : IsTaken batch kept (numbers_of claims) (word_at batch p)). t)
-      (passed.covered live p below)
+  pub here_free : Stands (answers_of kept) claims (word_at batch p) No
+  here_free = free_stands batch words claims is.places kept (word_at batch p) here_waits.free
 
-  module _ (lt : at < length order) (p : ℕ) (place : p ≡ get_or order at 0) (free : Stands (answers_of kept) claims (word_at words (get_or order at 0)) No) where
-    pub here : IsBoard batch kept claims stop words (p ∷ drop (at + 1) order) room letters
-    here =
-        subst (λ (n : ℕ). IsBoard batch kept claims stop words (n ∷ drop (at + 1) order) room letters) (sym place)
-        (subst (λ (l : List ℕ). IsBoard batch kept claims stop words l room letters) (drop_more order at 0 lt) passed)
+  pub here_unused : IsUnused claims p
+  here_unused = unused_of batch words claims is.places p here_waits.unclaimed
 
-    pub here_waits : Waits batch words claims p
-    here_waits = first_waits batch kept claims stop words p (drop (at + 1) order) room letters here
+  pub here_letters : length (word_at words p) ≤ letters
+  here_letters = omega (arith, here.letters_fit, letters_cons batch kept claims stop words p (drop (next + 1) order) room letters here, ap (λ (w : List ℕ). length w) here_waits.at_hand.word)
 
-    pub here_free : ¬ IsTaken batch kept (numbers_of claims) (word_at batch p)
-    here_free =
-        free_of_taken batch words claims is.places kept (word_at batch p)
-        (subst (λ (w : List ℕ). Stands (answers_of kept) claims w No) (ap (word_at words) (sym place) ∙ here_waits.at_hand.word) free)
+  pub here_first : stop ≡ None → (other : ℕ) → other < length batch → ComesBefore batch other p → IsTaken batch kept (numbers_of claims) (word_at batch other)
+  here_first = none_before batch kept claims stop words p (drop (next + 1) order) room letters here
 
-    pub here_unused : IsUnused claims p
-    here_unused = unused_of batch words claims is.places p here_waits.unclaimed
+  pub here_taken : (w : List ℕ) (kept_now : List KeptAnswer) (claims_now : List Claim) (room_now letters_now : ℕ) → w ≡ word_at words p → kept_now ≡ kept → claims_now ≡ claims ++ claim_of p w ∷ [] → room_now + 1 ≡ room → letters_now + length w ≡ letters
+      → IsBoard batch kept_now claims_now stop words (drop (next + 1) order) room_now letters_now
+  here_taken w kept_now claims_now room_now letters_now is_word same_kept more less fewer =
+      let word : w ≡ word_at batch p = is_word ∙ here_waits.at_hand.word in
+      subst (λ (l : List KeptAnswer). IsBoard batch l claims_now stop words (drop (next + 1) order) room_now letters_now) (sym same_kept)
+      (subst (λ (l : List Claim). IsBoard batch kept l stop words (drop (next + 1) order) room_now letters_now) (sym (more ∙ ap (λ (v : List ℕ). claims ++ claim_of p v ∷ []) word))
+      (take_first batch kept claims stop words p (drop (next + 1) order) room letters here room_now letters_now less (omega (arith, fewer, ap (λ (v : List ℕ). length v) word))))
 
-    pub here_letters : length (word_at words p) ≤ letters
-    here_letters = omega (arith, here.letters_fit, letters_cons batch kept claims stop words p (drop (at + 1) order) room letters here, ap (λ (w : List ℕ). length w) here_waits.at_hand.word)
-
-    pub here_first : stop ≡ None → (other : ℕ) → other < length batch → ComesBefore batch other p → IsTaken batch kept (numbers_of claims) (word_at batch other)
-    here_first = none_before batch kept claims stop words p (drop (at + 1) order) room letters here
-
-    pub here_taken : (w : List ℕ) (kept_now : List KeptAnswer) (claims_now : List Claim) (room_now letters_now : ℕ) → w ≡ word_at words p → kept_now ≡ kept → claims_now ≡ claims ++ claim_of p w ∷ [] → room_now + 1 ≡ room → letters_now + length w ≡ letters
-        → IsBoard batch kept_now claims_now stop words (drop (at + 1) order) room_now letters_now
-    here_taken w kept_now claims_now room_now letters_now is_word same_kept more less fewer =
-        let word : w ≡ word_at batch p = is_word ∙ here_waits.at_hand.word in
-        subst (λ (l : List KeptAnswer). IsBoard batch l claims_now stop words (drop (at + 1) order) room_now letters_now) (sym same_kept)
-        (subst (λ (l : List Claim). IsBoard batch kept l stop words (drop (at + 1) order) room_now letters_now) (sym (more ∙ ap (λ (v : List ℕ). claims ++ claim_of p v ∷ []) word))
-        (take_first batch kept claims stop words p (drop (at + 1) order) room letters here room_now letters_now here_free less (omega (arith, fewer, ap (λ (v : List ℕ). length v) word))))
+-- a board that begins
+pub begun : (batch : List (List ℕ)) (kept : List KeptAnswer) (claims : List Claim) (words : List (List ℕ)) (places : List ℕ) (room letters sum : ℕ) → length batch < 2 ^ 32 → IsReady kept batch words places sum → claims ≡ [] → length places ≤ room → sum ≤ letters → IsBoard batch kept claims None words places room letters
+begun batch kept claims words places room letters sum few is none room_fits letters_fit =
+    subst (λ (cs : List Claim). IsBoard batch kept cs None words places room letters) (sym none) (record {
+      few = few;
+      size = is.size;
+      places = λ k d lt. absurd (omega arith);
+      apart = tt;
+      waits = λ k d lt. record {
+        at_hand = is.at_hand k d lt;
+        least = is.least k d lt;
+        free = λ taken. ⊎_elim
+            (λ (known : IsKnown (answers_of kept) (word_at batch (get_or places k d))). is.unknown k d lt known)
+            (λ (r : (n : ℕ) × Contains [] n × IsPrefix (word_at batch (get_or places k d)) (word_at batch n)). absurd (omega (arith, r.1.1)))
+            taken;
+        unclaimed = λ c. absurd (omega (arith, c.1));
+      };
+      order = is.order;
+      whole = is.whole;
+      count = is.count;
+      room_fits = room_fits;
+      letters_fit = omega (arith, letters_fit, is.letters_sum);
+      covered = λ live p below. ⊎_elim
+          (λ (b : BeginsOne batch places (word_at batch p)). inl b)
+          (λ (known : IsKnown (answers_of kept) (word_at batch p)). inr (inl known))
+          (is.covered p below);
+    })
 
 -- the word of a claimed place is at hand
 pub hand_of : (batch words : List (List ℕ)) (claims : List Claim) → All (IsPlaces batch words) claims → (p : ℕ) → Contains (numbers_of claims) p → IsAtHand batch words p
@@ -435,15 +499,15 @@ hand_of batch words claims places p c =
     subst (IsAtHand batch words) f.2 (places f.0 (record { number = 0; word = [] }) f.1).at_hand
 
 pub give_board : (batch : List (List ℕ)) (kept kept_now : List KeptAnswer) (claims claims_now : List Claim) (stop now : Option AskStop) (words words_now : List (List ℕ)) (waiting : List ℕ) (room letters room_now letters_now p : ℕ) (new : KeptAnswer) → IsBoard batch kept claims stop words waiting room letters
-    → Contains (numbers_of claims) p → (now ≡ None → (stop ≡ None) × IsKnown (answers_of (kept ++ new ∷ [])) (word_at batch p)) → kept_now ≡ kept ++ new ∷ [] → claims_now ≡ without p claims → words_now ≡ set words p [] → room_now ≡ room → letters_now ≡ letters
+    → Contains (numbers_of claims) p → new.word ≡ word_at batch p → (now ≡ None → (stop ≡ None) × IsKnown (answers_of (kept ++ new ∷ [])) (word_at batch p)) → kept_now ≡ kept ++ new ∷ [] → claims_now ≡ without p claims → words_now ≡ set words p [] → room_now ≡ room → letters_now ≡ letters
     → IsBoard batch kept_now claims_now now words_now waiting room_now letters_now
-give_board batch kept kept_now claims claims_now stop now words words_now waiting room letters room_now letters_now p new is claimed known more gone out same_room same_letters =
+give_board batch kept kept_now claims claims_now stop now words words_now waiting room letters room_now letters_now p new is claimed answers known more gone out same_room same_letters =
     subst (λ (l : List KeptAnswer). IsBoard batch l claims_now now words_now waiting room_now letters_now) (sym more)
     (subst (λ (l : List Claim). IsBoard batch (kept ++ new ∷ []) l now words_now waiting room_now letters_now) (sym gone)
     (subst (λ (l : List (List ℕ)). IsBoard batch (kept ++ new ∷ []) (without p claims) now l waiting room_now letters_now) (sym out)
     (subst (λ (n : ℕ). IsBoard batch (kept ++ new ∷ []) (without p claims) now (set words p []) waiting n letters_now) (sym same_room)
     (subst (λ (n : ℕ). IsBoard batch (kept ++ new ∷ []) (without p claims) now (set words p []) waiting room n) (sym same_letters)
-    (given batch kept claims stop words waiting room letters is p claimed new now known)))))
+    (given batch kept claims stop words waiting room letters is p claimed new answers now known)))))
 
 -- places that are held, in two parts
 pub held_front : (ns xs ys : List ℕ) → AreHeld ns (xs ++ ys) → AreHeld ns xs

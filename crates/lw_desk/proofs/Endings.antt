@@ -11,7 +11,8 @@ use Rattle.lw_turn.specs.History.{entries_of}
 use Rattle.lw_desk.specs.Naming.{Naming, own_names}
 use Rattle.lw_desk.specs.Step.{Claimed, DeskState, word_at, TakesAll, GivesAll, after_take, after_fail}
 use Rattle.lw_desk.specs.History.{DeskOpening, opened, HasLists, Replays}
-use Rattle.lw_desk.specs.Ending.{kept_runs, given_runs, gives_of, IsShared, Brought, Settled}
+use Rattle.lw_desk.specs.Ending.{kept_runs, IsShared}
+use Rattle.lw_desk.specs.bodies.Outcome.{given_runs, gives_of, Brought, Settled}
 use Rattle.lw_desk.specs.declared.ask.Ask.{Ask}
 use Rattle.lw_desk.specs.declared.ask.Reply.{Reply}
 use Rattle.lw_desk.specs.lemmas.Members.{In, in_contains, contains_in, in_either, in_map, in_mapped, is_same}

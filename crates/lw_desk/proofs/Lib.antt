@@ -12,3 +12,4 @@ pub mod StopLemmas
 pub mod TestTrials
 pub mod TidyLemmas
 pub mod TurnLemmas
+pub mod WordOrder

@@ -8,7 +8,8 @@ use Rattle.lw_turn.specs.History.{entries_of}
 use Rattle.lw_desk.specs.Naming.{Naming, own_names, bring, shared, number_in}
 use Rattle.lw_desk.specs.Step.{DeskState, word_at, kept_of, Gives, GivesAll}
 use Rattle.lw_desk.specs.History.{DeskOpening, opened, HasLists, MayGiveAll, Makes, Replays}
-use Rattle.lw_desk.specs.Ending.{NamedRun, kept_runs, given_runs, gives_of, IsShared}
+use Rattle.lw_desk.specs.Ending.{NamedRun, kept_runs, IsShared}
+use Rattle.lw_desk.specs.bodies.Outcome.{given_runs, gives_of}
 use Rattle.lw_desk.specs.declared.ask.Ask.{Ask}
 use Rattle.lw_desk.specs.declared.ask.Reply.{Reply}
 use Rattle.lw_desk.specs.declared.ask.Give.{Give}

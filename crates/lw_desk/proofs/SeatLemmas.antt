@@ -5,7 +5,7 @@ use Rattle.lw_turn.specs.declared.shared.Entry.{Entry}
 use Rattle.lw_turn.specs.History.{entries_of}
 use Rattle.lw_desk.specs.Naming.{own_names}
 use Rattle.lw_desk.specs.Step.{DeskState, after_fail, after_done}
-use Rattle.lw_desk.specs.History.{DeskOpening, opened, Seat, MayGiveAll, MayAsk, May, seat_in, seat_after, seat_from, actor_of, Makes, Replays, HasLists, names_given, failed_places}
+use Rattle.lw_desk.specs.History.{DeskOpening, opened, Seat, MayGiveAll, MayMake, May, seat_in, seat_after, seat_from, actor_of, Makes, Replays, HasLists, names_given, failed_places}
 use Rattle.lw_desk.specs.declared.ask.Ask.{Ask}
 use Rattle.lw_desk.specs.declared.ask.Reply.{Reply}
 use Rattle.lw_desk.specs.declared.ask.Give.{Give}
@@ -112,7 +112,7 @@ own_entry actor (e ∷ es) = by (e.actor == actor) refl (own_entry actor es)
     by false differ rest = rest
 
 -- who holds no place gives none, so its names don't matter
-nothing_held : (batch : List (List ℕ)) (free : Bool) (own other : List (List ℕ)) (ended : Bool) (ask : Ask) → MayAsk batch free (record { held = []; ended = ended; own = own }) ask → MayAsk batch free (record { held = []; ended = ended; own = other }) ask
+nothing_held : (batch : List (List ℕ)) (free : Bool) (own other : List (List ℕ)) (ended : Bool) (ask : Ask) → MayMake batch free (record { held = []; ended = ended; own = own }) ask → MayMake batch free (record { held = []; ended = ended; own = other }) ask
 nothing_held batch free own other ended ask may = record {
   live = may.live;
   places = may.places;
@@ -127,15 +127,15 @@ nothing_held batch free own other ended ask may = record {
     none (g ∷ gs) ps same = absurd (omega (arith, ap (λ (l : List ℕ). length l) same))
 
 -- what an actor may ask by its own entries it may ask in the state
-pub may_is : (o : DeskOpening) (es : List (Entry Ask Reply)) (t : DeskState) (actor : ℕ) (ask : Ask) → HasLists o.naming.brought o.actors → Replays o (opened o) es t → May o (entries_of actor es) ask → MayAsk o.batch (is_some o.naming.brought) (seat_in t actor) ask
+pub may_is : (o : DeskOpening) (es : List (Entry Ask Reply)) (t : DeskState) (actor : ℕ) (ask : Ask) → HasLists o.naming.brought o.actors → Replays o (opened o) es t → May o (entries_of actor es) ask → MayMake o.batch (is_some o.naming.brought) (seat_in t actor) ask
 may_is o es t actor ask lists r may =
     let seat : seat_in t actor ≡ seat_from (seat_in (opened o) actor) (entries_of actor es) = seat_after_all o (opened o) t es actor (opened_stands o lists) r in
-    subst (λ (x : Seat). MayAsk o.batch (is_some o.naming.brought) x ask) (sym seat)
+    subst (λ (x : Seat). MayMake o.batch (is_some o.naming.brought) x ask) (sym seat)
     (⊎_elim
     (λ (none : entries_of actor es ≡ []).
-    subst (λ (l : List (Entry Ask Reply)). MayAsk o.batch (is_some o.naming.brought) (seat_from (seat_in (opened o) actor) l) ask) (sym none)
+    subst (λ (l : List (Entry Ask Reply)). MayMake o.batch (is_some o.naming.brought) (seat_from (seat_in (opened o) actor) l) ask) (sym none)
     (nothing_held o.batch (is_some o.naming.brought) (own_names o.naming 0) (own_names o.naming actor) false ask
     (subst (λ (l : List (Entry Ask Reply)). May o l ask) none may)))
     (λ (own : actor_of (entries_of actor es) ≡ actor).
-    subst (λ (a : ℕ). MayAsk o.batch (is_some o.naming.brought) (seat_from (record { held = []; ended = false; own = own_names o.naming a }) (entries_of actor es)) ask) own may)
+    subst (λ (a : ℕ). MayMake o.batch (is_some o.naming.brought) (seat_from (record { held = []; ended = false; own = own_names o.naming a }) (entries_of actor es)) ask) own may)
     (own_entry actor es))

@@ -1,6 +1,6 @@
 -- Where the first stop of a history comes from.
 use Rattle.std.proofs.Common.{◌≡◌, ◌⊎◌, inl, inr, ⊎_elim, ℕ, ◌<◌, ◌≤◌, List, [], ◌∷◌, ◌++◌, length, take, Bool, true, false, Option, Some, None, unwrap_or, refl, ap, ap₂, sym, ◌∙◌, subst, subst₂, arith}
-use Rattle.std.proofs.lemmas.Bool.{false≢true}
+use Rattle.std.proofs.lemmas.Bool.{false≢true, cases_lt}
 use Rattle.std.proofs.lemmas.List.{map_push, length_push, length-map, take_all, take-append-le}
 use Rattle.lw_words.specs.Answer.{Answer, answer_at, answer_of, answers_of}
 use Rattle.lw_words.specs.declared.kept.KeptAnswer.{KeptAnswer}
@@ -8,17 +8,19 @@ use Rattle.lw_words.specs.declared.stop.SulStop.{SulStop}
 use Rattle.lw_words.specs.declared.stop.SulStop.TheVariants.{Failed as SulFailed}
 use Rattle.lw_words.specs.declared.stop.RunStop.{RunStop}
 use Rattle.lw_words.specs.declared.stop.RunStop.TheVariants as Run
-use Rattle.lw_cache.specs.Clash.{IsClearAfter}
+use Rattle.lw_cache.specs.Clash.{IsClear, IsClearAfter}
 use Rattle.lw_cache.specs.FirstClash.{ClashesFirst}
 use Rattle.lw_cache.specs.declared.stops.Clash.{Clash}
 use Rattle.lw_cache.specs.declared.stops.AskStop.{AskStop}
 use Rattle.lw_cache.specs.declared.stops.AskStop.TheVariants as Stop
-use Rattle.lw_cache.proofs.AnswerLemmas.{at_kept, at_last}
+use Rattle.lw_cache.proofs.AnswerLemmas.{at_kept, at_last, clear_kept}
+use Rattle.lw_cache.proofs.GrowLemmas.{after_stays}
 use Rattle.lw_turn.specs.declared.shared.Entry.{Entry}
 use Rattle.lw_desk.specs.Naming.{bring}
 use Rattle.lw_desk.specs.Step.{DeskState, GivesAll, StopsBy, kept_of, after_fail, first_stop, stop_of}
 use Rattle.lw_desk.specs.History.{DeskOpening, opened, Replays}
-use Rattle.lw_desk.specs.Ending.{CameFirst, StopIs}
+use Rattle.lw_desk.specs.Ending.{CameFirst, AreClear}
+use Rattle.lw_desk.specs.bodies.Outcome.{StopIs}
 use Rattle.lw_desk.specs.declared.ask.Ask.{Ask}
 use Rattle.lw_desk.specs.declared.ask.Reply.{Reply}
 use Rattle.lw_desk.specs.declared.ask.Give.{Give}
@@ -26,6 +28,13 @@ use Rattle.lw_desk.specs.declared.ask.Failed.{Failed}
 use Rattle.lw_desk.specs.lemmas.Members.{In, in_contains}
 use Rattle.lw_desk.specs.lemmas.CoverLemmas.{some_none}
 use Rattle.lw_desk.specs.lemmas.StepLemmas.{end_stop, end_kept}
+
+-- an answer that clashes with no clear one is clear
+clear_last : (ks : List Answer) (k : Answer) → IsClearAfter ks (length ks) k → IsClear (ks ++ k ∷ []) (length ks)
+clear_last ks k clear = (
+  omega (arith, length_push ks k),
+  subst (λ (a : Answer). IsClearAfter (ks ++ k ∷ []) (length ks) a) (sym (at_last ks k)) ((after_stays ks (k ∷ []) (length ks) k (omega arith)).1 clear),
+)
 
 abbrev is_sul : AskStop → Bool
 is_sul (Stop.Sul i s) = true
@@ -93,10 +102,25 @@ module _ (o : DeskOpening) where
 
   -- a clash that is told is one of an answer that came since
   abbrev CameSince : List KeptAnswer → Clash → Type 0
-  CameSince kept c = (length o.kept ≤ c.second) × CameFirst kept c
+  CameSince kept c = (length o.kept ≤ c.second) × CameFirst kept c × AreClear kept (length o.kept) c.second
 
+  -- and until a stop all that came are clear
   abbrev ClashIs : List KeptAnswer → Option AskStop → Type 0
-  ClashIs kept stop = (length o.kept ≤ length kept) × ((c : Clash) → stop ≡ Some (Stop.Clash c) → CameSince kept c)
+  ClashIs kept stop = (length o.kept ≤ length kept) × ((c : Clash) → stop ≡ Some (Stop.Clash c) → CameSince kept c) × (stop ≡ None → AreClear kept (length o.kept) (length kept))
+
+  still_clear : (kept : List KeptAnswer) (k : KeptAnswer) (first end : ℕ) → AreClear kept first end → AreClear (kept ++ k ∷ []) first end
+  still_clear kept k first end clear i from below =
+      subst (λ (ks : List Answer). IsClear ks i) (sym (map_push answer_of kept k)) (clear_kept (answers_of kept) (answer_of k) i (clear i from below))
+
+  one_clear : (kept : List KeptAnswer) (k : KeptAnswer) (first : ℕ) → IsClearAfter (answers_of kept) (length (answers_of kept)) (answer_of k) → AreClear kept first (length kept) → AreClear (kept ++ k ∷ []) first (length (kept ++ k ∷ []))
+  one_clear kept k first new clear i from below =
+      ⊎_elim
+      (λ (lt : i < length kept). still_clear kept k first (length kept) clear i from lt)
+      (λ (le : length kept ≤ i).
+      let here : length (answers_of kept) ≡ i = omega (arith, le, below, length_push kept k, length-map kept answer_of) in
+      subst (λ (ks : List Answer). IsClear ks i) (sym (map_push answer_of kept k))
+      (subst (IsClear (answers_of kept ++ answer_of k ∷ [])) here (clear_last (answers_of kept) (answer_of k) new)))
+      (cases_lt i (length kept))
 
   -- the answers before a place, and the one at it, with one more behind them
   front_stays : (kept : List KeptAnswer) (k : KeptAnswer) (n : ℕ) → n ≤ length kept → take n (kept ++ k ∷ []) ≡ take n kept
@@ -122,7 +146,7 @@ module _ (o : DeskOpening) where
       }
 
   give_clash : (kept : List KeptAnswer) (k : KeptAnswer) (was now : Option AskStop) → StopsBy was (answers_of kept) (answer_of k) now → ClashIs kept was → ClashIs (kept ++ k ∷ []) now
-  give_clash kept k was now by is = (omega (arith, is.0, length_push kept k), λ c told. from was by is.1 c told)
+  give_clash kept k was now by is = (omega (arith, is.0, length_push kept k), λ c told. from was by is.1 is.2 c told, λ none. all_clear was by is.2 none)
     where
       clash_in : Option AskStop → Clash → Clash
       clash_in None d = d
@@ -130,14 +154,23 @@ module _ (o : DeskOpening) where
       clash_in (Some (Stop.Sul i s)) d = d
       clash_in (Some Stop.NoMemory) d = d
 
-      from : (was : Option AskStop) → StopsBy was (answers_of kept) (answer_of k) now → ((c : Clash) → was ≡ Some (Stop.Clash c) → CameSince kept c) → (c : Clash) → now ≡ Some (Stop.Clash c) → CameSince (kept ++ k ∷ []) c
-      from (Some x) b i c told = let r : CameSince kept c = i c (sym b ∙ told) in (r.0, came_before kept k c r.1)
-      from None b i c told =
+      from : (was : Option AskStop) → StopsBy was (answers_of kept) (answer_of k) now → ((c : Clash) → was ≡ Some (Stop.Clash c) → CameSince kept c) → (was ≡ None → AreClear kept (length o.kept) (length kept)) → (c : Clash) → now ≡ Some (Stop.Clash c) → CameSince (kept ++ k ∷ []) c
+      from (Some x) b i clear c told = let r : CameSince kept c = i c (sym b ∙ told) in (r.0, came_before kept k c r.1, still_clear kept k (length o.kept) c.second r.2)
+      from None b i clear c told =
           ⊎_elim
           (λ (r : IsClearAfter (answers_of kept) (length (answers_of kept)) (answer_of k) × (now ≡ None)). absurd (some_none (Stop.Clash c) (sym told ∙ r.1)))
           (λ (r : (clash : Clash) × ClashesFirst (answers_of kept) (answer_of k) clash × (now ≡ Some (Stop.Clash clash))).
           let first : ClashesFirst (answers_of kept) (answer_of k) c = subst (ClashesFirst (answers_of kept) (answer_of k)) (ap (λ (o : Option AskStop). clash_in o c) (sym r.2 ∙ told)) r.1 in
-          (omega (arith, is.0, first.second, length-map kept answer_of), came_now kept k c first))
+          let here : length kept ≡ c.second = omega (arith, first.second, length-map kept answer_of) in
+          (omega (arith, is.0, here), came_now kept k c first, still_clear kept k (length o.kept) c.second (subst (AreClear kept (length o.kept)) here (clear refl))))
+          b
+
+      all_clear : (was : Option AskStop) → StopsBy was (answers_of kept) (answer_of k) now → (was ≡ None → AreClear kept (length o.kept) (length kept)) → now ≡ None → AreClear (kept ++ k ∷ []) (length o.kept) (length (kept ++ k ∷ []))
+      all_clear (Some x) b clear none = absurd (some_none x (sym b ∙ none))
+      all_clear None b clear none =
+          ⊎_elim
+          (λ (r : IsClearAfter (answers_of kept) (length (answers_of kept)) (answer_of k) × (now ≡ None)). one_clear kept k (length o.kept) r.0 (clear refl))
+          (λ (r : (clash : Clash) × ClashesFirst (answers_of kept) (answer_of k) clash × (now ≡ Some (Stop.Clash clash))). absurd (some_none (Stop.Clash r.0) (sym r.2 ∙ none)))
           b
 
   gives_clash : (maker : ℕ) (gs : List Give) (s t : DeskState) → GivesAll o.batch maker gs s t → ClashIs s.kept s.stop → ClashIs t.kept t.stop
@@ -156,7 +189,7 @@ module _ (o : DeskOpening) where
       no_clash Run.NoMemory c e = false≢true (ap is_clash e)
 
       by : (o : Option AskStop) → ClashIs s.kept o → ClashIs s.kept (first_stop o (stop_of maker f.stop))
-      by None i = (i.0, λ c told. absurd (no_clash f.stop c (some_is (stop_of maker f.stop) (Stop.Clash c) told)))
+      by None i = (i.0, λ c told. absurd (no_clash f.stop c (some_is (stop_of maker f.stop) (Stop.Clash c) told)), λ none. absurd (some_none (stop_of maker f.stop) none))
       by (Some x) i = i
 
   replays_clash : (s t : DeskState) (es : List (Entry Ask Reply)) → Replays o s es t → ClashIs s.kept s.stop → ClashIs t.kept t.stop
@@ -172,5 +205,5 @@ module _ (o : DeskOpening) where
         (λ (begun : None ≡ Some (Stop.Sul actor stop)). absurd (some_none (Stop.Sul actor stop) (sym begun)))
         (λ (f : (e : Entry Ask Reply) × In e es × FailedWith e.actor e.ask.failed actor stop). (f.0, in_contains f.0 es f.1, f.2.0, f.2.1))
         (replays_sul (opened o) t es actor stop r told);
-    clash = (replays_clash (opened o) t es r (omega arith, λ d begun. absurd (some_none (Stop.Clash d) (sym begun)))).1;
+    clash = (replays_clash (opened o) t es r (omega arith, λ d begun. absurd (some_none (Stop.Clash d) (sym begun)), λ none i from below. absurd (omega (arith, from, below)))).1;
   }

@@ -12,7 +12,7 @@ use Rattle.lw_turn.specs.History.{entries_of}
 use Rattle.lw_desk.specs.Naming.{own_names}
 use Rattle.lw_desk.specs.Desk.{DeskHistory}
 use Rattle.lw_desk.specs.Step.{Claimed, DeskState, TakesAll, after_take, without_place, without_places}
-use Rattle.lw_desk.specs.History.{DeskOpening, opened, Seat, seat_of, seat_from, seat_after, actor_of, Replays, May, MayAsk, HasLists, names_given}
+use Rattle.lw_desk.specs.History.{DeskOpening, opened, Seat, seat_of, seat_from, seat_after, actor_of, Replays, May, MayMake, HasLists, names_given}
 use Rattle.lw_desk.specs.TestTrial.{seat_by, seat_at, IsTrial}
 use Rattle.lw_desk.specs.declared.ask.Ask.{Ask}
 use Rattle.lw_desk.specs.declared.ask.Reply.{Reply}
@@ -38,11 +38,11 @@ entries_own a es e same = filter-append (λ (x : Entry Ask Reply). x.actor == a)
 entries_other : (a : ℕ) (es : List (Entry Ask Reply)) (e : Entry Ask Reply) → e.actor ≢ a → entries_of a (es ++ e ∷ []) ≡ entries_of a es
 entries_other a es e other = filter-append (λ (x : Entry Ask Reply). x.actor == a) es (e ∷ []) ∙ (ap (λ (b : Bool). entries_of a es ++ cond b (e ∷ []) []) (is_other e.actor a other) ∙ append-nil (entries_of a es))
 
-pub trial_may : (d : DeskHistory) (batch : List (List ℕ)) (free : Bool) (seats : List Seat) (actor : ℕ) (ask : Ask) → IsTrial d batch free seats → actor < length seats → MayAsk batch free (seat_at seats actor) ask → May d.opening (entries_of actor d.entries) ask
+pub trial_may : (d : DeskHistory) (batch : List (List ℕ)) (free : Bool) (seats : List Seat) (actor : ℕ) (ask : Ask) → IsTrial d batch free seats → actor < length seats → MayMake batch free (seat_at seats actor) ask → May d.opening (entries_of actor d.entries) ask
 trial_may d batch free seats actor ask is lt may =
-    subst (λ (l : List (List ℕ)). MayAsk l (is_some d.opening.naming.brought) (seat_of d.opening (entries_of actor d.entries)) ask) (sym is.batch_is)
-    (subst (λ (f : Bool). MayAsk batch f (seat_of d.opening (entries_of actor d.entries)) ask) (sym is.kind)
-    (subst (λ (x : Seat). MayAsk batch free x ask) (sym (is.stand actor lt)) may))
+    subst (λ (l : List (List ℕ)). MayMake l (is_some d.opening.naming.brought) (seat_of d.opening (entries_of actor d.entries)) ask) (sym is.batch_is)
+    (subst (λ (f : Bool). MayMake batch f (seat_of d.opening (entries_of actor d.entries)) ask) (sym is.kind)
+    (subst (λ (x : Seat). MayMake batch free x ask) (sym (is.stand actor lt)) may))
 
 pub trial_more : (d now : DeskHistory) (batch : List (List ℕ)) (free : Bool) (seats : List Seat) (e : Entry Ask Reply) (seat : Seat) → IsTrial d batch free seats → e.actor < length seats → now.opening ≡ d.opening → now.entries ≡ d.entries ++ e ∷ [] → seat ≡ seat_after (seat_at seats e.actor) e → IsTrial now batch free (set seats e.actor seat)
 trial_more d now batch free seats e seat is lt same more standing = record {

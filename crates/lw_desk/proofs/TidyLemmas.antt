@@ -15,7 +15,7 @@ use Rattle.lw_cache.proofs.GainLemmas.{known_stays, nothing_more}
 use Rattle.lw_turn.specs.declared.shared.Entry.{Entry}
 use Rattle.lw_desk.specs.Naming.{bring}
 use Rattle.lw_desk.specs.Step.{Claimed, DeskState, word_at, ComesBefore, IsCovered, IsFirstFree, NothingToTake, TakesAll, Gives, GivesAll, kept_of, after_take, after_fail, after_done, without_place, without_places}
-use Rattle.lw_desk.specs.Ending.{FreshFrom}
+use Rattle.lw_desk.specs.bodies.Outcome.{FreshFrom}
 use Rattle.lw_desk.specs.History.{DeskOpening, opened, Makes, Replays, failed_places}
 use Rattle.lw_desk.specs.declared.ask.Ask.{Ask}
 use Rattle.lw_desk.specs.declared.ask.Reply.{Reply}

@@ -1,8 +1,9 @@
 -- What the calls of a board do, as steps of a desk.
 use Rattle.std.proofs.Common.{◌≡◌, ◌⊎◌, inl, inr, ⊎_elim, ℕ, ◌-◌, ◌<◌, ◌≤◌, ◌==◌, not, List, [], ◌∷◌, ◌++◌, length, map, filter, Contains, Bool, true, false, Option, Some, None, Result, Ok, Err, OnOk, IfErr, refl, ap, sym, ◌∙◌, subst, arith}
 use Rattle.std.specs.Bool.{⊤}
-use Rattle.std.proofs.lemmas.List.{map_push, length-map}
+use Rattle.std.proofs.lemmas.List.{map_push, length-map, length-append, get_or-map, get_or_default}
 use Rattle.lw_words.specs.Answer.{answer_of, answers_of}
+use Rattle.lw_words.specs.Name.{AllDiffer}
 use Rattle.lw_words.specs.Word.{IsPrefix}
 use Rattle.lw_words.specs.declared.kept.KeptAnswer.{KeptAnswer}
 use Rattle.lw_cache.specs.Caching.{Claim}
@@ -14,17 +15,17 @@ use Rattle.lw_cache.specs.declared.stops.AskStop.TheVariants as Ask
 use Rattle.lw_cache.specs.declared.stops.Clash.{Clash}
 use Rattle.lw_cache.proofs.GainLemmas.{known_new}
 use Rattle.lw_desk.specs.Naming.{Naming, bring}
-use Rattle.lw_desk.specs.Step.{Claimed, DeskState, word_at, IsCovered, ComesBefore, IsFirstFree, NothingToTake, TakesAll, Gives, GivesAll, StopsBy, after_take, after_give, after_fail, kept_of, without_place, without_places, first_stop, stop_of}
-use Rattle.lw_desk.specs.bodies.Board.{BoardState, Agrees, IsTaken, AreApart, AreHeld, numbers_of, IsBoard, stop_after, without_number, without_numbers}
+use Rattle.lw_desk.specs.Step.{Claimed, DeskState, word_at, IsCovered, ComesBefore, IsFirstFree, NothingToTake, IsLeft, AreLeft, CountsLeft, TakesAll, Gives, GivesAll, StopsBy, after_take, after_give, after_fail, kept_of, without_place, without_places, first_stop, stop_of}
+use Rattle.lw_desk.specs.bodies.Board.{BoardState, Agrees, IsTaken, AreApart, AreHeld, BeginsOne, Waits, numbers_of, IsBoard, stop_after, without_number, without_numbers}
 use Rattle.lw_desk.specs.declared.ask.Give.{Give}
 use Rattle.lw_desk.specs.declared.ask.Failed.{Failed}
 use Rattle.std.proofs.Common.{cond, get_or}
-use Rattle.std.proofs.lemmas.List.Elements.{Contains-get_or}
-use Rattle.lw_desk.specs.lemmas.StepLemmas.{done_only}
+use Rattle.std.proofs.lemmas.List.Elements.{All-contains, Contains-get_or}
+use Rattle.lw_desk.specs.lemmas.StepLemmas.{done_only, prefix_whole}
 use Rattle.lw_desk.specs.Step.{after_done}
 use Rattle.lw_desk.specs.lemmas.Members.{in_filter, In, in_contains, contains_in, in_map, in_mapped}
-use Rattle.lw_desk.specs.lemmas.CoverLemmas.{some_none}
-use Rattle.lw_desk.proofs.BoardLemmas.{map-filter}
+use Rattle.lw_desk.specs.lemmas.CoverLemmas.{some_none, prefix_of_prefix}
+use Rattle.lw_desk.proofs.BoardLemmas.{map-filter, taken_prefix, prefix_alike, whole_words, whole_pairs}
 
 module _ (b : BoardState) (s : DeskState) (agrees : Agrees b s) where
   pub covered_is : (w : List ℕ) → IsCovered b.batch s w → IsTaken b.batch b.kept b.claimed w
@@ -177,9 +178,88 @@ none_waits b naming batch kept claims stop words waiting room letters view is no
     subst (λ (v : BoardState). (s : DeskState) → Agrees v s → NothingToTake v.batch s) view (λ s agrees.
     nothing_is (record { naming = naming; kept = kept; claimed = numbers_of claims; stop = stop; batch = batch; waiting = waiting }) s agrees (λ live p below.
     ⊎_elim
-    (λ (c : Contains waiting p). absurd (omega (arith, c.1, none)))
+    (λ (r : BeginsOne batch waiting (word_at batch p)). absurd (omega (arith, r.1.1, none)))
     (λ (t : IsTaken batch kept (numbers_of claims) (word_at batch p)). t)
     (is.covered live p below)))
+
+-- the words of the places that wait are those that are left
+module _ (naming : Naming) (batch : List (List ℕ)) (kept : List KeptAnswer) (claims : List Claim) (stop : Option AskStop) (words : List (List ℕ)) (waiting : List ℕ) (room letters : ℕ) (is : IsBoard batch kept claims stop words waiting room letters) where
+  abbrev board : BoardState
+  board = record { naming = naming; kept = kept; claimed = numbers_of claims; stop = stop; batch = batch; waiting = waiting }
+
+  abbrev left_words : List (List ℕ)
+  left_words = map (word_at batch) waiting
+
+  waits_at : (q : ℕ) → In q waiting → Waits batch words kept claims q
+  waits_at q i = All-contains (Waits batch words kept claims) waiting q is.waits (in_contains q waiting i)
+
+  in_batch : (q : ℕ) → q < length batch → Contains batch (word_at batch q)
+  in_batch q lt = Contains-get_or batch q [] lt
+
+  word_found : (v : List ℕ) (c : Contains batch v) → word_at batch c.0 ≡ v
+  word_found v c = get_or_default batch c.0 [] v c.1 ∙ c.2
+
+  module _ (s : DeskState) (agrees : Agrees board s) (live : stop ≡ None) where
+    is_left : (q : ℕ) → In q waiting → IsLeft batch s (word_at batch q)
+    is_left q i = record {
+      within = in_batch q (waits_at q i).at_hand.within;
+      free = λ covered. (waits_at q i).free (covered_is board s agrees (word_at batch q) covered);
+      whole = λ v c pre. whole v (c.0) c.1 (word_found v c) pre;
+    }
+      where
+        whole : (v : List ℕ) (r : ℕ) → r < length batch → word_at batch r ≡ v → IsPrefix (word_at batch q) v → v ≡ word_at batch q
+        whole v r lt found pre =
+            ⊎_elim
+            (λ (b : BeginsOne batch waiting (word_at batch r)).
+            let more : IsPrefix v (word_at batch b.0) = subst (λ (w : List ℕ). IsPrefix w (word_at batch b.0)) found b.2 in
+            let same : word_at batch q ≡ word_at batch b.0 = whole_words batch waiting is.order is.whole q b.0 i (contains_in b.0 waiting b.1) (prefix_of_prefix (word_at batch q) v (word_at batch b.0) pre more) in
+            prefix_alike v (word_at batch q) (subst (IsPrefix v) (sym same) more) (omega (arith, ap (λ (l : List ℕ). length l) pre.1, length-append (word_at batch q) pre.0)))
+            (λ (t : IsTaken batch kept (numbers_of claims) (word_at batch r)).
+            absurd ((waits_at q i).free (taken_prefix batch kept (numbers_of claims) (word_at batch q) (word_at batch r) (subst (IsPrefix (word_at batch q)) (sym found) pre) t)))
+            (is.covered live r lt)
+
+    left_is : (w : List ℕ) → IsLeft batch s w → Contains left_words w
+    left_is w left =
+        let c : Contains batch w = left.within in
+        let found : word_at batch c.0 ≡ w = word_found w c in
+        ⊎_elim
+        (λ (b : BeginsOne batch waiting (word_at batch c.0)).
+        let i : In b.0 waiting = contains_in b.0 waiting b.1 in
+        let same : word_at batch b.0 ≡ w = left.whole (word_at batch b.0) (in_batch b.0 (waits_at b.0 i).at_hand.within) (subst (λ (v : List ℕ). IsPrefix v (word_at batch b.0)) found b.2) in
+        subst (Contains left_words) same (in_contains (word_at batch b.0) left_words (in_map (word_at batch) b.0 waiting i)))
+        (λ (t : IsTaken batch kept (numbers_of claims) (word_at batch c.0)). absurd (left.free (taken_is board s agrees w (subst (IsTaken batch kept (numbers_of claims)) found t))))
+        (is.covered live c.0 c.1)
+
+    left_once : AllDiffer left_words
+    left_once i j d lt within same =
+        let long : length left_words ≡ length waiting = length-map waiting (word_at batch) in
+        let second : j < length waiting = omega (arith, within, long) in
+        let first : i < length waiting = omega (arith, lt, second) in
+        whole_pairs batch waiting is.whole i j lt second
+        (subst (λ (w : List ℕ). IsPrefix w (word_at batch (get_or waiting i 0)))
+        (sym (get_or-map (word_at batch) waiting i 0 d first) ∙ (same ∙ get_or-map (word_at batch) waiting j 0 d second))
+        (prefix_whole (word_at batch (get_or waiting i 0))))
+
+    pub are_left : AreLeft batch s left_words
+    are_left = record {
+      exactly = λ w. (
+        λ c.
+            let m = in_mapped (word_at batch) w waiting (contains_in w left_words c) in
+            subst (IsLeft batch s) m.2 (is_left m.0 m.1),
+        λ left. left_is w left,
+      );
+      once = left_once;
+    }
+
+-- and so many they are
+pub counts_waiting : (b : BoardState) (naming : Naming) (batch : List (List ℕ)) (kept : List KeptAnswer) (claims : List Claim) (stop : Option AskStop) (words : List (List ℕ)) (waiting : List ℕ) (room letters left : ℕ) → (let v : BoardState = record { naming = naming; kept = kept; claimed = numbers_of claims; stop = stop; batch = batch; waiting = waiting } in v) ≡ b
+    → IsBoard batch kept claims stop words waiting room letters → length waiting ≡ left → (s : DeskState) → Agrees b s → CountsLeft b.batch s left
+counts_waiting b naming batch kept claims stop words waiting room letters left view is long =
+    subst (λ (v : BoardState). (s : DeskState) → Agrees v s → CountsLeft v.batch s left) view (λ s agrees live. (
+      map (word_at batch) waiting,
+      are_left naming batch kept claims stop words waiting room letters is s agrees (sym agrees.stop ∙ live),
+      length-map waiting (word_at batch) ∙ long,
+    ))
 
 -- the places that an actor holds are claimed, each once
 apart_filter : (q : Claimed → Bool) (cs : List Claimed) → AreApart (map (λ c. c.place) cs) → AreApart (map (λ c. c.place) (filter q cs))

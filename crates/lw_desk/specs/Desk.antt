@@ -1,10 +1,10 @@
 -- What contracts see of a desk, and what it leaves at the end.
-use Rattle.std.specs.Prelude.{◌≡◌, List, [], Option}
+use Rattle.std.specs.Prelude.{◌≡◌, ℕ, List, [], Option}
 use Rattle.lw_cache.specs.Caching.{Caching}
 use Rattle.lw_cache.specs.declared.stops.AskStop.{AskStop}
 use Rattle.lw_turn.specs.declared.shared.Entry.{Entry}
 use Rattle.lw_desk.specs.Naming.{Naming}
-use Rattle.lw_desk.specs.Step.{DeskState}
+use Rattle.lw_desk.specs.Step.{DeskState, CountsLeft}
 use Rattle.lw_desk.specs.History.{DeskOpening, opened, Replays}
 use Rattle.lw_desk.specs.declared.ask.Ask.{Ask}
 use Rattle.lw_desk.specs.declared.ask.Reply.{Reply}
@@ -22,3 +22,9 @@ pub record Finishes (d : DeskHistory) (result : Caching × Naming × Option AskS
   pub claims : result.0.claims ≡ []
   pub naming : result.1 ≡ state.naming
   pub stop : result.2 ≡ state.stop
+
+-- so many words are left to take in a state to which the entries lead
+pub record HasLeft (d : DeskHistory) (left : ℕ) : Type 0 where
+  pub state : DeskState
+  pub replays : Replays d.opening (opened d.opening) d.entries state
+  pub counts : CountsLeft d.opening.batch state left

@@ -4,7 +4,7 @@ use Rattle.std.specs.List.{list_any}
 use Rattle.lw_words.specs.declared.kept.KeptAnswer.{KeptAnswer}
 use Rattle.lw_turn.specs.declared.shared.Entry.{Entry}
 use Rattle.lw_desk.specs.Naming.{Naming, own_names, MayBring}
-use Rattle.lw_desk.specs.Step.{DeskState, word_at, GivesAll, TakesAll, NothingToTake, after_fail, after_done}
+use Rattle.lw_desk.specs.Step.{DeskState, word_at, GivesAll, TakesAll, NothingToTake, CountsLeft, after_fail, after_done}
 use Rattle.lw_desk.specs.declared.ask.Ask.{Ask}
 use Rattle.lw_desk.specs.declared.ask.Reply.{Reply}
 use Rattle.lw_desk.specs.declared.ask.Give.{Give}
@@ -40,7 +40,7 @@ MayGiveAll batch free own [] = Unit {0}
 MayGiveAll batch free own (g ∷ gs) = MayBring free own g.names g.outs × (length g.outs ≡ length (word_at batch g.place)) × MayGiveAll batch free (own ++ g.names) gs
 
 -- an actor that has not ended gives or fails all the places that it holds, and then may take more, where none failed
-pub record MayAsk (batch : List (List ℕ)) (free : Bool) (seat : Seat) (ask : Ask) : Type 0 where
+pub record MayMake (batch : List (List ℕ)) (free : Bool) (seat : Seat) (ask : Ask) : Type 0 where
   pub live : seat.ended ≡ false
   pub places : settled_places ask ≡ seat.held
   pub gives : MayGiveAll batch free seat.own ask.gives.items
@@ -60,7 +60,7 @@ seat_in s actor = record {
 -- given, then of what failed, then of what is taken
 pub record Makes (o : DeskOpening) (s : DeskState) (e : Entry Ask Reply) (t : DeskState) : Type 0 where
   pub actor : e.actor < o.actors
-  pub may : MayAsk o.batch (is_some o.naming.brought) (seat_in s e.actor) e.ask
+  pub may : MayMake o.batch (is_some o.naming.brought) (seat_in s e.actor) e.ask
   pub given : DeskState
   pub gives : GivesAll o.batch e.actor e.ask.gives.items s given
   pub taken : DeskState
@@ -68,7 +68,8 @@ pub record Makes (o : DeskOpening) (s : DeskState) (e : Entry Ask Reply) (t : De
   pub done : (e.reply.done ≡ true) ↔ ((0 < e.ask.wanted) × (e.reply.places ≡ []))
   pub after : t ≡ after_done e.actor e.reply.done taken
   pub stopped : e.reply.stopped ≡ is_some t.stop
-  pub left : e.reply.left ≡ 0 → NothingToTake o.batch t
+  pub left : CountsLeft o.batch t e.reply.left
+  pub none_left : e.reply.left ≡ 0 → NothingToTake o.batch t
   pub few_left : e.reply.left ≤ length o.batch
 
 -- each entry in turn
@@ -115,7 +116,7 @@ seat_of o mine = seat_from (record { held = []; ended = false; own = own_names o
 
 -- an actor whose own entries are these may make this ask
 abbrev pub May : DeskOpening → List (Entry Ask Reply) → Ask → Type 0
-May o mine ask = MayAsk o.batch (is_some o.naming.brought) (seat_of o mine) ask
+May o mine ask = MayMake o.batch (is_some o.naming.brought) (seat_of o mine) ask
 
 abbrev pub most_entries : DeskOpening → ℕ
 most_entries o = 2 * length o.batch + o.actors

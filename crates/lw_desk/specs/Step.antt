@@ -1,6 +1,7 @@
 -- The steps of a desk: what an actor takes of a batch, gives and fails.
-use Rattle.std.specs.Prelude.{◌≡◌, ◌⊎◌, ℕ, ◌-◌, ◌<◌, ◌==◌, not, List, [], ◌∷◌, ◌++◌, length, filter, slice_index_or, Contains, Bool, true, false, Option, Some, None}
+use Rattle.std.specs.Prelude.{◌≡◌, ◌⊎◌, ◌↔◌, ℕ, ◌-◌, ◌<◌, ◌==◌, not, List, [], ◌∷◌, ◌++◌, length, filter, slice_index_or, Contains, Bool, true, false, Option, Some, None}
 use Rattle.lw_words.specs.Answer.{Answer, answer_of, answers_of}
+use Rattle.lw_words.specs.Name.{AllDiffer}
 use Rattle.lw_words.specs.Word.{IsPrefix}
 use Rattle.lw_words.specs.declared.kept.KeptAnswer.{KeptAnswer}
 use Rattle.lw_words.specs.declared.stop.RunStop.{RunStop}
@@ -51,6 +52,21 @@ pub record IsFirstFree (batch : List (List ℕ)) (s : DeskState) (place : ℕ) :
 -- the desk was stopped, or all words of the batch are covered
 abbrev pub NothingToTake : List (List ℕ) → DeskState → Type 0
 NothingToTake batch s = ((stop : AskStop) × (s.stop ≡ Some stop)) ⊎ ((place : ℕ) → place < length batch → IsCovered batch s (word_at batch place))
+
+-- a word of the batch that is not covered, and that no other word of the batch begins with
+pub record IsLeft (batch : List (List ℕ)) (s : DeskState) (w : List ℕ) : Type 0 where
+  pub within : Contains batch w
+  pub free : ¬ IsCovered batch s w
+  pub whole : (v : List ℕ) → Contains batch v → IsPrefix w v → v ≡ w
+
+-- these are all such words, each once
+pub record AreLeft (batch : List (List ℕ)) (s : DeskState) (words : List (List ℕ)) : Type 0 where
+  pub exactly : (w : List ℕ) → Contains words w ↔ IsLeft batch s w
+  pub once : AllDiffer words
+
+-- where nothing stopped the desk, so many words are left to take
+abbrev pub CountsLeft : List (List ℕ) → DeskState → ℕ → Type 0
+CountsLeft batch s left = s.stop ≡ None → (words : List (List ℕ)) × AreLeft batch s words × (length words ≡ left)
 
 abbrev pub after_take : ℕ → ℕ → DeskState → DeskState
 after_take actor place s = record {

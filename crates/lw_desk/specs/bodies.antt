@@ -3,3 +3,4 @@ pub mod Board
 pub mod DeskBody
 pub mod Gathering
 pub mod OutNames
+pub mod Outcome

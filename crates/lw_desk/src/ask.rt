@@ -28,8 +28,8 @@ pub struct Ask {
     pub wanted: u32,
 }
 
-/// What an actor is told: the places that it holds now, whether nothing was left to take, whether the desk was stopped, and
-/// about how many places are left, which is never less than there are.
+/// What an actor is told: the places that it holds now, whether it wanted some and there were none, whether the desk is
+/// stopped, and, where it isn't, how many words are left to take.
 #[derive(Drop)]
 pub struct Reply {
     pub places: Places,

@@ -2,26 +2,22 @@
 ghost use Rattle.std.specs.Prelude.{◌≡◌, ◌≢◌, ◌↔◌, ℕ, ◌+◌, ◌^◌, ◌<◌, ◌≤◌, List, [], ◌∷◌, ◌++◌, length, map, drop, slice_index, Contains, IfOk, IfErr, IfSome, IfNone, Some, None, is_some, IsTrue};
 ghost use Rattle.std.specs.List.{All};
 ghost use Rattle.lw_desk.specs.Naming.{own_names, MayBring};
-ghost use Rattle.lw_desk.specs.Step.{DeskState, word_at, IsFirstFree, NothingToTake, Gives, GivesAll, TakesAll, after_take, after_fail, first_stop, stop_of};
-ghost use Rattle.lw_desk.specs.History.{DeskOpening, Makes, MayAsk, MayGiveAll, seat_in, failed_places};
+ghost use Rattle.lw_desk.specs.Step.{DeskState, word_at, IsFirstFree, NothingToTake, CountsLeft, Gives, GivesAll, TakesAll, after_take, after_fail, first_stop, stop_of};
+ghost use Rattle.lw_desk.specs.History.{DeskOpening, Makes, MayMake, MayGiveAll, seat_in, failed_places};
 ghost use Rattle.lw_desk.specs.bodies.DeskBody.{entry};
 ghost use Rattle.lw_desk.specs.bodies.Board.{BoardState, Agrees, AreHeld, numbers_of, stop_after, without_all, without_number, without_numbers};
-ghost use Rattle.lw_words.specs.Answer.{answers_of};
-ghost use Rattle.lw_cache.specs.Standing.{Stands};
-ghost use Rattle.lw_cache.specs.declared.known.Known.TheVariants as Known;
-ghost use Rattle.lw_cache.specs.declared.known.Known.{Known};
 
-use crate::gathering::{Needs, gather_sorted};
+use crate::gathering::{Needs, needs_of};
 use crate::{Ask, Failed, Give, OutNames, Places, Reply};
 use http_server::Log;
-use lw_cache::{AskStop, Cache, Clash, Known};
+use lw_cache::{AskStop, Cache, Clash};
 use lw_words::{NoMemory, RunStop, Word};
 use std::alloc::Global;
 use std::marker::Model;
 use std::mem;
 
 /// The cache and the names; a copy of each word of the batch that was not known at the opening, until its answer is given;
-/// the places of these words, first ones first, of which those from `next` on wait; and the first stop.
+/// the places of those that had to be asked, first ones first, of which those from `next` on wait; and the first stop.
 #[derive(Drop)]
 pub(crate) struct Board {
     cache: Cache,
@@ -72,31 +68,6 @@ fn stop_first(stop: Option<AskStop>, actor: u32, last: RunStop) -> Option<AskSto
     }
 }
 
-/// From a place of the list on, the first whose word is neither known nor begins a claimed one; the list's length where
-/// there is none.
-fn first_free(cache: &Cache, words: &[Word], order: &[u32], from: usize) -> usize
-    requires from { from ≤ length order.now }
-    requires within { All (λ p. p < length words.now) (drop from order.now) }
-    ensures behind { from ≤ result }
-    ensures within { result ≤ length order.now }
-    ensures taken { (k : ℕ) → from ≤ k → k < result →
-        (known : Known) × (known ≢ Known.No) × Stands (answers_of cache.now.kept) cache.now.claims
-        (word_at words.now (slice_index order.now k)) known }
-    ensures free { result < length order.now →
-        Stands (answers_of cache.now.kept) cache.now.claims
-        (word_at words.now (slice_index order.now result)) Known.No }
-{
-    let mut at = from;
-    while at < order.len() {
-        let Known::No = cache.known(&words[order[at] as usize]) else {
-            at += 1;
-            continue;
-        };
-        break;
-    }
-    at
-}
-
 /// Whether nothing was left for one who wanted places.
 fn is_done(wanted: u32, places: &Places) -> bool
     ensures { IsTrue result ↔ ((0 < wanted) × (places.now ≡ [])) }
@@ -135,7 +106,7 @@ impl Board {
         ensures back { IfErr result (λ e. (e.0.kept ≡ cache.kept) × (e.0.claims ≡ []) ×
             (e.1 ≡ names)) }
     {
-        let Ok(needs) = gather_sorted(alloc, &cache, batch) else {
+        let Ok(needs) = needs_of(alloc, &cache, batch) else {
             return Err((cache, names, NoMemory));
         };
         let mut cache = cache;
@@ -235,7 +206,7 @@ impl Board {
         }
     }
 
-    /// Claims the first free place, where there is one. Takes no memory.
+    /// Claims the first place that waits, where there is one: it is the first free one. Takes no memory.
     pub(crate) fn take_one(&mut self) -> Option<u32>
         requires live { self.old.stop ≡ None }
         ensures some { IfSome result (λ place. (actor : ℕ) (s : DeskState) → Agrees self.old s →
@@ -246,13 +217,11 @@ impl Board {
         ensures naming { self.new.naming ≡ self.old.naming }
         ensures batch { self.new.batch ≡ self.old.batch }
     {
-        let at = first_free(&self.cache, &self.words, &self.order, self.next);
-        self.next = at;
-        if at == self.order.len() {
+        if self.next == self.order.len() {
             return None;
         }
-        let place = self.order[at];
-        self.next = at + 1;
+        let place = self.order[self.next];
+        self.next += 1;
         self.cache.claim(&self.words[place as usize], place);
         Some(place)
     }
@@ -278,8 +247,9 @@ impl Board {
         places
     }
 
-    /// How many places wait: never fewer than are free.
+    /// How many words are left to take, where nothing stopped the desk.
     pub(crate) fn left(&self) -> u32
+        ensures counts { (s : DeskState) → Agrees self.now s → CountsLeft self.now.batch s result }
         ensures none { result ≡ 0 → (s : DeskState) → Agrees self.now s →
             NothingToTake self.now.batch s }
         ensures few { result ≤ length self.now.batch }
@@ -296,16 +266,17 @@ impl Board {
     /// An actor gives, fails and takes in one turn. Takes no memory.
     pub(crate) fn turn(&mut self, actor: u32, ask: Ask) -> Reply
         requires actor { actor < 16 }
-        requires may { (s : DeskState) × Agrees self.old s × MayAsk self.old.batch
+        requires may { (s : DeskState) × Agrees self.old s × MayMake self.old.batch
             (is_some self.old.naming.brought) (seat_in s actor) ask }
         ensures makes { (o : DeskOpening) (s : DeskState) → o.batch ≡ self.old.batch →
             actor < o.actors →
-            MayAsk o.batch (is_some o.naming.brought) (seat_in s actor) ask →
+            MayMake o.batch (is_some o.naming.brought) (seat_in s actor) ask →
             Agrees self.old s → (t : DeskState) × Makes o s (entry actor ask result) t ×
             Agrees self.new t }
         ensures kind { is_some self.new.naming.brought ≡ is_some self.old.naming.brought }
         ensures batch { self.new.batch ≡ self.old.batch }
     {
+        // for the proof alone: a field of it tells the invariant
         let _ = &self.next;
         let Ask {
             gives,

@@ -1,6 +1,6 @@
 //! The desk.
 ghost use Rattle.std.specs.Prelude.{◌≡◌, ℕ, ◌^◌, ◌<◌, ◌≤◌, List, [], length, IfOk, IfErr};
-ghost use Rattle.lw_desk.specs.Desk.{Finishes};
+ghost use Rattle.lw_desk.specs.Desk.{Finishes, HasLeft};
 ghost use Rattle.lw_desk.specs.History.{Replays, opened};
 ghost use Rattle.lw_desk.specs.Step.{DeskState};
 
@@ -60,6 +60,7 @@ impl Desk {
         ensures back { IfErr result (λ e. (e.0.kept ≡ cache.kept) × (e.0.claims ≡ []) ×
             (e.1 ≡ names)) }
     {
+        // for the proof alone: where names are free there are sixteen lists
         let _ = names.is_free();
         let cache_then = Snapshot::of(&cache);
         let names_then = Snapshot::of(&names);
@@ -73,9 +74,10 @@ impl Desk {
         })
     }
 
-    /// How many places wait, at most: those of the words that were not known at the opening, before any of them is taken.
+    /// How many words are left to take: before the first ask, how many have to be asked.
     pub fn left(&self) -> u32
-        ensures { result ≤ length self.now.opening.batch }
+        ensures left { HasLeft self.now result }
+        ensures few { result ≤ length self.now.opening.batch }
     {
         self.board.left()
     }

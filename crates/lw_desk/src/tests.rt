@@ -1,4 +1,5 @@
 //! What no clause says: that the calls succeed, and desks by hand.
+mod left;
 mod trial;
 mod turns;
 

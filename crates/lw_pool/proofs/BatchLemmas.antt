@@ -27,7 +27,8 @@ use Rattle.lw_turn.specs.History.{entries_of}
 use Rattle.lw_desk.specs.Naming.{Naming, own_by, own_names}
 use Rattle.lw_desk.specs.Step.{DeskState, word_at}
 use Rattle.lw_desk.specs.History.{DeskOpening, opened, Seat, seat_in, seat_after, seat_from, seat_of, actor_of, HasLists, Replays, names_given}
-use Rattle.lw_desk.specs.Ending.{NamedRun, kept_runs, given_runs, gives_of, Brought, Settled, FailedBy, StopIs, FreshFrom}
+use Rattle.lw_desk.specs.Ending.{NamedRun, kept_runs, AreClear}
+use Rattle.lw_desk.specs.bodies.Outcome.{given_runs, gives_of, Brought, Settled, FailedBy, StopIs, FreshFrom}
 use Rattle.lw_desk.specs.declared.ask.Ask.{Ask}
 use Rattle.lw_desk.specs.declared.ask.Reply.{Reply}
 use Rattle.lw_desk.specs.declared.ask.Give.{Give}
@@ -247,7 +248,7 @@ module _ (o : DeskOpening) (es : List (Entry Ask Reply)) (start now : List Seen)
             let same : seen_at now i ≡ (worked i lt).working.mid = refused.memory refl in
             ap (λ (s : Seen). s.names) same ∙ from_mid (ap (λ (s : Seen). s.stop) (sym same) ∙ none)
 
-    kinds : is_some t.naming.brought ≡ is_some o.naming.brought
+    pub kinds : is_some t.naming.brought ≡ is_some o.naming.brought
     kinds = (replays_stands o (opened o) t es (opened_stands o lists) r).kind
 
     lists_end : HasLists t.naming.brought (length now)
@@ -336,6 +337,9 @@ module _ (o : DeskOpening) (es : List (Entry Ask Reply)) (start now : List Seen)
 
     pub new_end : (c : Clash) → t.stop ≡ Some (Stop.Clash c) → length o.kept ≤ c.second
     new_end c e = ((stop_is o t es r).clash c e).0
+
+    pub first_end : (c : Clash) → t.stop ≡ Some (Stop.Clash c) → AreClear t.kept (length o.kept) c.second
+    first_end c e = ((stop_is o t es r).clash c e).2
 
     -- the names, and how each session went on
     pub names_end : IsGrown o.naming.names t.naming.names
@@ -527,6 +531,7 @@ module _ (o : DeskOpening) (es : List (Entry Ask Reply)) (start now : List Seen)
         lists = lists_end;
         shared = stays_shared o es t r lists is.shared;
         below = below_end;
+        prior_is = is.prior_is;
         stands = stands_end;
         keeps = keeps_end;
         once = once_end;

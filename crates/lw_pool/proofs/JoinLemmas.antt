@@ -1,9 +1,11 @@
 -- Sessions that may make a pool, one after the other.
-use Rattle.std.proofs.Common.{◌≡◌, ⊎_elim, ℕ, ◌<◌, ◌≤◌, List, [], ◌∷◌, ◌++◌, length, get_or, refl, subst, sym, arith}
+use Rattle.std.proofs.Common.{◌≡◌, ⊎_elim, ℕ, ◌<◌, ◌≤◌, List, [], ◌∷◌, ◌++◌, length, get_or, None, refl, subst, sym, arith}
 use Rattle.std.proofs.lemmas.Bool.{cases_lt}
-use Rattle.std.proofs.lemmas.List.{get_or_append_left, length_push, get_or_push}
+use Rattle.std.proofs.lemmas.List.{get_or_append_left, get_or_default, length_push, get_or_push}
 use Rattle.lw_sul.specs.SessionState.{SessionState}
+use Rattle.lw_sul.specs.Names.{name_at}
 use Rattle.lw_desk.specs.Naming.{Naming}
+use Rattle.lw_desk.specs.Ending.{IsShared}
 use Rattle.lw_pool.specs.Pool.{Member}
 use Rattle.lw_pool.specs.Opening.{MayJoin, AllMayJoin}
 
@@ -19,3 +21,7 @@ module _ {S : Type 0} (f : SessionState S → Member S) (naming : Naming) (input
       let same : i ≡ length sessions = omega (arith, le, lt, length_push sessions s) in
       subst (λ (n : ℕ). MayJoin naming inputs outputs n (f (get_or (sessions ++ s ∷ []) n d)).seen) (sym same) (subst (λ (x : SessionState S). MayJoin naming inputs outputs (length sessions) (f x).seen) (sym (get_or_push sessions s d (length sessions) refl)) one))
       (cases_lt i (length sessions))
+
+-- names that are declared are shared
+pub declared_shared : (names : List (List ℕ)) → IsShared (record { names = names; brought = None })
+declared_shared names instance y lt = (y, lt, get_or_default names y (name_at names y) [] lt)

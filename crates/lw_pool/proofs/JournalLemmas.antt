@@ -9,7 +9,8 @@ use Rattle.lw_sul.specs.SessionState.{run_of}
 use Rattle.lw_sul.specs.declared.runs.Run.{Run}
 use Rattle.lw_sul.proofs.NameLemmas.{named-grown}
 use Rattle.lw_desk.specs.Step.{word_at}
-use Rattle.lw_desk.specs.Ending.{NamedRun, kept_runs, given_runs}
+use Rattle.lw_desk.specs.Ending.{NamedRun, kept_runs}
+use Rattle.lw_desk.specs.bodies.Outcome.{given_runs}
 use Rattle.lw_desk.specs.declared.ask.Give.{Give}
 use Rattle.lw_pool.specs.Pool.{Seen, journal_runs}
 use Rattle.lw_pool.specs.bodies.Working.{GivesBetween}

@@ -21,8 +21,9 @@ use Rattle.lw_desk.specs.declared.ask.Reply.{Reply}
 use Rattle.lw_desk.specs.Naming.{Naming, own_names}
 use Rattle.lw_desk.specs.Step.{DeskState}
 use Rattle.lw_desk.specs.History.{DeskOpening, opened, HasLists, Replays}
-use Rattle.lw_desk.specs.Ending.{Brought, IsShared, Settled}
-use Rattle.lw_pool.specs.Pool.{Seen, Member, WentOn, PoolState, nobody, seen_at, origins_of, journal_runs, IsStopOf}
+use Rattle.lw_desk.specs.Ending.{IsShared, AreClear}
+use Rattle.lw_desk.specs.bodies.Outcome.{Brought, Settled}
+use Rattle.lw_pool.specs.Pool.{Seen, Member, WentOn, PoolState, nobody, seen_at, seen_of, origins_of, journal_runs, IsStopOf}
 use Rattle.lw_pool.specs.Opening.{MayBegin, MayJoin}
 use Rattle.lw_mealy.specs.Origin.{Origin}
 use Rattle.lw_sul.specs.SessionState.{SessionState}
@@ -30,7 +31,7 @@ use Rattle.lw_sul.specs.declared.runs.Run.{Run}
 use Rattle.std.proofs.lemmas.List.{get_or-map, length-map}
 use Rattle.std.proofs.lemmas.Option.{slice_get_past}
 use Rattle.lw_pool.specs.Settling.{GainsSome, HasSettled}
-use Rattle.lw_pool.specs.Sharing.{oracle_of}
+use Rattle.lw_pool.specs.Sharing.{oracle_of, declared_by}
 use Rattle.lw_pool.specs.declared.hands.Hand.{Hand}
 use Rattle.lw_pool.specs.declared.parts.Parts.{Parts}
 use Rattle.lw_pool.specs.bodies.Crew.{HasWorkedOff, AllWorkedOff}
@@ -38,7 +39,7 @@ use Rattle.lw_pool.specs.bodies.Running.{opening_of, AreWhole, NotBegun, WasRun,
 use Rattle.lw_pool.specs.Standing.{IsMember, IsPool}
 use Rattle.lw_pool.specs.bodies.Engaged.{IsReady}
 use Rattle.lw_pool.specs.Fitting.{FitsBy}
-use Rattle.lw_pool.proofs.BatchLemmas.{b, end_idle, pool_end, settled_end, origins_end, new_end, names_end, declared_end, went_on_end}
+use Rattle.lw_pool.proofs.BatchLemmas.{b, end_idle, pool_end, settled_end, origins_end, new_end, first_end, names_end, kinds, declared_end, went_on_end}
 use Rattle.lw_pool.proofs.GiveLemmas.{went_on_not}
 use Rattle.lw_pool.proofs.JournalLemmas.{grown_not}
 use Rattle.lw_pool.proofs.HandLemmas.{seen_in, seen_here, seen_long, taken_all, worked_seen}
@@ -47,7 +48,7 @@ use Rattle.lw_pool.proofs.HandLemmas.{seen_in, seen_here, seen_long, taken_all, 
 abbrev pub pool_of : {S : Type 0} → List (Hand S) → Naming → List KeptAnswer → List KeptAnswer → Option AskStop → Bool → ℕ → ℕ → PoolState S
 pool_of hands naming prior kept stop refused inputs outputs = record { members = map (λ h. h.worker) hands; naming = naming; prior = prior; kept = kept; stop = stop; refused = refused; inputs = inputs; outputs = outputs }
 
-gains_nothing : (batch : List (List ℕ)) (kept : List KeptAnswer) → GainsSome batch kept kept
+abbrev gains_nothing : (batch : List (List ℕ)) (kept : List KeptAnswer) → GainsSome batch kept kept
 gains_nothing batch kept = record { gained = []; at_end = sym (append-nil kept); asked = λ k d lt. absurd (omega arith); once = λ i j d before lt. absurd (omega arith) }
 
 refused_is : (refused : Bool) (stop : Option AskStop) (result : Result ⊤ AskStop) → TellsStop result stop → (refused || is_some stop) ≡ refused_after refused result
@@ -92,14 +93,17 @@ module _ {S : Type 0} (batch : List (List ℕ)) where
     exactly = tt;
     unclashed = tt;
     gains = gains_nothing batch kept;
+    instances = λ k d lt. absurd (omega arith);
     stands = is;
     stop = told;
     refused = was_refused refused refl;
     sticks = λ no. refl;
-    new = λ may c same. absurd (subst MayAsk (told ∙ ap (λ (x : AskStop). Some x) (err_is e (Clash c) (Err e) refl same)) may);
+    new = λ may c same. absurd (not_again may c (err_is e (Clash c) (Err e) refl same));
+    first = λ may c same. absurd (not_again may c (err_is e (Clash c) (Err e) refl same));
     sessions = refl;
     went_on = λ i lt. went_on_not (seen_at (seen_in hands) i);
     names = grown_not naming.names;
+    kind = refl;
     declared = λ none. refl;
     origins = refl;
     inputs = refl;
@@ -107,6 +111,9 @@ module _ {S : Type 0} (batch : List (List ℕ)) where
     prior = refl;
   }
     where
+      not_again : MayAsk stop → (c : _) → e ≡ Clash c → ⊥
+      not_again may c same = subst MayAsk (told ∙ ap (λ (x : AskStop). Some x) same) may
+
       was_refused : (r : Bool) → refused ≡ r → refused ≡ true
       was_refused true same = same
       was_refused false same = absurd (false≢true (ap is_some (sym (is.unrefused same).0 ∙ told)))
@@ -127,6 +134,7 @@ module _ {S : Type 0} (batch : List (List ℕ)) where
           lists = is.lists;
           shared = is.shared;
           below = is.below;
+          prior_is = is.prior_is;
           stands = is.stands;
           keeps = is.keeps;
           once = is.once;
@@ -175,11 +183,17 @@ module _ {S : Type 0} (batch : List (List ℕ)) where
       run_new : (c : _) → w.state.stop ≡ Some (Clash c) → length parts.cache.kept ≤ c.second
       run_new = new_end o w.entries (seen_in hands) (seen_in after) long crew lists worked others prior was refused inputs outputs is w.state w.replays
 
+      run_first : (c : _) → w.state.stop ≡ Some (Clash c) → AreClear w.state.kept (length parts.cache.kept) c.second
+      run_first = first_end o w.entries (seen_in hands) (seen_in after) long crew lists worked others prior was refused inputs outputs is w.state w.replays
+
       run_went_on : (i : ℕ) → i < length (seen_in hands) → WentOn (seen_at (seen_in hands) i) (seen_at (seen_in after) i)
       run_went_on = went_on_end o w.entries (seen_in hands) (seen_in after) long crew lists worked others prior was refused inputs outputs is w.state w.replays
 
       run_names : IsGrown parts.names.names w.state.naming.names
       run_names = names_end o w.entries (seen_in hands) (seen_in after) long crew lists worked others prior was refused inputs outputs is w.state w.replays
+
+      run_kind : is_some w.state.naming.brought ≡ is_some parts.names.brought
+      run_kind = kinds o w.entries (seen_in hands) (seen_in after) long crew lists worked others prior was refused inputs outputs is w.state w.replays
 
       run_declared : parts.names.brought ≡ None → w.state.naming ≡ parts.names
       run_declared = declared_end o w.entries (seen_in hands) (seen_in after) long crew lists worked others prior was refused inputs outputs is w.state w.replays
@@ -199,15 +213,18 @@ module _ {S : Type 0} (batch : List (List ℕ)) where
         known = no_ok result told (All (IsKnown (answers_of now.cache.kept)) batch);
         exactly = no_ok result told (GainsExactly batch parts.cache.kept now.cache.kept);
         unclashed = no_ok result told (NothingClashes (answers_of parts.cache.kept) → NothingClashes (answers_of now.cache.kept));
-        gains = subst (GainsSome batch parts.cache.kept) (sym n.kept) (gains_nothing batch parts.cache.kept);
+        gains = record { gained = []; at_end = n.kept ∙ sym (append-nil parts.cache.kept); asked = λ k d lt. absurd (omega arith); once = λ i j d before lt. absurd (omega arith) };
+        instances = λ k d lt. absurd (omega arith);
         stands = not_begun n;
         stop = told;
         refused = again_is ∙ refused_is refused stop result told;
         sticks = λ no. absurd (no may);
         new = λ m c same. absurd (false≢true (ap is_clash (sym n.memory ∙ stop_told result told (Clash c) same)));
+        first = λ m c same. absurd (false≢true (ap is_clash (sym n.memory ∙ stop_told result told (Clash c) same)));
         sessions = ap (λ (hs : List (Hand S)). length (seen_in hs)) n.hands;
         went_on = λ i lt. subst (λ (hs : List (Hand S)). WentOn (seen_at (seen_in hands) i) (seen_at (seen_in hs) i)) (sym n.hands) (went_on_not (seen_at (seen_in hands) i));
         names = subst (λ (x : Naming). IsGrown parts.names.names x.names) (sym n.names) (grown_not parts.names.names);
+        kind = ap (λ (x : Naming). is_some x.brought) n.names;
         declared = λ none. n.names;
         origins = ap (λ (hs : List (Hand S)). origins_of (seen_in hs)) n.hands;
         inputs = refl;
@@ -225,14 +242,17 @@ module _ {S : Type 0} (batch : List (List ℕ)) where
         exactly = on_ok result told (GainsExactly batch parts.cache.kept now.cache.kept) (λ none. record { gained = (brings w).gained; at_end = w.kept ∙ (brings w).at_end; asked = (run_settled w none).exactly });
         unclashed = on_ok result told (NothingClashes (answers_of parts.cache.kept) → NothingClashes (answers_of now.cache.kept)) (λ none nothing. subst (λ (l : List KeptAnswer). NothingClashes (answers_of l)) (sym w.kept) ((brings w).clear none nothing));
         gains = record { gained = (brings w).gained; at_end = w.kept ∙ (brings w).at_end; asked = (brings w).asked; once = (brings w).once };
+        instances = subst (λ (n : ℕ). All (λ k. k.instance < n) (brings w).gained) (crew w) (brings w).actors;
         stands = run_after w;
         stop = told;
         refused = again_is ∙ refused_is refused stop result told;
         sticks = λ no. absurd (no may);
         new = λ m c same. run_new w c (sym w.stop_is ∙ stop_told result told (Clash c) same);
+        first = λ m c same. subst (λ (l : List KeptAnswer). AreClear l (length parts.cache.kept) c.second) (sym w.kept) (run_first w c (sym w.stop_is ∙ stop_told result told (Clash c) same));
         sessions = long w;
         went_on = run_went_on w;
         names = subst (λ (x : Naming). IsGrown parts.names.names x.names) (sym w.names) (run_names w);
+        kind = ap (λ (x : Naming). is_some x.brought) w.names ∙ run_kind w;
         declared = λ none. w.names ∙ run_declared w none;
         origins = run_origins w;
         inputs = refl;
@@ -338,6 +358,7 @@ module _ {S : Type 0} (f : SessionState S → Member S) (sessions : List (Sessio
     lists = subst (HasLists naming.brought) (sym long_new) lists;
     shared = shared;
     below = begin.named;
+    prior_is = begin.prior_is;
     stands = record {
       since = [];
       first = sym (append-nil prior);
@@ -358,17 +379,28 @@ module _ {S : Type 0} (f : SessionState S → Member S) (sessions : List (Sessio
       told_none : (k : KeptAnswer) → IsOf (told_machine (origins_of (seen_in hands)) 16) (answer_of k)
       told_none k = subst (λ (o : Option Origin). IsOf (option_and_then (λ (x : Origin). x.machine) o) (answer_of k)) (sym (slice_get_past (origins_of (seen_in hands)) 16 (omega (arith, few, long_new, length-map (seen_in hands) (λ (s : Seen). s.origin))))) tt
 
+-- names that are declared stay as they are, and those that are free stay so
+same_declared : (before now : Naming) → is_some now.brought ≡ is_some before.brought → (before.brought ≡ None → now ≡ before) → declared_by now.names now.brought ≡ declared_by before.names before.brought
+same_declared before now kind same = by before.brought refl now.brought refl
+  where
+    by : (b : Option (List (List (List ℕ)))) → before.brought ≡ b → (n : Option (List (List (List ℕ)))) → now.brought ≡ n → declared_by now.names n ≡ declared_by before.names b
+    by None e None f = ap (λ (x : Naming). Some x.names) (same e)
+    by None e (Some y) f = absurd (true≢false (ap is_some (sym f) ∙ (kind ∙ ap is_some e)))
+    by (Some x) e None f = absurd (false≢true (ap is_some (sym f) ∙ (kind ∙ ap is_some e)))
+    by (Some x) e (Some y) f = refl
+
 -- what settles a pool settles the oracle that it is
 pub oracle_settled : {S : Type 0} (batch : List (List ℕ)) (before now : PoolState S) (result : Result ⊤ AskStop) → HasSettled batch before now result → Settles batch (oracle_of before) (oracle_of now) result
 oracle_settled batch before now result h = record {
   known = h.known;
   unclashed = h.unclashed;
   gains = record { gained = h.gains.gained; at_end = h.gains.at_end; of_batch = λ k d lt. (h.gains.asked k d lt).within };
+  instances = subst (λ (n : ℕ). All (λ k. k.instance < n) h.gains.gained) (sym (length-map (seen_of before) (λ (s : Seen). s.origin))) h.instances;
   exactly = exactly result h.exactly;
   keeps = h.stands.keeps;
   stop = h.stop;
   refused = h.refused;
-  same = record { inputs = h.inputs; outputs = h.outputs; origins = h.origins; exact = refl };
+  same = record { inputs = h.inputs; outputs = h.outputs; names = same_declared before.naming now.naming h.kind h.declared; origins = h.origins; exact = refl };
 }
   where
     exactly : (r : Result ⊤ AskStop) → OnOk r (GainsExactly batch before.kept now.kept) → OnOk r (true ≡ true → GainsExactly batch before.kept now.kept)

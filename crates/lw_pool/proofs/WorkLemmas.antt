@@ -12,7 +12,7 @@ use Rattle.lw_turn.specs.Views.{IsTurned}
 use Rattle.lw_desk.specs.Naming.{own_names}
 use Rattle.lw_desk.specs.Step.{DeskState, TakesAll, after_fail}
 use Rattle.lw_desk.specs.History.{DeskOpening, opened, Seat, MayGiveAll, May, seat_after, seat_from, seat_of, actor_of, Makes, Replays, Legal, names_given, failed_places}
-use Rattle.lw_desk.specs.Ending.{gives_of}
+use Rattle.lw_desk.specs.bodies.Outcome.{gives_of}
 use Rattle.lw_desk.specs.declared.ask.Ask.{Ask}
 use Rattle.lw_desk.specs.declared.ask.Reply.{Reply}
 use Rattle.lw_desk.specs.declared.ask.Give.{Give}

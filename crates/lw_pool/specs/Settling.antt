@@ -1,5 +1,5 @@
 -- What settling a batch brings to a pool.
-use Rattle.std.specs.Prelude.{◌≡◌, ℕ, ◌<◌, ◌≤◌, List, ◌++◌, length, map, None, Result, Err, OnOk, ⊤}
+use Rattle.std.specs.Prelude.{◌≡◌, ℕ, ◌<◌, ◌≤◌, List, ◌++◌, length, map, None, is_some, Result, Err, OnOk, ⊤}
 use Rattle.std.specs.List.{All}
 use Rattle.lw_words.specs.Answer.{answers_of}
 use Rattle.lw_words.specs.Name.{AllDiffer}
@@ -12,6 +12,7 @@ use Rattle.lw_cache.specs.declared.stops.Clash.{Clash}
 use Rattle.lw_cache.specs.declared.stops.AskStop.{AskStop}
 use Rattle.lw_cache.specs.declared.stops.AskStop.TheVariants as Ask
 use Rattle.lw_sul.specs.Names.{IsGrown}
+use Rattle.lw_desk.specs.Ending.{AreClear}
 use Rattle.lw_pool.specs.Pool.{PoolState, WentOn, seen_at, seen_of, origins_of}
 use Rattle.lw_pool.specs.Standing.{Stands}
 
@@ -28,19 +29,23 @@ pub record HasSettled {S : Type 0} (batch : List (List ℕ)) (before now : PoolS
   pub known : OnOk result (All (IsKnown (answers_of now.kept)) batch)
   pub exactly : OnOk result (GainsExactly batch before.kept now.kept)
   pub unclashed : OnOk result (NothingClashes (answers_of before.kept) → NothingClashes (answers_of now.kept))
-  -- else some of them, each at most once
+  -- else some of them, each at most once; each answer is a run of a session
   pub gains : GainsSome batch before.kept now.kept
+  pub instances : All (λ k. k.instance < length (seen_of before)) gains.gained
   -- between its calls a pool is one
   pub stands : Stands now
-  -- the refusal is told; after a system's stop or a clash nothing more is asked; and a clash is one of an answer of this batch
+  -- the refusal is told; after a system's stop or a clash nothing more is asked; and a clash that comes is that of the first
+  -- answer of this batch that is not clear
   pub stop : TellsStop result now.stop
   pub refused : now.refused ≡ refused_after before.refused result
   pub sticks : ¬ MayAsk before.stop → now ≡ before
   pub new : MayAsk before.stop → (c : Clash) → result ≡ Err (Ask.Clash c) → length before.kept ≤ c.second
-  -- the sessions have gone on, and names only came to their end
+  pub first : MayAsk before.stop → (c : Clash) → result ≡ Err (Ask.Clash c) → AreClear now.kept (length before.kept) c.second
+  -- the sessions have gone on; names only came to their end, and stay declared or free
   pub sessions : length (seen_of now) ≡ length (seen_of before)
   pub went_on : (i : ℕ) → i < length (seen_of before) → WentOn (seen_at (seen_of before) i) (seen_at (seen_of now) i)
   pub names : IsGrown before.naming.names now.naming.names
+  pub kind : is_some now.naming.brought ≡ is_some before.naming.brought
   pub declared : before.naming.brought ≡ None → now.naming ≡ before.naming
   -- what no settling changes
   pub origins : origins_of (seen_of now) ≡ origins_of (seen_of before)

@@ -9,7 +9,7 @@ use Rattle.lw_desk.specs.Naming.{Naming, own_names}
 use Rattle.lw_desk.specs.History.{HasLists}
 use Rattle.lw_desk.specs.Ending.{IsShared}
 use Rattle.lw_pool.specs.Fitting.{Fits}
-use Rattle.lw_pool.specs.Pool.{Seen, PoolState, seen_at, seen_of, StandsFor, AskedOnce, IsStopOf, origins_of}
+use Rattle.lw_pool.specs.Pool.{Seen, PoolState, seen_at, seen_of, ArePrior, StandsFor, AskedOnce, IsStopOf, origins_of}
 
 -- a session's outputs have the names that the pool has of it, if it is live, and else those and perhaps more
 pub record IsMember (naming : Naming) (inputs outputs number : ℕ) (s : Seen) : Type 0 where
@@ -30,6 +30,7 @@ pub record IsPool (seen : List Seen) (naming : Naming) (prior kept : List KeptAn
   pub lists : HasLists naming.brought (length seen)
   pub shared : IsShared naming
   pub below : All (λ k. All (λ y. y < length naming.names) k.outs) kept
+  pub prior_is : ArePrior prior
   pub stands : StandsFor naming prior kept seen
   pub keeps : KeepsAnswers inputs outputs (origins_of seen) kept
   pub once : AskedOnce prior kept

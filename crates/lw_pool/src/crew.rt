@@ -1,4 +1,4 @@
-//! A crew: the workers of a batch, each with its pass.
+//! How a worker asks the words of a batch, place by place, until nothing is left to take.
 ghost use Rattle.std.specs.Prelude.{◌≡◌, ℕ, ◌*◌, ◌<◌, ◌≤◌, [], length, is_some, Bool};
 ghost use Rattle.std.specs.List.{All};
 ghost use Rattle.lw_words.specs.Word.{IsWord};
@@ -9,7 +9,7 @@ ghost use Rattle.lw_pool.specs.bodies.Engaged.{Working, IsReady};
 ghost use Rattle.lw_pool.specs.Pool.{Same};
 
 use crate::worker::Worker;
-use lw_desk::{Ask, Desk, Reply};
+use lw_desk::{Ask, Desk, MOST_PLACES, Reply};
 use lw_sul::Sul;
 use lw_turn::{Pass, Turnstile};
 use lw_words::Word;
@@ -23,12 +23,12 @@ pub(crate) struct Engaged {
     pub(crate) reply: Reply,
 }
 
-/// How many places a worker takes at once, where about so many are left: few enough that all workers share the end of a batch.
+/// How many places a worker takes at once, where so many are left: few enough that all workers share the end of a batch.
 pub(crate) fn share(left: u32, crew: u32) -> u32
     ensures some { 0 < result }
     ensures few { result ≤ 16 }
 {
-    (left / crew.saturating_mul(2).max(1)).clamp(1, 16)
+    (left / crew.saturating_mul(2).max(1)).clamp(1, MOST_PLACES as u32)
 }
 
 /// Takes the first places of a pass.

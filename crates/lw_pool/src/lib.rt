@@ -3,6 +3,7 @@
 
 mod crew;
 mod hands;
+pub mod laws;
 mod oracle;
 mod parts;
 mod pool;

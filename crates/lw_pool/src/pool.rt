@@ -10,6 +10,7 @@ ghost use Rattle.lw_desk.specs.Step.{DeskState};
 ghost use Rattle.lw_pool.specs.Opening.{MayBegin, AllMayJoin, member_of};
 ghost use Rattle.lw_pool.specs.Pool.{seen_of, origins_of};
 ghost use Rattle.lw_pool.specs.Settling.{HasSettled};
+ghost use Rattle.lw_pool.specs.Standing.{Stands};
 ghost use Rattle.lw_desk.specs.Ending.{IsShared};
 ghost use Rattle.lw_pool.specs.bodies.Crew.{AllReady, AllRead};
 ghost use Rattle.lw_pool.specs.bodies.Running.{AfterBatch, AreWhole, opening_of};
@@ -99,6 +100,7 @@ fn close(desk: Desk) -> (Parts, Option<AskStop>)
     ensures whole { AreWhole result.0 }
 {
     let (cache, names, stop) = desk.finish();
+    // for the proof alone: the answers are whole, and the names are few and differ
     let _ = cache.kept();
     let _ = names.len();
     (Parts { cache, names }, stop)
@@ -129,6 +131,7 @@ fn run<S: Sul + Send, R: Threads + Wait + Sync>(
             close(desk)
         }
         Err(parts) => {
+            // for the proof alone, as in `close`
             let _ = parts.cache.kept();
             let _ = parts.names.len();
             (parts, Some(AskStop::NoMemory))
@@ -207,6 +210,7 @@ impl<S: Sul + Drop, R: Drop> Pool<S, R> {
             (p.kept ≡ cache.kept) × (p.stop ≡ None) × (p.refused ≡ false)) }
         ensures numbers { IfOk result (λ p.
             (p.inputs ≡ inputs) × (p.outputs ≡ outputs)) }
+        ensures stands { IfOk result Stands }
         ensures back { IfErr result (λ e. (e.0 ≡ sessions) × (e.1 ≡ names) × (e.2 ≡ cache)) }
     {
         let prior = Snapshot::of(&cache);
@@ -265,6 +269,7 @@ impl<S: Sul, R> Pool<S, R> {
         ensures claims { result.now.claims ≡ [] }
         ensures keeps { KeepsAnswers self.now.inputs self.now.outputs (origins_of (seen_of self.now))
             self.now.kept }
+        ensures stands { Stands self.now }
     {
         let Some(parts) = &self.parts else {
             unreachable!()
@@ -274,7 +279,8 @@ impl<S: Sul, R> Pool<S, R> {
 
     /// The names of the kept answers' outputs.
     pub fn names(&self) -> &OutNames
-        ensures { result.now ≡ self.now.naming }
+        ensures names { result.now ≡ self.now.naming }
+        ensures stands { Stands self.now }
     {
         let Some(parts) = &self.parts else {
             unreachable!()
@@ -304,8 +310,10 @@ impl<S: Sul, R> Pool<S, R> {
     /// The session of an instance.
     pub fn session(&self, instance: usize) -> &Session<S>
         requires { instance < length self.now.members }
-        ensures { (d : _) → member_of S.names S.most S.stop S.origin S.inputs S.outputs result.now ≡
+        ensures member { (d : _) →
+            member_of S.names S.most S.stop S.origin S.inputs S.outputs result.now ≡
             slice_index_or self.now.members instance d }
+        ensures stands { Stands self.now }
     {
         &self.hands[instance].worker.session
     }
@@ -318,6 +326,7 @@ impl<S: Sul + Drop, R: Drop> Pool<S, R> {
             result.0.items ≡ self.members }
         ensures names { result.1 ≡ self.naming }
         ensures cache { (result.2.kept ≡ self.kept) × (result.2.claims ≡ []) }
+        ensures stands { Stands self }
     {
         let Pool {
             hands,

@@ -6,6 +6,11 @@ ghost use Rattle.lw_pool.specs.Settling.{HasSettled};
 
 mod acting;
 mod crews;
+mod drawn;
+mod free;
+mod growing;
+mod prior;
+mod telling;
 
 use crate::crew::share;
 use crate::tests::acting::Acting;

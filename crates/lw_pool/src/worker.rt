@@ -1,4 +1,4 @@
-//! A worker: a session, and its place in a batch that is under way.
+//! A worker: a session that asks its system the words of places, and makes an ask of the answers.
 ghost use Rattle.std.specs.Prelude.{◌≡◌, ◌<◌, ◌≤◌, length, Some, IfOk, IfErr};
 ghost use Rattle.std.specs.List.{All};
 ghost use Rattle.lw_words.specs.Word.{IsWord};

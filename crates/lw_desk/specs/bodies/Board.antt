@@ -59,6 +59,19 @@ abbrev pub AreInOrder : List (List ℕ) → List ℕ → Type 0
 AreInOrder batch [] = Unit {0}
 AreInOrder batch (p ∷ ps) = All (ComesBefore batch p) ps × AreInOrder batch ps
 
+-- of the places with its word the least one
+abbrev pub IsLeast : List (List ℕ) → ℕ → Type 0
+IsLeast batch p = (q : ℕ) → q < length batch → word_at batch q ≡ word_at batch p → p ≤ q
+
+-- the word begins that of one of these places
+abbrev pub BeginsOne : List (List ℕ) → List ℕ → List ℕ → Type 0
+BeginsOne batch places w = (p : ℕ) × Contains places p × IsPrefix w (word_at batch p)
+
+-- no word begins one that stands before it
+abbrev pub AreWhole : List (List ℕ) → List ℕ → Type 0
+AreWhole batch [] = Unit {0}
+AreWhole batch (p ∷ ps) = All (λ q. ¬ IsPrefix (word_at batch q) (word_at batch p)) ps × AreWhole batch ps
+
 -- the places are claimed, and different
 abbrev pub AreHeld : List ℕ → List ℕ → Type 0
 AreHeld claimed ps = All (Contains claimed) ps × AreApart ps
@@ -73,9 +86,11 @@ pub record IsPlaces (batch words : List (List ℕ)) (c : Claim) : Type 0 where
   pub at_hand : IsAtHand batch words c.number
   pub word : c.word ≡ word_at batch c.number
 
--- a place waits: its word is at hand, and no claim is of it
-pub record Waits (batch words : List (List ℕ)) (claims : List Claim) (p : ℕ) : Type 0 where
+-- a place waits: its word is at hand and not taken, it is the least with this word, and no claim is of it
+pub record Waits (batch words : List (List ℕ)) (kept : List KeptAnswer) (claims : List Claim) (p : ℕ) : Type 0 where
   pub at_hand : IsAtHand batch words p
+  pub least : IsLeast batch p
+  pub free : ¬ IsTaken batch kept (numbers_of claims) (word_at batch p)
   pub unclaimed : ¬ Contains (numbers_of claims) p
 
 abbrev pub letters_of : List (List ℕ) → List ℕ → ℕ
@@ -87,12 +102,13 @@ pub record IsBoard (batch : List (List ℕ)) (kept : List KeptAnswer) (claims : 
   pub size : length words ≡ length batch
   pub places : All (IsPlaces batch words) claims
   pub apart : AreApart (numbers_of claims)
-  pub waits : All (Waits batch words claims) waiting
+  pub waits : All (Waits batch words kept claims) waiting
   pub order : AreInOrder batch waiting
+  pub whole : AreWhole batch waiting
   pub count : length waiting ≤ length batch
   pub room_fits : length waiting ≤ room
   pub letters_fit : letters_of batch waiting ≤ letters
-  pub covered : stop ≡ None → (p : ℕ) → p < length batch → Contains waiting p ⊎ IsTaken batch kept (numbers_of claims) (word_at batch p)
+  pub covered : stop ≡ None → (p : ℕ) → p < length batch → BeginsOne batch waiting (word_at batch p) ⊎ IsTaken batch kept (numbers_of claims) (word_at batch p)
 
 -- the first stop, after what came of an answer that was kept
 abbrev pub stop_after : Option AskStop → Result ⊤ Clash → Option AskStop

@@ -5,7 +5,7 @@ ghost use Rattle.lw_words.specs.Name.{IsName, AllDiffer};
 ghost use Rattle.lw_sul.specs.Names.{named, with_names};
 ghost use Rattle.lw_desk.specs.Naming.{own_names, MayBring};
 ghost use Rattle.lw_desk.specs.Step.{word_at};
-ghost use Rattle.lw_desk.specs.History.{MayAsk, MayGiveAll, failed_places, names_given, settled_places};
+ghost use Rattle.lw_desk.specs.History.{MayMake, MayGiveAll, failed_places, names_given, settled_places};
 ghost use Rattle.lw_desk.specs.TestTrial.{seat_by};
 
 use crate::out_names::find;
@@ -226,7 +226,7 @@ fn after_ask(
     seat: &Standing,
     ask: &Ask,
 ) -> Result<Vec<OutName>, Fail>
-    ensures may { IfOk result (λ v. MayAsk words.now free
+    ensures may { IfOk result (λ v. MayMake words.now free
         (seat_by seat.now.held seat.now.ended seat.now.own.items) ask.now) }
     ensures own { IfOk result (λ v.
         v.items ≡ seat.now.own.items ++ names_given ask.now.gives.items) }

@@ -8,7 +8,7 @@ use Rattle.lw_turn.specs.declared.shared.Entry.{Entry}
 use Rattle.lw_turn.specs.declared.view.View.{View}
 use Rattle.lw_desk.specs.Naming.{own_names}
 use Rattle.lw_desk.specs.History.{DeskOpening, seat_of, actor_of, names_given}
-use Rattle.lw_desk.specs.Ending.{gives_of}
+use Rattle.lw_desk.specs.bodies.Outcome.{gives_of}
 use Rattle.lw_desk.specs.declared.ask.Ask.{Ask}
 use Rattle.lw_desk.specs.declared.ask.Reply.{Reply}
 use Rattle.lw_desk.specs.declared.ask.Failed.{Failed}

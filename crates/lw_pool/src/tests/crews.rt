@@ -78,7 +78,7 @@ impl Plan {
 }
 
 /// Sessions of these systems, in this order.
-fn hired(
+pub fn hired(
     alloc: Global,
     names: &Names,
     shared: &OutNames,

@@ -4,6 +4,6 @@ use Rattle.lw_desk.proofs.gathering.gather.Given as goal
 
 abbrev pub invariant-loop-word : goal.invariant-loop-word
 invariant-loop-word l = record {
-  batch : map (λ p. p.0) l.needs.batch.items ≡ take l.word-index l.batch;
-  gathered : IsGathered l.cache.kept (take l.word-index l.batch) l.needs.words.items l.needs.places.items l.needs.letters;
+  batch : map (λ p. p.0) l.unknown.batch.items ≡ take l.word-index l.batch;
+  gathered : IsGathered l.cache.kept (take l.word-index l.batch) l.unknown.words.items l.unknown.places.items;
 }

@@ -74,7 +74,7 @@ invariant_of-self c =
     let stop : c.stop_by-self-inside.result ≡ stop_after b.stop c.fill-filled.result = c.stop_by-self-inside.ensures ∙ ap (λ (o : Option AskStop). stop_after o c.fill-filled.result) c.replace-stop.ensures.value in
     let out : set words p c.replace-word.new.dest ≡ set words p [] = ap (λ (l : List ℕ). set words p l) (c.replace-word.ensures.after ∙ c.new.ensures) in (
       c.self.invariant.0,
-      give_board batch b.cache.kept now.kept b.cache.claims now.claims b.stop c.stop_by-self-inside.result words (set words p c.replace-word.new.dest) (drop b.next b.order.items) b.cache.words b.cache.letters now.words now.letters p new is claimed
+      give_board batch b.cache.kept now.kept b.cache.claims now.claims b.stop c.stop_by-self-inside.result words (set words p c.replace-word.new.dest) (drop b.next b.order.items) b.cache.words b.cache.letters now.words now.letters p new is claimed word
           (λ live. let k = known_by b.stop c.fill-filled.result b.cache.kept new e.ok (sym stop ∙ live) in (k.0, subst (IsKnown (answers_of (b.cache.kept ++ new ∷ []))) word k.1))
           e.kept e.claims out e.room.0 e.room.1,
     )

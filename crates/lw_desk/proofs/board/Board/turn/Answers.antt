@@ -1,5 +1,5 @@
 use Rattle.std.proofs.Common.{◌≡◌, ◌≤◌, ℕ, List, length, map, is_some, refl, ap, sym, ◌∙◌, subst}
-use Rattle.lw_desk.specs.Step.{DeskState, GivesAll, TakesAll, NothingToTake, after_fail, after_done}
+use Rattle.lw_desk.specs.Step.{DeskState, GivesAll, TakesAll, NothingToTake, CountsLeft, after_fail, after_done}
 use Rattle.lw_desk.specs.History.{settled_places, failed_places}
 use Rattle.lw_desk.specs.bodies.Board.{BoardState, Agrees, AreApart, AreHeld}
 use Rattle.lw_desk.proofs.BoardLemmas.{held_front, held_back}
@@ -47,7 +47,8 @@ returns-clause-makes c o s same lt may agrees =
         done = c.is_done-done.ensures;
         after = refl;
         stopped = c.is_stopped.ensures ∙ ap is_some (sym end_agrees.stop);
-        left = λ zero. subst (λ (l : List (List ℕ)). NothingToTake l end) last (c.left.ensures.none zero end end_agrees);
+        left = subst (λ (l : List (List ℕ)). CountsLeft l end c.left.result) last (c.left.ensures.counts end end_agrees);
+        none_left = λ zero. subst (λ (l : List (List ℕ)). NothingToTake l end) last (c.left.ensures.none zero end end_agrees);
         few_left = subst (λ (l : List (List ℕ)). c.left.result ≤ length l) last c.left.ensures.few;
       },
       end_agrees,

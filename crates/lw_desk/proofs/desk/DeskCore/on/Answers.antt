@@ -3,7 +3,7 @@ use Rattle.std.proofs.lemmas.List.{map_push}
 use Rattle.lw_turn.specs.declared.shared.Entry.{Entry}
 use Rattle.lw_turn.specs.History.{entries_of}
 use Rattle.lw_desk.specs.Desk.{DeskHistory}
-use Rattle.lw_desk.specs.History.{DeskOpening, May, MayAsk, seat_in}
+use Rattle.lw_desk.specs.History.{DeskOpening, May, MayMake, seat_in}
 use Rattle.lw_desk.specs.bodies.DeskBody.{entry, entry_of, entries_in, opening_of, IsDesk}
 use Rattle.lw_desk.specs.declared.ask.Ask.{Ask}
 use Rattle.lw_desk.specs.declared.ask.Reply.{Reply}
@@ -18,7 +18,7 @@ turn-reply-requires-clause-may c =
     let o : DeskOpening = opening_of d.cache_then.value.kept d.names_then.value d.board.batch d.actors in
     let may : May o (entries_of c.args.actor (entries_in d.history.items)) c.args.ask =
     subst (λ (h : DeskHistory). May h.opening (entries_of c.args.actor h.entries) c.args.ask) (sym c.self.view_is) c.requires.may in
-    (i.state, i.agrees, subst (λ (free : Bool). MayAsk o.batch free (seat_in i.state c.args.actor) c.args.ask) (sym i.kind) (may_is o (entries_in d.history.items) i.state c.args.actor c.args.ask i.lists i.replays may))
+    (i.state, i.agrees, subst (λ (free : Bool). MayMake o.batch free (seat_in i.state c.args.actor) c.args.ask) (sym i.kind) (may_is o (entries_in d.history.items) i.state c.args.actor c.args.ask i.lists i.replays may))
 
 module _ (c : goal.After-drop-asked) where
   now : IsDesk (opening_of c.self.inside.cache_then.value.kept c.self.inside.names_then.value c.turn-reply.new.self.batch c.self.inside.actors) (entries_in c.and-self-inside.result.items) c.turn-reply.new.self

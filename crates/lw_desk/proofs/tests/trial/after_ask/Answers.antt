@@ -1,6 +1,6 @@
 use Rattle.std.proofs.Common.{◌<◌, ◌+◌, ℕ, List, length, sym, ◌∙◌, subst}
 use Rattle.std.proofs.lemmas.Result.{IfOk-weaker}
-use Rattle.lw_desk.specs.History.{MayAsk, MayGiveAll}
+use Rattle.lw_desk.specs.History.{MayMake, MayGiveAll}
 use Rattle.lw_desk.specs.TestTrial.{seat_by}
 use Rattle.lw_desk.specs.declared.ask.Give.{Give}
 use Rattle.lw_desk.proofs.tests.trial.after_ask.Goals as goal
@@ -12,7 +12,7 @@ returns-clause-may c =
     let seat = c.args.seat.now in
     let ask = c.args.ask.now in
     let places = c.in_ok-places.ensures in
-    IfOk-weaker c.after_gives.result (λ _. MayGiveAll words free c.deref-3.result.now c.deref-4.result.now) (λ _. MayAsk words free (seat_by seat.held seat.ended seat.own.items) ask) (λ _ may. record {
+    IfOk-weaker c.after_gives.result (λ _. MayGiveAll words free c.deref-3.result.now c.deref-4.result.now) (λ _. MayMake words free (seat_by seat.held seat.ended seat.own.items) ask) (λ _ may. record {
       live = c.if-seat.false;
       places = sym places ∙ (sym c.deref.ensures.value ∙ (c.same_places.ensures c.if-not-same_places.false ∙ c.as_slice.ensures.value));
       gives = subst (λ (l : List (List ℕ)). MayGiveAll words free l ask.gives.items) c.deref-3.ensures.value (subst (λ (l : List Give). MayGiveAll words free c.deref-3.result.now l) c.deref-4.ensures.value may);
