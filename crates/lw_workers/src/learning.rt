@@ -1,0 +1,62 @@
+//! The learning of a model over a pool.
+ghost use Rattle.std.specs.Prelude.{◌≡◌, ◌<◌, ◌≤◌, ◌^◌, IfOk, IfErr, length};
+ghost use Rattle.std.specs.List.{All};
+ghost use Rattle.lw_words.specs.Answer.{answers_of};
+ghost use Rattle.lw_words.specs.Word.{IsWord};
+ghost use Rattle.lw_cache.specs.Clash.{NothingClashes};
+ghost use Rattle.lw_cache.specs.Settling.{MayAsk};
+ghost use Rattle.lw_pool.specs.Settling.{HasSettled};
+ghost use Rattle.lw_rounds.specs.Learned.{IsLearned, StopsAs};
+ghost use Rattle.lw_rounds.specs.Stops.{learn_stop};
+ghost use Rattle.lw_workers.specs.Leaving.{HasLearned};
+
+use lw_pool::{ByCall, Pool};
+use lw_rounds::{Kind, LearnStop, Learned, learn};
+use lw_sul::Sul;
+use lw_words::Word;
+use std::alloc::Global;
+use std::sync::Wait;
+use std::thread::Threads;
+
+/// What came of a learning, and the pool that it was made with.
+#[derive(Drop)]
+pub struct LearnedWith<S: Sul, R> {
+    pub learned: Result<Learned, LearnStop>,
+    pub pool: Pool<S, R>,
+}
+
+/// A model of the system behind a pool's sessions, as `learn` of `lw_rounds` makes it of an oracle; and the pool, whatever comes
+/// of the learning. May wait for a system.
+pub fn learn_with<S: Sul + Send, R: Threads + Wait + Sync>(
+    pool: Pool<S, R>,
+    alloc: Global,
+    kind: Kind,
+    extra: u8,
+    max_states: u16,
+) -> LearnedWith<S, R>
+    requires may { MayAsk pool.stop }
+    requires nothing { NothingClashes (answers_of pool.kept) }
+    requires letters { (1 ≤ pool.inputs) × (pool.inputs ≤ 64) }
+    requires signs { (1 ≤ pool.outputs) × (pool.outputs ≤ 4096) }
+    requires few { extra ≤ 4 }
+    requires most { (1 ≤ max_states) × (max_states ≤ 1024) }
+    ensures learned { IfOk result.learned (λ l. IsLearned pool.inputs pool.outputs extra max_states
+        (answers_of result.pool.kept) l.model l.table) }
+    ensures stops { IfErr result.learned (StopsAs pool.inputs pool.outputs extra max_states
+        (answers_of result.pool.kept)) }
+    ensures leaves { HasLearned pool result.pool (learn_stop result.learned) }
+{
+    let (inputs, outputs) = (pool.inputs(), pool.outputs());
+    // for the proof alone, here and below: the pool stands
+    let _ = pool.cache();
+    let settle = |pool: &mut Pool<S, R>, batch: &[Word]|
+        requires letters { All (IsWord pool.now.inputs) batch.now }
+        requires few { length batch.now < 2 ^ 32 }
+        ensures { HasSettled batch.entry.now pool.entry.now pool.exit.now result }
+    { pool.settle_all(batch) };
+    let mut oracle = ByCall { pool, settle };
+    let learned = learn(&mut oracle, alloc, inputs, outputs, kind, extra, max_states);
+    let ByCall { pool, settle: _ } = oracle;
+    let _ = pool.cache();
+    LearnedWith { learned, pool }
+}

@@ -1,0 +1,228 @@
+//! Pools of tables with one letter and two outputs, for the tests.
+ghost use Rattle.std.specs.Prelude.{◌≡◌, ◌≤◌, [], IfOk, None, Some, length};
+ghost use Rattle.lw_words.specs.Cause.{CountedFault};
+ghost use Rattle.lw_words.specs.declared.stop.SulStop.TheVariants.{Failed};
+ghost use Rattle.lw_pool.specs.Opening.{AllMayJoin, member_of};
+
+use lw_cache::Cache;
+use lw_desk::OutNames;
+use lw_mealy::Mealy;
+use lw_pool::Pool;
+use lw_sul::{OutName, Session, Sul, TableSul};
+use lw_words::{Names, SulStop};
+use std::alloc::Global;
+use std::test::Fail;
+
+/// A table that refuses its call with this number, counted from 0.
+#[derive(Drop)]
+pub struct Refusing {
+    table: TableSul,
+    refused: Option<u32>,
+    calls: u32,
+    started: bool,
+    stop: Option<SulStop>,
+    cut: bool,
+    faults: u64,
+}
+
+impl Refusing {
+    /// The system before its first call.
+    fn new(table: TableSul, refused: Option<u32>) -> Refusing
+        ensures table { result.table ≡ table }
+        ensures live { result.stop ≡ None }
+    {
+        Refusing {
+            table,
+            refused,
+            calls: 0,
+            started: false,
+            stop: None,
+            cut: false,
+            faults: 0,
+        }
+    }
+
+    /// Counts a call, and tells whether it is the one that is refused.
+    fn is_refused(&mut self) -> bool
+        ensures table { self.new.table ≡ self.old.table }
+        ensures stop { self.new.stop ≡ self.old.stop }
+        ensures faults { self.new.faults ≡ self.old.faults }
+        ensures started { self.new.started ≡ self.old.started }
+    {
+        let refused = self.refused == Some(self.calls);
+        self.calls = self.calls.saturating_add(1);
+        refused
+    }
+
+    /// Refuses a call: of a step, the run is cut off.
+    fn refuse(&mut self, cut: bool) -> SulStop
+        ensures stop { (result ≡ Failed) × (self.new.stop ≡ Some Failed) }
+        ensures cut { self.new.cut ≡ cut }
+        ensures table { self.new.table ≡ self.old.table }
+        ensures fault { CountedFault self.old.faults self.new.faults }
+        ensures counts { self.old.faults ≤ self.new.faults }
+    {
+        self.faults = self.faults.saturating_add(1);
+        self.stop = Some(SulStop::Failed);
+        self.cut = cut;
+        SulStop::Failed
+    }
+}
+
+impl Sul for Refusing {
+    ghost use Rattle.std.specs.Prelude.{length, Some, None};
+
+    ghost inputs = { λ s. s.table.table.inputs };
+
+    ghost outputs = { λ s. s.table.table.outputs };
+
+    ghost origin = { λ s. record { machine = Some s.table.table.rows; link = None } };
+
+    ghost state = { λ s. s.table.state };
+
+    ghost started = { λ s. s.started };
+
+    ghost faults = { λ s. s.faults };
+
+    ghost stop = { λ s. s.stop };
+
+    ghost cut = { λ s. s.cut };
+
+    ghost runs = { λ _. None };
+
+    ghost names = { λ s. s.table.names };
+
+    ghost most = { λ s. length s.table.names };
+
+    fn inputs(&self) -> u16 {
+        self.table.inputs()
+    }
+
+    fn outputs(&self) -> u16 {
+        self.table.outputs()
+    }
+
+    fn named(&self) -> u16 {
+        self.table.named()
+    }
+
+    fn most(&self) -> u16 {
+        self.table.most()
+    }
+
+    fn name(&self, y: u16) -> OutName {
+        self.table.name(y)
+    }
+
+    fn reset(&mut self) -> Result<(), SulStop> {
+        if self.is_refused() {
+            return Err(self.refuse(false));
+        }
+        let Ok(()) = self.table.reset() else {
+            return Err(self.refuse(false));
+        };
+        self.started = true;
+        self.stop = None;
+        Ok(())
+    }
+
+    fn step(&mut self, x: u16) -> Result<u16, SulStop> {
+        if self.is_refused() {
+            return Err(self.refuse(true));
+        }
+        let Ok(y) = self.table.step(x) else {
+            return Err(self.refuse(true));
+        };
+        self.stop = None;
+        Ok(y)
+    }
+}
+
+/// The machine of these rows.
+fn machine(alloc: Global, cells: &[(u16, u16)]) -> Result<Mealy, Fail>
+    ensures { IfOk result (λ m. (m.inputs ≡ 1) × (m.outputs ≡ 2)) }
+{
+    let mut rows = Vec::new(alloc);
+    for cell in cells {
+        rows.push(Vec::from_slice(alloc, &[*cell])?)?;
+    }
+    Ok(Mealy::new(alloc, 1, 2, rows)?)
+}
+
+/// The outputs' names.
+fn two_names(alloc: Global) -> Result<Names, Fail>
+    ensures { IfOk result (λ names. length names ≡ 2) }
+{
+    let mut texts = Vec::new(alloc);
+    for text in ["0", "1"] {
+        texts.push(String::from_str(alloc, text)?)?;
+    }
+    let names = Names::from_list(alloc, &texts)?;
+    if names.len() != 2 {
+        return Err(Fail::from("another number of names was meant"));
+    }
+    Ok(names)
+}
+
+/// The system of a machine of these rows, that refuses this call.
+fn system(
+    alloc: Global,
+    names: &Names,
+    cells: &[(u16, u16)],
+    refused: Option<u32>,
+) -> Result<Refusing, Fail>
+    requires { length names.now ≡ 2 }
+    ensures names { IfOk result (λ s. s.table.names ≡ names.now) }
+    ensures live { IfOk result (λ s. s.stop ≡ None) }
+    ensures numbers { IfOk result (λ s. (s.table.table.inputs ≡ 1) × (s.table.table.outputs ≡ 2)) }
+{
+    let table = TableSul::new(machine(alloc, cells)?, names.copy()?);
+    Ok(Refusing::new(table, refused))
+}
+
+/// So many sessions of such systems.
+fn hired(
+    alloc: Global,
+    names: &Names,
+    shared: &OutNames,
+    cells: &[(u16, u16)],
+    sessions: usize,
+    refused: Option<u32>,
+) -> Result<Vec<Session<Refusing>>, Fail>
+    requires names { length names.now ≡ 2 }
+    requires shared { shared.now ≡ record { names = names.now; brought = None } }
+    ensures { IfOk result (λ ss. AllMayJoin (member_of ⟦<Refusing as Sul>⟧.names
+        ⟦<Refusing as Sul>⟧.most ⟦<Refusing as Sul>⟧.stop ⟦<Refusing as Sul>⟧.origin
+        ⟦<Refusing as Sul>⟧.inputs ⟦<Refusing as Sul>⟧.outputs) shared.now 1 2 ss.items) }
+{
+    let mut hired = Vec::new(alloc);
+    for _ in 0..sessions {
+        let instance = u32::try_from(hired.len())?;
+        let system = system(alloc, names, cells, refused)?;
+        hired.push(Session::new(alloc, instance, system))?;
+    }
+    Ok(hired)
+}
+
+/// A pool of so many sessions, each of a machine of these rows that refuses this call.
+pub fn pool_of<R: Drop>(
+    rt: R,
+    alloc: Global,
+    cells: &[(u16, u16)],
+    sessions: usize,
+    refused: Option<u32>,
+) -> Result<Pool<Refusing, R>, Fail>
+    ensures numbers { IfOk result (λ p. (p.inputs ≡ 1) × (p.outputs ≡ 2)) }
+    ensures begun { IfOk result (λ p. (p.kept ≡ []) × (p.stop ≡ None)) }
+{
+    let names = two_names(alloc)?;
+    let shared = OutNames::declared(alloc, &names)?;
+    let sessions = hired(alloc, &names, &shared, cells, sessions, refused)?;
+    if sessions.is_empty() || sessions.len() > 16 {
+        return Err(Fail::from("another number of sessions was meant"));
+    }
+    match Pool::new(rt, alloc, 1, 2, sessions, shared, Cache::new(alloc)) {
+        Ok(pool) => Ok(pool),
+        Err(_) => Err(Fail::from("there is no memory")),
+    }
+}
