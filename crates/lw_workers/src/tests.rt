@@ -56,6 +56,23 @@ fn however_many_sessions_find_a_counter(rt: HostRuntime) -> Result<(), Fail> {
     Ok(())
 }
 
+/// Whether two sessions find the counter, and find it again without asking anything.
+fn find_again<R: Threads + Wait + Sync + Drop>(rt: R, alloc: Global) -> Result<bool, Fail> {
+    let pool = pool_of(rt, alloc, &COUNTER, 2, None)?;
+    let LearnedWith { learned, pool } = learn_with(pool, alloc, Kind::Table, 2, 4);
+    let Ok(_) = learned else {
+        return Ok(false);
+    };
+    let again = learn_with(pool, alloc, Kind::Table, 2, 4);
+    Ok(is_found(&again, 3, 1) && has_asked(&again, 2, &[2, 3, 4, 5, 7]))
+}
+
+#[test]
+fn a_pool_that_has_learned_learns_again(rt: HostRuntime) -> Result<(), Fail> {
+    assert!(rt; find_again(rt, rt.alloc())?);
+    Ok(())
+}
+
 /// Whether two sessions find a machine of one state.
 fn find_one_state<R: Threads + Wait + Sync + Drop>(rt: R, alloc: Global) -> Result<bool, Fail> {
     let pool = pool_of(rt, alloc, &[(0, 0)], 2, None)?;
