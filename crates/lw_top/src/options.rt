@@ -33,6 +33,17 @@ pub(crate) fn extra_option<'a>(alloc: Global) -> Arg<'a>
         .default_value("1")
 }
 
+/// `--workers N`, from 1 to 16.
+pub(crate) fn workers_option<'a>(alloc: Global) -> Arg<'a>
+    ensures rule { rule_of result ≡ number_option (codes "workers") 1 16 (codes "1") }
+    ensures local { result.global ≡ false }
+{
+    Arg::new(alloc, "workers")
+        .long("workers")
+        .value_parser(clap::value_parser!(u64).range(1..=16))
+        .default_value("1")
+}
+
 /// `--max-states N`, from 1 to 1024.
 pub(crate) fn states_option<'a>(alloc: Global) -> Arg<'a>
     ensures rule { rule_of result ≡ number_option (codes "max-states") 1 1024 (codes "1024") }
