@@ -88,6 +88,16 @@ IsReachedOutcome n (Learned model refinements) = refinements < n
 IsReachedOutcome n NoMemory = Unit {0}
 IsReachedOutcome n _ = ⊥
 
+-- what a learning of a machine that was read comes to
+abbrev pub IsReadOutcome : LearnValues → Outcome → Type 0
+IsReadOutcome a (Learned model refinements) = Unit {0}
+IsReadOutcome a NoMemory = Unit {0}
+IsReadOutcome a (TooManyStates words) = Unit {0}
+IsReadOutcome a (SuiteTooLarge states number) = Unit {0}
+IsReadOutcome a (FileFault role) = ((role ≡ Model) × (is_some a.model ≡ true)) ⊎ ((role ≡ Answers) × (is_some a.answers ≡ true))
+IsReadOutcome a SinkFault = Unit {0}
+IsReadOutcome a _ = ⊥
+
 -- what `learn` comes to: no two answers of a table clash
 abbrev pub IsLearnOutcome : Outcome → Type 0
 IsLearnOutcome (Learned model refinements) = Unit {0}
