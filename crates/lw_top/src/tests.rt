@@ -1,6 +1,7 @@
 //! The rows worked by hand, and faults at each place.
 mod cases;
 mod refusals;
+mod trial_words;
 
 use crate::tests::cases::{
     Case, LEARN, ONE, PLAIN, check, check_over, end_of, files_of, sink, texts,
