@@ -2,6 +2,7 @@
 mod cases;
 mod refusals;
 mod rows;
+mod trial_words;
 mod trials;
 
 use crate::tests::cases::{

@@ -5,7 +5,7 @@ use std::marker::Model;
 
 /// The values of the arguments of `trial`: the states and inputs of the machine that is drawn, the seed that it is drawn by, and
 /// the number of its instances.
-#[derive(Clone, Copy, Debug, PartialEq, Eq)]
+#[derive(Drop)]
 pub struct TrialArguments {
     states: u16,
     inputs: u16,
@@ -52,5 +52,32 @@ impl TrialArguments {
             seed,
             workers,
         }
+    }
+
+    pub fn states(&self) -> u16
+        ensures value { result ≡ self.now.states }
+        ensures limits { (1 ≤ result) × (result ≤ 1024) }
+    {
+        self.states
+    }
+
+    pub fn inputs(&self) -> u16
+        ensures value { result ≡ self.now.inputs }
+        ensures limits { (1 ≤ result) × (result ≤ 64) }
+    {
+        self.inputs
+    }
+
+    pub fn seed(&self) -> u64
+        ensures { result ≡ self.now.seed }
+    {
+        self.seed
+    }
+
+    pub fn workers(&self) -> u8
+        ensures value { result ≡ self.now.workers }
+        ensures limits { (1 ≤ result) × (result ≤ 16) }
+    {
+        self.workers
     }
 }
