@@ -1,6 +1,7 @@
 //! The command.
 ghost use Rattle.std.specs.Prelude.{◌≡◌, ◌≤◌, ◌<◌, length, IfOk};
 ghost use Rattle.lw_words.specs.Answer.{answers_of};
+ghost use Rattle.lw_mealy.specs.Limits.{IsWithinLimits};
 ghost use Rattle.lw_rounds.specs.Learned.{IsLearned};
 ghost use Rattle.lw_suite.specs.Size.{suite_size, greatest_suite};
 ghost use Rattle.lw_workers.specs.Machines.{KeepsRuns};
@@ -49,6 +50,7 @@ fn output_names(alloc: Global) -> Result<Names, NoMemory>
 /// Draws the machine of the arguments.
 fn draw(alloc: Global, arguments: &TrialArguments) -> Result<Drawn, NoMemory>
     ensures machine { IfOk result (λ d. d.machine ≡ drawn_machine arguments.now) }
+    ensures complete { IfOk result (λ d. IsWithinLimits d.machine) }
     ensures outputs { IfOk result (λ d. length d.outputs ≡ 2) }
 {
     let outputs = output_names(alloc)?;
@@ -111,6 +113,7 @@ fn learn<R: Threads + Wait + Sync + Drop, O: Sink, E: Sink>(
     err: &mut E,
 ) -> End
     requires machine { drawn.now.machine ≡ drawn_machine arguments.now }
+    requires complete { IsWithinLimits drawn.now.machine }
     requires outputs { length drawn.now.outputs ≡ 2 }
     ensures status { result.status ≡ status_of result.outcome }
     ensures ran { IsTrialRun arguments.now
