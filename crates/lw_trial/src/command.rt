@@ -85,6 +85,7 @@ fn report<O: Sink, E: Sink>(
         (sink_state (O.taken out.new) (O.faults out.new))
         (sink_state (E.taken err.old) (E.faults err.old))
         (sink_state (E.taken err.new) (E.faults err.new)) result }
+    ensures counts { (O.faults out.old ≤ O.faults out.new) × (E.faults err.old ≤ E.faults err.new) }
 {
     match tell(
         alloc,
@@ -121,6 +122,7 @@ fn learn<R: Threads + Wait + Sync + Drop, O: Sink, E: Sink>(
         (sink_state (O.taken out.new) (O.faults out.new))
         (sink_state (E.taken err.old) (E.faults err.old))
         (sink_state (E.taken err.new) (E.faults err.new)) result }
+    ensures counts { (O.faults out.old ≤ O.faults out.new) × (E.faults err.old ≤ E.faults err.new) }
 {
     let LearnedMachine { learned, kept } = learn_machine(
         rt,
@@ -153,6 +155,7 @@ pub fn trial<R: Threads + Wait + Sync + Drop, O: Sink, E: Sink>(
         (sink_state (O.taken out.new) (O.faults out.new))
         (sink_state (E.taken err.old) (E.faults err.old))
         (sink_state (E.taken err.new) (E.faults err.new)) result }
+    ensures counts { (O.faults out.old ≤ O.faults out.new) × (E.faults err.old ≤ E.faults err.new) }
 {
     match draw(alloc, arguments) {
         Ok(drawn) => learn(rt, alloc, arguments, &drawn, out, err),
