@@ -1,9 +1,8 @@
 -- Calls of `trial`, by how they end.
-use Rattle.std.proofs.Common.{◌≡◌, ◌≢◌, ◌⊎◌, inl, inr, ⊎_elim, ℕ, ◌+◌, ◌<◌, ◌≤◌, List, [], ◌++◌, length, take, Option, Some, None, IfSome, Err, option_map, refl, sym, ap, ◌∙◌, subst, arith}
+use Rattle.std.proofs.Common.{◌≡◌, ◌≢◌, ◌⊎◌, inl, inr, ⊎_elim, ℕ, ◌+◌, ◌<◌, ◌≤◌, List, ◌++◌, length, Option, Some, None, IfErr, IfSome, Result, Ok, Err, option_map, refl, sym, ap, ◌∙◌, subst, arith}
 use Rattle.std.specs.List.{range_with_len}
 use Rattle.std.proofs.lemmas.List.{length-map, take_all}
 use Rattle.std.proofs.lemmas.List.FromFn.{length-range_with_len}
-use Rattle.std.proofs.lemmas.List.Elements.{All-nil}
 use Rattle.lw_words.specs.Answer.{Answer, AreAnswers, answers_of}
 use Rattle.lw_words.specs.Cause.{CountedFault}
 use Rattle.lw_words.specs.declared.kept.KeptAnswer.{KeptAnswer}
@@ -14,6 +13,7 @@ use Rattle.lw_cache.proofs.CrowdLemmas.{crowd_needs_states}
 use Rattle.lw_suite.specs.Size.{suite_size, greatest_suite}
 use Rattle.lw_table.specs.Table.{TableState}
 use Rattle.lw_rounds.specs.Learned.{IsLearned, StopsAs}
+use Rattle.lw_rounds.specs.declared.learned.Learned.{Learned}
 use Rattle.lw_rounds.specs.declared.stops.LearnStop.{LearnStop}
 use Rattle.lw_rounds.specs.declared.stops.LearnStop.TheVariants as learn
 use Rattle.lw_workers.specs.Machines.{KeepsRuns, IsReached, IsWithin}
@@ -33,20 +33,9 @@ use Rattle.lw_report.specs.declared.stops.TellStop.{TellStop}
 use Rattle.lw_report.specs.declared.stops.TellStop.TheVariants as tell
 use Rattle.lw_report.proofs.LearningLemmas.{has_model, has_large_suite}
 use Rattle.lw_trial.specs.Arguments.{TrialValues}
-use Rattle.lw_trial.specs.Drawn.{seeded, drawn_row, drawn_rows}
+use Rattle.lw_trial.specs.Drawn.{seeded, drawn_row}
 use Rattle.lw_trial.specs.TrialRun.{IsReachedTrial, IsTrial, IsTrialOutcome, IsTrialRun, IsTried, drawn_machine}
 use Rattle.lw_trial.specs.bodies.Told.{IsToldOf}
-
--- nothing is kept
-pub keeps_none : (t : MealyMachine) (n : ℕ) → KeepsRuns t n []
-keeps_none t n = record {
-  instances_are = λ i d lt. absurd (omega arith);
-  numbered = λ i lt. refl;
-  words = λ i d lt. absurd (omega arith);
-  outputs = λ i d lt. absurd (omega arith);
-  gives = λ i d lt. absurd (omega arith);
-  once = λ i d lo lt. absurd (omega arith);
-}
 
 -- a drawn machine has as many states as were asked for
 pub drawn_states : (v : TrialValues) → length (drawn_machine v).rows ≡ v.states
@@ -150,35 +139,38 @@ refused_run v o e d end none learner is =
       suite = is.suite;
     }
 
+-- what came of the learning of a machine, and the answers of its instances
+pub record HasCome (t : MealyMachine) (workers : ℕ) (kept : List KeptAnswer) (r : Result Learned LearnStop) : Type 0 where
+  pub within : IsWithinLimits t
+  pub runs : KeepsRuns t workers kept
+  pub stops : IfErr r (StopsAs t.inputs t.outputs 1 1024 (answers_of kept))
+  pub reached : (m : Rows) → IsWithin t.inputs 1 1024 m → Gives m (answers_of kept) → IsReached (length m) r
+
+pub of_drawn : (v : TrialValues) (t : MealyMachine) (workers : ℕ) (kept : List KeptAnswer) (r : Result Learned LearnStop) → t ≡ drawn_machine v → workers ≡ v.workers → HasCome t workers kept r → HasCome (drawn_machine v) v.workers kept r
+of_drawn v t workers kept r machine number is = subst (λ (n : ℕ). HasCome (drawn_machine v) n kept r) number (subst (λ (u : MealyMachine). HasCome u workers kept r) machine is)
+
+-- the learning of a drawn machine whose suite is not too large reaches its end
+learning_reached : (v : TrialValues) (kept : List KeptAnswer) (r : Result Learned LearnStop) → HasCome (drawn_machine v) v.workers kept r → suite_size v.states v.inputs 1 ≤ greatest_suite → IsReached v.states r
+learning_reached v kept r is small =
+    subst (λ (n : ℕ). IsReached n r) (drawn_states v) (is.reached (drawn_machine v).rows (drawn_is_within v is.within small) is.runs.gives)
+
+pub few_refinements : (v : TrialValues) (kept : List KeptAnswer) (l : Learned) → HasCome (drawn_machine v) v.workers kept (Ok l) → suite_size v.states v.inputs 1 ≤ greatest_suite → l.table.refinements < v.states
+few_refinements v kept l is small = learning_reached v kept (Ok l) is small
+
 -- a call whose learning stopped
-pub stopped_run : (v : TrialValues) (o e d : SinkState) (end : End) (stop : LearnStop) (kept : List KeptAnswer) → end.kept.answers ≡ kept → end.model ≡ None → IsWithoutLearner end → StandsOrWants (learn_outcome stop) end.outcome
-    → IsWithinLimits (drawn_machine v) → KeepsRuns (drawn_machine v) v.workers kept → StopsAs v.inputs 2 1 1024 (answers_of kept) stop
-    → ((m : Rows) → IsWithin v.inputs 1 1024 m → Gives m (answers_of kept) → IsReached (length m) (Err stop))
-    → (¬ CountedFault e.faults d.faults → TakesAll (said_text None None kept 1 end.outcome) e.taken d.taken) → TakesSome (said_text None None kept 1 end.outcome) e.taken d.taken → IsTrialRun v o o e d end
-stopped_run v o e d end stop kept same none learner stands within runs stops reached said part =
+pub stopped_run : (v : TrialValues) (o e d : SinkState) (end : End) (stop : LearnStop) (kept : List KeptAnswer) → HasCome (drawn_machine v) v.workers kept (Err stop) → end.kept.answers ≡ kept → end.model ≡ None → IsWithoutLearner end
+    → StandsOrWants (learn_outcome stop) end.outcome → (¬ CountedFault e.faults d.faults → TakesAll (said_text None None kept 1 end.outcome) e.taken d.taken) → TakesSome (said_text None None kept 1 end.outcome) e.taken d.taken → IsTrialRun v o o e d end
+stopped_run v o e d end stop kept come same none learner stands said part =
     let m : Rows = (drawn_machine v).rows in
     let is : IsRefusal v e d end.outcome kept = record {
-      bare = still_bare (learn_outcome stop) end.outcome stands (stop_is_bare v.inputs 2 m (answers_of kept) within.machine within.few runs.words runs.gives stop stops);
-      runs = runs;
-      reached = λ small. still_reached v.states (learn_outcome stop) end.outcome stands (stop_reached v.states stop (subst (λ (n : ℕ). IsReached n (Err stop)) (drawn_states v) (reached m (drawn_is_within v within small) runs.gives)));
+      bare = still_bare (learn_outcome stop) end.outcome stands (stop_is_bare v.inputs 2 m (answers_of kept) come.within.machine come.within.few come.runs.words come.runs.gives stop come.stops);
+      runs = come.runs;
+      reached = λ small. still_reached v.states (learn_outcome stop) end.outcome stands (stop_reached v.states stop (learning_reached v kept (Err stop) come small));
       said = said;
       part = part;
-      suite = still_suite v.inputs 2 (answers_of kept) (learn_outcome stop) end.outcome stands (λ s n. stop_suite v.inputs 2 (answers_of kept) stop s n runs.words stops);
+      suite = still_suite v.inputs 2 (answers_of kept) (learn_outcome stop) end.outcome stands (λ s n. stop_suite v.inputs 2 (answers_of kept) stop s n come.runs.words come.stops);
     } in
     refused_run v o e d end none learner (subst (IsRefusal v e d end.outcome) (sym same) is)
-
--- a call for which there was no memory before anything was asked
-pub undrawn_run : (v : TrialValues) (o e d : SinkState) (end : End) → end.kept.answers ≡ [] → end.model ≡ None → IsWithoutLearner end → StandsOrWants NoMemory end.outcome
-    → (¬ CountedFault e.faults d.faults → TakesAll (said_text None None end.kept.answers 1 end.outcome) e.taken d.taken) → TakesSome (said_text None None end.kept.answers 1 end.outcome) e.taken d.taken → IsTrialRun v o o e d end
-undrawn_run v o e d end empty none learner stands said part =
-    refused_run v o e d end none learner (record {
-      bare = still_bare NoMemory end.outcome stands (inl refl);
-      runs = subst (KeepsRuns (drawn_machine v) v.workers) (sym empty) (keeps_none (drawn_machine v) v.workers);
-      reached = λ _. still_reached v.states NoMemory end.outcome stands tt;
-      said = said;
-      part = part;
-      suite = still_suite v.inputs 2 (answers_of end.kept.answers) NoMemory end.outcome stands (λ s n e. let wrong : NoMemory ≡ SuiteTooLarge s n = e in absurd (cc));
-    })
 
 -- what was learned, of the end of a call
 pub record IsCarried (v : TrialValues) (end : End) (h : MealyMachine) (table : TableState) (kept : List KeptAnswer) : Type 0 where
@@ -245,7 +237,7 @@ tried_run v o p e end h table kept t is out told takes quiet =
 abbrev pub IsCause : (o p : SinkState) → Outcome → Type 0
 IsCause o p outcome = ((outcome ≡ SinkFault) × CountedFault o.faults p.faults) ⊎ ((outcome ≡ NoMemory) × (p.taken ≡ o.taken))
 
-tell_cause : (o p : SinkState) (stop : TellStop) → ((role : Role) → ¬ (stop ≡ tell.File role)) → (stop ≡ tell.Sink → CountedFault o.faults p.faults) → (stop ≡ tell.NoMemory → p.taken ≡ o.taken) → (now : Outcome) → StandsOrWants (tell_outcome stop) now
+pub tell_cause : (o p : SinkState) (stop : TellStop) → ((role : Role) → ¬ (stop ≡ tell.File role)) → (stop ≡ tell.Sink → CountedFault o.faults p.faults) → (stop ≡ tell.NoMemory → p.taken ≡ o.taken) → (now : Outcome) → StandsOrWants (tell_outcome stop) now
     → IsCause o p now
 tell_cause o p (tell.File role) no_file failed memory now stands = absurd (no_file role refl)
 tell_cause o p tell.Sink no_file failed memory now stands = ⊎_elim (λ (e : now ≡ SinkFault). inl (e, failed refl)) (λ (w : HasOwnText SinkFault × (now ≡ NoMemory)). absurd w.0) stands

@@ -1,5 +1,5 @@
 -- What a call of `trial` did, for callers: all that its contract says, in one record.
-use Rattle.std.specs.Prelude.{◌≡◌, ◌≢◌, ◌⊎◌, ◌↔◌, ℕ, ◌<◌, ◌≤◌, List, length, true, None, Some, IfSome}
+use Rattle.std.specs.Prelude.{◌≡◌, ◌≢◌, ◌↔◌, ℕ, ◌<◌, ◌≤◌, length, true, None, Some, IfSome}
 use Rattle.lw_words.specs.Answer.{answers_of}
 use Rattle.lw_words.specs.Cause.{CountedFault}
 use Rattle.lw_mealy.specs.Limits.{MealyMachine, mealy_of}

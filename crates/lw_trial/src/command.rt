@@ -1,6 +1,7 @@
 //! The command.
 ghost use Rattle.std.specs.Prelude.{◌≡◌, ◌≤◌, ◌<◌, length, IfOk};
 ghost use Rattle.lw_words.specs.Answer.{answers_of};
+ghost use Rattle.lw_mealy.specs.Limits.{IsWithinLimits};
 ghost use Rattle.lw_rounds.specs.Learned.{IsLearned};
 ghost use Rattle.lw_suite.specs.Size.{suite_size, greatest_suite};
 ghost use Rattle.lw_workers.specs.Machines.{KeepsRuns};
@@ -49,6 +50,7 @@ fn output_names(alloc: Global) -> Result<Names, NoMemory>
 /// Draws the machine of the arguments.
 fn draw(alloc: Global, arguments: &TrialArguments) -> Result<Drawn, NoMemory>
     ensures machine { IfOk result (λ d. d.machine ≡ drawn_machine arguments.now) }
+    ensures complete { IfOk result (λ d. IsWithinLimits d.machine) }
     ensures outputs { IfOk result (λ d. length d.outputs ≡ 2) }
 {
     let outputs = output_names(alloc)?;
@@ -83,6 +85,7 @@ fn report<O: Sink, E: Sink>(
         (sink_state (O.taken out.new) (O.faults out.new))
         (sink_state (E.taken err.old) (E.faults err.old))
         (sink_state (E.taken err.new) (E.faults err.new)) result }
+    ensures counts { (O.faults out.old ≤ O.faults out.new) × (E.faults err.old ≤ E.faults err.new) }
 {
     match tell(
         alloc,
@@ -111,6 +114,7 @@ fn learn<R: Threads + Wait + Sync + Drop, O: Sink, E: Sink>(
     err: &mut E,
 ) -> End
     requires machine { drawn.now.machine ≡ drawn_machine arguments.now }
+    requires complete { IsWithinLimits drawn.now.machine }
     requires outputs { length drawn.now.outputs ≡ 2 }
     ensures status { result.status ≡ status_of result.outcome }
     ensures ran { IsTrialRun arguments.now
@@ -118,6 +122,7 @@ fn learn<R: Threads + Wait + Sync + Drop, O: Sink, E: Sink>(
         (sink_state (O.taken out.new) (O.faults out.new))
         (sink_state (E.taken err.old) (E.faults err.old))
         (sink_state (E.taken err.new) (E.faults err.new)) result }
+    ensures counts { (O.faults out.old ≤ O.faults out.new) × (E.faults err.old ≤ E.faults err.new) }
 {
     let LearnedMachine { learned, kept } = learn_machine(
         rt,
@@ -150,6 +155,7 @@ pub fn trial<R: Threads + Wait + Sync + Drop, O: Sink, E: Sink>(
         (sink_state (O.taken out.new) (O.faults out.new))
         (sink_state (E.taken err.old) (E.faults err.old))
         (sink_state (E.taken err.new) (E.faults err.new)) result }
+    ensures counts { (O.faults out.old ≤ O.faults out.new) × (E.faults err.old ≤ E.faults err.new) }
 {
     match draw(alloc, arguments) {
         Ok(drawn) => learn(rt, alloc, arguments, &drawn, out, err),

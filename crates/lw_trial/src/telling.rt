@@ -55,6 +55,7 @@ fn put_trial<O: Sink>(
     ensures failed { result ≡ Err Stop.Sink → CountedFault (O.faults out.old) (O.faults out.new) }
     ensures no_file { (role : Part) → ¬ (result ≡ Err (Stop.File role)) }
     ensures quiet { OnOk result (O.faults out.new ≡ O.faults out.old) }
+    ensures counts { O.faults out.old ≤ O.faults out.new }
 {
     put_report(alloc, &Outcome::Trial(tried), names, names, kept, 1, out)
 }
@@ -82,6 +83,7 @@ pub(crate) fn tell<O: Sink>(
     ensures failed { result ≡ Err Stop.Sink → CountedFault (O.faults out.old) (O.faults out.new) }
     ensures no_file { (role : Part) → ¬ (result ≡ Err (Stop.File role)) }
     ensures quiet { OnOk result (O.faults out.new ≡ O.faults out.old) }
+    ensures counts { O.faults out.old ≤ O.faults out.new }
 {
     let tried = tried(alloc, arguments, machine, learned, kept.len())?;
     put_trial(alloc, tried, names, kept, out)?;

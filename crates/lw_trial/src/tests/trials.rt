@@ -43,7 +43,30 @@ fn arguments(states: u16, inputs: u16, seed: u64, workers: u8) -> Result<TrialAr
 /// A stream that takes seven bytes a call.
 fn sink(alloc: Global, plan: &[u64]) -> Result<MemorySink, Fail> {
     let plan = Vec::from_slice(alloc, plan)?;
-    Ok(MemorySink::new(alloc, 200, 7, plan)?)
+    Ok(MemorySink::new(alloc, 20_000, 7, plan)?)
+}
+
+/// Whether an end has the status, and a model just where one is learned.
+fn ends_so(end: &End, case: &Case) -> bool {
+    end.status == case.status && end.model.is_some() == case.is_learned
+}
+
+/// Whether the streams took just the texts.
+fn wrote_so(out: &MemorySink, err: &MemorySink, case: &Case) -> bool {
+    out.taken() == case.out.as_bytes() && err.taken() == case.err.as_bytes()
+}
+
+/// Whether a trial ends so.
+fn is_ended_so<R: Threads + Wait + Sync + Drop>(
+    rt: R,
+    alloc: Global,
+    case: &Case,
+    out: &mut MemorySink,
+    err: &mut MemorySink,
+) -> Result<bool, Fail> {
+    let arguments = arguments(case.states, case.inputs, 0, 1)?;
+    let end = trial(rt, alloc, &arguments, out, err);
+    Ok(ends_so(&end, case))
 }
 
 /// Whether a trial by seed 0 comes out so.
@@ -52,11 +75,10 @@ fn comes_so<R: Threads + Wait + Sync + Drop>(
     alloc: Global,
     case: &Case,
 ) -> Result<bool, Fail> {
-    let arguments = arguments(case.states, case.inputs, 0, 1)?;
-    let (mut out, mut err) = (sink(alloc, case.out_plan)?, sink(alloc, &[])?);
-    let end = trial(rt, alloc, &arguments, &mut out, &mut err);
-    let written = out.taken() == case.out.as_bytes() && err.taken() == case.err.as_bytes();
-    Ok(written && end.status == case.status && end.model.is_some() == case.is_learned)
+    let mut out = sink(alloc, case.out_plan)?;
+    let mut err = sink(alloc, &[])?;
+    let ended = is_ended_so(rt, alloc, case, &mut out, &mut err)?;
+    Ok(ended && wrote_so(&out, &err, case))
 }
 
 #[test]
@@ -108,16 +130,16 @@ fn is_shared(kept: &Kept) -> bool {
     shared
 }
 
-/// The end of a trial of 20 states and 4 inputs by seed 7, and its text.
-fn drawn_trial<R: Threads + Wait + Sync + Drop>(
+/// Whether the answers of a trial are of two instances and more.
+fn is_shared_trial<R: Threads + Wait + Sync + Drop>(
     rt: R,
     alloc: Global,
-    workers: u8,
-) -> Result<(End, MemorySink), Fail> {
-    let arguments = arguments(20, 4, 7, workers)?;
-    let (mut out, mut err) = (sink(alloc, &[])?, sink(alloc, &[])?);
-    let end = trial(rt, alloc, &arguments, &mut out, &mut err);
-    Ok((end, out))
+    out: &mut MemorySink,
+    err: &mut MemorySink,
+) -> Result<bool, Fail> {
+    let arguments = arguments(20, 4, 7, 8)?;
+    let end = trial(rt, alloc, &arguments, out, err);
+    Ok(is_shared(&end.kept))
 }
 
 /// Whether one of so many trials had the answers of two instances and more.
@@ -126,9 +148,10 @@ fn are_shared<R: Threads + Wait + Sync + Drop + Copy>(
     alloc: Global,
     most: u32,
 ) -> Result<bool, Fail> {
+    let mut out = sink(alloc, &[])?;
+    let mut err = sink(alloc, &[])?;
     for _ in 0..most {
-        let (end, _) = drawn_trial(rt, alloc, 8)?;
-        if is_shared(&end.kept) {
+        if is_shared_trial(rt, alloc, &mut out, &mut err)? {
             return Ok(true);
         }
     }
@@ -141,22 +164,44 @@ fn several_instances_answer(rt: HostRuntime) -> Result<(), Fail> {
     Ok(())
 }
 
-/// Whether a trial found the machine, and told so by this text.
+/// Whether a trial of 20 states and 4 inputs by seed 7 finds the machine; `out` takes its text.
+fn finds<R: Threads + Wait + Sync + Drop>(
+    rt: R,
+    alloc: Global,
+    workers: u8,
+    out: &mut MemorySink,
+) -> Result<bool, Fail> {
+    let arguments = arguments(20, 4, 7, workers)?;
+    let mut err = sink(alloc, &[])?;
+    let end = trial(rt, alloc, &arguments, out, &mut err);
+    Ok(is_found(&end))
+}
+
+/// Whether an end tells that the machine was found.
+fn is_found(end: &End) -> bool {
+    match &end.outcome {
+        Outcome::Trial(tried) => tried.equal,
+        _ => false,
+    }
+}
+
+/// Whether a trial finds the machine, and tells so by this text.
 fn is_told<R: Threads + Wait + Sync + Drop>(
     rt: R,
     alloc: Global,
     workers: u8,
     text: &[u8],
 ) -> Result<bool, Fail> {
-    let (end, out) = drawn_trial(rt, alloc, workers)?;
-    Ok(out.taken() == text && matches!(end.outcome, Outcome::Trial(tried) if tried.equal))
+    let mut out = sink(alloc, &[])?;
+    let found = finds(rt, alloc, workers, &mut out)?;
+    Ok(found && out.taken() == text)
 }
 
 #[test]
 fn the_same_text_of_any_number_of_instances(rt: HostRuntime) -> Result<(), Fail> {
-    let (_, one) = drawn_trial(rt, rt.alloc(), 1)?;
-    for workers in [1u8, 2, 8] {
-        assert!(rt; is_told(rt, rt.alloc(), workers, one.taken())?);
-    }
+    let mut one = sink(rt.alloc(), &[])?;
+    assert!(rt; finds(rt, rt.alloc(), 1, &mut one)?);
+    assert!(rt; is_told(rt, rt.alloc(), 2, one.taken())?);
+    assert!(rt; is_told(rt, rt.alloc(), 8, one.taken())?);
     Ok(())
 }
