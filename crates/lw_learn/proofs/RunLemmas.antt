@@ -1,5 +1,5 @@
 -- What a call of `learn` comes to, by its outcome.
-use Rattle.std.proofs.Common.{◌≡◌, ◌≢◌, ◌∙◌, ◌⊎◌, ℕ, ◌<◌, ◌≤◌, List, length, map, get_or, Option, Some, None, Err, is_some, true, inl, inr, refl, sym, subst, arith}
+use Rattle.std.proofs.Common.{◌≡◌, ◌≢◌, ◌∙◌, ◌⊎◌, ℕ, ◌<◌, ◌≤◌, List, length, map, get_or, Option, Some, None, IfSome, Err, is_some, true, inl, inr, refl, sym, subst, arith}
 use Rattle.std.specs.List.{All}
 use Rattle.std.proofs.lemmas.List.{get_or-map, length-map}
 use Rattle.lw_words.specs.Answer.{Answer, AreAnswers, IsAnswer, answer_of}
@@ -115,7 +115,7 @@ told_kind a model count (Learned h r) told named = tt
 told_kind a model count NoMemory told named = tt
 told_kind a model count SinkFault told named = tt
 told_kind a model count (FileFault role) told named =
-    elim named role refl as (λ _. IsReadOutcome a (FileFault role)) [
+    elim (named role refl) as (λ _. IsReadOutcome a (FileFault role)) [
       | inl e ↦ inl (e.0, is_there a.model e.1)
       | inr e ↦ inr (e.0, is_there a.answers e.1)
     ]
@@ -199,3 +199,15 @@ runs_over t workers a b kept few inputs outputs keeps =
       even = is.1;
     } in
     subst (λ (n : ℕ). AreKeptOver a n kept) outputs (subst (λ (n : ℕ). AreKeptOver n t.outputs kept) inputs each)
+
+-- what a machine's file came to that was there, where the files didn't fail
+pub unread_reached : (n : ℕ) (stop : ReadStop) → (stop ≡ Failed → ⊥) → (stop ≡ TooLong → ⊥) → ((fault : JsonFault) → stop ≡ Bad fault → ⊥) → IsReachedOutcome n (read_outcome Table stop)
+unread_reached n Failed failed long bad = absurd (failed refl)
+unread_reached n TooLong failed long bad = absurd (long refl)
+unread_reached n (Bad fault) failed long bad = absurd (bad fault refl)
+unread_reached n NoMemoryToRead failed long bad = tt
+
+-- what holds of a value that may be there gives what else holds of it
+pub some_map : {X : Type 0} (o : Option X) (P Q : X → Type 0) → ((x : X) → P x → Q x) → IfSome o P → IfSome o Q
+some_map None P Q f is = tt
+some_map (Some x) P Q f is = f x is

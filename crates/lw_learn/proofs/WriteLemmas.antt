@@ -1,21 +1,20 @@
 -- Writing out: what the files hold, which calls were made, and what `out` took, by the outcome.
-use Rattle.std.proofs.Common.{◌≡◌, ◌≢◌, ◌∙◌, ◌⊎◌, ℕ, ◌++◌, List, [], ◌∷◌, take, false, Option, Some, None, Result, Ok, Err, OnOk, IsErrAnd, length, inl, inr, refl, sym, subst, ap, append_assoc, append-nil}
+use Rattle.std.proofs.Common.{◌≡◌, ◌≢◌, ◌∙◌, ℕ, ◌++◌, List, [], ◌∷◌, take, false, Option, Some, None, Result, Ok, Err, OnOk, IsErrAnd, length, inl, inr, refl, sym, subst, ap, append_assoc, append-nil}
 use Rattle.lw_words.specs.declared.kept.KeptAnswer.{KeptAnswer}
 use Rattle.lw_mealy.specs.Limits.{MealyMachine}
 use Rattle.lw_json.specs.AnswersText.{IsAnswersText}
 use Rattle.lw_json.specs.declared.machine.Machine.{Machine}
-use Rattle.lw_outside.specs.Files.{Call, File, Holds, file_at, noted, read_call}
+use Rattle.lw_outside.specs.Files.{Call, File, Holds, file_at, read_call}
 use Rattle.lw_report.specs.Stops.{tell_outcome}
 use Rattle.lw_report.specs.Text.{text_of}
 use Rattle.lw_report.specs.declared.role.Role.{Role}
-use Rattle.lw_report.specs.declared.role.Role.TheVariants.{Model, Answers}
 use Rattle.lw_report.specs.declared.stops.TellStop.{TellStop}
 use Rattle.lw_report.specs.declared.stops.TellStop.TheVariants.{File as FileStop, Sink, NoMemory as NoMemoryToTell}
 use Rattle.lw_report.specs.declared.outcome.Outcome.{Outcome}
 use Rattle.lw_report.specs.declared.outcome.Outcome.TheVariants.{Learned, Trial, Yes, No, Usage, BadFile, Alphabets, FileTooLong, Nondeterministic, NoMemory, TooManyStates, SuiteTooLarge, FileFault, SinkFault}
 use Rattle.lw_report.proofs.SinkLemmas.{sink_none}
 use Rattle.lw_learn.specs.Arguments.{LearnValues}
-use Rattle.lw_learn.specs.Calls.{MadeCalls, MadeWrites, all_writes, gained, read_of, writes_to}
+use Rattle.lw_learn.specs.Calls.{MadeWrites, all_writes, gained, read_of, writes_to}
 use Rattle.lw_learn.specs.Outcomes.{IsReadOutcome, told_outcome}
 use Rattle.lw_learn.specs.Writing.{AnswersStand, PutsSome, Stands, StaysBesides, WritesOut}
 

@@ -127,7 +127,16 @@ fn write_out<F: Files, O: Sink, E: Sink>(
         (O.faults out.old ≤ O.faults out.new) × (E.faults err.old ≤ E.faults err.new) }
 {
     let refinements = table.refinements();
-    let outcome = tell_model(alloc, arguments, &machine, refinements, &kept, files, out, err);
+    let outcome = tell_model(
+        alloc,
+        arguments,
+        &machine,
+        refinements,
+        &kept,
+        files,
+        out,
+        err,
+    );
     let learned = Learned {
         model: machine.mealy,
         table,
@@ -227,7 +236,9 @@ fn finish<R: Threads + Wait + Sync + Drop, F: Files, O: Sink, E: Sink>(
 {
     let LearnedMachine { learned, kept } = learned_of(rt, alloc, arguments, &machine);
     let Machine {
-        inputs, outputs, ..
+        inputs,
+        outputs,
+        ..
     } = machine;
     match learned {
         Ok(Learned { model, table }) => {

@@ -277,7 +277,16 @@ pub(crate) fn tell_model<F: Files, O: Sink, E: Sink>(
     ensures counts { (F.faults files.old ≤ F.faults files.new) ×
         (O.faults out.old ≤ O.faults out.new) × (E.faults err.old ≤ E.faults err.new) }
 {
-    match write_model(alloc, arguments, machine, refinements, kept, files, out, err) {
+    match write_model(
+        alloc,
+        arguments,
+        machine,
+        refinements,
+        kept,
+        files,
+        out,
+        err,
+    ) {
         Ok(outcome) => outcome,
         Err(stop) => say(
             alloc,

@@ -101,6 +101,7 @@ fn the_words_that_find_a_counter(rt: HostRuntime) -> Result<(), Fail> {
 }
 
 /// What a call over the file `m` of this text comes to: its status, what `out` and `err` took, and the refinements.
+#[derive(Drop)]
 struct Played {
     status: u8,
     refinements: u32,
