@@ -354,6 +354,10 @@ pub fn learn<R: Threads + Wait + Sync + Drop, F: Files, O: Sink, E: Sink>(
         ((bytes : List ℕ) × WasRead (F.holds files.old) (F.reads files.old) (F.reads files.new)
         arguments.now.table bytes) }
     ensures calls { MadeCalls arguments.now result.outcome (F.calls files.old) (F.calls files.new) }
+
+    // No count of faults falls.
+    ensures counts { (F.faults files.old ≤ F.faults files.new) ×
+        (O.faults out.old ≤ O.faults out.new) × (E.faults err.old ≤ E.faults err.new) }
 {
     match read_machine_file(alloc, files, arguments.table()) {
         Ok(machine) => finish(rt, alloc, arguments, machine, files, out, err),

@@ -1,5 +1,5 @@
 //! The commands with the values of their arguments: each says all that its contract says in one record.
-ghost use Rattle.std.specs.Prelude.{◌≡◌};
+ghost use Rattle.std.specs.Prelude.{◌≡◌, ◌≤◌};
 ghost use Rattle.lw_report.specs.Outcomes.{status_of};
 ghost use Rattle.lw_report.specs.States.{files_state, sink_state};
 ghost use Rattle.lw_report.specs.declared.outcome.Outcome.{Outcome as Came};
@@ -28,6 +28,8 @@ pub(crate) fn run_learn<R: Threads + Wait + Sync + Drop, F: Files, O: Sink, E: S
 ) -> End
     ensures status { result.status ≡ status_of result.outcome }
     ensures taken { ¬ (result.outcome ≡ Came.Usage) }
+    ensures counts { (F.faults files.old ≤ F.faults files.new) ×
+        (O.faults out.old ≤ O.faults out.new) × (E.faults err.old ≤ E.faults err.new) }
     ensures all { IsLearnRun values.now
         (files_state (F.holds files.old) (F.calls files.old) (F.reads files.old)
         (F.faults files.old))
@@ -51,6 +53,8 @@ pub(crate) fn run_check<F: Files, O: Sink, E: Sink>(
 ) -> End
     ensures status { result.status ≡ status_of result.outcome }
     ensures taken { ¬ (result.outcome ≡ Came.Usage) }
+    ensures counts { (F.faults files.old ≤ F.faults files.new) ×
+        (O.faults out.old ≤ O.faults out.new) × (E.faults err.old ≤ E.faults err.new) }
     ensures all { IsCheckRun values.now.model values.now.answers values.now.extra
         (files_state (F.holds files.old) (F.calls files.old) (F.reads files.old)
         (F.faults files.old))
@@ -75,6 +79,8 @@ pub(crate) fn run_trial<R: Threads + Wait + Sync + Drop, O: Sink, E: Sink>(
 ) -> End
     ensures status { result.status ≡ status_of result.outcome }
     ensures taken { ¬ (result.outcome ≡ Came.Usage) }
+    ensures counts { (O.faults out.old ≤ O.faults out.new) ×
+        (E.faults err.old ≤ E.faults err.new) }
     ensures all { IsTrialRun values.now
         (sink_state (O.taken out.old) (O.faults out.old))
         (sink_state (O.taken out.new) (O.faults out.new))

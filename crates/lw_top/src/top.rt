@@ -79,6 +79,10 @@ pub fn run<R: Threads + Wait + Sync + Drop, F: Files, O: Sink, E: Sink>(
 ) -> End
     ensures status { result.status ≡ status_of result.outcome }
 
+    // No count of faults falls.
+    ensures counts { (F.faults files.old ≤ F.faults files.new) ×
+        (O.faults out.old ≤ O.faults out.new) × (E.faults err.old ≤ E.faults err.new) }
+
     // The arguments: the usage exactly where no command takes them, but that memory may run out.
     ensures usage { result.outcome ≡ Came.Usage → IsNoCall (texts arguments.now) }
     ensures refused { IsNoCall (texts arguments.now) →

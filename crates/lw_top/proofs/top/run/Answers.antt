@@ -43,7 +43,7 @@ returns-in-Check-clause-check g c =
     let d = sink_state (E.taken c.run_check.new.err) (E.faults c.run_check.new.err) in
     let words = texts c.args.arguments.now in
     let is = subst (IsCall words) c.in-Check.is c.in-Ok.ensures.ok in
-    at_value (check_values words) c.in-Check.values (λ a. IsCheckRun a.model a.answers a.extra f h o p e d c.run_check.result) is.1.0 c.run_check.ensures.all
+    at_value (check_values words) c.in-Check.values (λ a. IsCheckRun a.model a.answers a.extra f h o p e d c.run_check.result) is.1 c.run_check.ensures.all
 
 pub returns-in-Err-clause-learn : goal.returns-in-Err-clause-learn
 returns-in-Err-clause-learn g c =
@@ -91,7 +91,7 @@ returns-in-Err-clause-check g c =
     } in
     by_value (check_values (texts c.args.arguments.now)) (λ a. IsCheckRun a.model a.answers a.extra f f o o e d end) (λ a is.
     wanted_check a.model a.answers a.extra f o e d end (not_usage c.in-Err.stop end.outcome outcome (λ u.
-    none_is_some a (sym (c.in-Err.ensures.refused (ap (λ (s : ArgumentStop). Err s) u)).1.0 ∙ is))) refused)
+    none_is_some a (sym (c.in-Err.ensures.refused (ap (λ (s : ArgumentStop). Err s) u)).1 ∙ is))) refused)
 
 pub returns-in-Trial-clause-trial : goal.returns-in-Trial-clause-trial
 returns-in-Trial-clause-trial g c =
@@ -103,7 +103,7 @@ returns-in-Trial-clause-trial g c =
     let d = sink_state (E.taken c.run_trial.new.err) (E.faults c.run_trial.new.err) in
     let words = texts c.args.arguments.now in
     let is = subst (IsCall words) c.in-Trial.is c.in-Ok.ensures.ok in
-    at_value (trial_values words) c.in-Trial.values (λ v. IsTrialRun v o p e d c.run_trial.result) is.1.1 c.run_trial.ensures.all
+    at_value (trial_values words) c.in-Trial.values (λ v. IsTrialRun v o p e d c.run_trial.result) is.2 c.run_trial.ensures.all
 
 pub returns-in-Err-clause-trial : goal.returns-in-Err-clause-trial
 returns-in-Err-clause-trial g c =
@@ -127,4 +127,7 @@ returns-in-Err-clause-trial g c =
     } in
     by_value (trial_values (texts c.args.arguments.now)) (λ v. IsTrialRun v o o e d end) (λ v is.
     wanted_trial v f o e d end (not_usage c.in-Err.stop end.outcome outcome (λ u.
-    none_is_some v (sym (c.in-Err.ensures.refused (ap (λ (s : ArgumentStop). Err s) u)).1.1 ∙ is))) refused)
+    none_is_some v (sym (c.in-Err.ensures.refused (ap (λ (s : ArgumentStop). Err s) u)).2 ∙ is))) refused)
+
+pub returns-in-Err-clause-untouched : goal.returns-in-Err-clause-untouched
+returns-in-Err-clause-untouched g c = by_value (trial_values (texts c.args.arguments.now)) _ (λ v is. refl)
