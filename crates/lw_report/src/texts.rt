@@ -92,9 +92,9 @@ fn learned_text(
     ensures { IfOk result (λ text. string_bytes text ≡
         learned_line states refinements extra answers) }
 {
-    Ok(
-        format!(in alloc; "learned: states {states}, refinements {refinements}, extra {extra}, answers {answers}\n")?,
-    )
+    Ok(format!(in alloc;
+        "learned: states {states}, refinements {refinements}, extra {extra}, answers {answers}\n"
+    )?)
 }
 
 /// The line about a file that is none of its kind.

@@ -20,9 +20,9 @@ fn found_text(
 ) -> Result<String, NoMemory>
     ensures { IfOk result (λ text. string_bytes text ≡ found_line states refinements answers) }
 {
-    Ok(
-        format!(in alloc; "learned: states {states}, refinements {refinements}, answers {answers}\n")?,
-    )
+    Ok(format!(in alloc;
+        "learned: states {states}, refinements {refinements}, answers {answers}\n"
+    )?)
 }
 
 fn equal_text(equal: bool) -> &'static str

@@ -86,7 +86,10 @@ fn play<R: Abort + Threads + Wait + Sync + Copy + Drop>(
 
 /// The end of a case over its own file.
 pub fn end_of<R: Abort + Threads + Wait + Sync + Copy + Drop>(
-    rt: R, alloc: Global, case: &Case) -> Result<End, Fail> {
+    rt: R,
+    alloc: Global,
+    case: &Case,
+) -> Result<End, Fail> {
     let mut files = files_of(alloc, case.file, case.file_plan)?;
     play(rt, alloc, case, &mut files)
 }
@@ -104,7 +107,10 @@ pub fn check_over<R: Abort + Threads + Wait + Sync + Copy + Drop>(
 
 /// Checks a case over its own file.
 pub fn check<R: Abort + Threads + Wait + Sync + Copy + Drop>(
-    rt: R, alloc: Global, case: &Case) -> Result<(), Fail> {
+    rt: R,
+    alloc: Global,
+    case: &Case,
+) -> Result<(), Fail> {
     let _end = end_of(rt, alloc, case)?;
     Ok(())
 }

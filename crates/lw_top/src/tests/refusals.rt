@@ -26,7 +26,9 @@ static REFUSED: [&[&str]; 19] = [
     &["trial", "--states", "3", "--inputs", "1"],
     &["trial", "--states", "0", "--inputs", "1", "--seed", "0"],
     &["trial", "--states", "3", "--inputs", "65", "--seed", "0"],
-    &["trial", "m", "--states", "3", "--inputs", "1", "--seed", "0"],
+    &[
+        "trial", "m", "--states", "3", "--inputs", "1", "--seed", "0",
+    ],
     &["learn", "--help"],
     &["--version"],
     &["serve", "m"],

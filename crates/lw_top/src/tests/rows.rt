@@ -131,7 +131,15 @@ fn play<R: Threads + Wait + Sync + Drop>(
 #[test]
 fn kept_answers_refine_a_model(rt: HostRuntime) -> Result<(), Fail> {
     for workers in ["1", "2"] {
-        let arguments = ["learn", "--table", "m", "--extra", "3", "--workers", workers];
+        let arguments = [
+            "learn",
+            "--table",
+            "m",
+            "--extra",
+            "3",
+            "--workers",
+            workers,
+        ];
         let played = play(rt, rt.alloc(), &arguments, CODE)?;
         assert_eq!(rt; played.status, 0);
         assert_eq!(rt; played.refinements, 3);
@@ -160,11 +168,21 @@ fn wide(alloc: Global) -> Result<String, Fail> {
 #[test]
 fn the_limit_of_suites(rt: HostRuntime) -> Result<(), Fail> {
     let text = wide(rt.alloc())?;
-    let over = play(rt, rt.alloc(), &["learn", "--table", "m", "--extra", "3"], text.as_str())?;
+    let over = play(
+        rt,
+        rt.alloc(),
+        &["learn", "--table", "m", "--extra", "3"],
+        text.as_str(),
+    )?;
     let line = "suite too large: states 1, extra 3, number 17043521\n";
     assert_eq!(rt; over.status, 7);
     assert_eq!(rt; over.err.taken(), line.as_bytes());
-    let below = play(rt, rt.alloc(), &["learn", "--table", "m", "--extra", "2"], text.as_str())?;
+    let below = play(
+        rt,
+        rt.alloc(),
+        &["learn", "--table", "m", "--extra", "2"],
+        text.as_str(),
+    )?;
     let line = "learned: states 1, refinements 0, extra 2, answers 266240\n";
     assert_eq!(rt; below.status, 0);
     assert_eq!(rt; below.err.taken(), line.as_bytes());

@@ -59,7 +59,14 @@ fn two_hundred<R: Threads + Wait + Sync + Drop>(
     alloc: Global,
     workers: &str,
 ) -> Result<(End, MemorySink), Fail> {
-    let arguments = ["trial", "--states=200", "--inputs=4", "--seed=7", "--workers", workers];
+    let arguments = [
+        "trial",
+        "--states=200",
+        "--inputs=4",
+        "--seed=7",
+        "--workers",
+        workers,
+    ];
     try_out(rt, alloc, &arguments)
 }
 
@@ -87,7 +94,13 @@ fn has_two_instances(end: &End) -> bool {
 
 /// Whether one of a hundred trials with eight workers has answers of two instances.
 fn is_shared<R: Threads + Wait + Sync + Copy + Drop>(rt: R, alloc: Global) -> Result<bool, Fail> {
-    let arguments = ["trial", "--states=20", "--inputs=4", "--seed=7", "--workers=8"];
+    let arguments = [
+        "trial",
+        "--states=20",
+        "--inputs=4",
+        "--seed=7",
+        "--workers=8",
+    ];
     for _ in 0u8..100 {
         let (end, _out) = try_out(rt, alloc, &arguments)?;
         if has_two_instances(&end) {
