@@ -13,7 +13,7 @@ use Rattle.lw_certify.proofs.OneVerdict.{one_verdict}
 use Rattle.lw_check.specs.FirstClash.{IsFirstClash}
 use Rattle.lw_check.specs.Decision.{Pair, SameNames, HasVerdict, IsNo, IsDecision, OneDecision}
 use Rattle.lw_report.specs.declared.outcome.Outcome.{Outcome}
-use Rattle.lw_report.specs.declared.outcome.Outcome.TheVariants.{Unchecked, Yes, No, Usage, BadFile, Alphabets, FileTooLong, Nondeterministic, NoMemory, TooManyStates, SuiteTooLarge, FileFault, SinkFault}
+use Rattle.lw_report.specs.declared.outcome.Outcome.TheVariants.{Learned, Trial, Yes, No, Usage, BadFile, Alphabets, FileTooLong, Nondeterministic, NoMemory, TooManyStates, SuiteTooLarge, FileFault, SinkFault}
 
 blank : Answer
 blank = record { word = []; outs = [] }
@@ -64,7 +64,8 @@ module _ (p : Pair) (extra : ℕ) where
   yes_is n Alphabets f g = absurd (g f.0.0)
   yes_is n (Nondeterministic c) f g = absurd (clash_not_nothing (answers_of p.kept) c g.1 f.0.1)
   yes_is n (SuiteTooLarge m s) f g = let e : verdict.Sure ≡ verdict.TooLarge s = same_verdict verdict.Sure (verdict.TooLarge s) f.0 g.0 in absurd (cc)
-  yes_is n (Unchecked m) f g = absurd g
+  yes_is n (Learned h r) f g = absurd g
+  yes_is n (Trial tried) f g = absurd g
   yes_is n Usage f g = absurd g
   yes_is n (BadFile r b) f g = absurd g
   yes_is n (FileTooLong r) f g = absurd g
@@ -79,7 +80,8 @@ module _ (p : Pair) (extra : ℕ) where
   no_is v Alphabets f g = absurd (g f.0.0)
   no_is v (Nondeterministic c) f g = absurd (clash_not_nothing (answers_of p.kept) c g.1 f.0.1)
   no_is v (SuiteTooLarge m s) f g = absurd (subst IsNo (same_verdict v (verdict.TooLarge s) f.0 g.0) f.1)
-  no_is v (Unchecked m) f g = absurd g
+  no_is v (Learned h r) f g = absurd g
+  no_is v (Trial tried) f g = absurd g
   no_is v Usage f g = absurd g
   no_is v (BadFile r b) f g = absurd g
   no_is v (FileTooLong r) f g = absurd g
@@ -97,7 +99,8 @@ module _ (p : Pair) (extra : ℕ) where
       let e : verdict.TooLarge s ≡ verdict.TooLarge t = same_verdict (verdict.TooLarge s) (verdict.TooLarge t) f.0 g.0 in
       let same : s ≡ t = cc in
       ap (λ (k : ℕ). SuiteTooLarge k s) (f.1 ∙ sym g.1) ∙ ap (λ (k : ℕ). SuiteTooLarge m k) same
-  suite_is n s (Unchecked m) f g = absurd g
+  suite_is n s (Learned h r) f g = absurd g
+  suite_is n s (Trial tried) f g = absurd g
   suite_is n s Usage f g = absurd g
   suite_is n s (BadFile r b) f g = absurd g
   suite_is n s (FileTooLong r) f g = absurd g
@@ -112,7 +115,8 @@ module _ (p : Pair) (extra : ℕ) where
   other_names_is Alphabets f g = refl
   other_names_is (Nondeterministic c) f g = absurd (f g.0)
   other_names_is (SuiteTooLarge m t) f g = absurd (f g.0.0)
-  other_names_is (Unchecked m) f g = absurd g
+  other_names_is (Learned h r) f g = absurd g
+  other_names_is (Trial tried) f g = absurd g
   other_names_is Usage f g = absurd g
   other_names_is (BadFile r b) f g = absurd g
   other_names_is (FileTooLong r) f g = absurd g
@@ -127,7 +131,8 @@ module _ (p : Pair) (extra : ℕ) where
   clash_is c Alphabets f g = absurd (g f.0)
   clash_is c (Nondeterministic d) f g = ap (λ (k : Found). Nondeterministic k) (one_clash (answers_of p.kept) c d f.1 g.1)
   clash_is c (SuiteTooLarge m t) f g = absurd (clash_not_nothing (answers_of p.kept) c f.1 g.0.1)
-  clash_is c (Unchecked m) f g = absurd g
+  clash_is c (Learned h r) f g = absurd g
+  clash_is c (Trial tried) f g = absurd g
   clash_is c Usage f g = absurd g
   clash_is c (BadFile r b) f g = absurd g
   clash_is c (FileTooLong r) f g = absurd g
@@ -142,7 +147,8 @@ one_decision p extra (No v) two f g = no_is p extra v two f g
 one_decision p extra Alphabets two f g = other_names_is p extra two f g
 one_decision p extra (Nondeterministic c) two f g = clash_is p extra c two f g
 one_decision p extra (SuiteTooLarge n s) two f g = suite_is p extra n s two f g
-one_decision p extra (Unchecked m) two f g = absurd f
+one_decision p extra (Learned h r) two f g = absurd f
+one_decision p extra (Trial tried) two f g = absurd f
 one_decision p extra Usage two f g = absurd f
 one_decision p extra (BadFile r b) two f g = absurd f
 one_decision p extra (FileTooLong r) two f g = absurd f

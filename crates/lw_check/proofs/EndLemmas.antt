@@ -17,7 +17,7 @@ use Rattle.lw_report.specs.Text.{text_of}
 use Rattle.lw_report.specs.Writing.{TakesSome}
 use Rattle.lw_report.specs.declared.role.Role.TheVariants as role
 use Rattle.lw_report.specs.declared.outcome.Outcome.{Outcome}
-use Rattle.lw_report.specs.declared.outcome.Outcome.TheVariants.{Unchecked, Yes, No, Usage, BadFile, Alphabets, FileTooLong, Nondeterministic, NoMemory, TooManyStates, SuiteTooLarge, FileFault, SinkFault}
+use Rattle.lw_report.specs.declared.outcome.Outcome.TheVariants.{Learned, Trial, Yes, No, Usage, BadFile, Alphabets, FileTooLong, Nondeterministic, NoMemory, TooManyStates, SuiteTooLarge, FileFault, SinkFault}
 use Rattle.lw_check.specs.Decision.{IsAnswered, IsDecision, Pair, pair_of}
 use Rattle.lw_check.specs.Ending.{ComesTo, DecidesAs}
 use Rattle.lw_report.specs.States.{FilesState, SinkState}
@@ -48,7 +48,8 @@ no_text model answers before now (BadFile role.Table fault) own u = absurd u
 no_text model answers before now (FileTooLong r) own u = absurd own
 no_text model answers before now (FileFault r) own u = absurd own
 no_text model answers before now NoMemory own u = absurd own
-no_text model answers before now (Unchecked t) own u = absurd u
+no_text model answers before now (Learned h r) own u = absurd u
+no_text model answers before now (Trial tried) own u = absurd u
 no_text model answers before now (Yes n) own u = absurd u
 no_text model answers before now (No v) own u = absurd u
 no_text model answers before now Usage own u = absurd u
@@ -99,7 +100,8 @@ exact_unread model answers before now m a decision (FileTooLong role.Setup) u tm
 exact_unread model answers before now m a decision (FileTooLong role.Table) u tm ta = absurd u
 exact_unread model answers before now m a decision (FileFault r) u tm ta = inr (inr (inr (r, refl)))
 exact_unread model answers before now m a decision NoMemory u tm ta = inr (inl refl)
-exact_unread model answers before now m a decision (Unchecked t) u tm ta = absurd u
+exact_unread model answers before now m a decision (Learned h r) u tm ta = absurd u
+exact_unread model answers before now m a decision (Trial tried) u tm ta = absurd u
 exact_unread model answers before now m a decision (Yes n) u tm ta = absurd u
 exact_unread model answers before now m a decision (No v) u tm ta = absurd u
 exact_unread model answers before now m a decision Usage u tm ta = absurd u

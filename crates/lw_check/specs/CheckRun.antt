@@ -9,6 +9,7 @@ use Rattle.lw_certify.specs.Sure.{Sure}
 use Rattle.lw_check.specs.Decision.{IsDecision, Pair, pair_of}
 use Rattle.lw_check.specs.Ending.{DecidesAs, EndsRead, EndsUnread}
 use Rattle.lw_check.specs.Reading.{ReadsPair, TellsFile}
+use Rattle.lw_report.specs.Ends.{IsWithoutLearner}
 use Rattle.lw_report.specs.States.{FilesState, SinkState}
 use Rattle.lw_report.specs.declared.«end».End.{End}
 use Rattle.lw_report.specs.declared.outcome.Outcome.{Outcome}
@@ -17,6 +18,7 @@ use Rattle.lw_report.specs.declared.outcome.Outcome.TheVariants.{Yes}
 -- a call with these arguments found files, `out` and `err` as f, o and e, left them as g, p and d, and came to the end
 pub record IsCheckRun (model answers : List ℕ) (extra : ℕ) (f g : FilesState) (o p : SinkState) (e d : SinkState) (end : End) : Type 0 where
   pub no_model : end.model ≡ None
+  pub no_learner : IsWithoutLearner end
   pub untouched : g.holds ≡ f.holds
   pub ended : EndsUnread model answers f g extra o p e d end.outcome end.kept.answers ⊎ EndsRead model answers f g extra o p e d end.outcome end.kept.answers
   -- where both files are told, the outcome is their one decision, but that memory, a file or a stream may fail

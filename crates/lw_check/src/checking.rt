@@ -14,6 +14,7 @@ ghost use Rattle.lw_check.specs.Reading.{ReadsPair, TellsFile};
 ghost use Rattle.lw_mealy.specs.Limits.{IsWithinLimits};
 ghost use Rattle.lw_certify.specs.Sure.{Sure};
 ghost use Rattle.lw_words.specs.Answer.{answers_of};
+ghost use Rattle.lw_report.specs.Ends.{IsWithoutLearner};
 ghost use Rattle.lw_report.specs.Outcomes.{status_of};
 ghost use Rattle.lw_report.specs.declared.outcome.Outcome.{Outcome as Came};
 
@@ -38,6 +39,7 @@ fn finish<O: Sink, E: Sink>(
     requires few { extra ≤ 4 }
     ensures status { result.status ≡ status_of result.outcome }
     ensures model { result.model ≡ None }
+    ensures learner { IsWithoutLearner result }
     ensures kept { result.kept.answers ≡ answers.kept.answers }
     ensures complete { IsWithinLimits machine.mealy }
     ensures comes { ComesTo (pair_of machine answers) extra
@@ -63,7 +65,7 @@ fn finish<O: Sink, E: Sink>(
     let _states = machine.mealy.states();
     let decision = decide(alloc, &machine, &answers, extra);
     let outcome = tell(alloc, decision, &machine, &answers.kept, extra, out, err);
-    End::new(outcome, None, answers.kept)
+    End::new(outcome, answers.kept)
 }
 
 /// `check MODEL ANSWERS [--extra K]`: whether the answers of a file fix the model of a file among all machines of at most
@@ -81,6 +83,7 @@ pub fn check<F: Files, O: Sink, E: Sink>(
     requires few { extra ≤ 4 }
     ensures status { result.status ≡ status_of result.outcome }
     ensures model { result.model ≡ None }
+    ensures learner { IsWithoutLearner result }
     ensures untouched { F.holds files.new ≡ F.holds files.old }
     ensures ended { EndsUnread model.now answers.now
         (files_state (F.holds files.old) (F.calls files.old) (F.reads files.old)

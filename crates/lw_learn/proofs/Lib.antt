@@ -1,13 +1,3 @@
-pub mod WordEnds
-pub mod AccessRows
-pub mod RowAnswers
-pub mod RowSteps
-pub mod Parts
-pub mod Closed
-pub mod Crowds
-pub mod Hypotheses
-pub mod Numbered
 pub mod ReadLemmas
 pub mod RunLemmas
-pub mod KeptLemmas
 pub mod WriteLemmas

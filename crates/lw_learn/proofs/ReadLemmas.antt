@@ -2,11 +2,12 @@
 use Rattle.std.proofs.Common.{◌≡◌, ℕ, ◌<◌, List, [], ◌∷◌, ◌++◌, length, true, false, Option, Some, None, sym, ◌∙◌, ap, append_assoc, subst, arith}
 use Rattle.std.proofs.lemmas.List.{append_cancel_left}
 use Rattle.lw_json.specs.MachineFile.{IsMachineFile}
+use Rattle.lw_json.proofs.OneValue.{one_value}
 use Rattle.lw_json.specs.declared.fault.JsonFault.{JsonFault}
 use Rattle.lw_json.specs.declared.machine.Machine.{Machine}
 use Rattle.lw_outside.specs.Files.{Call, File, Holds, HoldsLong, file_at, longest_file, noted, read_call}
 use Rattle.lw_learn.specs.Calls.{gained}
-use Rattle.lw_learn.specs.Reading.{Tells, TellsFailed, TellsLong, TellsNoTable, TellsTable, ReadsTable, ReadsNoTable}
+use Rattle.lw_learn.specs.Reading.{Tells, TellsFailed, TellsLong, TellsMachine, TellsNoTable, TellsTable, ReadsTable, ReadsNoTable}
 
 -- a read that was answered isn't told as failed, whatever calls came after it
 other_call : (name : List ℕ) (calls more : List Call) → Some ((calls ++ read_call name false ∷ []) ++ more) ≡ Some (calls ++ read_call name true ∷ []) → ⊥
@@ -41,13 +42,19 @@ bad_not_read holds before now name m told r =
 
 pub table_not_bad : (holds : Option (List File)) (before now : List File) (name : List ℕ) (fault : JsonFault) → TellsTable holds name → ReadsNoTable name holds before now fault → ⊥
 table_not_bad holds before now name fault told r =
-    r.bad told.3.0 (subst (λ (b : List ℕ). IsMachineFile b told.3.0) (told_is_read holds name told.0 r.bytes told.1 r.read.held) told.3.1)
+    r.bad told.0 (subst (λ (b : List ℕ). IsMachineFile b told.0) (told_is_read holds name told.1.0 r.bytes told.1.1 r.read.held) told.1.3)
 
 pub table_not_long : (holds : Option (List File)) (name : List ℕ) → TellsTable holds name → HoldsLong holds name → ⊥
-table_not_long None name told long = absurd told.1
-table_not_long (Some fs) name told long = told.2 (subst (λ (b : List ℕ). longest_file < length b) (sym (same_bytes (file_at name fs) told.0 long.0 told.1 long.1)) long.2)
+table_not_long None name told long = absurd told.1.1
+table_not_long (Some fs) name told long = told.1.2 (subst (λ (b : List ℕ). longest_file < length b) (sym (same_bytes (file_at name fs) told.1.0 long.0 told.1.1 long.1)) long.2)
 
 -- a read that was answered, and then writes
 pub not_failed : (name : List ℕ) (before read now : Option (List Call)) (more : List Call) → read ≡ noted (read_call name false) before → now ≡ gained more read → TellsFailed name before now → ⊥
 not_failed name None read now more one two told = told
 not_failed name (Some calls) read now more one two told = other_call name calls more (sym (two ∙ ap (gained more) one) ∙ told)
+
+-- a machine that is told has as many inputs as the one that was read
+pub told_inputs : (holds : Option (List File)) (before now : List File) (name : List ℕ) (told read : Machine) → TellsMachine holds name told → ReadsTable name holds before now read → length told.inputs ≡ length read.inputs
+told_inputs holds before now name told read tells reads =
+    let bytes : tells.0 ≡ reads.bytes = told_is_read holds name tells.0 reads.bytes tells.1 reads.read.held in
+    ap (λ (l : List (List ℕ)). length l) (one_value reads.bytes told read (subst (λ (b : List ℕ). IsMachineFile b told) bytes tells.3) reads.file).inputs

@@ -1,27 +1,22 @@
 -- Writing out: what the files hold, which calls were made, and what `out` took, by the outcome.
-use Rattle.std.proofs.Common.{◌≡◌, ◌≢◌, ◌∙◌, ◌⊎◌, ℕ, ◌++◌, List, [], ◌∷◌, take, false, Option, Some, None, Result, Ok, Err, OnOk, IsErrAnd, length, inl, inr, refl, sym, subst, ap, append_assoc, append-nil}
+use Rattle.std.proofs.Common.{◌≡◌, ◌≢◌, ◌∙◌, ℕ, ◌++◌, List, [], ◌∷◌, take, false, Option, Some, None, Result, Ok, Err, OnOk, IsErrAnd, length, inl, inr, refl, sym, subst, ap, append_assoc, append-nil}
 use Rattle.lw_words.specs.declared.kept.KeptAnswer.{KeptAnswer}
 use Rattle.lw_mealy.specs.Limits.{MealyMachine}
 use Rattle.lw_json.specs.AnswersText.{IsAnswersText}
-use Rattle.lw_json.specs.declared.fault.JsonFault.{JsonFault}
 use Rattle.lw_json.specs.declared.machine.Machine.{Machine}
-use Rattle.lw_outside.specs.Files.{Call, File, Holds, file_at, noted, read_call}
+use Rattle.lw_outside.specs.Files.{Call, File, Holds, file_at, read_call}
 use Rattle.lw_report.specs.Stops.{tell_outcome}
 use Rattle.lw_report.specs.Text.{text_of}
 use Rattle.lw_report.specs.declared.role.Role.{Role}
-use Rattle.lw_report.specs.declared.role.Role.TheVariants.{Model, Answers}
 use Rattle.lw_report.specs.declared.stops.TellStop.{TellStop}
 use Rattle.lw_report.specs.declared.stops.TellStop.TheVariants.{File as FileStop, Sink, NoMemory as NoMemoryToTell}
 use Rattle.lw_report.specs.declared.outcome.Outcome.{Outcome}
-use Rattle.lw_report.specs.declared.outcome.Outcome.TheVariants.{Unchecked, Yes, No, Usage, BadFile, Alphabets, FileTooLong, Nondeterministic, NoMemory, TooManyStates, SuiteTooLarge, FileFault, SinkFault}
+use Rattle.lw_report.specs.declared.outcome.Outcome.TheVariants.{Learned, Trial, Yes, No, Usage, BadFile, Alphabets, FileTooLong, Nondeterministic, NoMemory, TooManyStates, SuiteTooLarge, FileFault, SinkFault}
 use Rattle.lw_report.proofs.SinkLemmas.{sink_none}
 use Rattle.lw_learn.specs.Arguments.{LearnValues}
-use Rattle.lw_learn.specs.Calls.{MadeCalls, MadeWrites, all_writes, gained, read_of, writes_to}
-use Rattle.lw_learn.specs.Outcomes.{IsTold, told_outcome}
-use Rattle.lw_learn.specs.Stops.{learn_outcome}
+use Rattle.lw_learn.specs.Calls.{MadeWrites, all_writes, gained, read_of, writes_to}
+use Rattle.lw_learn.specs.Outcomes.{IsReadOutcome, told_outcome}
 use Rattle.lw_learn.specs.Writing.{AnswersStand, PutsSome, Stands, StaysBesides, WritesOut}
-use Rattle.lw_learn.specs.declared.first.FirstStop.{FirstStop}
-use Rattle.lw_learn.specs.declared.first.FirstStop.TheVariants.{Crowd, NoMemory as NoMemoryToLearn}
 
 -- calls gained in two steps
 pub gained_twice : (a b : List Call) (first second third : Option (List Call)) → second ≡ gained a first → third ≡ gained b second → third ≡ gained (a ++ b) first
@@ -55,9 +50,9 @@ always (Ok x) p = p
 always (Err e) p = tt
 
 -- an error that is handed on
-pub told_err : {T : Type 0} (model : MealyMachine) (r : Result T TellStop) (stop : TellStop) → IsErrAnd r (λ e. e ≡ stop) → told_outcome model r ≡ tell_outcome stop
-told_err model (Ok x) stop h = absurd h
-told_err model (Err e) stop h = ap tell_outcome h
+pub told_err : {T : Type 0} (model : MealyMachine) (count : ℕ) (r : Result T TellStop) (stop : TellStop) → IsErrAnd r (λ e. e ≡ stop) → told_outcome model count r ≡ tell_outcome stop
+told_err model count (Ok x) stop h = absurd h
+told_err model count (Err e) stop h = ap tell_outcome h
 
 puts_none : (file : Option (List ℕ)) (text : List ℕ) (taken : Option (List ℕ)) → PutsSome file text taken taken
 puts_none None text taken = (0, sink_none taken text)
@@ -79,54 +74,42 @@ pub text_same : (i j o p : List (List ℕ)) (k l : List KeptAnswer) (extra : ℕ
 text_same i j o p k l extra outcome one two three =
     ap (λ (x : List (List ℕ)). text_of x o k extra outcome) one ∙ (ap (λ (x : List (List ℕ)). text_of j x k extra outcome) two ∙ ap (λ (x : List KeptAnswer). text_of j p x extra outcome) three)
 
--- the writes of a call that wrote a model out
-pub some_writes : (a : LearnValues) (model : MealyMachine) (outcome : Outcome) (before now : Option (List Call)) → IsTold model outcome → MadeWrites a outcome before now → (more : List Call) × (now ≡ gained more before)
-some_writes a model (Unchecked h) before now told made = (all_writes a, made)
-some_writes a model SinkFault before now told made = (all_writes a, made)
-some_writes a model (FileFault role) before now told made = (writes_to a role, made)
-some_writes a model NoMemory before now told made = (take made.0 (all_writes a), made.1)
-some_writes a model Usage before now told made = absurd told
-some_writes a model (Yes states) before now told made = absurd told
-some_writes a model (No verdict) before now told made = absurd told
-some_writes a model Alphabets before now told made = absurd told
-some_writes a model (Nondeterministic clash) before now told made = absurd told
-some_writes a model (SuiteTooLarge states number) before now told made = absurd told
-some_writes a model (BadFile role fault) before now told made = absurd told
-some_writes a model (FileTooLong role) before now told made = absurd told
-some_writes a model (TooManyStates words) before now told made = absurd told
+-- the writes of a call that has read the table
+pub some_writes : (a : LearnValues) (outcome : Outcome) (before now : Option (List Call)) → IsReadOutcome a outcome → MadeWrites a outcome before now → (more : List Call) × (now ≡ gained more before)
+some_writes a (Learned h r) before now is made = (all_writes a, made)
+some_writes a SinkFault before now is made = (all_writes a, made)
+some_writes a (FileFault role) before now is made = (writes_to a role, made)
+some_writes a NoMemory before now is made = (take made.0 (all_writes a), made.1)
+some_writes a (TooManyStates words) before now is made = ([], made ∙ gained_none before)
+some_writes a (SuiteTooLarge states number) before now is made = ([], made ∙ gained_none before)
+some_writes a (Trial t) before now is made = absurd is
+some_writes a Usage before now is made = absurd is
+some_writes a (Yes states) before now is made = absurd is
+some_writes a (No verdict) before now is made = absurd is
+some_writes a Alphabets before now is made = absurd is
+some_writes a (Nondeterministic clash) before now is made = absurd is
+some_writes a (BadFile role fault) before now is made = absurd is
+some_writes a (FileTooLong role) before now is made = absurd is
 
-fault_read : (a : LearnValues) (role : Role) → (role ≡ Model) ⊎ (role ≡ Answers) → read_of a (FileFault role) ≡ read_call a.table false
+fault_read : (a : LearnValues) (role : Role) → IsReadOutcome a (FileFault role) → read_of a (FileFault role) ≡ read_call a.table false
 fault_read a role is =
     elim is as (λ _. read_of a (FileFault role) ≡ read_call a.table false) [
-      | inl e ↦ ap (λ (r : Role). read_of a (FileFault r)) e
-      | inr e ↦ ap (λ (r : Role). read_of a (FileFault r)) e
+      | inl e ↦ ap (λ (r : Role). read_of a (FileFault r)) e.0
+      | inr e ↦ ap (λ (r : Role). read_of a (FileFault r)) e.0
     ]
 
-pub told_read : (a : LearnValues) (model : MealyMachine) (outcome : Outcome) → IsTold model outcome → read_of a outcome ≡ read_call a.table false
-told_read a model (Unchecked h) told = refl
-told_read a model SinkFault told = refl
-told_read a model (FileFault role) told = fault_read a role told
-told_read a model NoMemory told = refl
-told_read a model Usage told = absurd told
-told_read a model (Yes states) told = absurd told
-told_read a model (No verdict) told = absurd told
-told_read a model Alphabets told = absurd told
-told_read a model (Nondeterministic clash) told = absurd told
-told_read a model (SuiteTooLarge states number) told = absurd told
-told_read a model (BadFile role fault) told = absurd told
-told_read a model (FileTooLong role) told = absurd told
-told_read a model (TooManyStates words) told = absurd told
-
--- the calls of a learning that was stopped
-pub stopped_calls : (a : LearnValues) (stop : FirstStop) (before now : Option (List Call)) → now ≡ noted (read_call a.table false) before → MadeCalls a (learn_outcome stop) before now
-stopped_calls a (Crowd words) before now is = inr is
-stopped_calls a NoMemoryToLearn before now is = inr (0, is ∙ gained_none (noted (read_call a.table false) before))
-
--- a learning that was stopped has read the table
-pub learned_no_bad : (stop : FirstStop) (role : Role) (fault : JsonFault) → learn_outcome stop ≡ BadFile role fault → ⊥
-learned_no_bad (Crowd words) role fault is = cc
-learned_no_bad NoMemoryToLearn role fault is = cc
-
-pub learned_no_long : (stop : FirstStop) (role : Role) → learn_outcome stop ≡ FileTooLong role → ⊥
-learned_no_long (Crowd words) role is = cc
-learned_no_long NoMemoryToLearn role is = cc
+pub told_read : (a : LearnValues) (outcome : Outcome) → IsReadOutcome a outcome → read_of a outcome ≡ read_call a.table false
+told_read a (Learned h r) is = refl
+told_read a SinkFault is = refl
+told_read a (FileFault role) is = fault_read a role is
+told_read a NoMemory is = refl
+told_read a (TooManyStates words) is = refl
+told_read a (SuiteTooLarge states number) is = refl
+told_read a (Trial t) is = absurd is
+told_read a Usage is = absurd is
+told_read a (Yes states) is = absurd is
+told_read a (No verdict) is = absurd is
+told_read a Alphabets is = absurd is
+told_read a (Nondeterministic clash) is = absurd is
+told_read a (BadFile role fault) is = absurd is
+told_read a (FileTooLong role) is = absurd is

@@ -1,9 +1,10 @@
 -- The values of the arguments of `learn`, as contracts see them.
 use Rattle.std.specs.Prelude.{ℕ, ◌≤◌, List, Option}
 
--- the table file, the extra states, the greatest number of states, the file for the model and that for the answers
+-- the table file, the number of instances, the extra states, the greatest number of states, the file for the model and that for the answers
 pub record LearnValues : Type 0 where
   pub table : List ℕ
+  pub workers : ℕ
   pub extra : ℕ
   pub max_states : ℕ
   pub model : Option (List ℕ)
@@ -11,6 +12,8 @@ pub record LearnValues : Type 0 where
 
 -- within their limits
 pub record AreWithinLimits (v : LearnValues) : Type 0 where
+  pub some_worker : 1 ≤ v.workers
+  pub few_workers : v.workers ≤ 16
   pub extra : v.extra ≤ 4
   pub some_state : 1 ≤ v.max_states
   pub few_states : v.max_states ≤ 1024

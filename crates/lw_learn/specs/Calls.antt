@@ -4,7 +4,7 @@ use Rattle.std.specs.Prelude.{◌≡◌, ◌⊎◌, ℕ, List, [], ◌∷◌, �
 use Rattle.lw_learn.specs.Arguments.{LearnValues}
 use Rattle.lw_outside.specs.Files.{Call, noted, read_call, write_call}
 use Rattle.lw_report.specs.declared.outcome.Outcome.{Outcome}
-use Rattle.lw_report.specs.declared.outcome.Outcome.TheVariants.{Unchecked, NoMemory, FileFault, SinkFault}
+use Rattle.lw_report.specs.declared.outcome.Outcome.TheVariants.{Learned, NoMemory, FileFault, SinkFault}
 use Rattle.lw_report.specs.declared.role.Role.{Role}
 use Rattle.lw_report.specs.declared.role.Role.TheVariants.{Setup, Table, Model, Answers}
 
@@ -30,7 +30,7 @@ gained more calls = option_map (λ cs. cs ++ more) calls
 
 -- the writes of a call of `learn` that came to the outcome
 abbrev pub MadeWrites : LearnValues → Outcome → Option (List Call) → Option (List Call) → Type 0
-MadeWrites a (Unchecked model) before now = now ≡ gained (all_writes a) before
+MadeWrites a (Learned model refinements) before now = now ≡ gained (all_writes a) before
 MadeWrites a SinkFault before now = now ≡ gained (all_writes a) before
 MadeWrites a (FileFault role) before now = now ≡ gained (writes_to a role) before
 MadeWrites a NoMemory before now = (n : ℕ) × (now ≡ gained (take n (all_writes a)) before)

@@ -1,11 +1,6 @@
 pub mod Arguments
 pub mod Calls
-pub mod Hypothesis
-pub mod Kept
 pub mod LearnRun
 pub mod Outcomes
-pub mod PartialTable
 pub mod Reading
-pub mod RowRuns
-pub mod Stops
 pub mod Writing

@@ -1,11 +1,11 @@
 -- Which outcomes of `learn` may come when.
-use Rattle.std.specs.Prelude.{◌≡◌, ◌⊎◌, is_some, true, Result, Ok, Err}
+use Rattle.std.specs.Prelude.{◌≡◌, ◌⊎◌, ℕ, ◌<◌, is_some, true, Result, Ok, Err}
 use Rattle.lw_mealy.specs.Limits.{MealyMachine}
 use Rattle.lw_learn.specs.Arguments.{LearnValues}
 use Rattle.lw_report.specs.Stops.{tell_outcome}
 use Rattle.lw_report.specs.declared.stops.TellStop.{TellStop}
 use Rattle.lw_report.specs.declared.outcome.Outcome.{Outcome}
-use Rattle.lw_report.specs.declared.outcome.Outcome.TheVariants.{Unchecked, BadFile, FileTooLong, NoMemory, TooManyStates, FileFault, SinkFault}
+use Rattle.lw_report.specs.declared.outcome.Outcome.TheVariants.{Learned, BadFile, FileTooLong, NoMemory, SuiteTooLarge, TooManyStates, FileFault, SinkFault}
 use Rattle.lw_report.specs.declared.role.Role.{Role}
 use Rattle.lw_report.specs.declared.role.Role.TheVariants.{Setup, Table, Model, Answers}
 
@@ -18,8 +18,9 @@ HasRole a Answers = is_some a.answers ≡ true
 
 -- a machine's file is read and nothing outside failed
 abbrev pub IsUntroubled : Outcome → Type 0
-IsUntroubled (Unchecked model) = Unit {0}
+IsUntroubled (Learned model refinements) = Unit {0}
 IsUntroubled (TooManyStates words) = Unit {0}
+IsUntroubled (SuiteTooLarge states number) = Unit {0}
 IsUntroubled NoMemory = Unit {0}
 IsUntroubled _ = ⊥
 
@@ -39,27 +40,27 @@ IsUnread (FileFault role) = role ≡ Table
 IsUnread _ = ⊥
 
 -- what writing a model out comes to
-abbrev pub IsTold : MealyMachine → Outcome → Type 0
-IsTold model (Unchecked told) = told ≡ model
-IsTold model NoMemory = Unit {0}
-IsTold model (FileFault role) = (role ≡ Model) ⊎ (role ≡ Answers)
-IsTold model SinkFault = Unit {0}
-IsTold model _ = ⊥
+abbrev pub IsTold : MealyMachine → ℕ → Outcome → Type 0
+IsTold model refinements (Learned told count) = (told ≡ model) × (count ≡ refinements)
+IsTold model refinements NoMemory = Unit {0}
+IsTold model refinements (FileFault role) = (role ≡ Model) ⊎ (role ≡ Answers)
+IsTold model refinements SinkFault = Unit {0}
+IsTold model refinements _ = ⊥
 
 -- what came of writing the model out
-abbrev pub told_outcome : {T : Type 0} → MealyMachine → Result T TellStop → Outcome
-told_outcome model (Ok done) = Unchecked model
-told_outcome model (Err stop) = tell_outcome stop
+abbrev pub told_outcome : {T : Type 0} → MealyMachine → ℕ → Result T TellStop → Outcome
+told_outcome model refinements (Ok done) = Learned model refinements
+told_outcome model refinements (Err stop) = tell_outcome stop
 
 -- the outcome of a call whose files were all written
 abbrev pub HasFiles : Outcome → Type 0
-HasFiles (Unchecked model) = Unit {0}
+HasFiles (Learned model refinements) = Unit {0}
 HasFiles SinkFault = Unit {0}
 HasFiles _ = ⊥
 
 -- the outcome of a call whose model file, if it names one, was written
 abbrev pub HasModelFile : Outcome → Type 0
-HasModelFile (Unchecked model) = Unit {0}
+HasModelFile (Learned model refinements) = Unit {0}
 HasModelFile SinkFault = Unit {0}
 HasModelFile (FileFault role) = role ≡ Answers
 HasModelFile _ = ⊥
@@ -77,6 +78,34 @@ IsBeforeOut (FileFault role) = Unit {0}
 IsBeforeOut _ = ⊥
 
 -- the model is told
-abbrev pub IsUnchecked : Outcome → Type 0
-IsUnchecked (Unchecked model) = Unit {0}
-IsUnchecked _ = ⊥
+abbrev pub IsLearnedOutcome : Outcome → Type 0
+IsLearnedOutcome (Learned model refinements) = Unit {0}
+IsLearnedOutcome _ = ⊥
+
+-- a model is told that came within fewer than n refinements, or memory ran out
+abbrev pub IsReachedOutcome : ℕ → Outcome → Type 0
+IsReachedOutcome n (Learned model refinements) = refinements < n
+IsReachedOutcome n NoMemory = Unit {0}
+IsReachedOutcome n _ = ⊥
+
+-- what a learning of a machine that was read comes to
+abbrev pub IsReadOutcome : LearnValues → Outcome → Type 0
+IsReadOutcome a (Learned model refinements) = Unit {0}
+IsReadOutcome a NoMemory = Unit {0}
+IsReadOutcome a (TooManyStates words) = Unit {0}
+IsReadOutcome a (SuiteTooLarge states number) = Unit {0}
+IsReadOutcome a (FileFault role) = ((role ≡ Model) × (is_some a.model ≡ true)) ⊎ ((role ≡ Answers) × (is_some a.answers ≡ true))
+IsReadOutcome a SinkFault = Unit {0}
+IsReadOutcome a _ = ⊥
+
+-- what `learn` comes to: no two answers of a table clash
+abbrev pub IsLearnOutcome : Outcome → Type 0
+IsLearnOutcome (Learned model refinements) = Unit {0}
+IsLearnOutcome (BadFile role fault) = Unit {0}
+IsLearnOutcome (FileTooLong role) = Unit {0}
+IsLearnOutcome NoMemory = Unit {0}
+IsLearnOutcome (TooManyStates words) = Unit {0}
+IsLearnOutcome (SuiteTooLarge states number) = Unit {0}
+IsLearnOutcome (FileFault role) = Unit {0}
+IsLearnOutcome SinkFault = Unit {0}
+IsLearnOutcome _ = ⊥

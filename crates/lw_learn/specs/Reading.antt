@@ -20,9 +20,13 @@ abbrev pub Tells : Option (List File) → List ℕ → List ℕ → Type 0
 Tells None name bytes = ⊥
 Tells (Some fs) name bytes = file_at name fs ≡ Some bytes
 
+-- it is told that this machine's file stands under the name, which is not too long
+abbrev pub TellsMachine : Option (List File) → List ℕ → Machine → Type 0
+TellsMachine holds name m = (bytes : List ℕ) × Tells holds name bytes × (¬ (longest_file < length bytes)) × IsMachineFile bytes m
+
 -- it is told that a machine's file stands under the name, which is not too long
 abbrev pub TellsTable : Option (List File) → List ℕ → Type 0
-TellsTable holds name = (bytes : List ℕ) × Tells holds name bytes × (¬ (longest_file < length bytes)) × ((m : Machine) × IsMachineFile bytes m)
+TellsTable holds name = (m : Machine) × TellsMachine holds name m
 
 -- it is told that the file of no machine stands under the name
 abbrev pub TellsNoTable : Option (List File) → List ℕ → Type 0

@@ -8,11 +8,11 @@ use Rattle.lw_json.specs.MachineText.{written_text}
 use Rattle.lw_json.specs.declared.machine.Machine.{Machine}
 use Rattle.lw_learn.specs.Arguments.{LearnValues}
 use Rattle.lw_learn.specs.Calls.{MadeWrites}
-use Rattle.lw_learn.specs.Outcomes.{HasFiles, HasModelFile, IsBeforeOut, IsUnchecked}
+use Rattle.lw_learn.specs.Outcomes.{HasFiles, HasModelFile, IsBeforeOut, IsLearnedOutcome}
 use Rattle.lw_outside.specs.Files.{Call, File, Holds, file_at}
 use Rattle.lw_report.specs.Writing.{TakesAll, TakesSome, said_text}
 use Rattle.lw_report.specs.declared.outcome.Outcome.{Outcome}
-use Rattle.lw_report.specs.declared.outcome.Outcome.TheVariants.{SinkFault, TooManyStates, Unchecked}
+use Rattle.lw_report.specs.declared.outcome.Outcome.TheVariants.{SinkFault, TooManyStates, Learned}
 
 -- the text goes to the stream where no file is named for it, and nothing does where one is
 abbrev pub PutsAll : Option (List ℕ) → List ℕ → Option (List ℕ) → Option (List ℕ) → Type 0
@@ -43,7 +43,7 @@ pub record WritesFiles (a : LearnValues) (m : Machine) (kept : List KeptAnswer) 
 -- what became of the text that goes to `out` where no file is named for it, by the outcome: all of it was put where the model
 -- is told, and where `out` counted no fault though a stream did; some in any case; none where the files weren't written
 pub record WritesOut (file : Option (List ℕ)) (text : List ℕ) (outcome : Outcome) (taken : Option (List ℕ) × Option (List ℕ)) (faults : ℕ × ℕ) : Type 0 where
-  pub told : IsUnchecked outcome → PutsAll file text taken.0 taken.1
+  pub told : IsLearnedOutcome outcome → PutsAll file text taken.0 taken.1
   pub whole : outcome ≡ SinkFault → ¬ CountedFault faults.0 faults.1 → PutsAll file text taken.0 taken.1
   pub part : PutsSome file text taken.0 taken.1
   pub before : IsBeforeOut outcome → taken.1 ≡ taken.0
@@ -76,9 +76,9 @@ abbrev pub HasNames : Outcome → Option Machine → Type 0
 HasNames outcome table = (words : List (List ℕ)) → outcome ≡ TooManyStates words → IsSome table
 
 -- the line about a model
-abbrev pub line_of : Option Machine → List KeptAnswer → ℕ → Option MealyMachine → List ℕ
-line_of table kept extra None = []
-line_of table kept extra (Some h) = said_text (inputs_of table) (outputs_of table) kept extra (Unchecked h)
+abbrev pub line_of : Option Machine → List KeptAnswer → ℕ → Option MealyMachine → ℕ → List ℕ
+line_of table kept extra None refinements = []
+line_of table kept extra (Some h) refinements = said_text (inputs_of table) (outputs_of table) kept extra (Learned h refinements)
 
 -- one text was taken in part, then the other
 pub record TakesInTurn (first second : List ℕ) (before now : Option (List ℕ)) : Type 0 where

@@ -3,11 +3,12 @@ ghost use Rattle.std.specs.Prelude.{◌≡◌, ◌≤◌, option_map, string_byt
 
 use std::marker::Model;
 
-/// The values of the arguments of `learn`: the table file, the extra states, the greatest number of states, and the files for
-/// the model and for the answers, where these are to be written.
+/// The values of the arguments of `learn`: the table file, the number of its instances, the extra states, the greatest number
+/// of states, and the files for the model and for the answers, where these are to be written.
 #[derive(Drop)]
 pub struct LearnArguments {
     table: String,
+    workers: u8,
     extra: u8,
     max_states: u16,
     model: Option<String>,
@@ -22,6 +23,7 @@ impl Model for LearnArguments {
 
     ghost view = { λ a. record {
       table = string_bytes a.table;
+      workers = a.workers;
       extra = a.extra;
       max_states = a.max_states;
       model = option_map (λ s. string_bytes s) a.model;
@@ -30,6 +32,7 @@ impl Model for LearnArguments {
 
     ghost invariant = { λ a. AreWithinLimits (record {
       table = string_bytes a.table;
+      workers = a.workers;
       extra = a.extra;
       max_states = a.max_states;
       model = option_map (λ s. string_bytes s) a.model;
@@ -41,15 +44,18 @@ impl LearnArguments {
     /// These values, which are within their limits.
     pub fn new(
         table: String,
+        workers: u8,
         extra: u8,
         max_states: u16,
         model: Option<String>,
         answers: Option<String>,
     ) -> LearnArguments
+        requires workers { (1 ≤ workers) × (workers ≤ 16) }
         requires extra { extra ≤ 4 }
         requires max_states { (1 ≤ max_states) × (max_states ≤ 1024) }
         ensures { result ≡ record {
           table = string_bytes table;
+          workers = workers;
           extra = extra;
           max_states = max_states;
           model = option_map (λ s. string_bytes s) model;
@@ -58,6 +64,7 @@ impl LearnArguments {
     {
         LearnArguments {
             table,
+            workers,
             extra,
             max_states,
             model,
@@ -71,8 +78,16 @@ impl LearnArguments {
         self.table.as_str()
     }
 
+    pub fn workers(&self) -> u8
+        ensures value { result ≡ self.now.workers }
+        ensures limits { (1 ≤ result) × (result ≤ 16) }
+    {
+        self.workers
+    }
+
     pub fn extra(&self) -> u8
-        ensures { result ≡ self.now.extra }
+        ensures value { result ≡ self.now.extra }
+        ensures limit { result ≤ 4 }
     {
         self.extra
     }

@@ -3,15 +3,10 @@
 
 mod arguments;
 mod command;
-mod first;
-mod learning;
-mod stops;
-mod table_session;
 mod writing;
 
 pub use arguments::LearnArguments;
 pub use command::learn;
-pub use first::{FirstStop, first_table};
 
 #[cfg(test)]
 mod tests;

@@ -11,7 +11,7 @@ ghost use Rattle.lw_report.specs.declared.role.Role.TheVariants.{Answers as Answ
 ghost use Rattle.lw_report.specs.declared.stops.TellStop.{TellStop as Stop};
 ghost use Rattle.lw_report.specs.declared.outcome.Outcome.{Outcome as Came};
 ghost use Rattle.lw_learn.specs.Calls.{all_writes, gained, write_of};
-ghost use Rattle.lw_learn.specs.Outcomes.{IsTold, IsUnchecked, told_outcome};
+ghost use Rattle.lw_learn.specs.Outcomes.{IsTold, IsLearnedOutcome, told_outcome};
 ghost use Rattle.lw_learn.specs.Writing.{PutsAll, PutsSome, Stands, StaysBesides, TakesInTurn, WritesFiles, WritesOut};
 
 use crate::LearnArguments;
@@ -189,6 +189,7 @@ fn write_model<F: Files, O: Sink, E: Sink>(
     alloc: Global,
     arguments: &LearnArguments,
     machine: &Machine,
+    refinements: u32,
     kept: &Kept,
     files: &mut F,
     out: &mut O,
@@ -196,12 +197,12 @@ fn write_model<F: Files, O: Sink, E: Sink>(
 ) -> Result<Outcome, TellStop>
     requires over { AreKeptOver (length machine.now.inputs) (length machine.now.outputs)
         kept.now.answers }
-    ensures ok { IfOk result (λ o. o ≡ Came.Unchecked machine.now.mealy) }
+    ensures ok { IfOk result (λ o. o ≡ Came.Learned machine.now.mealy refinements) }
     ensures files { WritesFiles arguments.now machine.now kept.now.answers
-        (told_outcome machine.now.mealy result) (F.holds files.new)
+        (told_outcome machine.now.mealy refinements result) (F.holds files.new)
         (F.calls files.old, F.calls files.new) }
     ensures out { WritesOut arguments.now.model (written_text machine.now)
-        (told_outcome machine.now.mealy result) (O.taken out.old, O.taken out.new)
+        (told_outcome machine.now.mealy refinements result) (O.taken out.old, O.taken out.new)
         (O.faults out.old, O.faults out.new) }
     ensures beside { StaysBesides arguments.now.model arguments.now.answers (F.holds files.old)
         (F.holds files.new) }
@@ -213,10 +214,10 @@ fn write_model<F: Files, O: Sink, E: Sink>(
     ensures refused { result ≡ Err Stop.Sink → CountedFault (O.faults out.old) (O.faults out.new) ⊎
         CountedFault (E.faults err.old) (E.faults err.new) }
     ensures line { OnOk result (TakesAll (text_of machine.now.inputs machine.now.outputs
-        kept.now.answers arguments.now.extra (Came.Unchecked machine.now.mealy)) (E.taken err.old)
+        kept.now.answers arguments.now.extra (Came.Learned machine.now.mealy refinements)) (E.taken err.old)
         (E.taken err.new)) }
     ensures line_part { TakesSome (text_of machine.now.inputs machine.now.outputs kept.now.answers
-        arguments.now.extra (Came.Unchecked machine.now.mealy)) (E.taken err.old)
+        arguments.now.extra (Came.Learned machine.now.mealy refinements)) (E.taken err.old)
         (E.taken err.new) }
     ensures unsaid { OnErr result (¬ CountedFault (E.faults err.old) (E.faults err.new) →
         E.taken err.new ≡ E.taken err.old) }
@@ -226,8 +227,9 @@ fn write_model<F: Files, O: Sink, E: Sink>(
     ensures counts { (F.faults files.old ≤ F.faults files.new) ×
         (O.faults out.old ≤ O.faults out.new) × (E.faults err.old ≤ E.faults err.new) }
 {
-    let outcome = Outcome::Unchecked {
+    let outcome = Outcome::Learned {
         model: machine.mealy.copy()?,
+        refinements,
     };
     let texts = texts_of(alloc, arguments, machine, kept, &outcome)?;
     write_files(files, arguments, &texts)?;
@@ -240,6 +242,7 @@ pub(crate) fn tell_model<F: Files, O: Sink, E: Sink>(
     alloc: Global,
     arguments: &LearnArguments,
     machine: &Machine,
+    refinements: u32,
     kept: &Kept,
     files: &mut F,
     out: &mut O,
@@ -247,7 +250,7 @@ pub(crate) fn tell_model<F: Files, O: Sink, E: Sink>(
 ) -> Outcome
     requires over { AreKeptOver (length machine.now.inputs) (length machine.now.outputs)
         kept.now.answers }
-    ensures outcome { IsTold machine.now.mealy result }
+    ensures outcome { IsTold machine.now.mealy refinements result }
     ensures files { WritesFiles arguments.now machine.now kept.now.answers result
         (F.holds files.new) (F.calls files.old, F.calls files.new) }
     ensures out { WritesOut arguments.now.model (written_text machine.now) result
@@ -265,16 +268,25 @@ pub(crate) fn tell_model<F: Files, O: Sink, E: Sink>(
         TakesAll (text_of machine.now.inputs machine.now.outputs kept.now.answers
         arguments.now.extra result) (E.taken err.old) (E.taken err.new) }
     ensures part { TakesInTurn (text_of machine.now.inputs machine.now.outputs kept.now.answers
-        arguments.now.extra (Came.Unchecked machine.now.mealy))
+        arguments.now.extra (Came.Learned machine.now.mealy refinements))
         (text_of machine.now.inputs machine.now.outputs kept.now.answers arguments.now.extra result)
         (E.taken err.old) (E.taken err.new) }
     ensures reads { F.reads files.new ≡ F.reads files.old }
-    ensures quiet { IsUnchecked result → (F.faults files.new ≡ F.faults files.old) ×
+    ensures quiet { IsLearnedOutcome result → (F.faults files.new ≡ F.faults files.old) ×
         (O.faults out.new ≡ O.faults out.old) × (E.faults err.new ≡ E.faults err.old) }
     ensures counts { (F.faults files.old ≤ F.faults files.new) ×
         (O.faults out.old ≤ O.faults out.new) × (E.faults err.old ≤ E.faults err.new) }
 {
-    match write_model(alloc, arguments, machine, kept, files, out, err) {
+    match write_model(
+        alloc,
+        arguments,
+        machine,
+        refinements,
+        kept,
+        files,
+        out,
+        err,
+    ) {
         Ok(outcome) => outcome,
         Err(stop) => say(
             alloc,

@@ -29,6 +29,7 @@ fn main(rt: HostRuntime) -> ExitCode {
     let mut err = Stream::new(rt.stderr());
     let end = match arguments(&rt) {
         Ok(arguments) => run(
+            rt,
             alloc,
             &arguments,
             &mut RealFiles::new(rt),

@@ -1,3 +1,5 @@
+pub mod Ends
+pub mod Learnings
 pub mod Outcomes
 pub mod Reading
 pub mod Reasons

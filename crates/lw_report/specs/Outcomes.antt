@@ -1,10 +1,11 @@
 -- The exit status of each outcome, and which outcomes may come when.
 use Rattle.std.specs.Prelude.{◌≡◌, ◌⊎◌, ℕ}
 use Rattle.lw_report.specs.declared.outcome.Outcome.{Outcome}
-use Rattle.lw_report.specs.declared.outcome.Outcome.TheVariants.{Unchecked, Yes, No, Usage, BadFile, Alphabets, FileTooLong, Nondeterministic, NoMemory, TooManyStates, SuiteTooLarge, FileFault, SinkFault}
+use Rattle.lw_report.specs.declared.outcome.Outcome.TheVariants.{Learned, Trial, Yes, No, Usage, BadFile, Alphabets, FileTooLong, Nondeterministic, NoMemory, TooManyStates, SuiteTooLarge, FileFault, SinkFault}
 
 abbrev pub status_of : Outcome → ℕ
-status_of (Unchecked model) = 0
+status_of (Learned model refinements) = 0
+status_of (Trial tried) = 0
 status_of (Yes states) = 0
 status_of (No verdict) = 1
 status_of Usage = 2
@@ -20,7 +21,8 @@ status_of SinkFault = 8
 
 -- making its text takes memory
 abbrev pub HasOwnText : Outcome → Type 0
-HasOwnText (Unchecked model) = Unit {0}
+HasOwnText (Learned model refinements) = Unit {0}
+HasOwnText (Trial tried) = Unit {0}
 HasOwnText (Yes states) = Unit {0}
 HasOwnText (No verdict) = Unit {0}
 HasOwnText (BadFile role fault) = Unit {0}

@@ -1,6 +1,6 @@
 -- The text of each outcome, which ends in a line feed: a function of the outcome, of the names of the inputs and outputs, of
 -- the kept answers and of the number of extra states.
-use Rattle.std.specs.Prelude.{ℕ, List, [], ◌++◌, length, codes, slice_index_or, slice_get, Option, Some, None}
+use Rattle.std.specs.Prelude.{ℕ, Bool, List, [], ◌++◌, length, codes, slice_index_or, slice_get, if◌then◌else◌, Option, Some, None}
 use Rattle.std.specs.Fmt.{decimal}
 use Rattle.std.specs.List.{flat_map, join_by}
 use Rattle.lw_words.specs.declared.kept.KeptAnswer.{KeptAnswer}
@@ -9,7 +9,8 @@ use Rattle.lw_certify.specs.declared.verdict.Verdict.{Verdict}
 use Rattle.lw_certify.specs.declared.verdict.Verdict.TheVariants as verdict
 use Rattle.lw_report.specs.Reasons.{reason_of, role_name}
 use Rattle.lw_report.specs.declared.outcome.Outcome.{Outcome}
-use Rattle.lw_report.specs.declared.outcome.Outcome.TheVariants.{Unchecked, Yes, No, Usage, BadFile, Alphabets, FileTooLong, Nondeterministic, NoMemory, TooManyStates, SuiteTooLarge, FileFault, SinkFault}
+use Rattle.lw_report.specs.declared.outcome.Tried.{Tried}
+use Rattle.lw_report.specs.declared.outcome.Outcome.TheVariants.{Learned, Trial, Yes, No, Usage, BadFile, Alphabets, FileTooLong, Nondeterministic, NoMemory, TooManyStates, SuiteTooLarge, FileFault, SinkFault}
 
 -- the name of a letter
 abbrev pub name_of : List (List ℕ) → ℕ → List ℕ
@@ -19,9 +20,24 @@ name_of names x = slice_index_or names x []
 abbrev pub word_line : List (List ℕ) → List ℕ → List ℕ
 word_line names w = codes "\"" ++ (join_by (name_of names) (codes " ") w ++ codes "\"\n")
 
--- a model's number of states, and the number of kept answers
-abbrev pub unchecked_line : ℕ → ℕ → List ℕ
-unchecked_line states answers = codes "unchecked: states " ++ (decimal states ++ (codes ", answers " ++ (decimal answers ++ codes "\n")))
+-- a model's number of states, how often its learner was refined, the extra states, and the number of kept answers
+abbrev pub learned_line : (states refinements extra answers : ℕ) → List ℕ
+learned_line states refinements extra answers =
+    codes "learned: states " ++ (decimal states ++ (codes ", refinements " ++ (decimal refinements ++ (codes ", extra " ++ (decimal extra ++ (codes ", answers " ++ (decimal answers ++ codes "\n")))))))
+
+-- the machine that was drawn, what was learned, and whether that is the machine
+abbrev pub drawn_line : (states inputs seed : ℕ) → List ℕ
+drawn_line states inputs seed = codes "trial: states " ++ (decimal states ++ (codes ", inputs " ++ (decimal inputs ++ (codes ", seed " ++ (decimal seed ++ codes "\n")))))
+
+abbrev pub found_line : (states refinements answers : ℕ) → List ℕ
+found_line states refinements answers =
+    codes "learned: states " ++ (decimal states ++ (codes ", refinements " ++ (decimal refinements ++ (codes ", answers " ++ (decimal answers ++ codes "\n")))))
+
+abbrev pub equal_line : Bool → List ℕ
+equal_line equal = if equal then codes "equal: yes\n" else codes "equal: no\n"
+
+abbrev pub trial_lines : Tried → List ℕ
+trial_lines t = drawn_line t.states t.inputs t.seed ++ (found_line t.learned t.refinements t.answers ++ equal_line t.equal)
 
 -- the number of words that are pairwise apart, and each of them
 abbrev pub crowd_lines : List (List ℕ) → List (List ℕ) → List ℕ
@@ -71,7 +87,8 @@ suite_line states extra number = codes "suite too large: states " ++ (decimal st
 
 -- the text of the outcome
 abbrev pub text_of : List (List ℕ) → List (List ℕ) → List KeptAnswer → ℕ → Outcome → List ℕ
-text_of inputs outputs kept extra (Unchecked model) = unchecked_line (length model.rows) (length kept)
+text_of inputs outputs kept extra (Learned model refinements) = learned_line (length model.rows) refinements extra (length kept)
+text_of inputs outputs kept extra (Trial tried) = trial_lines tried
 text_of inputs outputs kept extra (Yes states) = yes_line states extra (length kept)
 text_of inputs outputs kept extra (No v) = no_line inputs v
 text_of inputs outputs kept extra Usage = usage_lines

@@ -1,38 +1,67 @@
 //! The end of a call of the program.
-ghost use Rattle.std.specs.Prelude.{◌≡◌, ◌≤◌, None, option_map};
+ghost use Rattle.std.specs.Prelude.{◌≡◌, ◌≤◌, None, Some, option_map};
 ghost use Rattle.lw_words.specs.Cause.{CountedFault};
+ghost use Rattle.lw_report.specs.Ends.{IsWithoutLearner};
 ghost use Rattle.lw_report.specs.Outcomes.{StandsOrWants, status_of};
 ghost use Rattle.lw_report.specs.Writing.{TakesAll, TakesSome, said_text};
 
 use crate::{Outcome, say, status};
 use lw_mealy::Mealy;
 use lw_outside::Sink;
+use lw_rounds::Learned;
+use lw_table::ObservationTable;
 use lw_words::{Kept, Names};
 use std::alloc::Global;
 
-/// The end of a call of the program: what it came to with its exit status, the model where there is one, also where a later
-/// write failed, and the kept answers.
+/// The end of a call of the program: what it came to with its exit status; the model where there is one, also where a later
+/// write failed, with the table that it was read off and how often that was refined; and the kept answers.
 #[derive(Drop)]
 pub struct End {
     pub outcome: Outcome,
     pub status: u8,
     pub model: Option<Mealy>,
     pub kept: Kept,
+    pub refinements: u32,
+    pub table: Option<ObservationTable>,
 }
 
 impl End {
-    /// The end in this outcome.
-    pub fn new(outcome: Outcome, model: Option<Mealy>, kept: Kept) -> End
+    /// The end in this outcome, without a model.
+    pub fn new(outcome: Outcome, kept: Kept) -> End
         ensures outcome { result.outcome ≡ outcome }
         ensures status { result.status ≡ status_of outcome }
-        ensures model { result.model ≡ model }
+        ensures model { result.model ≡ None }
+        ensures learner { IsWithoutLearner result }
         ensures kept { result.kept ≡ kept }
     {
         End {
             status: status(&outcome),
             outcome,
-            model,
+            model: None,
             kept,
+            refinements: 0,
+            table: None,
+        }
+    }
+
+    /// The end in this outcome, with what was learned.
+    pub fn with_model(outcome: Outcome, learned: Learned, kept: Kept) -> End
+        ensures outcome { result.outcome ≡ outcome }
+        ensures status { result.status ≡ status_of outcome }
+        ensures model { result.model ≡ Some learned.model }
+        ensures table { result.table ≡ Some learned.table }
+        ensures refinements { result.refinements ≡ learned.table.refinements }
+        ensures kept { result.kept ≡ kept }
+    {
+        let refinements = learned.refinements();
+        let Learned { model, table } = learned;
+        End {
+            status: status(&outcome),
+            outcome,
+            model: Some(model),
+            kept,
+            refinements,
+            table: Some(table),
         }
     }
 }
@@ -50,6 +79,7 @@ pub fn refuse<E: Sink>(
     ensures outcome { StandsOrWants outcome result.outcome }
     ensures status { result.status ≡ status_of result.outcome }
     ensures model { result.model ≡ None }
+    ensures learner { IsWithoutLearner result }
     ensures kept { result.kept ≡ kept }
     ensures said { ¬ CountedFault (E.faults err.old) (E.faults err.new) →
         TakesAll (said_text (option_map (λ n. n.now) inputs.entry)
@@ -61,5 +91,5 @@ pub fn refuse<E: Sink>(
     ensures counts { E.faults err.old ≤ E.faults err.new }
 {
     let outcome = say(alloc, outcome, inputs, outputs, &kept, extra, err);
-    End::new(outcome, None, kept)
+    End::new(outcome, kept)
 }

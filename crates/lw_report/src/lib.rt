@@ -8,14 +8,15 @@ mod reasons;
 mod role;
 mod stops;
 mod texts;
+mod tried_text;
 mod verdict_texts;
 mod writing;
 
 pub use end::{End, refuse};
-pub use outcome::{Outcome, status};
+pub use outcome::{Outcome, Tried, status};
 pub use reading::{read_answers_file, read_machine_file};
 pub use role::Role;
-pub use stops::{ReadStop, TellStop};
+pub use stops::{ReadStop, TellStop, learn_outcome};
 pub use texts::text;
 pub use writing::{put_all, put_report, say, write_file};
 

@@ -9,11 +9,26 @@ use lw_json::JsonFault;
 use lw_mealy::Mealy;
 use lw_words::Words;
 
+/// A trial: so many states and inputs of a machine that was drawn by the seed; the states, refinements and kept answers of what
+/// was learned of it; and whether that is the machine.
+#[derive(Clone, Copy, Debug, PartialEq, Eq)]
+pub struct Tried {
+    pub states: u16,
+    pub inputs: u16,
+    pub seed: u64,
+    pub learned: u16,
+    pub refinements: u32,
+    pub answers: u64,
+    pub equal: bool,
+}
+
 /// What a call of the program came to.
 #[derive(Drop)]
 pub enum Outcome {
-    /// The closed table's machine, which no suite has checked.
-    Unchecked { model: Mealy },
+    /// The model that the answers fix among all machines of not many more states, and how often its learner was refined.
+    Learned { model: Mealy, refinements: u32 },
+    /// A drawn machine was learned.
+    Trial(Tried),
     /// The answers fix the model, of so many states, among all machines of at most so many extra states more.
     Yes { states: u16 },
     /// They don't, for this cause, which is none of `TooLarge` and `Sure`.
@@ -44,7 +59,7 @@ pub fn status(outcome: &Outcome) -> u8
     ensures { result ≡ status_of outcome.now }
 {
     match outcome {
-        Outcome::Unchecked { .. } | Outcome::Yes { .. } => 0,
+        Outcome::Learned { .. } | Outcome::Trial(_) | Outcome::Yes { .. } => 0,
         Outcome::No(_) => 1,
         Outcome::Usage => 2,
         Outcome::BadFile { .. } | Outcome::Alphabets | Outcome::FileTooLong(_) => 3,

@@ -1,10 +1,13 @@
 //! Why a file was not read, or an outcome was not told, and the outcome that each comes to.
 ghost use Rattle.std.specs.Prelude.{◌≡◌};
+ghost use Rattle.lw_report.specs.Learnings.{learn_outcome};
 ghost use Rattle.lw_report.specs.Stops.{read_outcome};
+ghost use Rattle.lw_rounds.specs.Stops.{IsOwnStop};
 
 use crate::{Outcome, Role};
 use lw_json::JsonFault;
 use lw_outside::{Failed, FilesStop, WriteStop};
+use lw_rounds::LearnStop;
 use lw_words::NoMemory;
 
 /// Why a file was not read.
@@ -106,5 +109,20 @@ impl From<Failed> for TellStop {
 
     fn from(_: Failed) -> TellStop {
         TellStop::Sink
+    }
+}
+
+/// What a learning comes to that stopped so, where no system stopped and no answers clashed.
+pub fn learn_outcome(stop: LearnStop) -> Outcome
+    requires own { IsOwnStop stop }
+    ensures { result ≡ learn_outcome stop }
+{
+    match stop {
+        LearnStop::Ask(_) => Outcome::NoMemory,
+        LearnStop::Crowd(words) => Outcome::TooManyStates(words),
+        LearnStop::TooLarge { model, number } => Outcome::SuiteTooLarge {
+            states: model.states(),
+            number,
+        },
     }
 }

@@ -4,9 +4,10 @@ ghost use Rattle.std.specs.List.{join_by};
 ghost use Rattle.lw_words.specs.declared.kept.KeptAnswer.{KeptAnswer as Answer};
 ghost use Rattle.lw_report.specs.Outcomes.{HasOwnText};
 ghost use Rattle.lw_report.specs.Reasons.{reason_of, role_name};
-ghost use Rattle.lw_report.specs.Text.{crowd_lines, name_of, names_of, text_of, unchecked_line, word_line};
+ghost use Rattle.lw_report.specs.Text.{crowd_lines, name_of, learned_line, names_of, text_of, word_line};
 
 use crate::reasons::reason;
+use crate::tried_text::trial_text;
 use crate::verdict_texts::{clash_text, no_text, suite_text, yes_text};
 use crate::{Outcome, Role};
 use lw_json::JsonFault;
@@ -80,11 +81,20 @@ fn crowd_text(alloc: Global, words: &Words, names: Option<&Names>) -> Result<Str
     Ok(text)
 }
 
-/// The line about a model.
-fn unchecked_text(alloc: Global, states: u16, answers: usize) -> Result<String, NoMemory>
-    ensures { IfOk result (λ text. string_bytes text ≡ unchecked_line states answers) }
+/// The line about a model that was learned.
+fn learned_text(
+    alloc: Global,
+    states: u16,
+    refinements: u32,
+    extra: u8,
+    answers: usize,
+) -> Result<String, NoMemory>
+    ensures { IfOk result (λ text. string_bytes text ≡
+        learned_line states refinements extra answers) }
 {
-    Ok(format!(in alloc; "unchecked: states {states}, answers {answers}\n")?)
+    Ok(format!(in alloc;
+        "learned: states {states}, refinements {refinements}, extra {extra}, answers {answers}\n"
+    )?)
 }
 
 /// The line about a file that is none of its kind.
@@ -127,7 +137,8 @@ pub(crate) fn fixed_text(outcome: &Outcome) -> Option<&'static str>
         text.now ≡ text_of inputs outputs kept extra outcome.now) }
 {
     match outcome {
-        Outcome::Unchecked { .. } | Outcome::BadFile { .. } | Outcome::TooManyStates(_) => None,
+        Outcome::Learned { .. } | Outcome::BadFile { .. } | Outcome::TooManyStates(_) => None,
+        Outcome::Trial(_) => None,
         Outcome::Yes { .. } | Outcome::No(_) => None,
         Outcome::Nondeterministic(_) | Outcome::SuiteTooLarge { .. } => None,
         Outcome::Alphabets => Some("bad file answers: names differ from the model\n"),
@@ -153,7 +164,10 @@ pub(crate) fn outcome_text(
         (names_of (option_map (λ n. n.now) outputs.entry)) kept.now.answers extra outcome.now) }
 {
     match outcome {
-        Outcome::Unchecked { model } => unchecked_text(alloc, model.states(), kept.len()),
+        Outcome::Learned { model, refinements } => {
+            learned_text(alloc, model.states(), *refinements, extra, kept.len())
+        }
+        Outcome::Trial(tried) => trial_text(alloc, *tried),
         Outcome::BadFile { role, fault } => bad_file_text(alloc, *role, *fault),
         Outcome::TooManyStates(words) => crowd_text(alloc, words, inputs),
         Outcome::Yes { states } => yes_text(alloc, *states, extra, kept.len()),

@@ -1,6 +1,6 @@
 -- What answers that were gained say of a machine.
-use Rattle.std.proofs.Common.{◌≡◌, refl, ℕ, ◌+◌, ◌<◌, ⊎_elim, List, [], ◌++◌, length, take, drop, Option, Some, None, Contains, ap, sym, ◌∙◌, subst, arith, append-nil, append_assoc}
-use Rattle.std.specs.List.{All}
+use Rattle.std.proofs.Common.{◌≡◌, refl, ℕ, ◌+◌, ◌<◌, ⊎_elim, List, [], ◌++◌, length, take, drop, Option, Some, None, Contains, get_or, ap, sym, ◌∙◌, subst, arith, append-nil, append_assoc}
+use Rattle.std.specs.List.{All, AllWithin}
 use Rattle.std.proofs.lemmas.List.{length-append, length-map, length-take, map-append, get_or-append-add, take-append-drop}
 use Rattle.std.proofs.lemmas.List.Elements.{All-nil, All-append, All-map, All-weaker, All-contains, All-get_or, All-from_get_or, All-drop}
 use Rattle.lw_words.specs.Answer.{Answer, AreAnswers, answer_at, answer_of, answers_of}
@@ -13,6 +13,7 @@ use Rattle.lw_cache.specs.Against.{DiffersFirst}
 use Rattle.lw_cache.specs.Clash.{NothingClashes}
 use Rattle.lw_cache.specs.Known.{IsKnown, Reads}
 use Rattle.lw_cache.proofs.ClashLemmas.{all_are_clear}
+use Rattle.lw_cache.proofs.CrowdLemmas.{reads_given}
 use Rattle.lw_cache.proofs.KnownLemmas.{known_is_read, reads_once}
 use Rattle.lw_cache.proofs.ReadLemmas.{own_is_read, reads_more}
 use Rattle.lw_rounds.specs.bodies.Conformance.{AgreesOn, FindsFirst, Passes, Comes}
@@ -63,6 +64,25 @@ gives_more a h batch before gained now grown are nothing of_batch given agrees =
     of_batch
     (subst (λ (kept : List KeptAnswer). All (AgreesOn h (answers_of kept)) batch) grown agrees)
     given)
+
+-- answers from one on that a machine gives, beside those before that it gives, are all
+pub gives_later : (h : Rows) (before gained now : List KeptAnswer) → now ≡ before ++ gained → AllWithin (λ k. answer h k.word ≡ k.outs) now (length before) (length now) → Gives h (answers_of before) → Gives h (answers_of now)
+gives_later h before gained now grown within given =
+    let Given : KeptAnswer → Type 0 = λ k. answer h k.word ≡ k.outs in
+    let later : All Given gained = λ i d lt.
+    let at : get_or now (length before + i) d ≡ get_or gained i d = ap (λ (l : List KeptAnswer). get_or l (length before + i) d) grown ∙ get_or-append-add before gained i d in
+    let size : length now ≡ length before + length gained = ap (λ (l : List KeptAnswer). length l) grown ∙ length-append before gained in
+    subst Given at (within (length before + i) d (omega arith) (omega (arith, lt, size))) in
+    subst (λ (l : List KeptAnswer). Gives h (answers_of l)) (sym grown)
+    (subst (Gives h) (sym (map-append answer_of before gained))
+    (All-append (λ k. answer h k.word ≡ k.outs) (answers_of before) (answers_of gained) given (All-map (λ k. answer h k.word ≡ k.outs) answer_of gained later)))
+
+-- a machine that gives the answers agrees on all that is known
+pub agrees_on_known : (h : Rows) (ks : List Answer) (words : List (List ℕ)) → Gives h ks → All (IsKnown ks) words → All (AgreesOn h ks) words
+agrees_on_known h ks words gives known =
+    All-weaker (IsKnown ks) (AgreesOn h ks)
+    (λ w k. let r = (known_is_read ks w).0 k in subst (Reads ks w) (reads_given h ks w r.0 gives r.1) r.1)
+    words known
 
 -- what words come to, by what is found in them
 pub comes : (h : Rows) (ks : List Answer) (words : List (List ℕ)) (found : Option (List ℕ)) → (All (AgreesOn h ks) words → Passes h ks words) → FindsFirst h ks words found → Comes h ks words found

@@ -2,6 +2,6 @@ mod CanonicalLemmas
 mod ConformanceLemmas
 mod DifferenceLemmas
 mod HypothesisLemmas
-mod LawLemmas
+pub mod LawLemmas
 mod RoundLemmas
 mod StopLemmas

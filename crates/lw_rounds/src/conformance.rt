@@ -8,7 +8,7 @@ ghost use Rattle.lw_cache.specs.Clash.{NothingClashes};
 ghost use Rattle.lw_cache.specs.Settling.{Keeps, MayAsk, Leaves, asked_stop};
 ghost use Rattle.lw_rounds.specs.bodies.Conformance.{FindsFirst, Comes};
 
-use crate::difference::first_difference;
+use crate::difference::{first_difference, gives_from};
 use lw_cache::{AskStop, Oracle};
 use lw_mealy::Mealy;
 use lw_suite::Suite;
@@ -36,8 +36,13 @@ fn settle_words<O: Oracle>(
     ensures leaves { Leaves (O.state oracle.old) (O.state oracle.new) (asked_stop result) }
     ensures can { O.can_settle oracle.new }
 {
+    let before = oracle.cache().kept().len();
     oracle.settle(words)?;
-    Ok(first_difference(oracle.cache(), hypothesis, words)?)
+    let cache = oracle.cache();
+    if gives_from(cache.kept(), before, hypothesis) {
+        return Ok(None);
+    }
+    Ok(first_difference(cache, hypothesis, words)?)
 }
 
 /// Settles a suite, chunk by chunk, until the hypothesis differs.

@@ -1,14 +1,15 @@
 //! Where a model differs from what is read.
-ghost use Rattle.std.specs.Prelude.{IfOk};
-ghost use Rattle.std.specs.List.{All};
+ghost use Rattle.std.specs.Prelude.{◌≡◌, ◌≤◌, IfOk, length, true};
+ghost use Rattle.std.specs.List.{All, AllWithin};
 ghost use Rattle.lw_words.specs.Answer.{answer_of, answers_of, IsAnswer};
 ghost use Rattle.lw_words.specs.Word.{IsWord};
 ghost use Rattle.lw_cache.specs.Known.{IsKnown};
+ghost use Rattle.lw_mealy.specs.Machine.{answer};
 ghost use Rattle.lw_rounds.specs.bodies.Conformance.{FindsShortest, FindsFirst};
 
 use lw_cache::Cache;
 use lw_mealy::Mealy;
-use lw_words::{NoMemory, Word};
+use lw_words::{Kept, NoMemory, Word};
 
 /// The shortest front of a known word on which the model differs from what is read.
 fn shortest_difference(cache: &Cache, model: &Mealy, word: &Word) -> Result<Option<Word>, NoMemory>
@@ -42,4 +43,20 @@ pub fn first_difference(
         }
     }
     Ok(None)
+}
+
+/// Whether the model gives each kept answer from one on. Takes no memory.
+pub fn gives_from(kept: &Kept, from: usize, model: &Mealy) -> bool
+    requires from { from ≤ length kept.now.answers }
+    requires answers { All (λ k. IsAnswer model.now.inputs (answer_of k)) kept.now.answers }
+    ensures { result ≡ true → AllWithin (λ k. answer model.now.rows k.word ≡ k.outs)
+        kept.now.answers from (length kept.now.answers) }
+{
+    for number in from..kept.len() {
+        let answer = kept.get(number);
+        if model.agrees(&answer.word, &answer.outs).is_some() {
+            return false;
+        }
+    }
+    true
 }

@@ -21,6 +21,7 @@ wanted_check model answers extra f o e d end out r =
     subst (λ (x : Outcome). TakesSome (text_of [] [] [] extra x) e.taken d.taken) (sym is) (subst (λ (x : Outcome). TakesSome (text_of [] [] [] 0 x) e.taken d.taken) is t) in
     record {
       no_model = r.model;
+      no_learner = r.learner;
       untouched = refl;
       ended = inl (record {
         cause = subst (IsUnread model answers f f) (sym out) (inl refl);

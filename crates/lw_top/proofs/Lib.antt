@@ -2,3 +2,4 @@ pub mod CheckLemmas
 pub mod CommandLemmas
 pub mod RunLemmas
 pub mod ValueLemmas
+pub mod TrialLemmas

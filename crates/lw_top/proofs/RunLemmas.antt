@@ -1,17 +1,16 @@
 -- Calls for whose arguments there was no memory.
 use Rattle.std.proofs.Common.{◌≡◌, ◌∙◌, ◌⊎◌, ℕ, List, [], ◌∷◌, ◌++◌, length, true, ap, arith, length-append, Option, Some, None, IfSome, inl, inr, refl, sym, subst}
-use Rattle.lw_words.specs.Answer.{answers_of}
 use Rattle.lw_mealy.specs.Limits.{MealyMachine}
 use Rattle.lw_report.specs.Writing.{TakesAll, TakesSome, said_text}
 use Rattle.lw_report.specs.declared.«end».End.{End}
 use Rattle.lw_report.specs.declared.outcome.Outcome.{Outcome}
-use Rattle.lw_report.specs.declared.outcome.Outcome.TheVariants.{BadFile, FileFault, FileTooLong, NoMemory, SinkFault, TooManyStates, Unchecked, Usage}
+use Rattle.lw_report.specs.declared.outcome.Outcome.TheVariants.{BadFile, FileFault, FileTooLong, NoMemory, SinkFault, SuiteTooLarge, TooManyStates, Learned, Usage}
 use Rattle.lw_report.proofs.SinkLemmas.{sink_none}
 use Rattle.lw_learn.specs.Arguments.{LearnValues}
-use Rattle.lw_learn.specs.Hypothesis.{IsModel}
-use Rattle.lw_learn.specs.LearnRun.{IsLearnRun, IsTable}
+use Rattle.lw_report.specs.Learnings.{HasModel}
+use Rattle.lw_learn.specs.LearnRun.{IsLearnRun, IsOfFile}
 use Rattle.lw_report.specs.States.{FilesState, SinkState}
-use Rattle.lw_learn.specs.Outcomes.{IsUnchecked, IsUngiven, IsUnread, IsUntroubled, IsWriteFault}
+use Rattle.lw_learn.specs.Outcomes.{IsLearnOutcome, IsLearnedOutcome, IsReachedOutcome, IsUngiven, IsUnread, IsUntroubled, IsWriteFault}
 use Rattle.lw_learn.specs.Reading.{TellsFailed}
 use Rattle.lw_outside.specs.Files.{Call, read_call}
 use Rattle.lw_learn.specs.Writing.{HasNames, WritesModel, line_of}
@@ -32,23 +31,26 @@ untold name (Some calls) told = let same : calls ≡ calls ++ read_call name tru
 -- the end of a call that touched nothing, which is out of memory, is one that `learn` may come to
 pub wanted_run : (a : LearnValues) (f : FilesState) (o e d : SinkState) (end : End) → end.outcome ≡ NoMemory → IsRefused f f o o e d end → IsLearnRun a f f o o e d end
 wanted_run a f o e d end out r =
-    let no-model : IfSome end.model (IsModel (answers_of end.kept.answers)) = subst (λ (m : Option MealyMachine). IfSome m (IsModel (answers_of end.kept.answers))) (sym r.model) tt in
-    let Writes : MealyMachine → Type 0 = λ h. (m : Machine) × IsTable a f f m × WritesModel a end.kept.answers end.outcome f.holds (o.taken, o.taken) (o.faults, o.faults) m h in
+    let Models : MealyMachine → Type 0 = λ h. (m : Machine) × IsOfFile a f f m × HasModel (length m.inputs) (length m.outputs) a.extra a.max_states end h in
+    let Writes : MealyMachine → Type 0 = λ h. (m : Machine) × IsOfFile a f f m × WritesModel a end.kept.answers end.outcome f.holds (o.taken, o.taken) (o.faults, o.faults) m h in
     let said : (oc : Outcome) → oc ≡ NoMemory → TakesAll (said_text None None [] 0 oc) e.taken d.taken → TakesAll (said_text None None end.kept.answers a.extra oc) e.taken d.taken = λ oc is t.
     subst (λ (x : Outcome). TakesAll (said_text None None end.kept.answers a.extra x) e.taken d.taken) (sym is) (subst (λ (x : Outcome). TakesAll (said_text None None [] 0 x) e.taken d.taken) is t) in
     let part : (oc : Outcome) → oc ≡ NoMemory → TakesSome (said_text None None [] 0 oc) e.taken d.taken → TakesSome (said_text None None end.kept.answers a.extra oc) e.taken d.taken = λ oc is t.
     subst (λ (x : Outcome). TakesSome (said_text None None end.kept.answers a.extra x) e.taken d.taken) (sym is) (subst (λ (x : Outcome). TakesSome (said_text None None [] 0 x) e.taken d.taken) is t) in
     let no_crowd : HasNames end.outcome None = λ words is. let wrong : NoMemory ≡ TooManyStates words = sym out ∙ is in absurd (cc) in
     record {
-      model = no-model;
-      told = λ h is. let wrong : NoMemory ≡ Unchecked h = sym out ∙ is in absurd (cc);
-      quiet = λ u. absurd (subst IsUnchecked out u);
+      model = subst (λ (m : Option MealyMachine). IfSome m Models) (sym r.model) tt;
+      without = λ _. r.learner;
+      told = λ h r is. let wrong : NoMemory ≡ Learned h r = sym out ∙ is in absurd (cc);
+      quiet = λ u. absurd (subst IsLearnedOutcome out u);
       kept = inl r.kept;
+      reached = λ m rows told none within gives. subst (IsReachedOutcome (length rows)) (sym out) tt;
       written = subst (λ (m : Option MealyMachine). IfSome m Writes) (sym r.model) tt;
       nothing = λ _. (refl, refl);
       beside = stays_same a.model a.answers f.holds;
       said = λ quiet. (None, tt, no_crowd, said end.outcome out (r.said quiet));
-      in_turn = (None, tt, no_crowd, record { between = e.taken; some = (0, sink_none e.taken (line_of None end.kept.answers a.extra end.model)); then = part end.outcome out r.part });
+      in_turn = (None, tt, no_crowd, record { between = e.taken; some = (0, sink_none e.taken (line_of None end.kept.answers a.extra end.model end.refinements)); then = part end.outcome out r.part });
+      kinds = subst IsLearnOutcome (sym out) tt;
       bad_file = λ role fault is. let wrong : NoMemory ≡ BadFile role fault = sym out ∙ is in absurd (cc);
       bad_file_told = λ _. subst IsUnread (sym out) tt;
       too_long = λ role is. let wrong : NoMemory ≡ FileTooLong role = sym out ∙ is in absurd (cc);
@@ -59,6 +61,7 @@ wanted_run a f o e d end out r =
       sink_fault = λ is. let wrong : NoMemory ≡ SinkFault = sym out ∙ is in absurd (cc);
       nothing_lost = λ w. absurd (subst IsWriteFault out w);
       crowd = λ apart is. let wrong : NoMemory ≡ TooManyStates apart = sym out ∙ is in absurd (cc);
+      suite = λ states number is. let wrong : NoMemory ≡ SuiteTooLarge states number = sym out ∙ is in absurd (cc);
       untroubled = λ _ _. subst IsUntroubled (sym out) tt;
       reads = inl refl;
       calls = inl (out, refl);

@@ -1,5 +1,5 @@
 -- Numbers that clap has read, and kinds of errors.
-use Rattle.std.proofs.Common.{◌≡◌, ◌∙◌, ℕ, ◌<◌, ◌^◌, ◌&&◌, List, [], ◌∷◌, Bool, true, false, Option, Some, None, Ok, Err, Result, if◌then◌else◌, inl, inr, refl, sym, ap}
+use Rattle.std.proofs.Common.{◌≡◌, ◌∙◌, ℕ, ◌<◌, ◌≤◌, ◌^◌, ◌&&◌, List, [], ◌∷◌, Bool, true, false, Option, Some, None, Ok, Err, Result, if◌then◌else◌, inl, inr, refl, sym, ap, subst}
 use Rattle.std.specs.Prelude.{nat_le, option_and_then}
 use Rattle.std.specs.Str.Parse.{IsNumeral, ParsesUnsigned, digits_value, without_leading_plus}
 use Rattle.std.proofs.lemmas.Bool.{le-leb, leb-true}
@@ -72,3 +72,15 @@ faulty (k ∷ ks) e h is = refl
 -- the reason in a refusal
 pub stop_is : {V : Type 0} (one : ArgumentStop) {two : ArgumentStop} → ◌≡◌ {A = Result V ArgumentStop} (Err one) (Err two) → one ≡ two
 stop_is one e = cc
+
+-- a number that was found is in its range
+pub number_bounds : (low high n : ℕ) (t : Option (List ℕ)) → Some n ≡ number_in low high t → (low ≤ n) × (n ≤ high)
+number_bounds low high n None is = let wrong : Some n ≡ None = is in absurd (cc)
+number_bounds low high n (Some text) is = go (is_unsigned_in low high text) refl is
+  where
+    go : (b : Bool) → is_unsigned_in low high text ≡ b → Some n ≡ (if b then Some (digits_value 10 (without_leading_plus text)) else None) → (low ≤ n) × (n ≤ high)
+    go true e s =
+        let h : Accepts false (vp.Unsigned low high) text = accepts-Accepts false (vp.Unsigned low high) text e in
+        let same : digits_value 10 (without_leading_plus text) ≡ n = cc in
+        (subst (λ (k : ℕ). low ≤ k) same h.2, subst (λ (k : ℕ). k ≤ high) same h.3)
+    go false e s = let wrong : Some n ≡ None = s in absurd (cc)

@@ -4,3 +4,4 @@ pub mod CommandLine
 pub mod LearnCommand
 pub mod Options
 pub mod Run
+pub mod TrialCommand

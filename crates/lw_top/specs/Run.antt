@@ -1,6 +1,7 @@
 -- What a call of the program did whose arguments no command takes, or for which there was no memory to read them.
 use Rattle.std.specs.Prelude.{◌≡◌, [], None}
 use Rattle.lw_words.specs.Cause.{CountedFault}
+use Rattle.lw_report.specs.Ends.{IsWithoutLearner}
 use Rattle.lw_report.specs.States.{FilesState, SinkState}
 use Rattle.lw_report.specs.Writing.{TakesAll, TakesSome, said_text}
 use Rattle.lw_report.specs.declared.«end».End.{End}
@@ -19,6 +20,7 @@ pub record IsRefused (f g : FilesState) (o p : SinkState) (e d : SinkState) (end
   pub files : g ≡ f
   pub out : p ≡ o
   pub model : end.model ≡ None
+  pub learner : IsWithoutLearner end
   pub kept : end.kept.answers ≡ []
   pub said : ¬ CountedFault e.faults d.faults → TakesAll (said_text None None [] 0 end.outcome) e.taken d.taken
   pub part : TakesSome (said_text None None [] 0 end.outcome) e.taken d.taken

@@ -6,8 +6,10 @@ ghost use Rattle.lw_top.specs.declared.values.ArgumentStop.{ArgumentStop as Stop
 
 use crate::check_words::{CheckArguments, check_arguments};
 use crate::learn_words::learn_arguments;
+use crate::trial_words::trial_arguments;
 use crate::values::ArgumentStop;
 use lw_learn::LearnArguments;
+use lw_trial::TrialArguments;
 use std::alloc::Global;
 
 /// A command with the values of its arguments.
@@ -15,6 +17,7 @@ use std::alloc::Global;
 pub(crate) enum Call {
     Learn(LearnArguments),
     Check(CheckArguments),
+    Trial(TrialArguments),
 }
 
 /// The command that takes the arguments.
@@ -23,11 +26,17 @@ pub(crate) fn read_call(alloc: Global, arguments: &[String]) -> Result<Call, Arg
     ensures refused { result ≡ Err Stop.Usage → IsNoCall (texts arguments.now) }
 {
     match learn_arguments(alloc, arguments) {
-        Ok(values) => Ok(Call::Learn(values)),
-        Err(ArgumentStop::NoMemory) => Err(ArgumentStop::NoMemory),
-        Err(ArgumentStop::Usage) => match check_arguments(alloc, arguments) {
-            Ok(values) => Ok(Call::Check(values)),
-            Err(stop) => Err(stop),
-        },
+        Ok(values) => return Ok(Call::Learn(values)),
+        Err(ArgumentStop::NoMemory) => return Err(ArgumentStop::NoMemory),
+        Err(ArgumentStop::Usage) => {}
+    }
+    match check_arguments(alloc, arguments) {
+        Ok(values) => return Ok(Call::Check(values)),
+        Err(ArgumentStop::NoMemory) => return Err(ArgumentStop::NoMemory),
+        Err(ArgumentStop::Usage) => {}
+    }
+    match trial_arguments(alloc, arguments) {
+        Ok(values) => Ok(Call::Trial(values)),
+        Err(stop) => Err(stop),
     }
 }

@@ -1,20 +1,25 @@
 //! The commands with the values of their arguments: each says all that its contract says in one record.
-ghost use Rattle.std.specs.Prelude.{◌≡◌};
+ghost use Rattle.std.specs.Prelude.{◌≡◌, ◌≤◌};
 ghost use Rattle.lw_report.specs.Outcomes.{status_of};
 ghost use Rattle.lw_report.specs.States.{files_state, sink_state};
 ghost use Rattle.lw_report.specs.declared.outcome.Outcome.{Outcome as Came};
 ghost use Rattle.lw_learn.specs.LearnRun.{IsLearnRun};
 ghost use Rattle.lw_check.specs.CheckRun.{IsCheckRun};
+ghost use Rattle.lw_trial.specs.TrialRun.{IsTrialRun};
 
 use crate::check_words::CheckArguments;
 use lw_check::check;
 use lw_learn::{LearnArguments, learn};
 use lw_outside::{Files, Sink};
 use lw_report::End;
+use lw_trial::{TrialArguments, trial};
 use std::alloc::Global;
+use std::sync::Wait;
+use std::thread::Threads;
 
 /// `learn` with these values.
-pub(crate) fn run_learn<F: Files, O: Sink, E: Sink>(
+pub(crate) fn run_learn<R: Threads + Wait + Sync + Drop, F: Files, O: Sink, E: Sink>(
+    rt: R,
     alloc: Global,
     values: &LearnArguments,
     files: &mut F,
@@ -23,6 +28,8 @@ pub(crate) fn run_learn<F: Files, O: Sink, E: Sink>(
 ) -> End
     ensures status { result.status ≡ status_of result.outcome }
     ensures taken { ¬ (result.outcome ≡ Came.Usage) }
+    ensures counts { (F.faults files.old ≤ F.faults files.new) ×
+        (O.faults out.old ≤ O.faults out.new) × (E.faults err.old ≤ E.faults err.new) }
     ensures all { IsLearnRun values.now
         (files_state (F.holds files.old) (F.calls files.old) (F.reads files.old)
         (F.faults files.old))
@@ -33,7 +40,7 @@ pub(crate) fn run_learn<F: Files, O: Sink, E: Sink>(
         (sink_state (E.taken err.old) (E.faults err.old))
         (sink_state (E.taken err.new) (E.faults err.new)) result }
 {
-    learn(alloc, values, files, out, err)
+    learn(rt, alloc, values, files, out, err)
 }
 
 /// `check` with these values.
@@ -46,6 +53,8 @@ pub(crate) fn run_check<F: Files, O: Sink, E: Sink>(
 ) -> End
     ensures status { result.status ≡ status_of result.outcome }
     ensures taken { ¬ (result.outcome ≡ Came.Usage) }
+    ensures counts { (F.faults files.old ≤ F.faults files.new) ×
+        (O.faults out.old ≤ O.faults out.new) × (E.faults err.old ≤ E.faults err.new) }
     ensures all { IsCheckRun values.now.model values.now.answers values.now.extra
         (files_state (F.holds files.old) (F.calls files.old) (F.reads files.old)
         (F.faults files.old))
@@ -58,4 +67,25 @@ pub(crate) fn run_check<F: Files, O: Sink, E: Sink>(
 {
     let (model, answers) = (values.model(), values.answers());
     check(alloc, model, answers, values.extra(), files, out, err)
+}
+
+/// `trial` with these values.
+pub(crate) fn run_trial<R: Threads + Wait + Sync + Drop, O: Sink, E: Sink>(
+    rt: R,
+    alloc: Global,
+    values: &TrialArguments,
+    out: &mut O,
+    err: &mut E,
+) -> End
+    ensures status { result.status ≡ status_of result.outcome }
+    ensures taken { ¬ (result.outcome ≡ Came.Usage) }
+    ensures counts { (O.faults out.old ≤ O.faults out.new) ×
+        (E.faults err.old ≤ E.faults err.new) }
+    ensures all { IsTrialRun values.now
+        (sink_state (O.taken out.old) (O.faults out.old))
+        (sink_state (O.taken out.new) (O.faults out.new))
+        (sink_state (E.taken err.old) (E.faults err.old))
+        (sink_state (E.taken err.new) (E.faults err.new)) result }
+{
+    trial(rt, alloc, values, out, err)
 }

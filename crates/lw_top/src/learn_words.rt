@@ -7,7 +7,7 @@ ghost use Rattle.lw_top.specs.LearnCommand.{learn_app, learn_values, values_in};
 ghost use Rattle.lw_top.specs.declared.values.ArgumentStop.{ArgumentStop as Stop};
 
 use crate::ArgumentStop;
-use crate::options::{extra_option, states_option, text_option};
+use crate::options::{extra_option, states_option, text_option, workers_option};
 use crate::values::{number_at, stop_of, text_at};
 use clap::{ArgMatches, Command};
 use lw_learn::LearnArguments;
@@ -19,6 +19,7 @@ fn learn_command<'a>(alloc: Global) -> Result<Command<'a>, AllocError>
 {
     let command = Command::new(alloc, "learn")
         .arg(text_option(alloc, "table"))?
+        .arg(workers_option(alloc))?
         .arg(extra_option(alloc))?
         .arg(states_option(alloc))?
         .arg(text_option(alloc, "model"))?
@@ -50,6 +51,9 @@ fn values_of(alloc: Global, matches: &ArgMatches) -> Result<LearnArguments, Argu
     let Some(table) = text_at(alloc, matches, "table")? else {
         return Err(ArgumentStop::Usage);
     };
+    let Some(workers) = number_at(matches, "workers", 1, 16) else {
+        return Err(ArgumentStop::Usage);
+    };
     let Some(extra) = number_at(matches, "extra", 0, 4) else {
         return Err(ArgumentStop::Usage);
     };
@@ -58,7 +62,14 @@ fn values_of(alloc: Global, matches: &ArgMatches) -> Result<LearnArguments, Argu
     };
     let model = text_at(alloc, matches, "model")?;
     let answers = text_at(alloc, matches, "answers")?;
-    Ok(LearnArguments::new(table, extra as u8, max_states as u16, model, answers))
+    Ok(LearnArguments::new(
+        table,
+        workers as u8,
+        extra as u8,
+        max_states as u16,
+        model,
+        answers,
+    ))
 }
 
 /// Reads the arguments of `learn`, of which the first is the command.

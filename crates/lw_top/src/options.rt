@@ -1,7 +1,7 @@
 //! The options of the commands, as clap takes them.
 ghost use Rattle.std.specs.Prelude.{◌≡◌, codes, false};
 ghost use Rattle.clap.specs.Words.{rule_of};
-ghost use Rattle.lw_top.specs.Options.{number_option, required_argument, text_option};
+ghost use Rattle.lw_top.specs.Options.{number_option, required_argument, required_number, text_option};
 
 use clap::{Arg, ArgAction};
 use std::alloc::Global;
@@ -33,6 +33,17 @@ pub(crate) fn extra_option<'a>(alloc: Global) -> Arg<'a>
         .default_value("1")
 }
 
+/// `--workers N`, from 1 to 16.
+pub(crate) fn workers_option<'a>(alloc: Global) -> Arg<'a>
+    ensures rule { rule_of result ≡ number_option (codes "workers") 1 16 (codes "1") }
+    ensures local { result.global ≡ false }
+{
+    Arg::new(alloc, "workers")
+        .long("workers")
+        .value_parser(clap::value_parser!(u64).range(1..=16))
+        .default_value("1")
+}
+
 /// `--max-states N`, from 1 to 1024.
 pub(crate) fn states_option<'a>(alloc: Global) -> Arg<'a>
     ensures rule { rule_of result ≡ number_option (codes "max-states") 1 1024 (codes "1024") }
@@ -42,4 +53,37 @@ pub(crate) fn states_option<'a>(alloc: Global) -> Arg<'a>
         .long("max-states")
         .value_parser(clap::value_parser!(u64).range(1..=1024))
         .default_value("1024")
+}
+
+/// `--states N`, from 1 to 1024, which has to be there.
+pub(crate) fn drawn_states_option<'a>(alloc: Global) -> Arg<'a>
+    ensures rule { rule_of result ≡ required_number (codes "states") 1 1024 }
+    ensures local { result.global ≡ false }
+{
+    Arg::new(alloc, "states")
+        .long("states")
+        .required(true)
+        .value_parser(clap::value_parser!(u64).range(1..=1024))
+}
+
+/// `--inputs A`, from 1 to 64, which has to be there.
+pub(crate) fn drawn_inputs_option<'a>(alloc: Global) -> Arg<'a>
+    ensures rule { rule_of result ≡ required_number (codes "inputs") 1 64 }
+    ensures local { result.global ≡ false }
+{
+    Arg::new(alloc, "inputs")
+        .long("inputs")
+        .required(true)
+        .value_parser(clap::value_parser!(u64).range(1..=64))
+}
+
+/// `--seed S`, from 0 to 18446744073709551615, which has to be there.
+pub(crate) fn seed_option<'a>(alloc: Global) -> Arg<'a>
+    ensures rule { rule_of result ≡ required_number (codes "seed") 0 18446744073709551615 }
+    ensures local { result.global ≡ false }
+{
+    Arg::new(alloc, "seed")
+        .long("seed")
+        .required(true)
+        .value_parser(clap::value_parser!(u64))
 }

@@ -7,25 +7,31 @@ ghost use Rattle.lw_report.specs.declared.outcome.Outcome.{Outcome as Came};
 ghost use Rattle.lw_learn.specs.LearnRun.{IsLearnRun};
 ghost use Rattle.lw_report.specs.States.{files_state, sink_state};
 ghost use Rattle.lw_check.specs.CheckRun.{IsCheckRun};
+ghost use Rattle.lw_trial.specs.TrialRun.{IsTrialRun};
 ghost use Rattle.lw_top.specs.Call.{IsNoCall};
 ghost use Rattle.lw_top.specs.CheckCommand.{check_values};
 ghost use Rattle.lw_top.specs.CommandLine.{texts};
 ghost use Rattle.lw_top.specs.LearnCommand.{learn_values};
 ghost use Rattle.lw_top.specs.Run.{IsRefused, argument_outcome};
+ghost use Rattle.lw_top.specs.TrialCommand.{trial_values};
+ghost use Rattle.lw_report.specs.Ends.{IsWithoutLearner};
 
 use crate::ArgumentStop;
 use crate::call::{Call, read_call};
-use crate::commands::{run_check, run_learn};
+use crate::commands::{run_check, run_learn, run_trial};
 use lw_outside::{Files, Sink};
 use lw_report::{End, Outcome, refuse};
 use lw_words::Kept;
 use std::alloc::Global;
+use std::sync::Wait;
+use std::thread::Threads;
 
 /// The end of a call whose arguments weren't taken.
 fn refuse_arguments<E: Sink>(alloc: Global, stop: ArgumentStop, err: &mut E) -> End
     ensures outcome { result.outcome ≡ argument_outcome stop }
     ensures status { result.status ≡ status_of result.outcome }
     ensures model { result.model ≡ None }
+    ensures learner { IsWithoutLearner result }
     ensures kept { result.kept.answers ≡ [] }
     ensures said { ¬ CountedFault (E.faults err.old) (E.faults err.new) →
         TakesAll (said_text None None [] 0 result.outcome) (E.taken err.old) (E.taken err.new) }
@@ -49,6 +55,7 @@ pub fn without_arguments<E: Sink>(alloc: Global, err: &mut E) -> End
     ensures outcome { result.outcome ≡ Came.NoMemory }
     ensures status { result.status ≡ 5 }
     ensures model { result.model ≡ None }
+    ensures learner { IsWithoutLearner result }
     ensures kept { result.kept.answers ≡ [] }
     ensures said { ¬ CountedFault (E.faults err.old) (E.faults err.new) →
         TakesAll (said_text None None [] 0 Came.NoMemory) (E.taken err.old) (E.taken err.new) }
@@ -60,8 +67,10 @@ pub fn without_arguments<E: Sink>(alloc: Global, err: &mut E) -> End
 }
 
 /// All that the program does. `arguments` are those of the command line, without the program's own name; the first names the
-/// command. Each command has its own contract; a call whose arguments aren't taken touches nothing but `err`.
-pub fn run<F: Files, O: Sink, E: Sink>(
+/// command. Each command has its own contract; a call whose arguments aren't taken touches nothing but `err`. May wait for a
+/// turn of its workers.
+pub fn run<R: Threads + Wait + Sync + Drop, F: Files, O: Sink, E: Sink>(
+    rt: R,
     alloc: Global,
     arguments: &[String],
     files: &mut F,
@@ -69,6 +78,10 @@ pub fn run<F: Files, O: Sink, E: Sink>(
     err: &mut E,
 ) -> End
     ensures status { result.status ≡ status_of result.outcome }
+
+    // No count of faults falls.
+    ensures counts { (F.faults files.old ≤ F.faults files.new) ×
+        (O.faults out.old ≤ O.faults out.new) × (E.faults err.old ≤ E.faults err.new) }
 
     // The arguments: the usage exactly where no command takes them, but that memory may run out.
     ensures usage { result.outcome ≡ Came.Usage → IsNoCall (texts arguments.now) }
@@ -106,13 +119,26 @@ pub fn run<F: Files, O: Sink, E: Sink>(
         (sink_state (O.taken out.new) (O.faults out.new))
         (sink_state (E.taken err.old) (E.faults err.old))
         (sink_state (E.taken err.new) (E.faults err.new)) result) }
+
+    // `trial`, where it takes the arguments: all that its contract says, and no file is touched.
+    ensures trial { IfSome (trial_values (texts arguments.now)) (λ values. IsTrialRun values
+        (sink_state (O.taken out.old) (O.faults out.old))
+        (sink_state (O.taken out.new) (O.faults out.new))
+        (sink_state (E.taken err.old) (E.faults err.old))
+        (sink_state (E.taken err.new) (E.faults err.new)) result) }
+    ensures untouched { IfSome (trial_values (texts arguments.now)) (λ _.
+        files_state (F.holds files.new) (F.calls files.new) (F.reads files.new)
+        (F.faults files.new) ≡
+        files_state (F.holds files.old) (F.calls files.old) (F.reads files.old)
+        (F.faults files.old)) }
 {
     let call = match read_call(alloc, arguments) {
         Ok(call) => call,
         Err(stop) => return refuse_arguments(alloc, stop, err),
     };
     match call {
-        Call::Learn(values) => run_learn(alloc, &values, files, out, err),
+        Call::Learn(values) => run_learn(rt, alloc, &values, files, out, err),
         Call::Check(values) => run_check(alloc, &values, files, out, err),
+        Call::Trial(values) => run_trial(rt, alloc, &values, out, err),
     }
 }

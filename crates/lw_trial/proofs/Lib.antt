@@ -1,1 +1,3 @@
+mod CompareLemmas
 mod DrawnLemmas
+mod RunLemmas

@@ -1,4 +1,6 @@
-//! Small drawn machines beside cells that were computed apart, from the generator's published steps.
+//! Small drawn machines beside cells that were computed apart, from the generator's published steps; and trials.
+mod trials;
+
 use crate::drawn;
 use lw_mealy::Mealy;
 use std::test::Fail;

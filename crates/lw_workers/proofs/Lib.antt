@@ -1,2 +1,5 @@
+mod InstanceLemmas
 pub mod LeavingLemmas
+mod MachineLemmas
+mod RunLemmas
 pub mod SendLemmas

@@ -1,9 +1,11 @@
-//! A learning with a pool of workers.
+//! Learnings with a pool of workers.
 #![tactic(auto)]
 
 mod learning;
+mod machine;
 
 pub use learning::{LearnedWith, learn_with};
+pub use machine::{LearnedMachine, learn_machine};
 
 #[cfg(test)]
 mod tests;

@@ -2,7 +2,7 @@
 use crate::tests::crews::{Refusing, pool_of};
 use crate::{LearnedWith, learn_with};
 use lw_cache::AskStop;
-use lw_rounds::{Kind, LearnStop};
+use lw_rounds::{Kind, LearnStop, Learned};
 use lw_words::Kept;
 use std::alloc::Global;
 use std::sync::Wait;
@@ -10,6 +10,7 @@ use std::test::Fail;
 use std::thread::Threads;
 
 mod crews;
+mod machines;
 
 /// The counter of three: each third letter is answered by 1.
 const COUNTER: [(u16, u16); 3] = [(1, 0), (2, 0), (0, 1)];
@@ -29,8 +30,8 @@ fn has_asked<R>(ended: &LearnedWith<Refusing, R>, sessions: usize, letters: &[us
 }
 
 /// Whether a model of so many states was found with so many refinements.
-fn is_found<R>(ended: &LearnedWith<Refusing, R>, states: u16, refinements: u32) -> bool {
-    let Ok(learned) = &ended.learned else {
+fn is_found(learned: &Result<Learned, LearnStop>, states: u16, refinements: u32) -> bool {
+    let Ok(learned) = learned else {
         return false;
     };
     learned.model.states() == states && learned.refinements() == refinements
@@ -44,7 +45,7 @@ fn find_counter<R: Threads + Wait + Sync + Drop>(
 ) -> Result<bool, Fail> {
     let pool = pool_of(rt, alloc, &COUNTER, sessions, None)?;
     let ended = learn_with(pool, alloc, Kind::Table, 2, 4);
-    Ok(is_found(&ended, 3, 1) && has_asked(&ended, sessions, &[2, 3, 4, 5, 7]))
+    Ok(is_found(&ended.learned, 3, 1) && has_asked(&ended, sessions, &[2, 3, 4, 5, 7]))
 }
 
 #[test]
@@ -64,7 +65,7 @@ fn find_again<R: Threads + Wait + Sync + Drop>(rt: R, alloc: Global) -> Result<b
         return Ok(false);
     };
     let again = learn_with(pool, alloc, Kind::Table, 2, 4);
-    Ok(is_found(&again, 3, 1) && has_asked(&again, 2, &[2, 3, 4, 5, 7]))
+    Ok(is_found(&again.learned, 3, 1) && has_asked(&again, 2, &[2, 3, 4, 5, 7]))
 }
 
 #[test]
@@ -77,7 +78,7 @@ fn a_pool_that_has_learned_learns_again(rt: HostRuntime) -> Result<(), Fail> {
 fn find_one_state<R: Threads + Wait + Sync + Drop>(rt: R, alloc: Global) -> Result<bool, Fail> {
     let pool = pool_of(rt, alloc, &[(0, 0)], 2, None)?;
     let ended = learn_with(pool, alloc, Kind::Table, 1, 4);
-    Ok(is_found(&ended, 1, 0) && has_asked(&ended, 2, &[2]))
+    Ok(is_found(&ended.learned, 1, 0) && has_asked(&ended, 2, &[2]))
 }
 
 #[test]
@@ -87,8 +88,8 @@ fn two_sessions_find_a_machine_of_one_state(rt: HostRuntime) -> Result<(), Fail>
 }
 
 /// Whether it ended with a crowd of so many words.
-fn is_crowd<R>(ended: &LearnedWith<Refusing, R>, count: usize) -> bool {
-    match &ended.learned {
+fn is_crowd(learned: &Result<Learned, LearnStop>, count: usize) -> bool {
+    match learned {
         Err(LearnStop::Crowd(words)) => words.len() == count,
         _ => false,
     }
@@ -98,7 +99,7 @@ fn is_crowd<R>(ended: &LearnedWith<Refusing, R>, count: usize) -> bool {
 fn find_crowd<R: Threads + Wait + Sync + Drop>(rt: R, alloc: Global) -> Result<bool, Fail> {
     let pool = pool_of(rt, alloc, &COUNTER, 2, None)?;
     let ended = learn_with(pool, alloc, Kind::Table, 2, 2);
-    Ok(is_crowd(&ended, 3) && has_asked(&ended, 2, &[2, 3, 4]))
+    Ok(is_crowd(&ended.learned, 3) && has_asked(&ended, 2, &[2, 3, 4]))
 }
 
 #[test]

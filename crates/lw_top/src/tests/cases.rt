@@ -6,7 +6,9 @@ use lw_outside::{MemoryFiles, MemorySink};
 use lw_report::End;
 use std::alloc::Global;
 use std::process::Abort;
+use std::sync::Wait;
 use std::test::Fail;
+use std::thread::Threads;
 
 pub const ONE: &str = "{\"inputs\":[\"t\"],\"outputs\":[\"0\"],\"states\":[[[0,\"0\"]]]}\n";
 
@@ -35,7 +37,7 @@ pub const PLAIN: Case = Case {
     err_plan: &[],
     status: 0,
     out: ONE,
-    err: "unchecked: states 1, answers 2\n",
+    err: "learned: states 1, refinements 0, extra 1, answers 1\n",
 };
 
 pub fn texts(alloc: Global, words: &[&str]) -> Result<Vec<String>, Fail> {
@@ -65,12 +67,17 @@ pub fn sink(alloc: Global, piece: usize, plan: &[u64]) -> Result<MemorySink, Fai
 }
 
 /// Plays a case over these files.
-fn play(rt: &impl Abort, alloc: Global, case: &Case, files: &mut MemoryFiles) -> Result<End, Fail> {
+fn play<R: Abort + Threads + Wait + Sync + Copy + Drop>(
+    rt: R,
+    alloc: Global,
+    case: &Case,
+    files: &mut MemoryFiles,
+) -> Result<End, Fail> {
     assert!(rt; case.piece > 0);
     let mut out = sink(alloc, case.piece, case.out_plan)?;
     let mut err = sink(alloc, case.piece, case.err_plan)?;
     let arguments = texts(alloc, case.arguments)?;
-    let end = run(alloc, &arguments, files, &mut out, &mut err);
+    let end = run(rt, alloc, &arguments, files, &mut out, &mut err);
     assert_eq!(rt; end.status, case.status);
     assert_eq!(rt; out.taken(), case.out.as_bytes());
     assert_eq!(rt; err.taken(), case.err.as_bytes());
@@ -78,14 +85,18 @@ fn play(rt: &impl Abort, alloc: Global, case: &Case, files: &mut MemoryFiles) ->
 }
 
 /// The end of a case over its own file.
-pub fn end_of(rt: &impl Abort, alloc: Global, case: &Case) -> Result<End, Fail> {
+pub fn end_of<R: Abort + Threads + Wait + Sync + Copy + Drop>(
+    rt: R,
+    alloc: Global,
+    case: &Case,
+) -> Result<End, Fail> {
     let mut files = files_of(alloc, case.file, case.file_plan)?;
     play(rt, alloc, case, &mut files)
 }
 
 /// Checks a case over these files.
-pub fn check_over(
-    rt: &impl Abort,
+pub fn check_over<R: Abort + Threads + Wait + Sync + Copy + Drop>(
+    rt: R,
     alloc: Global,
     case: &Case,
     files: &mut MemoryFiles,
@@ -95,7 +106,11 @@ pub fn check_over(
 }
 
 /// Checks a case over its own file.
-pub fn check(rt: &impl Abort, alloc: Global, case: &Case) -> Result<(), Fail> {
+pub fn check<R: Abort + Threads + Wait + Sync + Copy + Drop>(
+    rt: R,
+    alloc: Global,
+    case: &Case,
+) -> Result<(), Fail> {
     let _end = end_of(rt, alloc, case)?;
     Ok(())
 }

@@ -3,13 +3,15 @@ use crate::check_arguments;
 use crate::tests::cases::{Case, PLAIN, check, texts};
 use std::alloc::Global;
 use std::process::Abort;
+use std::sync::Wait;
 use std::test::Fail;
+use std::thread::Threads;
 
 const USAGE: &str =
     "usage: learn (SETUP | --table FILE) [--workers N] [--extra K] [--learner table|ttt] [--max-states N] [--model FILE] [--answers FILE]\n       check MODEL ANSWERS [--extra K]\n       serve MODEL\n       trial --states N --inputs A --seed S [--workers N] [--learner table|ttt]\n";
 
 /// Arguments that are not taken.
-static REFUSED: [&[&str]; 13] = [
+static REFUSED: [&[&str]; 19] = [
     &[],
     &["learn"],
     &["learn", "--table"],
@@ -18,7 +20,15 @@ static REFUSED: [&[&str]; 13] = [
     &["learn", "--table", "m", "--extra", "5"],
     &["learn", "--table", "m", "--extra", "-0"],
     &["learn", "--table", "m", "--max-states", "0"],
-    &["learn", "--table", "m", "--workers", "2"],
+    &["learn", "--table", "m", "--workers", "17"],
+    &["learn", "--table", "m", "--workers", "0"],
+    &["learn", "--table", "m", "--learner", "table"],
+    &["trial", "--states", "3", "--inputs", "1"],
+    &["trial", "--states", "0", "--inputs", "1", "--seed", "0"],
+    &["trial", "--states", "3", "--inputs", "65", "--seed", "0"],
+    &[
+        "trial", "m", "--states", "3", "--inputs", "1", "--seed", "0",
+    ],
     &["learn", "--help"],
     &["--version"],
     &["serve", "m"],
@@ -26,8 +36,8 @@ static REFUSED: [&[&str]; 13] = [
 ];
 
 /// Checks that these arguments are not taken.
-fn check_usage(
-    rt: &impl Abort,
+fn check_usage<R: Abort + Threads + Wait + Sync + Copy + Drop>(
+    rt: R,
     alloc: Global,
     arguments: &'static [&'static str],
 ) -> Result<(), Fail> {
@@ -44,7 +54,7 @@ fn check_usage(
 #[test]
 fn arguments_that_are_not_taken(rt: HostRuntime) -> Result<(), Fail> {
     for arguments in &REFUSED {
-        check_usage(&rt, rt.alloc(), arguments)?;
+        check_usage(rt, rt.alloc(), arguments)?;
     }
     Ok(())
 }
@@ -107,8 +117,8 @@ static FAULTS: [(&str, &str); 14] = [
 ];
 
 /// Checks what is said of a text that is no machine file.
-fn check_fault(
-    rt: &impl Abort,
+fn check_fault<R: Abort + Threads + Wait + Sync + Copy + Drop>(
+    rt: R,
     alloc: Global,
     file: &'static str,
     err: &'static str,
@@ -126,7 +136,7 @@ fn check_fault(
 #[test]
 fn each_fault_of_a_table(rt: HostRuntime) -> Result<(), Fail> {
     for (file, err) in &FAULTS {
-        check_fault(&rt, rt.alloc(), file, err)?;
+        check_fault(rt, rt.alloc(), file, err)?;
     }
     Ok(())
 }

@@ -139,7 +139,7 @@ impl Sul for Refusing {
 }
 
 /// The machine of these rows.
-fn machine(alloc: Global, cells: &[(u16, u16)]) -> Result<Mealy, Fail>
+pub fn machine(alloc: Global, cells: &[(u16, u16)]) -> Result<Mealy, Fail>
     ensures { IfOk result (λ m. (m.inputs ≡ 1) × (m.outputs ≡ 2)) }
 {
     let mut rows = Vec::new(alloc);
@@ -150,7 +150,7 @@ fn machine(alloc: Global, cells: &[(u16, u16)]) -> Result<Mealy, Fail>
 }
 
 /// The outputs' names.
-fn two_names(alloc: Global) -> Result<Names, Fail>
+pub fn two_names(alloc: Global) -> Result<Names, Fail>
     ensures { IfOk result (λ names. length names ≡ 2) }
 {
     let mut texts = Vec::new(alloc);

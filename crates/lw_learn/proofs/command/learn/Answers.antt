@@ -1,29 +1,143 @@
-use Rattle.std.proofs.Common.{◌≡◌, ◌∙◌, ◌+◌, List, ℕ, Option, Some, Err, IfErr, IfSome, false, inr, refl, ap, subst, sym}
-use Rattle.lw_words.specs.Answer.{answers_of}
-use Rattle.lw_words.specs.declared.kept.KeptAnswer.{KeptAnswer}
+use Rattle.std.proofs.Common.{◌≡◌, ◌∙◌, ⊎_elim, List, ℕ, Option, Some, Err, false, length, inr, refl, ap, subst, sym}
+use Rattle.lw_words.specs.Cause.{CountedFault}
 use Rattle.lw_mealy.specs.Limits.{MealyMachine}
 use Rattle.lw_json.specs.declared.machine.Machine.{Machine}
 use Rattle.lw_outside.specs.Files.{Call, noted, read_call}
-use Rattle.lw_report.specs.Outcomes.{StandsOrWants}
+use Rattle.lw_report.specs.Learnings.{HasModel}
 use Rattle.lw_report.specs.Stops.{read_outcome}
-use Rattle.lw_report.specs.Text.{text_of}
-use Rattle.lw_report.specs.Writing.{TakesAll, TakesSome}
-use Rattle.lw_report.specs.declared.outcome.Outcome.{Outcome}
-use Rattle.lw_report.specs.declared.outcome.Outcome.TheVariants.{BadFile, FileTooLong, NoMemory, Unchecked}
 use Rattle.lw_report.specs.declared.role.Role.TheVariants.{Table}
 use Rattle.lw_report.specs.declared.stops.ReadStop.{ReadStop}
-use Rattle.lw_report.proofs.SinkLemmas.{sink_none}
-use Rattle.lw_learn.specs.Calls.{MadeCalls, MadeWrites}
-use Rattle.lw_learn.specs.Kept.{KeepsRuns}
-use Rattle.lw_learn.specs.Outcomes.{IsUngiven, IsUntroubled}
+use Rattle.lw_workers.specs.Machines.{IsWithin}
+use Rattle.lw_learn.specs.Calls.{MadeWrites}
+use Rattle.lw_learn.specs.Outcomes.{IsReachedOutcome, IsUngiven, IsUntroubled}
 use Rattle.lw_learn.specs.Reading.{ReadsTable, TellsLong, TellsNoTable, TellsTable}
-use Rattle.lw_learn.specs.Stops.{CrowdOf, IsCrowdOf, learn_outcome}
-use Rattle.lw_learn.specs.Writing.{AnswersStand, WritesModel, line_of}
-use Rattle.lw_learn.specs.declared.first.FirstStop.TheVariants.{NoMemory as NoMemoryToLearn}
-use Rattle.lw_learn.proofs.ReadLemmas.{bad_not_read, long_not_bad, long_not_read, not_failed, table_not_bad, table_not_long}
-use Rattle.lw_learn.proofs.RunLemmas.{stands_as, told_crowd, ungiven, unread_untroubled}
-use Rattle.lw_learn.proofs.WriteLemmas.{learned_no_bad, learned_no_long, some_writes, stopped_calls, text_same, told_read}
+use Rattle.lw_learn.specs.Writing.{WritesModel}
+use Rattle.lw_learn.proofs.ReadLemmas.{bad_not_read, long_not_bad, not_failed, table_not_bad, table_not_long, told_inputs}
+use Rattle.lw_learn.proofs.RunLemmas.{read_untroubled, some_map, stands_as, ungiven, unread_reached, unread_untroubled}
+use Rattle.lw_learn.proofs.WriteLemmas.{some_writes, told_read}
 use Rattle.lw_learn.proofs.command.learn.Goals as goal
+
+pub returns-in-Ok-clause-model : goal.returns-in-Ok-clause-model
+returns-in-Ok-clause-model g c =
+    let F = g.F.Files in
+    let a = c.args.arguments.now in
+    let m = c.in-Ok.machine in
+    let holds = F.holds c.args.files.now in
+    let before = F.reads c.args.files.now in
+    let end = c.finish.result in
+    let now = F.reads c.finish.new.files in
+    let read : ReadsTable a.table holds before now m =
+    subst (λ (n : List ℕ). ReadsTable n holds before now m) c.table.ensures (subst (λ r. ReadsTable c.table.result.now holds before r m) (sym c.finish.ensures.reads) c.in-Ok.ensures.ok) in
+    let Own : MealyMachine → Type 0 = HasModel (length m.inputs) (length m.outputs) a.extra a.max_states end in
+    some_map end.model Own (λ h. (n : Machine) × ReadsTable a.table holds before now n × HasModel (length n.inputs) (length n.outputs) a.extra a.max_states end h)
+    (λ h is. (m, read, is)) c.finish.ensures.model
+
+pub returns-in-Ok-clause-kept : goal.returns-in-Ok-clause-kept
+returns-in-Ok-clause-kept g c =
+    let F = g.F.Files in
+    let m = c.in-Ok.machine in
+    let holds = F.holds c.args.files.now in
+    let before = F.reads c.args.files.now in
+    let now = F.reads c.finish.new.files in
+    let read : ReadsTable c.args.arguments.now.table holds before now m =
+    subst (λ (n : List ℕ). ReadsTable n holds before now m) c.table.ensures (subst (λ r. ReadsTable c.table.result.now holds before r m) (sym c.finish.ensures.reads) c.in-Ok.ensures.ok) in
+    inr (m, read, c.finish.ensures.kept)
+
+pub returns-in-Ok-clause-reached : goal.returns-in-Ok-clause-reached
+returns-in-Ok-clause-reached g c told rows tells none within gives =
+    let F = g.F.Files in
+    let a = c.args.arguments.now in
+    let m = c.in-Ok.machine in
+    let holds = F.holds c.args.files.now in
+    let before = F.reads c.args.files.now in
+    let now = F.reads c.read_machine_file.new.files in
+    let read : ReadsTable a.table holds before now m = subst (λ (n : List ℕ). ReadsTable n holds before now m) c.table.ensures c.in-Ok.ensures.ok in
+    let after = F.faults c.finish.new.files in
+    c.finish.ensures.reached rows
+    (record { of_files = λ counted. none.of_files (subst (λ (n : ℕ). CountedFault n after) c.in-Ok.ensures.quiet counted); of_out = none.of_out; of_err = none.of_err })
+    (subst (λ (n : ℕ). IsWithin n a.extra a.max_states rows) (told_inputs holds before now a.table told m tells read) within) gives
+
+pub returns-in-Ok-clause-written : goal.returns-in-Ok-clause-written
+returns-in-Ok-clause-written g c =
+    let F = g.F.Files in
+    let O = g.O.Sink in
+    let a = c.args.arguments.now in
+    let m = c.in-Ok.machine in
+    let holds = F.holds c.args.files.now in
+    let before = F.reads c.args.files.now in
+    let end = c.finish.result in
+    let now = F.reads c.finish.new.files in
+    let read : ReadsTable a.table holds before now m =
+    subst (λ (n : List ℕ). ReadsTable n holds before now m) c.table.ensures (subst (λ r. ReadsTable c.table.result.now holds before r m) (sym c.finish.ensures.reads) c.in-Ok.ensures.ok) in
+    let Writes : Machine → MealyMachine → Type 0 = WritesModel a end.kept.answers end.outcome (F.holds c.finish.new.files) (O.taken c.args.out.now, O.taken c.finish.new.out) (O.faults c.args.out.now, O.faults c.finish.new.out) in
+    some_map end.model (Writes m) (λ h. (n : Machine) × ReadsTable a.table holds before now n × Writes n h) (λ h is. (m, read, is)) c.finish.ensures.written
+
+pub returns-in-Ok-clause-said : goal.returns-in-Ok-clause-said
+returns-in-Ok-clause-said g c none =
+    let F = g.F.Files in
+    let m = c.in-Ok.machine in
+    let holds = F.holds c.args.files.now in
+    let before = F.reads c.args.files.now in
+    let now = F.reads c.finish.new.files in
+    let read : ReadsTable c.args.arguments.now.table holds before now m =
+    subst (λ (n : List ℕ). ReadsTable n holds before now m) c.table.ensures (subst (λ r. ReadsTable c.table.result.now holds before r m) (sym c.finish.ensures.reads) c.in-Ok.ensures.ok) in
+    (Some m, read, λ words crowd. refl, c.finish.ensures.said none)
+
+pub returns-in-Ok-clause-bad_file_told : goal.returns-in-Ok-clause-bad_file_told
+returns-in-Ok-clause-bad_file_told g c told =
+    let F = g.F.Files in
+    let holds = F.holds c.args.files.now in
+    absurd (bad_not_read holds (F.reads c.args.files.now) (F.reads c.read_machine_file.new.files) c.table.result.now c.in-Ok.machine (subst (TellsNoTable holds) (sym c.table.ensures) told) c.in-Ok.ensures.ok)
+
+pub returns-in-Ok-clause-file_fault_told : goal.returns-in-Ok-clause-file_fault_told
+returns-in-Ok-clause-file_fault_told g c told =
+    let F = g.F.Files in
+    let a = c.args.arguments.now in
+    let before = F.calls c.args.files.now in
+    let middle = F.calls c.read_machine_file.new.files in
+    let now = F.calls c.finish.new.files in
+    let read : middle ≡ noted (read_call a.table false) before = subst (λ (n : List ℕ). middle ≡ noted (read_call n false) before) c.table.ensures c.in-Ok.ensures.ok_call in
+    let writes = some_writes a c.finish.result.outcome middle now c.finish.ensures.kinds c.finish.ensures.writes in
+    absurd (not_failed a.table before middle now writes.0 read writes.1 told)
+
+pub returns-in-Ok-clause-suite : goal.returns-in-Ok-clause-suite
+returns-in-Ok-clause-suite g c states number is =
+    let F = g.F.Files in
+    let m = c.in-Ok.machine in
+    let holds = F.holds c.args.files.now in
+    let before = F.reads c.args.files.now in
+    let now = F.reads c.finish.new.files in
+    let read : ReadsTable c.args.arguments.now.table holds before now m =
+    subst (λ (n : List ℕ). ReadsTable n holds before now m) c.table.ensures (subst (λ r. ReadsTable c.table.result.now holds before r m) (sym c.finish.ensures.reads) c.in-Ok.ensures.ok) in
+    (m, read, c.finish.ensures.suite states number is)
+
+pub returns-in-Ok-clause-untroubled : goal.returns-in-Ok-clause-untroubled
+returns-in-Ok-clause-untroubled g c told none =
+    let after = g.F.Files.faults c.finish.new.files in
+    read_untroubled c.args.arguments.now c.finish.result.outcome c.finish.ensures.kinds
+    (λ is. ⊎_elim (λ o. none.of_out o) (λ e. none.of_err e) (c.finish.ensures.sink_fault is))
+    (λ role is. none.of_files (subst (λ (n : ℕ). CountedFault n after) c.in-Ok.ensures.quiet (c.finish.ensures.failed role is)))
+
+pub returns-in-Ok-clause-calls : goal.returns-in-Ok-clause-calls
+returns-in-Ok-clause-calls g c =
+    let F = g.F.Files in
+    let a = c.args.arguments.now in
+    let before = F.calls c.args.files.now in
+    let middle = F.calls c.read_machine_file.new.files in
+    let outcome = c.finish.result.outcome in
+    let read : middle ≡ noted (read_call a.table false) before = subst (λ (n : List ℕ). middle ≡ noted (read_call n false) before) c.table.ensures c.in-Ok.ensures.ok_call in
+    let start = read ∙ ap (λ (r : Call). noted r before) (sym (told_read a outcome c.finish.ensures.kinds)) in
+    inr (subst (λ (b : Option (List Call)). MadeWrites a outcome b (F.calls c.finish.new.files)) start c.finish.ensures.writes)
+
+pub returns-in-Err-clause-reached : goal.returns-in-Err-clause-reached
+returns-in-Err-clause-reached g c told rows tells none within gives =
+    let F = g.F.Files in
+    let holds = F.holds c.args.files.now in
+    let here : TellsTable holds c.table.result.now = subst (TellsTable holds) (sym c.table.ensures) (told, tells) in
+    stands_as (IsReachedOutcome (length rows)) (read_outcome Table c.in-Err.stop) c.refuse_table.result.outcome c.refuse_table.ensures.outcome
+    (unread_reached (length rows) c.in-Err.stop (λ e. none.of_files (c.in-Err.ensures.failed (ap (λ (s : ReadStop). Err s) e)))
+    (λ e. table_not_long holds c.table.result.now here (c.in-Err.ensures.long (ap (λ (s : ReadStop). Err s) e)))
+    (λ fault e. table_not_bad holds (F.reads c.args.files.now) (F.reads c.read_machine_file.new.files) c.table.result.now fault here (c.in-Err.ensures.bad fault (ap (λ (s : ReadStop). Err s) e)))) tt
 
 pub returns-in-Err-clause-too_long_told : goal.returns-in-Err-clause-too_long_told
 returns-in-Err-clause-too_long_told g c told =
@@ -41,197 +155,3 @@ returns-in-Err-clause-untroubled g c told none =
     (unread_untroubled c.in-Err.stop (λ e. none.of_files (c.in-Err.ensures.failed (ap (λ (s : ReadStop). Err s) e)))
     (λ e. table_not_long holds c.table.result.now here (c.in-Err.ensures.long (ap (λ (s : ReadStop). Err s) e)))
     (λ fault e. table_not_bad holds (F.reads c.args.files.now) (F.reads c.read_machine_file.new.files) c.table.result.now fault here (c.in-Err.ensures.bad fault (ap (λ (s : ReadStop). Err s) e)))) tt
-
-pub returns-in-Ok-closed-clause-kept : goal.returns-in-Ok-closed-clause-kept
-returns-in-Ok-closed-clause-kept g c =
-    let F = g.F.Files in
-    let m = c.in-Ok.machine in
-    let read : ReadsTable c.args.arguments.now.table (F.holds c.args.files.now) (F.reads c.args.files.now) (F.reads c.write_out.new.files) m =
-    subst (λ (n : List ℕ). ReadsTable n (F.holds c.args.files.now) (F.reads c.args.files.now) (F.reads c.write_out.new.files) m) c.table.ensures
-    (subst (λ r. ReadsTable c.table.result.now (F.holds c.args.files.now) (F.reads c.args.files.now) r m) (sym c.write_out.ensures.reads) c.in-Ok.ensures.ok) in
-    inr (m, read, subst (λ (k : List KeptAnswer). KeepsRuns m.mealy k) (ap (λ k. k.answers) (sym c.write_out.ensures.kept)) c.learn_table-inputs.ensures.kept)
-
-pub returns-in-Ok-closed-clause-written : goal.returns-in-Ok-closed-clause-written
-returns-in-Ok-closed-clause-written g c =
-    let F = g.F.Files in
-    let O = g.O.Sink in
-    let a = c.args.arguments.now in
-    let m = c.in-Ok.machine in
-    let own = c.named-machine.result in
-    let end = c.write_out.result in
-    let read : ReadsTable a.table (F.holds c.args.files.now) (F.reads c.args.files.now) (F.reads c.write_out.new.files) m =
-    subst (λ (n : List ℕ). ReadsTable n (F.holds c.args.files.now) (F.reads c.args.files.now) (F.reads c.write_out.new.files) m) c.table.ensures
-    (subst (λ r. ReadsTable c.table.result.now (F.holds c.args.files.now) (F.reads c.args.files.now) r m) (sym c.write_out.ensures.reads) c.in-Ok.ensures.ok) in
-    let Told : MealyMachine → Type 0 = λ h. (t : Machine) × ReadsTable a.table (F.holds c.args.files.now) (F.reads c.args.files.now) (F.reads c.write_out.new.files) t
-    × WritesModel a end.kept.answers end.outcome (F.holds c.write_out.new.files) (O.taken c.args.out.now, O.taken c.write_out.new.out) (O.faults c.args.out.now, O.faults c.write_out.new.out) t h in
-    let told : Told own.mealy = (
-      m,
-      read,
-      record {
-        model = own;
-        inputs = c.named-machine.ensures.inputs ∙ c.learn_table-inputs.ensures.names.0;
-        outputs = c.named-machine.ensures.outputs ∙ c.learn_table-inputs.ensures.names.1;
-        mealy = refl;
-        file = c.write_out.ensures.files.model;
-        answers = λ h. subst (λ (k : List KeptAnswer). AnswersStand a.answers (F.holds c.write_out.new.files) own k) (ap (λ k. k.answers) (sym c.write_out.ensures.kept)) (c.write_out.ensures.files.answers h);
-        out = c.write_out.ensures.out;
-      },
-    ) in
-    subst (λ (o : Option MealyMachine). IfSome o Told) (sym c.write_out.ensures.model) told
-
-pub returns-in-Ok-closed-clause-said : goal.returns-in-Ok-closed-clause-said
-returns-in-Ok-closed-clause-said g c none =
-    let F = g.F.Files in
-    let E = g.E.Sink in
-    let a = c.args.arguments.now in
-    let m = c.in-Ok.machine in
-    let own = c.named-machine.result in
-    let end = c.write_out.result in
-    let read : ReadsTable a.table (F.holds c.args.files.now) (F.reads c.args.files.now) (F.reads c.write_out.new.files) m =
-    subst (λ (n : List ℕ). ReadsTable n (F.holds c.args.files.now) (F.reads c.args.files.now) (F.reads c.write_out.new.files) m) c.table.ensures
-    (subst (λ r. ReadsTable c.table.result.now (F.holds c.args.files.now) (F.reads c.args.files.now) r m) (sym c.write_out.ensures.reads) c.in-Ok.ensures.ok) in
-    let same = text_same own.inputs m.inputs own.outputs m.outputs c.learn_table-inputs.result.kept.answers end.kept.answers a.extra end.outcome
-    (c.named-machine.ensures.inputs ∙ c.learn_table-inputs.ensures.names.0) (c.named-machine.ensures.outputs ∙ c.learn_table-inputs.ensures.names.1) (ap (λ k. k.answers) (sym c.write_out.ensures.kept)) in
-    (Some m, read, λ words crowd. refl, subst (λ (t : List ℕ). TakesAll t (E.taken c.args.err.now) (E.taken c.write_out.new.err)) same (c.write_out.ensures.said none))
-
-pub returns-in-Ok-closed-clause-in_turn : goal.returns-in-Ok-closed-clause-in_turn
-returns-in-Ok-closed-clause-in_turn g c =
-    let F = g.F.Files in
-    let E = g.E.Sink in
-    let a = c.args.arguments.now in
-    let m = c.in-Ok.machine in
-    let own = c.named-machine.result in
-    let end = c.write_out.result in
-    let read : ReadsTable a.table (F.holds c.args.files.now) (F.reads c.args.files.now) (F.reads c.write_out.new.files) m =
-    subst (λ (n : List ℕ). ReadsTable n (F.holds c.args.files.now) (F.reads c.args.files.now) (F.reads c.write_out.new.files) m) c.table.ensures
-    (subst (λ r. ReadsTable c.table.result.now (F.holds c.args.files.now) (F.reads c.args.files.now) r m) (sym c.write_out.ensures.reads) c.in-Ok.ensures.ok) in
-    let same : (o : Outcome) → text_of own.inputs own.outputs c.learn_table-inputs.result.kept.answers a.extra o ≡ text_of m.inputs m.outputs end.kept.answers a.extra o = λ o.
-    text_same own.inputs m.inputs own.outputs m.outputs c.learn_table-inputs.result.kept.answers end.kept.answers a.extra o
-    (c.named-machine.ensures.inputs ∙ c.learn_table-inputs.ensures.names.0) (c.named-machine.ensures.outputs ∙ c.learn_table-inputs.ensures.names.1) (ap (λ k. k.answers) (sym c.write_out.ensures.kept)) in
-    let line : text_of own.inputs own.outputs c.learn_table-inputs.result.kept.answers a.extra (Unchecked own.mealy) ≡ line_of (Some m) end.kept.answers a.extra end.model =
-    same (Unchecked own.mealy) ∙ ap (λ (o : Option MealyMachine). line_of (Some m) end.kept.answers a.extra o) (sym c.write_out.ensures.model) in
-    let part = c.write_out.ensures.part in (
-      Some m,
-      read,
-      λ words crowd. refl,
-      record {
-        between = part.between;
-        some = subst (λ (t : List ℕ). TakesSome t (E.taken c.args.err.now) part.between) line part.some;
-        then = subst (λ (t : List ℕ). TakesSome t part.between (E.taken c.write_out.new.err)) (same end.outcome) part.then;
-      },
-    )
-
-pub returns-in-Ok-closed-clause-bad_file_told : goal.returns-in-Ok-closed-clause-bad_file_told
-returns-in-Ok-closed-clause-bad_file_told g c told =
-    let F = g.F.Files in
-    let holds = F.holds c.args.files.now in
-    absurd (bad_not_read holds (F.reads c.args.files.now) (F.reads c.read_machine_file.new.files) c.table.result.now c.in-Ok.machine (subst (TellsNoTable holds) (sym c.table.ensures) told) c.in-Ok.ensures.ok)
-
-pub returns-in-Ok-closed-clause-file_fault_told : goal.returns-in-Ok-closed-clause-file_fault_told
-returns-in-Ok-closed-clause-file_fault_told g c told =
-    let F = g.F.Files in
-    let before = F.calls c.args.files.now in
-    let read : F.calls c.read_machine_file.new.files ≡ noted (read_call c.args.arguments.now.table false) before =
-    subst (λ (n : List ℕ). F.calls c.read_machine_file.new.files ≡ noted (read_call n false) before) c.table.ensures c.in-Ok.ensures.ok_call in
-    let writes = some_writes c.args.arguments.now c.named-machine.result.mealy c.write_out.result.outcome (F.calls c.read_machine_file.new.files) (F.calls c.write_out.new.files) c.write_out.ensures.outcome c.write_out.ensures.files.calls in
-    absurd (not_failed c.args.arguments.now.table before (F.calls c.read_machine_file.new.files) (F.calls c.write_out.new.files) writes.0 read writes.1 told)
-
-pub returns-in-Ok-closed-clause-calls : goal.returns-in-Ok-closed-clause-calls
-returns-in-Ok-closed-clause-calls g c =
-    let F = g.F.Files in
-    let a = c.args.arguments.now in
-    let before = F.calls c.args.files.now in
-    let outcome = c.write_out.result.outcome in
-    let read : F.calls c.read_machine_file.new.files ≡ noted (read_call a.table false) before =
-    subst (λ (n : List ℕ). F.calls c.read_machine_file.new.files ≡ noted (read_call n false) before) c.table.ensures c.in-Ok.ensures.ok_call in
-    let own = told_read a c.named-machine.result.mealy outcome c.write_out.ensures.outcome in
-    let start = read ∙ ap (λ (r : Call). noted r before) (sym own) in
-    inr (subst (λ (b : Option (List Call)). MadeWrites a outcome b (F.calls c.write_out.new.files)) start c.write_out.ensures.files.calls)
-
-pub returns-in-Err-closed-clause-kept : goal.returns-in-Err-closed-clause-kept
-returns-in-Err-closed-clause-kept g c =
-    let F = g.F.Files in
-    let m = c.in-Ok.machine in
-    let read : ReadsTable c.args.arguments.now.table (F.holds c.args.files.now) (F.reads c.args.files.now) (F.reads c.read_machine_file.new.files) m =
-    subst (λ (n : List ℕ). ReadsTable n (F.holds c.args.files.now) (F.reads c.args.files.now) (F.reads c.read_machine_file.new.files) m) c.table.ensures c.in-Ok.ensures.ok in
-    inr (m, read, subst (λ (k : List KeptAnswer). KeepsRuns m.mealy k) (ap (λ k. k.answers) (sym c.refuse.ensures.kept)) c.learn_table-inputs.ensures.kept)
-
-pub returns-in-Err-closed-clause-said : goal.returns-in-Err-closed-clause-said
-returns-in-Err-closed-clause-said g c none =
-    let F = g.F.Files in
-    let E = g.E.Sink in
-    let a = c.args.arguments.now in
-    let m = c.in-Ok.machine in
-    let end = c.refuse.result in
-    let read : ReadsTable a.table (F.holds c.args.files.now) (F.reads c.args.files.now) (F.reads c.read_machine_file.new.files) m =
-    subst (λ (n : List ℕ). ReadsTable n (F.holds c.args.files.now) (F.reads c.args.files.now) (F.reads c.read_machine_file.new.files) m) c.table.ensures c.in-Ok.ensures.ok in
-    let same = text_same c.learn_table-inputs.result.inputs m.inputs c.learn_table-inputs.result.outputs m.outputs c.learn_table-inputs.result.kept.answers end.kept.answers a.extra end.outcome
-    c.learn_table-inputs.ensures.names.0 c.learn_table-inputs.ensures.names.1 (ap (λ k. k.answers) (sym c.refuse.ensures.kept)) in
-    let said = subst (λ (x : ℕ). TakesAll (text_of c.learn_table-inputs.result.inputs c.learn_table-inputs.result.outputs c.learn_table-inputs.result.kept.answers x end.outcome) (E.taken c.args.err.now) (E.taken c.refuse.new.err)) c.extra-in-Err-closed.ensures (c.refuse.ensures.said none) in
-    (Some m, read, λ words crowd. refl, subst (λ (t : List ℕ). TakesAll t (E.taken c.args.err.now) (E.taken c.refuse.new.err)) same said)
-
-pub returns-in-Err-closed-clause-in_turn : goal.returns-in-Err-closed-clause-in_turn
-returns-in-Err-closed-clause-in_turn g c =
-    let F = g.F.Files in
-    let E = g.E.Sink in
-    let a = c.args.arguments.now in
-    let m = c.in-Ok.machine in
-    let end = c.refuse.result in
-    let read : ReadsTable a.table (F.holds c.args.files.now) (F.reads c.args.files.now) (F.reads c.read_machine_file.new.files) m =
-    subst (λ (n : List ℕ). ReadsTable n (F.holds c.args.files.now) (F.reads c.args.files.now) (F.reads c.read_machine_file.new.files) m) c.table.ensures c.in-Ok.ensures.ok in
-    let same = text_same c.learn_table-inputs.result.inputs m.inputs c.learn_table-inputs.result.outputs m.outputs c.learn_table-inputs.result.kept.answers end.kept.answers a.extra end.outcome
-    c.learn_table-inputs.ensures.names.0 c.learn_table-inputs.ensures.names.1 (ap (λ k. k.answers) (sym c.refuse.ensures.kept)) in
-    let said = subst (λ (x : ℕ). TakesSome (text_of c.learn_table-inputs.result.inputs c.learn_table-inputs.result.outputs c.learn_table-inputs.result.kept.answers x end.outcome) (E.taken c.args.err.now) (E.taken c.refuse.new.err)) c.extra-in-Err-closed.ensures c.refuse.ensures.part in (
-      Some m,
-      read,
-      λ words crowd. refl,
-      record {
-        between = E.taken c.args.err.now;
-        some = (0, sink_none (E.taken c.args.err.now) (line_of (Some m) end.kept.answers a.extra end.model));
-        then = subst (λ (t : List ℕ). TakesSome t (E.taken c.args.err.now) (E.taken c.refuse.new.err)) same said;
-      },
-    )
-
-pub returns-in-Err-closed-clause-bad_file : goal.returns-in-Err-closed-clause-bad_file
-returns-in-Err-closed-clause-bad_file g c role fault is =
-    let stop = c.in-Err-closed.stop in
-    let stands = subst (λ (o : Outcome). StandsOrWants o c.refuse.result.outcome) c.from.ensures c.refuse.ensures.outcome in
-    absurd (stands_as (λ (o : Outcome). o ≡ BadFile role fault → ⊥) (learn_outcome stop) c.refuse.result.outcome stands (learned_no_bad stop role fault) (λ e. let wrong : NoMemory ≡ BadFile role fault = e in cc) is)
-
-pub returns-in-Err-closed-clause-too_long : goal.returns-in-Err-closed-clause-too_long
-returns-in-Err-closed-clause-too_long g c role is =
-    let stop = c.in-Err-closed.stop in
-    let stands = subst (λ (o : Outcome). StandsOrWants o c.refuse.result.outcome) c.from.ensures c.refuse.ensures.outcome in
-    absurd (stands_as (λ (o : Outcome). o ≡ FileTooLong role → ⊥) (learn_outcome stop) c.refuse.result.outcome stands (learned_no_long stop role) (λ e. let wrong : NoMemory ≡ FileTooLong role = e in cc) is)
-
-pub returns-in-Err-closed-clause-bad_file_told : goal.returns-in-Err-closed-clause-bad_file_told
-returns-in-Err-closed-clause-bad_file_told g c told =
-    let F = g.F.Files in
-    let holds = F.holds c.args.files.now in
-    absurd (bad_not_read holds (F.reads c.args.files.now) (F.reads c.read_machine_file.new.files) c.table.result.now c.in-Ok.machine (subst (TellsNoTable holds) (sym c.table.ensures) told) c.in-Ok.ensures.ok)
-
-pub returns-in-Err-closed-clause-too_long_told : goal.returns-in-Err-closed-clause-too_long_told
-returns-in-Err-closed-clause-too_long_told g c told =
-    let F = g.F.Files in
-    let holds = F.holds c.args.files.now in
-    absurd (long_not_read holds (F.reads c.args.files.now) (F.reads c.read_machine_file.new.files) c.table.result.now c.in-Ok.machine (subst (TellsLong holds) (sym c.table.ensures) told) c.in-Ok.ensures.ok)
-
-pub returns-in-Err-closed-clause-crowd : goal.returns-in-Err-closed-clause-crowd
-returns-in-Err-closed-clause-crowd g c apart is =
-    let kept = c.learn_table-inputs.result.kept.answers in
-    let most = c.args.arguments.now.max_states in
-    let stop : CrowdOf (answers_of kept) (most + 1) c.in-Err-closed.stop =
-    subst (λ (n : ℕ). CrowdOf (answers_of kept) (n + 1) c.in-Err-closed.stop) c.max_states.ensures.value (subst (λ r. IfErr r (CrowdOf (answers_of kept) (c.max_states.result + 1))) c.in-Err-closed.is c.learn_table-inputs.ensures.crowd) in
-    subst (λ (k : List KeptAnswer). IsCrowdOf (answers_of k) (most + 1) apart) (ap (λ k. k.answers) (sym c.refuse.ensures.kept))
-    (told_crowd (answers_of kept) (most + 1) c.in-Err-closed.stop c.from.result c.refuse.result.outcome apart stop c.from.ensures c.refuse.ensures.outcome is)
-
-pub returns-in-Err-closed-clause-calls : goal.returns-in-Err-closed-clause-calls
-returns-in-Err-closed-clause-calls g c =
-    let F = g.F.Files in
-    let a = c.args.arguments.now in
-    let before = F.calls c.args.files.now in
-    let now = F.calls c.read_machine_file.new.files in
-    let stop = c.in-Err-closed.stop in
-    let read : now ≡ noted (read_call a.table false) before = subst (λ (n : List ℕ). now ≡ noted (read_call n false) before) c.table.ensures c.in-Ok.ensures.ok_call in
-    let stands = subst (λ (o : Outcome). StandsOrWants o c.refuse.result.outcome) c.from.ensures c.refuse.ensures.outcome in
-    stands_as (λ (o : Outcome). MadeCalls a o before now) (learn_outcome stop) c.refuse.result.outcome stands (stopped_calls a stop before now read) (stopped_calls a NoMemoryToLearn before now read)

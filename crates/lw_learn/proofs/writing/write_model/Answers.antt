@@ -6,7 +6,7 @@ use Rattle.lw_report.specs.Stops.{tell_outcome}
 use Rattle.lw_report.specs.Text.{text_of}
 use Rattle.lw_report.specs.Writing.{TakesAll, TakesSome}
 use Rattle.lw_report.specs.declared.outcome.Outcome.{Outcome}
-use Rattle.lw_report.specs.declared.outcome.Outcome.TheVariants.{SinkFault, Unchecked}
+use Rattle.lw_report.specs.declared.outcome.Outcome.TheVariants.{SinkFault, Learned}
 use Rattle.lw_report.specs.declared.stops.TellStop.{TellStop}
 use Rattle.lw_report.specs.declared.stops.TellStop.TheVariants.{NoMemory, Sink}
 use Rattle.lw_learn.specs.Writing.{Stands, WritesFiles, WritesOut}
@@ -17,7 +17,7 @@ pub returns-in_err-texts-clause-out : goal.returns-in_err-texts-clause-out
 returns-in_err-texts-clause-out g c =
     let taken = g.O.Sink.taken c.args.out.now in
     let faults : ℕ × ℕ = (g.O.Sink.faults c.args.out.now, g.O.Sink.faults c.args.out.now) in
-    let is = told_err c.args.machine.now.mealy c.from_residual-in_err-texts.result NoMemory c.from_residual-in_err-texts.ensures.1 in
+    let is = told_err c.args.machine.now.mealy c.args.refinements c.from_residual-in_err-texts.result NoMemory c.from_residual-in_err-texts.ensures.1 in
     subst (λ (o : Outcome). WritesOut c.args.arguments.now.model (written_text c.args.machine.now) o (taken, taken) faults) (sym is)
     (out_before c.args.arguments.now.model (written_text c.args.machine.now) taken faults NoMemory (λ e. let wrong : NoMemory ≡ Sink = e in cc))
 
@@ -26,7 +26,7 @@ returns-in_err-write_files-clause-out g c =
     let taken = g.O.Sink.taken c.args.out.now in
     let faults : ℕ × ℕ = (g.O.Sink.faults c.args.out.now, g.O.Sink.faults c.args.out.now) in
     let stop = c.in_err-write_files.field-0.0 in
-    let is = told_err c.args.machine.now.mealy c.from_residual-in_err-write_files.result stop c.from_residual-in_err-write_files.ensures.1 in
+    let is = told_err c.args.machine.now.mealy c.args.refinements c.from_residual-in_err-write_files.result stop c.from_residual-in_err-write_files.ensures.1 in
     subst (λ (o : Outcome). WritesOut c.args.arguments.now.model (written_text c.args.machine.now) o (taken, taken) faults) (sym is)
     (out_before c.args.arguments.now.model (written_text c.args.machine.now) taken faults stop (λ e. c.in_err-write_files.ensures.no_sink (ap (λ (s : TellStop). Err s) e)))
 
@@ -39,7 +39,7 @@ returns-in_err-put_streams-clause-files g c =
     let holds = F.holds c.write_files.new.files in
     let calls : Option (List Call) × Option (List Call) = (F.calls c.args.files.now, F.calls c.write_files.new.files) in
     let stop = c.in_err-put_streams.field-0.0 in
-    let is = told_err m.mealy c.from_residual-in_err-put_streams.result stop c.from_residual-in_err-put_streams.ensures.1 ∙ ap tell_outcome c.in_err-put_streams.ensures.sink in
+    let is = told_err m.mealy c.args.refinements c.from_residual-in_err-put_streams.result stop c.from_residual-in_err-put_streams.ensures.1 ∙ ap tell_outcome c.in_err-put_streams.ensures.sink in
     let done : WritesFiles a m kept SinkFault holds calls = record {
       model = λ _ differ. subst (λ (t : List ℕ). Stands a.model holds t) c.in_ok-texts.ensures.model (c.in_ok-write_files.ensures.model differ);
       answers = λ _. answers_stand a.answers holds m kept c.in_ok-texts.texts.answers.items c.in_ok-texts.ensures.answers c.in_ok-write_files.ensures.answers;
@@ -63,11 +63,11 @@ returns-clause-files g c =
 pub returns-clause-line : goal.returns-clause-line
 returns-clause-line g c =
     let m = c.args.machine.now in
-    let line = c.in_ok-texts.ensures.line ∙ ap (λ (h : MealyMachine). text_of m.inputs m.outputs c.args.kept.now.answers c.args.arguments.now.extra (Unchecked h)) c.in_ok-copy.ensures in
+    let line = c.in_ok-texts.ensures.line ∙ ap (λ (h : MealyMachine). text_of m.inputs m.outputs c.args.kept.now.answers c.args.arguments.now.extra (Learned h c.args.refinements)) c.in_ok-copy.ensures in
     subst (λ (t : List ℕ). TakesAll t (g.E.Sink.taken c.args.err.now) (g.E.Sink.taken c.put_streams.new.err)) line c.in_ok-put_streams.ensures.line
 
 pub returns-clause-line_part : goal.returns-clause-line_part
 returns-clause-line_part g c =
     let m = c.args.machine.now in
-    let line = c.in_ok-texts.ensures.line ∙ ap (λ (h : MealyMachine). text_of m.inputs m.outputs c.args.kept.now.answers c.args.arguments.now.extra (Unchecked h)) c.in_ok-copy.ensures in
+    let line = c.in_ok-texts.ensures.line ∙ ap (λ (h : MealyMachine). text_of m.inputs m.outputs c.args.kept.now.answers c.args.arguments.now.extra (Learned h c.args.refinements)) c.in_ok-copy.ensures in
     subst (λ (t : List ℕ). TakesSome t (g.E.Sink.taken c.args.err.now) (g.E.Sink.taken c.put_streams.new.err)) line c.in_ok-put_streams.ensures.line_part

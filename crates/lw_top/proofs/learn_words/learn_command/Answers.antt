@@ -5,8 +5,9 @@ use Rattle.lw_top.proofs.learn_words.learn_command.Goals as goal
 pub returns : goal.returns
 returns c =
     c.in_ok-command.ensures.shape c.text_option-3.ensures.local
-    ∙ ap₂ with_rule (c.in_ok-arg-4.ensures.shape c.text_option-2.ensures.local
-    ∙ ap₂ with_rule (c.in_ok-arg-3.ensures.shape c.states_option.ensures.local
-    ∙ ap₂ with_rule (c.in_ok-arg-2.ensures.shape c.extra_option.ensures.local
+    ∙ ap₂ with_rule (c.in_ok-arg-5.ensures.shape c.text_option-2.ensures.local
+    ∙ ap₂ with_rule (c.in_ok-arg-4.ensures.shape c.states_option.ensures.local
+    ∙ ap₂ with_rule (c.in_ok-arg-3.ensures.shape c.extra_option.ensures.local
+    ∙ ap₂ with_rule (c.in_ok-arg-2.ensures.shape c.workers_option.ensures.local
     ∙ ap₂ with_rule (c.in_ok-arg.ensures.shape c.text_option.ensures.local
-    ∙ ap₂ with_rule c.new.ensures.app c.text_option.ensures.rule) c.extra_option.ensures.rule) c.states_option.ensures.rule) c.text_option-2.ensures.rule) c.text_option-3.ensures.rule
+    ∙ ap₂ with_rule c.new.ensures.app c.text_option.ensures.rule) c.workers_option.ensures.rule) c.extra_option.ensures.rule) c.states_option.ensures.rule) c.text_option-2.ensures.rule) c.text_option-3.ensures.rule

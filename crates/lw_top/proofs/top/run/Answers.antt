@@ -7,8 +7,11 @@ use Rattle.lw_top.specs.CheckCommand.{check_values}
 use Rattle.lw_top.specs.CommandLine.{texts}
 use Rattle.lw_top.specs.LearnCommand.{learn_values}
 use Rattle.lw_top.specs.Run.{IsRefused}
+use Rattle.lw_top.specs.TrialCommand.{trial_values}
+use Rattle.lw_trial.specs.TrialRun.{IsTrialRun}
 use Rattle.lw_top.specs.declared.values.ArgumentStop.{ArgumentStop}
 use Rattle.lw_top.proofs.CheckLemmas.{wanted_check}
+use Rattle.lw_top.proofs.TrialLemmas.{wanted_trial}
 use Rattle.lw_top.proofs.RunLemmas.{at_value, by_value, none_is_some, not_usage, wanted_run}
 use Rattle.lw_top.proofs.top.run.Goals as goal
 
@@ -57,6 +60,7 @@ returns-in-Err-clause-learn g c =
       files = refl;
       out = refl;
       model = c.refuse_arguments.ensures.model;
+      learner = c.refuse_arguments.ensures.learner;
       kept = c.refuse_arguments.ensures.kept;
       said = c.refuse_arguments.ensures.said;
       part = c.refuse_arguments.ensures.part;
@@ -80,6 +84,7 @@ returns-in-Err-clause-check g c =
       files = refl;
       out = refl;
       model = c.refuse_arguments.ensures.model;
+      learner = c.refuse_arguments.ensures.learner;
       kept = c.refuse_arguments.ensures.kept;
       said = c.refuse_arguments.ensures.said;
       part = c.refuse_arguments.ensures.part;
@@ -87,3 +92,42 @@ returns-in-Err-clause-check g c =
     by_value (check_values (texts c.args.arguments.now)) (λ a. IsCheckRun a.model a.answers a.extra f f o o e d end) (λ a is.
     wanted_check a.model a.answers a.extra f o e d end (not_usage c.in-Err.stop end.outcome outcome (λ u.
     none_is_some a (sym (c.in-Err.ensures.refused (ap (λ (s : ArgumentStop). Err s) u)).1 ∙ is))) refused)
+
+pub returns-in-Trial-clause-trial : goal.returns-in-Trial-clause-trial
+returns-in-Trial-clause-trial g c =
+    let O = g.O.Sink in
+    let E = g.E.Sink in
+    let o = sink_state (O.taken c.args.out.now) (O.faults c.args.out.now) in
+    let p = sink_state (O.taken c.run_trial.new.out) (O.faults c.run_trial.new.out) in
+    let e = sink_state (E.taken c.args.err.now) (E.faults c.args.err.now) in
+    let d = sink_state (E.taken c.run_trial.new.err) (E.faults c.run_trial.new.err) in
+    let words = texts c.args.arguments.now in
+    let is = subst (IsCall words) c.in-Trial.is c.in-Ok.ensures.ok in
+    at_value (trial_values words) c.in-Trial.values (λ v. IsTrialRun v o p e d c.run_trial.result) is.2 c.run_trial.ensures.all
+
+pub returns-in-Err-clause-trial : goal.returns-in-Err-clause-trial
+returns-in-Err-clause-trial g c =
+    let F = g.F.Files in
+    let O = g.O.Sink in
+    let E = g.E.Sink in
+    let f = files_state (F.holds c.args.files.now) (F.calls c.args.files.now) (F.reads c.args.files.now) (F.faults c.args.files.now) in
+    let o = sink_state (O.taken c.args.out.now) (O.faults c.args.out.now) in
+    let e = sink_state (E.taken c.args.err.now) (E.faults c.args.err.now) in
+    let d = sink_state (E.taken c.refuse_arguments.new.err) (E.faults c.refuse_arguments.new.err) in
+    let end = c.refuse_arguments.result in
+    let outcome = c.refuse_arguments.ensures.outcome in
+    let refused : IsRefused f f o o e d end = record {
+      files = refl;
+      out = refl;
+      model = c.refuse_arguments.ensures.model;
+      learner = c.refuse_arguments.ensures.learner;
+      kept = c.refuse_arguments.ensures.kept;
+      said = c.refuse_arguments.ensures.said;
+      part = c.refuse_arguments.ensures.part;
+    } in
+    by_value (trial_values (texts c.args.arguments.now)) (λ v. IsTrialRun v o o e d end) (λ v is.
+    wanted_trial v f o e d end (not_usage c.in-Err.stop end.outcome outcome (λ u.
+    none_is_some v (sym (c.in-Err.ensures.refused (ap (λ (s : ArgumentStop). Err s) u)).2 ∙ is))) refused)
+
+pub returns-in-Err-clause-untouched : goal.returns-in-Err-clause-untouched
+returns-in-Err-clause-untouched g c = by_value (trial_values (texts c.args.arguments.now)) _ (λ v is. refl)

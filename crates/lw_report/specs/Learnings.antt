@@ -1,0 +1,42 @@
+-- What the end of a learning says, of a system over a inputs and b outputs, with k extra states and at most so many states.
+use Rattle.std.specs.Prelude.{◌≡◌, ℕ, ◌+◌, ◌≤◌, List, length, Some}
+use Rattle.lw_words.specs.Answer.{Answer, answers_of}
+use Rattle.lw_mealy.specs.Gives.{Gives}
+use Rattle.lw_mealy.specs.Limits.{MealyMachine}
+use Rattle.lw_mealy.specs.Machine.{Rows, IsMachine}
+use Rattle.lw_separate.specs.Canonical.{IsCanonical}
+use Rattle.lw_rounds.specs.Learned.{IsCertified, IsReadOff, IsTooLarge}
+use Rattle.lw_rounds.specs.declared.stops.LearnStop.{LearnStop}
+use Rattle.lw_rounds.specs.declared.stops.LearnStop.TheVariants as learn
+use Rattle.lw_table.specs.Table.{TableState}
+use Rattle.lw_report.specs.declared.«end».End.{End}
+use Rattle.lw_report.specs.declared.outcome.Outcome.{Outcome}
+use Rattle.lw_report.specs.declared.outcome.Outcome.TheVariants.{NoMemory, TooManyStates, SuiteTooLarge}
+
+-- the end has this model, and the kept answers fix it
+pub record HasModel (a b k most : ℕ) (end : End) (h : MealyMachine) : Type 0 where
+  -- complete, within the limits and in canonical form; it gives the kept answers; and every machine of at most k states more
+  -- that gives them does on every word what the model does
+  pub certified : IsCertified a b k (answers_of end.kept.answers) h
+  -- so it is the canonical form of each such machine
+  pub canonical : (m : Rows) → IsMachine a m → length m ≤ length h.rows + k → Gives m (answers_of end.kept.answers) → IsCanonical a m h.rows
+  -- no machine of fewer states gives the answers
+  pub least : (m : Rows) → IsMachine a m → Gives m (answers_of end.kept.answers) → length h.rows ≤ length m
+  -- the closed table that it is read off is carried, and the refinements are those of the table, fewer than the states
+  pub table : TableState
+  pub carried : end.table ≡ Some table
+  pub read_off : IsReadOff a b most (answers_of end.kept.answers) h.rows table
+  pub counted : end.refinements ≡ table.refinements
+
+-- so many states is the least number of a machine that gives the answers, and its suite, of this size, is too large
+pub record HasLargeSuite (a b k most : ℕ) (ks : List Answer) (states number : ℕ) : Type 0 where
+  pub model : MealyMachine
+  pub large : IsTooLarge a b k most ks model number
+  pub states_are : states ≡ length model.rows
+  pub least : (m : Rows) → IsMachine a m → Gives m ks → states ≤ length m
+
+-- what a learning comes to that stopped so, where no system stopped and no answers clashed
+abbrev pub learn_outcome : LearnStop → Outcome
+learn_outcome (learn.Ask stop) = NoMemory
+learn_outcome (learn.Crowd words) = TooManyStates words
+learn_outcome (learn.TooLarge model number) = SuiteTooLarge (length model.rows) number

@@ -1,0 +1,52 @@
+-- Calls of `trial` for whose arguments there was no memory.
+use Rattle.std.proofs.Common.{◌≡◌, ◌∙◌, ℕ, ◌<◌, List, [], Option, Some, None, IfSome, refl, sym, subst, arith}
+use Rattle.std.proofs.lemmas.List.Elements.{All-nil}
+use Rattle.lw_words.specs.Answer.{IsAnswer}
+use Rattle.lw_words.specs.Word.{IsWord}
+use Rattle.lw_words.specs.declared.kept.KeptAnswer.{KeptAnswer}
+use Rattle.lw_mealy.specs.Limits.{MealyMachine}
+use Rattle.lw_workers.specs.Machines.{KeepsRuns}
+use Rattle.lw_report.specs.Learnings.{HasModel}
+use Rattle.lw_report.specs.States.{FilesState, SinkState}
+use Rattle.lw_report.specs.Writing.{TakesAll, TakesSome, said_text}
+use Rattle.lw_report.specs.declared.«end».End.{End}
+use Rattle.lw_report.specs.declared.outcome.Outcome.{Outcome}
+use Rattle.lw_report.specs.declared.outcome.Outcome.TheVariants.{NoMemory, SinkFault, SuiteTooLarge, Trial}
+use Rattle.lw_trial.specs.Arguments.{TrialValues}
+use Rattle.lw_trial.specs.TrialRun.{IsReachedTrial, IsTrial, IsTrialOutcome, IsTrialRun, drawn_machine}
+use Rattle.lw_top.specs.Run.{IsRefused}
+
+-- no answers are runs of any machine
+keeps_nothing : (t : MealyMachine) (n : ℕ) → KeepsRuns t n []
+keeps_nothing t n = record {
+  instances_are = All-nil (λ k. k.instance < n);
+  numbered = λ i lt. refl;
+  words = All-nil (IsAnswer t.inputs);
+  outputs = All-nil (λ k. IsWord t.outputs k.outs);
+  gives = All-nil _;
+  once = λ i d from to known. omega (arith, to);
+}
+
+-- the end of a call that touched nothing, which is out of memory, is one that `trial` may come to
+pub wanted_trial : (v : TrialValues) (f : FilesState) (o e d : SinkState) (end : End) → end.outcome ≡ NoMemory → IsRefused f f o o e d end → IsTrialRun v o o e d end
+wanted_trial v f o e d end out r =
+    let said : (oc : Outcome) → oc ≡ NoMemory → TakesAll (said_text None None [] 0 oc) e.taken d.taken → TakesAll (said_text None None end.kept.answers 1 oc) e.taken d.taken = λ oc is t.
+    subst (λ (x : Outcome). TakesAll (said_text None None end.kept.answers 1 x) e.taken d.taken) (sym is) (subst (λ (x : Outcome). TakesAll (said_text None None [] 0 x) e.taken d.taken) is t) in
+    let part : (oc : Outcome) → oc ≡ NoMemory → TakesSome (said_text None None [] 0 oc) e.taken d.taken → TakesSome (said_text None None end.kept.answers 1 oc) e.taken d.taken = λ oc is t.
+    subst (λ (x : Outcome). TakesSome (said_text None None end.kept.answers 1 x) e.taken d.taken) (sym is) (subst (λ (x : Outcome). TakesSome (said_text None None [] 0 x) e.taken d.taken) is t) in
+    record {
+      model = subst (λ (m : Option MealyMachine). IfSome m (HasModel v.inputs 2 1 1024 end)) (sym r.model) tt;
+      without = λ _. r.learner;
+      told = λ t is. let wrong : NoMemory ≡ Trial t = sym out ∙ is in absurd (cc);
+      quiet = λ is. absurd (subst IsTrial out is);
+      kept = subst (λ (k : List KeptAnswer). KeepsRuns (drawn_machine v) v.workers k) (sym r.kept) (keeps_nothing (drawn_machine v) v.workers);
+      reached = λ small one other. subst (IsReachedTrial v.states) (sym out) tt;
+      written = λ is. absurd (subst IsTrial out is);
+      part = λ other. absurd (other refl);
+      unwritten = λ _ _. refl;
+      said = λ _ quiet. said end.outcome out (r.said quiet);
+      said_part = λ _. part end.outcome out r.part;
+      kinds = subst IsTrialOutcome (sym out) tt;
+      sink_fault = λ is. let wrong : NoMemory ≡ SinkFault = sym out ∙ is in absurd (cc);
+      suite = λ states number is. let wrong : NoMemory ≡ SuiteTooLarge states number = sym out ∙ is in absurd (cc);
+    }

@@ -1,0 +1,12 @@
+use Rattle.std.proofs.Common.{arith, codes}
+use Rattle.clap.specs.Words.{found_of, one_of, rows_of}
+use Rattle.lw_top.proofs.ValueLemmas.{number_bounds}
+use Rattle.lw_top.proofs.trial_words.values_of.Goals as goal
+
+pub overflow_cast-states : goal.overflow_cast-states
+overflow_cast-states c =
+    let bounds = number_bounds 1 1024 c.in-Some.states (one_of (codes "states") (rows_of (found_of c.args.matches.now))) c.in-Some.ensures in
+    omega (arith, bounds.1)
+
+pub new-requires-clause-states : goal.new-requires-clause-states
+new-requires-clause-states c = number_bounds 1 1024 c.in-Some.states (one_of (codes "states") (rows_of (found_of c.args.matches.now))) c.in-Some.ensures

@@ -1,0 +1,45 @@
+use Rattle.std.proofs.Common.{Ok, Err, Result, ap, subst}
+use Rattle.lw_rounds.specs.declared.learned.Learned.{Learned}
+use Rattle.lw_rounds.specs.declared.stops.LearnStop.{LearnStop}
+use Rattle.lw_report.specs.Outcomes.{StandsOrWants}
+use Rattle.lw_report.specs.States.{sink_state}
+use Rattle.lw_report.specs.declared.outcome.Outcome.{Outcome}
+use Rattle.lw_trial.proofs.RunLemmas.{HasCome, few_refinements, of_drawn, stopped_run}
+use Rattle.lw_trial.proofs.command.learn.Goals as goal
+
+pub report-requires-clause-reached : goal.report-requires-clause-reached
+report-requires-clause-reached g c =
+    let v = c.args.arguments.now in
+    let came = c.learn_machine-learned.ensures in
+    let kept = c.learn_machine-learned.result.kept.answers in
+    let all : HasCome c.args.drawn.now.machine c.workers.result kept c.learn_machine-learned.result.learned = record {
+      within = c.requires.complete;
+      runs = came.kept;
+      stops = came.stops;
+      reached = came.reached;
+    } in
+    let ok = subst (λ (r : Result Learned LearnStop). HasCome c.args.drawn.now.machine c.workers.result kept r) c.in-Ok.is all in
+    few_refinements v kept c.in-Ok.learned (of_drawn v c.args.drawn.now.machine c.workers.result kept (Ok c.in-Ok.learned) c.requires.machine c.workers.ensures.value ok)
+
+pub returns-in-Err-clause-ran : goal.returns-in-Err-clause-ran
+returns-in-Err-clause-ran g c =
+    let O = g.O.Sink in
+    let E = g.E.Sink in
+    let v = c.args.arguments.now in
+    let o = sink_state (O.taken c.args.out.now) (O.faults c.args.out.now) in
+    let e = sink_state (E.taken c.args.err.now) (E.faults c.args.err.now) in
+    let d = sink_state (E.taken c.refuse.new.err) (E.faults c.refuse.new.err) in
+    let end = c.refuse.result in
+    let refused = c.refuse.ensures in
+    let came = c.learn_machine-learned.ensures in
+    let kept = c.learn_machine-learned.result.kept.answers in
+    let stop = c.in-Err.stop in
+    let all : HasCome c.args.drawn.now.machine c.workers.result kept c.learn_machine-learned.result.learned = record {
+      within = c.requires.complete;
+      runs = came.kept;
+      stops = came.stops;
+      reached = came.reached;
+    } in
+    let err = subst (λ (r : Result Learned LearnStop). HasCome c.args.drawn.now.machine c.workers.result kept r) c.in-Err.is all in
+    let stands = subst (λ (x : Outcome). StandsOrWants x end.outcome) c.learn_outcome.ensures refused.outcome in
+    stopped_run v o e d end stop kept (of_drawn v c.args.drawn.now.machine c.workers.result kept (Err stop) c.requires.machine c.workers.ensures.value err) (ap (λ k. k.answers) refused.kept) refused.model refused.learner stands refused.said refused.part

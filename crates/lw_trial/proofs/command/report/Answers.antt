@@ -1,0 +1,72 @@
+use Rattle.std.proofs.Common.{◌≢◌, Err, ap, length, subst}
+use Rattle.lw_mealy.specs.Limits.{MealyMachine}
+use Rattle.lw_report.specs.Outcomes.{StandsOrWants}
+use Rattle.lw_report.specs.States.{sink_state}
+use Rattle.lw_report.specs.Text.{trial_lines}
+use Rattle.lw_report.specs.Writing.{TakesSome}
+use Rattle.lw_report.specs.declared.outcome.Outcome.{Outcome}
+use Rattle.lw_report.specs.declared.outcome.Tried.{Tried}
+use Rattle.lw_report.specs.declared.stops.TellStop.{TellStop}
+use Rattle.lw_trial.specs.bodies.Told.{IsToldOf}
+use Rattle.lw_trial.proofs.RunLemmas.{IsCarried, IsUntold, tell_cause, tried_run, untold_run}
+use Rattle.lw_trial.proofs.command.report.Goals as goal
+
+pub returns-in-Ok-clause-ran : goal.returns-in-Ok-clause-ran
+returns-in-Ok-clause-ran g c =
+    let O = g.O.Sink in
+    let E = g.E.Sink in
+    let v = c.args.arguments.now in
+    let o = sink_state (O.taken c.args.out.now) (O.faults c.args.out.now) in
+    let p = sink_state (O.taken c.tell.new.out) (O.faults c.tell.new.out) in
+    let e = sink_state (E.taken c.args.err.now) (E.faults c.args.err.now) in
+    let end = c.with_model.result in
+    let made = c.with_model.ensures in
+    let h = c.args.learned.model in
+    let table = c.args.learned.table in
+    let kept = c.args.kept.answers in
+    let carried : IsCarried v end h table kept = record {
+      model = made.model;
+      carried = made.table;
+      counted = made.refinements;
+      keeps = ap (λ k. k.answers) made.kept;
+      runs = c.requires.kept;
+      learned = c.requires.learned;
+      reached = c.requires.reached;
+    } in
+    let told = subst (λ (m : MealyMachine). IsToldOf v m h table.refinements (length kept) c.in-Ok.tried) c.requires.machine c.in-Ok.ensures.told in
+    tried_run v o p e end h table kept c.in-Ok.tried carried made.outcome told c.in-Ok.ensures.ok c.in-Ok.ensures.quiet
+
+pub returns-in-Err-clause-ran : goal.returns-in-Err-clause-ran
+returns-in-Err-clause-ran g c =
+    let O = g.O.Sink in
+    let E = g.E.Sink in
+    let v = c.args.arguments.now in
+    let o = sink_state (O.taken c.args.out.now) (O.faults c.args.out.now) in
+    let p = sink_state (O.taken c.tell.new.out) (O.faults c.tell.new.out) in
+    let e = sink_state (E.taken c.args.err.now) (E.faults c.args.err.now) in
+    let d = sink_state (E.taken c.say-outcome.new.err) (E.faults c.say-outcome.new.err) in
+    let end = c.with_model-in-Err.result in
+    let made = c.with_model-in-Err.ensures in
+    let h = c.args.learned.model in
+    let table = c.args.learned.table in
+    let kept = c.args.kept.answers in
+    let stop = c.in-Err.stop in
+    let why = c.in-Err.ensures in
+    let now = c.say-outcome.result in
+    let carried : IsCarried v end h table kept = record {
+      model = made.model;
+      carried = made.table;
+      counted = made.refinements;
+      keeps = ap (λ k. k.answers) made.kept;
+      runs = c.requires.kept;
+      learned = c.requires.learned;
+      reached = c.requires.reached;
+    } in
+    let stands = subst (λ (x : Outcome). StandsOrWants x now) c.from.ensures c.say-outcome.ensures.outcome in
+    let untold : IsUntold v o p e d h table now kept = record {
+      cause = tell_cause o p stop (λ role is. why.no_file role (ap (λ (s : TellStop). Err s) is)) (λ is. why.failed (ap (λ (s : TellStop). Err s) is)) (λ is. why.memory (ap (λ (s : TellStop). Err s) is)) now stands;
+      some = subst (λ (m : MealyMachine). p.taken ≢ o.taken → (t : Tried) × IsToldOf v m h table.refinements (length kept) t × TakesSome (trial_lines t) o.taken p.taken) c.requires.machine why.part;
+      said = c.say-outcome.ensures.said;
+      part = c.say-outcome.ensures.part;
+    } in
+    untold_run v o p e d end h table kept now carried made.outcome untold

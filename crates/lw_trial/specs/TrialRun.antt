@@ -1,0 +1,80 @@
+-- What a call of `trial` did, for callers: all that its contract says, in one record.
+use Rattle.std.specs.Prelude.{◌≡◌, ◌≢◌, ◌↔◌, ℕ, ◌<◌, ◌≤◌, length, true, None, Some, IfSome}
+use Rattle.lw_words.specs.Answer.{answers_of}
+use Rattle.lw_words.specs.Cause.{CountedFault}
+use Rattle.lw_mealy.specs.Limits.{MealyMachine, mealy_of}
+use Rattle.lw_separate.specs.Canonical.{IsCanonical}
+use Rattle.lw_suite.specs.Size.{suite_size, greatest_suite}
+use Rattle.lw_workers.specs.Machines.{KeepsRuns}
+use Rattle.lw_report.specs.Ends.{IsWithoutLearner}
+use Rattle.lw_report.specs.Learnings.{HasModel, HasLargeSuite}
+use Rattle.lw_report.specs.States.{SinkState}
+use Rattle.lw_report.specs.Writing.{TakesAll, TakesSome, said_text}
+use Rattle.lw_report.specs.declared.«end».End.{End}
+use Rattle.lw_report.specs.declared.outcome.Outcome.{Outcome}
+use Rattle.lw_report.specs.declared.outcome.Outcome.TheVariants.{NoMemory, SinkFault, SuiteTooLarge, Trial}
+use Rattle.lw_report.specs.declared.outcome.Tried.{Tried}
+use Rattle.lw_trial.specs.Arguments.{TrialValues}
+use Rattle.lw_trial.specs.Drawn.{drawn_rows}
+
+-- the machine that is drawn
+abbrev pub drawn_machine : TrialValues → MealyMachine
+drawn_machine v = mealy_of v.inputs 2 (drawn_rows v.states v.inputs v.seed)
+
+-- what is told of a trial: the arguments; the states of the model, the refinements and the number of the kept answers; and that
+-- the two are equal exactly where the model is the canonical form of the machine that was drawn
+pub record IsTried (v : TrialValues) (end : End) (t : Tried) : Type 0 where
+  pub states : t.states ≡ v.states
+  pub inputs : t.inputs ≡ v.inputs
+  pub seed : t.seed ≡ v.seed
+  pub model : MealyMachine
+  pub has : end.model ≡ Some model
+  pub learned : t.learned ≡ length model.rows
+  pub refinements : t.refinements ≡ end.refinements
+  pub answers : t.answers ≡ length end.kept.answers
+  pub equal : (t.equal ≡ true) ↔ IsCanonical v.inputs (drawn_machine v).rows model.rows
+
+-- what `trial` comes to: the machine has no more states than there may be, so a learning never ends in too many
+abbrev pub IsTrialOutcome : Outcome → Type 0
+IsTrialOutcome (Trial t) = Unit {0}
+IsTrialOutcome (SuiteTooLarge states number) = Unit {0}
+IsTrialOutcome NoMemory = Unit {0}
+IsTrialOutcome SinkFault = Unit {0}
+IsTrialOutcome _ = ⊥
+
+-- a trial is told that came within fewer than n refinements, or memory ran out
+abbrev pub IsReachedTrial : ℕ → Outcome → Type 0
+IsReachedTrial n (Trial t) = t.refinements < n
+IsReachedTrial n NoMemory = Unit {0}
+IsReachedTrial n _ = ⊥
+
+abbrev pub IsTrial : Outcome → Type 0
+IsTrial (Trial t) = Unit {0}
+IsTrial _ = ⊥
+
+-- a call with these arguments found `out` and `err` as o and e, left them as p and d, and came to the end
+pub record IsTrialRun (v : TrialValues) (o p : SinkState) (e d : SinkState) (end : End) : Type 0 where
+  -- the model of the machine that was drawn, with one extra state and at most 1,024 states
+  pub model : IfSome end.model (HasModel v.inputs 2 1 1024 end)
+  pub without : end.model ≡ None → IsWithoutLearner end
+  pub told : (t : Tried) → end.outcome ≡ Trial t → IsTried v end t
+  pub quiet : IsTrial end.outcome → (p.faults ≡ o.faults) × (d.faults ≡ e.faults)
+  -- the kept answers are runs of the instances of that machine
+  pub kept : KeepsRuns (drawn_machine v) v.workers end.kept.answers
+  -- where its suite is not too large and no stream counted a fault, a trial is told, or memory runs out
+  pub reached :
+      suite_size v.states v.inputs 1 ≤ greatest_suite
+      → ¬ CountedFault o.faults p.faults
+      → ¬ CountedFault e.faults d.faults
+      → IsReachedTrial v.states end.outcome
+  -- a trial's text stands whole on `out`, and nothing on `err`; of any other outcome but a fault of a stream nothing is put to
+  -- `out`, and its text goes to `err`, whole where that counts no fault
+  pub written : IsTrial end.outcome → TakesAll (said_text None None end.kept.answers 1 end.outcome) o.taken p.taken × (d.taken ≡ e.taken)
+  pub part : p.taken ≢ o.taken → (t : Tried) × IsTried v end t × TakesSome (said_text None None end.kept.answers 1 (Trial t)) o.taken p.taken
+  pub unwritten : ¬ IsTrial end.outcome → end.outcome ≢ SinkFault → p.taken ≡ o.taken
+  pub said : ¬ IsTrial end.outcome → ¬ CountedFault e.faults d.faults → TakesAll (said_text None None end.kept.answers 1 end.outcome) e.taken d.taken
+  pub said_part : ¬ IsTrial end.outcome → TakesSome (said_text None None end.kept.answers 1 end.outcome) e.taken d.taken
+  -- what each refusal comes from
+  pub kinds : IsTrialOutcome end.outcome
+  pub sink_fault : end.outcome ≡ SinkFault → CountedFault o.faults p.faults × ((h : MealyMachine) × (end.model ≡ Some h))
+  pub suite : (states number : ℕ) → end.outcome ≡ SuiteTooLarge states number → HasLargeSuite v.inputs 2 1 1024 (answers_of end.kept.answers) states number

@@ -1,0 +1,100 @@
+-- What comes of a learning of a machine: no stop but the learning's own, and a model where the limits allow one.
+use Rattle.std.proofs.Common.{◌≡◌, ℕ, zero, suc, ◌<◌, List, [], ◌∷◌, length, map, take, Option, Some, None, Result, Ok, Err, IfOk, IfErr, is_some, get_or-take, refl, ap, sym, ◌∙◌, subst, subst₂, arith}
+use Rattle.std.proofs.lemmas.Bool.{false≢true}
+use Rattle.std.proofs.lemmas.List.{length-map, length-take-le, take-map}
+use Rattle.lw_words.specs.Answer.{Answer, AreAnswers, answer_at, answer_of, answers_of}
+use Rattle.lw_words.specs.declared.kept.KeptAnswer.{KeptAnswer}
+use Rattle.lw_mealy.specs.Gives.{Gives}
+use Rattle.lw_mealy.specs.Limits.{MealyMachine}
+use Rattle.lw_mealy.specs.Machine.{Rows}
+use Rattle.lw_sul.specs.SessionState.{SessionState}
+use Rattle.lw_cache.specs.Clash.{ClashAt}
+use Rattle.lw_cache.specs.Settling.{LeavesStop}
+use Rattle.lw_cache.specs.declared.stops.AskStop.{AskStop}
+use Rattle.lw_cache.specs.declared.stops.AskStop.TheVariants as ask
+use Rattle.lw_cache.specs.declared.stops.Clash.{Clash}
+use Rattle.lw_cache.proofs.ClashLemmas.{given_never_clash}
+use Rattle.lw_desk.specs.Ending.{CameFirst}
+use Rattle.lw_pool.specs.Pool.{Seen, Member, PoolState, IsStopOf, seen_at, seen_of}
+use Rattle.lw_rounds.specs.Laws.{ModelIsLeast, TooManyIsNone, TooLargeForAll}
+use Rattle.lw_rounds.specs.Learned.{IsLearned, StopsAs}
+use Rattle.lw_rounds.specs.Stops.{learn_stop, IsOwnStop}
+use Rattle.lw_rounds.specs.declared.learned.Learned.{Learned}
+use Rattle.lw_rounds.specs.declared.stops.LearnStop.{LearnStop}
+use Rattle.lw_rounds.specs.declared.stops.LearnStop.TheVariants as learn
+use Rattle.lw_workers.specs.Leaving.{HasLearned}
+use Rattle.lw_workers.specs.Machines.{KeepsRuns, IsReached, IsWithin}
+use Rattle.lw_workers.specs.bodies.Instances.{IsPoolOf}
+use Rattle.lw_workers.proofs.RunLemmas.{keeps_runs}
+
+-- of answers that a machine gives, none clashed with those before it
+no_clash_came : (m : Rows) (kept : List KeptAnswer) (c : Clash) → Gives m (answers_of kept) → ¬ CameFirst kept c
+no_clash_came m kept c gives came =
+    let none : Answer = record { word = []; outs = [] } in
+    let long : length (answers_of (take c.second kept)) ≡ length (take c.second kept) = length-map (take c.second kept) answer_of in
+    let before : c.first < c.second = omega (arith, came.came.clear.0, long, length-take-le c.second kept (omega (arith, came.within))) in
+    let within : c.second < length (answers_of kept) = omega (arith, came.within, length-map kept answer_of) in
+    let one : answer_at (answers_of (take c.second kept)) c.first ≡ answer_at (answers_of kept) c.first =
+    ap (λ (ks : List Answer). answer_at ks c.first) (sym (take-map answer_of c.second kept))
+    ∙ get_or-take c.second (answers_of kept) c.first none before in
+    given_never_clash m (answers_of kept) gives c.first c.second none before within (c.place, subst (λ (k : Answer). ClashAt k (answer_at (answers_of kept) c.second) c.place) one came.came.here)
+
+-- where no system stops and a machine gives the answers, a stop is out of memory
+module _ (m : Rows) (seen : List Seen) (kept : List KeptAnswer) (gives : Gives m (answers_of kept)) (never : (i : ℕ) → (seen_at seen i).stop ≡ None) where
+  own_stop : (stop : AskStop) → IsStopOf seen kept (Some stop) → stop ≡ ask.NoMemory
+  own_stop (ask.Sul i s) why = absurd (false≢true (ap is_some (sym (never i) ∙ why.1)))
+  own_stop (ask.Clash c) why = absurd (no_clash_came m kept c gives why)
+  own_stop ask.NoMemory why = refl
+
+  learn_own : (r : Result Learned LearnStop) (now : Option AskStop) → IsStopOf seen kept now → LeavesStop (learn_stop r) now → IfErr r IsOwnStop
+  learn_own (Ok l) now why left = tt
+  learn_own (Err (learn.Ask (ask.Sul i s))) now why left = own_stop (ask.Sul i s) (subst (IsStopOf seen kept) left why)
+  learn_own (Err (learn.Ask (ask.Clash c))) now why left = own_stop (ask.Clash c) (subst (IsStopOf seen kept) left why)
+  learn_own (Err (learn.Ask ask.NoMemory)) now why left = refl
+  learn_own (Err (learn.Crowd words)) now why left = tt
+  learn_own (Err (learn.TooLarge model number)) now why left = tt
+
+-- systems that never stop, as the members of a pool tell them
+pub never_stopped : {S : Type 0} (f : SessionState S → Member S) (sessions : List (SessionState S)) (members : List (Member S)) → map f sessions ≡ members → ((s : SessionState S) → (f s).seen.stop ≡ None) → (i : ℕ) → (seen_at (map (λ m. m.seen) members) i).stop ≡ None
+never_stopped f sessions members are live i = subst (λ (ms : List (Member _)). (seen_at (map (λ m. m.seen) ms) i).stop ≡ None) are (each sessions i)
+  where
+    each : (ss : List (SessionState _)) (k : ℕ) → (seen_at (map (λ m. m.seen) (map f ss)) k).stop ≡ None
+    each [] k = refl
+    each (s ∷ ss) zero = live s
+    each (s ∷ ss) (suc k) = each ss k
+
+-- where the limits hold for some machine that gives the answers, a model comes or memory runs out
+reached : (a b k most : ℕ) (ks : List Answer) (r : Result Learned LearnStop) → ModelIsLeast → TooManyIsNone → TooLargeForAll → AreAnswers a ks → IfOk r (λ l. IsLearned a b k most ks l.model l.table) → IfErr r (StopsAs a b k most ks) → IfErr r IsOwnStop → (m : Rows) → IsWithin a k most m → Gives m ks → IsReached (length m) r
+reached a b k most ks (Ok l) least none large are learned stops own m within gives =
+    omega (arith, least a b k most ks l.model l.table are learned m within.machine gives, learned.carried.refined)
+reached a b k most ks (Err (learn.Ask stop)) least none large are learned stops own m within gives = own
+reached a b k most ks (Err (learn.Crowd words)) least none large are learned stops own m within gives = none a most ks words are stops m within.machine within.few gives
+reached a b k most ks (Err (learn.TooLarge model number)) least none large are learned stops own m within gives =
+    omega (arith, large a b k most ks model number are stops m within.machine gives, within.small)
+
+-- what a learning of a machine answers, and what its instances answered
+pub record HasEnded (t : MealyMachine) (workers k most : ℕ) (learned : Result Learned LearnStop) (kept : List KeptAnswer) : Type 0 where
+  pub ok : IfOk learned (λ l. IsLearned t.inputs t.outputs k most (answers_of kept) l.model l.table)
+  pub stops : IfErr learned (StopsAs t.inputs t.outputs k most (answers_of kept))
+  pub own : IfErr learned IsOwnStop
+  pub reached_by : (m : Rows) → IsWithin t.inputs k most m → Gives m (answers_of kept) → IsReached (length m) learned
+  pub runs : KeepsRuns t workers kept
+
+pub has_ended : {S : Type 0} (t : MealyMachine) (workers k most : ℕ) (before now : PoolState S) (learned : Result Learned LearnStop) (kept : List KeptAnswer) → ModelIsLeast → TooManyIsNone → TooLargeForAll
+    → IsPoolOf t workers before → HasLearned before now (learn_stop learned)
+    → ((i : ℕ) → (seen_at (seen_of now) i).stop ≡ None)
+    → IfOk learned (λ l. IsLearned before.inputs before.outputs k most (answers_of now.kept) l.model l.table)
+    → IfErr learned (StopsAs before.inputs before.outputs k most (answers_of now.kept))
+    → kept ≡ now.kept → HasEnded t workers k most learned kept
+has_ended t workers k most before now learned kept least none large is left never ok stops same =
+    let runs : KeepsRuns t workers now.kept = keeps_runs t workers before now (learn_stop learned) is left in
+    let ok_of = subst₂ (λ (a b : ℕ). IfOk learned (λ l. IsLearned a b k most (answers_of now.kept) l.model l.table)) is.inputs is.outputs ok in
+    let stops_of = subst₂ (λ (a b : ℕ). IfErr learned (StopsAs a b k most (answers_of now.kept))) is.inputs is.outputs stops in
+    let own_of = learn_own t.rows (seen_of now) now.kept runs.gives never learned now.stop left.stands.why left.leaves.told in
+    subst (HasEnded t workers k most learned) (sym same) (record {
+      ok = ok_of;
+      stops = stops_of;
+      own = own_of;
+      reached_by = reached t.inputs t.outputs k most (answers_of now.kept) learned least none large runs.words ok_of stops_of own_of;
+      runs = runs;
+    })

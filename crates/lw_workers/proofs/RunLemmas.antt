@@ -1,0 +1,78 @@
+-- What the kept answers of a pool of one machine's instances are: the runs of its instances.
+use Rattle.std.proofs.Common.{◌≡◌, ℕ, ◌+◌, ◌<◌, ◌==◌, List, [], ◌∷◌, ◌++◌, length, map, filter, All, Option, Some, get_or, option_and_then, refl, ap, sym, ◌∙◌, subst, arith}
+use Rattle.std.specs.List.{range_with_len}
+use Rattle.std.proofs.lemmas.List.{length-map}
+use Rattle.std.proofs.lemmas.List.Elements.{All-map}
+use Rattle.std.proofs.lemmas.List.FromFn.{length-range_with_len}
+use Rattle.std.proofs.lemmas.Option.{slice_get-get_or}
+use Rattle.lw_words.specs.Answer.{IsAnswer, answer_of, answers_of}
+use Rattle.lw_words.specs.Word.{IsWord}
+use Rattle.lw_words.specs.declared.kept.KeptAnswer.{KeptAnswer}
+use Rattle.lw_mealy.specs.Gives.{Gives}
+use Rattle.lw_mealy.specs.Limits.{MealyMachine}
+use Rattle.lw_mealy.specs.Machine.{Rows, answer}
+use Rattle.lw_mealy.specs.Origin.{Origin}
+use Rattle.lw_sul.specs.Names.{named}
+use Rattle.lw_sul.specs.declared.runs.Run.{Run}
+use Rattle.lw_cache.specs.Settling.{IsOf, told_machine}
+use Rattle.lw_cache.specs.declared.stops.AskStop.{AskStop}
+use Rattle.lw_desk.specs.Ending.{NamedRun, kept_runs}
+use Rattle.lw_pool.specs.Pool.{PoolState, AskedOnce, seen_at, seen_of, origins_of, journal_runs}
+use Rattle.lw_workers.specs.Leaving.{HasLearned}
+use Rattle.lw_workers.specs.Machines.{KeepsRuns, run_numbers}
+use Rattle.lw_workers.specs.bodies.Instances.{IsPoolOf}
+
+abbrev numbers : List NamedRun → List ℕ
+numbers runs = map (λ r. r.run) runs
+
+journal_numbers : (names : List (List ℕ)) (n : ℕ) (rs : List Run) → numbers (journal_runs names n rs) ≡ range_with_len n (length rs)
+journal_numbers names n [] = refl
+journal_numbers names n (r ∷ rs) = ap (λ (l : List ℕ). n ∷ l) (journal_numbers names (n + 1) rs)
+
+same_numbers : (names : List (List ℕ)) (kept : List KeptAnswer) → numbers (map (λ k. record { run = k.run; word = k.word; names = named names k.outs }) kept) ≡ map (λ k. k.run) kept
+same_numbers names [] = refl
+same_numbers names (k ∷ kept) = ap (λ (l : List ℕ). k.run ∷ l) (same_numbers names kept)
+
+counted_up : (ns : List ℕ) (n : ℕ) → ns ≡ range_with_len 0 n → ns ≡ range_with_len 0 (length ns)
+counted_up ns n same = same ∙ ap (range_with_len 0) (sym (ap (λ (l : List ℕ). length l) same ∙ length-range_with_len 0 n))
+
+-- an instance whose kept runs are its journal's has the runs 0, 1, 2 and so on
+pub numbered_up : (names own : List (List ℕ)) (i : ℕ) (kept : List KeptAnswer) (journal : List Run) → kept_runs names i kept ≡ journal_runs own 0 journal → run_numbers i kept ≡ range_with_len 0 (length (run_numbers i kept))
+numbered_up names own i kept journal same =
+    counted_up (run_numbers i kept) (length journal)
+    (sym (same_numbers names (filter (λ k. k.instance == i) kept))
+    ∙ (ap numbers same ∙ journal_numbers own 0 journal))
+
+-- where each instance tells one machine, an answer of an instance is the machine's
+machine_told : (m : Rows) (origins : List Origin) → All (λ o. o.machine ≡ Some m) origins → (i : ℕ) → i < length origins → told_machine origins i ≡ Some m
+machine_told m [] all i lt = absurd (omega (arith, lt))
+machine_told m (o ∷ os) all i lt = ap (option_and_then (λ (x : Origin). x.machine)) (slice_get-get_or (o ∷ os) i o lt) ∙ all i o lt
+
+pub all_given : (m : Rows) (origins : List Origin) (kept : List KeptAnswer) → All (λ o. o.machine ≡ Some m) origins → All (λ k. k.instance < length origins) kept → All (λ k. IsOf (told_machine origins k.instance) (answer_of k)) kept → Gives m (answers_of kept)
+all_given m origins kept machines instances told =
+    All-map (λ k. answer m k.word ≡ k.outs) answer_of kept
+    (λ i d lt. subst (λ (o : Option Rows). IsOf o (answer_of (get_or kept i d))) (machine_told m origins machines (get_or kept i d).instance (instances i d lt)) (told i d lt))
+
+-- what a pool of a machine's instances keeps once a learning with it has ended are the runs of the instances
+pub keeps_runs : {S : Type 0} (t : MealyMachine) (workers : ℕ) (before now : PoolState S) (stop : Option AskStop) → IsPoolOf t workers before → HasLearned before now stop → KeepsRuns t workers now.kept
+keeps_runs t workers before now stop is left =
+    let since = left.stands.stands.since in
+    let prior : now.prior ≡ [] = left.prior ∙ is.prior in
+    let all : since ≡ now.kept = sym (left.stands.stands.first ∙ ap (λ (l : List KeptAnswer). l ++ since) prior) in
+    let count : length (seen_of now) ≡ workers = left.sessions ∙ is.sessions in
+    let long : length (origins_of (seen_of now)) ≡ length (seen_of now) = length-map (seen_of now) (λ s. s.origin) in
+    let within : All (λ k. k.instance < length (seen_of now)) now.kept = subst (All (λ k. k.instance < length (seen_of now))) all left.stands.stands.instances in
+    record {
+      instances_are = subst (λ (n : ℕ). All (λ k. k.instance < n) now.kept) count within;
+      numbered = λ i lt.
+          numbered_up now.naming.names (seen_at (seen_of now) i).names i now.kept (seen_at (seen_of now) i).journal
+          (subst (λ (l : List KeptAnswer). kept_runs now.naming.names i l ≡ journal_runs (seen_at (seen_of now) i).names 0 (seen_at (seen_of now) i).journal) all
+          (left.stands.stands.runs i (omega (arith, lt, count))));
+      words = subst (λ (n : ℕ). All (IsAnswer n) (answers_of now.kept)) (left.leaves.same.inputs ∙ is.inputs) (All-map (IsAnswer now.inputs) answer_of now.kept left.stands.keeps.answers);
+      outputs = subst (λ (n : ℕ). All (λ k. IsWord n k.outs) now.kept) (left.leaves.same.outputs ∙ is.outputs) left.stands.keeps.outputs_below;
+      gives = all_given t.rows (origins_of (seen_of now)) now.kept
+          (subst (All (λ o. o.machine ≡ Some t.rows)) (sym left.leaves.same.origins) is.machines)
+          (subst (λ (n : ℕ). All (λ k. k.instance < n) now.kept) (sym long) within)
+          left.stands.keeps.told;
+      once = subst (λ (l : List KeptAnswer). AskedOnce l now.kept) prior left.stands.once;
+    }

@@ -1,0 +1,43 @@
+-- What comes of a learning of a machine that stands in for a system, by instances of it.
+use Rattle.std.specs.Prelude.{◌≡◌, ℕ, ◌<◌, ◌≤◌, ◌==◌, List, [], length, map, filter, Result, Ok, Err}
+use Rattle.std.specs.List.{All, range_with_len}
+use Rattle.lw_words.specs.Answer.{AreAnswers, answers_of}
+use Rattle.lw_words.specs.Word.{IsWord}
+use Rattle.lw_words.specs.declared.kept.KeptAnswer.{KeptAnswer}
+use Rattle.lw_mealy.specs.Gives.{Gives}
+use Rattle.lw_mealy.specs.Limits.{MealyMachine}
+use Rattle.lw_mealy.specs.Machine.{Rows, IsMachine}
+use Rattle.lw_cache.specs.declared.stops.AskStop.TheVariants as ask
+use Rattle.lw_pool.specs.Pool.{AskedOnce}
+use Rattle.lw_suite.specs.Size.{suite_size, greatest_suite}
+use Rattle.lw_rounds.specs.declared.learned.Learned.{Learned}
+use Rattle.lw_rounds.specs.declared.stops.LearnStop.{LearnStop}
+use Rattle.lw_rounds.specs.declared.stops.LearnStop.TheVariants as learn
+
+-- the numbers of an instance's runs, in the order in which their answers are kept
+abbrev pub run_numbers : ℕ → List KeptAnswer → List ℕ
+run_numbers instance kept = map (λ k. k.run) (filter (λ k. k.instance == instance) kept)
+
+-- the kept answers are runs of a machine's instances, of which there are so many: those of each instance are its runs 0, 1, 2
+-- and so on; each is the machine's answer to a word over its inputs; and the word of none was known when it was asked
+pub record KeepsRuns (t : MealyMachine) (instances : ℕ) (kept : List KeptAnswer) : Type 0 where
+  pub instances_are : All (λ k. k.instance < instances) kept
+  pub numbered : (i : ℕ) → i < instances → run_numbers i kept ≡ range_with_len 0 (length (run_numbers i kept))
+  pub words : AreAnswers t.inputs (answers_of kept)
+  pub outputs : All (λ k. IsWord t.outputs k.outs) kept
+  pub gives : Gives t.rows (answers_of kept)
+  pub once : AskedOnce [] kept
+
+-- a model comes, of a table that was refined fewer times than n, or memory runs out
+abbrev pub IsReached : ℕ → Result Learned LearnStop → Type 0
+IsReached n (Ok l) = l.table.refinements < n
+IsReached n (Err (learn.Ask stop)) = stop ≡ ask.NoMemory
+IsReached n (Err (learn.Crowd words)) = ⊥
+IsReached n (Err (learn.TooLarge model number)) = ⊥
+
+-- the limits hold for some machine that gives the answers: it has no more states than there may be, and its suite is not too
+-- large
+pub record IsWithin (a k most : ℕ) (m : Rows) : Type 0 where
+  pub machine : IsMachine a m
+  pub few : length m ≤ most
+  pub small : suite_size (length m) a k ≤ greatest_suite
