@@ -1,11 +1,13 @@
 use Rattle.std.proofs.Common.{◌≡◌, ℕ, List, length, refl, ap, sym, ◌∙◌, subst}
 use Rattle.std.specs.List.{AllWithin}
+use Rattle.lw_mealy.specs.Gives.{Gives}
 use Rattle.lw_mealy.specs.Machine.{answer}
 use Rattle.lw_words.specs.Answer.{answers_of}
 use Rattle.lw_words.specs.declared.kept.KeptAnswer.{KeptAnswer}
 use Rattle.lw_cache.proofs.SettlingLemmas.{kept_are_answers}
 use Rattle.lw_rounds.specs.bodies.Conformance.{FindsFirst}
 use Rattle.lw_rounds.proofs.ConformanceLemmas.{agrees_on_known, comes, gives_later, gives_more}
+use Rattle.lw_rounds.proofs.conformance.settle_words.Given.{Over}
 use Rattle.lw_rounds.proofs.conformance.settle_words.Goals as goal
 
 pub returns-clause-comes : goal.returns-clause-comes
@@ -23,8 +25,9 @@ returns-clause-comes g c =
     })
     (subst (λ (kept : List KeptAnswer). FindsFirst h (answers_of kept) c.args.words.now c.in_ok-first_difference.field-0) c.cache-cache.ensures.kept c.in_ok-first_difference.ensures)
 
-pub returns-then-gives_from-clause-comes : goal.returns-then-gives_from-clause-comes
-returns-then-gives_from-clause-comes g c =
+-- the hypothesis gives all that is kept now, where it gives what was gained
+gives_now : (g : Over) (c : goal.Then-gives_from g) → Gives c.args.hypothesis.now.rows (answers_of (g.O.Oracle.state c.settle.new.self).kept)
+gives_now g c =
     let before = g.O.Oracle.state c.args.oracle.now in
     let now = g.O.Oracle.state c.settle.new.self in
     let h = c.args.hypothesis.now.rows in
@@ -34,17 +37,11 @@ returns-then-gives_from-clause-comes g c =
     let within : AllWithin Given now.kept (length before.kept) (length now.kept) =
     subst (λ (l : List KeptAnswer). AllWithin Given l (length before.kept) (length l)) (c.kept-2.ensures.value ∙ c.cache-cache.ensures.kept)
     (subst (λ (n : ℕ). AllWithin Given late n (length late)) (c.len-before.ensures ∙ ap (λ (l : List KeptAnswer). length l) (c.kept.ensures.value ∙ c.cache.ensures.kept)) (c.if-gives_from.ensures refl)) in
-    record { gives = gives_later h before.kept s.gains.gained now.kept s.gains.at_end within c.requires.gives; known = s.known }
+    gives_later h before.kept s.gains.gained now.kept s.gains.at_end within c.requires.gives
+
+pub returns-then-gives_from-clause-comes : goal.returns-then-gives_from-clause-comes
+returns-then-gives_from-clause-comes g c = record { gives = gives_now g c; known = c.in_ok-settle.ensures.settles.known }
 
 pub returns-then-gives_from-clause-first : goal.returns-then-gives_from-clause-first
 returns-then-gives_from-clause-first g c =
-    let before = g.O.Oracle.state c.args.oracle.now in
-    let now = g.O.Oracle.state c.settle.new.self in
-    let h = c.args.hypothesis.now.rows in
-    let s = c.in_ok-settle.ensures.settles in
-    let Given : KeptAnswer → Type 0 = λ k. answer h k.word ≡ k.outs in
-    let late = c.kept-2.result.now.answers in
-    let within : AllWithin Given now.kept (length before.kept) (length now.kept) =
-    subst (λ (l : List KeptAnswer). AllWithin Given l (length before.kept) (length l)) (c.kept-2.ensures.value ∙ c.cache-cache.ensures.kept)
-    (subst (λ (n : ℕ). AllWithin Given late n (length late)) (c.len-before.ensures ∙ ap (λ (l : List KeptAnswer). length l) (c.kept.ensures.value ∙ c.cache.ensures.kept)) (c.if-gives_from.ensures refl)) in
-    agrees_on_known h (answers_of now.kept) c.args.words.now (gives_later h before.kept s.gains.gained now.kept s.gains.at_end within c.requires.gives) s.known
+    agrees_on_known c.args.hypothesis.now.rows (answers_of (g.O.Oracle.state c.settle.new.self).kept) c.args.words.now (gives_now g c) c.in_ok-settle.ensures.settles.known
