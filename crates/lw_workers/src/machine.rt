@@ -76,7 +76,7 @@ fn pool_of<R: Drop>(
 }
 
 /// A model of a machine, whose outputs have these names, as `learn_with` makes it of a pool of so many instances of the
-/// machine; and the answers of the instances, whatever comes of the learning.
+/// machine; and the answers of the instances, which bear out what came of the learning.
 pub fn learn_machine<R: Threads + Wait + Sync + Drop>(
     rt: R,
     alloc: Global,
