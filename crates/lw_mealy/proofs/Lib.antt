@@ -1,3 +1,4 @@
+pub mod RenumberLemmas
 pub mod RowLemmas
 pub mod WordLemmas
 pub mod WorkedMachines

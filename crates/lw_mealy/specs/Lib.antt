@@ -7,4 +7,5 @@ pub mod Minimal
 pub mod Origin
 pub mod CellHalf
 pub mod Limits
+pub mod Renumbering
 pub mod Worked

@@ -1,8 +1,9 @@
 -- Where a system's runs come from, for contracts alone.
-use Rattle.std.specs.Prelude.{ℕ, Option}
+use Rattle.std.specs.Prelude.{ℕ, List, Option}
 use Rattle.lw_mealy.specs.Machine.{Rows}
 
--- a machine, where that is told, and a link's number, where that is told
+-- a machine, where that is told; a link's number and the names under which letters are sent over it, where they are told
 pub record Origin : Type 0 where
   pub machine : Option Rows
   pub link : Option ℕ
+  pub letters : Option (List (List ℕ))

@@ -1,5 +1,5 @@
 //! Machines as tables, which are complete and within the limits.
-ghost use Rattle.std.specs.Prelude.{◌≡◌, ℕ, ◌<◌, ◌≤◌, List, length, map, Some, Err, IfOk, OnOk, IfErr, IfSome, IfNone};
+ghost use Rattle.std.specs.Prelude.{◌≡◌, ℕ, ◌<◌, ◌≤◌, List, length, map, slice_index_or, Some, Err, IfOk, OnOk, IfErr, IfSome, IfNone};
 ghost use Rattle.std.specs.List.{All};
 ghost use Rattle.lw_words.specs.First.{FailsFirst};
 ghost use Rattle.lw_words.specs.Word.{IsWord};
@@ -9,6 +9,7 @@ ghost use Rattle.lw_mealy.specs.Limits.{MealyMachine, mealy_of, IsWithinLimits, 
 ghost use Rattle.lw_mealy.specs.Difference.{DifferFirst};
 ghost use Rattle.lw_mealy.specs.declared.fault.MealyFault.{MealyFault as Fault};
 ghost use Rattle.lw_mealy.specs.Fault.{HasFault, IsCounted, IsSquare, IsClosed, CellFailsFirst};
+ghost use Rattle.lw_mealy.specs.Renumbering.{renumbered_cells, renumbered_rows, AllRenumber};
 
 use crate::MealyFault;
 use lw_words::{NoMemory, Word};
@@ -134,6 +135,26 @@ fn copy_rows(alloc: Global, rows: &[Vec<(u16, u16)>]) -> Result<Vec<Vec<(u16, u1
         copies.push(Vec::from_slice(alloc, row)?)?;
     }
     Ok(copies)
+}
+
+/// Puts `to[y]` in the place of each output `y` of a row.
+fn renumber_row(row: &mut [(u16, u16)], to: &[u16])
+    requires { All (λ c. c.1 < length to.now) row.old }
+    ensures { row.new ≡ renumbered_cells to.now row.old }
+{
+    for cell in row.iter_mut() {
+        cell.1 = to[usize::from(cell.1)];
+    }
+}
+
+/// Puts `to[y]` in the place of each output `y` of all rows.
+fn renumber_rows(rows: &mut [Vec<(u16, u16)>], to: &[u16])
+    requires { All (λ r. All (λ c. c.1 < length to.now) r) (map (λ r. r.items) rows.old) }
+    ensures { map (λ r. r.items) rows.new ≡ renumbered_rows to.now (map (λ r. r.items) rows.old) }
+{
+    for row in rows.iter_mut() {
+        renumber_row(row.as_mut_slice(), to);
+    }
 }
 
 impl Mealy {
@@ -271,5 +292,16 @@ impl Mealy {
             rows,
             alloc: self.alloc,
         })
+    }
+
+    /// Puts `to[y]` in the place of each output `y`, all of which are below the new number of outputs. Takes no memory.
+    pub fn renumber(&mut self, outputs: u16, to: &[u16])
+        requires outputs { (1 ≤ outputs) × (outputs ≤ 4096) }
+        requires within { AllRenumber outputs to.now self.old.rows }
+        ensures { self.new ≡ mealy_of self.old.inputs outputs
+            (renumbered_rows to.now self.old.rows) }
+    {
+        renumber_rows(self.rows.as_mut_slice(), to);
+        self.outputs = outputs;
     }
 }

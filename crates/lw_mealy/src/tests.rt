@@ -1,5 +1,5 @@
 //! The counter by hand, both results of a comparison, and machines at their limits.
-ghost use Rattle.std.specs.Prelude.{◌≡◌, IfOk};
+ghost use Rattle.std.specs.Prelude.{◌≡◌, ◌<◌, [], ◌∷◌, IfOk};
 
 use crate::{Mealy, MealyFault};
 use lw_words::Word;
@@ -121,5 +121,27 @@ fn the_first_fault_of_rows(rt: HostRuntime) -> Result<(), Fail> {
     assert_eq!(rt; fault(alloc, target), Some(MealyFault::Target(1, 0, 2)));
     let output = rows(alloc, &[&[(1, 1)], &[(0, 2)]])?;
     assert_eq!(rt; fault(alloc, output), Some(MealyFault::Output(1, 0, 2)));
+    Ok(())
+}
+
+/// The machine of one state over one letter, with this output, of two.
+fn one_state(alloc: Global, output: u16) -> Result<Mealy, Fail>
+    requires { output < 2 }
+    ensures { IfOk result (λ m. m.rows ≡ ((0, output) ∷ []) ∷ []) }
+{
+    let row = Vec::from_slice(alloc, &[(0, output)])?;
+    let mut rows = Vec::new(alloc);
+    rows.push(row)?;
+    Ok(Mealy::new(alloc, 1, 2, rows)?)
+}
+
+#[test]
+fn outputs_are_renumbered(rt: HostRuntime) -> Result<(), Fail> {
+    let alloc = rt.alloc();
+    let mut m = one_state(alloc, 1)?;
+    m.renumber(4096, &[0, 4095]);
+    assert_eq!(rt; (m.inputs(), m.outputs(), m.states()), (1, 4096, 1));
+    let (outs, _) = answers(&m, alloc, &[0, 0])?;
+    assert_eq!(rt; outs.as_slice(), [4095, 4095].as_slice());
     Ok(())
 }

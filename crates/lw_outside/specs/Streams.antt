@@ -14,3 +14,10 @@ taken_more n bytes taken = option_map (λ t. t ++ take n bytes) taken
 abbrev pub IsSpent : Option (List ℕ) → Type 0
 IsSpent None = Unit {0}
 IsSpent (Some left) = left ≡ []
+
+-- told bytes are the earlier ones and some of a text's, from its front on
+abbrev pub TakesSome : List ℕ → Option (List ℕ) → Option (List ℕ) → Type 0
+TakesSome text before now = (n : ℕ) × (now ≡ option_map (λ t. t ++ take n text) before)
+
+abbrev pub TakesAll : List ℕ → Option (List ℕ) → Option (List ℕ) → Type 0
+TakesAll text before now = now ≡ option_map (λ t. t ++ text) before

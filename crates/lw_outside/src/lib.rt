@@ -3,12 +3,14 @@
 #![tactic(auto)]
 
 mod files;
+mod links;
 mod memory_files;
 mod memory_sink;
 mod memory_source;
 mod streams;
 
 pub use files::{Files, FilesStop, LONGEST_FILE, WriteStop};
+pub use links::{Link, Spawner, StartStop};
 pub use memory_files::{FileCall, MemoryFiles};
 pub use memory_sink::MemorySink;
 pub use memory_source::MemorySource;

@@ -59,7 +59,7 @@ pub record PoolState (S : Type 0) : Type 0 where
   pub outputs : ℕ
 
 abbrev pub nobody : Seen
-nobody = record { instance = 0; journal = []; names = []; most = 0; stop = None; origin = record { machine = None; link = None }; inputs = 0; outputs = 0 }
+nobody = record { instance = 0; journal = []; names = []; most = 0; stop = None; origin = record { machine = None; link = None; letters = None }; inputs = 0; outputs = 0 }
 
 abbrev pub seen_at : List Seen → ℕ → Seen
 seen_at seen i = slice_index_or seen i nobody

@@ -58,7 +58,7 @@ impl Sul for TableSul {
 
     ghost outputs = { λ s. s.table.outputs };
 
-    ghost origin = { λ s. record { machine = Some s.table.rows; link = None } };
+    ghost origin = { λ s. record { machine = Some s.table.rows; link = None; letters = None } };
 
     ghost state = { λ s. s.state };
 

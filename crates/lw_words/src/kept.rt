@@ -1,5 +1,7 @@
 //! Kept answers: words with their outputs, and the run that each came from.
 ghost use Rattle.std.specs.Prelude.{◌≡◌, ℕ, ◌+◌, ◌<◌, ◌≤◌, List, [], ◌∷◌, ◌++◌, length, OnOk, OnErr, IfErr, IsOk, slice_get, Some};
+ghost use Rattle.std.specs.List.{All};
+ghost use Rattle.lw_words.specs.Renumbering.{renumbered_answers};
 
 use crate::{NoMemory, Word};
 use std::alloc::Global;
@@ -28,6 +30,16 @@ impl Model for Kept {
     ghost Value = { Keeping };
 
     ghost view = { λ kept. record { answers = kept.answers.items; room = vec_capacity kept.answers - vec_len kept.answers } };
+}
+
+/// Puts `to[y]` in the place of each output `y`.
+fn renumber(answers: &mut [KeptAnswer], to: &[u16])
+    requires { All (λ k. All (λ y. y < length to.now) k.outs) answers.old }
+    ensures { answers.new ≡ renumbered_answers to.now answers.old }
+{
+    for answer in answers.iter_mut() {
+        answer.outs.renumber(to);
+    }
 }
 
 impl Kept {
@@ -63,6 +75,15 @@ impl Kept {
             Ok(()) => Ok(()),
             Err(refused) => Err((refused.value, NoMemory)),
         }
+    }
+
+    /// Puts `to[y]` in the place of each output `y`. Takes no memory.
+    pub fn renumber(&mut self, to: &[u16])
+        requires { All (λ k. All (λ y. y < length to.now) k.outs) self.old.answers }
+        ensures answers { self.new.answers ≡ renumbered_answers to.now self.old.answers }
+        ensures room { self.new.room ≡ self.old.room }
+    {
+        renumber(self.answers.as_mut_slice(), to);
     }
 
     /// The answers, taken out of the list. Takes no memory.

@@ -105,6 +105,24 @@ fn answers_are_kept_in_their_room(rt: HostRuntime) -> Result<(), Fail> {
 }
 
 #[test]
+fn kept_outputs_are_renumbered(rt: HostRuntime) -> Result<(), Fail> {
+    let alloc = rt.alloc();
+    let mut kept = Kept::new(alloc);
+    let answer = KeptAnswer {
+        instance: 0,
+        run: 7,
+        word: Word::from_letters(alloc, Vec::from_slice(alloc, &[0, 0])?),
+        outs: Word::from_letters(alloc, Vec::from_slice(alloc, &[2, 0])?),
+    };
+    let None = kept.push(answer).err() else {
+        return Err(Fail::from("an answer was handed back"));
+    };
+    kept.renumber(&[4095, 0, 1]);
+    assert_eq!(rt; kept.get(0).outs.as_slice(), [1, 4095].as_slice());
+    Ok(())
+}
+
+#[test]
 fn lines_and_stops_are_copied(rt: HostRuntime) -> Result<(), Fail> {
     let line = Line::new(b"out 7");
     match SulStop::BadLine(line).copy() {

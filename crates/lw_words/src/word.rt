@@ -1,5 +1,7 @@
 //! Words over numbered letters.
-ghost use Rattle.std.specs.Prelude.{◌≡◌, ℕ, ◌≤◌, List, [], ◌∷◌, ◌++◌, length, take, IfOk, OnOk, OnErr};
+ghost use Rattle.std.specs.Prelude.{◌≡◌, ◌<◌, ◌≤◌, [], ◌∷◌, ◌++◌, length, take, IfOk, OnOk, OnErr};
+ghost use Rattle.std.specs.List.{All};
+ghost use Rattle.lw_words.specs.Renumbering.{renumbered};
 
 use crate::NoMemory;
 use std::alloc::Global;
@@ -12,7 +14,19 @@ pub struct Word {
     alloc: Global,
 }
 
+/// Puts `to[y]` in the place of each number `y`.
+fn renumber(numbers: &mut [u16], to: &[u16])
+    requires { All (λ y. y < length to.now) numbers.old }
+    ensures { numbers.new ≡ renumbered to.now numbers.old }
+{
+    for y in numbers.iter_mut() {
+        *y = to[usize::from(*y)];
+    }
+}
+
 impl Model for Word {
+    ghost use Rattle.std.specs.Prelude.{ℕ, List};
+
     ghost Value = { List ℕ };
 
     ghost view = { λ word. word.letters.items };
@@ -79,6 +93,14 @@ impl Word {
         ensures { self.new ≡ [] }
     {
         self.letters.clear();
+    }
+
+    /// Puts `to[y]` in the place of each letter `y`. Takes no memory.
+    pub fn renumber(&mut self, to: &[u16])
+        requires { All (λ y. y < length to.now) self.old }
+        ensures { self.new ≡ renumbered to.now self.old }
+    {
+        renumber(self.letters.as_mut_slice(), to);
     }
 
     pub fn copy(&self) -> Result<Word, NoMemory>

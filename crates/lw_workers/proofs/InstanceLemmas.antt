@@ -14,7 +14,7 @@ use Rattle.lw_workers.specs.bodies.Instances.{AreInstances, IsPoolOf, instance_o
 
 -- a session of a table, and what the table tells
 abbrev pub member : SessionState TableState → Member TableState
-member s = record { session = s; seen = record { instance = s.instance; journal = s.journal; names = s.sul.names; most = length s.sul.names; stop = None; origin = record { machine = Some s.sul.table.rows; link = None }; inputs = s.sul.table.inputs; outputs = s.sul.table.outputs } }
+member s = record { session = s; seen = record { instance = s.instance; journal = s.journal; names = s.sul.names; most = length s.sul.names; stop = None; origin = record { machine = Some s.sul.table.rows; link = None; letters = None }; inputs = s.sul.table.inputs; outputs = s.sul.table.outputs } }
 
 -- a session that was made of a table in its first state
 made : (t : MealyMachine) (names : List (List ℕ)) (number : ℕ) (s : SessionState TableState) (table : TableState) (n : ℕ) → s ≡ record { instance = n; sul = table; journal = [] } → n ≡ number → table.table ≡ t → table.state ≡ 0 → table.names ≡ names → s ≡ instance_of t names number

@@ -15,7 +15,7 @@ pub record RecordingState : Type 0 where
 
 -- one instance, which tells the machine
 abbrev pub origins_of : MealyMachine → List Origin
-origins_of t = record { machine = Some t.rows; link = None } ∷ []
+origins_of t = record { machine = Some t.rows; link = None; letters = None } ∷ []
 
 -- each kept answer is the machine's, of that instance
 pub record KeepsOf (t : MealyMachine) (kept : List KeptAnswer) : Type 0 where

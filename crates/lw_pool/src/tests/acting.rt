@@ -109,7 +109,7 @@ impl Sul for Acting {
 
     ghost outputs = { λ s. s.table.table.outputs };
 
-    ghost origin = { λ s. record { machine = Some s.table.table.rows; link = None } };
+    ghost origin = { λ s. record { machine = Some s.table.table.rows; link = None; letters = None } };
 
     ghost state = { λ s. s.table.state };
 

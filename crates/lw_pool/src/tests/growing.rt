@@ -71,7 +71,7 @@ impl Sul for Growing {
 
     ghost outputs = { λ _. 4096 };
 
-    ghost origin = { λ _. record { machine = None; link = None } };
+    ghost origin = { λ _. record { machine = None; link = None; letters = None } };
 
     ghost state = { λ _. 0 };
 

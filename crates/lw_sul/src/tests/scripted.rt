@@ -125,7 +125,7 @@ impl Sul for Scripted {
 
     ghost outputs = { λ _. 3 };
 
-    ghost origin = { λ _. record { machine = None; link = None } };
+    ghost origin = { λ _. record { machine = None; link = None; letters = None } };
 
     ghost state = { λ _. 0 };
 

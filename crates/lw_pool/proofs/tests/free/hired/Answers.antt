@@ -11,7 +11,7 @@ abbrev Hired : Type 0
 Hired = SessionState Growing
 
 abbrev member : Hired → Member Growing
-member s = record { session = s; seen = record { instance = s.instance; journal = s.journal; names = take s.sul.known s.sul.table.names; most = length s.sul.table.names; stop = s.sul.stop; origin = record { machine = None; link = None }; inputs = s.sul.table.table.inputs; outputs = 4096 } }
+member s = record { session = s; seen = record { instance = s.instance; journal = s.journal; names = take s.sul.known s.sul.table.names; most = length s.sul.table.names; stop = s.sul.stop; origin = record { machine = None; link = None; letters = None }; inputs = s.sul.table.table.inputs; outputs = 4096 } }
 
 abbrev free : Naming
 free = record { names = []; brought = Some (replicate 16 []) }

@@ -1,0 +1,76 @@
+-- What a child that plays a machine answers to the bytes of its input.
+use Rattle.std.specs.Prelude.{ℕ, ◌+◌, ◌-◌, ◌^◌, ◌==◌, List, [], ◌∷◌, ◌++◌, codes, flat_map, slice_index_or, Option, Some, None, if◌then◌else◌}
+use Rattle.std.specs.Str.{bytes_eq}
+use Rattle.std.specs.Str.Lines.{strip_carriage_return}
+use Rattle.lw_words.specs.Name.{number_of}
+use Rattle.lw_mealy.specs.Machine.{next, output}
+use Rattle.lw_json.specs.declared.machine.Machine.{Machine}
+use Rattle.lw_outside.specs.Lines.{lines_of, rest_of}
+use Rattle.lw_outside.specs.Protocol.{behind, reset_line, quit_line, out_line, ready_line}
+
+-- what a child does at a line: it answers with a line and goes to a state, or it ends
+pub data Move : Type 0 where
+  Answer : List ℕ → ℕ → Move
+  Quit : Move
+  Refuse : Move
+
+-- at a letter, if it is one
+abbrev pub letter_move : Machine → ℕ → Option ℕ → Move
+letter_move m q None = Refuse
+letter_move m q (Some x) = Answer (out_line (slice_index_or m.outputs (output m.mealy.rows q x) [])) (next m.mealy.rows q x)
+
+-- at the name of a letter, if there is one
+abbrev pub name_move : Machine → ℕ → Option (List ℕ) → Move
+name_move m q None = Refuse
+name_move m q (Some name) = letter_move m q (number_of name m.inputs)
+
+abbrev pub line_move : Machine → ℕ → List ℕ → Move
+line_move m q line = if bytes_eq line reset_line then Answer ready_line 0 else (if bytes_eq line quit_line then Quit else name_move m q (behind (codes "in ") line))
+
+-- at a line as it was received, without its line feed
+abbrev pub move_of : Machine → ℕ → List ℕ → Move
+move_of m q received = line_move m q (strip_carriage_return received)
+
+-- how a child ends: by a line that asks for it, by the end of its input, by the limit of lines, or by the line of this number,
+-- counted from 1, which it doesn't know or which has no end
+pub data PlayEnd : Type 0 where
+  AtQuit : PlayEnd
+  AtEnd : PlayEnd
+  AtLimit : PlayEnd
+  AtBadLine : ℕ → PlayEnd
+
+-- the lines that it answers, how many lines it reads, and how it ends
+pub record Play : Type 0 where
+  pub answers : List (List ℕ)
+  pub lines : ℕ
+  pub end : PlayEnd
+
+abbrev pub ends_at : ℕ → PlayEnd → Play
+ends_at n end = record { answers = []; lines = n; end = end }
+
+-- behind the last line the input ends, or a line has no end
+abbrev pub rest_end : ℕ → List ℕ → Play
+rest_end n [] = ends_at n AtEnd
+rest_end n (b ∷ bs) = ends_at n (AtBadLine (n + 1))
+
+abbrev pub moved : ℕ → Move → (ℕ → Play) → Play
+moved n (Answer line q) on = record { answers = line ∷ (on q).answers; lines = (on q).lines; end = (on q).end }
+moved n Quit on = ends_at (n + 1) AtQuit
+moved n Refuse on = ends_at n (AtBadLine (n + 1))
+
+-- the most lines that a child reads
+abbrev pub greatest_lines : ℕ
+greatest_lines = 2 ^ 32 - 1
+
+-- from a state, after so many lines, on further lines and what stands behind the last of them
+abbrev pub played_from : Machine → ℕ → ℕ → List (List ℕ) → List ℕ → Play
+played_from m q n [] rest = if n == greatest_lines then ends_at n AtLimit else rest_end n rest
+played_from m q n (l ∷ ls) rest = if n == greatest_lines then ends_at n AtLimit else moved n (move_of m q l) (λ r. played_from m r (n + 1) ls rest)
+
+-- what a child that plays the machine answers to these bytes, from its initial state on, and how it ends
+abbrev pub played : Machine → List ℕ → Play
+played m bytes = played_from m 0 0 (lines_of bytes) (rest_of bytes)
+
+-- lines as bytes
+abbrev pub ended_lines : List (List ℕ) → List ℕ
+ended_lines lines = flat_map (λ l. l ++ 10 ∷ []) lines
