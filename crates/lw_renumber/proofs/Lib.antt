@@ -2,5 +2,6 @@ mod ClashLemmas
 pub mod LawLemmas
 mod MachineLemmas
 pub mod OccurLemmas
+mod SortLemmas
 mod SuiteLemmas
 mod SureLemmas
