@@ -1,9 +1,9 @@
 -- Renamed answers: what clashes, what is clear, known and read, and what is a crowd.
-use Rattle.std.proofs.Common.{◌≡◌, ℕ, zero, suc, ◌<◌, ◌↔◌, inl, inr, ⊎_elim, List, [], ◌∷◌, ◌++◌, length, take, drop, get_or, map, refl, ap, sym, ◌∙◌, subst, arith}
+use Rattle.std.proofs.Common.{◌≡◌, ℕ, zero, suc, ◌<◌, ◌↔◌, inl, inr, ⊎_elim, List, [], ◌∷◌, ◌++◌, length, take, drop, get_or, map, refl, ap, sym, ◌∙◌, subst, subst₂, arith}
 use Rattle.std.proofs.lemmas.List.{length-map, take-map, drop-map, get_or-map}
 use Rattle.lw_words.specs.Answer.{Answer, AreAnswers, IsWhole, answer_at}
 use Rattle.lw_words.specs.Word.{IsPrefix}
-use Rattle.lw_cache.specs.Clash.{Clash, IsClearAfter, IsClear}
+use Rattle.lw_cache.specs.Clash.{Clash, NothingClashes, IsClearAfter, IsClear}
 use Rattle.lw_cache.specs.Known.{IsKnown, Reads}
 use Rattle.lw_cache.specs.Crowd.{Apart, IsCrowd}
 use Rattle.lw_renumber.specs.Renaming.{Renames, renamed_answer, renamed_answers}
@@ -149,3 +149,14 @@ module _ (f g : ℕ → ℕ) (r : Renames f g) (a : ℕ) (ks : List Answer) (are
 
   pub clear_stays : (i : ℕ) → IsClear (renamed_answers f ks) i ↔ IsClear ks i
   clear_stays = clear_both f g r ks (are_whole a ks are)
+
+  pub never_clash : NothingClashes ks → NothingClashes (renamed_answers f ks)
+  never_clash nothing i j d before within clash =
+      let blank : Answer = record { word = []; outs = [] } in
+      let n : length (renamed_answers f ks) ≡ length ks = length-map ks (renamed_answer f) in
+      let lj : j < length ks = subst (λ (s : ℕ). j < s) n within in
+      let li : i < length ks = omega (arith, before, lj) in
+      let read : (k : ℕ) → k < length ks → get_or (renamed_answers f ks) k d ≡ renamed_answer f (get_or ks k blank) = λ k lt. get_or-map (renamed_answer f) ks k blank d lt in
+      nothing i j blank before lj
+      (clash_back f g r (get_or ks i blank) (get_or ks j blank) (are i blank li).1 (are j blank lj).1
+      (subst₂ (λ (k l : Answer). Clash k l) (read i li) (read j lj) clash))

@@ -3,9 +3,9 @@ use Rattle.std.proofs.Common.{◌≡◌, ℕ, ◌≤◌, refl, ap, sym, ◌∙�
 use Rattle.lw_mealy.specs.Machine.{IsMachine}
 use Rattle.lw_mealy.specs.Limits.{MealyMachine, mealy_of, IsWithinLimits, AnswersBelow}
 use Rattle.lw_suite.specs.Size.{suite_size}
-use Rattle.lw_renumber.specs.Laws.{RenamedClashes, RenamedIsClear, RenamedIsCanonical, RenamedIsSuite, RenamedIsSure, RenamedAnswers, RenamedGives, RenamedIsKnown, RenamedIsRead, RenamedIsCrowd, RenamedIsCertified, RenamedIsLeast, RenamedIsTooMany, RenamedIsTooLarge}
+use Rattle.lw_renumber.specs.Laws.{RenamedClashes, RenamedNeverClash, RenamedIsClear, RenamedIsCanonical, RenamedIsSuite, RenamedIsSure, RenamedAnswers, RenamedGives, RenamedIsKnown, RenamedIsRead, RenamedIsCrowd, RenamedIsCertified, RenamedIsLeast, RenamedIsTooMany, RenamedIsTooLarge}
 use Rattle.lw_renumber.specs.Renaming.{renamed_rows}
-use Rattle.lw_renumber.proofs.ClashLemmas.{clash_too, clash_back, clear_stays, known_stays, read_renamed, crowd_stays}
+use Rattle.lw_renumber.proofs.ClashLemmas.{never_clash, clash_too, clash_back, clear_stays, known_stays, read_renamed, crowd_stays}
 use Rattle.lw_renumber.proofs.MachineLemmas.{answer_is, states_same, is_machine, gives_too}
 use Rattle.lw_renumber.proofs.SuiteLemmas.{canonical_too, suite_too}
 use Rattle.lw_renumber.proofs.SureLemmas.{gives_back, sure_too, verdict_too}
@@ -49,6 +49,9 @@ renamed_is_read f g a ks w o r are read = read_renamed f g r a ks are w o read
 
 pub renamed_clashes : RenamedClashes
 renamed_clashes f g k l r wk wl = (clash_back f g r k l wk wl, clash_too f g r k l wk wl)
+
+pub renamed_never_clash : RenamedNeverClash
+renamed_never_clash f g a ks r are nothing = never_clash f g r a ks are nothing
 
 pub renamed_is_clear : RenamedIsClear
 renamed_is_clear f g a ks i r are = clear_stays f g r a ks are i

@@ -10,19 +10,22 @@ use Rattle.lw_words.specs.Answer.{Answer, AreAnswers, answer_of, answers_of}
 use Rattle.lw_words.specs.Name.{AllDiffer}
 use Rattle.lw_words.specs.Renumbering.{renumbered, renumbered_answer, renumbered_answers}
 use Rattle.lw_words.specs.declared.kept.KeptAnswer.{KeptAnswer}
+use Rattle.lw_cache.specs.Clash.{NothingClashes}
 use Rattle.lw_mealy.specs.Limits.{MealyMachine, mealy_of, IsWithinLimits, AnswersBelow}
 use Rattle.lw_mealy.specs.Machine.{Row, Rows, IsMachine}
 use Rattle.lw_mealy.specs.Renumbering.{renumbered_cell, renumbered_cells, renumbered_rows, AllRenumber}
-use Rattle.lw_sul.specs.Names.{name_at}
+use Rattle.lw_sul.specs.Names.{name_at, named}
 use Rattle.lw_rounds.specs.Learned.{IsCertified, IsLearned, IsTooMany, IsTooLarge, StopsAs}
+use Rattle.lw_desk.specs.Naming.{Renumbers}
+use Rattle.lw_desk.proofs.NameOrder.{differ_moved}
 use Rattle.lw_rounds.proofs.LawLemmas.{model_is_least}
 use Rattle.lw_rounds.specs.declared.learned.Learned.{Learned}
 use Rattle.lw_rounds.specs.declared.stops.LearnStop.{LearnStop}
 use Rattle.lw_rounds.specs.declared.stops.LearnStop.TheVariants as learn
 use Rattle.lw_renumber.specs.Renaming.{Renames, renamed_cell, renamed_row, renamed_rows, renamed_answer, renamed_answers, OutsBelow}
-use Rattle.lw_renumber.specs.Sorting.{IsRenumbering, renamed_learned, IsSettled, StillStops, HasSorted}
-use Rattle.lw_renumber.proofs.MachineLemmas.{states_same}
-use Rattle.lw_renumber.proofs.LawLemmas.{renamed_is_certified, renamed_is_least, renamed_is_too_many, renamed_is_too_large}
+use Rattle.lw_renumber.specs.Sorting.{IsRenumbering, IsWithin, outs_named, renumbered_learned, renamed_learned, IsSettled, StillStops, HasSorted}
+use Rattle.lw_renumber.proofs.MachineLemmas.{states_same, answers_too}
+use Rattle.lw_renumber.proofs.LawLemmas.{renamed_never_clash, renamed_is_certified, renamed_is_least, renamed_is_too_many, renamed_is_too_large}
 
 -- where names differ a name has one number
 one_number : (names : List (List ℕ)) (x y : ℕ) → AllDiffer names → x < length names → y < length names → name_at names x ≡ name_at names y → x ≡ y
@@ -95,8 +98,8 @@ module _ (to : List ℕ) (before now : List (List ℕ)) (differ : AllDiffer befo
   within : (y : ℕ) → y < n → f y < n
   within y lt = subst (λ (z : ℕ). z < n) (listed y lt) (let h = (numbers y lt).0 in omega (arith, as_many, h))
 
-  named : (y : ℕ) → y < n → name_at now (f y) ≡ name_at before y
-  named y lt = ap (name_at now) (sym (listed y lt)) ∙ (numbers y lt).1
+  still_named : (y : ℕ) → y < n → name_at now (f y) ≡ name_at before y
+  still_named y lt = ap (name_at now) (sym (listed y lt)) ∙ (numbers y lt).1
 
   abbrev IsOwn : ℕ → ℕ → Type 0
   IsOwn y z = (z < n) × (name_at before z ≡ name_at now y)
@@ -113,7 +116,7 @@ module _ (to : List ℕ) (before now : List (List ℕ)) (differ : AllDiffer befo
       ⊎_elim
       (λ (lt : y < n).
       let o = own (f y) (within y lt) in
-      one_number before (g (f y)) y differ o.0 lt (o.1 ∙ named y lt))
+      one_number before (g (f y)) y differ o.0 lt (o.1 ∙ still_named y lt))
       (λ (le : n ≤ y). ap g (past y le) ∙ past_back y le)
       (cases_lt y n)
 
@@ -123,19 +126,23 @@ module _ (to : List ℕ) (before now : List (List ℕ)) (differ : AllDiffer befo
       (λ (lt : y < n).
       let o = own y lt in
       let w = within (g y) o.0 in
-      one_number now (f (g y)) y differ_now (omega (arith, as_many, w)) (omega (arith, as_many, lt)) (named (g y) o.0 ∙ o.1))
+      one_number now (f (g y)) y differ_now (omega (arith, as_many, w)) (omega (arith, as_many, lt)) (still_named (g y) o.0 ∙ o.1))
       (λ (le : n ≤ y). ap f (past_back y le) ∙ past y le)
       (cases_lt y n)
 
-  pub renumbering : (f : ℕ → ℕ) × (g : ℕ → ℕ) × IsRenumbering to before now f g
-  renumbering = (f, g, record {
-    renames = record { back = back; forth = forth };
-    count = as_many;
-    listed = listed;
-    within = within;
-    past = past;
-    named = named;
-  })
+  renumbering : (f : ℕ → ℕ) × (g : ℕ → ℕ) × IsRenumbering to before now f g
+  renumbering = (
+    f,
+    g,
+    record {
+      renames = record { back = back; forth = forth };
+      count = as_many;
+      listed = listed;
+      within = within;
+      past = past;
+      named = still_named;
+    },
+  )
 
 -- two functions that agree where P holds
 map_alike : {X Y : Type 0} (P : X → Type 0) (h k : X → Y) (xs : List X) → ((x : X) → P x → h x ≡ k x) → All P xs → map h xs ≡ map k xs
@@ -178,11 +185,10 @@ some_output t n is below =
     omega (arith, low)
 
 -- what the call on the model asks
-pub all_renumber : (to : List ℕ) (f : ℕ → ℕ) (n : ℕ) (m : Rows) → n ≤ length to → ((y : ℕ) → y < n → get_or to y 0 ≡ f y) → ((y : ℕ) → y < n → f y < n) → AnswersBelow n m → AllRenumber n to m
-all_renumber to f n m room listed within below q d lt x e le =
+pub all_renumber : (to : List ℕ) (n : ℕ) (m : Rows) → n ≤ length to → IsWithin n to → AnswersBelow n m → AllRenumber n to m
+all_renumber to n m room within below q d lt x e le =
     let low = below q d lt x e le in
-    let y : ℕ = (get_or (get_or m q d) x e).1 in
-    (omega (arith, low, room), subst (λ (z : ℕ). z < n) (sym (listed y low)) (within y low))
+    (omega (arith, low, room), within (get_or (get_or m q d) x e).1 low)
 
 module _ (f g : ℕ → ℕ) (r : Renames f g) (n : ℕ) (within : (y : ℕ) → y < n → f y < n) (past : (y : ℕ) → n ≤ y → f y ≡ y) (few : n ≤ 4096) (ks : List Answer) where
   -- the model is settled by the renamed answers
@@ -196,7 +202,7 @@ module _ (f g : ℕ → ℕ) (r : Renames f g) (n : ℕ) (within : (y : ℕ) →
       (record {
         certified = renamed_is_certified f g a b n k ks l.model r are c (some, few) (rows_below f n n l.model.rows within below);
         least = renamed_is_least f g a (length model.rows) ks r are (λ m machine gives.
-        subst (λ (s : ℕ). s ≤ length m) (sym (states_same f l.model.rows)) (model_is_least a b k most ks l.model l.table are is m machine gives));
+            subst (λ (s : ℕ). s ≤ length m) (sym (states_same f l.model.rows)) (model_is_least a b k most ks l.model l.table are is m machine gives));
       })
 
   still : (a b k most : ℕ) (stop : LearnStop) → AreAnswers a ks → StopsAs a b k most ks stop → StillStops a k most f (renamed_answers f ks) stop
@@ -217,7 +223,7 @@ module _ (f g : ℕ → ℕ) (r : Renames f g) (n : ℕ) (within : (y : ℕ) →
   stopped_still a b k most (Ok l) are is = is
   stopped_still a b k most (Err stop) are is = still a b k most stop are is
 
-pub has_sorted : (to : List ℕ) (before now : List (List ℕ)) (f g : ℕ → ℕ) (ks more : List Answer) (was is : Result Learned LearnStop)
+has_sorted : (to : List ℕ) (before now : List (List ℕ)) (f g : ℕ → ℕ) (ks more : List Answer) (was is : Result Learned LearnStop)
     → IsRenumbering to before now f g → length before ≤ 4096 → IfOk was (λ l. AnswersBelow (length before) l.model.rows)
     → more ≡ renamed_answers f ks → is ≡ renamed_learned (length before) f was
     → HasSorted to before now ks more was is
@@ -229,14 +235,76 @@ has_sorted to before now f g ks more was is r few below answers renamed =
       g = g;
       renumbering = r;
       answers = answers;
+      are = λ a are. subst (λ (ls : List Answer). AreAnswers a ls) (sym answers) (answers_too f a ks are);
+      nothing = λ a are nothing. subst (λ (ls : List Answer). NothingClashes ls) (sym answers) (renamed_never_clash f g a ks r.renames are nothing);
       renamed = renamed ∙ ap (λ (c : ℕ). renamed_learned c f was) same;
       learned = λ a b k most are learned.
-      subst (λ (c : ℕ). IfOk is (λ l. IsSettled a c k more l.model)) same
-      (subst (λ (ls : List Answer). IfOk is (λ l. IsSettled a n k ls l.model)) (sym answers)
-      (subst (λ (now : Result Learned LearnStop). IfOk now (λ l. IsSettled a n k (renamed_answers f ks) l.model)) (sym renamed)
-      (learned_still f g r.renames n r.within r.past few ks a b k most was are below learned)));
+          subst (λ (c : ℕ). IfOk is (λ l. IsSettled a c k more l.model)) same
+          (subst (λ (ls : List Answer). IfOk is (λ l. IsSettled a n k ls l.model)) (sym answers)
+          (subst (λ (now : Result Learned LearnStop). IfOk now (λ l. IsSettled a n k (renamed_answers f ks) l.model)) (sym renamed)
+          (learned_still f g r.renames n r.within r.past few ks a b k most was are below learned)));
       stopped = λ a b k most are stops.
-      subst (λ (ls : List Answer). IfErr is (StillStops a k most f ls)) (sym answers)
-      (subst (λ (now : Result Learned LearnStop). IfErr now (StillStops a k most f (renamed_answers f ks))) (sym renamed)
-      (stopped_still f g r.renames n r.within r.past few ks a b k most was are stops));
+          subst (λ (ls : List Answer). IfErr is (StillStops a k most f ls)) (sym answers)
+          (subst (λ (now : Result Learned LearnStop). IfErr now (StillStops a k most f (renamed_answers f ks))) (sym renamed)
+          (stopped_still f g r.renames n r.within r.past few ks a b k most was are stops));
     }
+
+learned_listed : (to : List ℕ) (f : ℕ → ℕ) (n : ℕ) (was : Result Learned LearnStop) → ((y : ℕ) → y < n → get_or to y 0 ≡ f y) → IfOk was (λ l. AnswersBelow n l.model.rows)
+    → renumbered_learned n to was ≡ renamed_learned n f was
+learned_listed to f n (Ok l) listed below =
+    ap (λ (m : Rows). Ok (record { model = mealy_of l.model.inputs n m; table = l.table })) (rows_listed to f n listed l.model.rows below)
+learned_listed to f n (Err stop) listed below = refl
+
+-- the call renumbers a model, and leaves what stopped a learning
+pub model_renumbered : (n : ℕ) (to : List ℕ) (was : Result Learned LearnStop) (l : Learned) (model : MealyMachine) → was ≡ Ok l
+    → model ≡ mealy_of l.model.inputs n (renumbered_rows to l.model.rows) → Ok (record { model = model; table = l.table }) ≡ renumbered_learned n to was
+model_renumbered n to was l model is made =
+    ap (λ (m : MealyMachine). Ok (record { model = m; table = l.table })) made ∙ ap (renumbered_learned n to) (sym is)
+
+pub stop_left : (n : ℕ) (to : List ℕ) (was : Result Learned LearnStop) → ((l : Learned) → was ≡ Ok l → ⊥) → was ≡ renumbered_learned n to was
+stop_left n to (Ok l) none = absurd (none l refl)
+stop_left n to (Err stop) none = refl
+
+pub model_below : (n : ℕ) (was : Result Learned LearnStop) (l : Learned) → was ≡ Ok l → IfOk was (λ l. AnswersBelow n l.model.rows) → AnswersBelow n l.model.rows
+model_below n was l is below = subst (λ (w : Result Learned LearnStop). IfOk w (λ l. AnswersBelow n l.model.rows)) is below
+
+-- from the clauses of the call that sorts
+module _ (to : List ℕ) (before now : List (List ℕ)) (differ : AllDiffer before) (moved : IsPermutation before now) (numbers : Renumbers to before now) where
+  the_numbers : (f : ℕ → ℕ) × (g : ℕ → ℕ) × IsRenumbering to before now f g
+  the_numbers = renumbering to before now differ (differ_moved before now moved differ) moved numbers
+
+  each_named : (o : List ℕ) → All (λ y. y < length before) o → named now (renumbered to o) ≡ named before o
+  each_named [] low = refl
+  each_named (y ∷ o) low =
+      ap₂ (λ (x : List ℕ) (xs : List (List ℕ)). x ∷ xs) (numbers y (All-head (λ y. y < length before) y o low)).1 (each_named o (All-tail (λ y. y < length before) y o low))
+
+  all_named : (ks : List KeptAnswer) → All (λ k. All (λ y. y < length before) k.outs) ks → outs_named now (renumbered_answers to ks) ≡ outs_named before ks
+  all_named [] low = refl
+  all_named (k ∷ ks) low =
+      ap₂ (λ (x : List (List ℕ)) (xs : List (List (List ℕ))). x ∷ xs)
+      (each_named k.outs (All-head (λ k. All (λ y. y < length before) k.outs) k ks low))
+      (all_named ks (All-tail (λ k. All (λ y. y < length before) k.outs) k ks low))
+
+  pub numbers_within : IsWithin (length before) to
+  numbers_within y lt = subst (λ (c : ℕ). get_or to y 0 < c) (length_permutation before now moved) (numbers y lt).0
+
+  module _ (kept kept_now : List KeptAnswer) (outs : All (λ k. All (λ y. y < length before) k.outs) kept) (answers : kept_now ≡ renumbered_answers to kept) where
+    pub outs_below : All (λ k. All (λ y. y < length now) k.outs) kept_now
+    outs_below =
+        let long = length_permutation before now moved in
+        subst (λ (ks : List KeptAnswer). All (λ k. All (λ y. y < length now) k.outs) ks) (sym answers)
+        (All-map (λ k. All (λ y. y < length now) k.outs) (renumbered_answer to) kept (λ i d lt.
+        All-map (λ y. y < length now) (λ y. get_or to y 0) (get_or kept i d).outs (λ x e le. (numbers (get_or (get_or kept i d).outs x e) (outs i d lt x e le)).0)))
+
+    pub outs_stay_named : outs_named now kept_now ≡ outs_named before kept
+    outs_stay_named =
+        ap (outs_named now) answers ∙ all_named kept outs
+
+  pub sorted_stays : (kept kept_now : List KeptAnswer) (was is : Result Learned LearnStop) → length before ≤ 4096 → All (λ k. All (λ y. y < length before) k.outs) kept
+      → IfOk was (λ l. AnswersBelow (length before) l.model.rows) → kept_now ≡ renumbered_answers to kept → is ≡ renumbered_learned (length before) to was
+      → HasSorted to before now (answers_of kept) (answers_of kept_now) was is
+  sorted_stays kept kept_now was is few outs below answers made =
+      let r = the_numbers in
+      has_sorted to before now r.0 r.1 (answers_of kept) (answers_of kept_now) was is r.2 few below
+      (ap answers_of answers ∙ answers_listed to r.0 (length before) r.2.listed kept outs)
+      (made ∙ learned_listed to r.0 (length before) was r.2.listed below)

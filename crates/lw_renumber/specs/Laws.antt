@@ -5,7 +5,7 @@ use Rattle.lw_words.specs.Word.{IsWord}
 use Rattle.lw_mealy.specs.Machine.{Rows, IsMachine, answer}
 use Rattle.lw_mealy.specs.Gives.{Gives}
 use Rattle.lw_mealy.specs.Limits.{MealyMachine, mealy_of, AnswersBelow}
-use Rattle.lw_cache.specs.Clash.{Clash, IsClear}
+use Rattle.lw_cache.specs.Clash.{Clash, NothingClashes, IsClear}
 use Rattle.lw_cache.specs.Crowd.{IsCrowd}
 use Rattle.lw_cache.specs.Known.{IsKnown, Reads}
 use Rattle.lw_separate.specs.Canonical.{IsCanonical}
@@ -28,6 +28,11 @@ RenamedGives = (f : ℕ → ℕ) (a : ℕ) (m : Rows) (ks : List Answer) → IsM
 abbrev pub RenamedClashes : Type 0
 RenamedClashes = (f g : ℕ → ℕ) (k l : Answer) → Renames f g → IsWhole k → IsWhole l
     → Clash (renamed_answer f k) (renamed_answer f l) ↔ Clash k l
+
+-- where nothing clashes nothing does renamed
+abbrev pub RenamedNeverClash : Type 0
+RenamedNeverClash = (f g : ℕ → ℕ) (a : ℕ) (ks : List Answer) → Renames f g → AreAnswers a ks
+    → NothingClashes ks → NothingClashes (renamed_answers f ks)
 
 -- the same answers are clear
 abbrev pub RenamedIsClear : Type 0

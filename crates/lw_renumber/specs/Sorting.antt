@@ -1,10 +1,13 @@
 -- What it leaves to sort the names of a learned system's outputs.
-use Rattle.std.specs.Prelude.{◌≡◌, ℕ, ◌<◌, ◌≤◌, List, length, slice_index_or, Result, Ok, Err, IfOk, IfErr}
+use Rattle.std.specs.Prelude.{◌≡◌, ℕ, ◌<◌, ◌≤◌, List, length, map, slice_index_or, Result, Ok, Err, IfOk, IfErr}
 use Rattle.lw_words.specs.Answer.{Answer, AreAnswers}
+use Rattle.lw_words.specs.declared.kept.KeptAnswer.{KeptAnswer}
+use Rattle.lw_cache.specs.Clash.{NothingClashes}
 use Rattle.lw_mealy.specs.Gives.{Gives}
 use Rattle.lw_mealy.specs.Limits.{MealyMachine, mealy_of}
 use Rattle.lw_mealy.specs.Machine.{Rows, IsMachine}
-use Rattle.lw_sul.specs.Names.{name_at}
+use Rattle.lw_mealy.specs.Renumbering.{renumbered_rows}
+use Rattle.lw_sul.specs.Names.{name_at, named}
 use Rattle.lw_rounds.specs.Learned.{IsCertified, IsLearned, IsTooMany, IsTooLarge, StopsAs}
 use Rattle.lw_rounds.specs.declared.learned.Learned.{Learned}
 use Rattle.lw_rounds.specs.declared.stops.LearnStop.{LearnStop}
@@ -20,7 +23,23 @@ pub record IsRenumbering (to : List ℕ) (before now : List (List ℕ)) (f g : �
   pub past : (y : ℕ) → length before ≤ y → f y ≡ y
   pub named : (y : ℕ) → y < length before → name_at now (f y) ≡ name_at before y
 
--- the model with so many outputs, renamed; what stopped a learning stays
+-- the outputs of kept answers, by their names
+abbrev pub outs_named : List (List ℕ) → List KeptAnswer → List (List (List ℕ))
+outs_named names kept = map (λ k. named names k.outs) kept
+
+-- a list has for each number below a bound another one below it
+abbrev pub IsWithin : ℕ → List ℕ → Type 0
+IsWithin n to = (y : ℕ) → y < n → slice_index_or to y 0 < n
+
+-- the model with so many outputs, by the list of their new numbers; what stopped a learning stays
+abbrev pub renumbered_learned : ℕ → List ℕ → Result Learned LearnStop → Result Learned LearnStop
+renumbered_learned outputs to (Ok l) = Ok (record {
+  model = mealy_of l.model.inputs outputs (renumbered_rows to l.model.rows);
+  table = l.table;
+})
+renumbered_learned outputs to (Err stop) = Err stop
+
+-- the same by a function
 abbrev pub renamed_learned : ℕ → (ℕ → ℕ) → Result Learned LearnStop → Result Learned LearnStop
 renamed_learned outputs f (Ok l) = Ok (record {
   model = mealy_of l.model.inputs outputs (renamed_rows f l.model.rows);
@@ -45,6 +64,8 @@ pub record HasSorted (to : List ℕ) (before now : List (List ℕ)) (ks more : L
   pub g : ℕ → ℕ
   pub renumbering : IsRenumbering to before now f g
   pub answers : more ≡ renamed_answers f ks
+  pub are : (a : ℕ) → AreAnswers a ks → AreAnswers a more
+  pub nothing : (a : ℕ) → AreAnswers a ks → NothingClashes ks → NothingClashes more
   pub renamed : is ≡ renamed_learned (length now) f was
   pub learned : (a b k most : ℕ) → AreAnswers a ks → IfOk was (λ l. IsLearned a b k most ks l.model l.table)
       → IfOk is (λ l. IsSettled a (length now) k more l.model)

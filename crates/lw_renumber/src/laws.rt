@@ -1,5 +1,5 @@
 //! Outputs under other names change nothing of what was learned. Each law is a function with no code, whose contract is the law.
-ghost use Rattle.lw_renumber.specs.Laws.{RenamedAnswers, RenamedGives, RenamedClashes, RenamedIsClear, RenamedIsKnown, RenamedIsRead, RenamedIsCanonical, RenamedIsSuite, RenamedIsSure, RenamedIsCrowd, RenamedIsCertified, RenamedIsLeast, RenamedIsTooMany, RenamedIsTooLarge, OutputsOccur};
+ghost use Rattle.lw_renumber.specs.Laws.{RenamedAnswers, RenamedNeverClash, RenamedGives, RenamedClashes, RenamedIsClear, RenamedIsKnown, RenamedIsRead, RenamedIsCanonical, RenamedIsSuite, RenamedIsSure, RenamedIsCrowd, RenamedIsCertified, RenamedIsLeast, RenamedIsTooMany, RenamedIsTooLarge, OutputsOccur};
 
 /// The answers of a renamed machine are the machine's, renamed; by any function, one that maps two numbers to one too.
 pub fn renamed_answers_are()
@@ -14,6 +14,11 @@ pub fn renamed_gives()
 /// Two answers clash exactly where they do so renamed.
 pub fn renamed_clashes()
     ensures { RenamedClashes }
+{}
+
+/// Where nothing clashes nothing does renamed.
+pub fn renamed_never_clash()
+    ensures { RenamedNeverClash }
 {}
 
 /// The same answers are clear.
