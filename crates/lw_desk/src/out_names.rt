@@ -1,5 +1,5 @@
 //! The shared names of outputs.
-ghost use Rattle.std.specs.Prelude.{◌≡◌, ℕ, ◌+◌, ◌<◌, ◌≤◌, ◌↔◌, List, [], ◌∷◌, ◌++◌, length, map, slice_index, slice_index_or, replicate, IfOk, IsTrue, Some, None, true, false, is_some, vec_len, vec_capacity};
+ghost use Rattle.std.specs.Prelude.{◌≡◌, ℕ, ◌+◌, ◌<◌, ◌≤◌, ◌↔◌, List, [], ◌∷◌, ◌++◌, length, map, drop, slice_index, slice_index_or, replicate, IfOk, IsTrue, Some, None, true, false, is_some, vec_len, vec_capacity};
 ghost use Rattle.std.specs.List.{All};
 ghost use Rattle.std.specs.List.Sorted.{IsPermutation};
 ghost use Rattle.lw_words.specs.Name.{IsName, IsNames, AllDiffer, number_of};
@@ -30,7 +30,6 @@ pub struct OutNames {
     names: Vec<OutName>,
     tables: Vec<Vec<u16>>,
     free: bool,
-    alloc: Global,
 }
 
 impl Model for OutNames {
@@ -109,7 +108,6 @@ impl OutNames {
             names: copy,
             tables: Vec::new(alloc),
             free: false,
-            alloc,
         })
     }
 
@@ -121,7 +119,6 @@ impl OutNames {
             names: Vec::with_capacity(alloc, MOST_NAMES)?,
             tables: empty_tables(alloc)?,
             free: true,
-            alloc,
         })
     }
 
@@ -204,6 +201,8 @@ impl OutNames {
         ensures numbers { Renumbers to.new self.old.names self.new.names }
         ensures brought { self.new.brought ≡ self.old.brought }
         ensures count { length to.new ≡ length to.old }
+        ensures rest { drop (length self.old.names) to.new
+            ≡ drop (length self.old.names) to.old }
     {
         rank_names(self.names.as_slice(), to);
         sort_names(&mut self.names);

@@ -1,5 +1,5 @@
 //! Names by their bytes, and numbers by the names' new places.
-ghost use Rattle.std.specs.Prelude.{◌≡◌, ℕ, ◌<◌, ◌≤◌, length, map, vec_capacity};
+ghost use Rattle.std.specs.Prelude.{◌≡◌, ℕ, ◌<◌, ◌≤◌, length, map, drop, vec_capacity};
 ghost use Rattle.std.specs.List.{All};
 ghost use Rattle.std.specs.List.Sorted.{IsPermutation};
 ghost use Rattle.std.specs.Ordering.{nat_cmp};
@@ -34,6 +34,7 @@ pub(crate) fn rank_names(names: &[OutName], to: &mut [u16])
     requires room { length names.now ≤ length to.old }
     ensures ranks { AreRanks to.new names.now (length names.now) }
     ensures count { length to.new ≡ length to.old }
+    ensures rest { drop (length names.now) to.new ≡ drop (length names.now) to.old }
 {
     for (number, name) in names.iter().enumerate() {
         to[number] = rank_of(names, name) as u16;
