@@ -1,28 +1,28 @@
 -- Names under new numbers make a bijection; and the answers, the rows and what was learned under it.
-use Rattle.std.proofs.Common.{◌≡◌, ◌≢◌, ℕ, zero, suc, ◌<◌, ◌≤◌, ◌⊎◌, inl, inr, ⊎_elim, List, [], ◌∷◌, length, get_or, map, Contains, Result, Ok, Err, IfOk, IfErr, refl, ap, ap₂, sym, ◌∙◌, subst, arith}
+use Rattle.std.proofs.Common.{◌≡◌, ℕ, ◌<◌, ◌≤◌, ◌⊎◌, inl, inr, ⊎_elim, List, [], ◌∷◌, length, get_or, map, Contains, Result, Ok, Err, IfOk, IfErr, refl, ap, ap₂, sym, ◌∙◌, subst, arith}
 use Rattle.std.specs.List.{All}
 use Rattle.std.specs.List.Sorted.{IsPermutation}
 use Rattle.std.proofs.lemmas.Bool.{cases_lt, cases_order}
 use Rattle.std.proofs.lemmas.List.Elements.{All-head, All-tail, All-map, Contains-get_or}
 use Rattle.std.proofs.lemmas.List.Sorted.{Contains-permutation, IsPermutation-sym, length_permutation}
 use Rattle.std.proofs.lemmas.List.{get_or_default}
-use Rattle.lw_words.specs.Answer.{Answer, AreAnswers, answer_of, answers_of}
+use Rattle.lw_words.specs.Answer.{Answer, AreAnswers, answers_of}
 use Rattle.lw_words.specs.Name.{AllDiffer}
 use Rattle.lw_words.specs.Renumbering.{renumbered, renumbered_answer, renumbered_answers}
 use Rattle.lw_words.specs.declared.kept.KeptAnswer.{KeptAnswer}
 use Rattle.lw_cache.specs.Clash.{NothingClashes}
 use Rattle.lw_mealy.specs.Limits.{MealyMachine, mealy_of, IsWithinLimits, AnswersBelow}
-use Rattle.lw_mealy.specs.Machine.{Row, Rows, IsMachine}
-use Rattle.lw_mealy.specs.Renumbering.{renumbered_cell, renumbered_cells, renumbered_rows, AllRenumber}
+use Rattle.lw_mealy.specs.Machine.{Rows}
+use Rattle.lw_mealy.specs.Renumbering.{renumbered_cell, renumbered_cells, renumbered_rows}
 use Rattle.lw_sul.specs.Names.{name_at, named}
-use Rattle.lw_rounds.specs.Learned.{IsCertified, IsLearned, IsTooMany, IsTooLarge, StopsAs}
+use Rattle.lw_rounds.specs.Learned.{IsLearned, StopsAs}
 use Rattle.lw_desk.specs.Naming.{Renumbers}
 use Rattle.lw_desk.proofs.NameOrder.{differ_moved}
 use Rattle.lw_rounds.proofs.LawLemmas.{model_is_least}
 use Rattle.lw_rounds.specs.declared.learned.Learned.{Learned}
 use Rattle.lw_rounds.specs.declared.stops.LearnStop.{LearnStop}
 use Rattle.lw_rounds.specs.declared.stops.LearnStop.TheVariants as learn
-use Rattle.lw_renumber.specs.Renaming.{Renames, renamed_cell, renamed_row, renamed_rows, renamed_answer, renamed_answers, OutsBelow}
+use Rattle.lw_renumber.specs.Renaming.{Renames, renamed_cell, renamed_row, renamed_rows, renamed_answers}
 use Rattle.lw_renumber.specs.Sorting.{IsRenumbering, IsWithin, outs_named, renumbered_learned, renamed_learned, IsSettled, StillStops, HasSorted}
 use Rattle.lw_renumber.proofs.MachineLemmas.{states_same, answers_too}
 use Rattle.lw_renumber.proofs.LawLemmas.{renamed_never_clash, renamed_is_certified, renamed_is_least, renamed_is_too_many, renamed_is_too_large}
@@ -184,12 +184,6 @@ some_output t n is below =
     let low = below 0 [] is.machine.some_state 0 (0, 0) lt in
     omega (arith, low)
 
--- what the call on the model asks
-pub all_renumber : (to : List ℕ) (n : ℕ) (m : Rows) → n ≤ length to → IsWithin n to → AnswersBelow n m → AllRenumber n to m
-all_renumber to n m room within below q d lt x e le =
-    let low = below q d lt x e le in
-    (omega (arith, low, room), within (get_or (get_or m q d) x e).1 low)
-
 module _ (f g : ℕ → ℕ) (r : Renames f g) (n : ℕ) (within : (y : ℕ) → y < n → f y < n) (past : (y : ℕ) → n ≤ y → f y ≡ y) (few : n ≤ 4096) (ks : List Answer) where
   -- the model is settled by the renamed answers
   settled : (a b k most : ℕ) (l : Learned) → AreAnswers a ks → AnswersBelow n l.model.rows → IsLearned a b k most ks l.model l.table
@@ -254,19 +248,6 @@ learned_listed : (to : List ℕ) (f : ℕ → ℕ) (n : ℕ) (was : Result Learn
 learned_listed to f n (Ok l) listed below =
     ap (λ (m : Rows). Ok (record { model = mealy_of l.model.inputs n m; table = l.table })) (rows_listed to f n listed l.model.rows below)
 learned_listed to f n (Err stop) listed below = refl
-
--- the call renumbers a model, and leaves what stopped a learning
-pub model_renumbered : (n : ℕ) (to : List ℕ) (was : Result Learned LearnStop) (l : Learned) (model : MealyMachine) → was ≡ Ok l
-    → model ≡ mealy_of l.model.inputs n (renumbered_rows to l.model.rows) → Ok (record { model = model; table = l.table }) ≡ renumbered_learned n to was
-model_renumbered n to was l model is made =
-    ap (λ (m : MealyMachine). Ok (record { model = m; table = l.table })) made ∙ ap (renumbered_learned n to) (sym is)
-
-pub stop_left : (n : ℕ) (to : List ℕ) (was : Result Learned LearnStop) → ((l : Learned) → was ≡ Ok l → ⊥) → was ≡ renumbered_learned n to was
-stop_left n to (Ok l) none = absurd (none l refl)
-stop_left n to (Err stop) none = refl
-
-pub model_below : (n : ℕ) (was : Result Learned LearnStop) (l : Learned) → was ≡ Ok l → IfOk was (λ l. AnswersBelow n l.model.rows) → AnswersBelow n l.model.rows
-model_below n was l is below = subst (λ (w : Result Learned LearnStop). IfOk w (λ l. AnswersBelow n l.model.rows)) is below
 
 -- from the clauses of the call that sorts
 module _ (to : List ℕ) (before now : List (List ℕ)) (differ : AllDiffer before) (moved : IsPermutation before now) (numbers : Renumbers to before now) where

@@ -1,7 +1,5 @@
 -- What the sort and the two renumberings say, put together.
-use Rattle.std.proofs.Common.{◌≡◌, ◌∙◌, ℕ, length, sym, ap, subst, Result}
-use Rattle.lw_rounds.specs.declared.learned.Learned.{Learned}
-use Rattle.lw_rounds.specs.declared.stops.LearnStop.{LearnStop}
+use Rattle.std.proofs.Common.{◌∙◌, ℕ, sym, ap, subst}
 use Rattle.lw_renumber.specs.Sorting.{IsWithin, renumbered_learned}
 use Rattle.lw_renumber.proofs.SortLemmas.{numbers_within, outs_below, outs_stay_named, sorted_stays}
 use Rattle.lw_renumber.proofs.sorting.sort_outputs.Goals as goal
