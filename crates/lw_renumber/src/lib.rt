@@ -11,3 +11,6 @@ pub use laws::{
     renamed_never_clash,
 };
 pub use sorting::sort_outputs;
+
+#[cfg(test)]
+mod tests;

@@ -14,7 +14,7 @@ use lw_rounds::{LearnStop, Learned};
 use lw_words::Kept;
 
 /// Puts `to[y]` in the place of each output `y` of a model, which has then so many outputs.
-fn renumber_learned(learned: &mut Result<Learned, LearnStop>, outputs: u16, to: &[u16])
+pub(crate) fn renumber_learned(learned: &mut Result<Learned, LearnStop>, outputs: u16, to: &[u16])
     requires few { outputs ≤ 4096 }
     requires room { outputs ≤ length to.now }
     requires within { IsWithin outputs to.now }
