@@ -5,3 +5,4 @@ pub mod OccurLemmas
 mod SortLemmas
 mod SuiteLemmas
 mod SureLemmas
+mod TestDesks

@@ -1,10 +1,11 @@
 -- Each output of a certified model came in an answer.
-use Rattle.std.proofs.Common.{◌≡◌, ℕ, suc, ◌<◌, Bool, true, false, cond, ltb, List, [], ◌∷◌, ◌++◌, length, get_or, map, refl, ap, ap₂, sym, ◌∙◌, subst, arith}
+use Rattle.std.proofs.Common.{◌≡◌, ℕ, suc, ◌<◌, Bool, true, false, cond, ltb, List, [], ◌∷◌, ◌++◌, length, get_or, map, Result, Ok, Err, IfOk, refl, ap, ap₂, sym, ◌∙◌, subst, arith}
 use Rattle.std.specs.List.{All}
 use Rattle.std.proofs.lemmas.Bool.Decides.{Decides-ltb}
 use Rattle.std.proofs.lemmas.List.{get_or-append-add}
-use Rattle.std.proofs.lemmas.List.Elements.{All-from_get_or, All-append, All-cons, All-nil, All-head, All-tail}
-use Rattle.lw_words.specs.Answer.{Answer, AreAnswers}
+use Rattle.std.proofs.lemmas.List.Elements.{All-map, All-from_get_or, All-append, All-cons, All-nil, All-head, All-tail}
+use Rattle.lw_words.specs.Answer.{Answer, AreAnswers, answer_of, answers_of}
+use Rattle.lw_words.specs.declared.kept.KeptAnswer.{KeptAnswer}
 use Rattle.lw_words.specs.Word.{IsWord}
 use Rattle.lw_mealy.specs.Machine.{Rows, IsMachine, row, output, after, out, answer}
 use Rattle.lw_mealy.specs.Gives.{Gives}
@@ -12,7 +13,9 @@ use Rattle.lw_mealy.specs.Equal.{Equal}
 use Rattle.lw_mealy.specs.Limits.{MealyMachine, AnswersBelow}
 use Rattle.lw_mealy.proofs.RowLemmas.{is_row}
 use Rattle.lw_mealy.proofs.WordLemmas.{out-append, length-out}
-use Rattle.lw_rounds.specs.Learned.{IsCertified}
+use Rattle.lw_rounds.specs.Learned.{IsCertified, IsLearned}
+use Rattle.lw_rounds.specs.declared.learned.Learned.{Learned}
+use Rattle.lw_rounds.specs.declared.stops.LearnStop.{LearnStop}
 use Rattle.lw_renumber.specs.Laws.{OutputsOccur}
 use Rattle.lw_renumber.specs.Renaming.{renamed_rows, renamed_answers, OutsBelow}
 use Rattle.lw_renumber.proofs.MachineLemmas.{after_is, output_is, states_same, is_machine, gives_too}
@@ -87,3 +90,12 @@ module _ (a b k n : ℕ) (ks : List Answer) (model : MealyMachine) (are : AreAns
 
 pub outputs_occur : OutputsOccur
 outputs_occur a b k n ks model are is below = all_below a b k n ks model are is below
+
+-- the same of what a learning answers
+pub learned_below : (a b k most n : ℕ) (ks : List Answer) (was : Result Learned LearnStop) → AreAnswers a ks → OutsBelow n ks
+    → IfOk was (λ l. IsLearned a b k most ks l.model l.table) → IfOk was (λ l. AnswersBelow n l.model.rows)
+learned_below a b k most n ks (Ok l) are below is = outputs_occur a b k n ks l.model are is.certified below
+learned_below a b k most n ks (Err stop) are below is = is
+
+pub kept_below : (n : ℕ) (kept : List KeptAnswer) → All (λ k. IsWord n k.outs) kept → OutsBelow n (answers_of kept)
+kept_below n kept below = All-map (λ k. All (λ y. y < n) k.outs) answer_of kept below
