@@ -1,6 +1,8 @@
 mod ClashLemmas
 pub mod LawLemmas
+mod LearnedLemmas
 mod MachineLemmas
+mod NumberLemmas
 pub mod OccurLemmas
 mod SortLemmas
 mod SuiteLemmas

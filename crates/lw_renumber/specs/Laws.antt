@@ -41,17 +41,20 @@ RenamedIsClear = (f g : ℕ → ℕ) (a : ℕ) (ks : List Answer) (i : ℕ) → 
 
 -- the same words are known
 abbrev pub RenamedIsKnown : Type 0
-RenamedIsKnown = (f g : ℕ → ℕ) (a : ℕ) (ks : List Answer) (w : List ℕ) → Renames f g → AreAnswers a ks
+RenamedIsKnown = (f g : ℕ → ℕ) (a : ℕ) (ks : List Answer) (w : List ℕ) → Renames f g
+    → AreAnswers a ks
     → IsKnown (renamed_answers f ks) w ↔ IsKnown ks w
 
 -- with the renamed outputs
 abbrev pub RenamedIsRead : Type 0
-RenamedIsRead = (f g : ℕ → ℕ) (a : ℕ) (ks : List Answer) (w o : List ℕ) → Renames f g → AreAnswers a ks
+RenamedIsRead = (f g : ℕ → ℕ) (a : ℕ) (ks : List Answer) (w o : List ℕ) → Renames f g
+    → AreAnswers a ks
     → Reads ks w o → Reads (renamed_answers f ks) w (map f o)
 
 -- a crowd stays one
 abbrev pub RenamedIsCrowd : Type 0
-RenamedIsCrowd = (f g : ℕ → ℕ) (a : ℕ) (ks : List Answer) (words : List (List ℕ)) → Renames f g → AreAnswers a ks
+RenamedIsCrowd = (f g : ℕ → ℕ) (a : ℕ) (ks : List Answer) (words : List (List ℕ)) → Renames f g
+    → AreAnswers a ks
     → IsCrowd ks words → IsCrowd (renamed_answers f ks) words
 
 -- a canonical form, renamed, is that of the renamed machine
@@ -61,12 +64,14 @@ RenamedIsCanonical = (f g : ℕ → ℕ) (a : ℕ) (m c : Rows) → Renames f g 
 
 -- a machine's suite is that of the renamed machine
 abbrev pub RenamedIsSuite : Type 0
-RenamedIsSuite = (f g : ℕ → ℕ) (a : ℕ) (m : Rows) (k : ℕ) (suite : List (List ℕ)) → Renames f g → IsMachine a m
+RenamedIsSuite = (f g : ℕ → ℕ) (a : ℕ) (m : Rows) (k : ℕ) (suite : List (List ℕ)) → Renames f g
+    → IsMachine a m
     → IsSuite a m k suite → IsSuite a (renamed_rows f m) k suite
 
 -- answers that are worth so much of a machine are, renamed, worth as much of the renamed machine
 abbrev pub RenamedIsSure : Type 0
-RenamedIsSure = (f g : ℕ → ℕ) (a : ℕ) (h : Rows) (ks : List Answer) (k : ℕ) → Renames f g → IsMachine a h
+RenamedIsSure = (f g : ℕ → ℕ) (a : ℕ) (h : Rows) (ks : List Answer) (k : ℕ) → Renames f g
+    → IsMachine a h
     → AreAnswers a ks → Sure a h ks k → Sure a (renamed_rows f h) (renamed_answers f ks) k
 
 -- a certified model, renamed, is certified by the renamed answers
@@ -90,7 +95,8 @@ RenamedIsTooMany = (f g : ℕ → ℕ) (a most : ℕ) (ks : List Answer) (words 
 
 -- so does a suite that is too large, of the renamed model
 abbrev pub RenamedIsTooLarge : Type 0
-RenamedIsTooLarge = (f g : ℕ → ℕ) (a b c k most : ℕ) (ks : List Answer) (model : MealyMachine) (number : ℕ)
+RenamedIsTooLarge = (f g : ℕ
+    → ℕ) (a b c k most : ℕ) (ks : List Answer) (model : MealyMachine) (number : ℕ)
     → Renames f g → AreAnswers a ks → IsTooLarge a b k most ks model number
     → (1 ≤ c) × (c ≤ 4096) → AnswersBelow c (renamed_rows f model.rows)
     → IsTooLarge a c k most (renamed_answers f ks) (mealy_of a c (renamed_rows f model.rows)) number

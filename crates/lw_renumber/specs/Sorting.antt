@@ -67,7 +67,8 @@ pub record HasSorted (to : List ℕ) (before now : List (List ℕ)) (ks more : L
   pub are : (a : ℕ) → AreAnswers a ks → AreAnswers a more
   pub nothing : (a : ℕ) → AreAnswers a ks → NothingClashes ks → NothingClashes more
   pub renamed : is ≡ renamed_learned (length now) f was
-  pub learned : (a b k most : ℕ) → AreAnswers a ks → IfOk was (λ l. IsLearned a b k most ks l.model l.table)
+  pub learned : (a b k most : ℕ) → AreAnswers a ks
+      → IfOk was (λ l. IsLearned a b k most ks l.model l.table)
       → IfOk is (λ l. IsSettled a (length now) k more l.model)
   pub stopped : (a b k most : ℕ) → AreAnswers a ks → IfErr was (StopsAs a b k most ks)
       → IfErr is (StillStops a k most f more)
