@@ -56,10 +56,12 @@ pub record IsSettled (a b k : ℕ) (ks : List Answer) (model : MealyMachine) : T
 abbrev pub StillStops : ℕ → ℕ → ℕ → (ℕ → ℕ) → List Answer → LearnStop → Type 0
 StillStops a k most f ks (learn.Ask stop) = Unit {0}
 StillStops a k most f ks (learn.Crowd words) = IsTooMany most ks words
-StillStops a k most f ks (learn.TooLarge model number) = IsTooLarge a 4096 k most ks (mealy_of a 4096 (renamed_rows f model.rows)) number
+StillStops a k most f ks (learn.TooLarge model number) =
+    IsTooLarge a 4096 k most ks (mealy_of a 4096 (renamed_rows f model.rows)) number
 
 -- the answers and the model are renamed alike; what was so of a learning is so of what it is now
-pub record HasSorted (to : List ℕ) (before now : List (List ℕ)) (ks more : List Answer) (was is : Result Learned LearnStop) : Type 0 where
+pub record HasSorted (to : List ℕ) (before now : List (List ℕ)) (ks more : List Answer)
+    (was is : Result Learned LearnStop) : Type 0 where
   pub f : ℕ → ℕ
   pub g : ℕ → ℕ
   pub renumbering : IsRenumbering to before now f g
