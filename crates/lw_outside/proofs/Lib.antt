@@ -1,3 +1,6 @@
+mod ChildLemmas
 mod FileLemmas
+mod LineLemmas
 mod NameLemmas
+mod SayLemmas
 mod StreamLemmas
