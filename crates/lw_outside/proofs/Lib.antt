@@ -2,5 +2,6 @@ mod ChildLemmas
 mod FileLemmas
 mod LineLemmas
 mod NameLemmas
+mod RetireLemmas
 mod SayLemmas
 mod StreamLemmas

@@ -5,7 +5,7 @@ use Rattle.std.proofs.Math.Seq.{drop-append_seam}
 use Rattle.std.proofs.lemmas.List.{take_more_set}
 use Rattle.lw_outside.specs.Memory.{Speaker, said}
 use Rattle.lw_outside.specs.declared.child.Child.{Child}
-use Rattle.lw_outside.specs.bodies.Child.{HasSaid, Says, Stands, speaker_of, to_say}
+use Rattle.lw_outside.specs.bodies.Child.{HasSaid, Says, speaker_of, to_say}
 
 pub says_both : (xs ys sent : List ℕ) (a b c : Child) → Says xs sent a b → Says ys sent b c → Says (xs ++ ys) sent a c
 says_both xs ys sent a b c first then = record {
@@ -23,8 +23,8 @@ pub said_on : (xs sent received : List ℕ) (a b : Child) → HasSaid a sent rec
 said_on xs sent received a b has step = record {
   stands = step.stands;
   all = λ more.
-  ap (λ (s : Speaker). said s (sent ++ more)) step.speaker
-  ∙ (has.all more ∙ (ap (λ (l : List ℕ). received ++ l) (step.says more) ∙ sym (append_assoc received xs (to_say b sent more))));
+      ap (λ (s : Speaker). said s (sent ++ more)) step.speaker
+      ∙ (has.all more ∙ (ap (λ (l : List ℕ). received ++ l) (step.says more) ∙ sym (append_assoc received xs (to_say b sent more))));
 }
 
 a_front : (all front rest : List ℕ) → all ≡ front ++ rest → all ≡ front ++ drop (length front) all

@@ -1,5 +1,5 @@
 -- The other ends of a spawner's links.
-use Rattle.std.specs.Prelude.{List, ℕ, map}
+use Rattle.std.specs.Prelude.{map}
 use Rattle.lw_outside.specs.Memory.{Speakers, AllPlay, EachRecites}
 use Rattle.lw_outside.specs.declared.cast.Cast.{Cast}
 use Rattle.lw_outside.specs.declared.cast.Cast.TheVariants.{AllServe, EachReads}

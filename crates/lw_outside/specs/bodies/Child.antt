@@ -1,7 +1,7 @@
 -- Children in memory, by what they have still to say.
 use Rattle.std.specs.Prelude.{◌≡◌, ℕ, ◌+◌, ◌<◌, ◌≤◌, List, [], ◌∷◌, ◌++◌, length, drop, slice_index_or, Bool, true, false, Option, Some, None}
 use Rattle.lw_json.specs.declared.machine.Machine.{Machine}
-use Rattle.lw_outside.specs.Lines.{Split, lines_of, rest_of, split_bytes}
+use Rattle.lw_outside.specs.Lines.{lines_of, rest_of, split_bytes}
 use Rattle.lw_outside.specs.Played.{ended_lines, played_from}
 use Rattle.lw_outside.specs.Protocol.{out_line, ready_line}
 use Rattle.lw_outside.specs.declared.player.Reply.{Reply}
@@ -9,7 +9,6 @@ use Rattle.lw_outside.specs.declared.player.Reply.TheVariants.{Ready, Out, Quit,
 use Rattle.lw_outside.specs.Memory.{Speaker, Plays, Recites, said}
 use Rattle.lw_outside.specs.declared.child.Child.{Child}
 use Rattle.lw_outside.specs.declared.child.Child.TheVariants.{Serves, Reads}
-use Rattle.lw_outside.specs.declared.script.Script.{Script}
 use Rattle.lw_outside.specs.declared.served.Served.{Served}
 
 -- the first line of the bytes, or that they have none; whatever follows them

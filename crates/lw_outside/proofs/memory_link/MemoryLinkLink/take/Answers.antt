@@ -1,5 +1,4 @@
-use Rattle.std.proofs.Common.{List, ℕ, [], ◌++◌, take, ◌≡◌, subst, sym, append-nil}
-use Rattle.lw_outside.specs.Memory.{HasHeard}
+use Rattle.std.proofs.Common.{take}
 use Rattle.lw_outside.specs.bodies.Child.{HasSaid}
 use Rattle.lw_outside.proofs.SayLemmas.{heard, said_then}
 use Rattle.lw_outside.proofs.memory_link.MemoryLinkLink.take.Goals as goal
