@@ -102,7 +102,8 @@ impl MemoryLink {
     fn fails_by_plan(&mut self) -> bool
         ensures planned { result ≡ is_planned self.old.plan self.old.made }
         ensures fault { result ≡ true → NotesFault self.old self.new }
-        ensures made { result ≡ false → self.new ≡ record self.old { made = one_more self.old.made } }
+        ensures made { result ≡ false →
+            self.new ≡ record self.old { made = one_more self.old.made } }
         ensures counts { self.old.faults ≤ self.new.faults }
         ensures received { HasHeard self.new }
     {
