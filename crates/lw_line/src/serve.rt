@@ -35,24 +35,3 @@ pub enum ServeFault {
     BadLine(u32),
 }
 
-/// Plays a machine as a child: reads lines of `source` and answers each on `sink`, whole, before it looks at the next one. Takes
-/// no memory. May wait for its input.
-pub fn serve<I: Source, O: Sink>(
-    source: &mut I,
-    sink: &mut O,
-    m: &Machine,
-) -> Result<Served, ServeFault>
-    ensures plays { Plays m.now (I.left source.old) result (O.taken sink.old) (O.taken sink.new) }
-    ensures source { result ≡ Err Fault.SourceFault →
-        CountedFault (I.faults source.old) (I.faults source.new) ×
-        GoesOn m.now (I.left source.old) (I.left source.new) }
-    ensures sink { result ≡ Err Fault.SinkFault →
-        CountedFault (O.faults sink.old) (O.faults sink.new) }
-    ensures end { IfOk result (λ s. s.cause ≡ Cause.EndOfInput →
-        CountedFault (I.ends source.old) (I.ends source.new)) }
-    ensures limit { IfOk result (λ s. s.cause ≡ Cause.Limit → s.lines ≡ 4294967295) }
-    ensures quiet { OnOk result ((I.faults source.new ≡ I.faults source.old) ×
-        (O.faults sink.new ≡ O.faults sink.old)) }
-    ensures counts { (I.faults source.old ≤ I.faults source.new) ×
-        (I.ends source.old ≤ I.ends source.new) × (O.faults sink.old ≤ O.faults sink.new) }
-;

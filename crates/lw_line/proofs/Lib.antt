@@ -1,0 +1,6 @@
+pub mod Calls
+pub mod Naming
+pub mod Pieces
+pub mod Spelling
+pub mod Splitting
+pub mod Standing

@@ -1,0 +1,4 @@
+pub mod Exchanges
+pub mod Naming
+pub mod Pieces
+pub mod Standing
