@@ -66,3 +66,28 @@ split_ended ls plain = ap split_bytes (sym (append-nil (ended_lines ls))) ∙ sp
 pub ended_push : (ls : List (List ℕ)) (l : List ℕ) → ended_lines (ls ++ l ∷ []) ≡ ended_lines ls ++ (l ++ 10 ∷ [])
 ended_push [] l = append-nil (l ++ 10 ∷ [])
 ended_push (x ∷ ls) l = ap (λ (bs : List ℕ). (x ++ 10 ∷ []) ++ bs) (ended_push ls l) ∙ sym (append_assoc (x ++ 10 ∷ []) (ended_lines ls) (l ++ 10 ∷ []))
+
+-- bytes without a line feed in front of others
+abbrev pub lead : List ℕ → List (List ℕ) → List ℕ → Split
+lead bs [] rest = split [] (bs ++ rest)
+lead bs (l ∷ ls) rest = split ((bs ++ l) ∷ ls) rest
+
+lead_nothing : (lines : List (List ℕ)) (rest : List ℕ) → split lines rest ≡ lead [] lines rest
+lead_nothing [] rest = refl
+lead_nothing (l ∷ ls) rest = refl
+
+led_lead : (b : ℕ) (bs : List ℕ) (lines : List (List ℕ)) (rest : List ℕ) → led_by b (lead bs lines rest).lines (lead bs lines rest).rest ≡ lead (b ∷ bs) lines rest
+led_lead b bs [] rest = refl
+led_lead b bs (l ∷ ls) rest = refl
+
+pub split_front : (bs more : List ℕ) → NoFeed bs → split_bytes (bs ++ more) ≡ lead bs (lines_of more) (rest_of more)
+split_front [] more plain = lead_nothing (lines_of more) (rest_of more)
+split_front (b ∷ bs) more plain =
+    split_more b (bs ++ more) (All-head (λ b. b ≢ 10) b bs plain)
+    ∙ (ap (λ (s : Split). led_by b s.lines s.rest) (split_front bs more (All-tail (λ b. b ≢ 10) b bs plain))
+    ∙ led_lead b bs (lines_of more) (rest_of more))
+
+-- lines behind lines
+pub ended_append : (xs ys : List (List ℕ)) → ended_lines (xs ++ ys) ≡ ended_lines xs ++ ended_lines ys
+ended_append [] ys = refl
+ended_append (x ∷ xs) ys = ap (λ (bs : List ℕ). (x ++ 10 ∷ []) ++ bs) (ended_append xs ys) ∙ sym (append_assoc (x ++ 10 ∷ []) (ended_lines xs) (ended_lines ys))

@@ -2,7 +2,7 @@
 ghost use Rattle.std.specs.Prelude.{◌≡◌, ◌≢◌, ◌≤◌, ◌<◌, codes, length, Some, Err, MatchOption, IfOk, OnOk, IfErr, OnErr, IfSome, List, ℕ};
 ghost use Rattle.std.specs.Str.Lines.{strip_carriage_return};
 ghost use Rattle.lw_words.specs.Cause.{CountedFault};
-ghost use Rattle.lw_words.specs.Name.{IsName};
+ghost use Rattle.lw_words.specs.Name.{AllDiffer};
 ghost use Rattle.lw_words.specs.declared.stop.SulStop.{SulStop as Stop};
 ghost use Rattle.lw_outside.specs.Protocol.{in_line, ready_line, reset_line};
 ghost use Rattle.lw_sul.specs.Names.{Brings};
@@ -99,6 +99,7 @@ fn output_in(outputs: &mut OutputNames, answer: &[u8]) -> Option<u16>
         (NamesNone outputs.old.names outputs.old.most answer.now × (outputs.new ≡ outputs.old))
         (λ y. number_behind (codes "out ") outputs.new.names answer.now ≡ Some y) }
     ensures brings { IfSome result (λ y. Brings outputs.old.names outputs.new.names y × (y < outputs.old.range)) }
+    ensures differ { AllDiffer outputs.new.names }
     ensures same { (outputs.new.most ≡ outputs.old.most) × (outputs.new.range ≡ outputs.old.range) }
 {
     let _names = outputs.len();
@@ -119,6 +120,7 @@ pub(crate) fn ask<L: Link>(
             (L.transcript link.old) (L.transcript link.new) ×
         (number_behind (codes "out ") outputs.new.names answer ≡ Some y)) }
     ensures brings { IfOk result (λ y. Brings outputs.old.names outputs.new.names y × (y < outputs.old.range)) }
+    ensures differ { OnOk result (AllDiffer outputs.new.names) }
     ensures err { IfErr result (λ stop. IsRefusal (NamesNone outputs.old.names outputs.old.most)
         (ended (in_line letter.now)) inbox.old inbox.new stop
         (L.transcript link.old) (L.transcript link.new)) }

@@ -5,8 +5,8 @@ mod exchange;
 mod inbox;
 mod outputs;
 mod sent_line;
-mod serve;
+mod serving;
 mod system;
 
-pub use serve::{ServeFault, Served, ServedCause};
+pub use serving::{ServeFault, Served, ServedCause, serve};
 pub use system::LineSul;

@@ -1,6 +1,6 @@
 //! The names of a system's outputs.
 ghost use Rattle.std.specs.Prelude.{◌≡◌, ◌+◌, ◌<◌, ◌≤◌, [], ◌∷◌, ◌++◌, length, IfOk, IfSome, IfNone, Some, None, vec_capacity};
-ghost use Rattle.lw_words.specs.Name.{number_of};
+ghost use Rattle.lw_words.specs.Name.{AllDiffer, number_of};
 ghost use Rattle.lw_sul.specs.Names.{AreNamed, Brings, name_at};
 ghost use Rattle.lw_line.specs.bodies.Naming.{IsOutputList, naming_of};
 
@@ -165,6 +165,7 @@ impl OutputNames {
             (length self.old.names ≡ self.old.most) × (self.new ≡ self.old)) }
         ensures some { IfSome result (λ y. (number_of name.now self.new.names ≡ Some y) ×
             Brings self.old.names self.new.names y × (y < self.old.range)) }
+        ensures differ { AllDiffer self.new.names }
         ensures same { (self.new.most ≡ self.old.most) × (self.new.range ≡ self.old.range) }
     {
         number_in(&mut self.list, name)
