@@ -7,7 +7,7 @@ use Rattle.std.proofs.lemmas.Bool.{false_from_ne_true}
 use Rattle.std.proofs.lemmas.Bool.Decides.{Decides-eqb}
 use Rattle.std.proofs.lemmas.Slice.Eq.{bytes_eq-Decides}
 use Rattle.std.proofs.lemmas.List.{take_at, take-append-le, take_min}
-use Rattle.std.proofs.Math.Seq.{take-append-add}
+use Rattle.std.proofs.Math.Seq.{take-append-add, take-add}
 use Rattle.std.proofs.lemmas.List.Elements.{All-head, All-tail, All-push, All-nil}
 use Rattle.lw_words.specs.Name.{IsName, number_of}
 use Rattle.lw_json.specs.declared.machine.Machine.{Machine}
@@ -18,12 +18,13 @@ use Rattle.lw_outside.specs.Streams.{Gave, IsSpent, TakesAll, TakesSome}
 use Rattle.lw_line.specs.Serving.{GoesOn, Plays, EndsAs, Takes}
 use Rattle.lw_line.specs.declared.serving.Served.{Served}
 use Rattle.lw_line.specs.declared.serving.ServedCause.{ServedCause}
-use Rattle.lw_line.specs.declared.serving.ServedCause.TheVariants.{Quit, EndOfInput, Limit}
+use Rattle.lw_line.specs.declared.serving.ServedCause.TheVariants.{Quit as AskedFor, EndOfInput, Limit}
 use Rattle.lw_line.specs.declared.serving.ServeFault.{ServeFault}
 use Rattle.lw_line.specs.declared.serving.ServeFault.TheVariants.{SourceFault, SinkFault, BadLine}
 use Rattle.lw_line.specs.bodies.Exchanges.{ended}
 use Rattle.lw_line.specs.bodies.Pieces.{NoFeed}
-use Rattle.lw_line.specs.bodies.Playing.{Answers, HasRead, HasReadLine, IsOpenRead, IsUnended, IsServing, Walks}
+use Rattle.lw_line.specs.bodies.Playing.{Answers, HasRead, HasReadLine, IsOpenRead, IsUnended, IsServing, Serves, Turns, Walks}
+use Rattle.lw_line.specs.declared.serving.Turn.TheVariants.{Answered, Quit, Ended}
 use Rattle.lw_line.proofs.Naming.{no_number}
 use Rattle.lw_line.proofs.Splitting.{lead, split, split_front, ended_append, split_more, split_line, split_lines, split_lines_open, split_open, ended_push}
 
@@ -266,3 +267,113 @@ module _ (m : Machine) (bytes : List ℕ) (left : Option (List ℕ)) (held : Lis
       let is : played m bytes ≡ after_answers s.answers p = c.3 ∙ ap (λ (v : Move). after_answers s.answers (moved n v on)) move in
       subst (λ (l : List ℕ). TakesSome l before taken) (sym (answers_of_play p is))
       (takes_part (ended_lines s.answers) (ended text) (ended_lines (on r).answers) before now taken s.taken takes)
+
+-- the same where the input may be untold
+pub serves_first : (m : Machine) (bytes left : Option (List ℕ)) (held : List ℕ) (before : Option (List ℕ)) → left ≡ bytes → held ≡ [] → Serves m bytes left held 0 0 before before
+serves_first m None left held before is empty = tt
+serves_first m (Some bytes) left held before is empty = record {
+  lines = [];
+  answers = [];
+  rest = bytes;
+  left_is = is;
+  read = sym (ap (λ (l : List ℕ). l ++ bytes) empty);
+  plain = All-nil NoFeed;
+  walks = (refl, refl, refl);
+  taken = nothing before;
+}
+  where
+    nothing : (o : Option (List ℕ)) → TakesAll [] o o
+    nothing None = refl
+    nothing (Some t) = ap (λ (l : List ℕ). Some l) (sym (append-nil t))
+
+-- what stands at the end of a play
+plays : (m : Machine) (bytes : List ℕ) (result : Result Served ServeFault) (before now : Option (List ℕ)) (play : Play) → played m bytes ≡ play → EndsAs result play → Takes result (ended_lines play.answers) before now → Plays m (Some bytes) result before now
+plays m bytes result before now play is ends takes =
+    (subst (λ (p : Play). EndsAs result p) (sym is) ends, subst (λ (p : Play). Takes result (ended_lines p.answers) before now) (sym is) takes)
+
+module _ (m : Machine) (bytes left : Option (List ℕ)) (held : List ℕ) (q n : ℕ) (before now : Option (List ℕ)) where
+  pub serves_on : (held' : List ℕ) (r number : ℕ) (left' taken : Option (List ℕ)) → Serves m bytes left held q n before now → n ≢ greatest_lines → Turns m number q held r held' left left' now taken (Ok Answered) → Serves m bytes left' held' r (n + 1) before taken
+  serves_on held' r number left' taken s ne t = go bytes s
+    where
+      go : (o : Option (List ℕ)) → Serves m o left held q n before now → Serves m o left' held' r (n + 1) before taken
+      go None s = tt
+      go (Some b) s = answered m b left held q n before now s held' t.0 t.1 r left' taken ne t.2 t.3 t.4
+
+  pub plays_quit : (held' : List ℕ) (r number : ℕ) (left' taken : Option (List ℕ)) → Serves m bytes left held q n before now → n ≢ greatest_lines → Turns m number q held r held' left left' now taken (Ok Quit) → Plays m bytes (Ok (record { lines = n + 1; cause = AskedFor })) before taken
+  unfolding ended_play
+  plays_quit held' r number left' taken s ne t = go bytes s
+    where
+      go : (o : Option (List ℕ)) → Serves m o left held q n before now → Plays m o (Ok (record { lines = n + 1; cause = AskedFor })) before taken
+      go None s = tt
+      go (Some b) s =
+          plays m b (Ok (record { lines = n + 1; cause = AskedFor })) before taken (ended_play s.answers (n + 1) AtQuit) (quits m b left held q n before now s held' t.0 left' ne t.1 t.2) (refl, refl) (t.3 ∙ s.taken)
+
+  pub plays_ended : (held' : List ℕ) (r number : ℕ) (left' taken : Option (List ℕ)) → Serves m bytes left held q n before now → n ≢ greatest_lines → Turns m number q held r held' left left' now taken (Ok Ended) → Plays m bytes (Ok (record { lines = n; cause = EndOfInput })) before taken
+  unfolding ended_play
+  plays_ended held' r number left' taken s ne t = go bytes s
+    where
+      go : (o : Option (List ℕ)) → Serves m o left held q n before now → Plays m o (Ok (record { lines = n; cause = EndOfInput })) before taken
+      go None s = tt
+      go (Some b) s =
+          plays m b (Ok (record { lines = n; cause = EndOfInput })) before taken (ended_play s.answers n AtEnd) (ends m b left held q n before now s left' ne t.0 t.1) (refl, refl) (t.2 ∙ s.taken)
+
+  pub plays_limit : Serves m bytes left held q n before now → n ≡ greatest_lines → Plays m bytes (Ok (record { lines = n; cause = Limit })) before now
+  unfolding ended_play
+  plays_limit s is = go bytes s
+    where
+      go : (o : Option (List ℕ)) → Serves m o left held q n before now → Plays m o (Ok (record { lines = n; cause = Limit })) before now
+      go None s = tt
+      go (Some b) s =
+          plays m b (Ok (record { lines = n; cause = Limit })) before now (ended_play s.answers n AtLimit) (limit m b left held q n before now s is) (refl, refl) s.taken
+
+  pub plays_fault : (held' : List ℕ) (r number : ℕ) (left' taken : Option (List ℕ)) (e : ServeFault) → Serves m bytes left held q n before now → n ≢ greatest_lines → number ≡ n + 1 → All IsName m.inputs → Turns m number q held r held' left left' now taken (Err e) → Plays m bytes (Err e) before taken
+  unfolding ended_play
+  plays_fault held' r number left' taken e s ne is each t = go bytes e s t
+    where
+      bad : (b : List ℕ) (s : IsServing m b left held q n before now) (k : ℕ) → k ≡ number → taken ≡ now → played m b ≡ ended_play s.answers n (AtBadLine (n + 1)) → Plays m (Some b) (Err (BadLine k)) before taken
+      bad b s k at same play =
+          plays m b (Err (BadLine k)) before taken (ended_play s.answers n (AtBadLine (n + 1))) play (ap (λ (l : ℕ). AtBadLine l) (sym is ∙ sym at)) (same ∙ s.taken)
+
+      refuse : (b : List ℕ) (s : IsServing m b left held q n before now) (k : ℕ) → k ≡ number → taken ≡ now → ((raw : List ℕ) × HasReadLine held held' raw left left' × (move_of m q raw ≡ Refuse)) ⊎ ((bs : List ℕ) × IsUnended held bs left left')
+          → Plays m (Some b) (Err (BadLine k)) before taken
+      refuse b s k at same (inl h) = bad b s k at same (refuses m b left held q n before now s held' h.0 left' ne h.1 h.2)
+      refuse b s k at same (inr h) = bad b s k at same (unended m b left held q n before now s h.0 left' ne each h.1)
+
+      go : (o : Option (List ℕ)) (e : ServeFault) → Serves m o left held q n before now → Turns m number q held r held' left left' now taken (Err e) → Plays m o (Err e) before taken
+      go None e s t = tt
+      go (Some b) SourceFault s t = (tt, subst (λ (o : Option (List ℕ)). TakesSome (ended_lines (played m b).answers) before o) (sym t.2) (source_takes m b left held q n before now s))
+      go (Some b) SinkFault s t = (tt, sink_takes m b left held q n before now s held' t.0 t.1 t.2 left' taken ne t.3 t.4 t.5)
+      go (Some b) (BadLine k) s t = refuse b s k t.0 t.1 t.2
+
+  pub source_goes_on : (held' : List ℕ) (r number : ℕ) (left' taken : Option (List ℕ)) (e : ServeFault) → Serves m bytes left held q n before now → n ≢ greatest_lines → Turns m number q held r held' left left' now taken (Err e) → e ≡ SourceFault → GoesOn m bytes left'
+  source_goes_on held' r number left' taken e s ne t is = go bytes s
+    where
+      t' : Turns m number q held r held' left left' now taken (Err SourceFault)
+      t' = subst (λ (e : ServeFault). Turns m number q held r held' left left' now taken (Err e)) is t
+
+      go : (o : Option (List ℕ)) → Serves m o left held q n before now → GoesOn m o left'
+      go None s = tt
+      go (Some b) s = goes_on m b left held q n before now s t'.0 left' ne t'.1
+
+-- a read, and one more
+pub read_nothing : (held : List ℕ) (left : Option (List ℕ)) → HasRead held held left left
+read_nothing held None = record { more = []; gave = refl; whole = append-nil held }
+read_nothing held (Some l) = record { more = []; gave = (l, refl, refl); whole = append-nil held }
+
+pub reads_on : (held bs bs' more : List ℕ) (left mid left' : Option (List ℕ)) → HasRead held bs left mid → bs' ≡ bs ++ more → Gave more mid left' → HasRead held bs' left left'
+reads_on held bs bs' more left mid left' h is gave = record {
+  more = h.more ++ more;
+  gave = both left mid h.gave gave;
+  whole = sym (append_assoc held h.more more) ∙ (ap (λ (l : List ℕ). l ++ more) h.whole ∙ sym is);
+}
+  where
+    both : (left mid : Option (List ℕ)) → Gave h.more left mid → Gave more mid left' → Gave (h.more ++ more) left left'
+    both None mid g k = subst (λ (o : Option (List ℕ)). Gave more o left') g k
+    both (Some l) mid g k =
+        let k' : Gave more (Some g.0) left' = subst (λ (o : Option (List ℕ)). Gave more o left') g.1 k in
+        (k'.0, k'.1, g.2 ∙ (ap (λ (x : List ℕ). h.more ++ x) k'.2 ∙ sym (append_assoc h.more more k'.0)))
+
+-- bytes that were put, and some more
+pub takes_on : (put n : ℕ) (bytes : List ℕ) (before mid now : Option (List ℕ)) → TakesAll (take put bytes) before mid → now ≡ option_map (λ t. t ++ take n (drop put bytes)) mid → TakesAll (take (put + n) bytes) before now
+takes_on put n bytes before mid now h k =
+    subst (λ (l : List ℕ). TakesAll l before now) (sym (take-add put n bytes)) (takes_both (take put bytes) (take n (drop put bytes)) before mid now h k)
