@@ -26,7 +26,8 @@ impl Model for AnswerLine {
 }
 
 impl AnswerLine {
-    fn empty() -> AnswerLine
+    /// A line that is still to be written.
+    pub(crate) fn empty() -> AnswerLine
         ensures { result ≡ [] }
     {
         AnswerLine {
@@ -72,6 +73,13 @@ impl AnswerLine {
     {
         let _names = m.outputs.len();
         AnswerLine::with_name(m.outputs.name(y).as_bytes())
+    }
+
+    /// How many bytes it has, with the line feed.
+    pub fn len(&self) -> usize
+        ensures { result ≡ length self.now }
+    {
+        usize::from(self.len)
     }
 
     /// Its bytes, with the line feed.
