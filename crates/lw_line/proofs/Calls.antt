@@ -1,5 +1,5 @@
 -- What a call of a child system does to all that is told of it.
-use Rattle.std.proofs.Common.{◌≡◌, ◌≢◌, ◌⊎◌, inl, inr, ℕ, ◌+◌, ◌<◌, ◌≤◌, List, [], ◌∷◌, ◌++◌, codes, length, Contains, get_or, slice_get, Bool, true, false, cond, Option, Some, None, option_map, option_and_then, refl, ap, sym, ◌∙◌, subst, arith, rules}
+use Rattle.std.proofs.Common.{◌≡◌, ◌≢◌, ◌⊎◌, inl, inr, ℕ, ◌≤◌, List, [], codes, get_or, slice_get, Bool, true, false, cond, Option, Some, None, option_map, refl, ap, sym, ◌∙◌, subst, arith, rules}
 use Rattle.std.specs.List.{All}
 use Rattle.std.specs.Str.{bytes_eq}
 use Rattle.std.proofs.lemmas.Bool.{false_from_ne_true}
@@ -11,17 +11,18 @@ use Rattle.lw_words.specs.Name.{IsName, AllDiffer, number_of}
 use Rattle.lw_words.specs.declared.stop.SulStop.{SulStop}
 use Rattle.lw_words.specs.declared.stop.SulStop.TheVariants.{Failed, BadLine, Gone}
 use Rattle.lw_sul.proofs.NameLemmas.{IsName-at}
+use Rattle.lw_sul.specs.SessionState.{NoRuns}
 use Rattle.lw_sul.specs.Names.{Brings}
 use Rattle.lw_sul.specs.Runs.{after_reset, after_step}
 use Rattle.lw_sul.specs.declared.runs.Run.{Run}
 use Rattle.lw_outside.specs.Links.{Transcript, IsUntouched, sends, receives}
 use Rattle.lw_outside.specs.Protocol.{reset_line, ready_line, in_line, out_line}
-use Rattle.lw_line.specs.Transcripts.{IsSentLine, exchanged, number_behind, ready_runs, stepped_runs}
+use Rattle.lw_line.specs.Transcripts.{IsSentLine, exchanged, spelled, number_behind, stepped_runs}
 use Rattle.lw_line.specs.Causes.{IsBadAnswer, IsFormed, IsCounted, IsTranscriptOf, IsUnknown}
 use Rattle.lw_line.specs.LineState.{told_runs}
 use Rattle.lw_line.specs.bodies.Exchanges.{IsAnswered, IsRefusal, NamesNone, ended}
 use Rattle.lw_line.specs.bodies.Pieces.{NoFeed, EndsOpen}
-use Rattle.lw_line.specs.bodies.Standing.{Spells, IsLive, IsTold, Stands}
+use Rattle.lw_line.specs.bodies.Standing.{Spells, IsTold, Stands}
 use Rattle.lw_line.proofs.Spelling.{spells_grown}
 use Rattle.lw_line.proofs.Standing.{good, live_runs, live_proper, live_untouched, refused}
 
@@ -203,3 +204,7 @@ module _ (inputs before : List (List ℕ)) (most faults ends faults' ends' : ℕ
 pub stands_first : (inputs names : List (List ℕ)) (most faults ends : ℕ) (held : List ℕ) (told : Option Transcript) → held ≡ [] → IsUntouched told → Stands inputs names most faults ends false held None told
 stands_first inputs names most faults ends held told empty is =
     subst (λ (l : List ℕ). Stands inputs names most faults ends false l None told) (sym empty) (record { counted = tt; link = live_untouched inputs names told is most faults })
+
+pub no_runs : (inputs names : List (List ℕ)) (told : Option Transcript) → IsUntouched told → NoRuns (told_runs inputs names told)
+no_runs inputs names None is = tt
+no_runs inputs names (Some t) is = ap (spelled inputs names) is

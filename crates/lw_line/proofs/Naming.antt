@@ -1,5 +1,5 @@
 -- Numbers of names in a list that gains one.
-use Rattle.std.proofs.Common.{◌≡◌, ◌≢◌, ◌⊎◌, inl, inr, ℕ, ◌+◌, ◌<◌, ◌≤◌, List, [], ◌∷◌, ◌++◌, codes, length, get_or, take, drop, Contains, Bool, true, cond, Option, Some, None, option_and_then, refl, ap, sym, ◌∙◌, subst, arith, length-append}
+use Rattle.std.proofs.Common.{◌≡◌, ◌≢◌, inl, inr, ℕ, ◌+◌, ◌<◌, ◌≤◌, List, [], ◌∷◌, ◌++◌, codes, length, get_or, take, drop, Contains, Bool, true, cond, Option, Some, None, option_and_then, refl, ap, sym, ◌∙◌, subst, arith, length-append}
 use Rattle.std.specs.List.{All}
 use Rattle.std.specs.Str.{IsUtf8}
 use Rattle.std.proofs.lemmas.Str.{IsUtf8-from_ascii}
@@ -7,7 +7,7 @@ use Rattle.std.proofs.lemmas.Str.Ascii.{IsAscii-from_all}
 use Rattle.std.proofs.lemmas.List.{get_or_push, get_or_append_left, take-append-drop}
 use Rattle.std.proofs.lemmas.Slice.Eq.{bytes_eq-Decides}
 use Rattle.std.proofs.lemmas.List.Elements.{All-push, All-weaker}
-use Rattle.std.proofs.lemmas.List.Quantifiers.{all_pairs_push, position-Some}
+use Rattle.std.proofs.lemmas.List.Quantifiers.{all_pairs_push}
 use Rattle.std.proofs.lemmas.Option.{slice_get-get_or, slice_get_within, get_or_from_slice_get}
 use Rattle.std.specs.Str.{bytes_eq}
 use Rattle.lw_words.specs.Name.{IsName, AllDiffer, number_of}
@@ -95,9 +95,9 @@ starts_so front answer rest begins is =
 -- an answer that names no output
 pub names_no_output : (names : List (List ℕ)) (most : ℕ) (answer rest : List ℕ) → AreNamed most names → behind (codes "out ") answer ≡ Some rest → ¬ IsName rest → NamesNone names most answer
 names_no_output names most answer rest lawful is none = (
-      ap (option_and_then (λ name. number_of name names)) is ∙ no_number names rest lawful.each none,
-      inl (λ name is_name same. none (subst IsName (named name same) is_name)),
-    )
+  ap (option_and_then (λ name. number_of name names)) is ∙ no_number names rest lawful.each none,
+  inl (λ name is_name same. none (subst IsName (named name same) is_name)),
+)
   where
     named : (name : List ℕ) → answer ≡ out_line name → name ≡ rest
     named name same = let both : ◌≡◌ {A = Option (List ℕ)} (Some name) (Some rest) = sym (ap (λ (l : List ℕ). behind (codes "out ") l) same) ∙ is in cc
@@ -105,9 +105,9 @@ names_no_output names most answer rest lawful is none = (
 -- an answer that names an output which isn't known
 pub names_unknown : (names : List (List ℕ)) (most : ℕ) (answer rest : List ℕ) → behind (codes "out ") answer ≡ Some rest → answer ≡ out_line rest → IsName rest → number_of rest names ≡ None → length names ≡ most → NamesNone names most answer
 names_unknown names most answer rest is same is_name lacks full = (
-      ap (option_and_then (λ name. number_of name names)) is ∙ lacks,
-      inr (rest, is_name, same, not_in names rest lacks, full),
-    )
+  ap (option_and_then (λ name. number_of name names)) is ∙ lacks,
+  inr (rest, is_name, same, not_in names rest lacks, full),
+)
 
 pub names_known : (names : List (List ℕ)) (answer rest : List ℕ) (y : ℕ) → behind (codes "out ") answer ≡ Some rest → number_of rest names ≡ Some y → number_behind (codes "out ") names answer ≡ Some y
 names_known names answer rest y is number = ap (option_and_then (λ name. number_of name names)) is ∙ number

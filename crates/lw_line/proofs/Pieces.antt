@@ -1,6 +1,6 @@
 -- Bytes in a buffer.
-use Rattle.std.proofs.Common.{◌≡◌, ℕ, ◌+◌, ◌-◌, ◌<◌, ◌≤◌, List, [], ◌∷◌, ◌++◌, length, get_or, take, drop, replicate, refl, ap, sym, ◌∙◌, subst, arith, append_assoc, length-append, length-drop}
-use Rattle.std.proofs.lemmas.List.{take_at, length-take-le, length-replicate, drop-replicate, take-replicate, take-append-drop, drop_more, drop-take, drop-drop}
+use Rattle.std.proofs.Common.{◌≡◌, ℕ, ◌+◌, ◌-◌, ◌<◌, ◌≤◌, List, [], ◌∷◌, ◌++◌, length, get_or, take, drop, replicate, refl, ap, sym, ◌∙◌, arith, append_assoc, length-drop}
+use Rattle.std.proofs.lemmas.List.{take_at, length-take-le, drop-replicate, take-replicate, take-append-drop, drop_more, drop-take, drop-drop}
 use Rattle.std.proofs.Math.Seq.{take-append-add, drop-append-add}
 use borrow.Rule.Slice.PartMut.{put_mid}
 use lib.Seq.{paste}

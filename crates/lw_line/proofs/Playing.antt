@@ -8,16 +8,15 @@ use Rattle.std.proofs.lemmas.Bool.Decides.{Decides-eqb}
 use Rattle.std.proofs.lemmas.Slice.Eq.{bytes_eq-Decides}
 use Rattle.std.proofs.lemmas.List.{take_at, take-append-le, take_min}
 use Rattle.std.proofs.Math.Seq.{take-append-add, take-add}
-use Rattle.std.proofs.lemmas.List.Elements.{All-head, All-tail, All-push, All-nil}
-use Rattle.lw_words.specs.Name.{IsName, number_of}
+use Rattle.std.proofs.lemmas.List.Elements.{All-push, All-nil}
+use Rattle.lw_words.specs.Name.{IsName}
 use Rattle.lw_json.specs.declared.machine.Machine.{Machine}
-use Rattle.lw_outside.specs.Lines.{Split, led_by, split_bytes, lines_of, rest_of}
-use Rattle.lw_outside.specs.Played.{Move, Answer, Quit as Quits, Refuse, Play, AtQuit, AtEnd, AtLimit, AtBadLine, PlayEnd, ends_at, rest_end, moved, move_of, line_move, name_move, letter_move, greatest_lines, played_from, played, ended_lines}
+use Rattle.lw_outside.specs.Lines.{Split, split_bytes, lines_of, rest_of}
+use Rattle.lw_outside.specs.Played.{Move, Answer, Quit as Quits, Refuse, Play, AtQuit, AtEnd, AtLimit, AtBadLine, PlayEnd, ends_at, rest_end, moved, move_of, name_move, letter_move, greatest_lines, played_from, played, ended_lines}
 use Rattle.lw_outside.specs.Protocol.{behind, reset_line, quit_line}
 use Rattle.lw_outside.specs.Streams.{Gave, IsSpent, TakesAll, TakesSome}
 use Rattle.lw_line.specs.Serving.{GoesOn, Plays, EndsAs, Takes}
 use Rattle.lw_line.specs.declared.serving.Served.{Served}
-use Rattle.lw_line.specs.declared.serving.ServedCause.{ServedCause}
 use Rattle.lw_line.specs.declared.serving.ServedCause.TheVariants.{Quit as AskedFor, EndOfInput, Limit}
 use Rattle.lw_line.specs.declared.serving.ServeFault.{ServeFault}
 use Rattle.lw_line.specs.declared.serving.ServeFault.TheVariants.{SourceFault, SinkFault, BadLine}
@@ -26,7 +25,7 @@ use Rattle.lw_line.specs.bodies.Pieces.{NoFeed}
 use Rattle.lw_line.specs.bodies.Playing.{Answers, HasRead, HasReadLine, IsOpenRead, IsUnended, IsServing, Serves, Turns, Walks}
 use Rattle.lw_line.specs.declared.serving.Turn.TheVariants.{Answered, Quit, Ended}
 use Rattle.lw_line.proofs.Naming.{no_number}
-use Rattle.lw_line.proofs.Splitting.{lead, split, split_front, ended_append, split_more, split_line, split_lines, split_lines_open, split_open, ended_push}
+use Rattle.lw_line.proofs.Splitting.{lead, split_front, ended_append, split_line, split_lines, split_lines_open, ended_push}
 
 -- a play with answers before it
 after_answers : List (List ℕ) → Play → Play
@@ -58,13 +57,13 @@ module _ (m : Machine) where
   walks_push : (q n : ℕ) (ls : List (List ℕ)) (r k : ℕ) (answers : List (List ℕ)) (l : List ℕ) (s : ℕ) (text : List ℕ) → Walks m q n ls r k answers → k ≢ greatest_lines → move_of m r l ≡ Answer text s
       → Walks m q n (ls ++ l ∷ []) s (k + 1) (answers ++ text ∷ [])
   walks_push q n [] r k answers l s text h ne move = (
-        (λ is. ne (sym h.1 ∙ is)),
-        (text, s, [], ap (λ (p : ℕ). move_of m p l) h.0 ∙ move, ap (λ (a : List (List ℕ)). a ++ text ∷ []) h.2, (refl, ap (λ (p : ℕ). p + 1) h.1, refl)),
-      )
+    (λ is. ne (sym h.1 ∙ is)),
+    (text, s, [], ap (λ (p : ℕ). move_of m p l) h.0 ∙ move, ap (λ (a : List (List ℕ)). a ++ text ∷ []) h.2, (refl, ap (λ (p : ℕ). p + 1) h.1, refl)),
+  )
   walks_push q n (x ∷ ls) r k answers l s text h ne move = (
-        h.0,
-        (h.1.0, h.1.1, h.1.2 ++ text ∷ [], h.1.3, ap (λ (a : List (List ℕ)). a ++ text ∷ []) h.1.4, walks_push h.1.1 (n + 1) ls r k h.1.2 l s text h.1.5 ne move),
-      )
+    h.0,
+    (h.1.0, h.1.1, h.1.2 ++ text ∷ [], h.1.3, ap (λ (a : List (List ℕ)). a ++ text ∷ []) h.1.4, walks_push h.1.1 (n + 1) ls r k h.1.2 l s text h.1.5 ne move),
+  )
 
   -- a line of 256 bytes and more is none of the protocol
   strip_length : (l : List ℕ) → length l ≤ length (strip_carriage_return l) + 1
@@ -150,8 +149,8 @@ module _ (m : Machine) (bytes : List ℕ) (left : Option (List ℕ)) (held : Lis
         c.1,
         is,
         play_on x is
-        ∙ (ap (λ (p : Split). after_answers s.answers (played_from m q n p.lines p.rest)) (split_line raw (now' ++ c.0) h.plain)
-        ∙ ap (after_answers s.answers) (play_line m q n raw (lines_of (now' ++ c.0)) (rest_of (now' ++ c.0)) ne)),
+            ∙ (ap (λ (p : Split). after_answers s.answers (played_from m q n p.lines p.rest)) (split_line raw (now' ++ c.0) h.plain)
+            ∙ ap (after_answers s.answers) (play_line m q n raw (lines_of (now' ++ c.0)) (rest_of (now' ++ c.0)) ne)),
       )
 
   -- the line is answered
@@ -240,9 +239,9 @@ module _ (m : Machine) (bytes : List ℕ) (left : Option (List ℕ)) (held : Lis
         c.1,
         s.read ∙ (ap (λ (l : List ℕ). ended_lines s.lines ++ l) c.2 ∙ sym (append_assoc (ended_lines s.lines) bs c.0)),
         ap (λ (p : Split). (played_from m 0 0 p.lines []).end) (split_lines_open s.lines bs s.plain h.plain)
-        ∙ (ap (λ (ls : List (List ℕ)). (played_from m 0 0 ls []).end) (sym (append-nil s.lines))
-        ∙ (ap (λ (p : Play). p.end) (walked m 0 0 s.lines q n s.answers [] [] s.walks)
-        ∙ end_of s.answers (played_from m q n [] []) ∙ ap (λ (p : Play). p.end) (play_rest m q n [] ne))),
+            ∙ (ap (λ (ls : List (List ℕ)). (played_from m 0 0 ls []).end) (sym (append-nil s.lines))
+            ∙ (ap (λ (p : Play). p.end) (walked m 0 0 s.lines q n s.answers [] [] s.walks)
+            ∙ end_of s.answers (played_from m q n [] []) ∙ ap (λ (p : Play). p.end) (play_rest m q n [] ne))),
       )
     where
       end_of : (answers : List (List ℕ)) (p : Play) → (after_answers answers p).end ≡ p.end

@@ -1,5 +1,5 @@
 -- The runs that lines and their answers spell.
-use Rattle.std.proofs.Common.{◌≡◌, ℕ, List, [], ◌∷◌, ◌++◌, codes, length, Bool, true, false, cond, Option, Some, None, option_and_then, refl, ap, sym, ◌∙◌, subst, append-nil, arith}
+use Rattle.std.proofs.Common.{◌≡◌, ℕ, List, [], ◌∷◌, ◌++◌, codes, length, Bool, true, false, cond, Option, Some, None, option_and_then, refl, ap, sym, ◌∙◌, append-nil, arith}
 use Rattle.std.specs.Str.{bytes_eq}
 use Rattle.std.specs.Str.Lines.{strip_carriage_return}
 use Rattle.lw_words.specs.Name.{AllDiffer, number_of}
@@ -39,10 +39,10 @@ spells_grown inputs before after y brings differ rs [] [] now h = h
 spells_grown inputs before after y brings differ rs [] (r ∷ rr) now h = h
 spells_grown inputs before after y brings differ rs (s ∷ ss) [] now h = h
 spells_grown inputs before after y brings differ rs (s ∷ ss) (r ∷ rr) now h = (
-      h.0,
-      exchanged_stays inputs before after y rs h.0 s (strip_carriage_return r) brings differ h.1,
-      spells_grown inputs before after y brings differ h.0 ss rr now h.2,
-    )
+  h.0,
+  exchanged_stays inputs before after y rs h.0 s (strip_carriage_return r) brings differ h.1,
+  spells_grown inputs before after y brings differ h.0 ss rr now h.2,
+)
 
 module _ (inputs outputs : List (List ℕ)) where
   -- one exchange more

@@ -1,32 +1,25 @@
 -- How a child system stands before and after a call.
-use Rattle.std.proofs.Common.{◌≡◌, ◌≢◌, ◌⊎◌, inl, inr, ℕ, ◌+◌, ◌<◌, ◌≤◌, List, [], ◌∷◌, ◌++◌, codes, length, get_or, slice_get, take, drop, Bool, true, false, cond, Option, Some, None, option_map, refl, ap, sym, ◌∙◌, subst, arith, append_assoc, append-nil, length-append}
+use Rattle.std.proofs.Common.{◌≡◌, ◌≢◌, ◌⊎◌, inl, inr, ℕ, ◌+◌, ◌<◌, ◌≤◌, List, [], ◌∷◌, ◌++◌, length, slice_get, take, Bool, true, false, Option, Some, None, option_map, refl, ap, sym, ◌∙◌, subst, arith, append_assoc, length-append}
 use Rattle.std.specs.List.{All}
-use Rattle.std.specs.Str.{bytes_eq}
 use Rattle.std.specs.Str.Lines.{strip_carriage_return}
-use Rattle.std.proofs.lemmas.Bool.{false_from_ne_true}
-use Rattle.std.proofs.lemmas.Slice.Eq.{bytes_eq-Decides}
 use Rattle.std.proofs.lemmas.List.{take-append-le, get_or_at}
-use Rattle.std.proofs.lemmas.List.Elements.{All-push, All-take, All-append, All-nil}
+use Rattle.std.proofs.lemmas.List.Elements.{All-push, All-take, All-nil}
 use Rattle.std.proofs.lemmas.Option.{slice_get-get_or}
 use Rattle.lw_words.specs.Cause.{CountedFault}
-use Rattle.lw_words.specs.Name.{AllDiffer, number_of}
 use Rattle.lw_words.specs.declared.stop.SulStop.{SulStop}
 use Rattle.lw_words.specs.declared.stop.SulStop.TheVariants.{Failed, BadLine, Gone}
-use Rattle.lw_sul.specs.Names.{Brings}
-use Rattle.lw_sul.specs.Runs.{after_reset, after_step}
 use Rattle.lw_sul.specs.declared.runs.Run.{Run}
 use Rattle.lw_outside.specs.Lines.{Split, split_bytes, lines_of, rest_of}
-use Rattle.lw_outside.specs.Links.{Transcript, untouched, IsUntouched, SendsPart, sends, receives}
+use Rattle.lw_outside.specs.Links.{Transcript, IsUntouched, sends, receives}
 use Rattle.lw_outside.specs.Played.{ended_lines}
-use Rattle.lw_outside.specs.Protocol.{reset_line, ready_line, in_line}
-use Rattle.lw_line.specs.Transcripts.{IsSentLine, IsProper, exchanged, spelled, spelled_from, number_behind, ready_runs}
-use Rattle.lw_line.specs.Causes.{EndsWithin, IsBadAnswer, IsFormed, IsRefused, IsSpelled, IsTranscriptOf}
-use Rattle.lw_line.specs.LineState.{told_runs}
+use Rattle.lw_outside.specs.Protocol.{reset_line}
+use Rattle.lw_line.specs.Transcripts.{IsSentLine, IsProper, exchanged, spelled, spelled_from}
+use Rattle.lw_line.specs.Causes.{EndsWithin, IsBadAnswer, IsRefused, IsSpelled}
 use Rattle.lw_line.specs.bodies.Exchanges.{IsAnswered, IsRefusal, ended}
-use Rattle.lw_line.specs.bodies.Pieces.{NoFeed, HasCome, HasLine, IsOpen, EndsOpen}
+use Rattle.lw_line.specs.bodies.Pieces.{NoFeed, EndsOpen}
 use Rattle.lw_line.specs.bodies.Standing.{Spells, BeginsWell, IsLive, IsTold}
-use Rattle.lw_line.proofs.Spelling.{spells_grown, spells_push, spells_length, spelled_whole, spelled_unanswered, spelled_badly}
-use Rattle.lw_line.proofs.Splitting.{split, split_lines, split_lines_open, split_ended, split_open, ended_push}
+use Rattle.lw_line.proofs.Spelling.{spells_push, spells_length, spelled_whole, spelled_unanswered, spelled_badly}
+use Rattle.lw_line.proofs.Splitting.{split, split_lines, split_lines_open, split_ended, ended_push}
 
 -- the lines of a transcript, and what stands behind them
 pub record Sees (t : Transcript) (lines : List (List ℕ)) (rest : List ℕ) (answers : List (List ℕ)) (more : List ℕ) : Type 0 where
@@ -139,22 +132,22 @@ module _ (inputs names : List (List ℕ)) (started : Bool) (held : List ℕ) (t 
         → ((rs : List Run) → exchanged inputs after rs line answer ≡ Some (next rs)) → (raw more : List ℕ) → NoFeed raw → answer ≡ strip_carriage_return raw → held ++ more ≡ raw ++ 10 ∷ now
         → (l : IsLive inputs after true now (receives more (sends (ended line) t))) × (l.runs ≡ next live.runs)
     good after now answer next stays gives raw more plain_raw stripped is = (
-          record {
-            lines = live.lines ++ line ∷ [];
-            answers = live.answers ++ raw ∷ [];
-            runs = next live.runs;
-            sent = sent_more;
-            received = came_line more raw now is;
-            each = lines_more;
-            begins = begins_more;
-            plain_lines = plain_more;
-            plain_answers = All-push NoFeed live.answers raw live.plain_answers plain_raw;
-            spells =
-                spells_push inputs after [] live.lines live.answers live.runs line raw (next live.runs) (stays live.runs live.spells)
-                (ap (exchanged inputs after live.runs line) (sym stripped) ∙ gives live.runs);
-          },
-          refl,
-        )
+      record {
+        lines = live.lines ++ line ∷ [];
+        answers = live.answers ++ raw ∷ [];
+        runs = next live.runs;
+        sent = sent_more;
+        received = came_line more raw now is;
+        each = lines_more;
+        begins = begins_more;
+        plain_lines = plain_more;
+        plain_answers = All-push NoFeed live.answers raw live.plain_answers plain_raw;
+        spells =
+            spells_push inputs after [] live.lines live.answers live.runs line raw (next live.runs) (stays live.runs live.spells)
+            (ap (exchanged inputs after live.runs line) (sym stripped) ∙ gives live.runs);
+      },
+      refl,
+    )
 
     -- the transcript once the line was sent, by what came for it
     pub sees_sent : (more bytes : List ℕ) (answers : List (List ℕ)) (rest : List ℕ) → held ++ more ≡ bytes → split_bytes (ended_lines live.answers ++ bytes) ≡ split answers rest
@@ -271,13 +264,13 @@ module _ (inputs names : List (List ℕ)) (started : Bool) (held : List ℕ) (t 
             last = line;
             sent = ap (λ (s : Split). s.lines) sees.sent;
             received = inl (
-                  raw,
-                  ap (λ (s : Split). slice_get s.lines (length live.lines)) sees.received
+              raw,
+              ap (λ (s : Split). slice_get s.lines (length live.lines)) sees.received
                   ∙ (slice_get-get_or early' (length live.lines) [] (omega arith)
                   ∙ ap (λ (l : List ℕ). Some l) (get_or_at live.answers raw (lines_of now) [] (length live.lines) (sym same))),
-                  h.stripped,
-                  bad,
-                );
+              h.stripped,
+              bad,
+            );
           };
           runs =
               spells_lines inputs names u (live.lines ++ line ∷ []) [] early' (rest_of now) sees

@@ -117,7 +117,7 @@ pub(crate) fn ask<L: Link>(
     requires { length letter.now ≤ 64 }
     ensures output { IfOk result (λ y. (answer : List ℕ) ×
         IsAnswered (ended (in_line letter.now)) inbox.old inbox.new answer
-            (L.transcript link.old) (L.transcript link.new) ×
+        (L.transcript link.old) (L.transcript link.new) ×
         (number_behind (codes "out ") outputs.new.names answer ≡ Some y)) }
     ensures brings { IfOk result (λ y. Brings outputs.old.names outputs.new.names y × (y < outputs.old.range)) }
     ensures differ { OnOk result (AllDiffer outputs.new.names) }

@@ -10,3 +10,6 @@ mod system;
 
 pub use serving::{ServeFault, Served, ServedCause, serve};
 pub use system::LineSul;
+
+#[cfg(test)]
+mod tests;

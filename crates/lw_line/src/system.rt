@@ -2,7 +2,8 @@
 ghost use Rattle.std.specs.Prelude.{◌≡◌, [], length, IfOk, IfErr, None, false};
 ghost use Rattle.lw_outside.specs.Links.{IsUntouched};
 ghost use Rattle.lw_line.specs.Causes.{IsCounted, IsTranscriptOf};
-ghost use Rattle.lw_line.specs.LineState.{LineState};
+ghost use Rattle.lw_line.specs.LineState.{told_runs};
+ghost use Rattle.lw_sul.specs.SessionState.{NoRuns};
 
 use crate::exchange::{ask, start};
 use crate::inbox::Inbox;
@@ -41,10 +42,17 @@ impl<L: Link> LineSul<L> {
     /// The system behind a link, whose outputs have these names. Takes no memory.
     pub fn new(link: L, inputs: Names, outputs: Names) -> LineSul<L>
         requires { IsUntouched (L.transcript link) }
-        ensures { result ≡ record {
-          link = link; letters = inputs; names = outputs; most = length outputs;
-          outputs = length outputs; started = false; stop = None; cut = false;
+        ensures value { result ≡ record {
+          link = link;
+          letters = inputs;
+          names = outputs;
+          most = length outputs;
+          outputs = length outputs;
+          started = false;
+          stop = None;
+          cut = false;
         } }
+        ensures fresh { NoRuns (told_runs result.letters result.names (L.transcript result.link)) }
     {
         LineSul {
             link,
@@ -61,9 +69,17 @@ impl<L: Link> LineSul<L> {
     pub fn free(alloc: Global, link: L, inputs: Names) -> Result<LineSul<L>, (L, NoMemory)>
         requires { IsUntouched (L.transcript link) }
         ensures ok { IfOk result (λ s. s ≡ record {
-          link = link; letters = inputs; names = []; most = 256;
-          outputs = 4096; started = false; stop = None; cut = false;
+          link = link;
+          letters = inputs;
+          names = [];
+          most = 256;
+          outputs = 4096;
+          started = false;
+          stop = None;
+          cut = false;
         }) }
+        ensures fresh { IfOk result (λ s. NoRuns (told_runs s.letters s.names
+            (L.transcript s.link))) }
         ensures back { IfErr result (λ e. e.0 ≡ link) }
     {
         match OutputNames::free(alloc) {

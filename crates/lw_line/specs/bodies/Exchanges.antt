@@ -3,7 +3,7 @@ use Rattle.std.specs.Prelude.{◌≡◌, ◌≢◌, ◌⊎◌, ℕ, List, [], �
 use Rattle.std.specs.Str.Lines.{strip_carriage_return}
 use Rattle.lw_words.specs.Name.{IsName}
 use Rattle.lw_words.specs.declared.stop.SulStop.{SulStop}
-use Rattle.lw_words.specs.declared.stop.SulStop.TheVariants.{Failed, BadLine, Gone}
+use Rattle.lw_words.specs.declared.stop.SulStop.TheVariants.{Failed, BadLine}
 use Rattle.lw_outside.specs.Links.{Transcript, SendsPart, sends}
 use Rattle.lw_outside.specs.Protocol.{out_line}
 use Rattle.lw_line.specs.Causes.{IsUnknown}

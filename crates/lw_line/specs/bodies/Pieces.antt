@@ -1,5 +1,5 @@
 -- Bytes that come in pieces, behind those that are held.
-use Rattle.std.specs.Prelude.{◌≡◌, ◌≢◌, ◌⊎◌, ℕ, List, [], ◌∷◌, ◌++◌, length, Option, option_map}
+use Rattle.std.specs.Prelude.{◌≡◌, ◌≢◌, ℕ, List, ◌∷◌, ◌++◌, length, Option, option_map}
 use Rattle.std.specs.List.{All}
 use Rattle.lw_words.specs.declared.stop.SulStop.{SulStop}
 use Rattle.lw_words.specs.declared.stop.SulStop.TheVariants.{Failed, BadLine, Gone}

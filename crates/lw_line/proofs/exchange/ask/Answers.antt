@@ -1,4 +1,4 @@
-use Rattle.std.proofs.Common.{◌≡◌, ◌++◌, ◌∷◌, [], ℕ, List, inr, refl, ap, ◌∙◌, subst}
+use Rattle.std.proofs.Common.{◌≡◌, ℕ, List, inr, refl, ap, ◌∙◌, subst}
 use Rattle.lw_outside.specs.Protocol.{in_line}
 use Rattle.lw_line.specs.bodies.Exchanges.{IsAnswered, NamesNone, ended}
 use Rattle.lw_line.proofs.exchange.ask.Goals as goal

@@ -1,4 +1,4 @@
-use Rattle.std.proofs.Common.{◌≡◌, ◌≢◌, ◌+◌, ◌<◌, ℕ, List, Option, Result, Ok, Err, refl, ap, sym, ◌∙◌, subst, arith, rules}
+use Rattle.std.proofs.Common.{◌≡◌, ◌≢◌, ◌+◌, ℕ, Result, Ok, Err, refl, ap, sym, ◌∙◌, subst, arith, rules}
 use Rattle.lw_outside.specs.Played.{greatest_lines}
 use Rattle.std.specs.Result.{IsErrAnd}
 use Rattle.lw_words.specs.Cause.{CountedFault}

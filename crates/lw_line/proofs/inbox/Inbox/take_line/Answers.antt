@@ -1,4 +1,4 @@
-use Rattle.std.proofs.Common.{◌≡◌, ◌≤◌, ◌<◌, ◌+◌, ◌-◌, ◌++◌, ◌∷◌, ℕ, List, length, take, ap, sym, ◌∙◌, subst, arith}
+use Rattle.std.proofs.Common.{◌≡◌, ◌<◌, ◌+◌, ◌-◌, ◌++◌, ◌∷◌, ℕ, List, length, take, ap, sym, ◌∙◌, subst, arith}
 use Rattle.std.proofs.lemmas.List.{length-take-le, take-take}
 use Rattle.lw_line.specs.bodies.Pieces.{NoFeed}
 use Rattle.lw_line.proofs.Pieces.{behind_line}
@@ -14,8 +14,8 @@ returns c =
     let line : take e (take inside.held inside.bytes) ≡ c.new-line.result = take-take e inside.held inside.bytes (omega arith) ∙ sym c.new-line.ensures in
     let m : ℕ = inside.held - (e + 1) in (
       sym c.self.view_is
-      ∙ (behind_line inside.held e inside.bytes (omega arith) lt found.2
-      ∙ (ap (λ (bs : List ℕ). take e (take inside.held inside.bytes) ++ 10 ∷ take m bs) (sym c.copy_within.ensures.after)
-      ∙ ap (λ (bs : List ℕ). bs ++ 10 ∷ take m c.copy_within.new.self) line)),
+          ∙ (behind_line inside.held e inside.bytes (omega arith) lt found.2
+          ∙ (ap (λ (bs : List ℕ). take e (take inside.held inside.bytes) ++ 10 ∷ take m bs) (sym c.copy_within.ensures.after)
+          ∙ ap (λ (bs : List ℕ). bs ++ 10 ∷ take m c.copy_within.new.self) line)),
       subst (λ (bs : List ℕ). NoFeed bs) line found.1,
     )

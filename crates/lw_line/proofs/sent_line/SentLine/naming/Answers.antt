@@ -1,4 +1,4 @@
-use Rattle.std.proofs.Common.{◌≡◌, ℕ, ◌+◌, List, ◌++◌, length, take, drop, replicate, ap, ◌∙◌}
+use Rattle.std.proofs.Common.{ℕ, ◌+◌, List, ◌++◌, length, take, drop, ap, ◌∙◌}
 use Rattle.lw_line.proofs.Pieces.{named_line}
 use Rattle.lw_line.proofs.sent_line.SentLine.naming.Goals as goal
 

@@ -1,6 +1,5 @@
 use Rattle.std.proofs.Common.{subst}
 use Rattle.lw_line.specs.Causes.{IsTranscriptOf}
-use Rattle.lw_line.specs.LineState.{LineState}
 use Rattle.lw_line.proofs.Calls.{told_of}
 use Rattle.lw_line.proofs.system.LineSul.into_link.Goals as goal
 

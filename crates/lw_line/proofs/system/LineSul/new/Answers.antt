@@ -1,4 +1,3 @@
-use Rattle.std.proofs.Common.{sym}
 use Rattle.lw_line.proofs.Calls.{stands_first}
 use Rattle.lw_line.proofs.system.LineSul.new.Goals as goal
 

@@ -1,7 +1,7 @@
 use Rattle.std.proofs.Common.{◌≡◌, None, Err, option_map, rules, ap, ◌∙◌}
 use Rattle.lw_words.specs.declared.stop.SulStop.{SulStop}
 use Rattle.lw_sul.specs.Runs.{after_reset}
-use Rattle.lw_line.specs.LineState.{LineState, told_runs}
+use Rattle.lw_line.specs.LineState.{told_runs}
 use Rattle.lw_line.proofs.Calls.{reset_ready, reset_refused}
 use Rattle.lw_line.proofs.system.LineSulSul.reset.Goals as goal
 

@@ -1,7 +1,7 @@
 use Rattle.std.proofs.Common.{◌≡◌, ℕ, None, Some, true, Err, option_map, rules, ap, sym, ◌∙◌, subst}
 use Rattle.lw_words.specs.declared.stop.SulStop.{SulStop}
 use Rattle.lw_sul.specs.Runs.{after_step}
-use Rattle.lw_line.specs.LineState.{LineState, told_runs}
+use Rattle.lw_line.specs.LineState.{told_runs}
 use Rattle.lw_line.specs.bodies.Naming.{OutputNaming}
 use Rattle.lw_line.specs.bodies.Standing.{Stands}
 use Rattle.lw_line.proofs.Calls.{step_answered, step_refused}
