@@ -10,7 +10,7 @@ use std::test::Fail;
 
 /// How asking ends.
 #[derive(Clone, Copy)]
-pub enum Ends {
+pub enum Ending {
     /// All outputs came.
     Answered,
     /// Another output came.
@@ -71,19 +71,19 @@ fn is_bad(line: &[u8], want: &[u8]) -> bool {
 }
 
 /// Whether asking ended so.
-pub fn ended_so(end: &Result<bool, SulStop>, want: Ends) -> bool {
+pub fn ended_so(end: &Result<bool, SulStop>, want: Ending) -> bool {
     match (end, want) {
-        (Ok(true), Ends::Answered) => true,
-        (Ok(false), Ends::Otherwise) => true,
-        (Err(SulStop::Failed), Ends::Failed) => true,
-        (Err(SulStop::Gone), Ends::Gone) => true,
-        (Err(SulStop::BadLine(line)), Ends::Bad(bytes)) => is_bad(line.as_slice(), bytes),
+        (Ok(true), Ending::Answered) => true,
+        (Ok(false), Ending::Otherwise) => true,
+        (Err(SulStop::Failed), Ending::Failed) => true,
+        (Err(SulStop::Gone), Ending::Gone) => true,
+        (Err(SulStop::BadLine(line)), Ending::Bad(bytes)) => is_bad(line.as_slice(), bytes),
         _ => false,
     }
 }
 
 /// Whether a system over this script answers these outputs to the first letter, or ends so.
-pub fn ends<S: Sul>(sul: &mut S, outs: &[u16], want: Ends) -> bool
+pub fn ends<S: Sul>(sul: &mut S, outs: &[u16], want: Ending) -> bool
     requires live { S.stop sul.old ≡ None }
 {
     if sul.inputs() == 0 {

@@ -1,6 +1,6 @@
 //! Which calls a system makes of its link.
 
-use super::asking::{Ends, declared, ends};
+use super::asking::{Ending, declared, ends};
 use super::scripted::{Call, Script, ScriptedLink};
 use std::alloc::Global;
 use std::test::Fail;
@@ -13,7 +13,7 @@ fn after_two(alloc: Global, piece: usize) -> Result<ScriptedLink, Fail> {
         fails: None,
     };
     let mut sul = declared(alloc, script)?;
-    if !ends(&mut sul, &[0, 1], Ends::Answered) {
+    if !ends(&mut sul, &[0, 1], Ending::Answered) {
         return Err(Fail::from("the script says otherwise"));
     }
     Ok(sul.into_link())

@@ -1,6 +1,6 @@
 //! Names that come one after another.
 
-use super::asking::{Ends, ends, free};
+use super::asking::{Ending, ends, free};
 use super::scripted::Script;
 use lw_sul::Sul;
 use std::alloc::Global;
@@ -34,7 +34,7 @@ fn a_name_has_one_number(rt: HostRuntime) -> Result<(), Fail> {
         (sul.inputs(), sul.outputs(), sul.most(), sul.named()),
         (1, 4096, 256, 0)
     );
-    assert!(rt; ends(&mut sul, &[0, 1, 0, 2, 1], Ends::Answered));
+    assert!(rt; ends(&mut sul, &[0, 1, 0, 2, 1], Ending::Answered));
     assert!(rt; has_names(&sul, &["b", "a", "c"]));
     Ok(())
 }
@@ -50,7 +50,7 @@ fn what_is_no_name_is_a_bad_line(rt: HostRuntime) -> Result<(), Fail> {
             fails: None,
         },
     )?;
-    assert!(rt; ends(&mut sul, &[0], Ends::Bad(b"out a b")));
+    assert!(rt; ends(&mut sul, &[0], Ending::Bad(b"out a b")));
     Ok(())
 }
 
@@ -73,7 +73,7 @@ fn below(alloc: Global, count: u16) -> Result<Vec<u16>, Fail> {
     Ok(numbers)
 }
 
-fn names_so_many(alloc: Global, count: u16, want: Ends) -> Result<bool, Fail> {
+fn names_so_many(alloc: Global, count: u16, want: Ending) -> Result<bool, Fail> {
     let text = many(alloc, count)?;
     let outs = below(alloc, count)?;
     let mut sul = free(
@@ -89,7 +89,7 @@ fn names_so_many(alloc: Global, count: u16, want: Ends) -> Result<bool, Fail> {
 
 #[test]
 fn there_are_256_names(rt: HostRuntime) -> Result<(), Fail> {
-    assert!(rt; names_so_many(rt.alloc(), 256, Ends::Answered)?);
-    assert!(rt; names_so_many(rt.alloc(), 257, Ends::Bad(b"out 256"))?);
+    assert!(rt; names_so_many(rt.alloc(), 256, Ending::Answered)?);
+    assert!(rt; names_so_many(rt.alloc(), 257, Ending::Bad(b"out 256"))?);
     Ok(())
 }

@@ -1,6 +1,6 @@
 //! Lines by hand, with the letter `t` and the outputs `0` and `1`.
 
-use super::asking::{Ends, declared, ends};
+use super::asking::{Ending, declared, ends};
 use super::scripted::Script;
 use std::alloc::Global;
 use std::test::Fail;
@@ -9,89 +9,89 @@ use std::test::Fail;
 struct Row {
     says: &'static [u8],
     outs: &'static [u16],
-    want: Ends,
+    want: Ending,
 }
 
 static ROWS: [Row; 16] = [
     Row {
         says: b"ready\nout 0\nout 0\n",
         outs: &[0, 0],
-        want: Ends::Answered,
+        want: Ending::Answered,
     },
     Row {
         says: b"ready\r\nout 0\r\n",
         outs: &[0],
-        want: Ends::Answered,
+        want: Ending::Answered,
     },
     Row {
         says: b"ready\r\nout 1\r\nout 0\n",
         outs: &[1, 0],
-        want: Ends::Answered,
+        want: Ending::Answered,
     },
     Row {
         says: b"ready\nout 1\n",
         outs: &[0],
-        want: Ends::Otherwise,
+        want: Ending::Otherwise,
     },
     Row {
         says: b"ready\nout 7\n",
         outs: &[0],
-        want: Ends::Bad(b"out 7"),
+        want: Ending::Bad(b"out 7"),
     },
     Row {
         says: b"Ready\n",
         outs: &[],
-        want: Ends::Bad(b"Ready"),
+        want: Ending::Bad(b"Ready"),
     },
     Row {
         says: b"\n",
         outs: &[],
-        want: Ends::Bad(b""),
+        want: Ending::Bad(b""),
     },
     Row {
         says: b"ready\rx\n",
         outs: &[],
-        want: Ends::Bad(b"ready\rx"),
+        want: Ending::Bad(b"ready\rx"),
     },
     Row {
         says: b"ready\r\r\n",
         outs: &[],
-        want: Ends::Bad(b"ready\r"),
+        want: Ending::Bad(b"ready\r"),
     },
     Row {
         says: b"ready\nout  0\n",
         outs: &[0],
-        want: Ends::Bad(b"out  0"),
+        want: Ending::Bad(b"out  0"),
     },
     Row {
         says: b"ready\nready\n",
         outs: &[0],
-        want: Ends::Bad(b"ready"),
+        want: Ending::Bad(b"ready"),
     },
     Row {
         says: b"out 0\n",
         outs: &[],
-        want: Ends::Bad(b"out 0"),
+        want: Ending::Bad(b"out 0"),
     },
     Row {
         says: b"",
         outs: &[],
-        want: Ends::Gone,
+        want: Ending::Gone,
     },
     Row {
         says: b"ready",
         outs: &[],
-        want: Ends::Gone,
+        want: Ending::Gone,
     },
     Row {
         says: b"ready\nout 0\nout 0",
         outs: &[0, 0],
-        want: Ends::Gone,
+        want: Ending::Gone,
     },
     Row {
         says: b"ready\nout 0\n",
         outs: &[0, 0],
-        want: Ends::Gone,
+        want: Ending::Gone,
     },
 ];
 
@@ -137,7 +137,7 @@ fn answers_badly(alloc: Global, says: &'static [u8], want: &'static [u8]) -> Res
         fails: None,
     };
     let mut sul = declared(alloc, script)?;
-    Ok(ends(&mut sul, &[], Ends::Bad(want)))
+    Ok(ends(&mut sul, &[], Ending::Bad(want)))
 }
 
 #[test]
@@ -154,7 +154,7 @@ fn fails_at(alloc: Global, call: u64) -> Result<bool, Fail> {
         fails: Some(call),
     };
     let mut sul = declared(alloc, script)?;
-    Ok(ends(&mut sul, &[0, 0], Ends::Failed))
+    Ok(ends(&mut sul, &[0, 0], Ending::Failed))
 }
 
 #[test]

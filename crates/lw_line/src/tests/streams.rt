@@ -17,6 +17,7 @@ pub fn counter(alloc: Global) -> Result<Machine, Fail> {
 }
 
 /// Calls that are to fail.
+#[derive(Clone, Copy)]
 struct Plans<'a> {
     source: &'a [u64],
     sink: &'a [u64],
