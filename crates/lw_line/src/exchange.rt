@@ -34,7 +34,8 @@ fn receive<L: Link>(link: &mut L, inbox: &mut Inbox) -> Result<Line, SulStop>
         (L.transcript link.new)) }
     ensures err { IfErr result (λ stop. EndsOpen inbox.old stop (L.transcript link.old)
         (L.transcript link.new)) }
-    ensures failed { result ≡ Err Stop.Failed → CountedFault (L.faults link.old) (L.faults link.new) }
+    ensures failed { result ≡ Err Stop.Failed →
+        CountedFault (L.faults link.old) (L.faults link.new) }
     ensures gone { result ≡ Err Stop.Gone → CountedFault (L.ends link.old) (L.ends link.new) }
     ensures counts { (L.faults link.old ≤ L.faults link.new) × (L.ends link.old ≤ L.ends link.new) }
     ensures same { L.number link.new ≡ L.number link.old }
@@ -61,7 +62,8 @@ fn exchange<L: Link>(link: &mut L, inbox: &mut Inbox, line: &[u8]) -> Result<Lin
         (L.transcript link.old) (L.transcript link.new)) }
     ensures err { IfErr result (λ stop. IsRefusal (λ _. ⊥) line.now inbox.old inbox.new stop
         (L.transcript link.old) (L.transcript link.new)) }
-    ensures failed { result ≡ Err Stop.Failed → CountedFault (L.faults link.old) (L.faults link.new) }
+    ensures failed { result ≡ Err Stop.Failed →
+        CountedFault (L.faults link.old) (L.faults link.new) }
     ensures gone { result ≡ Err Stop.Gone → CountedFault (L.ends link.old) (L.ends link.new) }
     ensures counts { (L.faults link.old ≤ L.faults link.new) × (L.ends link.old ≤ L.ends link.new) }
     ensures same { L.number link.new ≡ L.number link.old }
@@ -80,7 +82,8 @@ pub(crate) fn start<L: Link>(link: &mut L, inbox: &mut Inbox) -> Result<(), SulS
     ensures err { IfErr result (λ stop. IsRefusal (λ answer. ¬ IsFormed reset_line answer)
         (ended reset_line) inbox.old inbox.new stop
         (L.transcript link.old) (L.transcript link.new)) }
-    ensures failed { result ≡ Err Stop.Failed → CountedFault (L.faults link.old) (L.faults link.new) }
+    ensures failed { result ≡ Err Stop.Failed →
+        CountedFault (L.faults link.old) (L.faults link.new) }
     ensures gone { result ≡ Err Stop.Gone → CountedFault (L.ends link.old) (L.ends link.new) }
     ensures counts { (L.faults link.old ≤ L.faults link.new) × (L.ends link.old ≤ L.ends link.new) }
     ensures same { L.number link.new ≡ L.number link.old }
@@ -98,7 +101,8 @@ fn output_in(outputs: &mut OutputNames, answer: &[u8]) -> Option<u16>
     ensures cases { MatchOption result
         (NamesNone outputs.old.names outputs.old.most answer.now × (outputs.new ≡ outputs.old))
         (λ y. number_behind (codes "out ") outputs.new.names answer.now ≡ Some y) }
-    ensures brings { IfSome result (λ y. Brings outputs.old.names outputs.new.names y × (y < outputs.old.range)) }
+    ensures brings { IfSome result (λ y. Brings outputs.old.names outputs.new.names y ×
+        (y < outputs.old.range)) }
     ensures differ { AllDiffer outputs.new.names }
     ensures same { (outputs.new.most ≡ outputs.old.most) × (outputs.new.range ≡ outputs.old.range) }
 {
@@ -119,13 +123,15 @@ pub(crate) fn ask<L: Link>(
         IsAnswered (ended (in_line letter.now)) inbox.old inbox.new answer
         (L.transcript link.old) (L.transcript link.new) ×
         (number_behind (codes "out ") outputs.new.names answer ≡ Some y)) }
-    ensures brings { IfOk result (λ y. Brings outputs.old.names outputs.new.names y × (y < outputs.old.range)) }
+    ensures brings { IfOk result (λ y. Brings outputs.old.names outputs.new.names y ×
+        (y < outputs.old.range)) }
     ensures differ { OnOk result (AllDiffer outputs.new.names) }
     ensures err { IfErr result (λ stop. IsRefusal (NamesNone outputs.old.names outputs.old.most)
         (ended (in_line letter.now)) inbox.old inbox.new stop
         (L.transcript link.old) (L.transcript link.new)) }
     ensures kept { OnErr result (outputs.new ≡ outputs.old) }
-    ensures failed { result ≡ Err Stop.Failed → CountedFault (L.faults link.old) (L.faults link.new) }
+    ensures failed { result ≡ Err Stop.Failed →
+        CountedFault (L.faults link.old) (L.faults link.new) }
     ensures gone { result ≡ Err Stop.Gone → CountedFault (L.ends link.old) (L.ends link.new) }
     ensures counts { (L.faults link.old ≤ L.faults link.new) × (L.ends link.old ≤ L.ends link.new) }
     ensures same { (L.number link.new ≡ L.number link.old) × (outputs.new.most ≡ outputs.old.most) ×

@@ -74,13 +74,15 @@ impl Inbox {
     /// Takes bytes from a link into the free rest, and says how many.
     pub fn take_from<L: Link>(&mut self, link: &mut L) -> Result<usize, Failed>
         requires { length self.old < 256 }
-        ensures took { IfOk result (λ n. (more : List ℕ) × (length more ≡ n) × (self.new ≡ self.old ++ more) ×
+        ensures took { IfOk result (λ n. (more : List ℕ) × (length more ≡ n) ×
+            (self.new ≡ self.old ++ more) ×
             (L.transcript link.new ≡ option_map (receives more) (L.transcript link.old))) }
         ensures kept { OnErr result ((self.new ≡ self.old) ×
             (L.transcript link.new ≡ L.transcript link.old)) }
         ensures end { IfOk result (λ n. n ≡ 0 → CountedFault (L.ends link.old) (L.ends link.new)) }
         ensures failed { OnErr result (CountedFault (L.faults link.old) (L.faults link.new)) }
-        ensures counts { (L.faults link.old ≤ L.faults link.new) × (L.ends link.old ≤ L.ends link.new) }
+        ensures counts { (L.faults link.old ≤ L.faults link.new) ×
+            (L.ends link.old ≤ L.ends link.new) }
         ensures same { L.number link.new ≡ L.number link.old }
     {
         let count = link.take(&mut self.bytes[self.held..])?;
@@ -91,14 +93,17 @@ impl Inbox {
     /// Reads bytes of a source into the free rest, and says how many.
     pub fn read_from<I: Source>(&mut self, source: &mut I) -> Result<usize, Failed>
         requires { length self.old < 256 }
-        ensures gave { IfOk result (λ n. (more : List ℕ) × (length more ≡ n) × (self.new ≡ self.old ++ more) ×
+        ensures gave { IfOk result (λ n. (more : List ℕ) × (length more ≡ n) ×
+            (self.new ≡ self.old ++ more) ×
             Gave more (I.left source.old) (I.left source.new)) }
-        ensures kept { OnErr result ((self.new ≡ self.old) × (I.left source.new ≡ I.left source.old)) }
+        ensures kept { OnErr result ((self.new ≡ self.old) ×
+            (I.left source.new ≡ I.left source.old)) }
         ensures end { IfOk result (λ n. n ≡ 0 → IsSpent (I.left source.old) ×
             CountedFault (I.ends source.old) (I.ends source.new)) }
         ensures failed { OnErr result (CountedFault (I.faults source.old) (I.faults source.new)) }
         ensures quiet { OnOk result (I.faults source.new ≡ I.faults source.old) }
-        ensures counts { (I.faults source.old ≤ I.faults source.new) × (I.ends source.old ≤ I.ends source.new) }
+        ensures counts { (I.faults source.old ≤ I.faults source.new) ×
+            (I.ends source.old ≤ I.ends source.new) }
     {
         let count = source.read(&mut self.bytes[self.held..])?;
         self.held += count;
@@ -108,7 +113,8 @@ impl Inbox {
 
 /// The place of the first line feed.
 fn line_end(bytes: &[u8]) -> Option<usize>
-    ensures { MatchOption result (NoFeed bytes.now) (λ end. (end < length bytes.now) × NoFeed (take end bytes.now) ×
+    ensures { MatchOption result (NoFeed bytes.now) (λ end. (end < length bytes.now) ×
+        NoFeed (take end bytes.now) ×
         (slice_index bytes.now end ≡ 10)) }
 {
     bytes.iter().position(|b| *b == b'\n')

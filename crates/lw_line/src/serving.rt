@@ -70,7 +70,8 @@ fn next_line<I: Source>(source: &mut I, inbox: &mut Inbox) -> Result<Next, Faile
     ensures end { result ≡ Ok Upcoming.End → CountedFault (I.ends source.old) (I.ends source.new) }
     ensures failed { OnErr result (CountedFault (I.faults source.old) (I.faults source.new)) }
     ensures quiet { OnOk result (I.faults source.new ≡ I.faults source.old) }
-    ensures counts { (I.faults source.old ≤ I.faults source.new) × (I.ends source.old ≤ I.ends source.new) }
+    ensures counts { (I.faults source.old ≤ I.faults source.new) ×
+        (I.ends source.old ≤ I.ends source.new) }
 {
     loop {
         if let Some(line) = inbox.take_line() {
@@ -115,7 +116,8 @@ fn answer<O: Sink>(
     requires { child.old < length m.now.mealy.rows }
     ensures replies { Replies m.now number child.old raw.now child.new (O.taken sink.old)
         (O.taken sink.new) result }
-    ensures failed { result ≡ Err Fault.SinkFault → CountedFault (O.faults sink.old) (O.faults sink.new) }
+    ensures failed { result ≡ Err Fault.SinkFault →
+        CountedFault (O.faults sink.old) (O.faults sink.new) }
     ensures quiet { OnOk result (O.faults sink.new ≡ O.faults sink.old) }
     ensures counts { O.faults sink.old ≤ O.faults sink.new }
     ensures state { child.new < length m.now.mealy.rows }
@@ -144,8 +146,10 @@ fn serve_line<I: Source, O: Sink>(
     requires { child.old < length m.now.mealy.rows }
     ensures turns { Turns m.now number child.old inbox.old child.new inbox.new (I.left source.old)
         (I.left source.new) (O.taken sink.old) (O.taken sink.new) result }
-    ensures source { result ≡ Err Fault.SourceFault → CountedFault (I.faults source.old) (I.faults source.new) }
-    ensures sink { result ≡ Err Fault.SinkFault → CountedFault (O.faults sink.old) (O.faults sink.new) }
+    ensures source { result ≡ Err Fault.SourceFault →
+        CountedFault (I.faults source.old) (I.faults source.new) }
+    ensures sink { result ≡ Err Fault.SinkFault →
+        CountedFault (O.faults sink.old) (O.faults sink.new) }
     ensures end { result ≡ Ok Done.Ended → CountedFault (I.ends source.old) (I.ends source.new) }
     ensures quiet { OnOk result ((I.faults source.new ≡ I.faults source.old) ×
         (O.faults sink.new ≡ O.faults sink.old)) }
