@@ -1,8 +1,9 @@
 -- Links that are retired.
 use Rattle.std.proofs.Common.{◌≡◌, ◌≢◌, ℕ, ◌+◌, ◌<◌, ◌≤◌, List, [], ◌∷◌, ◌++◌, length, map, get_or, Contains, Bool, true, false, Option, Some, None, option_map, refl, ap, sym, ◌∙◌, subst, arith, length-append, if◌then◌else◌}
 use Rattle.std.specs.List.{All, AllPairs}
+use Rattle.std.proofs.Math.ListN.{get_or-map}
 use Rattle.std.proofs.lemmas.List.{get_or_default, length-map, map-append}
-use Rattle.std.proofs.lemmas.List.Elements.{All-push}
+use Rattle.std.proofs.lemmas.List.Elements.{All-map, All-push}
 use Rattle.std.proofs.lemmas.List.Quantifiers.{all_pairs_push}
 use Rattle.std.proofs.lemmas.Option.{none-some, same_Some}
 use Rattle.lw_words.proofs.Pigeonhole.{no_more_than}
@@ -87,3 +88,9 @@ keeps_retired started capacity after pairs now ts told t s l keeps starts retire
     let one : told_of (t ∷ []) ≡ transcript_of l ∷ [] = ap (λ (b : List ℕ). told_of_one b t.received) same.0 ∙ ap (λ (b : List ℕ). told_of_one l.sent b) same.1 in
     let all : told_of told ≡ told_of ts ++ transcript_of l ∷ [] = ap told_of tells ∙ (map-append (λ t. record { sent = t.sent; received = t.received }) ts (t ∷ []) ∙ ap (λ (ts' : List Transcript). told_of ts ++ ts') one) in
     keeps_one_more started capacity after (links_of pairs) (links_of now) (told_of ts) (told_of told) l keeps lt once heard le links all
+
+-- links with numbers below a bound have records with numbers below it
+pub earlier_records : (n : ℕ) (links : List LinkState) → All (λ k. k < n) (map (λ l. l.number) links) → All (λ r. r.number < n) (map retired_of links)
+earlier_records n links below =
+    All-map (λ r. r.number < n) retired_of links (λ i d lt.
+    subst (λ (k : ℕ). k < n) (get_or-map (λ (l : LinkState). l.number) links i d) (below i d.number (rw (length-map links (λ (l : LinkState). l.number)) lt)))

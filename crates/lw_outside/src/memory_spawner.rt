@@ -217,6 +217,15 @@ impl MemorySpawner {
     }
 }
 
+impl MemorySpawner {
+    /// For the proof alone: each link that was retired was started before.
+    fn keeps_earlier(&self)
+        ensures { All (λ r. r.number < self.now.started) (map retired_of self.now.retired) }
+    {
+        let _ = &self.started;
+    }
+}
+
 impl Spawner for MemorySpawner {
     type Link = MemoryLink;
 
@@ -250,6 +259,8 @@ impl Spawner for MemorySpawner {
         ensures quiet { OnOk result (self.new.faults ≡ self.old.faults) }
         ensures counts { self.old.faults ≤ self.new.faults }
         ensures retired { map retired_of self.new.retired ≡ map retired_of self.old.retired }
+        ensures earlier { All (λ r. r.number < self.old.started)
+            (map retired_of self.old.retired) }
 
         // By the plan and what stands at the other end, and nothing else.
         ensures exact { IfOk result (λ l. Some l ≡ next_link self.old) }
@@ -268,6 +279,7 @@ impl Spawner for MemorySpawner {
         } }
         ensures unnoted { result ≡ Err StartRefusal.NoMemory → self.new ≡ self.old }
     {
+        self.keeps_earlier();
         let command = copy_words(self.alloc, words)?;
         self.commands.reserve(1)?;
         let started = make_room(&mut self.transcripts, self.started)?;
