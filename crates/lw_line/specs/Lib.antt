@@ -1,4 +1,1 @@
-pub mod Causes
-pub mod LineState
 pub mod Serving
-pub mod Transcripts

@@ -2,10 +2,5 @@
 #![tactic(auto)]
 
 mod serve;
-mod system;
 
-pub use serve::{ServeFault, Served, ServedCause, serve};
-pub use system::LineSul;
-
-#[cfg(test)]
-mod tests;
+pub use serve::{ServeFault, Served, ServedCause};
