@@ -1,6 +1,6 @@
 //! The line protocol: systems that are programs at the other end of a link, and the child's side of it.
 #![tactic(auto)]
 
-mod serve;
+mod serving;
 
-pub use serve::{ServeFault, Served, ServedCause};
+pub use serving::{ServeFault, Served, ServedCause, serve};
