@@ -1,6 +1,6 @@
 //! The line protocol: systems that are programs at the other end of a link, and the child's side of it.
 #![tactic(auto)]
 
-mod serving;
+mod serve;
 
-pub use serving::{ServeFault, Served, ServedCause, serve};
+pub use serve::{ServeFault, Served, ServedCause};
