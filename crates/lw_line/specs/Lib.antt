@@ -1,1 +1,4 @@
+pub mod Causes
+pub mod LineState
 pub mod Serving
+pub mod Transcripts

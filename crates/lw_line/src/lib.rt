@@ -2,5 +2,10 @@
 #![tactic(auto)]
 
 mod serve;
+mod system;
 
-pub use serve::{ServeFault, Served, ServedCause};
+pub use serve::{ServeFault, Served, ServedCause, serve};
+pub use system::LineSul;
+
+#[cfg(test)]
+mod tests;
