@@ -1,4 +1,0 @@
-use Rattle.lw_serve.proofs.command.play.Goals as goal
-
-pub serve-served-requires : goal.serve-served-requires
-serve-served-requires g c = ?
