@@ -1,0 +1,7 @@
+pub mod Calls
+pub mod Naming
+pub mod Pieces
+pub mod Playing
+pub mod Spelling
+pub mod Splitting
+pub mod Standing
