@@ -3,7 +3,6 @@ use Rattle.std.proofs.Common.{◌≡◌, ℕ, List, false, Option, Result, Ok, E
 use Rattle.lw_json.specs.declared.machine.Machine.{Machine}
 use Rattle.lw_line.specs.Serving.{Plays}
 use Rattle.lw_line.specs.declared.serving.Served.{Served as Done}
-use Rattle.lw_line.specs.declared.serving.ServedCause.TheVariants.{EndOfInput, Limit}
 use Rattle.lw_line.specs.declared.serving.ServeFault.{ServeFault}
 use Rattle.lw_line.specs.declared.serving.ServeFault.TheVariants as fault
 use Rattle.lw_outside.specs.Files.{read_call}

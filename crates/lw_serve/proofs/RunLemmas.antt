@@ -1,9 +1,8 @@
 -- Calls of `serve`, by whether a machine was read.
-use Rattle.std.proofs.Common.{◌≡◌, ◌⊎◌, inl, inr, ℕ, List, [], false, Option, None, Err, refl, subst, sym}
+use Rattle.std.proofs.Common.{◌≡◌, ◌⊎◌, inl, inr, ℕ, List, [], false, None, refl, subst, sym}
 use Rattle.lw_words.specs.Cause.{CountedFault}
 use Rattle.lw_json.specs.MachineFile.{IsMachineFile}
 use Rattle.lw_json.specs.declared.machine.Machine.{Machine}
-use Rattle.lw_line.specs.declared.serving.ServeFault.TheVariants as fault
 use Rattle.lw_outside.specs.Files.{Call, noted, read_call}
 use Rattle.lw_report.specs.Ends.{IsWithoutLearner}
 use Rattle.lw_report.specs.Outcomes.{StandsOrWants}

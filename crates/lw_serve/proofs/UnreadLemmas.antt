@@ -1,10 +1,10 @@
 -- What a model file that was not read comes to.
-use Rattle.std.proofs.Common.{◌≡◌, ◌⊎◌, ⊎_elim, inl, inr, ℕ, List, true, false, Option, refl, subst, sym}
+use Rattle.std.proofs.Common.{◌≡◌, ◌⊎◌, ⊎_elim, inl, inr, ℕ, List, true, false, refl, subst, sym}
 use Rattle.lw_words.specs.Cause.{CountedFault}
 use Rattle.lw_json.specs.MachineFile.{IsMachineFile}
 use Rattle.lw_json.specs.MachineFault.{HasMachineFault}
 use Rattle.lw_json.specs.declared.fault.JsonFault.{JsonFault}
-use Rattle.lw_outside.specs.Files.{Call, HoldsLong, noted, read_call}
+use Rattle.lw_outside.specs.Files.{HoldsLong, noted, read_call}
 use Rattle.lw_report.specs.Outcomes.{HasOwnText, StandsOrWants}
 use Rattle.lw_report.specs.Reading.{ReadsBadFile}
 use Rattle.lw_report.specs.States.{FilesState}

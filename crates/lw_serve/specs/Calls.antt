@@ -1,5 +1,5 @@
 -- The calls of `serve` on the files: the model file is read, and nothing else.
-use Rattle.std.specs.Prelude.{◌≡◌, ◌⊎◌, ℕ, List, Bool, true, false, Option}
+use Rattle.std.specs.Prelude.{◌≡◌, ◌⊎◌, ℕ, List, true, false, Option}
 use Rattle.lw_outside.specs.Files.{Call, noted, read_call}
 use Rattle.lw_report.specs.declared.outcome.Outcome.{Outcome}
 use Rattle.lw_report.specs.declared.outcome.Outcome.TheVariants.{FileFault, NoMemory}
