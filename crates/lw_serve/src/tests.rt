@@ -125,7 +125,7 @@ fn sink(alloc: Global, plan: &[u64]) -> Result<MemorySink, Fail> {
     Ok(MemorySink::new(alloc, 200, 7, Vec::from_slice(alloc, plan)?)?)
 }
 
-fn outside(alloc: Global, case: &Case) -> Result<Outside, Fail> {
+fn prepare(alloc: Global, case: &Case) -> Result<Outside, Fail> {
     Ok(Outside {
         files: files(alloc, case)?,
         input: input(alloc, case)?,
@@ -155,7 +155,7 @@ fn ends_so(alloc: Global, case: &Case, outside: &mut Outside) -> bool {
 }
 
 fn serves(alloc: Global, case: &Case) -> Result<bool, Fail> {
-    let mut outside = outside(alloc, case)?;
+    let mut outside = prepare(alloc, case)?;
     Ok(ends_so(alloc, case, &mut outside))
 }
 
