@@ -1,5 +1,5 @@
 -- What a call of a child system does to all that is told of it.
-use Rattle.std.proofs.Common.{◌≡◌, ◌≢◌, ◌⊎◌, inl, inr, ℕ, ◌≤◌, List, [], codes, get_or, slice_get, Bool, true, false, cond, Option, Some, None, option_map, refl, ap, sym, ◌∙◌, subst, arith, rules}
+use Rattle.std.proofs.Common.{◌≡◌, ◌≢◌, ◌⊎◌, inl, inr, ℕ, ◌≤◌, List, [], length, codes, get_or, slice_get, Bool, true, false, cond, Option, Some, None, option_map, refl, ap, sym, ◌∙◌, subst, arith, rules}
 use Rattle.std.specs.List.{All}
 use Rattle.std.specs.Str.{bytes_eq}
 use Rattle.std.proofs.lemmas.Bool.{false_from_ne_true}
@@ -15,6 +15,7 @@ use Rattle.lw_sul.specs.SessionState.{NoRuns}
 use Rattle.lw_sul.specs.Names.{Brings}
 use Rattle.lw_sul.specs.Runs.{after_reset, after_step}
 use Rattle.lw_sul.specs.declared.runs.Run.{Run}
+use Rattle.lw_outside.specs.Lines.{Split}
 use Rattle.lw_outside.specs.Links.{Transcript, IsUntouched, sends, receives}
 use Rattle.lw_outside.specs.Protocol.{reset_line, ready_line, in_line, out_line}
 use Rattle.lw_line.specs.Transcripts.{IsSentLine, exchanged, spelled, number_behind, stepped_runs}
@@ -24,7 +25,7 @@ use Rattle.lw_line.specs.bodies.Exchanges.{IsAnswered, IsRefusal, NamesNone, end
 use Rattle.lw_line.specs.bodies.Pieces.{NoFeed, EndsOpen}
 use Rattle.lw_line.specs.bodies.Standing.{Spells, IsTold, Stands}
 use Rattle.lw_line.proofs.Spelling.{spells_grown}
-use Rattle.lw_line.proofs.Standing.{good, live_runs, live_proper, live_untouched, refused}
+use Rattle.lw_line.proofs.Standing.{good, live_covered, live_runs, live_proper, live_sees, live_untouched, refused}
 
 -- a count that rose counted a fault since the start
 pub counted_since : (before now : ℕ) → CountedFault before now → CountedFault 0 now
@@ -38,7 +39,7 @@ counted_stop (BadLine line) faults ends faults' ends' failed gone = tt
 -- what a system's stop, or that it has none, bears out
 pub told_of : (inputs names : List (List ℕ)) (most faults : ℕ) (started : Bool) (held : List ℕ) (stop : Option SulStop) (told : Option Transcript) → IsTold inputs names most faults started held stop told → IsTranscriptOf inputs names most faults stop told
 told_of inputs names most faults started held None None h = tt
-told_of inputs names most faults started held None (Some t) h = (live_proper inputs names started held t h faults, tt)
+told_of inputs names most faults started held None (Some t) h = (live_proper inputs names started held t h faults, tt, ap (λ (s : Split). length s.lines) (live_sees inputs names started held t h).sent ∙ live_covered inputs names started held t h)
 told_of inputs names most faults started held (Some stop) told h = h
 
 -- nothing is told after nothing was
@@ -89,7 +90,7 @@ module _ (inputs before : List (List ℕ)) (most : ℕ) (started : Bool) (held l
   refuses faults faults' now stop (Some t) after live IsBad bad none counted h =
       let u = refused inputs before started held t live line plain is_line well most faults' IsBad bad none now stop after counted h in
       subst (λ (o : Option Transcript). Refuses inputs before most faults' stop (Some t) o) (sym u.1)
-      (record { link = (u.2.well, u.2.bears); runs = ap (λ (l : List Run). Some l) u.2.runs })
+      (record { link = (u.2.well, u.2.bears, u.2.covered); runs = ap (λ (l : List Run). Some l) u.2.runs })
 
 -- the line of a reset, and a letter's
 reset_plain : NoFeed reset_line

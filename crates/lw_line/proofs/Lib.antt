@@ -1,4 +1,5 @@
 pub mod Calls
+pub mod Covering
 pub mod Naming
 pub mod Pieces
 pub mod Playing

@@ -15,7 +15,11 @@ use Rattle.lw_words.proofs.NumberLemmas.{number_at_place, name_at_number}
 use Rattle.lw_sul.proofs.NameLemmas.{lacks_name, IsName-at}
 use Rattle.lw_sul.specs.Names.{AreNamed, Brings}
 use Rattle.lw_outside.specs.Protocol.{behind, out_line}
+use Rattle.lw_line.specs.LineState.{IsNaming}
 use Rattle.lw_line.specs.Transcripts.{number_behind}
+use Rattle.lw_line.specs.bodies.Naming.{naming_of}
+use Rattle.lw_line.specs.declared.outputs.OutputList.{OutputList}
+use Rattle.lw_line.specs.declared.outputs.OutputList.TheVariants.{Declared, Free}
 use Rattle.lw_line.specs.bodies.Exchanges.{NamesNone}
 
 -- a name is text
@@ -111,3 +115,8 @@ names_unknown names most answer rest is same is_name lacks full = (
 
 pub names_known : (names : List (List ℕ)) (answer rest : List ℕ) (y : ℕ) → behind (codes "out ") answer ≡ Some rest → number_of rest names ≡ Some y → number_behind (codes "out ") names answer ≡ Some y
 names_known names answer rest y is number = ap (option_and_then (λ name. number_of name names)) is ∙ number
+
+-- how many names a list of outputs may have, and how many numbers
+pub naming_is : (list : OutputList) → IsNaming (naming_of list).names (naming_of list).most (naming_of list).range
+naming_is (Declared names) = inr (refl, refl)
+naming_is (Free names) = inl (refl, refl)

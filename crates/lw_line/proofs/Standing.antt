@@ -13,11 +13,12 @@ use Rattle.lw_outside.specs.Lines.{Split, split_bytes, lines_of, rest_of}
 use Rattle.lw_outside.specs.Links.{Transcript, IsUntouched, sends, receives}
 use Rattle.lw_outside.specs.Played.{ended_lines}
 use Rattle.lw_outside.specs.Protocol.{reset_line}
-use Rattle.lw_line.specs.Transcripts.{IsSentLine, IsProper, exchanged, spelled, spelled_from}
-use Rattle.lw_line.specs.Causes.{EndsWithin, IsBadAnswer, IsRefused, IsSpelled}
+use Rattle.lw_line.specs.Transcripts.{IsSentLine, IsProper, exchanged, lines_in, spelled, spelled_from}
+use Rattle.lw_line.specs.Causes.{EndsWithin, IsBadAnswer, IsCovered, IsRefused, IsSpelled}
 use Rattle.lw_line.specs.bodies.Exchanges.{IsAnswered, IsRefusal, ended}
 use Rattle.lw_line.specs.bodies.Pieces.{NoFeed, EndsOpen}
 use Rattle.lw_line.specs.bodies.Standing.{Spells, BeginsWell, IsLive, IsTold}
+use Rattle.lw_line.proofs.Covering.{all_covered}
 use Rattle.lw_line.proofs.Spelling.{spells_push, spells_length, spelled_whole, spelled_unanswered, spelled_badly}
 use Rattle.lw_line.proofs.Splitting.{split, split_lines, split_lines_open, split_ended, ended_push}
 
@@ -93,6 +94,9 @@ module _ (inputs names : List (List ℕ)) (started : Bool) (held : List ℕ) (t 
       spells_lines inputs names t live.lines [] (live.answers ++ lines_of held) (rest_of held) live_sees
       ∙ spelled_whole inputs names [] live.lines live.answers live.runs (lines_of held) live.spells
 
+  pub live_covered : length live.lines ≡ lines_in (spelled inputs names t)
+  live_covered = sym (all_covered inputs names started live.lines live.answers live.runs live.begins live.spells) ∙ ap (λ (rs : List Run). lines_in rs) (sym live_runs)
+
   pub live_proper : (faults : ℕ) → IsProper inputs faults t
   live_proper faults =
       let long : length (live.answers ++ lines_of held) ≡ length live.answers + length (lines_of held) = length-append live.answers (lines_of held) in
@@ -114,6 +118,13 @@ module _ (inputs names : List (List ℕ)) (started : Bool) (held : List ℕ) (t 
 
     pub length_more : length (live.lines ++ line ∷ []) ≡ length live.answers + 1
     length_more = length-append live.lines (line ∷ []) ∙ ap (λ (n : ℕ). n + 1) live_length
+
+    -- a line more than the runs take was sent, where the runs are as before
+    pub sent_covered : (u : Transcript) (rest : List ℕ) → split_bytes u.sent ≡ split (live.lines ++ line ∷ []) rest → spelled inputs names u ≡ spelled inputs names t → length (lines_of u.sent) ≡ lines_in (spelled inputs names u) + 1
+    sent_covered u rest sent same =
+        ap (λ (s : Split). length s.lines) sent
+        ∙ (length-append live.lines (line ∷ [])
+        ∙ ap (λ (n : ℕ). n + 1) (live_covered ∙ ap (λ (rs : List Run). lines_in rs) (sym same)))
 
     -- what was received, by all that came
     pub came : (more bytes : List ℕ) → held ++ more ≡ bytes → t.received ++ more ≡ ended_lines live.answers ++ bytes
@@ -167,6 +178,7 @@ pub record Leaves (inputs names : List (List ℕ)) (most faults : ℕ) (stop : S
   pub well : IsProper inputs faults u
   pub bears : IsSpelled names most u (Some stop)
   pub runs : spelled inputs names u ≡ spelled inputs names t
+  pub covered : IsCovered inputs names u (Some stop)
 
 module _ (inputs names : List (List ℕ)) (started : Bool) (held : List ℕ) (t : Transcript) (live : IsLive inputs names started held t)
     (line : List ℕ) (plain : NoFeed line) (is_line : IsSentLine inputs line) (well : (started ≡ true) ⊎ (line ≡ reset_line)) (most faults : ℕ) where
@@ -191,6 +203,11 @@ module _ (inputs names : List (List ℕ)) (started : Bool) (held : List ℕ) (t 
         runs =
             spells_lines inputs names u live.lines (take n line) early (rest_of held) sees
             ∙ (spelled_whole inputs names [] live.lines live.answers live.runs (lines_of held) live.spells ∙ sym (live_runs inputs names started held t live));
+        covered = inl (
+            ap (λ (s : Split). length s.lines) sees.sent
+            ∙ (live_covered inputs names started held t live
+            ∙ ap (λ (rs : List Run). lines_in rs) (sym (spells_lines inputs names u live.lines (take n line) early (rest_of held) sees
+            ∙ (spelled_whole inputs names [] live.lines live.answers live.runs (lines_of held) live.spells ∙ sym (live_runs inputs names started held t live))))));
       }
 
   module _ (more bytes : List ℕ) (is : held ++ more ≡ bytes) (open_ended : NoFeed bytes) where
@@ -208,6 +225,9 @@ module _ (inputs names : List (List ℕ)) (started : Bool) (held : List ℕ) (t 
       runs =
           spells_lines inputs names unanswered (live.lines ++ line ∷ []) [] live.answers bytes sees_unanswered
           ∙ (spelled_unanswered inputs names [] live.lines live.answers live.runs line live.spells ∙ sym (live_runs inputs names started held t live));
+      covered = inr (sent_covered inputs names started held t live line plain is_line well unanswered [] sees_unanswered.sent
+          (spells_lines inputs names unanswered (live.lines ++ line ∷ []) [] live.answers bytes sees_unanswered
+          ∙ (spelled_unanswered inputs names [] live.lines live.answers live.runs line live.spells ∙ sym (live_runs inputs names started held t live))));
     }
 
     ends_within : EndsWithin unanswered
@@ -276,6 +296,10 @@ module _ (inputs names : List (List ℕ)) (started : Bool) (held : List ℕ) (t 
               spells_lines inputs names u (live.lines ++ line ∷ []) [] early' (rest_of now) sees
               ∙ (spelled_badly inputs names [] live.lines live.answers live.runs line raw (lines_of now) live.spells (ap (exchanged inputs names live.runs line) (sym h.stripped) ∙ none live.runs)
               ∙ sym (live_runs inputs names started held t live));
+          covered = inr (sent_covered inputs names started held t live line plain is_line well u [] sees.sent
+              (spells_lines inputs names u (live.lines ++ line ∷ []) [] early' (rest_of now) sees
+              ∙ (spelled_badly inputs names [] live.lines live.answers live.runs line raw (lines_of now) live.spells (ap (exchanged inputs names live.runs line) (sym h.stripped) ∙ none live.runs)
+              ∙ sym (live_runs inputs names started held t live))));
         },
       )
 

@@ -2,6 +2,7 @@
 ghost use Rattle.std.specs.Prelude.{◌≡◌, ◌+◌, ◌<◌, ◌≤◌, [], ◌∷◌, ◌++◌, length, IfOk, IfSome, IfNone, Some, None, vec_capacity};
 ghost use Rattle.lw_words.specs.Name.{AllDiffer, number_of};
 ghost use Rattle.lw_sul.specs.Names.{AreNamed, Brings, name_at};
+ghost use Rattle.lw_line.specs.LineState.{IsNaming};
 ghost use Rattle.lw_line.specs.bodies.Naming.{IsOutputList, naming_of};
 
 use lw_sul::{OutName, name_of};
@@ -98,6 +99,13 @@ fn number_in(list: &mut OutputList, name: &OutName) -> Option<u16>
 }
 
 impl OutputNames {
+    /// For the proof alone: how many names there may be, and how many numbers.
+    pub fn tells_naming(&self)
+        ensures { IsNaming self.now.names self.now.most self.now.range }
+    {
+        let _ = &self.list;
+    }
+
     /// These names alone. Takes no memory.
     pub fn declared(names: Names) -> OutputNames
         ensures { result ≡ record { names = names; most = length names; range = length names } }

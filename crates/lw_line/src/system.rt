@@ -2,7 +2,7 @@
 ghost use Rattle.std.specs.Prelude.{◌≡◌, [], length, IfOk, IfErr, None, false};
 ghost use Rattle.lw_outside.specs.Links.{IsUntouched};
 ghost use Rattle.lw_line.specs.Causes.{IsCounted, IsTranscriptOf};
-ghost use Rattle.lw_line.specs.LineState.{told_runs};
+ghost use Rattle.lw_line.specs.LineState.{IsNaming, told_runs};
 ghost use Rattle.lw_sul.specs.SessionState.{NoRuns};
 
 use crate::exchange::{ask, start};
@@ -102,7 +102,9 @@ impl<L: Link> LineSul<L> {
         ensures counted { IsCounted (L.faults self.link) (L.ends self.link) self.stop }
         ensures told { IsTranscriptOf self.letters self.names self.most (L.faults self.link)
             self.stop (L.transcript self.link) }
+        ensures naming { IsNaming self.names self.most self.outputs }
     {
+        self.outputs.tells_naming();
         let LineSul {
             link,
             letters: _,
