@@ -64,7 +64,8 @@ enum Turn {
 
 /// Reads up to the next line feed.
 fn next_line<I: Source>(source: &mut I, inbox: &mut Inbox) -> Result<Next, Failed>
-    ensures comes { IfOk result (λ next. Comes inbox.old inbox.new next (I.left source.old) (I.left source.new)) }
+    ensures comes { IfOk result (λ next. Comes inbox.old inbox.new next (I.left source.old)
+        (I.left source.new)) }
     ensures err { OnErr result ((bytes : List ℕ) ×
         IsOpenRead inbox.old bytes (I.left source.old) (I.left source.new)) }
     ensures end { result ≡ Ok Upcoming.End → CountedFault (I.ends source.old) (I.ends source.new) }
