@@ -1,9 +1,9 @@
-//! The real files and streams as the top call knows them. They count their faults. What they hold or took is told to no
-//! contract; what a read gave is.
+//! The real files and streams as the top call knows them. They count their faults, and an input its ends. What they hold or
+//! took is told to no contract; what a read of a file gave is.
 ghost use Rattle.std.specs.Prelude.{◌≡◌, []};
 
 use http_server::Log;
-use lw_outside::{Failed, Files, FilesStop, LONGEST_FILE, Sink, WriteStop};
+use lw_outside::{Failed, Files, FilesStop, LONGEST_FILE, Sink, Source, WriteStop};
 use std::fs;
 use std::io::{self, ErrorKind, Read, Write};
 
@@ -105,6 +105,54 @@ impl<W: Write> Sink for Stream<W> {
         match self.stream.write(bytes) {
             Ok(count) if count > 0 => Ok(count),
             _ => {
+                self.faults = self.faults.saturating_add(1);
+                Err(Failed)
+            }
+        }
+    }
+}
+
+/// A stream of the system that is read. A read gives what has come, and waits only where nothing has.
+#[derive(Drop)]
+pub struct Input<S> {
+    stream: S,
+    faults: u64,
+    ends: u64,
+}
+
+impl<S> Input<S> {
+    /// The stream, with no fault and no end so far.
+    pub fn new(stream: S) -> Input<S>
+        ensures stream { result.stream ≡ stream }
+        ensures faults { result.faults ≡ 0 }
+        ensures ends { result.ends ≡ 0 }
+    {
+        Input {
+            stream,
+            faults: 0,
+            ends: 0,
+        }
+    }
+}
+
+impl<S: Read> Source for Input<S> {
+    ghost use Rattle.std.specs.Prelude.{None};
+
+    ghost left = { λ _. None };
+
+    ghost faults = { λ s. s.faults };
+
+    ghost ends = { λ s. s.ends };
+
+    fn read(&mut self, buffer: &mut [u8]) -> Result<usize, Failed> {
+        match self.stream.read(buffer) {
+            Ok(count) => {
+                if count == 0 {
+                    self.ends = self.ends.saturating_add(1);
+                }
+                Ok(count)
+            }
+            Err(_) => {
                 self.faults = self.faults.saturating_add(1);
                 Err(Failed)
             }

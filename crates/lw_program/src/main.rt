@@ -3,7 +3,7 @@
 
 mod adapters;
 
-use adapters::{RealFiles, Stream};
+use adapters::{Input, RealFiles, Stream};
 use lw_top::{run, without_arguments};
 use std::alloc::Global;
 use std::io::ErrorKind;
@@ -33,6 +33,7 @@ fn main(rt: HostRuntime) -> ExitCode {
             alloc,
             &arguments,
             &mut RealFiles::new(rt),
+            &mut Input::new(rt.stdin()),
             &mut out,
             &mut err,
         ),
@@ -40,3 +41,6 @@ fn main(rt: HostRuntime) -> ExitCode {
     };
     ExitCode::from(end.status)
 }
+
+#[cfg(test)]
+mod tests;

@@ -1,5 +1,5 @@
 -- Calls of `trial` for whose arguments there was no memory.
-use Rattle.std.proofs.Common.{◌≡◌, ◌∙◌, ℕ, ◌<◌, List, [], Option, Some, None, IfSome, refl, sym, subst, arith}
+use Rattle.std.proofs.Common.{◌≡◌, ◌∙◌, ℕ, ◌<◌, List, [], Option, None, IfSome, refl, sym, subst, arith}
 use Rattle.std.proofs.lemmas.List.Elements.{All-nil}
 use Rattle.lw_words.specs.Answer.{IsAnswer}
 use Rattle.lw_words.specs.Word.{IsWord}

@@ -4,4 +4,5 @@ pub mod CommandLine
 pub mod LearnCommand
 pub mod Options
 pub mod Run
+pub mod ServeCommand
 pub mod TrialCommand

@@ -6,6 +6,7 @@ ghost use Rattle.lw_top.specs.declared.values.ArgumentStop.{ArgumentStop as Stop
 
 use crate::check_words::{CheckArguments, check_arguments};
 use crate::learn_words::learn_arguments;
+use crate::serve_words::serve_arguments;
 use crate::trial_words::trial_arguments;
 use crate::values::ArgumentStop;
 use lw_learn::LearnArguments;
@@ -18,6 +19,8 @@ pub(crate) enum Call {
     Learn(LearnArguments),
     Check(CheckArguments),
     Trial(TrialArguments),
+    /// The name of the model file.
+    Serve(String),
 }
 
 /// The command that takes the arguments.
@@ -36,7 +39,12 @@ pub(crate) fn read_call(alloc: Global, arguments: &[String]) -> Result<Call, Arg
         Err(ArgumentStop::Usage) => {}
     }
     match trial_arguments(alloc, arguments) {
-        Ok(values) => Ok(Call::Trial(values)),
+        Ok(values) => return Ok(Call::Trial(values)),
+        Err(ArgumentStop::NoMemory) => return Err(ArgumentStop::NoMemory),
+        Err(ArgumentStop::Usage) => {}
+    }
+    match serve_arguments(alloc, arguments) {
+        Ok(model) => Ok(Call::Serve(model)),
         Err(stop) => Err(stop),
     }
 }

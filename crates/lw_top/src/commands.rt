@@ -1,17 +1,19 @@
 //! The commands with the values of their arguments: each says all that its contract says in one record.
 ghost use Rattle.std.specs.Prelude.{◌≡◌, ◌≤◌};
 ghost use Rattle.lw_report.specs.Outcomes.{status_of};
-ghost use Rattle.lw_report.specs.States.{files_state, sink_state};
+ghost use Rattle.lw_report.specs.States.{files_state, sink_state, source_state};
 ghost use Rattle.lw_report.specs.declared.outcome.Outcome.{Outcome as Came};
 ghost use Rattle.lw_learn.specs.LearnRun.{IsLearnRun};
 ghost use Rattle.lw_check.specs.CheckRun.{IsCheckRun};
 ghost use Rattle.lw_trial.specs.TrialRun.{IsTrialRun};
+ghost use Rattle.lw_serve.specs.ServeRun.{IsServeRun};
 
 use crate::check_words::CheckArguments;
 use lw_check::check;
 use lw_learn::{LearnArguments, learn};
-use lw_outside::{Files, Sink};
+use lw_outside::{Files, Sink, Source};
 use lw_report::End;
+use lw_serve::serve;
 use lw_trial::{TrialArguments, trial};
 use std::alloc::Global;
 use std::sync::Wait;
@@ -88,4 +90,33 @@ pub(crate) fn run_trial<R: Threads + Wait + Sync + Drop, O: Sink, E: Sink>(
         (sink_state (E.taken err.new) (E.faults err.new)) result }
 {
     trial(rt, alloc, values, out, err)
+}
+
+/// `serve` with this model file.
+pub(crate) fn run_serve<F: Files, I: Source, O: Sink, E: Sink>(
+    alloc: Global,
+    model: &str,
+    files: &mut F,
+    input: &mut I,
+    out: &mut O,
+    err: &mut E,
+) -> End
+    ensures status { result.status ≡ status_of result.outcome }
+    ensures taken { ¬ (result.outcome ≡ Came.Usage) }
+    ensures counts { (F.faults files.old ≤ F.faults files.new) ×
+        (I.faults input.old ≤ I.faults input.new) × (I.ends input.old ≤ I.ends input.new) ×
+        (O.faults out.old ≤ O.faults out.new) × (E.faults err.old ≤ E.faults err.new) }
+    ensures all { IsServeRun model.now
+        (files_state (F.holds files.old) (F.calls files.old) (F.reads files.old)
+        (F.faults files.old))
+        (files_state (F.holds files.new) (F.calls files.new) (F.reads files.new)
+        (F.faults files.new))
+        (source_state (I.left input.old) (I.faults input.old) (I.ends input.old))
+        (source_state (I.left input.new) (I.faults input.new) (I.ends input.new))
+        (sink_state (O.taken out.old) (O.faults out.old))
+        (sink_state (O.taken out.new) (O.faults out.new))
+        (sink_state (E.taken err.old) (E.faults err.old))
+        (sink_state (E.taken err.new) (E.faults err.new)) result }
+{
+    serve(alloc, model, files, input, out, err)
 }

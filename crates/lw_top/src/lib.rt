@@ -6,12 +6,14 @@ mod check_words;
 mod commands;
 mod learn_words;
 mod options;
+mod serve_words;
 mod top;
 mod trial_words;
 mod values;
 
 pub use check_words::{CheckArguments, check_arguments};
 pub use learn_words::learn_arguments;
+pub use serve_words::serve_arguments;
 pub use top::{run, without_arguments};
 pub use trial_words::trial_arguments;
 pub use values::ArgumentStop;

@@ -2,11 +2,12 @@
 mod cases;
 mod refusals;
 mod rows;
+mod serving;
 mod trial_words;
 mod trials;
 
 use crate::tests::cases::{
-    Case, LEARN, ONE, PLAIN, check, check_over, end_of, files_of, sink, texts,
+    Case, LEARN, ONE, PLAIN, check, check_over, end_of, files_of, sink, source, texts,
 };
 use crate::{run, without_arguments};
 use lw_outside::MemoryFiles;
@@ -231,10 +232,13 @@ fn ends_with<R: Threads + Wait + Sync + Drop>(
     said: &str,
 ) -> Result<bool, Fail> {
     let mut files = padded(alloc, bytes)?;
+    let mut input = source(alloc, "", &[])?;
     let mut out = sink(alloc, 4096, &[])?;
     let mut err = sink(alloc, 4096, &[])?;
     let arguments = texts(alloc, &LEARN)?;
-    let end = run(rt, alloc, &arguments, &mut files, &mut out, &mut err);
+    let end = run(
+        rt, alloc, &arguments, &mut files, &mut input, &mut out, &mut err,
+    );
     Ok(end.status == status && err.taken() == said.as_bytes())
 }
 

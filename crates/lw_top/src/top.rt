@@ -5,21 +5,23 @@ ghost use Rattle.lw_report.specs.Outcomes.{status_of};
 ghost use Rattle.lw_report.specs.Writing.{TakesAll, TakesSome, said_text};
 ghost use Rattle.lw_report.specs.declared.outcome.Outcome.{Outcome as Came};
 ghost use Rattle.lw_learn.specs.LearnRun.{IsLearnRun};
-ghost use Rattle.lw_report.specs.States.{files_state, sink_state};
+ghost use Rattle.lw_report.specs.States.{files_state, sink_state, source_state};
 ghost use Rattle.lw_check.specs.CheckRun.{IsCheckRun};
 ghost use Rattle.lw_trial.specs.TrialRun.{IsTrialRun};
+ghost use Rattle.lw_serve.specs.ServeRun.{IsServeRun};
 ghost use Rattle.lw_top.specs.Call.{IsNoCall};
 ghost use Rattle.lw_top.specs.CheckCommand.{check_values};
 ghost use Rattle.lw_top.specs.CommandLine.{texts};
 ghost use Rattle.lw_top.specs.LearnCommand.{learn_values};
 ghost use Rattle.lw_top.specs.Run.{IsRefused, argument_outcome};
+ghost use Rattle.lw_top.specs.ServeCommand.{serve_values};
 ghost use Rattle.lw_top.specs.TrialCommand.{trial_values};
 ghost use Rattle.lw_report.specs.Ends.{IsWithoutLearner};
 
 use crate::ArgumentStop;
 use crate::call::{Call, read_call};
-use crate::commands::{run_check, run_learn, run_trial};
-use lw_outside::{Files, Sink};
+use crate::commands::{run_check, run_learn, run_serve, run_trial};
+use lw_outside::{Files, Sink, Source};
 use lw_report::{End, Outcome, refuse};
 use lw_words::Kept;
 use std::alloc::Global;
@@ -68,19 +70,21 @@ pub fn without_arguments<E: Sink>(alloc: Global, err: &mut E) -> End
 
 /// All that the program does. `arguments` are those of the command line, without the program's own name; the first names the
 /// command. Each command has its own contract; a call whose arguments aren't taken touches nothing but `err`. May wait for a
-/// turn of its workers.
-pub fn run<R: Threads + Wait + Sync + Drop, F: Files, O: Sink, E: Sink>(
+/// turn of its workers, and `serve` for its input.
+pub fn run<R: Threads + Wait + Sync + Drop, F: Files, I: Source, O: Sink, E: Sink>(
     rt: R,
     alloc: Global,
     arguments: &[String],
     files: &mut F,
+    input: &mut I,
     out: &mut O,
     err: &mut E,
 ) -> End
     ensures status { result.status ≡ status_of result.outcome }
 
-    // No count of faults falls.
+    // No count of faults falls, nor that of the input's ends.
     ensures counts { (F.faults files.old ≤ F.faults files.new) ×
+        (I.faults input.old ≤ I.faults input.new) × (I.ends input.old ≤ I.ends input.new) ×
         (O.faults out.old ≤ O.faults out.new) × (E.faults err.old ≤ E.faults err.new) }
 
     // The arguments: the usage exactly where no command takes them, but that memory may run out.
@@ -131,6 +135,22 @@ pub fn run<R: Threads + Wait + Sync + Drop, F: Files, O: Sink, E: Sink>(
         (F.faults files.new) ≡
         files_state (F.holds files.old) (F.calls files.old) (F.reads files.old)
         (F.faults files.old)) }
+
+    // `serve`, where it takes the arguments: all that its contract says. Nothing else asks for input.
+    ensures serve { IfSome (serve_values (texts arguments.now)) (λ model. IsServeRun model
+        (files_state (F.holds files.old) (F.calls files.old) (F.reads files.old)
+        (F.faults files.old))
+        (files_state (F.holds files.new) (F.calls files.new) (F.reads files.new)
+        (F.faults files.new))
+        (source_state (I.left input.old) (I.faults input.old) (I.ends input.old))
+        (source_state (I.left input.new) (I.faults input.new) (I.ends input.new))
+        (sink_state (O.taken out.old) (O.faults out.old))
+        (sink_state (O.taken out.new) (O.faults out.new))
+        (sink_state (E.taken err.old) (E.faults err.old))
+        (sink_state (E.taken err.new) (E.faults err.new)) result) }
+    ensures unasked { serve_values (texts arguments.now) ≡ None →
+        source_state (I.left input.new) (I.faults input.new) (I.ends input.new) ≡
+        source_state (I.left input.old) (I.faults input.old) (I.ends input.old) }
 {
     let call = match read_call(alloc, arguments) {
         Ok(call) => call,
@@ -140,5 +160,6 @@ pub fn run<R: Threads + Wait + Sync + Drop, F: Files, O: Sink, E: Sink>(
         Call::Learn(values) => run_learn(rt, alloc, &values, files, out, err),
         Call::Check(values) => run_check(alloc, &values, files, out, err),
         Call::Trial(values) => run_trial(rt, alloc, &values, out, err),
+        Call::Serve(model) => run_serve(alloc, model.as_str(), files, input, out, err),
     }
 }

@@ -2,7 +2,7 @@
 ghost use Rattle.std.specs.Prelude.{◌<◌};
 
 use crate::run;
-use lw_outside::{MemoryFiles, MemorySink};
+use lw_outside::{MemoryFiles, MemorySink, MemorySource};
 use lw_report::End;
 use std::alloc::Global;
 use std::process::Abort;
@@ -20,6 +20,8 @@ pub struct Case {
     pub arguments: &'static [&'static str],
     pub file: &'static str,
     pub file_plan: &'static [u64],
+    pub input: &'static str,
+    pub input_plan: &'static [u64],
     pub piece: usize,
     pub out_plan: &'static [u64],
     pub err_plan: &'static [u64],
@@ -32,6 +34,8 @@ pub const PLAIN: Case = Case {
     arguments: &LEARN,
     file: ONE,
     file_plan: &[],
+    input: "",
+    input_plan: &[],
     piece: 1024,
     out_plan: &[],
     err_plan: &[],
@@ -66,6 +70,12 @@ pub fn sink(alloc: Global, piece: usize, plan: &[u64]) -> Result<MemorySink, Fai
     Ok(MemorySink::new(alloc, 4096, piece, calls)?)
 }
 
+/// An input of this text.
+pub fn source(alloc: Global, text: &str, plan: &[u64]) -> Result<MemorySource, Fail> {
+    let bytes = Vec::from_slice(alloc, text.as_bytes())?;
+    Ok(MemorySource::new(bytes, 6, Vec::from_slice(alloc, plan)?)?)
+}
+
 /// Plays a case over these files.
 fn play<R: Abort + Threads + Wait + Sync + Copy + Drop>(
     rt: R,
@@ -74,10 +84,11 @@ fn play<R: Abort + Threads + Wait + Sync + Copy + Drop>(
     files: &mut MemoryFiles,
 ) -> Result<End, Fail> {
     assert!(rt; case.piece > 0);
+    let mut input = source(alloc, case.input, case.input_plan)?;
     let mut out = sink(alloc, case.piece, case.out_plan)?;
     let mut err = sink(alloc, case.piece, case.err_plan)?;
     let arguments = texts(alloc, case.arguments)?;
-    let end = run(rt, alloc, &arguments, files, &mut out, &mut err);
+    let end = run(rt, alloc, &arguments, files, &mut input, &mut out, &mut err);
     assert_eq!(rt; end.status, case.status);
     assert_eq!(rt; out.taken(), case.out.as_bytes());
     assert_eq!(rt; err.taken(), case.err.as_bytes());

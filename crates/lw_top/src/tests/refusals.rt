@@ -11,7 +11,7 @@ const USAGE: &str =
     "usage: learn (SETUP | --table FILE) [--workers N] [--extra K] [--learner table|ttt] [--max-states N] [--model FILE] [--answers FILE]\n       check MODEL ANSWERS [--extra K]\n       serve MODEL\n       trial --states N --inputs A --seed S [--workers N] [--learner table|ttt]\n";
 
 /// Arguments that are not taken.
-static REFUSED: [&[&str]; 19] = [
+static REFUSED: [&[&str]; 21] = [
     &[],
     &["learn"],
     &["learn", "--table"],
@@ -31,7 +31,9 @@ static REFUSED: [&[&str]; 19] = [
     ],
     &["learn", "--help"],
     &["--version"],
-    &["serve", "m"],
+    &["serve"],
+    &["serve", "m", "m"],
+    &["serve", "m", "--extra", "1"],
     &["check", "--table", "m"],
 ];
 

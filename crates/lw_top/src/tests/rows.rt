@@ -1,6 +1,6 @@
 //! Machines that are learned, worked by hand: at one worker, at two and at sixteen.
 use crate::run;
-use crate::tests::cases::{Case, LEARN, PLAIN, check, end_of, files_of, sink, texts};
+use crate::tests::cases::{Case, LEARN, PLAIN, check, end_of, files_of, sink, source, texts};
 use lw_outside::MemorySink;
 use lw_words::Kept;
 use std::alloc::Global;
@@ -116,10 +116,13 @@ fn play<R: Threads + Wait + Sync + Drop>(
     text: &str,
 ) -> Result<Played, Fail> {
     let mut files = files_of(alloc, text, &[])?;
+    let mut input = source(alloc, "", &[])?;
     let mut out = sink(alloc, 4096, &[])?;
     let mut err = sink(alloc, 4096, &[])?;
     let words = texts(alloc, arguments)?;
-    let end = run(rt, alloc, &words, &mut files, &mut out, &mut err);
+    let end = run(
+        rt, alloc, &words, &mut files, &mut input, &mut out, &mut err,
+    );
     Ok(Played {
         status: end.status,
         refinements: end.refinements,

@@ -1,6 +1,6 @@
 //! Trials: small ones worked by hand, and greater ones that many workers make as one does.
 use crate::run;
-use crate::tests::cases::{Case, PLAIN, check, files_of, sink, texts};
+use crate::tests::cases::{Case, PLAIN, check, files_of, sink, source, texts};
 use lw_outside::MemorySink;
 use lw_report::End;
 use std::alloc::Global;
@@ -46,10 +46,13 @@ fn try_out<R: Threads + Wait + Sync + Drop>(
     arguments: &[&str],
 ) -> Result<(End, MemorySink), Fail> {
     let mut files = files_of(alloc, "", &[])?;
+    let mut input = source(alloc, "", &[])?;
     let mut out = sink(alloc, 4096, &[])?;
     let mut err = sink(alloc, 4096, &[])?;
     let words = texts(alloc, arguments)?;
-    let end = run(rt, alloc, &words, &mut files, &mut out, &mut err);
+    let end = run(
+        rt, alloc, &words, &mut files, &mut input, &mut out, &mut err,
+    );
     Ok((end, out))
 }
 

@@ -1,16 +1,19 @@
-use Rattle.std.proofs.Common.{◌∙◌, Err, sym, ap, refl, subst}
+use Rattle.std.proofs.Common.{◌∙◌, Err, List, ℕ, string_bytes, sym, ap, refl, subst}
 use Rattle.lw_learn.specs.LearnRun.{IsLearnRun}
-use Rattle.lw_report.specs.States.{files_state, sink_state}
+use Rattle.lw_report.specs.States.{files_state, sink_state, source_state}
 use Rattle.lw_check.specs.CheckRun.{IsCheckRun}
+use Rattle.lw_serve.specs.ServeRun.{IsServeRun}
 use Rattle.lw_top.specs.Call.{IsCall}
 use Rattle.lw_top.specs.CheckCommand.{check_values}
 use Rattle.lw_top.specs.CommandLine.{texts}
 use Rattle.lw_top.specs.LearnCommand.{learn_values}
 use Rattle.lw_top.specs.Run.{IsRefused}
+use Rattle.lw_top.specs.ServeCommand.{serve_values}
 use Rattle.lw_top.specs.TrialCommand.{trial_values}
 use Rattle.lw_trial.specs.TrialRun.{IsTrialRun}
 use Rattle.lw_top.specs.declared.values.ArgumentStop.{ArgumentStop}
 use Rattle.lw_top.proofs.CheckLemmas.{wanted_check}
+use Rattle.lw_top.proofs.ServeLemmas.{wanted_serve}
 use Rattle.lw_top.proofs.TrialLemmas.{wanted_trial}
 use Rattle.lw_top.proofs.RunLemmas.{at_value, by_value, none_is_some, not_usage, wanted_run}
 use Rattle.lw_top.proofs.top.run.Goals as goal
@@ -131,3 +134,48 @@ returns-in-Err-clause-trial g c =
 
 pub returns-in-Err-clause-untouched : goal.returns-in-Err-clause-untouched
 returns-in-Err-clause-untouched g c = by_value (trial_values (texts c.args.arguments.now)) _ (λ v is. refl)
+
+pub returns-in-Serve-clause-serve : goal.returns-in-Serve-clause-serve
+returns-in-Serve-clause-serve g c =
+    let F = g.F.Files in
+    let I = g.I.Source in
+    let O = g.O.Sink in
+    let E = g.E.Sink in
+    let f = files_state (F.holds c.args.files.now) (F.calls c.args.files.now) (F.reads c.args.files.now) (F.faults c.args.files.now) in
+    let h = files_state (F.holds c.run_serve.new.files) (F.calls c.run_serve.new.files) (F.reads c.run_serve.new.files) (F.faults c.run_serve.new.files) in
+    let i = source_state (I.left c.args.input.now) (I.faults c.args.input.now) (I.ends c.args.input.now) in
+    let j = source_state (I.left c.run_serve.new.input) (I.faults c.run_serve.new.input) (I.ends c.run_serve.new.input) in
+    let o = sink_state (O.taken c.args.out.now) (O.faults c.args.out.now) in
+    let p = sink_state (O.taken c.run_serve.new.out) (O.faults c.run_serve.new.out) in
+    let e = sink_state (E.taken c.args.err.now) (E.faults c.args.err.now) in
+    let d = sink_state (E.taken c.run_serve.new.err) (E.faults c.run_serve.new.err) in
+    let words = texts c.args.arguments.now in
+    let is = subst (IsCall words) c.in-Serve.is c.in-Ok.ensures.ok in
+    let Ran : List ℕ → Type 0 = λ m. IsServeRun m f h i j o p e d c.run_serve.result in
+    at_value (serve_values words) (string_bytes c.in-Serve.model) Ran is.3 (subst Ran c.as_str.ensures.value c.run_serve.ensures.all)
+
+pub returns-in-Err-clause-serve : goal.returns-in-Err-clause-serve
+returns-in-Err-clause-serve g c =
+    let F = g.F.Files in
+    let I = g.I.Source in
+    let O = g.O.Sink in
+    let E = g.E.Sink in
+    let f = files_state (F.holds c.args.files.now) (F.calls c.args.files.now) (F.reads c.args.files.now) (F.faults c.args.files.now) in
+    let i = source_state (I.left c.args.input.now) (I.faults c.args.input.now) (I.ends c.args.input.now) in
+    let o = sink_state (O.taken c.args.out.now) (O.faults c.args.out.now) in
+    let e = sink_state (E.taken c.args.err.now) (E.faults c.args.err.now) in
+    let d = sink_state (E.taken c.refuse_arguments.new.err) (E.faults c.refuse_arguments.new.err) in
+    let end = c.refuse_arguments.result in
+    let outcome = c.refuse_arguments.ensures.outcome in
+    let refused : IsRefused f f o o e d end = record {
+      files = refl;
+      out = refl;
+      model = c.refuse_arguments.ensures.model;
+      learner = c.refuse_arguments.ensures.learner;
+      kept = c.refuse_arguments.ensures.kept;
+      said = c.refuse_arguments.ensures.said;
+      part = c.refuse_arguments.ensures.part;
+    } in
+    by_value (serve_values (texts c.args.arguments.now)) (λ (m : List ℕ). IsServeRun m f f i i o o e d end) (λ m is.
+    wanted_serve m f i o e d end (not_usage c.in-Err.stop end.outcome outcome (λ u.
+    none_is_some m (sym (c.in-Err.ensures.refused (ap (λ (s : ArgumentStop). Err s) u)).3 ∙ is))) refused)
