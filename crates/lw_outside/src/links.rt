@@ -1,5 +1,6 @@
 //! Links to children, and what starts and retires them.
 ghost use Rattle.std.specs.Prelude.{◌≡◌, ◌≢◌, ℕ, ◌+◌, ◌<◌, ◌≤◌, List, [], ◌∷◌, ◌++◌, length, map, take, Contains, Option, Err, IfOk, OnOk, OnErr, option_map, string_bytes};
+ghost use Rattle.std.specs.List.{All};
 ghost use Rattle.lw_words.specs.Cause.{CountedFault};
 ghost use Rattle.lw_outside.specs.Links.{IsUntouched, Retired, SendsPart, Transcript, receives, sends, with_start};
 ghost use Rattle.lw_outside.specs.declared.links.StartStop.{StartStop as StartRefusal};
@@ -88,7 +89,8 @@ pub trait Spawner {
             commands self.old }
         ensures quiet { OnOk result (faults self.new ≡ faults self.old) }
         ensures counts { faults self.old ≤ faults self.new }
-        ensures retired { retired self.new ≡ retired self.old };
+        ensures retired { retired self.new ≡ retired self.old }
+        ensures earlier { All (λ r. r.number < started self.old) (retired self.old) };
 
     /// Ends a link that it has started and not yet retired, and records what became of it. Takes no memory. May wait for the
     /// child's end.

@@ -1,0 +1,60 @@
+-- Why a child system stopped.
+use Rattle.std.specs.Prelude.{◌≡◌, ◌≢◌, ◌⊎◌, ℕ, ◌+◌, List, [], ◌∷◌, ◌++◌, length, slice_get, Contains, Option, Some, None}
+use Rattle.std.specs.Str.Lines.{strip_carriage_return}
+use Rattle.lw_words.specs.Cause.{CountedFault}
+use Rattle.lw_words.specs.Name.{IsName}
+use Rattle.lw_words.specs.declared.stop.SulStop.{SulStop}
+use Rattle.lw_words.specs.declared.stop.SulStop.TheVariants.{Failed, BadLine, Gone}
+use Rattle.lw_outside.specs.Lines.{lines_of, rest_of}
+use Rattle.lw_outside.specs.Links.{Transcript}
+use Rattle.lw_outside.specs.Protocol.{reset_line, ready_line, out_line}
+use Rattle.lw_children.specs.Transcripts.{IsProper, lines_in, spelled}
+
+-- an answer is in the grammar for its place: a child is ready after a reset, and names an output after a letter
+abbrev pub IsFormed : (sent answer : List ℕ) → Type 0
+IsFormed sent answer = ((sent ≡ reset_line) × (answer ≡ ready_line)) ⊎ ((sent ≢ reset_line) × ((name : List ℕ) × IsName name × (answer ≡ out_line name)))
+
+-- an answer names an output that isn't in the list, which may have no more names
+abbrev pub IsUnknown : List (List ℕ) → ℕ → List ℕ → Type 0
+IsUnknown names most answer = (name : List ℕ) × IsName name × (answer ≡ out_line name) × (¬ Contains names name) × (length names ≡ most)
+
+abbrev pub IsBadAnswer : List (List ℕ) → ℕ → (sent answer : List ℕ) → Type 0
+IsBadAnswer names most sent answer = (¬ IsFormed sent answer) ⊎ IsUnknown names most answer
+
+-- what was received for the last sent line is this bad answer, or these 256 bytes without an end
+pub record IsRefused (names : List (List ℕ)) (most : ℕ) (t : Transcript) (line : List ℕ) : Type 0 where
+  pub before : List (List ℕ)
+  pub last : List ℕ
+  pub sent : lines_of t.sent ≡ before ++ last ∷ []
+  pub received :
+      ((raw : List ℕ) × (slice_get (lines_of t.received) (length before) ≡ Some raw) × (line ≡ strip_carriage_return raw) × IsBadAnswer names most last line)
+      ⊎ ((length (lines_of t.received) ≡ length before) × (rest_of t.received ≡ line) × (length line ≡ 256))
+
+-- the end came within the line that answers the last sent one
+abbrev pub EndsWithin : Transcript → Type 0
+EndsWithin t = length (lines_of t.sent) ≡ length (lines_of t.received) + 1
+
+-- a system's stop is borne out by the counts of its link
+abbrev pub IsCounted : (faults ends : ℕ) → Option SulStop → Type 0
+IsCounted faults ends None = Unit {0}
+IsCounted faults ends (Some Failed) = CountedFault 0 faults
+IsCounted faults ends (Some Gone) = CountedFault 0 ends
+IsCounted faults ends (Some (BadLine line)) = Unit {0}
+
+-- and by what went over it
+abbrev pub IsSpelled : List (List ℕ) → ℕ → Transcript → Option SulStop → Type 0
+IsSpelled names most t None = Unit {0}
+IsSpelled names most t (Some Failed) = Unit {0}
+IsSpelled names most t (Some Gone) = EndsWithin t
+IsSpelled names most t (Some (BadLine line)) = IsRefused names most t line
+
+-- each line that was sent is one of the runs', but for a last one at which the system stopped
+abbrev pub IsCovered : (inputs names : List (List ℕ)) → Transcript → Option SulStop → Type 0
+IsCovered inputs names t None = length (lines_of t.sent) ≡ lines_in (spelled inputs names t)
+IsCovered inputs names t (Some stop) = (length (lines_of t.sent) ≡ lines_in (spelled inputs names t)) ⊎ (length (lines_of t.sent) ≡ lines_in (spelled inputs names t) + 1)
+
+-- what is told of a link to a child that was asked for letters of these names and named its outputs so: its transcript is
+-- proper, bears out the stop, and is covered by the runs
+abbrev pub IsTranscriptOf : (inputs names : List (List ℕ)) (most faults : ℕ) → Option SulStop → Option Transcript → Type 0
+IsTranscriptOf inputs names most faults stop None = Unit {0}
+IsTranscriptOf inputs names most faults stop (Some t) = IsProper inputs faults t × IsSpelled names most t stop × IsCovered inputs names t stop

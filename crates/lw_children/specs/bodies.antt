@@ -1,0 +1,4 @@
+-- What the contracts of private functions cite, and no public clause.
+pub mod Crews
+pub mod Refusals
+pub mod Ends
