@@ -1,5 +1,5 @@
 -- A pair comes to one outcome.
-use Rattle.std.proofs.Common.{◌≡◌, ℕ, ◌+◌, ◌<◌, ◌≤◌, ◌⊎◌, ⊎_elim, List, [], ◌++◌, length, take, drop, min, get_or, refl, sym, ap, ◌∙◌, subst, arith}
+use Rattle.std.proofs.Common.{◌≡◌, ℕ, ◌+◌, ◌<◌, ◌≤◌, ◌⊎◌, ⊎_elim, List, [], ◌++◌, length, take, drop, min, get_or, sym, ap, ◌∙◌, subst, arith}
 use Rattle.std.proofs.lemmas.Bool.{cases_order}
 use Rattle.std.proofs.lemmas.List.{length-take, get_or-take, take-append-drop, take_all}
 use Rattle.lw_words.specs.Answer.{Answer, answer_at, answers_of}
@@ -12,8 +12,10 @@ use Rattle.lw_certify.specs.declared.verdict.Verdict.TheVariants as verdict
 use Rattle.lw_certify.proofs.OneVerdict.{one_verdict}
 use Rattle.lw_check.specs.FirstClash.{IsFirstClash}
 use Rattle.lw_check.specs.Decision.{Pair, SameNames, HasVerdict, IsNo, IsDecision, OneDecision}
+use Rattle.lw_report.specs.declared.role.Role.{Role}
+use Rattle.lw_report.specs.declared.role.Role.TheVariants.{Answers}
 use Rattle.lw_report.specs.declared.outcome.Outcome.{Outcome}
-use Rattle.lw_report.specs.declared.outcome.Outcome.TheVariants.{Learned, Trial, Yes, No, Usage, BadFile, Alphabets, FileTooLong, Nondeterministic, NoMemory, TooManyStates, SuiteTooLarge, FileFault, SinkFault}
+use Rattle.lw_report.specs.declared.outcome.Outcome.TheVariants.{Learned, Trial, Yes, Served, No, Usage, BadFile, Alphabets, FileTooLong, Nondeterministic, NoMemory, SulFailed, Gone, BadLine, BadAsk, TooManyStates, SuiteTooLarge, FileFault, SourceFault, SinkFault}
 
 blank : Answer
 blank = record { word = []; outs = [] }
@@ -61,12 +63,18 @@ module _ (p : Pair) (extra : ℕ) where
   yes_is : (n : ℕ) (two : Outcome) → IsDecision p extra (Yes n) → IsDecision p extra two → Yes n ≡ two
   yes_is n (Yes m) f g = ap (λ (s : ℕ). Yes s) (f.1 ∙ sym g.1)
   yes_is n (No v) f g = absurd (subst IsNo (sym (same_verdict verdict.Sure v f.0 g.0)) g.1)
-  yes_is n Alphabets f g = absurd (g f.0.0)
+  yes_is n (Alphabets role) f g = absurd (g.1 f.0.0)
   yes_is n (Nondeterministic c) f g = absurd (clash_not_nothing (answers_of p.kept) c g.1 f.0.1)
   yes_is n (SuiteTooLarge m s) f g = let e : verdict.Sure ≡ verdict.TooLarge s = same_verdict verdict.Sure (verdict.TooLarge s) f.0 g.0 in absurd (cc)
   yes_is n (Learned h r) f g = absurd g
   yes_is n (Trial tried) f g = absurd g
   yes_is n Usage f g = absurd g
+  yes_is n (Served served) f g = absurd g
+  yes_is n (SulFailed instance) f g = absurd g
+  yes_is n (Gone instance) f g = absurd g
+  yes_is n (BadLine instance line) f g = absurd g
+  yes_is n (BadAsk number) f g = absurd g
+  yes_is n SourceFault f g = absurd g
   yes_is n (BadFile r b) f g = absurd g
   yes_is n (FileTooLong r) f g = absurd g
   yes_is n NoMemory f g = absurd g
@@ -77,12 +85,18 @@ module _ (p : Pair) (extra : ℕ) where
   no_is : (v : Verdict) (two : Outcome) → IsDecision p extra (No v) → IsDecision p extra two → No v ≡ two
   no_is v (Yes m) f g = absurd (subst IsNo (same_verdict v verdict.Sure f.0 g.0) f.1)
   no_is v (No w) f g = ap (λ (u : Verdict). No u) (same_verdict v w f.0 g.0)
-  no_is v Alphabets f g = absurd (g f.0.0)
+  no_is v (Alphabets role) f g = absurd (g.1 f.0.0)
   no_is v (Nondeterministic c) f g = absurd (clash_not_nothing (answers_of p.kept) c g.1 f.0.1)
   no_is v (SuiteTooLarge m s) f g = absurd (subst IsNo (same_verdict v (verdict.TooLarge s) f.0 g.0) f.1)
   no_is v (Learned h r) f g = absurd g
   no_is v (Trial tried) f g = absurd g
   no_is v Usage f g = absurd g
+  no_is v (Served served) f g = absurd g
+  no_is v (SulFailed instance) f g = absurd g
+  no_is v (Gone instance) f g = absurd g
+  no_is v (BadLine instance line) f g = absurd g
+  no_is v (BadAsk number) f g = absurd g
+  no_is v SourceFault f g = absurd g
   no_is v (BadFile r b) f g = absurd g
   no_is v (FileTooLong r) f g = absurd g
   no_is v NoMemory f g = absurd g
@@ -93,7 +107,7 @@ module _ (p : Pair) (extra : ℕ) where
   suite_is : (n s : ℕ) (two : Outcome) → IsDecision p extra (SuiteTooLarge n s) → IsDecision p extra two → SuiteTooLarge n s ≡ two
   suite_is n s (Yes m) f g = let e : verdict.TooLarge s ≡ verdict.Sure = same_verdict (verdict.TooLarge s) verdict.Sure f.0 g.0 in absurd (cc)
   suite_is n s (No v) f g = absurd (subst IsNo (sym (same_verdict (verdict.TooLarge s) v f.0 g.0)) g.1)
-  suite_is n s Alphabets f g = absurd (g f.0.0)
+  suite_is n s (Alphabets role) f g = absurd (g.1 f.0.0)
   suite_is n s (Nondeterministic c) f g = absurd (clash_not_nothing (answers_of p.kept) c g.1 f.0.1)
   suite_is n s (SuiteTooLarge m t) f g =
       let e : verdict.TooLarge s ≡ verdict.TooLarge t = same_verdict (verdict.TooLarge s) (verdict.TooLarge t) f.0 g.0 in
@@ -102,6 +116,12 @@ module _ (p : Pair) (extra : ℕ) where
   suite_is n s (Learned h r) f g = absurd g
   suite_is n s (Trial tried) f g = absurd g
   suite_is n s Usage f g = absurd g
+  suite_is n s (Served served) f g = absurd g
+  suite_is n s (SulFailed instance) f g = absurd g
+  suite_is n s (Gone instance) f g = absurd g
+  suite_is n s (BadLine instance line) f g = absurd g
+  suite_is n s (BadAsk number) f g = absurd g
+  suite_is n s SourceFault f g = absurd g
   suite_is n s (BadFile r b) f g = absurd g
   suite_is n s (FileTooLong r) f g = absurd g
   suite_is n s NoMemory f g = absurd g
@@ -109,15 +129,21 @@ module _ (p : Pair) (extra : ℕ) where
   suite_is n s (FileFault r) f g = absurd g
   suite_is n s SinkFault f g = absurd g
 
-  other_names_is : (two : Outcome) → ¬ SameNames p → IsDecision p extra two → Alphabets ≡ two
+  other_names_is : (two : Outcome) → ¬ SameNames p → IsDecision p extra two → Alphabets Answers ≡ two
   other_names_is (Yes m) f g = absurd (f g.0.0)
   other_names_is (No v) f g = absurd (f g.0.0)
-  other_names_is Alphabets f g = refl
+  other_names_is (Alphabets role) f g = ap (λ (r : Role). Alphabets r) (sym g.0)
   other_names_is (Nondeterministic c) f g = absurd (f g.0)
   other_names_is (SuiteTooLarge m t) f g = absurd (f g.0.0)
   other_names_is (Learned h r) f g = absurd g
   other_names_is (Trial tried) f g = absurd g
   other_names_is Usage f g = absurd g
+  other_names_is (Served served) f g = absurd g
+  other_names_is (SulFailed instance) f g = absurd g
+  other_names_is (Gone instance) f g = absurd g
+  other_names_is (BadLine instance line) f g = absurd g
+  other_names_is (BadAsk number) f g = absurd g
+  other_names_is SourceFault f g = absurd g
   other_names_is (BadFile r b) f g = absurd g
   other_names_is (FileTooLong r) f g = absurd g
   other_names_is NoMemory f g = absurd g
@@ -128,12 +154,18 @@ module _ (p : Pair) (extra : ℕ) where
   clash_is : (c : Found) (two : Outcome) → IsDecision p extra (Nondeterministic c) → IsDecision p extra two → Nondeterministic c ≡ two
   clash_is c (Yes m) f g = absurd (clash_not_nothing (answers_of p.kept) c f.1 g.0.1)
   clash_is c (No v) f g = absurd (clash_not_nothing (answers_of p.kept) c f.1 g.0.1)
-  clash_is c Alphabets f g = absurd (g f.0)
+  clash_is c (Alphabets role) f g = absurd (g.1 f.0)
   clash_is c (Nondeterministic d) f g = ap (λ (k : Found). Nondeterministic k) (one_clash (answers_of p.kept) c d f.1 g.1)
   clash_is c (SuiteTooLarge m t) f g = absurd (clash_not_nothing (answers_of p.kept) c f.1 g.0.1)
   clash_is c (Learned h r) f g = absurd g
   clash_is c (Trial tried) f g = absurd g
   clash_is c Usage f g = absurd g
+  clash_is c (Served served) f g = absurd g
+  clash_is c (SulFailed instance) f g = absurd g
+  clash_is c (Gone instance) f g = absurd g
+  clash_is c (BadLine instance line) f g = absurd g
+  clash_is c (BadAsk number) f g = absurd g
+  clash_is c SourceFault f g = absurd g
   clash_is c (BadFile r b) f g = absurd g
   clash_is c (FileTooLong r) f g = absurd g
   clash_is c NoMemory f g = absurd g
@@ -144,12 +176,18 @@ module _ (p : Pair) (extra : ℕ) where
 pub one_decision : OneDecision
 one_decision p extra (Yes n) two f g = yes_is p extra n two f g
 one_decision p extra (No v) two f g = no_is p extra v two f g
-one_decision p extra Alphabets two f g = other_names_is p extra two f g
+one_decision p extra (Alphabets role) two f g = ap (λ (r : Role). Alphabets r) f.0 ∙ other_names_is p extra two f.1 g
 one_decision p extra (Nondeterministic c) two f g = clash_is p extra c two f g
 one_decision p extra (SuiteTooLarge n s) two f g = suite_is p extra n s two f g
 one_decision p extra (Learned h r) two f g = absurd f
 one_decision p extra (Trial tried) two f g = absurd f
 one_decision p extra Usage two f g = absurd f
+one_decision p extra (Served served) two f g = absurd f
+one_decision p extra (SulFailed instance) two f g = absurd f
+one_decision p extra (Gone instance) two f g = absurd f
+one_decision p extra (BadLine instance line) two f g = absurd f
+one_decision p extra (BadAsk number) two f g = absurd f
+one_decision p extra SourceFault two f g = absurd f
 one_decision p extra (BadFile r b) two f g = absurd f
 one_decision p extra (FileTooLong r) two f g = absurd f
 one_decision p extra NoMemory two f g = absurd f

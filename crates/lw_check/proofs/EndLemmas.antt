@@ -17,7 +17,7 @@ use Rattle.lw_report.specs.Text.{text_of}
 use Rattle.lw_report.specs.Writing.{TakesSome}
 use Rattle.lw_report.specs.declared.role.Role.TheVariants as role
 use Rattle.lw_report.specs.declared.outcome.Outcome.{Outcome}
-use Rattle.lw_report.specs.declared.outcome.Outcome.TheVariants.{Learned, Trial, Yes, No, Usage, BadFile, Alphabets, FileTooLong, Nondeterministic, NoMemory, TooManyStates, SuiteTooLarge, FileFault, SinkFault}
+use Rattle.lw_report.specs.declared.outcome.Outcome.TheVariants.{Learned, Trial, Yes, Served, No, Usage, BadFile, Alphabets, FileTooLong, Nondeterministic, NoMemory, SulFailed, Gone, BadLine, BadAsk, TooManyStates, SuiteTooLarge, FileFault, SourceFault, SinkFault}
 use Rattle.lw_check.specs.Decision.{IsAnswered, IsDecision, Pair, pair_of}
 use Rattle.lw_check.specs.Ending.{ComesTo, DecidesAs}
 use Rattle.lw_report.specs.States.{FilesState, SinkState}
@@ -45,6 +45,7 @@ no_text model answers before now (BadFile role.Model fault) own u = inr (inl u.1
 no_text model answers before now (BadFile role.Answers fault) own u = inr (inr u.1)
 no_text model answers before now (BadFile role.Setup fault) own u = absurd u
 no_text model answers before now (BadFile role.Table fault) own u = absurd u
+no_text model answers before now (BadFile role.Prior fault) own u = absurd u
 no_text model answers before now (FileTooLong r) own u = absurd own
 no_text model answers before now (FileFault r) own u = absurd own
 no_text model answers before now NoMemory own u = absurd own
@@ -53,7 +54,13 @@ no_text model answers before now (Trial tried) own u = absurd u
 no_text model answers before now (Yes n) own u = absurd u
 no_text model answers before now (No v) own u = absurd u
 no_text model answers before now Usage own u = absurd u
-no_text model answers before now Alphabets own u = absurd u
+no_text model answers before now (Served served) own u = absurd u
+no_text model answers before now (SulFailed instance) own u = absurd u
+no_text model answers before now (Gone instance) own u = absurd u
+no_text model answers before now (BadLine instance line) own u = absurd u
+no_text model answers before now (BadAsk number) own u = absurd u
+no_text model answers before now SourceFault own u = absurd u
+no_text model answers before now (Alphabets role) own u = absurd u
 no_text model answers before now (Nondeterministic c) own u = absurd u
 no_text model answers before now (TooManyStates ws) own u = absurd u
 no_text model answers before now (SuiteTooLarge n s) own u = absurd u
@@ -94,10 +101,12 @@ exact_unread model answers before now m a decision (BadFile role.Model fault) u 
 exact_unread model answers before now m a decision (BadFile role.Answers fault) u tm ta = absurd (not_bad IsAnswersFile answers a before.holds u.0.3.bytes ta u.0.3.read.held u.0.3.bad)
 exact_unread model answers before now m a decision (BadFile role.Setup fault) u tm ta = absurd u
 exact_unread model answers before now m a decision (BadFile role.Table fault) u tm ta = absurd u
+exact_unread model answers before now m a decision (BadFile role.Prior fault) u tm ta = absurd u
 exact_unread model answers before now m a decision (FileTooLong role.Model) u tm ta = absurd (not_long IsMachineFile model m before.holds tm u.0)
 exact_unread model answers before now m a decision (FileTooLong role.Answers) u tm ta = absurd (not_long IsAnswersFile answers a before.holds ta u.0)
 exact_unread model answers before now m a decision (FileTooLong role.Setup) u tm ta = absurd u
 exact_unread model answers before now m a decision (FileTooLong role.Table) u tm ta = absurd u
+exact_unread model answers before now m a decision (FileTooLong role.Prior) u tm ta = absurd u
 exact_unread model answers before now m a decision (FileFault r) u tm ta = inr (inr (inr (r, refl)))
 exact_unread model answers before now m a decision NoMemory u tm ta = inr (inl refl)
 exact_unread model answers before now m a decision (Learned h r) u tm ta = absurd u
@@ -105,7 +114,13 @@ exact_unread model answers before now m a decision (Trial tried) u tm ta = absur
 exact_unread model answers before now m a decision (Yes n) u tm ta = absurd u
 exact_unread model answers before now m a decision (No v) u tm ta = absurd u
 exact_unread model answers before now m a decision Usage u tm ta = absurd u
-exact_unread model answers before now m a decision Alphabets u tm ta = absurd u
+exact_unread model answers before now m a decision (Served served) u tm ta = absurd u
+exact_unread model answers before now m a decision (SulFailed instance) u tm ta = absurd u
+exact_unread model answers before now m a decision (Gone instance) u tm ta = absurd u
+exact_unread model answers before now m a decision (BadLine instance line) u tm ta = absurd u
+exact_unread model answers before now m a decision (BadAsk number) u tm ta = absurd u
+exact_unread model answers before now m a decision SourceFault u tm ta = absurd u
+exact_unread model answers before now m a decision (Alphabets role) u tm ta = absurd u
 exact_unread model answers before now m a decision (Nondeterministic c) u tm ta = absurd u
 exact_unread model answers before now m a decision (TooManyStates ws) u tm ta = absurd u
 exact_unread model answers before now m a decision (SuiteTooLarge n s) u tm ta = absurd u

@@ -4,12 +4,13 @@ use Rattle.lw_words.specs.Answer.{answers_of}
 use Rattle.lw_words.specs.declared.kept.KeptAnswer.{KeptAnswer}
 use Rattle.lw_mealy.specs.Limits.{MealyMachine}
 use Rattle.lw_json.specs.declared.machine.Machine.{Machine}
-use Rattle.lw_json.specs.declared.answers.Answers.{Answers}
+use Rattle.lw_json.specs.declared.answers.Answers.{Answers as Given}
 use Rattle.lw_cache.specs.Clash.{NothingClashes}
 use Rattle.lw_certify.specs.Verdict.{IsVerdict}
 use Rattle.lw_certify.specs.declared.verdict.Verdict.{Verdict}
 use Rattle.lw_certify.specs.declared.verdict.Verdict.TheVariants as verdict
 use Rattle.lw_check.specs.FirstClash.{IsFirstClash}
+use Rattle.lw_report.specs.declared.role.Role.TheVariants.{Answers}
 use Rattle.lw_report.specs.declared.outcome.Outcome.{Outcome}
 use Rattle.lw_report.specs.declared.outcome.Outcome.TheVariants.{Yes, No, Alphabets, Nondeterministic, SuiteTooLarge}
 
@@ -22,7 +23,7 @@ pub record Pair : Type 0 where
   pub answer_outputs : List (List ℕ)
   pub kept : List KeptAnswer
 
-abbrev pub pair_of : Machine → Answers → Pair
+abbrev pub pair_of : Machine → Given → Pair
 pair_of m a = record { inputs = m.inputs; outputs = m.outputs; mealy = m.mealy; answer_inputs = a.inputs; answer_outputs = a.outputs; kept = a.kept.answers }
 
 abbrev pub SameNames : Pair → Type 0
@@ -40,7 +41,7 @@ IsNo _ = Unit {0}
 
 -- what the pair comes to: the first that applies of other names, two answers that clash, and the verdict
 abbrev pub IsDecision : Pair → ℕ → Outcome → Type 0
-IsDecision p extra Alphabets = ¬ SameNames p
+IsDecision p extra (Alphabets role) = (role ≡ Answers) × (¬ SameNames p)
 IsDecision p extra (Nondeterministic clash) = SameNames p × IsFirstClash (answers_of p.kept) clash
 IsDecision p extra (Yes states) = HasVerdict p extra verdict.Sure × (states ≡ length p.mealy.rows)
 IsDecision p extra (No v) = HasVerdict p extra v × IsNo v
@@ -53,7 +54,7 @@ OneDecision = (p : Pair) (extra : ℕ) (one two : Outcome) → IsDecision p extr
 
 -- an outcome of this kind
 abbrev pub IsDecided : Outcome → Type 0
-IsDecided Alphabets = Unit {0}
+IsDecided (Alphabets role) = role ≡ Answers
 IsDecided (Nondeterministic clash) = Unit {0}
 IsDecided (Yes states) = Unit {0}
 IsDecided (No v) = Unit {0}

@@ -12,7 +12,7 @@ use crate::filling::{Filled, fill};
 use lw_cache::Cache;
 use lw_certify::{Verdict, certify};
 use lw_json::{Answers, Machine};
-use lw_report::Outcome;
+use lw_report::{Outcome, Role};
 use std::alloc::Global;
 
 /// The outcome of a verdict on a model of so many states.
@@ -80,7 +80,7 @@ pub(crate) fn decide(alloc: Global, machine: &Machine, answers: &Answers, extra:
         IsDecision (pair_of machine.now answers.now) extra result }
 {
     if !same_names(machine, answers) {
-        return Outcome::Alphabets;
+        return Outcome::Alphabets(Role::Answers);
     }
     match fill(alloc, &answers.kept) {
         Ok(filled) => outcome_of_filled(alloc, machine, answers, &filled, extra),

@@ -110,10 +110,10 @@ one_time p x same = ap (λ (b : Bool). cond b 1 0) (is_same p x same)
 no_time : (p x : ℕ) → p ≢ x → ◌≡◌ {A = ℕ} (cond (eqb p x) 1 0) 0
 no_time p x other = ap (λ (b : Bool). cond b 1 0) (is_other p x other)
 
-pairs_first : {X : Type 0} (R : X → X → Type 0) (x : X) (xs : List X) → AllPairs R (x ∷ xs) → All (R x) xs
+pub pairs_first : {X : Type 0} (R : X → X → Type 0) (x : X) (xs : List X) → AllPairs R (x ∷ xs) → All (R x) xs
 pairs_first R x xs pairs k d lt = pairs 0 (suc k) d (omega arith) (omega arith)
 
-pairs_rest : {X : Type 0} (R : X → X → Type 0) (x : X) (xs : List X) → AllPairs R (x ∷ xs) → AllPairs R xs
+pub pairs_rest : {X : Type 0} (R : X → X → Type 0) (x : X) (xs : List X) → AllPairs R (x ∷ xs) → AllPairs R xs
 pairs_rest R x xs pairs i j d lt within = pairs (suc i) (suc j) d (omega arith) (omega arith)
 
 never : (p : ℕ) (xs : List ℕ) → All (λ x. p < x) xs → times p xs ≡ 0

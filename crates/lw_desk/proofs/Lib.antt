@@ -4,6 +4,7 @@ pub mod DeskLemmas
 pub mod Endings
 pub mod GatherLemmas
 pub mod NameNumbers
+pub mod NameOrder
 pub mod NamingLemmas
 pub mod ReplayLemmas
 pub mod RunLemmas

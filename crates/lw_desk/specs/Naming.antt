@@ -1,6 +1,9 @@
 -- The shared names of outputs, and how the outputs of instances are read by them.
 use Rattle.std.specs.Prelude.{◌≡◌, ℕ, ◌<◌, ◌≤◌, List, [], ◌++◌, length, map, slice_index_or, slice_set, Bool, true, false, Option, Some, None, unwrap_or}
-use Rattle.std.specs.List.{All}
+use Rattle.std.specs.List.{All, AllPairs}
+use Rattle.std.specs.Ordering.{nat_cmp}
+use Rattle.std.specs.declared.cmp.Ordering.TheVariants.{Less}
+use Rattle.std.specs.Cmp.Lexicographic.{slice_cmp}
 use Rattle.lw_words.specs.Name.{IsName, AllDiffer, number_of}
 use Rattle.lw_sul.specs.Names.{name_at, named, with_names}
 
@@ -47,3 +50,15 @@ pub record MayBring (free : Bool) (own names : List (List ℕ)) (outs : List ℕ
   pub differ : AllDiffer (own ++ names)
   pub declared : free ≡ false → names ≡ []
   pub few : free ≡ true → length (own ++ names) ≤ 256
+
+-- the first of two names is before the other one, byte by byte
+abbrev pub IsBefore : List ℕ → List ℕ → Type 0
+IsBefore one other = slice_cmp nat_cmp one other ≡ Less
+
+-- each name is before all that follow it
+abbrev pub AreSorted : List (List ℕ) → Type 0
+AreSorted names = AllPairs IsBefore names
+
+-- each name has now the number that `to` has at the place of the one that it had before
+abbrev pub Renumbers : List ℕ → List (List ℕ) → List (List ℕ) → Type 0
+Renumbers to before now = (y : ℕ) → y < length before → (slice_index_or to y 0 < length now) × (name_at now (slice_index_or to y 0) ≡ name_at before y)

@@ -9,6 +9,7 @@ mod gathering;
 mod opening;
 mod out_names;
 mod places;
+mod sorting;
 
 pub use ask::{Ask, Failed, Give, Reply};
 pub use desk::Desk;

@@ -1,11 +1,13 @@
 //! The shared names of outputs.
-ghost use Rattle.std.specs.Prelude.{◌≡◌, ℕ, ◌+◌, ◌<◌, ◌≤◌, ◌↔◌, List, [], ◌∷◌, ◌++◌, length, map, slice_index, slice_index_or, replicate, IfOk, IsTrue, Some, None, true, false, is_some, vec_len, vec_capacity};
+ghost use Rattle.std.specs.Prelude.{◌≡◌, ℕ, ◌+◌, ◌<◌, ◌≤◌, ◌↔◌, List, [], ◌∷◌, ◌++◌, length, map, drop, slice_index, slice_index_or, replicate, IfOk, IsTrue, Some, None, true, false, is_some, vec_len, vec_capacity};
 ghost use Rattle.std.specs.List.{All};
+ghost use Rattle.std.specs.List.Sorted.{IsPermutation};
 ghost use Rattle.lw_words.specs.Name.{IsName, IsNames, AllDiffer, number_of};
 ghost use Rattle.lw_sul.specs.Names.{name_at, with_name};
-ghost use Rattle.lw_desk.specs.Naming.{Naming, own_names, bring, shared};
+ghost use Rattle.lw_desk.specs.Naming.{Naming, own_names, bring, shared, AreSorted, Renumbers};
 ghost use Rattle.lw_desk.specs.History.{HasLists};
 
+use crate::sorting::{rank_names, renumber_tables, sort_names};
 use lw_sul::{Named, OutName};
 use lw_words::{Names, NoMemory, Word};
 use std::alloc::Global;
@@ -28,7 +30,6 @@ pub struct OutNames {
     names: Vec<OutName>,
     tables: Vec<Vec<u16>>,
     free: bool,
-    alloc: Global,
 }
 
 impl Model for OutNames {
@@ -96,16 +97,6 @@ fn number_of_name(names: &mut Vec<OutName>, name: &OutName) -> u16
     number as u16
 }
 
-/// Writes for each number what a table has for it.
-fn renumber_by(letters: &mut [u16], table: &[u16])
-    requires { All (λ y. y < length table.now) letters.old }
-    ensures { letters.new ≡ map (λ y. slice_index table.now y) letters.old }
-{
-    for y in letters.iter_mut() {
-        *y = table[usize::from(*y)];
-    }
-}
-
 impl OutNames {
     /// Names that are declared, in their order.
     pub fn declared(alloc: Global, names: &Names) -> Result<OutNames, NoMemory>
@@ -117,7 +108,6 @@ impl OutNames {
             names: copy,
             tables: Vec::new(alloc),
             free: false,
-            alloc,
         })
     }
 
@@ -129,7 +119,6 @@ impl OutNames {
             names: Vec::with_capacity(alloc, MOST_NAMES)?,
             tables: empty_tables(alloc)?,
             free: true,
-            alloc,
         })
     }
 
@@ -190,7 +179,7 @@ impl OutNames {
     }
 
     /// An instance's outputs, by the shared numbers of their names. Takes no memory.
-    pub(crate) fn renumber(&self, actor: u32, outs: Word) -> Word
+    pub(crate) fn renumber(&self, actor: u32, mut outs: Word) -> Word
         requires actor { actor < 16 }
         requires numbers { All (λ y. y < length (own_names self.now actor)) outs }
         ensures { result ≡ shared self.now actor outs }
@@ -198,9 +187,25 @@ impl OutNames {
         if !self.free {
             return outs;
         }
-        let mut letters = outs.into_letters();
-        let table = &self.tables[actor as usize];
-        renumber_by(letters.as_mut_slice(), table.as_slice());
-        Word::from_letters(self.alloc, letters)
+        outs.renumber(self.tables[actor as usize].as_slice());
+        outs
+    }
+
+    /// Sorts free names by their bytes, and writes into `to[y]` the new number of the name that had the number `y`. Instances
+    /// go on from the names that they brought. Takes no memory. Compares each name with each.
+    pub fn sort(&mut self, to: &mut [u16])
+        requires free { is_some self.old.brought ≡ true }
+        requires room { length self.old.names ≤ length to.old }
+        ensures sorted { AreSorted self.new.names }
+        ensures permuted { IsPermutation self.old.names self.new.names }
+        ensures numbers { Renumbers to.new self.old.names self.new.names }
+        ensures brought { self.new.brought ≡ self.old.brought }
+        ensures count { length to.new ≡ length to.old }
+        ensures rest { drop (length self.old.names) to.new
+            ≡ drop (length self.old.names) to.old }
+    {
+        rank_names(self.names.as_slice(), to);
+        sort_names(&mut self.names);
+        renumber_tables(self.tables.as_mut_slice(), to);
     }
 }

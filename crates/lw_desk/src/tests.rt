@@ -1,5 +1,6 @@
 //! What no clause says: that the calls succeed, and desks by hand.
 mod left;
+mod sorted;
 mod trial;
 mod turns;
 

@@ -8,6 +8,7 @@ use Rattle.lw_mealy.specs.Limits.{MealyMachine}
 use Rattle.lw_json.specs.KeptOver.{AreKeptOver, IsKeptOver}
 use Rattle.lw_json.specs.declared.fault.JsonFault.{JsonFault}
 use Rattle.lw_rounds.specs.Learned.{IsTooMany, StopsAs}
+use Rattle.lw_rounds.specs.Stops.{IsOwnStop}
 use Rattle.lw_rounds.specs.declared.stops.LearnStop.{LearnStop}
 use Rattle.lw_rounds.specs.declared.stops.LearnStop.TheVariants as learn
 use Rattle.lw_workers.specs.Machines.{IsReached, KeepsRuns}
@@ -19,8 +20,8 @@ use Rattle.lw_report.specs.declared.role.Role.TheVariants.{Answers, Model, Table
 use Rattle.lw_report.specs.declared.stops.ReadStop.{ReadStop}
 use Rattle.lw_report.specs.declared.stops.ReadStop.TheVariants.{Failed, TooLong, Bad, NoMemory as NoMemoryToRead}
 use Rattle.lw_report.specs.declared.outcome.Outcome.{Outcome}
-use Rattle.lw_report.specs.declared.outcome.Outcome.TheVariants.{Learned, Trial, Yes, No, Usage, BadFile, Alphabets, FileTooLong, Nondeterministic, NoMemory, TooManyStates, SuiteTooLarge, FileFault, SinkFault}
-use Rattle.lw_report.proofs.LearningLemmas.{has_large_suite}
+use Rattle.lw_report.specs.declared.outcome.Outcome.TheVariants.{Learned, Trial, Yes, Served, No, Usage, BadFile, Alphabets, FileTooLong, Nondeterministic, NoMemory, SulFailed, Gone, BadLine, BadAsk, TooManyStates, SuiteTooLarge, FileFault, SourceFault, SinkFault}
+use Rattle.lw_report.proofs.LearningLemmas.{has_large_suite, own_ask, own_has}
 use Rattle.lw_learn.specs.Arguments.{LearnValues}
 use Rattle.lw_learn.specs.Outcomes.{IsLearnOutcome, IsReachedOutcome, IsReadOutcome, IsTold, IsUngiven, IsUnread, IsUntroubled}
 
@@ -68,9 +69,15 @@ read_untroubled a SinkFault is sink file = absurd (sink refl)
 read_untroubled a (FileFault role) is sink file = absurd (file role refl)
 read_untroubled a (Trial t) is sink file = absurd is
 read_untroubled a Usage is sink file = absurd is
+read_untroubled a (Served served) is sink file = absurd is
+read_untroubled a (SulFailed instance) is sink file = absurd is
+read_untroubled a (Gone instance) is sink file = absurd is
+read_untroubled a (BadLine instance line) is sink file = absurd is
+read_untroubled a (BadAsk number) is sink file = absurd is
+read_untroubled a SourceFault is sink file = absurd is
 read_untroubled a (Yes states) is sink file = absurd is
 read_untroubled a (No verdict) is sink file = absurd is
-read_untroubled a Alphabets is sink file = absurd is
+read_untroubled a (Alphabets role) is sink file = absurd is
 read_untroubled a (Nondeterministic clash) is sink file = absurd is
 read_untroubled a (BadFile role fault) is sink file = absurd is
 read_untroubled a (FileTooLong role) is sink file = absurd is
@@ -85,9 +92,15 @@ read_kind a SinkFault is = tt
 read_kind a (FileFault role) is = tt
 read_kind a (Trial t) is = absurd is
 read_kind a Usage is = absurd is
+read_kind a (Served served) is = absurd is
+read_kind a (SulFailed instance) is = absurd is
+read_kind a (Gone instance) is = absurd is
+read_kind a (BadLine instance line) is = absurd is
+read_kind a (BadAsk number) is = absurd is
+read_kind a SourceFault is = absurd is
 read_kind a (Yes states) is = absurd is
 read_kind a (No verdict) is = absurd is
-read_kind a Alphabets is = absurd is
+read_kind a (Alphabets role) is = absurd is
 read_kind a (Nondeterministic clash) is = absurd is
 read_kind a (BadFile role fault) is = absurd is
 read_kind a (FileTooLong role) is = absurd is
@@ -100,9 +113,15 @@ told_reached n model count SinkFault few told sink file = absurd (sink refl)
 told_reached n model count (FileFault role) few told sink file = absurd (file role refl)
 told_reached n model count (Trial t) few told sink file = absurd told
 told_reached n model count Usage few told sink file = absurd told
+told_reached n model count (Served served) few told sink file = absurd told
+told_reached n model count (SulFailed instance) few told sink file = absurd told
+told_reached n model count (Gone instance) few told sink file = absurd told
+told_reached n model count (BadLine instance line) few told sink file = absurd told
+told_reached n model count (BadAsk number) few told sink file = absurd told
+told_reached n model count SourceFault few told sink file = absurd told
 told_reached n model count (Yes states) few told sink file = absurd told
 told_reached n model count (No verdict) few told sink file = absurd told
-told_reached n model count Alphabets few told sink file = absurd told
+told_reached n model count (Alphabets role) few told sink file = absurd told
 told_reached n model count (Nondeterministic clash) few told sink file = absurd told
 told_reached n model count (SuiteTooLarge states number) few told sink file = absurd told
 told_reached n model count (BadFile role fault) few told sink file = absurd told
@@ -121,9 +140,15 @@ told_kind a model count (FileFault role) told named =
     ]
 told_kind a model count (Trial t) told named = absurd told
 told_kind a model count Usage told named = absurd told
+told_kind a model count (Served served) told named = absurd told
+told_kind a model count (SulFailed instance) told named = absurd told
+told_kind a model count (Gone instance) told named = absurd told
+told_kind a model count (BadLine instance line) told named = absurd told
+told_kind a model count (BadAsk number) told named = absurd told
+told_kind a model count SourceFault told named = absurd told
 told_kind a model count (Yes states) told named = absurd told
 told_kind a model count (No verdict) told named = absurd told
-told_kind a model count Alphabets told named = absurd told
+told_kind a model count (Alphabets role) told named = absurd told
 told_kind a model count (Nondeterministic clash) told named = absurd told
 told_kind a model count (SuiteTooLarge states number) told named = absurd told
 told_kind a model count (BadFile role fault) told named = absurd told
@@ -134,15 +159,15 @@ told_kind a model count (TooManyStates words) told named = absurd told
 same_words : (one two : List (List ℕ)) → TooManyStates one ≡ TooManyStates two → one ≡ two
 same_words one two e = cc
 
-crowd_of : (a b k most : ℕ) (ks : List Answer) (stop : LearnStop) (words : List (List ℕ)) → StopsAs a b k most ks stop → learn_outcome stop ≡ TooManyStates words → IsTooMany most ks words
-crowd_of a b k most ks (learn.Ask stop) words is told = absurd (cc)
-crowd_of a b k most ks (learn.Crowd found) words is told = subst (λ (ws : List (List ℕ)). IsTooMany most ks ws) (same_words found words told) is
-crowd_of a b k most ks (learn.TooLarge model number) words is told = absurd (cc)
+crowd_of : (a b k most : ℕ) (ks : List Answer) (stop : LearnStop) (words : List (List ℕ)) → IsOwnStop stop → StopsAs a b k most ks stop → learn_outcome stop ≡ TooManyStates words → IsTooMany most ks words
+crowd_of a b k most ks (learn.Ask stop) words own is told = let wrong : NoMemory ≡ TooManyStates words = sym (own_ask stop own) ∙ told in absurd (cc)
+crowd_of a b k most ks (learn.Crowd found) words own is told = subst (λ (ws : List (List ℕ)). IsTooMany most ks ws) (same_words found words told) is
+crowd_of a b k most ks (learn.TooLarge model number) words own is told = absurd (cc)
 
-suite_of : (a b k most : ℕ) (ks : List Answer) (stop : LearnStop) (states number : ℕ) → AreAnswers a ks → StopsAs a b k most ks stop → learn_outcome stop ≡ SuiteTooLarge states number → HasLargeSuite a b k most ks states number
-suite_of a b k most ks (learn.Ask stop) states number are is told = absurd (cc)
-suite_of a b k most ks (learn.Crowd found) states number are is told = absurd (cc)
-suite_of a b k most ks (learn.TooLarge model size) states number are is told =
+suite_of : (a b k most : ℕ) (ks : List Answer) (stop : LearnStop) (states number : ℕ) → IsOwnStop stop → AreAnswers a ks → StopsAs a b k most ks stop → learn_outcome stop ≡ SuiteTooLarge states number → HasLargeSuite a b k most ks states number
+suite_of a b k most ks (learn.Ask stop) states number own are is told = let wrong : NoMemory ≡ SuiteTooLarge states number = sym (own_ask stop own) ∙ told in absurd (cc)
+suite_of a b k most ks (learn.Crowd found) states number own are is told = absurd (cc)
+suite_of a b k most ks (learn.TooLarge model size) states number own are is told =
     let one : length model.rows ≡ states = cc in
     let other : size ≡ number = cc in
     subst (λ (n : ℕ). HasLargeSuite a b k most ks n number) one (subst (λ (n : ℕ). HasLargeSuite a b k most ks (length model.rows) n) other (has_large_suite a b k most ks model size are is))
@@ -155,27 +180,22 @@ stood outcome result other stands is differ =
       | inr wants ↦ absurd (differ (sym wants.1 ∙ is))
     ]
 
-pub stopped_crowd : (a b k most : ℕ) (ks : List Answer) (stop : LearnStop) (outcome result : Outcome) (words : List (List ℕ)) → StopsAs a b k most ks stop → outcome ≡ learn_outcome stop → StandsOrWants outcome result → result ≡ TooManyStates words → IsTooMany most ks words
-stopped_crowd a b k most ks stop outcome result words is same stands told =
-    crowd_of a b k most ks stop words is (sym same ∙ stood outcome result (TooManyStates words) stands told (λ e. let wrong : NoMemory ≡ TooManyStates words = e in cc))
+pub stopped_crowd : (a b k most : ℕ) (ks : List Answer) (stop : LearnStop) (outcome result : Outcome) (words : List (List ℕ)) → IsOwnStop stop → StopsAs a b k most ks stop → outcome ≡ learn_outcome stop → StandsOrWants outcome result → result ≡ TooManyStates words → IsTooMany most ks words
+stopped_crowd a b k most ks stop outcome result words own is same stands told =
+    crowd_of a b k most ks stop words own is (sym same ∙ stood outcome result (TooManyStates words) stands told (λ e. let wrong : NoMemory ≡ TooManyStates words = e in cc))
 
-pub stopped_suite : (a b k most : ℕ) (ks : List Answer) (stop : LearnStop) (outcome result : Outcome) (states number : ℕ) → AreAnswers a ks → StopsAs a b k most ks stop → outcome ≡ learn_outcome stop → StandsOrWants outcome result → result ≡ SuiteTooLarge states number → HasLargeSuite a b k most ks states number
-stopped_suite a b k most ks stop outcome result states number are is same stands told =
-    suite_of a b k most ks stop states number are is (sym same ∙ stood outcome result (SuiteTooLarge states number) stands told (λ e. let wrong : NoMemory ≡ SuiteTooLarge states number = e in cc))
+pub stopped_suite : (a b k most : ℕ) (ks : List Answer) (stop : LearnStop) (outcome result : Outcome) (states number : ℕ) → IsOwnStop stop → AreAnswers a ks → StopsAs a b k most ks stop → outcome ≡ learn_outcome stop → StandsOrWants outcome result → result ≡ SuiteTooLarge states number → HasLargeSuite a b k most ks states number
+stopped_suite a b k most ks stop outcome result states number own are is same stands told =
+    suite_of a b k most ks stop states number own are is (sym same ∙ stood outcome result (SuiteTooLarge states number) stands told (λ e. let wrong : NoMemory ≡ SuiteTooLarge states number = e in cc))
 
 -- what a stopped learning comes to holds of the call
-stop_has : (P : Outcome → Type 0) (stop : LearnStop) → P NoMemory → ((words : List (List ℕ)) → P (TooManyStates words)) → ((states number : ℕ) → P (SuiteTooLarge states number)) → P (learn_outcome stop)
-stop_has P (learn.Ask stop) memory many large = memory
-stop_has P (learn.Crowd words) memory many large = many words
-stop_has P (learn.TooLarge model number) memory many large = large (length model.rows) number
-
-pub stopped_has : (P : Outcome → Type 0) (stop : LearnStop) (outcome result : Outcome) → outcome ≡ learn_outcome stop → StandsOrWants outcome result → P NoMemory → ((words : List (List ℕ)) → P (TooManyStates words)) → ((states number : ℕ) → P (SuiteTooLarge states number)) → P result
-stopped_has P stop outcome result same stands memory many large =
-    stands_as P outcome result stands (subst P (sym same) (stop_has P stop memory many large)) memory
+pub stopped_has : (P : Outcome → Type 0) (stop : LearnStop) (outcome result : Outcome) → IsOwnStop stop → outcome ≡ learn_outcome stop → StandsOrWants outcome result → P NoMemory → ((words : List (List ℕ)) → P (TooManyStates words)) → ((states number : ℕ) → P (SuiteTooLarge states number)) → P result
+stopped_has P stop outcome result own same stands memory many large =
+    stands_as P outcome result stands (subst P (sym same) (own_has P stop own memory many large)) memory
 
 -- where a learning had to come to a model, it stopped out of memory
 reached_stop : (n : ℕ) (stop : LearnStop) → IsReached n (Err stop) → IsReachedOutcome n (learn_outcome stop)
-reached_stop n (learn.Ask stop) is = tt
+reached_stop n (learn.Ask stop) is = subst (IsReachedOutcome n) (sym (own_ask stop is)) tt
 reached_stop n (learn.Crowd words) is = absurd is
 reached_stop n (learn.TooLarge model number) is = absurd is
 

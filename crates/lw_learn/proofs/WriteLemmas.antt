@@ -11,7 +11,7 @@ use Rattle.lw_report.specs.declared.role.Role.{Role}
 use Rattle.lw_report.specs.declared.stops.TellStop.{TellStop}
 use Rattle.lw_report.specs.declared.stops.TellStop.TheVariants.{File as FileStop, Sink, NoMemory as NoMemoryToTell}
 use Rattle.lw_report.specs.declared.outcome.Outcome.{Outcome}
-use Rattle.lw_report.specs.declared.outcome.Outcome.TheVariants.{Learned, Trial, Yes, No, Usage, BadFile, Alphabets, FileTooLong, Nondeterministic, NoMemory, TooManyStates, SuiteTooLarge, FileFault, SinkFault}
+use Rattle.lw_report.specs.declared.outcome.Outcome.TheVariants.{Learned, Trial, Yes, Served, No, Usage, BadFile, Alphabets, FileTooLong, Nondeterministic, NoMemory, SulFailed, Gone, BadLine, BadAsk, TooManyStates, SuiteTooLarge, FileFault, SourceFault, SinkFault}
 use Rattle.lw_report.proofs.SinkLemmas.{sink_none}
 use Rattle.lw_learn.specs.Arguments.{LearnValues}
 use Rattle.lw_learn.specs.Calls.{MadeWrites, all_writes, gained, read_of, writes_to}
@@ -84,9 +84,15 @@ some_writes a (TooManyStates words) before now is made = ([], made ∙ gained_no
 some_writes a (SuiteTooLarge states number) before now is made = ([], made ∙ gained_none before)
 some_writes a (Trial t) before now is made = absurd is
 some_writes a Usage before now is made = absurd is
+some_writes a (Served served) before now is made = absurd is
+some_writes a (SulFailed instance) before now is made = absurd is
+some_writes a (Gone instance) before now is made = absurd is
+some_writes a (BadLine instance line) before now is made = absurd is
+some_writes a (BadAsk number) before now is made = absurd is
+some_writes a SourceFault before now is made = absurd is
 some_writes a (Yes states) before now is made = absurd is
 some_writes a (No verdict) before now is made = absurd is
-some_writes a Alphabets before now is made = absurd is
+some_writes a (Alphabets role) before now is made = absurd is
 some_writes a (Nondeterministic clash) before now is made = absurd is
 some_writes a (BadFile role fault) before now is made = absurd is
 some_writes a (FileTooLong role) before now is made = absurd is
@@ -107,9 +113,15 @@ told_read a (TooManyStates words) is = refl
 told_read a (SuiteTooLarge states number) is = refl
 told_read a (Trial t) is = absurd is
 told_read a Usage is = absurd is
+told_read a (Served served) is = absurd is
+told_read a (SulFailed instance) is = absurd is
+told_read a (Gone instance) is = absurd is
+told_read a (BadLine instance line) is = absurd is
+told_read a (BadAsk number) is = absurd is
+told_read a SourceFault is = absurd is
 told_read a (Yes states) is = absurd is
 told_read a (No verdict) is = absurd is
-told_read a Alphabets is = absurd is
+told_read a (Alphabets role) is = absurd is
 told_read a (Nondeterministic clash) is = absurd is
 told_read a (BadFile role fault) is = absurd is
 told_read a (FileTooLong role) is = absurd is

@@ -6,7 +6,7 @@ use Rattle.lw_outside.specs.Files.{Call, noted, read_call, write_call}
 use Rattle.lw_report.specs.declared.outcome.Outcome.{Outcome}
 use Rattle.lw_report.specs.declared.outcome.Outcome.TheVariants.{Learned, NoMemory, FileFault, SinkFault}
 use Rattle.lw_report.specs.declared.role.Role.{Role}
-use Rattle.lw_report.specs.declared.role.Role.TheVariants.{Setup, Table, Model, Answers}
+use Rattle.lw_report.specs.declared.role.Role.TheVariants.{Setup, Table, Model, Answers, Prior}
 
 -- the write of a file, where one is named
 abbrev pub write_of : Option (List ℕ) → Bool → List Call
@@ -23,6 +23,7 @@ writes_to a Setup = []
 writes_to a Table = []
 writes_to a Model = write_of a.model true
 writes_to a Answers = write_of a.model false ++ write_of a.answers true
+writes_to a Prior = []
 
 -- told calls, and these
 abbrev pub gained : List Call → Option (List Call) → Option (List Call)

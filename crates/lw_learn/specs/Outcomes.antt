@@ -7,7 +7,7 @@ use Rattle.lw_report.specs.declared.stops.TellStop.{TellStop}
 use Rattle.lw_report.specs.declared.outcome.Outcome.{Outcome}
 use Rattle.lw_report.specs.declared.outcome.Outcome.TheVariants.{Learned, BadFile, FileTooLong, NoMemory, SuiteTooLarge, TooManyStates, FileFault, SinkFault}
 use Rattle.lw_report.specs.declared.role.Role.{Role}
-use Rattle.lw_report.specs.declared.role.Role.TheVariants.{Setup, Table, Model, Answers}
+use Rattle.lw_report.specs.declared.role.Role.TheVariants.{Setup, Table, Model, Answers, Prior}
 
 -- these arguments name a file in the role
 abbrev pub HasRole : LearnValues → Role → Type 0
@@ -15,6 +15,7 @@ HasRole a Setup = ⊥
 HasRole a Table = Unit {0}
 HasRole a Model = is_some a.model ≡ true
 HasRole a Answers = is_some a.answers ≡ true
+HasRole a Prior = ⊥
 
 -- a machine's file is read and nothing outside failed
 abbrev pub IsUntroubled : Outcome → Type 0

@@ -8,7 +8,7 @@ use Rattle.lw_words.specs.declared.stop.SulStop.TheVariants.{Failed, BadLine, Go
 use Rattle.lw_outside.specs.Lines.{lines_of, rest_of}
 use Rattle.lw_outside.specs.Links.{Transcript}
 use Rattle.lw_outside.specs.Protocol.{reset_line, ready_line, out_line}
-use Rattle.lw_line.specs.Transcripts.{IsProper}
+use Rattle.lw_line.specs.Transcripts.{IsProper, lines_in, spelled}
 
 -- an answer is in the grammar for its place: a child is ready after a reset, and names an output after a letter
 abbrev pub IsFormed : (sent answer : List ℕ) → Type 0
@@ -48,8 +48,13 @@ IsSpelled names most t (Some Failed) = Unit {0}
 IsSpelled names most t (Some Gone) = EndsWithin t
 IsSpelled names most t (Some (BadLine line)) = IsRefused names most t line
 
+-- each line that was sent is one of the runs', but for a last one at which the system stopped
+abbrev pub IsCovered : (inputs names : List (List ℕ)) → Transcript → Option SulStop → Type 0
+IsCovered inputs names t None = length (lines_of t.sent) ≡ lines_in (spelled inputs names t)
+IsCovered inputs names t (Some stop) = (length (lines_of t.sent) ≡ lines_in (spelled inputs names t)) ⊎ (length (lines_of t.sent) ≡ lines_in (spelled inputs names t) + 1)
+
 -- what is told of a link to a child that was asked for letters of these names and named its outputs so: its transcript is
--- proper, and bears out the stop
+-- proper, bears out the stop, and is covered by the runs that it spells
 abbrev pub IsTranscriptOf : (inputs names : List (List ℕ)) (most faults : ℕ) → Option SulStop → Option Transcript → Type 0
 IsTranscriptOf inputs names most faults stop None = Unit {0}
-IsTranscriptOf inputs names most faults stop (Some t) = IsProper inputs faults t × IsSpelled names most t stop
+IsTranscriptOf inputs names most faults stop (Some t) = IsProper inputs faults t × IsSpelled names most t stop × IsCovered inputs names t stop

@@ -1,5 +1,5 @@
 -- A child system: its link, the names of its letters and of its outputs so far, how many these may become, and why it stopped.
-use Rattle.std.specs.Prelude.{ℕ, List, Bool, Option, option_map}
+use Rattle.std.specs.Prelude.{◌≡◌, ◌⊎◌, ℕ, List, length, Bool, Option, option_map}
 use Rattle.lw_words.specs.declared.stop.SulStop.{SulStop}
 use Rattle.lw_sul.specs.declared.runs.Run.{Run}
 use Rattle.lw_outside.specs.Links.{Transcript}
@@ -18,3 +18,7 @@ pub record LineState (L : Type 0) : Type 0 where
 -- its runs, where its link tells what went over it
 abbrev pub told_runs : (letters names : List (List ℕ)) → Option Transcript → Option (List Run)
 told_runs letters names transcript = option_map (spelled letters names) transcript
+
+-- names that may become 256, under numbers below 4,096; or declared ones, under their places
+abbrev pub IsNaming : List (List ℕ) → ℕ → ℕ → Type 0
+IsNaming names most outputs = ((most ≡ 256) × (outputs ≡ 4096)) ⊎ ((most ≡ length names) × (outputs ≡ length names))

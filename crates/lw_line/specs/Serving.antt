@@ -4,11 +4,11 @@ use Rattle.lw_json.specs.declared.machine.Machine.{Machine}
 use Rattle.lw_outside.specs.Lines.{lines_of}
 use Rattle.lw_outside.specs.Played.{Play, PlayEnd, AtQuit, AtEnd, AtLimit, AtBadLine, played, played_from, ended_lines}
 use Rattle.lw_outside.specs.Streams.{TakesAll, TakesSome}
-use Rattle.lw_line.specs.declared.serve.Served.{Served}
-use Rattle.lw_line.specs.declared.serve.ServedCause.{ServedCause}
-use Rattle.lw_line.specs.declared.serve.ServedCause.TheVariants.{Quit, EndOfInput, Limit}
-use Rattle.lw_line.specs.declared.serve.ServeFault.{ServeFault}
-use Rattle.lw_line.specs.declared.serve.ServeFault.TheVariants.{SourceFault, SinkFault, BadLine}
+use Rattle.lw_line.specs.declared.serving.Served.{Served}
+use Rattle.lw_line.specs.declared.serving.ServedCause.{ServedCause}
+use Rattle.lw_line.specs.declared.serving.ServedCause.TheVariants.{Quit, EndOfInput, Limit}
+use Rattle.lw_line.specs.declared.serving.ServeFault.{ServeFault}
+use Rattle.lw_line.specs.declared.serving.ServeFault.TheVariants.{SourceFault, SinkFault, BadLine}
 
 abbrev pub IsCause : ServedCause → PlayEnd → Type 0
 IsCause Quit end = end ≡ AtQuit

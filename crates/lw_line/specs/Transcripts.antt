@@ -1,6 +1,6 @@
 -- The runs that went over a link, and which transcripts a learner leaves.
 use Rattle.std.specs.Prelude.{◌≡◌, ◌≢◌, ◌⊎◌, ℕ, ◌+◌, ◌≤◌, List, [], ◌∷◌, length, codes, Contains, Option, Some, None, option_and_then, if◌then◌else◌}
-use Rattle.std.specs.List.{All}
+use Rattle.std.specs.List.{All, sum_by}
 use Rattle.std.specs.Str.{bytes_eq}
 use Rattle.std.specs.Str.Lines.{strip_carriage_return}
 use Rattle.lw_words.specs.Cause.{CountedFault}
@@ -53,3 +53,7 @@ pub record IsProper (inputs : List (List ℕ)) (faults : ℕ) (t : Transcript) :
   pub first : (line : List ℕ) (more : List (List ℕ)) → lines_of t.sent ≡ line ∷ more → line ≡ reset_line
   pub answered : length (lines_of t.sent) ≤ length (lines_of t.received) + 1
   pub whole : rest_of t.sent ≢ [] → CountedFault 0 faults
+
+-- the lines that runs take: a reset each, and their letters
+abbrev pub lines_in : List Run → ℕ
+lines_in runs = sum_by (λ r. 1 + length r.word) runs

@@ -1,10 +1,14 @@
 //! The line protocol: systems that are programs at the other end of a link, and the child's side of it.
 #![tactic(auto)]
 
-mod serve;
+mod exchange;
+mod inbox;
+mod outputs;
+mod sent_line;
+mod serving;
 mod system;
 
-pub use serve::{ServeFault, Served, ServedCause, serve};
+pub use serving::{ServeFault, Served, ServedCause, serve};
 pub use system::LineSul;
 
 #[cfg(test)]

@@ -2,32 +2,99 @@
 ghost use Rattle.std.specs.Prelude.{◌≡◌, [], length, IfOk, IfErr, None, false};
 ghost use Rattle.lw_outside.specs.Links.{IsUntouched};
 ghost use Rattle.lw_line.specs.Causes.{IsCounted, IsTranscriptOf};
-ghost use Rattle.lw_line.specs.LineState.{LineState, told_runs};
+ghost use Rattle.lw_line.specs.LineState.{IsNaming, told_runs};
+ghost use Rattle.lw_sul.specs.SessionState.{NoRuns};
 
+use crate::exchange::{ask, start};
+use crate::inbox::Inbox;
+use crate::outputs::OutputNames;
 use lw_outside::Link;
 use lw_sul::{OutName, Sul};
 use lw_words::{Names, NoMemory, SulStop};
 use std::alloc::Global;
+use std::marker::Model;
+
+/// A system that is a program at the other end of a link: it is asked line by line, and answers each with a line.
+/// Contracts see its link, the names of its letters and of its outputs so far, and why it stopped (`LineState`).
+#[derive(Drop)]
+pub struct LineSul<L: Link> {
+    link: L,
+    letters: Names,
+    outputs: OutputNames,
+    inbox: Inbox,
+    started: bool,
+    stop: Option<SulStop>,
+    cut: bool,
+}
+
+impl<L: Link> Model for LineSul<L> {
+    ghost use Rattle.lw_line.specs.LineState.{LineState};
+    ghost use Rattle.lw_line.specs.bodies.Standing.{Stands};
+
+    ghost Value = { LineState L };
+
+    ghost view = { λ s. record { link = s.link; letters = s.letters; names = s.outputs.names; most = s.outputs.most; outputs = s.outputs.range; started = s.started; stop = s.stop; cut = s.cut } };
+
+    ghost invariant = { λ s. Stands s.letters s.outputs.names s.outputs.most (L.faults s.link) (L.ends s.link) s.started s.inbox s.stop (L.transcript s.link) };
+}
 
 impl<L: Link> LineSul<L> {
     /// The system behind a link, whose outputs have these names. Takes no memory.
     pub fn new(link: L, inputs: Names, outputs: Names) -> LineSul<L>
         requires { IsUntouched (L.transcript link) }
-        ensures { result ≡ record {
-          link = link; letters = inputs; names = outputs; most = length outputs;
-          outputs = length outputs; started = false; stop = None; cut = false;
+        ensures value { result ≡ record {
+          link = link;
+          letters = inputs;
+          names = outputs;
+          most = length outputs;
+          outputs = length outputs;
+          started = false;
+          stop = None;
+          cut = false;
         } }
-    ;
+        ensures fresh { NoRuns (told_runs result.letters result.names (L.transcript result.link)) }
+    {
+        LineSul {
+            link,
+            letters: inputs,
+            outputs: OutputNames::declared(outputs),
+            inbox: Inbox::new(),
+            started: false,
+            stop: None,
+            cut: false,
+        }
+    }
 
     /// The system behind a link, whose outputs get their numbers as they come: at most 256. Takes the room for their names.
     pub fn free(alloc: Global, link: L, inputs: Names) -> Result<LineSul<L>, (L, NoMemory)>
         requires { IsUntouched (L.transcript link) }
         ensures ok { IfOk result (λ s. s ≡ record {
-          link = link; letters = inputs; names = []; most = 256;
-          outputs = 4096; started = false; stop = None; cut = false;
+          link = link;
+          letters = inputs;
+          names = [];
+          most = 256;
+          outputs = 4096;
+          started = false;
+          stop = None;
+          cut = false;
         }) }
+        ensures fresh { IfOk result (λ s. NoRuns (told_runs s.letters s.names
+            (L.transcript s.link))) }
         ensures back { IfErr result (λ e. e.0 ≡ link) }
-    ;
+    {
+        match OutputNames::free(alloc) {
+            Ok(outputs) => Ok(LineSul {
+                link,
+                letters: inputs,
+                outputs,
+                inbox: Inbox::new(),
+                started: false,
+                stop: None,
+                cut: false,
+            }),
+            Err(stop) => Err((link, stop)),
+        }
+    }
 
     /// The link. Its counts and what went over it bear out the system's stop.
     pub fn into_link(self) -> L
@@ -35,5 +102,92 @@ impl<L: Link> LineSul<L> {
         ensures counted { IsCounted (L.faults self.link) (L.ends self.link) self.stop }
         ensures told { IsTranscriptOf self.letters self.names self.most (L.faults self.link)
             self.stop (L.transcript self.link) }
-    ;
+        ensures naming { IsNaming self.names self.most self.outputs }
+    {
+        self.outputs.tells_naming();
+        let LineSul {
+            link,
+            letters: _,
+            outputs: _,
+            inbox: _,
+            started: _,
+            stop: _,
+            cut: _,
+        } = self;
+        link
+    }
+}
+
+impl<L: Link> Sul for LineSul<L> {
+    ghost use Rattle.std.specs.Prelude.{length, None, Some};
+    ghost use Rattle.lw_line.specs.LineState.{told_runs};
+
+    ghost inputs = { λ s. length s.letters };
+
+    ghost outputs = { λ s. s.outputs };
+
+    ghost origin = { λ s. record { machine = None; link = Some (L.number s.link); letters = Some s.letters } };
+
+    ghost state = { λ _. 0 };
+
+    ghost started = { λ s. s.started };
+
+    ghost faults = { λ s. L.faults s.link };
+
+    ghost stop = { λ s. s.stop };
+
+    ghost cut = { λ s. s.cut };
+
+    ghost runs = { λ s. told_runs s.letters s.names (L.transcript s.link) };
+
+    ghost names = { λ s. s.names };
+
+    ghost most = { λ s. s.most };
+
+    fn inputs(&self) -> u16 {
+        self.letters.len()
+    }
+
+    fn outputs(&self) -> u16 {
+        self.outputs.range()
+    }
+
+    fn named(&self) -> u16 {
+        self.outputs.len()
+    }
+
+    fn most(&self) -> u16 {
+        self.outputs.most()
+    }
+
+    fn name(&self, y: u16) -> OutName {
+        self.outputs.name(y)
+    }
+
+    fn reset(&mut self) -> Result<(), SulStop> {
+        match start(&mut self.link, &mut self.inbox) {
+            Ok(()) => {
+                self.started = true;
+                Ok(())
+            }
+            Err(stop) => {
+                self.stop = Some(stop.copy());
+                self.cut = false;
+                Err(stop)
+            }
+        }
+    }
+
+    fn step(&mut self, x: u16) -> Result<u16, SulStop> {
+        let _letters = self.letters.len();
+        let letter = self.letters.name(x);
+        match ask(&mut self.link, &mut self.inbox, letter, &mut self.outputs) {
+            Ok(y) => Ok(y),
+            Err(stop) => {
+                self.stop = Some(stop.copy());
+                self.cut = true;
+                Err(stop)
+            }
+        }
+    }
 }

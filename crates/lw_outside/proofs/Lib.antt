@@ -1,2 +1,7 @@
+mod ChildLemmas
 mod FileLemmas
+mod LineLemmas
+mod NameLemmas
+mod RetireLemmas
+mod SayLemmas
 mod StreamLemmas

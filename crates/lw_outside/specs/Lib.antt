@@ -5,3 +5,4 @@ pub mod Memory
 pub mod Played
 pub mod Protocol
 pub mod Streams
+pub mod bodies

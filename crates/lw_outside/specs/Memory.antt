@@ -1,7 +1,10 @@
--- Files and streams in memory, as contracts see them: what they hold, the plan of the calls that are to fail, and how many
+-- Files, streams, links and spawners in memory, as contracts see them: what they hold, the plan of the calls that are to fail, and how many
 -- calls were made. With an empty plan no call fails but for what the object holds.
-use Rattle.std.specs.Prelude.{◌≡◌, ℕ, ◌+◌, ◌-◌, ◌^◌, List, [], ◌∷◌, ◌++◌, length, min, nat_eq, nat_lt, Bool, Option, Some, None, Result, Ok, Err, if◌then◌else◌}
+use Rattle.std.specs.Prelude.{◌≡◌, ℕ, ◌+◌, ◌-◌, ◌^◌, List, [], ◌∷◌, ◌++◌, length, drop, min, nat_eq, nat_lt, slice_get, slice_index_or, option_map, Bool, Option, Some, None, Result, Ok, Err, if◌then◌else◌}
 use Rattle.std.specs.List.{list_any}
+use Rattle.lw_json.specs.declared.machine.Machine.{Machine}
+use Rattle.lw_outside.specs.Links.{Retired, Transcript}
+use Rattle.lw_outside.specs.Played.{ended_lines, played}
 use Rattle.lw_outside.specs.Files.{File, Call, file_at, longest_file}
 use Rattle.lw_outside.specs.declared.files.FilesStop.{FilesStop}
 use Rattle.lw_outside.specs.declared.files.FilesStop.TheVariants.{Failed, TooLong, NoMemory}
@@ -72,3 +75,79 @@ pub record SourceState : Type 0 where
   pub made : ℕ
   pub faults : ℕ
   pub ends : ℕ
+
+-- what stands at the other end of a link in memory: a child that plays a machine, or one that says these bytes whatever it is sent
+pub data Speaker : Type 0 where
+  Plays : Machine → Speaker
+  Recites : List ℕ → Speaker
+
+-- all that it says by the time these bytes were sent to it
+abbrev pub said : Speaker → List ℕ → List ℕ
+said (Plays m) sent = ended_lines (played m sent).answers
+said (Recites bytes) sent = bytes
+
+-- a link's number, what stands at its other end, what went over it, for how many more bytes it has room, and how often it failed
+-- and told its end
+pub record LinkState : Type 0 where
+  pub number : ℕ
+  pub speaker : Speaker
+  pub sent : List ℕ
+  pub received : List ℕ
+  pub room : ℕ
+  pub plan : List ℕ
+  pub made : ℕ
+  pub faults : ℕ
+  pub ends : ℕ
+
+abbrev pub transcript_of : LinkState → Transcript
+transcript_of l = record { sent = l.sent; received = l.received }
+
+-- what was said and is not yet received
+abbrev pub waiting : LinkState → List ℕ
+waiting l = drop (length l.received) (said l.speaker l.sent)
+
+-- what was received is a front of what was said
+abbrev pub HasHeard : LinkState → Type 0
+HasHeard l = said l.speaker l.sent ≡ l.received ++ waiting l
+
+-- a link that was just started
+abbrev pub new_link : ℕ → Speaker → ℕ → List ℕ → LinkState
+new_link number speaker room plan = record { number = number; speaker = speaker; sent = []; received = []; room = room; plan = plan; made = 0; faults = 0; ends = 0 }
+
+-- a call on a link was made and failed, or did not
+abbrev pub NotesFault : LinkState → LinkState → Type 0
+NotesFault before after = after ≡ record before { made = one_more before.made; faults = one_more before.faults }
+
+-- what stands at the other ends of a spawner's links: children that all play the machine, or the i-th link's says the i-th bytes
+pub data Speakers : Type 0 where
+  AllPlay : Machine → Speakers
+  EachRecites : List (List ℕ) → Speakers
+
+abbrev pub speaker_at : Speakers → ℕ → Option Speaker
+speaker_at (AllPlay m) i = Some (Plays m)
+speaker_at (EachRecites scripts) i = option_map (λ bytes. Recites bytes) (slice_get scripts i)
+
+-- what stands at the other ends of the links, the room of each and the plan of the i-th, the plan of the starts with how many
+-- were asked for, the links that were started, the words of the starts, the links that were retired, and how often it failed
+pub record SpawnerState : Type 0 where
+  pub speakers : Speakers
+  pub room : ℕ
+  pub links : List (List ℕ)
+  pub plan : List ℕ
+  pub made : ℕ
+  pub started : ℕ
+  pub commands : List (List (List ℕ))
+  pub retired : List LinkState
+  pub faults : ℕ
+
+-- a spawner that was asked for nothing
+abbrev pub new_spawner : Speakers → ℕ → List ℕ → List (List ℕ) → SpawnerState
+new_spawner speakers room plan links = record { speakers = speakers; room = room; links = links; plan = plan; made = 0; started = 0; commands = []; retired = []; faults = 0 }
+
+-- the link that is started next, if none fails: a start fails where that is planned or nothing stands at the other end
+abbrev pub next_link : SpawnerState → Option LinkState
+next_link s = if is_planned s.plan s.made then None else option_map (λ speaker. new_link s.started speaker s.room (slice_index_or s.links s.started [])) (speaker_at s.speakers s.started)
+
+-- a link at its end, as every spawner tells it
+abbrev pub retired_of : LinkState → Retired
+retired_of l = record { number = l.number; faults = l.faults; ends = l.ends; transcript = Some (transcript_of l) }

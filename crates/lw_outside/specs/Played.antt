@@ -1,10 +1,12 @@
 -- What a child that plays a machine answers to the bytes of its input.
-use Rattle.std.specs.Prelude.{ℕ, ◌+◌, ◌-◌, ◌^◌, ◌==◌, List, [], ◌∷◌, ◌++◌, codes, flat_map, slice_index_or, Option, Some, None, if◌then◌else◌}
+use Rattle.std.specs.Prelude.{◌≡◌, ℕ, ◌+◌, ◌-◌, ◌^◌, ◌<◌, ◌==◌, List, [], ◌∷◌, ◌++◌, codes, flat_map, length, slice_index_or, Option, Some, None, if◌then◌else◌}
 use Rattle.std.specs.Str.{bytes_eq}
 use Rattle.std.specs.Str.Lines.{strip_carriage_return}
 use Rattle.lw_words.specs.Name.{number_of}
 use Rattle.lw_mealy.specs.Machine.{next, output}
 use Rattle.lw_json.specs.declared.machine.Machine.{Machine}
+use Rattle.lw_outside.specs.declared.player.Reply.{Reply}
+use Rattle.lw_outside.specs.declared.player.Reply.TheVariants.{Ready, Out, Quit as QuitsAt, Refused}
 use Rattle.lw_outside.specs.Lines.{lines_of, rest_of}
 use Rattle.lw_outside.specs.Protocol.{behind, reset_line, quit_line, out_line, ready_line}
 
@@ -19,6 +21,11 @@ abbrev pub letter_move : Machine → ℕ → Option ℕ → Move
 letter_move m q None = Refuse
 letter_move m q (Some x) = Answer (out_line (slice_index_or m.outputs (output m.mealy.rows q x) [])) (next m.mealy.rows q x)
 
+-- the number of a letter, if a name is given and it is one's
+abbrev pub letter_named : List (List ℕ) → Option (List ℕ) → Option ℕ
+letter_named names None = None
+letter_named names (Some name) = number_of name names
+
 -- at the name of a letter, if there is one
 abbrev pub name_move : Machine → ℕ → Option (List ℕ) → Move
 name_move m q None = Refuse
@@ -30,6 +37,20 @@ line_move m q line = if bytes_eq line reset_line then Answer ready_line 0 else (
 -- at a line as it was received, without its line feed
 abbrev pub move_of : Machine → ℕ → List ℕ → Move
 move_of m q received = line_move m q (strip_carriage_return received)
+
+-- a reply is the move that a child of this machine makes, after which it is in the state q
+abbrev pub IsMove : Machine → Reply → Move → ℕ → Type 0
+IsMove m Ready move q = move ≡ Answer ready_line q
+IsMove m (Out y) move q = (y < length m.outputs) × (move ≡ Answer (out_line (slice_index_or m.outputs y [])) q)
+IsMove m QuitsAt move q = move ≡ Quit
+IsMove m Refused move q = move ≡ Refuse
+
+-- after a reply the child has ended
+abbrev pub EndsPlay : Reply → Type 0
+EndsPlay Ready = ⊥
+EndsPlay (Out y) = ⊥
+EndsPlay QuitsAt = Unit {0}
+EndsPlay Refused = Unit {0}
 
 -- how a child ends: by a line that asks for it, by the end of its input, by the limit of lines, or by the line of this number,
 -- counted from 1, which it doesn't know or which has no end

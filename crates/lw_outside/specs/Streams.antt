@@ -1,5 +1,5 @@
 -- Streams: the bytes that a source has left, and those that a sink took.
-use Rattle.std.specs.Prelude.{◌≡◌, ℕ, ◌+◌, ◌≤◌, List, [], ◌++◌, length, take, Option, Some, None, option_map}
+use Rattle.std.specs.Prelude.{◌≡◌, ℕ, List, [], ◌++◌, take, Option, Some, None, option_map}
 
 -- these bytes were the front of what was told to be left
 abbrev pub Gave : List ℕ → Option (List ℕ) → Option (List ℕ) → Type 0

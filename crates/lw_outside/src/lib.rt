@@ -2,19 +2,33 @@
 //! memory that tell all that they hold, took and were asked, and fail by a plan.
 #![tactic(auto)]
 
+mod answer_line;
+mod cast;
+mod child;
 mod files;
 mod links;
 mod memory_files;
+mod memory_link;
 mod memory_sink;
 mod memory_source;
+mod memory_spawner;
+mod player;
+mod script;
+mod served;
 mod streams;
+mod transcript;
 
+pub use answer_line::AnswerLine;
 pub use files::{Files, FilesStop, LONGEST_FILE, WriteStop};
 pub use links::{Link, Spawner, StartStop};
 pub use memory_files::{FileCall, MemoryFiles};
+pub use memory_link::MemoryLink;
 pub use memory_sink::MemorySink;
 pub use memory_source::MemorySource;
+pub use memory_spawner::MemorySpawner;
+pub use player::{Player, Reply};
 pub use streams::{Failed, Sink, Source};
+pub use transcript::{Bytes, Transcript};
 
 #[cfg(test)]
 mod tests;

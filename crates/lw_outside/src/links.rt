@@ -6,6 +6,8 @@ ghost use Rattle.lw_outside.specs.Links.{IsUntouched, Retired, SendsPart, Transc
 ghost use Rattle.lw_outside.specs.declared.links.StartStop.{StartStop as StartRefusal};
 
 use crate::Failed;
+use lw_words::NoMemory;
+use std::alloc::AllocError;
 
 /// A link to a child that was started: bytes go to it, and bytes come from it.
 pub trait Link {
@@ -106,4 +108,26 @@ pub trait Spawner {
         ensures started { started self.new ≡ started self.old }
         ensures faults { faults self.new ≡ faults self.old }
         ensures commands { commands self.new ≡ commands self.old };
+}
+
+impl From<NoMemory> for StartStop {
+    ghost use Rattle.std.specs.Prelude.{◌≡◌};
+    ghost use Rattle.lw_outside.specs.declared.links.StartStop.TheVariants.{NoMemory};
+
+    ghost from_gives = { λ _ stop. stop ≡ NoMemory };
+
+    fn from(_: NoMemory) -> StartStop {
+        StartStop::NoMemory
+    }
+}
+
+impl From<AllocError> for StartStop {
+    ghost use Rattle.std.specs.Prelude.{◌≡◌};
+    ghost use Rattle.lw_outside.specs.declared.links.StartStop.TheVariants.{NoMemory};
+
+    ghost from_gives = { λ _ stop. stop ≡ NoMemory };
+
+    fn from(_: AllocError) -> StartStop {
+        StartStop::NoMemory
+    }
 }

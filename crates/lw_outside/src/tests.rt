@@ -1,6 +1,10 @@
 //! What no clause says: that the calls succeed, and the forms in memory through the traits, by hand.
 ghost use Rattle.std.specs.Prelude.{◌<◌, length};
 
+mod links;
+mod player;
+mod spawners;
+
 use crate::{Files, FilesStop, MemoryFiles, MemorySink, MemorySource, Sink, Source, WriteStop};
 use std::alloc::Global;
 use std::test::Fail;

@@ -1,6 +1,10 @@
 -- What the end of a learning says, of a system over a inputs and b outputs, with k extra states and at most so many states.
 use Rattle.std.specs.Prelude.{◌≡◌, ℕ, ◌+◌, ◌≤◌, List, length, Some}
 use Rattle.lw_words.specs.Answer.{Answer, answers_of}
+use Rattle.lw_words.specs.declared.stop.SulStop.{SulStop}
+use Rattle.lw_words.specs.declared.stop.SulStop.TheVariants as sul
+use Rattle.lw_cache.specs.declared.stops.AskStop.{AskStop}
+use Rattle.lw_cache.specs.declared.stops.AskStop.TheVariants as ask
 use Rattle.lw_mealy.specs.Gives.{Gives}
 use Rattle.lw_mealy.specs.Limits.{MealyMachine}
 use Rattle.lw_mealy.specs.Machine.{Rows, IsMachine}
@@ -11,7 +15,7 @@ use Rattle.lw_rounds.specs.declared.stops.LearnStop.TheVariants as learn
 use Rattle.lw_table.specs.Table.{TableState}
 use Rattle.lw_report.specs.declared.«end».End.{End}
 use Rattle.lw_report.specs.declared.outcome.Outcome.{Outcome}
-use Rattle.lw_report.specs.declared.outcome.Outcome.TheVariants.{NoMemory, TooManyStates, SuiteTooLarge}
+use Rattle.lw_report.specs.declared.outcome.Outcome.TheVariants.{Nondeterministic, NoMemory, SulFailed, Gone, BadLine, TooManyStates, SuiteTooLarge}
 
 -- the end has this model, and the kept answers fix it
 pub record HasModel (a b k most : ℕ) (end : End) (h : MealyMachine) : Type 0 where
@@ -35,8 +39,20 @@ pub record HasLargeSuite (a b k most : ℕ) (ks : List Answer) (states number : 
   pub states_are : states ≡ length model.rows
   pub least : (m : Rows) → IsMachine a m → Gives m ks → states ≤ length m
 
--- what a learning comes to that stopped so, where no system stopped and no answers clashed
+-- what a system comes to that stopped so, by its instance
+abbrev pub system_outcome : ℕ → SulStop → Outcome
+system_outcome instance sul.Failed = SulFailed instance
+system_outcome instance (sul.BadLine line) = BadLine instance line
+system_outcome instance sul.Gone = Gone instance
+
+-- what an ask comes to that stopped so
+abbrev pub ask_outcome : AskStop → Outcome
+ask_outcome (ask.Clash clash) = Nondeterministic clash
+ask_outcome (ask.Sul instance stop) = system_outcome instance stop
+ask_outcome ask.NoMemory = NoMemory
+
+-- what a learning comes to that stopped so
 abbrev pub learn_outcome : LearnStop → Outcome
-learn_outcome (learn.Ask stop) = NoMemory
+learn_outcome (learn.Ask stop) = ask_outcome stop
 learn_outcome (learn.Crowd words) = TooManyStates words
 learn_outcome (learn.TooLarge model number) = SuiteTooLarge (length model.rows) number

@@ -1,22 +1,28 @@
 -- The exit status of each outcome, and which outcomes may come when.
 use Rattle.std.specs.Prelude.{◌≡◌, ◌⊎◌, ℕ}
 use Rattle.lw_report.specs.declared.outcome.Outcome.{Outcome}
-use Rattle.lw_report.specs.declared.outcome.Outcome.TheVariants.{Learned, Trial, Yes, No, Usage, BadFile, Alphabets, FileTooLong, Nondeterministic, NoMemory, TooManyStates, SuiteTooLarge, FileFault, SinkFault}
+use Rattle.lw_report.specs.declared.outcome.Outcome.TheVariants.{Learned, Trial, Yes, Served, No, Usage, BadFile, Alphabets, FileTooLong, Nondeterministic, NoMemory, SulFailed, Gone, BadLine, BadAsk, TooManyStates, SuiteTooLarge, FileFault, SourceFault, SinkFault}
 
 abbrev pub status_of : Outcome → ℕ
 status_of (Learned model refinements) = 0
 status_of (Trial tried) = 0
 status_of (Yes states) = 0
+status_of (Served served) = 0
 status_of (No verdict) = 1
 status_of Usage = 2
 status_of (BadFile role fault) = 3
-status_of Alphabets = 3
+status_of (Alphabets role) = 3
 status_of (FileTooLong role) = 3
 status_of (Nondeterministic clash) = 4
 status_of NoMemory = 5
+status_of (SulFailed instance) = 6
+status_of (Gone instance) = 6
+status_of (BadLine instance line) = 6
+status_of (BadAsk number) = 6
 status_of (TooManyStates words) = 7
 status_of (SuiteTooLarge states number) = 7
 status_of (FileFault role) = 8
+status_of SourceFault = 8
 status_of SinkFault = 8
 
 -- making its text takes memory
@@ -27,6 +33,10 @@ HasOwnText (Yes states) = Unit {0}
 HasOwnText (No verdict) = Unit {0}
 HasOwnText (BadFile role fault) = Unit {0}
 HasOwnText (Nondeterministic clash) = Unit {0}
+HasOwnText (SulFailed instance) = Unit {0}
+HasOwnText (Gone instance) = Unit {0}
+HasOwnText (BadLine instance line) = Unit {0}
+HasOwnText (BadAsk number) = Unit {0}
 HasOwnText (TooManyStates words) = Unit {0}
 HasOwnText (SuiteTooLarge states number) = Unit {0}
 HasOwnText _ = ⊥

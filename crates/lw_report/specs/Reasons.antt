@@ -10,13 +10,14 @@ use Rattle.lw_json.specs.declared.fault.Field.TheVariants as field
 use Rattle.lw_json.specs.declared.fault.JsonFault.{JsonFault}
 use Rattle.lw_json.specs.declared.fault.JsonFault.TheVariants.{NotJson, Shape, Inputs, Outputs, UnknownOutput, Mealy, BadWord, Lengths, NoMemory}
 use Rattle.lw_report.specs.declared.role.Role.{Role}
-use Rattle.lw_report.specs.declared.role.Role.TheVariants.{Setup, Table, Model, Answers}
+use Rattle.lw_report.specs.declared.role.Role.TheVariants.{Setup, Table, Model, Answers, Prior}
 
 abbrev pub role_name : Role → List ℕ
 role_name Setup = codes "setup"
 role_name Table = codes "table"
 role_name Model = codes "model"
 role_name Answers = codes "answers"
+role_name Prior = codes "prior"
 
 abbrev pub field_name : Field → List ℕ
 field_name field.Root = codes "root"

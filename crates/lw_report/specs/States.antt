@@ -14,8 +14,17 @@ pub record SinkState : Type 0 where
   pub taken : Option (List ℕ)
   pub faults : ℕ
 
+-- what contracts see of an input: the bytes that are left, where that is told, the faults, and how often it told its end
+pub record SourceState : Type 0 where
+  pub left : Option (List ℕ)
+  pub faults : ℕ
+  pub ends : ℕ
+
 abbrev pub files_state : Option (List File) → Option (List Call) → List File → ℕ → FilesState
 files_state holds calls reads faults = record { holds = holds; calls = calls; reads = reads; faults = faults }
 
 abbrev pub sink_state : Option (List ℕ) → ℕ → SinkState
 sink_state taken faults = record { taken = taken; faults = faults }
+
+abbrev pub source_state : Option (List ℕ) → ℕ → ℕ → SourceState
+source_state left faults ends = record { left = left; faults = faults; ends = ends }

@@ -3,14 +3,17 @@
 use Rattle.std.specs.Prelude.{ℕ, Bool, List, [], ◌++◌, length, codes, slice_index_or, slice_get, if◌then◌else◌, Option, Some, None}
 use Rattle.std.specs.Fmt.{decimal}
 use Rattle.std.specs.List.{flat_map, join_by}
+use Rattle.hex.specs.Hex.{encode_lower}
 use Rattle.lw_words.specs.declared.kept.KeptAnswer.{KeptAnswer}
 use Rattle.lw_cache.specs.declared.stops.Clash.{Clash}
 use Rattle.lw_certify.specs.declared.verdict.Verdict.{Verdict}
 use Rattle.lw_certify.specs.declared.verdict.Verdict.TheVariants as verdict
 use Rattle.lw_report.specs.Reasons.{reason_of, role_name}
+use Rattle.lw_report.specs.declared.role.Role.{Role}
+use Rattle.lw_report.specs.declared.role.Role.TheVariants.{Prior}
 use Rattle.lw_report.specs.declared.outcome.Outcome.{Outcome}
 use Rattle.lw_report.specs.declared.outcome.Tried.{Tried}
-use Rattle.lw_report.specs.declared.outcome.Outcome.TheVariants.{Learned, Trial, Yes, No, Usage, BadFile, Alphabets, FileTooLong, Nondeterministic, NoMemory, TooManyStates, SuiteTooLarge, FileFault, SinkFault}
+use Rattle.lw_report.specs.declared.outcome.Outcome.TheVariants.{Learned, Trial, Yes, Served, No, Usage, BadFile, Alphabets, FileTooLong, Nondeterministic, NoMemory, SulFailed, Gone, BadLine, BadAsk, TooManyStates, SuiteTooLarge, FileFault, SourceFault, SinkFault}
 
 -- the name of a letter
 abbrev pub name_of : List (List ℕ) → ℕ → List ℕ
@@ -85,21 +88,47 @@ yes_line states extra answers = codes "yes: states " ++ (decimal states ++ (code
 abbrev pub suite_line : ℕ → ℕ → ℕ → List ℕ
 suite_line states extra number = codes "suite too large: states " ++ (decimal states ++ (codes ", extra " ++ (decimal extra ++ (codes ", number " ++ (decimal number ++ codes "\n")))))
 
--- the text of the outcome
+-- names of earlier answers that aren't the setup's, or of answers that aren't the model's
+abbrev pub names_line : Role → List ℕ
+names_line Prior = codes "bad file prior: names differ from the setup\n"
+names_line _ = codes "bad file answers: names differ from the model\n"
+
+-- a system that failed, or ended, by its instance
+abbrev pub failed_line : ℕ → List ℕ
+failed_line instance = codes "system failed: instance " ++ (decimal instance ++ codes "\n")
+
+abbrev pub gone_line : ℕ → List ℕ
+gone_line instance = codes "system ended: instance " ++ (decimal instance ++ codes "\n")
+
+-- a line of a system, in two lower case digits for each byte
+abbrev pub bad_line : ℕ → List ℕ → List ℕ
+bad_line instance line = codes "bad line: instance " ++ (decimal instance ++ (codes ": " ++ (encode_lower line ++ codes "\n")))
+
+-- a line that was asked of a child, by its number
+abbrev pub bad_ask_line : ℕ → List ℕ
+bad_ask_line number = codes "bad line: " ++ (decimal number ++ codes "\n")
+
+-- the text of the outcome; nothing is said of a child that was served
 abbrev pub text_of : List (List ℕ) → List (List ℕ) → List KeptAnswer → ℕ → Outcome → List ℕ
 text_of inputs outputs kept extra (Learned model refinements) = learned_line (length model.rows) refinements extra (length kept)
 text_of inputs outputs kept extra (Trial tried) = trial_lines tried
 text_of inputs outputs kept extra (Yes states) = yes_line states extra (length kept)
+text_of inputs outputs kept extra (Served served) = []
 text_of inputs outputs kept extra (No v) = no_line inputs v
 text_of inputs outputs kept extra Usage = usage_lines
 text_of inputs outputs kept extra (BadFile role fault) = codes "bad file " ++ (role_name role ++ (codes ": " ++ (reason_of fault ++ codes "\n")))
-text_of inputs outputs kept extra Alphabets = codes "bad file answers: names differ from the model\n"
+text_of inputs outputs kept extra (Alphabets role) = names_line role
 text_of inputs outputs kept extra (Nondeterministic clash) = clash_lines inputs outputs kept clash
 text_of inputs outputs kept extra (FileTooLong role) = codes "file too long: " ++ (role_name role ++ codes "\n")
 text_of inputs outputs kept extra NoMemory = codes "no memory\n"
+text_of inputs outputs kept extra (SulFailed instance) = failed_line instance
+text_of inputs outputs kept extra (Gone instance) = gone_line instance
+text_of inputs outputs kept extra (BadLine instance line) = bad_line instance line
+text_of inputs outputs kept extra (BadAsk number) = bad_ask_line number
 text_of inputs outputs kept extra (TooManyStates words) = crowd_lines inputs words
 text_of inputs outputs kept extra (SuiteTooLarge states number) = suite_line states extra number
 text_of inputs outputs kept extra (FileFault role) = codes "file fault: " ++ (role_name role ++ codes "\n")
+text_of inputs outputs kept extra SourceFault = codes "source fault\n"
 text_of inputs outputs kept extra SinkFault = codes "sink fault\n"
 
 -- the names, or none where no file has said any

@@ -7,6 +7,7 @@ mod reading;
 mod reasons;
 mod role;
 mod stops;
+mod system_texts;
 mod texts;
 mod tried_text;
 mod verdict_texts;

@@ -6,8 +6,9 @@ use crate::Role;
 use lw_cache::Clash;
 use lw_certify::Verdict;
 use lw_json::JsonFault;
+use lw_line::Served;
 use lw_mealy::Mealy;
-use lw_words::Words;
+use lw_words::{Line, Words};
 
 /// A trial: so many states and inputs of a machine that was drawn by the seed; the states, refinements and kept answers of what
 /// was learned of it; and whether that is the machine.
@@ -31,25 +32,37 @@ pub enum Outcome {
     Trial(Tried),
     /// The answers fix the model, of so many states, among all machines of at most so many extra states more.
     Yes { states: u16 },
-    /// They don't, for this cause, which is none of `TooLarge` and `Sure`.
+    /// A machine was played as a child, up to where nothing more was asked of it.
+    Served(Served),
+    /// The answers don't fix the model, for this cause, which is none of `TooLarge` and `Sure`.
     No(Verdict),
     /// The arguments are none that the program knows.
     Usage,
     /// The file in this role is none of its kind, and this is its first fault.
     BadFile { role: Role, fault: JsonFault },
-    /// The names of the answers file aren't the model's.
-    Alphabets,
+    /// The names of the file in this role, answers or those of an earlier call, aren't the model's, or the setup's.
+    Alphabets(Role),
     /// The file in this role has more than 16,777,216 bytes.
     FileTooLong(Role),
     /// Two kept answers that no one machine gives.
     Nondeterministic(Clash),
     NoMemory,
+    /// The system of this instance failed.
+    SulFailed(u32),
+    /// The output of this instance's system ended before its answer did.
+    Gone(u32),
+    /// The system of this instance answered this line, which the protocol doesn't know at its place.
+    BadLine(u32, Line),
+    /// The line of this number, counted from 1, that was asked of a child is none of the protocol, or has no end.
+    BadAsk(u32),
     /// These words, one more than the limit of states, are pairwise apart.
     TooManyStates(Words),
     /// The suite of a model of so many states would have this size.
     SuiteTooLarge { states: u16, number: u64 },
     /// The file in this role could not be read or written.
     FileFault(Role),
+    /// The input could not be read.
+    SourceFault,
     /// A stream refused what was to be written.
     SinkFault,
 }
@@ -59,13 +72,15 @@ pub fn status(outcome: &Outcome) -> u8
     ensures { result ≡ status_of outcome.now }
 {
     match outcome {
-        Outcome::Learned { .. } | Outcome::Trial(_) | Outcome::Yes { .. } => 0,
+        Outcome::Learned { .. } | Outcome::Trial(_) | Outcome::Yes { .. } | Outcome::Served(_) => 0,
         Outcome::No(_) => 1,
         Outcome::Usage => 2,
-        Outcome::BadFile { .. } | Outcome::Alphabets | Outcome::FileTooLong(_) => 3,
+        Outcome::BadFile { .. } | Outcome::Alphabets(_) | Outcome::FileTooLong(_) => 3,
         Outcome::Nondeterministic(_) => 4,
         Outcome::NoMemory => 5,
+        Outcome::SulFailed(_) | Outcome::Gone(_) => 6,
+        Outcome::BadLine(_, _) | Outcome::BadAsk(_) => 6,
         Outcome::TooManyStates(_) | Outcome::SuiteTooLarge { .. } => 7,
-        Outcome::FileFault(_) | Outcome::SinkFault => 8,
+        Outcome::FileFault(_) | Outcome::SourceFault | Outcome::SinkFault => 8,
     }
 }

@@ -2,13 +2,14 @@
 ghost use Rattle.std.specs.Prelude.{◌≡◌};
 ghost use Rattle.lw_report.specs.Reasons.{role_name};
 
-/// What a file is to a call: a setup, a machine that is learned, a model, or answers.
+/// What a file is to a call: a setup, a machine that is learned, a model, answers, or those of an earlier call.
 #[derive(Clone, Copy, Debug, PartialEq, Eq)]
 pub enum Role {
     Setup,
     Table,
     Model,
     Answers,
+    Prior,
 }
 
 impl Role {
@@ -21,6 +22,7 @@ impl Role {
             Role::Table => "table",
             Role::Model => "model",
             Role::Answers => "answers",
+            Role::Prior => "prior",
         }
     }
 }

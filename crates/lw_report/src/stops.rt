@@ -1,14 +1,14 @@
 //! Why a file was not read, or an outcome was not told, and the outcome that each comes to.
 ghost use Rattle.std.specs.Prelude.{◌≡◌};
-ghost use Rattle.lw_report.specs.Learnings.{learn_outcome};
+ghost use Rattle.lw_report.specs.Learnings.{ask_outcome, learn_outcome, system_outcome};
 ghost use Rattle.lw_report.specs.Stops.{read_outcome};
-ghost use Rattle.lw_rounds.specs.Stops.{IsOwnStop};
 
 use crate::{Outcome, Role};
+use lw_cache::AskStop;
 use lw_json::JsonFault;
 use lw_outside::{Failed, FilesStop, WriteStop};
 use lw_rounds::LearnStop;
-use lw_words::NoMemory;
+use lw_words::{NoMemory, SulStop};
 
 /// Why a file was not read.
 #[derive(Clone, Copy, Debug, PartialEq, Eq)]
@@ -112,13 +112,34 @@ impl From<Failed> for TellStop {
     }
 }
 
-/// What a learning comes to that stopped so, where no system stopped and no answers clashed.
+/// What a system comes to that stopped so, by its instance.
+fn system_outcome(instance: u32, stop: SulStop) -> Outcome
+    ensures { result ≡ system_outcome instance stop }
+{
+    match stop {
+        SulStop::Failed => Outcome::SulFailed(instance),
+        SulStop::BadLine(line) => Outcome::BadLine(instance, line),
+        SulStop::Gone => Outcome::Gone(instance),
+    }
+}
+
+/// What an ask comes to that stopped so.
+fn ask_outcome(stop: AskStop) -> Outcome
+    ensures { result ≡ ask_outcome stop }
+{
+    match stop {
+        AskStop::Clash(clash) => Outcome::Nondeterministic(clash),
+        AskStop::Sul { instance, stop } => system_outcome(instance, stop),
+        AskStop::NoMemory => Outcome::NoMemory,
+    }
+}
+
+/// What a learning comes to that stopped so.
 pub fn learn_outcome(stop: LearnStop) -> Outcome
-    requires own { IsOwnStop stop }
     ensures { result ≡ learn_outcome stop }
 {
     match stop {
-        LearnStop::Ask(_) => Outcome::NoMemory,
+        LearnStop::Ask(stop) => ask_outcome(stop),
         LearnStop::Crowd(words) => Outcome::TooManyStates(words),
         LearnStop::TooLarge { model, number } => Outcome::SuiteTooLarge {
             states: model.states(),

@@ -10,6 +10,8 @@ use lw_words::{Kept, Names, NamesFault, Word, Words};
 use std::alloc::Global;
 use std::test::Fail;
 
+mod systems;
+
 const MACHINE: &str = "{\"inputs\":[\"t\"],\"outputs\":[\"0\"],\"states\":[[[0,\"0\"]]]}\n";
 
 const ANSWERS: &str =

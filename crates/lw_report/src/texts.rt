@@ -4,9 +4,10 @@ ghost use Rattle.std.specs.List.{join_by};
 ghost use Rattle.lw_words.specs.declared.kept.KeptAnswer.{KeptAnswer as Answer};
 ghost use Rattle.lw_report.specs.Outcomes.{HasOwnText};
 ghost use Rattle.lw_report.specs.Reasons.{reason_of, role_name};
-ghost use Rattle.lw_report.specs.Text.{crowd_lines, name_of, learned_line, names_of, text_of, word_line};
+ghost use Rattle.lw_report.specs.Text.{crowd_lines, name_of, learned_line, names_line, names_of, text_of, word_line};
 
 use crate::reasons::reason;
+use crate::system_texts::{bad_ask_text, bad_line_text, failed_text, gone_text};
 use crate::tried_text::trial_text;
 use crate::verdict_texts::{clash_text, no_text, suite_text, yes_text};
 use crate::{Outcome, Role};
@@ -115,6 +116,7 @@ fn too_long_text(role: Role) -> &'static str
         Role::Table => "file too long: table\n",
         Role::Model => "file too long: model\n",
         Role::Answers => "file too long: answers\n",
+        Role::Prior => "file too long: prior\n",
     }
 }
 
@@ -126,6 +128,17 @@ fn file_fault_text(role: Role) -> &'static str
         Role::Table => "file fault: table\n",
         Role::Model => "file fault: model\n",
         Role::Answers => "file fault: answers\n",
+        Role::Prior => "file fault: prior\n",
+    }
+}
+
+/// The line about a file whose names differ from those that it goes with.
+fn names_text(role: Role) -> &'static str
+    ensures { result.now ≡ names_line role }
+{
+    match role {
+        Role::Prior => "bad file prior: names differ from the setup\n",
+        _ => "bad file answers: names differ from the model\n",
     }
 }
 
@@ -141,11 +154,15 @@ pub(crate) fn fixed_text(outcome: &Outcome) -> Option<&'static str>
         Outcome::Trial(_) => None,
         Outcome::Yes { .. } | Outcome::No(_) => None,
         Outcome::Nondeterministic(_) | Outcome::SuiteTooLarge { .. } => None,
-        Outcome::Alphabets => Some("bad file answers: names differ from the model\n"),
+        Outcome::SulFailed(_) | Outcome::Gone(_) => None,
+        Outcome::BadLine(_, _) | Outcome::BadAsk(_) => None,
+        Outcome::Served(_) => Some(""),
+        Outcome::Alphabets(role) => Some(names_text(*role)),
         Outcome::Usage => Some(USAGE),
         Outcome::FileTooLong(role) => Some(too_long_text(*role)),
         Outcome::NoMemory => Some(NO_MEMORY),
         Outcome::FileFault(role) => Some(file_fault_text(*role)),
+        Outcome::SourceFault => Some("source fault\n"),
         Outcome::SinkFault => Some("sink fault\n"),
     }
 }
@@ -174,6 +191,10 @@ pub(crate) fn outcome_text(
         Outcome::No(verdict) => no_text(alloc, verdict, inputs),
         Outcome::Nondeterministic(clash) => clash_text(alloc, *clash, inputs, outputs, kept),
         Outcome::SuiteTooLarge { states, number } => suite_text(alloc, *states, extra, *number),
+        Outcome::SulFailed(instance) => failed_text(alloc, *instance),
+        Outcome::Gone(instance) => gone_text(alloc, *instance),
+        Outcome::BadLine(instance, line) => bad_line_text(alloc, *instance, line),
+        Outcome::BadAsk(number) => bad_ask_text(alloc, *number),
         _ => Ok(String::from_str(alloc, fixed_text(outcome).unwrap_or(NO_MEMORY))?),
     }
 }

@@ -10,7 +10,7 @@ mod system;
 mod table;
 
 pub use named::Named;
-pub use out_name::OutName;
+pub use out_name::{OutName, name_of};
 pub use runs::Run;
 pub use session::{NamedAnswer, Session};
 pub use system::Sul;

@@ -42,15 +42,23 @@ impl OutName {
         ensures some { IfSome result (λ n. n ≡ name.now) }
         ensures none { IfNone result (¬ IsName name.now) }
     {
-        let text = name.as_bytes();
-        if !is_name(text) {
+        OutName::from_bytes(name.as_bytes())
+    }
+
+    /// These bytes as a name, or None where they are none.
+    pub fn from_bytes(name: &[u8]) -> Option<OutName>
+        ensures some { IfSome result (λ n. n ≡ name.now) }
+        ensures lawful { IfSome result IsName }
+        ensures none { IfNone result (¬ IsName name.now) }
+    {
+        if !is_name(name) {
             return None;
         }
         let mut bytes = [0u8; LONGEST_NAME];
-        bytes[..text.len()].copy_from_slice(text);
+        bytes[..name.len()].copy_from_slice(name);
         Some(OutName {
             bytes,
-            len: text.len() as u8,
+            len: name.len() as u8,
         })
     }
 
@@ -80,7 +88,7 @@ impl OutName {
 }
 
 /// The name with this number. Takes no memory.
-pub(crate) fn name_of(names: &Names, y: u16) -> OutName
+pub fn name_of(names: &Names, y: u16) -> OutName
     requires { y < length names.now }
     ensures { result ≡ name_at names.now y }
 {

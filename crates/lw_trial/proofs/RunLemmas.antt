@@ -13,6 +13,7 @@ use Rattle.lw_cache.proofs.CrowdLemmas.{crowd_needs_states}
 use Rattle.lw_suite.specs.Size.{suite_size, greatest_suite}
 use Rattle.lw_table.specs.Table.{TableState}
 use Rattle.lw_rounds.specs.Learned.{IsLearned, StopsAs}
+use Rattle.lw_rounds.specs.Stops.{IsOwnStop}
 use Rattle.lw_rounds.specs.declared.learned.Learned.{Learned}
 use Rattle.lw_rounds.specs.declared.stops.LearnStop.{LearnStop}
 use Rattle.lw_rounds.specs.declared.stops.LearnStop.TheVariants as learn
@@ -31,7 +32,7 @@ use Rattle.lw_report.specs.declared.outcome.Tried.{Tried}
 use Rattle.lw_report.specs.declared.role.Role.{Role}
 use Rattle.lw_report.specs.declared.stops.TellStop.{TellStop}
 use Rattle.lw_report.specs.declared.stops.TellStop.TheVariants as tell
-use Rattle.lw_report.proofs.LearningLemmas.{has_model, has_large_suite}
+use Rattle.lw_report.proofs.LearningLemmas.{has_model, has_large_suite, own_ask}
 use Rattle.lw_trial.specs.Arguments.{TrialValues}
 use Rattle.lw_trial.specs.Drawn.{seeded, drawn_row}
 use Rattle.lw_trial.specs.TrialRun.{IsReachedTrial, IsTrial, IsTrialOutcome, IsTrialRun, IsTried, drawn_machine}
@@ -69,23 +70,23 @@ bare_no_trial = by_bare (λ outcome. IsTrial outcome → ⊥) (λ t. t) (λ s n 
 
 -- what a stop of a learning comes to
 module _ (a b : ℕ) (m : Rows) (ks : List Answer) where
-  stop_is_bare : IsMachine a m → length m ≤ 1024 → AreAnswers a ks → Gives m ks → (stop : LearnStop) → StopsAs a b 1 1024 ks stop → IsBare (learn_outcome stop)
-  stop_is_bare machine few are gives (learn.Ask stop) is = inl refl
-  stop_is_bare machine few are gives (learn.Crowd words) is =
+  stop_is_bare : IsMachine a m → length m ≤ 1024 → AreAnswers a ks → Gives m ks → (stop : LearnStop) → IsOwnStop stop → StopsAs a b 1 1024 ks stop → IsBare (learn_outcome stop)
+  stop_is_bare machine few are gives (learn.Ask stop) own is = inl (own_ask stop own)
+  stop_is_bare machine few are gives (learn.Crowd words) own is =
       let needed : length words ≤ length m = crowd_needs_states a m ks words machine are gives is.crowd in
       let count : length words ≡ 1024 + 1 = is.count in
       absurd (omega arith)
-  stop_is_bare machine few are gives (learn.TooLarge model number) is = inr (length model.rows, number, refl)
+  stop_is_bare machine few are gives (learn.TooLarge model number) own is = inr (length model.rows, number, refl)
 
 stop_reached : (n : ℕ) (stop : LearnStop) → IsReached n (Err stop) → IsReachedTrial n (learn_outcome stop)
-stop_reached n (learn.Ask stop) is = tt
+stop_reached n (learn.Ask stop) is = subst (IsReachedTrial n) (sym (own_ask stop is)) tt
 stop_reached n (learn.Crowd words) is = absurd is
 stop_reached n (learn.TooLarge model number) is = absurd is
 
-stop_suite : (a b : ℕ) (ks : List Answer) (stop : LearnStop) (states number : ℕ) → AreAnswers a ks → StopsAs a b 1 1024 ks stop → learn_outcome stop ≡ SuiteTooLarge states number → HasLargeSuite a b 1 1024 ks states number
-stop_suite a b ks (learn.Ask stop) states number are is e = let wrong : NoMemory ≡ SuiteTooLarge states number = e in absurd (cc)
-stop_suite a b ks (learn.Crowd words) states number are is e = let wrong : TooManyStates words ≡ SuiteTooLarge states number = e in absurd (cc)
-stop_suite a b ks (learn.TooLarge model size) states number are is e =
+stop_suite : (a b : ℕ) (ks : List Answer) (stop : LearnStop) (states number : ℕ) → IsOwnStop stop → AreAnswers a ks → StopsAs a b 1 1024 ks stop → learn_outcome stop ≡ SuiteTooLarge states number → HasLargeSuite a b 1 1024 ks states number
+stop_suite a b ks (learn.Ask stop) states number own are is e = let wrong : NoMemory ≡ SuiteTooLarge states number = sym (own_ask stop own) ∙ e in absurd (cc)
+stop_suite a b ks (learn.Crowd words) states number own are is e = let wrong : TooManyStates words ≡ SuiteTooLarge states number = e in absurd (cc)
+stop_suite a b ks (learn.TooLarge model size) states number own are is e =
     let both : SuiteTooLarge (length model.rows) size ≡ SuiteTooLarge states number = e in
     let one : length model.rows ≡ states = cc in
     let other : size ≡ number = cc in
@@ -144,6 +145,7 @@ pub record HasCome (t : MealyMachine) (workers : ℕ) (kept : List KeptAnswer) (
   pub within : IsWithinLimits t
   pub runs : KeepsRuns t workers kept
   pub stops : IfErr r (StopsAs t.inputs t.outputs 1 1024 (answers_of kept))
+  pub own : IfErr r IsOwnStop
   pub reached : (m : Rows) → IsWithin t.inputs 1 1024 m → Gives m (answers_of kept) → IsReached (length m) r
 
 pub of_drawn : (v : TrialValues) (t : MealyMachine) (workers : ℕ) (kept : List KeptAnswer) (r : Result Learned LearnStop) → t ≡ drawn_machine v → workers ≡ v.workers → HasCome t workers kept r → HasCome (drawn_machine v) v.workers kept r
@@ -163,12 +165,12 @@ pub stopped_run : (v : TrialValues) (o e d : SinkState) (end : End) (stop : Lear
 stopped_run v o e d end stop kept come same none learner stands said part =
     let m : Rows = (drawn_machine v).rows in
     let is : IsRefusal v e d end.outcome kept = record {
-      bare = still_bare (learn_outcome stop) end.outcome stands (stop_is_bare v.inputs 2 m (answers_of kept) come.within.machine come.within.few come.runs.words come.runs.gives stop come.stops);
+      bare = still_bare (learn_outcome stop) end.outcome stands (stop_is_bare v.inputs 2 m (answers_of kept) come.within.machine come.within.few come.runs.words come.runs.gives stop come.own come.stops);
       runs = come.runs;
       reached = λ small. still_reached v.states (learn_outcome stop) end.outcome stands (stop_reached v.states stop (learning_reached v kept (Err stop) come small));
       said = said;
       part = part;
-      suite = still_suite v.inputs 2 (answers_of kept) (learn_outcome stop) end.outcome stands (λ s n. stop_suite v.inputs 2 (answers_of kept) stop s n come.runs.words come.stops);
+      suite = still_suite v.inputs 2 (answers_of kept) (learn_outcome stop) end.outcome stands (λ s n. stop_suite v.inputs 2 (answers_of kept) stop s n come.own come.runs.words come.stops);
     } in
     refused_run v o e d end none learner (subst (IsRefusal v e d end.outcome) (sym same) is)
 

@@ -7,7 +7,7 @@ use lw_words::{Names, RunStop, SulStop, Word};
 use std::alloc::Global;
 use std::test::Fail;
 
-fn word(alloc: Global, letters: &[u16]) -> Result<Word, Fail> {
+pub fn word(alloc: Global, letters: &[u16]) -> Result<Word, Fail> {
     Ok(Word::from_letters(alloc, letters.to_vec(alloc)?))
 }
 
@@ -31,6 +31,7 @@ fn names(alloc: Global, list: &[&str]) -> Result<Names, Fail> {
 }
 
 /// An answer that is given to a place, with the names that it brings.
+#[derive(Drop)]
 pub struct Given {
     pub place: u32,
     pub outs: &'static [u16],
@@ -59,7 +60,7 @@ pub const WANTS: Turn = Turn {
     held: &[],
 };
 
-fn give(alloc: Global, given: &Given) -> Result<Give, Fail> {
+pub fn give(alloc: Global, given: &Given) -> Result<Give, Fail> {
     let mut names = Named::new(alloc);
     for name in given.brought {
         let Some(name) = OutName::new(name) else {

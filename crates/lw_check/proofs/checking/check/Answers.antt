@@ -1,4 +1,4 @@
-use Rattle.std.proofs.Common.{◌≡◌, ◌∙◌, List, [], ap, refl, subst, inl}
+use Rattle.std.proofs.Common.{◌≡◌, ◌∙◌, List, [], ap, refl, subst, inl, inr}
 use Rattle.lw_words.specs.declared.kept.KeptAnswer.{KeptAnswer}
 use Rattle.lw_report.specs.Text.{text_of}
 use Rattle.lw_report.specs.Writing.{TakesAll, TakesSome}
@@ -28,6 +28,21 @@ returns-in-Err-clause-exact g c m a decision tm ta d =
     let before = files_state (F.holds c.args.files.now) (F.calls c.args.files.now) (F.reads c.args.files.now) (F.faults c.args.files.now) in
     let now = files_state (F.holds c.read_pair.new.files) (F.calls c.read_pair.new.files) (F.reads c.read_pair.new.files) (F.faults c.read_pair.new.files) in
     exact_unread c.args.model.now c.args.answers.now before now m a decision c.refuse.result.outcome (still_unread c.args.model.now c.args.answers.now before now c.in-Err.outcome c.refuse.result.outcome c.in-Err.ensures.err c.refuse.ensures.outcome) tm ta
+
+pub returns-clause-ended : goal.returns-clause-ended
+returns-clause-ended g c =
+    let told = c.finish.ensures in
+    inr (record {
+      pair = pair_of c.in-Ok.read.machine c.in-Ok.read.answers;
+      read = c.in-Ok.ensures.ok;
+      kept_all = told.kept;
+      comes = told.comes;
+      quiet = told.quiet;
+      written = told.written;
+      unwritten = told.unwritten;
+      said = told.said;
+      said_part = told.said_part;
+    })
 
 pub returns-clause-exact : goal.returns-clause-exact
 returns-clause-exact g c m a decision tm ta d =

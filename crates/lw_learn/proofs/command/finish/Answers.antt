@@ -5,6 +5,7 @@ use Rattle.lw_mealy.specs.Gives.{Gives}
 use Rattle.lw_mealy.specs.Limits.{MealyMachine}
 use Rattle.lw_json.specs.KeptOver.{AreKeptOver}
 use Rattle.lw_rounds.specs.Learned.{IsLearned, IsTooMany, StopsAs}
+use Rattle.lw_rounds.specs.Stops.{IsOwnStop}
 use Rattle.lw_rounds.specs.declared.learned.Learned.{Learned as Found}
 use Rattle.lw_rounds.specs.declared.stops.LearnStop.{LearnStop}
 use Rattle.lw_workers.specs.Machines.{IsReached}
@@ -109,7 +110,8 @@ returns-in-Ok-clause-kinds g c =
 
 pub returns-clause-told : goal.returns-clause-told
 returns-clause-told g c h r is =
-    absurd (stopped_has (λ (o : Outcome). o ≡ Learned h r → ⊥) c.in-Err.stop c.learn_outcome-outcome.result c.refuse.result.outcome c.learn_outcome-outcome.ensures c.refuse.ensures.outcome
+    let own = subst (λ (x : Result Found LearnStop). IfErr x IsOwnStop) c.in-Err.is c.learned_of-learned.ensures.own in
+    absurd (stopped_has (λ (o : Outcome). o ≡ Learned h r → ⊥) c.in-Err.stop c.learn_outcome-outcome.result c.refuse.result.outcome own c.learn_outcome-outcome.ensures c.refuse.ensures.outcome
     (λ e. let wrong : NoMemory ≡ Learned h r = e in cc)
     (λ words e. let wrong : TooManyStates words ≡ Learned h r = e in cc)
     (λ states number e. let wrong : SuiteTooLarge states number ≡ Learned h r = e in cc)
@@ -139,24 +141,27 @@ returns-clause-in_turn g c =
 
 pub returns-clause-crowd : goal.returns-clause-crowd
 returns-clause-crowd g c apart is =
+    let own = subst (λ (x : Result Found LearnStop). IfErr x IsOwnStop) c.in-Err.is c.learned_of-learned.ensures.own in
     let m = c.args.machine in
     let a = c.args.arguments.now in
     let before = c.learned_of-learned.result.kept.answers in
     let stops = subst (λ (r : Result Found LearnStop). IfErr r (StopsAs (length m.inputs) (length m.outputs) a.extra a.max_states (answers_of before))) c.in-Err.is c.learned_of-learned.ensures.stops in
     subst (λ (k : List KeptAnswer). IsTooMany a.max_states (answers_of k) apart) (ap (λ k. k.answers) (sym c.refuse.ensures.kept))
-    (stopped_crowd (length m.inputs) (length m.outputs) a.extra a.max_states (answers_of before) c.in-Err.stop c.learn_outcome-outcome.result c.refuse.result.outcome apart stops c.learn_outcome-outcome.ensures c.refuse.ensures.outcome is)
+    (stopped_crowd (length m.inputs) (length m.outputs) a.extra a.max_states (answers_of before) c.in-Err.stop c.learn_outcome-outcome.result c.refuse.result.outcome apart own stops c.learn_outcome-outcome.ensures c.refuse.ensures.outcome is)
 
 pub returns-clause-suite : goal.returns-clause-suite
 returns-clause-suite g c states number is =
+    let own = subst (λ (x : Result Found LearnStop). IfErr x IsOwnStop) c.in-Err.is c.learned_of-learned.ensures.own in
     let m = c.args.machine in
     let a = c.args.arguments.now in
     let before = c.learned_of-learned.result.kept.answers in
     let stops = subst (λ (r : Result Found LearnStop). IfErr r (StopsAs (length m.inputs) (length m.outputs) a.extra a.max_states (answers_of before))) c.in-Err.is c.learned_of-learned.ensures.stops in
     subst (λ (k : List KeptAnswer). HasLargeSuite (length m.inputs) (length m.outputs) a.extra a.max_states (answers_of k) states number) (ap (λ k. k.answers) (sym c.refuse.ensures.kept))
-    (stopped_suite (length m.inputs) (length m.outputs) a.extra a.max_states (answers_of before) c.in-Err.stop c.learn_outcome-outcome.result c.refuse.result.outcome states number c.learned_of-learned.ensures.words stops c.learn_outcome-outcome.ensures c.refuse.ensures.outcome is)
+    (stopped_suite (length m.inputs) (length m.outputs) a.extra a.max_states (answers_of before) c.in-Err.stop c.learn_outcome-outcome.result c.refuse.result.outcome states number own c.learned_of-learned.ensures.words stops c.learn_outcome-outcome.ensures c.refuse.ensures.outcome is)
 
 pub returns-clause-writes : goal.returns-clause-writes
 returns-clause-writes g c =
+    let own = subst (λ (x : Result Found LearnStop). IfErr x IsOwnStop) c.in-Err.is c.learned_of-learned.ensures.own in
     let calls = g.F.Files.calls c.args.files.now in
-    stopped_has (λ (o : Outcome). MadeWrites c.args.arguments.now o calls calls) c.in-Err.stop c.learn_outcome-outcome.result c.refuse.result.outcome c.learn_outcome-outcome.ensures c.refuse.ensures.outcome
+    stopped_has (λ (o : Outcome). MadeWrites c.args.arguments.now o calls calls) c.in-Err.stop c.learn_outcome-outcome.result c.refuse.result.outcome own c.learn_outcome-outcome.ensures c.refuse.ensures.outcome
     (0, gained_none calls) (λ words. refl) (λ states number. refl)

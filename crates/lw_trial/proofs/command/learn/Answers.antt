@@ -16,6 +16,7 @@ report-requires-clause-reached g c =
       within = c.requires.complete;
       runs = came.kept;
       stops = came.stops;
+      own = came.own;
       reached = came.reached;
     } in
     let ok = subst (λ (r : Result Learned LearnStop). HasCome c.args.drawn.now.machine c.workers.result kept r) c.in-Ok.is all in
@@ -38,6 +39,7 @@ returns-in-Err-clause-ran g c =
       within = c.requires.complete;
       runs = came.kept;
       stops = came.stops;
+      own = came.own;
       reached = came.reached;
     } in
     let err = subst (λ (r : Result Learned LearnStop). HasCome c.args.drawn.now.machine c.workers.result kept r) c.in-Err.is all in

@@ -1,6 +1,7 @@
-use Rattle.std.proofs.Common.{◌<◌, ℕ, List, [], length, get_or, map, sym, ap, ◌∙◌, subst, arith, vec_capacity, Vec, Global}
+use Rattle.std.proofs.Common.{◌<◌, ℕ, List, length, map, sym, ap, ◌∙◌, subst, arith, vec_capacity, Vec, Global}
 use Rattle.std.specs.List.{All}
-use Rattle.std.proofs.lemmas.List.{take_at, length-map}
+use Rattle.std.proofs.lemmas.List.{length-map}
+use Rattle.lw_words.specs.Renumbering.{renumbered}
 use Rattle.lw_desk.proofs.Bringing.{shared_seen_declared, below_table, shared_seen_free, here_inside, old_items}
 use Rattle.lw_desk.proofs.out_names.OutNames.renumber.Goals as goal
 
@@ -9,16 +10,15 @@ returns-then-not-self c =
     let n = c.self.inside in
     shared_seen_declared n.free n.names.items (map (λ t. t.items) n.tables.items) (vec_capacity n.names) (map (λ t. vec_capacity t) n.tables.items) c.args.self.now c.self.view_is c.self.invariant c.if-not-self.true c.args.actor c.args.outs c.requires.numbers
 
-pub renumber_by-requires : goal.renumber_by-requires
-renumber_by-requires c =
+pub renumber-requires : goal.renumber-requires
+renumber-requires c =
     let n = c.self.inside in
     let tables : List (List ℕ) = map (λ t. t.items) n.tables.items in
     let inside = here_inside n.free n.names.items tables (vec_capacity n.names) (map (λ t. vec_capacity t) n.tables.items) c.args.self.now c.self.view_is c.self.invariant c.if-not-self.false c.args.actor c.requires.actor c.args.outs c.requires.numbers in
     let below = below_table n.free n.names.items tables (vec_capacity n.names) (map (λ t. vec_capacity t) n.tables.items) c.args.self.now c.self.view_is c.self.invariant c.if-not-self.false c.args.actor c.requires.actor c.args.outs c.requires.numbers in
     let within : c.args.actor < length n.tables.items = omega (arith, inside, length-map n.tables.items (λ (t : Vec ℕ Global). t.items)) in
-    let table = old_items (λ (t : Vec ℕ Global). t.items) (λ (t : Vec ℕ Global). vec_capacity t) n.tables.items c.args.actor c.index-table.result.now c.index-table.result.now within c.index-table.ensures in
-    subst (λ (l : List ℕ). All (λ y. y < length l) c.as_mut_slice.result.now) (table ∙ sym c.as_slice.ensures.value)
-    (subst (All (λ y. y < length (get_or tables c.args.actor []))) (sym (c.as_mut_slice.ensures.value ∙ c.into_letters-letters.ensures)) below)
+    let table = old_items (λ (t : Vec ℕ Global). t.items) (λ (t : Vec ℕ Global). vec_capacity t) n.tables.items c.args.actor c.index.result.now c.index.result.now within c.index.ensures in
+    subst (λ (l : List ℕ). All (λ y. y < length l) c.args.outs) (table ∙ sym c.as_slice.ensures.value) below
 
 pub returns : goal.returns
 returns c =
@@ -26,11 +26,8 @@ returns c =
     let tables : List (List ℕ) = map (λ t. t.items) n.tables.items in
     let inside = here_inside n.free n.names.items tables (vec_capacity n.names) (map (λ t. vec_capacity t) n.tables.items) c.args.self.now c.self.view_is c.self.invariant c.if-not-self.false c.args.actor c.requires.actor c.args.outs c.requires.numbers in
     let within : c.args.actor < length n.tables.items = omega (arith, inside, length-map n.tables.items (λ (t : Vec ℕ Global). t.items)) in
-    let table = old_items (λ (t : Vec ℕ Global). t.items) (λ (t : Vec ℕ Global). vec_capacity t) n.tables.items c.args.actor c.index-table.result.now c.index-table.result.now within c.index-table.ensures in
+    let table = old_items (λ (t : Vec ℕ Global). t.items) (λ (t : Vec ℕ Global). vec_capacity t) n.tables.items c.args.actor c.index.result.now c.index.result.now within c.index.ensures in
     let told = shared_seen_free n.free n.names.items tables (vec_capacity n.names) (map (λ t. vec_capacity t) n.tables.items) c.args.self.now c.self.view_is c.self.invariant c.if-not-self.false c.args.actor c.requires.actor c.args.outs c.requires.numbers in
-    c.from_letters.ensures
-    ∙ (take_at c.renumber_by.new.letters _ _ (omega arith)
-    ∙ (c.renumber_by.ensures
-    ∙ (ap (λ (l : List ℕ). map (λ y. get_or l y 0) c.as_mut_slice.result.now) (c.as_slice.ensures.value ∙ sym table)
-    ∙ (ap (λ (l : List ℕ). map (λ y. get_or (get_or tables c.args.actor []) y 0) l) (c.as_mut_slice.ensures.value ∙ c.into_letters-letters.ensures)
-    ∙ told))))
+    c.renumber.ensures
+    ∙ (ap (λ (l : List ℕ). renumbered l c.args.outs) (c.as_slice.ensures.value ∙ sym table)
+    ∙ told)

@@ -1,4 +1,4 @@
-use Rattle.std.proofs.Common.{rules, ◌≡◌, ◌∙◌, ◌≢◌, ℕ, List, [], ◌∷◌, ◌++◌, Some, map, string_bytes, refl, ap, sym}
+use Rattle.std.proofs.Common.{rules, ◌≡◌, ◌∙◌, List, [], ◌∷◌, ◌++◌, map, string_bytes, refl, ap, sym}
 use Rattle.std.proofs.lemmas.List.{map-append}
 use Rattle.lw_outside.specs.Files.{File, file_at}
 use Rattle.lw_outside.proofs.FileLemmas.{written_at, written_beside}

@@ -1,0 +1,8 @@
+pub mod Calls
+pub mod Covering
+pub mod Naming
+pub mod Pieces
+pub mod Playing
+pub mod Spelling
+pub mod Splitting
+pub mod Standing

@@ -1,0 +1,15 @@
+use Rattle.std.proofs.Common.{◌≡◌, ◌≤◌, ◌-◌, length, take}
+use Rattle.lw_outside.specs.Streams.{TakesAll}
+use Rattle.lw_line.proofs.serving.put_all.Given as goal
+
+abbrev pub invariant-loop-put : goal.invariant-loop-put
+invariant-loop-put g l =
+    let O = g.O.Sink in
+    record {
+      within : l.put ≤ length l.bytes;
+      taken : TakesAll (take l.put l.bytes) (O.taken l.fn.sink) (O.taken l.sink);
+      quiet : O.faults l.sink ≡ O.faults l.fn.sink;
+    }
+
+abbrev pub decreases-loop-put : goal.decreases-loop-put
+decreases-loop-put g l = length l.bytes - l.put

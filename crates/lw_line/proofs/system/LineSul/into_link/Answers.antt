@@ -1,0 +1,11 @@
+use Rattle.std.proofs.Common.{subst}
+use Rattle.lw_line.specs.Causes.{IsTranscriptOf}
+use Rattle.lw_line.proofs.Calls.{told_of}
+use Rattle.lw_line.proofs.system.LineSul.into_link.Goals as goal
+
+pub returns-clause-told : goal.returns-clause-told
+returns-clause-told g c =
+    let L = g.L.Link in
+    let s = c.self.inside in
+    subst (λ s. IsTranscriptOf s.letters s.names s.most (L.faults s.link) s.stop (L.transcript s.link)) c.self.view_is
+    (told_of s.letters s.outputs.names s.outputs.most (L.faults s.link) s.started s.inbox s.stop (L.transcript s.link) c.self.invariant.link)

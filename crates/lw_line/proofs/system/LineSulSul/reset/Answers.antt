@@ -1,0 +1,48 @@
+use Rattle.std.proofs.Common.{◌≡◌, None, Err, option_map, rules, ap, ◌∙◌}
+use Rattle.lw_words.specs.declared.stop.SulStop.{SulStop}
+use Rattle.lw_sul.specs.Runs.{after_reset}
+use Rattle.lw_line.specs.LineState.{told_runs}
+use Rattle.lw_line.proofs.Calls.{reset_ready, reset_refused}
+use Rattle.lw_line.proofs.system.LineSulSul.reset.Goals as goal
+
+pub invariant_of-self : goal.invariant_of-self
+invariant_of-self g c =
+    let L = g.L.Link in
+    let s = c.self.inside in
+    let live : s.stop ≡ None = search rules in
+    let done =
+    reset_ready s.letters s.outputs.names s.outputs.most (L.faults s.link) (L.ends s.link) (L.faults c.start.new.link) (L.ends c.start.new.link) s.started s.inbox c.start.new.inbox s.stop (L.transcript s.link) (L.transcript c.start.new.link) live c.self.invariant
+    c.in-Ok.ensures.ready in
+    done.0
+
+pub returns-in-Ok-clause-begins : goal.returns-in-Ok-clause-begins
+returns-in-Ok-clause-begins g c =
+    let L = g.L.Link in
+    let s = c.self.inside in
+    let live : s.stop ≡ None = search rules in
+    let done =
+    reset_ready s.letters s.outputs.names s.outputs.most (L.faults s.link) (L.ends s.link) (L.faults c.start.new.link) (L.ends c.start.new.link) s.started s.inbox c.start.new.inbox s.stop (L.transcript s.link) (L.transcript c.start.new.link) live c.self.invariant
+    c.in-Ok.ensures.ready in
+    let view = ap (λ s. told_runs s.letters s.names (L.transcript s.link)) c.self.view_is in
+    done.1 ∙ ap (option_map after_reset) view
+
+pub invariant_of-self-in-Err : goal.invariant_of-self-in-Err
+invariant_of-self-in-Err g c =
+    let L = g.L.Link in
+    let s = c.self.inside in
+    let live : s.stop ≡ None = search rules in
+    let done =
+    reset_refused s.letters s.outputs.names s.outputs.most (L.faults s.link) (L.ends s.link) (L.faults c.start.new.link) (L.ends c.start.new.link) s.started s.inbox c.start.new.inbox s.stop (L.transcript s.link) (L.transcript c.start.new.link) live c.self.invariant
+    c.in-Err.stop c.copy.result c.copy.ensures (λ is. c.in-Err.ensures.failed (ap (λ (e : SulStop). Err e) is)) (λ is. c.in-Err.ensures.gone (ap (λ (e : SulStop). Err e) is)) c.in-Err.ensures.err in
+    done.0
+
+pub returns-in-Err-clause-left : goal.returns-in-Err-clause-left
+returns-in-Err-clause-left g c =
+    let L = g.L.Link in
+    let s = c.self.inside in
+    let live : s.stop ≡ None = search rules in
+    let done =
+    reset_refused s.letters s.outputs.names s.outputs.most (L.faults s.link) (L.ends s.link) (L.faults c.start.new.link) (L.ends c.start.new.link) s.started s.inbox c.start.new.inbox s.stop (L.transcript s.link) (L.transcript c.start.new.link) live c.self.invariant
+    c.in-Err.stop c.copy.result c.copy.ensures (λ is. c.in-Err.ensures.failed (ap (λ (e : SulStop). Err e) is)) (λ is. c.in-Err.ensures.gone (ap (λ (e : SulStop). Err e) is)) c.in-Err.ensures.err in
+    let view = ap (λ s. told_runs s.letters s.names (L.transcript s.link)) c.self.view_is in
+    done.1 ∙ view

@@ -1,0 +1,10 @@
+//! What no clause says: lines by hand, faults at each call, and the order of the calls.
+
+mod asking;
+mod calls;
+mod free_names;
+mod lines;
+mod scripted;
+mod served;
+mod session;
+mod streams;

@@ -1,0 +1,167 @@
+//! Lines by hand, with the letter `t` and the outputs `0` and `1`.
+
+use super::asking::{Ending, declared, ends};
+use super::scripted::Script;
+use std::alloc::Global;
+use std::test::Fail;
+
+/// What a child says, the outputs that are awaited, and how asking ends.
+struct Row {
+    says: &'static [u8],
+    outs: &'static [u16],
+    want: Ending,
+}
+
+static ROWS: [Row; 16] = [
+    Row {
+        says: b"ready\nout 0\nout 0\n",
+        outs: &[0, 0],
+        want: Ending::Answered,
+    },
+    Row {
+        says: b"ready\r\nout 0\r\n",
+        outs: &[0],
+        want: Ending::Answered,
+    },
+    Row {
+        says: b"ready\r\nout 1\r\nout 0\n",
+        outs: &[1, 0],
+        want: Ending::Answered,
+    },
+    Row {
+        says: b"ready\nout 1\n",
+        outs: &[0],
+        want: Ending::Otherwise,
+    },
+    Row {
+        says: b"ready\nout 7\n",
+        outs: &[0],
+        want: Ending::Bad(b"out 7"),
+    },
+    Row {
+        says: b"Ready\n",
+        outs: &[],
+        want: Ending::Bad(b"Ready"),
+    },
+    Row {
+        says: b"\n",
+        outs: &[],
+        want: Ending::Bad(b""),
+    },
+    Row {
+        says: b"ready\rx\n",
+        outs: &[],
+        want: Ending::Bad(b"ready\rx"),
+    },
+    Row {
+        says: b"ready\r\r\n",
+        outs: &[],
+        want: Ending::Bad(b"ready\r"),
+    },
+    Row {
+        says: b"ready\nout  0\n",
+        outs: &[0],
+        want: Ending::Bad(b"out  0"),
+    },
+    Row {
+        says: b"ready\nready\n",
+        outs: &[0],
+        want: Ending::Bad(b"ready"),
+    },
+    Row {
+        says: b"out 0\n",
+        outs: &[],
+        want: Ending::Bad(b"out 0"),
+    },
+    Row {
+        says: b"",
+        outs: &[],
+        want: Ending::Gone,
+    },
+    Row {
+        says: b"ready",
+        outs: &[],
+        want: Ending::Gone,
+    },
+    Row {
+        says: b"ready\nout 0\nout 0",
+        outs: &[0, 0],
+        want: Ending::Gone,
+    },
+    Row {
+        says: b"ready\nout 0\n",
+        outs: &[0, 0],
+        want: Ending::Gone,
+    },
+];
+
+fn row_holds(alloc: Global, row: &Row, piece: usize) -> Result<bool, Fail> {
+    let script = Script {
+        text: row.says,
+        piece,
+        fails: None,
+    };
+    let mut sul = declared(alloc, script)?;
+    Ok(ends(&mut sul, row.outs, row.want))
+}
+
+/// Whether each row holds where so many bytes come at a time.
+fn rows_hold(alloc: Global, piece: usize) -> Result<bool, Fail> {
+    for row in &ROWS {
+        if !row_holds(alloc, row, piece)? {
+            return Ok(false);
+        }
+    }
+    Ok(true)
+}
+
+#[test]
+fn rows_hold_however_the_bytes_come(rt: HostRuntime) -> Result<(), Fail> {
+    assert!(rt; rows_hold(rt.alloc(), 1)?);
+    assert!(rt; rows_hold(rt.alloc(), 7)?);
+    assert!(rt; rows_hold(rt.alloc(), 256)?);
+    Ok(())
+}
+
+static LONG: [u8; 300] = [b'x'; 300];
+
+static LONGEST_LINE: &[u8] = b"xxxxxxxxxxxxxxxxxxxxxxxxxxxxxxxxxxxxxxxxxxxxxxxxxxxxxxxxxxxxxxxx\
+xxxxxxxxxxxxxxxxxxxxxxxxxxxxxxxxxxxxxxxxxxxxxxxxxxxxxxxxxxxxxxxx\
+xxxxxxxxxxxxxxxxxxxxxxxxxxxxxxxxxxxxxxxxxxxxxxxxxxxxxxxxxxxxxxxx\
+xxxxxxxxxxxxxxxxxxxxxxxxxxxxxxxxxxxxxxxxxxxxxxxxxxxxxxxxxxxxxxx\n";
+
+fn answers_badly(alloc: Global, says: &'static [u8], want: &'static [u8]) -> Result<bool, Fail> {
+    let script = Script {
+        text: says,
+        piece: 100,
+        fails: None,
+    };
+    let mut sul = declared(alloc, script)?;
+    Ok(ends(&mut sul, &[], Ending::Bad(want)))
+}
+
+#[test]
+fn a_line_has_at_most_256_bytes(rt: HostRuntime) -> Result<(), Fail> {
+    assert!(rt; answers_badly(rt.alloc(), &LONG, &LONG[..256])?);
+    assert!(rt; answers_badly(rt.alloc(), LONGEST_LINE, &LONG[..255])?);
+    Ok(())
+}
+
+fn fails_at(alloc: Global, call: u64) -> Result<bool, Fail> {
+    let script = Script {
+        text: b"ready\nout 0\nout 0\n",
+        piece: 6,
+        fails: Some(call),
+    };
+    let mut sul = declared(alloc, script)?;
+    Ok(ends(&mut sul, &[0, 0], Ending::Failed))
+}
+
+#[test]
+fn each_call_may_fail(rt: HostRuntime) -> Result<(), Fail> {
+    for call in 0..6 {
+        assert!(rt; fails_at(rt.alloc(), call)?);
+    }
+    assert!(rt; !fails_at(rt.alloc(), 6)?);
+    Ok(())
+}

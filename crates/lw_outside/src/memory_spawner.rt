@@ -1,0 +1,323 @@
+//! A spawner in memory.
+ghost use Rattle.std.specs.Prelude.{◌≡◌, ◌<◌, ◌≤◌, ◌+◌, [], ◌∷◌, ◌++◌, length, map, slice_index_or, true, false, Contains, Some, None, Err, IfOk, IfSome, OnOk, OnErr, option_map, string_bytes, vec_capacity, vec_len};
+ghost use Rattle.std.specs.List.{All};
+ghost use Rattle.lw_words.specs.Cause.{CountedFault};
+ghost use Rattle.lw_outside.specs.Links.{IsUntouched, with_start};
+ghost use Rattle.lw_outside.specs.Memory.{AllPlay, EachRecites, HasHeard, is_planned, new_link, new_spawner, next_link, one_more, retired_of, speaker_at, transcript_of};
+ghost use Rattle.lw_outside.specs.bodies.Cast.{cast_of};
+ghost use Rattle.lw_outside.specs.bodies.Child.{IsFresh, speaker_of};
+ghost use Rattle.lw_outside.specs.declared.links.StartStop.{StartStop as StartRefusal};
+
+use crate::cast::Cast;
+use crate::child::Child;
+use crate::{Link, MemoryLink, Spawner, StartStop, Transcript};
+use http_server::Log;
+use lw_json::Machine;
+use lw_words::NoMemory;
+use std::alloc::Global;
+use std::marker::Model;
+
+/// A spawner of links in memory. The program that a start names is not looked at.
+/// Contracts see what stands at the other ends of its links, the room and the plan of each, the plan of the starts with the
+/// number of the next one, what was started and retired, the words of the starts, and the count of faults.
+#[derive(Drop)]
+pub struct MemorySpawner {
+    cast: Cast,
+    room: usize,
+    links: Vec<Vec<u64>>,
+    plan: Vec<u64>,
+    made: u64,
+    started: usize,
+    commands: Vec<Vec<String>>,
+    transcripts: Vec<Transcript>,
+    retired: Log<MemoryLink, ()>,
+    faults: u64,
+    alloc: Global,
+}
+
+impl Model for MemorySpawner {
+    ghost use Rattle.std.specs.Prelude.{map, string_bytes, vec_capacity};
+    ghost use Rattle.lw_outside.specs.Memory.{SpawnerState};
+
+    ghost Value = { SpawnerState };
+
+    ghost use Rattle.lw_outside.specs.bodies.Cast.{cast_of};
+    ghost use Rattle.lw_outside.specs.bodies.Spawner.{KeepsRetired};
+
+    ghost view = { λ s. record {
+      speakers = cast_of s.cast;
+      room = s.room;
+      links = map (λ l. l.items) s.links.items;
+      plan = s.plan.items;
+      made = s.made;
+      started = s.started;
+      commands = map (λ c. map (λ w. string_bytes w) c.items) s.commands.items;
+      retired = map (λ r. r.0) s.retired.items;
+      faults = s.faults;
+    } };
+
+    ghost invariant = { λ s. KeepsRetired s.started (vec_capacity s.transcripts) (map (λ r. r.0) s.retired.items)
+        (map (λ t. record { sent = t.sent; received = t.received }) s.transcripts.items) };
+}
+
+/// The same words once more.
+fn copy_words(alloc: Global, words: &[String]) -> Result<Vec<String>, NoMemory>
+    ensures { IfOk result (λ copies. map (λ w. string_bytes w) copies.items ≡
+        map (λ w. string_bytes w) words.now) }
+{
+    let mut copies = Vec::with_capacity(alloc, words.len())?;
+    for word in words {
+        copies.push(String::from_str(alloc, word.as_str())?)?;
+    }
+    Ok(copies)
+}
+
+/// The plan of a link by its number: none where the list is shorter.
+fn plan_of(alloc: Global, links: &[Vec<u64>], number: usize) -> Result<Vec<u64>, NoMemory>
+    ensures { IfOk result (λ plan. plan.items ≡
+        slice_index_or (map (λ l. l.items) links.now) number []) }
+{
+    match links.get(number) {
+        Some(plan) => Ok(Vec::from_slice(alloc, plan)?),
+        None => Ok(Vec::new(alloc)),
+    }
+}
+
+/// Takes the room for the transcripts of one more link than were started, and says how many that are.
+fn make_room(transcripts: &mut Vec<Transcript>, started: usize) -> Result<usize, NoMemory>
+    requires { vec_len transcripts.old ≤ started }
+    ensures items { transcripts.new.items ≡ transcripts.old.items }
+    ensures more { IfOk result (λ n. (n ≡ started + 1) × (n ≤ vec_capacity transcripts.new)) }
+    ensures capacity { vec_capacity transcripts.old ≤ vec_capacity transcripts.new }
+{
+    let Some(more) = started.checked_add(1) else {
+        return Err(NoMemory);
+    };
+    transcripts.reserve(more - transcripts.len())?;
+    Ok(more)
+}
+
+impl MemorySpawner {
+    /// Each link is to a child that plays the machine, and has room for `room` bytes that are sent and received. The starts
+    /// whose numbers from 0 the plan has are to fail, and of the i-th link the calls that the i-th plan of `links` has.
+    pub fn serving(
+        alloc: Global,
+        m: Machine,
+        room: usize,
+        plan: Vec<u64>,
+        links: Vec<Vec<u64>>,
+    ) -> Result<MemorySpawner, NoMemory>
+        ensures { IfOk result (λ s. s ≡ new_spawner (AllPlay m) room plan.items
+            (map (λ l. l.items) links.items)) }
+    {
+        Ok(MemorySpawner::with_cast(alloc, Cast::AllServe(m), room, plan, links))
+    }
+
+    /// The i-th link says the i-th script, whatever is sent, and then ends. A start past the last script fails. Room and plans
+    /// are those of `serving`.
+    pub fn scripted(
+        alloc: Global,
+        scripts: Vec<Vec<u8>>,
+        room: usize,
+        plan: Vec<u64>,
+        links: Vec<Vec<u64>>,
+    ) -> Result<MemorySpawner, NoMemory>
+        ensures { IfOk result (λ s. s ≡ new_spawner
+            (EachRecites (map (λ b. b.items) scripts.items)) room plan.items
+            (map (λ l. l.items) links.items)) }
+    {
+        Ok(MemorySpawner::with_cast(alloc, Cast::EachReads(scripts), room, plan, links))
+    }
+
+    fn with_cast(
+        alloc: Global,
+        cast: Cast,
+        room: usize,
+        plan: Vec<u64>,
+        links: Vec<Vec<u64>>,
+    ) -> MemorySpawner
+        ensures { result ≡ new_spawner (cast_of cast) room plan.items
+            (map (λ l. l.items) links.items) }
+    {
+        MemorySpawner {
+            cast,
+            room,
+            links,
+            plan,
+            made: 0,
+            started: 0,
+            commands: Vec::new(alloc),
+            transcripts: Vec::new(alloc),
+            retired: Log::new(),
+            faults: 0,
+            alloc,
+        }
+    }
+
+    /// The words of its starts so far, failed ones too, but not those for which there was no memory.
+    pub fn started(&self) -> &[Vec<String>]
+        ensures { map (λ c. map (λ w. string_bytes w) c.items) result.now ≡ self.now.commands }
+    {
+        self.commands.as_slice()
+    }
+
+    /// What went over the links that were retired, in the order of their retirement.
+    pub fn retired(&self) -> &[Transcript]
+        ensures told { map (λ t. record { sent = t.sent; received = t.received }) result.now ≡
+            map transcript_of self.now.retired }
+        ensures heard { All HasHeard self.now.retired }
+    {
+        self.transcripts.as_slice()
+    }
+
+    /// Whether the next start is planned to fail.
+    fn fails_by_plan(&self) -> bool
+        ensures { result ≡ is_planned self.now.plan self.now.made }
+    {
+        self.plan.contains(&self.made)
+    }
+
+    /// What stands at the other end of the next link, if anything does.
+    fn next_child(&self) -> Result<Option<Child>, NoMemory>
+        ensures { IfOk result (λ child. (option_map speaker_of child ≡
+            speaker_at self.now.speakers self.now.started) × IfSome child IsFresh) }
+    {
+        self.cast.child(self.alloc, self.started)
+    }
+
+    /// The plan of the next link.
+    fn next_plan(&self) -> Result<Vec<u64>, NoMemory>
+        ensures { IfOk result (λ plan. plan.items ≡
+            slice_index_or self.now.links self.now.started []) }
+    {
+        plan_of(self.alloc, &self.links, self.started)
+    }
+
+    /// A link to this child, with the room, the number and the plan of the next one.
+    fn link_to(&self, child: Child) -> Result<MemoryLink, NoMemory>
+        requires { IsFresh child }
+        ensures { IfOk result (λ link. link ≡ new_link self.now.started (speaker_of child)
+            self.now.room (slice_index_or self.now.links self.now.started [])) }
+    {
+        let plan = self.next_plan()?;
+        MemoryLink::start(self.alloc, self.started, child, self.room, plan)
+    }
+
+    /// The link that is started next. None where the start is to fail.
+    fn next_link(&self) -> Result<Option<MemoryLink>, NoMemory>
+        ensures { IfOk result (λ link. link ≡ next_link self.now) }
+    {
+        if self.fails_by_plan() {
+            return Ok(None);
+        }
+        match self.next_child()? {
+            Some(child) => Ok(Some(self.link_to(child)?)),
+            None => Ok(None),
+        }
+    }
+}
+
+impl MemorySpawner {
+    /// For the proof alone: each link that was retired was started before.
+    fn keeps_earlier(&self)
+        ensures { All (λ r. r.number < self.now.started) (map retired_of self.now.retired) }
+    {
+        let _ = &self.started;
+    }
+}
+
+impl Spawner for MemorySpawner {
+    type Link = MemoryLink;
+
+    ghost use Rattle.std.specs.Prelude.{Some, map};
+    ghost use Rattle.lw_outside.specs.Memory.{retired_of};
+
+    ghost faults = { λ s. s.faults };
+
+    ghost started = { λ s. s.started };
+
+    ghost retired = { λ s. map retired_of s.retired };
+
+    ghost commands = { λ s. Some s.commands };
+
+    fn start(&mut self, words: &[String]) -> Result<MemoryLink, StartStop>
+        requires { 0 < length words.now }
+        // What every spawner says of a start.
+        ensures number { IfOk result (λ l. l.number ≡ self.old.started) }
+        ensures unused { IfOk result (λ l. (l.faults ≡ 0) × (l.ends ≡ 0) ×
+            IsUntouched (Some (transcript_of l))) }
+        ensures one_more { OnOk result (self.new.started ≡ self.old.started + 1) }
+        ensures none { OnErr result (self.new.started ≡ self.old.started) }
+        ensures ok { OnOk result (Some self.new.commands ≡
+            with_start (map (λ w. string_bytes w) words.now) (Some self.old.commands)) }
+        ensures failed { result ≡ Err StartRefusal.Failed →
+            CountedFault self.old.faults self.new.faults }
+        ensures failed_start { result ≡ Err StartRefusal.Failed → Some self.new.commands ≡
+            with_start (map (λ w. string_bytes w) words.now) (Some self.old.commands) }
+        ensures memory { result ≡ Err StartRefusal.NoMemory →
+            Some self.new.commands ≡ Some self.old.commands }
+        ensures quiet { OnOk result (self.new.faults ≡ self.old.faults) }
+        ensures counts { self.old.faults ≤ self.new.faults }
+        ensures retired { map retired_of self.new.retired ≡ map retired_of self.old.retired }
+        ensures earlier { All (λ r. r.number < self.old.started)
+            (map retired_of self.old.retired) }
+
+        // By the plan and what stands at the other end, and nothing else.
+        ensures exact { IfOk result (λ l. Some l ≡ next_link self.old) }
+        ensures refused { result ≡ Err StartRefusal.Failed → None ≡ next_link self.old }
+        ensures done { OnOk result (self.new ≡ record self.old {
+          made = one_more self.old.made;
+          started = self.old.started + 1;
+          commands =
+              self.old.commands ++ map (λ w. string_bytes w) words.now ∷ [];
+        }) }
+        ensures noted { result ≡ Err StartRefusal.Failed → self.new ≡ record self.old {
+          made = one_more self.old.made;
+          commands =
+              self.old.commands ++ map (λ w. string_bytes w) words.now ∷ [];
+          faults = one_more self.old.faults;
+        } }
+        ensures unnoted { result ≡ Err StartRefusal.NoMemory → self.new ≡ self.old }
+    {
+        self.keeps_earlier();
+        let command = copy_words(self.alloc, words)?;
+        self.commands.reserve(1)?;
+        let started = make_room(&mut self.transcripts, self.started)?;
+        let next = self.next_link()?;
+        self.made = self.made.saturating_add(1);
+        self.commands.push_reserved(command);
+        match next {
+            Some(link) => {
+                self.started = started;
+                Ok(link)
+            }
+            None => {
+                self.faults = self.faults.saturating_add(1);
+                Err(StartStop::Failed)
+            }
+        }
+    }
+
+    fn retire(&mut self, link: MemoryLink)
+        requires started { link.number < self.old.started }
+        requires once { ¬ Contains (map (λ r. r.number) (map retired_of self.old.retired))
+            link.number }
+        ensures retired { map retired_of self.new.retired ≡ map retired_of self.old.retired ++
+            record {
+              number = link.number;
+              faults = link.faults;
+              ends = link.ends;
+              transcript = Some (transcript_of link);
+            } ∷ [] }
+        ensures started { self.new.started ≡ self.old.started }
+        ensures faults { self.new.faults ≡ self.old.faults }
+        ensures commands { Some self.new.commands ≡ Some self.old.commands }
+
+        // The link is kept whole, and nothing else changes.
+        ensures done { self.new ≡ record self.old { retired = self.old.retired ++ link ∷ [] } }
+    {
+        let _number = link.number();
+        self.retired = self.retired.and(&link, &());
+        self.transcripts.push_reserved(link.into_transcript());
+    }
+}

@@ -1,0 +1,10 @@
+mod ClashLemmas
+pub mod LawLemmas
+mod LearnedLemmas
+mod MachineLemmas
+mod NumberLemmas
+pub mod OccurLemmas
+mod SortLemmas
+mod SuiteLemmas
+mod SureLemmas
+mod TestDesks

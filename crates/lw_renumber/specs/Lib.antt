@@ -1,0 +1,4 @@
+pub mod Laws
+pub mod Renaming
+pub mod Sorting
+pub mod TestNames

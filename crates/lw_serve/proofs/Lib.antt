@@ -1,0 +1,4 @@
+pub mod PlayedLemmas
+pub mod ReadLemmas
+pub mod RunLemmas
+pub mod UnreadLemmas

@@ -1,0 +1,30 @@
+-- What a machine that is served answers, by the outcome.
+use Rattle.std.specs.Prelude.{◌≡◌, ℕ, List, Option, Ok, Err}
+use Rattle.lw_words.specs.Cause.{CountedFault}
+use Rattle.lw_json.specs.declared.machine.Machine.{Machine}
+use Rattle.lw_line.specs.Serving.{GoesOn, Plays}
+use Rattle.lw_line.specs.declared.serving.Served.{Served as Done}
+use Rattle.lw_line.specs.declared.serving.ServedCause.TheVariants.{EndOfInput, Limit}
+use Rattle.lw_line.specs.declared.serving.ServeFault.TheVariants as fault
+use Rattle.lw_report.specs.States.{SinkState, SourceState}
+use Rattle.lw_report.specs.declared.outcome.Outcome.{Outcome}
+use Rattle.lw_report.specs.declared.outcome.Outcome.TheVariants.{Served, NoMemory, BadAsk, SourceFault, SinkFault}
+
+-- where the input is told, all answers of the machine's play on it were put, and the play ends so; where a stream failed, some
+-- answers were put, from the front on; and memory ran out only for the text about a line that ended the play
+abbrev pub PlaysTo : Machine → Option (List ℕ) → Outcome → Option (List ℕ) → Option (List ℕ) → Type 0
+PlaysTo m input (Served served) before now = Plays m input (Ok served) before now
+PlaysTo m input (BadAsk number) before now = Plays m input (Err (fault.BadLine number)) before now
+PlaysTo m input NoMemory before now = (number : ℕ) × Plays m input (Err (fault.BadLine number)) before now
+PlaysTo m input SourceFault before now = Plays m input (Err fault.SourceFault) before now
+PlaysTo m input SinkFault before now = Plays m input (Err fault.SinkFault) before now
+PlaysTo m input _ before now = ⊥
+
+-- a machine was played over an input and `out`, which were i and o and are j and p, and this is what it came to
+pub record IsPlayed (m : Machine) (i j : SourceState) (o p : SinkState) (outcome : Outcome) : Type 0 where
+  pub plays : PlaysTo m i.left outcome o.taken p.taken
+  pub source : outcome ≡ SourceFault → CountedFault i.faults j.faults × GoesOn m i.left j.left
+  pub sink : outcome ≡ SinkFault → CountedFault o.faults p.faults
+  pub ended : (served : Done) → outcome ≡ Served served → served.cause ≡ EndOfInput → CountedFault i.ends j.ends
+  pub limit : (served : Done) → outcome ≡ Served served → served.cause ≡ Limit → served.lines ≡ 4294967295
+  pub quiet : (served : Done) → outcome ≡ Served served → (j.faults ≡ i.faults) × (p.faults ≡ o.faults)
