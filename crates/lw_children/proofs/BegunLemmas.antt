@@ -5,9 +5,9 @@ use Rattle.std.proofs.lemmas.Bool.{cases_lt}
 use Rattle.std.proofs.lemmas.List.{get_or_append_left, length_push, get_or_push}
 use Rattle.lw_sul.specs.SessionState.{SessionState}
 use Rattle.lw_outside.specs.Links.{Retired, Transcript}
-use Rattle.lw_children.specs.LineState.{LineState}
+use Rattle.lw_line.specs.LineState.{LineState}
 use Rattle.lw_children.specs.Spawners.{SpawnerSeen, Starts}
-use Rattle.lw_children.specs.bodies.Crews.{AreEarlier, AreNew, HasBegun, IsLoose, count_link, new_session}
+use Rattle.lw_children.specs.Crews.{AreEarlier, AreNew, HasBegun, IsLoose, count_link, new_session}
 
 module _ {L : Type 0} (number faults ends : L → ℕ) (transcript : L → Option Transcript) (letters : List (List ℕ)) (outputs : Option (List (List ℕ))) where
   pub none_begun : (before : SpawnerSeen) → HasBegun number faults ends transcript letters outputs before [] None

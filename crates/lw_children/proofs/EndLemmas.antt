@@ -31,11 +31,11 @@ use Rattle.lw_workers.specs.Leaving.{HasLearned}
 use Rattle.lw_workers.specs.Machines.{IsReached, IsWithin}
 use Rattle.lw_workers.proofs.MachineLemmas.{no_clash_came, reached}
 use Rattle.lw_children.specs.Children.{IsCausedBy, IsChildStop, IsOfChildren, IsSound, IsStopped}
-use Rattle.lw_children.specs.Causes.{IsTranscriptOf}
+use Rattle.lw_line.specs.Causes.{IsTranscriptOf}
 use Rattle.lw_children.specs.Keeping.{KeepsChildren, count_of, most_of}
-use Rattle.lw_children.specs.LineState.{IsNaming, LineState, told_runs}
+use Rattle.lw_line.specs.LineState.{IsNaming, LineState, told_runs}
 use Rattle.lw_children.specs.Spawners.{SpawnerSeen, Starts, StartsAndRetires, StartsSome, with_starts}
-use Rattle.lw_children.specs.bodies.Crews.{AreLinkedWith, AreLinked, AreNew, BearsOut, FitsOutputs, HasBegun, HasRetired, IsChildSeen, IsChildrenPool, IsLoose, RetiresAll, RetiresWith, child_member, count_link, first_names, first_naming, has_number, line_seen, loose_records, new_session, retired_of}
+use Rattle.lw_children.specs.Crews.{AreLinkedWith, AreLinked, AreNew, BearsOut, FitsOutputs, HasBegun, HasRetired, IsChildSeen, IsChildrenPool, IsLoose, RetiresAll, RetiresWith, child_member, count_link, first_names, first_naming, has_number, line_seen, loose_records, new_session, retired_of}
 use Rattle.lw_children.specs.bodies.Ends.{AreChildEnds, IsChildEnd, broken_stop}
 use Rattle.lw_children.specs.declared.starting.Refusal.{Refusal}
 use Rattle.lw_children.specs.declared.starting.Refusal.TheVariants.{Failed, NoMemory}

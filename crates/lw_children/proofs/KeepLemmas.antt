@@ -11,12 +11,12 @@ use Rattle.lw_outside.specs.Lines.{lines_of}
 use Rattle.lw_outside.specs.Links.{Retired, Transcript}
 use Rattle.lw_desk.specs.Ending.{kept_runs}
 use Rattle.lw_pool.specs.Pool.{Seen, journal_runs}
-use Rattle.lw_children.specs.Causes.{EndsWithin, IsCounted, IsCovered, IsRefused, IsSpelled, IsTranscriptOf}
+use Rattle.lw_line.specs.Causes.{EndsWithin, IsCounted, IsCovered, IsRefused, IsSpelled, IsTranscriptOf}
 use Rattle.lw_children.specs.Children.{HasRefused, IfTold, IsSound, IsStopped}
 use Rattle.lw_children.specs.Keeping.{AreOwn, IsBroken, KeepsTold, KeepsTranscript, most_of}
-use Rattle.lw_children.specs.LineState.{IsNaming, told_runs}
-use Rattle.lw_children.specs.Transcripts.{lines_in, spelled}
-use Rattle.lw_children.specs.bodies.Crews.{BearsOut, FitsOutputs, IsChildSeen}
+use Rattle.lw_line.specs.LineState.{IsNaming, told_runs}
+use Rattle.lw_line.specs.Transcripts.{lines_in, spelled}
+use Rattle.lw_children.specs.Crews.{BearsOut, FitsOutputs, IsChildSeen}
 
 abbrev some_by : {X : Type 0} → X → Option X → X
 some_by x None = x

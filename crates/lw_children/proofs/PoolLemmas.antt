@@ -15,8 +15,8 @@ use Rattle.lw_pool.specs.Sharing.{declared_by}
 use Rattle.lw_pool.proofs.JoinLemmas.{declared_shared}
 use Rattle.lw_workers.specs.Leaving.{HasLearned}
 use Rattle.lw_children.specs.Keeping.{count_of, most_of}
-use Rattle.lw_children.specs.LineState.{LineState}
-use Rattle.lw_children.specs.bodies.Crews.{AreNew, FitsOutputs, IsChildSeen, child_member, first_names, first_naming, line_seen, new_session}
+use Rattle.lw_line.specs.LineState.{LineState}
+use Rattle.lw_children.specs.Crews.{AreNew, FitsOutputs, IsChildSeen, child_member, first_names, first_naming, line_seen, new_session}
 
 none_brought : (n i : ℕ) → get_or {A = List (List ℕ)} (replicate n []) i [] ≡ []
 none_brought zero i = refl

@@ -7,9 +7,9 @@ use Rattle.std.proofs.lemmas.List.Elements.{All-append, All-contains, All-map}
 use Rattle.lw_mealy.specs.Origin.{Origin}
 use Rattle.lw_sul.specs.SessionState.{SessionState}
 use Rattle.lw_outside.specs.Links.{Retired}
-use Rattle.lw_children.specs.LineState.{LineState}
+use Rattle.lw_line.specs.LineState.{LineState}
 use Rattle.lw_children.specs.Spawners.{SpawnerSeen}
-use Rattle.lw_children.specs.bodies.Crews.{AreLinked, AreLinkedWith, BearsOut, RetiresAll, count_link, has_number, line_seen}
+use Rattle.lw_children.specs.Crews.{AreLinked, AreLinkedWith, BearsOut, RetiresAll, count_link, has_number, line_seen}
 
 pub some_number : (a b : ℕ) → Some a ≡ Some b → a ≡ b
 some_number a b same = ap (λ (o : Option ℕ). by o) same

@@ -6,7 +6,7 @@ use Rattle.lw_outside.specs.Links.{Retired, with_start}
 use Rattle.lw_outside.specs.declared.links.StartStop.{StartStop}
 use Rattle.lw_outside.specs.declared.links.StartStop.TheVariants as start
 use Rattle.lw_children.specs.declared.starting.Refusal.TheVariants.{Failed}
-use Rattle.lw_children.specs.bodies.Crews.{count_link}
+use Rattle.lw_children.specs.Crews.{count_link}
 use Rattle.lw_children.specs.bodies.Refusals.{refusal_by}
 use Rattle.lw_children.specs.Spawners.{SpawnerSeen, Starts, StartsSome, with_starts}
 

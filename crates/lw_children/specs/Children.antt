@@ -16,7 +16,7 @@ use Rattle.lw_rounds.specs.declared.learned.Learned.{Learned}
 use Rattle.lw_rounds.specs.declared.stops.LearnStop.{LearnStop}
 use Rattle.lw_rounds.specs.declared.stops.LearnStop.TheVariants as learn
 use Rattle.lw_workers.specs.Machines.{IsReached, IsWithin}
-use Rattle.lw_children.specs.Causes.{EndsWithin, IsRefused}
+use Rattle.lw_line.specs.Causes.{EndsWithin, IsRefused}
 use Rattle.lw_children.specs.Keeping.{AreOwn, KeepsChildren, count_of, most_of}
 use Rattle.lw_children.specs.Spawners.{SpawnerSeen, StartsAndRetires}
 

@@ -9,8 +9,8 @@ use Rattle.lw_outside.specs.Lines.{lines_of}
 use Rattle.lw_outside.specs.Links.{Retired, Transcript}
 use Rattle.lw_desk.specs.Ending.{kept_runs}
 use Rattle.lw_pool.specs.Pool.{AskedOnce, journal_runs}
-use Rattle.lw_children.specs.Causes.{IsRefused}
-use Rattle.lw_children.specs.Transcripts.{IsProper, lines_in, spelled}
+use Rattle.lw_line.specs.Causes.{IsRefused}
+use Rattle.lw_line.specs.Transcripts.{IsProper, lines_in, spelled}
 
 -- the greatest number of names of a child's outputs: those of a declared list, or 256
 abbrev pub most_of : Option (List (List ℕ)) → ℕ

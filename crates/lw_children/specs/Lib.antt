@@ -1,7 +1,5 @@
-pub mod Causes
 pub mod Children
+pub mod Crews
 pub mod Keeping
-pub mod LineState
 pub mod Spawners
-pub mod Transcripts
 pub mod bodies

@@ -1,4 +1,3 @@
 -- What the contracts of private functions cite, and no public clause.
-pub mod Crews
 pub mod Refusals
 pub mod Ends

@@ -1,9 +1,9 @@
 //! The retiring of the links of sessions.
 ghost use Rattle.std.specs.Prelude.{◌≡◌};
 ghost use Rattle.lw_children.specs.Spawners.{spawner_seen};
-ghost use Rattle.lw_children.specs.bodies.Crews.{AreLinked, AreLinkedWith, BearsOut, RetiresAll, RetiresWith, line_seen, retired_of};
+ghost use Rattle.lw_children.specs.Crews.{AreLinked, AreLinkedWith, BearsOut, RetiresAll, RetiresWith, line_seen, retired_of};
 
-use crate::line::LineSul;
+use lw_line::LineSul;
 use lw_outside::{Link, Spawner};
 use lw_sul::{Session, Sul};
 
@@ -20,7 +20,7 @@ fn link_of<L: Link + Drop>(session: Session<LineSul<L>>) -> L
 }
 
 /// Retires the links of sessions, in their order. May wait for the children's ends.
-pub(crate) fn retire_all<P: Spawner>(spawner: &mut P, sessions: Vec<Session<LineSul<P::Link>>>)
+pub fn retire_all<P: Spawner>(spawner: &mut P, sessions: Vec<Session<LineSul<P::Link>>>)
     requires linked { AreLinked P.Link.number sessions.items
         (spawner_seen (P.faults spawner.old) (P.started spawner.old) (P.retired spawner.old)
         (P.commands spawner.old)) }
@@ -37,7 +37,7 @@ pub(crate) fn retire_all<P: Spawner>(spawner: &mut P, sessions: Vec<Session<Line
 }
 
 /// Retires the links of sessions, and then one that no session was made of, if there is one. May wait for the children's ends.
-pub(crate) fn retire_with<P: Spawner>(
+pub fn retire_with<P: Spawner>(
     spawner: &mut P,
     sessions: Vec<Session<LineSul<P::Link>>>,
     loose: Option<P::Link>,

@@ -4,11 +4,11 @@ ghost use Rattle.std.specs.List.{All};
 ghost use Rattle.lw_words.specs.Cause.{CountedFault};
 ghost use Rattle.lw_outside.specs.Links.{IsUntouched, with_start};
 ghost use Rattle.lw_children.specs.Spawners.{Starts, StartsSome, spawner_seen};
-ghost use Rattle.lw_children.specs.bodies.Crews.{AreEarlier, HasBegun, IsLoose, count_link, new_line, new_session};
+ghost use Rattle.lw_children.specs.Crews.{AreEarlier, HasBegun, IsLoose, count_link, new_line, new_session};
 ghost use Rattle.lw_children.specs.bodies.Refusals.{refusal_by};
 ghost use Rattle.lw_children.specs.declared.starting.Refusal.{Refusal as Why};
 
-use crate::line::LineSul;
+use lw_line::LineSul;
 use crate::Command;
 use lw_outside::{Link, Spawner, StartStop};
 use lw_sul::Session;
@@ -17,7 +17,7 @@ use std::alloc::Global;
 
 /// Why a child's session was not made.
 #[derive(Clone, Copy, Debug, PartialEq, Eq)]
-pub(crate) enum Refusal {
+pub enum Refusal {
     /// It could not be started.
     Failed,
     NoMemory,
@@ -25,14 +25,14 @@ pub(crate) enum Refusal {
 
 /// A session that was not made, and the link to its child where that was started.
 #[derive(Drop)]
-pub(crate) struct Unmade<L> {
+pub struct Unmade<L> {
     pub refusal: Refusal,
     pub link: Option<L>,
 }
 
 /// The sessions that were made before one was not.
 #[derive(Drop)]
-pub(crate) struct Broken<L: Link> {
+pub struct Broken<L: Link> {
     pub sessions: Vec<Session<LineSul<L>>>,
     pub unmade: Unmade<L>,
 }
@@ -137,7 +137,7 @@ fn start_one<P: Spawner>(
 }
 
 /// Starts a child for each of so many instances, and makes their sessions, in the order of the instances.
-pub(crate) fn start_all<P: Spawner>(
+pub fn start_all<P: Spawner>(
     alloc: Global,
     spawner: &mut P,
     command: &Command,

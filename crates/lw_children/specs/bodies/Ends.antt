@@ -8,7 +8,7 @@ use Rattle.lw_outside.specs.Links.{Retired}
 use Rattle.lw_pool.specs.Pool.{Seen, journal_runs}
 use Rattle.lw_rounds.specs.declared.stops.LearnStop.{LearnStop}
 use Rattle.lw_rounds.specs.declared.stops.LearnStop.TheVariants as learn
-use Rattle.lw_children.specs.bodies.Crews.{BearsOut, IsChildSeen}
+use Rattle.lw_children.specs.Crews.{BearsOut, IsChildSeen}
 use Rattle.lw_children.specs.declared.starting.Refusal.{Refusal}
 use Rattle.lw_children.specs.declared.starting.Refusal.TheVariants.{Failed, NoMemory}
 

@@ -1,7 +1,7 @@
 use Rattle.std.proofs.Common.{◌≡◌, ◌++◌}
 use Rattle.std.specs.Vec.Iter.{into_iter_items}
 use Rattle.lw_children.specs.Spawners.{spawner_seen}
-use Rattle.lw_children.specs.bodies.Crews.{RetiresAll}
+use Rattle.lw_children.specs.Crews.{RetiresAll}
 use Rattle.lw_children.proofs.retiring.retire_all.Given as goal
 
 abbrev pub invariant-loop-session : goal.invariant-loop-session

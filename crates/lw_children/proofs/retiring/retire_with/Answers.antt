@@ -1,4 +1,3 @@
-use Rattle.lw_children.proofs.EndLemmas.{fresh_ends}
 use Rattle.lw_children.specs.Spawners.{spawner_seen}
 use Rattle.lw_children.proofs.RetireLemmas.{linked_first, last_not_retired}
 use Rattle.lw_children.proofs.retiring.retire_with.Goals as goal

@@ -2,9 +2,9 @@ use Rattle.std.proofs.Common.{ℕ, ◌≡◌, List, ◌∷◌, [], length, None,
 use Rattle.std.proofs.lemmas.List.{length_push}
 use Rattle.lw_words.specs.Cause.{CountedFault}
 use Rattle.lw_sul.specs.SessionState.{SessionState}
-use Rattle.lw_children.specs.LineState.{LineState}
+use Rattle.lw_line.specs.LineState.{LineState}
 use Rattle.lw_children.specs.Spawners.{Starts, spawner_seen}
-use Rattle.lw_children.specs.bodies.Crews.{HasBegun}
+use Rattle.lw_children.specs.Crews.{HasBegun}
 use Rattle.lw_children.proofs.BegunLemmas.{none_begun, more_begun, begun_with}
 use Rattle.lw_children.proofs.StartLemmas.{none_starts, one_link, then_starts, then_some}
 use Rattle.lw_children.proofs.starting.start_all.Goals as goal

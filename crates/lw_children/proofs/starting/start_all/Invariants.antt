@@ -1,6 +1,6 @@
 use Rattle.std.proofs.Common.{◌≡◌, ◌≤◌, length, None, vec_capacity, vec_len}
 use Rattle.lw_children.specs.Spawners.{Starts, spawner_seen}
-use Rattle.lw_children.specs.bodies.Crews.{HasBegun}
+use Rattle.lw_children.specs.Crews.{HasBegun}
 use Rattle.lw_children.proofs.starting.start_all.Given as goal
 
 -- so many sessions were made

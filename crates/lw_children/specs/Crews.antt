@@ -13,10 +13,10 @@ use Rattle.lw_rounds.specs.Stops.{learn_stop}
 use Rattle.lw_rounds.specs.declared.learned.Learned.{Learned}
 use Rattle.lw_rounds.specs.declared.stops.LearnStop.{LearnStop}
 use Rattle.lw_workers.specs.Leaving.{HasLearned}
-use Rattle.lw_children.specs.Causes.{IsCounted, IsTranscriptOf}
-use Rattle.lw_children.specs.LineState.{IsNaming}
+use Rattle.lw_line.specs.Causes.{IsCounted, IsTranscriptOf}
+use Rattle.lw_line.specs.LineState.{IsNaming}
 use Rattle.lw_children.specs.Keeping.{count_of, most_of}
-use Rattle.lw_children.specs.LineState.{LineState, told_runs}
+use Rattle.lw_line.specs.LineState.{LineState, told_runs}
 use Rattle.lw_children.specs.Spawners.{SpawnerSeen}
 
 -- what is seen of a session of a child, by the number of its link
