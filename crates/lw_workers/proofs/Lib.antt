@@ -1,5 +1,5 @@
 mod InstanceLemmas
 pub mod LeavingLemmas
-mod MachineLemmas
+pub mod MachineLemmas
 mod RunLemmas
 pub mod SendLemmas

@@ -28,7 +28,7 @@ use Rattle.lw_workers.specs.bodies.Instances.{IsPoolOf}
 use Rattle.lw_workers.proofs.RunLemmas.{keeps_runs}
 
 -- of answers that a machine gives, none clashed with those before it
-no_clash_came : (m : Rows) (kept : List KeptAnswer) (c : Clash) → Gives m (answers_of kept) → ¬ CameFirst kept c
+pub no_clash_came : (m : Rows) (kept : List KeptAnswer) (c : Clash) → Gives m (answers_of kept) → ¬ CameFirst kept c
 no_clash_came m kept c gives came =
     let none : Answer = record { word = []; outs = [] } in
     let long : length (answers_of (take c.second kept)) ≡ length (take c.second kept) = length-map (take c.second kept) answer_of in
@@ -64,7 +64,7 @@ never_stopped f sessions members are live i = subst (λ (ms : List (Member _)). 
     each (s ∷ ss) (suc k) = each ss k
 
 -- where the limits hold for some machine that gives the answers, a model comes or memory runs out
-reached : (a b k most : ℕ) (ks : List Answer) (r : Result Learned LearnStop) → ModelIsLeast → TooManyIsNone → TooLargeForAll → AreAnswers a ks → IfOk r (λ l. IsLearned a b k most ks l.model l.table) → IfErr r (StopsAs a b k most ks) → IfErr r IsOwnStop → (m : Rows) → IsWithin a k most m → Gives m ks → IsReached (length m) r
+pub reached : (a b k most : ℕ) (ks : List Answer) (r : Result Learned LearnStop) → ModelIsLeast → TooManyIsNone → TooLargeForAll → AreAnswers a ks → IfOk r (λ l. IsLearned a b k most ks l.model l.table) → IfErr r (StopsAs a b k most ks) → IfErr r IsOwnStop → (m : Rows) → IsWithin a k most m → Gives m ks → IsReached (length m) r
 reached a b k most ks (Ok l) least none large are learned stops own m within gives =
     omega (arith, least a b k most ks l.model l.table are learned m within.machine gives, learned.carried.refined)
 reached a b k most ks (Err (learn.Ask stop)) least none large are learned stops own m within gives = own

@@ -1,0 +1,370 @@
+-- What comes of a learning over children, however it ended.
+use Rattle.std.proofs.Common.{◌≡◌, ◌⊎◌, ⊎_elim, ℕ, ◌+◌, ◌-◌, ◌<◌, ◌≤◌, List, [], ◌∷◌, ◌++◌, length, map, get_or, Option, Some, None, Result, Ok, Err, IfOk, IfErr, OnOk, false, inl, inr, refl, ap, sym, ◌∙◌, subst, subst₂, append_assoc, append-nil, arith}
+use Rattle.std.specs.List.{All}
+use Rattle.std.proofs.lemmas.Bool.{cases_lt}
+use Rattle.std.proofs.lemmas.List.{get_or_append_left, get_or-append_right, length-append}
+use Rattle.std.proofs.lemmas.List.Elements.{All-map}
+use Rattle.lw_words.specs.Answer.{AreAnswers, IsAnswer, answer_of, answers_of}
+use Rattle.lw_words.specs.Cause.{CountedFault}
+use Rattle.lw_words.specs.declared.kept.KeptAnswer.{KeptAnswer}
+use Rattle.lw_words.specs.declared.stop.SulStop.{SulStop}
+use Rattle.lw_words.specs.declared.stop.SulStop.TheVariants as sul
+use Rattle.lw_mealy.specs.Gives.{Gives}
+use Rattle.lw_mealy.specs.Machine.{Rows}
+use Rattle.lw_mealy.specs.Origin.{Origin}
+use Rattle.lw_sul.specs.SessionState.{SessionState, IsJournal}
+use Rattle.lw_outside.specs.Links.{Retired, Transcript, IsUntouched}
+use Rattle.lw_cache.specs.declared.stops.AskStop.{AskStop}
+use Rattle.lw_cache.specs.declared.stops.AskStop.TheVariants as ask
+use Rattle.lw_cache.specs.Settling.{LeavesStop}
+use Rattle.lw_desk.specs.Naming.{Naming}
+use Rattle.lw_desk.specs.Ending.{CameFirst, kept_runs}
+use Rattle.lw_pool.specs.Opening.{MayBegin}
+use Rattle.lw_pool.specs.Pool.{AskedOnce, IsStopOf, PoolState, Seen, StandsFor, journal_runs, seen_at, seen_of}
+use Rattle.lw_rounds.specs.Laws.{ModelIsLeast, TooManyIsNone, TooLargeForAll}
+use Rattle.lw_rounds.specs.Learned.{IsLearned, StopsAs}
+use Rattle.lw_rounds.specs.Stops.{learn_stop, IsOwnStop}
+use Rattle.lw_rounds.specs.declared.learned.Learned.{Learned}
+use Rattle.lw_rounds.specs.declared.stops.LearnStop.{LearnStop}
+use Rattle.lw_rounds.specs.declared.stops.LearnStop.TheVariants as learn
+use Rattle.lw_workers.specs.Leaving.{HasLearned}
+use Rattle.lw_workers.specs.Machines.{IsReached, IsWithin}
+use Rattle.lw_workers.proofs.MachineLemmas.{no_clash_came, reached}
+use Rattle.lw_children.specs.Children.{IsCausedBy, IsChildStop, IsOfChildren, IsSound, IsStopped}
+use Rattle.lw_line.specs.Causes.{IsTranscriptOf}
+use Rattle.lw_children.specs.Keeping.{KeepsChildren, count_of, most_of}
+use Rattle.lw_line.specs.LineState.{IsNaming, LineState, told_runs}
+use Rattle.lw_children.specs.Spawners.{SpawnerSeen, Starts, StartsAndRetires, StartsSome, with_starts}
+use Rattle.lw_children.specs.Crews.{AreLinkedWith, AreLinked, AreNew, BearsOut, FitsOutputs, HasBegun, HasRetired, IsChildSeen, IsChildrenPool, IsLoose, RetiresAll, RetiresWith, child_member, count_link, first_names, first_naming, has_number, line_seen, loose_records, new_session, retired_of}
+use Rattle.lw_children.specs.bodies.Ends.{AreChildEnds, IsChildEnd, broken_stop}
+use Rattle.lw_children.specs.declared.starting.Refusal.{Refusal}
+use Rattle.lw_children.specs.declared.starting.Refusal.TheVariants.{Failed, NoMemory}
+use Rattle.lw_children.proofs.KeepLemmas.{keeps_link, number_is, sound_goes_on, stopped_link}
+use Rattle.lw_children.proofs.PoolLemmas.{as_many, children_seen, seen_there}
+use Rattle.lw_children.proofs.RetireLemmas.{seat_of, some_number}
+use Rattle.lw_children.proofs.StartLemmas.{quietly_some}
+
+-- the records of children at the end of a learning, whose links were started and retired so
+module _ (letters : List (List ℕ)) (outputs : Option (List (List ℕ))) (names : List (List ℕ)) (since : List KeptAnswer) (base : ℕ) (links : List Retired) (ends : AreChildEnds letters outputs names since base links) where
+  pub numbers_rise : (i : ℕ) (d : Retired) → i < length links → (get_or links i d).number ≡ base + i
+  numbers_rise i d lt = let e = ends i d lt in number_is letters outputs (base + i) e.seen (get_or links i d) e.is_seen e.bears
+
+  pub keeps_children : (prior kept : List KeptAnswer) → kept ≡ prior ++ since → All (λ k. k.instance < length links) since → AreAnswers (length letters) (answers_of kept) → All (λ k. All (λ y. y < length names) k.outs) kept → AskedOnce prior kept → KeepsChildren letters outputs names prior kept links
+  keeps_children prior kept first instances words below once = record {
+    since = since;
+    first = first;
+    instances = instances;
+    runs = λ i d lt. let e = ends i d lt in keeps_link letters outputs (base + i) e.seen (get_or links i d) e.is_seen e.bears names i since e.kept;
+    words = words;
+    below = below;
+    once = once;
+  }
+
+-- starts by the words, and then the retiring of all that they gave
+started_retired : (words : List (List ℕ)) (before mid now : SpawnerSeen) (n : ℕ) (links : List Retired) → StartsSome words before mid n → now.started ≡ mid.started → now.retired ≡ mid.retired ++ links → now.faults ≡ mid.faults → now.commands ≡ mid.commands → length links ≡ n → ((i : ℕ) (d : Retired) → i < length links → (get_or links i d).number ≡ before.started + i) → StartsAndRetires words before now links
+started_retired words before mid now n links some started retired faults commands count numbers = record {
+  started = omega (arith, started, some.started, count);
+  retired = retired ∙ ap (λ (l : List Retired). l ++ links) some.retired;
+  numbers = numbers;
+  counts = omega (arith, some.counts, faults);
+  starts = some.starts;
+  commands = commands ∙ some.commands;
+  each = ⊎_elim (λ (e : some.starts ≡ n). inl (e ∙ sym count)) (λ (e : (some.starts ≡ n + 1) × CountedFault before.faults mid.faults). inr (omega (arith, e.0, count), subst (λ (k : ℕ). CountedFault before.faults k) (sym faults) e.1)) some.each;
+}
+
+fits_declared : (outputs : Option (List (List ℕ))) → FitsOutputs outputs (first_names outputs) (most_of outputs) (count_of outputs)
+fits_declared None = (refl, omega arith)
+fits_declared (Some names) = (refl, refl)
+
+named_first : (outputs : Option (List (List ℕ))) → IsNaming (first_names outputs) (most_of outputs) (count_of outputs)
+named_first None = inl (refl, refl)
+named_first (Some names) = inr (refl, refl)
+
+few_first : (outputs : Option (List (List ℕ))) → length (first_names outputs) ≤ most_of outputs
+few_first None = omega arith
+few_first (Some names) = omega arith
+
+-- what is told of a link over which nothing went
+untouched_is : (letters names : List (List ℕ)) (most faults : ℕ) (told : Option Transcript) → IsUntouched told → IsTranscriptOf letters names most faults None told
+untouched_is letters names most faults None is = tt
+untouched_is letters names most faults (Some t) is = subst (λ (x : Transcript). IsTranscriptOf letters names most faults None (Some x)) (sym is) (
+  record {
+    each = λ i d lt. absurd (omega (arith, lt));
+    first = λ line more same. absurd (omega (arith, ap (λ (l : List (List ℕ)). length l) same));
+    answered = omega arith;
+    whole = λ some. absurd (some refl);
+  },
+  tt,
+  refl,
+)
+
+untouched_runs : (letters names : List (List ℕ)) (told : Option Transcript) → IsUntouched told → IsJournal (told_runs letters names told) [] None false
+untouched_runs letters names None is = tt
+untouched_runs letters names (Some t) is = subst (λ (x : Transcript). IsJournal (told_runs letters names (Some x)) [] None false) (sym is) refl
+
+module _ {L : Type 0} (number faults ends : L → ℕ) (transcript : L → Option Transcript) (letters : List (List ℕ)) (outputs : Option (List (List ℕ))) (names : List (List ℕ)) (before : SpawnerSeen) where
+  fresh_seen : (i : ℕ) (s : SessionState (LineState L)) → s ≡ new_session i s.sul.link letters outputs → number s.sul.link ≡ before.started + i → IsChildSeen letters outputs (before.started + i) (line_seen number s)
+  fresh_seen i s made linked =
+      subst (λ (x : SessionState (LineState L)). IsChildSeen letters outputs (before.started + i) (line_seen number x)) (sym made)
+      (record { origin = ap (λ (n : ℕ). let o : Origin = record { machine = None; link = Some n; letters = Some letters } in o) linked; fits = fits_declared outputs })
+
+  fresh_end : (i : ℕ) (s : SessionState (LineState L)) (r : Retired) → s ≡ new_session i s.sul.link letters outputs → number s.sul.link ≡ before.started + i → BearsOut (line_seen number s) r → IsChildEnd letters outputs names [] before.started i r
+  fresh_end i s r made linked bears = record {
+    seen = line_seen number s;
+    is_seen = fresh_seen i s made linked;
+    bears = bears;
+    kept = ap (λ (x : SessionState (LineState L)). journal_runs x.sul.names 0 x.journal) (sym made);
+  }
+
+  loose_end : (i : ℕ) (l : L) → number l ≡ before.started + i → IsUntouched (transcript l) → IsChildEnd letters outputs names [] before.started i (retired_of number faults ends transcript l)
+  loose_end i l linked is = record {
+    seen = line_seen number (new_session i l letters outputs);
+    is_seen = fresh_seen i (new_session i l letters outputs) refl linked;
+    bears = record {
+      letters = letters;
+      origin = refl;
+      counted = tt;
+      told = untouched_is letters (first_names outputs) (most_of outputs) (faults l) (transcript l) is;
+      few = few_first outputs;
+      naming = named_first outputs;
+      cut = false;
+      journal = untouched_runs letters (first_names outputs) (transcript l) is;
+    };
+    kept = refl;
+  }
+
+  -- sessions that were made, and a link more, once all are retired
+  pub fresh_ends : (sessions : List (SessionState (LineState L))) (loose : Option L) (records : List Retired) → HasBegun number faults ends transcript letters outputs before sessions loose → length records ≡ length sessions
+      → ((i : ℕ) (d : SessionState (LineState L)) (e : Retired) → i < length sessions → BearsOut (line_seen number (get_or sessions i d)) (get_or records i e))
+      → AreChildEnds letters outputs names [] before.started (records ++ loose_records number faults ends transcript loose)
+  fresh_ends sessions loose records begun count each i d lt =
+      ⊎_elim
+      (λ (lt' : i < length records).
+      let within : i < length sessions = omega (arith, lt', count) in
+      let s = seat_of sessions i within in
+      let made = begun.new i s within in
+      subst (IsChildEnd letters outputs names [] before.started i) (sym (get_or_append_left records (loose_records number faults ends transcript loose) d i lt'))
+        (fresh_end i (get_or sessions i s) (get_or records i d) made.0 made.1 (each i s d within)))
+      (λ (le : length records ≤ i). last loose begun.loose_is le lt)
+      (cases_lt i (length records))
+    where
+      last : (loose : Option L) → IsLoose number faults ends transcript (before.started + length sessions) loose → length records ≤ i → i < length (records ++ loose_records number faults ends transcript loose) → IsChildEnd letters outputs names [] before.started i (get_or (records ++ loose_records number faults ends transcript loose) i d)
+      last None is le lt = absurd (omega (arith, le, lt, ap (λ (l : List Retired). length l) (append-nil records)))
+      last (Some l) is le lt =
+          let r = retired_of number faults ends transcript l in
+          let here : length records ≡ i = omega (arith, le, lt, length-append records (r ∷ [])) in
+          let none : i - length records ≡ 0 = omega (arith, here) in
+          subst (IsChildEnd letters outputs names [] before.started i)
+            (sym (get_or-append_right records (r ∷ []) (length records) i d refl le ∙ ap (λ (n : ℕ). get_or (r ∷ []) n d) none))
+            (loose_end i l (omega (arith, is.0, here, count)) is.3)
+
+prior_words : (naming : Naming) (inputs count : ℕ) (prior : List KeptAnswer) → MayBegin naming inputs count prior → AreAnswers inputs (answers_of prior)
+prior_words naming inputs count prior may = All-map (IsAnswer inputs) answer_of prior may.answers
+
+-- a learning that never began
+module _ (words letters : List (List ℕ)) (outputs : Option (List (List ℕ))) (workers k most : ℕ) (prior : List KeptAnswer) (before now : SpawnerSeen) (naming : Naming) (may : MayBegin naming (length letters) (count_of outputs) prior) (links : List Retired) (spawner : StartsAndRetires words before now links) (few : length links ≤ workers) (ends : AreChildEnds letters outputs naming.names [] before.started links) where
+  -- nothing was kept but the prior answers
+  kept_prior : KeepsChildren letters outputs naming.names prior prior links
+  kept_prior =
+      keeps_children letters outputs naming.names [] before.started links ends prior prior (sym (append-nil prior))
+      (λ i d lt. absurd (omega (arith, lt)))
+      (prior_words naming (length letters) (count_of outputs) prior may)
+      may.named
+      (λ i d le lt. absurd (omega (arith, le, lt)))
+
+  pub out_of_memory : (learned : Result Learned LearnStop) (kept : List KeptAnswer) (names : List (List ℕ)) → learned ≡ Err (learn.Ask ask.NoMemory) → kept ≡ prior → names ≡ naming.names → IsOfChildren words letters outputs workers k most prior before now learned kept names
+  out_of_memory learned kept names is kept_is names_are =
+      subst (λ (r : Result Learned LearnStop). IsOfChildren words letters outputs workers k most prior before now r kept names) (sym is)
+      (subst (λ (l : List KeptAnswer). IsOfChildren words letters outputs workers k most prior before now (Err (learn.Ask ask.NoMemory)) l names) (sym kept_is)
+      (subst (λ (l : List (List ℕ)). IsOfChildren words letters outputs workers k most prior before now (Err (learn.Ask ask.NoMemory)) prior l) (sym names_are) (record {
+        links = links;
+        spawner = spawner;
+        few = few;
+        all = tt;
+        keeps = kept_prior;
+        ok = tt;
+        stops = tt;
+        causes = tt;
+        reached = λ m within gives quiet sound. refl;
+      })))
+
+  pub not_started : (n : ℕ) (learned : Result Learned LearnStop) (kept : List KeptAnswer) (names : List (List ℕ)) → learned ≡ Err (learn.Ask (ask.Sul n sul.Failed)) → kept ≡ prior → names ≡ naming.names → n < workers → length links ≡ n → CountedFault before.faults now.faults → IsOfChildren words letters outputs workers k most prior before now learned kept names
+  not_started n learned kept names is kept_is names_are lt count failed =
+      subst (λ (r : Result Learned LearnStop). IsOfChildren words letters outputs workers k most prior before now r kept names) (sym is)
+      (subst (λ (l : List KeptAnswer). IsOfChildren words letters outputs workers k most prior before now (Err (learn.Ask (ask.Sul n sul.Failed))) l names) (sym kept_is)
+      (subst (λ (l : List (List ℕ)). IsOfChildren words letters outputs workers k most prior before now (Err (learn.Ask (ask.Sul n sul.Failed))) prior l) (sym names_are) (record {
+        links = links;
+        spawner = spawner;
+        few = few;
+        all = tt;
+        keeps = kept_prior;
+        ok = tt;
+        stops = tt;
+        causes = (lt, inl (refl, count, failed));
+        reached = λ m within gives quiet sound. absurd (quiet failed);
+      })))
+
+-- the links of sessions that were made, and one more, may be retired
+pub begun_linked : {L : Type 0} (number faults ends : L → ℕ) (transcript : L → Option Transcript) (letters : List (List ℕ)) (outputs : Option (List (List ℕ))) (words : List (List ℕ)) (before mid : SpawnerSeen) (sessions : List (SessionState (LineState L))) (loose : Option L) → HasBegun number faults ends transcript letters outputs before sessions loose → StartsSome words before mid (length sessions + count_link loose) → AreLinkedWith number sessions loose mid
+begun_linked number faults ends transcript letters outputs words before mid sessions loose begun some = record {
+  base = before.started;
+  links = λ i d lt. (begun.new i d lt).1;
+  last = last loose begun.loose_is;
+  earlier = λ lt. subst (λ (rs : List Retired). All (λ r. r.number < before.started) rs) (sym some.retired) (begun.earlier lt);
+  within = omega (arith, some.started);
+}
+  where
+    last : (loose : Option _) → IsLoose number faults ends transcript (before.started + length sessions) loose → has_number number (before.started + length sessions) loose
+    last None is = tt
+    last (Some l) is = is.0
+
+-- a learning that was given up before it began
+pub given_up : {L : Type 0} (number faults ends : L → ℕ) (transcript : L → Option Transcript) (words letters : List (List ℕ)) (outputs : Option (List (List ℕ))) (workers k most : ℕ) (prior : List KeptAnswer) (before mid now : SpawnerSeen) (naming : Naming) (sessions : List (SessionState (LineState L))) (loose : Option L) (refusal : Refusal)
+    → MayBegin naming (length letters) (count_of outputs) prior → HasBegun number faults ends transcript letters outputs before sessions loose → StartsSome words before mid (length sessions + count_link loose)
+    → RetiresWith number faults ends transcript sessions loose mid now → length sessions + count_link loose ≤ workers → length sessions < workers → (refusal ≡ Failed → (loose ≡ None) × CountedFault before.faults mid.faults)
+    → (learned : Result Learned LearnStop) (kept : List KeptAnswer) (names : List (List ℕ)) → learned ≡ Err (broken_stop refusal (length sessions)) → kept ≡ prior → names ≡ naming.names → IsOfChildren words letters outputs workers k most prior before now learned kept names
+given_up number faults ends transcript words letters outputs workers k most prior before mid now naming sessions loose refusal may begun some retires few less failed learned kept names is kept_is names_are =
+    by refusal failed is
+  where
+    links : List Retired
+    links = retires.first.records ++ loose_records number faults ends transcript loose
+
+    loose_count : (loose : Option _) → length (loose_records number faults ends transcript loose) ≡ count_link loose
+    loose_count None = refl
+    loose_count (Some l) = refl
+
+    count : length links ≡ length sessions + count_link loose
+    count = length-append retires.first.records (loose_records number faults ends transcript loose) ∙ omega (arith, retires.first.count, loose_count loose)
+
+    ended : AreChildEnds letters outputs naming.names [] before.started links
+    ended = fresh_ends number faults ends transcript letters outputs naming.names before sessions loose retires.first.records begun retires.first.count retires.first.each
+
+    spawner : StartsAndRetires words before now links
+    spawner = started_retired words before mid now (length sessions + count_link loose) links some (retires.started ∙ retires.first.started)
+        (retires.retired ∙ (ap (λ (l : List Retired). l ++ loose_records number faults ends transcript loose) retires.first.retired ∙ append_assoc mid.retired retires.first.records (loose_records number faults ends transcript loose)))
+        (retires.faults_same ∙ retires.first.faults) (retires.commands ∙ retires.first.commands) count (numbers_rise letters outputs naming.names [] before.started links ended)
+
+    by : (refusal : Refusal) → (refusal ≡ Failed → (loose ≡ None) × CountedFault before.faults mid.faults) → learned ≡ Err (broken_stop refusal (length sessions)) → IsOfChildren words letters outputs workers k most prior before now learned kept names
+    by Failed failed is =
+        let f = failed refl in
+        not_started words letters outputs workers k most prior before now naming may links spawner (omega (arith, count, few)) ended (length sessions) learned kept names is kept_is names_are less
+          (omega (arith, count, ap (λ (o : Option _). count_link o) f.0)) (subst (λ (n : ℕ). CountedFault before.faults n) (sym (retires.faults_same ∙ retires.first.faults)) f.1)
+    by NoMemory failed is = out_of_memory words letters outputs workers k most prior before now naming may links spawner (omega (arith, count, few)) ended learned kept names is kept_is names_are
+
+-- a learning over a pool of children that were all started
+module _ {L : Type 0} (number : L → ℕ) (words letters : List (List ℕ)) (outputs : Option (List (List ℕ))) (workers k most : ℕ) (prior : List KeptAnswer) (before mid now : SpawnerSeen) (sessions : List (SessionState (LineState L))) (new : AreNew number letters outputs before.started sessions) (starts : Starts words before mid workers) (count : length sessions ≡ workers)
+    (pool : PoolState (LineState L)) (members : map (child_member number) sessions ≡ pool.members) (naming_is : pool.naming ≡ first_naming outputs) (prior_is : pool.prior ≡ prior) (inputs_is : pool.inputs ≡ length letters) (outputs_is : pool.outputs ≡ count_of outputs)
+    (learned : Result Learned LearnStop) (kept : List KeptAnswer) (naming : Naming) (ended : HasRetired number k most pool mid now learned kept naming) where
+  abbrev left : PoolState (LineState L)
+  left = ended.left
+
+  abbrev later : List (SessionState (LineState L))
+  later = ended.later
+
+  abbrev links : List Retired
+  links = ended.retires.records
+
+  seen_all : (length later ≡ length sessions) × ((i : ℕ) (d : SessionState (LineState L)) → i < length later → IsChildSeen letters outputs (before.started + i) (line_seen number (get_or later i d)))
+  seen_all = children_seen number letters outputs before.started sessions later pool left (learn_stop learned) new members naming_is ended.learned ended.members
+
+  many : length (seen_of left) ≡ length links
+  many = as_many number later left ended.members ∙ sym ended.retires.count
+
+  all_links : length links ≡ workers
+  all_links = ended.retires.count ∙ (seen_all.0 ∙ count)
+
+  abbrev since : List KeptAnswer
+  since = ended.learned.stands.stands.since
+
+  ends_are : AreChildEnds letters outputs left.naming.names since before.started links
+  ends_are i d lt =
+      let within : i < length later = omega (arith, lt, ended.retires.count) in
+      let s = seat_of later i within in
+      let there = seen_there number later left ended.members i s within in
+      record {
+        seen = line_seen number (get_or later i s);
+        is_seen = seen_all.1 i s within;
+        bears = ended.retires.each i s d within;
+        kept = subst (λ (x : Seen). kept_runs left.naming.names i since ≡ journal_runs x.names 0 x.journal) there (ended.learned.stands.stands.runs i (omega (arith, lt, many)));
+      }
+
+  -- a session that stopped is that of a link whose record says why
+  stopped_there : (i : ℕ) (stop : SulStop) → (i < length (seen_of left)) × ((seen_at (seen_of left) i).stop ≡ Some stop) → (i < length links) × ((d : Retired) → IsStopped outputs stop (get_or links i d))
+  stopped_there i stop why =
+      let lt : i < length links = omega (arith, why.0, many) in
+      (lt, λ d.
+      let within : i < length later = omega (arith, lt, ended.retires.count) in
+      let s = seat_of later i within in
+      stopped_link letters outputs (before.started + i) (line_seen number (get_or later i s)) (get_or links i d) (seen_all.1 i s within) (ended.retires.each i s d within) stop
+        (ap (λ (x : Seen). x.stop) (sym (seen_there number later left ended.members i s within)) ∙ why.1))
+
+  caused : (r : Result Learned LearnStop) → LeavesStop (learn_stop r) left.stop → IfErr r (IsCausedBy outputs workers before now links left.kept)
+  caused (Ok l) told = tt
+  caused (Err (learn.Ask (ask.Sul i s))) told =
+      let why = stopped_there i s (subst (IsStopOf (seen_of left) left.kept) told ended.learned.stands.why) in
+      (omega (arith, why.0, all_links), inr why)
+  caused (Err (learn.Ask (ask.Clash c))) told = subst (IsStopOf (seen_of left) left.kept) told ended.learned.stands.why
+  caused (Err (learn.Ask ask.NoMemory)) told = tt
+  caused (Err (learn.Crowd ws)) told = tt
+  caused (Err (learn.TooLarge model n)) told = tt
+
+  own_stop : (m : Rows) → Gives m (answers_of left.kept) → All (IsSound outputs) links → (r : Result Learned LearnStop) → LeavesStop (learn_stop r) left.stop → IfErr r IsOwnStop
+  own_stop m gives sound (Ok l) told = tt
+  own_stop m gives sound (Err (learn.Ask (ask.Sul i s))) told =
+      let why = stopped_there i s (subst (IsStopOf (seen_of left) left.kept) told ended.learned.stands.why) in
+      let d = nothing in
+      absurd (sound_goes_on outputs (get_or links i d) s (sound i d why.0) (why.1 d))
+    where
+      nothing : Retired
+      nothing = record { number = 0; faults = 0; ends = 0; transcript = None }
+  own_stop m gives sound (Err (learn.Ask (ask.Clash c))) told = absurd (no_clash_came m left.kept c gives (subst (IsStopOf (seen_of left) left.kept) told ended.learned.stands.why))
+  own_stop m gives sound (Err (learn.Ask ask.NoMemory)) told = refl
+  own_stop m gives sound (Err (learn.Crowd ws)) told = tt
+  own_stop m gives sound (Err (learn.TooLarge model n)) told = tt
+
+  words_are : AreAnswers (length letters) (answers_of left.kept)
+  words_are = subst (λ (n : ℕ). AreAnswers n (answers_of left.kept)) (ended.learned.leaves.same.inputs ∙ inputs_is) (All-map (IsAnswer left.inputs) answer_of left.kept ended.learned.stands.keeps.answers)
+
+  ok_is : IfOk learned (λ l. IsLearned (length letters) (count_of outputs) k most (answers_of left.kept) l.model l.table)
+  ok_is = subst₂ (λ (a b : ℕ). IfOk learned (λ l. IsLearned a b k most (answers_of left.kept) l.model l.table)) inputs_is outputs_is ended.ok
+
+  stops_are : IfErr learned (StopsAs (length letters) (count_of outputs) k most (answers_of left.kept))
+  stops_are = subst₂ (λ (a b : ℕ). IfErr learned (StopsAs a b k most (answers_of left.kept))) inputs_is outputs_is ended.stops
+
+  of_left : ModelIsLeast → TooManyIsNone → TooLargeForAll → IsOfChildren words letters outputs workers k most prior before now learned left.kept left.naming.names
+  of_left least none large = record {
+    links = links;
+    spawner = started_retired words before mid now workers links (quietly_some words before mid workers starts) ended.retires.started ended.retires.retired ended.retires.faults ended.retires.commands all_links (numbers_rise letters outputs left.naming.names since before.started links ends_are);
+    few = omega (arith, all_links);
+    all = always learned all_links;
+    keeps = keeps_children letters outputs left.naming.names since before.started links ends_are prior left.kept
+        (ended.learned.stands.stands.first ∙ ap (λ (l : List KeptAnswer). l ++ since) (ended.learned.prior ∙ prior_is))
+        (subst (λ (n : ℕ). All (λ x. x.instance < n) since) many ended.learned.stands.stands.instances)
+        words_are ended.learned.stands.below
+        (subst (λ (l : List KeptAnswer). AskedOnce l left.kept) (ended.learned.prior ∙ prior_is) ended.learned.stands.once);
+    ok = ok_is;
+    stops = stops_are;
+    causes = caused learned ended.learned.leaves.told;
+    reached = λ m within gives quiet sound.
+        reached (length letters) (count_of outputs) k most (answers_of left.kept) learned least none large words_are ok_is stops_are (own_stop m gives sound learned ended.learned.leaves.told) m within gives;
+  }
+    where
+      always : (r : Result Learned LearnStop) → length links ≡ workers → OnOk r (length links ≡ workers)
+      always (Ok l) is = is
+      always (Err e) is = tt
+
+  pub of_pool : ModelIsLeast → TooManyIsNone → TooLargeForAll → IsOfChildren words letters outputs workers k most prior before now learned kept naming.names
+  of_pool least none large =
+      subst (λ (l : List KeptAnswer). IsOfChildren words letters outputs workers k most prior before now learned l naming.names) (sym ended.kept_is)
+      (subst (λ (n : Naming). IsOfChildren words letters outputs workers k most prior before now learned left.kept n.names) (sym ended.naming_is) (of_left least none large))
+
+-- the links of the sessions of a pool may be retired once a learning over it has ended
+pub later_linked : {L : Type 0} (number : L → ℕ) (spawner : SpawnerSeen) (pool left : PoolState (LineState L)) (later : List (SessionState (LineState L))) (stop : Option AskStop) → IsChildrenPool number spawner pool → HasLearned pool left stop → map (child_member number) later ≡ left.members → AreLinked number later spawner
+later_linked number spawner pool left later stop is learned are =
+    let seen = children_seen number is.letters is.outputs_declared is.base is.sessions later pool left stop is.new is.members is.naming learned are in
+    record {
+      base = is.base;
+      links = λ i d lt. some_number (number (get_or later i d).sul.link) (is.base + i) (ap (λ (o : Origin). o.link) (seen.1 i d lt).origin);
+      earlier = λ lt. is.earlier (omega (arith, lt, seen.0));
+      within = omega (arith, is.within, seen.0);
+    }

@@ -1,0 +1,106 @@
+-- What the record of a link says of the kept answers of its instance, and of why that stopped.
+use Rattle.std.proofs.Common.{◌≡◌, ◌⊎◌, ⊎_elim, ℕ, ◌+◌, ◌<◌, ◌≤◌, List, [], ◌∷◌, ◌++◌, length, map, get_or, Bool, true, false, Option, Some, None, inl, inr, refl, ap, sym, ◌∙◌, subst, arith}
+use Rattle.lw_words.specs.Cause.{CountedFault}
+use Rattle.lw_words.specs.declared.kept.KeptAnswer.{KeptAnswer}
+use Rattle.lw_words.specs.declared.stop.SulStop.{SulStop}
+use Rattle.lw_words.specs.declared.stop.SulStop.TheVariants.{Failed, BadLine, Gone}
+use Rattle.lw_mealy.specs.Origin.{Origin}
+use Rattle.lw_sul.specs.SessionState.{IsJournal}
+use Rattle.lw_sul.specs.declared.runs.Run.{Run}
+use Rattle.lw_outside.specs.Lines.{lines_of}
+use Rattle.lw_outside.specs.Links.{Retired, Transcript}
+use Rattle.lw_desk.specs.Ending.{kept_runs}
+use Rattle.lw_pool.specs.Pool.{Seen, journal_runs}
+use Rattle.lw_line.specs.Causes.{EndsWithin, IsCounted, IsCovered, IsRefused, IsSpelled, IsTranscriptOf}
+use Rattle.lw_children.specs.Children.{HasRefused, IfTold, IsSound, IsStopped}
+use Rattle.lw_children.specs.Keeping.{AreOwn, IsBroken, KeepsTold, KeepsTranscript, most_of}
+use Rattle.lw_line.specs.LineState.{IsNaming, told_runs}
+use Rattle.lw_line.specs.Transcripts.{lines_in, spelled}
+use Rattle.lw_children.specs.Crews.{BearsOut, FitsOutputs, IsChildSeen}
+
+abbrev some_by : {X : Type 0} → X → Option X → X
+some_by x None = x
+some_by x (Some y) = y
+
+some_is : {X : Type 0} (x a b : X) → Some a ≡ Some b → a ≡ b
+some_is x a b same = ap (some_by x) same
+
+-- the names that a child gave, and how many they may be
+own_names_are : (outputs : Option (List (List ℕ))) (names : List (List ℕ)) (most count : ℕ) → FitsOutputs outputs names most count → length names ≤ most → IsNaming names most count → AreOwn outputs names × (most ≡ most_of outputs)
+own_names_are None names most count fits few naming =
+    (omega (arith, few, fits.1), ⊎_elim (λ (e : (most ≡ 256) × (count ≡ 4096)). e.0) (λ (e : (most ≡ length names) × (count ≡ length names)). absurd (omega (arith, e.0, e.1, fits.0, fits.1))) naming)
+own_names_are (Some declared) names most count fits few naming = fits
+
+module _ (letters : List (List ℕ)) (outputs : Option (List (List ℕ))) (names : List (List ℕ)) (i : ℕ) (since : List KeptAnswer) (r : Retired) (own : List (List ℕ)) (most : ℕ) (owns : AreOwn outputs own) (most_is : most ≡ most_of outputs) where
+  broken : (t : Transcript) (stop : SulStop) → IsCounted r.faults r.ends (Some stop) → IsSpelled own most t (Some stop) → IsBroken own (most_of outputs) r t
+  broken t Failed counted spelled = inl counted
+  broken t Gone counted spelled = inr (inl counted)
+  broken t (BadLine line) counted spelled = inr (inr (line, subst (λ (n : ℕ). IsRefused own n t line) most_is spelled))
+
+  spells : (t : Transcript) (runs : List Run) (stop : Option SulStop) (cut : Bool) → IsCounted r.faults r.ends stop → IsSpelled own most t stop → IsJournal (Some (spelled letters own t)) runs stop cut
+      → (spelled letters own t ≡ runs) ⊎ (IsBroken own (most_of outputs) r t × ((x : Run) × (spelled letters own t ≡ runs ++ x ∷ [])))
+  spells t runs None cut counted told journal = inl journal
+  spells t runs (Some stop) false counted told journal = inl journal
+  spells t runs (Some stop) true counted told journal = inr (broken t stop counted told, journal)
+
+  covers : (t : Transcript) (stop : Option SulStop) → IsCounted r.faults r.ends stop → IsSpelled own most t stop → IsCovered letters own t stop
+      → (length (lines_of t.sent) ≡ lines_in (spelled letters own t)) ⊎ (IsBroken own (most_of outputs) r t × (length (lines_of t.sent) ≡ lines_in (spelled letters own t) + 1))
+  covers t None counted told covered = inl covered
+  covers t (Some stop) counted told covered = ⊎_elim (λ (e : length (lines_of t.sent) ≡ lines_in (spelled letters own t)). inl e) (λ (e : length (lines_of t.sent) ≡ lines_in (spelled letters own t) + 1). inr (broken t stop counted told, e)) covered
+
+  keeps_told : (told : Option Transcript) (runs : List Run) (stop : Option SulStop) (cut : Bool) → IsCounted r.faults r.ends stop → IsTranscriptOf letters own most r.faults stop told → IsJournal (told_runs letters own told) runs stop cut → kept_runs names i since ≡ journal_runs own 0 runs → KeepsTold letters outputs names i since r told
+  keeps_told None runs stop cut counted told journal kept = tt
+  keeps_told (Some t) runs stop cut counted told journal kept = record {
+    proper = told.0;
+    own = own;
+    owns = owns;
+    runs = runs;
+    kept = kept;
+    spells = spells t runs stop cut counted told.1 journal;
+    whole = covers t stop counted told.1 told.2;
+  }
+
+  stopped_told : (told : Option Transcript) (stop : SulStop) → IsCounted r.faults r.ends (Some stop) → IsTranscriptOf letters own most r.faults (Some stop) told → r.transcript ≡ told → IsStopped outputs stop r
+  stopped_told told Failed counted is same = counted
+  stopped_told told Gone counted is same = (counted, subst (IfTold EndsWithin) (sym same) (by told is))
+    where
+      by : (told : Option Transcript) → IsTranscriptOf letters own most r.faults (Some Gone) told → IfTold EndsWithin told
+      by None is = tt
+      by (Some t) is = is.1
+  stopped_told told (BadLine line) counted is same = subst (IfTold (HasRefused outputs line)) (sym same) (by told is)
+    where
+      by : (told : Option Transcript) → IsTranscriptOf letters own most r.faults (Some (BadLine line)) told → IfTold (HasRefused outputs line) told
+      by None is = tt
+      by (Some t) is = (own, owns, subst (λ (n : ℕ). IsRefused own n t line) most_is is.1)
+
+-- a record that bears out what is seen of a child's session
+module _ (letters : List (List ℕ)) (outputs : Option (List (List ℕ))) (n : ℕ) (s : Seen) (r : Retired) (seen : IsChildSeen letters outputs n s) (bears : BearsOut s r) where
+  origins : (o : Origin) → o ≡ s.origin → o ≡ record { machine = None; link = Some r.number; letters = Some bears.letters }
+  origins o same = same ∙ bears.origin
+
+  pub letters_are : bears.letters ≡ letters
+  letters_are = some_is letters bears.letters letters (ap (λ (o : Origin). o.letters) (sym bears.origin ∙ seen.origin))
+
+  pub number_is : r.number ≡ n
+  number_is = some_is n r.number n (ap (λ (o : Origin). o.link) (sym bears.origin ∙ seen.origin))
+
+  naming : AreOwn outputs s.names × (s.most ≡ most_of outputs)
+  naming = own_names_are outputs s.names s.most s.outputs seen.fits bears.few bears.naming
+
+  told : IsTranscriptOf letters s.names s.most r.faults s.stop r.transcript
+  told = subst (λ (l : List (List ℕ)). IsTranscriptOf l s.names s.most r.faults s.stop r.transcript) letters_are bears.told
+
+  pub keeps_link : (names : List (List ℕ)) (i : ℕ) (since : List KeptAnswer) → kept_runs names i since ≡ journal_runs s.names 0 s.journal → KeepsTold letters outputs names i since r r.transcript
+  keeps_link names i since kept =
+      keeps_told letters outputs names i since r s.names s.most naming.0 naming.1 r.transcript s.journal s.stop bears.cut bears.counted told
+      (subst (λ (l : List (List ℕ)). IsJournal (told_runs l s.names r.transcript) s.journal s.stop bears.cut) letters_are bears.journal) kept
+
+  pub stopped_link : (stop : SulStop) → s.stop ≡ Some stop → IsStopped outputs stop r
+  stopped_link stop is =
+      stopped_told letters outputs [] 0 [] r s.names s.most naming.0 naming.1 r.transcript stop (subst (IsCounted r.faults r.ends) is bears.counted) (subst (λ (o : Option SulStop). IsTranscriptOf letters s.names s.most r.faults o r.transcript) is told) refl
+
+-- a child whose link is sound did not stop
+pub sound_goes_on : (outputs : Option (List (List ℕ))) (r : Retired) (stop : SulStop) → IsSound outputs r → ¬ IsStopped outputs stop r
+sound_goes_on outputs r Failed sound why = sound.faults why
+sound_goes_on outputs r Gone sound why = sound.ends why.0
+sound_goes_on outputs r (BadLine line) sound why = sound.good line (subst (IfTold (HasRefused outputs line)) sound.told why)

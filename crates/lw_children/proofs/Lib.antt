@@ -1,0 +1,6 @@
+mod BegunLemmas
+mod EndLemmas
+mod KeepLemmas
+mod PoolLemmas
+mod RetireLemmas
+mod StartLemmas

@@ -1,0 +1,74 @@
+-- What comes of a learning over children.
+use Rattle.std.specs.Prelude.{◌≡◌, ◌⊎◌, ℕ, ◌<◌, ◌≤◌, List, length, slice_index_or, Option, Some, None, Result, Ok, Err, IfOk, IfErr, OnOk}
+use Rattle.std.specs.List.{All}
+use Rattle.lw_words.specs.Answer.{answers_of}
+use Rattle.lw_words.specs.Cause.{CountedFault}
+use Rattle.lw_words.specs.declared.kept.KeptAnswer.{KeptAnswer}
+use Rattle.lw_words.specs.declared.stop.SulStop.{SulStop}
+use Rattle.lw_words.specs.declared.stop.SulStop.TheVariants.{Failed, BadLine, Gone}
+use Rattle.lw_mealy.specs.Gives.{Gives}
+use Rattle.lw_mealy.specs.Machine.{Rows}
+use Rattle.lw_outside.specs.Links.{Retired, Transcript}
+use Rattle.lw_cache.specs.declared.stops.AskStop.TheVariants as ask
+use Rattle.lw_desk.specs.Ending.{CameFirst}
+use Rattle.lw_rounds.specs.Learned.{IsLearned, StopsAs}
+use Rattle.lw_rounds.specs.declared.learned.Learned.{Learned}
+use Rattle.lw_rounds.specs.declared.stops.LearnStop.{LearnStop}
+use Rattle.lw_rounds.specs.declared.stops.LearnStop.TheVariants as learn
+use Rattle.lw_workers.specs.Machines.{IsReached, IsWithin}
+use Rattle.lw_line.specs.Causes.{EndsWithin, IsRefused}
+use Rattle.lw_children.specs.Keeping.{AreOwn, KeepsChildren, count_of, most_of}
+use Rattle.lw_children.specs.Spawners.{SpawnerSeen, StartsAndRetires}
+
+-- where the transcript of a link is told, it is such a one
+abbrev pub IfTold : (Transcript → Type 0) → Option Transcript → Type 0
+IfTold P None = Unit {0}
+IfTold P (Some t) = P t
+
+-- what came last over a link is this bad line
+abbrev pub HasRefused : Option (List (List ℕ)) → List ℕ → Transcript → Type 0
+HasRefused outputs line t = (own : List (List ℕ)) × AreOwn outputs own × IsRefused own (most_of outputs) t line
+
+-- why the child of an instance stopped, by the record of its link
+abbrev pub IsStopped : Option (List (List ℕ)) → SulStop → Retired → Type 0
+IsStopped outputs Failed link = CountedFault 0 link.faults
+IsStopped outputs Gone link = CountedFault 0 link.ends × IfTold EndsWithin link.transcript
+IsStopped outputs (BadLine line) link = IfTold (HasRefused outputs line) link.transcript
+
+-- the one whose link is not there could not be started; of the others the record says why
+abbrev pub IsChildStop : Option (List (List ℕ)) → SpawnerSeen → SpawnerSeen → List Retired → ℕ → SulStop → Type 0
+IsChildStop outputs before now links i stop =
+    ((stop ≡ Failed) × (length links ≡ i) × CountedFault before.faults now.faults)
+    ⊎ ((i < length links) × ((d : Retired) → IsStopped outputs stop (slice_index_or links i d)))
+
+-- what bears out why a learning over children stopped
+abbrev pub IsCausedBy : Option (List (List ℕ)) → ℕ → SpawnerSeen → SpawnerSeen → List Retired → List KeptAnswer → LearnStop → Type 0
+IsCausedBy outputs workers before now links kept (learn.Ask (ask.Sul i stop)) = (i < workers) × IsChildStop outputs before now links i stop
+IsCausedBy outputs workers before now links kept (learn.Ask (ask.Clash clash)) = CameFirst kept clash
+IsCausedBy outputs workers before now links kept (learn.Ask ask.NoMemory) = Unit {0}
+IsCausedBy outputs workers before now links kept (learn.Crowd words) = Unit {0}
+IsCausedBy outputs workers before now links kept (learn.TooLarge model number) = Unit {0}
+
+-- nothing is wrong with a link: it neither failed nor ended, its transcript is told, and nothing in it is refused
+pub record IsSound (outputs : Option (List (List ℕ))) (link : Retired) : Type 0 where
+  pub faults : ¬ CountedFault 0 link.faults
+  pub ends : ¬ CountedFault 0 link.ends
+  pub transcript : Transcript
+  pub told : link.transcript ≡ Some transcript
+  pub good : (line : List ℕ) → ¬ HasRefused outputs line transcript
+
+-- a learning over children with letters and perhaps outputs of these names, that began with prior answers; the names are those of
+-- the kept answers' outputs
+pub record IsOfChildren (words letters : List (List ℕ)) (outputs : Option (List (List ℕ))) (workers k most : ℕ) (prior : List KeptAnswer) (before now : SpawnerSeen) (learned : Result Learned LearnStop) (kept : List KeptAnswer) (names : List (List ℕ)) : Type 0 where
+  -- the children: started in order, and all retired in that order
+  pub links : List Retired
+  pub spawner : StartsAndRetires words before now links
+  pub few : length links ≤ workers
+  pub all : OnOk learned (length links ≡ workers)
+  -- what is kept, and what was learned of it
+  pub keeps : KeepsChildren letters outputs names prior kept links
+  pub ok : IfOk learned (λ l. IsLearned (length letters) (count_of outputs) k most (answers_of kept) l.model l.table)
+  pub stops : IfErr learned (StopsAs (length letters) (count_of outputs) k most (answers_of kept))
+  pub causes : IfErr learned (IsCausedBy outputs workers before now links kept)
+  -- where nothing outside was wrong and the limits hold for some machine that gives the answers, a model comes, or memory runs out
+  pub reached : (m : Rows) → IsWithin (length letters) k most m → Gives m (answers_of kept) → ¬ CountedFault before.faults now.faults → All (IsSound outputs) links → IsReached (length m) learned

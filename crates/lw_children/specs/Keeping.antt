@@ -1,0 +1,62 @@
+-- What is kept of a learning over children: the runs that went over their links.
+use Rattle.std.specs.Prelude.{◌≡◌, ◌⊎◌, ℕ, ◌+◌, ◌<◌, ◌≤◌, List, [], ◌∷◌, ◌++◌, length, slice_index_or, Option, Some, None}
+use Rattle.std.specs.List.{All}
+use Rattle.lw_words.specs.Answer.{AreAnswers, answers_of}
+use Rattle.lw_words.specs.Cause.{CountedFault}
+use Rattle.lw_words.specs.declared.kept.KeptAnswer.{KeptAnswer}
+use Rattle.lw_sul.specs.declared.runs.Run.{Run}
+use Rattle.lw_outside.specs.Lines.{lines_of}
+use Rattle.lw_outside.specs.Links.{Retired, Transcript}
+use Rattle.lw_desk.specs.Ending.{kept_runs}
+use Rattle.lw_pool.specs.Pool.{AskedOnce, journal_runs}
+use Rattle.lw_line.specs.Causes.{IsRefused}
+use Rattle.lw_line.specs.Transcripts.{IsProper, lines_in, spelled}
+
+-- the greatest number of names of a child's outputs: those of a declared list, or 256
+abbrev pub most_of : Option (List (List ℕ)) → ℕ
+most_of None = 256
+most_of (Some names) = length names
+
+-- the numbers that a child's outputs may have
+abbrev pub count_of : Option (List (List ℕ)) → ℕ
+count_of None = 4096
+count_of (Some names) = length names
+
+-- the names of a child's outputs are those that were declared, or some
+abbrev pub AreOwn : Option (List (List ℕ)) → List (List ℕ) → Type 0
+AreOwn None own = length own ≤ 256
+AreOwn (Some names) own = own ≡ names
+
+-- the record of a link says why it was of no more use: it failed, it ended, or what came last over it was refused
+abbrev pub IsBroken : (own : List (List ℕ)) (most : ℕ) → Retired → Transcript → Type 0
+IsBroken own most link t = CountedFault 0 link.faults ⊎ CountedFault 0 link.ends ⊎ ((line : List ℕ) × IsRefused own most t line)
+
+-- the kept answers of an instance are the runs that the transcript of its link spells, by the names of their outputs and
+-- numbered from 0: each line that was sent is one of these runs', but for a last one at which the link broke; and then the run
+-- that it cut off is left out
+pub record KeepsTranscript (letters : List (List ℕ)) (outputs : Option (List (List ℕ))) (names : List (List ℕ)) (instance : ℕ) (since : List KeptAnswer) (link : Retired) (t : Transcript) : Type 0 where
+  pub proper : IsProper letters link.faults t
+  -- the names of the child's outputs, in the order in which they came where they weren't declared
+  pub own : List (List ℕ)
+  pub owns : AreOwn outputs own
+  pub runs : List Run
+  pub kept : kept_runs names instance since ≡ journal_runs own 0 runs
+  pub spells : (spelled letters own t ≡ runs) ⊎ (IsBroken own (most_of outputs) link t × ((r : Run) × (spelled letters own t ≡ runs ++ r ∷ [])))
+  pub whole :
+      (length (lines_of t.sent) ≡ lines_in (spelled letters own t))
+      ⊎ (IsBroken own (most_of outputs) link t × (length (lines_of t.sent) ≡ lines_in (spelled letters own t) + 1))
+
+abbrev pub KeepsTold : List (List ℕ) → Option (List (List ℕ)) → List (List ℕ) → ℕ → List KeptAnswer → Retired → Option Transcript → Type 0
+KeepsTold letters outputs names instance since link None = Unit {0}
+KeepsTold letters outputs names instance since link (Some t) = KeepsTranscript letters outputs names instance since link t
+
+-- the kept answers are the prior ones and then, for each link, the runs of its transcript, where that is told; the word of none
+-- was known when it was asked
+pub record KeepsChildren (letters : List (List ℕ)) (outputs : Option (List (List ℕ))) (names : List (List ℕ)) (prior kept : List KeptAnswer) (links : List Retired) : Type 0 where
+  pub since : List KeptAnswer
+  pub first : kept ≡ prior ++ since
+  pub instances : All (λ k. k.instance < length links) since
+  pub runs : (i : ℕ) (d : Retired) → i < length links → let link = slice_index_or links i d in KeepsTold letters outputs names i since link link.transcript
+  pub words : AreAnswers (length letters) (answers_of kept)
+  pub below : All (λ k. All (λ y. y < length names) k.outs) kept
+  pub once : AskedOnce prior kept

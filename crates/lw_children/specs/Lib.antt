@@ -1,0 +1,5 @@
+pub mod Children
+pub mod Crews
+pub mod Keeping
+pub mod Spawners
+pub mod bodies

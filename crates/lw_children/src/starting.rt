@@ -1,0 +1,182 @@
+//! The starting of children, one for each instance.
+ghost use Rattle.std.specs.Prelude.{◌≡◌, ℕ, ◌+◌, ◌<◌, ◌≤◌, List, [], length, Option, Some, None, IfErr, IfOk, IfSome, OnOk, OnErr};
+ghost use Rattle.std.specs.List.{All};
+ghost use Rattle.lw_words.specs.Cause.{CountedFault};
+ghost use Rattle.lw_outside.specs.Links.{IsUntouched, with_start};
+ghost use Rattle.lw_children.specs.Spawners.{Starts, StartsSome, spawner_seen};
+ghost use Rattle.lw_children.specs.Crews.{AreEarlier, HasBegun, IsLoose, count_link, new_line, new_session};
+ghost use Rattle.lw_children.specs.bodies.Refusals.{refusal_by};
+ghost use Rattle.lw_children.specs.declared.starting.Refusal.{Refusal as Why};
+
+use lw_line::LineSul;
+use crate::Command;
+use lw_outside::{Link, Spawner, StartStop};
+use lw_sul::Session;
+use lw_words::{Names, NoMemory};
+use std::alloc::Global;
+
+/// Why a child's session was not made.
+#[derive(Clone, Copy, Debug, PartialEq, Eq)]
+pub enum Refusal {
+    /// It could not be started.
+    Failed,
+    NoMemory,
+}
+
+/// A session that was not made, and the link to its child where that was started.
+#[derive(Drop)]
+pub struct Unmade<L> {
+    pub refusal: Refusal,
+    pub link: Option<L>,
+}
+
+/// The sessions that were made before one was not.
+#[derive(Drop)]
+pub struct Broken<L: Link> {
+    pub sessions: Vec<Session<LineSul<L>>>,
+    pub unmade: Unmade<L>,
+}
+
+impl<L: Link> Broken<L> {
+    /// No session was made, and no child started.
+    fn of_none(alloc: Global) -> Broken<L>
+        ensures sessions { result.sessions.items ≡ [] }
+        ensures link { result.unmade.link ≡ None }
+        ensures refusal { result.unmade.refusal ≡ Why.NoMemory }
+    {
+        Broken {
+            sessions: Vec::new(alloc),
+            unmade: Unmade {
+                refusal: Refusal::NoMemory,
+                link: None,
+            },
+        }
+    }
+}
+
+fn refusal_of(stop: StartStop) -> Refusal
+    ensures { result ≡ refusal_by stop }
+{
+    match stop {
+        StartStop::Failed => Refusal::Failed,
+        StartStop::NoMemory => Refusal::NoMemory,
+    }
+}
+
+/// The same names once more.
+fn copy_declared(outputs: &Option<Names>) -> Result<Option<Names>, NoMemory>
+    ensures { IfOk result (λ copy. copy ≡ outputs.now) }
+{
+    match outputs {
+        Some(names) => Ok(Some(names.copy()?)),
+        None => Ok(None),
+    }
+}
+
+/// The system over a link.
+fn line_over<L: Link>(
+    alloc: Global,
+    link: L,
+    inputs: Names,
+    outputs: Option<Names>,
+) -> Result<LineSul<L>, L>
+    requires { IsUntouched (L.transcript link) }
+    ensures ok { IfOk result (λ s. s ≡ new_line link inputs outputs) }
+    ensures back { IfErr result (λ l. l ≡ link) }
+{
+    match outputs {
+        Some(outputs) => Ok(LineSul::new(link, inputs, outputs)),
+        None => match LineSul::free(alloc, link, inputs) {
+            Ok(system) => Ok(system),
+            Err((link, NoMemory)) => Err(link),
+        },
+    }
+}
+
+/// Starts a child, and makes the session of it under this number.
+fn start_one<P: Spawner>(
+    alloc: Global,
+    spawner: &mut P,
+    command: &Command,
+    instance: u32,
+) -> Result<Session<LineSul<P::Link>>, Unmade<P::Link>>
+    requires words { 0 < length command.now.words }
+    ensures made { IfOk result (λ s.
+        (s ≡ new_session instance s.sul.link command.now.inputs command.now.outputs) ×
+        (P.Link.number s.sul.link ≡ P.started spawner.old)) }
+    ensures unmade { IfErr result (λ u. IsLoose P.Link.number P.Link.faults P.Link.ends
+        P.Link.transcript (P.started spawner.old) u.link) }
+    ensures earlier { OnOk result (AreEarlier (P.retired spawner.old) (P.started spawner.old)) }
+    ensures earlier_too { IfErr result (λ u. IfSome u.link (λ l.
+        AreEarlier (P.retired spawner.old) (P.started spawner.old))) }
+    ensures one { OnOk result (Starts command.now.words
+        (spawner_seen (P.faults spawner.old) (P.started spawner.old) (P.retired spawner.old)
+        (P.commands spawner.old))
+        (spawner_seen (P.faults spawner.new) (P.started spawner.new) (P.retired spawner.new)
+        (P.commands spawner.new)) 1) }
+    ensures none { IfErr result (λ u. StartsSome command.now.words
+        (spawner_seen (P.faults spawner.old) (P.started spawner.old) (P.retired spawner.old)
+        (P.commands spawner.old))
+        (spawner_seen (P.faults spawner.new) (P.started spawner.new) (P.retired spawner.new)
+        (P.commands spawner.new)) (count_link u.link)) }
+    ensures failed { IfErr result (λ u. u.refusal ≡ Why.Failed → (u.link ≡ None) ×
+        CountedFault (P.faults spawner.old) (P.faults spawner.new)) }
+{
+    let (inputs, outputs) = match (command.inputs.copy(), copy_declared(&command.outputs)) {
+        (Ok(inputs), Ok(outputs)) => (inputs, outputs),
+        _ => return Err(Unmade { refusal: Refusal::NoMemory, link: None }),
+    };
+    let link = match spawner.start(command.words.get()) {
+        Ok(link) => link,
+        Err(stop) => return Err(Unmade { refusal: refusal_of(stop), link: None }),
+    };
+    match line_over(alloc, link, inputs, outputs) {
+        Ok(system) => Ok(Session::new(alloc, instance, system)),
+        Err(link) => Err(Unmade { refusal: Refusal::NoMemory, link: Some(link) }),
+    }
+}
+
+/// Starts a child for each of so many instances, and makes their sessions, in the order of the instances.
+pub fn start_all<P: Spawner>(
+    alloc: Global,
+    spawner: &mut P,
+    command: &Command,
+    workers: u8,
+) -> Result<Vec<Session<LineSul<P::Link>>>, Broken<P::Link>>
+    requires words { 0 < length command.now.words }
+    ensures count { IfOk result (λ sessions. length sessions.items ≡ workers) }
+    ensures made { IfOk result (λ sessions. HasBegun P.Link.number P.Link.faults P.Link.ends
+        P.Link.transcript command.now.inputs command.now.outputs
+        (spawner_seen (P.faults spawner.old) (P.started spawner.old) (P.retired spawner.old)
+        (P.commands spawner.old)) sessions.items None) }
+    ensures all { OnOk result (Starts command.now.words
+        (spawner_seen (P.faults spawner.old) (P.started spawner.old) (P.retired spawner.old)
+        (P.commands spawner.old))
+        (spawner_seen (P.faults spawner.new) (P.started spawner.new) (P.retired spawner.new)
+        (P.commands spawner.new)) workers) }
+    ensures few { IfErr result (λ b. length b.sessions.items + count_link b.unmade.link ≤ workers ×
+        (length b.sessions.items < workers)) }
+    ensures broken { IfErr result (λ b. HasBegun P.Link.number P.Link.faults P.Link.ends
+        P.Link.transcript command.now.inputs command.now.outputs
+        (spawner_seen (P.faults spawner.old) (P.started spawner.old) (P.retired spawner.old)
+        (P.commands spawner.old)) b.sessions.items b.unmade.link) }
+    ensures some { IfErr result (λ b. StartsSome command.now.words
+        (spawner_seen (P.faults spawner.old) (P.started spawner.old) (P.retired spawner.old)
+        (P.commands spawner.old))
+        (spawner_seen (P.faults spawner.new) (P.started spawner.new) (P.retired spawner.new)
+        (P.commands spawner.new)) (length b.sessions.items + count_link b.unmade.link)) }
+    ensures failed { IfErr result (λ b. b.unmade.refusal ≡ Why.Failed → (b.unmade.link ≡ None) ×
+        CountedFault (P.faults spawner.old) (P.faults spawner.new)) }
+{
+    let mut sessions = match Vec::with_capacity(alloc, usize::from(workers)) {
+        Ok(sessions) => sessions,
+        Err(_) => return Err(Broken::of_none(alloc)),
+    };
+    for instance in 0..workers {
+        match start_one(alloc, spawner, command, u32::from(instance)) {
+            Ok(session) => sessions.push_reserved(session),
+            Err(unmade) => return Err(Broken { sessions, unmade }),
+        }
+    }
+    Ok(sessions)
+}
