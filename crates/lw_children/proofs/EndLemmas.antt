@@ -144,7 +144,7 @@ module _ {L : Type 0} (number faults ends : L → ℕ) (transcript : L → Optio
       let s = seat_of sessions i within in
       let made = begun.new i s within in
       subst (IsChildEnd letters outputs names [] before.started i) (sym (get_or_append_left records (loose_records number faults ends transcript loose) d i lt'))
-        (fresh_end i (get_or sessions i s) (get_or records i d) made.0 made.1 (each i s d within)))
+      (fresh_end i (get_or sessions i s) (get_or records i d) made.0 made.1 (each i s d within)))
       (λ (le : length records ≤ i). last loose begun.loose_is le lt)
       (cases_lt i (length records))
     where
@@ -155,8 +155,8 @@ module _ {L : Type 0} (number faults ends : L → ℕ) (transcript : L → Optio
           let here : length records ≡ i = omega (arith, le, lt, length-append records (r ∷ [])) in
           let none : i - length records ≡ 0 = omega (arith, here) in
           subst (IsChildEnd letters outputs names [] before.started i)
-            (sym (get_or-append_right records (r ∷ []) (length records) i d refl le ∙ ap (λ (n : ℕ). get_or (r ∷ []) n d) none))
-            (loose_end i l (omega (arith, is.0, here, count)) is.3)
+          (sym (get_or-append_right records (r ∷ []) (length records) i d refl le ∙ ap (λ (n : ℕ). get_or (r ∷ []) n d) none))
+          (loose_end i l (omega (arith, is.0, here, count)) is.3)
 
 prior_words : (naming : Naming) (inputs count : ℕ) (prior : List KeptAnswer) → MayBegin naming inputs count prior → AreAnswers inputs (answers_of prior)
 prior_words naming inputs count prior may = All-map (IsAnswer inputs) answer_of prior may.answers
@@ -248,7 +248,7 @@ given_up number faults ends transcript words letters outputs workers k most prio
     by Failed failed is =
         let f = failed refl in
         not_started words letters outputs workers k most prior before now naming may links spawner (omega (arith, count, few)) ended (length sessions) learned kept names is kept_is names_are less
-          (omega (arith, count, ap (λ (o : Option _). count_link o) f.0)) (subst (λ (n : ℕ). CountedFault before.faults n) (sym (retires.faults_same ∙ retires.first.faults)) f.1)
+        (omega (arith, count, ap (λ (o : Option _). count_link o) f.0)) (subst (λ (n : ℕ). CountedFault before.faults n) (sym (retires.faults_same ∙ retires.first.faults)) f.1)
     by NoMemory failed is = out_of_memory words letters outputs workers k most prior before now naming may links spawner (omega (arith, count, few)) ended learned kept names is kept_is names_are
 
 -- a learning over a pool of children that were all started
@@ -291,12 +291,14 @@ module _ {L : Type 0} (number : L → ℕ) (words letters : List (List ℕ)) (ou
   -- a session that stopped is that of a link whose record says why
   stopped_there : (i : ℕ) (stop : SulStop) → (i < length (seen_of left)) × ((seen_at (seen_of left) i).stop ≡ Some stop) → (i < length links) × ((d : Retired) → IsStopped outputs stop (get_or links i d))
   stopped_there i stop why =
-      let lt : i < length links = omega (arith, why.0, many) in
-      (lt, λ d.
-      let within : i < length later = omega (arith, lt, ended.retires.count) in
-      let s = seat_of later i within in
-      stopped_link letters outputs (before.started + i) (line_seen number (get_or later i s)) (get_or links i d) (seen_all.1 i s within) (ended.retires.each i s d within) stop
-        (ap (λ (x : Seen). x.stop) (sym (seen_there number later left ended.members i s within)) ∙ why.1))
+      let lt : i < length links = omega (arith, why.0, many) in (
+        lt,
+        λ d.
+            let within : i < length later = omega (arith, lt, ended.retires.count) in
+            let s = seat_of later i within in
+            stopped_link letters outputs (before.started + i) (line_seen number (get_or later i s)) (get_or links i d) (seen_all.1 i s within) (ended.retires.each i s d within) stop
+            (ap (λ (x : Seen). x.stop) (sym (seen_there number later left ended.members i s within)) ∙ why.1),
+      )
 
   caused : (r : Result Learned LearnStop) → LeavesStop (learn_stop r) left.stop → IfErr r (IsCausedBy outputs workers before now links left.kept)
   caused (Ok l) told = tt

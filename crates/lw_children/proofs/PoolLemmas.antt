@@ -97,12 +97,12 @@ module _ {L : Type 0} (number : L → ℕ) where
           let within' : i < length (seen_of before) = omega (arith, first, as_many sessions before was) in
           let made = new i d first in
           let origin : (seen_at (seen_of now) i).origin ≡ record { machine = None; link = Some (base + i); letters = Some letters } =
-              sym (origin_there (seen_of now) i nobody.origin within)
-              ∙ (ap (λ (os : List Origin). get_or os i nobody.origin) learned.leaves.same.origins
-              ∙ (origin_there (seen_of before) i nobody.origin within'
-              ∙ (ap (λ (s : Seen). s.origin) (seen_there sessions before was i d first)
-              ∙ (ap (λ (s : SessionState (LineState L)). let o : Origin = record { machine = None; link = Some (number (get_or sessions i d).sul.link); letters = Some s.sul.letters } in o) made.0
-              ∙ ap (λ (n : ℕ). let o : Origin = record { machine = None; link = Some n; letters = Some letters } in o) made.1)))) in
+          sym (origin_there (seen_of now) i nobody.origin within)
+          ∙ (ap (λ (os : List Origin). get_or os i nobody.origin) learned.leaves.same.origins
+          ∙ (origin_there (seen_of before) i nobody.origin within'
+          ∙ (ap (λ (s : Seen). s.origin) (seen_there sessions before was i d first)
+          ∙ (ap (λ (s : SessionState (LineState L)). let o : Origin = record { machine = None; link = Some (number (get_or sessions i d).sul.link); letters = Some s.sul.letters } in o) made.0
+          ∙ ap (λ (n : ℕ). let o : Origin = record { machine = None; link = Some n; letters = Some letters } in o) made.1)))) in
           let member = learned.stands.members i within in
           let fits = fits_outputs outputs now.naming _ _ _ _ (learned.leaves.same.names ∙ ap (λ (n : Naming). declared_by n.names n.brought) naming_is) member.fits in
           subst (IsChildSeen letters outputs (base + i)) there (record { origin = origin; fits = fits })

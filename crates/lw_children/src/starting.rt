@@ -8,8 +8,8 @@ ghost use Rattle.lw_children.specs.Crews.{AreEarlier, HasBegun, IsLoose, count_l
 ghost use Rattle.lw_children.specs.bodies.Refusals.{refusal_by};
 ghost use Rattle.lw_children.specs.declared.starting.Refusal.{Refusal as Why};
 
-use lw_line::LineSul;
 use crate::Command;
+use lw_line::LineSul;
 use lw_outside::{Link, Spawner, StartStop};
 use lw_sul::Session;
 use lw_words::{Names, NoMemory};
@@ -124,15 +124,24 @@ fn start_one<P: Spawner>(
 {
     let (inputs, outputs) = match (command.inputs.copy(), copy_declared(&command.outputs)) {
         (Ok(inputs), Ok(outputs)) => (inputs, outputs),
-        _ => return Err(Unmade { refusal: Refusal::NoMemory, link: None }),
+        _ => return Err(Unmade {
+            refusal: Refusal::NoMemory,
+            link: None,
+        }),
     };
     let link = match spawner.start(command.words.get()) {
         Ok(link) => link,
-        Err(stop) => return Err(Unmade { refusal: refusal_of(stop), link: None }),
+        Err(stop) => return Err(Unmade {
+            refusal: refusal_of(stop),
+            link: None,
+        }),
     };
     match line_over(alloc, link, inputs, outputs) {
         Ok(system) => Ok(Session::new(alloc, instance, system)),
-        Err(link) => Err(Unmade { refusal: Refusal::NoMemory, link: Some(link) }),
+        Err(link) => Err(Unmade {
+            refusal: Refusal::NoMemory,
+            link: Some(link),
+        }),
     }
 }
 

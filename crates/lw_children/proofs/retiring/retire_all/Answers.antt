@@ -18,12 +18,12 @@ loop-session-init g c = record {
 pub retire-requires-clause-started : goal.retire-requires-clause-started
 retire-requires-clause-started g c =
     subst (λ (n : ℕ). n < g.P.Spawner.started c.loop-session.spawner) (ap g.P.Link.Link.number (sym c.link_of-link.ensures.link))
-      (was_started g.P.Link.Link.number c.args.sessions.items c.loop-session.yielded (into_iter_items c.next.new.self) c.in-Some.session (spawner_seen (g.P.Spawner.faults c.args.spawner.now) (g.P.Spawner.started c.args.spawner.now) (g.P.Spawner.retired c.args.spawner.now) (g.P.Spawner.commands c.args.spawner.now)) (spawner_seen (g.P.Spawner.faults c.loop-session.spawner) (g.P.Spawner.started c.loop-session.spawner) (g.P.Spawner.retired c.loop-session.spawner) (g.P.Spawner.commands c.loop-session.spawner)) c.requires.linked c.loop-session.invariant.retires (c.loop-session.invariant.rest ∙ ap (λ (l : List (SessionState (LineState g.row.P-Link.Denot))). c.loop-session.yielded ++ l) c.in-Some.ensures.steps.0))
+    (was_started g.P.Link.Link.number c.args.sessions.items c.loop-session.yielded (into_iter_items c.next.new.self) c.in-Some.session (spawner_seen (g.P.Spawner.faults c.args.spawner.now) (g.P.Spawner.started c.args.spawner.now) (g.P.Spawner.retired c.args.spawner.now) (g.P.Spawner.commands c.args.spawner.now)) (spawner_seen (g.P.Spawner.faults c.loop-session.spawner) (g.P.Spawner.started c.loop-session.spawner) (g.P.Spawner.retired c.loop-session.spawner) (g.P.Spawner.commands c.loop-session.spawner)) c.requires.linked c.loop-session.invariant.retires (c.loop-session.invariant.rest ∙ ap (λ (l : List (SessionState (LineState g.row.P-Link.Denot))). c.loop-session.yielded ++ l) c.in-Some.ensures.steps.0))
 
 pub retire-requires-clause-once : goal.retire-requires-clause-once
 retire-requires-clause-once g c =
     subst (λ (n : ℕ). ¬ Contains (map (λ r. r.number) (g.P.Spawner.retired c.loop-session.spawner)) n) (ap g.P.Link.Link.number (sym c.link_of-link.ensures.link))
-      (not_retired g.P.Link.Link.number c.args.sessions.items c.loop-session.yielded (into_iter_items c.next.new.self) c.in-Some.session (spawner_seen (g.P.Spawner.faults c.args.spawner.now) (g.P.Spawner.started c.args.spawner.now) (g.P.Spawner.retired c.args.spawner.now) (g.P.Spawner.commands c.args.spawner.now)) (spawner_seen (g.P.Spawner.faults c.loop-session.spawner) (g.P.Spawner.started c.loop-session.spawner) (g.P.Spawner.retired c.loop-session.spawner) (g.P.Spawner.commands c.loop-session.spawner)) c.requires.linked c.loop-session.invariant.retires (c.loop-session.invariant.rest ∙ ap (λ (l : List (SessionState (LineState g.row.P-Link.Denot))). c.loop-session.yielded ++ l) c.in-Some.ensures.steps.0))
+    (not_retired g.P.Link.Link.number c.args.sessions.items c.loop-session.yielded (into_iter_items c.next.new.self) c.in-Some.session (spawner_seen (g.P.Spawner.faults c.args.spawner.now) (g.P.Spawner.started c.args.spawner.now) (g.P.Spawner.retired c.args.spawner.now) (g.P.Spawner.commands c.args.spawner.now)) (spawner_seen (g.P.Spawner.faults c.loop-session.spawner) (g.P.Spawner.started c.loop-session.spawner) (g.P.Spawner.retired c.loop-session.spawner) (g.P.Spawner.commands c.loop-session.spawner)) c.requires.linked c.loop-session.invariant.retires (c.loop-session.invariant.rest ∙ ap (λ (l : List (SessionState (LineState g.row.P-Link.Denot))). c.loop-session.yielded ++ l) c.in-Some.ensures.steps.0))
 
 pub loop-session-preserved : goal.loop-session-preserved
 loop-session-preserved g c = record {
@@ -39,5 +39,5 @@ pub returns : goal.returns
 returns g c =
     let it = c.loop-session.session-iterator in
     subst (λ (l : List (SessionState (LineState g.row.P-Link.Denot))). RetiresAll g.P.Link.Link.number l (spawner_seen (g.P.Spawner.faults c.args.spawner.now) (g.P.Spawner.started c.args.spawner.now) (g.P.Spawner.retired c.args.spawner.now) (g.P.Spawner.commands c.args.spawner.now)) (spawner_seen (g.P.Spawner.faults c.loop-session.spawner) (g.P.Spawner.started c.loop-session.spawner) (g.P.Spawner.retired c.loop-session.spawner) (g.P.Spawner.commands c.loop-session.spawner)))
-      (all_done c.args.sessions.items c.loop-session.yielded (into_iter_items it) c.loop-session.invariant.rest (sym it.rest.ok.0 ∙ c.in-None.ensures.steps.0))
-      c.loop-session.invariant.retires
+    (all_done c.args.sessions.items c.loop-session.yielded (into_iter_items it) c.loop-session.invariant.rest (sym it.rest.ok.0 ∙ c.in-None.ensures.steps.0))
+    c.loop-session.invariant.retires

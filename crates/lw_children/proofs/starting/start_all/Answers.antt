@@ -44,9 +44,9 @@ loop-instance-preserved g c =
     let long = length_push sessions s in (
       (ap (λ (l : List (SessionState (LineState g.row.P-Link.Denot))). length l) pushed ∙ omega (arith, long, inv.0.0), omega (arith, c.push_reserved.ensures.len, inv.0.1), omega (arith, c.push_reserved.ensures.capacity, inv.0.2)),
       subst (λ (l : List (SessionState (LineState g.row.P-Link.Denot))). Starts c.args.command.now.words (spawner_seen (g.P.Spawner.faults c.args.spawner.now) (g.P.Spawner.started c.args.spawner.now) (g.P.Spawner.retired c.args.spawner.now) (g.P.Spawner.commands c.args.spawner.now)) (spawner_seen (g.P.Spawner.faults c.start_one.new.spawner) (g.P.Spawner.started c.start_one.new.spawner) (g.P.Spawner.retired c.start_one.new.spawner) (g.P.Spawner.commands c.start_one.new.spawner)) (length l)) (sym pushed)
-        (subst (λ (n : ℕ). Starts c.args.command.now.words (spawner_seen (g.P.Spawner.faults c.args.spawner.now) (g.P.Spawner.started c.args.spawner.now) (g.P.Spawner.retired c.args.spawner.now) (g.P.Spawner.commands c.args.spawner.now)) (spawner_seen (g.P.Spawner.faults c.start_one.new.spawner) (g.P.Spawner.started c.start_one.new.spawner) (g.P.Spawner.retired c.start_one.new.spawner) (g.P.Spawner.commands c.start_one.new.spawner)) n) (sym long) (then_starts c.args.command.now.words (spawner_seen (g.P.Spawner.faults c.args.spawner.now) (g.P.Spawner.started c.args.spawner.now) (g.P.Spawner.retired c.args.spawner.now) (g.P.Spawner.commands c.args.spawner.now)) (spawner_seen (g.P.Spawner.faults c.loop-instance.spawner) (g.P.Spawner.started c.loop-instance.spawner) (g.P.Spawner.retired c.loop-instance.spawner) (g.P.Spawner.commands c.loop-instance.spawner)) (spawner_seen (g.P.Spawner.faults c.start_one.new.spawner) (g.P.Spawner.started c.start_one.new.spawner) (g.P.Spawner.retired c.start_one.new.spawner) (g.P.Spawner.commands c.start_one.new.spawner)) (length sessions) 1 inv.1 c.in-Ok-start_one.ensures.one)),
+          (subst (λ (n : ℕ). Starts c.args.command.now.words (spawner_seen (g.P.Spawner.faults c.args.spawner.now) (g.P.Spawner.started c.args.spawner.now) (g.P.Spawner.retired c.args.spawner.now) (g.P.Spawner.commands c.args.spawner.now)) (spawner_seen (g.P.Spawner.faults c.start_one.new.spawner) (g.P.Spawner.started c.start_one.new.spawner) (g.P.Spawner.retired c.start_one.new.spawner) (g.P.Spawner.commands c.start_one.new.spawner)) n) (sym long) (then_starts c.args.command.now.words (spawner_seen (g.P.Spawner.faults c.args.spawner.now) (g.P.Spawner.started c.args.spawner.now) (g.P.Spawner.retired c.args.spawner.now) (g.P.Spawner.commands c.args.spawner.now)) (spawner_seen (g.P.Spawner.faults c.loop-instance.spawner) (g.P.Spawner.started c.loop-instance.spawner) (g.P.Spawner.retired c.loop-instance.spawner) (g.P.Spawner.commands c.loop-instance.spawner)) (spawner_seen (g.P.Spawner.faults c.start_one.new.spawner) (g.P.Spawner.started c.start_one.new.spawner) (g.P.Spawner.retired c.start_one.new.spawner) (g.P.Spawner.commands c.start_one.new.spawner)) (length sessions) 1 inv.1 c.in-Ok-start_one.ensures.one)),
       subst (λ (l : List (SessionState (LineState g.row.P-Link.Denot))). HasBegun g.P.Link.Link.number g.P.Link.Link.faults g.P.Link.Link.ends g.P.Link.Link.transcript c.args.command.now.inputs c.args.command.now.outputs (spawner_seen (g.P.Spawner.faults c.args.spawner.now) (g.P.Spawner.started c.args.spawner.now) (g.P.Spawner.retired c.args.spawner.now) (g.P.Spawner.commands c.args.spawner.now)) l None) (sym pushed)
-        (more_begun g.P.Link.Link.number g.P.Link.Link.faults g.P.Link.Link.ends g.P.Link.Link.transcript c.args.command.now.inputs c.args.command.now.outputs c.args.command.now.words (spawner_seen (g.P.Spawner.faults c.args.spawner.now) (g.P.Spawner.started c.args.spawner.now) (g.P.Spawner.retired c.args.spawner.now) (g.P.Spawner.commands c.args.spawner.now)) (spawner_seen (g.P.Spawner.faults c.loop-instance.spawner) (g.P.Spawner.started c.loop-instance.spawner) (g.P.Spawner.retired c.loop-instance.spawner) (g.P.Spawner.commands c.loop-instance.spawner)) sessions inv.2 inv.1 s c.from-in-loop-instance.result (c.from-in-loop-instance.ensures ∙ sym inv.0.0) c.in-Ok-start_one.ensures.made.0 c.in-Ok-start_one.ensures.made.1 c.in-Ok-start_one.ensures.earlier),
+          (more_begun g.P.Link.Link.number g.P.Link.Link.faults g.P.Link.Link.ends g.P.Link.Link.transcript c.args.command.now.inputs c.args.command.now.outputs c.args.command.now.words (spawner_seen (g.P.Spawner.faults c.args.spawner.now) (g.P.Spawner.started c.args.spawner.now) (g.P.Spawner.retired c.args.spawner.now) (g.P.Spawner.commands c.args.spawner.now)) (spawner_seen (g.P.Spawner.faults c.loop-instance.spawner) (g.P.Spawner.started c.loop-instance.spawner) (g.P.Spawner.retired c.loop-instance.spawner) (g.P.Spawner.commands c.loop-instance.spawner)) sessions inv.2 inv.1 s c.from-in-loop-instance.result (c.from-in-loop-instance.ensures ∙ sym inv.0.0) c.in-Ok-start_one.ensures.made.0 c.in-Ok-start_one.ensures.made.1 c.in-Ok-start_one.ensures.earlier),
     )
 
 pub returns-clause-count : goal.returns-clause-count

@@ -5,7 +5,7 @@ use Rattle.lw_children.proofs.starting.start_one.Goals as goal
 pub returns-in-Err-clause-none : goal.returns-in-Err-clause-none
 returns-in-Err-clause-none g c =
     not_started c.args.command.now.words _ _ _ c.in-Err.stop (ap (map (λ w. string_bytes w)) c.deref.ensures.value ∙ c.get.ensures) c.in-Err.ensures.none c.start.ensures.retired c.start.ensures.counts
-      (λ e. c.start.ensures.failed (c.in-Err.is ∙ ap Err e)) (λ e. c.start.ensures.failed_start (c.in-Err.is ∙ ap Err e)) (λ e. c.start.ensures.memory (c.in-Err.is ∙ ap Err e))
+    (λ e. c.start.ensures.failed (c.in-Err.is ∙ ap Err e)) (λ e. c.start.ensures.failed_start (c.in-Err.is ∙ ap Err e)) (λ e. c.start.ensures.memory (c.in-Err.is ∙ ap Err e))
 
 pub returns-in-Ok-line_over-clause-one : goal.returns-in-Ok-line_over-clause-one
 returns-in-Ok-line_over-clause-one g c =
