@@ -9,3 +9,6 @@ mod starting;
 pub use command::Command;
 pub use retiring::{retire_all, retire_with};
 pub use starting::{Broken, Refusal, Unmade, start_all};
+
+#[cfg(test)]
+mod tests;
