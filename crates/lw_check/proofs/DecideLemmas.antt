@@ -10,7 +10,7 @@ use Rattle.lw_cache.specs.declared.stops.Clash.{Clash as Found}
 use Rattle.lw_certify.specs.declared.verdict.Verdict.{Verdict}
 use Rattle.lw_certify.specs.declared.verdict.Verdict.TheVariants as verdict
 use Rattle.lw_certify.proofs.OneVerdict.{one_verdict}
-use Rattle.lw_check.specs.FirstClash.{IsFirstClash}
+use Rattle.lw_prior.specs.FirstClash.{IsFirstClash}
 use Rattle.lw_check.specs.Decision.{Pair, SameNames, HasVerdict, IsNo, IsDecision, OneDecision}
 use Rattle.lw_report.specs.declared.role.Role.{Role}
 use Rattle.lw_report.specs.declared.role.Role.TheVariants.{Answers}

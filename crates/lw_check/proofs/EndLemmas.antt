@@ -19,7 +19,9 @@ use Rattle.lw_report.specs.declared.role.Role.TheVariants as role
 use Rattle.lw_report.specs.declared.outcome.Outcome.{Outcome}
 use Rattle.lw_report.specs.declared.outcome.Outcome.TheVariants.{Learned, Trial, Yes, Served, No, Usage, BadFile, Alphabets, FileTooLong, Nondeterministic, NoMemory, SulFailed, Gone, BadLine, BadAsk, TooManyStates, SuiteTooLarge, FileFault, SourceFault, SinkFault}
 use Rattle.lw_check.specs.Decision.{IsAnswered, IsDecision, Pair, pair_of}
+use Rattle.lw_desk.specs.Naming.{Naming}
 use Rattle.lw_check.specs.Ending.{ComesTo, DecidesAs}
+use Rattle.lw_check.specs.Naming.{NamesOutputs, declared_as}
 use Rattle.lw_report.specs.States.{FilesState, SinkState}
 use Rattle.lw_check.specs.Reading.{IsUnread, ReadsPair, TellsFile}
 use Rattle.lw_check.specs.Telling.{IsTold}
@@ -38,6 +40,21 @@ comes_to p extra out now decision outcome decided told counted some =
     decided)
     r)
     told
+
+-- the names of the outputs, once an outcome was told
+pub still_named : (p : Pair) (decision outcome : Outcome) (outputs : Option Naming) → NamesOutputs p decision outputs → IsTold decision outcome → NamesOutputs p outcome outputs
+still_named p decision outcome outputs named told =
+    ⊎_elim
+    (λ (some : outputs ≡ Some (declared_as p.answer_outputs)). inl some)
+    (λ (none : (decision ≡ NoMemory) × (outputs ≡ None)). inr (still none.0, none.1))
+    named
+  where
+    still : decision ≡ NoMemory → outcome ≡ NoMemory
+    still none =
+        ⊎_elim
+        (λ (stands : outcome ≡ decision). stands ∙ none)
+        (λ (r : (outcome ≡ NoMemory) ⊎ (IsAnswered decision × (outcome ≡ SinkFault))). ⊎_elim (λ (e : outcome ≡ NoMemory). e) (λ (s : IsAnswered decision × (outcome ≡ SinkFault)). absurd (subst IsAnswered none s.0)) r)
+        told
 
 -- where memory runs out in telling a cause, the calls were its calls
 no_text : (model answers : List ℕ) (before now : FilesState) (o : Outcome) → HasOwnText o → IsUnread model answers before now o → IsUnread model answers before now NoMemory

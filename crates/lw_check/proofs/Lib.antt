@@ -1,5 +1,4 @@
 pub mod DecideLemmas
 pub mod EndLemmas
-pub mod FillLemmas
 pub mod OverLemmas
 pub mod ReadLemmas

@@ -1,7 +1,7 @@
 -- Answers over a model's inputs, and what their verdict comes to.
-use Rattle.std.proofs.Common.{◌≡◌, ℕ, ◌<◌, ◌⊎◌, inl, inr, ⊎_elim, List, [], length, take, refl, sym, subst, arith}
+use Rattle.std.proofs.Common.{◌≡◌, ℕ, ◌<◌, ◌⊎◌, inl, inr, ⊎_elim, List, [], length, refl, sym, subst}
 use Rattle.std.specs.List.{All}
-use Rattle.std.proofs.lemmas.List.{length-map, get_or-map, take_all}
+use Rattle.std.proofs.lemmas.List.{length-map, get_or-map}
 use Rattle.lw_words.specs.Answer.{Answer, answer_of, answers_of, IsWhole}
 use Rattle.lw_words.specs.Word.{IsWord}
 use Rattle.lw_words.specs.declared.kept.KeptAnswer.{KeptAnswer}
@@ -46,6 +46,3 @@ decided p extra kept outcome names none is (v, has, comes) =
 pub decided_or : (p : Pair) (extra : ℕ) (kept : List KeptAnswer) (outcome : Outcome) → SameNames p → NothingClashes (answers_of p.kept) → kept ≡ p.kept → (outcome ≡ NoMemory) ⊎ HasOutcome p.mealy (answers_of kept) extra outcome
     → (outcome ≡ NoMemory) ⊎ IsDecision p extra outcome
 decided_or p extra kept outcome names none is told = ⊎_elim (λ (e : outcome ≡ NoMemory). inl e) (λ (h : HasOutcome p.mealy (answers_of kept) extra outcome). inr (decided p extra kept outcome names none is h)) told
-
-pub nothing_before : (ks : List KeptAnswer) → NothingClashes (answers_of (take (length ks) ks)) → NothingClashes (answers_of ks)
-nothing_before ks none = subst (λ (l : List KeptAnswer). NothingClashes (answers_of l)) (take_all (length ks) ks (omega arith)) none

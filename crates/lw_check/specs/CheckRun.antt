@@ -20,7 +20,7 @@ pub record IsCheckRun (model answers : List ℕ) (extra : ℕ) (f g : FilesState
   pub no_model : end.model ≡ None
   pub no_learner : IsWithoutLearner end
   pub untouched : g.holds ≡ f.holds
-  pub ended : EndsUnread model answers f g extra o p e d end.outcome end.kept.answers ⊎ EndsRead model answers f g extra o p e d end.outcome end.kept.answers
+  pub ended : EndsUnread model answers f g extra o p e d end.outcome end.kept.answers end.outputs ⊎ EndsRead model answers f g extra o p e d end.outcome end.kept.answers end.outputs
   -- where both files are told, the outcome is their one decision, but that memory, a file or a stream may fail
   pub exact :
       (m : Machine) (a : Answers) (decision : Outcome)

@@ -1,7 +1,9 @@
 -- How the command ends.
-use Rattle.std.specs.Prelude.{◌≡◌, ◌≢◌, ◌⊎◌, ℕ, List, []}
+use Rattle.std.specs.Prelude.{◌≡◌, ◌≢◌, ◌⊎◌, ℕ, List, [], Option, None}
 use Rattle.lw_words.specs.Cause.{CountedFault}
 use Rattle.lw_words.specs.declared.kept.KeptAnswer.{KeptAnswer}
+use Rattle.lw_desk.specs.Naming.{Naming}
+use Rattle.lw_check.specs.Naming.{NamesOutputs}
 use Rattle.lw_check.specs.Decision.{IsAnswered, IsDecision, Pair}
 use Rattle.lw_check.specs.Reading.{IsUnread, ReadsPair}
 use Rattle.lw_report.specs.States.{FilesState, SinkState}
@@ -11,10 +13,11 @@ use Rattle.lw_report.specs.declared.outcome.Outcome.{Outcome}
 use Rattle.lw_report.specs.declared.outcome.Outcome.TheVariants.{NoMemory, FileFault, SinkFault}
 use Rattle.lw_report.specs.declared.role.Role.{Role}
 
--- no pair was read: nothing is kept or put to `out`, and the outcome's text goes to `err`, whole where that counts no fault
-pub record EndsUnread (model answers : List ℕ) (before now : FilesState) (extra : ℕ) (out out_now err err_now : SinkState) (outcome : Outcome) (kept : List KeptAnswer) : Type 0 where
+-- no pair was read: no answers are kept, no outputs are named, nothing is put to `out`, and the outcome's text goes to `err`, whole where that counts no fault
+pub record EndsUnread (model answers : List ℕ) (before now : FilesState) (extra : ℕ) (out out_now err err_now : SinkState) (outcome : Outcome) (kept : List KeptAnswer) (outputs : Option Naming) : Type 0 where
   pub cause : IsUnread model answers before now outcome
   pub kept_none : kept ≡ []
+  pub unnamed : outputs ≡ None
   pub unwritten : out_now ≡ out
   pub said : ¬ CountedFault err.faults err_now.faults → TakesAll (text_of [] [] [] extra outcome) err.taken err_now.taken
   pub said_part : TakesSome (text_of [] [] [] extra outcome) err.taken err_now.taken
@@ -26,12 +29,13 @@ ComesTo p extra out out_now outcome =
     ⊎ ((outcome ≡ NoMemory)
     ⊎ ((outcome ≡ SinkFault) × CountedFault out.faults out_now.faults × ((decision : Outcome) × IsAnswered decision × IsDecision p extra decision × TakesSome (text_of p.inputs p.outputs p.kept extra decision) out.taken out_now.taken)))
 
--- a pair was read: its answers are kept; a yes or a no is put to `out`, without a fault, and nothing to `err`; of any other
+-- a pair was read: its answers are kept, and its outputs are named; a yes or a no is put to `out`, without a fault, and nothing to `err`; of any other
 -- outcome but a fault of a stream nothing is put to `out`, and its text goes to `err`, whole where that counts no fault
-pub record EndsRead (model answers : List ℕ) (before now : FilesState) (extra : ℕ) (out out_now err err_now : SinkState) (outcome : Outcome) (kept : List KeptAnswer) : Type 0 where
+pub record EndsRead (model answers : List ℕ) (before now : FilesState) (extra : ℕ) (out out_now err err_now : SinkState) (outcome : Outcome) (kept : List KeptAnswer) (outputs : Option Naming) : Type 0 where
   pub pair : Pair
   pub read : ReadsPair model answers before now pair
   pub kept_all : kept ≡ pair.kept
+  pub named : NamesOutputs pair outcome outputs
   pub comes : ComesTo pair extra out out_now outcome
   pub quiet : IsAnswered outcome → (out_now.faults ≡ out.faults) × (err_now.faults ≡ err.faults)
   pub written : IsAnswered outcome → TakesAll (text_of pair.inputs pair.outputs pair.kept extra outcome) out.taken out_now.taken × (err_now.taken ≡ err.taken)

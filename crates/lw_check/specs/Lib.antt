@@ -1,7 +1,7 @@
 pub mod CheckRun
 pub mod Decision
 pub mod Ending
-pub mod FirstClash
+pub mod Naming
 pub mod Reading
 pub mod Telling
 pub mod bodies

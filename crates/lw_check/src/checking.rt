@@ -8,6 +8,7 @@ ghost use Rattle.lw_check.specs.Decision.{IsAnswered, IsDecision, Pair, pair_of}
 ghost use Rattle.lw_words.specs.Cause.{CountedFault};
 ghost use Rattle.lw_report.specs.Text.{text_of};
 ghost use Rattle.lw_report.specs.Writing.{TakesAll, TakesSome};
+ghost use Rattle.lw_check.specs.Naming.{NamesOutputs};
 ghost use Rattle.lw_check.specs.Ending.{ComesTo, DecidesAs, EndsRead, EndsUnread};
 ghost use Rattle.lw_report.specs.States.{files_state, sink_state};
 ghost use Rattle.lw_check.specs.Reading.{ReadsPair, TellsFile};
@@ -18,7 +19,7 @@ ghost use Rattle.lw_report.specs.Ends.{IsWithoutLearner};
 ghost use Rattle.lw_report.specs.Outcomes.{status_of};
 ghost use Rattle.lw_report.specs.declared.outcome.Outcome.{Outcome as Came};
 
-use crate::deciding::decide;
+use crate::deciding::{Decided, decide};
 use crate::reading::{Read, read_pair};
 use crate::telling::tell;
 use lw_json::{Answers, Machine};
@@ -41,6 +42,7 @@ fn finish<O: Sink, E: Sink>(
     ensures model { result.model ≡ None }
     ensures learner { IsWithoutLearner result }
     ensures kept { result.kept.answers ≡ answers.kept.answers }
+    ensures outputs { NamesOutputs (pair_of machine answers) result.outcome result.outputs }
     ensures complete { IsWithinLimits machine.mealy }
     ensures comes { ComesTo (pair_of machine answers) extra
         (sink_state (O.taken out.old) (O.faults out.old))
@@ -63,9 +65,12 @@ fn finish<O: Sink, E: Sink>(
     ensures counts { (O.faults out.old ≤ O.faults out.new) × (E.faults err.old ≤ E.faults err.new) }
 {
     let _states = machine.mealy.states();
-    let decision = decide(alloc, &machine, &answers, extra);
+    let Decided {
+        outcome: decision,
+        outputs,
+    } = decide(alloc, &machine, &answers, extra);
     let outcome = tell(alloc, decision, &machine, &answers.kept, extra, out, err);
-    End::new(outcome, answers.kept)
+    End::new(outcome, answers.kept, outputs)
 }
 
 /// `check MODEL ANSWERS [--extra K]`: whether the answers of a file fix the model of a file among all machines of at most
@@ -94,7 +99,7 @@ pub fn check<F: Files, O: Sink, E: Sink>(
         (sink_state (O.taken out.new) (O.faults out.new))
         (sink_state (E.taken err.old) (E.faults err.old))
         (sink_state (E.taken err.new) (E.faults err.new))
-        result.outcome result.kept.answers ⊎
+        result.outcome result.kept.answers result.outputs ⊎
         EndsRead model.now answers.now
         (files_state (F.holds files.old) (F.calls files.old) (F.reads files.old)
         (F.faults files.old))
@@ -104,7 +109,7 @@ pub fn check<F: Files, O: Sink, E: Sink>(
         (sink_state (O.taken out.new) (O.faults out.new))
         (sink_state (E.taken err.old) (E.faults err.old))
         (sink_state (E.taken err.new) (E.faults err.new))
-        result.outcome result.kept.answers }
+        result.outcome result.kept.answers result.outputs }
     ensures exact { (m : Model) (a : Given) (decision : Came) →
         TellsFile IsMachineFile (F.holds files.old) model.now m →
         TellsFile IsAnswersFile (F.holds files.old) answers.now a →
@@ -122,7 +127,16 @@ pub fn check<F: Files, O: Sink, E: Sink>(
     let Read { machine, answers } = match read_pair(alloc, files, model, answers) {
         Ok(read) => read,
         Err(outcome) => {
-            return refuse(alloc, outcome, None, None, Kept::new(alloc), extra, err);
+            return refuse(
+                alloc,
+                outcome,
+                None,
+                None,
+                Kept::new(alloc),
+                None,
+                extra,
+                err,
+            );
         }
     };
     finish(alloc, machine, answers, extra, out, err)

@@ -1,19 +1,28 @@
 //! What a model and answers come to.
-ghost use Rattle.std.specs.Prelude.{◌≡◌, ◌≤◌, ◌⊎◌, length, true, false};
+ghost use Rattle.std.specs.Prelude.{◌≡◌, ◌≤◌, ◌⊎◌, true, false};
 ghost use Rattle.std.specs.List.{All};
 ghost use Rattle.lw_words.specs.Answer.{answers_of};
 ghost use Rattle.lw_words.specs.Word.{IsWord};
 ghost use Rattle.lw_check.specs.Decision.{IsDecision, SameNames, pair_of};
-ghost use Rattle.lw_check.specs.bodies.Filled.{ClashBefore};
+ghost use Rattle.lw_check.specs.Naming.{NamesOutputs};
 ghost use Rattle.lw_check.specs.bodies.Verdicts.{HasOutcome, outcome_of};
+ghost use Rattle.lw_prior.specs.Prior.{HasFirstClash};
 ghost use Rattle.lw_report.specs.declared.outcome.Outcome.{Outcome as Came};
 
-use crate::filling::{Filled, fill};
 use lw_cache::Cache;
 use lw_certify::{Verdict, certify};
+use lw_desk::OutNames;
 use lw_json::{Answers, Machine};
+use lw_prior::{Prior, fill};
 use lw_report::{Outcome, Role};
 use std::alloc::Global;
+
+/// What a model and answers come to, and the names of their outputs, where they share them.
+#[derive(Drop)]
+pub(crate) struct Decided {
+    pub(crate) outcome: Outcome,
+    pub(crate) outputs: Option<OutNames>,
+}
 
 /// The outcome of a verdict on a model of so many states.
 fn verdict_outcome(states: u16, verdict: Verdict) -> Outcome
@@ -56,14 +65,13 @@ fn outcome_of_filled(
     alloc: Global,
     machine: &Machine,
     answers: &Answers,
-    filled: &Filled,
+    filled: &Prior,
     extra: u8,
 ) -> Outcome
     requires few { extra ≤ 4 }
     requires names { SameNames (pair_of machine.now answers.now) }
     requires kept { filled.now.cache.kept ≡ answers.now.kept.answers }
-    requires clash { ClashBefore answers.now.kept.answers (length answers.now.kept.answers)
-        filled.now.clash }
+    requires clash { HasFirstClash (answers_of filled.now.cache.kept) filled.now.clash }
     ensures { (result ≡ Came.NoMemory) ⊎
         IsDecision (pair_of machine.now answers.now) extra result }
 {
@@ -73,17 +81,40 @@ fn outcome_of_filled(
     }
 }
 
-/// What a model and answers come to.
-pub(crate) fn decide(alloc: Global, machine: &Machine, answers: &Answers, extra: u8) -> Outcome
+/// What a model and answers of the same names come to.
+fn decide_alike(alloc: Global, machine: &Machine, answers: &Answers, extra: u8) -> Outcome
     requires few { extra ≤ 4 }
+    requires names { SameNames (pair_of machine.now answers.now) }
     ensures { (result ≡ Came.NoMemory) ⊎
         IsDecision (pair_of machine.now answers.now) extra result }
 {
-    if !same_names(machine, answers) {
-        return Outcome::Alphabets(Role::Answers);
-    }
     match fill(alloc, &answers.kept) {
         Ok(filled) => outcome_of_filled(alloc, machine, answers, &filled, extra),
         Err(_) => Outcome::NoMemory,
+    }
+}
+
+/// What a model and answers come to, and the names of their outputs.
+pub(crate) fn decide(alloc: Global, machine: &Machine, answers: &Answers, extra: u8) -> Decided
+    requires few { extra ≤ 4 }
+    ensures decided { (result.outcome ≡ Came.NoMemory) ⊎
+        IsDecision (pair_of machine.now answers.now) extra result.outcome }
+    ensures named { NamesOutputs (pair_of machine.now answers.now) result.outcome result.outputs }
+{
+    let Ok(outputs) = OutNames::declared(alloc, &answers.outputs) else {
+        return Decided {
+            outcome: Outcome::NoMemory,
+            outputs: None,
+        };
+    };
+    if !same_names(machine, answers) {
+        return Decided {
+            outcome: Outcome::Alphabets(Role::Answers),
+            outputs: Some(outputs),
+        };
+    }
+    Decided {
+        outcome: decide_alike(alloc, machine, answers, extra),
+        outputs: Some(outputs),
     }
 }

@@ -3,7 +3,6 @@
 
 mod checking;
 mod deciding;
-mod filling;
 mod laws;
 mod reading;
 mod telling;

@@ -1,13 +1,12 @@
 -- Sessions of children that are made one after the other.
 use Rattle.std.proofs.Common.{◌≡◌, ⊎_elim, ℕ, zero, suc, ◌+◌, ◌<◌, ◌≤◌, List, [], ◌∷◌, ◌++◌, length, get_or, Option, Some, None, IfSome, refl, ap, sym, ◌∙◌, subst, subst₂, arith}
-use Rattle.std.specs.List.{All}
 use Rattle.std.proofs.lemmas.Bool.{cases_lt}
 use Rattle.std.proofs.lemmas.List.{get_or_append_left, length_push, get_or_push}
 use Rattle.lw_sul.specs.SessionState.{SessionState}
 use Rattle.lw_outside.specs.Links.{Retired, Transcript}
 use Rattle.lw_line.specs.LineState.{LineState}
 use Rattle.lw_children.specs.Spawners.{SpawnerSeen, Starts}
-use Rattle.lw_children.specs.Crews.{AreEarlier, AreNew, HasBegun, IsLoose, count_link, new_session}
+use Rattle.lw_children.specs.Crews.{AreEarlier, HasBegun, IsLoose, new_session}
 
 module _ {L : Type 0} (number faults ends : L → ℕ) (transcript : L → Option Transcript) (letters : List (List ℕ)) (outputs : Option (List (List ℕ))) where
   pub none_begun : (before : SpawnerSeen) → HasBegun number faults ends transcript letters outputs before [] None

@@ -1,11 +1,12 @@
 -- What comes of a learning over children, however it ended.
-use Rattle.std.proofs.Common.{◌≡◌, ◌⊎◌, ⊎_elim, ℕ, ◌+◌, ◌-◌, ◌<◌, ◌≤◌, List, [], ◌∷◌, ◌++◌, length, map, get_or, Option, Some, None, Result, Ok, Err, IfOk, IfErr, OnOk, false, inl, inr, refl, ap, sym, ◌∙◌, subst, subst₂, append_assoc, append-nil, arith}
+use Rattle.std.proofs.Common.{◌≡◌, ⊎_elim, ℕ, ◌+◌, ◌-◌, ◌<◌, ◌≤◌, List, [], ◌∷◌, ◌++◌, length, map, get_or, Option, Some, None, Result, Ok, Err, IfOk, IfErr, OnOk, false, inl, inr, refl, ap, sym, ◌∙◌, subst, subst₂, append_assoc, append-nil, arith}
 use Rattle.std.specs.List.{All}
 use Rattle.std.proofs.lemmas.Bool.{cases_lt}
 use Rattle.std.proofs.lemmas.List.{get_or_append_left, get_or-append_right, length-append}
 use Rattle.std.proofs.lemmas.List.Elements.{All-map}
 use Rattle.lw_words.specs.Answer.{AreAnswers, IsAnswer, answer_of, answers_of}
 use Rattle.lw_words.specs.Cause.{CountedFault}
+use Rattle.lw_words.specs.Name.{AllDiffer}
 use Rattle.lw_words.specs.declared.kept.KeptAnswer.{KeptAnswer}
 use Rattle.lw_words.specs.declared.stop.SulStop.{SulStop}
 use Rattle.lw_words.specs.declared.stop.SulStop.TheVariants as sul
@@ -18,9 +19,9 @@ use Rattle.lw_cache.specs.declared.stops.AskStop.{AskStop}
 use Rattle.lw_cache.specs.declared.stops.AskStop.TheVariants as ask
 use Rattle.lw_cache.specs.Settling.{LeavesStop}
 use Rattle.lw_desk.specs.Naming.{Naming}
-use Rattle.lw_desk.specs.Ending.{CameFirst, kept_runs}
+use Rattle.lw_desk.specs.Ending.{kept_runs}
 use Rattle.lw_pool.specs.Opening.{MayBegin}
-use Rattle.lw_pool.specs.Pool.{AskedOnce, IsStopOf, PoolState, Seen, StandsFor, journal_runs, seen_at, seen_of}
+use Rattle.lw_pool.specs.Pool.{AskedOnce, IsStopOf, PoolState, Seen, journal_runs, seen_at, seen_of}
 use Rattle.lw_rounds.specs.Laws.{ModelIsLeast, TooManyIsNone, TooLargeForAll}
 use Rattle.lw_rounds.specs.Learned.{IsLearned, StopsAs}
 use Rattle.lw_rounds.specs.Stops.{learn_stop, IsOwnStop}
@@ -28,13 +29,12 @@ use Rattle.lw_rounds.specs.declared.learned.Learned.{Learned}
 use Rattle.lw_rounds.specs.declared.stops.LearnStop.{LearnStop}
 use Rattle.lw_rounds.specs.declared.stops.LearnStop.TheVariants as learn
 use Rattle.lw_workers.specs.Leaving.{HasLearned}
-use Rattle.lw_workers.specs.Machines.{IsReached, IsWithin}
 use Rattle.lw_workers.proofs.MachineLemmas.{no_clash_came, reached}
-use Rattle.lw_children.specs.Children.{IsCausedBy, IsChildStop, IsOfChildren, IsSound, IsStopped}
+use Rattle.lw_children.specs.Children.{IsCausedBy, IsOfChildren, IsSound, IsStopped, LeavesNothing}
 use Rattle.lw_line.specs.Causes.{IsTranscriptOf}
 use Rattle.lw_children.specs.Keeping.{KeepsChildren, count_of, most_of}
-use Rattle.lw_line.specs.LineState.{IsNaming, LineState, told_runs}
-use Rattle.lw_children.specs.Spawners.{SpawnerSeen, Starts, StartsAndRetires, StartsSome, with_starts}
+use Rattle.lw_line.specs.LineState.{AreFree, AreToldIfFree, IsNaming, LineState, told_runs}
+use Rattle.lw_children.specs.Spawners.{SpawnerSeen, Starts, StartsAndRetires, StartsSome}
 use Rattle.lw_children.specs.Crews.{AreLinkedWith, AreLinked, AreNew, BearsOut, FitsOutputs, HasBegun, HasRetired, IsChildSeen, IsChildrenPool, IsLoose, RetiresAll, RetiresWith, child_member, count_link, first_names, first_naming, has_number, line_seen, loose_records, new_session, retired_of}
 use Rattle.lw_children.specs.bodies.Ends.{AreChildEnds, IsChildEnd, broken_stop}
 use Rattle.lw_children.specs.declared.starting.Refusal.{Refusal}
@@ -42,18 +42,24 @@ use Rattle.lw_children.specs.declared.starting.Refusal.TheVariants.{Failed, NoMe
 use Rattle.lw_children.proofs.KeepLemmas.{keeps_link, number_is, sound_goes_on, stopped_link}
 use Rattle.lw_children.proofs.PoolLemmas.{as_many, children_seen, seen_there}
 use Rattle.lw_children.proofs.RetireLemmas.{seat_of, some_number}
+use Rattle.lw_children.proofs.RunLemmas.{numbered_up, whole_link}
 use Rattle.lw_children.proofs.StartLemmas.{quietly_some}
+
+-- a link that isn't there
+abbrev no_link : Retired
+no_link = record { number = 0; faults = 0; ends = 0; transcript = None }
 
 -- the records of children at the end of a learning, whose links were started and retired so
 module _ (letters : List (List ℕ)) (outputs : Option (List (List ℕ))) (names : List (List ℕ)) (since : List KeptAnswer) (base : ℕ) (links : List Retired) (ends : AreChildEnds letters outputs names since base links) where
   pub numbers_rise : (i : ℕ) (d : Retired) → i < length links → (get_or links i d).number ≡ base + i
   numbers_rise i d lt = let e = ends i d lt in number_is letters outputs (base + i) e.seen (get_or links i d) e.is_seen e.bears
 
-  pub keeps_children : (prior kept : List KeptAnswer) → kept ≡ prior ++ since → All (λ k. k.instance < length links) since → AreAnswers (length letters) (answers_of kept) → All (λ k. All (λ y. y < length names) k.outs) kept → AskedOnce prior kept → KeepsChildren letters outputs names prior kept links
+  abbrev pub keeps_children : (prior kept : List KeptAnswer) → kept ≡ prior ++ since → All (λ k. k.instance < length links) since → AreAnswers (length letters) (answers_of kept) → All (λ k. All (λ y. y < length names) k.outs) kept → AskedOnce prior kept → KeepsChildren letters outputs names prior kept links
   keeps_children prior kept first instances words below once = record {
     since = since;
     first = first;
     instances = instances;
+    numbered = λ i lt. let e = ends i no_link lt in numbered_up names e.seen.names i since e.seen.journal e.kept;
     runs = λ i d lt. let e = ends i d lt in keeps_link letters outputs (base + i) e.seen (get_or links i d) e.is_seen e.bears names i since e.kept;
     words = words;
     below = below;
@@ -79,6 +85,15 @@ fits_declared (Some names) = (refl, refl)
 named_first : (outputs : Option (List (List ℕ))) → IsNaming (first_names outputs) (most_of outputs) (count_of outputs)
 named_first None = inl (refl, refl)
 named_first (Some names) = inr (refl, refl)
+
+differ_first : (outputs : Option (List (List ℕ))) → AreFree (most_of outputs) (count_of outputs) → AllDiffer (first_names outputs)
+differ_first None free = λ i j d lt within. absurd (omega (arith, within))
+differ_first (Some names) free = absurd (omega (arith, free.0, free.1))
+
+told_first : (outputs : Option (List (List ℕ))) (told : Option Transcript) → AreToldIfFree (first_names outputs) (most_of outputs) (count_of outputs) told
+told_first outputs None free = tt
+told_first None (Some t) free = λ i d lt. absurd (omega (arith, lt))
+told_first (Some names) (Some t) free = absurd (omega (arith, free.0, free.1))
 
 few_first : (outputs : Option (List (List ℕ))) → length (first_names outputs) ≤ most_of outputs
 few_first None = omega arith
@@ -127,6 +142,8 @@ module _ {L : Type 0} (number faults ends : L → ℕ) (transcript : L → Optio
       told = untouched_is letters (first_names outputs) (most_of outputs) (faults l) (transcript l) is;
       few = few_first outputs;
       naming = named_first outputs;
+      differ = differ_first outputs;
+      told_names = told_first outputs (transcript l);
       cut = false;
       journal = untouched_runs letters (first_names outputs) (transcript l) is;
     };
@@ -181,7 +198,9 @@ module _ (words letters : List (List ℕ)) (outputs : Option (List (List ℕ))) 
         spawner = spawner;
         few = few;
         all = tt;
+        quiet = tt;
         keeps = kept_prior;
+        whole = tt;
         ok = tt;
         stops = tt;
         causes = tt;
@@ -197,7 +216,9 @@ module _ (words letters : List (List ℕ)) (outputs : Option (List (List ℕ))) 
         spawner = spawner;
         few = few;
         all = tt;
+        quiet = tt;
         keeps = kept_prior;
+        whole = tt;
         ok = tt;
         stops = tt;
         causes = (lt, inl (refl, count, failed));
@@ -251,9 +272,59 @@ given_up number faults ends transcript words letters outputs workers k most prio
         (omega (arith, count, ap (λ (o : Option _). count_link o) f.0)) (subst (λ (n : ℕ). CountedFault before.faults n) (sym (retires.faults_same ∙ retires.first.faults)) f.1)
     by NoMemory failed is = out_of_memory words letters outputs workers k most prior before now naming may links spawner (omega (arith, count, few)) ended learned kept names is kept_is names_are
 
+module _ {L : Type 0} (number faults ends : L → ℕ) (transcript : L → Option Transcript) (words letters : List (List ℕ)) (outputs : Option (List (List ℕ))) (workers : ℕ) (before mid : SpawnerSeen) (sessions : List (SessionState (LineState L))) (begun : HasBegun number faults ends transcript letters outputs before sessions None) (starts : Starts words before mid workers) (count : length sessions ≡ workers) where
+  earlier_all : 0 < length sessions → All (λ r. r.number < before.started) mid.retired
+  earlier_all lt = subst (λ (rs : List Retired). All (λ r. r.number < before.started) rs) (sym starts.retired) (begun.earlier (omega (arith, lt)))
+
+  -- the links of sessions that were all made may be retired
+  pub all_linked : (now : List (SessionState (LineState L))) → now ≡ sessions → AreLinked number now mid
+  all_linked now same = subst (λ (l : List (SessionState (LineState L))). AreLinked number l mid) (sym same) (record {
+    base = before.started;
+    links = λ i d lt. (begun.new i d lt).1;
+    earlier = earlier_all;
+    within = omega (arith, starts.started, count);
+  })
+
+  -- and they are those of a pool of children
+  pub begun_pool : (pool : PoolState (LineState L)) → pool.members ≡ map (child_member number) sessions → pool.naming ≡ first_naming outputs → IsChildrenPool number mid pool
+  begun_pool pool members naming_is = record {
+    letters = letters;
+    outputs_declared = outputs;
+    base = before.started;
+    sessions = sessions;
+    new = begun.new;
+    members = sym members;
+    naming = naming_is;
+    earlier = earlier_all;
+    within = omega (arith, starts.started, count);
+  }
+
+  -- a learning for which there was no memory once all were made
+  pub refused_pool : (k most : ℕ) (prior : List KeptAnswer) (now : SpawnerSeen) (naming : Naming) (left : List (SessionState (LineState L))) → MayBegin naming (length letters) (count_of outputs) prior → left ≡ sessions → RetiresAll number left mid now
+      → (learned : Result Learned LearnStop) (kept : List KeptAnswer) (names : List (List ℕ)) → learned ≡ Err (learn.Ask ask.NoMemory) → kept ≡ prior → names ≡ naming.names → IsOfChildren words letters outputs workers k most prior before now learned kept names
+  refused_pool k most prior now naming left may same retires' learned kept names is kept_is names_are =
+      out_of_memory words letters outputs workers k most prior before now naming may links spawner (omega (arith, counted)) ended learned kept names is kept_is names_are
+    where
+      retires : RetiresAll number sessions mid now
+      retires = subst (λ (l : List (SessionState (LineState L))). RetiresAll number l mid now) same retires'
+
+      links : List Retired
+      links = retires.records ++ []
+
+      counted : length links ≡ workers
+      counted = ap (λ (l : List Retired). length l) (append-nil retires.records) ∙ (retires.count ∙ count)
+
+      ended : AreChildEnds letters outputs naming.names [] before.started links
+      ended = fresh_ends number faults ends transcript letters outputs naming.names before sessions None retires.records begun retires.count retires.each
+
+      spawner : StartsAndRetires words before now links
+      spawner = started_retired words before mid now workers links (quietly_some words before mid workers starts) retires.started
+          (retires.retired ∙ ap (λ (l : List Retired). mid.retired ++ l) (sym (append-nil retires.records)))
+          retires.faults retires.commands counted (numbers_rise letters outputs naming.names [] before.started links ended)
+
 -- a learning over a pool of children that were all started
 module _ {L : Type 0} (number : L → ℕ) (words letters : List (List ℕ)) (outputs : Option (List (List ℕ))) (workers k most : ℕ) (prior : List KeptAnswer) (before mid now : SpawnerSeen) (sessions : List (SessionState (LineState L))) (new : AreNew number letters outputs before.started sessions) (starts : Starts words before mid workers) (count : length sessions ≡ workers)
-    (pool : PoolState (LineState L)) (members : map (child_member number) sessions ≡ pool.members) (naming_is : pool.naming ≡ first_naming outputs) (prior_is : pool.prior ≡ prior) (inputs_is : pool.inputs ≡ length letters) (outputs_is : pool.outputs ≡ count_of outputs)
+    (pool : PoolState (LineState L)) (members : map (child_member number) sessions ≡ pool.members) (naming_is : pool.naming ≡ first_naming outputs) (prior_is : pool.prior ≡ prior) (inputs_is : pool.inputs ≡ length letters) (outputs_is : pool.outputs ≡ count_of outputs) (unrefused : pool.refused ≡ false)
     (learned : Result Learned LearnStop) (kept : List KeptAnswer) (naming : Naming) (ended : HasRetired number k most pool mid now learned kept naming) where
   abbrev left : PoolState (LineState L)
   left = ended.left
@@ -288,6 +359,21 @@ module _ {L : Type 0} (number : L → ℕ) (words letters : List (List ℕ)) (ou
         kept = subst (λ (x : Seen). kept_runs left.naming.names i since ≡ journal_runs x.names 0 x.journal) there (ended.learned.stands.stands.runs i (omega (arith, lt, many)));
       }
 
+  -- where nothing was ever refused no session has stopped, and nothing is left out
+  nothing_left : left.refused ≡ false → LeavesNothing letters outputs left.naming.names since links
+  nothing_left never i d lt =
+      let within : i < length later = omega (arith, lt, ended.retires.count) in
+      let inside : i < length (seen_of left) = omega (arith, lt, many) in
+      let s = seat_of later i within in
+      let there = seen_there number later left ended.members i s within in
+      whole_link letters outputs (before.started + i) (line_seen number (get_or later i s)) (get_or links i d) (seen_all.1 i s within) (ended.retires.each i s d within) left.naming.names i since
+      (ap (λ (x : Seen). x.stop) (sym there) ∙ (ended.learned.stands.unrefused never).1 i inside)
+      (subst (λ (x : Seen). kept_runs left.naming.names i since ≡ journal_runs x.names 0 x.journal) there (ended.learned.stands.stands.runs i inside))
+
+  whole_learned : (r : Result Learned LearnStop) → (learn_stop r ≡ None → left.refused ≡ pool.refused) → OnOk r (LeavesNothing letters outputs left.naming.names since links)
+  whole_learned (Ok l) never = nothing_left (never refl ∙ unrefused)
+  whole_learned (Err stop) never = tt
+
   -- a session that stopped is that of a link whose record says why
   stopped_there : (i : ℕ) (stop : SulStop) → (i < length (seen_of left)) × ((seen_at (seen_of left) i).stop ≡ Some stop) → (i < length links) × ((d : Retired) → IsStopped outputs stop (get_or links i d))
   stopped_there i stop why =
@@ -314,11 +400,7 @@ module _ {L : Type 0} (number : L → ℕ) (words letters : List (List ℕ)) (ou
   own_stop m gives sound (Ok l) told = tt
   own_stop m gives sound (Err (learn.Ask (ask.Sul i s))) told =
       let why = stopped_there i s (subst (IsStopOf (seen_of left) left.kept) told ended.learned.stands.why) in
-      let d = nothing in
-      absurd (sound_goes_on outputs (get_or links i d) s (sound i d why.0) (why.1 d))
-    where
-      nothing : Retired
-      nothing = record { number = 0; faults = 0; ends = 0; transcript = None }
+      absurd (sound_goes_on outputs (get_or links i no_link) s (sound i no_link why.0) (why.1 no_link))
   own_stop m gives sound (Err (learn.Ask (ask.Clash c))) told = absurd (no_clash_came m left.kept c gives (subst (IsStopOf (seen_of left) left.kept) told ended.learned.stands.why))
   own_stop m gives sound (Err (learn.Ask ask.NoMemory)) told = refl
   own_stop m gives sound (Err (learn.Crowd ws)) told = tt
@@ -338,12 +420,14 @@ module _ {L : Type 0} (number : L → ℕ) (words letters : List (List ℕ)) (ou
     links = links;
     spawner = started_retired words before mid now workers links (quietly_some words before mid workers starts) ended.retires.started ended.retires.retired ended.retires.faults ended.retires.commands all_links (numbers_rise letters outputs left.naming.names since before.started links ends_are);
     few = omega (arith, all_links);
-    all = always learned all_links;
+    all = always (length links ≡ workers) learned all_links;
+    quiet = always (now.faults ≡ before.faults) learned (ended.retires.faults ∙ starts.faults);
     keeps = keeps_children letters outputs left.naming.names since before.started links ends_are prior left.kept
         (ended.learned.stands.stands.first ∙ ap (λ (l : List KeptAnswer). l ++ since) (ended.learned.prior ∙ prior_is))
         (subst (λ (n : ℕ). All (λ x. x.instance < n) since) many ended.learned.stands.stands.instances)
         words_are ended.learned.stands.below
         (subst (λ (l : List KeptAnswer). AskedOnce l left.kept) (ended.learned.prior ∙ prior_is) ended.learned.stands.once);
+    whole = whole_learned learned ended.learned.leaves.refused;
     ok = ok_is;
     stops = stops_are;
     causes = caused learned ended.learned.leaves.told;
@@ -351,9 +435,9 @@ module _ {L : Type 0} (number : L → ℕ) (words letters : List (List ℕ)) (ou
         reached (length letters) (count_of outputs) k most (answers_of left.kept) learned least none large words_are ok_is stops_are (own_stop m gives sound learned ended.learned.leaves.told) m within gives;
   }
     where
-      always : (r : Result Learned LearnStop) → length links ≡ workers → OnOk r (length links ≡ workers)
-      always (Ok l) is = is
-      always (Err e) is = tt
+      always : (P : Type 0) (r : Result Learned LearnStop) → P → OnOk r P
+      always P (Ok l) is = is
+      always P (Err e) is = tt
 
   pub of_pool : ModelIsLeast → TooManyIsNone → TooLargeForAll → IsOfChildren words letters outputs workers k most prior before now learned kept naming.names
   of_pool least none large =

@@ -1,6 +1,6 @@
 -- What the record of a link says of the kept answers of its instance, and of why that stopped.
-use Rattle.std.proofs.Common.{◌≡◌, ◌⊎◌, ⊎_elim, ℕ, ◌+◌, ◌<◌, ◌≤◌, List, [], ◌∷◌, ◌++◌, length, map, get_or, Bool, true, false, Option, Some, None, inl, inr, refl, ap, sym, ◌∙◌, subst, arith}
-use Rattle.lw_words.specs.Cause.{CountedFault}
+use Rattle.std.proofs.Common.{◌≡◌, ◌⊎◌, ⊎_elim, ℕ, ◌+◌, ◌≤◌, List, [], ◌∷◌, ◌++◌, length, Bool, true, false, Option, Some, None, inl, inr, refl, ap, sym, ◌∙◌, subst, arith}
+use Rattle.lw_words.specs.Name.{AllDiffer}
 use Rattle.lw_words.specs.declared.kept.KeptAnswer.{KeptAnswer}
 use Rattle.lw_words.specs.declared.stop.SulStop.{SulStop}
 use Rattle.lw_words.specs.declared.stop.SulStop.TheVariants.{Failed, BadLine, Gone}
@@ -13,8 +13,8 @@ use Rattle.lw_desk.specs.Ending.{kept_runs}
 use Rattle.lw_pool.specs.Pool.{Seen, journal_runs}
 use Rattle.lw_line.specs.Causes.{EndsWithin, IsCounted, IsCovered, IsRefused, IsSpelled, IsTranscriptOf}
 use Rattle.lw_children.specs.Children.{HasRefused, IfTold, IsSound, IsStopped}
-use Rattle.lw_children.specs.Keeping.{AreOwn, IsBroken, KeepsTold, KeepsTranscript, most_of}
-use Rattle.lw_line.specs.LineState.{IsNaming, told_runs}
+use Rattle.lw_children.specs.Keeping.{AreOwn, IsBroken, KeepsTold, most_of}
+use Rattle.lw_line.specs.LineState.{AreFree, AreToldIfFree, IsNaming, told_runs}
 use Rattle.lw_line.specs.Transcripts.{lines_in, spelled}
 use Rattle.lw_children.specs.Crews.{BearsOut, FitsOutputs, IsChildSeen}
 
@@ -26,12 +26,17 @@ some_is : {X : Type 0} (x a b : X) → Some a ≡ Some b → a ≡ b
 some_is x a b same = ap (some_by x) same
 
 -- the names that a child gave, and how many they may be
-own_names_are : (outputs : Option (List (List ℕ))) (names : List (List ℕ)) (most count : ℕ) → FitsOutputs outputs names most count → length names ≤ most → IsNaming names most count → AreOwn outputs names × (most ≡ most_of outputs)
-own_names_are None names most count fits few naming =
-    (omega (arith, few, fits.1), ⊎_elim (λ (e : (most ≡ 256) × (count ≡ 4096)). e.0) (λ (e : (most ≡ length names) × (count ≡ length names)). absurd (omega (arith, e.0, e.1, fits.0, fits.1))) naming)
-own_names_are (Some declared) names most count fits few naming = fits
+most_is : (outputs : Option (List (List ℕ))) (names : List (List ℕ)) (most count : ℕ) → FitsOutputs outputs names most count → IsNaming names most count → most ≡ most_of outputs
+most_is None names most count fits naming = ⊎_elim (λ (e : AreFree most count). e.0) (λ (e : (most ≡ length names) × (count ≡ length names)). absurd (omega (arith, e.0, e.1, fits.0, fits.1))) naming
+most_is (Some declared) names most count fits naming = fits.1
 
-module _ (letters : List (List ℕ)) (outputs : Option (List (List ℕ))) (names : List (List ℕ)) (i : ℕ) (since : List KeptAnswer) (r : Retired) (own : List (List ℕ)) (most : ℕ) (owns : AreOwn outputs own) (most_is : most ≡ most_of outputs) where
+own_names_are : (outputs : Option (List (List ℕ))) (names : List (List ℕ)) (most count : ℕ) (told : Option Transcript) → FitsOutputs outputs names most count → length names ≤ most → IsNaming names most count → (AreFree most count → AllDiffer names) → AreToldIfFree names most count told → IfTold (AreOwn outputs names) told
+own_names_are outputs names most count None fits few naming differ are = tt
+own_names_are None names most count (Some t) fits few naming differ are =
+    let free : AreFree most count = (most_is None names most count fits naming, fits.0) in (omega (arith, few, fits.1), differ free, are free)
+own_names_are (Some declared) names most count (Some t) fits few naming differ are = fits.0
+
+module _ (letters : List (List ℕ)) (outputs : Option (List (List ℕ))) (names : List (List ℕ)) (i : ℕ) (since : List KeptAnswer) (r : Retired) (own : List (List ℕ)) (most : ℕ) (most_is : most ≡ most_of outputs) where
   broken : (t : Transcript) (stop : SulStop) → IsCounted r.faults r.ends (Some stop) → IsSpelled own most t (Some stop) → IsBroken own (most_of outputs) r t
   broken t Failed counted spelled = inl counted
   broken t Gone counted spelled = inr (inl counted)
@@ -48,9 +53,9 @@ module _ (letters : List (List ℕ)) (outputs : Option (List (List ℕ))) (names
   covers t None counted told covered = inl covered
   covers t (Some stop) counted told covered = ⊎_elim (λ (e : length (lines_of t.sent) ≡ lines_in (spelled letters own t)). inl e) (λ (e : length (lines_of t.sent) ≡ lines_in (spelled letters own t) + 1). inr (broken t stop counted told, e)) covered
 
-  keeps_told : (told : Option Transcript) (runs : List Run) (stop : Option SulStop) (cut : Bool) → IsCounted r.faults r.ends stop → IsTranscriptOf letters own most r.faults stop told → IsJournal (told_runs letters own told) runs stop cut → kept_runs names i since ≡ journal_runs own 0 runs → KeepsTold letters outputs names i since r told
-  keeps_told None runs stop cut counted told journal kept = tt
-  keeps_told (Some t) runs stop cut counted told journal kept = record {
+  keeps_told : (told : Option Transcript) (runs : List Run) (stop : Option SulStop) (cut : Bool) → IfTold (AreOwn outputs own) told → IsCounted r.faults r.ends stop → IsTranscriptOf letters own most r.faults stop told → IsJournal (told_runs letters own told) runs stop cut → kept_runs names i since ≡ journal_runs own 0 runs → KeepsTold letters outputs names i since r told
+  keeps_told None runs stop cut owns counted told journal kept = tt
+  keeps_told (Some t) runs stop cut owns counted told journal kept = record {
     proper = told.0;
     own = own;
     owns = owns;
@@ -60,18 +65,18 @@ module _ (letters : List (List ℕ)) (outputs : Option (List (List ℕ))) (names
     whole = covers t stop counted told.1 told.2;
   }
 
-  stopped_told : (told : Option Transcript) (stop : SulStop) → IsCounted r.faults r.ends (Some stop) → IsTranscriptOf letters own most r.faults (Some stop) told → r.transcript ≡ told → IsStopped outputs stop r
-  stopped_told told Failed counted is same = counted
-  stopped_told told Gone counted is same = (counted, subst (IfTold EndsWithin) (sym same) (by told is))
+  stopped_told : (told : Option Transcript) (stop : SulStop) → IfTold (AreOwn outputs own) told → IsCounted r.faults r.ends (Some stop) → IsTranscriptOf letters own most r.faults (Some stop) told → r.transcript ≡ told → IsStopped outputs stop r
+  stopped_told told Failed owns counted is same = counted
+  stopped_told told Gone owns counted is same = (counted, subst (IfTold EndsWithin) (sym same) (by told is))
     where
       by : (told : Option Transcript) → IsTranscriptOf letters own most r.faults (Some Gone) told → IfTold EndsWithin told
       by None is = tt
       by (Some t) is = is.1
-  stopped_told told (BadLine line) counted is same = subst (IfTold (HasRefused outputs line)) (sym same) (by told is)
+  stopped_told told (BadLine line) owns counted is same = subst (IfTold (HasRefused outputs line)) (sym same) (by told owns is)
     where
-      by : (told : Option Transcript) → IsTranscriptOf letters own most r.faults (Some (BadLine line)) told → IfTold (HasRefused outputs line) told
-      by None is = tt
-      by (Some t) is = (own, owns, subst (λ (n : ℕ). IsRefused own n t line) most_is is.1)
+      by : (told : Option Transcript) → IfTold (AreOwn outputs own) told → IsTranscriptOf letters own most r.faults (Some (BadLine line)) told → IfTold (HasRefused outputs line) told
+      by None owns is = tt
+      by (Some t) owns is = (own, owns, subst (λ (n : ℕ). IsRefused own n t line) most_is is.1)
 
 -- a record that bears out what is seen of a child's session
 module _ (letters : List (List ℕ)) (outputs : Option (List (List ℕ))) (n : ℕ) (s : Seen) (r : Retired) (seen : IsChildSeen letters outputs n s) (bears : BearsOut s r) where
@@ -84,20 +89,23 @@ module _ (letters : List (List ℕ)) (outputs : Option (List (List ℕ))) (n : �
   pub number_is : r.number ≡ n
   number_is = some_is n r.number n (ap (λ (o : Origin). o.link) (sym bears.origin ∙ seen.origin))
 
-  naming : AreOwn outputs s.names × (s.most ≡ most_of outputs)
-  naming = own_names_are outputs s.names s.most s.outputs seen.fits bears.few bears.naming
+  pub own : IfTold (AreOwn outputs s.names) r.transcript
+  own = own_names_are outputs s.names s.most s.outputs r.transcript seen.fits bears.few bears.naming bears.differ bears.told_names
 
-  told : IsTranscriptOf letters s.names s.most r.faults s.stop r.transcript
+  most_so : s.most ≡ most_of outputs
+  most_so = most_is outputs s.names s.most s.outputs seen.fits bears.naming
+
+  pub told : IsTranscriptOf letters s.names s.most r.faults s.stop r.transcript
   told = subst (λ (l : List (List ℕ)). IsTranscriptOf l s.names s.most r.faults s.stop r.transcript) letters_are bears.told
 
   pub keeps_link : (names : List (List ℕ)) (i : ℕ) (since : List KeptAnswer) → kept_runs names i since ≡ journal_runs s.names 0 s.journal → KeepsTold letters outputs names i since r r.transcript
   keeps_link names i since kept =
-      keeps_told letters outputs names i since r s.names s.most naming.0 naming.1 r.transcript s.journal s.stop bears.cut bears.counted told
+      keeps_told letters outputs names i since r s.names s.most most_so r.transcript s.journal s.stop bears.cut own bears.counted told
       (subst (λ (l : List (List ℕ)). IsJournal (told_runs l s.names r.transcript) s.journal s.stop bears.cut) letters_are bears.journal) kept
 
   pub stopped_link : (stop : SulStop) → s.stop ≡ Some stop → IsStopped outputs stop r
   stopped_link stop is =
-      stopped_told letters outputs [] 0 [] r s.names s.most naming.0 naming.1 r.transcript stop (subst (IsCounted r.faults r.ends) is bears.counted) (subst (λ (o : Option SulStop). IsTranscriptOf letters s.names s.most r.faults o r.transcript) is told) refl
+      stopped_told letters outputs [] 0 [] r s.names s.most most_so r.transcript stop own (subst (IsCounted r.faults r.ends) is bears.counted) (subst (λ (o : Option SulStop). IsTranscriptOf letters s.names s.most r.faults o r.transcript) is told) refl
 
 -- a child whose link is sound did not stop
 pub sound_goes_on : (outputs : Option (List (List ℕ))) (r : Retired) (stop : SulStop) → IsSound outputs r → ¬ IsStopped outputs stop r

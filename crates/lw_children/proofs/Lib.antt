@@ -3,4 +3,6 @@ mod EndLemmas
 mod KeepLemmas
 mod PoolLemmas
 mod RetireLemmas
+mod RunLemmas
+mod SortedLemmas
 mod StartLemmas

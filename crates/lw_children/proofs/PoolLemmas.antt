@@ -1,5 +1,5 @@
 -- A pool of children's sessions, before anything was asked and once a learning has ended.
-use Rattle.std.proofs.Common.{◌≡◌, ⊎_elim, ℕ, zero, suc, ◌+◌, ◌<◌, ◌≤◌, List, [], ◌∷◌, ◌++◌, length, map, replicate, get_or, Option, Some, None, is_some, inl, inr, refl, ap, sym, ◌∙◌, subst, subst₂, arith}
+use Rattle.std.proofs.Common.{◌≡◌, ℕ, zero, suc, ◌+◌, ◌<◌, ◌≤◌, List, [], length, map, replicate, get_or, Option, Some, None, is_some, refl, ap, sym, ◌∙◌, subst, arith}
 use Rattle.std.proofs.lemmas.Bool.{false≢true}
 use Rattle.std.proofs.lemmas.List.{get_or-map, length-map}
 use Rattle.lw_mealy.specs.Machine.{Rows}
@@ -8,6 +8,7 @@ use Rattle.lw_sul.specs.SessionState.{SessionState}
 use Rattle.lw_cache.specs.declared.stops.AskStop.{AskStop}
 use Rattle.lw_desk.specs.Naming.{Naming, own_names}
 use Rattle.lw_desk.specs.Ending.{IsShared}
+use Rattle.lw_desk.specs.History.{HasLists}
 use Rattle.lw_pool.specs.Fitting.{FitsBy, Fits}
 use Rattle.lw_pool.specs.Opening.{MayJoin, AllMayJoin}
 use Rattle.lw_pool.specs.Pool.{Seen, Member, PoolState, nobody, origins_of, seen_at, seen_of}
@@ -27,6 +28,11 @@ none_brought (suc n) (suc i) = none_brought n i
 pub first_shared : (outputs : Option (List (List ℕ))) → IsShared (first_naming outputs)
 first_shared None = λ i y lt. absurd (omega (arith, lt, ap (λ (l : List (List ℕ)). length l) (none_brought 16 i)))
 first_shared (Some names) = declared_shared names
+
+-- and there is a list of what each instance brings, where they aren't declared
+pub first_lists : (outputs : Option (List (List ℕ))) (naming : Naming) (n : ℕ) → naming ≡ first_naming outputs → n ≤ 16 → HasLists naming.brought n
+first_lists None naming n is few = subst (λ (x : Naming). HasLists x.brought n) (sym is) few
+first_lists (Some names) naming n is few = subst (λ (x : Naming). HasLists x.brought n) (sym is) tt
 
 own_first : (outputs : Option (List (List ℕ))) (i : ℕ) → first_names outputs ≡ own_names (first_naming outputs) i
 own_first None i = sym (none_brought 16 i)

@@ -1,13 +1,11 @@
 -- Starts of children, as what a spawner tells.
-use Rattle.std.proofs.Common.{◌≡◌, ℕ, ◌+◌, ◌≤◌, List, [], ◌∷◌, ◌++◌, length, Option, Some, None, option_map, inl, inr, refl, ap, sym, ◌∙◌, subst, append-nil, ⊎_elim, replicate, arith}
+use Rattle.std.proofs.Common.{◌≡◌, ℕ, ◌+◌, ◌≤◌, List, ◌++◌, Option, Some, None, inl, inr, refl, ap, sym, ◌∙◌, subst, append-nil, ⊎_elim, replicate, arith}
 use Rattle.std.proofs.lemmas.List.{append_assoc, replicate-append-replicate}
 use Rattle.lw_words.specs.Cause.{CountedFault}
-use Rattle.lw_outside.specs.Links.{Retired, with_start}
+use Rattle.lw_outside.specs.Links.{with_start}
 use Rattle.lw_outside.specs.declared.links.StartStop.{StartStop}
 use Rattle.lw_outside.specs.declared.links.StartStop.TheVariants as start
-use Rattle.lw_children.specs.declared.starting.Refusal.TheVariants.{Failed}
 use Rattle.lw_children.specs.Crews.{count_link}
-use Rattle.lw_children.specs.bodies.Refusals.{refusal_by}
 use Rattle.lw_children.specs.Spawners.{SpawnerSeen, Starts, StartsSome, with_starts}
 
 no_more : (words : List (List ℕ)) (commands : Option (List (List (List ℕ)))) → commands ≡ with_starts 0 words commands

@@ -1,7 +1,7 @@
 -- What comes of a learning over children.
-use Rattle.std.specs.Prelude.{◌≡◌, ◌⊎◌, ℕ, ◌<◌, ◌≤◌, List, length, slice_index_or, Option, Some, None, Result, Ok, Err, IfOk, IfErr, OnOk}
+use Rattle.std.specs.Prelude.{◌≡◌, ◌⊎◌, ℕ, ◌<◌, ◌≤◌, List, [], length, slice_index_or, Option, Some, None, Result, IfOk, IfErr, OnOk}
 use Rattle.std.specs.List.{All}
-use Rattle.lw_words.specs.Answer.{answers_of}
+use Rattle.lw_words.specs.Answer.{Answer, AreAnswers, answers_of}
 use Rattle.lw_words.specs.Cause.{CountedFault}
 use Rattle.lw_words.specs.declared.kept.KeptAnswer.{KeptAnswer}
 use Rattle.lw_words.specs.declared.stop.SulStop.{SulStop}
@@ -11,13 +11,15 @@ use Rattle.lw_mealy.specs.Machine.{Rows}
 use Rattle.lw_outside.specs.Links.{Retired, Transcript}
 use Rattle.lw_cache.specs.declared.stops.AskStop.TheVariants as ask
 use Rattle.lw_desk.specs.Ending.{CameFirst}
+use Rattle.lw_desk.specs.Naming.{AreSorted}
+use Rattle.lw_renumber.specs.Sorting.{HasSorted}
 use Rattle.lw_rounds.specs.Learned.{IsLearned, StopsAs}
 use Rattle.lw_rounds.specs.declared.learned.Learned.{Learned}
 use Rattle.lw_rounds.specs.declared.stops.LearnStop.{LearnStop}
 use Rattle.lw_rounds.specs.declared.stops.LearnStop.TheVariants as learn
 use Rattle.lw_workers.specs.Machines.{IsReached, IsWithin}
 use Rattle.lw_line.specs.Causes.{EndsWithin, IsRefused}
-use Rattle.lw_children.specs.Keeping.{AreOwn, KeepsChildren, count_of, most_of}
+use Rattle.lw_children.specs.Keeping.{AreOwn, KeepsChildren, KeepsWhole, count_of, most_of}
 use Rattle.lw_children.specs.Spawners.{SpawnerSeen, StartsAndRetires}
 
 -- where the transcript of a link is told, it is such a one
@@ -27,7 +29,7 @@ IfTold P (Some t) = P t
 
 -- what came last over a link is this bad line
 abbrev pub HasRefused : Option (List (List ℕ)) → List ℕ → Transcript → Type 0
-HasRefused outputs line t = (own : List (List ℕ)) × AreOwn outputs own × IsRefused own (most_of outputs) t line
+HasRefused outputs line t = (own : List (List ℕ)) × AreOwn outputs own t × IsRefused own (most_of outputs) t line
 
 -- why the child of an instance stopped, by the record of its link
 abbrev pub IsStopped : Option (List (List ℕ)) → SulStop → Retired → Type 0
@@ -57,6 +59,10 @@ pub record IsSound (outputs : Option (List (List ℕ))) (link : Retired) : Type 
   pub told : link.transcript ≡ Some transcript
   pub good : (line : List ℕ) → ¬ HasRefused outputs line transcript
 
+-- nothing is left out of what the transcripts of these links tell
+abbrev pub LeavesNothing : (letters : List (List ℕ)) (outputs : Option (List (List ℕ))) (names : List (List ℕ)) (since : List KeptAnswer) → List Retired → Type 0
+LeavesNothing letters outputs names since links = (i : ℕ) (d : Retired) → i < length links → IfTold (KeepsWhole letters outputs names i since) (slice_index_or links i d).transcript
+
 -- a learning over children with letters and perhaps outputs of these names, that began with prior answers; the names are those of
 -- the kept answers' outputs
 pub record IsOfChildren (words letters : List (List ℕ)) (outputs : Option (List (List ℕ))) (workers k most : ℕ) (prior : List KeptAnswer) (before now : SpawnerSeen) (learned : Result Learned LearnStop) (kept : List KeptAnswer) (names : List (List ℕ)) : Type 0 where
@@ -65,10 +71,42 @@ pub record IsOfChildren (words letters : List (List ℕ)) (outputs : Option (Lis
   pub spawner : StartsAndRetires words before now links
   pub few : length links ≤ workers
   pub all : OnOk learned (length links ≡ workers)
+  -- where there is a model no start failed
+  pub quiet : OnOk learned (now.faults ≡ before.faults)
   -- what is kept, and what was learned of it
   pub keeps : KeepsChildren letters outputs names prior kept links
+  -- where there is a model nothing that went over the links is left out
+  pub whole : OnOk learned (LeavesNothing letters outputs names keeps.since links)
   pub ok : IfOk learned (λ l. IsLearned (length letters) (count_of outputs) k most (answers_of kept) l.model l.table)
   pub stops : IfErr learned (StopsAs (length letters) (count_of outputs) k most (answers_of kept))
   pub causes : IfErr learned (IsCausedBy outputs workers before now links kept)
   -- where nothing outside was wrong and the limits hold for some machine that gives the answers, a model comes, or memory runs out
   pub reached : (m : Rows) → IsWithin (length letters) k most m → Gives m (answers_of kept) → ¬ CountedFault before.faults now.faults → All (IsSound outputs) links → IsReached (length m) learned
+
+-- the same where outputs weren't declared, with the names sorted by bytes in the end: the kept answers and the model have their
+-- new numbers
+pub record IsOfFree (words letters : List (List ℕ)) (workers k most : ℕ) (before now : SpawnerSeen) (learned : Result Learned LearnStop) (kept : List KeptAnswer) (names : List (List ℕ)) : Type 0 where
+  pub links : List Retired
+  pub spawner : StartsAndRetires words before now links
+  pub few : length links ≤ workers
+  pub all : OnOk learned (length links ≡ workers)
+  pub quiet : OnOk learned (now.faults ≡ before.faults)
+  pub sorted : AreSorted names
+  pub keeps : KeepsChildren letters None names [] kept links
+  pub whole : OnOk learned (LeavesNothing letters None names keeps.since links)
+  -- what was learned before the names were sorted, and that it is the same but for the numbers
+  pub own : Result Learned LearnStop
+  pub own_names : List (List ℕ)
+  pub own_answers : List Answer
+  pub new_numbers : List ℕ
+  pub same : HasSorted new_numbers own_names names own_answers (answers_of kept) own learned
+  pub answers : AreAnswers (length letters) own_answers
+  pub ok : IfOk own (λ l. IsLearned (length letters) 4096 k most own_answers l.model l.table)
+  pub stops : IfErr own (StopsAs (length letters) 4096 k most own_answers)
+  pub causes : IfErr learned (IsCausedBy None workers before now links kept)
+  pub reached : (m : Rows) → IsWithin (length letters) k most m → Gives m (answers_of kept) → ¬ CountedFault before.faults now.faults → All (IsSound None) links → IsReached (length m) learned
+
+-- a learning over children by a command, whose outputs were declared or not; prior answers come with declared ones alone
+abbrev pub IsOfCommand : (words letters : List (List ℕ)) → Option (List (List ℕ)) → (workers k most : ℕ) → List KeptAnswer → (before now : SpawnerSeen) → Result Learned LearnStop → List KeptAnswer → List (List ℕ) → Type 0
+IsOfCommand words letters None workers k most prior before now learned kept names = (prior ≡ []) × IsOfFree words letters workers k most before now learned kept names
+IsOfCommand words letters (Some outputs) workers k most prior before now learned kept names = (names ≡ outputs) × IsOfChildren words letters (Some outputs) workers k most prior before now learned kept names

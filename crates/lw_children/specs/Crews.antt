@@ -1,9 +1,9 @@
 -- Sessions of children, before anything was asked and at their end.
 use Rattle.std.specs.Prelude.{◌≡◌, ℕ, ◌+◌, ◌<◌, ◌≤◌, List, [], ◌∷◌, ◌++◌, length, map, replicate, slice_index_or, Bool, false, Option, Some, None, Result, IfOk, IfErr}
 use Rattle.lw_words.specs.Answer.{answers_of}
+use Rattle.lw_words.specs.Name.{AllDiffer}
 use Rattle.lw_words.specs.declared.kept.KeptAnswer.{KeptAnswer}
 use Rattle.std.specs.List.{All}
-use Rattle.lw_mealy.specs.Origin.{Origin}
 use Rattle.lw_sul.specs.SessionState.{SessionState, IsJournal}
 use Rattle.lw_outside.specs.Links.{Retired, Transcript, IsUntouched}
 use Rattle.lw_desk.specs.Naming.{Naming}
@@ -14,7 +14,7 @@ use Rattle.lw_rounds.specs.declared.learned.Learned.{Learned}
 use Rattle.lw_rounds.specs.declared.stops.LearnStop.{LearnStop}
 use Rattle.lw_workers.specs.Leaving.{HasLearned}
 use Rattle.lw_line.specs.Causes.{IsCounted, IsTranscriptOf}
-use Rattle.lw_line.specs.LineState.{IsNaming}
+use Rattle.lw_line.specs.LineState.{AreFree, AreToldIfFree, IsNaming}
 use Rattle.lw_children.specs.Keeping.{count_of, most_of}
 use Rattle.lw_line.specs.LineState.{LineState, told_runs}
 use Rattle.lw_children.specs.Spawners.{SpawnerSeen}
@@ -70,6 +70,8 @@ pub record BearsOut (s : Seen) (r : Retired) : Type 0 where
   pub told : IsTranscriptOf letters s.names s.most r.faults s.stop r.transcript
   pub few : length s.names ≤ s.most
   pub naming : IsNaming s.names s.most s.outputs
+  pub differ : AreFree s.most s.outputs → AllDiffer s.names
+  pub told_names : AreToldIfFree s.names s.most s.outputs r.transcript
   pub cut : Bool
   pub journal : IsJournal (told_runs letters s.names r.transcript) s.journal s.stop cut
 

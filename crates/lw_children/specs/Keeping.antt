@@ -1,16 +1,18 @@
 -- What is kept of a learning over children: the runs that went over their links.
 use Rattle.std.specs.Prelude.{◌≡◌, ◌⊎◌, ℕ, ◌+◌, ◌<◌, ◌≤◌, List, [], ◌∷◌, ◌++◌, length, slice_index_or, Option, Some, None}
-use Rattle.std.specs.List.{All}
+use Rattle.std.specs.List.{All, range_with_len}
 use Rattle.lw_words.specs.Answer.{AreAnswers, answers_of}
 use Rattle.lw_words.specs.Cause.{CountedFault}
+use Rattle.lw_words.specs.Name.{AllDiffer}
 use Rattle.lw_words.specs.declared.kept.KeptAnswer.{KeptAnswer}
 use Rattle.lw_sul.specs.declared.runs.Run.{Run}
 use Rattle.lw_outside.specs.Lines.{lines_of}
 use Rattle.lw_outside.specs.Links.{Retired, Transcript}
 use Rattle.lw_desk.specs.Ending.{kept_runs}
 use Rattle.lw_pool.specs.Pool.{AskedOnce, journal_runs}
-use Rattle.lw_line.specs.Causes.{IsRefused}
+use Rattle.lw_line.specs.Causes.{IsRefused, IsToldName}
 use Rattle.lw_line.specs.Transcripts.{IsProper, lines_in, spelled}
+use Rattle.lw_workers.specs.Machines.{run_numbers}
 
 -- the greatest number of names of a child's outputs: those of a declared list, or 256
 abbrev pub most_of : Option (List (List ℕ)) → ℕ
@@ -22,10 +24,10 @@ abbrev pub count_of : Option (List (List ℕ)) → ℕ
 count_of None = 4096
 count_of (Some names) = length names
 
--- the names of a child's outputs are those that were declared, or some
-abbrev pub AreOwn : Option (List (List ℕ)) → List (List ℕ) → Type 0
-AreOwn None own = length own ≤ 256
-AreOwn (Some names) own = own ≡ names
+-- the names of a child's outputs are those that were declared, or at most 256 different ones, each told over its link
+abbrev pub AreOwn : Option (List (List ℕ)) → List (List ℕ) → Transcript → Type 0
+AreOwn None own t = (length own ≤ 256) × AllDiffer own × All (IsToldName t) own
+AreOwn (Some names) own t = own ≡ names
 
 -- the record of a link says why it was of no more use: it failed, it ended, or what came last over it was refused
 abbrev pub IsBroken : (own : List (List ℕ)) (most : ℕ) → Retired → Transcript → Type 0
@@ -38,7 +40,7 @@ pub record KeepsTranscript (letters : List (List ℕ)) (outputs : Option (List (
   pub proper : IsProper letters link.faults t
   -- the names of the child's outputs, in the order in which they came where they weren't declared
   pub own : List (List ℕ)
-  pub owns : AreOwn outputs own
+  pub owns : AreOwn outputs own t
   pub runs : List Run
   pub kept : kept_runs names instance since ≡ journal_runs own 0 runs
   pub spells : (spelled letters own t ≡ runs) ⊎ (IsBroken own (most_of outputs) link t × ((r : Run) × (spelled letters own t ≡ runs ++ r ∷ [])))
@@ -50,12 +52,21 @@ abbrev pub KeepsTold : List (List ℕ) → Option (List (List ℕ)) → List (Li
 KeepsTold letters outputs names instance since link None = Unit {0}
 KeepsTold letters outputs names instance since link (Some t) = KeepsTranscript letters outputs names instance since link t
 
--- the kept answers are the prior ones and then, for each link, the runs of its transcript, where that is told; the word of none
--- was known when it was asked
+-- nothing of a transcript is left out: the kept answers of its instance are all the runs that it spells, and each line that was
+-- sent is one of these runs'
+pub record KeepsWhole (letters : List (List ℕ)) (outputs : Option (List (List ℕ))) (names : List (List ℕ)) (instance : ℕ) (since : List KeptAnswer) (t : Transcript) : Type 0 where
+  pub own : List (List ℕ)
+  pub owns : AreOwn outputs own t
+  pub kept : kept_runs names instance since ≡ journal_runs own 0 (spelled letters own t)
+  pub covered : length (lines_of t.sent) ≡ lines_in (spelled letters own t)
+
+-- the kept answers are the prior ones and then, for each link, the runs of its transcript, where that is told; the runs of each
+-- instance are 0, 1, 2 and so on, told or not; the word of none was known when it was asked
 pub record KeepsChildren (letters : List (List ℕ)) (outputs : Option (List (List ℕ))) (names : List (List ℕ)) (prior kept : List KeptAnswer) (links : List Retired) : Type 0 where
   pub since : List KeptAnswer
   pub first : kept ≡ prior ++ since
   pub instances : All (λ k. k.instance < length links) since
+  pub numbered : (i : ℕ) → i < length links → run_numbers i since ≡ range_with_len 0 (length (run_numbers i since))
   pub runs : (i : ℕ) (d : Retired) → i < length links → let link = slice_index_or links i d in KeepsTold letters outputs names i since link link.transcript
   pub words : AreAnswers (length letters) (answers_of kept)
   pub below : All (λ k. All (λ y. y < length names) k.outs) kept

@@ -1,13 +1,17 @@
-//! Children that are started for a learning, and retired once it has ended: the sessions over them, and what the records of their
-//! links say.
+//! A learning over children: they are started, asked over links, and retired once it has ended; and what the records of their
+//! links say of what is kept and of why it stopped.
 #![tactic(auto)]
 
 mod command;
+mod learning;
 mod retiring;
+mod sorted;
 mod starting;
 
 pub use command::Command;
+pub use learning::LearnedChildren;
 pub use retiring::{retire_all, retire_with};
+pub use sorted::learn_children;
 pub use starting::{Broken, Refusal, Unmade, start_all};
 
 #[cfg(test)]

@@ -1,5 +1,5 @@
-//! What no clause says: that children are started where there is memory, by hand.
-ghost use Rattle.std.specs.Prelude.{◌<◌, length, IfOk};
+//! What no clause says: that children are started where there is memory, by hand, and learned over.
+ghost use Rattle.std.specs.Prelude.{◌≡◌, ◌<◌, length, IfOk};
 
 use crate::{Command, start_all};
 use lw_json::Texts;
@@ -8,21 +8,32 @@ use lw_words::Names;
 use std::alloc::Global;
 use std::test::Fail;
 
-/// The command `sys`, over the letter `t`, whose outputs aren't declared.
-fn command(alloc: Global) -> Result<Command, Fail>
-    ensures { IfOk result (λ c. 0 < length c.words) }
+mod learnings;
+
+/// Names, of letters or of outputs.
+fn names(alloc: Global, list: &[&str]) -> Result<Names, Fail> {
+    let mut texts = Vec::new(alloc);
+    for name in list {
+        texts.push(String::from_str(alloc, name)?)?;
+    }
+    match Names::from_list(alloc, &texts) {
+        Ok(names) => Ok(names),
+        Err(_) => Err(Fail::from("names were refused")),
+    }
+}
+
+/// The command `sys`, over the letter `t`, with these outputs or none declared.
+fn command(alloc: Global, outputs: Option<Names>) -> Result<Command, Fail>
+    ensures words { IfOk result (λ c. 0 < length c.words) }
+    ensures outputs { IfOk result (λ c. c.outputs ≡ outputs) }
 {
     let mut words = Vec::new(alloc);
     words.push(String::from_str(alloc, "sys")?)?;
-    let mut letters = Vec::new(alloc);
-    letters.push(String::from_str(alloc, "t")?)?;
-    let Ok(inputs) = Names::from_list(alloc, &letters) else {
-        return Err(Fail::from("a letter was refused"));
-    };
+    let inputs = names(alloc, &["t"])?;
     Ok(Command {
         words: Texts::new(words),
         inputs,
-        outputs: None,
+        outputs,
     })
 }
 
@@ -44,7 +55,7 @@ fn started(alloc: Global, command: &Command, failing: u64) -> Result<usize, Fail
 
 #[test]
 fn children_are_started_up_to_a_failure(rt: HostRuntime) -> Result<(), Fail> {
-    let command = command(rt.alloc())?;
+    let command = command(rt.alloc(), None)?;
     assert_eq!(rt; started(rt.alloc(), &command, 9)?, 2);
     assert_eq!(rt; started(rt.alloc(), &command, 1)?, 1);
     Ok(())

@@ -1,3 +1,5 @@
+pub mod FoundLemmas
 pub mod ReadLemmas
 pub mod RunLemmas
+pub mod ToldLemmas
 pub mod WriteLemmas

@@ -1,34 +1,55 @@
--- What a call of `learn` comes to, by its outcome.
-use Rattle.std.proofs.Common.{◌≡◌, ◌≢◌, ◌∙◌, ◌⊎◌, ℕ, ◌<◌, ◌≤◌, List, length, map, get_or, Option, Some, None, IfSome, Err, is_some, true, inl, inr, refl, sym, subst, arith}
+-- How a call ends that has learned a system, by what the learning answered.
+use Rattle.std.proofs.Common.{◌≡◌, ◌≢◌, ◌∙◌, ◌⊎◌, ⊎_elim, ℕ, ◌<◌, ◌≤◌, List, [], ◌++◌, length, Option, Some, None, Result, Ok, Err, IfErr, IfOk, IfSome, option_and_then, option_map, inl, inr, refl, ap, sym, subst, arith}
 use Rattle.std.specs.List.{All}
-use Rattle.std.proofs.lemmas.List.{get_or-map, length-map}
-use Rattle.lw_words.specs.Answer.{Answer, AreAnswers, IsAnswer, answer_of}
+use Rattle.lw_words.specs.Answer.{answers_of}
+use Rattle.lw_words.specs.Cause.{CountedFault}
 use Rattle.lw_words.specs.declared.kept.KeptAnswer.{KeptAnswer}
+use Rattle.lw_words.specs.declared.stop.SulStop.TheVariants as sul
+use Rattle.lw_cache.specs.declared.stops.AskStop.TheVariants as ask
+use Rattle.lw_cache.specs.declared.stops.Clash.{Clash}
+use Rattle.lw_desk.specs.Naming.{Naming}
+use Rattle.lw_mealy.specs.Gives.{Gives}
 use Rattle.lw_mealy.specs.Limits.{MealyMachine}
-use Rattle.lw_json.specs.KeptOver.{AreKeptOver, IsKeptOver}
-use Rattle.lw_json.specs.declared.fault.JsonFault.{JsonFault}
-use Rattle.lw_rounds.specs.Learned.{IsTooMany, StopsAs}
-use Rattle.lw_rounds.specs.Stops.{IsOwnStop}
+use Rattle.lw_mealy.specs.Machine.{Rows}
+use Rattle.lw_rounds.specs.declared.learned.Learned.{Learned as Found}
 use Rattle.lw_rounds.specs.declared.stops.LearnStop.{LearnStop}
 use Rattle.lw_rounds.specs.declared.stops.LearnStop.TheVariants as learn
-use Rattle.lw_workers.specs.Machines.{IsReached, KeepsRuns}
-use Rattle.lw_report.specs.Learnings.{HasLargeSuite, learn_outcome}
+use Rattle.lw_workers.specs.Machines.{IsReached, IsWithin}
+use Rattle.lw_outside.specs.Links.{Retired}
+use Rattle.lw_children.specs.Children.{IsOfCommand, IsSound}
+use Rattle.lw_children.specs.Spawners.{SpawnerSeen}
+use Rattle.lw_report.specs.Ends.{IsWithoutLearner}
+use Rattle.lw_report.specs.Learnings.{HasModel, learn_outcome}
 use Rattle.lw_report.specs.Outcomes.{StandsOrWants}
-use Rattle.lw_report.specs.Stops.{read_outcome}
+use Rattle.lw_report.specs.States.{FilesState, SinkState}
+use Rattle.lw_report.specs.Text.{text_of}
+use Rattle.lw_report.specs.Writing.{TakesAll, TakesSome, said_text}
+use Rattle.lw_report.specs.declared.«end».End.{End}
 use Rattle.lw_report.specs.declared.role.Role.{Role}
-use Rattle.lw_report.specs.declared.role.Role.TheVariants.{Answers, Model, Table}
-use Rattle.lw_report.specs.declared.stops.ReadStop.{ReadStop}
-use Rattle.lw_report.specs.declared.stops.ReadStop.TheVariants.{Failed, TooLong, Bad, NoMemory as NoMemoryToRead}
+use Rattle.lw_report.specs.declared.role.Role.TheVariants.{Answers, Model}
 use Rattle.lw_report.specs.declared.outcome.Outcome.{Outcome}
 use Rattle.lw_report.specs.declared.outcome.Outcome.TheVariants.{Learned, Trial, Yes, Served, No, Usage, BadFile, Alphabets, FileTooLong, Nondeterministic, NoMemory, SulFailed, Gone, BadLine, BadAsk, TooManyStates, SuiteTooLarge, FileFault, SourceFault, SinkFault}
-use Rattle.lw_report.proofs.LearningLemmas.{has_large_suite, own_ask, own_has}
+use Rattle.lw_report.proofs.SinkLemmas.{sink_none}
 use Rattle.lw_learn.specs.Arguments.{LearnValues}
-use Rattle.lw_learn.specs.Outcomes.{IsLearnOutcome, IsReachedOutcome, IsReadOutcome, IsTold, IsUngiven, IsUnread, IsUntroubled}
-
--- whether it is there
-is_there : {X : Type 0} (x : Option X) → x ≢ None → is_some x ≡ true
-is_there None there = absurd (there refl)
-is_there (Some x) there = refl
+use Rattle.lw_learn.specs.Calls.{MadeWrites}
+use Rattle.lw_json.specs.MachineText.{written_text}
+use Rattle.lw_json.specs.declared.machine.Machine.{Machine}
+use Rattle.lw_table.specs.Table.{TableState}
+use Rattle.lw_report.specs.declared.stops.TellStop.TheVariants as tell
+use Rattle.lw_children.specs.Keeping.{count_of}
+use Rattle.lw_learn.specs.Ending.{Carries, EndsLearned, EndsRead, EndsUnread, IsSoundSystem, IsToldOf, end_outputs}
+use Rattle.lw_learn.specs.Findings.{IsOfSystem, StopsBy}
+use Rattle.lw_learn.specs.Outcomes.{HasFiles, HasModelFile, IsLearnedOutcome, IsReachedOutcome, IsTold}
+use Rattle.lw_learn.specs.Tasks.{declared_of, letters_of}
+use Rattle.lw_learn.specs.Writing.{NothingFailed, StaysBesides, TakesInTurn, WritesFiles, WritesModel, WritesOut, line_of}
+use Rattle.lw_learn.specs.Unread.{IsUnreadAs, IsUnreadBy, names_read}
+use Rattle.lw_learn.specs.bodies.Ready.{GivesModel, IsReady}
+use Rattle.lw_learn.specs.bodies.Stages.{IsStage, SaysReady}
+use Rattle.lw_learn.specs.declared.reading.Unread.{Unread}
+use Rattle.lw_learn.specs.declared.task.Task.{Task}
+use Rattle.lw_learn.specs.declared.task.System.{System}
+use Rattle.lw_learn.specs.declared.task.System.TheVariants.{Table, Children}
+use Rattle.lw_learn.proofs.WriteLemmas.{gained_none, out_before, stays_same, text_same}
 
 -- an outcome that stands, or is out of memory, has what both have
 pub stands_as : (P : Outcome → Type 0) (outcome result : Outcome) → StandsOrWants outcome result → P outcome → P NoMemory → P result
@@ -38,72 +59,56 @@ stands_as P outcome result stands here memory =
       | inr wants ↦ subst P (sym wants.1) memory
     ]
 
--- an unread table's outcome
-pub unread : (stop : ReadStop) → IsUnread (read_outcome Table stop)
-unread Failed = refl
-unread TooLong = refl
-unread (Bad fault) = refl
-unread NoMemoryToRead = tt
+-- what a learning comes to that stopped
+pub by_stop : (P : Outcome → Type 0) → P NoMemory → ((c : Clash) → P (Nondeterministic c)) → ((i : ℕ) → P (SulFailed i)) → ((i : ℕ) → P (Gone i)) → ((i : ℕ) (line : List ℕ) → P (BadLine i line)) → ((words : List (List ℕ)) → P (TooManyStates words)) → ((states number : ℕ) → P (SuiteTooLarge states number)) → (stop : LearnStop) → P (learn_outcome stop)
+by_stop P memory clash failed gone bad many large (learn.Ask (ask.Sul i sul.Failed)) = failed i
+by_stop P memory clash failed gone bad many large (learn.Ask (ask.Sul i sul.Gone)) = gone i
+by_stop P memory clash failed gone bad many large (learn.Ask (ask.Sul i (sul.BadLine line))) = bad i line
+by_stop P memory clash failed gone bad many large (learn.Ask (ask.Clash c)) = clash c
+by_stop P memory clash failed gone bad many large (learn.Ask ask.NoMemory) = memory
+by_stop P memory clash failed gone bad many large (learn.Crowd words) = many words
+by_stop P memory clash failed gone bad many large (learn.TooLarge model number) = large (length model.rows) number
 
--- where the file's bytes weren't given
-pub ungiven : (stop : ReadStop) → ((fault : JsonFault) → stop ≡ Bad fault → ⊥) → IsUngiven (read_outcome Table stop)
-ungiven Failed given = refl
-ungiven TooLong given = refl
-ungiven (Bad fault) given = absurd (given fault refl)
-ungiven NoMemoryToRead given = tt
+-- and what that holds of the outcome
+stopped_has : (P : Outcome → Type 0) (stop : LearnStop) (result : Outcome) → StandsOrWants (learn_outcome stop) result → P NoMemory → ((c : Clash) → P (Nondeterministic c)) → ((i : ℕ) → P (SulFailed i)) → ((i : ℕ) → P (Gone i)) → ((i : ℕ) (line : List ℕ) → P (BadLine i line)) → ((words : List (List ℕ)) → P (TooManyStates words)) → ((states number : ℕ) → P (SuiteTooLarge states number)) → P result
+stopped_has P stop result stands memory clash failed gone bad many large =
+    stands_as P (learn_outcome stop) result stands (by_stop P memory clash failed gone bad many large stop) memory
 
--- where a machine's file was there and the files didn't fail
-pub unread_untroubled : (stop : ReadStop) → (stop ≡ Failed → ⊥) → (stop ≡ TooLong → ⊥) → ((fault : JsonFault) → stop ≡ Bad fault → ⊥) → IsUntroubled (read_outcome Table stop)
-unread_untroubled Failed failed long bad = absurd (failed refl)
-unread_untroubled TooLong failed long bad = absurd (long refl)
-unread_untroubled (Bad fault) failed long bad = absurd (bad fault refl)
-unread_untroubled NoMemoryToRead failed long bad = tt
+-- out of memory in place of it
+pub wants_any : (stop : LearnStop) (result : Outcome) → result ≡ NoMemory → StandsOrWants (learn_outcome stop) result
+wants_any stop result is =
+    by_stop (λ o. StandsOrWants o result) (inl is) (λ c. inr (tt, is)) (λ i. inr (tt, is)) (λ i. inr (tt, is)) (λ i line. inr (tt, is)) (λ words. inr (tt, is)) (λ states number. inr (tt, is)) stop
 
--- a call that has read the table and ended while nothing failed
-pub read_untroubled : (a : LearnValues) (outcome : Outcome) → IsReadOutcome a outcome → (outcome ≡ SinkFault → ⊥) → ((role : Role) → outcome ≡ FileFault role → ⊥) → IsUntroubled outcome
-read_untroubled a (Learned h r) is sink file = tt
-read_untroubled a NoMemory is sink file = tt
-read_untroubled a (TooManyStates words) is sink file = tt
-read_untroubled a (SuiteTooLarge states number) is sink file = tt
-read_untroubled a SinkFault is sink file = absurd (sink refl)
-read_untroubled a (FileFault role) is sink file = absurd (file role refl)
-read_untroubled a (Trial t) is sink file = absurd is
-read_untroubled a Usage is sink file = absurd is
-read_untroubled a (Served served) is sink file = absurd is
-read_untroubled a (SulFailed instance) is sink file = absurd is
-read_untroubled a (Gone instance) is sink file = absurd is
-read_untroubled a (BadLine instance line) is sink file = absurd is
-read_untroubled a (BadAsk number) is sink file = absurd is
-read_untroubled a SourceFault is sink file = absurd is
-read_untroubled a (Yes states) is sink file = absurd is
-read_untroubled a (No verdict) is sink file = absurd is
-read_untroubled a (Alphabets role) is sink file = absurd is
-read_untroubled a (Nondeterministic clash) is sink file = absurd is
-read_untroubled a (BadFile role fault) is sink file = absurd is
-read_untroubled a (FileTooLong role) is sink file = absurd is
+-- a learning that stopped: nothing was written, and why it stopped was said
+pub told_stop : (a : LearnValues) (s : System) (naming : Naming) (stop : LearnStop) (kept : List KeptAnswer) (f : FilesState) (o : SinkState) (e d : SinkState) (end : End) → StandsOrWants (learn_outcome stop) end.outcome → end.model ≡ None → IsWithoutLearner end → end.kept.answers ≡ kept → end.outputs ≡ end_outputs (declared_of s) kept naming
+    → (¬ CountedFault e.faults d.faults → TakesAll (text_of (letters_of s) naming.names kept a.extra end.outcome) e.taken d.taken) → TakesSome (text_of (letters_of s) naming.names kept a.extra end.outcome) e.taken d.taken → e.faults ≤ d.faults → IsToldOf a s naming (Err stop) kept f f o o e d end
+told_stop a s naming stop kept f o e d end stands none learner kept_is outputs said part counts = record {
+  carries = (none, learner, stands);
+  kept_is = kept_is;
+  outputs = outputs;
+  written = subst (λ (m : Option MealyMachine). IfSome m (WritesModel a kept end.outcome f.holds (o.taken, o.taken) (o.faults, o.faults) (letters_of s) naming.names)) (sym none) tt;
+  nothing = λ is. (refl, refl);
+  beside = stays_same a.model a.answers f.holds;
+  said = said;
+  in_turn = record { between = e.taken; some = (0, sink_none e.taken (line_of (letters_of s) naming.names kept a.extra end.model end.refinements)); then = part };
+  quiet = λ is. absurd (stopped_has (λ x. IsLearnedOutcome x → ⊥) stop end.outcome stands (λ x. x) (λ c x. x) (λ i x. x) (λ i x. x) (λ i line x. x) (λ words x. x) (λ states number x. x) is);
+  role = λ r is. absurd (not_file r is);
+  file_fault = λ r is. absurd (not_file r is);
+  sink_fault = λ is. absurd (not_sink is);
+  reads = refl;
+  writes = stopped_has (λ x. MadeWrites a x f.calls f.calls) stop end.outcome stands (0, gained_none f.calls) (λ c. refl) (λ i. refl) (λ i. refl) (λ i line. refl) (λ words. refl) (λ states number. refl);
+  counts = (omega arith, omega arith, counts);
+}
+  where
+    not_file : (r : Role) → end.outcome ≡ FileFault r → ⊥
+    not_file r is = stopped_has (λ x. x ≡ FileFault r → ⊥) stop end.outcome stands
+        (λ h. let wrong : NoMemory ≡ FileFault r = h in cc) (λ c h. let wrong : Nondeterministic c ≡ FileFault r = h in cc) (λ i h. let wrong : SulFailed i ≡ FileFault r = h in cc) (λ i h. let wrong : Gone i ≡ FileFault r = h in cc)
+        (λ i line h. let wrong : BadLine i line ≡ FileFault r = h in cc) (λ words h. let wrong : TooManyStates words ≡ FileFault r = h in cc) (λ states number h. let wrong : SuiteTooLarge states number ≡ FileFault r = h in cc) is
 
--- it is one of those that `learn` comes to
-pub read_kind : (a : LearnValues) (outcome : Outcome) → IsReadOutcome a outcome → IsLearnOutcome outcome
-read_kind a (Learned h r) is = tt
-read_kind a NoMemory is = tt
-read_kind a (TooManyStates words) is = tt
-read_kind a (SuiteTooLarge states number) is = tt
-read_kind a SinkFault is = tt
-read_kind a (FileFault role) is = tt
-read_kind a (Trial t) is = absurd is
-read_kind a Usage is = absurd is
-read_kind a (Served served) is = absurd is
-read_kind a (SulFailed instance) is = absurd is
-read_kind a (Gone instance) is = absurd is
-read_kind a (BadLine instance line) is = absurd is
-read_kind a (BadAsk number) is = absurd is
-read_kind a SourceFault is = absurd is
-read_kind a (Yes states) is = absurd is
-read_kind a (No verdict) is = absurd is
-read_kind a (Alphabets role) is = absurd is
-read_kind a (Nondeterministic clash) is = absurd is
-read_kind a (BadFile role fault) is = absurd is
-read_kind a (FileTooLong role) is = absurd is
+    not_sink : end.outcome ≡ SinkFault → ⊥
+    not_sink is = stopped_has (λ x. x ≡ SinkFault → ⊥) stop end.outcome stands
+        (λ h. let wrong : NoMemory ≡ SinkFault = h in cc) (λ c h. let wrong : Nondeterministic c ≡ SinkFault = h in cc) (λ i h. let wrong : SulFailed i ≡ SinkFault = h in cc) (λ i h. let wrong : Gone i ≡ SinkFault = h in cc)
+        (λ i line h. let wrong : BadLine i line ≡ SinkFault = h in cc) (λ words h. let wrong : TooManyStates words ≡ SinkFault = h in cc) (λ states number h. let wrong : SuiteTooLarge states number ≡ SinkFault = h in cc) is
 
 -- where a model was written out and nothing failed, it is told, or memory ran out
 pub told_reached : (n : ℕ) (model : MealyMachine) (count : ℕ) (outcome : Outcome) → count < n → IsTold model count outcome → (outcome ≡ SinkFault → ⊥) → ((role : Role) → outcome ≡ FileFault role → ⊥) → IsReachedOutcome n outcome
@@ -128,106 +133,212 @@ told_reached n model count (BadFile role fault) few told sink file = absurd told
 told_reached n model count (FileTooLong role) few told sink file = absurd told
 told_reached n model count (TooManyStates words) few told sink file = absurd told
 
--- what a model was written out as, where its files are named
-pub told_kind : (a : LearnValues) (model : MealyMachine) (count : ℕ) (outcome : Outcome) → IsTold model count outcome → ((role : Role) → outcome ≡ FileFault role → ((role ≡ Model) × (a.model ≢ None)) ⊎ ((role ≡ Answers) × (a.answers ≢ None))) → IsReadOutcome a outcome
-told_kind a model count (Learned h r) told named = tt
-told_kind a model count NoMemory told named = tt
-told_kind a model count SinkFault told named = tt
-told_kind a model count (FileFault role) told named =
-    elim (named role refl) as (λ _. IsReadOutcome a (FileFault role)) [
-      | inl e ↦ inl (e.0, is_there a.model e.1)
-      | inr e ↦ inr (e.0, is_there a.answers e.1)
-    ]
-told_kind a model count (Trial t) told named = absurd told
-told_kind a model count Usage told named = absurd told
-told_kind a model count (Served served) told named = absurd told
-told_kind a model count (SulFailed instance) told named = absurd told
-told_kind a model count (Gone instance) told named = absurd told
-told_kind a model count (BadLine instance line) told named = absurd told
-told_kind a model count (BadAsk number) told named = absurd told
-told_kind a model count SourceFault told named = absurd told
-told_kind a model count (Yes states) told named = absurd told
-told_kind a model count (No verdict) told named = absurd told
-told_kind a model count (Alphabets role) told named = absurd told
-told_kind a model count (Nondeterministic clash) told named = absurd told
-told_kind a model count (SuiteTooLarge states number) told named = absurd told
-told_kind a model count (BadFile role fault) told named = absurd told
-told_kind a model count (FileTooLong role) told named = absurd told
-told_kind a model count (TooManyStates words) told named = absurd told
-
--- what is told by a stop of the learning
-same_words : (one two : List (List ℕ)) → TooManyStates one ≡ TooManyStates two → one ≡ two
-same_words one two e = cc
-
-crowd_of : (a b k most : ℕ) (ks : List Answer) (stop : LearnStop) (words : List (List ℕ)) → IsOwnStop stop → StopsAs a b k most ks stop → learn_outcome stop ≡ TooManyStates words → IsTooMany most ks words
-crowd_of a b k most ks (learn.Ask stop) words own is told = let wrong : NoMemory ≡ TooManyStates words = sym (own_ask stop own) ∙ told in absurd (cc)
-crowd_of a b k most ks (learn.Crowd found) words own is told = subst (λ (ws : List (List ℕ)). IsTooMany most ks ws) (same_words found words told) is
-crowd_of a b k most ks (learn.TooLarge model number) words own is told = absurd (cc)
-
-suite_of : (a b k most : ℕ) (ks : List Answer) (stop : LearnStop) (states number : ℕ) → IsOwnStop stop → AreAnswers a ks → StopsAs a b k most ks stop → learn_outcome stop ≡ SuiteTooLarge states number → HasLargeSuite a b k most ks states number
-suite_of a b k most ks (learn.Ask stop) states number own are is told = let wrong : NoMemory ≡ SuiteTooLarge states number = sym (own_ask stop own) ∙ told in absurd (cc)
-suite_of a b k most ks (learn.Crowd found) states number own are is told = absurd (cc)
-suite_of a b k most ks (learn.TooLarge model size) states number own are is told =
-    let one : length model.rows ≡ states = cc in
-    let other : size ≡ number = cc in
-    subst (λ (n : ℕ). HasLargeSuite a b k most ks n number) one (subst (λ (n : ℕ). HasLargeSuite a b k most ks (length model.rows) n) other (has_large_suite a b k most ks model size are is))
-
--- an outcome that stands, or is out of memory, and is another, is what it was
-pub stood : (outcome result other : Outcome) → StandsOrWants outcome result → result ≡ other → (NoMemory ≡ other → ⊥) → outcome ≡ other
-stood outcome result other stands is differ =
-    elim stands as (λ _. outcome ≡ other) [
-      | inl same ↦ sym same ∙ is
-      | inr wants ↦ absurd (differ (sym wants.1 ∙ is))
-    ]
-
-pub stopped_crowd : (a b k most : ℕ) (ks : List Answer) (stop : LearnStop) (outcome result : Outcome) (words : List (List ℕ)) → IsOwnStop stop → StopsAs a b k most ks stop → outcome ≡ learn_outcome stop → StandsOrWants outcome result → result ≡ TooManyStates words → IsTooMany most ks words
-stopped_crowd a b k most ks stop outcome result words own is same stands told =
-    crowd_of a b k most ks stop words own is (sym same ∙ stood outcome result (TooManyStates words) stands told (λ e. let wrong : NoMemory ≡ TooManyStates words = e in cc))
-
-pub stopped_suite : (a b k most : ℕ) (ks : List Answer) (stop : LearnStop) (outcome result : Outcome) (states number : ℕ) → IsOwnStop stop → AreAnswers a ks → StopsAs a b k most ks stop → outcome ≡ learn_outcome stop → StandsOrWants outcome result → result ≡ SuiteTooLarge states number → HasLargeSuite a b k most ks states number
-stopped_suite a b k most ks stop outcome result states number own are is same stands told =
-    suite_of a b k most ks stop states number own are is (sym same ∙ stood outcome result (SuiteTooLarge states number) stands told (λ e. let wrong : NoMemory ≡ SuiteTooLarge states number = e in cc))
-
--- what a stopped learning comes to holds of the call
-pub stopped_has : (P : Outcome → Type 0) (stop : LearnStop) (outcome result : Outcome) → IsOwnStop stop → outcome ≡ learn_outcome stop → StandsOrWants outcome result → P NoMemory → ((words : List (List ℕ)) → P (TooManyStates words)) → ((states number : ℕ) → P (SuiteTooLarge states number)) → P result
-stopped_has P stop outcome result own same stands memory many large =
-    stands_as P outcome result stands (subst P (sym same) (own_has P stop own memory many large)) memory
-
 -- where a learning had to come to a model, it stopped out of memory
 reached_stop : (n : ℕ) (stop : LearnStop) → IsReached n (Err stop) → IsReachedOutcome n (learn_outcome stop)
-reached_stop n (learn.Ask stop) is = subst (IsReachedOutcome n) (sym (own_ask stop is)) tt
+reached_stop n (learn.Ask (ask.Sul i stop)) is = let wrong : ask.Sul i stop ≡ ask.NoMemory = is in absurd (cc)
+reached_stop n (learn.Ask (ask.Clash c)) is = let wrong : ask.Clash c ≡ ask.NoMemory = is in absurd (cc)
+reached_stop n (learn.Ask ask.NoMemory) is = tt
 reached_stop n (learn.Crowd words) is = absurd is
 reached_stop n (learn.TooLarge model number) is = absurd is
 
-pub stopped_reached : (n : ℕ) (stop : LearnStop) (outcome result : Outcome) → IsReached n (Err stop) → outcome ≡ learn_outcome stop → StandsOrWants outcome result → IsReachedOutcome n result
-stopped_reached n stop outcome result is same stands =
-    stands_as (IsReachedOutcome n) outcome result stands (subst (IsReachedOutcome n) (sym same) (reached_stop n stop is)) tt
+reached_command : (words letters : List (List ℕ)) (outputs : Option (List (List ℕ))) (workers k most : ℕ) (prior : List KeptAnswer) (b z : SpawnerSeen) (learned : Result Found LearnStop) (kept : List KeptAnswer) (names : List (List ℕ)) (r : Rows) → IsOfCommand words letters outputs workers k most prior b z learned kept names
+    → (¬ CountedFault b.faults z.faults) → ((links : List Retired) → z.retired ≡ b.retired ++ links → All (IsSound outputs) links) → IsWithin (length letters) k most r → Gives r (answers_of kept) → IsReached (length r) learned
+reached_command words letters None workers k most prior b z learned kept names r is quiet sound within gives = let free = is.1 in free.reached r within gives quiet (sound free.links free.spawner.retired)
+reached_command words letters (Some outputs) workers k most prior b z learned kept names r is quiet sound within gives = is.1.reached r within gives quiet (sound is.1.links is.1.spawner.retired)
 
--- what holds of each of a mapped list, of the element itself
-from_map : {X Y : Type 0} (P : Y → Type 0) (f : X → Y) (xs : List X) → All P (map f xs) → (i : ℕ) (d : X) → i < length xs → P (f (get_or xs i d))
-from_map P f xs all i d lt = subst P (get_or-map f xs i d (f d) lt) (all i (f d) (rw (length-map xs f) lt))
+reached_system : (a : LearnValues) (s : System) (prior : List KeptAnswer) (b z : SpawnerSeen) (learned : Result Found LearnStop) (kept : List KeptAnswer) (names : List (List ℕ)) (r : Rows) → IsOfSystem a s prior b z learned kept names → IsSoundSystem s b z → IsWithin (length (letters_of s)) a.extra a.max_states r → Gives r (answers_of kept) → IsReached (length r) learned
+reached_system a (Table m) prior b z learned kept names r found sound within gives = found.1.reached r within gives
+reached_system a (Children c) prior b z learned kept names r found sound within gives = reached_command c.words c.inputs c.outputs a.workers a.extra a.max_states prior b z learned kept names r found sound.0 sound.1 within gives
 
--- answers of machine instances may be written to a file
-pub runs_over : (t : MealyMachine) (workers a b : ℕ) (kept : List KeptAnswer) → workers ≤ 16 → t.inputs ≡ a → t.outputs ≡ b → KeepsRuns t workers kept → AreKeptOver a b kept
-runs_over t workers a b kept few inputs outputs keeps =
-    let each : (i : ℕ) (d : KeptAnswer) → i < length kept → IsKeptOver t.inputs t.outputs (get_or kept i d) = λ i d lt.
-    let is = from_map (IsAnswer t.inputs) answer_of kept keeps.words i d lt in
-    record {
-      instance = omega (arith, few, keeps.instances_are i d lt);
-      word = is.0;
-      outs = keeps.outputs i d lt;
-      even = is.1;
-    } in
-    subst (λ (n : ℕ). AreKeptOver a n kept) outputs (subst (λ (n : ℕ). AreKeptOver n t.outputs kept) inputs each)
+-- so a call comes to a model, or runs out of memory
+pub reached_end : (a : LearnValues) (s : System) (prior : List KeptAnswer) (naming : Naming) (learned : Result Found LearnStop) (kept : List KeptAnswer) (f g : FilesState) (b z : SpawnerSeen) (o p e d : SinkState) (end : End) → IsOfSystem a s prior b z learned kept naming.names → IsToldOf a s naming learned kept f g o p e d end
+    → (r : Rows) → NothingFailed (f.faults, g.faults) (o.faults, p.faults) (e.faults, d.faults) → IsSoundSystem s b z → IsWithin (length (letters_of s)) a.extra a.max_states r → Gives r (answers_of end.kept.answers) → IsReachedOutcome (length r) end.outcome
+reached_end a s prior naming learned kept f g b z o p e d end found told r none sound within gives =
+    by learned (reached_system a s prior b z learned kept naming.names r found sound within (subst (λ (ks : List KeptAnswer). Gives r (answers_of ks)) told.kept_is gives)) told.carries
+  where
+    by : (x : Result Found LearnStop) → IsReached (length r) x → Carries x end → IsReachedOutcome (length r) end.outcome
+    by (Ok l) few carries =
+        told_reached (length r) l.model l.table.refinements end.outcome few carries.3
+        (λ is. ⊎_elim (λ (x : CountedFault o.faults p.faults). none.of_out x) (λ (x : CountedFault e.faults d.faults). none.of_err x) (told.sink_fault is))
+        (λ role is. none.of_files (told.file_fault role is))
+    by (Err stop) is carries = stands_as (IsReachedOutcome (length r)) (learn_outcome stop) end.outcome carries.2 (reached_stop (length r) stop is) tt
 
--- what a machine's file came to that was there, where the files didn't fail
-pub unread_reached : (n : ℕ) (stop : ReadStop) → (stop ≡ Failed → ⊥) → (stop ≡ TooLong → ⊥) → ((fault : JsonFault) → stop ≡ Bad fault → ⊥) → IsReachedOutcome n (read_outcome Table stop)
-unread_reached n Failed failed long bad = absurd (failed refl)
-unread_reached n TooLong failed long bad = absurd (long refl)
-unread_reached n (Bad fault) failed long bad = absurd (bad fault refl)
-unread_reached n NoMemoryToRead failed long bad = tt
+-- and has the model that was learned
+pub model_end : (a b k most : ℕ) (learned : Result Found LearnStop) (kept : List KeptAnswer) (end : End) → IfOk learned (GivesModel a b k most kept) → end.kept.answers ≡ kept → Carries learned end → IfSome end.model (HasModel a b k most end)
+model_end a b k most (Ok l) kept end gives same carries = subst (λ (m : Option MealyMachine). IfSome m (HasModel a b k most end)) (sym carries.0) (gives end same carries.1 carries.2)
+model_end a b k most (Err stop) kept end gives same carries = subst (λ (m : Option MealyMachine). IfSome m (HasModel a b k most end)) (sym carries.0) tt
 
--- what holds of a value that may be there gives what else holds of it
-pub some_map : {X : Type 0} (o : Option X) (P Q : X → Type 0) → ((x : X) → P x → Q x) → IfSome o P → IfSome o Q
-some_map None P Q f is = tt
-some_map (Some x) P Q f is = f x is
+-- what writing a model out came to
+pub record HasWritten (a : LearnValues) (m : Machine) (table : TableState) (kept : List KeptAnswer) (f g : FilesState) (o p : SinkState) (e d : SinkState) (end : End) : Type 0 where
+  pub outcome : IsTold m.mealy table.refinements end.outcome
+  pub model : end.model ≡ Some m.mealy
+  pub table_is : end.table ≡ Some table
+  pub refinements : end.refinements ≡ table.refinements
+  pub kept_is : end.kept.answers ≡ kept
+  pub files : WritesFiles a m kept end.outcome g.holds (f.calls, g.calls)
+  pub out : WritesOut a.model (written_text m) end.outcome (o.taken, p.taken) (o.faults, p.faults)
+  pub beside : StaysBesides a.model a.answers f.holds g.holds
+  pub role : (r : Role) → end.outcome ≡ FileFault r → ((r ≡ Model) × (a.model ≢ None)) ⊎ ((r ≡ Answers) × (a.answers ≢ None))
+  pub failed : (r : Role) → end.outcome ≡ FileFault r → CountedFault f.faults g.faults
+  pub refused : end.outcome ≡ SinkFault → CountedFault o.faults p.faults ⊎ CountedFault e.faults d.faults
+  pub said : ¬ CountedFault e.faults d.faults → TakesAll (text_of m.inputs m.outputs kept a.extra end.outcome) e.taken d.taken
+  pub part : TakesInTurn (text_of m.inputs m.outputs kept a.extra (Learned m.mealy table.refinements)) (text_of m.inputs m.outputs kept a.extra end.outcome) e.taken d.taken
+  pub reads : g.reads ≡ f.reads
+  pub quiet : IsLearnedOutcome end.outcome → (g.faults ≡ f.faults) × (p.faults ≡ o.faults) × (d.faults ≡ e.faults)
+  pub counts : (f.faults ≤ g.faults) × (o.faults ≤ p.faults) × (e.faults ≤ d.faults)
+
+-- a learning with a model, which was written out under its names
+pub told_written : (a : LearnValues) (s : System) (naming : Naming) (l : Found) (m : Machine) (kept : List KeptAnswer) (f g : FilesState) (o p e d : SinkState) (end : End) → m.inputs ≡ letters_of s → m.outputs ≡ naming.names → m.mealy ≡ l.model → end.outputs ≡ end_outputs (declared_of s) kept naming → HasWritten a m l.table kept f g o p e d end → IsToldOf a s naming (Ok l) kept f g o p e d end
+told_written a s naming l m kept f g o p e d end inputs outputs mealy own w = record {
+  carries = (w.model ∙ ap (λ (h : MealyMachine). Some h) mealy, w.table_is, w.refinements, subst (λ (h : MealyMachine). IsTold h l.table.refinements end.outcome) mealy w.outcome);
+  kept_is = w.kept_is;
+  outputs = own;
+  written = subst (λ (h : Option MealyMachine). IfSome h (WritesModel a kept end.outcome g.holds (o.taken, p.taken) (o.faults, p.faults) (letters_of s) naming.names)) (sym w.model) done;
+  nothing = λ is. let wrong : Some m.mealy ≡ None = sym w.model ∙ is in absurd (cc);
+  beside = w.beside;
+  said = λ none. subst (λ (t : List ℕ). TakesAll t e.taken d.taken) (same end.outcome) (w.said none);
+  in_turn = record {
+    between = w.part.between;
+    some = subst (λ (t : List ℕ). TakesSome t e.taken w.part.between) line w.part.some;
+    then = subst (λ (t : List ℕ). TakesSome t w.part.between d.taken) (same end.outcome) w.part.then;
+  };
+  quiet = w.quiet;
+  role = w.role;
+  file_fault = w.failed;
+  sink_fault = w.refused;
+  reads = w.reads;
+  writes = w.files.calls;
+  counts = w.counts;
+}
+  where
+    done : WritesModel a kept end.outcome g.holds (o.taken, p.taken) (o.faults, p.faults) (letters_of s) naming.names m.mealy
+    done = record { model = m; inputs_are = inputs; outputs_are = outputs; mealy = refl; file = w.files.model; answers = w.files.answers; out = w.out }
+
+    same : (x : Outcome) → text_of m.inputs m.outputs kept a.extra x ≡ text_of (letters_of s) naming.names kept a.extra x
+    same x = text_same m.inputs (letters_of s) m.outputs naming.names kept kept a.extra x inputs outputs refl
+
+    line : text_of m.inputs m.outputs kept a.extra (Learned m.mealy l.table.refinements) ≡ line_of (letters_of s) naming.names kept a.extra end.model end.refinements
+    line =
+        same (Learned m.mealy l.table.refinements)
+        ∙ (ap (λ (n : ℕ). line_of (letters_of s) naming.names kept a.extra (Some m.mealy) n) (sym w.refinements)
+        ∙ ap (λ (h : Option MealyMachine). line_of (letters_of s) naming.names kept a.extra h end.refinements) (sym w.model))
+
+-- a learning with a model for whose texts there was no memory: nothing was written
+pub told_left : (a : LearnValues) (s : System) (naming : Naming) (l : Found) (kept : List KeptAnswer) (f : FilesState) (o e d : SinkState) (end : End) → length (letters_of s) ≤ 64 → (l.model.inputs ≡ length (letters_of s)) × (l.model.outputs ≡ length naming.names) → end.outcome ≡ NoMemory → end.model ≡ Some l.model → end.table ≡ Some l.table → end.refinements ≡ l.table.refinements → end.kept.answers ≡ kept
+    → end.outputs ≡ end_outputs (declared_of s) kept naming → (¬ CountedFault e.faults d.faults → TakesAll (text_of [] [] [] 0 NoMemory) e.taken d.taken) → TakesSome (text_of [] [] [] 0 NoMemory) e.taken d.taken → e.faults ≤ d.faults → IsToldOf a s naming (Ok l) kept f f o o e d end
+told_left a s naming l kept f o e d end few sizes wants model table refinements kept_is outputs said part counts = record {
+  carries = (model, table, refinements, subst (λ (x : Outcome). IsTold l.model l.table.refinements x) (sym wants) tt);
+  kept_is = kept_is;
+  outputs = outputs;
+  written = subst (λ (h : Option MealyMachine). IfSome h (WritesModel a kept end.outcome f.holds (o.taken, o.taken) (o.faults, o.faults) (letters_of s) naming.names)) (sym model) none_written;
+  nothing = λ is. (refl, refl);
+  beside = stays_same a.model a.answers f.holds;
+  said = λ none. subst (λ (t : List ℕ). TakesAll t e.taken d.taken) text (said none);
+  in_turn = record {
+    between = e.taken;
+    some = (0, sink_none e.taken (line_of (letters_of s) naming.names kept a.extra end.model end.refinements));
+    then = subst (λ (t : List ℕ). TakesSome t e.taken d.taken) text part;
+  };
+  quiet = λ is. absurd (subst (λ (x : Outcome). IsLearnedOutcome x) wants is);
+  role = λ r is. let wrong : NoMemory ≡ FileFault r = sym wants ∙ is in absurd (cc);
+  file_fault = λ r is. let wrong : NoMemory ≡ FileFault r = sym wants ∙ is in absurd (cc);
+  sink_fault = λ is. let wrong : NoMemory ≡ SinkFault = sym wants ∙ is in absurd (cc);
+  reads = refl;
+  writes = subst (λ (x : Outcome). MadeWrites a x f.calls f.calls) (sym wants) (0, gained_none f.calls);
+  counts = (omega arith, omega arith, counts);
+}
+  where
+    machine : Machine
+    machine = record { inputs = letters_of s; outputs = naming.names; mealy = l.model; named = sizes; few = few }
+
+    out_none : WritesOut a.model (written_text machine) end.outcome (o.taken, o.taken) (o.faults, o.faults)
+    out_none =
+        subst (λ (x : Outcome). WritesOut a.model (written_text machine) x (o.taken, o.taken) (o.faults, o.faults)) (sym wants)
+        (out_before a.model (written_text machine) o.taken (o.faults, o.faults) tell.NoMemory (λ x. let wrong : tell.NoMemory ≡ tell.Sink = x in cc))
+
+    none_written : WritesModel a kept end.outcome f.holds (o.taken, o.taken) (o.faults, o.faults) (letters_of s) naming.names l.model
+    none_written = record {
+      model = machine;
+      inputs_are = refl;
+      outputs_are = refl;
+      mealy = refl;
+      file = λ h differ. absurd (subst (λ (x : Outcome). HasModelFile x) wants h);
+      answers = λ h. absurd (subst (λ (x : Outcome). HasFiles x) wants h);
+      out = out_none;
+    }
+
+    text : text_of [] [] [] 0 NoMemory ≡ text_of (letters_of s) naming.names kept a.extra end.outcome
+    text = sym (ap (λ (x : Outcome). text_of (letters_of s) naming.names kept a.extra x) wants)
+
+-- what was found of a system, and told
+pub ends_learned : (a : LearnValues) (s : System) (prior : List KeptAnswer) (naming : Naming) (learned : Result Found LearnStop) (kept : List KeptAnswer) (f g : FilesState) (b z : SpawnerSeen) (o p e d : SinkState) (end : End) → IsOfSystem a s prior b z learned kept naming.names → IfOk learned (GivesModel (length (letters_of s)) (length naming.names) a.extra a.max_states kept)
+    → IfErr learned (StopsBy (length (letters_of s)) (count_of (declared_of s)) a.extra a.max_states (answers_of kept)) → IsToldOf a s naming learned kept f g o p e d end → EndsLearned a s prior f g b z o p e d end
+ends_learned a s prior naming learned kept f g b z o p e d end found gives stops told = record {
+  naming = naming;
+  learned = learned;
+  found = subst (λ (ks : List KeptAnswer). IsOfSystem a s prior b z learned ks naming.names) (sym told.kept_is) found;
+  model = model_end (length (letters_of s)) (length naming.names) a.extra a.max_states learned kept end gives told.kept_is told.carries;
+  stops = subst (λ (ks : List KeptAnswer). IfErr learned (StopsBy (length (letters_of s)) (count_of (declared_of s)) a.extra a.max_states (answers_of ks))) (sym told.kept_is) stops;
+  reached = reached_end a s prior naming learned kept f g b z o p e d end found told;
+  told = subst (λ (ks : List KeptAnswer). IsToldOf a s naming learned ks f g o p e d end) (sym told.kept_is) told;
+}
+
+-- and before that read
+pub task_ready : (a : LearnValues) (f m : FilesState) (r : Result Task Unread) (t : Task) → r ≡ Ok t → IsStage a f m (SaysReady a f m) r → IsReady t.system t.names t.cache
+task_ready a f m r t is stage = by (subst (λ (x : Result Task Unread). IsStage a f m (SaysReady a f m) x) is stage)
+  where
+    by : IsStage a f m (SaysReady a f m) (Ok t) → IsReady t.system t.names t.cache
+    by x = x.ok.ready
+
+pub ends_read : (a : LearnValues) (f m g : FilesState) (b z : SpawnerSeen) (o p e d : SinkState) (end : End) (r : Result Task Unread) (t : Task) → r ≡ Ok t → IsStage a f m (SaysReady a f m) r → EndsLearned a t.system t.cache.kept m g b z o p e d end → EndsRead a f g b z o p e d end
+ends_read a f m g b z o p e d end r t is stage learned = by (subst (λ (x : Result Task Unread). IsStage a f m (SaysReady a f m) x) is stage)
+  where
+    by : IsStage a f m (SaysReady a f m) (Ok t) → EndsRead a f g b z o p e d end
+    by x = record { system = t.system; prior = t.cache.kept; middle = m; task = x.ok.says; made = x.made; quiet = x.quiet; same = x.same; unclashed = x.ok.ready.nothing; learned = learned }
+
+-- what was unread, and what its end says
+unread_as : (a : LearnValues) (f g : FilesState) (read : Option System) (had kept : List KeptAnswer) (why outcome : Outcome) → IsUnreadBy a f g read had why → (outcome ≡ why) ⊎ (outcome ≡ NoMemory) → (kept ≡ had) ⊎ ((outcome ≡ NoMemory) × (kept ≡ [])) → IsUnreadAs a f g read kept outcome
+unread_as a f g read had kept why outcome by (inl same) (inl all) = inl (subst (λ (x : Outcome). IsUnreadBy a f g read kept x) (sym same) (subst (λ (ks : List KeptAnswer). IsUnreadBy a f g read ks why) (sym all) by))
+unread_as a f g read had kept why outcome by (inl same) (inr none) = inr (none.0, (why, had, by, inr none.1))
+unread_as a f g read had kept why outcome by (inr wants) (inl all) = inr (wants, (why, had, by, inl all))
+unread_as a f g read had kept why outcome by (inr wants) (inr none) = inr (wants, (why, had, by, inr none.1))
+
+-- the end of a call that began no learning
+pub record HasSaid (u : Unread) (extra : ℕ) (e d : SinkState) (end : End) : Type 0 where
+  pub outcome : (end.outcome ≡ u.outcome) ⊎ (end.outcome ≡ NoMemory)
+  pub model : end.model ≡ None
+  pub learner : IsWithoutLearner end
+  pub kept : (end.kept ≡ u.kept) ⊎ ((end.outcome ≡ NoMemory) × (end.kept.answers ≡ []))
+  pub outputs : (end.outputs ≡ names_read u.system) ⊎ ((end.outcome ≡ NoMemory) × (end.outputs ≡ None))
+  pub said : ¬ CountedFault e.faults d.faults → TakesAll (said_text (option_map letters_of u.system) (option_and_then declared_of u.system) end.kept.answers extra end.outcome) e.taken d.taken
+  pub part : TakesSome (said_text (option_map letters_of u.system) (option_and_then declared_of u.system) end.kept.answers extra end.outcome) e.taken d.taken
+
+pub ends_unread : (a : LearnValues) (f g : FilesState) (b : SpawnerSeen) (o e d : SinkState) (end : End) (r : Result Task Unread) (u : Unread) (extra : ℕ) → r ≡ Err u → IsStage a f g (SaysReady a f g) r → extra ≡ a.extra → HasSaid u extra e d end → EndsUnread a f g b b o o e d end
+ends_unread a f g b o e d end r u extra is stage extra_is has = by (subst (λ (x : Result Task Unread). IsStage a f g (SaysReady a f g) x) is stage) (subst (λ (k : ℕ). HasSaid u k e d end) extra_is has)
+  where
+    by : IsStage a f g (SaysReady a f g) (Err u) → HasSaid u a.extra e d end → EndsUnread a f g b b o o e d end
+    by x h = record {
+      read = u.system;
+      cause = unread_as a f g u.system u.kept.answers end.kept.answers u.outcome end.outcome x.err h.outcome (⊎_elim (λ (same : end.kept ≡ u.kept). inl (ap (λ k. k.answers) same)) (λ (none : (end.outcome ≡ NoMemory) × (end.kept.answers ≡ [])). inr none) h.kept);
+      model = h.model;
+      learner = h.learner;
+      outputs = h.outputs;
+      holds = x.same;
+      unstarted = refl;
+      unwritten = refl;
+      said = h.said;
+      part = h.part;
+    }
+
+-- the text of memory that ran out says nothing else
+pub text_memory : (i j o p : List (List ℕ)) (k l : List KeptAnswer) (x y : ℕ) (outcome : Outcome) → outcome ≡ NoMemory → text_of i o k x outcome ≡ text_of j p l y outcome
+text_memory i j o p k l x y outcome is = ap (λ (c : Outcome). text_of i o k x c) is ∙ sym (ap (λ (c : Outcome). text_of j p l y c) is)
+
+-- out of memory, or an outcome that stands but for that
+pub wanted : (outcome : Outcome) → StandsOrWants NoMemory outcome → outcome ≡ NoMemory
+wanted outcome (inl same) = same
+wanted outcome (inr wants) = wants.1
+
+pub wanted_or : (why outcome : Outcome) → StandsOrWants why outcome → (outcome ≡ why) ⊎ (outcome ≡ NoMemory)
+wanted_or why outcome (inl same) = inl same
+wanted_or why outcome (inr wants) = inr wants.1

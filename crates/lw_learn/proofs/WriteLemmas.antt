@@ -1,21 +1,19 @@
 -- Writing out: what the files hold, which calls were made, and what `out` took, by the outcome.
-use Rattle.std.proofs.Common.{◌≡◌, ◌≢◌, ◌∙◌, ℕ, ◌++◌, List, [], ◌∷◌, take, false, Option, Some, None, Result, Ok, Err, OnOk, IsErrAnd, length, inl, inr, refl, sym, subst, ap, append_assoc, append-nil}
+use Rattle.std.proofs.Common.{◌≡◌, ◌≢◌, ◌∙◌, ℕ, ◌++◌, List, [], ◌∷◌, take, Option, Some, None, Result, Ok, Err, OnOk, IsErrAnd, length, refl, sym, subst, ap, append_assoc, append-nil}
 use Rattle.lw_words.specs.declared.kept.KeptAnswer.{KeptAnswer}
 use Rattle.lw_mealy.specs.Limits.{MealyMachine}
 use Rattle.lw_json.specs.AnswersText.{IsAnswersText}
 use Rattle.lw_json.specs.declared.machine.Machine.{Machine}
-use Rattle.lw_outside.specs.Files.{Call, File, Holds, file_at, read_call}
+use Rattle.lw_outside.specs.Files.{Call, File, Holds, file_at}
 use Rattle.lw_report.specs.Stops.{tell_outcome}
 use Rattle.lw_report.specs.Text.{text_of}
-use Rattle.lw_report.specs.declared.role.Role.{Role}
 use Rattle.lw_report.specs.declared.stops.TellStop.{TellStop}
 use Rattle.lw_report.specs.declared.stops.TellStop.TheVariants.{File as FileStop, Sink, NoMemory as NoMemoryToTell}
 use Rattle.lw_report.specs.declared.outcome.Outcome.{Outcome}
-use Rattle.lw_report.specs.declared.outcome.Outcome.TheVariants.{Learned, Trial, Yes, Served, No, Usage, BadFile, Alphabets, FileTooLong, Nondeterministic, NoMemory, SulFailed, Gone, BadLine, BadAsk, TooManyStates, SuiteTooLarge, FileFault, SourceFault, SinkFault}
+use Rattle.lw_report.specs.declared.outcome.Outcome.TheVariants.{FileFault, NoMemory, SinkFault}
 use Rattle.lw_report.proofs.SinkLemmas.{sink_none}
-use Rattle.lw_learn.specs.Arguments.{LearnValues}
-use Rattle.lw_learn.specs.Calls.{MadeWrites, all_writes, gained, read_of, writes_to}
-use Rattle.lw_learn.specs.Outcomes.{IsReadOutcome, told_outcome}
+use Rattle.lw_learn.specs.Calls.{gained}
+use Rattle.lw_learn.specs.Outcomes.{told_outcome}
 use Rattle.lw_learn.specs.Writing.{AnswersStand, PutsSome, Stands, StaysBesides, WritesOut}
 
 -- calls gained in two steps
@@ -73,55 +71,3 @@ answers_stand (Some name) holds m kept text is stands = (text, is (λ e. let wro
 pub text_same : (i j o p : List (List ℕ)) (k l : List KeptAnswer) (extra : ℕ) (outcome : Outcome) → i ≡ j → o ≡ p → k ≡ l → text_of i o k extra outcome ≡ text_of j p l extra outcome
 text_same i j o p k l extra outcome one two three =
     ap (λ (x : List (List ℕ)). text_of x o k extra outcome) one ∙ (ap (λ (x : List (List ℕ)). text_of j x k extra outcome) two ∙ ap (λ (x : List KeptAnswer). text_of j p x extra outcome) three)
-
--- the writes of a call that has read the table
-pub some_writes : (a : LearnValues) (outcome : Outcome) (before now : Option (List Call)) → IsReadOutcome a outcome → MadeWrites a outcome before now → (more : List Call) × (now ≡ gained more before)
-some_writes a (Learned h r) before now is made = (all_writes a, made)
-some_writes a SinkFault before now is made = (all_writes a, made)
-some_writes a (FileFault role) before now is made = (writes_to a role, made)
-some_writes a NoMemory before now is made = (take made.0 (all_writes a), made.1)
-some_writes a (TooManyStates words) before now is made = ([], made ∙ gained_none before)
-some_writes a (SuiteTooLarge states number) before now is made = ([], made ∙ gained_none before)
-some_writes a (Trial t) before now is made = absurd is
-some_writes a Usage before now is made = absurd is
-some_writes a (Served served) before now is made = absurd is
-some_writes a (SulFailed instance) before now is made = absurd is
-some_writes a (Gone instance) before now is made = absurd is
-some_writes a (BadLine instance line) before now is made = absurd is
-some_writes a (BadAsk number) before now is made = absurd is
-some_writes a SourceFault before now is made = absurd is
-some_writes a (Yes states) before now is made = absurd is
-some_writes a (No verdict) before now is made = absurd is
-some_writes a (Alphabets role) before now is made = absurd is
-some_writes a (Nondeterministic clash) before now is made = absurd is
-some_writes a (BadFile role fault) before now is made = absurd is
-some_writes a (FileTooLong role) before now is made = absurd is
-
-fault_read : (a : LearnValues) (role : Role) → IsReadOutcome a (FileFault role) → read_of a (FileFault role) ≡ read_call a.table false
-fault_read a role is =
-    elim is as (λ _. read_of a (FileFault role) ≡ read_call a.table false) [
-      | inl e ↦ ap (λ (r : Role). read_of a (FileFault r)) e.0
-      | inr e ↦ ap (λ (r : Role). read_of a (FileFault r)) e.0
-    ]
-
-pub told_read : (a : LearnValues) (outcome : Outcome) → IsReadOutcome a outcome → read_of a outcome ≡ read_call a.table false
-told_read a (Learned h r) is = refl
-told_read a SinkFault is = refl
-told_read a (FileFault role) is = fault_read a role is
-told_read a NoMemory is = refl
-told_read a (TooManyStates words) is = refl
-told_read a (SuiteTooLarge states number) is = refl
-told_read a (Trial t) is = absurd is
-told_read a Usage is = absurd is
-told_read a (Served served) is = absurd is
-told_read a (SulFailed instance) is = absurd is
-told_read a (Gone instance) is = absurd is
-told_read a (BadLine instance line) is = absurd is
-told_read a (BadAsk number) is = absurd is
-told_read a SourceFault is = absurd is
-told_read a (Yes states) is = absurd is
-told_read a (No verdict) is = absurd is
-told_read a (Alphabets role) is = absurd is
-told_read a (Nondeterministic clash) is = absurd is
-told_read a (BadFile role fault) is = absurd is
-told_read a (FileTooLong role) is = absurd is

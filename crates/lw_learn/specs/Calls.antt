@@ -1,8 +1,7 @@
--- The calls of `learn` on the files: the table file is read, then the model file is written, then the answers file, up to the
--- call that ends the run.
-use Rattle.std.specs.Prelude.{◌≡◌, ◌⊎◌, ℕ, List, [], ◌∷◌, ◌++◌, take, Bool, true, false, Option, Some, None, option_map}
+-- The writes of `learn`: the model file is written, then the answers file, up to the write that ends the run.
+use Rattle.std.specs.Prelude.{◌≡◌, ℕ, List, [], ◌∷◌, ◌++◌, take, Bool, true, false, Option, Some, None, option_map}
 use Rattle.lw_learn.specs.Arguments.{LearnValues}
-use Rattle.lw_outside.specs.Files.{Call, noted, read_call, write_call}
+use Rattle.lw_outside.specs.Files.{Call, write_call}
 use Rattle.lw_report.specs.declared.outcome.Outcome.{Outcome}
 use Rattle.lw_report.specs.declared.outcome.Outcome.TheVariants.{Learned, NoMemory, FileFault, SinkFault}
 use Rattle.lw_report.specs.declared.role.Role.{Role}
@@ -36,12 +35,3 @@ MadeWrites a SinkFault before now = now ≡ gained (all_writes a) before
 MadeWrites a (FileFault role) before now = now ≡ gained (writes_to a role) before
 MadeWrites a NoMemory before now = (n : ℕ) × (now ≡ gained (take n (all_writes a)) before)
 MadeWrites a _ before now = now ≡ before
-
--- the one call that ends a run before the writes: the table file is read, which fails where the outcome is a fault of it
-abbrev pub read_of : LearnValues → Outcome → Call
-read_of a (FileFault Table) = read_call a.table true
-read_of a _ = read_call a.table false
-
--- the calls of a call of `learn` that came to the outcome: the read and the writes, or none where memory ran out first
-abbrev pub MadeCalls : LearnValues → Outcome → Option (List Call) → Option (List Call) → Type 0
-MadeCalls a outcome before now = ((outcome ≡ NoMemory) × (now ≡ before)) ⊎ MadeWrites a outcome (noted (read_of a outcome) before) now

@@ -1,6 +1,11 @@
 pub mod Arguments
 pub mod Calls
+pub mod Ending
+pub mod Findings
 pub mod LearnRun
 pub mod Outcomes
-pub mod Reading
+pub mod Tasks
+pub mod Told
+pub mod Unread
 pub mod Writing
+pub mod bodies

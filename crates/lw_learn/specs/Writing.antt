@@ -1,5 +1,5 @@
 -- What `learn` writes: to files, to `out` and to `err`.
-use Rattle.std.specs.Prelude.{◌≡◌, ◌≢◌, ℕ, List, [], Option, Some, None, IsSome, option_map}
+use Rattle.std.specs.Prelude.{◌≡◌, ◌≢◌, ℕ, List, [], Option, Some, None}
 use Rattle.lw_words.specs.Cause.{CountedFault}
 use Rattle.lw_words.specs.declared.kept.KeptAnswer.{KeptAnswer}
 use Rattle.lw_mealy.specs.Limits.{MealyMachine}
@@ -10,9 +10,10 @@ use Rattle.lw_learn.specs.Arguments.{LearnValues}
 use Rattle.lw_learn.specs.Calls.{MadeWrites}
 use Rattle.lw_learn.specs.Outcomes.{HasFiles, HasModelFile, IsBeforeOut, IsLearnedOutcome}
 use Rattle.lw_outside.specs.Files.{Call, File, Holds, file_at}
-use Rattle.lw_report.specs.Writing.{TakesAll, TakesSome, said_text}
+use Rattle.lw_report.specs.Text.{text_of}
+use Rattle.lw_report.specs.Writing.{TakesAll, TakesSome}
 use Rattle.lw_report.specs.declared.outcome.Outcome.{Outcome}
-use Rattle.lw_report.specs.declared.outcome.Outcome.TheVariants.{SinkFault, TooManyStates, Learned}
+use Rattle.lw_report.specs.declared.outcome.Outcome.TheVariants.{SinkFault, Learned}
 
 -- the text goes to the stream where no file is named for it, and nothing does where one is
 abbrev pub PutsAll : Option (List ℕ) → List ℕ → Option (List ℕ) → Option (List ℕ) → Type 0
@@ -54,31 +55,20 @@ StaysBesides model answers None after = after ≡ None
 StaysBesides model answers (Some fs) after =
     (gs : List File) × (after ≡ Some gs) × ((other : List ℕ) → model ≢ Some other → answers ≢ Some other → file_at other gs ≡ file_at other fs)
 
--- a model under the names of the table file is written out, by the outcome
-pub record WritesModel (a : LearnValues) (kept : List KeptAnswer) (outcome : Outcome) (holds : Option (List File)) (taken : Option (List ℕ) × Option (List ℕ)) (faults : ℕ × ℕ) (table : Machine) (h : MealyMachine) : Type 0 where
+-- a model under these names is written out, by the outcome
+pub record WritesModel (a : LearnValues) (kept : List KeptAnswer) (outcome : Outcome) (holds : Option (List File)) (taken : Option (List ℕ) × Option (List ℕ)) (faults : ℕ × ℕ) (inputs outputs : List (List ℕ)) (h : MealyMachine) : Type 0 where
   pub model : Machine
-  pub inputs : model.inputs ≡ table.inputs
-  pub outputs : model.outputs ≡ table.outputs
+  pub inputs_are : model.inputs ≡ inputs
+  pub outputs_are : model.outputs ≡ outputs
   pub mealy : model.mealy ≡ h
   pub file : HasModelFile outcome → a.model ≢ a.answers → Stands a.model holds (written_text model)
   pub answers : HasFiles outcome → AnswersStand a.answers holds model kept
   pub out : WritesOut a.model (written_text model) outcome taken faults
 
--- the names that the table file says, where it was read
-abbrev pub inputs_of : Option Machine → Option (List (List ℕ))
-inputs_of table = option_map (λ m. m.inputs) table
-
-abbrev pub outputs_of : Option Machine → Option (List (List ℕ))
-outputs_of table = option_map (λ m. m.outputs) table
-
--- the words of a crowd are told by the names of a table that was read
-abbrev pub HasNames : Outcome → Option Machine → Type 0
-HasNames outcome table = (words : List (List ℕ)) → outcome ≡ TooManyStates words → IsSome table
-
--- the line about a model
-abbrev pub line_of : Option Machine → List KeptAnswer → ℕ → Option MealyMachine → ℕ → List ℕ
-line_of table kept extra None refinements = []
-line_of table kept extra (Some h) refinements = said_text (inputs_of table) (outputs_of table) kept extra (Learned h refinements)
+-- the line about a model, or nothing where there is none
+abbrev pub line_of : (inputs outputs : List (List ℕ)) → List KeptAnswer → ℕ → Option MealyMachine → ℕ → List ℕ
+line_of inputs outputs kept extra None refinements = []
+line_of inputs outputs kept extra (Some h) refinements = text_of inputs outputs kept extra (Learned h refinements)
 
 -- one text was taken in part, then the other
 pub record TakesInTurn (first second : List ℕ) (before now : Option (List ℕ)) : Type 0 where

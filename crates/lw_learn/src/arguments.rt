@@ -3,16 +3,28 @@ ghost use Rattle.std.specs.Prelude.{◌≡◌, ◌≤◌, option_map, string_byt
 
 use std::marker::Model;
 
-/// The values of the arguments of `learn`: the table file, the number of its instances, the extra states, the greatest number
-/// of states, and the files for the model and for the answers, where these are to be written.
+/// What kind of file a system is read of.
+#[derive(Clone, Copy, Debug, PartialEq, Eq)]
+pub enum Source {
+    /// A setup, which names a machine file, or says how a child is started.
+    Setup,
+    /// A machine file.
+    Table,
+}
+
+/// The values of the arguments of `learn`: the file of the system and its kind, how many instances there are, the extra states,
+/// the greatest number of states, the files for the model and for the answers, where these are to be written, and the file of
+/// prior answers, where there are some.
 #[derive(Drop)]
 pub struct LearnArguments {
-    table: String,
+    source: Source,
+    system: String,
     workers: u8,
     extra: u8,
     max_states: u16,
     model: Option<String>,
     answers: Option<String>,
+    prior: Option<String>,
 }
 
 impl Model for LearnArguments {
@@ -22,60 +34,78 @@ impl Model for LearnArguments {
     ghost Value = { LearnValues };
 
     ghost view = { λ a. record {
-      table = string_bytes a.table;
+      source = a.source;
+      system = string_bytes a.system;
       workers = a.workers;
       extra = a.extra;
       max_states = a.max_states;
       model = option_map (λ s. string_bytes s) a.model;
       answers = option_map (λ s. string_bytes s) a.answers;
+      prior = option_map (λ s. string_bytes s) a.prior;
     } };
 
     ghost invariant = { λ a. AreWithinLimits (record {
-      table = string_bytes a.table;
+      source = a.source;
+      system = string_bytes a.system;
       workers = a.workers;
       extra = a.extra;
       max_states = a.max_states;
       model = option_map (λ s. string_bytes s) a.model;
       answers = option_map (λ s. string_bytes s) a.answers;
+      prior = option_map (λ s. string_bytes s) a.prior;
     }) };
 }
 
 impl LearnArguments {
     /// These values, which are within their limits.
     pub fn new(
-        table: String,
+        source: Source,
+        system: String,
         workers: u8,
         extra: u8,
         max_states: u16,
         model: Option<String>,
         answers: Option<String>,
+        prior: Option<String>,
     ) -> LearnArguments
         requires workers { (1 ≤ workers) × (workers ≤ 16) }
         requires extra { extra ≤ 4 }
         requires max_states { (1 ≤ max_states) × (max_states ≤ 1024) }
         ensures { result ≡ record {
-          table = string_bytes table;
+          source = source;
+          system = string_bytes system;
           workers = workers;
           extra = extra;
           max_states = max_states;
           model = option_map (λ s. string_bytes s) model;
           answers = option_map (λ s. string_bytes s) answers;
+          prior = option_map (λ s. string_bytes s) prior;
         } }
     {
         LearnArguments {
-            table,
+            source,
+            system,
             workers,
             extra,
             max_states,
             model,
             answers,
+            prior,
         }
     }
 
-    pub fn table(&self) -> &str
-        ensures { result.now ≡ self.now.table }
+    /// What kind of file the system is read of.
+    pub fn source(&self) -> Source
+        ensures { result ≡ self.now.source }
     {
-        self.table.as_str()
+        self.source
+    }
+
+    /// The name of the system's file.
+    pub fn system(&self) -> &str
+        ensures { result.now ≡ self.now.system }
+    {
+        self.system.as_str()
     }
 
     pub fn workers(&self) -> u8
@@ -109,6 +139,12 @@ impl LearnArguments {
         ensures { option_map (λ s. s.now) result ≡ self.now.answers }
     {
         text_of(&self.answers)
+    }
+
+    pub fn prior(&self) -> Option<&str>
+        ensures { option_map (λ s. s.now) result ≡ self.now.prior }
+    {
+        text_of(&self.prior)
     }
 }
 

@@ -1,85 +1,43 @@
-//! The command `learn`, over the files and streams that it is handed.
-ghost use Rattle.std.specs.Prelude.{◌≡◌, ◌≢◌, ◌⊎◌, ℕ, ◌≤◌, List, [], length, Some, None, Option, IfErr, IfOk, IfSome};
-ghost use Rattle.lw_words.specs.Answer.{AreAnswers, answers_of};
+//! The command `learn`, over the files, streams and children that it is handed.
+ghost use Rattle.std.specs.Prelude.{◌≡◌, ◌≢◌, ◌⊎◌, ◌≤◌, [], length, option_and_then, option_map, Some, None, Ok, Err, IfErr, IfOk};
 ghost use Rattle.lw_words.specs.Cause.{CountedFault};
-ghost use Rattle.lw_mealy.specs.Gives.{Gives};
-ghost use Rattle.lw_mealy.specs.Limits.{MealyMachine as Model};
-ghost use Rattle.lw_mealy.specs.Machine.{Rows};
 ghost use Rattle.lw_json.specs.KeptOver.{AreKeptOver};
 ghost use Rattle.lw_json.specs.MachineText.{written_text};
-ghost use Rattle.lw_json.specs.declared.fault.JsonFault.{JsonFault as Fault};
-ghost use Rattle.lw_json.specs.declared.machine.Machine.{Machine as Named};
-ghost use Rattle.lw_outside.specs.Files.{HoldsLong};
+ghost use Rattle.lw_children.specs.Spawners.{spawner_seen};
 ghost use Rattle.lw_report.specs.Ends.{IsWithoutLearner};
-ghost use Rattle.lw_report.specs.Learnings.{HasModel, HasLargeSuite};
+ghost use Rattle.lw_report.specs.Learnings.{learn_outcome as outcome_of};
 ghost use Rattle.lw_report.specs.Outcomes.{StandsOrWants, status_of};
-ghost use Rattle.lw_report.specs.Reading.{WasRead};
-ghost use Rattle.lw_report.specs.Stops.{read_outcome};
-ghost use Rattle.lw_report.specs.Text.{text_of};
+ghost use Rattle.lw_report.specs.States.{files_state, sink_state};
+ghost use Rattle.lw_report.specs.Text.{names_of as names_said, text_of};
 ghost use Rattle.lw_report.specs.Writing.{TakesAll, TakesSome, said_text};
 ghost use Rattle.lw_report.specs.declared.outcome.Outcome.{Outcome as Came};
 ghost use Rattle.lw_report.specs.declared.role.Role.{Role as Part};
-ghost use Rattle.lw_report.specs.declared.role.Role.TheVariants.{Answers as AnswersRole, Model as ModelRole, Table as TableRole};
-ghost use Rattle.lw_rounds.specs.Learned.{IsLearned, IsTooMany, StopsAs};
-ghost use Rattle.lw_rounds.specs.Stops.{IsOwnStop};
-ghost use Rattle.lw_workers.specs.Machines.{KeepsRuns, IsReached, IsWithin};
-ghost use Rattle.lw_learn.specs.Calls.{MadeCalls, MadeWrites};
-ghost use Rattle.lw_learn.specs.Outcomes.{HasRole, IsLearnOutcome, IsLearnedOutcome, IsReachedOutcome, IsReadOutcome, IsTold, IsUngiven, IsUnread, IsUntroubled, IsWriteFault};
-ghost use Rattle.lw_learn.specs.Reading.{ReadsNoTable, ReadsTable, TellsFailed, TellsLong, TellsMachine, TellsNoTable, TellsTable};
-ghost use Rattle.lw_learn.specs.Writing.{HasNames, NothingFailed, StaysBesides, TakesInTurn, WritesFiles, WritesModel, WritesOut, inputs_of, line_of, outputs_of};
+ghost use Rattle.lw_report.specs.declared.role.Role.TheVariants.{Answers as AnswersRole, Model as ModelRole};
+ghost use Rattle.lw_learn.specs.Ending.{EndsLearned, IsToldOf, end_outputs};
+ghost use Rattle.lw_learn.specs.LearnRun.{IsLearnRun};
+ghost use Rattle.lw_learn.specs.Outcomes.{IsLearnedOutcome, IsTold};
+ghost use Rattle.lw_learn.specs.Tasks.{declared_of, letters_of};
+ghost use Rattle.lw_learn.specs.Unread.{names_read};
+ghost use Rattle.lw_learn.specs.Writing.{StaysBesides, TakesInTurn, WritesFiles, WritesOut};
+ghost use Rattle.lw_learn.specs.bodies.Ready.{IsReady};
 
 use crate::LearnArguments;
+use crate::learning::{Found, learn_system};
+use crate::naming::names_of;
+use crate::reading::{Unread, read_task};
+use crate::task::{System, Task};
 use crate::writing::tell_model;
+use lw_desk::OutNames;
 use lw_json::Machine;
 use lw_mealy::Mealy;
-use lw_outside::{Files, Sink};
-use lw_report::{End, ReadStop, Role, learn_outcome, read_machine_file, refuse};
-use lw_rounds::{Kind, Learned};
+use lw_outside::{Files, Sink, Spawner};
+use lw_report::{End, Outcome, learn_outcome, refuse, say};
+use lw_rounds::{LearnStop, Learned};
 use lw_table::ObservationTable;
-use lw_words::{Kept, Names};
-use lw_workers::{LearnedMachine, learn_machine};
+use lw_words::{Kept, Names, NoMemory};
 use std::alloc::Global;
 use std::sync::Wait;
 use std::thread::Threads;
-
-/// A model with the names of the table file.
-fn named(inputs: Names, outputs: Names, mealy: Mealy) -> Machine
-    requires inputs { (mealy.inputs ≡ length inputs) × (length inputs ≤ 64) }
-    requires outputs { mealy.outputs ≡ length outputs }
-    ensures inputs { result.inputs ≡ inputs }
-    ensures outputs { result.outputs ≡ outputs }
-    ensures mealy { result.mealy ≡ mealy }
-{
-    Machine {
-        inputs,
-        outputs,
-        mealy,
-    }
-}
-
-/// The end of a call that read no table.
-fn refuse_table<E: Sink>(alloc: Global, stop: ReadStop, extra: u8, err: &mut E) -> End
-    ensures outcome { StandsOrWants (read_outcome TableRole stop) result.outcome }
-    ensures status { result.status ≡ status_of result.outcome }
-    ensures model { result.model ≡ None }
-    ensures learner { IsWithoutLearner result }
-    ensures kept { result.kept.answers ≡ [] }
-    ensures said { ¬ CountedFault (E.faults err.old) (E.faults err.new) →
-        TakesAll (said_text None None [] extra result.outcome) (E.taken err.old) (E.taken err.new) }
-    ensures part { TakesSome (said_text None None [] extra result.outcome) (E.taken err.old)
-        (E.taken err.new) }
-    ensures counts { E.faults err.old ≤ E.faults err.new }
-{
-    refuse(
-        alloc,
-        stop.outcome(Role::Table),
-        None,
-        None,
-        Kept::new(alloc),
-        extra,
-        err,
-    )
-}
 
 /// Ends a call with its model, which is written out.
 fn write_out<F: Files, O: Sink, E: Sink>(
@@ -88,6 +46,7 @@ fn write_out<F: Files, O: Sink, E: Sink>(
     machine: Machine,
     table: ObservationTable,
     kept: Kept,
+    outputs: Option<OutNames>,
     files: &mut F,
     out: &mut O,
     err: &mut E,
@@ -99,6 +58,7 @@ fn write_out<F: Files, O: Sink, E: Sink>(
     ensures table { result.table ≡ Some table }
     ensures refinements { result.refinements ≡ table.refinements }
     ensures kept { result.kept ≡ kept }
+    ensures outputs { result.outputs ≡ outputs }
     ensures files { WritesFiles arguments.now machine kept.answers result.outcome
         (F.holds files.new) (F.calls files.old, F.calls files.new) }
     ensures out { WritesOut arguments.now.model (written_text machine) result.outcome
@@ -141,226 +101,347 @@ fn write_out<F: Files, O: Sink, E: Sink>(
         model: machine.mealy,
         table,
     };
-    End::with_model(outcome, learned, kept)
+    End::with_model(outcome, learned, kept, outputs)
 }
 
-/// What is learned of a machine, over so many instances of it.
-fn learned_of<R: Threads + Wait + Sync + Drop>(
-    rt: R,
-    alloc: Global,
-    arguments: &LearnArguments,
-    machine: &Machine,
-) -> LearnedMachine
-    ensures learned { IfOk result.learned (λ l. IsLearned (length machine.now.inputs)
-        (length machine.now.outputs) arguments.now.extra arguments.now.max_states
-        (answers_of result.kept.answers) l.model l.table) }
-    ensures stops { IfErr result.learned (StopsAs (length machine.now.inputs)
-        (length machine.now.outputs) arguments.now.extra arguments.now.max_states
-        (answers_of result.kept.answers)) }
-    ensures own { IfErr result.learned IsOwnStop }
-    ensures reached { (r : Rows) → IsWithin (length machine.now.inputs) arguments.now.extra
-        arguments.now.max_states r → Gives r (answers_of result.kept.answers) →
-        IsReached (length r) result.learned }
-    ensures kept { KeepsRuns machine.now.mealy arguments.now.workers result.kept.answers }
-    ensures over { AreKeptOver (length machine.now.inputs) (length machine.now.outputs)
-        result.kept.answers }
-    ensures words { AreAnswers (length machine.now.inputs) (answers_of result.kept.answers) }
+/// The names of outputs that an end has: of children that weren't declared only where something is kept.
+fn outputs_of(system: &System, kept: &Kept, names: OutNames) -> Option<OutNames>
+    ensures { result ≡ end_outputs (declared_of system.now) kept.now.answers names }
 {
-    learn_machine(
-        rt,
-        alloc,
-        &machine.mealy,
-        &machine.outputs,
-        arguments.workers(),
-        Kind::Table,
-        arguments.extra(),
-        arguments.max_states(),
-    )
+    if system.outputs().is_none() && kept.len() == 0 {
+        return None;
+    }
+    Some(names)
 }
 
-/// Learns a machine that was read of the table file, and ends the call.
-fn finish<R: Threads + Wait + Sync + Drop, F: Files, O: Sink, E: Sink>(
-    rt: R,
+/// A model with its names.
+fn named(system: &System, names: &OutNames, model: Mealy, alloc: Global) -> Result<Machine, Mealy>
+    requires inputs { model.inputs ≡ length (letters_of system.now) }
+    requires outputs { model.outputs ≡ length names.now.names }
+    requires few { length (letters_of system.now) ≤ 64 }
+    ensures inputs { IfOk result (λ m. m.inputs ≡ letters_of system.now) }
+    ensures outputs { IfOk result (λ m. m.outputs ≡ names.now.names) }
+    ensures mealy { IfOk result (λ m. m.mealy ≡ model) }
+    ensures back { IfErr result (λ m. m ≡ model) }
+{
+    match (system.inputs().copy(), names_of(alloc, names)) {
+        (Ok(inputs), Ok(outputs)) => Ok(Machine {
+            inputs,
+            outputs,
+            mealy: model,
+        }),
+        _ => Err(model),
+    }
+}
+
+/// Ends a call with its model, for whose texts there was no memory.
+fn leave_model<E: Sink>(
+    alloc: Global,
+    learned: Learned,
+    kept: Kept,
+    outputs: Option<OutNames>,
+    extra: u8,
+    err: &mut E,
+) -> End
+    ensures outcome { result.outcome ≡ Came.NoMemory }
+    ensures status { result.status ≡ status_of result.outcome }
+    ensures model { result.model ≡ Some learned.model }
+    ensures table { result.table ≡ Some learned.table }
+    ensures refinements { result.refinements ≡ learned.table.refinements }
+    ensures kept { result.kept ≡ kept }
+    ensures outputs { result.outputs ≡ outputs }
+    ensures said { ¬ CountedFault (E.faults err.old) (E.faults err.new) →
+        TakesAll (text_of [] [] [] 0 Came.NoMemory) (E.taken err.old) (E.taken err.new) }
+    ensures part { TakesSome (text_of [] [] [] 0 Came.NoMemory) (E.taken err.old)
+        (E.taken err.new) }
+    ensures counts { E.faults err.old ≤ E.faults err.new }
+{
+    let outcome = say(alloc, Outcome::NoMemory, None, None, &kept, extra, err);
+    End::with_model(outcome, learned, kept, outputs)
+}
+
+/// Ends a call that has learned a model, which is written out.
+fn end_model<F: Files, O: Sink, E: Sink>(
     alloc: Global,
     arguments: &LearnArguments,
-    machine: Machine,
+    system: &System,
+    learned: Learned,
+    kept: Kept,
+    names: OutNames,
     files: &mut F,
     out: &mut O,
     err: &mut E,
 ) -> End
-    ensures model { IfSome result.model (HasModel (length machine.inputs) (length machine.outputs)
-        arguments.now.extra arguments.now.max_states result) }
-    ensures without { result.model ≡ None → IsWithoutLearner result }
-    ensures told { (h : Model) (r : ℕ) → result.outcome ≡ Came.Learned h r →
-        (result.model ≡ Some h) × (result.refinements ≡ r) }
-    ensures quiet { IsLearnedOutcome result.outcome → (F.faults files.new ≡ F.faults files.old) ×
-        (O.faults out.new ≡ O.faults out.old) × (E.faults err.new ≡ E.faults err.old) }
+    requires few { length (letters_of system.now) ≤ 64 }
+    requires sizes { (learned.model.inputs ≡ length (letters_of system.now)) ×
+        (learned.model.outputs ≡ length names.names) }
+    requires over { AreKeptOver (length (letters_of system.now)) (length names.names)
+        kept.answers }
     ensures status { result.status ≡ status_of result.outcome }
-    ensures kept { KeepsRuns machine.mealy arguments.now.workers result.kept.answers }
-    ensures reached { (r : Rows) →
-        NothingFailed (F.faults files.old, F.faults files.new) (O.faults out.old, O.faults out.new)
-        (E.faults err.old, E.faults err.new) →
-        IsWithin (length machine.inputs) arguments.now.extra arguments.now.max_states r →
-        Gives r (answers_of result.kept.answers) → IsReachedOutcome (length r) result.outcome }
-    ensures written { IfSome result.model (WritesModel arguments.now result.kept.answers
-        result.outcome (F.holds files.new) (O.taken out.old, O.taken out.new)
-        (O.faults out.old, O.faults out.new) machine) }
-    ensures nothing { result.model ≡ None → (O.taken out.new ≡ O.taken out.old) ×
-        (F.holds files.new ≡ F.holds files.old) }
-    ensures beside { StaysBesides arguments.now.model arguments.now.answers (F.holds files.old)
-        (F.holds files.new) }
-    ensures said { ¬ CountedFault (E.faults err.old) (E.faults err.new) →
-        TakesAll (said_text (Some machine.inputs) (Some machine.outputs) result.kept.answers
-        arguments.now.extra result.outcome) (E.taken err.old) (E.taken err.new) }
-    ensures in_turn { TakesInTurn (line_of (Some machine) result.kept.answers arguments.now.extra
-        result.model result.refinements)
-        (said_text (Some machine.inputs) (Some machine.outputs) result.kept.answers
-        arguments.now.extra result.outcome) (E.taken err.old) (E.taken err.new) }
-    ensures kinds { IsReadOutcome arguments.now result.outcome }
-    ensures failed { (role : Part) → result.outcome ≡ Came.FileFault role →
-        CountedFault (F.faults files.old) (F.faults files.new) }
-    ensures sink_fault { result.outcome ≡ Came.SinkFault →
-        CountedFault (O.faults out.old) (O.faults out.new) ⊎
-        CountedFault (E.faults err.old) (E.faults err.new) }
-    ensures nothing_lost { IsWriteFault result.outcome → (h : Model) × (result.model ≡ Some h) }
-    ensures crowd { (apart : List (List ℕ)) → result.outcome ≡ Came.TooManyStates apart →
-        IsTooMany arguments.now.max_states (answers_of result.kept.answers) apart }
-    ensures suite { (states number : ℕ) → result.outcome ≡ Came.SuiteTooLarge states number →
-        HasLargeSuite (length machine.inputs) (length machine.outputs) arguments.now.extra
-        arguments.now.max_states (answers_of result.kept.answers) states number }
-    ensures reads { F.reads files.new ≡ F.reads files.old }
-    ensures writes { MadeWrites arguments.now result.outcome (F.calls files.old)
-        (F.calls files.new) }
-    ensures counts { (F.faults files.old ≤ F.faults files.new) ×
-        (O.faults out.old ≤ O.faults out.new) × (E.faults err.old ≤ E.faults err.new) }
+    ensures told { IsToldOf arguments.now system.now names (Ok learned) kept.answers
+        (files_state (F.holds files.old) (F.calls files.old) (F.reads files.old)
+        (F.faults files.old))
+        (files_state (F.holds files.new) (F.calls files.new) (F.reads files.new)
+        (F.faults files.new))
+        (sink_state (O.taken out.old) (O.faults out.old))
+        (sink_state (O.taken out.new) (O.faults out.new))
+        (sink_state (E.taken err.old) (E.faults err.old))
+        (sink_state (E.taken err.new) (E.faults err.new)) result }
 {
-    let LearnedMachine { learned, kept } = learned_of(rt, alloc, arguments, &machine);
-    let Machine {
-        inputs,
-        outputs,
-        ..
-    } = machine;
-    match learned {
-        Ok(Learned { model, table }) => {
-            let model = named(inputs, outputs, model);
-            write_out(alloc, arguments, model, table, kept, files, out, err)
-        }
-        Err(stop) => {
-            let (outcome, extra) = (learn_outcome(stop), arguments.extra());
-            let (inputs, outputs) = (Some(&inputs), Some(&outputs));
-            refuse(alloc, outcome, inputs, outputs, kept, extra, err)
+    let Learned { model, table } = learned;
+    let read = named(system, &names, model, alloc);
+    let outputs = outputs_of(system, &kept, names);
+    match read {
+        Ok(machine) => write_out(
+            alloc, arguments, machine, table, kept, outputs, files, out, err,
+        ),
+        Err(model) => {
+            let learned = Learned { model, table };
+            leave_model(alloc, learned, kept, outputs, arguments.extra(), err)
         }
     }
 }
 
-/// Learns the machine of a table file, over so many instances of it, and writes the model out. First the file is read; then the
-/// model file and the answers file are written, where they are named, the model's text to `out`, where no file is named for it,
-/// and a line about it to `err`. The text of every other outcome goes to `err`. May wait for a turn of its workers.
-pub fn learn<R: Threads + Wait + Sync + Drop, F: Files, O: Sink, E: Sink>(
-    rt: R,
+/// The names of outputs for a text: none where there are none.
+fn text_names(alloc: Global, names: &OutNames) -> Result<Option<Names>, NoMemory>
+    ensures { IfOk result (λ list. names_said list ≡ names.now.names) }
+{
+    if names.len() == 0 {
+        return Ok(None);
+    }
+    Ok(Some(names_of(alloc, names)?))
+}
+
+/// Ends a call whose learning stopped.
+fn end_stop<E: Sink>(
+    alloc: Global,
+    system: &System,
+    stop: LearnStop,
+    kept: Kept,
+    names: OutNames,
+    extra: u8,
+    err: &mut E,
+) -> End
+    ensures outcome { StandsOrWants (outcome_of stop) result.outcome }
+    ensures status { result.status ≡ status_of result.outcome }
+    ensures model { result.model ≡ None }
+    ensures learner { IsWithoutLearner result }
+    ensures kept { result.kept ≡ kept }
+    ensures outputs { result.outputs ≡ end_outputs (declared_of system.now) kept.answers names }
+    ensures said { ¬ CountedFault (E.faults err.old) (E.faults err.new) →
+        TakesAll (text_of (letters_of system.now) names.names kept.answers extra result.outcome)
+        (E.taken err.old) (E.taken err.new) }
+    ensures part { TakesSome (text_of (letters_of system.now) names.names kept.answers extra
+        result.outcome) (E.taken err.old) (E.taken err.new) }
+    ensures counts { E.faults err.old ≤ E.faults err.new }
+{
+    let texts = text_names(alloc, &names);
+    let outputs = outputs_of(system, &kept, names);
+    let inputs = Some(system.inputs());
+    match texts {
+        Ok(texts) => {
+            let outcome = learn_outcome(stop);
+            refuse(
+                alloc,
+                outcome,
+                inputs,
+                texts.as_ref(),
+                kept,
+                outputs,
+                extra,
+                err,
+            )
+        }
+        Err(NoMemory) => refuse(
+            alloc,
+            Outcome::NoMemory,
+            inputs,
+            None,
+            kept,
+            outputs,
+            extra,
+            err,
+        ),
+    }
+}
+
+/// Ends a call by what it learned, or by why it learned nothing.
+fn finish<F: Files, O: Sink, E: Sink>(
     alloc: Global,
     arguments: &LearnArguments,
+    system: &System,
+    found: Found,
     files: &mut F,
     out: &mut O,
     err: &mut E,
 ) -> End
-    // The model: what it is worth, and that the model that is told is the one that is handed back.
-    ensures model { IfSome result.model (λ h. (m : Named) ×
-        ReadsTable arguments.now.table (F.holds files.old) (F.reads files.old)
-        (F.reads files.new) m ×
-        HasModel (length m.inputs) (length m.outputs) arguments.now.extra arguments.now.max_states
-        result h) }
-    ensures without { result.model ≡ None → IsWithoutLearner result }
-    ensures told { (h : Model) (r : ℕ) → result.outcome ≡ Came.Learned h r →
-        (result.model ≡ Some h) × (result.refinements ≡ r) }
-    ensures quiet { IsLearnedOutcome result.outcome → (F.faults files.new ≡ F.faults files.old) ×
-        (O.faults out.new ≡ O.faults out.old) × (E.faults err.new ≡ E.faults err.old) }
+    requires few { length (letters_of system.now) ≤ 64 }
+    requires sizes { IfOk found.learned (λ l.
+        (l.model.inputs ≡ length (letters_of system.now)) ×
+        (l.model.outputs ≡ length found.names.names)) }
+    requires over { AreKeptOver (length (letters_of system.now)) (length found.names.names)
+        found.kept.answers }
     ensures status { result.status ≡ status_of result.outcome }
+    ensures told { IsToldOf arguments.now system.now found.names found.learned
+        found.kept.answers
+        (files_state (F.holds files.old) (F.calls files.old) (F.reads files.old)
+        (F.faults files.old))
+        (files_state (F.holds files.new) (F.calls files.new) (F.reads files.new)
+        (F.faults files.new))
+        (sink_state (O.taken out.old) (O.faults out.old))
+        (sink_state (O.taken out.new) (O.faults out.new))
+        (sink_state (E.taken err.old) (E.faults err.old))
+        (sink_state (E.taken err.new) (E.faults err.new)) result }
+{
+    let Found {
+        learned,
+        kept,
+        names,
+    } = found;
+    match learned {
+        Ok(learned) => end_model(
+            alloc, arguments, system, learned, kept, names, files, out, err,
+        ),
+        Err(stop) => end_stop(alloc, system, stop, kept, names, arguments.extra(), err),
+    }
+}
 
-    // The kept answers: none, or the runs of the instances of the machine whose file was read.
-    ensures kept { (result.kept.answers ≡ []) ⊎
-        ((m : Named) ×
-        ReadsTable arguments.now.table (F.holds files.old) (F.reads files.old)
-        (F.reads files.new) m ×
-        KeepsRuns m.mealy arguments.now.workers result.kept.answers) }
+/// Learns what was read, and ends the call.
+fn learn_read<R: Threads + Wait + Sync + Drop, F: Files, P: Spawner, O: Sink, E: Sink>(
+    rt: R,
+    alloc: Global,
+    arguments: &LearnArguments,
+    task: Task,
+    files: &mut F,
+    spawner: &mut P,
+    out: &mut O,
+    err: &mut E,
+) -> End
+    requires ready { IsReady task.system task.names task.cache }
+    ensures status { result.status ≡ status_of result.outcome }
+    ensures learned { EndsLearned arguments.now task.system task.cache.kept
+        (files_state (F.holds files.old) (F.calls files.old) (F.reads files.old)
+        (F.faults files.old))
+        (files_state (F.holds files.new) (F.calls files.new) (F.reads files.new)
+        (F.faults files.new))
+        (spawner_seen (P.faults spawner.old) (P.started spawner.old) (P.retired spawner.old)
+        (P.commands spawner.old))
+        (spawner_seen (P.faults spawner.new) (P.started spawner.new) (P.retired spawner.new)
+        (P.commands spawner.new))
+        (sink_state (O.taken out.old) (O.faults out.old))
+        (sink_state (O.taken out.new) (O.faults out.new))
+        (sink_state (E.taken err.old) (E.faults err.old))
+        (sink_state (E.taken err.new) (E.faults err.new)) result }
+{
+    let Task {
+        system,
+        names,
+        cache,
+    } = task;
+    let found = learn_system(rt, alloc, spawner, arguments, &system, names, cache);
+    finish(alloc, arguments, &system, found, files, out, err)
+}
 
-    // A model comes wherever the limits allow it, but that memory may run out.
-    ensures reached { (m : Named) (r : Rows) → TellsMachine (F.holds files.old) arguments.now.table m →
-        NothingFailed (F.faults files.old, F.faults files.new) (O.faults out.old, O.faults out.new)
-        (E.faults err.old, E.faults err.new) →
-        IsWithin (length m.inputs) arguments.now.extra arguments.now.max_states r →
-        Gives r (answers_of result.kept.answers) → IsReachedOutcome (length r) result.outcome }
+/// The declared names of outputs of a system that was read.
+fn read_names(alloc: Global, system: &Option<System>) -> Result<Option<OutNames>, NoMemory>
+    ensures { IfOk result (λ names. names ≡ names_read system.now) }
+{
+    let Some(system) = system else {
+        return Ok(None);
+    };
+    match system.outputs() {
+        Some(names) => Ok(Some(OutNames::declared(alloc, names)?)),
+        None => Ok(None),
+    }
+}
 
-    // What was written: by the outcome, to files and to `out`; nothing where there is no model.
-    ensures written { IfSome result.model (λ h. (m : Named) ×
-        ReadsTable arguments.now.table (F.holds files.old) (F.reads files.old)
-        (F.reads files.new) m ×
-        WritesModel arguments.now result.kept.answers result.outcome (F.holds files.new)
-        (O.taken out.old, O.taken out.new) (O.faults out.old, O.faults out.new) m h) }
-    ensures nothing { result.model ≡ None → (O.taken out.new ≡ O.taken out.old) ×
-        (F.holds files.new ≡ F.holds files.old) }
-    ensures beside { StaysBesides arguments.now.model arguments.now.answers (F.holds files.old)
-        (F.holds files.new) }
-    ensures said { ¬ CountedFault (E.faults err.old) (E.faults err.new) → (table : Option Named) ×
-        IfSome table (ReadsTable arguments.now.table (F.holds files.old) (F.reads files.old)
-        (F.reads files.new)) × HasNames result.outcome table ×
-        TakesAll (said_text (inputs_of table) (outputs_of table) result.kept.answers
-        arguments.now.extra result.outcome) (E.taken err.old) (E.taken err.new) }
-    ensures in_turn { (table : Option Named) ×
-        IfSome table (ReadsTable arguments.now.table (F.holds files.old) (F.reads files.old)
-        (F.reads files.new)) × HasNames result.outcome table ×
-        TakesInTurn (line_of table result.kept.answers arguments.now.extra result.model
-        result.refinements)
-        (said_text (inputs_of table) (outputs_of table) result.kept.answers arguments.now.extra
-        result.outcome) (E.taken err.old) (E.taken err.new) }
+/// The names of the letters of a system that was read.
+fn letters_read(system: &Option<System>) -> Option<&Names>
+    ensures { option_map (λ n. n.now) result ≡ option_map letters_of system.now }
+{
+    match system {
+        Some(system) => Some(system.inputs()),
+        None => None,
+    }
+}
 
-    // What each refusal comes from, and what of the outside it says.
-    ensures kinds { IsLearnOutcome result.outcome }
-    ensures bad_file { (role : Part) (fault : Fault) → result.outcome ≡ Came.BadFile role fault →
-        (role ≡ TableRole) ×
-        ReadsNoTable arguments.now.table (F.holds files.old) (F.reads files.old)
-        (F.reads files.new) fault }
-    ensures bad_file_told { TellsNoTable (F.holds files.old) arguments.now.table →
-        IsUnread result.outcome }
-    ensures too_long { (role : Part) → result.outcome ≡ Came.FileTooLong role →
-        (role ≡ TableRole) × HoldsLong (F.holds files.old) arguments.now.table ×
-        (F.reads files.new ≡ F.reads files.old) }
-    ensures too_long_told { TellsLong (F.holds files.old) arguments.now.table →
-        IsUngiven result.outcome }
-    ensures file_fault { (role : Part) → result.outcome ≡ Came.FileFault role →
-        HasRole arguments.now role × CountedFault (F.faults files.old) (F.faults files.new) }
-    ensures file_fault_unread { result.outcome ≡ Came.FileFault TableRole →
-        F.reads files.new ≡ F.reads files.old }
-    ensures file_fault_told { TellsFailed arguments.now.table (F.calls files.old)
-        (F.calls files.new) → result.outcome ≡ Came.FileFault TableRole }
-    ensures sink_fault { result.outcome ≡ Came.SinkFault →
-        CountedFault (O.faults out.old) (O.faults out.new) ⊎
-        CountedFault (E.faults err.old) (E.faults err.new) }
-    ensures nothing_lost { IsWriteFault result.outcome → (h : Model) × (result.model ≡ Some h) }
-    ensures crowd { (apart : List (List ℕ)) → result.outcome ≡ Came.TooManyStates apart →
-        IsTooMany arguments.now.max_states (answers_of result.kept.answers) apart }
-    ensures suite { (states number : ℕ) → result.outcome ≡ Came.SuiteTooLarge states number →
-        (m : Named) ×
-        ReadsTable arguments.now.table (F.holds files.old) (F.reads files.old)
-        (F.reads files.new) m ×
-        HasLargeSuite (length m.inputs) (length m.outputs) arguments.now.extra
-        arguments.now.max_states (answers_of result.kept.answers) states number }
-    ensures untroubled { TellsTable (F.holds files.old) arguments.now.table →
-        NothingFailed (F.faults files.old, F.faults files.new) (O.faults out.old, O.faults out.new)
-        (E.faults err.old, E.faults err.new) → IsUntroubled result.outcome }
+/// The names of the outputs of a system that was read and declares them.
+fn outputs_read(system: &Option<System>) -> Option<&Names>
+    ensures { option_map (λ n. n.now) result ≡ option_and_then declared_of system.now }
+{
+    match system {
+        Some(system) => system.outputs(),
+        None => None,
+    }
+}
 
-    // The calls on the files: the read of the table file, then the writes, up to the one that ends the run.
-    ensures reads { (F.reads files.new ≡ F.reads files.old) ⊎
-        ((bytes : List ℕ) × WasRead (F.holds files.old) (F.reads files.old) (F.reads files.new)
-        arguments.now.table bytes) }
-    ensures calls { MadeCalls arguments.now result.outcome (F.calls files.old) (F.calls files.new) }
+/// Ends a call that began no learning.
+fn end_unread<E: Sink>(alloc: Global, unread: Unread, extra: u8, err: &mut E) -> End
+    ensures outcome { (result.outcome ≡ unread.outcome) ⊎ (result.outcome ≡ Came.NoMemory) }
+    ensures status { result.status ≡ status_of result.outcome }
+    ensures model { result.model ≡ None }
+    ensures learner { IsWithoutLearner result }
+    ensures kept { (result.kept ≡ unread.kept) ⊎
+        ((result.outcome ≡ Came.NoMemory) × (result.kept.answers ≡ [])) }
+    ensures outputs { (result.outputs ≡ names_read unread.system) ⊎
+        ((result.outcome ≡ Came.NoMemory) × (result.outputs ≡ None)) }
+    ensures said { ¬ CountedFault (E.faults err.old) (E.faults err.new) →
+        TakesAll (said_text (option_map letters_of unread.system)
+        (option_and_then declared_of unread.system) result.kept.answers extra result.outcome)
+        (E.taken err.old) (E.taken err.new) }
+    ensures part { TakesSome (said_text (option_map letters_of unread.system)
+        (option_and_then declared_of unread.system) result.kept.answers extra result.outcome)
+        (E.taken err.old) (E.taken err.new) }
+    ensures counts { E.faults err.old ≤ E.faults err.new }
+{
+    let Ok(outputs) = read_names(alloc, &unread.system) else {
+        let kept = Kept::new(alloc);
+        return refuse(alloc, Outcome::NoMemory, None, None, kept, None, extra, err);
+    };
+    let Unread {
+        outcome,
+        system,
+        kept,
+    } = unread;
+    let inputs = letters_read(&system);
+    let names = outputs_read(&system);
+    refuse(alloc, outcome, inputs, names, kept, outputs, extra, err)
+}
 
+/// Learns a system. First the files are read that say what it is: a setup or a table file, the table file that a setup names, and
+/// the file of prior answers, where one is named. Then the system is learned, over so many instances: of a table's machine, or
+/// children that a setup's command starts, and that are all ended again, whatever comes. Then the model file and the answers file
+/// are written, where they are named, the model's text to `out`, where no file is named for it, and a line about it to `err`. The
+/// text of every other outcome goes to `err`. May wait for a child, and for a turn of its workers.
+pub fn learn<R: Threads + Wait + Sync + Drop, F: Files, P: Spawner, O: Sink, E: Sink>(
+    rt: R,
+    alloc: Global,
+    arguments: &LearnArguments,
+    files: &mut F,
+    spawner: &mut P,
+    out: &mut O,
+    err: &mut E,
+) -> End
+    ensures status { result.status ≡ status_of result.outcome }
+    ensures run { IsLearnRun arguments.now
+        (files_state (F.holds files.old) (F.calls files.old) (F.reads files.old)
+        (F.faults files.old))
+        (files_state (F.holds files.new) (F.calls files.new) (F.reads files.new)
+        (F.faults files.new))
+        (spawner_seen (P.faults spawner.old) (P.started spawner.old) (P.retired spawner.old)
+        (P.commands spawner.old))
+        (spawner_seen (P.faults spawner.new) (P.started spawner.new) (P.retired spawner.new)
+        (P.commands spawner.new))
+        (sink_state (O.taken out.old) (O.faults out.old))
+        (sink_state (O.taken out.new) (O.faults out.new))
+        (sink_state (E.taken err.old) (E.faults err.old))
+        (sink_state (E.taken err.new) (E.faults err.new)) result }
     // No count of faults falls.
     ensures counts { (F.faults files.old ≤ F.faults files.new) ×
         (O.faults out.old ≤ O.faults out.new) × (E.faults err.old ≤ E.faults err.new) }
 {
-    match read_machine_file(alloc, files, arguments.table()) {
-        Ok(machine) => finish(rt, alloc, arguments, machine, files, out, err),
-        Err(stop) => refuse_table(alloc, stop, arguments.extra(), err),
+    match read_task(alloc, arguments, files) {
+        Ok(task) => learn_read(rt, alloc, arguments, task, files, spawner, out, err),
+        Err(unread) => end_unread(alloc, unread, arguments.extra(), err),
     }
 }

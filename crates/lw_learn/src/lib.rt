@@ -1,12 +1,19 @@
-//! The command `learn`, over the files and streams that it is handed.
+//! The command `learn`, over the files, streams and children that it is handed.
 #![tactic(auto)]
 
 mod arguments;
 mod command;
+mod laws;
+mod learning;
+mod naming;
+mod reading;
+mod task;
 mod writing;
 
-pub use arguments::LearnArguments;
+pub use arguments::{LearnArguments, Source};
 pub use command::learn;
+pub use laws::{bad_is_refused, told_is_learned};
+pub use task::System;
 
 #[cfg(test)]
 mod tests;

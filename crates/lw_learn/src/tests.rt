@@ -1,8 +1,8 @@
 //! What no clause says: that the calls succeed.
 ghost use Rattle.std.specs.Prelude.{◌≤◌};
 
-use crate::{LearnArguments, learn};
-use lw_outside::{MemoryFiles, MemorySink};
+use crate::{LearnArguments, Source, bad_is_refused, learn, told_is_learned};
+use lw_outside::{MemoryFiles, MemorySink, MemorySpawner};
 use lw_report::{End, Outcome};
 use std::alloc::Global;
 use std::sync::Wait;
@@ -12,6 +12,9 @@ use std::thread::Threads;
 const TWO: &str =
     "{\"inputs\":[\"t\"],\"outputs\":[\"0\",\"1\"],\"states\":[[[1,\"0\"]],[[0,\"1\"]]]}";
 
+/// A child with one letter, whose outputs aren't declared.
+const CHILD: &str = "{\"command\":[\"child\"],\"inputs\":[\"t\"]}";
+
 /// The file `m` of this text.
 fn files_of(alloc: Global, text: &str) -> Result<MemoryFiles, Fail> {
     let mut files = Vec::new(alloc);
@@ -20,6 +23,12 @@ fn files_of(alloc: Global, text: &str) -> Result<MemoryFiles, Fail> {
         Vec::from_slice(alloc, text.as_bytes())?,
     ))?;
     Ok(MemoryFiles::new(alloc, files, Vec::new(alloc))?)
+}
+
+/// A spawner that starts no child.
+fn no_children(alloc: Global) -> Result<MemorySpawner, Fail> {
+    let (scripts, links) = (Vec::new(alloc), Vec::new(alloc));
+    Ok(MemorySpawner::scripted(alloc, scripts, 0, Vec::new(alloc), links)?)
 }
 
 fn sink(alloc: Global) -> Result<MemorySink, Fail> {
@@ -38,8 +47,61 @@ fn limited<R: Threads + Wait + Sync + Drop>(
 {
     let mut files = files_of(alloc, TWO)?;
     let table = String::from_str(alloc, "m")?;
-    let arguments = LearnArguments::new(table, 2, 1, max_states, None, None);
-    Ok(learn(rt, alloc, &arguments, &mut files, out, err))
+    let arguments = LearnArguments::new(Source::Table, table, 2, 1, max_states, None, None, None);
+    let mut children = no_children(alloc)?;
+    Ok(learn(rt, alloc, &arguments, &mut files, &mut children, out, err))
+}
+
+/// What a learning of the setup `m`, of children that say what is listed, comes to.
+fn told<R: Threads + Wait + Sync + Drop>(
+    rt: R,
+    alloc: Global,
+    script: &str,
+    out: &mut MemorySink,
+    err: &mut MemorySink,
+) -> Result<(End, usize), Fail> {
+    let mut files = files_of(alloc, CHILD)?;
+    let mut scripts = Vec::new(alloc);
+    scripts.push(Vec::from_slice(alloc, script.as_bytes())?)?;
+    let (plan, links) = (Vec::new(alloc), Vec::new(alloc));
+    let mut children = MemorySpawner::scripted(alloc, scripts, 4096, plan, links)?;
+    let setup = String::from_str(alloc, "m")?;
+    let arguments = LearnArguments::new(Source::Setup, setup, 1, 0, 8, None, None, None);
+    let end = learn(rt, alloc, &arguments, &mut files, &mut children, out, err);
+    let retired = children.retired().len();
+    Ok((end, retired))
+}
+
+#[test]
+fn laws_have_no_code(_: HostRuntime) -> Result<(), Fail> {
+    told_is_learned();
+    bad_is_refused();
+    Ok(())
+}
+
+#[test]
+fn a_child_is_learned(rt: HostRuntime) -> Result<(), Fail> {
+    let alloc = rt.alloc();
+    let mut out = sink(alloc)?;
+    let mut err = sink(alloc)?;
+    let (end, retired) = told(rt, alloc, "ready\nout z\nout z\n", &mut out, &mut err)?;
+    assert!(rt; matches!(end.outcome, Outcome::Learned { refinements: 0, .. }));
+    assert!(rt; end.outputs.is_some() && end.kept.len() == 1 && retired == 1);
+    let model = "{\"inputs\":[\"t\"],\"outputs\":[\"z\"],\"states\":[[[0,\"z\"]]]}\n";
+    assert_eq!(rt; out.taken(), model.as_bytes());
+    Ok(())
+}
+
+#[test]
+fn a_child_ends_early(rt: HostRuntime) -> Result<(), Fail> {
+    let alloc = rt.alloc();
+    let mut out = sink(alloc)?;
+    let mut err = sink(alloc)?;
+    let (end, retired) = told(rt, alloc, "ready\nout z\n", &mut out, &mut err)?;
+    assert!(rt; matches!(end.outcome, Outcome::Gone(0)));
+    assert!(rt; end.model.is_none() && end.outputs.is_none() && retired == 1);
+    assert_eq!(rt; err.taken(), "system ended: instance 0\n".as_bytes());
+    Ok(())
 }
 
 #[test]

@@ -6,3 +6,4 @@ pub mod Playing
 pub mod Spelling
 pub mod Splitting
 pub mod Standing
+pub mod Telling

@@ -1,5 +1,5 @@
 -- Numbers of names in a list that gains one.
-use Rattle.std.proofs.Common.{◌≡◌, ◌≢◌, inl, inr, ℕ, ◌+◌, ◌<◌, ◌≤◌, List, [], ◌∷◌, ◌++◌, codes, length, get_or, take, drop, Contains, Bool, true, cond, Option, Some, None, option_and_then, refl, ap, sym, ◌∙◌, subst, arith, length-append}
+use Rattle.std.proofs.Common.{◌≡◌, ◌≢◌, inl, inr, ℕ, ◌+◌, ◌<◌, ◌≤◌, List, [], ◌∷◌, ◌++◌, codes, length, get_or, take, drop, Contains, Bool, true, false, cond, Option, Some, None, option_and_then, refl, ap, sym, ◌∙◌, subst, arith, length-append}
 use Rattle.std.specs.List.{All}
 use Rattle.std.specs.Str.{IsUtf8}
 use Rattle.std.proofs.lemmas.Str.{IsUtf8-from_ascii}
@@ -95,6 +95,21 @@ pub starts_so : (front answer rest : List ℕ) → bytes_eq (take (length front)
 starts_so front answer rest begins is =
     sym (take-append-drop (length front) answer)
     ∙ (ap (λ (l : List ℕ). l ++ drop (length front) answer) ((bytes_eq-Decides (take (length front) answer) front).0 begins) ∙ ap (λ (l : List ℕ). front ++ l) (sym is))
+
+-- an answer whose name has a number names an output
+pub has_named : (names : List (List ℕ)) (answer : List ℕ) (y : ℕ) → number_behind (codes "out ") names answer ≡ Some y → (name : List ℕ) × (answer ≡ out_line name) × (number_of name names ≡ Some y)
+has_named names answer y is =
+    by (bytes_eq (take (length (codes "out ")) answer) (codes "out ")) refl is
+  where
+    by : (b : Bool) → bytes_eq (take (length (codes "out ")) answer) (codes "out ") ≡ b → option_and_then (λ name. number_of name names) (cond b (Some (drop (length (codes "out ")) answer)) None) ≡ Some y → (name : List ℕ) × (answer ≡ out_line name) × (number_of name names ≡ Some y)
+    by true begins is = (drop (length (codes "out ")) answer, starts_so (codes "out ") answer (drop (length (codes "out ")) answer) begins refl, is)
+    by false begins is = cc
+
+-- the name that an answer brought is the one that it names
+pub brought_is : (before now : List (List ℕ)) (y : ℕ) (n name : List ℕ) → y ≡ length before → now ≡ before ++ n ∷ [] → number_of name now ≡ Some y → name ≡ n
+brought_is before now y n name is grown number =
+    let at = name_at_number name now y number in
+    sym (get_or_from_slice_get now y name name at) ∙ (ap (λ (l : List (List ℕ)). get_or l y name) grown ∙ get_or_push before n name y (sym is))
 
 -- an answer that names no output
 pub names_no_output : (names : List (List ℕ)) (most : ℕ) (answer rest : List ℕ) → AreNamed most names → behind (codes "out ") answer ≡ Some rest → ¬ IsName rest → NamesNone names most answer

@@ -1,5 +1,5 @@
 -- Bytes, and the lines that they have.
-use Rattle.std.proofs.Common.{◌≡◌, ◌≢◌, ℕ, ◌==◌, List, [], ◌∷◌, ◌++◌, Bool, false, cond, refl, ap, sym, ◌∙◌, arith, append_assoc}
+use Rattle.std.proofs.Common.{◌≡◌, ◌≢◌, ℕ, ◌==◌, List, [], ◌∷◌, ◌++◌, Bool, true, false, cond, refl, ap, sym, ◌∙◌, arith, append_assoc}
 use Rattle.std.specs.List.{All}
 use Rattle.std.proofs.lemmas.Bool.Decides.{Decides-eqb}
 use Rattle.std.proofs.lemmas.Bool.{false_from_ne_true}
@@ -61,6 +61,20 @@ split_ended ls plain = ap split_bytes (sym (append-nil (ended_lines ls))) ∙ sp
   where
     nothing : NoFeed []
     nothing k d lt = absurd (omega arith)
+
+-- bytes begin with the lines that the first of them have
+led_front : (b : ℕ) (ls ms : List (List ℕ)) (rest rest' : List ℕ) → (more : List (List ℕ)) × (ms ≡ ls ++ more) → (more : List (List ℕ)) × ((led_by b ms rest').lines ≡ (led_by b ls rest).lines ++ more)
+led_front b [] ms rest rest' h = ((led_by b ms rest').lines, refl)
+led_front b (l ∷ ls) ms rest rest' h = (h.0, ap (λ (xs : List (List ℕ)). (led_by b xs rest').lines) h.1)
+
+pub lines_front : (bs more : List ℕ) → (ls : List (List ℕ)) × (lines_of (bs ++ more) ≡ lines_of bs ++ ls)
+lines_front [] more = (lines_of more, refl)
+lines_front (b ∷ bs) more = by (b == 10) (lines_front bs more)
+  where
+    by : (is : Bool) → (ls : List (List ℕ)) × (lines_of (bs ++ more) ≡ lines_of bs ++ ls)
+        → (ls : List (List ℕ)) × ((under is (split ([] ∷ lines_of (bs ++ more)) (rest_of (bs ++ more))) (led_by b (lines_of (bs ++ more)) (rest_of (bs ++ more)))).lines ≡ (under is (split ([] ∷ lines_of bs) (rest_of bs)) (led_by b (lines_of bs) (rest_of bs))).lines ++ ls)
+    by true h = (h.0, ap (λ (xs : List (List ℕ)). [] ∷ xs) h.1)
+    by false h = led_front b (lines_of bs) (lines_of (bs ++ more)) (rest_of bs) (rest_of (bs ++ more)) h
 
 -- one line more
 pub ended_push : (ls : List (List ℕ)) (l : List ℕ) → ended_lines (ls ++ l ∷ []) ≡ ended_lines ls ++ (l ++ 10 ∷ [])

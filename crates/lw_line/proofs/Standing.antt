@@ -103,6 +103,31 @@ module _ (inputs names : List (List ℕ)) (started : Bool) (held : List ℕ) (t 
       let same : length live.lines ≡ length live.answers = live_length in
       proper inputs faults t live.lines [] (live.answers ++ lines_of held) (rest_of held) live_sees live.each (begins started live.lines live.begins) (omega arith) (λ some. absurd (some refl))
 
+  -- what was received, by all that came
+  pub came : (more bytes : List ℕ) → held ++ more ≡ bytes → t.received ++ more ≡ ended_lines live.answers ++ bytes
+  came more bytes is =
+      ap (λ (l : List ℕ). l ++ more) live.received
+      ∙ (append_assoc (ended_lines live.answers) held more ∙ ap (λ (l : List ℕ). ended_lines live.answers ++ l) is)
+
+  pub came_line : (more raw now : List ℕ) → held ++ more ≡ raw ++ 10 ∷ now → t.received ++ more ≡ ended_lines (live.answers ++ raw ∷ []) ++ now
+  came_line more raw now is =
+      came more (raw ++ 10 ∷ now) is
+      ∙ sym (ap (λ (l : List ℕ). l ++ now) (ended_push live.answers raw)
+      ∙ (append_assoc (ended_lines live.answers) (raw ++ 10 ∷ []) now ∙ ap (λ (l : List ℕ). ended_lines live.answers ++ l) (append_assoc raw (10 ∷ []) now)))
+
+  -- an answer is one of the lines that were received
+  pub is_among : (more raw now : List ℕ) → NoFeed raw → held ++ more ≡ raw ++ 10 ∷ now → slice_get (lines_of (t.received ++ more)) (length live.answers) ≡ Some raw
+  is_among more raw now plain is =
+      let all : List (List ℕ) = live.answers ++ raw ∷ lines_of now in
+      let long : length all ≡ length live.answers + length (raw ∷ lines_of now) = length-append live.answers (raw ∷ lines_of now) in
+      let sees : split_bytes (t.received ++ more) ≡ split all (rest_of now) =
+      ap split_bytes (came_line more raw now is)
+      ∙ (split_lines (live.answers ++ raw ∷ []) now (All-push NoFeed live.answers raw live.plain_answers plain)
+      ∙ ap (λ (l : List (List ℕ)). split l (rest_of now)) (append_assoc live.answers (raw ∷ []) (lines_of now))) in
+      ap (λ (s : Split). slice_get s.lines (length live.answers)) sees
+      ∙ (slice_get-get_or all (length live.answers) [] (omega arith)
+      ∙ ap (λ (l : List ℕ). Some l) (get_or_at live.answers raw (lines_of now) [] (length live.answers) refl))
+
   module _ (line : List ℕ) (plain : NoFeed line) (is_line : IsSentLine inputs line) (well : (started ≡ true) ⊎ (line ≡ reset_line)) where
     pub lines_more : All (IsSentLine inputs) (live.lines ++ line ∷ [])
     lines_more = All-push (IsSentLine inputs) live.lines line live.each is_line
@@ -125,18 +150,6 @@ module _ (inputs names : List (List ℕ)) (started : Bool) (held : List ℕ) (t 
         ap (λ (s : Split). length s.lines) sent
         ∙ (length-append live.lines (line ∷ [])
         ∙ ap (λ (n : ℕ). n + 1) (live_covered ∙ ap (λ (rs : List Run). lines_in rs) (sym same)))
-
-    -- what was received, by all that came
-    pub came : (more bytes : List ℕ) → held ++ more ≡ bytes → t.received ++ more ≡ ended_lines live.answers ++ bytes
-    came more bytes is =
-        ap (λ (l : List ℕ). l ++ more) live.received
-        ∙ (append_assoc (ended_lines live.answers) held more ∙ ap (λ (l : List ℕ). ended_lines live.answers ++ l) is)
-
-    pub came_line : (more raw now : List ℕ) → held ++ more ≡ raw ++ 10 ∷ now → t.received ++ more ≡ ended_lines (live.answers ++ raw ∷ []) ++ now
-    came_line more raw now is =
-        came more (raw ++ 10 ∷ now) is
-        ∙ sym (ap (λ (l : List ℕ). l ++ now) (ended_push live.answers raw)
-        ∙ (append_assoc (ended_lines live.answers) (raw ++ 10 ∷ []) now ∙ ap (λ (l : List ℕ). ended_lines live.answers ++ l) (append_assoc raw (10 ∷ []) now)))
 
     -- a good answer
     pub good : (after : List (List ℕ)) (now answer : List ℕ) (next : List Run → List Run) → ((rs : List Run) → Spells inputs names [] live.lines live.answers rs → Spells inputs after [] live.lines live.answers rs)
@@ -271,7 +284,7 @@ module _ (inputs names : List (List ℕ)) (started : Bool) (held : List ℕ) (t 
       let sees : Sees u (live.lines ++ line ∷ []) [] early' (rest_of now) = record {
         sent = ap split_bytes (sent_more inputs names started held t live line plain is_line well) ∙ split_ended (live.lines ++ line ∷ []) (plain_more inputs names started held t live line plain is_line well);
         received =
-            ap split_bytes (came_line inputs names started held t live line plain is_line well c.more raw now c.whole)
+            ap split_bytes (came_line inputs names started held t live c.more raw now c.whole)
             ∙ (split_lines (live.answers ++ raw ∷ []) now (All-push NoFeed live.answers raw live.plain_answers h.received.plain)
             ∙ ap (λ (l : List (List ℕ)). split l (rest_of now)) assoc);
       } in (

@@ -1,5 +1,6 @@
 -- Why a child system stopped.
 use Rattle.std.specs.Prelude.{◌≡◌, ◌≢◌, ◌⊎◌, ℕ, ◌+◌, List, [], ◌∷◌, ◌++◌, length, slice_get, Contains, Option, Some, None}
+use Rattle.std.specs.List.{All}
 use Rattle.std.specs.Str.Lines.{strip_carriage_return}
 use Rattle.lw_words.specs.Cause.{CountedFault}
 use Rattle.lw_words.specs.Name.{IsName}
@@ -17,6 +18,15 @@ IsFormed sent answer = ((sent ≡ reset_line) × (answer ≡ ready_line)) ⊎ ((
 -- an answer names an output that isn't in the list, which may have no more names
 abbrev pub IsUnknown : List (List ℕ) → ℕ → List ℕ → Type 0
 IsUnknown names most answer = (name : List ℕ) × IsName name × (answer ≡ out_line name) × (¬ Contains names name) × (length names ≡ most)
+
+-- an answer named this output
+abbrev pub IsToldName : Transcript → List ℕ → Type 0
+IsToldName t name = (i : ℕ) × ((raw : List ℕ) × (slice_get (lines_of t.received) i ≡ Some raw) × (strip_carriage_return raw ≡ out_line name))
+
+-- where it is told what went over a link, answers named all of these outputs
+abbrev pub AreTold : List (List ℕ) → Option Transcript → Type 0
+AreTold names None = Unit {0}
+AreTold names (Some t) = All (IsToldName t) names
 
 abbrev pub IsBadAnswer : List (List ℕ) → ℕ → (sent answer : List ℕ) → Type 0
 IsBadAnswer names most sent answer = (¬ IsFormed sent answer) ⊎ IsUnknown names most answer

@@ -3,6 +3,7 @@ use Rattle.std.specs.Prelude.{◌≡◌, ◌⊎◌, ℕ, List, length, Bool, Opt
 use Rattle.lw_words.specs.declared.stop.SulStop.{SulStop}
 use Rattle.lw_sul.specs.declared.runs.Run.{Run}
 use Rattle.lw_outside.specs.Links.{Transcript}
+use Rattle.lw_line.specs.Causes.{AreTold}
 use Rattle.lw_line.specs.Transcripts.{spelled}
 
 pub record LineState (L : Type 0) : Type 0 where
@@ -19,6 +20,14 @@ pub record LineState (L : Type 0) : Type 0 where
 abbrev pub told_runs : (letters names : List (List ℕ)) → Option Transcript → Option (List Run)
 told_runs letters names transcript = option_map (spelled letters names) transcript
 
--- names that may become 256, under numbers below 4,096; or declared ones, under their places
+-- names that weren't declared: they may become 256, under numbers below 4,096
+abbrev pub AreFree : ℕ → ℕ → Type 0
+AreFree most outputs = (most ≡ 256) × (outputs ≡ 4096)
+
+-- such names; or declared ones, under their places
 abbrev pub IsNaming : List (List ℕ) → ℕ → ℕ → Type 0
-IsNaming names most outputs = ((most ≡ 256) × (outputs ≡ 4096)) ⊎ ((most ≡ length names) × (outputs ≡ length names))
+IsNaming names most outputs = AreFree most outputs ⊎ ((most ≡ length names) × (outputs ≡ length names))
+
+-- names that weren't declared were told over the link
+abbrev pub AreToldIfFree : List (List ℕ) → ℕ → ℕ → Option Transcript → Type 0
+AreToldIfFree names most outputs told = AreFree most outputs → AreTold names told

@@ -2,7 +2,7 @@
 ghost use Rattle.std.specs.Prelude.{◌≡◌, [], length, IfOk, IfErr, None, false};
 ghost use Rattle.lw_outside.specs.Links.{IsUntouched};
 ghost use Rattle.lw_line.specs.Causes.{IsCounted, IsTranscriptOf};
-ghost use Rattle.lw_line.specs.LineState.{IsNaming, told_runs};
+ghost use Rattle.lw_line.specs.LineState.{AreToldIfFree, IsNaming, told_runs};
 ghost use Rattle.lw_sul.specs.SessionState.{NoRuns};
 
 use crate::exchange::{ask, start};
@@ -28,14 +28,15 @@ pub struct LineSul<L: Link> {
 }
 
 impl<L: Link> Model for LineSul<L> {
-    ghost use Rattle.lw_line.specs.LineState.{LineState};
+    ghost use Rattle.lw_line.specs.LineState.{AreToldIfFree, LineState};
     ghost use Rattle.lw_line.specs.bodies.Standing.{Stands};
 
     ghost Value = { LineState L };
 
     ghost view = { λ s. record { link = s.link; letters = s.letters; names = s.outputs.names; most = s.outputs.most; outputs = s.outputs.range; started = s.started; stop = s.stop; cut = s.cut } };
 
-    ghost invariant = { λ s. Stands s.letters s.outputs.names s.outputs.most (L.faults s.link) (L.ends s.link) s.started s.inbox s.stop (L.transcript s.link) };
+    ghost invariant = { λ s. Stands s.letters s.outputs.names s.outputs.most (L.faults s.link) (L.ends s.link) s.started s.inbox s.stop (L.transcript s.link)
+        × AreToldIfFree s.outputs.names s.outputs.most s.outputs.range (L.transcript s.link) };
 }
 
 impl<L: Link> LineSul<L> {
@@ -103,6 +104,8 @@ impl<L: Link> LineSul<L> {
         ensures told { IsTranscriptOf self.letters self.names self.most (L.faults self.link)
             self.stop (L.transcript self.link) }
         ensures naming { IsNaming self.names self.most self.outputs }
+        ensures told_names { AreToldIfFree self.names self.most self.outputs
+            (L.transcript self.link) }
     {
         self.outputs.tells_naming();
         let LineSul {

@@ -1,9 +1,11 @@
-//! The program: makes the real files and streams, calls the top call, and ends with its status.
+//! The program: makes the real files and streams and what starts children, calls the top call, and ends with its status.
 #![tactic(auto)]
 
 mod adapters;
+mod children;
 
 use adapters::{Input, RealFiles, Stream};
+use children::RealSpawner;
 use lw_top::{run, without_arguments};
 use std::alloc::Global;
 use std::io::ErrorKind;
@@ -33,6 +35,7 @@ fn main(rt: HostRuntime) -> ExitCode {
             alloc,
             &arguments,
             &mut RealFiles::new(rt),
+            &mut RealSpawner::new(rt),
             &mut Input::new(rt.stdin()),
             &mut out,
             &mut err,

@@ -1,4 +1,6 @@
 //! The adapters of streams, over readers in memory and one that fails.
+mod children;
+
 use crate::adapters::Input;
 use lw_outside::{Failed, Source};
 use std::io::{self, ErrorKind, Read};

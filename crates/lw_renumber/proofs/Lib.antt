@@ -1,10 +1,10 @@
 mod ClashLemmas
 pub mod LawLemmas
 mod LearnedLemmas
-mod MachineLemmas
+pub mod MachineLemmas
 mod NumberLemmas
 pub mod OccurLemmas
 mod SortLemmas
 mod SuiteLemmas
-mod SureLemmas
+pub mod SureLemmas
 mod TestDesks

@@ -12,10 +12,25 @@ use Rattle.lw_separate.specs.Canonical.{IsCanonical}
 use Rattle.lw_rounds.specs.Learned.{IsCertified, IsReadOff, IsTooLarge}
 use Rattle.lw_rounds.specs.declared.stops.LearnStop.{LearnStop}
 use Rattle.lw_rounds.specs.declared.stops.LearnStop.TheVariants as learn
+use Rattle.lw_renumber.specs.Renaming.{Renames, renamed_answers, renamed_rows}
 use Rattle.lw_table.specs.Table.{TableState}
 use Rattle.lw_report.specs.declared.«end».End.{End}
 use Rattle.lw_report.specs.declared.outcome.Outcome.{Outcome}
 use Rattle.lw_report.specs.declared.outcome.Outcome.TheVariants.{Nondeterministic, NoMemory, SulFailed, Gone, BadLine, TooManyStates, SuiteTooLarge}
+
+-- the table is closed, the rows are the canonical form of its machine, and its access words are a crowd of as many words; all
+-- but that the outputs of the rows and of the answers may have got other numbers since, by f, which g takes back: before that
+-- there were so many
+pub record IsReadOffAs (a most : ℕ) (ks : List Answer) (rows : Rows) (table : TableState) : Type 0 where
+  pub own_rows : Rows
+  pub own_answers : List Answer
+  pub count : ℕ
+  pub f : ℕ → ℕ
+  pub g : ℕ → ℕ
+  pub renames : Renames f g
+  pub rows_are : rows ≡ renamed_rows f own_rows
+  pub answers_are : ks ≡ renamed_answers f own_answers
+  pub read_off : IsReadOff a count most own_answers own_rows table
 
 -- the end has this model, and the kept answers fix it
 pub record HasModel (a b k most : ℕ) (end : End) (h : MealyMachine) : Type 0 where
@@ -29,7 +44,7 @@ pub record HasModel (a b k most : ℕ) (end : End) (h : MealyMachine) : Type 0 w
   -- the closed table that it is read off is carried, and the refinements are those of the table, fewer than the states
   pub table : TableState
   pub carried : end.table ≡ Some table
-  pub read_off : IsReadOff a b most (answers_of end.kept.answers) h.rows table
+  pub read_off : IsReadOffAs a most (answers_of end.kept.answers) h.rows table
   pub counted : end.refinements ≡ table.refinements
 
 -- so many states is the least number of a machine that gives the answers, and its suite, of this size, is too large

@@ -48,7 +48,7 @@ crowd_lines names words = (codes "too many states: " ++ (decimal (length words) 
 
 abbrev pub usage_lines : List ℕ
 usage_lines =
-    codes "usage: learn (SETUP | --table FILE) [--workers N] [--extra K] [--learner table|ttt] [--max-states N] [--model FILE] [--answers FILE]\n"
+    codes "usage: learn (SETUP | --table FILE) [--workers N] [--extra K] [--learner table|ttt] [--max-states N] [--model FILE] [--answers FILE] [--prior FILE]\n"
     ++ (codes "       check MODEL ANSWERS [--extra K]\n"
     ++ (codes "       serve MODEL\n"
     ++ codes "       trial --states N --inputs A --seed S [--workers N] [--learner table|ttt]\n"))

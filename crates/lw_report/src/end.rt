@@ -6,6 +6,7 @@ ghost use Rattle.lw_report.specs.Outcomes.{StandsOrWants, status_of};
 ghost use Rattle.lw_report.specs.Writing.{TakesAll, TakesSome, said_text};
 
 use crate::{Outcome, say, status};
+use lw_desk::OutNames;
 use lw_mealy::Mealy;
 use lw_outside::Sink;
 use lw_rounds::Learned;
@@ -14,7 +15,8 @@ use lw_words::{Kept, Names};
 use std::alloc::Global;
 
 /// The end of a call of the program: what it came to with its exit status; the model where there is one, also where a later
-/// write failed, with the table that it was read off and how often that was refined; and the kept answers.
+/// write failed, with the table that it was read off and how often that was refined; the kept answers; and the names of the
+/// outputs by which the model and the kept answers are numbered, where a call has them.
 #[derive(Drop)]
 pub struct End {
     pub outcome: Outcome,
@@ -23,16 +25,18 @@ pub struct End {
     pub kept: Kept,
     pub refinements: u32,
     pub table: Option<ObservationTable>,
+    pub outputs: Option<OutNames>,
 }
 
 impl End {
-    /// The end in this outcome, without a model.
-    pub fn new(outcome: Outcome, kept: Kept) -> End
+    /// The end in this outcome, without a model, over these names of outputs.
+    pub fn new(outcome: Outcome, kept: Kept, outputs: Option<OutNames>) -> End
         ensures outcome { result.outcome ≡ outcome }
         ensures status { result.status ≡ status_of outcome }
         ensures model { result.model ≡ None }
         ensures learner { IsWithoutLearner result }
         ensures kept { result.kept ≡ kept }
+        ensures outputs { result.outputs ≡ outputs }
     {
         End {
             status: status(&outcome),
@@ -41,17 +45,24 @@ impl End {
             kept,
             refinements: 0,
             table: None,
+            outputs,
         }
     }
 
-    /// The end in this outcome, with what was learned.
-    pub fn with_model(outcome: Outcome, learned: Learned, kept: Kept) -> End
+    /// The end in this outcome, with what was learned, over these names of outputs.
+    pub fn with_model(
+        outcome: Outcome,
+        learned: Learned,
+        kept: Kept,
+        outputs: Option<OutNames>,
+    ) -> End
         ensures outcome { result.outcome ≡ outcome }
         ensures status { result.status ≡ status_of outcome }
         ensures model { result.model ≡ Some learned.model }
         ensures table { result.table ≡ Some learned.table }
         ensures refinements { result.refinements ≡ learned.table.refinements }
         ensures kept { result.kept ≡ kept }
+        ensures outputs { result.outputs ≡ outputs }
     {
         let refinements = learned.refinements();
         let Learned { model, table } = learned;
@@ -62,17 +73,20 @@ impl End {
             kept,
             refinements,
             table: Some(table),
+            outputs,
         }
     }
 }
 
-/// Ends a call that has no model: puts the outcome's text to `err`, with the names that a file has said, if any.
+/// Ends a call that has no model, over these named outputs: puts the outcome's text to `err`, with the names that a file has
+/// said, if any.
 pub fn refuse<E: Sink>(
     alloc: Global,
     outcome: Outcome,
     inputs: Option<&Names>,
     outputs: Option<&Names>,
     kept: Kept,
+    named: Option<OutNames>,
     extra: u8,
     err: &mut E,
 ) -> End
@@ -81,6 +95,7 @@ pub fn refuse<E: Sink>(
     ensures model { result.model ≡ None }
     ensures learner { IsWithoutLearner result }
     ensures kept { result.kept ≡ kept }
+    ensures named { result.outputs ≡ named }
     ensures said { ¬ CountedFault (E.faults err.old) (E.faults err.new) →
         TakesAll (said_text (option_map (λ n. n.now) inputs.entry)
         (option_map (λ n. n.now) outputs.entry) kept.answers extra result.outcome)
@@ -91,5 +106,5 @@ pub fn refuse<E: Sink>(
     ensures counts { E.faults err.old ≤ E.faults err.new }
 {
     let outcome = say(alloc, outcome, inputs, outputs, &kept, extra, err);
-    End::new(outcome, kept)
+    End::new(outcome, kept, named)
 }

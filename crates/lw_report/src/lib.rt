@@ -15,7 +15,7 @@ mod writing;
 
 pub use end::{End, refuse};
 pub use outcome::{Outcome, Tried, status};
-pub use reading::{read_answers_file, read_machine_file};
+pub use reading::{read_answers_file, read_machine_file, read_setup_file};
 pub use role::Role;
 pub use stops::{ReadStop, TellStop, learn_outcome};
 pub use texts::text;

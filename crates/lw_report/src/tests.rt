@@ -1,7 +1,7 @@
 //! What no clause says: that the calls succeed. The texts are worked by hand.
 use crate::{
     End, Outcome, ReadStop, Role, TellStop, put_report, read_answers_file, read_machine_file,
-    refuse, text, write_file,
+    read_setup_file, refuse, text, write_file,
 };
 use lw_json::{Field, JsonFault};
 use lw_mealy::MealyFault;
@@ -16,6 +16,8 @@ const MACHINE: &str = "{\"inputs\":[\"t\"],\"outputs\":[\"0\"],\"states\":[[[0,\
 
 const ANSWERS: &str =
     "{\"answers\":[[0,0,\"t\",\"0\"]],\"format\":2,\"inputs\":[\"t\"],\"outputs\":[\"0\"]}\n";
+
+const SETUP: &str = "{\"command\":[\"child\"],\"inputs\":[\"t\"]}\n";
 
 fn names(alloc: Global, list: &[&str]) -> Result<Names, Fail> {
     let mut all = Vec::new(alloc);
@@ -97,6 +99,20 @@ fn files_are_read_and_written(rt: HostRuntime) -> Result<(), Fail> {
 }
 
 #[test]
+fn a_setup_is_read(rt: HostRuntime) -> Result<(), Fail> {
+    let alloc = rt.alloc();
+    let mut files = MemoryFiles::new(alloc, Vec::new(alloc), Vec::new(alloc))?;
+    let stop = read_setup_file(alloc, &mut files, "s").err();
+    assert_eq!(rt; stop, Some(ReadStop::Failed));
+    assert_eq!(rt;
+        write_file(&mut files, Role::Setup, "s", SETUP.as_bytes()),
+        Ok(())
+    );
+    assert!(rt; read_setup_file(alloc, &mut files, "s").is_ok());
+    Ok(())
+}
+
+#[test]
 fn reports_and_refusals(rt: HostRuntime) -> Result<(), Fail> {
     let alloc = rt.alloc();
     let list = names(alloc, &["t"])?;
@@ -113,7 +129,7 @@ fn reports_and_refusals(rt: HostRuntime) -> Result<(), Fail> {
     );
     assert_eq!(rt; told, Ok(()));
     let stop = ReadStop::Bad(JsonFault::NotJson).outcome(Role::Model);
-    let End { status, .. } = refuse(alloc, stop, None, None, kept, 1, &mut sink);
+    let End { status, .. } = refuse(alloc, stop, None, None, kept, None, 1, &mut sink);
     assert_eq!(rt; status, 3);
     assert_eq!(rt;
         sink.taken(),

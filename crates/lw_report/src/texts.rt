@@ -16,7 +16,7 @@ use lw_words::{Kept, Names, NoMemory, Words};
 use std::alloc::Global;
 
 const USAGE: &str =
-    "usage: learn (SETUP | --table FILE) [--workers N] [--extra K] [--learner table|ttt] [--max-states N] [--model FILE] [--answers FILE]
+    "usage: learn (SETUP | --table FILE) [--workers N] [--extra K] [--learner table|ttt] [--max-states N] [--model FILE] [--answers FILE] [--prior FILE]
        check MODEL ANSWERS [--extra K]
        serve MODEL
        trial --states N --inputs A --seed S [--workers N] [--learner table|ttt]

@@ -24,6 +24,7 @@ pub record IsBareEnd (e d : SinkState) (end : End) : Type 0 where
   pub model : end.model ≡ None
   pub learner : IsWithoutLearner end
   pub kept : end.kept.answers ≡ []
+  pub outputs : end.outputs ≡ None
   pub said : ¬ CountedFault e.faults d.faults → TakesAll (said_text None None [] 0 end.outcome) e.taken d.taken
   pub part : TakesSome (said_text None None [] 0 end.outcome) e.taken d.taken
 
@@ -34,6 +35,7 @@ unread_run model f g i o e d end s is holds reads stands bare = record {
   no_model = bare.model;
   no_learner = bare.learner;
   nothing_kept = bare.kept;
+  no_outputs = bare.outputs;
   untouched = holds;
   ended = inl (record { kind = unread_kind model f g s end.outcome is stands; unasked = refl; unwritten = refl });
   said = bare.said;
@@ -64,6 +66,7 @@ played_run model f g i j o p e d end m read is bare =
       no_model = bare.model;
       no_learner = bare.learner;
       nothing_kept = bare.kept;
+      no_outputs = bare.outputs;
       untouched = read.holds;
       ended = inr (record { machine = m; read = read.file; quiet = read.quiet; played = is_played m i j o p end.outcome is });
       said = bare.said;

@@ -39,6 +39,7 @@ pub record IsServeRun (model : List ℕ) (f g : FilesState) (i j : SourceState) 
   pub no_model : end.model ≡ None
   pub no_learner : IsWithoutLearner end
   pub nothing_kept : end.kept.answers ≡ []
+  pub no_outputs : end.outputs ≡ None
   pub untouched : g.holds ≡ f.holds
   pub ended : EndsUnread i j o p end.outcome ⊎ EndsPlayed model f g i j o p end.outcome
   -- the text goes to `err`, whole where that counts no fault

@@ -37,6 +37,7 @@ fn refuse_model<E: Sink>(alloc: Global, stop: ReadStop, err: &mut E) -> End
     ensures model { result.model ≡ None }
     ensures learner { IsWithoutLearner result }
     ensures kept { result.kept.answers ≡ [] }
+    ensures outputs { result.outputs ≡ None }
     ensures said { ¬ CountedFault (E.faults err.old) (E.faults err.new) →
         TakesAll (said_text None None [] 0 result.outcome) (E.taken err.old) (E.taken err.new) }
     ensures part { TakesSome (said_text None None [] 0 result.outcome) (E.taken err.old)
@@ -49,6 +50,7 @@ fn refuse_model<E: Sink>(alloc: Global, stop: ReadStop, err: &mut E) -> End
         None,
         None,
         Kept::new(alloc),
+        None,
         0,
         err,
     )
@@ -66,6 +68,7 @@ fn play<I: Source, O: Sink, E: Sink>(
     ensures model { result.model ≡ None }
     ensures learner { IsWithoutLearner result }
     ensures kept { result.kept.answers ≡ [] }
+    ensures outputs { result.outputs ≡ None }
     ensures served { HasServed machine.now
         (source_state (I.left input.old) (I.faults input.old) (I.ends input.old))
         (source_state (I.left input.new) (I.faults input.new) (I.ends input.new))
@@ -86,6 +89,7 @@ fn play<I: Source, O: Sink, E: Sink>(
         None,
         None,
         Kept::new(alloc),
+        None,
         0,
         err,
     )

@@ -26,6 +26,7 @@ wanted_check model answers extra f o e d end out r =
       ended = inl (record {
         cause = subst (IsUnread model answers f f) (sym out) (inl refl);
         kept_none = r.kept;
+        unnamed = r.outputs;
         unwritten = refl;
         said = λ quiet. said end.outcome out (r.said quiet);
         said_part = part end.outcome out r.part;
@@ -35,11 +36,11 @@ wanted_check model answers extra f o e d end out r =
     }
 
 -- `check` never comes to the usage
-pub no_usage : (model answers : List ℕ) (extra : ℕ) (f g : FilesState) (o p e d : SinkState) (end : End) → EndsUnread model answers f g extra o p e d end.outcome end.kept.answers ⊎ EndsRead model answers f g extra o p e d end.outcome end.kept.answers → end.outcome ≡ Usage → ⊥
+pub no_usage : (model answers : List ℕ) (extra : ℕ) (f g : FilesState) (o p e d : SinkState) (end : End) → EndsUnread model answers f g extra o p e d end.outcome end.kept.answers end.outputs ⊎ EndsRead model answers f g extra o p e d end.outcome end.kept.answers end.outputs → end.outcome ≡ Usage → ⊥
 no_usage model answers extra f g o p e d end ended is =
     ⊎_elim
-    (λ (u : EndsUnread model answers f g extra o p e d end.outcome end.kept.answers). subst (IsUnread model answers f g) is u.cause)
-    (λ (r : EndsRead model answers f g extra o p e d end.outcome end.kept.answers). ⊎_elim
+    (λ (u : EndsUnread model answers f g extra o p e d end.outcome end.kept.answers end.outputs). subst (IsUnread model answers f g) is u.cause)
+    (λ (r : EndsRead model answers f g extra o p e d end.outcome end.kept.answers end.outputs). ⊎_elim
     (λ decided. subst (IsDecision r.pair extra) is decided)
     (λ s. ⊎_elim (λ none. let wrong : NoMemory ≡ Usage = sym none ∙ is in absurd (cc)) (λ t. let wrong : SinkFault ≡ Usage = sym t.0 ∙ is in absurd (cc)) s)
     r.comes)

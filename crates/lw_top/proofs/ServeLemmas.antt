@@ -24,7 +24,7 @@ no_memory_stops model f = record {
 pub wanted_serve : (model : List ℕ) (f : FilesState) (i : SourceState) (o e d : SinkState) (end : End) → end.outcome ≡ NoMemory → IsRefused f f o o e d end → IsServeRun model f f i i o o e d end
 wanted_serve model f i o e d end out r =
     unread_run model f f i o e d end stop.NoMemory (no_memory_stops model f) refl (inl refl) (inl out)
-    (record { model = r.model; learner = r.learner; kept = r.kept; said = r.said; part = r.part })
+    (record { model = r.model; learner = r.learner; kept = r.kept; outputs = r.outputs; said = r.said; part = r.part })
 
 -- `serve` never comes to the usage
 pub serve_no_usage : (model : List ℕ) (f g : FilesState) (i j : SourceState) (o p : SinkState) (outcome : Outcome) → EndsUnread i j o p outcome ⊎ EndsPlayed model f g i j o p outcome → outcome ≡ Usage → ⊥

@@ -16,6 +16,10 @@ number_option name low high default = record (new_rule name) { long = Some name;
 abbrev pub required_argument : List ℕ → Rule
 required_argument name = record (new_rule name) { required = true; action = Some Set }
 
+-- an argument without a name of an option, which may be left out
+abbrev pub optional_argument : List ℕ → Rule
+optional_argument name = record (new_rule name) { action = Some Set }
+
 -- an option that takes a whole number in a range, which has to be there
 abbrev pub required_number : List ℕ → ℕ → ℕ → Rule
 required_number name low high = record (new_rule name) { long = Some name; required = true; parser = Some (Unsigned low high) }

@@ -3,6 +3,7 @@ ghost use Rattle.std.specs.Prelude.{◌≡◌, ◌≤◌};
 ghost use Rattle.lw_report.specs.Outcomes.{status_of};
 ghost use Rattle.lw_report.specs.States.{files_state, sink_state, source_state};
 ghost use Rattle.lw_report.specs.declared.outcome.Outcome.{Outcome as Came};
+ghost use Rattle.lw_children.specs.Spawners.{spawner_seen};
 ghost use Rattle.lw_learn.specs.LearnRun.{IsLearnRun};
 ghost use Rattle.lw_check.specs.CheckRun.{IsCheckRun};
 ghost use Rattle.lw_trial.specs.TrialRun.{IsTrialRun};
@@ -11,7 +12,7 @@ ghost use Rattle.lw_serve.specs.ServeRun.{IsServeRun};
 use crate::check_words::CheckArguments;
 use lw_check::check;
 use lw_learn::{LearnArguments, learn};
-use lw_outside::{Files, Sink, Source};
+use lw_outside::{Files, Sink, Source, Spawner};
 use lw_report::End;
 use lw_serve::serve;
 use lw_trial::{TrialArguments, trial};
@@ -20,11 +21,12 @@ use std::sync::Wait;
 use std::thread::Threads;
 
 /// `learn` with these values.
-pub(crate) fn run_learn<R: Threads + Wait + Sync + Drop, F: Files, O: Sink, E: Sink>(
+pub(crate) fn run_learn<R: Threads + Wait + Sync + Drop, F: Files, P: Spawner, O: Sink, E: Sink>(
     rt: R,
     alloc: Global,
     values: &LearnArguments,
     files: &mut F,
+    spawner: &mut P,
     out: &mut O,
     err: &mut E,
 ) -> End
@@ -37,12 +39,16 @@ pub(crate) fn run_learn<R: Threads + Wait + Sync + Drop, F: Files, O: Sink, E: S
         (F.faults files.old))
         (files_state (F.holds files.new) (F.calls files.new) (F.reads files.new)
         (F.faults files.new))
+        (spawner_seen (P.faults spawner.old) (P.started spawner.old) (P.retired spawner.old)
+        (P.commands spawner.old))
+        (spawner_seen (P.faults spawner.new) (P.started spawner.new) (P.retired spawner.new)
+        (P.commands spawner.new))
         (sink_state (O.taken out.old) (O.faults out.old))
         (sink_state (O.taken out.new) (O.faults out.new))
         (sink_state (E.taken err.old) (E.faults err.old))
         (sink_state (E.taken err.new) (E.faults err.new)) result }
 {
-    learn(rt, alloc, values, files, out, err)
+    learn(rt, alloc, values, files, spawner, out, err)
 }
 
 /// `check` with these values.

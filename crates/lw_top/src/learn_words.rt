@@ -1,29 +1,31 @@
 //! The arguments of `learn`, read by clap.
-ghost use Rattle.std.specs.Prelude.{◌≡◌, true, false, Some, None, Err, IfOk, OnOk};
+ghost use Rattle.std.specs.Prelude.{◌≡◌, true, false, Some, None, Err, IfOk, OnOk, option_map, string_bytes};
 ghost use Rattle.clap.specs.Faults.{fault_of};
 ghost use Rattle.clap.specs.Words.{app_of, found_of, matches_of, rows_of};
 ghost use Rattle.lw_top.specs.CommandLine.{is_faultless, texts};
-ghost use Rattle.lw_top.specs.LearnCommand.{learn_app, learn_values, values_in};
+ghost use Rattle.lw_top.specs.LearnCommand.{learn_app, learn_values, source_from, values_in};
 ghost use Rattle.lw_top.specs.declared.values.ArgumentStop.{ArgumentStop as Stop};
 
 use crate::ArgumentStop;
-use crate::options::{extra_option, states_option, text_option, workers_option};
+use crate::options::{extra_option, optional_argument, states_option, text_option, workers_option};
 use crate::values::{number_at, stop_of, text_at};
 use clap::{ArgMatches, Command};
-use lw_learn::LearnArguments;
+use lw_learn::{LearnArguments, Source};
 use std::alloc::{AllocError, Global};
 
-/// The command `learn`: the options that it has today.
+/// The command `learn`.
 fn learn_command<'a>(alloc: Global) -> Result<Command<'a>, AllocError>
     ensures { IfOk result (λ c. app_of c ≡ learn_app) }
 {
     let command = Command::new(alloc, "learn")
+        .arg(optional_argument(alloc, "setup"))?
         .arg(text_option(alloc, "table"))?
         .arg(workers_option(alloc))?
         .arg(extra_option(alloc))?
         .arg(states_option(alloc))?
         .arg(text_option(alloc, "model"))?
-        .arg(text_option(alloc, "answers"))?;
+        .arg(text_option(alloc, "answers"))?
+        .arg(text_option(alloc, "prior"))?;
     Ok(command)
 }
 
@@ -43,12 +45,26 @@ fn learn_matches<'a>(alloc: Global, arguments: &'a [String]) -> Result<ArgMatche
     }
 }
 
-/// The values that clap found, where the table file is named.
+/// The file of the system and its kind, where one of the two is named.
+fn source_of(setup: Option<String>, table: Option<String>) -> Option<(Source, String)>
+    ensures { option_map (λ s. (s.0, string_bytes s.1)) result ≡ source_from
+        (option_map (λ s. string_bytes s) setup) (option_map (λ s. string_bytes s) table) }
+{
+    match (setup, table) {
+        (Some(setup), None) => Some((Source::Setup, setup)),
+        (None, Some(table)) => Some((Source::Table, table)),
+        _ => None,
+    }
+}
+
+/// The values that clap found, where the file of the system is named.
 fn values_of(alloc: Global, matches: &ArgMatches) -> Result<LearnArguments, ArgumentStop>
     ensures ok { IfOk result (λ a. values_in (rows_of (found_of matches.now)) ≡ Some a) }
     ensures refused { result ≡ Err Stop.Usage → values_in (rows_of (found_of matches.now)) ≡ None }
 {
-    let Some(table) = text_at(alloc, matches, "table")? else {
+    let setup = text_at(alloc, matches, "setup")?;
+    let table = text_at(alloc, matches, "table")?;
+    let Some((source, system)) = source_of(setup, table) else {
         return Err(ArgumentStop::Usage);
     };
     let Some(workers) = number_at(matches, "workers", 1, 16) else {
@@ -60,15 +76,15 @@ fn values_of(alloc: Global, matches: &ArgMatches) -> Result<LearnArguments, Argu
     let Some(max_states) = number_at(matches, "max-states", 1, 1024) else {
         return Err(ArgumentStop::Usage);
     };
-    let model = text_at(alloc, matches, "model")?;
-    let answers = text_at(alloc, matches, "answers")?;
     Ok(LearnArguments::new(
-        table,
+        source,
+        system,
         workers as u8,
         extra as u8,
         max_states as u16,
-        model,
-        answers,
+        text_at(alloc, matches, "model")?,
+        text_at(alloc, matches, "answers")?,
+        text_at(alloc, matches, "prior")?,
     ))
 }
 

@@ -1,7 +1,7 @@
 //! The options of the commands, as clap takes them.
 ghost use Rattle.std.specs.Prelude.{◌≡◌, codes, false};
 ghost use Rattle.clap.specs.Words.{rule_of};
-ghost use Rattle.lw_top.specs.Options.{number_option, required_argument, required_number, text_option};
+ghost use Rattle.lw_top.specs.Options.{number_option, optional_argument, required_argument, required_number, text_option};
 
 use clap::{Arg, ArgAction};
 use std::alloc::Global;
@@ -20,6 +20,14 @@ pub(crate) fn required_argument<'a>(alloc: Global, name: &'a str) -> Arg<'a>
     ensures local { result.global ≡ false }
 {
     Arg::new(alloc, name).required(true).action(ArgAction::Set)
+}
+
+/// An argument without a name of an option, which may be left out.
+pub(crate) fn optional_argument<'a>(alloc: Global, name: &'a str) -> Arg<'a>
+    ensures rule { rule_of result ≡ optional_argument name.entry.now }
+    ensures local { result.global ≡ false }
+{
+    Arg::new(alloc, name).action(ArgAction::Set)
 }
 
 /// `--extra K`, from 0 to 4.

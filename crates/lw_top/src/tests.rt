@@ -1,5 +1,7 @@
 //! The rows worked by hand, and faults at each place.
 mod cases;
+mod children;
+mod prior;
 mod refusals;
 mod rows;
 mod serving;
@@ -7,7 +9,7 @@ mod trial_words;
 mod trials;
 
 use crate::tests::cases::{
-    Case, LEARN, ONE, PLAIN, check, check_over, end_of, files_of, sink, source, texts,
+    Case, LEARN, ONE, PLAIN, check, check_over, end_of, files_of, no_children, sink, source, texts,
 };
 use crate::{run, without_arguments};
 use lw_outside::MemoryFiles;
@@ -237,7 +239,14 @@ fn ends_with<R: Threads + Wait + Sync + Drop>(
     let mut err = sink(alloc, 4096, &[])?;
     let arguments = texts(alloc, &LEARN)?;
     let end = run(
-        rt, alloc, &arguments, &mut files, &mut input, &mut out, &mut err,
+        rt,
+        alloc,
+        &arguments,
+        &mut files,
+        &mut no_children(alloc)?,
+        &mut input,
+        &mut out,
+        &mut err,
     );
     Ok(end.status == status && err.taken() == said.as_bytes())
 }

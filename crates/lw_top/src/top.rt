@@ -4,6 +4,7 @@ ghost use Rattle.lw_words.specs.Cause.{CountedFault};
 ghost use Rattle.lw_report.specs.Outcomes.{status_of};
 ghost use Rattle.lw_report.specs.Writing.{TakesAll, TakesSome, said_text};
 ghost use Rattle.lw_report.specs.declared.outcome.Outcome.{Outcome as Came};
+ghost use Rattle.lw_children.specs.Spawners.{spawner_seen};
 ghost use Rattle.lw_learn.specs.LearnRun.{IsLearnRun};
 ghost use Rattle.lw_report.specs.States.{files_state, sink_state, source_state};
 ghost use Rattle.lw_check.specs.CheckRun.{IsCheckRun};
@@ -21,7 +22,7 @@ ghost use Rattle.lw_report.specs.Ends.{IsWithoutLearner};
 use crate::ArgumentStop;
 use crate::call::{Call, read_call};
 use crate::commands::{run_check, run_learn, run_serve, run_trial};
-use lw_outside::{Files, Sink, Source};
+use lw_outside::{Files, Sink, Source, Spawner};
 use lw_report::{End, Outcome, refuse};
 use lw_words::Kept;
 use std::alloc::Global;
@@ -35,6 +36,7 @@ fn refuse_arguments<E: Sink>(alloc: Global, stop: ArgumentStop, err: &mut E) -> 
     ensures model { result.model ≡ None }
     ensures learner { IsWithoutLearner result }
     ensures kept { result.kept.answers ≡ [] }
+    ensures outputs { result.outputs ≡ None }
     ensures said { ¬ CountedFault (E.faults err.old) (E.faults err.new) →
         TakesAll (said_text None None [] 0 result.outcome) (E.taken err.old) (E.taken err.new) }
     ensures part { TakesSome (said_text None None [] 0 result.outcome) (E.taken err.old)
@@ -47,6 +49,7 @@ fn refuse_arguments<E: Sink>(alloc: Global, stop: ArgumentStop, err: &mut E) -> 
         None,
         None,
         Kept::new(alloc),
+        None,
         0,
         err,
     )
@@ -59,6 +62,7 @@ pub fn without_arguments<E: Sink>(alloc: Global, err: &mut E) -> End
     ensures model { result.model ≡ None }
     ensures learner { IsWithoutLearner result }
     ensures kept { result.kept.answers ≡ [] }
+    ensures outputs { result.outputs ≡ None }
     ensures said { ¬ CountedFault (E.faults err.old) (E.faults err.new) →
         TakesAll (said_text None None [] 0 Came.NoMemory) (E.taken err.old) (E.taken err.new) }
     ensures part { TakesSome (said_text None None [] 0 Came.NoMemory) (E.taken err.old)
@@ -70,12 +74,13 @@ pub fn without_arguments<E: Sink>(alloc: Global, err: &mut E) -> End
 
 /// All that the program does. `arguments` are those of the command line, without the program's own name; the first names the
 /// command. Each command has its own contract; a call whose arguments aren't taken touches nothing but `err`. May wait for a
-/// turn of its workers, and `serve` for its input.
-pub fn run<R: Threads + Wait + Sync + Drop, F: Files, I: Source, O: Sink, E: Sink>(
+/// child and for a turn of its workers, and `serve` for its input.
+pub fn run<R: Threads + Wait + Sync + Drop, F: Files, P: Spawner, I: Source, O: Sink, E: Sink>(
     rt: R,
     alloc: Global,
     arguments: &[String],
     files: &mut F,
+    spawner: &mut P,
     input: &mut I,
     out: &mut O,
     err: &mut E,
@@ -101,16 +106,25 @@ pub fn run<R: Threads + Wait + Sync + Drop, F: Files, I: Source, O: Sink, E: Sin
         (sink_state (E.taken err.old) (E.faults err.old))
         (sink_state (E.taken err.new) (E.faults err.new)) result }
 
-    // `learn`, where it takes the arguments: all that its contract says.
+    // `learn`, where it takes the arguments: all that its contract says. Nothing else starts a child.
     ensures learn { IfSome (learn_values (texts arguments.now)) (λ values. IsLearnRun values
         (files_state (F.holds files.old) (F.calls files.old) (F.reads files.old)
         (F.faults files.old))
         (files_state (F.holds files.new) (F.calls files.new) (F.reads files.new)
         (F.faults files.new))
+        (spawner_seen (P.faults spawner.old) (P.started spawner.old) (P.retired spawner.old)
+        (P.commands spawner.old))
+        (spawner_seen (P.faults spawner.new) (P.started spawner.new) (P.retired spawner.new)
+        (P.commands spawner.new))
         (sink_state (O.taken out.old) (O.faults out.old))
         (sink_state (O.taken out.new) (O.faults out.new))
         (sink_state (E.taken err.old) (E.faults err.old))
         (sink_state (E.taken err.new) (E.faults err.new)) result) }
+    ensures unstarted { learn_values (texts arguments.now) ≡ None →
+        spawner_seen (P.faults spawner.new) (P.started spawner.new) (P.retired spawner.new)
+        (P.commands spawner.new) ≡
+        spawner_seen (P.faults spawner.old) (P.started spawner.old) (P.retired spawner.old)
+        (P.commands spawner.old) }
 
     // `check`, where it takes the arguments: all that its contract says.
     ensures check { IfSome (check_values (texts arguments.now)) (λ values. IsCheckRun
@@ -157,7 +171,7 @@ pub fn run<R: Threads + Wait + Sync + Drop, F: Files, I: Source, O: Sink, E: Sin
         Err(stop) => return refuse_arguments(alloc, stop, err),
     };
     match call {
-        Call::Learn(values) => run_learn(rt, alloc, &values, files, out, err),
+        Call::Learn(values) => run_learn(rt, alloc, &values, files, spawner, out, err),
         Call::Check(values) => run_check(alloc, &values, files, out, err),
         Call::Trial(values) => run_trial(rt, alloc, &values, out, err),
         Call::Serve(model) => run_serve(alloc, model.as_str(), files, input, out, err),

@@ -1,5 +1,5 @@
 -- Calls of `trial`, by how they end.
-use Rattle.std.proofs.Common.{◌≡◌, ◌≢◌, ◌⊎◌, inl, inr, ⊎_elim, ℕ, ◌+◌, ◌<◌, ◌≤◌, List, ◌++◌, length, Option, Some, None, IfErr, IfSome, Result, Ok, Err, option_map, refl, sym, ap, ◌∙◌, subst, arith}
+use Rattle.std.proofs.Common.{◌≡◌, ◌≢◌, ◌⊎◌, inl, inr, ⊎_elim, ℕ, ◌+◌, ◌<◌, ◌≤◌, List, [], ◌++◌, length, Option, Some, None, IfErr, IfSome, Result, Ok, Err, option_map, refl, sym, ap, ◌∙◌, subst, arith}
 use Rattle.std.specs.List.{range_with_len}
 use Rattle.std.proofs.lemmas.List.{length-map, take_all}
 use Rattle.std.proofs.lemmas.List.FromFn.{length-range_with_len}
@@ -12,12 +12,14 @@ use Rattle.lw_mealy.specs.Machine.{Rows, IsMachine}
 use Rattle.lw_cache.proofs.CrowdLemmas.{crowd_needs_states}
 use Rattle.lw_suite.specs.Size.{suite_size, greatest_suite}
 use Rattle.lw_table.specs.Table.{TableState}
-use Rattle.lw_rounds.specs.Learned.{IsLearned, StopsAs}
+use Rattle.lw_rounds.specs.Learned.{IsLearned, IsReadOff, StopsAs}
 use Rattle.lw_rounds.specs.Stops.{IsOwnStop}
 use Rattle.lw_rounds.specs.declared.learned.Learned.{Learned}
 use Rattle.lw_rounds.specs.declared.stops.LearnStop.{LearnStop}
 use Rattle.lw_rounds.specs.declared.stops.LearnStop.TheVariants as learn
-use Rattle.lw_workers.specs.Machines.{KeepsRuns, IsReached, IsWithin}
+use Rattle.lw_desk.specs.Naming.{Naming}
+use Rattle.lw_workers.specs.Machines.{IsMachineStop, KeepsRuns, IsReached, IsWithin}
+use Rattle.lw_workers.proofs.MachineLemmas.{own_stop}
 use Rattle.lw_report.specs.Ends.{IsWithoutLearner}
 use Rattle.lw_report.specs.Learnings.{HasModel, HasLargeSuite, learn_outcome}
 use Rattle.lw_report.specs.Outcomes.{HasOwnText, StandsOrWants}
@@ -35,7 +37,7 @@ use Rattle.lw_report.specs.declared.stops.TellStop.TheVariants as tell
 use Rattle.lw_report.proofs.LearningLemmas.{has_model, has_large_suite, own_ask}
 use Rattle.lw_trial.specs.Arguments.{TrialValues}
 use Rattle.lw_trial.specs.Drawn.{seeded, drawn_row}
-use Rattle.lw_trial.specs.TrialRun.{IsReachedTrial, IsTrial, IsTrialOutcome, IsTrialRun, IsTried, drawn_machine}
+use Rattle.lw_trial.specs.TrialRun.{IsReachedTrial, IsTrial, IsTrialOutcome, IsTrialRun, IsTried, drawn_machine, drawn_naming}
 use Rattle.lw_trial.specs.bodies.Told.{IsToldOf}
 
 -- a drawn machine has as many states as were asked for
@@ -114,21 +116,24 @@ still_suite a b ks outcome now stands suite states number is =
 -- a call without a model, of which `out` took nothing
 pub record IsRefusal (v : TrialValues) (e d : SinkState) (outcome : Outcome) (kept : List KeptAnswer) : Type 0 where
   pub bare : IsBare outcome
-  pub runs : KeepsRuns (drawn_machine v) v.workers kept
+  pub runs : KeepsRuns (drawn_machine v) v.workers [] kept
   pub reached : suite_size v.states v.inputs 1 ≤ greatest_suite → IsReachedTrial v.states outcome
   pub said : ¬ CountedFault e.faults d.faults → TakesAll (said_text None None kept 1 outcome) e.taken d.taken
   pub part : TakesSome (said_text None None kept 1 outcome) e.taken d.taken
   pub suite : (states number : ℕ) → outcome ≡ SuiteTooLarge states number → HasLargeSuite v.inputs 2 1 1024 (answers_of kept) states number
 
-refused_run : (v : TrialValues) (o e d : SinkState) (end : End) → end.model ≡ None → IsWithoutLearner end → IsRefusal v e d end.outcome end.kept.answers → IsTrialRun v o o e d end
-refused_run v o e d end none learner is =
+refused_run : (v : TrialValues) (o e d : SinkState) (end : End) → end.model ≡ None → IsWithoutLearner end → IfSome end.outputs (λ named. named ≡ drawn_naming) → IsRefusal v e d end.outcome end.kept.answers → IsTrialRun v o o e d end
+refused_run v o e d end none learner outputs is =
     let no_trial : IsTrial end.outcome → ⊥ = bare_no_trial end.outcome is.bare in
     record {
       model = subst (λ (m : Option MealyMachine). IfSome m (HasModel v.inputs 2 1 1024 end)) (sym none) tt;
+      read_off = subst (λ (m : Option MealyMachine). IfSome m (λ h. (t : TableState) × (end.table ≡ Some t) × IsReadOff v.inputs 2 1024 (answers_of end.kept.answers) h.rows t)) (sym none) tt;
       without = λ _. learner;
       told = λ t e. absurd (no_trial (subst IsTrial (sym e) tt));
       quiet = λ t. absurd (no_trial t);
       kept = is.runs;
+      outputs = outputs;
+      unnamed = λ _. no_trial;
       reached = λ small _ _. is.reached small;
       written = λ t. absurd (no_trial t);
       part = λ moved. absurd (moved refl);
@@ -140,12 +145,16 @@ refused_run v o e d end none learner is =
       suite = is.suite;
     }
 
+-- without prior answers each kept answer is the machine's
+all_given : (t : MealyMachine) (workers : ℕ) (kept : List KeptAnswer) → KeepsRuns t workers [] kept → Gives t.rows (answers_of kept)
+all_given t workers kept runs = subst (λ (ks : List KeptAnswer). Gives t.rows (answers_of ks)) (sym runs.first) runs.gives
+
 -- what came of the learning of a machine, and the answers of its instances
 pub record HasCome (t : MealyMachine) (workers : ℕ) (kept : List KeptAnswer) (r : Result Learned LearnStop) : Type 0 where
   pub within : IsWithinLimits t
-  pub runs : KeepsRuns t workers kept
+  pub runs : KeepsRuns t workers [] kept
   pub stops : IfErr r (StopsAs t.inputs t.outputs 1 1024 (answers_of kept))
-  pub own : IfErr r IsOwnStop
+  pub caused : IfErr r (IsMachineStop kept)
   pub reached : (m : Rows) → IsWithin t.inputs 1 1024 m → Gives m (answers_of kept) → IsReached (length m) r
 
 pub of_drawn : (v : TrialValues) (t : MealyMachine) (workers : ℕ) (kept : List KeptAnswer) (r : Result Learned LearnStop) → t ≡ drawn_machine v → workers ≡ v.workers → HasCome t workers kept r → HasCome (drawn_machine v) v.workers kept r
@@ -154,25 +163,27 @@ of_drawn v t workers kept r machine number is = subst (λ (n : ℕ). HasCome (dr
 -- the learning of a drawn machine whose suite is not too large reaches its end
 learning_reached : (v : TrialValues) (kept : List KeptAnswer) (r : Result Learned LearnStop) → HasCome (drawn_machine v) v.workers kept r → suite_size v.states v.inputs 1 ≤ greatest_suite → IsReached v.states r
 learning_reached v kept r is small =
-    subst (λ (n : ℕ). IsReached n r) (drawn_states v) (is.reached (drawn_machine v).rows (drawn_is_within v is.within small) is.runs.gives)
+    subst (λ (n : ℕ). IsReached n r) (drawn_states v) (is.reached (drawn_machine v).rows (drawn_is_within v is.within small) (all_given (drawn_machine v) v.workers kept is.runs))
 
 pub few_refinements : (v : TrialValues) (kept : List KeptAnswer) (l : Learned) → HasCome (drawn_machine v) v.workers kept (Ok l) → suite_size v.states v.inputs 1 ≤ greatest_suite → l.table.refinements < v.states
 few_refinements v kept l is small = learning_reached v kept (Ok l) is small
 
 -- a call whose learning stopped
 pub stopped_run : (v : TrialValues) (o e d : SinkState) (end : End) (stop : LearnStop) (kept : List KeptAnswer) → HasCome (drawn_machine v) v.workers kept (Err stop) → end.kept.answers ≡ kept → end.model ≡ None → IsWithoutLearner end
-    → StandsOrWants (learn_outcome stop) end.outcome → (¬ CountedFault e.faults d.faults → TakesAll (said_text None None kept 1 end.outcome) e.taken d.taken) → TakesSome (said_text None None kept 1 end.outcome) e.taken d.taken → IsTrialRun v o o e d end
-stopped_run v o e d end stop kept come same none learner stands said part =
+    → IfSome end.outputs (λ named. named ≡ drawn_naming) → StandsOrWants (learn_outcome stop) end.outcome → (¬ CountedFault e.faults d.faults → TakesAll (said_text None None kept 1 end.outcome) e.taken d.taken) → TakesSome (said_text None None kept 1 end.outcome) e.taken d.taken → IsTrialRun v o o e d end
+stopped_run v o e d end stop kept come same none learner outputs stands said part =
     let m : Rows = (drawn_machine v).rows in
+    let gives : Gives m (answers_of kept) = all_given (drawn_machine v) v.workers kept come.runs in
+    let own : IsOwnStop stop = own_stop m kept gives stop come.caused in
     let is : IsRefusal v e d end.outcome kept = record {
-      bare = still_bare (learn_outcome stop) end.outcome stands (stop_is_bare v.inputs 2 m (answers_of kept) come.within.machine come.within.few come.runs.words come.runs.gives stop come.own come.stops);
+      bare = still_bare (learn_outcome stop) end.outcome stands (stop_is_bare v.inputs 2 m (answers_of kept) come.within.machine come.within.few come.runs.words gives stop own come.stops);
       runs = come.runs;
       reached = λ small. still_reached v.states (learn_outcome stop) end.outcome stands (stop_reached v.states stop (learning_reached v kept (Err stop) come small));
       said = said;
       part = part;
-      suite = still_suite v.inputs 2 (answers_of kept) (learn_outcome stop) end.outcome stands (λ s n. stop_suite v.inputs 2 (answers_of kept) stop s n come.own come.runs.words come.stops);
+      suite = still_suite v.inputs 2 (answers_of kept) (learn_outcome stop) end.outcome stands (λ s n. stop_suite v.inputs 2 (answers_of kept) stop s n own come.runs.words come.stops);
     } in
-    refused_run v o e d end none learner (subst (IsRefusal v e d end.outcome) (sym same) is)
+    refused_run v o e d end none learner outputs (subst (IsRefusal v e d end.outcome) (sym same) is)
 
 -- what was learned, of the end of a call
 pub record IsCarried (v : TrialValues) (end : End) (h : MealyMachine) (table : TableState) (kept : List KeptAnswer) : Type 0 where
@@ -180,18 +191,28 @@ pub record IsCarried (v : TrialValues) (end : End) (h : MealyMachine) (table : T
   pub carried : end.table ≡ Some table
   pub counted : end.refinements ≡ table.refinements
   pub keeps : end.kept.answers ≡ kept
-  pub runs : KeepsRuns (drawn_machine v) v.workers kept
+  pub outputs : end.outputs ≡ Some drawn_naming
+  pub runs : KeepsRuns (drawn_machine v) v.workers [] kept
   pub learned : IsLearned v.inputs 2 1 1024 (answers_of kept) h table
   pub reached : suite_size v.states v.inputs 1 ≤ greatest_suite → table.refinements < v.states
 
 module _ (v : TrialValues) (end : End) (h : MealyMachine) (table : TableState) (kept : List KeptAnswer) (is : IsCarried v end h table kept) where
-  keeps_runs : KeepsRuns (drawn_machine v) v.workers end.kept.answers
-  keeps_runs = subst (KeepsRuns (drawn_machine v) v.workers) (sym is.keeps) is.runs
+  keeps_runs : KeepsRuns (drawn_machine v) v.workers [] end.kept.answers
+  keeps_runs = subst (KeepsRuns (drawn_machine v) v.workers []) (sym is.keeps) is.runs
 
   carries : IfSome end.model (HasModel v.inputs 2 1 1024 end)
   carries =
       let learned : IsLearned v.inputs 2 1 1024 (answers_of end.kept.answers) h table = subst (λ (ks : List KeptAnswer). IsLearned v.inputs 2 1 1024 (answers_of ks) h table) (sym is.keeps) is.learned in
       subst (λ (m : Option MealyMachine). IfSome m (HasModel v.inputs 2 1 1024 end)) (sym is.model) (has_model v.inputs 2 1 1024 end h table keeps_runs.words learned is.carried is.counted)
+
+  reads_off : IfSome end.model (λ h. (t : TableState) × (end.table ≡ Some t) × IsReadOff v.inputs 2 1024 (answers_of end.kept.answers) h.rows t)
+  reads_off = subst (λ (m : Option MealyMachine). IfSome m (λ h. (t : TableState) × (end.table ≡ Some t) × IsReadOff v.inputs 2 1024 (answers_of end.kept.answers) h.rows t)) (sym is.model) (table, is.carried, subst (λ (ks : List KeptAnswer). IsReadOff v.inputs 2 1024 (answers_of ks) h.rows table) (sym is.keeps) is.learned.carried)
+
+  outputs_are : IfSome end.outputs (λ named. named ≡ drawn_naming)
+  outputs_are = subst (λ (n : Option Naming). IfSome n (λ named. named ≡ drawn_naming)) (sym is.outputs) refl
+
+  named : end.outputs ≡ None → ⊥
+  named none = let wrong : Some drawn_naming ≡ None = sym is.outputs ∙ none in cc
 
   modelled : end.model ≡ None → ⊥
   modelled none = let wrong : Some h ≡ None = sym is.model ∙ none in cc
@@ -220,10 +241,13 @@ tried_run v o p e end h table kept t is out told takes quiet =
     let is_trial : IsTrial end.outcome = subst IsTrial (sym out) tt in
     record {
       model = carries v end h table kept is;
+      read_off = reads_off v end h table kept is;
       without = λ none. absurd (modelled v end h table kept is none);
       told = λ u e. let both : Trial t ≡ Trial u = sym out ∙ e in let same : t ≡ u = cc in subst (IsTried v end) same tried;
       quiet = λ _. (quiet, refl);
       kept = keeps_runs v end h table kept is;
+      outputs = outputs_are v end h table kept is;
+      unnamed = λ none. absurd (named v end h table kept is none);
       reached = λ small _ _. let few : t.refinements < v.states = omega (arith, told.refined, is.reached small) in subst (IsReachedTrial v.states) (sym out) few;
       written = λ _. (subst (λ (outcome : Outcome). TakesAll (said_text None None end.kept.answers 1 outcome) o.taken p.taken) (sym out) takes, refl);
       part = λ _. (t, tried, all_is_some (trial_lines t) o.taken p.taken takes);
@@ -270,10 +294,13 @@ untold_run v o p e d end h table kept outcome is out untold =
     (subst (λ (ks : List KeptAnswer). TakesSome (said_text None None ks 1 outcome) e.taken d.taken) (sym is.keeps) untold.part) in
     record {
       model = carries v end h table kept is;
+      read_off = reads_off v end h table kept is;
       without = λ none. absurd (modelled v end h table kept is none);
       told = λ t e. absurd (no_trial (subst IsTrial (sym e) tt));
       quiet = λ t. absurd (no_trial t);
       kept = keeps_runs v end h table kept is;
+      outputs = outputs_are v end h table kept is;
+      unnamed = λ none. absurd (named v end h table kept is none);
       reached = λ _ quiet _. by_cause o p (IsReachedTrial v.states) (λ counted. absurd (quiet counted)) (λ _. tt) end.outcome cause;
       written = λ t. absurd (no_trial t);
       part = λ moved. let some = untold.some moved in (some.0, is_tried v end h table kept is some.0 some.1, some.2);

@@ -1,10 +1,13 @@
 -- What a call of `trial` did, for callers: all that its contract says, in one record.
-use Rattle.std.specs.Prelude.{◌≡◌, ◌≢◌, ◌↔◌, ℕ, ◌<◌, ◌≤◌, length, true, None, Some, IfSome}
+use Rattle.std.specs.Prelude.{◌≡◌, ◌≢◌, ◌↔◌, ℕ, ◌<◌, ◌≤◌, List, [], ◌∷◌, length, codes, true, None, Some, IfSome}
 use Rattle.lw_words.specs.Answer.{answers_of}
 use Rattle.lw_words.specs.Cause.{CountedFault}
 use Rattle.lw_mealy.specs.Limits.{MealyMachine, mealy_of}
 use Rattle.lw_separate.specs.Canonical.{IsCanonical}
 use Rattle.lw_suite.specs.Size.{suite_size, greatest_suite}
+use Rattle.lw_desk.specs.Naming.{Naming}
+use Rattle.lw_rounds.specs.Learned.{IsReadOff}
+use Rattle.lw_table.specs.Table.{TableState}
 use Rattle.lw_workers.specs.Machines.{KeepsRuns}
 use Rattle.lw_report.specs.Ends.{IsWithoutLearner}
 use Rattle.lw_report.specs.Learnings.{HasModel, HasLargeSuite}
@@ -20,6 +23,13 @@ use Rattle.lw_trial.specs.Drawn.{drawn_rows}
 -- the machine that is drawn
 abbrev pub drawn_machine : TrialValues → MealyMachine
 drawn_machine v = mealy_of v.inputs 2 (drawn_rows v.states v.inputs v.seed)
+
+-- the names of its outputs
+abbrev pub drawn_outputs : List (List ℕ)
+drawn_outputs = codes "0" ∷ codes "1" ∷ []
+
+abbrev pub drawn_naming : Naming
+drawn_naming = record { names = drawn_outputs; brought = None }
 
 -- what is told of a trial: the arguments; the states of the model, the refinements and the number of the kept answers; and that
 -- the two are equal exactly where the model is the canonical form of the machine that was drawn
@@ -56,11 +66,16 @@ IsTrial _ = ⊥
 pub record IsTrialRun (v : TrialValues) (o p : SinkState) (e d : SinkState) (end : End) : Type 0 where
   -- the model of the machine that was drawn, with one extra state and at most 1,024 states
   pub model : IfSome end.model (HasModel v.inputs 2 1 1024 end)
+  -- no output has another number since: the model is the canonical form of the carried table's machine
+  pub read_off : IfSome end.model (λ h. (t : TableState) × (end.table ≡ Some t) × IsReadOff v.inputs 2 1024 (answers_of end.kept.answers) h.rows t)
   pub without : end.model ≡ None → IsWithoutLearner end
   pub told : (t : Tried) → end.outcome ≡ Trial t → IsTried v end t
   pub quiet : IsTrial end.outcome → (p.faults ≡ o.faults) × (d.faults ≡ e.faults)
   -- the kept answers are runs of the instances of that machine
-  pub kept : KeepsRuns (drawn_machine v) v.workers end.kept.answers
+  pub kept : KeepsRuns (drawn_machine v) v.workers [] end.kept.answers
+  -- the outputs are those of the machine that was drawn; an end without any told no trial
+  pub outputs : IfSome end.outputs (λ named. named ≡ drawn_naming)
+  pub unnamed : end.outputs ≡ None → ¬ IsTrial end.outcome
   -- where its suite is not too large and no stream counted a fault, a trial is told, or memory runs out
   pub reached :
       suite_size v.states v.inputs 1 ≤ greatest_suite

@@ -1,5 +1,5 @@
 //! The command.
-ghost use Rattle.std.specs.Prelude.{◌≡◌, ◌≤◌, ◌<◌, length, IfOk};
+ghost use Rattle.std.specs.Prelude.{◌≡◌, ◌≤◌, ◌<◌, [], IfOk, None, Some};
 ghost use Rattle.lw_words.specs.Answer.{answers_of};
 ghost use Rattle.lw_mealy.specs.Limits.{IsWithinLimits};
 ghost use Rattle.lw_rounds.specs.Learned.{IsLearned};
@@ -7,10 +7,12 @@ ghost use Rattle.lw_suite.specs.Size.{suite_size, greatest_suite};
 ghost use Rattle.lw_workers.specs.Machines.{KeepsRuns};
 ghost use Rattle.lw_report.specs.Outcomes.{status_of};
 ghost use Rattle.lw_report.specs.States.{sink_state};
-ghost use Rattle.lw_trial.specs.TrialRun.{IsTrialRun, drawn_machine};
+ghost use Rattle.lw_trial.specs.TrialRun.{IsTrialRun, drawn_machine, drawn_naming, drawn_outputs};
 
 use crate::telling::tell;
 use crate::{TrialArguments, drawn};
+use lw_cache::Cache;
+use lw_desk::OutNames;
 use lw_mealy::Mealy;
 use lw_outside::Sink;
 use lw_report::{End, Outcome, learn_outcome, refuse, say};
@@ -36,7 +38,7 @@ struct Drawn {
 
 /// The names of the two outputs, `0` and `1`.
 fn output_names(alloc: Global) -> Result<Names, NoMemory>
-    ensures { IfOk result (λ names. length names ≡ 2) }
+    ensures { IfOk result (λ names. names ≡ drawn_outputs) }
 {
     let mut list = Vec::with_capacity(alloc, 2)?;
     list.push(String::from_str(alloc, "0")?)?;
@@ -47,11 +49,12 @@ fn output_names(alloc: Global) -> Result<Names, NoMemory>
     }
 }
 
-/// Draws the machine of the arguments.
-fn draw(alloc: Global, arguments: &TrialArguments) -> Result<Drawn, NoMemory>
-    ensures machine { IfOk result (λ d. d.machine ≡ drawn_machine arguments.now) }
-    ensures complete { IfOk result (λ d. IsWithinLimits d.machine) }
-    ensures outputs { IfOk result (λ d. length d.outputs ≡ 2) }
+/// Draws the machine of the arguments. Beside it stand its outputs once more, as a learning takes them.
+fn draw(alloc: Global, arguments: &TrialArguments) -> Result<(Drawn, OutNames), NoMemory>
+    ensures machine { IfOk result (λ d. d.0.machine ≡ drawn_machine arguments.now) }
+    ensures complete { IfOk result (λ d. IsWithinLimits d.0.machine) }
+    ensures outputs { IfOk result (λ d. d.0.outputs ≡ drawn_outputs) }
+    ensures named { IfOk result (λ d. d.1 ≡ drawn_naming) }
 {
     let outputs = output_names(alloc)?;
     let machine = drawn(
@@ -60,7 +63,8 @@ fn draw(alloc: Global, arguments: &TrialArguments) -> Result<Drawn, NoMemory>
         arguments.inputs(),
         arguments.seed(),
     )?;
-    Ok(Drawn { machine, outputs })
+    let named = OutNames::declared(alloc, &outputs)?;
+    Ok((Drawn { machine, outputs }, named))
 }
 
 /// Ends a call that learned a model: tells of it on `out`, or says on `err` why not.
@@ -70,13 +74,16 @@ fn report<O: Sink, E: Sink>(
     drawn: &Drawn,
     learned: Learned,
     kept: Kept,
+    named: OutNames,
     out: &mut O,
     err: &mut E,
 ) -> End
     requires machine { drawn.now.machine ≡ drawn_machine arguments.now }
     requires learned { IsLearned arguments.now.inputs 2 1 1024 (answers_of kept.answers)
         learned.model learned.table }
-    requires kept { KeepsRuns (drawn_machine arguments.now) arguments.now.workers kept.answers }
+    requires kept { KeepsRuns (drawn_machine arguments.now) arguments.now.workers []
+        kept.answers }
+    requires named { named ≡ drawn_naming }
     requires reached { suite_size arguments.now.states arguments.now.inputs 1 ≤ greatest_suite →
         learned.table.refinements < arguments.now.states }
     ensures status { result.status ≡ status_of result.outcome }
@@ -96,10 +103,10 @@ fn report<O: Sink, E: Sink>(
         &kept,
         out,
     ) {
-        Ok(tried) => End::with_model(Outcome::Trial(tried), learned, kept),
+        Ok(tried) => End::with_model(Outcome::Trial(tried), learned, kept, Some(named)),
         Err(stop) => {
             let outcome = say(alloc, Outcome::from(stop), None, None, &kept, EXTRA, err);
-            End::with_model(outcome, learned, kept)
+            End::with_model(outcome, learned, kept, Some(named))
         }
     }
 }
@@ -110,12 +117,14 @@ fn learn<R: Threads + Wait + Sync + Drop, O: Sink, E: Sink>(
     alloc: Global,
     arguments: &TrialArguments,
     drawn: &Drawn,
+    named: OutNames,
     out: &mut O,
     err: &mut E,
 ) -> End
     requires machine { drawn.now.machine ≡ drawn_machine arguments.now }
     requires complete { IsWithinLimits drawn.now.machine }
-    requires outputs { length drawn.now.outputs ≡ 2 }
+    requires outputs { drawn.now.outputs ≡ drawn_outputs }
+    requires named { named ≡ drawn_naming }
     ensures status { result.status ≡ status_of result.outcome }
     ensures ran { IsTrialRun arguments.now
         (sink_state (O.taken out.old) (O.faults out.old))
@@ -124,19 +133,28 @@ fn learn<R: Threads + Wait + Sync + Drop, O: Sink, E: Sink>(
         (sink_state (E.taken err.new) (E.faults err.new)) result }
     ensures counts { (O.faults out.old ≤ O.faults out.new) × (E.faults err.old ≤ E.faults err.new) }
 {
-    let LearnedMachine { learned, kept } = learn_machine(
+    let LearnedMachine {
+        learned,
+        kept,
+        names,
+    } = learn_machine(
         rt,
         alloc,
         &drawn.machine,
         &drawn.outputs,
+        named,
+        Cache::new(alloc),
         arguments.workers(),
         Kind::Table,
         EXTRA,
         MOST_STATES,
     );
     match learned {
-        Ok(learned) => report(alloc, arguments, drawn, learned, kept, out, err),
-        Err(stop) => refuse(alloc, learn_outcome(stop), None, None, kept, EXTRA, err),
+        Ok(learned) => report(alloc, arguments, drawn, learned, kept, names, out, err),
+        Err(stop) => {
+            let outcome = learn_outcome(stop);
+            refuse(alloc, outcome, None, None, kept, Some(names), EXTRA, err)
+        }
     }
 }
 
@@ -158,13 +176,14 @@ pub fn trial<R: Threads + Wait + Sync + Drop, O: Sink, E: Sink>(
     ensures counts { (O.faults out.old ≤ O.faults out.new) × (E.faults err.old ≤ E.faults err.new) }
 {
     match draw(alloc, arguments) {
-        Ok(drawn) => learn(rt, alloc, arguments, &drawn, out, err),
+        Ok((drawn, named)) => learn(rt, alloc, arguments, &drawn, named, out, err),
         Err(NoMemory) => refuse(
             alloc,
             Outcome::NoMemory,
             None,
             None,
             Kept::new(alloc),
+            None,
             EXTRA,
             err,
         ),

@@ -3,6 +3,7 @@ use Rattle.std.proofs.Common.{◌≡◌, ⊎_elim, ℕ, ◌+◌, ◌<◌, ◌≤
 use Rattle.std.proofs.lemmas.Bool.{cases_lt}
 use Rattle.std.proofs.lemmas.List.{get_or_append_left, length_push, get_or_push, length-map}
 use Rattle.std.proofs.lemmas.List.Elements.{All-map}
+use Rattle.lw_words.specs.declared.kept.KeptAnswer.{KeptAnswer}
 use Rattle.lw_mealy.specs.Limits.{MealyMachine}
 use Rattle.lw_mealy.specs.Origin.{Origin}
 use Rattle.lw_sul.specs.SessionState.{SessionState}
@@ -57,11 +58,12 @@ instances_join t names naming inputs outputs sessions named same inputs_is outpu
     }))
 
 -- and that pool is one of the machine's instances
-pub pool_begun : (t : MealyMachine) (names : List (List ℕ)) (workers : ℕ) (sessions : List (SessionState TableState)) (p : PoolState TableState) → AreInstances t names sessions → length sessions ≡ workers → p.members ≡ map member sessions → p.inputs ≡ t.inputs → p.outputs ≡ t.outputs → p.prior ≡ [] → p.kept ≡ [] → p.stop ≡ None → IsPoolOf t workers p
-pool_begun t names workers sessions p are count members inputs outputs prior kept stop = record {
+pub pool_begun : (t : MealyMachine) (names : List (List ℕ)) (workers : ℕ) (naming : Naming) (prior : List KeptAnswer) (sessions : List (SessionState TableState)) (p : PoolState TableState) → AreInstances t names sessions → length sessions ≡ workers → p.members ≡ map member sessions → p.inputs ≡ t.inputs → p.outputs ≡ t.outputs → p.naming ≡ naming → p.prior ≡ prior → p.kept ≡ prior → p.stop ≡ None → IsPoolOf t workers naming prior p
+pool_begun t names workers naming prior sessions p are count members inputs outputs naming_is prior_is kept stop = record {
   inputs = inputs;
   outputs = outputs;
-  prior = prior;
+  naming = naming_is;
+  prior_is = prior_is;
   kept = kept;
   stop = stop;
   sessions = ap (λ (ms : List (Member TableState)). length (seens ms)) members ∙ (length-map (map member sessions) (λ (m : Member TableState). m.seen) ∙ (length-map sessions member ∙ count));

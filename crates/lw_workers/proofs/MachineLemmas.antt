@@ -1,5 +1,5 @@
 -- What comes of a learning of a machine: no stop but the learning's own, and a model where the limits allow one.
-use Rattle.std.proofs.Common.{◌≡◌, ℕ, zero, suc, ◌<◌, List, [], ◌∷◌, length, map, take, Option, Some, None, Result, Ok, Err, IfOk, IfErr, is_some, get_or-take, refl, ap, sym, ◌∙◌, subst, subst₂, arith}
+use Rattle.std.proofs.Common.{◌≡◌, ℕ, zero, suc, ◌<◌, List, [], ◌∷◌, length, map, take, Option, None, Result, Ok, Err, IfOk, IfErr, is_some, get_or-take, refl, ap, sym, ◌∙◌, subst, subst₂, arith}
 use Rattle.std.proofs.lemmas.Bool.{false≢true}
 use Rattle.std.proofs.lemmas.List.{length-map, length-take-le, take-map}
 use Rattle.lw_words.specs.Answer.{Answer, AreAnswers, answer_at, answer_of, answers_of}
@@ -15,6 +15,7 @@ use Rattle.lw_cache.specs.declared.stops.AskStop.TheVariants as ask
 use Rattle.lw_cache.specs.declared.stops.Clash.{Clash}
 use Rattle.lw_cache.proofs.ClashLemmas.{given_never_clash}
 use Rattle.lw_desk.specs.Ending.{CameFirst}
+use Rattle.lw_desk.specs.Naming.{Naming}
 use Rattle.lw_pool.specs.Pool.{Seen, Member, PoolState, IsStopOf, seen_at, seen_of}
 use Rattle.lw_rounds.specs.Laws.{ModelIsLeast, TooManyIsNone, TooLargeForAll}
 use Rattle.lw_rounds.specs.Learned.{IsLearned, StopsAs}
@@ -23,7 +24,7 @@ use Rattle.lw_rounds.specs.declared.learned.Learned.{Learned}
 use Rattle.lw_rounds.specs.declared.stops.LearnStop.{LearnStop}
 use Rattle.lw_rounds.specs.declared.stops.LearnStop.TheVariants as learn
 use Rattle.lw_workers.specs.Leaving.{HasLearned}
-use Rattle.lw_workers.specs.Machines.{KeepsRuns, IsReached, IsWithin}
+use Rattle.lw_workers.specs.Machines.{IsMachineStop, KeepsRuns, IsReached, IsWithin}
 use Rattle.lw_workers.specs.bodies.Instances.{IsPoolOf}
 use Rattle.lw_workers.proofs.RunLemmas.{keeps_runs}
 
@@ -39,20 +40,27 @@ no_clash_came m kept c gives came =
     ∙ get_or-take c.second (answers_of kept) c.first none before in
     given_never_clash m (answers_of kept) gives c.first c.second none before within (c.place, subst (λ (k : Answer). ClashAt k (answer_at (answers_of kept) c.second) c.place) one came.came.here)
 
--- where no system stops and a machine gives the answers, a stop is out of memory
-module _ (m : Rows) (seen : List Seen) (kept : List KeptAnswer) (gives : Gives m (answers_of kept)) (never : (i : ℕ) → (seen_at seen i).stop ≡ None) where
-  own_stop : (stop : AskStop) → IsStopOf seen kept (Some stop) → stop ≡ ask.NoMemory
-  own_stop (ask.Sul i s) why = absurd (false≢true (ap is_some (sym (never i) ∙ why.1)))
-  own_stop (ask.Clash c) why = absurd (no_clash_came m kept c gives why)
-  own_stop ask.NoMemory why = refl
+-- where no system stops, a stop is out of memory or a clash that came
+module _ (seen : List Seen) (kept : List KeptAnswer) (never : (i : ℕ) → (seen_at seen i).stop ≡ None) where
+  learn_caused : (r : Result Learned LearnStop) (now : Option AskStop) → IsStopOf seen kept now → LeavesStop (learn_stop r) now → IfErr r (IsMachineStop kept)
+  learn_caused (Ok l) now why left = tt
+  learn_caused (Err (learn.Ask (ask.Sul i s))) now why left = let stopped = subst (IsStopOf seen kept) left why in absurd (false≢true (ap is_some (sym (never i) ∙ stopped.1)))
+  learn_caused (Err (learn.Ask (ask.Clash c))) now why left = subst (IsStopOf seen kept) left why
+  learn_caused (Err (learn.Ask ask.NoMemory)) now why left = tt
+  learn_caused (Err (learn.Crowd words)) now why left = tt
+  learn_caused (Err (learn.TooLarge model number)) now why left = tt
 
-  learn_own : (r : Result Learned LearnStop) (now : Option AskStop) → IsStopOf seen kept now → LeavesStop (learn_stop r) now → IfErr r IsOwnStop
-  learn_own (Ok l) now why left = tt
-  learn_own (Err (learn.Ask (ask.Sul i s))) now why left = own_stop (ask.Sul i s) (subst (IsStopOf seen kept) left why)
-  learn_own (Err (learn.Ask (ask.Clash c))) now why left = own_stop (ask.Clash c) (subst (IsStopOf seen kept) left why)
-  learn_own (Err (learn.Ask ask.NoMemory)) now why left = refl
-  learn_own (Err (learn.Crowd words)) now why left = tt
-  learn_own (Err (learn.TooLarge model number)) now why left = tt
+-- and where a machine gives the answers, it is no clash
+pub own_stop : (m : Rows) (kept : List KeptAnswer) → Gives m (answers_of kept) → (stop : LearnStop) → IsMachineStop kept stop → IsOwnStop stop
+own_stop m kept gives (learn.Ask (ask.Sul i s)) caused = absurd caused
+own_stop m kept gives (learn.Ask (ask.Clash c)) caused = absurd (no_clash_came m kept c gives caused)
+own_stop m kept gives (learn.Ask ask.NoMemory) caused = refl
+own_stop m kept gives (learn.Crowd words) caused = tt
+own_stop m kept gives (learn.TooLarge model number) caused = tt
+
+pub learn_own : (m : Rows) (kept : List KeptAnswer) → Gives m (answers_of kept) → (r : Result Learned LearnStop) → IfErr r (IsMachineStop kept) → IfErr r IsOwnStop
+learn_own m kept gives (Ok l) caused = tt
+learn_own m kept gives (Err stop) caused = own_stop m kept gives stop caused
 
 -- systems that never stop, as the members of a pool tell them
 pub never_stopped : {S : Type 0} (f : SessionState S → Member S) (sessions : List (SessionState S)) (members : List (Member S)) → map f sessions ≡ members → ((s : SessionState S) → (f s).seen.stop ≡ None) → (i : ℕ) → (seen_at (map (λ m. m.seen) members) i).stop ≡ None
@@ -73,28 +81,28 @@ reached a b k most ks (Err (learn.TooLarge model number)) least none large are l
     omega (arith, large a b k most ks model number are stops m within.machine gives, within.small)
 
 -- what a learning of a machine answers, and what its instances answered
-pub record HasEnded (t : MealyMachine) (workers k most : ℕ) (learned : Result Learned LearnStop) (kept : List KeptAnswer) : Type 0 where
+pub record HasEnded (t : MealyMachine) (workers k most : ℕ) (prior : List KeptAnswer) (learned : Result Learned LearnStop) (kept : List KeptAnswer) : Type 0 where
   pub ok : IfOk learned (λ l. IsLearned t.inputs t.outputs k most (answers_of kept) l.model l.table)
   pub stops : IfErr learned (StopsAs t.inputs t.outputs k most (answers_of kept))
-  pub own : IfErr learned IsOwnStop
+  pub caused : IfErr learned (IsMachineStop kept)
   pub reached_by : (m : Rows) → IsWithin t.inputs k most m → Gives m (answers_of kept) → IsReached (length m) learned
-  pub runs : KeepsRuns t workers kept
+  pub runs : KeepsRuns t workers prior kept
 
-pub has_ended : {S : Type 0} (t : MealyMachine) (workers k most : ℕ) (before now : PoolState S) (learned : Result Learned LearnStop) (kept : List KeptAnswer) → ModelIsLeast → TooManyIsNone → TooLargeForAll
-    → IsPoolOf t workers before → HasLearned before now (learn_stop learned)
+pub has_ended : {S : Type 0} (t : MealyMachine) (workers k most : ℕ) (names : Naming) (prior : List KeptAnswer) (before now : PoolState S) (learned : Result Learned LearnStop) (kept : List KeptAnswer) → ModelIsLeast → TooManyIsNone → TooLargeForAll
+    → IsPoolOf t workers names prior before → HasLearned before now (learn_stop learned)
     → ((i : ℕ) → (seen_at (seen_of now) i).stop ≡ None)
     → IfOk learned (λ l. IsLearned before.inputs before.outputs k most (answers_of now.kept) l.model l.table)
     → IfErr learned (StopsAs before.inputs before.outputs k most (answers_of now.kept))
-    → kept ≡ now.kept → HasEnded t workers k most learned kept
-has_ended t workers k most before now learned kept least none large is left never ok stops same =
-    let runs : KeepsRuns t workers now.kept = keeps_runs t workers before now (learn_stop learned) is left in
+    → kept ≡ now.kept → HasEnded t workers k most prior learned kept
+has_ended t workers k most names prior before now learned kept least none large is left never ok stops same =
+    let runs : KeepsRuns t workers prior now.kept = keeps_runs t workers names prior before now (learn_stop learned) is left in
     let ok_of = subst₂ (λ (a b : ℕ). IfOk learned (λ l. IsLearned a b k most (answers_of now.kept) l.model l.table)) is.inputs is.outputs ok in
     let stops_of = subst₂ (λ (a b : ℕ). IfErr learned (StopsAs a b k most (answers_of now.kept))) is.inputs is.outputs stops in
-    let own_of = learn_own t.rows (seen_of now) now.kept runs.gives never learned now.stop left.stands.why left.leaves.told in
-    subst (HasEnded t workers k most learned) (sym same) (record {
+    let caused_of = learn_caused (seen_of now) now.kept never learned now.stop left.stands.why left.leaves.told in
+    subst (HasEnded t workers k most prior learned) (sym same) (record {
       ok = ok_of;
       stops = stops_of;
-      own = own_of;
-      reached_by = reached t.inputs t.outputs k most (answers_of now.kept) learned least none large runs.words ok_of stops_of own_of;
+      caused = caused_of;
+      reached_by = λ m within gives. reached t.inputs t.outputs k most (answers_of now.kept) learned least none large runs.words ok_of stops_of (learn_own m now.kept gives learned caused_of) m within gives;
       runs = runs;
     })

@@ -1,5 +1,5 @@
 -- What comes of a learning of a machine that stands in for a system, by instances of it.
-use Rattle.std.specs.Prelude.{◌≡◌, ℕ, ◌<◌, ◌≤◌, ◌==◌, List, [], length, map, filter, Result, Ok, Err}
+use Rattle.std.specs.Prelude.{◌≡◌, ℕ, ◌<◌, ◌≤◌, ◌==◌, List, ◌++◌, length, map, filter, Result, Ok, Err}
 use Rattle.std.specs.List.{All, range_with_len}
 use Rattle.lw_words.specs.Answer.{AreAnswers, answers_of}
 use Rattle.lw_words.specs.Word.{IsWord}
@@ -8,6 +8,7 @@ use Rattle.lw_mealy.specs.Gives.{Gives}
 use Rattle.lw_mealy.specs.Limits.{MealyMachine}
 use Rattle.lw_mealy.specs.Machine.{Rows, IsMachine}
 use Rattle.lw_cache.specs.declared.stops.AskStop.TheVariants as ask
+use Rattle.lw_desk.specs.Ending.{CameFirst}
 use Rattle.lw_pool.specs.Pool.{AskedOnce}
 use Rattle.lw_suite.specs.Size.{suite_size, greatest_suite}
 use Rattle.lw_rounds.specs.declared.learned.Learned.{Learned}
@@ -18,15 +19,27 @@ use Rattle.lw_rounds.specs.declared.stops.LearnStop.TheVariants as learn
 abbrev pub run_numbers : ℕ → List KeptAnswer → List ℕ
 run_numbers instance kept = map (λ k. k.run) (filter (λ k. k.instance == instance) kept)
 
--- the kept answers are runs of a machine's instances, of which there are so many: those of each instance are its runs 0, 1, 2
--- and so on; each is the machine's answer to a word over its inputs; and the word of none was known when it was asked
-pub record KeepsRuns (t : MealyMachine) (instances : ℕ) (kept : List KeptAnswer) : Type 0 where
-  pub instances_are : All (λ k. k.instance < instances) kept
-  pub numbered : (i : ℕ) → i < instances → run_numbers i kept ≡ range_with_len 0 (length (run_numbers i kept))
+-- the kept answers are first the prior ones, as they were, and since then runs of a machine's instances, of which there are so
+-- many: those of each instance are its runs 0, 1, 2 and so on; each is the machine's answer to a word over its inputs; and the
+-- word of none was known when it was asked
+pub record KeepsRuns (t : MealyMachine) (instances : ℕ) (prior kept : List KeptAnswer) : Type 0 where
+  pub since : List KeptAnswer
+  pub first : kept ≡ prior ++ since
+  pub instances_are : All (λ k. k.instance < instances) since
+  pub numbered : (i : ℕ) → i < instances → run_numbers i since ≡ range_with_len 0 (length (run_numbers i since))
   pub words : AreAnswers t.inputs (answers_of kept)
   pub outputs : All (λ k. IsWord t.outputs k.outs) kept
-  pub gives : Gives t.rows (answers_of kept)
-  pub once : AskedOnce [] kept
+  pub gives : Gives t.rows (answers_of since)
+  pub once : AskedOnce prior kept
+
+-- why a learning of a machine stopped, by the kept answers: no instance stops; a clash is that of an answer that clashed with
+-- those kept before it, which takes a prior answer that isn't the machine's
+abbrev pub IsMachineStop : List KeptAnswer → LearnStop → Type 0
+IsMachineStop kept (learn.Ask (ask.Sul instance stop)) = ⊥
+IsMachineStop kept (learn.Ask (ask.Clash c)) = CameFirst kept c
+IsMachineStop kept (learn.Ask ask.NoMemory) = Unit {0}
+IsMachineStop kept (learn.Crowd words) = Unit {0}
+IsMachineStop kept (learn.TooLarge model number) = Unit {0}
 
 -- a model comes, of a table that was refined fewer times than n, or memory runs out
 abbrev pub IsReached : ℕ → Result Learned LearnStop → Type 0

@@ -1,11 +1,12 @@
 //! The learning of a machine that stands in for a system, over instances of it.
-ghost use Rattle.std.specs.Prelude.{◌≡◌, ◌≤◌, IfOk, IfErr, length};
+ghost use Rattle.std.specs.Prelude.{◌≡◌, ◌≤◌, IfOk, IfErr, [], length, None};
 ghost use Rattle.lw_words.specs.Answer.{answers_of};
 ghost use Rattle.lw_mealy.specs.Gives.{Gives};
 ghost use Rattle.lw_mealy.specs.Machine.{Rows};
+ghost use Rattle.lw_cache.specs.Clash.{NothingClashes};
+ghost use Rattle.lw_pool.specs.Opening.{MayBegin};
 ghost use Rattle.lw_rounds.specs.Learned.{IsLearned, StopsAs};
-ghost use Rattle.lw_rounds.specs.Stops.{IsOwnStop};
-ghost use Rattle.lw_workers.specs.Machines.{KeepsRuns, IsReached, IsWithin};
+ghost use Rattle.lw_workers.specs.Machines.{IsMachineStop, KeepsRuns, IsReached, IsWithin};
 ghost use Rattle.lw_workers.specs.bodies.Instances.{AreInstances, IsPoolOf};
 
 use crate::{LearnedWith, learn_with};
@@ -20,11 +21,12 @@ use std::alloc::Global;
 use std::sync::Wait;
 use std::thread::Threads;
 
-/// What came of a learning of a machine, and the answers of its instances.
+/// What came of a learning of a machine, the answers that were kept, and the names of its outputs.
 #[derive(Drop)]
 pub struct LearnedMachine {
     pub learned: Result<Learned, LearnStop>,
     pub kept: Kept,
+    pub names: OutNames,
 }
 
 /// Sessions of so many instances of a machine, in their order.
@@ -46,48 +48,58 @@ fn instances(
     Ok(sessions)
 }
 
-/// A pool of so many instances of a machine.
+/// A pool of so many instances of a machine over these names, which begins with what the cache keeps. Where there is no memory
+/// the names and the cache are handed back.
 fn pool_of<R: Drop>(
     rt: R,
     alloc: Global,
     system: &Mealy,
     names: &Names,
+    shared: OutNames,
+    cache: Cache,
     workers: u8,
-) -> Result<Pool<TableSul, R>, NoMemory>
+) -> Result<Pool<TableSul, R>, (OutNames, Cache)>
     requires named { length names.now ≡ system.now.outputs }
+    requires shared { shared ≡ record { names = names.now; brought = None } }
+    requires unclaimed { cache.claims ≡ [] }
+    requires prior { MayBegin shared system.now.inputs system.now.outputs cache.kept }
     requires workers { (1 ≤ workers) × (workers ≤ 16) }
-    ensures { IfOk result (IsPoolOf system.now workers) }
+    ensures pool { IfOk result (IsPoolOf system.now workers shared cache.kept) }
+    ensures back { IfErr result (λ e. (e.0 ≡ shared) × (e.1 ≡ cache)) }
 {
     let (inputs, outputs) = (system.inputs(), system.outputs());
-    let sessions = instances(alloc, system, names, workers)?;
-    let shared = OutNames::declared(alloc, names)?;
-    match Pool::new(
-        rt,
-        alloc,
-        inputs,
-        outputs,
-        sessions,
-        shared,
-        Cache::new(alloc),
-    ) {
+    let Ok(sessions) = instances(alloc, system, names, workers) else {
+        return Err((shared, cache));
+    };
+    match Pool::new(rt, alloc, inputs, outputs, sessions, shared, cache) {
         Ok(pool) => Ok(pool),
-        Err(_) => Err(NoMemory),
+        Err((_, unused, prior, NoMemory)) => Err((unused, prior)),
     }
 }
 
-/// A model of a machine, whose outputs have these names, as `learn_with` makes it of a pool of so many instances of the
-/// machine; and the answers of the instances, which bear out what came of the learning.
+/// A model of a machine, whose outputs have these names, as `learn_with` makes it of a pool of so many instances of the machine;
+/// and the kept answers, which bear out what came of the learning: first those that the cache begins with, the prior ones, and
+/// then those of the instances. The names are handed back as they were.
+///
+/// A prior answer that isn't the machine's may be told by a clash; without one, a learning stops for want of states or memory
+/// alone, or because its suite is too large.
 pub fn learn_machine<R: Threads + Wait + Sync + Drop>(
     rt: R,
     alloc: Global,
     system: &Mealy,
     names: &Names,
+    shared: OutNames,
+    cache: Cache,
     workers: u8,
     kind: Kind,
     extra: u8,
     max_states: u16,
 ) -> LearnedMachine
     requires named { length names.now ≡ system.now.outputs }
+    requires shared { shared ≡ record { names = names.now; brought = None } }
+    requires unclaimed { cache.claims ≡ [] }
+    requires nothing { NothingClashes (answers_of cache.kept) }
+    requires prior { MayBegin shared system.now.inputs system.now.outputs cache.kept }
     requires workers { (1 ≤ workers) × (workers ≤ 16) }
     requires few { extra ≤ 4 }
     requires most { (1 ≤ max_states) × (max_states ≤ 1024) }
@@ -95,26 +107,32 @@ pub fn learn_machine<R: Threads + Wait + Sync + Drop>(
         max_states (answers_of result.kept.answers) l.model l.table) }
     ensures stops { IfErr result.learned (StopsAs system.now.inputs system.now.outputs extra
         max_states (answers_of result.kept.answers)) }
-    ensures own { IfErr result.learned IsOwnStop }
+    ensures caused { IfErr result.learned (IsMachineStop result.kept.answers) }
     ensures reached { (m : Rows) → IsWithin system.now.inputs extra max_states m →
         Gives m (answers_of result.kept.answers) → IsReached (length m) result.learned }
-    ensures kept { KeepsRuns system.now workers result.kept.answers }
+    ensures kept { KeepsRuns system.now workers cache.kept result.kept.answers }
+    ensures names { result.names ≡ shared }
 {
     model_is_least();
     too_many_is_none();
     too_large_for_all();
     // for the proof alone: the machine is within the limits
     let _ = system.inputs();
-    let Ok(pool) = pool_of(rt, alloc, system, names, workers) else {
-        return LearnedMachine {
-            learned: Err(LearnStop::from(NoMemory)),
-            kept: Kept::new(alloc),
-        };
+    let pool = match pool_of(rt, alloc, system, names, shared, cache, workers) {
+        Ok(pool) => pool,
+        Err((unused, prior)) => {
+            return LearnedMachine {
+                learned: Err(LearnStop::from(NoMemory)),
+                kept: prior.into_kept(),
+                names: unused,
+            };
+        }
     };
     let LearnedWith { learned, pool } = learn_with(pool, alloc, kind, extra, max_states);
-    let (_, _, cache) = pool.into_parts();
+    let (_, left, cache) = pool.into_parts();
     LearnedMachine {
         learned,
         kept: cache.into_kept(),
+        names: left,
     }
 }

@@ -11,6 +11,7 @@ use std::thread::Threads;
 
 mod crews;
 mod machines;
+mod prior;
 
 /// The counter of three: each third letter is answered by 1.
 const COUNTER: [(u16, u16); 3] = [(1, 0), (2, 0), (0, 1)];

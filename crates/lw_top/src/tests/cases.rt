@@ -2,8 +2,9 @@
 ghost use Rattle.std.specs.Prelude.{◌<◌};
 
 use crate::run;
-use lw_outside::{MemoryFiles, MemorySink, MemorySource};
+use lw_outside::{MemoryFiles, MemorySink, MemorySource, MemorySpawner};
 use lw_report::End;
+use lw_words::NoMemory;
 use std::alloc::Global;
 use std::process::Abort;
 use std::sync::Wait;
@@ -76,6 +77,11 @@ pub fn source(alloc: Global, text: &str, plan: &[u64]) -> Result<MemorySource, F
     Ok(MemorySource::new(bytes, 6, Vec::from_slice(alloc, plan)?)?)
 }
 
+/// A spawner that starts no child.
+pub fn no_children(alloc: Global) -> Result<MemorySpawner, NoMemory> {
+    MemorySpawner::scripted(alloc, Vec::new(alloc), 0, Vec::new(alloc), Vec::new(alloc))
+}
+
 /// Plays a case over these files.
 fn play<R: Abort + Threads + Wait + Sync + Copy + Drop>(
     rt: R,
@@ -88,7 +94,16 @@ fn play<R: Abort + Threads + Wait + Sync + Copy + Drop>(
     let mut out = sink(alloc, case.piece, case.out_plan)?;
     let mut err = sink(alloc, case.piece, case.err_plan)?;
     let arguments = texts(alloc, case.arguments)?;
-    let end = run(rt, alloc, &arguments, files, &mut input, &mut out, &mut err);
+    let end = run(
+        rt,
+        alloc,
+        &arguments,
+        files,
+        &mut no_children(alloc)?,
+        &mut input,
+        &mut out,
+        &mut err,
+    );
     assert_eq!(rt; end.status, case.status);
     assert_eq!(rt; out.taken(), case.out.as_bytes());
     assert_eq!(rt; err.taken(), case.err.as_bytes());

@@ -8,7 +8,7 @@ use std::test::Fail;
 use std::thread::Threads;
 
 const USAGE: &str =
-    "usage: learn (SETUP | --table FILE) [--workers N] [--extra K] [--learner table|ttt] [--max-states N] [--model FILE] [--answers FILE]\n       check MODEL ANSWERS [--extra K]\n       serve MODEL\n       trial --states N --inputs A --seed S [--workers N] [--learner table|ttt]\n";
+    "usage: learn (SETUP | --table FILE) [--workers N] [--extra K] [--learner table|ttt] [--max-states N] [--model FILE] [--answers FILE] [--prior FILE]\n       check MODEL ANSWERS [--extra K]\n       serve MODEL\n       trial --states N --inputs A --seed S [--workers N] [--learner table|ttt]\n";
 
 /// Arguments that are not taken.
 static REFUSED: [&[&str]; 21] = [

@@ -1,6 +1,8 @@
 //! Machines that are learned, worked by hand: at one worker, at two and at sixteen.
 use crate::run;
-use crate::tests::cases::{Case, LEARN, PLAIN, check, end_of, files_of, sink, source, texts};
+use crate::tests::cases::{
+    Case, LEARN, PLAIN, check, end_of, files_of, no_children, sink, source, texts,
+};
 use lw_outside::MemorySink;
 use lw_words::Kept;
 use std::alloc::Global;
@@ -121,7 +123,14 @@ fn play<R: Threads + Wait + Sync + Drop>(
     let mut err = sink(alloc, 4096, &[])?;
     let words = texts(alloc, arguments)?;
     let end = run(
-        rt, alloc, &words, &mut files, &mut input, &mut out, &mut err,
+        rt,
+        alloc,
+        &words,
+        &mut files,
+        &mut no_children(alloc)?,
+        &mut input,
+        &mut out,
+        &mut err,
     );
     Ok(Played {
         status: end.status,

@@ -1,5 +1,5 @@
 //! A counter modulo three that is served, worked by hand, and what is asked of other commands.
-use crate::tests::cases::{Case, PLAIN, check, files_of, sink, source, texts};
+use crate::tests::cases::{Case, PLAIN, check, files_of, no_children, sink, source, texts};
 use crate::{run, serve_arguments};
 use lw_outside::{MemorySink, MemorySource, Source};
 use std::alloc::Global;
@@ -125,7 +125,14 @@ fn input_after<R: Threads + Wait + Sync + Drop>(
         sink(alloc, 4096, &[])?,
     );
     let _end = run(
-        rt, alloc, &words, &mut files, &mut input, &mut out, &mut err,
+        rt,
+        alloc,
+        &words,
+        &mut files,
+        &mut no_children(alloc)?,
+        &mut input,
+        &mut out,
+        &mut err,
     );
     Ok(input)
 }

@@ -1,6 +1,6 @@
 //! Trials: small ones worked by hand, and greater ones that many workers make as one does.
 use crate::run;
-use crate::tests::cases::{Case, PLAIN, check, files_of, sink, source, texts};
+use crate::tests::cases::{Case, PLAIN, check, files_of, no_children, sink, source, texts};
 use lw_outside::MemorySink;
 use lw_report::End;
 use std::alloc::Global;
@@ -51,7 +51,14 @@ fn try_out<R: Threads + Wait + Sync + Drop>(
     let mut err = sink(alloc, 4096, &[])?;
     let words = texts(alloc, arguments)?;
     let end = run(
-        rt, alloc, &words, &mut files, &mut input, &mut out, &mut err,
+        rt,
+        alloc,
+        &words,
+        &mut files,
+        &mut no_children(alloc)?,
+        &mut input,
+        &mut out,
+        &mut err,
     );
     Ok((end, out))
 }

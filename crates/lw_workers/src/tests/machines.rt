@@ -4,6 +4,8 @@ ghost use Rattle.std.specs.Prelude.{◌≡◌, ◌≤◌, IfOk, length};
 use crate::tests::crews::{machine, two_names};
 use crate::tests::{COUNTER, are_long, is_crowd, is_found};
 use crate::{LearnedMachine, learn_machine};
+use lw_cache::Cache;
+use lw_desk::OutNames;
 use lw_mealy::Mealy;
 use lw_rounds::{Kind, LearnStop};
 use lw_words::Names;
@@ -29,11 +31,14 @@ fn learned_by<R: Threads + Wait + Sync + Drop>(
     if workers < 1 || workers > 16 {
         return Err(Fail::from("another number of instances was meant"));
     }
+    let shared = OutNames::declared(alloc, &names)?;
     Ok(learn_machine(
         rt,
         alloc,
         system,
         &names,
+        shared,
+        Cache::new(alloc),
         workers,
         Kind::Table,
         extra,
@@ -135,7 +140,19 @@ fn many_letters_by<R: Threads + Wait + Sync + Drop>(
 ) -> Result<LearnedMachine, Fail> {
     let names = one_name(alloc)?;
     let system = of_many_letters(alloc)?;
-    Ok(learn_machine(rt, alloc, &system, &names, 2, Kind::Table, 3, 4))
+    let shared = OutNames::declared(alloc, &names)?;
+    Ok(learn_machine(
+        rt,
+        alloc,
+        &system,
+        &names,
+        shared,
+        Cache::new(alloc),
+        2,
+        Kind::Table,
+        3,
+        4,
+    ))
 }
 
 /// Each word of two letters was asked, and the suite wasn't: 1 + 64 + 64² + 64³ + 64⁴ words are too many.

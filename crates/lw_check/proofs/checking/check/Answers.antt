@@ -17,6 +17,7 @@ returns-in-Err-clause-ended g c =
     inl (record {
       cause = still_unread c.args.model.now c.args.answers.now (files_state (F.holds c.args.files.now) (F.calls c.args.files.now) (F.reads c.args.files.now) (F.faults c.args.files.now)) (files_state (F.holds c.read_pair.new.files) (F.calls c.read_pair.new.files) (F.reads c.read_pair.new.files) (F.faults c.read_pair.new.files)) c.in-Err.outcome c.refuse.result.outcome c.in-Err.ensures.err c.refuse.ensures.outcome;
       kept_none = none;
+      unnamed = c.refuse.ensures.named;
       unwritten = refl {a = sink_state (g.O.Sink.taken c.args.out.now) (g.O.Sink.faults c.args.out.now)};
       said = λ quiet. said (c.refuse.ensures.said quiet);
       said_part = part c.refuse.ensures.part;
@@ -36,6 +37,7 @@ returns-clause-ended g c =
       pair = pair_of c.in-Ok.read.machine c.in-Ok.read.answers;
       read = c.in-Ok.ensures.ok;
       kept_all = told.kept;
+      named = told.outputs;
       comes = told.comes;
       quiet = told.quiet;
       written = told.written;

@@ -1,9 +1,9 @@
-use Rattle.std.proofs.Common.{◌≡◌, ℕ, ◌<◌, List, [], ◌∷◌, ◌++◌, map, Contains, refl, ap, sym, ◌∙◌, subst, append_assoc, append-nil}
+use Rattle.std.proofs.Common.{ℕ, ◌<◌, List, [], ◌∷◌, ◌++◌, map, Contains, ap, sym, ◌∙◌, subst, append_assoc}
 use Rattle.std.specs.Vec.Iter.{into_iter_items}
 use Rattle.lw_sul.specs.SessionState.{SessionState}
 use Rattle.lw_line.specs.LineState.{LineState}
 use Rattle.lw_children.specs.Spawners.{spawner_seen}
-use Rattle.lw_children.specs.Crews.{BearsOut, RetiresAll, line_seen, retired_of}
+use Rattle.lw_children.specs.Crews.{RetiresAll, retired_of}
 use Rattle.lw_children.proofs.RetireLemmas.{all_done, none_retired, was_started, not_retired, one_more_retired}
 use Rattle.lw_children.proofs.retiring.retire_all.Goals as goal
 

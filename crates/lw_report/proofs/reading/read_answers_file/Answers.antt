@@ -1,21 +1,22 @@
-use Rattle.std.proofs.Common.{◌≡◌, ◌∙◌, List, ℕ, IfErr, subst, sym}
-use Rattle.lw_json.specs.AnswersFile.{IsAnswersFile}
 use Rattle.lw_json.specs.AnswersFault.{HasAnswersFault}
-use Rattle.lw_json.specs.declared.fault.JsonFault.{JsonFault}
-use Rattle.lw_json.specs.declared.answers.Answers.{Answers}
-use Rattle.lw_report.specs.declared.stops.ReadStop.TheVariants.{Bad}
-use Rattle.lw_report.proofs.ReadLemmas.{err_is, no_answers, told_fault}
+use Rattle.lw_json.specs.AnswersFile.{IsAnswersFile}
+use Rattle.lw_report.specs.States.{files_state}
+use Rattle.lw_report.proofs.ReadLemmas.{has_fault, no_answers}
 use Rattle.lw_report.proofs.reading.read_answers_file.Goals as goal
 
-pub returns-clause-bad : goal.returns-clause-bad
-returns-clause-bad g c fault is =
-    let told = told_fault c.in-Err-read_answers.fault fault (sym c.from-in-Err-read_answers.ensures ∙ err_is c.from-in-Err-read_answers.result (Bad fault) is) in
-    let own : HasAnswersFault c.deref.result.now c.in-Err-read_answers.fault = subst (λ r. IfErr r (HasAnswersFault c.deref.result.now)) c.in-Err-read_answers.is c.read_answers.ensures.err in
-    let first : HasAnswersFault c.deref.result.now fault = subst (λ (f : JsonFault). HasAnswersFault c.deref.result.now f) told.0 own in
-    record {
-      bytes = c.in-Ok.bytes.items;
-      read = record { given = c.in-Ok.ensures.given; short = c.in-Ok.ensures.short; held = c.in-Ok.ensures.told };
-      first = subst (λ (b : List ℕ). HasAnswersFault b fault) c.deref.ensures.value first;
-      told = told.1;
-      bad = subst (λ (b : List ℕ). (a : Answers) → ¬ IsAnswersFile b a) c.deref.ensures.value (no_answers c.deref.result.now fault first told.1);
-    }
+pub returns : goal.returns
+returns g c =
+    let F = g.F.Files in
+    let read = c.in-Ok.ensures in
+    has_fault IsAnswersFile HasAnswersFault c.args.name.now
+    (files_state (F.holds c.args.files.now) (F.calls c.args.files.now) (F.reads c.args.files.now) (F.faults c.args.files.now))
+    (files_state (F.holds c.read.new.self) (F.calls c.read.new.self) (F.reads c.read.new.self) (F.faults c.read.new.self))
+    c.in-Ok.bytes.items c.deref.result.now c.in-Err-read_answers.fault c.from-in-Err-read_answers.result no_answers
+    (record {
+      read = record { given = read.given; short = read.short; held = read.told };
+      calls = read.ok;
+      quiet = read.quiet;
+      counts = read.counts;
+      same = read.same;
+    })
+    c.deref.ensures.value c.in-Err-read_answers.ensures.err c.from-in-Err-read_answers.ensures

@@ -1,4 +1,4 @@
-use Rattle.std.proofs.Common.{◌∙◌, List, ℕ, ap, option_map, string_bytes}
+use Rattle.std.proofs.Common.{◌∙◌, ap, option_map}
 use Rattle.lw_report.specs.Text.{names_of, text_of}
 use Rattle.lw_report.proofs.TextLemmas.{at_values, fixed_or, not_own}
 use Rattle.lw_report.proofs.texts.outcome_text.Goals as goal

@@ -23,7 +23,7 @@ returns-in-Ok-clause-ran g c =
     played_run c.args.model.now f (files_state (F.holds read) (F.calls read) (F.reads read) (F.faults read)) i j o p e d c.play.result c.in-Ok.machine
     (record { file = was.ok; calls = was.ok_call; quiet = was.quiet; holds = was.same })
     now.served
-    (record { model = now.model; learner = now.learner; kept = now.kept; said = now.said; part = now.part })
+    (record { model = now.model; learner = now.learner; kept = now.kept; outputs = now.outputs; said = now.said; part = now.part })
 
 pub returns-in-Err-clause-ran : goal.returns-in-Err-clause-ran
 returns-in-Err-clause-ran g c =
@@ -48,4 +48,4 @@ returns-in-Err-clause-ran g c =
       memory = λ kind. was.memory (is ∙ ap (λ (s : ReadStop). Err s) kind);
     })
     was.same was.reads now.outcome
-    (record { model = now.model; learner = now.learner; kept = now.kept; said = now.said; part = now.part })
+    (record { model = now.model; learner = now.learner; kept = now.kept; outputs = now.outputs; said = now.said; part = now.part })

@@ -1,4 +1,5 @@
 use Rattle.std.proofs.Common.{◌∙◌, Err, List, ℕ, string_bytes, sym, ap, refl, subst}
+use Rattle.lw_children.specs.Spawners.{spawner_seen}
 use Rattle.lw_learn.specs.LearnRun.{IsLearnRun}
 use Rattle.lw_report.specs.States.{files_state, sink_state, source_state}
 use Rattle.lw_check.specs.CheckRun.{IsCheckRun}
@@ -29,9 +30,18 @@ returns-in-Learn-clause-learn g c =
     let p = sink_state (O.taken c.run_learn.new.out) (O.faults c.run_learn.new.out) in
     let e = sink_state (E.taken c.args.err.now) (E.faults c.args.err.now) in
     let d = sink_state (E.taken c.run_learn.new.err) (E.faults c.run_learn.new.err) in
+    let P = g.P.Spawner in
+    let b = spawner_seen (P.faults c.args.spawner.now) (P.started c.args.spawner.now) (P.retired c.args.spawner.now) (P.commands c.args.spawner.now) in
+    let z = spawner_seen (P.faults c.run_learn.new.spawner) (P.started c.run_learn.new.spawner) (P.retired c.run_learn.new.spawner) (P.commands c.run_learn.new.spawner) in
     let words = texts c.args.arguments.now in
     let is = subst (IsCall words) c.in-Learn.is c.in-Ok.ensures.ok in
-    at_value (learn_values words) c.in-Learn.values (λ a. IsLearnRun a f h o p e d c.run_learn.result) is.0 c.run_learn.ensures.all
+    at_value (learn_values words) c.in-Learn.values (λ a. IsLearnRun a f h b z o p e d c.run_learn.result) is.0 c.run_learn.ensures.all
+
+pub returns-in-Learn-clause-unstarted : goal.returns-in-Learn-clause-unstarted
+returns-in-Learn-clause-unstarted g c none =
+    let words = texts c.args.arguments.now in
+    let is = subst (IsCall words) c.in-Learn.is c.in-Ok.ensures.ok in
+    absurd (none_is_some c.in-Learn.values (sym none ∙ is.0))
 
 pub returns-in-Check-clause-check : goal.returns-in-Check-clause-check
 returns-in-Check-clause-check g c =
@@ -65,11 +75,14 @@ returns-in-Err-clause-learn g c =
       model = c.refuse_arguments.ensures.model;
       learner = c.refuse_arguments.ensures.learner;
       kept = c.refuse_arguments.ensures.kept;
+      outputs = c.refuse_arguments.ensures.outputs;
       said = c.refuse_arguments.ensures.said;
       part = c.refuse_arguments.ensures.part;
     } in
-    by_value (learn_values (texts c.args.arguments.now)) (λ a. IsLearnRun a f f o o e d end) (λ a is.
-    wanted_run a f o e d end (not_usage c.in-Err.stop end.outcome outcome (λ u.
+    let P = g.P.Spawner in
+    let b = spawner_seen (P.faults c.args.spawner.now) (P.started c.args.spawner.now) (P.retired c.args.spawner.now) (P.commands c.args.spawner.now) in
+    by_value (learn_values (texts c.args.arguments.now)) (λ a. IsLearnRun a f f b b o o e d end) (λ a is.
+    wanted_run a f b o e d end (not_usage c.in-Err.stop end.outcome outcome (λ u.
     none_is_some a (sym (c.in-Err.ensures.refused (ap (λ (s : ArgumentStop). Err s) u)).0 ∙ is))) refused)
 
 pub returns-in-Err-clause-check : goal.returns-in-Err-clause-check
@@ -89,6 +102,7 @@ returns-in-Err-clause-check g c =
       model = c.refuse_arguments.ensures.model;
       learner = c.refuse_arguments.ensures.learner;
       kept = c.refuse_arguments.ensures.kept;
+      outputs = c.refuse_arguments.ensures.outputs;
       said = c.refuse_arguments.ensures.said;
       part = c.refuse_arguments.ensures.part;
     } in
@@ -125,6 +139,7 @@ returns-in-Err-clause-trial g c =
       model = c.refuse_arguments.ensures.model;
       learner = c.refuse_arguments.ensures.learner;
       kept = c.refuse_arguments.ensures.kept;
+      outputs = c.refuse_arguments.ensures.outputs;
       said = c.refuse_arguments.ensures.said;
       part = c.refuse_arguments.ensures.part;
     } in
@@ -173,6 +188,7 @@ returns-in-Err-clause-serve g c =
       model = c.refuse_arguments.ensures.model;
       learner = c.refuse_arguments.ensures.learner;
       kept = c.refuse_arguments.ensures.kept;
+      outputs = c.refuse_arguments.ensures.outputs;
       said = c.refuse_arguments.ensures.said;
       part = c.refuse_arguments.ensures.part;
     } in

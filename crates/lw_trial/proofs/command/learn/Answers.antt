@@ -1,9 +1,13 @@
-use Rattle.std.proofs.Common.{Ok, Err, Result, ap, subst}
+use Rattle.std.proofs.Common.{◌≡◌, ◌∙◌, List, Ok, Err, IfSome, Option, Result, Some, ap, refl, subst, sym}
+use Rattle.lw_words.specs.declared.kept.KeptAnswer.{KeptAnswer}
+use Rattle.lw_desk.specs.Naming.{Naming}
+use Rattle.lw_workers.specs.Machines.{KeepsRuns}
 use Rattle.lw_rounds.specs.declared.learned.Learned.{Learned}
 use Rattle.lw_rounds.specs.declared.stops.LearnStop.{LearnStop}
 use Rattle.lw_report.specs.Outcomes.{StandsOrWants}
 use Rattle.lw_report.specs.States.{sink_state}
 use Rattle.lw_report.specs.declared.outcome.Outcome.{Outcome}
+use Rattle.lw_trial.specs.TrialRun.{drawn_naming}
 use Rattle.lw_trial.proofs.RunLemmas.{HasCome, few_refinements, of_drawn, stopped_run}
 use Rattle.lw_trial.proofs.command.learn.Goals as goal
 
@@ -14,9 +18,9 @@ report-requires-clause-reached g c =
     let kept = c.learn_machine-learned.result.kept.answers in
     let all : HasCome c.args.drawn.now.machine c.workers.result kept c.learn_machine-learned.result.learned = record {
       within = c.requires.complete;
-      runs = came.kept;
+      runs = subst (λ (prior : List KeptAnswer). KeepsRuns c.args.drawn.now.machine c.workers.result prior kept) c.new.ensures.kept came.kept;
       stops = came.stops;
-      own = came.own;
+      caused = came.caused;
       reached = came.reached;
     } in
     let ok = subst (λ (r : Result Learned LearnStop). HasCome c.args.drawn.now.machine c.workers.result kept r) c.in-Ok.is all in
@@ -37,11 +41,12 @@ returns-in-Err-clause-ran g c =
     let stop = c.in-Err.stop in
     let all : HasCome c.args.drawn.now.machine c.workers.result kept c.learn_machine-learned.result.learned = record {
       within = c.requires.complete;
-      runs = came.kept;
+      runs = subst (λ (prior : List KeptAnswer). KeepsRuns c.args.drawn.now.machine c.workers.result prior kept) c.new.ensures.kept came.kept;
       stops = came.stops;
-      own = came.own;
+      caused = came.caused;
       reached = came.reached;
     } in
     let err = subst (λ (r : Result Learned LearnStop). HasCome c.args.drawn.now.machine c.workers.result kept r) c.in-Err.is all in
-    let stands = subst (λ (x : Outcome). StandsOrWants x end.outcome) c.learn_outcome.ensures refused.outcome in
-    stopped_run v o e d end stop kept (of_drawn v c.args.drawn.now.machine c.workers.result kept (Err stop) c.requires.machine c.workers.ensures.value err) (ap (λ k. k.answers) refused.kept) refused.model refused.learner stands refused.said refused.part
+    let outputs = subst (λ (n : Option Naming). IfSome n (λ named. named ≡ drawn_naming)) (sym (refused.named ∙ ap (λ (n : Naming). Some n) (came.names ∙ c.requires.named))) refl in
+    let stands = subst (λ (x : Outcome). StandsOrWants x end.outcome) c.learn_outcome-outcome.ensures refused.outcome in
+    stopped_run v o e d end stop kept (of_drawn v c.args.drawn.now.machine c.workers.result kept (Err stop) c.requires.machine c.workers.ensures.value err) (ap (λ k. k.answers) refused.kept) refused.model refused.learner outputs stands refused.said refused.part

@@ -1,4 +1,5 @@
-use Rattle.std.proofs.Common.{◌≢◌, Err, ap, length, subst}
+use Rattle.std.proofs.Common.{◌≢◌, ◌∙◌, Err, Some, ap, length, subst}
+use Rattle.lw_desk.specs.Naming.{Naming}
 use Rattle.lw_mealy.specs.Limits.{MealyMachine}
 use Rattle.lw_report.specs.Outcomes.{StandsOrWants}
 use Rattle.lw_report.specs.States.{sink_state}
@@ -29,6 +30,7 @@ returns-in-Ok-clause-ran g c =
       carried = made.table;
       counted = made.refinements;
       keeps = ap (λ k. k.answers) made.kept;
+      outputs = made.outputs ∙ ap (λ (n : Naming). Some n) c.requires.named;
       runs = c.requires.kept;
       learned = c.requires.learned;
       reached = c.requires.reached;
@@ -58,6 +60,7 @@ returns-in-Err-clause-ran g c =
       carried = made.table;
       counted = made.refinements;
       keeps = ap (λ k. k.answers) made.kept;
+      outputs = made.outputs ∙ ap (λ (n : Naming). Some n) c.requires.named;
       runs = c.requires.kept;
       learned = c.requires.learned;
       reached = c.requires.reached;

@@ -1,39 +1,59 @@
-use Rattle.std.proofs.Common.{refl, ◌∙◌}
+use Rattle.std.proofs.Common.{List, refl, sym, ◌∙◌, ap, subst}
+use Rattle.lw_words.specs.Answer.{answers_of}
+use Rattle.lw_words.specs.declared.kept.KeptAnswer.{KeptAnswer}
+use Rattle.lw_cache.specs.Caching.{Caching}
+use Rattle.lw_cache.specs.Clash.{NothingClashes}
+use Rattle.lw_rounds.specs.Stops.{learn_stop}
+use Rattle.lw_workers.specs.Machines.{KeepsRuns}
 use Rattle.lw_workers.proofs.InstanceLemmas.{member}
 use Rattle.lw_workers.proofs.MachineLemmas.{has_ended, never_stopped}
+use Rattle.lw_workers.proofs.RunLemmas.{keeps_naming, keeps_prior}
 use Rattle.lw_workers.proofs.machine.learn_machine.Goals as goal
 
 pub returns-clause-learned : goal.returns-clause-learned
 returns-clause-learned g c =
     let learned = c.learn_with-learned.ensures in
-    let parts = c.into_parts-cache.ensures in
+    let parts = c.into_parts-left.ensures in
     let never = never_stopped member _ _ parts.sessions (λ s. refl) in
-    (has_ended c.args.system.now c.args.workers c.args.extra c.args.max_states c.in-Ok.pool c.learn_with-learned.result.pool c.learn_with-learned.result.learned c.into_kept.result.answers c.model_is_least.ensures c.too_many_is_none.ensures c.too_large_for_all.ensures c.in-Ok.ensures learned.leaves never learned.learned learned.stops (c.into_kept.ensures ∙ parts.cache.0)).ok
+    (has_ended c.args.system.now c.args.workers c.args.extra c.args.max_states c.args.shared c.args.cache.kept c.in-Ok.pool c.learn_with-learned.result.pool c.learn_with-learned.result.learned c.into_kept-2.result.answers c.model_is_least.ensures c.too_many_is_none.ensures c.too_large_for_all.ensures c.in-Ok.ensures.pool learned.leaves never learned.learned learned.stops (c.into_kept-2.ensures ∙ parts.cache.0)).ok
 
 pub returns-clause-stops : goal.returns-clause-stops
 returns-clause-stops g c =
     let learned = c.learn_with-learned.ensures in
-    let parts = c.into_parts-cache.ensures in
+    let parts = c.into_parts-left.ensures in
     let never = never_stopped member _ _ parts.sessions (λ s. refl) in
-    (has_ended c.args.system.now c.args.workers c.args.extra c.args.max_states c.in-Ok.pool c.learn_with-learned.result.pool c.learn_with-learned.result.learned c.into_kept.result.answers c.model_is_least.ensures c.too_many_is_none.ensures c.too_large_for_all.ensures c.in-Ok.ensures learned.leaves never learned.learned learned.stops (c.into_kept.ensures ∙ parts.cache.0)).stops
+    (has_ended c.args.system.now c.args.workers c.args.extra c.args.max_states c.args.shared c.args.cache.kept c.in-Ok.pool c.learn_with-learned.result.pool c.learn_with-learned.result.learned c.into_kept-2.result.answers c.model_is_least.ensures c.too_many_is_none.ensures c.too_large_for_all.ensures c.in-Ok.ensures.pool learned.leaves never learned.learned learned.stops (c.into_kept-2.ensures ∙ parts.cache.0)).stops
 
-pub returns-clause-own : goal.returns-clause-own
-returns-clause-own g c =
+pub returns-clause-caused : goal.returns-clause-caused
+returns-clause-caused g c =
     let learned = c.learn_with-learned.ensures in
-    let parts = c.into_parts-cache.ensures in
+    let parts = c.into_parts-left.ensures in
     let never = never_stopped member _ _ parts.sessions (λ s. refl) in
-    (has_ended c.args.system.now c.args.workers c.args.extra c.args.max_states c.in-Ok.pool c.learn_with-learned.result.pool c.learn_with-learned.result.learned c.into_kept.result.answers c.model_is_least.ensures c.too_many_is_none.ensures c.too_large_for_all.ensures c.in-Ok.ensures learned.leaves never learned.learned learned.stops (c.into_kept.ensures ∙ parts.cache.0)).own
+    (has_ended c.args.system.now c.args.workers c.args.extra c.args.max_states c.args.shared c.args.cache.kept c.in-Ok.pool c.learn_with-learned.result.pool c.learn_with-learned.result.learned c.into_kept-2.result.answers c.model_is_least.ensures c.too_many_is_none.ensures c.too_large_for_all.ensures c.in-Ok.ensures.pool learned.leaves never learned.learned learned.stops (c.into_kept-2.ensures ∙ parts.cache.0)).caused
 
 pub returns-clause-reached : goal.returns-clause-reached
 returns-clause-reached g c =
     let learned = c.learn_with-learned.ensures in
-    let parts = c.into_parts-cache.ensures in
+    let parts = c.into_parts-left.ensures in
     let never = never_stopped member _ _ parts.sessions (λ s. refl) in
-    (has_ended c.args.system.now c.args.workers c.args.extra c.args.max_states c.in-Ok.pool c.learn_with-learned.result.pool c.learn_with-learned.result.learned c.into_kept.result.answers c.model_is_least.ensures c.too_many_is_none.ensures c.too_large_for_all.ensures c.in-Ok.ensures learned.leaves never learned.learned learned.stops (c.into_kept.ensures ∙ parts.cache.0)).reached_by
+    (has_ended c.args.system.now c.args.workers c.args.extra c.args.max_states c.args.shared c.args.cache.kept c.in-Ok.pool c.learn_with-learned.result.pool c.learn_with-learned.result.learned c.into_kept-2.result.answers c.model_is_least.ensures c.too_many_is_none.ensures c.too_large_for_all.ensures c.in-Ok.ensures.pool learned.leaves never learned.learned learned.stops (c.into_kept-2.ensures ∙ parts.cache.0)).reached_by
 
 pub returns-clause-kept : goal.returns-clause-kept
 returns-clause-kept g c =
     let learned = c.learn_with-learned.ensures in
-    let parts = c.into_parts-cache.ensures in
+    let parts = c.into_parts-left.ensures in
     let never = never_stopped member _ _ parts.sessions (λ s. refl) in
-    (has_ended c.args.system.now c.args.workers c.args.extra c.args.max_states c.in-Ok.pool c.learn_with-learned.result.pool c.learn_with-learned.result.learned c.into_kept.result.answers c.model_is_least.ensures c.too_many_is_none.ensures c.too_large_for_all.ensures c.in-Ok.ensures learned.leaves never learned.learned learned.stops (c.into_kept.ensures ∙ parts.cache.0)).runs
+    (has_ended c.args.system.now c.args.workers c.args.extra c.args.max_states c.args.shared c.args.cache.kept c.in-Ok.pool c.learn_with-learned.result.pool c.learn_with-learned.result.learned c.into_kept-2.result.answers c.model_is_least.ensures c.too_many_is_none.ensures c.too_large_for_all.ensures c.in-Ok.ensures.pool learned.leaves never learned.learned learned.stops (c.into_kept-2.ensures ∙ parts.cache.0)).runs
+
+pub returns-clause-names : goal.returns-clause-names
+returns-clause-names g c =
+    let parts = c.into_parts-left.ensures in
+    parts.names ∙ keeps_naming c.args.system.now c.args.workers c.args.names.now c.args.shared c.args.cache.kept c.in-Ok.pool c.learn_with-learned.result.pool (learn_stop c.learn_with-learned.result.learned) c.requires.shared c.in-Ok.ensures.pool c.learn_with-learned.ensures.leaves
+
+pub learn_with-learned-requires-clause-nothing : goal.learn_with-learned-requires-clause-nothing
+learn_with-learned-requires-clause-nothing g c κs within = subst (λ (ks : List KeptAnswer). NothingClashes (answers_of ks)) (sym c.in-Ok.ensures.pool.kept) c.requires.nothing
+
+pub returns-in-Err-clause-kept : goal.returns-in-Err-clause-kept
+returns-in-Err-clause-kept g c =
+    subst (KeepsRuns c.args.system.now c.args.workers c.args.cache.kept) (sym (c.into_kept.ensures ∙ ap (λ (x : Caching). x.kept) c.in-Err.ensures.back.1))
+    (keeps_prior c.args.system.now c.args.workers c.args.shared c.args.cache.kept c.requires.prior)

@@ -1,0 +1,182 @@
+//! A learning over children, from their starts to their ends.
+ghost use Rattle.std.specs.Prelude.{◌≡◌, ◌<◌, ◌≤◌, [], length, Err};
+ghost use Rattle.lw_words.specs.Answer.{answers_of};
+ghost use Rattle.lw_cache.specs.Clash.{NothingClashes};
+ghost use Rattle.lw_cache.specs.Settling.{MayAsk};
+ghost use Rattle.lw_pool.specs.Opening.{MayBegin};
+ghost use Rattle.lw_pool.specs.Sharing.{declared_by};
+ghost use Rattle.lw_children.specs.Children.{IsOfChildren};
+ghost use Rattle.lw_children.specs.Crews.{AreLinkedWith, HasRetired, IsChildrenPool, RetiresWith, first_naming};
+ghost use Rattle.lw_children.specs.Keeping.{count_of};
+ghost use Rattle.lw_children.specs.Spawners.{spawner_seen};
+ghost use Rattle.lw_children.specs.bodies.Ends.{broken_stop};
+
+use crate::{Broken, Command, Refusal, retire_all, retire_with, start_all};
+use lw_cache::{AskStop, Cache};
+use lw_desk::OutNames;
+use lw_line::LineSul;
+use lw_outside::Spawner;
+use lw_pool::Pool;
+use lw_rounds::{Kind, LearnStop, Learned, model_is_least, too_large_for_all, too_many_is_none};
+use lw_words::{Kept, Names, NoMemory, SulStop};
+use lw_workers::{LearnedWith, learn_with};
+use std::alloc::Global;
+use std::sync::Wait;
+use std::thread::Threads;
+
+/// The greatest number of outputs where their names come as they are met.
+const FREE_OUTPUTS: u16 = 4096;
+
+/// What came of a learning over children, their answers behind the prior ones, and the names of the answers' outputs.
+#[derive(Drop)]
+pub struct LearnedChildren {
+    pub learned: Result<Learned, LearnStop>,
+    pub kept: Kept,
+    pub names: OutNames,
+}
+
+/// Why a learning stops where this many sessions were made and then no more.
+fn stop_of(refusal: Refusal, made: usize) -> LearnStop
+    requires few { made < 16 }
+    ensures { result ≡ broken_stop refusal made }
+{
+    match refusal {
+        Refusal::Failed => LearnStop::Ask(AskStop::Sul {
+            instance: made as u32,
+            stop: SulStop::Failed,
+        }),
+        Refusal::NoMemory => LearnStop::from(NoMemory),
+    }
+}
+
+/// How many outputs a child may have.
+fn count_outputs(outputs: &Option<Names>) -> u16
+    ensures count { result ≡ count_of outputs.now }
+    ensures few { (1 ≤ result) × (result ≤ 4096) }
+{
+    match outputs {
+        Some(names) => names.len() as u16,
+        None => FREE_OUTPUTS,
+    }
+}
+
+/// What is left of a learning that no pool could be made for: the links are retired, and nothing but the prior answers is kept.
+fn give_up<P: Spawner>(
+    spawner: &mut P,
+    broken: Broken<P::Link>,
+    names: OutNames,
+    cache: Cache,
+) -> LearnedChildren
+    requires few { length broken.sessions.items < 16 }
+    requires linked { AreLinkedWith P.Link.number broken.sessions.items broken.unmade.link
+        (spawner_seen (P.faults spawner.old) (P.started spawner.old) (P.retired spawner.old)
+        (P.commands spawner.old)) }
+    ensures learned { result.learned ≡ Err (broken_stop broken.unmade.refusal
+        (length broken.sessions.items)) }
+    ensures kept { result.kept.answers ≡ cache.kept }
+    ensures names { result.names ≡ names }
+    ensures retires { RetiresWith P.Link.number P.Link.faults P.Link.ends P.Link.transcript
+        broken.sessions.items broken.unmade.link
+        (spawner_seen (P.faults spawner.old) (P.started spawner.old) (P.retired spawner.old)
+        (P.commands spawner.old))
+        (spawner_seen (P.faults spawner.new) (P.started spawner.new) (P.retired spawner.new)
+        (P.commands spawner.new)) }
+{
+    let Broken { sessions, unmade } = broken;
+    let learned = Err(stop_of(unmade.refusal, sessions.len()));
+    retire_with(spawner, sessions, unmade.link);
+    LearnedChildren {
+        learned,
+        kept: cache.into_kept(),
+        names,
+    }
+}
+
+/// Learns over a pool of children, and then retires all their links.
+fn learn_and_retire<P: Spawner, R: Threads + Wait + Sync + Drop>(
+    spawner: &mut P,
+    alloc: Global,
+    pool: Pool<LineSul<P::Link>, R>,
+    kind: Kind,
+    extra: u8,
+    max_states: u16,
+) -> LearnedChildren
+    requires may { MayAsk pool.stop }
+    requires nothing { NothingClashes (answers_of pool.kept) }
+    requires letters { (1 ≤ pool.inputs) × (pool.inputs ≤ 64) }
+    requires signs { (1 ≤ pool.outputs) × (pool.outputs ≤ 4096) }
+    requires few { extra ≤ 4 }
+    requires most { (1 ≤ max_states) × (max_states ≤ 1024) }
+    requires children { IsChildrenPool P.Link.number
+        (spawner_seen (P.faults spawner.old) (P.started spawner.old) (P.retired spawner.old)
+        (P.commands spawner.old)) pool }
+    ensures { HasRetired P.Link.number extra max_states pool
+        (spawner_seen (P.faults spawner.old) (P.started spawner.old) (P.retired spawner.old)
+        (P.commands spawner.old))
+        (spawner_seen (P.faults spawner.new) (P.started spawner.new) (P.retired spawner.new)
+        (P.commands spawner.new)) result.learned result.kept.answers result.names }
+{
+    let LearnedWith { learned, pool } = learn_with(pool, alloc, kind, extra, max_states);
+    let (sessions, names, cache) = pool.into_parts();
+    retire_all(spawner, sessions);
+    LearnedChildren {
+        learned,
+        kept: cache.into_kept(),
+        names,
+    }
+}
+
+/// Starts a child for each worker by the command, learns a model over them behind the cache's prior answers, and retires every
+/// link that was started, in the order of their starts, whatever came. May wait for the children.
+pub(crate) fn learn_over<P: Spawner, R: Threads + Wait + Sync + Drop>(
+    rt: R,
+    alloc: Global,
+    spawner: &mut P,
+    command: &Command,
+    names: OutNames,
+    cache: Cache,
+    workers: u8,
+    kind: Kind,
+    extra: u8,
+    max_states: u16,
+) -> LearnedChildren
+    requires words { 0 < length command.now.words }
+    requires letters { length command.now.inputs ≤ 64 }
+    requires named { names ≡ first_naming command.now.outputs }
+    requires unclaimed { cache.claims ≡ [] }
+    requires nothing { NothingClashes (answers_of cache.kept) }
+    requires prior { MayBegin names (length command.now.inputs) (count_of command.now.outputs)
+        cache.kept }
+    requires workers { (1 ≤ workers) × (workers ≤ 16) }
+    requires few { extra ≤ 4 }
+    requires most { (1 ≤ max_states) × (max_states ≤ 1024) }
+    ensures found { IsOfChildren command.now.words command.now.inputs command.now.outputs workers
+        extra max_states cache.kept
+        (spawner_seen (P.faults spawner.old) (P.started spawner.old) (P.retired spawner.old)
+        (P.commands spawner.old))
+        (spawner_seen (P.faults spawner.new) (P.started spawner.new) (P.retired spawner.new)
+        (P.commands spawner.new)) result.learned result.kept.answers result.names.names }
+    ensures sharing { declared_by result.names.names result.names.brought ≡
+        declared_by names.names names.brought }
+{
+    model_is_least();
+    too_many_is_none();
+    too_large_for_all();
+    let sessions = match start_all(alloc, spawner, command, workers) {
+        Ok(sessions) => sessions,
+        Err(broken) => return give_up(spawner, broken, names, cache),
+    };
+    let inputs = command.inputs.len() as u16;
+    let outputs = count_outputs(&command.outputs);
+    match Pool::new(rt, alloc, inputs, outputs, sessions, names, cache) {
+        Ok(pool) => learn_and_retire(spawner, alloc, pool, kind, extra, max_states),
+        Err((sessions, names, cache, NoMemory)) => {
+            retire_all(spawner, sessions);
+            LearnedChildren {
+                learned: Err(LearnStop::from(NoMemory)),
+                kept: cache.into_kept(),
+                names,
+            }
+        }
+    }
+}

@@ -1,0 +1,126 @@
+//! A learning over children, with the names of outputs that weren't declared sorted in the end.
+ghost use Rattle.std.specs.Prelude.{◌≡◌, ◌<◌, ◌≤◌, [], length, IfOk, None};
+ghost use Rattle.lw_words.specs.Answer.{answers_of};
+ghost use Rattle.lw_cache.specs.Clash.{NothingClashes};
+ghost use Rattle.lw_pool.specs.Opening.{MayBegin};
+ghost use Rattle.lw_children.specs.Children.{IsOfCommand, IsOfFree};
+ghost use Rattle.lw_children.specs.Crews.{first_naming};
+ghost use Rattle.lw_children.specs.Keeping.{count_of};
+ghost use Rattle.lw_children.specs.Spawners.{spawner_seen};
+
+use crate::learning::learn_over;
+use crate::{Command, LearnedChildren};
+use lw_cache::Cache;
+use lw_desk::OutNames;
+use lw_outside::Spawner;
+use lw_renumber::sort_outputs;
+use lw_rounds::{Kind, LearnStop};
+use lw_words::NoMemory;
+use std::alloc::Global;
+use std::sync::Wait;
+use std::thread::Threads;
+
+/// The greatest number of names that children may bring.
+const MOST_NAMES: usize = 4096;
+
+/// Room for the new number of each name.
+fn new_numbers(alloc: Global) -> Result<Vec<u16>, NoMemory>
+    ensures { IfOk result (λ to. length to.items ≡ 4096) }
+{
+    Ok(vec![in alloc; 0u16; MOST_NAMES]?)
+}
+
+/// Learns over children whose outputs weren't declared. The room for new numbers is taken before the first child is started.
+fn learn_free<P: Spawner, R: Threads + Wait + Sync + Drop>(
+    rt: R,
+    alloc: Global,
+    spawner: &mut P,
+    command: &Command,
+    names: OutNames,
+    cache: Cache,
+    workers: u8,
+    kind: Kind,
+    extra: u8,
+    max_states: u16,
+) -> LearnedChildren
+    requires words { 0 < length command.now.words }
+    requires letters { length command.now.inputs ≤ 64 }
+    requires free { command.now.outputs ≡ None }
+    requires named { names ≡ first_naming None }
+    requires unclaimed { cache.claims ≡ [] }
+    requires none { cache.kept ≡ [] }
+    requires workers { (1 ≤ workers) × (workers ≤ 16) }
+    requires few { extra ≤ 4 }
+    requires most { (1 ≤ max_states) × (max_states ≤ 1024) }
+    ensures { IsOfFree command.now.words command.now.inputs workers extra max_states
+        (spawner_seen (P.faults spawner.old) (P.started spawner.old) (P.retired spawner.old)
+        (P.commands spawner.old))
+        (spawner_seen (P.faults spawner.new) (P.started spawner.new) (P.retired spawner.new)
+        (P.commands spawner.new)) result.learned result.kept.answers result.names.names }
+{
+    let mut to = match new_numbers(alloc) {
+        Ok(to) => to,
+        Err(NoMemory) => return LearnedChildren {
+            learned: Err(LearnStop::from(NoMemory)),
+            kept: cache.into_kept(),
+            names,
+        },
+    };
+    let LearnedChildren {
+        mut learned,
+        mut kept,
+        mut names,
+    } = learn_over(
+        rt, alloc, spawner, command, names, cache, workers, kind, extra, max_states,
+    );
+    let _few = names.len();
+    sort_outputs(&mut names, &mut to, &mut learned, &mut kept);
+    LearnedChildren {
+        learned,
+        kept,
+        names,
+    }
+}
+
+/// Starts a child for each worker by the command, learns a model over them behind the cache's prior answers, and retires every
+/// link that was started, in the order of their starts, whatever came. Names of outputs that weren't declared are sorted by their
+/// bytes in the end. May wait for the children.
+pub fn learn_children<P: Spawner, R: Threads + Wait + Sync + Drop>(
+    rt: R,
+    alloc: Global,
+    spawner: &mut P,
+    command: &Command,
+    names: OutNames,
+    cache: Cache,
+    workers: u8,
+    kind: Kind,
+    extra: u8,
+    max_states: u16,
+) -> LearnedChildren
+    requires words { 0 < length command.now.words }
+    requires letters { length command.now.inputs ≤ 64 }
+    requires named { names ≡ first_naming command.now.outputs }
+    requires unclaimed { cache.claims ≡ [] }
+    requires nothing { NothingClashes (answers_of cache.kept) }
+    requires prior { MayBegin names (length command.now.inputs) (count_of command.now.outputs)
+        cache.kept }
+    requires free { command.now.outputs ≡ None → cache.kept ≡ [] }
+    requires workers { (1 ≤ workers) × (workers ≤ 16) }
+    requires few { extra ≤ 4 }
+    requires most { (1 ≤ max_states) × (max_states ≤ 1024) }
+    ensures { IsOfCommand command.now.words command.now.inputs command.now.outputs workers extra
+        max_states cache.kept
+        (spawner_seen (P.faults spawner.old) (P.started spawner.old) (P.retired spawner.old)
+        (P.commands spawner.old))
+        (spawner_seen (P.faults spawner.new) (P.started spawner.new) (P.retired spawner.new)
+        (P.commands spawner.new)) result.learned result.kept.answers result.names.names }
+{
+    match command.outputs {
+        Some(_) => learn_over(
+            rt, alloc, spawner, command, names, cache, workers, kind, extra, max_states,
+        ),
+        None => learn_free(
+            rt, alloc, spawner, command, names, cache, workers, kind, extra, max_states,
+        ),
+    }
+}

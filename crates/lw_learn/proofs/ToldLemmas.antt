@@ -1,0 +1,196 @@
+-- What is told of files is what was read of them.
+use Rattle.std.proofs.Common.{◌≡◌, ◌∙◌, ◌⊎◌, ⊎_elim, ℕ, ◌<◌, List, [], length, Option, Some, None, ap, sym, subst, arith}
+use Rattle.lw_words.specs.Cause.{CountedFault}
+use Rattle.lw_words.specs.declared.kept.KeptAnswer.{KeptAnswer}
+use Rattle.lw_json.proofs.OneAnswers.{one_answers}
+use Rattle.lw_json.proofs.OneValue.{one_value}
+use Rattle.lw_json.specs.AnswersFault.{HasAnswersFault}
+use Rattle.lw_json.specs.AnswersFile.{IsAnswersFile}
+use Rattle.lw_json.specs.MachineFault.{HasMachineFault}
+use Rattle.lw_json.specs.MachineFile.{IsMachineFile}
+use Rattle.lw_json.specs.SetupFile.{HasSetupFault, IsSetupFile, SpellsSetup, WrittenSetup, setup_said, table, command}
+use Rattle.lw_json.specs.declared.answers.Answers.{Answers}
+use Rattle.lw_json.specs.declared.fault.JsonFault.{JsonFault}
+use Rattle.lw_json.specs.declared.machine.Machine.{Machine}
+use Rattle.lw_json.specs.declared.setup.Setup.{Setup}
+use Rattle.lw_json.specs.declared.setup.Setup.TheVariants as setup
+use Rattle.lw_outside.specs.Files.{File, HoldsLong, file_at, longest_file}
+use Rattle.lw_prior.specs.Prior.{FitNames}
+use Rattle.lw_report.specs.Reading.{ReadsBadFile, ReadsFile}
+use Rattle.lw_report.specs.States.{FilesState}
+use Rattle.lw_report.specs.declared.outcome.Outcome.{Outcome}
+use Rattle.lw_report.specs.declared.outcome.Outcome.TheVariants.{Learned, Trial, Yes, Served, No, Usage, BadFile, Alphabets, FileTooLong, Nondeterministic, NoMemory, SulFailed, Gone, BadLine, BadAsk, TooManyStates, SuiteTooLarge, FileFault, SourceFault, SinkFault}
+use Rattle.lw_report.specs.declared.role.Role.{Role}
+use Rattle.lw_report.specs.declared.role.Role.TheVariants as role
+use Rattle.lw_learn.specs.Arguments.{LearnValues}
+use Rattle.lw_learn.specs.Tasks.{FitsSystem, ReadsSystem, SaysSystem, declared_of, letters_of, or_these}
+use Rattle.lw_learn.specs.Told.{BadIsRefused, IsNoRefusal, TellsBad, TellsFile, TellsNoSystem, TellsPrior, TellsSetup, TellsSystem, TellsTask, ToldIsLearned}
+use Rattle.lw_learn.specs.Unread.{IsNext, IsTableNext, IsUnreadBy, ReadsBad}
+use Rattle.lw_learn.specs.declared.arguments.Source.{Source}
+use Rattle.lw_learn.specs.declared.arguments.Source.TheVariants as source
+use Rattle.lw_learn.specs.declared.task.System.{System}
+use Rattle.lw_learn.specs.declared.task.System.TheVariants.{Table}
+
+module _ {A : Type 0} where
+  some_same : (a b : A) → Some a ≡ Some b → a ≡ b
+  some_same a b same = ap by same
+    where
+      by : Option A → A
+      by None = a
+      by (Some x) = x
+
+-- a setup file has one value
+spells_one : (x : WrittenSetup) (v w : Setup) → SpellsSetup x v → SpellsSetup x w → v ≡ w
+spells_one (table name) (setup.Table t) (setup.Table u) one two = ap (λ (n : List ℕ). setup.Table n) (one ∙ sym two)
+spells_one (table name) (setup.Table t) (setup.Command w i o) one two = absurd two
+spells_one (table name) (setup.Command w i o) v one two = absurd one
+spells_one (command words inputs outputs) (setup.Table t) v one two = absurd one
+spells_one (command words inputs outputs) (setup.Command w i o) (setup.Table t) one two = absurd two
+spells_one (command words inputs outputs) (setup.Command w i o) (setup.Command w' i' o') one two =
+    ap (λ (x : List (List ℕ)). setup.Command x i o) (one.0 ∙ sym two.0)
+    ∙ (ap (λ (x : List (List ℕ)). setup.Command w' x o) (one.1 ∙ sym two.1)
+    ∙ ap (λ (x : Option (List (List ℕ))). setup.Command w' i' x) (one.2 ∙ sym two.2))
+
+one_setup : (bytes : List ℕ) (v w : Setup) → IsSetupFile bytes v → IsSetupFile bytes w → v ≡ w
+one_setup bytes v w f g =
+    let value : f.0 ≡ g.0 = some_same f.0 g.0 (sym f.1.1 ∙ g.1.1) in
+    let said : f.2.0 ≡ g.2.0 = some_same f.2.0 g.2.0 (sym f.2.1 ∙ (ap setup_said value ∙ g.2.1)) in
+    spells_one g.2.0 v w (subst (λ (x : WrittenSetup). SpellsSetup x v) said f.2.2) g.2.2
+
+same_bytes : (held : Option (List ℕ)) (b c : List ℕ) → held ≡ Some b → held ≡ Some c → b ≡ c
+same_bytes held b c one two = some_same b c (sym one ∙ two)
+
+module _ {V : Type 0} (IsFile : List ℕ → V → Type 0) (HasFirst : List ℕ → JsonFault → Type 0) (name : List ℕ) where
+  told_not_bad : (holds : Option (List File)) (before after : List File) (fault : JsonFault) (v : V) → TellsFile IsFile holds name v → ReadsBadFile IsFile HasFirst name holds before after fault → ⊥
+  told_not_bad None before after fault v told read = absurd told
+  told_not_bad (Some fs) before after fault v told read = read.bad v (subst (λ (b : List ℕ). IsFile b v) (same_bytes (file_at name fs) told.0 read.bytes told.1 read.read.held) told.3)
+
+  told_not_long : (holds : Option (List File)) (v : V) → TellsFile IsFile holds name v → HoldsLong holds name → ⊥
+  told_not_long None v told long = absurd told
+  told_not_long (Some fs) v told long = omega (arith, told.2, long.2, ap (λ (l : List ℕ). length l) (same_bytes (file_at name fs) told.0 long.0 told.1 long.1))
+
+  told_same : (holds : Option (List File)) (before after : List File) (v w : V) → TellsFile IsFile holds name v → ReadsFile IsFile name holds before after w → (bytes : List ℕ) × IsFile bytes v × IsFile bytes w
+  told_same None before after v w told read = absurd told
+  told_same (Some fs) before after v w told read = (read.bytes, subst (λ (b : List ℕ). IsFile b v) (same_bytes (file_at name fs) told.0 read.bytes told.1 read.read.held) told.3, read.file)
+
+  bad_not_read : (holds : Option (List File)) (before after : List File) (w : V) → TellsBad IsFile holds name → ReadsFile IsFile name holds before after w → ⊥
+  bad_not_read None before after w told read = told
+  bad_not_read (Some fs) before after w told read =
+      let same : told.0 ≡ read.bytes = same_bytes (file_at name fs) told.0 read.bytes told.1 read.read.held in
+      ⊎_elim
+      (λ (long : longest_file < length told.0). omega (arith, long, read.read.short, ap (λ (l : List ℕ). length l) same))
+      (λ (none : (v : V) → ¬ IsFile told.0 v). none w (subst (λ (b : List ℕ). IsFile b w) (sym same) read.file))
+      told.2
+
+-- a file in this role is told under the name
+abbrev TellsRole : Role → Option (List File) → List ℕ → Type 0
+TellsRole role.Setup holds name = (v : Setup) × TellsFile IsSetupFile holds name v
+TellsRole role.Table holds name = (m : Machine) × TellsFile IsMachineFile holds name m
+TellsRole role.Prior holds name = (p : Answers) × TellsFile IsAnswersFile holds name p
+TellsRole role.Model holds name = ⊥
+TellsRole role.Answers holds name = ⊥
+
+table_told : (k : Source) (system : List ℕ) (holds : Option (List File)) (before now : List File) (name : List ℕ) (s : System) → IsTableNext k system holds before now name → TellsSystem k system holds s → (m : Machine) × TellsFile IsMachineFile holds name m
+table_told source.Table system holds before now name s next told = (told.0, subst (λ (n : List ℕ). TellsFile IsMachineFile holds n told.0) (sym next.0) told.1)
+table_told source.Setup system holds before now name s next told =
+    let both = told_same IsSetupFile HasSetupFault system holds before now told.0 (setup.Table name) told.1 next in
+    let said = subst (λ (v : Setup). TellsSetup v holds s) (one_setup both.0 told.0 (setup.Table name) both.1 both.2) told.2 in
+    (said.0, said.1)
+
+role_told : (a : LearnValues) (holds : Option (List File)) (before now : List File) (r : Role) (name : List ℕ) (read : Option System) (s : System) → TellsTask a holds s → IsNext a holds before now r name read → TellsRole r holds name
+role_told a holds before now role.Setup name read s told next =
+    let said = subst (λ (k : Source). TellsSystem k a.system holds s) next.0 told.system in
+    (said.0, subst (λ (n : List ℕ). TellsFile IsSetupFile holds n said.0) (sym next.1) said.1)
+role_told a holds before now role.Table name read s told next = table_told a.source a.system holds before now name s next.0 told.system
+role_told a holds before now role.Prior name read s told next =
+    let said = subst (λ (o : Option (List ℕ)). TellsPrior o holds s) next.0 told.prior in
+    (said.0, said.1)
+role_told a holds before now role.Model name read s told next = absurd next
+role_told a holds before now role.Answers name read s told next = absurd next
+
+role_not_bad : (r : Role) (name : List ℕ) (holds : Option (List File)) (now after : List File) (fault : JsonFault) → TellsRole r holds name → ReadsBad r name holds now after fault → ⊥
+role_not_bad role.Setup name holds now after fault told bad = told_not_bad IsSetupFile HasSetupFault name holds now after fault told.0 told.1 bad
+role_not_bad role.Table name holds now after fault told bad = told_not_bad IsMachineFile HasMachineFault name holds now after fault told.0 told.1 bad
+role_not_bad role.Prior name holds now after fault told bad = told_not_bad IsAnswersFile HasAnswersFault name holds now after fault told.0 told.1 bad
+role_not_bad role.Model name holds now after fault told bad = told
+role_not_bad role.Answers name holds now after fault told bad = told
+
+role_not_long : (r : Role) (name : List ℕ) (holds : Option (List File)) → TellsRole r holds name → HoldsLong holds name → ⊥
+role_not_long role.Setup name holds told long = told_not_long IsSetupFile HasSetupFault name holds told.0 told.1 long
+role_not_long role.Table name holds told long = told_not_long IsMachineFile HasMachineFault name holds told.0 told.1 long
+role_not_long role.Prior name holds told long = told_not_long IsAnswersFile HasAnswersFault name holds told.0 told.1 long
+role_not_long role.Model name holds told long = told
+role_not_long role.Answers name holds told long = told
+
+-- the names of a system that is told are those of the one that was read
+abbrev SameNames : System → System → Type 0
+SameNames s t = (letters_of s ≡ letters_of t) × (declared_of s ≡ declared_of t)
+
+machines_same : (name : List ℕ) (holds : Option (List File)) (before now : List File) (m n : Machine) (s t : System) → TellsFile IsMachineFile holds name m → s ≡ Table m → ReadsFile IsMachineFile name holds before now n → t ≡ Table n → SameNames s t
+machines_same name holds before now m n s t told s_is read t_is =
+    let both = told_same IsMachineFile HasMachineFault name holds before now m n told read in
+    let same = one_value both.0 m n both.1 both.2 in (
+      ap (λ (x : System). letters_of x) s_is ∙ (same.inputs ∙ ap (λ (x : System). letters_of x) (sym t_is)),
+      ap (λ (x : System). declared_of x) s_is ∙ (ap (λ (x : List (List ℕ)). Some x) same.outputs ∙ ap (λ (x : System). declared_of x) (sym t_is)),
+    )
+
+said_same : (v : Setup) (holds : Option (List File)) (before now : List File) (s t : System) → TellsSetup v holds s → SaysSystem v holds before now t → SameNames s t
+said_same (setup.Table name) holds before now s t told read = machines_same name holds before now told.0 read.0 s t told.1 told.2 read.1 read.2
+said_same (setup.Command w i o) holds before now s t told read = let same : s ≡ t = told ∙ sym read.1 in (ap (λ (x : System). letters_of x) same, ap (λ (x : System). declared_of x) same)
+
+systems_same : (k : Source) (system : List ℕ) (holds : Option (List File)) (before now : List File) (s t : System) → TellsSystem k system holds s → ReadsSystem k system holds before now t → SameNames s t
+systems_same source.Table system holds before now s t told read = machines_same system holds before now told.0 read.0 s t told.1 told.2 read.1 read.2
+systems_same source.Setup system holds before now s t told read =
+    let both = told_same IsSetupFile HasSetupFault system holds before read.0 told.0 read.1 told.1 read.2 in
+    said_same read.1 holds read.0 now s t (subst (λ (v : Setup). TellsSetup v holds s) (one_setup both.0 told.0 read.1 both.1 both.2) told.2) read.3
+
+fits_same : (p q : Answers) (s t : System) → p.inputs ≡ q.inputs → p.outputs ≡ q.outputs → SameNames s t → FitsSystem p s → FitsSystem q t
+fits_same p q s t inputs outputs same fits =
+    subst (λ (l : List (List ℕ)). FitNames q.inputs q.outputs l (or_these q.outputs (declared_of t))) same.0
+    (subst (λ (d : Option (List (List ℕ))). FitNames q.inputs q.outputs (letters_of s) (or_these q.outputs d)) same.1
+    (subst (λ (i : List (List ℕ)). FitNames i q.outputs (letters_of s) (or_these q.outputs (declared_of s))) inputs
+    (subst (λ (o : List (List ℕ)). FitNames p.inputs o (letters_of s) (or_these o (declared_of s))) outputs fits)))
+
+-- by the outcome, why no learning began
+taken_by : (a : LearnValues) (f g : FilesState) (read : Option System) (kept : List KeptAnswer) (s : System) → TellsTask a f.holds s → (¬ CountedFault f.faults g.faults) → (outcome : Outcome) → IsUnreadBy a f g read kept outcome → IsNoRefusal outcome
+taken_by a f g read kept s told quiet NoMemory is = tt
+taken_by a f g read kept s told quiet (Nondeterministic clash) is = tt
+taken_by a f g read kept s told quiet (BadFile r fault) is = absurd (role_not_bad r is.1 f.holds is.0 g.reads fault (role_told a f.holds f.reads is.0 r is.1 read s told is.2) is.3)
+taken_by a f g read kept s told quiet (FileTooLong r) is = absurd (role_not_long r is.0 f.holds (role_told a f.holds f.reads g.reads r is.0 read s told is.1) is.2)
+taken_by a f g read kept s told quiet (FileFault r) is = absurd (quiet is.2)
+taken_by a f g read kept s told quiet (Alphabets r) is =
+    let why = is.1 in
+    let said = subst (λ (o : Option (List ℕ)). TellsPrior o f.holds s) why.4.0 told.prior in
+    let both = told_same IsAnswersFile HasAnswersFault why.1 f.holds why.0 g.reads said.0 why.3 said.1 why.6 in
+    let same = one_answers both.0 said.0 why.3 both.1 both.2 in
+    let here : why.4.1.0 ≡ why.2 = some_same why.4.1.0 why.2 (sym why.4.1.1 ∙ why.5) in
+    let was = subst (λ (t : System). ReadsSystem a.source a.system f.holds f.reads why.0 t) here why.4.1.2 in
+    absurd (why.7 (fits_same said.0 why.3 s why.2 same.inputs same.outputs (systems_same a.source a.system f.holds f.reads why.0 s why.2 told.system was) said.2))
+taken_by a f g read kept s told quiet (Learned h r) is = is
+taken_by a f g read kept s told quiet (Trial t) is = is
+taken_by a f g read kept s told quiet (Yes states) is = is
+taken_by a f g read kept s told quiet (Served served) is = is
+taken_by a f g read kept s told quiet (No verdict) is = is
+taken_by a f g read kept s told quiet Usage is = is
+taken_by a f g read kept s told quiet (SulFailed i) is = is
+taken_by a f g read kept s told quiet (Gone i) is = is
+taken_by a f g read kept s told quiet (BadLine i line) is = is
+taken_by a f g read kept s told quiet (BadAsk number) is = is
+taken_by a f g read kept s told quiet (TooManyStates words) is = is
+taken_by a f g read kept s told quiet (SuiteTooLarge states number) is = is
+taken_by a f g read kept s told quiet SourceFault is = is
+taken_by a f g read kept s told quiet SinkFault is = is
+
+pub told_is_learned : ToldIsLearned
+told_is_learned a f g b z o p e d end s told quiet ended =
+    ⊎_elim
+    (λ (is : IsUnreadBy a f g ended.read end.kept.answers end.outcome). taken_by a f g ended.read end.kept.answers s told quiet end.outcome is)
+    (λ (wants : (end.outcome ≡ NoMemory) × ((why : Outcome) × (had : List KeptAnswer) × IsUnreadBy a f g ended.read had why × ((end.kept.answers ≡ had) ⊎ (end.kept.answers ≡ [])))). subst (λ (x : Outcome). IsNoRefusal x) (sym wants.0) tt)
+    ended.cause
+
+system_not_bad : (k : Source) (name : List ℕ) (holds : Option (List File)) (before now : List File) (t : System) → TellsNoSystem k name holds → ReadsSystem k name holds before now t → ⊥
+system_not_bad source.Table name holds before now t told read = bad_not_read IsMachineFile HasMachineFault name holds before now read.0 told read.1
+system_not_bad source.Setup name holds before now t told read = bad_not_read IsSetupFile HasSetupFault name holds before read.0 read.1 told read.2
+
+pub bad_is_refused : BadIsRefused
+bad_is_refused a f g b z o p e d end told ended = system_not_bad a.source a.system f.holds f.reads ended.task.between ended.task.read told ended.task.system

@@ -1,0 +1,119 @@
+-- How a call of `learn` ends.
+use Rattle.std.specs.Prelude.{◌≡◌, ◌≢◌, ◌⊎◌, ℕ, ◌≤◌, List, [], ◌∷◌, ◌++◌, length, Option, Some, None, Result, Ok, Err, IfErr, IfSome, option_map, option_and_then}
+use Rattle.std.specs.List.{All}
+use Rattle.lw_words.specs.Answer.{answers_of}
+use Rattle.lw_words.specs.Cause.{CountedFault}
+use Rattle.lw_words.specs.declared.kept.KeptAnswer.{KeptAnswer}
+use Rattle.lw_cache.specs.Clash.{NothingClashes}
+use Rattle.lw_desk.specs.Naming.{Naming}
+use Rattle.lw_mealy.specs.Gives.{Gives}
+use Rattle.lw_mealy.specs.Machine.{Rows}
+use Rattle.lw_outside.specs.Links.{Retired}
+use Rattle.lw_rounds.specs.declared.learned.Learned.{Learned as Found}
+use Rattle.lw_rounds.specs.declared.stops.LearnStop.{LearnStop}
+use Rattle.lw_workers.specs.Machines.{IsWithin}
+use Rattle.lw_children.specs.Children.{IsSound}
+use Rattle.lw_children.specs.Keeping.{count_of}
+use Rattle.lw_children.specs.Spawners.{SpawnerSeen}
+use Rattle.lw_report.specs.Ends.{IsWithoutLearner}
+use Rattle.lw_report.specs.Learnings.{HasModel, learn_outcome}
+use Rattle.lw_report.specs.Outcomes.{StandsOrWants}
+use Rattle.lw_report.specs.States.{FilesState, SinkState}
+use Rattle.lw_report.specs.Text.{text_of}
+use Rattle.lw_report.specs.Writing.{TakesAll, TakesSome, said_text}
+use Rattle.lw_report.specs.declared.«end».End.{End}
+use Rattle.lw_report.specs.declared.outcome.Outcome.TheVariants.{FileFault, NoMemory, SinkFault}
+use Rattle.lw_report.specs.declared.role.Role.{Role}
+use Rattle.lw_report.specs.declared.role.Role.TheVariants.{Answers, Model}
+use Rattle.lw_learn.specs.Arguments.{LearnValues}
+use Rattle.lw_learn.specs.Calls.{MadeWrites}
+use Rattle.lw_learn.specs.Findings.{IsOfSystem, StopsBy}
+use Rattle.lw_learn.specs.Outcomes.{IsLearnedOutcome, IsReachedOutcome, IsTold}
+use Rattle.lw_learn.specs.Tasks.{ReadsTask, declared_of, letters_of}
+use Rattle.lw_learn.specs.Unread.{IsUnreadAs, MadeReads, names_read}
+use Rattle.lw_learn.specs.Writing.{NothingFailed, StaysBesides, TakesInTurn, WritesModel, line_of}
+use Rattle.lw_learn.specs.declared.task.System.{System}
+use Rattle.lw_learn.specs.declared.task.System.TheVariants.{Table, Children}
+
+-- no learning began: nothing is written, no child started, and the outcome's text goes to `err`
+pub record EndsUnread (a : LearnValues) (f g : FilesState) (b z : SpawnerSeen) (o p : SinkState) (e d : SinkState) (end : End) : Type 0 where
+  pub read : Option System
+  pub cause : IsUnreadAs a f g read end.kept.answers end.outcome
+  pub model : end.model ≡ None
+  pub learner : IsWithoutLearner end
+  pub outputs : (end.outputs ≡ names_read read) ⊎ ((end.outcome ≡ NoMemory) × (end.outputs ≡ None))
+  pub holds : g.holds ≡ f.holds
+  pub unstarted : z ≡ b
+  pub unwritten : p ≡ o
+  pub said : ¬ CountedFault e.faults d.faults → TakesAll (said_text (option_map letters_of read) (option_and_then declared_of read) end.kept.answers a.extra end.outcome) e.taken d.taken
+  pub part : TakesSome (said_text (option_map letters_of read) (option_and_then declared_of read) end.kept.answers a.extra end.outcome) e.taken d.taken
+
+-- what a learning answered is what the end says: its model is carried with its learner, and was written out, but that a write
+-- may have failed or memory run out; or the outcome is that of its stop, but that memory may have run out
+abbrev pub Carries : Result Found LearnStop → End → Type 0
+Carries (Ok l) end = (end.model ≡ Some l.model) × (end.table ≡ Some l.table) × (end.refinements ≡ l.table.refinements) × IsTold l.model l.table.refinements end.outcome
+Carries (Err stop) end = (end.model ≡ None) × IsWithoutLearner end × StandsOrWants (learn_outcome stop) end.outcome
+
+-- the names of outputs that an end has: where they weren't declared, those of the kept answers, if there are any
+abbrev pub end_outputs : Option (List (List ℕ)) → List KeptAnswer → Naming → Option Naming
+end_outputs (Some declared) kept naming = Some naming
+end_outputs None [] naming = None
+end_outputs None (k ∷ ks) naming = Some naming
+
+-- what was learned of a system is written out, or why nothing was is said
+pub record IsToldOf (a : LearnValues) (s : System) (naming : Naming) (learned : Result Found LearnStop) (kept : List KeptAnswer) (f g : FilesState) (o p : SinkState) (e d : SinkState) (end : End) : Type 0 where
+  pub carries : Carries learned end
+  pub kept_is : end.kept.answers ≡ kept
+  pub outputs : end.outputs ≡ end_outputs (declared_of s) kept naming
+  -- files and streams: of a model by the outcome, and nothing where there is none
+  pub written : IfSome end.model (WritesModel a kept end.outcome g.holds (o.taken, p.taken) (o.faults, p.faults) (letters_of s) naming.names)
+  pub nothing : end.model ≡ None → (p ≡ o) × (g ≡ f)
+  pub beside : StaysBesides a.model a.answers f.holds g.holds
+  pub said : ¬ CountedFault e.faults d.faults → TakesAll (text_of (letters_of s) naming.names kept a.extra end.outcome) e.taken d.taken
+  pub in_turn : TakesInTurn (line_of (letters_of s) naming.names kept a.extra end.model end.refinements) (text_of (letters_of s) naming.names kept a.extra end.outcome) e.taken d.taken
+  pub quiet : IsLearnedOutcome end.outcome → (g.faults ≡ f.faults) × (p.faults ≡ o.faults) × (d.faults ≡ e.faults)
+  -- a write that failed, of a file that is named or of a stream
+  pub role : (r : Role) → end.outcome ≡ FileFault r → ((r ≡ Model) × (a.model ≢ None)) ⊎ ((r ≡ Answers) × (a.answers ≢ None))
+  pub file_fault : (r : Role) → end.outcome ≡ FileFault r → CountedFault f.faults g.faults
+  pub sink_fault : end.outcome ≡ SinkFault → CountedFault o.faults p.faults ⊎ CountedFault e.faults d.faults
+  pub reads : g.reads ≡ f.reads
+  pub writes : MadeWrites a end.outcome f.calls g.calls
+  pub counts : (f.faults ≤ g.faults) × (o.faults ≤ p.faults) × (e.faults ≤ d.faults)
+
+-- no start failed, and nothing is wrong with a link that was retired
+abbrev pub IsSoundSystem : System → SpawnerSeen → SpawnerSeen → Type 0
+IsSoundSystem (Table m) before now = Unit {0}
+IsSoundSystem (Children c) before now = (¬ CountedFault before.faults now.faults) × ((links : List Retired) → now.retired ≡ before.retired ++ links → All (IsSound c.outputs) links)
+
+-- a system was learned behind prior answers
+pub record EndsLearned (a : LearnValues) (s : System) (prior : List KeptAnswer) (f g : FilesState) (b z : SpawnerSeen) (o p : SinkState) (e d : SinkState) (end : End) : Type 0 where
+  -- what was learned, the kept answers, the children, and why there is no model where there is none
+  pub naming : Naming
+  pub learned : Result Found LearnStop
+  pub found : IsOfSystem a s prior b z learned end.kept.answers naming.names
+  -- the model, and what it is worth
+  pub model : IfSome end.model (HasModel (length (letters_of s)) (length naming.names) a.extra a.max_states end)
+  pub stops : IfErr learned (StopsBy (length (letters_of s)) (count_of (declared_of s)) a.extra a.max_states (answers_of end.kept.answers))
+  -- where nothing outside was wrong, and a machine of n states that gives the answers is within the limits, a model comes within
+  -- n - 1 refinements, or memory runs out
+  pub reached :
+      (r : Rows)
+      → NothingFailed (f.faults, g.faults) (o.faults, p.faults) (e.faults, d.faults)
+      → IsSoundSystem s b z
+      → IsWithin (length (letters_of s)) a.extra a.max_states r
+      → Gives r (answers_of end.kept.answers)
+      → IsReachedOutcome (length r) end.outcome
+  pub told : IsToldOf a s naming learned end.kept.answers f g o p e d end
+
+-- the files say a system and prior answers, and that was learned
+pub record EndsRead (a : LearnValues) (f g : FilesState) (b z : SpawnerSeen) (o p : SinkState) (e d : SinkState) (end : End) : Type 0 where
+  pub system : System
+  pub prior : List KeptAnswer
+  pub middle : FilesState
+  pub task : ReadsTask a f.holds f.reads middle.reads system prior
+  pub made : MadeReads f middle []
+  pub quiet : middle.faults ≡ f.faults
+  pub same : middle.holds ≡ f.holds
+  -- of two prior answers that clash nothing is learned
+  pub unclashed : NothingClashes (answers_of prior)
+  pub learned : EndsLearned a system prior middle g b z o p e d end

@@ -1,0 +1,75 @@
+-- Files that tell what they hold: what a call of `learn` may come to by it.
+use Rattle.std.specs.Prelude.{◌≡◌, ◌⊎◌, ℕ, ◌<◌, ◌≤◌, List, length, Option, Some, None}
+use Rattle.lw_words.specs.Cause.{CountedFault}
+use Rattle.lw_json.specs.AnswersFile.{IsAnswersFile}
+use Rattle.lw_json.specs.MachineFile.{IsMachineFile}
+use Rattle.lw_json.specs.SetupFile.{IsSetupFile}
+use Rattle.lw_json.specs.declared.answers.Answers.{Answers}
+use Rattle.lw_json.specs.declared.machine.Machine.{Machine}
+use Rattle.lw_json.specs.declared.setup.Setup.{Setup}
+use Rattle.lw_json.specs.declared.setup.Setup.TheVariants as setup
+use Rattle.lw_outside.specs.Files.{File, file_at, longest_file}
+use Rattle.lw_children.specs.Spawners.{SpawnerSeen}
+use Rattle.lw_report.specs.States.{FilesState, SinkState}
+use Rattle.lw_report.specs.declared.«end».End.{End}
+use Rattle.lw_report.specs.declared.outcome.Outcome.{Outcome}
+use Rattle.lw_report.specs.declared.outcome.Outcome.TheVariants.{NoMemory, Nondeterministic}
+use Rattle.lw_learn.specs.Arguments.{LearnValues}
+use Rattle.lw_learn.specs.Ending.{EndsRead, EndsUnread}
+use Rattle.lw_learn.specs.Tasks.{FitsSystem}
+use Rattle.lw_learn.specs.declared.arguments.Source.{Source}
+use Rattle.lw_learn.specs.declared.arguments.Source.TheVariants as source
+use Rattle.lw_learn.specs.declared.task.System.{System}
+use Rattle.lw_learn.specs.declared.task.System.TheVariants.{Table, Children}
+
+-- it is told that the file of this value stands under the name, and it isn't too long
+abbrev pub TellsFile : {V : Type 0} → (List ℕ → V → Type 0) → Option (List File) → List ℕ → V → Type 0
+TellsFile IsFile None name v = ⊥
+TellsFile IsFile (Some fs) name v = (bytes : List ℕ) × (file_at name fs ≡ Some bytes) × (length bytes ≤ longest_file) × IsFile bytes v
+
+-- it is told that a file that is too long, or of no value, stands under the name
+abbrev pub TellsBad : {V : Type 0} → (List ℕ → V → Type 0) → Option (List File) → List ℕ → Type 0
+TellsBad IsFile None name = ⊥
+TellsBad IsFile (Some fs) name = (bytes : List ℕ) × (file_at name fs ≡ Some bytes) × ((longest_file < length bytes) ⊎ ((v : _) → ¬ IsFile bytes v))
+
+-- the files tell the system that a setup says
+abbrev pub TellsSetup : Setup → Option (List File) → System → Type 0
+TellsSetup (setup.Table name) holds s = (m : Machine) × TellsFile IsMachineFile holds name m × (s ≡ Table m)
+TellsSetup (setup.Command words inputs outputs) holds s = s ≡ Children (record { words = words; inputs = inputs; outputs = outputs })
+
+-- they tell the system of this kind of file under this name
+abbrev pub TellsSystem : Source → List ℕ → Option (List File) → System → Type 0
+TellsSystem source.Table name holds s = (m : Machine) × TellsFile IsMachineFile holds name m × (s ≡ Table m)
+TellsSystem source.Setup name holds s = (v : Setup) × TellsFile IsSetupFile holds name v × TellsSetup v holds s
+
+-- they tell prior answers that fit it, where some are named
+abbrev pub TellsPrior : Option (List ℕ) → Option (List File) → System → Type 0
+TellsPrior None holds s = Unit {0}
+TellsPrior (Some name) holds s = (p : Answers) × TellsFile IsAnswersFile holds name p × FitsSystem p s
+
+pub record TellsTask (a : LearnValues) (holds : Option (List File)) (s : System) : Type 0 where
+  pub system : TellsSystem a.source a.system holds s
+  pub prior : TellsPrior a.prior holds s
+
+-- the file of the system is told to be too long or of no system
+abbrev pub TellsNoSystem : Source → List ℕ → Option (List File) → Type 0
+TellsNoSystem source.Table name holds = TellsBad IsMachineFile holds name
+TellsNoSystem source.Setup name holds = TellsBad IsSetupFile holds name
+
+-- no file is refused, and no names differ
+abbrev pub IsNoRefusal : Outcome → Type 0
+IsNoRefusal NoMemory = Unit {0}
+IsNoRefusal (Nondeterministic clash) = Unit {0}
+IsNoRefusal _ = ⊥
+
+-- where the files tell a system and fitting prior answers, and count no fault, the system is learned, but that two prior answers
+-- may clash or memory run out
+abbrev pub ToldIsLearned : Type 0
+ToldIsLearned = (a : LearnValues) (f g : FilesState) (b z : SpawnerSeen) (o p e d : SinkState) (end : End) (s : System)
+    → TellsTask a f.holds s → ¬ CountedFault f.faults g.faults
+    → EndsUnread a f g b z o p e d end → IsNoRefusal end.outcome
+
+-- where the file of the system is told to be of none, none is learned
+abbrev pub BadIsRefused : Type 0
+BadIsRefused = (a : LearnValues) (f g : FilesState) (b z : SpawnerSeen) (o p e d : SinkState) (end : End)
+    → TellsNoSystem a.source a.system f.holds → EndsRead a f g b z o p e d end → ⊥

@@ -1,0 +1,92 @@
+-- Why a call of `learn` began no learning: what it read before that, and what it made of it.
+use Rattle.std.specs.Prelude.{◌≡◌, ◌⊎◌, ℕ, List, [], ◌∷◌, ◌++◌, map, true, false, Option, Some, None, option_map}
+use Rattle.lw_words.specs.Answer.{answers_of}
+use Rattle.lw_words.specs.Cause.{CountedFault}
+use Rattle.lw_words.specs.declared.kept.KeptAnswer.{KeptAnswer}
+use Rattle.lw_desk.specs.Naming.{Naming}
+use Rattle.lw_json.specs.AnswersFault.{HasAnswersFault}
+use Rattle.lw_json.specs.AnswersFile.{IsAnswersFile}
+use Rattle.lw_json.specs.MachineFault.{HasMachineFault}
+use Rattle.lw_json.specs.MachineFile.{IsMachineFile}
+use Rattle.lw_json.specs.SetupFile.{HasSetupFault, IsSetupFile}
+use Rattle.lw_json.specs.declared.answers.Answers.{Answers}
+use Rattle.lw_json.specs.declared.fault.JsonFault.{JsonFault}
+use Rattle.lw_json.specs.declared.setup.Setup.TheVariants as setup
+use Rattle.lw_outside.specs.Files.{Call, File, HoldsLong, read_call}
+use Rattle.lw_prior.specs.FirstClash.{IsFirstClash}
+use Rattle.lw_report.specs.Reading.{ReadsBadFile, ReadsFile}
+use Rattle.lw_report.specs.States.{FilesState}
+use Rattle.lw_report.specs.declared.outcome.Outcome.{Outcome}
+use Rattle.lw_report.specs.declared.outcome.Outcome.TheVariants.{Alphabets, BadFile, FileFault, FileTooLong, NoMemory, Nondeterministic}
+use Rattle.lw_report.specs.declared.role.Role.{Role}
+use Rattle.lw_report.specs.declared.role.Role.TheVariants as role
+use Rattle.lw_learn.specs.Arguments.{LearnValues}
+use Rattle.lw_learn.specs.Calls.{gained}
+use Rattle.lw_learn.specs.Tasks.{FitsSystem, ReadsSystem, ReadsTask, declared_of}
+use Rattle.lw_learn.specs.declared.arguments.Source.{Source}
+use Rattle.lw_learn.specs.declared.arguments.Source.TheVariants as source
+use Rattle.lw_learn.specs.declared.task.System.{System}
+
+-- a table file of this name is read next
+abbrev pub IsTableNext : Source → List ℕ → Option (List File) → List File → List File → List ℕ → Type 0
+IsTableNext source.Table system holds before now name = (name ≡ system) × (now ≡ before)
+IsTableNext source.Setup system holds before now name = ReadsFile IsSetupFile system holds before now (setup.Table name)
+
+-- the file in a role has this name and is read next, once those reads were made and perhaps a system read
+abbrev pub IsNext : LearnValues → Option (List File) → List File → List File → Role → List ℕ → Option System → Type 0
+IsNext a holds before now role.Setup name read = (a.source ≡ source.Setup) × (name ≡ a.system) × (now ≡ before) × (read ≡ None)
+IsNext a holds before now role.Table name read = IsTableNext a.source a.system holds before now name × (read ≡ None)
+IsNext a holds before now role.Prior name read = (a.prior ≡ Some name) × ((s : System) × (read ≡ Some s) × ReadsSystem a.source a.system holds before now s)
+IsNext a holds before now role.Model name read = ⊥
+IsNext a holds before now role.Answers name read = ⊥
+
+-- the bytes that were read of the file in a role have this first fault
+abbrev pub ReadsBad : Role → List ℕ → Option (List File) → List File → List File → JsonFault → Type 0
+ReadsBad role.Setup name holds before after fault = ReadsBadFile IsSetupFile HasSetupFault name holds before after fault
+ReadsBad role.Table name holds before after fault = ReadsBadFile IsMachineFile HasMachineFault name holds before after fault
+ReadsBad role.Prior name holds before after fault = ReadsBadFile IsAnswersFile HasAnswersFault name holds before after fault
+ReadsBad role.Model name holds before after fault = ⊥
+ReadsBad role.Answers name holds before after fault = ⊥
+
+-- reads that gave bytes, one after the other, and then these calls
+abbrev pub MadeReads : FilesState → FilesState → List Call → Type 0
+MadeReads f g last = (more : List File) × (g.reads ≡ f.reads ++ more) × (g.calls ≡ gained (map (λ r. read_call r.0 false) more ++ last) f.calls)
+
+-- reads of which none failed, some of which gave bytes
+abbrev pub MadeSomeReads : FilesState → FilesState → Type 0
+MadeSomeReads f g = ((more : List File) × (g.reads ≡ f.reads ++ more)) × ((names : List (List ℕ)) × (g.calls ≡ gained (map (λ n. read_call n false) names) f.calls))
+
+-- why no learning began, by the outcome: what it read, whether it read a system, and what it kept
+abbrev pub IsUnreadBy : LearnValues → FilesState → FilesState → Option System → List KeptAnswer → Outcome → Type 0
+IsUnreadBy a f g read kept (BadFile r fault) =
+    (now : List File) × (name : List ℕ) × IsNext a f.holds f.reads now r name read × ReadsBad r name f.holds now g.reads fault × MadeReads f g [] × (kept ≡ [])
+IsUnreadBy a f g read kept (FileTooLong r) = (name : List ℕ) × IsNext a f.holds f.reads g.reads r name read × HoldsLong f.holds name × MadeReads f g (read_call name false ∷ []) × (kept ≡ [])
+IsUnreadBy a f g read kept (FileFault r) =
+    (name : List ℕ) × IsNext a f.holds f.reads g.reads r name read × CountedFault f.faults g.faults × MadeReads f g (read_call name true ∷ []) × (kept ≡ [])
+IsUnreadBy a f g read kept (Alphabets r) =
+    (r ≡ role.Prior)
+    × ((now : List File)
+    × (name : List ℕ)
+    × (s : System)
+    × (p : Answers)
+    × IsNext a f.holds f.reads now role.Prior name read
+    × (read ≡ Some s)
+    × ReadsFile IsAnswersFile name f.holds now g.reads p
+    × (¬ FitsSystem p s))
+    × MadeReads f g []
+    × (kept ≡ [])
+IsUnreadBy a f g read kept (Nondeterministic clash) =
+    (s : System) × (read ≡ Some s) × ReadsTask a f.holds f.reads g.reads s kept × IsFirstClash (answers_of kept) clash × MadeReads f g []
+IsUnreadBy a f g read kept NoMemory = MadeSomeReads f g × (kept ≡ []) × (read ≡ None)
+IsUnreadBy a f g read kept _ = ⊥
+
+-- the same; or memory ran out in place of that, and then perhaps nothing is kept
+abbrev pub IsUnreadAs : LearnValues → FilesState → FilesState → Option System → List KeptAnswer → Outcome → Type 0
+IsUnreadAs a f g read kept outcome =
+    IsUnreadBy a f g read kept outcome
+    ⊎ ((outcome ≡ NoMemory) × ((why : Outcome) × (had : List KeptAnswer) × IsUnreadBy a f g read had why × ((kept ≡ had) ⊎ (kept ≡ []))))
+
+-- the declared names of a system that was read
+abbrev pub names_read : Option System → Option Naming
+names_read None = None
+names_read (Some s) = option_map (λ names. record { names = names; brought = None }) (declared_of s)

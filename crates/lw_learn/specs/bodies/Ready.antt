@@ -1,0 +1,36 @@
+-- What a learning of a system begins with, and the model that it gives whatever end carries it.
+use Rattle.std.specs.Prelude.{◌≡◌, ℕ, ◌<◌, ◌≤◌, List, [], length, Some, None}
+use Rattle.lw_words.specs.Answer.{answers_of}
+use Rattle.lw_words.specs.declared.kept.KeptAnswer.{KeptAnswer}
+use Rattle.lw_cache.specs.Caching.{Caching}
+use Rattle.lw_cache.specs.Clash.{NothingClashes}
+use Rattle.lw_desk.specs.Naming.{Naming}
+use Rattle.lw_pool.specs.Opening.{MayBegin}
+use Rattle.lw_rounds.specs.declared.learned.Learned.{Learned}
+use Rattle.lw_children.specs.Crews.{first_naming}
+use Rattle.lw_children.specs.Keeping.{count_of}
+use Rattle.lw_report.specs.Learnings.{HasModel}
+use Rattle.lw_report.specs.declared.«end».End.{End}
+use Rattle.lw_learn.specs.Tasks.{declared_of, letters_of}
+use Rattle.lw_learn.specs.declared.task.System.{System}
+use Rattle.lw_learn.specs.declared.task.System.TheVariants.{Table, Children}
+
+-- a child is started by some words
+abbrev pub HasWords : System → Type 0
+HasWords (Table m) = Unit {0}
+HasWords (Children c) = 0 < length c.words
+
+-- the names of a system's outputs, and a cache of prior answers, of which nothing clashes
+pub record IsReady (s : System) (naming : Naming) (cache : Caching) : Type 0 where
+  pub words : HasWords s
+  pub letters : length (letters_of s) ≤ 64
+  pub named : naming ≡ first_naming (declared_of s)
+  pub unclaimed : cache.claims ≡ []
+  pub nothing : NothingClashes (answers_of cache.kept)
+  pub may : MayBegin naming (length (letters_of s)) (count_of (declared_of s)) cache.kept
+  pub free : declared_of s ≡ None → cache.kept ≡ []
+
+-- an end with these answers that carries what was learned has its model
+abbrev pub GivesModel : (a b k most : ℕ) → List KeptAnswer → Learned → Type 0
+GivesModel a b k most kept l =
+    (end : End) → end.kept.answers ≡ kept → end.table ≡ Some l.table → end.refinements ≡ l.table.refinements → HasModel a b k most end l.model

@@ -1,0 +1,92 @@
+-- What a step of the reading of a task comes to.
+use Rattle.std.specs.Prelude.{◌≡◌, ◌⊎◌, ℕ, ◌≤◌, List, [], ◌∷◌, length, true, false, Option, Some, None, Result, IfOk, IfErr, OnOk}
+use Rattle.lw_words.specs.Answer.{answers_of}
+use Rattle.lw_words.specs.Cause.{CountedFault}
+use Rattle.lw_words.specs.declared.kept.KeptAnswer.{KeptAnswer}
+use Rattle.lw_json.specs.AnswersFault.{HasAnswersFault}
+use Rattle.lw_json.specs.AnswersFile.{IsAnswersFile}
+use Rattle.lw_json.specs.declared.answers.Answers.{Answers}
+use Rattle.lw_json.specs.declared.fault.JsonFault.{JsonFault}
+use Rattle.lw_outside.specs.Files.{HoldsLong, read_call}
+use Rattle.lw_prior.specs.FirstClash.{IsFirstClash}
+use Rattle.lw_prior.specs.Prior.{prior_answers}
+use Rattle.lw_report.specs.Reading.{ReadsBadFile, ReadsFile}
+use Rattle.lw_report.specs.States.{FilesState}
+use Rattle.lw_report.specs.declared.outcome.Outcome.{Outcome}
+use Rattle.lw_report.specs.declared.outcome.Outcome.TheVariants.{Alphabets, BadFile, FileFault, FileTooLong, NoMemory, Nondeterministic}
+use Rattle.lw_report.specs.declared.role.Role.{Role}
+use Rattle.lw_report.specs.declared.role.Role.TheVariants.{Prior}
+use Rattle.lw_learn.specs.Arguments.{LearnValues}
+use Rattle.lw_learn.specs.Tasks.{FitsSystem, ReadsSystem, ReadsTask, declared_of, letters_of, or_these, with_outputs}
+use Rattle.lw_learn.specs.Unread.{IsUnreadBy, MadeReads, MadeSomeReads}
+use Rattle.lw_learn.specs.bodies.Ready.{HasWords, IsReady}
+use Rattle.lw_learn.specs.declared.reading.Unread.{Unread}
+use Rattle.lw_learn.specs.declared.task.System.{System}
+use Rattle.lw_learn.specs.declared.task.Task.{Task}
+
+-- files were f and are g: what was to be read says the result, by reads that all gave bytes and counted no fault; or else it is
+-- why nothing can be learned
+pub record IsStage {T : Type 0} (a : LearnValues) (f g : FilesState) (Says : T → Type 0) (result : Result T Unread) : Type 0 where
+  pub ok : IfOk result Says
+  pub made : OnOk result (MadeReads f g [])
+  pub quiet : OnOk result (g.faults ≡ f.faults)
+  pub err : IfErr result (λ u. IsUnreadBy a f g u.system u.kept.answers u.outcome)
+  pub same : g.holds ≡ f.holds
+  pub counts : f.faults ≤ g.faults
+
+-- the files say this system, which has few letters and words to start a child
+pub record SaysWhole (a : LearnValues) (f g : FilesState) (s : System) : Type 0 where
+  pub says : ReadsSystem a.source a.system f.holds f.reads g.reads s
+  pub letters : length (letters_of s) ≤ 64
+  pub words : HasWords s
+
+-- the files say this task, which is ready to be begun
+pub record SaysReady (a : LearnValues) (f g : FilesState) (t : Task) : Type 0 where
+  pub says : ReadsTask a f.holds f.reads g.reads t.system t.cache.kept
+  pub ready : IsReady t.system t.names t.cache
+
+-- why the file in a role wasn't read
+abbrev pub IsRefused : {V : Type 0} → (List ℕ → V → Type 0) → (List ℕ → JsonFault → Type 0) → Role → List ℕ → FilesState → FilesState → Outcome → Type 0
+IsRefused IsFile HasFirst role name f g (BadFile r fault) = (r ≡ role) × ReadsBadFile IsFile HasFirst name f.holds f.reads g.reads fault × MadeReads f g []
+IsRefused IsFile HasFirst role name f g (FileTooLong r) = (r ≡ role) × HoldsLong f.holds name × (g.reads ≡ f.reads) × MadeReads f g (read_call name false ∷ [])
+IsRefused IsFile HasFirst role name f g (FileFault r) = (r ≡ role) × CountedFault f.faults g.faults × (g.reads ≡ f.reads) × MadeReads f g (read_call name true ∷ [])
+IsRefused IsFile HasFirst role name f g NoMemory = MadeSomeReads f g
+IsRefused IsFile HasFirst role name f g _ = ⊥
+
+-- two prior answers of a system clash, the first that do; or memory ran out
+abbrev pub IsClash : System → (prior : List KeptAnswer) → Option System → List KeptAnswer → Outcome → Type 0
+IsClash s prior read kept (Nondeterministic clash) = (read ≡ Some s) × (kept ≡ prior) × IsFirstClash (answers_of prior) clash
+IsClash s prior read kept NoMemory = (kept ≡ []) × (read ≡ None)
+IsClash s prior read kept _ = ⊥
+
+-- why prior answers of a system come to no task, by the outcome
+abbrev pub IsUnfit : System → Answers → Option System → List KeptAnswer → Outcome → Type 0
+IsUnfit s p read kept (Alphabets r) = (r ≡ Prior) × (read ≡ Some s) × (¬ FitsSystem p s) × (kept ≡ [])
+IsUnfit s p read kept (Nondeterministic clash) =
+    (read ≡ Some (with_outputs p.outputs s)) × FitsSystem p s × (kept ≡ prior_answers p.outputs (or_these p.outputs (declared_of s)) p.kept.answers) × IsFirstClash (answers_of kept) clash
+IsUnfit s p read kept NoMemory = (kept ≡ []) × (read ≡ None)
+IsUnfit s p read kept _ = ⊥
+
+-- a task of a system that was read before, by the bytes that were read of a file of prior answers
+abbrev pub IsTaskWith : System → Answers → Task → Type 0
+IsTaskWith s p t = FitsSystem p s × (t.system ≡ with_outputs p.outputs s) × (t.cache.kept ≡ prior_answers p.outputs (or_these p.outputs (declared_of s)) p.kept.answers) × IsReady t.system t.names t.cache
+
+-- the system is handed back, but where memory ran out
+abbrev pub IsBack : Outcome → System → Option System → Type 0
+IsBack NoMemory s read = read ≡ None
+IsBack _ s read = read ≡ Some s
+
+-- why the file of prior answers came to no task
+abbrev pub IsPriorRefused : List ℕ → System → FilesState → FilesState → Option System → List KeptAnswer → Outcome → Type 0
+IsPriorRefused name s f g read kept outcome =
+    (IsRefused IsAnswersFile HasAnswersFault Prior name f g outcome × IsBack outcome s read × (kept ≡ []))
+    ⊎ ((p : Answers) × ReadsFile IsAnswersFile name f.holds f.reads g.reads p × MadeReads f g [] × IsUnfit s p read kept outcome)
+
+-- what came of reading prior answers of a system
+pub record HasPrior (name : List ℕ) (s : System) (f g : FilesState) (result : Result Task Unread) : Type 0 where
+  pub ok : IfOk result (λ t. (p : Answers) × ReadsFile IsAnswersFile name f.holds f.reads g.reads p × IsTaskWith s p t)
+  pub made : OnOk result (MadeReads f g [])
+  pub quiet : OnOk result (g.faults ≡ f.faults)
+  pub err : IfErr result (λ u. IsPriorRefused name s f g u.system u.kept.answers u.outcome)
+  pub same : g.holds ≡ f.holds
+  pub counts : f.faults ≤ g.faults

@@ -1,0 +1,13 @@
+//! What a call of `learn` may come to where the files tell what they hold. Each law is a function with no code, whose contract
+//! is the law.
+ghost use Rattle.lw_learn.specs.Told.{BadIsRefused, ToldIsLearned};
+
+/// Where the files tell a system, and prior answers that fit it where some are named, none of them is refused.
+pub fn told_is_learned()
+    ensures { ToldIsLearned }
+{}
+
+/// Where the file of the system is told to be too long, or of none, nothing is learned.
+pub fn bad_is_refused()
+    ensures { BadIsRefused }
+{}

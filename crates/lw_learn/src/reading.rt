@@ -1,0 +1,326 @@
+//! The files that say what is to be learned: a setup or a table, and prior answers.
+ghost use Rattle.std.specs.Prelude.{◌≡◌, ℕ, ◌≤◌, List, [], length, None, Some, Ok, Err, IfOk, IfErr};
+ghost use Rattle.lw_report.specs.States.{files_state};
+ghost use Rattle.lw_words.specs.Answer.{answers_of};
+ghost use Rattle.lw_cache.specs.Clash.{NothingClashes};
+ghost use Rattle.lw_json.specs.declared.machine.Machine.{Machine as Named};
+ghost use Rattle.lw_pool.specs.Opening.{MayBegin};
+ghost use Rattle.lw_children.specs.Crews.{first_naming};
+ghost use Rattle.lw_prior.specs.Prior.{HasFirstClash};
+ghost use Rattle.lw_report.specs.Stops.{read_outcome};
+ghost use Rattle.lw_report.specs.declared.outcome.Outcome.{Outcome as Came};
+ghost use Rattle.lw_report.specs.declared.role.Role.TheVariants.{Prior as PriorRole, Table as TableRole};
+ghost use Rattle.lw_report.specs.declared.stops.ReadStop.{ReadStop as Stop};
+ghost use Rattle.lw_learn.specs.Tasks.{declared_of, letters_of, or_these, with_outputs};
+ghost use Rattle.lw_learn.specs.bodies.Ready.{HasWords, IsReady};
+ghost use Rattle.lw_learn.specs.bodies.Stages.{HasPrior, IsBack, IsClash, IsStage, IsTaskWith, IsUnfit, SaysReady, SaysWhole};
+ghost use Rattle.lw_learn.specs.declared.arguments.Source.{Source as Kind};
+ghost use Rattle.lw_learn.specs.declared.task.System.TheVariants as Of;
+
+use crate::LearnArguments;
+use crate::arguments::Source;
+use crate::task::{System, Task};
+use lw_cache::Cache;
+use lw_children::Command;
+use lw_desk::OutNames;
+use lw_json::{Answers, Machine, Setup};
+use lw_outside::Files;
+use lw_prior::{Prior, PriorStop, prior_of};
+use lw_report::{Outcome, ReadStop, Role, read_answers_file, read_machine_file, read_setup_file};
+use lw_words::{Kept, Names, NoMemory};
+use std::alloc::Global;
+
+/// Why no learning begins, with the system where that was read, and all prior answers where two of them clash.
+#[derive(Drop)]
+pub(crate) struct Unread {
+    pub(crate) outcome: Outcome,
+    pub(crate) system: Option<System>,
+    pub(crate) kept: Kept,
+}
+
+impl Unread {
+    /// Nothing is kept.
+    fn bare(alloc: Global, outcome: Outcome, system: Option<System>) -> Unread
+        ensures outcome { result.outcome ≡ outcome }
+        ensures system { result.system ≡ system }
+        ensures kept { result.kept.answers ≡ [] }
+    {
+        Unread {
+            outcome,
+            system,
+            kept: Kept::new(alloc),
+        }
+    }
+}
+
+/// A machine as a system.
+fn table_of(alloc: Global, read: Result<Machine, ReadStop>) -> Result<System, Unread>
+    ensures ok { IfOk result (λ s. (m : Named) × (read ≡ Ok m) × (s ≡ Of.Table m) ×
+        (length m.inputs ≤ 64)) }
+    ensures err { IfErr result (λ u. (stop : Stop) × (read ≡ Err stop) ×
+        (u.outcome ≡ read_outcome TableRole stop) × (u.system ≡ None) ×
+        (u.kept.answers ≡ [])) }
+{
+    match read {
+        Ok(machine) => Ok(System::Table(machine)),
+        Err(stop) => Err(Unread::bare(alloc, stop.outcome(Role::Table), None)),
+    }
+}
+
+/// Reads the setup file, and the table file that it names, if it names one.
+fn read_setup<F: Files>(
+    alloc: Global,
+    arguments: &LearnArguments,
+    files: &mut F,
+) -> Result<System, Unread>
+    requires setup { arguments.now.source ≡ Kind.Setup }
+    ensures { IsStage arguments.now
+        (files_state (F.holds files.old) (F.calls files.old) (F.reads files.old)
+        (F.faults files.old))
+        (files_state (F.holds files.new) (F.calls files.new) (F.reads files.new)
+        (F.faults files.new))
+        (SaysWhole arguments.now
+        (files_state (F.holds files.old) (F.calls files.old) (F.reads files.old)
+        (F.faults files.old))
+        (files_state (F.holds files.new) (F.calls files.new) (F.reads files.new)
+        (F.faults files.new))) result }
+{
+    match read_setup_file(alloc, files, arguments.system()) {
+        Ok(Setup::Table(name)) => {
+            let read = read_machine_file(alloc, files, name.get().as_str());
+            table_of(alloc, read)
+        }
+        Ok(
+            Setup::Command {
+                words,
+                inputs,
+                outputs,
+            },
+        ) => Ok(System::Children(Command {
+            words,
+            inputs,
+            outputs,
+        })),
+        Err(stop) => Err(Unread::bare(alloc, stop.outcome(Role::Setup), None)),
+    }
+}
+
+/// Reads the system that is to be learned.
+fn read_system<F: Files>(
+    alloc: Global,
+    arguments: &LearnArguments,
+    files: &mut F,
+) -> Result<System, Unread>
+    ensures { IsStage arguments.now
+        (files_state (F.holds files.old) (F.calls files.old) (F.reads files.old)
+        (F.faults files.old))
+        (files_state (F.holds files.new) (F.calls files.new) (F.reads files.new)
+        (F.faults files.new))
+        (SaysWhole arguments.now
+        (files_state (F.holds files.old) (F.calls files.old) (F.reads files.old)
+        (F.faults files.old))
+        (files_state (F.holds files.new) (F.calls files.new) (F.reads files.new)
+        (F.faults files.new))) result }
+{
+    match arguments.source() {
+        Source::Setup => read_setup(alloc, arguments, files),
+        Source::Table => {
+            let read = read_machine_file(alloc, files, arguments.system());
+            table_of(alloc, read)
+        }
+    }
+}
+
+/// The names of outputs with which a learning of a system begins.
+fn first_names(alloc: Global, system: &System) -> Result<OutNames, NoMemory>
+    ensures { IfOk result (λ n. n ≡ first_naming (declared_of system.now)) }
+{
+    match system.outputs() {
+        Some(names) => OutNames::declared(alloc, names),
+        None => OutNames::free(alloc),
+    }
+}
+
+/// The task of a system of which there are no prior answers.
+fn fresh_task(alloc: Global, system: System) -> Result<Task, Unread>
+    requires letters { length (letters_of system) ≤ 64 }
+    requires words { HasWords system }
+    ensures ok { IfOk result (λ t. (t.system ≡ system) × (t.cache.kept ≡ []) ×
+        IsReady t.system t.names t.cache) }
+    ensures err { IfErr result (λ u. (u.outcome ≡ Came.NoMemory) × (u.kept.answers ≡ []) ×
+        (u.system ≡ None)) }
+{
+    match first_names(alloc, &system) {
+        Ok(names) => Ok(Task {
+            system,
+            names,
+            cache: Cache::new(alloc),
+        }),
+        Err(NoMemory) => Err(Unread::bare(alloc, Outcome::NoMemory, None)),
+    }
+}
+
+/// A copy of the names of a system's outputs, or of these where none were declared.
+fn outputs_or(system: &System, names: &Names) -> Result<Names, NoMemory>
+    ensures { IfOk result (λ copy. copy ≡ or_these names.now (declared_of system.now)) }
+{
+    match system.outputs() {
+        Some(declared) => declared.copy(),
+        None => names.copy(),
+    }
+}
+
+/// A system with these names of outputs, which are its own where it declares some.
+fn with_names(system: System, names: Names) -> System
+    ensures { (own : List (List ℕ)) → names ≡ or_these own (declared_of system) →
+        result ≡ with_outputs own system }
+{
+    match system {
+        System::Table(machine) => System::Table(machine),
+        System::Children(Command { words, inputs, .. }) => System::Children(Command {
+            words,
+            inputs,
+            outputs: Some(names),
+        }),
+    }
+}
+
+/// A system with these names of outputs and prior answers, of which nothing clashes.
+fn prior_task(
+    alloc: Global,
+    system: System,
+    names: Names,
+    cache: Cache,
+) -> Result<Task, NoMemory>
+    requires letters { length (letters_of system) ≤ 64 }
+    requires words { HasWords system }
+    requires unclaimed { cache.claims ≡ [] }
+    requires nothing { NothingClashes (answers_of cache.kept) }
+    requires may { MayBegin (record { names = names; brought = None })
+        (length (letters_of system)) (length names) cache.kept }
+    ensures ok { (own : List (List ℕ)) → names ≡ or_these own (declared_of system) →
+        IfOk result (λ t. (t.system ≡ with_outputs own system) × (t.cache.kept ≡ cache.kept) ×
+        IsReady t.system t.names t.cache) }
+{
+    match OutNames::declared(alloc, &names) {
+        Ok(shared) => Ok(Task {
+            system: with_names(system, names),
+            names: shared,
+            cache,
+        }),
+        Err(NoMemory) => Err(NoMemory),
+    }
+}
+
+/// The task of a system with prior answers, or the first clash of these.
+fn join_prior(alloc: Global, system: System, names: Names, prior: Prior) -> Result<Task, Unread>
+    requires letters { length (letters_of system) ≤ 64 }
+    requires words { HasWords system }
+    requires unclaimed { prior.cache.claims ≡ [] }
+    requires clash { HasFirstClash (answers_of prior.cache.kept) prior.clash }
+    requires may { MayBegin (record { names = names; brought = None })
+        (length (letters_of system)) (length names) prior.cache.kept }
+    ensures ok { (own : List (List ℕ)) → names ≡ or_these own (declared_of system) →
+        IfOk result (λ t. (t.system ≡ with_outputs own system) ×
+        (t.cache.kept ≡ prior.cache.kept) × IsReady t.system t.names t.cache) }
+    ensures err { (own : List (List ℕ)) → names ≡ or_these own (declared_of system) →
+        IfErr result (λ u. IsClash (with_outputs own system) prior.cache.kept u.system
+        u.kept.answers u.outcome) }
+{
+    let Prior { cache, clash } = prior;
+    match clash {
+        Some(clash) => Err(Unread {
+            outcome: Outcome::Nondeterministic(clash),
+            system: Some(with_names(system, names)),
+            kept: cache.into_kept(),
+        }),
+        None => match prior_task(alloc, system, names, cache) {
+            Ok(task) => Ok(task),
+            Err(NoMemory) => Err(Unread::bare(alloc, Outcome::NoMemory, None)),
+        },
+    }
+}
+
+/// The task of a system with these prior answers.
+fn with_answers(alloc: Global, system: System, answers: Answers) -> Result<Task, Unread>
+    requires letters { length (letters_of system) ≤ 64 }
+    requires words { HasWords system }
+    ensures ok { IfOk result (IsTaskWith system answers) }
+    ensures err { IfErr result (λ u. IsUnfit system answers u.system u.kept.answers u.outcome) }
+{
+    let Ok(names) = outputs_or(&system, &answers.outputs) else {
+        return Err(Unread::bare(alloc, Outcome::NoMemory, None));
+    };
+    match prior_of(alloc, answers, system.inputs(), &names) {
+        Ok(prior) => join_prior(alloc, system, names, prior),
+        Err(PriorStop::NamesDiffer) => Err(Unread::bare(
+            alloc,
+            Outcome::Alphabets(Role::Prior),
+            Some(system),
+        )),
+        Err(PriorStop::NoMemory) => Err(Unread::bare(alloc, Outcome::NoMemory, None)),
+    }
+}
+
+/// Why prior answers of a system weren't read. The system is handed back, but where memory ran out.
+fn unread_prior(alloc: Global, system: System, stop: ReadStop) -> Unread
+    ensures outcome { result.outcome ≡ read_outcome PriorRole stop }
+    ensures system { IsBack (read_outcome PriorRole stop) system result.system }
+    ensures kept { result.kept.answers ≡ [] }
+{
+    match stop {
+        ReadStop::NoMemory => Unread::bare(alloc, Outcome::NoMemory, None),
+        ReadStop::Failed => Unread::bare(alloc, Outcome::FileFault(Role::Prior), Some(system)),
+        ReadStop::TooLong => Unread::bare(alloc, Outcome::FileTooLong(Role::Prior), Some(system)),
+        ReadStop::Bad(fault) => {
+            let role = Role::Prior;
+            Unread::bare(alloc, Outcome::BadFile { role, fault }, Some(system))
+        }
+    }
+}
+
+/// Reads the prior answers of a system.
+fn read_prior<F: Files>(
+    alloc: Global,
+    system: System,
+    name: &str,
+    files: &mut F,
+) -> Result<Task, Unread>
+    requires letters { length (letters_of system) ≤ 64 }
+    requires words { HasWords system }
+    ensures { HasPrior name.now system
+        (files_state (F.holds files.old) (F.calls files.old) (F.reads files.old)
+        (F.faults files.old))
+        (files_state (F.holds files.new) (F.calls files.new) (F.reads files.new)
+        (F.faults files.new)) result }
+{
+    match read_answers_file(alloc, files, name) {
+        Ok(answers) => with_answers(alloc, system, answers),
+        Err(stop) => Err(unread_prior(alloc, system, stop)),
+    }
+}
+
+/// Reads what is to be learned: the setup or the table file, the table file that a setup names, and the prior answers, in this
+/// order.
+pub(crate) fn read_task<F: Files>(
+    alloc: Global,
+    arguments: &LearnArguments,
+    files: &mut F,
+) -> Result<Task, Unread>
+    ensures { IsStage arguments.now
+        (files_state (F.holds files.old) (F.calls files.old) (F.reads files.old)
+        (F.faults files.old))
+        (files_state (F.holds files.new) (F.calls files.new) (F.reads files.new)
+        (F.faults files.new))
+        (SaysReady arguments.now
+        (files_state (F.holds files.old) (F.calls files.old) (F.reads files.old)
+        (F.faults files.old))
+        (files_state (F.holds files.new) (F.calls files.new) (F.reads files.new)
+        (F.faults files.new))) result }
+{
+    let system = read_system(alloc, arguments, files)?;
+    match arguments.prior() {
+        Some(name) => read_prior(alloc, system, name, files),
+        None => fresh_task(alloc, system),
+    }
+}

@@ -1,0 +1,20 @@
+use Rattle.std.proofs.Common.{◌<◌, List, [], ◌∷◌, ◌++◌, length, sym, ap, ◌∙◌, arith}
+use Rattle.lw_words.specs.declared.kept.KeptAnswer.{KeptAnswer}
+use Rattle.lw_prior.proofs.FillLemmas.{whole_at, take_next}
+use Rattle.lw_prior.proofs.filling.fill.Goals as goal
+
+pub keep-requires-clause-even : goal.keep-requires-clause-even
+keep-requires-clause-even c =
+    let lt : c.loop-number.number < length c.args.kept.now.answers = omega (arith, c.len-number-end.ensures, c.loop-number-test.true) in
+    whole_at c.args.kept.now.answers c.loop-number.number c.get-answer.result.now lt c.get-answer.ensures c.requires
+
+pub loop-number-preserved : goal.loop-number-preserved
+loop-number-preserved c =
+    let ks = c.args.kept.now.answers in
+    let k = c.get-answer.result.now in
+    let lt : c.loop-number.number < length ks = omega (arith, c.len-number-end.ensures, c.loop-number-test.true) in
+    record {
+      unclaimed = c.keep.ensures.unclaimed;
+      kept = c.in_ok-clash.ensures.kept ∙ (ap (λ (l : List KeptAnswer). l ++ k ∷ []) c.loop-number.invariant.kept ∙ sym (take_next ks c.loop-number.number k lt c.get-answer.ensures));
+      so_far = c.in_ok-clash.ensures.so_far;
+    }

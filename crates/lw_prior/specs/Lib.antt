@@ -1,0 +1,3 @@
+pub mod FirstClash
+pub mod Prior
+pub mod bodies

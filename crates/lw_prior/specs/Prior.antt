@@ -1,0 +1,33 @@
+-- The answers of an earlier call, as those that a learning begins with.
+use Rattle.std.specs.Prelude.{◌≡◌, ℕ, ◌+◌, List, [], ◌∷◌, map, Contains, Option, None, Some}
+use Rattle.std.specs.List.{All}
+use Rattle.lw_words.specs.Answer.{Answer}
+use Rattle.lw_words.specs.declared.kept.KeptAnswer.{KeptAnswer}
+use Rattle.lw_sul.specs.Names.{name_at}
+use Rattle.lw_cache.specs.Clash.{NothingClashes}
+use Rattle.lw_cache.specs.declared.stops.Clash.{Clash}
+use Rattle.lw_desk.specs.Naming.{number_in}
+use Rattle.lw_prior.specs.FirstClash.{IsFirstClash}
+
+-- an answer under the instance 16 and this run, its outputs by the numbers that their names have in another list
+abbrev pub prior_answer : ℕ → (own names : List (List ℕ)) → KeptAnswer → KeptAnswer
+prior_answer n own names k = record { instance = 16; run = n; word = k.word; outs = map (λ y. number_in names (name_at own y)) k.outs }
+
+-- answers in the runs n, n + 1 and so on
+abbrev pub prior_from : ℕ → (own names : List (List ℕ)) → List KeptAnswer → List KeptAnswer
+prior_from n own names [] = []
+prior_from n own names (k ∷ ks) = prior_answer n own names k ∷ prior_from (n + 1) own names ks
+
+-- each answer in the run of its place
+abbrev pub prior_answers : (own names : List (List ℕ)) → List KeptAnswer → List KeptAnswer
+prior_answers own names ks = prior_from 0 own names ks
+
+-- the letters are the same, and each name of an output is among the others
+pub record FitNames (own_inputs own_outputs their_inputs their_outputs : List (List ℕ)) : Type 0 where
+  pub inputs : own_inputs ≡ their_inputs
+  pub outputs : All (λ n. Contains their_outputs n) own_outputs
+
+-- the first two answers that no one machine gives, where there are any
+abbrev pub HasFirstClash : List Answer → Option Clash → Type 0
+HasFirstClash ks None = NothingClashes ks
+HasFirstClash ks (Some clash) = IsFirstClash ks clash
