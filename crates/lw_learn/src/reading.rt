@@ -186,12 +186,7 @@ fn with_names(system: System, names: Names) -> System
 }
 
 /// A system with these names of outputs and prior answers, of which nothing clashes.
-fn prior_task(
-    alloc: Global,
-    system: System,
-    names: Names,
-    cache: Cache,
-) -> Result<Task, NoMemory>
+fn prior_task(alloc: Global, system: System, names: Names, cache: Cache) -> Result<Task, NoMemory>
     requires letters { length (letters_of system) ≤ 64 }
     requires words { HasWords system }
     requires unclaimed { cache.claims ≡ [] }
