@@ -100,9 +100,9 @@ few_first None = omega arith
 few_first (Some names) = omega arith
 
 -- what is told of a link over which nothing went
-untouched_is : (letters names : List (List ℕ)) (most faults : ℕ) (told : Option Transcript) → IsUntouched told → IsTranscriptOf letters names most faults None told
+untouched_is : (letters names : List (List ℕ)) (most faults : ℕ) (told : Option Transcript) → IsUntouched told → IsTranscriptOf letters names most faults None false told
 untouched_is letters names most faults None is = tt
-untouched_is letters names most faults (Some t) is = subst (λ (x : Transcript). IsTranscriptOf letters names most faults None (Some x)) (sym is) (
+untouched_is letters names most faults (Some t) is = subst (λ (x : Transcript). IsTranscriptOf letters names most faults None false (Some x)) (sym is) (
   record {
     each = λ i d lt. absurd (omega (arith, lt));
     first = λ line more same. absurd (omega (arith, ap (λ (l : List (List ℕ)). length l) same));
@@ -110,7 +110,7 @@ untouched_is letters names most faults (Some t) is = subst (λ (x : Transcript).
     whole = λ some. absurd (some refl);
   },
   tt,
-  refl,
+  (refl, refl),
 )
 
 untouched_runs : (letters names : List (List ℕ)) (told : Option Transcript) → IsUntouched told → IsJournal (told_runs letters names told) [] None false

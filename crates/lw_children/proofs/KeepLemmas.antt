@@ -1,5 +1,5 @@
 -- What the record of a link says of the kept answers of its instance, and of why that stopped.
-use Rattle.std.proofs.Common.{◌≡◌, ◌⊎◌, ⊎_elim, ℕ, ◌+◌, ◌≤◌, List, [], ◌∷◌, ◌++◌, length, Bool, true, false, Option, Some, None, inl, inr, refl, ap, sym, ◌∙◌, subst, arith}
+use Rattle.std.proofs.Common.{◌≡◌, ◌⊎◌, ⊎_elim, ℕ, ◌≤◌, List, [], length, Bool, true, false, Option, Some, None, inl, inr, refl, ap, sym, ◌∙◌, subst, arith}
 use Rattle.lw_words.specs.Name.{AllDiffer}
 use Rattle.lw_words.specs.declared.kept.KeptAnswer.{KeptAnswer}
 use Rattle.lw_words.specs.declared.stop.SulStop.{SulStop}
@@ -7,15 +7,14 @@ use Rattle.lw_words.specs.declared.stop.SulStop.TheVariants.{Failed, BadLine, Go
 use Rattle.lw_mealy.specs.Origin.{Origin}
 use Rattle.lw_sul.specs.SessionState.{IsJournal}
 use Rattle.lw_sul.specs.declared.runs.Run.{Run}
-use Rattle.lw_outside.specs.Lines.{lines_of}
 use Rattle.lw_outside.specs.Links.{Retired, Transcript}
 use Rattle.lw_desk.specs.Ending.{kept_runs}
 use Rattle.lw_pool.specs.Pool.{Seen, journal_runs}
 use Rattle.lw_line.specs.Causes.{EndsWithin, IsCounted, IsCovered, IsRefused, IsSpelled, IsTranscriptOf}
 use Rattle.lw_children.specs.Children.{HasRefused, IfTold, IsSound, IsStopped}
-use Rattle.lw_children.specs.Keeping.{AreOwn, IsBroken, KeepsTold, most_of}
+use Rattle.lw_children.specs.Keeping.{AreFinished, AreOwn, IsBroken, KeepsTold, most_of}
 use Rattle.lw_line.specs.LineState.{AreFree, AreToldIfFree, IsNaming, told_runs}
-use Rattle.lw_line.specs.Transcripts.{lines_in, spelled}
+use Rattle.lw_line.specs.Transcripts.{BreaksIn, SpellsAll, spelled}
 use Rattle.lw_children.specs.Crews.{BearsOut, FitsOutputs, IsChildSeen}
 
 abbrev some_by : {X : Type 0} → X → Option X → X
@@ -42,18 +41,13 @@ module _ (letters : List (List ℕ)) (outputs : Option (List (List ℕ))) (names
   broken t Gone counted spelled = inr (inl counted)
   broken t (BadLine line) counted spelled = inr (inr (line, subst (λ (n : ℕ). IsRefused own n t line) most_is spelled))
 
-  spells : (t : Transcript) (runs : List Run) (stop : Option SulStop) (cut : Bool) → IsCounted r.faults r.ends stop → IsSpelled own most t stop → IsJournal (Some (spelled letters own t)) runs stop cut
-      → (spelled letters own t ≡ runs) ⊎ (IsBroken own (most_of outputs) r t × ((x : Run) × (spelled letters own t ≡ runs ++ x ∷ [])))
-  spells t runs None cut counted told journal = inl journal
-  spells t runs (Some stop) false counted told journal = inl journal
-  spells t runs (Some stop) true counted told journal = inr (broken t stop counted told, journal)
+  ends : (t : Transcript) (runs : List Run) (stop : Option SulStop) (cut : Bool) → IsCounted r.faults r.ends stop → IsSpelled own most t stop → IsCovered letters own r.faults t stop cut → IsJournal (Some (spelled letters own t)) runs stop cut
+      → (SpellsAll letters own t × (spelled letters own t ≡ runs)) ⊎ (IsBroken own (most_of outputs) r t × ((c : Bool) × BreaksIn letters own r.faults c t × AreFinished c (spelled letters own t) runs))
+  ends t runs None cut counted told covered journal = inl (covered, journal)
+  ends t runs (Some stop) false counted told covered journal = inr (broken t stop counted told, (false, covered, journal))
+  ends t runs (Some stop) true counted told covered journal = inr (broken t stop counted told, (true, covered, journal))
 
-  covers : (t : Transcript) (stop : Option SulStop) → IsCounted r.faults r.ends stop → IsSpelled own most t stop → IsCovered letters own t stop
-      → (length (lines_of t.sent) ≡ lines_in (spelled letters own t)) ⊎ (IsBroken own (most_of outputs) r t × (length (lines_of t.sent) ≡ lines_in (spelled letters own t) + 1))
-  covers t None counted told covered = inl covered
-  covers t (Some stop) counted told covered = ⊎_elim (λ (e : length (lines_of t.sent) ≡ lines_in (spelled letters own t)). inl e) (λ (e : length (lines_of t.sent) ≡ lines_in (spelled letters own t) + 1). inr (broken t stop counted told, e)) covered
-
-  keeps_told : (told : Option Transcript) (runs : List Run) (stop : Option SulStop) (cut : Bool) → IfTold (AreOwn outputs own) told → IsCounted r.faults r.ends stop → IsTranscriptOf letters own most r.faults stop told → IsJournal (told_runs letters own told) runs stop cut → kept_runs names i since ≡ journal_runs own 0 runs → KeepsTold letters outputs names i since r told
+  keeps_told : (told : Option Transcript) (runs : List Run) (stop : Option SulStop) (cut : Bool) → IfTold (AreOwn outputs own) told → IsCounted r.faults r.ends stop → IsTranscriptOf letters own most r.faults stop cut told → IsJournal (told_runs letters own told) runs stop cut → kept_runs names i since ≡ journal_runs own 0 runs → KeepsTold letters outputs names i since r told
   keeps_told None runs stop cut owns counted told journal kept = tt
   keeps_told (Some t) runs stop cut owns counted told journal kept = record {
     proper = told.0;
@@ -61,20 +55,19 @@ module _ (letters : List (List ℕ)) (outputs : Option (List (List ℕ))) (names
     owns = owns;
     runs = runs;
     kept = kept;
-    spells = spells t runs stop cut counted told.1 journal;
-    whole = covers t stop counted told.1 told.2;
+    ends = ends t runs stop cut counted told.1 told.2 journal;
   }
 
-  stopped_told : (told : Option Transcript) (stop : SulStop) → IfTold (AreOwn outputs own) told → IsCounted r.faults r.ends (Some stop) → IsTranscriptOf letters own most r.faults (Some stop) told → r.transcript ≡ told → IsStopped outputs stop r
-  stopped_told told Failed owns counted is same = counted
-  stopped_told told Gone owns counted is same = (counted, subst (IfTold EndsWithin) (sym same) (by told is))
+  stopped_told : (told : Option Transcript) (stop : SulStop) (cut : Bool) → IfTold (AreOwn outputs own) told → IsCounted r.faults r.ends (Some stop) → IsTranscriptOf letters own most r.faults (Some stop) cut told → r.transcript ≡ told → IsStopped outputs stop r
+  stopped_told told Failed cut owns counted is same = counted
+  stopped_told told Gone cut owns counted is same = (counted, subst (IfTold EndsWithin) (sym same) (by told is))
     where
-      by : (told : Option Transcript) → IsTranscriptOf letters own most r.faults (Some Gone) told → IfTold EndsWithin told
+      by : (told : Option Transcript) → IsTranscriptOf letters own most r.faults (Some Gone) cut told → IfTold EndsWithin told
       by None is = tt
       by (Some t) is = is.1
-  stopped_told told (BadLine line) owns counted is same = subst (IfTold (HasRefused outputs line)) (sym same) (by told owns is)
+  stopped_told told (BadLine line) cut owns counted is same = subst (IfTold (HasRefused outputs line)) (sym same) (by told owns is)
     where
-      by : (told : Option Transcript) → IfTold (AreOwn outputs own) told → IsTranscriptOf letters own most r.faults (Some (BadLine line)) told → IfTold (HasRefused outputs line) told
+      by : (told : Option Transcript) → IfTold (AreOwn outputs own) told → IsTranscriptOf letters own most r.faults (Some (BadLine line)) cut told → IfTold (HasRefused outputs line) told
       by None owns is = tt
       by (Some t) owns is = (own, owns, subst (λ (n : ℕ). IsRefused own n t line) most_is is.1)
 
@@ -95,8 +88,8 @@ module _ (letters : List (List ℕ)) (outputs : Option (List (List ℕ))) (n : �
   most_so : s.most ≡ most_of outputs
   most_so = most_is outputs s.names s.most s.outputs seen.fits bears.naming
 
-  pub told : IsTranscriptOf letters s.names s.most r.faults s.stop r.transcript
-  told = subst (λ (l : List (List ℕ)). IsTranscriptOf l s.names s.most r.faults s.stop r.transcript) letters_are bears.told
+  pub told : IsTranscriptOf letters s.names s.most r.faults s.stop bears.cut r.transcript
+  told = subst (λ (l : List (List ℕ)). IsTranscriptOf l s.names s.most r.faults s.stop bears.cut r.transcript) letters_are bears.told
 
   pub keeps_link : (names : List (List ℕ)) (i : ℕ) (since : List KeptAnswer) → kept_runs names i since ≡ journal_runs s.names 0 s.journal → KeepsTold letters outputs names i since r r.transcript
   keeps_link names i since kept =
@@ -105,7 +98,7 @@ module _ (letters : List (List ℕ)) (outputs : Option (List (List ℕ))) (n : �
 
   pub stopped_link : (stop : SulStop) → s.stop ≡ Some stop → IsStopped outputs stop r
   stopped_link stop is =
-      stopped_told letters outputs [] 0 [] r s.names s.most most_so r.transcript stop own (subst (IsCounted r.faults r.ends) is bears.counted) (subst (λ (o : Option SulStop). IsTranscriptOf letters s.names s.most r.faults o r.transcript) is told) refl
+      stopped_told letters outputs [] 0 [] r s.names s.most most_so r.transcript stop bears.cut own (subst (IsCounted r.faults r.ends) is bears.counted) (subst (λ (o : Option SulStop). IsTranscriptOf letters s.names s.most r.faults o bears.cut r.transcript) is told) refl
 
 -- a child whose link is sound did not stop
 pub sound_goes_on : (outputs : Option (List (List ℕ))) (r : Retired) (stop : SulStop) → IsSound outputs r → ¬ IsStopped outputs stop r

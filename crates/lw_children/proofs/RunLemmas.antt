@@ -39,7 +39,7 @@ numbered_up names own i kept journal same =
     (sym (same_numbers names (filter (λ k. k.instance == i) kept))
     ∙ (ap numbers same ∙ journal_numbers own 0 journal))
 
-whole_told : (letters : List (List ℕ)) (outputs : Option (List (List ℕ))) (names : List (List ℕ)) (i : ℕ) (since : List KeptAnswer) (own : List (List ℕ)) (most faults : ℕ) (told : Option Transcript) (runs : List Run) (cut : Bool) → IfTold (AreOwn outputs own) told → IsTranscriptOf letters own most faults None told → IsJournal (told_runs letters own told) runs None cut → kept_runs names i since ≡ journal_runs own 0 runs → IfTold (KeepsWhole letters outputs names i since) told
+whole_told : (letters : List (List ℕ)) (outputs : Option (List (List ℕ))) (names : List (List ℕ)) (i : ℕ) (since : List KeptAnswer) (own : List (List ℕ)) (most faults : ℕ) (told : Option Transcript) (runs : List Run) (cut : Bool) → IfTold (AreOwn outputs own) told → IsTranscriptOf letters own most faults None cut told → IsJournal (told_runs letters own told) runs None cut → kept_runs names i since ≡ journal_runs own 0 runs → IfTold (KeepsWhole letters outputs names i since) told
 whole_told letters outputs names i since own most faults None runs cut owns is journal kept = tt
 whole_told letters outputs names i since own most faults (Some t) runs cut owns is journal kept = record {
   own = own;
@@ -52,5 +52,5 @@ whole_told letters outputs names i since own most faults (Some t) runs cut owns 
 pub whole_link : (letters : List (List ℕ)) (outputs : Option (List (List ℕ))) (n : ℕ) (s : Seen) (r : Retired) (seen : IsChildSeen letters outputs n s) (bears : BearsOut s r) (names : List (List ℕ)) (i : ℕ) (since : List KeptAnswer) → s.stop ≡ None → kept_runs names i since ≡ journal_runs s.names 0 s.journal → IfTold (KeepsWhole letters outputs names i since) r.transcript
 whole_link letters outputs n s r seen bears names i since goes kept =
     whole_told letters outputs names i since s.names s.most r.faults r.transcript s.journal bears.cut (own letters outputs n s r seen bears)
-    (subst (λ (o : Option SulStop). IsTranscriptOf letters s.names s.most r.faults o r.transcript) goes (told letters outputs n s r seen bears))
+    (subst (λ (o : Option SulStop). IsTranscriptOf letters s.names s.most r.faults o bears.cut r.transcript) goes (told letters outputs n s r seen bears))
     (subst₂ (λ (l : List (List ℕ)) (o : Option SulStop). IsJournal (told_runs l s.names r.transcript) s.journal o bears.cut) (letters_are letters outputs n s r seen bears) goes bears.journal) kept

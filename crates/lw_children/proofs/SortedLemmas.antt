@@ -76,8 +76,7 @@ told_stays letters outputs before now i kept more link (Some t) same is = record
   owns = is.owns;
   runs = is.runs;
   kept = same ∙ is.kept;
-  spells = is.spells;
-  whole = is.whole;
+  ends = is.ends;
 }
 
 -- and leaves out as little

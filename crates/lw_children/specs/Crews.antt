@@ -67,12 +67,13 @@ pub record BearsOut (s : Seen) (r : Retired) : Type 0 where
   pub letters : List (List ℕ)
   pub origin : s.origin ≡ record { machine = None; link = Some r.number; letters = Some letters }
   pub counted : IsCounted r.faults r.ends s.stop
-  pub told : IsTranscriptOf letters s.names s.most r.faults s.stop r.transcript
+  -- whether a step cut a run off
+  pub cut : Bool
+  pub told : IsTranscriptOf letters s.names s.most r.faults s.stop cut r.transcript
   pub few : length s.names ≤ s.most
   pub naming : IsNaming s.names s.most s.outputs
   pub differ : AreFree s.most s.outputs → AllDiffer s.names
   pub told_names : AreToldIfFree s.names s.most s.outputs r.transcript
-  pub cut : Bool
   pub journal : IsJournal (told_runs letters s.names r.transcript) s.journal s.stop cut
 
 -- the links that were retired before were started before the one of this number

@@ -1,17 +1,16 @@
 -- What is kept of a learning over children: the runs that went over their links.
-use Rattle.std.specs.Prelude.{◌≡◌, ◌⊎◌, ℕ, ◌+◌, ◌<◌, ◌≤◌, List, [], ◌∷◌, ◌++◌, length, slice_index_or, Option, Some, None}
+use Rattle.std.specs.Prelude.{◌≡◌, ◌⊎◌, ℕ, ◌<◌, ◌≤◌, List, [], ◌∷◌, ◌++◌, length, slice_index_or, Bool, true, false, Option, Some, None}
 use Rattle.std.specs.List.{All, range_with_len}
 use Rattle.lw_words.specs.Answer.{AreAnswers, answers_of}
 use Rattle.lw_words.specs.Cause.{CountedFault}
 use Rattle.lw_words.specs.Name.{AllDiffer}
 use Rattle.lw_words.specs.declared.kept.KeptAnswer.{KeptAnswer}
 use Rattle.lw_sul.specs.declared.runs.Run.{Run}
-use Rattle.lw_outside.specs.Lines.{lines_of}
 use Rattle.lw_outside.specs.Links.{Retired, Transcript}
 use Rattle.lw_desk.specs.Ending.{kept_runs}
 use Rattle.lw_pool.specs.Pool.{AskedOnce, journal_runs}
 use Rattle.lw_line.specs.Causes.{IsRefused, IsToldName}
-use Rattle.lw_line.specs.Transcripts.{IsProper, lines_in, spelled}
+use Rattle.lw_line.specs.Transcripts.{BreaksIn, IsProper, SpellsAll, spelled}
 use Rattle.lw_workers.specs.Machines.{run_numbers}
 
 -- the greatest number of names of a child's outputs: those of a declared list, or 256
@@ -24,7 +23,7 @@ abbrev pub count_of : Option (List (List ℕ)) → ℕ
 count_of None = 4096
 count_of (Some names) = length names
 
--- the names of a child's outputs are those that were declared, or at most 256 different ones, each told over its link
+-- the names of a child's outputs are those that were declared, or at most 256 different ones, each told by an answer to a letter
 abbrev pub AreOwn : Option (List (List ℕ)) → List (List ℕ) → Transcript → Type 0
 AreOwn None own t = (length own ≤ 256) × AllDiffer own × All (IsToldName t) own
 AreOwn (Some names) own t = own ≡ names
@@ -33,9 +32,14 @@ AreOwn (Some names) own t = own ≡ names
 abbrev pub IsBroken : (own : List (List ℕ)) (most : ℕ) → Retired → Transcript → Type 0
 IsBroken own most link t = CountedFault 0 link.faults ⊎ CountedFault 0 link.ends ⊎ ((line : List ℕ) × IsRefused own most t line)
 
+-- the finished ones of some runs: all of them, or, where a step cut the last one off, all before that
+abbrev pub AreFinished : (cut : Bool) (runs finished : List Run) → Type 0
+AreFinished false runs finished = runs ≡ finished
+AreFinished true runs finished = (r : Run) × (runs ≡ finished ++ r ∷ [])
+
 -- the kept answers of an instance are the runs that the transcript of its link spells, by the names of their outputs and
--- numbered from 0: each line that was sent is one of these runs', but for a last one at which the link broke; and then the run
--- that it cut off is left out
+-- numbered from 0: all of them, where all that was sent is lines of these runs, or where the link broke in a reset; where it
+-- broke in a step, all but the last one, which that cut off
 pub record KeepsTranscript (letters : List (List ℕ)) (outputs : Option (List (List ℕ))) (names : List (List ℕ)) (instance : ℕ) (since : List KeptAnswer) (link : Retired) (t : Transcript) : Type 0 where
   pub proper : IsProper letters link.faults t
   -- the names of the child's outputs, in the order in which they came where they weren't declared
@@ -43,22 +47,21 @@ pub record KeepsTranscript (letters : List (List ℕ)) (outputs : Option (List (
   pub owns : AreOwn outputs own t
   pub runs : List Run
   pub kept : kept_runs names instance since ≡ journal_runs own 0 runs
-  pub spells : (spelled letters own t ≡ runs) ⊎ (IsBroken own (most_of outputs) link t × ((r : Run) × (spelled letters own t ≡ runs ++ r ∷ [])))
-  pub whole :
-      (length (lines_of t.sent) ≡ lines_in (spelled letters own t))
-      ⊎ (IsBroken own (most_of outputs) link t × (length (lines_of t.sent) ≡ lines_in (spelled letters own t) + 1))
+  pub ends :
+      (SpellsAll letters own t × (spelled letters own t ≡ runs))
+      ⊎ (IsBroken own (most_of outputs) link t × ((cut : Bool) × BreaksIn letters own link.faults cut t × AreFinished cut (spelled letters own t) runs))
 
 abbrev pub KeepsTold : List (List ℕ) → Option (List (List ℕ)) → List (List ℕ) → ℕ → List KeptAnswer → Retired → Option Transcript → Type 0
 KeepsTold letters outputs names instance since link None = Unit {0}
 KeepsTold letters outputs names instance since link (Some t) = KeepsTranscript letters outputs names instance since link t
 
--- nothing of a transcript is left out: the kept answers of its instance are all the runs that it spells, and each line that was
--- sent is one of these runs'
+-- nothing of a transcript is left out: the kept answers of its instance are all the runs that it spells, and all that was sent
+-- is lines of these runs
 pub record KeepsWhole (letters : List (List ℕ)) (outputs : Option (List (List ℕ))) (names : List (List ℕ)) (instance : ℕ) (since : List KeptAnswer) (t : Transcript) : Type 0 where
   pub own : List (List ℕ)
   pub owns : AreOwn outputs own t
   pub kept : kept_runs names instance since ≡ journal_runs own 0 (spelled letters own t)
-  pub covered : length (lines_of t.sent) ≡ lines_in (spelled letters own t)
+  pub covered : SpellsAll letters own t
 
 -- the kept answers are the prior ones and then, for each link, the runs of its transcript, where that is told; the runs of each
 -- instance are 0, 1, 2 and so on, told or not; the word of none was known when it was asked

@@ -1,8 +1,8 @@
 -- How a child system stands before and after a call.
-use Rattle.std.proofs.Common.{◌≡◌, ◌≢◌, ◌⊎◌, inl, inr, ℕ, ◌+◌, ◌<◌, ◌≤◌, List, [], ◌∷◌, ◌++◌, length, slice_get, take, Bool, true, false, Option, Some, None, option_map, refl, ap, sym, ◌∙◌, subst, arith, append_assoc, length-append}
+use Rattle.std.proofs.Common.{◌≡◌, ◌≢◌, ◌⊎◌, inl, inr, ℕ, ◌+◌, ◌<◌, ◌≤◌, List, [], ◌∷◌, ◌++◌, length, slice_get, take, drop, Bool, true, false, Option, Some, None, option_map, refl, ap, sym, ◌∙◌, subst, arith, append_assoc, length-append}
 use Rattle.std.specs.List.{All}
 use Rattle.std.specs.Str.Lines.{strip_carriage_return}
-use Rattle.std.proofs.lemmas.List.{take-append-le, get_or_at}
+use Rattle.std.proofs.lemmas.List.{take-append-le, get_or_at, get_or_push, take-append-drop}
 use Rattle.std.proofs.lemmas.List.Elements.{All-push, All-take, All-nil}
 use Rattle.std.proofs.lemmas.Option.{slice_get-get_or}
 use Rattle.lw_words.specs.Cause.{CountedFault}
@@ -13,11 +13,11 @@ use Rattle.lw_outside.specs.Lines.{Split, split_bytes, lines_of, rest_of}
 use Rattle.lw_outside.specs.Links.{Transcript, IsUntouched, sends, receives}
 use Rattle.lw_outside.specs.Played.{ended_lines}
 use Rattle.lw_outside.specs.Protocol.{reset_line}
-use Rattle.lw_line.specs.Transcripts.{IsSentLine, IsProper, exchanged, lines_in, spelled, spelled_from}
-use Rattle.lw_line.specs.Causes.{EndsWithin, IsBadAnswer, IsCovered, IsRefused, IsSpelled}
+use Rattle.lw_line.specs.Transcripts.{BreaksAt, IsSentLine, IsProper, SpellsAll, exchanged, lines_in, spelled, spelled_from}
+use Rattle.lw_line.specs.Causes.{EndsWithin, IsBadAnswer, IsRefused, IsSpelled}
 use Rattle.lw_line.specs.bodies.Exchanges.{IsAnswered, IsRefusal, ended}
 use Rattle.lw_line.specs.bodies.Pieces.{NoFeed, EndsOpen}
-use Rattle.lw_line.specs.bodies.Standing.{Spells, BeginsWell, IsLive, IsTold}
+use Rattle.lw_line.specs.bodies.Standing.{Spells, BeginsWell, IsLive, IsToldLive}
 use Rattle.lw_line.proofs.Covering.{all_covered}
 use Rattle.lw_line.proofs.Spelling.{spells_push, spells_length, spelled_whole, spelled_unanswered, spelled_badly}
 use Rattle.lw_line.proofs.Splitting.{split, split_lines, split_lines_open, split_ended, ended_push}
@@ -63,9 +63,9 @@ spells_lines inputs names t lines rest answers more sees =
     ∙ ap (λ (s : Split). spelled_from inputs names [] lines s.lines) sees.received
 
 -- no call was made
-pub live_untouched : (inputs names : List (List ℕ)) (told : Option Transcript) → IsUntouched told → (most faults : ℕ) → IsTold inputs names most faults false [] None told
-live_untouched inputs names None is most faults = tt
-live_untouched inputs names (Some t) is most faults =
+pub live_untouched : (inputs names : List (List ℕ)) (told : Option Transcript) → IsUntouched told → IsToldLive inputs names false [] told
+live_untouched inputs names None is = tt
+live_untouched inputs names (Some t) is =
     record {
       lines = [];
       answers = [];
@@ -96,6 +96,9 @@ module _ (inputs names : List (List ℕ)) (started : Bool) (held : List ℕ) (t 
 
   pub live_covered : length live.lines ≡ lines_in (spelled inputs names t)
   live_covered = sym (all_covered inputs names started live.lines live.answers live.runs live.begins live.spells) ∙ ap (λ (rs : List Run). lines_in rs) (sym live_runs)
+
+  pub live_spells : SpellsAll inputs names t
+  live_spells = (ap (λ (s : Split). length s.lines) live_sees.sent ∙ live_covered, ap (λ (s : Split). s.rest) live_sees.sent)
 
   pub live_proper : (faults : ℕ) → IsProper inputs faults t
   live_proper faults =
@@ -128,6 +131,19 @@ module _ (inputs names : List (List ℕ)) (started : Bool) (held : List ℕ) (t 
       ∙ (slice_get-get_or all (length live.answers) [] (omega arith)
       ∙ ap (λ (l : List ℕ). Some l) (get_or_at live.answers raw (lines_of now) [] (length live.answers) refl))
 
+  -- and stands where the line that it answers stands among those that were sent
+  pub is_sent : (line : List ℕ) → NoFeed line → slice_get (lines_of (t.sent ++ ended line)) (length live.answers) ≡ Some line
+  is_sent line plain =
+      let all : List (List ℕ) = live.lines ++ line ∷ [] in
+      let long : length all ≡ length live.lines + 1 = length-append live.lines (line ∷ []) in
+      let same : length live.lines ≡ length live.answers = live_length in
+      let sees : split_bytes (t.sent ++ ended line) ≡ split all [] =
+      ap split_bytes (ap (λ (l : List ℕ). l ++ ended line) live.sent ∙ sym (ended_push live.lines line))
+      ∙ split_ended all (All-push NoFeed live.lines line live.plain_lines plain) in
+      ap (λ (s : Split). slice_get s.lines (length live.answers)) sees
+      ∙ (slice_get-get_or all (length live.answers) [] (omega arith)
+      ∙ ap (λ (l : List ℕ). Some l) (get_or_push live.lines line [] (length live.answers) same))
+
   module _ (line : List ℕ) (plain : NoFeed line) (is_line : IsSentLine inputs line) (well : (started ≡ true) ⊎ (line ≡ reset_line)) where
     pub lines_more : All (IsSentLine inputs) (live.lines ++ line ∷ [])
     lines_more = All-push (IsSentLine inputs) live.lines line live.each is_line
@@ -144,12 +160,15 @@ module _ (inputs names : List (List ℕ)) (started : Bool) (held : List ℕ) (t 
     pub length_more : length (live.lines ++ line ∷ []) ≡ length live.answers + 1
     length_more = length-append live.lines (line ∷ []) ∙ ap (λ (n : ℕ). n + 1) live_length
 
-    -- a line more than the runs take was sent, where the runs are as before
-    pub sent_covered : (u : Transcript) (rest : List ℕ) → split_bytes u.sent ≡ split (live.lines ++ line ∷ []) rest → spelled inputs names u ≡ spelled inputs names t → length (lines_of u.sent) ≡ lines_in (spelled inputs names u) + 1
-    sent_covered u rest sent same =
-        ap (λ (s : Split). length s.lines) sent
-        ∙ (length-append live.lines (line ∷ [])
-        ∙ ap (λ (n : ℕ). n + 1) (live_covered ∙ ap (λ (rs : List Run). lines_in rs) (sym same)))
+    -- the link breaks at the line, where the runs are as before
+    pub sent_breaks : (faults : ℕ) (u : Transcript) → split_bytes u.sent ≡ split (live.lines ++ line ∷ []) [] → spelled inputs names u ≡ spelled inputs names t → BreaksAt inputs names faults u line
+    sent_breaks faults u sent same = inl (
+      ap (λ (s : Split). length s.lines) sent
+          ∙ (length-append live.lines (line ∷ [])
+          ∙ ap (λ (n : ℕ). n + 1) (live_covered ∙ ap (λ (rs : List Run). lines_in rs) (sym same))),
+      (live.lines, ap (λ (s : Split). s.lines) sent),
+      ap (λ (s : Split). s.rest) sent,
+    )
 
     -- a good answer
     pub good : (after : List (List ℕ)) (now answer : List ℕ) (next : List Run → List Run) → ((rs : List Run) → Spells inputs names [] live.lines live.answers rs → Spells inputs after [] live.lines live.answers rs)
@@ -187,16 +206,16 @@ module _ (inputs names : List (List ℕ)) (started : Bool) (held : List ℕ) (t 
         proper inputs faults u (live.lines ++ line ∷ []) [] answers rest sees lines_more (begins true (live.lines ++ line ∷ []) begins_more) (omega arith) (λ some. absurd (some refl))
 
 -- how a refused call leaves the transcript
-pub record Leaves (inputs names : List (List ℕ)) (most faults : ℕ) (stop : SulStop) (t u : Transcript) : Type 0 where
+pub record Leaves (inputs names : List (List ℕ)) (most faults : ℕ) (line : List ℕ) (stop : SulStop) (t u : Transcript) : Type 0 where
   pub well : IsProper inputs faults u
   pub bears : IsSpelled names most u (Some stop)
   pub runs : spelled inputs names u ≡ spelled inputs names t
-  pub covered : IsCovered inputs names u (Some stop)
+  pub breaks : BreaksAt inputs names faults u line
 
 module _ (inputs names : List (List ℕ)) (started : Bool) (held : List ℕ) (t : Transcript) (live : IsLive inputs names started held t)
     (line : List ℕ) (plain : NoFeed line) (is_line : IsSentLine inputs line) (well : (started ≡ true) ⊎ (line ≡ reset_line)) (most faults : ℕ) where
   -- not all of the line was sent
-  part_sent : (n : ℕ) → n < length (ended line) → CountedFault 0 faults → Leaves inputs names most faults Failed t (sends (take n (ended line)) t)
+  part_sent : (n : ℕ) → n < length (ended line) → CountedFault 0 faults → Leaves inputs names most faults line Failed t (sends (take n (ended line)) t)
   part_sent n lt counted =
       let u : Transcript = sends (take n (ended line)) t in
       let long : length (ended line) ≡ length line + 1 = length-append line (10 ∷ []) in
@@ -216,11 +235,14 @@ module _ (inputs names : List (List ℕ)) (started : Bool) (held : List ℕ) (t 
         runs =
             spells_lines inputs names u live.lines (take n line) early (rest_of held) sees
             ∙ (spelled_whole inputs names [] live.lines live.answers live.runs (lines_of held) live.spells ∙ sym (live_runs inputs names started held t live));
-        covered = inl (
-            ap (λ (s : Split). length s.lines) sees.sent
-            ∙ (live_covered inputs names started held t live
-            ∙ ap (λ (rs : List Run). lines_in rs) (sym (spells_lines inputs names u live.lines (take n line) early (rest_of held) sees
-            ∙ (spelled_whole inputs names [] live.lines live.answers live.runs (lines_of held) live.spells ∙ sym (live_runs inputs names started held t live))))));
+        breaks = inr (
+          ap (λ (s : Split). length s.lines) sees.sent
+              ∙ (live_covered inputs names started held t live
+              ∙ ap (λ (rs : List Run). lines_in rs) (sym (spells_lines inputs names u live.lines (take n line) early (rest_of held) sees
+              ∙ (spelled_whole inputs names [] live.lines live.answers live.runs (lines_of held) live.spells ∙ sym (live_runs inputs names started held t live))))),
+          (drop n line, sym (take-append-drop n line) ∙ ap (λ (l : List ℕ). l ++ drop n line) (sym (ap (λ (s : Split). s.rest) sees.sent))),
+          counted,
+        );
       }
 
   module _ (more bytes : List ℕ) (is : held ++ more ≡ bytes) (open_ended : NoFeed bytes) where
@@ -231,16 +253,16 @@ module _ (inputs names : List (List ℕ)) (started : Bool) (held : List ℕ) (t 
     unfolding unanswered
     sees_unanswered = sees_sent inputs names started held t live line plain is_line well more bytes live.answers bytes is (split_lines_open live.answers bytes live.plain_answers open_ended)
 
-    waits : (stop : SulStop) → IsSpelled names most unanswered (Some stop) → Leaves inputs names most faults stop t unanswered
+    waits : (stop : SulStop) → IsSpelled names most unanswered (Some stop) → Leaves inputs names most faults line stop t unanswered
     waits stop bears = record {
       well = sent_proper inputs names started held t live line plain is_line well faults unanswered live.answers bytes sees_unanswered (omega arith);
       bears = bears;
       runs =
           spells_lines inputs names unanswered (live.lines ++ line ∷ []) [] live.answers bytes sees_unanswered
           ∙ (spelled_unanswered inputs names [] live.lines live.answers live.runs line live.spells ∙ sym (live_runs inputs names started held t live));
-      covered = inr (sent_covered inputs names started held t live line plain is_line well unanswered [] sees_unanswered.sent
+      breaks = sent_breaks inputs names started held t live line plain is_line well faults unanswered sees_unanswered.sent
           (spells_lines inputs names unanswered (live.lines ++ line ∷ []) [] live.answers bytes sees_unanswered
-          ∙ (spelled_unanswered inputs names [] live.lines live.answers live.runs line live.spells ∙ sym (live_runs inputs names started held t live))));
+          ∙ (spelled_unanswered inputs names [] live.lines live.answers live.runs line live.spells ∙ sym (live_runs inputs names started held t live)));
     }
 
     ends_within : EndsWithin unanswered
@@ -260,7 +282,7 @@ module _ (inputs names : List (List ℕ)) (started : Bool) (held : List ℕ) (t 
         }
 
   -- no line came for it
-  ends_open : (stop : SulStop) (after : Option Transcript) → EndsOpen held stop (option_map (sends (ended line)) (Some t)) after → (u : Transcript) × (after ≡ Some u) × Leaves inputs names most faults stop t u
+  ends_open : (stop : SulStop) (after : Option Transcript) → EndsOpen held stop (option_map (sends (ended line)) (Some t)) after → (u : Transcript) × (after ≡ Some u) × Leaves inputs names most faults line stop t u
   unfolding unanswered
   ends_open Failed after h = let c = h.1.come in (unanswered c.more h.0 c.whole h.1.plain, c.told, waits c.more h.0 c.whole h.1.plain Failed tt)
   ends_open Gone after h = let c = h.1.come in (unanswered c.more h.0 c.whole h.1.plain, c.told, waits c.more h.0 c.whole h.1.plain Gone (ends_within c.more h.0 c.whole h.1.plain))
@@ -270,7 +292,7 @@ module _ (inputs names : List (List ℕ)) (started : Bool) (held : List ℕ) (t 
 
   -- a bad line came for it
   bad_answer : (now answer : List ℕ) (after : Option Transcript) → IsAnswered (ended line) held now answer (Some t) after → IsBadAnswer names most line answer → ((rs : List Run) → exchanged inputs names rs line answer ≡ None)
-      → (u : Transcript) × (after ≡ Some u) × Leaves inputs names most faults (BadLine answer) t u
+      → (u : Transcript) × (after ≡ Some u) × Leaves inputs names most faults line (BadLine answer) t u
   bad_answer now answer after h bad none =
       let c = h.received.come in
       let u : Transcript = receives c.more (sends (ended line) t) in
@@ -309,10 +331,10 @@ module _ (inputs names : List (List ℕ)) (started : Bool) (held : List ℕ) (t 
               spells_lines inputs names u (live.lines ++ line ∷ []) [] early' (rest_of now) sees
               ∙ (spelled_badly inputs names [] live.lines live.answers live.runs line raw (lines_of now) live.spells (ap (exchanged inputs names live.runs line) (sym h.stripped) ∙ none live.runs)
               ∙ sym (live_runs inputs names started held t live));
-          covered = inr (sent_covered inputs names started held t live line plain is_line well u [] sees.sent
+          breaks = sent_breaks inputs names started held t live line plain is_line well faults u sees.sent
               (spells_lines inputs names u (live.lines ++ line ∷ []) [] early' (rest_of now) sees
               ∙ (spelled_badly inputs names [] live.lines live.answers live.runs line raw (lines_of now) live.spells (ap (exchanged inputs names live.runs line) (sym h.stripped) ∙ none live.runs)
-              ∙ sym (live_runs inputs names started held t live))));
+              ∙ sym (live_runs inputs names started held t live)));
         },
       )
 
@@ -321,13 +343,13 @@ pub refused : (inputs names : List (List ℕ)) (started : Bool) (held : List ℕ
     → (line : List ℕ) → NoFeed line → IsSentLine inputs line → (started ≡ true) ⊎ (line ≡ reset_line) → (most faults : ℕ)
     → (IsBad : List ℕ → Type 0) → ((a : List ℕ) → IsBad a → IsBadAnswer names most line a) → ((a : List ℕ) → IsBad a → (rs : List Run) → exchanged inputs names rs line a ≡ None)
     → (now : List ℕ) (stop : SulStop) (after : Option Transcript) → (stop ≡ Failed → CountedFault 0 faults) → IsRefusal IsBad (ended line) held now stop (Some t) after
-    → (u : Transcript) × (after ≡ Some u) × Leaves inputs names most faults stop t u
+    → (u : Transcript) × (after ≡ Some u) × Leaves inputs names most faults line stop t u
 refused inputs names started held t live line plain is_line well most faults IsBad bad none now stop after counted (inl h) =
-    let leaves : Leaves inputs names most faults Failed t (sends (take h.1.0 (ended line)) t) =
+    let leaves : Leaves inputs names most faults line Failed t (sends (take h.1.0 (ended line)) t) =
     part_sent inputs names started held t live line plain is_line well most faults h.1.0 h.1.1 (counted h.0) in
-    (sends (take h.1.0 (ended line)) t, h.1.2, subst (λ (s : SulStop). Leaves inputs names most faults s t (sends (take h.1.0 (ended line)) t)) (sym h.0) leaves)
+    (sends (take h.1.0 (ended line)) t, h.1.2, subst (λ (s : SulStop). Leaves inputs names most faults line s t (sends (take h.1.0 (ended line)) t)) (sym h.0) leaves)
 refused inputs names started held t live line plain is_line well most faults IsBad bad none now stop after counted (inr (inl h)) =
     ends_open inputs names started held t live line plain is_line well most faults stop after h
 refused inputs names started held t live line plain is_line well most faults IsBad bad none now stop after counted (inr (inr h)) =
     let left = bad_answer inputs names started held t live line plain is_line well most faults now h.0 after h.2 (bad h.0 h.3) (none h.0 h.3) in
-    (left.0, left.1, subst (λ (s : SulStop). Leaves inputs names most faults s t left.0) (sym h.1) left.2)
+    (left.0, left.1, subst (λ (s : SulStop). Leaves inputs names most faults line s t left.0) (sym h.1) left.2)

@@ -1,5 +1,5 @@
 -- Names of outputs that were told over a link.
-use Rattle.std.proofs.Common.{◌≡◌, inl, inr, ℕ, ◌+◌, ◌<◌, List, ◌∷◌, ◌++◌, codes, length, slice_get, Bool, Option, Some, None, option_map, ap, sym, ◌∙◌, subst, arith, length-append}
+use Rattle.std.proofs.Common.{◌≡◌, inl, inr, ℕ, ◌+◌, ◌<◌, List, ◌∷◌, ◌++◌, codes, length, slice_get, take, Bool, Option, Some, None, option_map, ap, sym, ◌∙◌, subst, arith, length-append}
 use Rattle.std.specs.List.{All}
 use Rattle.std.specs.Str.Lines.{strip_carriage_return}
 use Rattle.std.proofs.lemmas.List.{get_or_append_left}
@@ -10,17 +10,17 @@ use Rattle.lw_words.specs.declared.stop.SulStop.TheVariants.{Failed, BadLine, Go
 use Rattle.lw_sul.specs.Names.{Brings}
 use Rattle.lw_outside.specs.Lines.{lines_of}
 use Rattle.lw_outside.specs.Links.{Transcript, receives, sends}
-use Rattle.lw_outside.specs.Protocol.{out_line}
+use Rattle.lw_outside.specs.Protocol.{in_line, out_line}
 use Rattle.lw_line.specs.Transcripts.{number_behind}
 use Rattle.lw_line.specs.Causes.{AreTold, IsToldName}
 use Rattle.lw_line.specs.LineState.{AreToldIfFree}
-use Rattle.lw_line.specs.bodies.Exchanges.{IsAnswered, IsRefusal}
+use Rattle.lw_line.specs.bodies.Exchanges.{IsAnswered, IsRefusal, ended}
 use Rattle.lw_line.specs.bodies.Naming.{OutputNaming}
-use Rattle.lw_line.specs.bodies.Pieces.{EndsOpen, HasCome}
-use Rattle.lw_line.specs.bodies.Standing.{IsTold, Stands}
+use Rattle.lw_line.specs.bodies.Pieces.{EndsOpen, HasCome, NoFeed}
+use Rattle.lw_line.specs.bodies.Standing.{IsTold, IsToldLive, Stands}
 use Rattle.lw_line.proofs.Naming.{brought_is, has_named}
 use Rattle.lw_line.proofs.Splitting.{lines_front}
-use Rattle.lw_line.proofs.Standing.{is_among}
+use Rattle.lw_line.proofs.Standing.{is_among, is_sent}
 
 -- a line stays where more bytes come
 line_stays : (bytes more : List ℕ) (i : ℕ) (raw : List ℕ) → slice_get (lines_of bytes) i ≡ Some raw → slice_get (lines_of (bytes ++ more)) i ≡ Some raw
@@ -34,7 +34,11 @@ line_stays bytes more i raw is =
 
 -- so names that were told stay told
 told_more : (names : List (List ℕ)) (t : Transcript) (more : List ℕ) → All (IsToldName t) names → All (IsToldName (receives more t)) names
-told_more names t more are = All-weaker (IsToldName t) (IsToldName (receives more t)) (λ name told. (told.0, (told.1.0, line_stays t.received more told.0 told.1.0 told.1.1, told.1.2))) names are
+told_more names t more are = All-weaker (IsToldName t) (IsToldName (receives more t)) (λ name told. (told.0, (told.1.0, told.1.1, told.1.2, line_stays t.received more told.0 told.1.1 told.1.3, told.1.4))) names are
+
+-- and where more bytes are sent
+told_sent : (names : List (List ℕ)) (t : Transcript) (more : List ℕ) → All (IsToldName t) names → All (IsToldName (sends more t)) names
+told_sent names t more are = All-weaker (IsToldName t) (IsToldName (sends more t)) (λ name told. (told.0, (told.1.0, told.1.1, line_stays t.sent more told.0 (in_line told.1.0) told.1.2, told.1.3, told.1.4))) names are
 
 told_come : (names : List (List ℕ)) (held bytes : List ℕ) (t : Transcript) (after : Option Transcript) → HasCome held bytes (Some t) after → All (IsToldName t) names → AreTold names after
 told_come names held bytes t after come are = subst (AreTold names) (sym come.told) (told_more names t come.more are)
@@ -44,7 +48,7 @@ nothing_come names held bytes after come = subst (AreTold names) (sym come.told)
 
 come_told : (names : List (List ℕ)) (sent held bytes : List ℕ) (told after : Option Transcript) → HasCome held bytes (option_map (sends sent) told) after → AreTold names told → AreTold names after
 come_told names sent held bytes None after come are = nothing_come names held bytes after come
-come_told names sent held bytes (Some t) after come are = told_come names held bytes (sends sent t) after come are
+come_told names sent held bytes (Some t) after come are = told_come names held bytes (sends sent t) after come (told_sent names t sent are)
 
 open_told : (names : List (List ℕ)) (sent held : List ℕ) (stop : SulStop) (told after : Option Transcript) → EndsOpen held stop (option_map (sends sent) told) after → AreTold names told → AreTold names after
 open_told names sent held Failed told after h are = come_told names sent held h.0 told after h.1.come are
@@ -57,33 +61,34 @@ answered_told names bytes held now answer told after h are = come_told names byt
 
 pub refused_told : (names : List (List ℕ)) (IsBad : List ℕ → Type 0) (bytes held now : List ℕ) (stop : SulStop) (told after : Option Transcript) → IsRefusal IsBad bytes held now stop told after → AreTold names told → AreTold names after
 refused_told names IsBad bytes held now stop None after (inl h) are = subst (AreTold names) (sym h.1) tt
-refused_told names IsBad bytes held now stop (Some t) after (inl h) are = subst (AreTold names) (sym h.1.2) are
+refused_told names IsBad bytes held now stop (Some t) after (inl h) are = subst (AreTold names) (sym h.1.2) (told_sent names t (take h.1.0 bytes) are)
 refused_told names IsBad bytes held now stop told after (inr (inl h)) are = open_told names bytes held stop told after h are
 refused_told names IsBad bytes held now stop told after (inr (inr h)) are = answered_told names bytes held now h.0 told after h.2 are
 
 -- the name that an answer brought was told by it
-module _ (inputs before names : List (List ℕ)) (most faults : ℕ) (started : Bool) (sent held now answer : List ℕ) (y : ℕ) (brings : Brings before names y) (number : number_behind (codes "out ") names answer ≡ Some y) where
-  told_here : (t : Transcript) (more raw : List ℕ) (i : ℕ) → slice_get (lines_of (t.received ++ more)) i ≡ Some raw → answer ≡ strip_carriage_return raw → All (IsToldName (receives more t)) before → All (IsToldName (receives more t)) names
-  told_here t more raw i at stripped are = by brings
+module _ (inputs before names : List (List ℕ)) (most faults : ℕ) (started : Bool) (letter : List ℕ) (plain : NoFeed (in_line letter)) (held now answer : List ℕ) (y : ℕ) (brings : Brings before names y) (number : number_behind (codes "out ") names answer ≡ Some y) where
+  told_here : (t : Transcript) (more raw : List ℕ) (i : ℕ) → slice_get (lines_of t.sent) i ≡ Some (in_line letter) → slice_get (lines_of (t.received ++ more)) i ≡ Some raw → answer ≡ strip_carriage_return raw → All (IsToldName (receives more t)) before → All (IsToldName (receives more t)) names
+  told_here t more raw i asked at stripped are = by brings
     where
       by : Brings before names y → All (IsToldName (receives more t)) names
       by (inl h) = subst (λ (l : List (List ℕ)). All (IsToldName (receives more t)) l) (sym h.1) are
       by (inr h) =
           let is = has_named names answer y number in
           let same : is.0 ≡ h.1.0 = brought_is before names y h.1.0 is.0 h.0 h.1.1 is.2 in
-          let said : IsToldName (receives more t) h.1.0 = (i, (raw, at, sym stripped ∙ (is.1 ∙ ap out_line same))) in
+          let said : IsToldName (receives more t) h.1.0 = (i, (letter, raw, asked, at, sym stripped ∙ (is.1 ∙ ap out_line same))) in
           subst (λ (l : List (List ℕ)). All (IsToldName (receives more t)) l) (sym h.1.1) (All-push (IsToldName (receives more t)) before h.1.0 are said)
 
-  live_told : (told after : Option Transcript) → IsTold inputs before most faults started held None told → IsAnswered sent held now answer told after → AreTold before told → AreTold names after
+  live_told : (told after : Option Transcript) → IsToldLive inputs before started held told → IsAnswered (ended (in_line letter)) held now answer told after → AreTold before told → AreTold names after
   live_told None after live h are = subst (AreTold names) (sym h.received.come.told) tt
   live_told (Some t) after live h are =
       let c = h.received.come in
       subst (AreTold names) (sym c.told)
-      (told_here (sends sent t) c.more h.raw (length live.answers) (is_among inputs before started held t live c.more h.raw now h.received.plain c.whole) h.stripped (told_more before (sends sent t) c.more are))
+      (told_here (sends (ended (in_line letter)) t) c.more h.raw (length live.answers) (is_sent inputs before started held t live (in_line letter) plain) (is_among inputs before started held t live c.more h.raw now h.received.plain c.whole) h.stripped
+      (told_more before (sends (ended (in_line letter)) t) c.more (told_sent before t (ended (in_line letter)) are)))
 
-  pub brought_told : (ends : ℕ) (stop : Option SulStop) (told after : Option Transcript) → stop ≡ None → Stands inputs before most faults ends started held stop told → IsAnswered sent held now answer told after → AreTold before told → AreTold names after
-  brought_told ends stop told after none stands =
-      live_told told after (subst (λ (s : Option SulStop). IsTold inputs before most faults started held s told) none stands.link)
+  pub brought_told : (ends : ℕ) (stop : Option SulStop) (cut : Bool) (told after : Option Transcript) → stop ≡ None → Stands inputs before most faults ends started held stop cut told → IsAnswered (ended (in_line letter)) held now answer told after → AreTold before told → AreTold names after
+  brought_told ends stop cut told after none stands =
+      live_told told after (subst (λ (s : Option SulStop). IsTold inputs before most faults started held s cut told) none stands.link)
 
 -- declared names are not free ones
 pub declared_told : (o : OutputNaming) (names : List (List ℕ)) (told : Option Transcript) → o ≡ record { names = names; most = length names; range = length names } → AreToldIfFree o.names o.most o.range told

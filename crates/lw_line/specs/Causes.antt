@@ -1,5 +1,5 @@
 -- Why a child system stopped.
-use Rattle.std.specs.Prelude.{◌≡◌, ◌≢◌, ◌⊎◌, ℕ, ◌+◌, List, [], ◌∷◌, ◌++◌, length, slice_get, Contains, Option, Some, None}
+use Rattle.std.specs.Prelude.{◌≡◌, ◌≢◌, ◌⊎◌, ℕ, ◌+◌, List, [], ◌∷◌, ◌++◌, length, slice_get, Contains, Bool, Option, Some, None}
 use Rattle.std.specs.List.{All}
 use Rattle.std.specs.Str.Lines.{strip_carriage_return}
 use Rattle.lw_words.specs.Cause.{CountedFault}
@@ -8,8 +8,8 @@ use Rattle.lw_words.specs.declared.stop.SulStop.{SulStop}
 use Rattle.lw_words.specs.declared.stop.SulStop.TheVariants.{Failed, BadLine, Gone}
 use Rattle.lw_outside.specs.Lines.{lines_of, rest_of}
 use Rattle.lw_outside.specs.Links.{Transcript}
-use Rattle.lw_outside.specs.Protocol.{reset_line, ready_line, out_line}
-use Rattle.lw_line.specs.Transcripts.{IsProper, lines_in, spelled}
+use Rattle.lw_outside.specs.Protocol.{reset_line, ready_line, in_line, out_line}
+use Rattle.lw_line.specs.Transcripts.{BreaksIn, IsProper, SpellsAll}
 
 -- an answer is in the grammar for its place: a child is ready after a reset, and names an output after a letter
 abbrev pub IsFormed : (sent answer : List ℕ) → Type 0
@@ -19,11 +19,14 @@ IsFormed sent answer = ((sent ≡ reset_line) × (answer ≡ ready_line)) ⊎ ((
 abbrev pub IsUnknown : List (List ℕ) → ℕ → List ℕ → Type 0
 IsUnknown names most answer = (name : List ℕ) × IsName name × (answer ≡ out_line name) × (¬ Contains names name) × (length names ≡ most)
 
--- an answer named this output
+-- the answer to a letter named this output
 abbrev pub IsToldName : Transcript → List ℕ → Type 0
-IsToldName t name = (i : ℕ) × ((raw : List ℕ) × (slice_get (lines_of t.received) i ≡ Some raw) × (strip_carriage_return raw ≡ out_line name))
+IsToldName t name =
+    (i : ℕ)
+    × ((letter raw : List ℕ) × (slice_get (lines_of t.sent) i ≡ Some (in_line letter)) × (slice_get (lines_of t.received) i ≡ Some raw)
+    × (strip_carriage_return raw ≡ out_line name))
 
--- where it is told what went over a link, answers named all of these outputs
+-- where it is told what went over a link, answers to letters named all of these outputs
 abbrev pub AreTold : List (List ℕ) → Option Transcript → Type 0
 AreTold names None = Unit {0}
 AreTold names (Some t) = All (IsToldName t) names
@@ -58,13 +61,14 @@ IsSpelled names most t (Some Failed) = Unit {0}
 IsSpelled names most t (Some Gone) = EndsWithin t
 IsSpelled names most t (Some (BadLine line)) = IsRefused names most t line
 
--- each line that was sent is one of the runs', but for a last one at which the system stopped
-abbrev pub IsCovered : (inputs names : List (List ℕ)) → Transcript → Option SulStop → Type 0
-IsCovered inputs names t None = length (lines_of t.sent) ≡ lines_in (spelled inputs names t)
-IsCovered inputs names t (Some stop) = (length (lines_of t.sent) ≡ lines_in (spelled inputs names t)) ⊎ (length (lines_of t.sent) ≡ lines_in (spelled inputs names t) + 1)
+-- all that was sent is lines of the runs, but for the line of the step, or of the reset, in which the system stopped
+abbrev pub IsCovered : (inputs names : List (List ℕ)) (faults : ℕ) → Transcript → Option SulStop → (cut : Bool) → Type 0
+IsCovered inputs names faults t None cut = SpellsAll inputs names t
+IsCovered inputs names faults t (Some stop) cut = BreaksIn inputs names faults cut t
 
 -- what is told of a link to a child that was asked for letters of these names and named its outputs so: its transcript is
--- proper, bears out the stop, and is covered by the runs that it spells
-abbrev pub IsTranscriptOf : (inputs names : List (List ℕ)) (most faults : ℕ) → Option SulStop → Option Transcript → Type 0
-IsTranscriptOf inputs names most faults stop None = Unit {0}
-IsTranscriptOf inputs names most faults stop (Some t) = IsProper inputs faults t × IsSpelled names most t stop × IsCovered inputs names t stop
+-- proper, bears out the stop, and is covered by the runs that it spells, but for the line at which it broke: a letter's exactly
+-- where the stop cut a run off
+abbrev pub IsTranscriptOf : (inputs names : List (List ℕ)) (most faults : ℕ) → Option SulStop → (cut : Bool) → Option Transcript → Type 0
+IsTranscriptOf inputs names most faults stop cut None = Unit {0}
+IsTranscriptOf inputs names most faults stop cut (Some t) = IsProper inputs faults t × IsSpelled names most t stop × IsCovered inputs names faults t stop cut

@@ -1,4 +1,5 @@
--- A child system: its link, the names of its letters and of its outputs so far, how many these may become, and why it stopped.
+-- A child system: its link, the names of its letters and of its outputs so far, how many these may become, why it stopped, and
+-- whether that was in a step.
 use Rattle.std.specs.Prelude.{◌≡◌, ◌⊎◌, ℕ, List, length, Bool, Option, option_map}
 use Rattle.lw_words.specs.declared.stop.SulStop.{SulStop}
 use Rattle.lw_sul.specs.declared.runs.Run.{Run}

@@ -1,10 +1,11 @@
 -- The runs that went over a link, and which transcripts a learner leaves.
-use Rattle.std.specs.Prelude.{◌≡◌, ◌≢◌, ◌⊎◌, ℕ, ◌+◌, ◌≤◌, List, [], ◌∷◌, length, codes, Contains, Option, Some, None, option_and_then, if◌then◌else◌}
+use Rattle.std.specs.Prelude.{◌≡◌, ◌≢◌, ◌⊎◌, ℕ, ◌+◌, ◌≤◌, List, [], ◌∷◌, ◌++◌, length, codes, Contains, Bool, true, false, Option, Some, None, option_and_then, if◌then◌else◌}
 use Rattle.std.specs.List.{All, sum_by}
 use Rattle.std.specs.Str.{bytes_eq}
 use Rattle.std.specs.Str.Lines.{strip_carriage_return}
 use Rattle.lw_words.specs.Cause.{CountedFault}
 use Rattle.lw_words.specs.Name.{number_of}
+use Rattle.lw_words.specs.Word.{IsPrefix}
 use Rattle.lw_sul.specs.Runs.{after_reset, after_step}
 use Rattle.lw_sul.specs.declared.runs.Run.{Run}
 use Rattle.lw_outside.specs.Lines.{lines_of, rest_of}
@@ -42,9 +43,14 @@ spelled_from inputs outputs rs (s ∷ ss) (r ∷ rr) = spelled_on rs (exchanged 
 abbrev pub spelled : (inputs outputs : List (List ℕ)) → Transcript → List Run
 spelled inputs outputs t = spelled_from inputs outputs [] (lines_of t.sent) (lines_of t.received)
 
+-- the line of a step, which names a letter, or of a reset
+abbrev pub IsLineOf : (inputs : List (List ℕ)) (step : Bool) → List ℕ → Type 0
+IsLineOf inputs true line = (name : List ℕ) × Contains inputs name × (line ≡ in_line name)
+IsLineOf inputs false line = line ≡ reset_line
+
 -- what a learner sends: a reset, or a letter
 abbrev pub IsSentLine : List (List ℕ) → List ℕ → Type 0
-IsSentLine inputs line = (line ≡ reset_line) ⊎ ((name : List ℕ) × Contains inputs name × (line ≡ in_line name))
+IsSentLine inputs line = IsLineOf inputs false line ⊎ IsLineOf inputs true line
 
 -- what a learner leaves on a link: whole lines were sent, the first of them a reset, each but the last once all before it were
 -- answered; and a part of a line only where the link failed
@@ -57,3 +63,20 @@ pub record IsProper (inputs : List (List ℕ)) (faults : ℕ) (t : Transcript) :
 -- the lines that runs take: a reset each, and their letters
 abbrev pub lines_in : List Run → ℕ
 lines_in runs = sum_by (λ r. 1 + length r.word) runs
+
+-- all that was sent is lines of the runs that it spells
+abbrev pub SpellsAll : (inputs outputs : List (List ℕ)) → Transcript → Type 0
+SpellsAll inputs outputs t = (length (lines_of t.sent) ≡ lines_in (spelled inputs outputs t)) × (rest_of t.sent ≡ [])
+
+-- the line at which a link broke, which none of the runs has: the last one that was sent; or one whose sending failed, and then
+-- what stands behind the last one is its front, perhaps of no bytes
+abbrev pub BreaksAt : (inputs outputs : List (List ℕ)) (faults : ℕ) → Transcript → List ℕ → Type 0
+BreaksAt inputs outputs faults t line =
+    ((length (lines_of t.sent) ≡ lines_in (spelled inputs outputs t) + 1)
+    × ((before : List (List ℕ)) × (lines_of t.sent ≡ before ++ line ∷ []))
+    × (rest_of t.sent ≡ []))
+    ⊎ ((length (lines_of t.sent) ≡ lines_in (spelled inputs outputs t)) × IsPrefix (rest_of t.sent) line × CountedFault 0 faults)
+
+-- a link broke in a step, or in a reset
+abbrev pub BreaksIn : (inputs outputs : List (List ℕ)) (faults : ℕ) (step : Bool) → Transcript → Type 0
+BreaksIn inputs outputs faults step t = (line : List ℕ) × IsLineOf inputs step line × BreaksAt inputs outputs faults t line

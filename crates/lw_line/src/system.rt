@@ -35,7 +35,7 @@ impl<L: Link> Model for LineSul<L> {
 
     ghost view = { λ s. record { link = s.link; letters = s.letters; names = s.outputs.names; most = s.outputs.most; outputs = s.outputs.range; started = s.started; stop = s.stop; cut = s.cut } };
 
-    ghost invariant = { λ s. Stands s.letters s.outputs.names s.outputs.most (L.faults s.link) (L.ends s.link) s.started s.inbox s.stop (L.transcript s.link)
+    ghost invariant = { λ s. Stands s.letters s.outputs.names s.outputs.most (L.faults s.link) (L.ends s.link) s.started s.inbox s.stop s.cut (L.transcript s.link)
         × AreToldIfFree s.outputs.names s.outputs.most s.outputs.range (L.transcript s.link) };
 }
 
@@ -97,12 +97,12 @@ impl<L: Link> LineSul<L> {
         }
     }
 
-    /// The link. Its counts and what went over it bear out the system's stop.
+    /// The link. Its counts and what went over it bear out the system's stop, and whether that was in a step.
     pub fn into_link(self) -> L
         ensures link { result ≡ self.link }
         ensures counted { IsCounted (L.faults self.link) (L.ends self.link) self.stop }
         ensures told { IsTranscriptOf self.letters self.names self.most (L.faults self.link)
-            self.stop (L.transcript self.link) }
+            self.stop self.cut (L.transcript self.link) }
         ensures naming { IsNaming self.names self.most self.outputs }
         ensures told_names { AreToldIfFree self.names self.most self.outputs
             (L.transcript self.link) }

@@ -37,12 +37,16 @@ pub record IsLive (inputs names : List (List ℕ)) (started : Bool) (held : List
   pub plain_answers : All NoFeed answers
   pub spells : Spells inputs names [] lines answers runs
 
--- what is told of the link of a system, until it stops and from then on
-abbrev pub IsTold : (inputs names : List (List ℕ)) (most faults : ℕ) → Bool → List ℕ → Option SulStop → Option Transcript → Type 0
-IsTold inputs names most faults started held None None = Unit {0}
-IsTold inputs names most faults started held None (Some t) = IsLive inputs names started held t
-IsTold inputs names most faults started held (Some stop) told = IsTranscriptOf inputs names most faults (Some stop) told
+-- what is told of the link of a system that hasn't stopped
+abbrev pub IsToldLive : (inputs names : List (List ℕ)) → Bool → List ℕ → Option Transcript → Type 0
+IsToldLive inputs names started held None = Unit {0}
+IsToldLive inputs names started held (Some t) = IsLive inputs names started held t
 
-pub record Stands (inputs names : List (List ℕ)) (most faults ends : ℕ) (started : Bool) (held : List ℕ) (stop : Option SulStop) (told : Option Transcript) : Type 0 where
+-- what is told of the link of a system, until it stops and from then on
+abbrev pub IsTold : (inputs names : List (List ℕ)) (most faults : ℕ) → Bool → List ℕ → Option SulStop → (cut : Bool) → Option Transcript → Type 0
+IsTold inputs names most faults started held None cut told = IsToldLive inputs names started held told
+IsTold inputs names most faults started held (Some stop) cut told = IsTranscriptOf inputs names most faults (Some stop) cut told
+
+pub record Stands (inputs names : List (List ℕ)) (most faults ends : ℕ) (started : Bool) (held : List ℕ) (stop : Option SulStop) (cut : Bool) (told : Option Transcript) : Type 0 where
   pub counted : IsCounted faults ends stop
-  pub link : IsTold inputs names most faults started held stop told
+  pub link : IsTold inputs names most faults started held stop cut told

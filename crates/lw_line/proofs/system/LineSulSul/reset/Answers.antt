@@ -15,7 +15,7 @@ invariant_of-self g c =
     let s = c.self.inside in
     let live : s.stop ≡ None = search rules in
     let done =
-    reset_ready s.letters s.outputs.names s.outputs.most (L.faults s.link) (L.ends s.link) (L.faults c.start.new.link) (L.ends c.start.new.link) s.started s.inbox c.start.new.inbox s.stop (L.transcript s.link) (L.transcript c.start.new.link) live c.self.invariant.0
+    reset_ready s.letters s.outputs.names s.outputs.most (L.faults s.link) (L.ends s.link) (L.faults c.start.new.link) (L.ends c.start.new.link) s.started s.inbox c.start.new.inbox s.stop s.cut (L.transcript s.link) (L.transcript c.start.new.link) live c.self.invariant.0
     c.in-Ok.ensures.ready in
     (done.0, λ free. answered_told s.outputs.names (ended reset_line) s.inbox c.start.new.inbox ready_line (L.transcript s.link) (L.transcript c.start.new.link) c.in-Ok.ensures.ready (c.self.invariant.1 free))
 
@@ -25,7 +25,7 @@ returns-in-Ok-clause-begins g c =
     let s = c.self.inside in
     let live : s.stop ≡ None = search rules in
     let done =
-    reset_ready s.letters s.outputs.names s.outputs.most (L.faults s.link) (L.ends s.link) (L.faults c.start.new.link) (L.ends c.start.new.link) s.started s.inbox c.start.new.inbox s.stop (L.transcript s.link) (L.transcript c.start.new.link) live c.self.invariant.0
+    reset_ready s.letters s.outputs.names s.outputs.most (L.faults s.link) (L.ends s.link) (L.faults c.start.new.link) (L.ends c.start.new.link) s.started s.inbox c.start.new.inbox s.stop s.cut (L.transcript s.link) (L.transcript c.start.new.link) live c.self.invariant.0
     c.in-Ok.ensures.ready in
     let view = ap (λ s. told_runs s.letters s.names (L.transcript s.link)) c.self.view_is in
     done.1 ∙ ap (option_map after_reset) view
@@ -36,7 +36,7 @@ invariant_of-self-in-Err g c =
     let s = c.self.inside in
     let live : s.stop ≡ None = search rules in
     let done =
-    reset_refused s.letters s.outputs.names s.outputs.most (L.faults s.link) (L.ends s.link) (L.faults c.start.new.link) (L.ends c.start.new.link) s.started s.inbox c.start.new.inbox s.stop (L.transcript s.link) (L.transcript c.start.new.link) live c.self.invariant.0
+    reset_refused s.letters s.outputs.names s.outputs.most (L.faults s.link) (L.ends s.link) (L.faults c.start.new.link) (L.ends c.start.new.link) s.started s.inbox c.start.new.inbox s.stop s.cut (L.transcript s.link) (L.transcript c.start.new.link) live c.self.invariant.0
     c.in-Err.stop c.copy.result c.copy.ensures (λ is. c.in-Err.ensures.failed (ap (λ (e : SulStop). Err e) is)) (λ is. c.in-Err.ensures.gone (ap (λ (e : SulStop). Err e) is)) c.in-Err.ensures.err in
     (done.0, λ free. refused_told s.outputs.names (λ answer. ¬ IsFormed reset_line answer) (ended reset_line) s.inbox c.start.new.inbox c.in-Err.stop (L.transcript s.link) (L.transcript c.start.new.link) c.in-Err.ensures.err (c.self.invariant.1 free))
 
@@ -46,7 +46,7 @@ returns-in-Err-clause-left g c =
     let s = c.self.inside in
     let live : s.stop ≡ None = search rules in
     let done =
-    reset_refused s.letters s.outputs.names s.outputs.most (L.faults s.link) (L.ends s.link) (L.faults c.start.new.link) (L.ends c.start.new.link) s.started s.inbox c.start.new.inbox s.stop (L.transcript s.link) (L.transcript c.start.new.link) live c.self.invariant.0
+    reset_refused s.letters s.outputs.names s.outputs.most (L.faults s.link) (L.ends s.link) (L.faults c.start.new.link) (L.ends c.start.new.link) s.started s.inbox c.start.new.inbox s.stop s.cut (L.transcript s.link) (L.transcript c.start.new.link) live c.self.invariant.0
     c.in-Err.stop c.copy.result c.copy.ensures (λ is. c.in-Err.ensures.failed (ap (λ (e : SulStop). Err e) is)) (λ is. c.in-Err.ensures.gone (ap (λ (e : SulStop). Err e) is)) c.in-Err.ensures.err in
     let view = ap (λ s. told_runs s.letters s.names (L.transcript s.link)) c.self.view_is in
     done.1 ∙ view

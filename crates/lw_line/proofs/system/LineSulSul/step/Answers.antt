@@ -6,7 +6,8 @@ use Rattle.lw_line.specs.LineState.{AreToldIfFree, told_runs}
 use Rattle.lw_line.specs.bodies.Exchanges.{NamesNone, ended}
 use Rattle.lw_line.specs.bodies.Naming.{OutputNaming}
 use Rattle.lw_line.specs.bodies.Standing.{Stands}
-use Rattle.lw_line.proofs.Calls.{step_answered, step_refused}
+use Rattle.lw_sul.proofs.NameLemmas.{IsName-at}
+use Rattle.lw_line.proofs.Calls.{letter_plain, step_answered, step_refused}
 use Rattle.lw_line.proofs.Telling.{brought_told, refused_told}
 use Rattle.lw_line.proofs.system.LineSulSul.step.Goals as goal
 
@@ -17,14 +18,14 @@ invariant_of-self g c =
     let live : s.stop ≡ None = search rules in
     let begun : s.started ≡ true = search rules in
     let done =
-    step_answered s.letters s.outputs.names s.outputs.most (L.faults s.link) (L.ends s.link) (L.faults c.ask.new.link) (L.ends c.ask.new.link) s.started s.inbox c.ask.new.inbox s.stop (L.transcript s.link) (L.transcript c.ask.new.link) live c.self.invariant.0
+    step_answered s.letters s.outputs.names s.outputs.most (L.faults s.link) (L.ends s.link) (L.faults c.ask.new.link) (L.ends c.ask.new.link) s.started s.inbox c.ask.new.inbox s.stop s.cut (L.transcript s.link) (L.transcript c.ask.new.link) live c.self.invariant.0
     begun c.args.x c.name-letter.result.now c.name-letter.ensures.value c.name-letter.ensures.inverse c.len-letters.ensures.names.each
     c.ask.new.outputs.names c.in-Ok.y c.in-Ok.ensures.output.0 c.in-Ok.ensures.brings.0 c.in-Ok.ensures.differ c.in-Ok.ensures.output.2 c.in-Ok.ensures.output.1 in
     let new = c.ask.new in (
-      subst (λ (most : ℕ). Stands s.letters new.outputs.names most (L.faults new.link) (L.ends new.link) s.started new.inbox s.stop (L.transcript new.link)) (sym c.in-Ok.ensures.same.1) done.0,
+      subst (λ (most : ℕ). Stands s.letters new.outputs.names most (L.faults new.link) (L.ends new.link) s.started new.inbox s.stop s.cut (L.transcript new.link)) (sym c.in-Ok.ensures.same.1) done.0,
       λ free.
-          brought_told s.letters s.outputs.names new.outputs.names s.outputs.most (L.faults s.link) s.started (ended (in_line c.name-letter.result.now)) s.inbox new.inbox c.in-Ok.ensures.output.0 c.in-Ok.y c.in-Ok.ensures.brings.0 c.in-Ok.ensures.output.2
-          (L.ends s.link) s.stop (L.transcript s.link) (L.transcript new.link) live c.self.invariant.0 c.in-Ok.ensures.output.1
+          brought_told s.letters s.outputs.names new.outputs.names s.outputs.most (L.faults s.link) s.started c.name-letter.result.now (letter_plain c.name-letter.result.now (IsName-at s.letters c.args.x c.name-letter.result.now c.len-letters.ensures.names.each c.name-letter.ensures.value)) s.inbox new.inbox c.in-Ok.ensures.output.0 c.in-Ok.y c.in-Ok.ensures.brings.0 c.in-Ok.ensures.output.2
+          (L.ends s.link) s.stop s.cut (L.transcript s.link) (L.transcript new.link) live c.self.invariant.0 c.in-Ok.ensures.output.1
           (c.self.invariant.1 (sym c.in-Ok.ensures.same.1 ∙ free.0, sym c.in-Ok.ensures.same.2 ∙ free.1)),
     )
 
@@ -35,7 +36,7 @@ returns-in-Ok-clause-adds g c =
     let live : s.stop ≡ None = search rules in
     let begun : s.started ≡ true = search rules in
     let done =
-    step_answered s.letters s.outputs.names s.outputs.most (L.faults s.link) (L.ends s.link) (L.faults c.ask.new.link) (L.ends c.ask.new.link) s.started s.inbox c.ask.new.inbox s.stop (L.transcript s.link) (L.transcript c.ask.new.link) live c.self.invariant.0
+    step_answered s.letters s.outputs.names s.outputs.most (L.faults s.link) (L.ends s.link) (L.faults c.ask.new.link) (L.ends c.ask.new.link) s.started s.inbox c.ask.new.inbox s.stop s.cut (L.transcript s.link) (L.transcript c.ask.new.link) live c.self.invariant.0
     begun c.args.x c.name-letter.result.now c.name-letter.ensures.value c.name-letter.ensures.inverse c.len-letters.ensures.names.each
     c.ask.new.outputs.names c.in-Ok.y c.in-Ok.ensures.output.0 c.in-Ok.ensures.brings.0 c.in-Ok.ensures.differ c.in-Ok.ensures.output.2 c.in-Ok.ensures.output.1 in
     let view = ap (λ s. told_runs s.letters s.names (L.transcript s.link)) c.self.view_is in
@@ -48,11 +49,11 @@ invariant_of-self-in-Err g c =
     let live : s.stop ≡ None = search rules in
     let begun : s.started ≡ true = search rules in
     let done =
-    step_refused s.letters s.outputs.names s.outputs.most (L.faults s.link) (L.ends s.link) (L.faults c.ask.new.link) (L.ends c.ask.new.link) s.started s.inbox c.ask.new.inbox s.stop (L.transcript s.link) (L.transcript c.ask.new.link) live c.self.invariant.0
+    step_refused s.letters s.outputs.names s.outputs.most (L.faults s.link) (L.ends s.link) (L.faults c.ask.new.link) (L.ends c.ask.new.link) s.started s.inbox c.ask.new.inbox s.stop s.cut (L.transcript s.link) (L.transcript c.ask.new.link) live c.self.invariant.0
     begun c.args.x c.name-letter.result.now c.name-letter.ensures.value c.name-letter.ensures.inverse c.len-letters.ensures.names.each
     c.in-Err.stop c.copy.result c.copy.ensures (λ is. c.in-Err.ensures.failed (ap (λ (e : SulStop). Err e) is)) (λ is. c.in-Err.ensures.gone (ap (λ (e : SulStop). Err e) is)) c.in-Err.ensures.err in
     let new = c.ask.new in
-    subst (λ (o : OutputNaming). Stands s.letters o.names o.most (L.faults new.link) (L.ends new.link) s.started new.inbox (Some c.copy.result) (L.transcript new.link) × AreToldIfFree o.names o.most o.range (L.transcript new.link)) (sym c.in-Err.ensures.kept) (
+    subst (λ (o : OutputNaming). Stands s.letters o.names o.most (L.faults new.link) (L.ends new.link) s.started new.inbox (Some c.copy.result) true (L.transcript new.link) × AreToldIfFree o.names o.most o.range (L.transcript new.link)) (sym c.in-Err.ensures.kept) (
       done.0,
       λ free.
           refused_told s.outputs.names (NamesNone s.outputs.names s.outputs.most) (ended (in_line c.name-letter.result.now)) s.inbox new.inbox c.in-Err.stop (L.transcript s.link) (L.transcript new.link)
@@ -66,7 +67,7 @@ returns-in-Err-clause-left g c =
     let live : s.stop ≡ None = search rules in
     let begun : s.started ≡ true = search rules in
     let done =
-    step_refused s.letters s.outputs.names s.outputs.most (L.faults s.link) (L.ends s.link) (L.faults c.ask.new.link) (L.ends c.ask.new.link) s.started s.inbox c.ask.new.inbox s.stop (L.transcript s.link) (L.transcript c.ask.new.link) live c.self.invariant.0
+    step_refused s.letters s.outputs.names s.outputs.most (L.faults s.link) (L.ends s.link) (L.faults c.ask.new.link) (L.ends c.ask.new.link) s.started s.inbox c.ask.new.inbox s.stop s.cut (L.transcript s.link) (L.transcript c.ask.new.link) live c.self.invariant.0
     begun c.args.x c.name-letter.result.now c.name-letter.ensures.value c.name-letter.ensures.inverse c.len-letters.ensures.names.each
     c.in-Err.stop c.copy.result c.copy.ensures (λ is. c.in-Err.ensures.failed (ap (λ (e : SulStop). Err e) is)) (λ is. c.in-Err.ensures.gone (ap (λ (e : SulStop). Err e) is)) c.in-Err.ensures.err in
     let view = ap (λ s. told_runs s.letters s.names (L.transcript s.link)) c.self.view_is in
