@@ -1,4 +1,5 @@
 mod BegunLemmas
+mod ComingUp
 mod EndLemmas
 mod KeepLemmas
 mod PoolLemmas

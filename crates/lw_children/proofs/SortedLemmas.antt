@@ -17,7 +17,7 @@ use Rattle.lw_cache.specs.declared.stops.AskStop.TheVariants as ask
 use Rattle.lw_cache.specs.declared.stops.Clash.{Clash}
 use Rattle.lw_outside.specs.Links.{Retired, Transcript}
 use Rattle.lw_desk.specs.Naming.{AreSorted, Naming}
-use Rattle.lw_desk.specs.Ending.{CameFirst, NamedRun, kept_runs}
+use Rattle.lw_desk.specs.Ending.{CameFirst, ComeUp, NamedRun, kept_runs}
 use Rattle.lw_pool.specs.Opening.{MayBegin}
 use Rattle.lw_pool.specs.Pool.{AskedOnce}
 use Rattle.lw_pool.specs.Sharing.{declared_by}
@@ -219,8 +219,8 @@ module _ (words letters : List (List ℕ)) (workers k most : ℕ) (before now : 
       (runs_stay own_names names to i was named ∙ ap (kept_runs own_names i) of.keeps.first)
       (whole i d lt)
 
-  renumbered_free : All (λ k. IsWord (length names) k.outs) (renumbered_answers to was) → outs_named names (renumbered_answers to was) ≡ outs_named own_names was → HasSorted to own_names names (answers_of was) (answers_of (renumbered_answers to was)) own learned → IsOfFree words letters workers k most before now learned (renumbered_answers to was) names
-  renumbered_free below named has =
+  renumbered_free : ComeUp (renumbered_answers to was) names → All (λ k. IsWord (length names) k.outs) (renumbered_answers to was) → outs_named names (renumbered_answers to was) ≡ outs_named own_names was → HasSorted to own_names names (answers_of was) (answers_of (renumbered_answers to was)) own learned → IsOfFree words letters workers k most before now learned (renumbered_answers to was) names
+  renumbered_free come_up below named has =
       let a : ℕ = length letters in
       let r = has.renumbering.renames in
       let are : AreAnswers a (answers_of was) = of.keeps.words in
@@ -231,6 +231,7 @@ module _ (words letters : List (List ℕ)) (workers k most : ℕ) (before now : 
         all = subst (λ (l : Result Learned LearnStop). OnOk l (length of.links ≡ workers)) (sym has.renamed) (all_stays (length of.links ≡ workers) (length names) has.f own of.all);
         quiet = subst (λ (l : Result Learned LearnStop). OnOk l (now.faults ≡ before.faults)) (sym has.renamed) (all_stays (now.faults ≡ before.faults) (length names) has.f own of.quiet);
         sorted = sorted;
+        come_up = come_up;
         keeps = keeps_sorted has.f has.g r a to was are has.answers letters own_names names of.links of.keeps (has.are a are) below named;
         whole = subst (λ (l : Result Learned LearnStop). OnOk l (LeavesNothing letters None names (renumbered_answers to was) of.links)) (sym has.renamed)
             (all_stays (LeavesNothing letters None names (renumbered_answers to was) of.links) (length names) has.f own
@@ -254,10 +255,10 @@ module _ (words letters : List (List ℕ)) (workers k most : ℕ) (before now : 
             quiet sound)));
       }
 
-  pub sorted_free : (kept : List KeptAnswer) → kept ≡ renumbered_answers to was → All (λ k. IsWord (length names) k.outs) kept → outs_named names kept ≡ outs_named own_names was → HasSorted to own_names names (answers_of was) (answers_of kept) own learned → IsOfFree words letters workers k most before now learned kept names
+  pub sorted_free : (kept : List KeptAnswer) → kept ≡ renumbered_answers to was → ComeUp kept names → All (λ k. IsWord (length names) k.outs) kept → outs_named names kept ≡ outs_named own_names was → HasSorted to own_names names (answers_of was) (answers_of kept) own learned → IsOfFree words letters workers k most before now learned kept names
   sorted_free kept made =
-      subst (λ (ks : List KeptAnswer). All (λ k. IsWord (length names) k.outs) ks → outs_named names ks ≡ outs_named own_names was → HasSorted to own_names names (answers_of was) (answers_of ks) own learned → IsOfFree words letters workers k most before now learned ks names) (sym made)
-      (λ below named has. renumbered_free below named has)
+      subst (λ (ks : List KeptAnswer). ComeUp ks names → All (λ k. IsWord (length names) k.outs) ks → outs_named names ks ≡ outs_named own_names was → HasSorted to own_names names (answers_of was) (answers_of ks) own learned → IsOfFree words letters workers k most before now learned ks names) (sym made)
+      (λ come_up below named has. renumbered_free come_up below named has)
 
 -- nothing is renumbered where there is nothing
 none_sorted : HasSorted [] [] [] [] [] (Err (learn.Ask ask.NoMemory)) (Err (learn.Ask ask.NoMemory))
@@ -297,6 +298,7 @@ none_free words letters workers k most before = record {
   all = tt;
   quiet = tt;
   sorted = λ i j d lt within. absurd (omega (arith, within));
+  come_up = λ y lt. absurd (omega (arith, lt));
   keeps = record {
     since = [];
     first = refl;

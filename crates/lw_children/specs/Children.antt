@@ -10,7 +10,7 @@ use Rattle.lw_mealy.specs.Gives.{Gives}
 use Rattle.lw_mealy.specs.Machine.{Rows}
 use Rattle.lw_outside.specs.Links.{Retired, Transcript}
 use Rattle.lw_cache.specs.declared.stops.AskStop.TheVariants as ask
-use Rattle.lw_desk.specs.Ending.{CameFirst}
+use Rattle.lw_desk.specs.Ending.{CameFirst, ComeUp}
 use Rattle.lw_desk.specs.Naming.{AreSorted}
 use Rattle.lw_renumber.specs.Sorting.{HasSorted}
 use Rattle.lw_rounds.specs.Learned.{IsLearned, StopsAs}
@@ -92,6 +92,8 @@ pub record IsOfFree (words letters : List (List ℕ)) (workers k most : ℕ) (be
   pub all : OnOk learned (length links ≡ workers)
   pub quiet : OnOk learned (now.faults ≡ before.faults)
   pub sorted : AreSorted names
+  -- each name came up in a kept answer
+  pub come_up : ComeUp kept names
   pub keeps : KeepsChildren letters None names [] kept links
   pub whole : OnOk learned (LeavesNothing letters None names keeps.since links)
   -- what was learned before the names were sorted, and that it is the same but for the numbers

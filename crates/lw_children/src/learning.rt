@@ -3,6 +3,7 @@ ghost use Rattle.std.specs.Prelude.{◌≡◌, ◌<◌, ◌≤◌, [], length, E
 ghost use Rattle.lw_words.specs.Answer.{answers_of};
 ghost use Rattle.lw_cache.specs.Clash.{NothingClashes};
 ghost use Rattle.lw_cache.specs.Settling.{MayAsk};
+ghost use Rattle.lw_desk.specs.Ending.{FreeComeUp};
 ghost use Rattle.lw_pool.specs.Opening.{MayBegin};
 ghost use Rattle.lw_pool.specs.Sharing.{declared_by};
 ghost use Rattle.lw_children.specs.Children.{IsOfChildren};
@@ -158,6 +159,7 @@ pub(crate) fn learn_over<P: Spawner, R: Threads + Wait + Sync + Drop>(
         (P.commands spawner.new)) result.learned result.kept.answers result.names.names }
     ensures sharing { declared_by result.names.names result.names.brought ≡
         declared_by names.names names.brought }
+    ensures come_up { FreeComeUp result.kept.answers result.names }
 {
     model_is_least();
     too_many_is_none();

@@ -1,5 +1,6 @@
 pub mod BoardLemmas
 pub mod Bringing
+pub mod ComingUp
 pub mod DeskLemmas
 pub mod Endings
 pub mod GatherLemmas

@@ -6,7 +6,7 @@ use Rattle.lw_sul.specs.Names.{name_at, named}
 use Rattle.lw_cache.specs.Clash.{IsClear}
 use Rattle.lw_cache.specs.FirstClash.{ClashesFirst}
 use Rattle.lw_cache.specs.declared.stops.Clash.{Clash}
-use Rattle.lw_desk.specs.Naming.{Naming, own_names}
+use Rattle.lw_desk.specs.Naming.{Naming, IsFree, own_names}
 
 -- a run, its word and its outputs by their names
 pub record NamedRun : Type 0 where
@@ -30,3 +30,11 @@ pub record CameFirst (kept : List KeptAnswer) (c : Clash) : Type 0 where
 -- the answers from the first of these numbers on, and before the second, are clear
 abbrev pub AreClear : List KeptAnswer → ℕ → ℕ → Type 0
 AreClear kept first end = (i : ℕ) → first ≤ i → i < end → IsClear (answers_of kept) i
+
+-- each of these names came up in a kept answer: its number is one of the answer's outputs
+abbrev pub ComeUp : List KeptAnswer → List (List ℕ) → Type 0
+ComeUp kept names = (y : ℕ) → y < length names → (k : KeptAnswer) × Contains kept k × Contains k.outs y
+
+-- where names are free each of the shared list did
+abbrev pub FreeComeUp : List KeptAnswer → Naming → Type 0
+FreeComeUp kept naming = IsFree naming.brought → ComeUp kept naming.names

@@ -34,6 +34,7 @@ use Rattle.lw_desk.specs.declared.ask.Reply.{Reply}
 use Rattle.lw_desk.specs.declared.ask.Give.{Give}
 use Rattle.lw_desk.specs.lemmas.Members.{In, in_contains, contains_in, in_filter, in_filter_of, in_map, in_mapped, in_right, is_same}
 use Rattle.lw_desk.specs.lemmas.ClaimLists.{places_of}
+use Rattle.lw_desk.proofs.ComingUp.{free_come_up}
 use Rattle.lw_desk.proofs.Endings.{brought, stays_shared, settled, nothing_claimed, nobody_has_failed, names_grew, all_of}
 use Rattle.lw_desk.proofs.SeatLemmas.{opened_stands, seat_after_all, replays_stands}
 use Rattle.lw_desk.proofs.StopLemmas.{stop_is}
@@ -530,6 +531,7 @@ module _ (o : DeskOpening) (es : List (Entry Ask Reply)) (start now : List Seen)
         members = member_end;
         lists = lists_end;
         shared = stays_shared o es t r lists is.shared;
+        come_up = free_come_up o t es lists r is.come_up;
         below = below_end;
         prior_is = is.prior_is;
         stands = stands_end;

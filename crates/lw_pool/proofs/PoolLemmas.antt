@@ -21,7 +21,7 @@ use Rattle.lw_desk.specs.declared.ask.Reply.{Reply}
 use Rattle.lw_desk.specs.Naming.{Naming, own_names}
 use Rattle.lw_desk.specs.Step.{DeskState}
 use Rattle.lw_desk.specs.History.{DeskOpening, opened, HasLists, Replays}
-use Rattle.lw_desk.specs.Ending.{IsShared, AreClear}
+use Rattle.lw_desk.specs.Ending.{IsShared, FreeComeUp, AreClear}
 use Rattle.lw_desk.specs.bodies.Outcome.{Brought, Settled}
 use Rattle.lw_pool.specs.Pool.{Seen, Member, WentOn, PoolState, nobody, seen_at, seen_of, origins_of, journal_runs, IsStopOf}
 use Rattle.lw_pool.specs.Opening.{MayBegin, MayJoin}
@@ -133,6 +133,7 @@ module _ {S : Type 0} (batch : List (List ℕ)) where
           members = is.members;
           lists = is.lists;
           shared = is.shared;
+          come_up = is.come_up;
           below = is.below;
           prior_is = is.prior_is;
           stands = is.stands;
@@ -323,7 +324,7 @@ run_of_desk o from desk hands after result now stop opening same ends cache name
     })
 
 -- sessions that may make a pool make one
-module _ {S : Type 0} (f : SessionState S → Member S) (sessions : List (SessionState S)) (hands : List (Hand S)) (naming : Naming) (inputs outputs : ℕ) (prior : List KeptAnswer) (made : map (λ h. h.worker) hands ≡ map f sessions) (some : 0 < length sessions) (few : length sessions ≤ 16) (lists : HasLists naming.brought (length sessions)) (shared : IsShared naming)
+module _ {S : Type 0} (f : SessionState S → Member S) (sessions : List (SessionState S)) (hands : List (Hand S)) (naming : Naming) (inputs outputs : ℕ) (prior : List KeptAnswer) (made : map (λ h. h.worker) hands ≡ map f sessions) (some : 0 < length sessions) (few : length sessions ≤ 16) (lists : HasLists naming.brought (length sessions)) (shared : IsShared naming) (come_up : FreeComeUp prior naming)
     (join : (i : ℕ) (d : SessionState S) → i < length sessions → MayJoin naming inputs outputs i (f (slice_index_or sessions i d)).seen) (begin : MayBegin naming inputs outputs prior) where
   long_new : length (seen_in hands) ≡ length sessions
   long_new = length-map (map (λ (h : Hand S). h.worker) hands) (λ (m : Member S). m.seen) ∙ (ap (λ (ms : List (Member S)). length ms) made ∙ length-map sessions f)
@@ -357,6 +358,7 @@ module _ {S : Type 0} (f : SessionState S → Member S) (sessions : List (Sessio
         };
     lists = subst (HasLists naming.brought) (sym long_new) lists;
     shared = shared;
+    come_up = come_up;
     below = begin.named;
     prior_is = begin.prior_is;
     stands = record {

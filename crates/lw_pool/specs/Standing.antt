@@ -7,7 +7,7 @@ use Rattle.lw_cache.specs.Settling.{KeepsAnswers}
 use Rattle.lw_cache.specs.declared.stops.AskStop.{AskStop}
 use Rattle.lw_desk.specs.Naming.{Naming, own_names}
 use Rattle.lw_desk.specs.History.{HasLists}
-use Rattle.lw_desk.specs.Ending.{IsShared}
+use Rattle.lw_desk.specs.Ending.{IsShared, FreeComeUp}
 use Rattle.lw_pool.specs.Fitting.{Fits}
 use Rattle.lw_pool.specs.Pool.{Seen, PoolState, seen_at, seen_of, ArePrior, StandsFor, AskedOnce, IsStopOf, origins_of}
 
@@ -21,14 +21,15 @@ pub record IsMember (naming : Naming) (inputs outputs number : ℕ) (s : Seen) :
   pub live : s.stop ≡ None → s.names ≡ own_names naming number
   pub journal : All (λ r. All (λ y. y < length (own_names naming number)) r.outs) s.journal
 
--- sessions by instance, names, prior and all kept answers, the last refusal, and whether there was one, that are a pool's: no
--- system has stopped where nothing was ever refused
+-- sessions by instance, names, prior and all kept answers, the last refusal, and whether there was one, that are a pool's: each
+-- free name came up in a kept answer, and no system has stopped where nothing was ever refused
 pub record IsPool (seen : List Seen) (naming : Naming) (prior kept : List KeptAnswer) (stop : Option AskStop) (refused : Bool) (inputs outputs : ℕ) : Type 0 where
   pub some : 0 < length seen
   pub few : length seen ≤ 16
   pub members : (i : ℕ) → i < length seen → IsMember naming inputs outputs i (seen_at seen i)
   pub lists : HasLists naming.brought (length seen)
   pub shared : IsShared naming
+  pub come_up : FreeComeUp kept naming
   pub below : All (λ k. All (λ y. y < length naming.names) k.outs) kept
   pub prior_is : ArePrior prior
   pub stands : StandsFor naming prior kept seen

@@ -11,7 +11,7 @@ ghost use Rattle.lw_pool.specs.Opening.{MayBegin, AllMayJoin, member_of};
 ghost use Rattle.lw_pool.specs.Pool.{seen_of, origins_of};
 ghost use Rattle.lw_pool.specs.Settling.{HasSettled};
 ghost use Rattle.lw_pool.specs.Standing.{Stands};
-ghost use Rattle.lw_desk.specs.Ending.{IsShared};
+ghost use Rattle.lw_desk.specs.Ending.{IsShared, FreeComeUp};
 ghost use Rattle.lw_pool.specs.bodies.Crew.{AllReady, AllRead};
 ghost use Rattle.lw_pool.specs.bodies.Running.{AfterBatch, AreWhole, opening_of};
 
@@ -200,6 +200,7 @@ impl<S: Sul + Drop, R: Drop> Pool<S, R> {
         requires unclaimed { cache.claims ≡ [] }
         requires lists { HasLists names.brought (length sessions.items) }
         requires shared { IsShared names }
+        requires come_up { FreeComeUp cache.kept names }
         requires join { AllMayJoin
             (member_of S.names S.most S.stop S.origin S.inputs S.outputs)
             names inputs outputs sessions.items }

@@ -1,4 +1,5 @@
 mod ClashLemmas
+mod ComingUp
 pub mod LawLemmas
 mod LearnedLemmas
 pub mod MachineLemmas

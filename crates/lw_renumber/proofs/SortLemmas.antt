@@ -10,11 +10,13 @@ use Rattle.lw_words.specs.Renumbering.{renumbered, renumbered_answer, renumbered
 use Rattle.lw_words.specs.declared.kept.KeptAnswer.{KeptAnswer}
 use Rattle.lw_mealy.specs.Limits.{AnswersBelow}
 use Rattle.lw_sul.specs.Names.{named}
+use Rattle.lw_desk.specs.Ending.{ComeUp}
 use Rattle.lw_desk.specs.Naming.{Renumbers}
 use Rattle.lw_desk.proofs.NameOrder.{differ_moved}
 use Rattle.lw_rounds.specs.declared.learned.Learned.{Learned}
 use Rattle.lw_rounds.specs.declared.stops.LearnStop.{LearnStop}
 use Rattle.lw_renumber.specs.Sorting.{IsRenumbering, IsWithin, outs_named, renumbered_learned, HasSorted}
+use Rattle.lw_renumber.proofs.ComingUp.{come_up_still}
 use Rattle.lw_renumber.proofs.LearnedLemmas.{answers_listed, learned_listed, has_sorted}
 use Rattle.lw_renumber.proofs.NumberLemmas.{renumbering}
 
@@ -49,6 +51,11 @@ module _ (to : List ℕ) (before now : List (List ℕ)) (differ : AllDiffer befo
     pub outs_stay_named : outs_named now kept_now ≡ outs_named before kept
     outs_stay_named =
         ap (outs_named now) answers ∙ all_named kept outs
+
+  pub names_come_up : (kept kept_now : List KeptAnswer) → kept_now ≡ renumbered_answers to kept → ComeUp kept before → ComeUp kept_now now
+  names_come_up kept kept_now answers were =
+      let r = the_numbers in
+      subst (λ (ks : List KeptAnswer). ComeUp ks now) (sym answers) (come_up_still to before now r.0 r.1 r.2 kept were)
 
   pub sorted_stays : (kept kept_now : List KeptAnswer) (was is : Result Learned LearnStop) → length before ≤ 4096 → All (λ k. All (λ y. y < length before) k.outs) kept
       → IfOk was (λ l. AnswersBelow (length before) l.model.rows) → kept_now ≡ renumbered_answers to kept → is ≡ renumbered_learned (length before) to was

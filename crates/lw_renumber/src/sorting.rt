@@ -6,6 +6,7 @@ ghost use Rattle.lw_words.specs.Answer.{answers_of};
 ghost use Rattle.lw_words.specs.Renumbering.{renumbered_answers};
 ghost use Rattle.lw_words.specs.Word.{IsWord};
 ghost use Rattle.lw_mealy.specs.Limits.{AnswersBelow};
+ghost use Rattle.lw_desk.specs.Ending.{ComeUp};
 ghost use Rattle.lw_desk.specs.Naming.{AreSorted};
 ghost use Rattle.lw_renumber.specs.Sorting.{IsWithin, HasSorted, outs_named, renumbered_learned};
 
@@ -50,6 +51,8 @@ pub fn sort_outputs(
     ensures below { All (λ k. IsWord (length names.new.names) k.outs) kept.new.answers }
     ensures named { outs_named names.new.names kept.new.answers
         ≡ outs_named names.old.names kept.old.answers }
+    ensures come_up { ComeUp kept.old.answers names.old.names →
+        ComeUp kept.new.answers names.new.names }
     ensures room { kept.new.room ≡ kept.old.room }
     ensures stays { HasSorted to.new names.old.names names.new.names
         (answers_of kept.old.answers) (answers_of kept.new.answers) learned.old learned.new }

@@ -8,6 +8,7 @@ use Rattle.lw_pool.specs.Sharing.{declared_by}
 use Rattle.lw_rounds.specs.declared.learned.Learned.{Learned}
 use Rattle.lw_rounds.specs.declared.stops.LearnStop.{LearnStop}
 use Rattle.lw_children.specs.Spawners.{spawner_seen}
+use Rattle.lw_children.proofs.ComingUp.{came_up_as, first_come_up}
 use Rattle.lw_children.proofs.EndLemmas.{all_linked, begun_linked, begun_pool, given_up, of_pool, refused_pool}
 use Rattle.lw_children.proofs.PoolLemmas.{children_join, first_lists, first_shared}
 use Rattle.lw_children.proofs.learning.learn_over.Goals as goal
@@ -23,6 +24,9 @@ new-requires-clause-lists g c = first_lists c.args.command.now.outputs c.args.na
 
 pub new-requires-clause-shared : goal.new-requires-clause-shared
 new-requires-clause-shared g c = subst (λ (n : Naming). IsShared n) (sym c.requires.named) (first_shared c.args.command.now.outputs)
+
+pub new-requires-clause-come_up : goal.new-requires-clause-come_up
+new-requires-clause-come_up g c = first_come_up c.args.command.now.outputs c.args.cache.kept c.args.names c.requires.named
 
 pub new-requires-clause-join : goal.new-requires-clause-join
 new-requires-clause-join g c = children_join g.P.Link.Link.number c.args.command.now.inputs c.args.command.now.outputs (g.P.Spawner.started c.args.spawner.now) c.args.names c.len-inputs.result c.count_outputs-outputs.result c.in-Ok.sessions.items c.in-Ok.ensures.made.new c.requires.named c.len-inputs.ensures.value c.count_outputs-outputs.ensures.count
@@ -52,3 +56,14 @@ returns-in-Ok-new-clause-sharing g c =
 
 pub returns-in-Err-new-clause-sharing : goal.returns-in-Err-new-clause-sharing
 returns-in-Err-new-clause-sharing g c = ap (λ (n : Naming). declared_by n.names n.brought) c.in-Err-new.ensures.back.1
+
+pub returns-in-Err-clause-come_up : goal.returns-in-Err-clause-come_up
+returns-in-Err-clause-come_up g c = first_come_up c.args.command.now.outputs c.give_up.result.kept.answers c.give_up.result.names (c.give_up.ensures.names ∙ c.requires.named)
+
+pub returns-in-Ok-new-clause-come_up : goal.returns-in-Ok-new-clause-come_up
+returns-in-Ok-new-clause-come_up g c =
+    let ended = c.learn_and_retire.ensures in
+    came_up_as c.learn_and_retire.result.kept.answers ended.left.kept c.learn_and_retire.result.names ended.left.naming ended.kept_is ended.naming_is ended.learned.stands.come_up
+
+pub returns-in-Err-new-clause-come_up : goal.returns-in-Err-new-clause-come_up
+returns-in-Err-new-clause-come_up g c = first_come_up c.args.command.now.outputs c.into_kept.result.answers c.in-Err-new.names (c.in-Err-new.ensures.back.1 ∙ c.requires.named)

@@ -1,12 +1,15 @@
-use Rattle.std.proofs.Common.{◌∙◌, subst, sym}
+use Rattle.std.proofs.Common.{◌∙◌, ap, subst, sym}
 use Rattle.lw_desk.specs.Naming.{Naming}
 use Rattle.lw_desk.specs.Ending.{IsShared}
-use Rattle.lw_pool.proofs.JoinLemmas.{declared_shared}
+use Rattle.lw_pool.proofs.JoinLemmas.{declared_come_up, declared_shared}
 use Rattle.lw_workers.proofs.InstanceLemmas.{instances_join, pool_begun}
 use Rattle.lw_workers.proofs.machine.pool_of.Goals as goal
 
 pub new-requires-clause-shared : goal.new-requires-clause-shared
 new-requires-clause-shared g c = subst (λ (n : Naming). IsShared n) (sym c.requires.shared) (declared_shared c.args.names.now)
+
+pub new-requires-clause-come_up : goal.new-requires-clause-come_up
+new-requires-clause-come_up g c = declared_come_up c.args.cache.kept c.args.shared (ap (λ (n : Naming). n.brought) c.requires.shared)
 
 pub new-requires-clause-join : goal.new-requires-clause-join
 new-requires-clause-join g c = instances_join c.args.system.now c.args.names.now c.args.shared c.inputs-inputs.result c.outputs-outputs.result c.in-Ok.sessions.items c.requires.named c.requires.shared c.inputs-inputs.ensures.value c.outputs-outputs.ensures.value c.in-Ok.ensures.each
