@@ -25,13 +25,13 @@ use Rattle.lw_report.specs.declared.stops.ReadStop.{ReadStop}
 use Rattle.lw_report.specs.declared.stops.ReadStop.TheVariants as stop
 use Rattle.lw_learn.specs.Arguments.{LearnValues}
 use Rattle.lw_learn.specs.Calls.{gained}
+use Rattle.lw_learn.specs.bodies.UnreadState.{UnreadState}
 use Rattle.lw_learn.specs.Unread.{IsNext, IsTableNext, IsUnreadBy, MadeReads, MadeSomeReads, ReadsBad}
 use Rattle.lw_learn.specs.Tasks.{ReadsPrior, ReadsSystem, with_outputs}
 use Rattle.lw_learn.specs.bodies.Ready.{IsReady}
 use Rattle.lw_learn.specs.bodies.Stages.{HasPrior, IsBack, IsRefused, IsStage, IsTaskWith, IsUnfit, SaysReady, SaysWhole}
 use Rattle.lw_learn.specs.declared.arguments.Source.{Source}
 use Rattle.lw_learn.specs.declared.arguments.Source.TheVariants as source
-use Rattle.lw_learn.specs.declared.reading.Unread.{Unread}
 use Rattle.lw_learn.specs.declared.task.System.{System}
 use Rattle.lw_learn.specs.declared.task.System.TheVariants.{Table}
 use Rattle.lw_learn.specs.declared.task.Task.{Task}
@@ -157,8 +157,8 @@ module _ (a : LearnValues) (f m g : FilesState) (name : List ℕ) (r : Result Ma
   abbrev Told : System → Type 0
   Told s = (x : Machine) × (r ≡ Ok x) × (s ≡ Table x) × (length x.inputs ≤ 64)
 
-  abbrev Refused : Unread → Type 0
-  Refused u = (why : ReadStop) × (r ≡ Err why) × (u.outcome ≡ read_outcome role.Table why) × (u.system ≡ None) × (u.kept.answers ≡ [])
+  abbrev Refused : UnreadState → Type 0
+  Refused u = (why : ReadStop) × (r ≡ Err why) × (u.outcome ≡ read_outcome role.Table why) × (u.system ≡ None) × (u.kept ≡ [])
 
   counted : f.faults ≤ g.faults
   counted = omega (arith, quiet, has.counts)
@@ -172,7 +172,7 @@ module _ (a : LearnValues) (f m g : FilesState) (name : List ℕ) (r : Result Ma
         words = tt;
       })
 
-  pub stage_table : (result : Result System Unread) → IfOk result Told → IfErr result Refused → IsStage a f g (SaysWhole a f g) result
+  pub stage_table : (result : Result System UnreadState) → IfOk result Told → IfErr result Refused → IsStage a f g (SaysWhole a f g) result
   stage_table (Ok s) told refused =
       let read = read_made IsMachineFile HasMachineFault name m g r told.0 has told.1 in
       record {
@@ -187,8 +187,8 @@ module _ (a : LearnValues) (f m g : FilesState) (name : List ℕ) (r : Result Ma
     ok = tt;
     made = tt;
     quiet = tt;
-    err = subst (λ (o : Outcome). IsUnreadBy a f g u.system u.kept.answers o) (sym refused.2)
-        (refused_then IsMachineFile HasMachineFault name a f m g role.Table u.system (next, refused.3) (λ fault x. x) made same quiet u.kept.answers refused.4 (read_outcome role.Table refused.0) (λ _. refused.3) (read_refused IsMachineFile HasMachineFault name role.Table m g r refused.0 has refused.1));
+    err = subst (λ (o : Outcome). IsUnreadBy a f g u.system u.kept o) (sym refused.2)
+        (refused_then IsMachineFile HasMachineFault name a f m g role.Table u.system (next, refused.3) (λ fault x. x) made same quiet u.kept refused.4 (read_outcome role.Table refused.0) (λ _. refused.3) (read_refused IsMachineFile HasMachineFault name role.Table m g r refused.0 has refused.1));
     same = has.same ∙ same;
     counts = counted;
   }
@@ -207,26 +207,26 @@ pub table_said : (a : LearnValues) (f m g : FilesState) (name : List ℕ) → a.
 table_said a f m g name is read x then = subst (λ (k : Source). ReadsSystem k a.system f.holds f.reads g.reads (Table x)) (sym is) (m.reads, setup.Table name, read, (x, then, refl))
 
 -- a system that was read
-pub system_read : (a : LearnValues) (f m : FilesState) (r : Result System Unread) (s : System) → r ≡ Ok s → IsStage a f m (SaysWhole a f m) r → SaysWhole a f m s × MadeReads f m [] × (m.holds ≡ f.holds) × (m.faults ≡ f.faults)
-system_read a f m r s is stage = by (subst (λ (x : Result System Unread). IsStage a f m (SaysWhole a f m) x) is stage)
+pub system_read : (a : LearnValues) (f m : FilesState) (r : Result System UnreadState) (s : System) → r ≡ Ok s → IsStage a f m (SaysWhole a f m) r → SaysWhole a f m s × MadeReads f m [] × (m.holds ≡ f.holds) × (m.faults ≡ f.faults)
+system_read a f m r s is stage = by (subst (λ (x : Result System UnreadState). IsStage a f m (SaysWhole a f m) x) is stage)
   where
     by : IsStage a f m (SaysWhole a f m) (Ok s) → SaysWhole a f m s × MadeReads f m [] × (m.holds ≡ f.holds) × (m.faults ≡ f.faults)
     by x = (x.ok, x.made, x.same, x.quiet)
 
 -- a setup that wasn't read
-pub stage_setup : (a : LearnValues) (f g : FilesState) (r : Result Setup ReadStop) (why : ReadStop) (u : Unread) → a.source ≡ source.Setup → HasRead IsSetupFile HasSetupFault a.system f g r → r ≡ Err why → u.outcome ≡ read_outcome role.Setup why → u.system ≡ None → u.kept.answers ≡ [] → IsStage a f g (SaysWhole a f g) (Err u)
+pub stage_setup : (a : LearnValues) (f g : FilesState) (r : Result Setup ReadStop) (why : ReadStop) (u : UnreadState) → a.source ≡ source.Setup → HasRead IsSetupFile HasSetupFault a.system f g r → r ≡ Err why → u.outcome ≡ read_outcome role.Setup why → u.system ≡ None → u.kept ≡ [] → IsStage a f g (SaysWhole a f g) (Err u)
 stage_setup a f g r why u is has err outcome system kept = record {
   ok = tt;
   made = tt;
   quiet = tt;
-  err = subst (λ (o : Outcome). IsUnreadBy a f g u.system u.kept.answers o) (sym outcome)
-      (refused_then IsSetupFile HasSetupFault a.system a f f g role.Setup u.system (is, refl, refl, system) (λ fault x. x) (made_none f) refl refl u.kept.answers kept (read_outcome role.Setup why) (λ _. system) (read_refused IsSetupFile HasSetupFault a.system role.Setup f g r why has err));
+  err = subst (λ (o : Outcome). IsUnreadBy a f g u.system u.kept o) (sym outcome)
+      (refused_then IsSetupFile HasSetupFault a.system a f f g role.Setup u.system (is, refl, refl, system) (λ fault x. x) (made_none f) refl refl u.kept kept (read_outcome role.Setup why) (λ _. system) (read_refused IsSetupFile HasSetupFault a.system role.Setup f g r why has err));
   same = has.same;
   counts = has.counts;
 }
 
 -- prior answers that were read
-pub prior_read : (name : List ℕ) (s : System) (f g : FilesState) (r : Result Answers ReadStop) (p : Answers) (result : Result Task Unread) → HasRead IsAnswersFile HasAnswersFault name f g r → r ≡ Ok p → IfOk result (IsTaskWith s p) → IfErr result (λ u. IsUnfit s p u.system u.kept.answers u.outcome) → HasPrior name s f g result
+pub prior_read : (name : List ℕ) (s : System) (f g : FilesState) (r : Result Answers ReadStop) (p : Answers) (result : Result Task UnreadState) → HasRead IsAnswersFile HasAnswersFault name f g r → r ≡ Ok p → IfOk result (IsTaskWith s p) → IfErr result (λ u. IsUnfit s p u.system u.kept u.outcome) → HasPrior name s f g result
 prior_read name s f g r p (Ok t) has is ok err =
     let read = read_made IsAnswersFile HasAnswersFault name f g r p has is in
     record { ok = (p, read.0, ok); made = read.1; quiet = read.2; err = tt; same = has.same; counts = has.counts }
@@ -235,7 +235,7 @@ prior_read name s f g r p (Err u) has is ok err =
     record { ok = tt; made = tt; quiet = tt; err = inr (p, read.0, read.1, err); same = has.same; counts = has.counts }
 
 -- and that weren't
-pub prior_unread : (name : List ℕ) (s : System) (f g : FilesState) (r : Result Answers ReadStop) (why : ReadStop) (u : Unread) → HasRead IsAnswersFile HasAnswersFault name f g r → r ≡ Err why → u.outcome ≡ read_outcome role.Prior why → IsBack (read_outcome role.Prior why) s u.system → u.kept.answers ≡ [] → HasPrior name s f g (Err u)
+pub prior_unread : (name : List ℕ) (s : System) (f g : FilesState) (r : Result Answers ReadStop) (why : ReadStop) (u : UnreadState) → HasRead IsAnswersFile HasAnswersFault name f g r → r ≡ Err why → u.outcome ≡ read_outcome role.Prior why → IsBack (read_outcome role.Prior why) s u.system → u.kept ≡ [] → HasPrior name s f g (Err u)
 prior_unread name s f g r why u has is outcome system kept = record {
   ok = tt;
   made = tt;
@@ -324,7 +324,7 @@ module _ (a : LearnValues) (f m g : FilesState) (s : System) (whole : SaysWhole 
     prior_refused read kept none (Alphabets r) refused back = absurd refused
     prior_refused read kept none (Nondeterministic clash) refused back = absurd refused
 
-    pub stage_prior : (result : Result Task Unread) → HasPrior name s m g result → IsStage a f g (SaysReady a f g) result
+    pub stage_prior : (result : Result Task UnreadState) → HasPrior name s m g result → IsStage a f g (SaysReady a f g) result
     stage_prior (Ok t) has = record {
       ok = ready t has.ok.0 has.ok.1 has.ok.2;
       made = made_then f m g [] made has.made;
@@ -338,17 +338,17 @@ module _ (a : LearnValues) (f m g : FilesState) (s : System) (whole : SaysWhole 
       made = tt;
       quiet = tt;
       err = ⊎_elim
-          (λ (is : IsRefused IsAnswersFile HasAnswersFault role.Prior name m g u.outcome × IsBack u.outcome s u.system × (u.kept.answers ≡ [])).
-          prior_refused u.system u.kept.answers is.2 u.outcome is.0 is.1)
-          (λ (is : (p : Answers) × ReadsFile IsAnswersFile name m.holds m.reads g.reads p × MadeReads m g [] × IsUnfit s p u.system u.kept.answers u.outcome).
-          unfit is.0 u.system u.kept.answers is.1 is.2 u.outcome is.3)
+          (λ (is : IsRefused IsAnswersFile HasAnswersFault role.Prior name m g u.outcome × IsBack u.outcome s u.system × (u.kept ≡ [])).
+          prior_refused u.system u.kept is.2 u.outcome is.0 is.1)
+          (λ (is : (p : Answers) × ReadsFile IsAnswersFile name m.holds m.reads g.reads p × MadeReads m g [] × IsUnfit s p u.system u.kept u.outcome).
+          unfit is.0 u.system u.kept is.1 is.2 u.outcome is.3)
           has.err;
       same = has.same ∙ same;
       counts = omega (arith, quiet, has.counts);
     }
 
   -- without prior answers
-  pub stage_fresh : a.prior ≡ None → (result : Result Task Unread) → IfOk result (λ t. (t.system ≡ s) × (t.cache.kept ≡ []) × IsReady t.system t.names t.cache) → IfErr result (λ u. (u.outcome ≡ NoMemory) × (u.kept.answers ≡ []) × (u.system ≡ None)) → IsStage a f m (SaysReady a f m) result
+  pub stage_fresh : a.prior ≡ None → (result : Result Task UnreadState) → IfOk result (λ t. (t.system ≡ s) × (t.cache.kept ≡ []) × IsReady t.system t.names t.cache) → IfErr result (λ u. (u.outcome ≡ NoMemory) × (u.kept ≡ []) × (u.system ≡ None)) → IsStage a f m (SaysReady a f m) result
   stage_fresh none (Ok t) ok err = record {
     ok = record {
       says = record {
@@ -369,7 +369,7 @@ module _ (a : LearnValues) (f m g : FilesState) (s : System) (whole : SaysWhole 
     ok = tt;
     made = tt;
     quiet = tt;
-    err = subst (λ (o : Outcome). IsUnreadBy a f m u.system u.kept.answers o) (sym err.0) (some_made f m made, err.1, err.2);
+    err = subst (λ (o : Outcome). IsUnreadBy a f m u.system u.kept o) (sym err.0) (some_made f m made, err.1, err.2);
     same = same;
     counts = omega (arith, quiet);
   }

@@ -42,10 +42,10 @@ use Rattle.lw_learn.specs.Findings.{IsOfSystem, StopsBy}
 use Rattle.lw_learn.specs.Outcomes.{HasFiles, HasModelFile, IsLearnedOutcome, IsReachedOutcome, IsTold}
 use Rattle.lw_learn.specs.Tasks.{declared_of, letters_of}
 use Rattle.lw_learn.specs.Writing.{NothingFailed, StaysBesides, TakesInTurn, WritesFiles, WritesModel, WritesOut, line_of}
+use Rattle.lw_learn.specs.bodies.UnreadState.{UnreadState}
 use Rattle.lw_learn.specs.Unread.{IsUnreadAs, IsUnreadBy, names_read}
 use Rattle.lw_learn.specs.bodies.Ready.{GivesModel, IsReady}
 use Rattle.lw_learn.specs.bodies.Stages.{IsStage, SaysReady}
-use Rattle.lw_learn.specs.declared.reading.Unread.{Unread}
 use Rattle.lw_learn.specs.declared.task.Task.{Task}
 use Rattle.lw_learn.specs.declared.task.System.{System}
 use Rattle.lw_learn.specs.declared.task.System.TheVariants.{Table, Children}
@@ -284,42 +284,40 @@ ends_learned a s prior naming learned kept f g b z o p e d end found gives stops
 }
 
 -- and before that read
-pub task_ready : (a : LearnValues) (f m : FilesState) (r : Result Task Unread) (t : Task) → r ≡ Ok t → IsStage a f m (SaysReady a f m) r → IsReady t.system t.names t.cache
-task_ready a f m r t is stage = by (subst (λ (x : Result Task Unread). IsStage a f m (SaysReady a f m) x) is stage)
+pub task_ready : (a : LearnValues) (f m : FilesState) (r : Result Task UnreadState) (t : Task) → r ≡ Ok t → IsStage a f m (SaysReady a f m) r → IsReady t.system t.names t.cache
+task_ready a f m r t is stage = by (subst (λ (x : Result Task UnreadState). IsStage a f m (SaysReady a f m) x) is stage)
   where
     by : IsStage a f m (SaysReady a f m) (Ok t) → IsReady t.system t.names t.cache
     by x = x.ok.ready
 
-pub ends_read : (a : LearnValues) (f m g : FilesState) (b z : SpawnerSeen) (o p e d : SinkState) (end : End) (r : Result Task Unread) (t : Task) → r ≡ Ok t → IsStage a f m (SaysReady a f m) r → EndsLearned a t.system t.cache.kept m g b z o p e d end → EndsRead a f g b z o p e d end
-ends_read a f m g b z o p e d end r t is stage learned = by (subst (λ (x : Result Task Unread). IsStage a f m (SaysReady a f m) x) is stage)
+pub ends_read : (a : LearnValues) (f m g : FilesState) (b z : SpawnerSeen) (o p e d : SinkState) (end : End) (r : Result Task UnreadState) (t : Task) → r ≡ Ok t → IsStage a f m (SaysReady a f m) r → EndsLearned a t.system t.cache.kept m g b z o p e d end → EndsRead a f g b z o p e d end
+ends_read a f m g b z o p e d end r t is stage learned = by (subst (λ (x : Result Task UnreadState). IsStage a f m (SaysReady a f m) x) is stage)
   where
     by : IsStage a f m (SaysReady a f m) (Ok t) → EndsRead a f g b z o p e d end
     by x = record { system = t.system; prior = t.cache.kept; middle = m; task = x.ok.says; made = x.made; quiet = x.quiet; same = x.same; unclashed = x.ok.ready.nothing; learned = learned }
 
 -- what was unread, and what its end says
-unread_as : (a : LearnValues) (f g : FilesState) (read : Option System) (had kept : List KeptAnswer) (why outcome : Outcome) → IsUnreadBy a f g read had why → (outcome ≡ why) ⊎ (outcome ≡ NoMemory) → (kept ≡ had) ⊎ ((outcome ≡ NoMemory) × (kept ≡ [])) → IsUnreadAs a f g read kept outcome
-unread_as a f g read had kept why outcome by (inl same) (inl all) = inl (subst (λ (x : Outcome). IsUnreadBy a f g read kept x) (sym same) (subst (λ (ks : List KeptAnswer). IsUnreadBy a f g read ks why) (sym all) by))
-unread_as a f g read had kept why outcome by (inl same) (inr none) = inr (none.0, (why, had, by, inr none.1))
-unread_as a f g read had kept why outcome by (inr wants) (inl all) = inr (wants, (why, had, by, inl all))
-unread_as a f g read had kept why outcome by (inr wants) (inr none) = inr (wants, (why, had, by, inr none.1))
+unread_as : (a : LearnValues) (f g : FilesState) (read : Option System) (kept : List KeptAnswer) (why outcome : Outcome) → IsUnreadBy a f g read kept why → (outcome ≡ why) ⊎ (outcome ≡ NoMemory) → IsUnreadAs a f g read kept outcome
+unread_as a f g read kept why outcome by (inl same) = inl (subst (λ (x : Outcome). IsUnreadBy a f g read kept x) (sym same) by)
+unread_as a f g read kept why outcome by (inr wants) = inr (wants, (why, by))
 
 -- the end of a call that began no learning
-pub record HasSaid (u : Unread) (extra : ℕ) (e d : SinkState) (end : End) : Type 0 where
+pub record HasSaid (u : UnreadState) (extra : ℕ) (e d : SinkState) (end : End) : Type 0 where
   pub outcome : (end.outcome ≡ u.outcome) ⊎ (end.outcome ≡ NoMemory)
   pub model : end.model ≡ None
   pub learner : IsWithoutLearner end
-  pub kept : (end.kept ≡ u.kept) ⊎ ((end.outcome ≡ NoMemory) × (end.kept.answers ≡ []))
-  pub outputs : (end.outputs ≡ names_read u.system) ⊎ ((end.outcome ≡ NoMemory) × (end.outputs ≡ None))
+  pub kept : end.kept.answers ≡ u.kept
+  pub outputs : (end.outputs ≡ names_read u.system) ⊎ ((end.outcome ≡ NoMemory) × (end.outputs ≡ None) × (end.kept.answers ≡ []))
   pub said : ¬ CountedFault e.faults d.faults → TakesAll (said_text (option_map letters_of u.system) (option_and_then declared_of u.system) end.kept.answers extra end.outcome) e.taken d.taken
   pub part : TakesSome (said_text (option_map letters_of u.system) (option_and_then declared_of u.system) end.kept.answers extra end.outcome) e.taken d.taken
 
-pub ends_unread : (a : LearnValues) (f g : FilesState) (b : SpawnerSeen) (o e d : SinkState) (end : End) (r : Result Task Unread) (u : Unread) (extra : ℕ) → r ≡ Err u → IsStage a f g (SaysReady a f g) r → extra ≡ a.extra → HasSaid u extra e d end → EndsUnread a f g b b o o e d end
-ends_unread a f g b o e d end r u extra is stage extra_is has = by (subst (λ (x : Result Task Unread). IsStage a f g (SaysReady a f g) x) is stage) (subst (λ (k : ℕ). HasSaid u k e d end) extra_is has)
+pub ends_unread : (a : LearnValues) (f g : FilesState) (b : SpawnerSeen) (o e d : SinkState) (end : End) (r : Result Task UnreadState) (u : UnreadState) (extra : ℕ) → r ≡ Err u → IsStage a f g (SaysReady a f g) r → extra ≡ a.extra → HasSaid u extra e d end → EndsUnread a f g b b o o e d end
+ends_unread a f g b o e d end r u extra is stage extra_is has = by (subst (λ (x : Result Task UnreadState). IsStage a f g (SaysReady a f g) x) is stage) (subst (λ (k : ℕ). HasSaid u k e d end) extra_is has)
   where
     by : IsStage a f g (SaysReady a f g) (Err u) → HasSaid u a.extra e d end → EndsUnread a f g b b o o e d end
     by x h = record {
       read = u.system;
-      cause = unread_as a f g u.system u.kept.answers end.kept.answers u.outcome end.outcome x.err h.outcome (⊎_elim (λ (same : end.kept ≡ u.kept). inl (ap (λ k. k.answers) same)) (λ (none : (end.outcome ≡ NoMemory) × (end.kept.answers ≡ [])). inr none) h.kept);
+      cause = unread_as a f g u.system end.kept.answers u.outcome end.outcome (subst (λ (ks : List KeptAnswer). IsUnreadBy a f g u.system ks u.outcome) (sym h.kept) x.err) h.outcome;
       model = h.model;
       learner = h.learner;
       outputs = h.outputs;

@@ -185,7 +185,7 @@ pub told_is_learned : ToldIsLearned
 told_is_learned a f g b z o p e d end s told quiet ended =
     ⊎_elim
     (λ (is : IsUnreadBy a f g ended.read end.kept.answers end.outcome). taken_by a f g ended.read end.kept.answers s told quiet end.outcome is)
-    (λ (wants : (end.outcome ≡ NoMemory) × ((why : Outcome) × (had : List KeptAnswer) × IsUnreadBy a f g ended.read had why × ((end.kept.answers ≡ had) ⊎ (end.kept.answers ≡ [])))). subst (λ (x : Outcome). IsNoRefusal x) (sym wants.0) tt)
+    (λ (wants : (end.outcome ≡ NoMemory) × ((why : Outcome) × IsUnreadBy a f g ended.read end.kept.answers why)). subst (λ (x : Outcome). IsNoRefusal x) (sym wants.0) tt)
     ended.cause
 
 system_not_bad : (k : Source) (name : List ℕ) (holds : Option (List File)) (before now : List File) (t : System) → TellsNoSystem k name holds → ReadsSystem k name holds before now t → ⊥

@@ -41,7 +41,8 @@ pub record EndsUnread (a : LearnValues) (f g : FilesState) (b z : SpawnerSeen) (
   pub cause : IsUnreadAs a f g read end.kept.answers end.outcome
   pub model : end.model ≡ None
   pub learner : IsWithoutLearner end
-  pub outputs : (end.outputs ≡ names_read read) ⊎ ((end.outcome ≡ NoMemory) × (end.outputs ≡ None))
+  -- no names only where nothing is kept
+  pub outputs : (end.outputs ≡ names_read read) ⊎ ((end.outcome ≡ NoMemory) × (end.outputs ≡ None) × (end.kept.answers ≡ []))
   pub holds : g.holds ≡ f.holds
   pub unstarted : z ≡ b
   pub unwritten : p ≡ o

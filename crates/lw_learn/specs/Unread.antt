@@ -80,11 +80,11 @@ IsUnreadBy a f g read kept (Nondeterministic clash) =
 IsUnreadBy a f g read kept NoMemory = MadeSomeReads f g × (kept ≡ []) × (read ≡ None)
 IsUnreadBy a f g read kept _ = ⊥
 
--- the same; or memory ran out in place of that, and then perhaps nothing is kept
+-- the same; or memory ran out in place of that, and the same is kept
 abbrev pub IsUnreadAs : LearnValues → FilesState → FilesState → Option System → List KeptAnswer → Outcome → Type 0
 IsUnreadAs a f g read kept outcome =
     IsUnreadBy a f g read kept outcome
-    ⊎ ((outcome ≡ NoMemory) × ((why : Outcome) × (had : List KeptAnswer) × IsUnreadBy a f g read had why × ((kept ≡ had) ⊎ (kept ≡ []))))
+    ⊎ ((outcome ≡ NoMemory) × ((why : Outcome) × IsUnreadBy a f g read kept why))
 
 -- the declared names of a system that was read
 abbrev pub names_read : Option System → Option Naming

@@ -375,16 +375,49 @@ fn outputs_read(system: &Option<System>) -> Option<&Names>
     }
 }
 
-/// Ends a call that began no learning.
+/// Ends a call that began no learning and kept nothing.
+fn end_bare<E: Sink>(
+    alloc: Global,
+    outcome: Outcome,
+    system: Option<System>,
+    kept: Kept,
+    extra: u8,
+    err: &mut E,
+) -> End
+    requires none { kept.answers ≡ [] }
+    ensures outcome { (result.outcome ≡ outcome) ⊎ (result.outcome ≡ Came.NoMemory) }
+    ensures status { result.status ≡ status_of result.outcome }
+    ensures model { result.model ≡ None }
+    ensures learner { IsWithoutLearner result }
+    ensures kept { result.kept.answers ≡ [] }
+    ensures outputs { (result.outputs ≡ names_read system) ⊎
+        ((result.outcome ≡ Came.NoMemory) × (result.outputs ≡ None)) }
+    ensures said { ¬ CountedFault (E.faults err.old) (E.faults err.new) →
+        TakesAll (said_text (option_map letters_of system) (option_and_then declared_of system)
+        result.kept.answers extra result.outcome) (E.taken err.old) (E.taken err.new) }
+    ensures part { TakesSome (said_text (option_map letters_of system)
+        (option_and_then declared_of system) result.kept.answers extra result.outcome)
+        (E.taken err.old) (E.taken err.new) }
+    ensures counts { E.faults err.old ≤ E.faults err.new }
+{
+    let Ok(outputs) = read_names(alloc, &system) else {
+        return refuse(alloc, Outcome::NoMemory, None, None, kept, None, extra, err);
+    };
+    let inputs = letters_read(&system);
+    let names = outputs_read(&system);
+    refuse(alloc, outcome, inputs, names, kept, outputs, extra, err)
+}
+
+/// Ends a call that began no learning, with what it kept of prior answers.
 fn end_unread<E: Sink>(alloc: Global, unread: Unread, extra: u8, err: &mut E) -> End
     ensures outcome { (result.outcome ≡ unread.outcome) ⊎ (result.outcome ≡ Came.NoMemory) }
     ensures status { result.status ≡ status_of result.outcome }
     ensures model { result.model ≡ None }
     ensures learner { IsWithoutLearner result }
-    ensures kept { (result.kept ≡ unread.kept) ⊎
-        ((result.outcome ≡ Came.NoMemory) × (result.kept.answers ≡ [])) }
+    ensures kept { result.kept.answers ≡ unread.kept }
     ensures outputs { (result.outputs ≡ names_read unread.system) ⊎
-        ((result.outcome ≡ Came.NoMemory) × (result.outputs ≡ None)) }
+        ((result.outcome ≡ Came.NoMemory) × (result.outputs ≡ None) ×
+        (result.kept.answers ≡ [])) }
     ensures said { ¬ CountedFault (E.faults err.old) (E.faults err.new) →
         TakesAll (said_text (option_map letters_of unread.system)
         (option_and_then declared_of unread.system) result.kept.answers extra result.outcome)
@@ -394,18 +427,29 @@ fn end_unread<E: Sink>(alloc: Global, unread: Unread, extra: u8, err: &mut E) ->
         (E.taken err.old) (E.taken err.new) }
     ensures counts { E.faults err.old ≤ E.faults err.new }
 {
-    let Ok(outputs) = read_names(alloc, &unread.system) else {
-        let kept = Kept::new(alloc);
-        return refuse(alloc, Outcome::NoMemory, None, None, kept, None, extra, err);
-    };
     let Unread {
         outcome,
         system,
         kept,
+        names,
     } = unread;
-    let inputs = letters_read(&system);
-    let names = outputs_read(&system);
-    refuse(alloc, outcome, inputs, names, kept, outputs, extra, err)
+    match names {
+        Some(names) => {
+            let inputs = letters_read(&system);
+            let outputs = outputs_read(&system);
+            refuse(
+                alloc,
+                outcome,
+                inputs,
+                outputs,
+                kept,
+                Some(names),
+                extra,
+                err,
+            )
+        }
+        None => end_bare(alloc, outcome, system, kept, extra, err),
+    }
 }
 
 /// Learns a system. First the files are read that say what it is: a setup or a table file, the table file that a setup names, and

@@ -29,13 +29,26 @@ use lw_prior::{Prior, PriorStop, prior_of};
 use lw_report::{Outcome, ReadStop, Role, read_answers_file, read_machine_file, read_setup_file};
 use lw_words::{Kept, Names, NoMemory};
 use std::alloc::Global;
+use std::marker::Model;
 
-/// Why no learning begins, with the system where that was read, and all prior answers where two of them clash.
+/// Why no learning begins, with the system where that was read; and where two prior answers clash, all of them, and the names of
+/// their outputs.
 #[derive(Drop)]
 pub(crate) struct Unread {
     pub(crate) outcome: Outcome,
     pub(crate) system: Option<System>,
     pub(crate) kept: Kept,
+    pub(crate) names: Option<OutNames>,
+}
+
+impl Model for Unread {
+    ghost use Rattle.lw_learn.specs.bodies.UnreadState.{IsNamed, UnreadState};
+
+    ghost Value = { UnreadState };
+
+    ghost view = { λ u. record { outcome = u.outcome; system = u.system; kept = u.kept.answers; names = u.names } };
+
+    ghost invariant = { λ u. IsNamed u.system u.kept.answers u.names };
 }
 
 impl Unread {
@@ -43,12 +56,13 @@ impl Unread {
     fn bare(alloc: Global, outcome: Outcome, system: Option<System>) -> Unread
         ensures outcome { result.outcome ≡ outcome }
         ensures system { result.system ≡ system }
-        ensures kept { result.kept.answers ≡ [] }
+        ensures kept { result.kept ≡ [] }
     {
         Unread {
             outcome,
             system,
             kept: Kept::new(alloc),
+            names: None,
         }
     }
 }
@@ -59,7 +73,7 @@ fn table_of(alloc: Global, read: Result<Machine, ReadStop>) -> Result<System, Un
         (length m.inputs ≤ 64)) }
     ensures err { IfErr result (λ u. (stop : Stop) × (read ≡ Err stop) ×
         (u.outcome ≡ read_outcome TableRole stop) × (u.system ≡ None) ×
-        (u.kept.answers ≡ [])) }
+        (u.kept ≡ [])) }
 {
     match read {
         Ok(machine) => Ok(System::Table(machine)),
@@ -147,7 +161,7 @@ fn fresh_task(alloc: Global, system: System) -> Result<Task, Unread>
     requires words { HasWords system }
     ensures ok { IfOk result (λ t. (t.system ≡ system) × (t.cache.kept ≡ []) ×
         IsReady t.system t.names t.cache) }
-    ensures err { IfErr result (λ u. (u.outcome ≡ Came.NoMemory) × (u.kept.answers ≡ []) ×
+    ensures err { IfErr result (λ u. (u.outcome ≡ Came.NoMemory) × (u.kept ≡ []) ×
         (u.system ≡ None)) }
 {
     match first_names(alloc, &system) {
@@ -160,20 +174,12 @@ fn fresh_task(alloc: Global, system: System) -> Result<Task, Unread>
     }
 }
 
-/// A copy of the names of a system's outputs, or of these where none were declared.
-fn outputs_or(system: &System, names: &Names) -> Result<Names, NoMemory>
-    ensures { IfOk result (λ copy. copy ≡ or_these names.now (declared_of system.now)) }
-{
-    match system.outputs() {
-        Some(declared) => declared.copy(),
-        None => names.copy(),
-    }
-}
-
 /// A system with these names of outputs, which are its own where it declares some.
 fn with_names(system: System, names: Names) -> System
-    ensures { (own : List (List ℕ)) → names ≡ or_these own (declared_of system) →
+    ensures value { (own : List (List ℕ)) → names ≡ or_these own (declared_of system) →
         result ≡ with_outputs own system }
+    ensures declared { (own : List (List ℕ)) → names ≡ or_these own (declared_of system) →
+        declared_of result ≡ Some names }
 {
     match system {
         System::Table(machine) => System::Table(machine),
@@ -186,41 +192,40 @@ fn with_names(system: System, names: Names) -> System
 }
 
 /// A system with these names of outputs and prior answers, of which nothing clashes.
-fn prior_task(alloc: Global, system: System, names: Names, cache: Cache) -> Result<Task, NoMemory>
+fn prior_task(system: System, names: Names, shared: OutNames, cache: Cache) -> Task
     requires letters { length (letters_of system) ≤ 64 }
     requires words { HasWords system }
+    requires shared { shared ≡ record { names = names; brought = None } }
     requires unclaimed { cache.claims ≡ [] }
     requires nothing { NothingClashes (answers_of cache.kept) }
-    requires may { MayBegin (record { names = names; brought = None })
-        (length (letters_of system)) (length names) cache.kept }
-    ensures ok { (own : List (List ℕ)) → names ≡ or_these own (declared_of system) →
-        IfOk result (λ t. (t.system ≡ with_outputs own system) × (t.cache.kept ≡ cache.kept) ×
-        IsReady t.system t.names t.cache) }
+    requires may { MayBegin shared (length (letters_of system)) (length names) cache.kept }
+    ensures { (own : List (List ℕ)) → names ≡ or_these own (declared_of system) →
+        (result.system ≡ with_outputs own system) × (result.cache.kept ≡ cache.kept) ×
+        IsReady result.system result.names result.cache }
 {
-    match OutNames::declared(alloc, &names) {
-        Ok(shared) => Ok(Task {
-            system: with_names(system, names),
-            names: shared,
-            cache,
-        }),
-        Err(NoMemory) => Err(NoMemory),
+    Task {
+        system: with_names(system, names),
+        names: shared,
+        cache,
     }
 }
 
 /// The task of a system with prior answers, or the first clash of these.
-fn join_prior(alloc: Global, system: System, names: Names, prior: Prior) -> Result<Task, Unread>
+fn join_prior(system: System, names: Names, shared: OutNames, prior: Prior) -> Result<Task, Unread>
     requires letters { length (letters_of system) ≤ 64 }
     requires words { HasWords system }
+    requires named { (own : List (List ℕ)) × (names ≡ or_these own (declared_of system)) }
+    requires shared { shared ≡ record { names = names; brought = None } }
     requires unclaimed { prior.cache.claims ≡ [] }
     requires clash { HasFirstClash (answers_of prior.cache.kept) prior.clash }
-    requires may { MayBegin (record { names = names; brought = None })
-        (length (letters_of system)) (length names) prior.cache.kept }
+    requires may { MayBegin shared (length (letters_of system)) (length names)
+        prior.cache.kept }
     ensures ok { (own : List (List ℕ)) → names ≡ or_these own (declared_of system) →
         IfOk result (λ t. (t.system ≡ with_outputs own system) ×
         (t.cache.kept ≡ prior.cache.kept) × IsReady t.system t.names t.cache) }
     ensures err { (own : List (List ℕ)) → names ≡ or_these own (declared_of system) →
         IfErr result (λ u. IsClash (with_outputs own system) prior.cache.kept u.system
-        u.kept.answers u.outcome) }
+        u.kept u.outcome) }
 {
     let Prior { cache, clash } = prior;
     match clash {
@@ -228,26 +233,37 @@ fn join_prior(alloc: Global, system: System, names: Names, prior: Prior) -> Resu
             outcome: Outcome::Nondeterministic(clash),
             system: Some(with_names(system, names)),
             kept: cache.into_kept(),
+            names: Some(shared),
         }),
-        None => match prior_task(alloc, system, names, cache) {
-            Ok(task) => Ok(task),
-            Err(NoMemory) => Err(Unread::bare(alloc, Outcome::NoMemory, None)),
-        },
+        None => Ok(prior_task(system, names, shared, cache)),
     }
 }
 
-/// The task of a system with these prior answers.
+/// The names of a system's outputs, or these where none were declared, and the same as those that answers are numbered by.
+fn outputs_or(alloc: Global, system: &System, names: &Names) -> Result<(Names, OutNames), NoMemory>
+    ensures names { IfOk result (λ p. p.0 ≡ or_these names.now (declared_of system.now)) }
+    ensures shared { IfOk result (λ p. p.1 ≡ record { names = p.0; brought = None }) }
+{
+    let names = match system.outputs() {
+        Some(declared) => declared.copy()?,
+        None => names.copy()?,
+    };
+    let shared = OutNames::declared(alloc, &names)?;
+    Ok((names, shared))
+}
+
+/// The task of a system with these prior answers. All names are made before an answer is kept.
 fn with_answers(alloc: Global, system: System, answers: Answers) -> Result<Task, Unread>
     requires letters { length (letters_of system) ≤ 64 }
     requires words { HasWords system }
     ensures ok { IfOk result (IsTaskWith system answers) }
-    ensures err { IfErr result (λ u. IsUnfit system answers u.system u.kept.answers u.outcome) }
+    ensures err { IfErr result (λ u. IsUnfit system answers u.system u.kept u.outcome) }
 {
-    let Ok(names) = outputs_or(&system, &answers.outputs) else {
+    let Ok((names, shared)) = outputs_or(alloc, &system, &answers.outputs) else {
         return Err(Unread::bare(alloc, Outcome::NoMemory, None));
     };
     match prior_of(alloc, answers, system.inputs(), &names) {
-        Ok(prior) => join_prior(alloc, system, names, prior),
+        Ok(prior) => join_prior(system, names, shared, prior),
         Err(PriorStop::NamesDiffer) => Err(Unread::bare(
             alloc,
             Outcome::Alphabets(Role::Prior),
@@ -261,7 +277,7 @@ fn with_answers(alloc: Global, system: System, answers: Answers) -> Result<Task,
 fn unread_prior(alloc: Global, system: System, stop: ReadStop) -> Unread
     ensures outcome { result.outcome ≡ read_outcome PriorRole stop }
     ensures system { IsBack (read_outcome PriorRole stop) system result.system }
-    ensures kept { result.kept.answers ≡ [] }
+    ensures kept { result.kept ≡ [] }
 {
     match stop {
         ReadStop::NoMemory => Unread::bare(alloc, Outcome::NoMemory, None),

@@ -122,7 +122,7 @@ pub record IsRefusal (v : TrialValues) (e d : SinkState) (outcome : Outcome) (ke
   pub part : TakesSome (said_text None None kept 1 outcome) e.taken d.taken
   pub suite : (states number : ℕ) → outcome ≡ SuiteTooLarge states number → HasLargeSuite v.inputs 2 1 1024 (answers_of kept) states number
 
-refused_run : (v : TrialValues) (o e d : SinkState) (end : End) → end.model ≡ None → IsWithoutLearner end → IfSome end.outputs (λ named. named ≡ drawn_naming) → IsRefusal v e d end.outcome end.kept.answers → IsTrialRun v o o e d end
+refused_run : (v : TrialValues) (o e d : SinkState) (end : End) → end.model ≡ None → IsWithoutLearner end → end.outputs ≡ Some drawn_naming → IsRefusal v e d end.outcome end.kept.answers → IsTrialRun v o o e d end
 refused_run v o e d end none learner outputs is =
     let no_trial : IsTrial end.outcome → ⊥ = bare_no_trial end.outcome is.bare in
     record {
@@ -132,8 +132,8 @@ refused_run v o e d end none learner outputs is =
       told = λ t e. absurd (no_trial (subst IsTrial (sym e) tt));
       quiet = λ t. absurd (no_trial t);
       kept = is.runs;
-      outputs = outputs;
-      unnamed = λ _. no_trial;
+      outputs = subst (λ (n : Option Naming). IfSome n (λ named. named ≡ drawn_naming)) (sym outputs) refl;
+      unnamed = λ none_named. let wrong : ◌≡◌ {A = Option Naming} (Some drawn_naming) None = sym outputs ∙ none_named in absurd (cc);
       reached = λ small _ _. is.reached small;
       written = λ t. absurd (no_trial t);
       part = λ moved. absurd (moved refl);
@@ -170,7 +170,7 @@ few_refinements v kept l is small = learning_reached v kept (Ok l) is small
 
 -- a call whose learning stopped
 pub stopped_run : (v : TrialValues) (o e d : SinkState) (end : End) (stop : LearnStop) (kept : List KeptAnswer) → HasCome (drawn_machine v) v.workers kept (Err stop) → end.kept.answers ≡ kept → end.model ≡ None → IsWithoutLearner end
-    → IfSome end.outputs (λ named. named ≡ drawn_naming) → StandsOrWants (learn_outcome stop) end.outcome → (¬ CountedFault e.faults d.faults → TakesAll (said_text None None kept 1 end.outcome) e.taken d.taken) → TakesSome (said_text None None kept 1 end.outcome) e.taken d.taken → IsTrialRun v o o e d end
+    → end.outputs ≡ Some drawn_naming → StandsOrWants (learn_outcome stop) end.outcome → (¬ CountedFault e.faults d.faults → TakesAll (said_text None None kept 1 end.outcome) e.taken d.taken) → TakesSome (said_text None None kept 1 end.outcome) e.taken d.taken → IsTrialRun v o o e d end
 stopped_run v o e d end stop kept come same none learner outputs stands said part =
     let m : Rows = (drawn_machine v).rows in
     let gives : Gives m (answers_of kept) = all_given (drawn_machine v) v.workers kept come.runs in

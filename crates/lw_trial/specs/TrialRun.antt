@@ -73,9 +73,9 @@ pub record IsTrialRun (v : TrialValues) (o p : SinkState) (e d : SinkState) (end
   pub quiet : IsTrial end.outcome → (p.faults ≡ o.faults) × (d.faults ≡ e.faults)
   -- the kept answers are runs of the instances of that machine
   pub kept : KeepsRuns (drawn_machine v) v.workers [] end.kept.answers
-  -- the outputs are those of the machine that was drawn; an end without any told no trial
+  -- the outputs are those of the machine that was drawn; there are none only where memory ran out before anything was kept
   pub outputs : IfSome end.outputs (λ named. named ≡ drawn_naming)
-  pub unnamed : end.outputs ≡ None → ¬ IsTrial end.outcome
+  pub unnamed : end.outputs ≡ None → (end.outcome ≡ NoMemory) × (end.kept.answers ≡ [])
   -- where its suite is not too large and no stream counted a fault, a trial is told, or memory runs out
   pub reached :
       suite_size v.states v.inputs 1 ≤ greatest_suite

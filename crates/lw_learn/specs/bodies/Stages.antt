@@ -20,17 +20,17 @@ use Rattle.lw_learn.specs.Arguments.{LearnValues}
 use Rattle.lw_learn.specs.Tasks.{FitsSystem, ReadsSystem, ReadsTask, declared_of, letters_of, or_these, with_outputs}
 use Rattle.lw_learn.specs.Unread.{IsUnreadBy, MadeReads, MadeSomeReads}
 use Rattle.lw_learn.specs.bodies.Ready.{HasWords, IsReady}
-use Rattle.lw_learn.specs.declared.reading.Unread.{Unread}
+use Rattle.lw_learn.specs.bodies.UnreadState.{UnreadState}
 use Rattle.lw_learn.specs.declared.task.System.{System}
 use Rattle.lw_learn.specs.declared.task.Task.{Task}
 
 -- files were f and are g: what was to be read says the result, by reads that all gave bytes and counted no fault; or else it is
 -- why nothing can be learned
-pub record IsStage {T : Type 0} (a : LearnValues) (f g : FilesState) (Says : T → Type 0) (result : Result T Unread) : Type 0 where
+pub record IsStage {T : Type 0} (a : LearnValues) (f g : FilesState) (Says : T → Type 0) (result : Result T UnreadState) : Type 0 where
   pub ok : IfOk result Says
   pub made : OnOk result (MadeReads f g [])
   pub quiet : OnOk result (g.faults ≡ f.faults)
-  pub err : IfErr result (λ u. IsUnreadBy a f g u.system u.kept.answers u.outcome)
+  pub err : IfErr result (λ u. IsUnreadBy a f g u.system u.kept u.outcome)
   pub same : g.holds ≡ f.holds
   pub counts : f.faults ≤ g.faults
 
@@ -83,10 +83,10 @@ IsPriorRefused name s f g read kept outcome =
     ⊎ ((p : Answers) × ReadsFile IsAnswersFile name f.holds f.reads g.reads p × MadeReads f g [] × IsUnfit s p read kept outcome)
 
 -- what came of reading prior answers of a system
-pub record HasPrior (name : List ℕ) (s : System) (f g : FilesState) (result : Result Task Unread) : Type 0 where
+pub record HasPrior (name : List ℕ) (s : System) (f g : FilesState) (result : Result Task UnreadState) : Type 0 where
   pub ok : IfOk result (λ t. (p : Answers) × ReadsFile IsAnswersFile name f.holds f.reads g.reads p × IsTaskWith s p t)
   pub made : OnOk result (MadeReads f g [])
   pub quiet : OnOk result (g.faults ≡ f.faults)
-  pub err : IfErr result (λ u. IsPriorRefused name s f g u.system u.kept.answers u.outcome)
+  pub err : IfErr result (λ u. IsPriorRefused name s f g u.system u.kept u.outcome)
   pub same : g.holds ≡ f.holds
   pub counts : f.faults ≤ g.faults

@@ -47,6 +47,6 @@ returns-in-Err-clause-ran g c =
       reached = came.reached;
     } in
     let err = subst (λ (r : Result Learned LearnStop). HasCome c.args.drawn.now.machine c.workers.result kept r) c.in-Err.is all in
-    let outputs = subst (λ (n : Option Naming). IfSome n (λ named. named ≡ drawn_naming)) (sym (refused.named ∙ ap (λ (n : Naming). Some n) (came.names ∙ c.requires.named))) refl in
+    let outputs = refused.named ∙ ap (λ (n : Naming). Some n) (came.names ∙ c.requires.named) in
     let stands = subst (λ (x : Outcome). StandsOrWants x end.outcome) c.learn_outcome-outcome.ensures refused.outcome in
     stopped_run v o e d end stop kept (of_drawn v c.args.drawn.now.machine c.workers.result kept (Err stop) c.requires.machine c.workers.ensures.value err) (ap (λ k. k.answers) refused.kept) refused.model refused.learner outputs stands refused.said refused.part
