@@ -55,11 +55,11 @@ fn step_to(m: &Mealy, states: &[u16], node: &Node) -> (u16, bool)
 }
 
 /// The first of two nodes by their words in shortlex order, where the second counts only if a machine differs at it.
-fn better(nodes: &[Node], lengths: &[u32], at: u32, differs: bool, best: Option<u32>) -> Option<u32>
+fn better(nodes: &[Node], lengths: &[u32], best: Option<u32>, at: u32, differs: bool) -> Option<u32>
     requires trie { IsTrie (node_at nodes.now) (length nodes.now) }
     requires lengths { AreLengths (node_at nodes.now) (length nodes.now) lengths.now }
-    requires at { at < length nodes.now }
     requires best { IfSome best (λ b. b < length nodes.now) }
+    requires at { at < length nodes.now }
     ensures within { IfSome result (λ b. b < length nodes.now) }
     ensures same { differs ≡ false → result ≡ best }
     ensures earlier { differs ≡ true → IsEarlierOf (word_of_some (node_at nodes.now) best)
@@ -89,7 +89,7 @@ fn first_differing(alloc: Global, nodes: &[Node], m: &Mealy) -> Result<Option<u3
     for i in 1..nodes.len() {
         let (state, differs) = step_to(m, &states, &nodes[i]);
         states.push(state)?;
-        best = better(nodes, &lengths, i as u32, differs, best);
+        best = better(nodes, &lengths, best, i as u32, differs);
     }
     Ok(best)
 }
