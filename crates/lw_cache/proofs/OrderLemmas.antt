@@ -23,14 +23,7 @@ spelled_short at (suc most) (suc i) =
 pub word_short : (at : ℕ → Node) (i : ℕ) → length (word_of at i) ≤ i
 word_short at i = spelled_short at i i
 
-pub lengths_begin : (at : ℕ → Node) (lengths : List ℕ) → lengths ≡ 0 ∷ [] → AreLengths at 1 lengths
-lengths_begin at lengths is =
-    subst (AreLengths at 1) (sym is)
-    (record {
-      long = refl;
-      each = λ j lt. let none : 0 ≡ j = omega arith in subst (λ (k : ℕ). get_or (0 ∷ []) k 0 ≡ length (word_of at k)) none refl;
-    })
-
+-- one more of them
 pub lengths_more : (at : ℕ → Node) (n i : ℕ) (lengths now : List ℕ) (l : ℕ) → IsTrie at n → 0 < i → i < n → AreLengths at i lengths → now ≡ lengths ++ l ∷ [] → l ≡ get_or lengths (at i).parent 0 + 1 → AreLengths at (i + 1) now
 lengths_more at n i lengths now l t pos lt was is above =
     let last : get_or now i 0 ≡ l = ap (λ (x : List ℕ). get_or x i 0) is ∙ get_or_push lengths l 0 i was.long in

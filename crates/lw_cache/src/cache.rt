@@ -31,8 +31,8 @@ const MOST: usize = NONE as usize;
 /// together, can be claimed and answered without memory.
 ///
 /// A call takes time in proportion to its word, times the siblings that are passed at each letter, and where it ends a claim
-/// also to the number of claims. [`Cache::nodes`] looks at each node once, and [`Cache::against`] twice; it goes up from some
-/// of them, at most a step for each letter of the kept answers in all.
+/// also to the number of claims. [`Cache::nodes`] and [`Cache::against`] look at each node once; the second goes up from some
+/// of them too, in all at most a step for each letter of the kept answers.
 #[derive(Drop)]
 pub struct Cache {
     nodes: Vec<Node>,
@@ -310,7 +310,7 @@ impl Cache {
     }
 
     /// The first known word in shortlex order on which the machine's answer isn't what is read, or None where there is
-    /// none. Looks at each node twice.
+    /// none. Looks at each node once.
     pub fn against(&self, m: &Mealy) -> Result<Option<Word>, NoMemory>
         requires { All (λ k. IsWord m.now.inputs k.word) (answers_of self.now.kept) }
         ensures { IfOk result (DiffersFirst m.now.rows (answers_of self.now.kept)) }

@@ -6,7 +6,7 @@ ghost use Rattle.lw_cache.specs.bodies.Scanning.{IsLive, CountsLive, IsFirstTo, 
 ghost use Rattle.lw_cache.specs.bodies.Upward.{word_of_some, AreLengths, IsEarlierOf};
 
 use crate::node::{NONE, Node, UNCLAIMED};
-use crate::upward::{earlier, lengths, spelled};
+use crate::upward::{earlier, put_length, spelled};
 use lw_mealy::Mealy;
 use lw_words::{NoMemory, Word};
 use std::alloc::Global;
@@ -57,10 +57,11 @@ fn step_to(m: &Mealy, states: &[u16], node: &Node) -> (u16, bool)
 /// The first of two nodes by their words in shortlex order, where the second counts only if a machine differs at it.
 fn better(nodes: &[Node], lengths: &[u32], best: Option<u32>, at: u32, differs: bool) -> Option<u32>
     requires trie { IsTrie (node_at nodes.now) (length nodes.now) }
-    requires lengths { AreLengths (node_at nodes.now) (length nodes.now) lengths.now }
-    requires best { IfSome best (λ b. b < length nodes.now) }
-    requires at { at < length nodes.now }
-    ensures within { IfSome result (λ b. b < length nodes.now) }
+    requires lengths { AreLengths (node_at nodes.now) (length lengths.now) lengths.now }
+    requires within { length lengths.now ≤ length nodes.now }
+    requires best { IfSome best (λ b. b < length lengths.now) }
+    requires at { at < length lengths.now }
+    ensures within { IfSome result (λ b. b < length lengths.now) }
     ensures same { differs ≡ false → result ≡ best }
     ensures earlier { differs ≡ true → IsEarlierOf (word_of_some (node_at nodes.now) best)
         (word_of (node_at nodes.now) at) (word_of_some (node_at nodes.now) result) }
@@ -82,13 +83,15 @@ fn first_differing(alloc: Global, nodes: &[Node], m: &Mealy) -> Result<Option<u3
     ensures first { IfOk result (λ r. IsFirstTo (node_at nodes.now) (length nodes.now) m.now.rows
         (length nodes.now) (word_of_some (node_at nodes.now) r)) }
 {
-    let lengths = lengths(alloc, nodes)?;
     let mut states = Vec::with_capacity(alloc, nodes.len())?;
+    let mut lengths = Vec::with_capacity(alloc, nodes.len())?;
     states.push(m.initial())?;
+    lengths.push(0u32)?;
     let mut best = None;
     for i in 1..nodes.len() {
         let (state, differs) = step_to(m, &states, &nodes[i]);
         states.push(state)?;
+        put_length(nodes, &mut lengths)?;
         best = better(nodes, &lengths, best, i as u32, differs);
     }
     Ok(best)

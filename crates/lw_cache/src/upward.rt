@@ -1,5 +1,5 @@
 //! Going up from nodes: the lengths of their words, their order, and the words themselves.
-ghost use Rattle.std.specs.Prelude.{◌≡◌, ◌<◌, ◌≤◌, List, length, IfOk, IfSome};
+ghost use Rattle.std.specs.Prelude.{◌≡◌, ◌+◌, ◌<◌, ◌≤◌, List, length, IfOk, IfSome, OnOk};
 ghost use Rattle.lw_words.specs.Shortlex.{shortlex_cmp};
 ghost use Rattle.lw_cache.specs.bodies.Trie.{node_at, word_of, IsTrie, no_answer};
 ghost use Rattle.lw_cache.specs.bodies.Upward.{word_of_some, AreLengths, IsEarlierOf};
@@ -9,20 +9,21 @@ use lw_words::{NoMemory, Word};
 use std::alloc::Global;
 use std::cmp::Ordering;
 
-/// The length of each node's word.
-pub(crate) fn lengths(alloc: Global, nodes: &[Node]) -> Result<Vec<u32>, NoMemory>
+/// Puts the length of one more node's word behind those of the nodes before it.
+pub(crate) fn put_length(nodes: &[Node], lengths: &mut Vec<u32>) -> Result<(), NoMemory>
     requires trie { IsTrie (node_at nodes.now) (length nodes.now) }
-    requires root { 0 < length nodes.now }
     requires few { length nodes.now ≤ no_answer }
-    ensures { IfOk result (λ v. AreLengths (node_at nodes.now) (length nodes.now) v.items) }
+    requires some { 0 < length lengths.old.items }
+    requires next { length lengths.old.items < length nodes.now }
+    requires lengths { AreLengths (node_at nodes.now) (length lengths.old.items)
+        lengths.old.items }
+    ensures { OnOk result (AreLengths (node_at nodes.now) (length lengths.old.items + 1)
+        lengths.new.items) }
 {
-    let mut lengths = Vec::with_capacity(alloc, nodes.len())?;
-    lengths.push(0u32)?;
-    for i in 1..nodes.len() {
-        let above = nodes[i].parent;
-        lengths.push(lengths[above as usize] + 1)?;
-    }
-    Ok(lengths)
+    let above = nodes[lengths.len()].parent;
+    let length = lengths[above as usize] + 1;
+    lengths.push(length)?;
+    Ok(())
 }
 
 /// How two nodes' words of one length stand in shortlex order. Goes up from both to where they part.
@@ -51,9 +52,10 @@ fn compare_same_length(nodes: &[Node], one: u32, other: u32) -> Ordering
 /// How two nodes' words stand in shortlex order.
 fn compare(nodes: &[Node], lengths: &[u32], one: u32, other: u32) -> Ordering
     requires trie { IsTrie (node_at nodes.now) (length nodes.now) }
-    requires lengths { AreLengths (node_at nodes.now) (length nodes.now) lengths.now }
-    requires one { one < length nodes.now }
-    requires other { other < length nodes.now }
+    requires lengths { AreLengths (node_at nodes.now) (length lengths.now) lengths.now }
+    requires within { length lengths.now ≤ length nodes.now }
+    requires one { one < length lengths.now }
+    requires other { other < length lengths.now }
     ensures { result ≡ shortlex_cmp (word_of (node_at nodes.now) one)
         (word_of (node_at nodes.now) other) }
 {
@@ -68,10 +70,11 @@ fn compare(nodes: &[Node], lengths: &[u32], one: u32, other: u32) -> Ordering
 /// The one of two nodes whose word comes first in shortlex order.
 pub(crate) fn earlier(nodes: &[Node], lengths: &[u32], best: Option<u32>, at: u32) -> Option<u32>
     requires trie { IsTrie (node_at nodes.now) (length nodes.now) }
-    requires lengths { AreLengths (node_at nodes.now) (length nodes.now) lengths.now }
-    requires best { IfSome best (λ b. b < length nodes.now) }
-    requires at { at < length nodes.now }
-    ensures within { IfSome result (λ b. b < length nodes.now) }
+    requires lengths { AreLengths (node_at nodes.now) (length lengths.now) lengths.now }
+    requires within { length lengths.now ≤ length nodes.now }
+    requires best { IfSome best (λ b. b < length lengths.now) }
+    requires at { at < length lengths.now }
+    ensures within { IfSome result (λ b. b < length lengths.now) }
     ensures earlier { IsEarlierOf (word_of_some (node_at nodes.now) best)
         (word_of (node_at nodes.now) at) (word_of_some (node_at nodes.now) result) }
 {
