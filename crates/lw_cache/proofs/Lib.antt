@@ -10,6 +10,7 @@ mod KeepLemmas
 pub mod KnownLemmas
 mod LookLemmas
 mod MoreLemmas
+mod OrderLemmas
 pub mod PlainLemmas
 pub mod ReadLemmas
 mod ReckonLemmas

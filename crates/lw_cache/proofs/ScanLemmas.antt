@@ -1,7 +1,7 @@
 -- Going through all nodes once.
-use Rattle.std.proofs.Common.{◌≡◌, ◌≢◌, ◌↔◌, ℕ, ◌+◌, ◌<◌, ◌≤◌, ⊎_elim, Bool, true, false, List, [], ◌∷◌, ◌++◌, length, get_or, reverse, Contains, Option, Some, None, refl, ap, sym, ◌∙◌, subst, arith, append_assoc}
+use Rattle.std.proofs.Common.{◌≡◌, ◌≢◌, ◌↔◌, ℕ, ◌+◌, ◌<◌, ◌≤◌, ⊎_elim, Bool, true, false, List, [], ◌∷◌, ◌++◌, length, get_or, Contains, Option, Some, None, refl, ap, sym, ◌∙◌, subst, arith}
 use Rattle.std.proofs.lemmas.Bool.{cases_eq, cases_lt, false≢true}
-use Rattle.std.proofs.lemmas.List.{length_push, get_or_push, get_or_append_left, reverse-append}
+use Rattle.std.proofs.lemmas.List.{length_push, get_or_push, get_or_append_left}
 use Rattle.std.proofs.lemmas.List.Elements.{Contains-push, Contains-push_cases, Contains-append_left, Contains-get_or}
 use Rattle.std.proofs.lemmas.List.Quantifiers.{all_pairs_push}
 use Rattle.std.specs.declared.cmp.Ordering.TheVariants.{Less, Equal}
@@ -11,7 +11,8 @@ use Rattle.lw_words.specs.Shortlex.{shortlex_cmp}
 use Rattle.lw_mealy.specs.Machine.{Rows, after, next, output}
 use Rattle.lw_mealy.proofs.WordLemmas.{after-append}
 use Rattle.lw_cache.specs.bodies.Trie.{word_of, IsTrie, no_answer}
-use Rattle.lw_cache.specs.bodies.Scanning.{IsLive, CountsLive, DiffersAt, IsFirstTo, AreStates, AreLetters, IsEarlierOf}
+use Rattle.lw_cache.specs.bodies.Scanning.{IsLive, CountsLive, DiffersAt, IsFirstTo, AreStates, AreLetters}
+use Rattle.lw_cache.specs.bodies.Upward.{IsEarlierOf}
 use Rattle.lw_cache.specs.declared.node.Node.{Node}
 use Rattle.lw_cache.proofs.TrieLemmas.{word_step, one_node}
 
@@ -61,13 +62,6 @@ count_skip at i count now c dead is =
             (cases_lt l.0 i),
       );
     }
-
-pub spell_more : (at : ℕ → Node) (n node : ℕ) (letters now whole : List ℕ) → IsTrie at n → node < n → node ≢ 0 → now ≡ letters ++ (at node).letter ∷ [] → word_of at node ++ reverse letters ≡ whole → word_of at (at node).parent ++ reverse now ≡ whole
-spell_more at n node letters now whole t lt some is was =
-    ap (λ (l : List ℕ). word_of at (at node).parent ++ reverse l) is
-    ∙ (ap (λ (l : List ℕ). word_of at (at node).parent ++ l) (reverse-append letters ((at node).letter ∷ []))
-    ∙ (sym (append_assoc (word_of at (at node).parent) ((at node).letter ∷ []) (reverse letters))
-    ∙ (ap (λ (w : List ℕ). w ++ reverse letters) (sym (word_step at n t node (omega (arith, some)) lt)) ∙ was)))
 
 -- the machine's states
 pub states_begin : (at : ℕ → Node) (m : Rows) (states : List ℕ) (initial : ℕ) → initial ≡ 0 → initial < length m → states ≡ initial ∷ [] → AreStates at m 1 states

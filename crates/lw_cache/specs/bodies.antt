@@ -3,3 +3,4 @@ pub mod Filling
 pub mod Room
 pub mod Scanning
 pub mod Trie
+pub mod Upward

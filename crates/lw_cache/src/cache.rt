@@ -31,7 +31,8 @@ const MOST: usize = NONE as usize;
 /// together, can be claimed and answered without memory.
 ///
 /// A call takes time in proportion to its word, times the siblings that are passed at each letter, and where it ends a claim
-/// also to the number of claims. [`Cache::nodes`] and [`Cache::against`] look at each node once.
+/// also to the number of claims. [`Cache::nodes`] and [`Cache::against`] look at each node once; the second goes up from some
+/// of them too, in all at most a step for each letter of the kept answers.
 #[derive(Drop)]
 pub struct Cache {
     nodes: Vec<Node>,

@@ -13,6 +13,7 @@ mod reckoning;
 mod scanning;
 mod stops;
 mod trie;
+mod upward;
 
 pub use cache::Cache;
 pub use cut::Cut;

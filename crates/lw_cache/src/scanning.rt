@@ -1,14 +1,15 @@
 //! Going through all nodes once: how many are live, and where a machine differs.
-ghost use Rattle.std.specs.Prelude.{◌≡◌, ◌≢◌, ◌↔◌, ℕ, ◌<◌, ◌≤◌, List, length, IfOk, IsTrue, true, false, slice_index};
+ghost use Rattle.std.specs.Prelude.{◌≡◌, ◌≢◌, ◌↔◌, ℕ, ◌<◌, ◌≤◌, List, length, IfOk, IfSome, IsTrue, true, false, slice_index};
 ghost use Rattle.lw_mealy.specs.Machine.{next, output};
 ghost use Rattle.lw_cache.specs.bodies.Trie.{node_at, word_of, IsTrie, no_answer};
-ghost use Rattle.lw_cache.specs.bodies.Scanning.{IsLive, CountsLive, IsFirstTo, IsEarlierOf, AreLetters};
+ghost use Rattle.lw_cache.specs.bodies.Scanning.{IsLive, CountsLive, IsFirstTo, AreLetters};
+ghost use Rattle.lw_cache.specs.bodies.Upward.{word_of_some, AreLengths, IsEarlierOf};
 
 use crate::node::{NONE, Node, UNCLAIMED};
+use crate::upward::{earlier, put_length, spelled};
 use lw_mealy::Mealy;
-use lw_words::{NoMemory, Word, shortlex};
+use lw_words::{NoMemory, Word};
 use std::alloc::Global;
-use std::cmp::Ordering;
 
 /// Whether a node's word is known or begins a claimed word.
 fn is_live(node: &Node) -> bool
@@ -34,58 +35,6 @@ pub(crate) fn count_live(nodes: &[Node]) -> usize
     count
 }
 
-/// The word of a node.
-fn spelled(alloc: Global, nodes: &[Node], end: u32) -> Result<Word, NoMemory>
-    requires trie { IsTrie (node_at nodes.now) (length nodes.now) }
-    requires end { end < length nodes.now }
-    ensures { IfOk result (λ w. w ≡ word_of (node_at nodes.now) end) }
-{
-    let mut letters = Vec::new(alloc);
-    let mut node = end;
-    while node != 0 {
-        let here = nodes[node as usize];
-        letters.push(here.letter)?;
-        node = here.parent;
-    }
-    letters.reverse();
-    Ok(Word::from_letters(alloc, letters))
-}
-
-/// The one of two words that comes first in shortlex order.
-fn earlier(best: Option<Word>, word: Word) -> Option<Word>
-    ensures { IsEarlierOf best word result }
-{
-    let Some(first) = best else {
-        return Some(word);
-    };
-    if shortlex(&word, &first) == Ordering::Less {
-        Some(word)
-    } else {
-        Some(first)
-    }
-}
-
-/// The first of two words in shortlex order, where the second is the word of a node at which a machine differs.
-fn better(
-    alloc: Global,
-    nodes: &[Node],
-    at: u32,
-    differs: bool,
-    best: Option<Word>,
-) -> Result<Option<Word>, NoMemory>
-    requires trie { IsTrie (node_at nodes.now) (length nodes.now) }
-    requires at { at < length nodes.now }
-    ensures same { IfOk result (λ r. differs ≡ false → r ≡ best) }
-    ensures earlier { IfOk result (λ r. differs ≡ true →
-        IsEarlierOf best (word_of (node_at nodes.now) at) r) }
-{
-    if !differs {
-        return Ok(best);
-    }
-    let word = spelled(alloc, nodes, at)?;
-    Ok(earlier(best, word))
-}
-
 /// The machine's state after the word of a node that tells an answer, and whether its output differs there.
 fn step_to(m: &Mealy, states: &[u16], node: &Node) -> (u16, bool)
     requires parent { node.now.parent < length states.now }
@@ -105,6 +54,49 @@ fn step_to(m: &Mealy, states: &[u16], node: &Node) -> (u16, bool)
     (state, output != node.output)
 }
 
+/// The first of two nodes by their words in shortlex order, where the second counts only if a machine differs at it.
+fn better(nodes: &[Node], lengths: &[u32], best: Option<u32>, at: u32, differs: bool) -> Option<u32>
+    requires trie { IsTrie (node_at nodes.now) (length nodes.now) }
+    requires lengths { AreLengths (node_at nodes.now) (length lengths.now) lengths.now }
+    requires within { length lengths.now ≤ length nodes.now }
+    requires best { IfSome best (λ b. b < length lengths.now) }
+    requires at { at < length lengths.now }
+    ensures within { IfSome result (λ b. b < length lengths.now) }
+    ensures same { differs ≡ false → result ≡ best }
+    ensures earlier { differs ≡ true → IsEarlierOf (word_of_some (node_at nodes.now) best)
+        (word_of (node_at nodes.now) at) (word_of_some (node_at nodes.now) result) }
+{
+    if differs {
+        earlier(nodes, lengths, best, at)
+    } else {
+        best
+    }
+}
+
+/// The node whose word is the first in shortlex order of those at which a machine's output differs from what is told there.
+fn first_differing(alloc: Global, nodes: &[Node], m: &Mealy) -> Result<Option<u32>, NoMemory>
+    requires trie { IsTrie (node_at nodes.now) (length nodes.now) }
+    requires root { 0 < length nodes.now }
+    requires few { length nodes.now ≤ no_answer }
+    requires letters { AreLetters (node_at nodes.now) (length nodes.now) m.now.inputs }
+    ensures within { IfOk result (λ r. IfSome r (λ b. b < length nodes.now)) }
+    ensures first { IfOk result (λ r. IsFirstTo (node_at nodes.now) (length nodes.now) m.now.rows
+        (length nodes.now) (word_of_some (node_at nodes.now) r)) }
+{
+    let mut states = Vec::with_capacity(alloc, nodes.len())?;
+    let mut lengths = Vec::with_capacity(alloc, nodes.len())?;
+    states.push(m.initial())?;
+    lengths.push(0u32)?;
+    let mut best = None;
+    for i in 1..nodes.len() {
+        let (state, differs) = step_to(m, &states, &nodes[i]);
+        states.push(state)?;
+        put_length(nodes, &mut lengths)?;
+        best = better(nodes, &lengths, best, i as u32, differs);
+    }
+    Ok(best)
+}
+
 /// The first word in shortlex order of a node at which a machine's output differs from what is told there.
 pub(crate) fn first_difference(
     alloc: Global,
@@ -120,13 +112,8 @@ pub(crate) fn first_difference(
     if nodes.is_empty() {
         return Ok(None);
     }
-    let mut states = Vec::with_capacity(alloc, nodes.len())?;
-    states.push(m.initial())?;
-    let mut best = None;
-    for i in 1..nodes.len() {
-        let (state, differs) = step_to(m, &states, &nodes[i]);
-        states.push(state)?;
-        best = better(alloc, nodes, i as u32, differs, best)?;
-    }
-    Ok(best)
+    let Some(first) = first_differing(alloc, nodes, m)? else {
+        return Ok(None);
+    };
+    Ok(Some(spelled(alloc, nodes, first)?))
 }

@@ -5,6 +5,8 @@ ghost use Rattle.lw_words.specs.Answer.{answer_of, answers_of, IsWhole};
 ghost use Rattle.lw_words.specs.Word.{IsWord};
 ghost use Rattle.lw_cache.specs.Caching.{claim_of};
 
+mod against;
+
 use crate::plain::{clash, clear, known};
 use crate::{AskStop, Cache, Clash, GrowStop, KeepStop, Known};
 use lw_mealy::Mealy;

@@ -45,8 +45,3 @@ pub record AreStates (at : ℕ → Node) (m : Rows) (end : ℕ) (states : List �
 -- a node that tells an answer has a letter below a, and so has its parent, if it isn't the root
 abbrev pub AreLetters : (ℕ → Node) → ℕ → ℕ → Type 0
 AreLetters at n a = (j : ℕ) → 0 < j → j < n → (at j).answer ≢ no_answer → ((at j).letter < a) × (((at j).parent ≡ 0) ⊎ ((at (at j).parent).answer ≢ no_answer))
-
--- the word that comes first
-abbrev pub IsEarlierOf : Option (List ℕ) → List ℕ → Option (List ℕ) → Type 0
-IsEarlierOf None w result = result ≡ Some w
-IsEarlierOf (Some best) w result = ((result ≡ Some w) × (shortlex_cmp w best ≡ Less)) ⊎ ((result ≡ Some best) × (shortlex_cmp w best ≢ Less))

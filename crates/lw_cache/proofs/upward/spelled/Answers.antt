@@ -1,7 +1,7 @@
 use Rattle.std.proofs.Common.{◌<◌, length, arith}
 use Rattle.lw_cache.specs.bodies.Trie.{node_at, word_of}
-use Rattle.lw_cache.proofs.ScanLemmas.{spell_more}
-use Rattle.lw_cache.proofs.scanning.spelled.Goals as goal
+use Rattle.lw_cache.proofs.OrderLemmas.{spell_more}
+use Rattle.lw_cache.proofs.upward.spelled.Goals as goal
 
 pub loop-node-preserved : goal.loop-node-preserved
 loop-node-preserved c =

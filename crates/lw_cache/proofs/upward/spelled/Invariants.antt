@@ -1,6 +1,6 @@
 use Rattle.std.proofs.Common.{◌≡◌, ◌<◌, ◌++◌, length, reverse}
 use Rattle.lw_cache.specs.bodies.Trie.{node_at, word_of}
-use Rattle.lw_cache.proofs.scanning.spelled.Given as goal
+use Rattle.lw_cache.proofs.upward.spelled.Given as goal
 
 abbrev pub invariant-loop-node : goal.invariant-loop-node
 invariant-loop-node l = record {
