@@ -7,6 +7,7 @@ mod rows;
 mod serving;
 mod trial_words;
 mod trials;
+mod two_at_once;
 
 use crate::tests::cases::{
     Case, LEARN, ONE, PLAIN, check, check_over, end_of, files_of, no_children, sink, source, texts,
