@@ -4,7 +4,7 @@ ghost use Rattle.std.specs.Prelude.{◌<◌};
 use crate::run;
 use crate::tests::cases::{files_of, sink, source, texts};
 use lw_json::read_machine;
-use lw_outside::{MemorySink, MemorySpawner};
+use lw_outside::{MemoryFiles, MemorySink, MemorySpawner};
 use lw_report::End;
 use std::alloc::Global;
 use std::process::Abort;
@@ -75,6 +75,8 @@ struct Row {
     out: &'static str,
     err: &'static str,
     retired: usize,
+    /// The file `h` at the end: nothing where there is none.
+    model: &'static str,
 }
 
 const PLAYED: Row = Row {
@@ -91,12 +93,14 @@ const PLAYED: Row = Row {
     out: "",
     err: LEARNED,
     retired: 1,
+    model: ONE_OF_KID,
 };
 
 const SAID: Row = Row {
     arguments: &LEARN,
     status: 6,
     err: ENDED,
+    model: "",
     ..PLAYED
 };
 
@@ -117,6 +121,14 @@ fn spawner(alloc: Global, row: &Row) -> Result<MemorySpawner, Fail> {
             scripts.push(Vec::from_slice(alloc, text.as_bytes())?)?;
             Ok(MemorySpawner::scripted(alloc, scripts, 10_000, starts, links)?)
         }
+    }
+}
+
+/// Whether the file `h` has these bytes, or isn't there where there are none.
+fn has_model(files: &MemoryFiles, text: &str) -> bool {
+    match files.bytes("h") {
+        Some(bytes) => bytes.as_slice() == text.as_bytes(),
+        None => text.is_empty(),
     }
 }
 
@@ -147,22 +159,25 @@ fn check<R: Abort + Threads + Wait + Sync + Copy + Drop>(
     assert_eq!(rt; out.taken(), row.out.as_bytes());
     assert_eq!(rt; err.taken(), row.err.as_bytes());
     assert_eq!(rt; children.retired().len(), row.retired);
+    assert!(rt; has_model(&files, row.model));
     Ok(end)
 }
 
 /// A file, a start, a call of the link or a stream fails.
-static FAULTS: [Row; 13] = [
+static FAULTS: [Row; 14] = [
     Row {
         file_plan: &[0],
         status: 8,
         err: "file fault: setup\n",
         retired: 0,
+        model: "",
         ..PLAYED
     },
     Row {
         file_plan: &[1],
         status: 8,
         err: "file fault: model\n",
+        model: "",
         ..PLAYED
     },
     Row {
@@ -173,46 +188,32 @@ static FAULTS: [Row; 13] = [
     },
     Row {
         starts: &[0],
-        status: 6,
-        err: FAILED,
         retired: 0,
-        ..PLAYED
+        ..BROKEN
     },
     Row {
         calls: &[0],
-        status: 6,
-        err: FAILED,
-        ..PLAYED
+        ..BROKEN
     },
     Row {
         calls: &[1],
-        status: 6,
-        err: FAILED,
-        ..PLAYED
+        ..BROKEN
     },
     Row {
         calls: &[2],
-        status: 6,
-        err: FAILED,
-        ..PLAYED
+        ..BROKEN
     },
     Row {
         calls: &[3],
-        status: 6,
-        err: FAILED,
-        ..PLAYED
+        ..BROKEN
     },
     Row {
         calls: &[4],
-        status: 6,
-        err: FAILED,
-        ..PLAYED
+        ..BROKEN
     },
     Row {
         calls: &[5],
-        status: 6,
-        err: FAILED,
-        ..PLAYED
+        ..BROKEN
     },
     // the one run takes six calls
     Row {
@@ -230,9 +231,29 @@ static FAULTS: [Row; 13] = [
         out_plan: &[0],
         status: 8,
         err: "sink fault\n",
+        model: "",
+        ..PLAYED
+    },
+    // the second piece of the model is refused
+    Row {
+        arguments: &LEARN,
+        piece: 8,
+        out_plan: &[1],
+        status: 8,
+        out: "{\"inputs",
+        err: "sink fault\n",
+        model: "",
         ..PLAYED
     },
 ];
+
+/// The child could not be started, or its link failed.
+const BROKEN: Row = Row {
+    status: 6,
+    err: FAILED,
+    model: "",
+    ..PLAYED
+};
 
 #[test]
 fn faults_at_each_place(rt: HostRuntime) -> Result<(), Fail> {
@@ -242,6 +263,7 @@ fn faults_at_each_place(rt: HostRuntime) -> Result<(), Fail> {
             end.model.is_some(),
             row.status == 8 && row.retired == 1 || row.status == 0
         );
+        assert_eq!(rt; end.kept.len() == 0, end.model.is_none());
     }
     Ok(())
 }
@@ -343,6 +365,7 @@ fn what_children_say(rt: HostRuntime) -> Result<(), Fail> {
     for row in &SAYINGS {
         let end = check(rt, rt.alloc(), row)?;
         assert_eq!(rt; end.model.is_some(), row.status == 0);
+        assert_eq!(rt; end.kept.len() == 0, row.status == 6);
     }
     Ok(())
 }
