@@ -53,7 +53,7 @@ wanted_trial v f o e d end out r =
       said = λ _ quiet. said end.outcome out (r.said quiet);
       said_part = λ _. part end.outcome out r.part;
       outputs = subst (λ (n : Option Naming). IfSome n (λ named. named ≡ drawn_naming)) (sym r.outputs) tt;
-      unnamed = λ _ is. subst IsTrial out is;
+      unnamed = λ _. (out, r.kept);
       kinds = subst IsTrialOutcome (sym out) tt;
       sink_fault = λ is. let wrong : NoMemory ≡ SinkFault = sym out ∙ is in absurd (cc);
       suite = λ states number is. let wrong : NoMemory ≡ SuiteTooLarge states number = sym out ∙ is in absurd (cc);
