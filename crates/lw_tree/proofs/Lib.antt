@@ -1,0 +1,10 @@
+mod BranchLemmas
+mod GrownLemmas
+mod LowerLemmas
+mod MachineLemmas
+mod MeasureLemmas
+mod NodeLemmas
+mod PartLemmas
+mod PlaceLemmas
+mod ShapeLemmas
+mod WayLemmas
