@@ -1,4 +1,6 @@
 mod BranchLemmas
+mod CloseLemmas
+mod FieldLemmas
 mod GrownLemmas
 mod LowerLemmas
 mod MachineLemmas

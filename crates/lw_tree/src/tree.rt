@@ -1,5 +1,6 @@
 //! The tree.
 ghost use Rattle.std.specs.Prelude.{◌≡◌, ℕ, ◌<◌, ◌≤◌, List, [], ◌∷◌, IfOk};
+ghost use Rattle.lw_tree.specs.declared.nodes.Content.TheVariants.{State};
 ghost use Rattle.lw_tree.specs.Tree.{discriminators, temporaries, IsTree, new_tree};
 
 use crate::nodes::{Content, Node};
