@@ -2,6 +2,7 @@ mod BranchLemmas
 mod CloseLemmas
 mod FieldLemmas
 mod GrownLemmas
+mod ListingLemmas
 mod LowerLemmas
 mod MachineLemmas
 mod MeasureLemmas
@@ -9,4 +10,5 @@ mod NodeLemmas
 mod PartLemmas
 mod PlaceLemmas
 mod ShapeLemmas
+mod StepLemmas
 mod WayLemmas

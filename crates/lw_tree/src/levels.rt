@@ -1,5 +1,5 @@
 //! Sifting by levels: all transitions that have no target take one step down the discrimination tree.
-ghost use Rattle.std.specs.Prelude.{◌≡◌, ℕ, ◌+◌, ◌*◌, ◌^◌, ◌<◌, ◌≤◌, List, [], ◌∷◌, ◌++◌, length, Contains, IfOk, OnOk, true, false};
+ghost use Rattle.std.specs.Prelude.{◌≡◌, ℕ, ◌+◌, ◌*◌, ◌^◌, ◌<◌, ◌≤◌, List, [], ◌∷◌, ◌++◌, length, Contains, IfOk, IfErr, OnOk, true, false};
 ghost use Rattle.std.specs.List.{All};
 ghost use Rattle.lw_words.specs.Answer.{Answer, AreAnswers, answers_of};
 ghost use Rattle.lw_words.specs.Word.{IsWord};
@@ -7,7 +7,7 @@ ghost use Rattle.lw_cache.specs.Known.{IsKnown};
 ghost use Rattle.lw_cache.specs.Settling.{Keeps, MayAsk, Leaves, grown_stop};
 ghost use Rattle.lw_tree.specs.Grown.{HasGrown, KeepsDiscriminators, HasLevelled, HasClosed, TellsCrowd};
 ghost use Rattle.lw_tree.specs.Tree.{BranchesAreRead, HasOpen, IsClosed, IsInner, discriminator};
-ghost use Rattle.lw_tree.specs.bodies.Steps.{IsRead, HasStepped, HasMoved, MovesOn};
+ghost use Rattle.lw_tree.specs.bodies.Steps.{IsRead, IsOwn, HasStepped, HasMoved, MovesOn};
 ghost use Rattle.lw_tree.specs.bodies.Transitions.{IsTransition, IsAsked, AreAsked, word_of, content_by, is_open_by};
 
 use crate::DiscriminationTree;
@@ -122,6 +122,7 @@ impl DiscriminationTree {
             (edge.state * self.old.inputs + edge.letter)) }
         ensures crowd { (ks : List Answer) → IsRead ks self.old edge output branch →
             TellsCrowd ks self.new result }
+        ensures own { IfErr result IsOwn }
     {
         let node = self.places[edge.number(self.inputs)].node;
         if let Some(child) = child(&self.nodes, node, branch.as_slice()) {
@@ -145,6 +146,7 @@ impl DiscriminationTree {
         ensures moved { OnOk result (MovesOn self.old self.new
             (edge.state * self.old.inputs + edge.letter)) }
         ensures crowd { TellsCrowd (answers_of cache.now.kept) self.new result }
+        ensures own { IfErr result IsOwn }
     {
         if !self.is_open(edge) {
             return Ok(());
@@ -171,6 +173,7 @@ impl DiscriminationTree {
         ensures keeps { KeepsDiscriminators self.old self.new }
         ensures moved { OnOk result (HasMoved self.old self.new) }
         ensures crowd { TellsCrowd (answers_of cache.now.kept) self.new result }
+        ensures own { IfErr result IsOwn }
     {
         for number in 0..self.places.len() {
             self.advance(cache, Edge::with_number(self.inputs, number))?;

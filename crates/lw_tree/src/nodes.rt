@@ -1,6 +1,6 @@
 //! The nodes of a discrimination tree.
-ghost use Rattle.std.specs.Prelude.{◌≡◌, ◌≢◌, ℕ, ◌+◌, ◌<◌, ◌≤◌, length, IfSome, IfNone, MatchOption};
-ghost use Rattle.lw_tree.specs.Tree.{node_at, is_inner, is_temporary};
+ghost use Rattle.std.specs.Prelude.{◌≡◌, ◌≢◌, ℕ, ◌+◌, ◌<◌, ◌≤◌, length, true, false, MatchOption};
+ghost use Rattle.lw_tree.specs.Tree.{node_at, is_inner, is_temporary, IsLive};
 ghost use Rattle.lw_tree.specs.bodies.Nodes.{IsChild};
 
 use lw_words::Word;
@@ -46,7 +46,12 @@ impl Node {
     }
 
     /// Whether it is the child of a node under these outputs.
-    fn is_under(&self, parent: u32, outputs: &[u16]) -> bool {
+    fn is_under(&self, parent: u32, outputs: &[u16]) -> bool
+        ensures under { result ≡ true → IsLive self.now.content × (self.now.parent ≡ parent) ×
+            (self.now.branch ≡ outputs.now) }
+        ensures other { result ≡ false → IsLive self.now.content → self.now.parent ≡ parent →
+            self.now.branch ≢ outputs.now }
+    {
         match &self.content {
             Content::Gone => false,
             _ => self.parent == parent && self.branch.as_slice() == outputs,

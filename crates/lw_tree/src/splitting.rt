@@ -1,12 +1,12 @@
 //! Splitting a leaf by a cut.
-ghost use Rattle.std.specs.Prelude.{◌≡◌, ◌≢◌, ℕ, ◌+◌, ◌<◌, List, length, OnOk, OnErr};
+ghost use Rattle.std.specs.Prelude.{◌≡◌, ◌≢◌, ℕ, ◌+◌, ◌<◌, List, length, IfErr, OnOk, OnErr};
 ghost use Rattle.lw_words.specs.Answer.{AreAnswers, answers_of};
 ghost use Rattle.lw_mealy.specs.Machine.{Rows};
 ghost use Rattle.lw_cache.specs.Cut.{IsCut};
 ghost use Rattle.lw_cache.specs.Settling.{MayAsk, Leaves, grown_stop};
 ghost use Rattle.lw_tree.specs.Grown.{HasGrown, IsSplit, HasSplit, TellsCrowd};
 ghost use Rattle.lw_tree.specs.Tree.{IsTree, BranchesAreRead, IsClosed, IsMachineOf};
-ghost use Rattle.lw_tree.specs.bodies.Steps.{refined_once};
+ghost use Rattle.lw_tree.specs.bodies.Steps.{refined_once, IsOwn};
 
 use crate::DiscriminationTree;
 use crate::reading::read_tail;
@@ -27,6 +27,7 @@ impl DiscriminationTree {
         ensures refinements { self.new.refinements ≡ self.old.refinements }
         ensures err { OnErr result (self.new ≡ self.old) }
         ensures crowd { TellsCrowd (answers_of cache.now.kept) self.new result }
+        ensures own { IfErr result IsOwn }
     {
         let edge = Edge {
             state: cut.state,

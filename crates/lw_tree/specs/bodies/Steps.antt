@@ -3,6 +3,9 @@ use Rattle.std.specs.Prelude.{◌≡◌, ◌≢◌, ◌⊎◌, ℕ, zero, suc, �
 use Rattle.lw_words.specs.Answer.{Answer}
 use Rattle.lw_words.specs.Word.{IsWord}
 use Rattle.lw_cache.specs.Cut.{word_at}
+use Rattle.lw_cache.specs.declared.stops.AskStop.TheVariants.{NoMemory}
+use Rattle.lw_cache.specs.declared.stops.GrowStop.{GrowStop}
+use Rattle.lw_cache.specs.declared.stops.GrowStop.TheVariants.{Ask, Crowd}
 use Rattle.lw_tree.specs.Grown.{HasGrown, KeepsDiscriminators}
 use Rattle.lw_tree.specs.Tree.{TreeState, node_at, place_at, leaf_at, edge_at, no_place, discriminator, is_open, IsLive, IsInner, BranchesAreRead, Tells}
 use Rattle.lw_tree.specs.bodies.Nodes.{IsChild}
@@ -112,3 +115,8 @@ pub record HasSifted (ks : List Answer) (before : TreeState) (to : ℕ) (now : T
 -- there are more states, or each transition that is without a target was so before and stood higher up
 abbrev pub HasMoved : TreeState → TreeState → Type 0
 HasMoved before now = (length before.access < length now.access) ⊎ ((k : ℕ) → k < length now.places → MovesOn before now k)
+
+-- out of memory, or a crowd: no stop of the oracle
+abbrev pub IsOwn : GrowStop → Type 0
+IsOwn (Ask stop) = stop ≡ NoMemory
+IsOwn (Crowd words) = Unit {0}

@@ -5,13 +5,13 @@ use Rattle.lw_tree.specs.Grown.{HasGrown, KeepsDiscriminators}
 use Rattle.lw_tree.proofs.MeasureLemmas.{measure}
 use Rattle.lw_tree.proofs.tree.DiscriminationTree.close.Given as goal
 
-abbrev pub invariant-loop-alloc : goal.invariant-loop-alloc
-invariant-loop-alloc g l = record {
+abbrev pub invariant-loop : goal.invariant-loop
+invariant-loop g l = record {
   grown : HasGrown (answers_of (g.O.Oracle.state l.oracle).kept) l.fn.self l.self;
   keeps : KeepsDiscriminators l.fn.self l.self;
   leaves : Leaves (g.O.Oracle.state l.fn.oracle) (g.O.Oracle.state l.oracle) None;
   can : g.O.Oracle.can_settle l.oracle;
 }
 
-abbrev pub decreases-loop-alloc : goal.decreases-loop-alloc
-decreases-loop-alloc g l = measure l.self
+abbrev pub decreases-loop : goal.decreases-loop
+decreases-loop g l = measure l.self
