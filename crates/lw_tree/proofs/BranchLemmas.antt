@@ -1,7 +1,7 @@
 -- What is known of the words of a tree: that each step leaves it so, and that the access words are apart.
-use Rattle.std.proofs.Common.{◌≡◌, ◌≢◌, ◌⊎◌, inl, inr, ⊎_elim, ℕ, zero, suc, ◌+◌, ◌*◌, ◌<◌, ◌≤◌, true, List, [], ◌∷◌, ◌++◌, length, get_or, Option, Some, None, refl, ap, ap₂, sym, ◌∙◌, subst, arith}
+use Rattle.std.proofs.Common.{◌≡◌, ◌≢◌, ◌⊎◌, inl, inr, ⊎_elim, ℕ, zero, suc, ◌+◌, ◌*◌, ◌<◌, ◌≤◌, true, List, [], ◌∷◌, ◌++◌, length, Some, None, refl, ap, ap₂, sym, ◌∙◌, subst, arith}
 use Rattle.std.proofs.lemmas.Bool.{cases_lt, cases_eq}
-use Rattle.std.proofs.lemmas.List.{length-append, map-append}
+use Rattle.std.proofs.lemmas.List.{map-append}
 use Rattle.lw_words.specs.Answer.{Answer, answer_of, answers_of}
 use Rattle.lw_words.specs.Word.{IsWord}
 use Rattle.lw_words.specs.declared.kept.KeptAnswer.{KeptAnswer}
@@ -9,19 +9,19 @@ use Rattle.lw_cache.specs.Crowd.{IsCrowd}
 use Rattle.lw_cache.specs.Cut.{word_at}
 use Rattle.lw_cache.proofs.GrowLemmas.{reads_stay}
 use Rattle.lw_tree.specs.Laws.{BranchesStay, AccessIsCrowd, NewIsRead}
-use Rattle.lw_tree.specs.Tree.{TreeState, no_place, node_at, place_at, leaf_at, edge_at, place_of, IsLive, IsInner, IsOnWay, Tells, Agrees, BranchesAreRead, discriminator, new_tree}
-use Rattle.lw_tree.specs.bodies.Steps.{placed, with_place, leaf_below, with_state, IsNextState, moved_edge, lowered, IsNextSplit, split_tree, IsRead}
+use Rattle.lw_tree.specs.Tree.{TreeState, no_place, node_at, place_at, leaf_at, edge_at, place_of, IsLive, Tells, Agrees, BranchesAreRead, discriminator, new_tree}
+use Rattle.lw_tree.specs.bodies.Steps.{placed, with_place, leaf_below, with_state, IsNextState, lowered, IsNextSplit, split_tree, IsRead}
 use Rattle.lw_tree.specs.bodies.Transitions.{IsTransition, word_of, place_by, content_by, is_open_by}
 use Rattle.lw_tree.specs.declared.nodes.Node.{Node}
 use Rattle.lw_tree.specs.declared.nodes.Content.{Content}
 use Rattle.lw_tree.specs.declared.transitions.Place.{Place}
 use Rattle.lw_tree.specs.declared.transitions.Edge.{Edge}
-use Rattle.lw_tree.proofs.WayLemmas.{KeepsNodes, still_agrees, agrees_below}
+use Rattle.lw_tree.proofs.WayLemmas.{still_agrees, agrees_below}
 use Rattle.lw_tree.proofs.PartLemmas.{crowd_of_leaves}
 use Rattle.lw_tree.proofs.NodeLemmas.{Updates, live_within}
-use Rattle.lw_tree.proofs.PlaceLemmas.{one_transition, number_within, past_place, unasked_at}
-use Rattle.lw_tree.proofs.ShapeLemmas.{IsShaped, shape_of, all_places, place_inside, leaf_live, same_output, place_update, state_nodes, state_keeps, node_update, new_live, word_stays, new_word, new_leaf, leaf_stays, places_update, at_last, state_leaves, state_shape}
-use Rattle.lw_tree.proofs.LowerLemmas.{moved_output, moved_here, moved_other, lower_nodes, lower_keeps, leaf_update, new_live as lowered_live, leaf_written, edge_inside, lower_leaf, lower_shape, live_stays, split_next, same_place, at_leaf, at_discriminator}
+use Rattle.lw_tree.proofs.PlaceLemmas.{one_transition, past_place, unasked_at}
+use Rattle.lw_tree.proofs.ShapeLemmas.{IsShaped, shape_of, all_places, place_inside, leaf_live, same_output, place_update, state_nodes, state_keeps, node_update, new_live, word_stays, new_word, new_leaf, leaf_stays, places_update, at_last, state_shape}
+use Rattle.lw_tree.proofs.LowerLemmas.{moved_output, moved_here, moved_other, lower_nodes, lower_keeps, leaf_update, new_live as lowered_live, leaf_written, edge_inside, lower_leaf, lower_shape, split_next, at_discriminator}
 
 -- what was read stays so where answers come
 tells_more : (ks more : List Answer) (word suffix outs : List ℕ) → Tells ks word suffix outs → Tells (ks ++ more) word suffix outs

@@ -1,5 +1,5 @@
 -- Trees that are sifted, closed and split: what each call leaves.
-use Rattle.std.proofs.Common.{◌≡◌, ◌⊎◌, inl, inr, ⊎_elim, ℕ, zero, suc, ◌+◌, ◌<◌, ◌≤◌, Bool, true, false, if◌then◌else◌, List, [], ◌∷◌, ◌++◌, length, get_or, set, refl, ap, ap₂, sym, ◌∙◌, subst, arith, Result, Ok, Err, IsErrAnd, append_assoc}
+use Rattle.std.proofs.Common.{◌≡◌, inl, inr, ℕ, zero, suc, ◌+◌, ◌<◌, Bool, true, false, if◌then◌else◌, List, [], ◌∷◌, ◌++◌, length, set, refl, ap, sym, ◌∙◌, subst, arith, Result, Ok, Err, IsErrAnd, append_assoc}
 use Rattle.std.specs.Bool.{⊤}
 use Rattle.std.proofs.lemmas.List.{length-append}
 use Rattle.lw_words.specs.Answer.{Answer}
@@ -14,9 +14,9 @@ use Rattle.lw_tree.specs.Tree.{TreeState, node_at, leaf_at, IsLive, IsTree, Bran
 use Rattle.lw_tree.specs.bodies.Steps.{leaf_below, inner_node, lowered, split_tree, refined_once}
 use Rattle.lw_tree.specs.declared.nodes.Node.{Node}
 use Rattle.lw_tree.specs.declared.nodes.Content.{Content}
-use Rattle.lw_tree.specs.declared.nodes.Content.TheVariants.{State, Discriminator, Gone}
+use Rattle.lw_tree.specs.declared.nodes.Content.TheVariants.{State}
 use Rattle.lw_tree.specs.declared.transitions.Edge.{Edge}
-use Rattle.lw_tree.proofs.GrownLemmas.{keeps_same, keeps_and_keeps, not_grown, grown_then, no_crowd, access_longer, discriminators_leaf, temporaries_leaf}
+use Rattle.lw_tree.proofs.GrownLemmas.{keeps_same, not_grown, grown_then, no_crowd, access_longer, discriminators_leaf, temporaries_leaf}
 use Rattle.lw_tree.proofs.NodeLemmas.{live_within}
 
 -- a stop that is handed on
@@ -24,16 +24,19 @@ pub handed_stop : {X : Type 0} (stop : GrowStop) (result : Result X GrowStop) �
 handed_stop stop (Ok _) is = elim is [ ]
 handed_stop stop (Err e) is = ap Err is
 
-pub handed_leaves : {X : Type 0} (before now : OracleState) (stop : GrowStop) (result : Result X GrowStop) → Leaves before now (grown_stop {X = ⊤} (Err stop)) → IsErrAnd result (λ e. e ≡ stop) → Leaves before now (grown_stop result)
-handed_leaves {X} before now stop result leaves is = subst (λ (r : Result X GrowStop). Leaves before now (grown_stop r)) (sym (handed_stop stop result is)) (of stop leaves)
+pub handed_leaves : (X : Type 0) {Y : Type 0} (before now : OracleState) (stop : GrowStop) (result : Result Y GrowStop) → Leaves before now (grown_stop {X = X} (Err stop)) → IsErrAnd result (λ e. e ≡ stop) → Leaves before now (grown_stop result)
+handed_leaves X {Y} before now stop result leaves is = subst (λ (r : Result Y GrowStop). Leaves before now (grown_stop r)) (sym (handed_stop stop result is)) (of stop leaves)
   where
-    of : (s : GrowStop) → Leaves before now (grown_stop {X = ⊤} (Err s)) → Leaves before now (grown_stop {X = X} (Err s))
+    of : (s : GrowStop) → Leaves before now (grown_stop {X = X} (Err s)) → Leaves before now (grown_stop {X = Y} (Err s))
     of (Ask a) l = l
     of (Crowd words) l = l
 
 abbrev stop_of : {X : Type 0} → GrowStop → Result X GrowStop → GrowStop
 stop_of d (Ok _) = d
 stop_of d (Err e) = e
+
+pub crowd_too : {X Y : Type 0} (ks : List Answer) (t : TreeState) (stop : GrowStop) → TellsCrowd {X = X} ks t (Err stop) → TellsCrowd {X = Y} ks t (Err stop)
+crowd_too {X} {Y} ks t stop crowd words same = crowd words (ap (λ (r : Result Y GrowStop). Err (stop_of stop r)) same)
 
 pub levelled : (ks : List Answer) (before now : TreeState) (is_left : Bool) → HasGrown ks before now → KeepsDiscriminators before now → (is_left ≡ false → IsClosed now) → (is_left ≡ true → HasOpen now) → HasLevelled ks before now (Ok is_left)
 levelled ks before now is_left grown keeps closed open_left = record { grown = grown; keeps = keeps; closed = closed; left = open_left; crowd = λ words told. cc }

@@ -1,5 +1,5 @@
 -- What a tree's vectors hold.
-use Rattle.std.proofs.Common.{◌≡◌, ◌⊎◌, ℕ, zero, suc, ◌+◌, ◌*◌, ◌^◌, ◌<◌, ◌≤◌, Bool, true, false, if◌then◌else◌, List, [], ◌∷◌, ◌++◌, length, replicate, get_or, set, drop, Option, Some, refl, ap, ap₂, sym, ◌∙◌, subst, arith}
+use Rattle.std.proofs.Common.{◌≡◌, ℕ, zero, suc, ◌+◌, ◌*◌, ◌^◌, ◌<◌, ◌≤◌, Bool, true, false, if◌then◌else◌, List, [], ◌∷◌, ◌++◌, length, replicate, get_or, set, drop, Option, Some, refl, ap, ap₂, sym, ◌∙◌, subst, arith}
 use Rattle.std.proofs.lemmas.List.{get_or_default}
 use Rattle.lw_tree.specs.Tree.{TreeState, no_node, no_place, node_at, place_at, leaf_at, edge_at, IsTree, IsLive, temporaries, is_temporary}
 use Rattle.lw_tree.specs.bodies.Nodes.{tree_of}
@@ -11,7 +11,7 @@ use Rattle.lw_tree.specs.declared.transitions.Edge.{Edge}
 use Rattle.lw_tree.proofs.NodeLemmas.{live_within}
 use Rattle.lw_tree.proofs.ShapeLemmas.{shape_of, tree_of_shape, all_places, place_inside, state_shape}
 use Rattle.lw_tree.proofs.LowerLemmas.{at_leaf, same_place, lower_count, lower_shape, split_next}
-use Rattle.std.proofs.lemmas.List.{length-append, length-set}
+use Rattle.std.proofs.lemmas.List.{length-append}
 
 -- an element that was read
 pub place_read : (places : List Place) (k : ℕ) (p : Place) → k < length places → p ≡ get_or places k p → p ≡ place_at places k

@@ -1,6 +1,5 @@
 -- What a tree gains, from one step to the next.
-use Rattle.std.proofs.Common.{◌≡◌, ◌≢◌, ◌⊎◌, inl, inr, ⊎_elim, ℕ, zero, suc, ◌+◌, ◌*◌, ◌<◌, ◌≤◌, Bool, true, false, true≢false, if◌then◌else◌, List, [], ◌∷◌, ◌++◌, length, get_or, set, Option, Some, None, Result, Ok, Err, refl, ap, ap₂, sym, ◌∙◌, subst, arith, append-nil, append_assoc}
-use Rattle.std.specs.Bool.{⊤}
+use Rattle.std.proofs.Common.{◌≡◌, ◌≢◌, ◌⊎◌, inl, inr, ⊎_elim, ℕ, ◌+◌, ◌*◌, ◌<◌, ◌≤◌, Bool, true, false, true≢false, if◌then◌else◌, List, [], ◌∷◌, ◌++◌, length, Result, Ok, Err, refl, ap, ap₂, sym, ◌∙◌, subst, arith, append-nil, append_assoc}
 use Rattle.std.proofs.Math.ListN.{get_or-append}
 use Rattle.std.proofs.Math.Nat.{mul-le-mul_right}
 use Rattle.std.proofs.lemmas.Bool.{cases_lt, cases_eq}
@@ -12,20 +11,16 @@ use Rattle.lw_cache.specs.declared.stops.GrowStop.TheVariants.{Ask, Crowd}
 use Rattle.lw_cache.specs.Crowd.{IsCrowd}
 use Rattle.lw_cache.specs.Cut.{word_at}
 use Rattle.lw_tree.specs.Grown.{HasGrown, KeepsDiscriminators, IsCrowdOf, TellsCrowd}
-use Rattle.lw_tree.specs.Tree.{TreeState, node_at, place_at, leaf_at, IsLive, IsInner, IsTree, Tells, Agrees, BranchesAreRead, IsClosed, HasOpen, discriminator, discriminators, temporaries, is_temporary, words_of, is_open, is_inner}
-use Rattle.lw_tree.specs.bodies.Nodes.{IsChild}
+use Rattle.lw_tree.specs.Tree.{TreeState, node_at, place_at, IsLive, IsTree, Tells, Agrees, BranchesAreRead, discriminator, discriminators, temporaries, is_temporary, words_of, is_open, is_inner}
 use Rattle.lw_tree.specs.bodies.Steps.{placed, with_place, leaf_below, with_state, IsNextState, IsRead, HasStepped, MovesOn, HasSifted, HasMoved}
-use Rattle.lw_tree.specs.bodies.Transitions.{IsTransition, word_of, place_by, content_by, is_open_by, IsAsked, AreAsked}
+use Rattle.lw_tree.specs.bodies.Transitions.{IsTransition, word_of, place_by, content_by, is_open_by, IsAsked}
 use Rattle.lw_tree.specs.declared.nodes.Node.{Node}
 use Rattle.lw_tree.specs.declared.nodes.Content.{Content}
-use Rattle.lw_tree.specs.declared.nodes.Content.TheVariants.{State, Discriminator, Gone}
 use Rattle.lw_tree.specs.declared.transitions.Place.{Place}
 use Rattle.lw_tree.specs.declared.transitions.Edge.{Edge}
-use Rattle.lw_tree.proofs.WayLemmas.{agrees_below}
 use Rattle.lw_tree.proofs.NodeLemmas.{Updates}
-use Rattle.lw_tree.proofs.PlaceLemmas.{number_within, known_leaf, inner_open}
-use Rattle.lw_tree.proofs.ShapeLemmas.{shape_of, all_places, place_inside, place_update, node_stays, node_update, places_update, word_stays}
-use Rattle.lw_tree.proofs.BranchLemmas.{placed_read, state_read, next_crowd}
+use Rattle.lw_tree.proofs.ShapeLemmas.{shape_of, all_places, place_update, node_stays, node_update, places_update}
+use Rattle.lw_tree.proofs.BranchLemmas.{placed_read, state_read}
 
 pub keeps_same : (t : TreeState) → KeepsDiscriminators t t
 keeps_same t = record { discriminators_are = refl; temporary = refl; refinements = refl }
@@ -106,13 +101,15 @@ module _ (ks : List Answer) (t : TreeState) (edge : Edge) (output n : ℕ) (g : 
 
   -- at a leaf it has a target; at another node it stands lower
   pub placed_moves : (is_inner (node_at t.nodes n).content ≡ false) ⊎ ((place_by t edge).node < n) → MovesOn t placed_tree (edge.state * t.inputs + edge.letter)
-  placed_moves to is =
-      (stands, ⊎_elim
-          (λ (leaf : is_inner (node_at t.nodes n).content ≡ false).
-          let at : is_open (node_at t.nodes) (place_at placed_tree.places (edge.state * t.inputs + edge.letter)) ≡ false = ap (is_open (node_at t.nodes)) place_now.here ∙ leaf in
-          absurd (true≢false (sym is ∙ at)))
-          (λ (lt : (place_by t edge).node < n). subst (λ (m : ℕ). (place_by t edge).node < m) (sym (ap (λ (p : Place). p.node) place_now.here)) lt)
-          to)
+  placed_moves to is = (
+    stands,
+    ⊎_elim
+        (λ (leaf : is_inner (node_at t.nodes n).content ≡ false).
+        let at : is_open (node_at t.nodes) (place_at placed_tree.places (edge.state * t.inputs + edge.letter)) ≡ false = ap (is_open (node_at t.nodes)) place_now.here ∙ leaf in
+        absurd (true≢false (sym is ∙ at)))
+        (λ (lt : (place_by t edge).node < n). subst (λ (m : ℕ). (place_by t edge).node < m) (sym (ap (λ (p : Place). p.node) place_now.here)) lt)
+        to,
+  )
 
 module _ (ks : List Answer) (t : TreeState) (edge : Edge) (output : ℕ) (branch : List ℕ) (g : IsTree t) (next : IsNextState t edge output branch) where
   abbrev state_tree : TreeState

@@ -1,22 +1,22 @@
 -- A tree in which a leaf became a temporary node, with a new leaf of its state below it.
-use Rattle.std.proofs.Common.{◌≡◌, ◌≢◌, ◌⊎◌, inl, inr, ⊎_elim, ℕ, zero, suc, ◌+◌, ◌*◌, ◌<◌, ◌≤◌, Bool, true, false, true≢false, List, [], ◌∷◌, ◌++◌, length, replicate, get_or, set, Option, Some, None, IsSome, refl, ap, ap₂, sym, ◌∙◌, subst, arith}
+use Rattle.std.proofs.Common.{◌≡◌, ◌≢◌, ⊎_elim, ℕ, zero, suc, ◌+◌, ◌*◌, ◌<◌, ◌≤◌, true, List, [], ◌∷◌, ◌++◌, length, set, Option, IsSome, refl, ap, ap₂, sym, ◌∙◌, subst, arith}
 use Rattle.std.proofs.lemmas.Bool.{cases_lt, cases_eq}
 use Rattle.std.proofs.lemmas.List.{length-append, length-set}
 use Rattle.lw_words.specs.Word.{IsWord}
 use Rattle.lw_cache.specs.Cut.{word_at}
-use Rattle.lw_tree.specs.Tree.{TreeState, no_node, no_place, node_at, place_at, leaf_at, edge_at, place_of, IsLive, IsInner, AreNodes, AreLeaves, IsEdge, IsPlace, discriminator, is_open}
+use Rattle.lw_tree.specs.Tree.{TreeState, no_node, no_place, node_at, place_at, leaf_at, edge_at, place_of, IsLive, IsInner, AreNodes, AreLeaves, IsEdge, IsPlace, discriminator}
 use Rattle.lw_tree.specs.bodies.Nodes.{IsChild}
-use Rattle.lw_tree.specs.bodies.Steps.{set_place, leaf_below, IsNextState, moved_edge, inner_node, lowered, IsNextSplit}
-use Rattle.lw_tree.specs.bodies.Transitions.{IsTransition, word_of, place_by, content_by}
+use Rattle.lw_tree.specs.bodies.Steps.{leaf_below, IsNextState, moved_edge, inner_node, lowered, IsNextSplit}
+use Rattle.lw_tree.specs.bodies.Transitions.{place_by, content_by}
 use Rattle.lw_tree.specs.declared.nodes.Node.{Node}
 use Rattle.lw_tree.specs.declared.nodes.Content.{Content}
-use Rattle.lw_tree.specs.declared.nodes.Content.TheVariants.{State, Discriminator, Gone}
+use Rattle.lw_tree.specs.declared.nodes.Content.TheVariants.{State, Discriminator}
 use Rattle.lw_tree.specs.declared.transitions.Place.{Place}
 use Rattle.lw_tree.specs.declared.transitions.Edge.{Edge}
-use Rattle.lw_tree.proofs.WayLemmas.{KeepsNodes, inner_is_live}
-use Rattle.lw_tree.proofs.NodeLemmas.{Updates, everywhere, pushed, written, live_within, leaf_keeps, live_or_new, with_leaf, lowered_keeps, live_was, live_still, lowered_nodes, lowered_childless}
+use Rattle.lw_tree.proofs.WayLemmas.{KeepsNodes}
+use Rattle.lw_tree.proofs.NodeLemmas.{Updates, everywhere, pushed, written, live_within, leaf_keeps, with_leaf, lowered_keeps, live_still, lowered_nodes, lowered_childless}
 use Rattle.lw_tree.proofs.PlaceLemmas.{one_transition, number_within}
-use Rattle.lw_tree.proofs.ShapeLemmas.{IsShaped, all_places, place_inside, leaves_once, leaf_live, state_of}
+use Rattle.lw_tree.proofs.ShapeLemmas.{IsShaped, all_places, leaves_once, leaf_live, state_of}
 
 -- one step after another
 keeps_then : (a : ℕ) (node middle now : ℕ → Node) → ((n : ℕ) → IsLive (node n).content → IsLive (middle n).content) → KeepsNodes node middle → KeepsNodes middle now → KeepsNodes node now

@@ -1,5 +1,5 @@
 -- What the machine of a closed tree is.
-use Rattle.std.proofs.Common.{◌≡◌, ◌⊎◌, inl, inr, ⊎_elim, ℕ, zero, suc, ◌+◌, ◌*◌, ◌<◌, ◌≤◌, Bool, true, false, ◌||◌, true≢false, List, [], ◌∷◌, ◌++◌, length, take, drop, get_or, Option, Some, None, is_none, refl, ap, ap₂, sym, ◌∙◌, subst, arith}
+use Rattle.std.proofs.Common.{◌≡◌, inl, ⊎_elim, ℕ, zero, suc, ◌+◌, ◌*◌, ◌<◌, ◌≤◌, Bool, true, false, ◌||◌, true≢false, List, [], ◌∷◌, ◌++◌, length, take, get_or, Option, Some, None, is_none, refl, ap, ap₂, sym, ◌∙◌, subst, arith}
 use Rattle.std.specs.List.{All}
 use Rattle.std.proofs.Math.ListN.{get_or-append}
 use Rattle.std.proofs.Math.Seq.{get_or-append_seam}
@@ -10,18 +10,18 @@ use Rattle.lw_words.specs.Answer.{Answer, AreAnswers}
 use Rattle.lw_mealy.specs.Limits.{IsWithinLimits, mealy_of}
 use Rattle.lw_mealy.specs.Machine.{Row, Rows, row, cell, next, output, after, answer}
 use Rattle.lw_mealy.proofs.WordLemmas.{after-append, out-append}
-use Rattle.lw_cache.specs.Cut.{word_at, AreAccess, StepsAreRead}
+use Rattle.lw_cache.specs.Cut.{word_at, StepsAreRead}
 use Rattle.lw_cache.specs.Known.{Reads}
 use Rattle.lw_cache.proofs.KnownLemmas.{reads_once}
 use Rattle.lw_cache.proofs.ReadLemmas.{read_front}
 use Rattle.lw_tree.specs.Laws.{HasMachine, OneMachine, AccessLeads, MachineGivesSteps}
-use Rattle.lw_tree.specs.Tree.{TreeState, node_at, place_at, place_of, leaf_at, edge_at, IsLive, IsTree, BranchesAreRead, IsClosed, IsMachineOf, is_inner, is_open}
+use Rattle.lw_tree.specs.Tree.{TreeState, node_at, place_of, edge_at, IsLive, IsTree, BranchesAreRead, IsClosed, IsMachineOf, is_inner}
 use Rattle.lw_tree.specs.bodies.Transitions.{IsStep, AreStepsTo, AreSteps, AreStates}
 use Rattle.lw_tree.specs.declared.nodes.Content.{Content}
 use Rattle.lw_tree.specs.declared.nodes.Content.TheVariants.{State, Discriminator, Gone}
 use Rattle.lw_tree.specs.declared.transitions.Place.{Place}
 use Rattle.lw_tree.proofs.PlaceLemmas.{number_within}
-use Rattle.lw_tree.proofs.ShapeLemmas.{IsShaped, shape_of, all_places, leaves_once, same_output}
+use Rattle.lw_tree.proofs.ShapeLemmas.{shape_of, all_places, leaves_once, same_output}
 
 module _ (t : TreeState) (m : Rows) (g : IsTree t) (is : IsMachineOf t m) where
   leads_below : (n q : ℕ) → q < n → q < length t.access → after m 0 (word_at t.access q) ≡ q

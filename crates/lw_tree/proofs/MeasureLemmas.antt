@@ -1,11 +1,11 @@
 -- How far a tree is from being closed.
-use Rattle.std.proofs.Common.{◌≡◌, ◌⊎◌, inl, inr, ⊎_elim, ℕ, zero, suc, ◌+◌, ◌*◌, ◌-◌, ◌^◌, ◌<◌, ◌≤◌, Bool, true, false, true≢false, List, [], ◌∷◌, length, get_or, if◌then◌else◌, refl, ap, sym, ◌∙◌, subst, arith}
+use Rattle.std.proofs.Common.{◌≡◌, ⊎_elim, ℕ, zero, suc, ◌+◌, ◌*◌, ◌-◌, ◌^◌, ◌<◌, ◌≤◌, Bool, true, false, true≢false, List, [], ◌∷◌, length, if◌then◌else◌, refl, ap, sym, ◌∙◌, subst, arith}
 use Rattle.std.specs.Prelude.{min}
 use Rattle.std.proofs.Math.Nat.{mul-le-mul_right}
 use Rattle.std.proofs.lemmas.Bool.{cases_lt}
 use Rattle.lw_words.specs.Answer.{Answer}
 use Rattle.lw_tree.specs.Grown.{HasGrown}
-use Rattle.lw_tree.specs.Tree.{TreeState, no_place, node_at, place_at, is_open, IsTree, HasOpen}
+use Rattle.lw_tree.specs.Tree.{TreeState, node_at, place_at, is_open, IsTree, HasOpen}
 use Rattle.lw_tree.specs.bodies.Steps.{MovesOn, HasMoved}
 use Rattle.lw_tree.specs.declared.nodes.Node.{Node}
 use Rattle.lw_tree.specs.declared.transitions.Place.{Place}
@@ -81,10 +81,10 @@ module _ (top : ℕ) (ks : List Answer) (before now : TreeState) (grown : HasGro
       let further = one.1 in
       let high = stands_below left.0 in
       let r = lowest_ge top (node_at now.nodes) now.places (suc (lowest top (node_at before.nodes) before.places)) (omega (arith, low, further, high)) (λ k lt is.
-          let m = moves k lt is in
-          let l = lowest_le top (node_at before.nodes) before.places k (subst (λ (n : ℕ). k < n) (sym count) lt) m.0 in
-          let f = m.1 in
-          omega (arith, l, f)) in
+      let m = moves k lt is in
+      let l = lowest_le top (node_at before.nodes) before.places k (subst (λ (n : ℕ). k < n) (sym count) lt) m.0 in
+      let f = m.1 in
+      omega (arith, l, f)) in
       omega (arith, r)
 
   pub closer : IsTree before → measure_by top now < measure_by top before

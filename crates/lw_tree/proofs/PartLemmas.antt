@@ -1,15 +1,15 @@
 -- Where the ways to two nodes part.
-use Rattle.std.proofs.Common.{◌≡◌, ◌≢◌, ◌⊎◌, inl, inr, ⊎_elim, ℕ, zero, suc, ◌+◌, ◌<◌, ◌≤◌, List, [], length, get_or, refl, ap, sym, ◌∙◌, subst, arith}
+use Rattle.std.proofs.Common.{◌≡◌, ◌≢◌, ◌⊎◌, inl, inr, ⊎_elim, ℕ, zero, suc, ◌+◌, ◌<◌, ◌≤◌, List, [], length, get_or, ap, sym, ◌∙◌, subst, arith}
 use Rattle.std.proofs.lemmas.Bool.{cases_lt, cases_eq}
 use Rattle.std.proofs.lemmas.List.{get_or_default}
 use Rattle.lw_words.specs.Answer.{Answer}
 use Rattle.lw_cache.specs.Crowd.{Separates, IsCrowd}
 use Rattle.lw_cache.specs.Cut.{word_at}
-use Rattle.lw_tree.specs.Tree.{IsLive, IsInner, IsBranch, AreNodes, AreLeaves, discriminator, IsOnWay, Tells, Agrees}
+use Rattle.lw_tree.specs.Tree.{IsLive, IsInner, AreNodes, AreLeaves, discriminator, IsOnWay, Tells, Agrees}
 use Rattle.lw_tree.specs.declared.nodes.Node.{Node}
 use Rattle.lw_tree.specs.declared.nodes.Content.{Content}
 use Rattle.lw_tree.specs.declared.nodes.Content.TheVariants.{State, Discriminator, Gone}
-use Rattle.lw_tree.proofs.WayLemmas.{live_parent, on_way_up, on_way_here, on_way_down, on_way_live}
+use Rattle.lw_tree.proofs.WayLemmas.{live_parent, on_way_here, on_way_down, on_way_live}
 
 -- different branches of one node lead to the two
 pub record Parted (node : ℕ → Node) (m n : ℕ) : Type 0 where
@@ -117,9 +117,9 @@ pub crowd_of_leaves : (a : ℕ) (ks : List Answer) (node : ℕ → Node) (leaf :
 crowd_of_leaves a ks node leaf access g are agrees i j d lt lj =
     let li : i < length access = omega (arith, lt, lj) in
     let differ : leaf i ≢ leaf j = λ same.
-        let both : State i ≡ State j = sym (are.leaves i li) ∙ (ap (λ (n : ℕ). (node n).content) same ∙ are.leaves j lj) in
-        let number : i ≡ j = ap state_of both in
-        omega (arith, number, lt) in
+    let both : State i ≡ State j = sym (are.leaves i li) ∙ (ap (λ (n : ℕ). (node n).content) same ∙ are.leaves j lj) in
+    let number : i ≡ j = ap state_of both in
+    omega (arith, number, lt) in
     let r = separated a node g ks i j (leaf i) (leaf j) (word_at access i) (word_at access j) (are.leaves i li) (are.leaves j lj) differ (agrees i li) (agrees j lj) in
     (r.0, subst (λ (u : List ℕ). Separates ks r.0 u (get_or access j d)) (get_or_default access i [] d li) (subst (λ (v : List ℕ). Separates ks r.0 (word_at access i) v) (get_or_default access j [] d lj) r.1))
   where

@@ -1,5 +1,5 @@
 -- What is so of a tree whatever its limits are, and what each step leaves of that.
-use Rattle.std.proofs.Common.{◌≡◌, ◌≢◌, ◌⊎◌, inl, inr, ⊎_elim, ℕ, zero, suc, ◌+◌, ◌*◌, ◌^◌, ◌<◌, ◌≤◌, Bool, true, false, true≢false, List, [], ◌∷◌, ◌++◌, length, replicate, get_or, set, Option, Some, None, IsSome, refl, ap, ap₂, sym, ◌∙◌, subst, arith}
+use Rattle.std.proofs.Common.{◌≡◌, ◌≢◌, ⊎_elim, ℕ, suc, ◌+◌, ◌*◌, ◌^◌, ◌<◌, ◌≤◌, true, false, true≢false, List, [], ◌∷◌, ◌++◌, length, Option, Some, None, IsSome, refl, ap, sym, ◌∙◌, subst, arith}
 use Rattle.std.specs.List.{All}
 use Rattle.std.proofs.Math.ListN.{get_or-append}
 use Rattle.std.proofs.lemmas.Bool.{cases_lt, cases_eq}
@@ -7,18 +7,17 @@ use Rattle.std.proofs.lemmas.List.{length-append, length-set}
 use Rattle.std.proofs.lemmas.List.Elements.{All-push, All-get_or}
 use Rattle.lw_words.specs.Word.{IsWord}
 use Rattle.lw_cache.specs.Cut.{word_at}
-use Rattle.lw_tree.specs.Tree.{TreeState, no_node, no_place, node_at, place_at, leaf_at, edge_at, place_of, IsLive, IsInner, IsFinal, IsBranch, AreNodes, AreLeaves, IsEdge, IsPlace, IsTree, discriminator, is_open}
-use Rattle.lw_tree.specs.bodies.Nodes.{IsChild}
-use Rattle.lw_tree.specs.bodies.Steps.{placed, set_place, with_place, leaf_below, with_state, IsNextState, moved_edge, inner_node, lowered, IsNextSplit, split_tree}
-use Rattle.lw_tree.specs.bodies.Transitions.{IsTransition, word_of, place_by, content_by, is_open_by}
+use Rattle.lw_tree.specs.Tree.{TreeState, no_node, no_place, node_at, place_at, leaf_at, edge_at, place_of, IsLive, AreNodes, AreLeaves, IsEdge, IsPlace, IsTree, is_open}
+use Rattle.lw_tree.specs.bodies.Steps.{placed, with_place, leaf_below, with_state, IsNextState}
+use Rattle.lw_tree.specs.bodies.Transitions.{IsTransition, word_of, place_by, is_open_by}
 use Rattle.lw_tree.specs.declared.nodes.Node.{Node}
 use Rattle.lw_tree.specs.declared.nodes.Content.{Content}
 use Rattle.lw_tree.specs.declared.nodes.Content.TheVariants.{State, Discriminator, Gone}
 use Rattle.lw_tree.specs.declared.transitions.Place.{Place}
 use Rattle.lw_tree.specs.declared.transitions.Edge.{Edge}
-use Rattle.lw_tree.proofs.WayLemmas.{KeepsNodes, inner_is_live}
-use Rattle.lw_tree.proofs.NodeLemmas.{Updates, everywhere, pushed, written, live_within, leaf_keeps, live_or_new, with_leaf, lowered_keeps, live_was, live_still, lowered_nodes, lowered_childless}
-use Rattle.lw_tree.proofs.PlaceLemmas.{one_transition, number_within, by_number, known_leaf, inner_open, past_place, set_and_more, length-set_and_more}
+use Rattle.lw_tree.proofs.WayLemmas.{KeepsNodes}
+use Rattle.lw_tree.proofs.NodeLemmas.{Updates, everywhere, pushed, written, live_within, leaf_keeps, with_leaf}
+use Rattle.lw_tree.proofs.PlaceLemmas.{number_within, known_leaf, inner_open, past_place, set_and_more, length-set_and_more}
 
 pub record IsShaped (t : TreeState) : Type 0 where
   pub letters : 1 ≤ t.inputs

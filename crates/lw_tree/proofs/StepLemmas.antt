@@ -1,7 +1,6 @@
 -- One step of a transition, and the split by a cut.
-use Rattle.std.proofs.Common.{◌≡◌, ◌≢◌, ◌⊎◌, inl, inr, ⊎_elim, ℕ, zero, suc, ◌+◌, ◌*◌, ◌<◌, ◌≤◌, Bool, true, false, List, [], ◌∷◌, ◌++◌, length, drop, get_or, Option, Some, None, Result, Ok, Err, IsErrAnd, refl, ap, ap₂, sym, ◌∙◌, subst, arith}
+use Rattle.std.proofs.Common.{◌≡◌, ◌≢◌, ℕ, ◌+◌, ◌*◌, ◌<◌, Bool, false, List, [], ◌∷◌, ◌++◌, length, drop, get_or, Some, None, Result, Err, IsErrAnd, refl, ap, sym, ◌∙◌, subst}
 use Rattle.std.specs.List.{All}
-use Rattle.std.specs.Bool.{⊤}
 use Rattle.std.proofs.lemmas.List.Elements.{All-map}
 use Rattle.lw_words.specs.Answer.{Answer, AreAnswers, answer_of, answers_of}
 use Rattle.lw_words.specs.Word.{IsWord}
@@ -14,11 +13,11 @@ use Rattle.lw_cache.specs.declared.stops.GrowStop.{GrowStop}
 use Rattle.lw_cache.specs.declared.stops.GrowStop.TheVariants.{Ask, Crowd}
 use Rattle.lw_cache.proofs.KnownLemmas.{reads_once}
 use Rattle.lw_cache.proofs.SettlingLemmas.{kept_are_answers, leaves_short}
-use Rattle.lw_tree.specs.Grown.{HasGrown, TellsCrowd, IsSplit}
-use Rattle.lw_tree.specs.Tree.{TreeState, node_at, place_at, leaf_at, place_of, IsLive, IsInner, IsTree, IsMachineOf, Tells, Agrees, BranchesAreRead, discriminator, is_inner}
+use Rattle.lw_tree.specs.Grown.{HasGrown, TellsCrowd}
+use Rattle.lw_tree.specs.Tree.{TreeState, node_at, leaf_at, IsInner, IsTree, IsMachineOf, Tells, Agrees, BranchesAreRead, discriminator, is_inner}
 use Rattle.lw_tree.specs.bodies.Nodes.{IsChild}
-use Rattle.lw_tree.specs.bodies.Steps.{with_place, IsRead, IsOwn, HasStepped, MovesOn, IsNextSplit, split_tree}
-use Rattle.lw_tree.specs.bodies.Transitions.{IsTransition, word_of, place_by, content_by, is_open_by}
+use Rattle.lw_tree.specs.bodies.Steps.{with_place, IsRead, IsOwn, HasStepped, IsNextSplit, split_tree}
+use Rattle.lw_tree.specs.bodies.Transitions.{IsTransition, word_of, place_by, content_by}
 use Rattle.lw_tree.specs.declared.nodes.Node.{Node}
 use Rattle.lw_tree.specs.declared.nodes.Content.{Content}
 use Rattle.lw_tree.specs.declared.nodes.Content.TheVariants.{State, Discriminator, Gone}
@@ -26,7 +25,7 @@ use Rattle.lw_tree.specs.declared.transitions.Edge.{Edge}
 use Rattle.lw_tree.specs.declared.transitions.Place.{Place}
 use Rattle.lw_tree.proofs.BranchLemmas.{split_read}
 use Rattle.lw_tree.proofs.CloseLemmas.{handed_stop}
-use Rattle.lw_tree.proofs.FieldLemmas.{node_read, found_place, found_node, found_live}
+use Rattle.lw_tree.proofs.FieldLemmas.{node_read, found_place, found_node}
 use Rattle.lw_tree.proofs.GrownLemmas.{placed_stepped}
 use Rattle.lw_tree.proofs.PlaceLemmas.{inner_open}
 use Rattle.lw_tree.proofs.ShapeLemmas.{shape_of}

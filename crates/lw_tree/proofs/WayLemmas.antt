@@ -1,8 +1,7 @@
 -- The ways from the root of a discrimination tree to its nodes.
-use Rattle.std.proofs.Common.{◌≡◌, ◌≢◌, ◌⊎◌, inl, inr, ⊎_elim, ℕ, zero, suc, ◌<◌, ◌≤◌, List, [], length, refl, ap, sym, ◌∙◌, subst, arith}
-use Rattle.std.proofs.lemmas.Bool.{cases_lt, cases_eq}
+use Rattle.std.proofs.Common.{◌≡◌, ◌⊎◌, inl, inr, ⊎_elim, ℕ, zero, suc, ◌<◌, ◌≤◌, List, refl, ap, sym, ◌∙◌, subst, arith}
 use Rattle.lw_words.specs.Answer.{Answer}
-use Rattle.lw_tree.specs.Tree.{IsLive, IsInner, IsBranch, AreNodes, discriminator, IsOnWayWithin, IsOnWay, Tells, Agrees}
+use Rattle.lw_tree.specs.Tree.{IsLive, IsInner, AreNodes, discriminator, IsOnWayWithin, IsOnWay, Tells, Agrees}
 use Rattle.lw_tree.specs.declared.nodes.Node.{Node}
 use Rattle.lw_tree.specs.declared.nodes.Content.{Content}
 use Rattle.lw_tree.specs.declared.nodes.Content.TheVariants.{State, Discriminator, Gone}

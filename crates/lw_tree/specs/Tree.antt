@@ -1,7 +1,7 @@
 -- The spanning tree and the discrimination tree of a learner: the first gives each state its access word, the second tells by
 -- outputs on its discriminators which state a word leads to. Sources: Kearns and Vazirani (1994); temporary discriminators as in
 -- Isberner, Howar and Steffen (2014).
-use Rattle.std.specs.Prelude.{◌≡◌, ◌≢◌, ◌⊎◌, ℕ, zero, suc, ◌+◌, ◌*◌, ◌^◌, ◌<◌, ◌≤◌, Bool, true, false, ◌||◌, List, [], ◌∷◌, ◌++◌, length, replicate, drop, slice_index_or, Option, Some, None, IsSome, is_none, if◌then◌else◌}
+use Rattle.std.specs.Prelude.{◌≡◌, ◌≢◌, ◌⊎◌, ℕ, zero, suc, ◌+◌, ◌*◌, ◌^◌, ◌<◌, ◌≤◌, Bool, true, false, ◌||◌, List, [], ◌∷◌, ◌++◌, length, replicate, drop, slice_index_or, Some, None, IsSome, is_none, if◌then◌else◌}
 use Rattle.std.specs.List.{All}
 use Rattle.lw_words.specs.Answer.{Answer}
 use Rattle.lw_words.specs.Word.{IsWord}

@@ -6,7 +6,7 @@ ghost use Rattle.lw_words.specs.Word.{IsWord};
 ghost use Rattle.lw_cache.specs.Known.{IsKnown};
 ghost use Rattle.lw_cache.specs.Settling.{Keeps, MayAsk, Leaves, grown_stop};
 ghost use Rattle.lw_tree.specs.Grown.{HasGrown, KeepsDiscriminators, HasLevelled, HasClosed, TellsCrowd};
-ghost use Rattle.lw_tree.specs.Tree.{BranchesAreRead, HasOpen, IsClosed, IsInner, discriminator};
+ghost use Rattle.lw_tree.specs.Tree.{IsTree, BranchesAreRead, HasOpen, IsClosed, IsInner, discriminator};
 ghost use Rattle.lw_tree.specs.bodies.Steps.{IsRead, IsOwn, HasStepped, HasMoved, MovesOn};
 ghost use Rattle.lw_tree.specs.bodies.Transitions.{IsTransition, IsAsked, AreAsked, word_of, content_by, is_open_by};
 
@@ -80,6 +80,7 @@ impl DiscriminationTree {
             (length self.now.places)) }
         ensures letters { IfOk result (All (IsWord self.now.inputs)) }
         ensures small { IfOk result (λ words. length words < 2 ^ 32) }
+        ensures tree { IsTree self.now }
     {
         let mut words = Words::new(self.alloc);
         for number in 0..self.places.len() {
@@ -104,13 +105,7 @@ impl DiscriminationTree {
     }
 
     /// Moves a transition to the child for its outputs, or to a new state's leaf, where there is no such child.
-    fn descend(
-        &mut self,
-        edge: Edge,
-        word: Word,
-        output: u16,
-        branch: Word,
-    ) -> Result<(), GrowStop>
+    fn descend(&mut self, edge: Edge, word: Word, output: u16, branch: Word) -> Result<(), GrowStop>
         requires edge { IsTransition self.old edge }
         requires inner { IsInner (content_by self.old edge) }
         requires word { word ≡ word_of self.old edge }
@@ -237,8 +232,9 @@ impl DiscriminationTree {
         ensures leaves { Leaves (O.state oracle.old) (O.state oracle.new) (grown_stop result) }
         ensures can { O.can_settle oracle.new }
     {
-        // As in `sift_level`.
+        // As in `sift_level`; and the tree tells that it is one.
         let _ = oracle.cache();
+        let _ = &self.access;
         while self.sift(oracle)? {}
         Ok(())
     }

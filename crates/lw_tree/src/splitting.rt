@@ -22,6 +22,7 @@ impl DiscriminationTree {
         requires closed { IsClosed self.old }
         requires cut { (m : Rows) × IsMachineOf self.old m × IsCut (answers_of cache.now.kept)
             self.old.inputs m self.old.access cut.now }
+        ensures was { IsTree self.old }
         ensures grown { HasGrown (answers_of cache.now.kept) self.old self.new }
         ensures split { OnOk result (IsSplit cut.now.suffix self.old self.new) }
         ensures refinements { self.new.refinements ≡ self.old.refinements }

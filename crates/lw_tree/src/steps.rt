@@ -155,7 +155,13 @@ impl DiscriminationTree {
         push_leaf(&mut self.nodes, leaf, new, self.leaves.len() as u16);
         self.leaves[state] = node as u32;
         self.leaves.push_reserved(node as u32 + 1);
-        move_edge(&mut self.places, self.inputs, self.spanning[state], state, node as u32);
+        move_edge(
+            &mut self.places,
+            self.inputs,
+            self.spanning[state],
+            state,
+            node as u32,
+        );
         self.places[number] = Place {
             output: self.places[number].output,
             node: node as u32 + 1,

@@ -89,7 +89,10 @@ impl DiscriminationTree {
             nodes: the_root(alloc)?,
             leaves: vec![in alloc; 0; 1]?,
             places: vec![in alloc; UNASKED; usize::from(inputs)]?,
-            spanning: vec![in alloc; Edge { state: 0, letter: 0 }; 1]?,
+            spanning: vec![in alloc; Edge {
+                state: 0,
+                letter: 0
+            }; 1]?,
             refinements: 0,
             alloc,
         })

@@ -2,7 +2,7 @@
 use Rattle.std.specs.Prelude.{◌≡◌, ℕ, ◌+◌, ◌*◌, ◌<◌, ◌≤◌, List, [], ◌∷◌, ◌++◌, length, slice_index_or, Bool, true, Some}
 use Rattle.lw_mealy.specs.Machine.{Row, Rows}
 use Rattle.lw_cache.specs.Cut.{word_at}
-use Rattle.lw_tree.specs.Tree.{TreeState, node_at, place_at, place_of, leaf_at, discriminator, is_open}
+use Rattle.lw_tree.specs.Tree.{TreeState, node_at, place_of, leaf_at, discriminator, is_open}
 use Rattle.lw_tree.specs.declared.nodes.Content.{Content}
 use Rattle.lw_tree.specs.declared.transitions.Edge.{Edge}
 use Rattle.lw_tree.specs.declared.transitions.Place.{Place}

@@ -1,4 +1,4 @@
-use Rattle.std.proofs.Common.{◌≡◌, ◌≢◌, ℕ, ◌<◌}
+use Rattle.std.proofs.Common.{◌≢◌, ℕ, ◌<◌}
 use Rattle.lw_tree.specs.Tree.{node_at}
 use Rattle.lw_tree.specs.bodies.Nodes.{IsChild}
 use Rattle.lw_tree.proofs.nodes.child.Given as goal

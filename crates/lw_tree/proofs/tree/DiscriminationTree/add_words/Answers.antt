@@ -1,5 +1,4 @@
 use Rattle.std.proofs.Common.{rules, ◌≡◌, ◌<◌, ℕ, List, [], ◌∷◌, ◌++◌, Contains, sym, ◌∙◌, ap, subst, append-nil}
-use Rattle.std.specs.List.{All}
 use Rattle.std.proofs.lemmas.List.Elements.{All-append}
 use Rattle.lw_words.specs.Word.{IsWord}
 use Rattle.lw_tree.specs.Tree.{TreeState, node_at, IsInner, discriminator}
@@ -8,7 +7,7 @@ use Rattle.lw_tree.specs.bodies.Transitions.{IsTransition, word_of, place_by, co
 use Rattle.lw_tree.specs.declared.nodes.Content.{Content}
 use Rattle.lw_tree.specs.declared.nodes.Node.{Node}
 use Rattle.lw_tree.specs.declared.transitions.Place.{Place}
-use Rattle.lw_tree.specs.declared.nodes.Content.TheVariants.{State, Discriminator, Gone}
+use Rattle.lw_tree.specs.declared.nodes.Content.TheVariants.{Discriminator}
 use Rattle.lw_tree.proofs.FieldLemmas.{found_place, found_node, node_read}
 use Rattle.lw_tree.proofs.ListingLemmas.{pushed_last, pushed_two, all_pushed, no_discriminator}
 use Rattle.lw_tree.proofs.tree.DiscriminationTree.add_words.Goals as goal

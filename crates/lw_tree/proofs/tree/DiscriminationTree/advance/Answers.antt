@@ -53,6 +53,7 @@ returns-in_default c =
       stepped = subst (HasStepped ks u edge) (sym value) stepped;
       moved = subst (λ (v : TreeState). MovesOn u v (edge.state * u.inputs + edge.letter)) (sym value) (placed_moves ks u edge output n g c.requires.edge stands below live (inl leaf));
       crowd = λ words told. cc;
+      own = tt;
     }
 
 pub read_tail-requires-clause-known : goal.read_tail-requires-clause-known

@@ -2,8 +2,6 @@ use Rattle.std.proofs.Common.{rules, ◌≡◌, ◌+◌, ◌*◌, ◌<◌, ◌�
 use Rattle.lw_words.specs.Answer.{answers_of}
 use Rattle.lw_cache.specs.Known.{IsKnown}
 use Rattle.lw_tree.specs.Tree.{TreeState, IsTree}
-use Rattle.lw_tree.specs.bodies.Nodes.{tree_of}
-use Rattle.lw_tree.specs.bodies.Transitions.{IsTransition}
 use Rattle.lw_tree.proofs.GrownLemmas.{asked_still, sifted_more, sifted_all}
 use Rattle.lw_tree.proofs.StepLemmas.{handed_crowd}
 use Rattle.lw_tree.proofs.tree.DiscriminationTree.advance_all.Goals as goal

@@ -1,5 +1,4 @@
-use Rattle.std.proofs.Common.{rules, ◌≡◌, ◌≢◌, ◌<◌, ℕ, List, [], ◌∷◌, ◌++◌, length, sym, ◌∙◌, ap, subst}
-use Rattle.lw_words.specs.Answer.{Answer}
+use Rattle.std.proofs.Common.{rules, ◌≡◌, ◌≢◌, ℕ, List, [], ◌∷◌, ◌++◌, length, sym, ◌∙◌, ap, subst}
 use Rattle.lw_tree.specs.Tree.{TreeState, node_at, IsTree}
 use Rattle.lw_tree.specs.bodies.Nodes.{IsChild, tree_of}
 use Rattle.lw_tree.specs.bodies.Steps.{IsNextState, HasStepped, with_place, with_state}
@@ -23,7 +22,7 @@ returns-in-Some-clause-stepped c ks read =
     let n : ℕ = c.in-Some.child in
     let here : IsChild (node_at t.nodes) c.index.result.now.node n × ((node_at t.nodes n).branch ≡ c.args.branch) = search (rules, c.in-Some.ensures) in
     let is : IsChild (node_at u.nodes) (place_by u edge).node n × ((node_at u.nodes n).branch ≡ c.args.branch) = subst (λ (v : TreeState). IsChild (node_at v.nodes) (place_by v edge).node n × ((node_at v.nodes n).branch ≡ c.args.branch)) c.self.view_is
-        (subst (λ (p : Place). IsChild (node_at t.nodes) p.node n × ((node_at t.nodes n).branch ≡ c.args.branch)) place here) in
+    (subst (λ (p : Place). IsChild (node_at t.nodes) p.node n × ((node_at t.nodes n).branch ≡ c.args.branch)) place here) in
     let g : IsTree u = subst (λ (v : TreeState). IsTree v) c.self.view_is c.self.invariant in
     let value : c.place.new.self ≡ with_place u edge c.args.output n = c.place.ensures.value in
     subst (HasStepped ks u edge) (sym value) (child_stepped ks u edge c.args.output c.args.branch n g c.requires.edge c.requires.inner c.requires.output is (subst (λ (v : TreeState). IsTree v) value c.place.ensures.tree) read)
@@ -42,7 +41,7 @@ returns-then-len-from-clause-crowd c ks read =
     let place = found_place t c.self.invariant edge c.number.result c.index.result.now from c.number.ensures c.index.ensures in
     let here : (n : ℕ) → IsChild (node_at t.nodes) c.index.result.now.node n → (node_at t.nodes n).branch ≢ c.args.branch = search (rules, c.in_default.ensures) in
     let new : (n : ℕ) → IsChild (node_at u.nodes) (place_by u edge).node n → (node_at u.nodes n).branch ≢ c.args.branch = subst (λ (v : TreeState). (n : ℕ) → IsChild (node_at v.nodes) (place_by v edge).node n → (node_at v.nodes n).branch ≢ c.args.branch) c.self.view_is
-        (subst (λ (p : Place). (n : ℕ) → IsChild (node_at t.nodes) p.node n → (node_at t.nodes n).branch ≢ c.args.branch) place here) in
+    (subst (λ (p : Place). (n : ℕ) → IsChild (node_at t.nodes) p.node n → (node_at t.nodes n).branch ≢ c.args.branch) place here) in
     let next : IsNextState u edge c.args.output c.args.branch = record { from = c.requires.edge; inner = c.requires.inner; below = c.requires.output; size = c.requires.size; new = new } in
     let g : IsTree u = subst (λ (v : TreeState). IsTree v) c.self.view_is c.self.invariant in
     let many : length u.access ≡ u.most = subst (λ (v : TreeState). length v.access ≡ v.most) c.self.view_is (search rules) in
@@ -63,7 +62,7 @@ returns-clause-stepped c ks read =
     let place = found_place t c.self.invariant edge c.number.result c.index.result.now from c.number.ensures c.index.ensures in
     let here : (n : ℕ) → IsChild (node_at t.nodes) c.index.result.now.node n → (node_at t.nodes n).branch ≢ c.args.branch = search (rules, c.in_default.ensures) in
     let new : (n : ℕ) → IsChild (node_at u.nodes) (place_by u edge).node n → (node_at u.nodes n).branch ≢ c.args.branch = subst (λ (v : TreeState). (n : ℕ) → IsChild (node_at v.nodes) (place_by v edge).node n → (node_at v.nodes n).branch ≢ c.args.branch) c.self.view_is
-        (subst (λ (p : Place). (n : ℕ) → IsChild (node_at t.nodes) p.node n → (node_at t.nodes n).branch ≢ c.args.branch) place here) in
+    (subst (λ (p : Place). (n : ℕ) → IsChild (node_at t.nodes) p.node n → (node_at t.nodes n).branch ≢ c.args.branch) place here) in
     let next : IsNextState u edge c.args.output c.args.branch = record { from = c.requires.edge; inner = c.requires.inner; below = c.requires.output; size = c.requires.size; new = new } in
     let g : IsTree u = subst (λ (v : TreeState). IsTree v) c.self.view_is c.self.invariant in
     let value : c.push_state.new.self ≡ with_state u edge c.args.output c.args.branch = c.in_ok-push_state.ensures.ok in

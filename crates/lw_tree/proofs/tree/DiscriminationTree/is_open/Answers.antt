@@ -1,4 +1,4 @@
-use Rattle.std.proofs.Common.{rules, ◌≡◌, ◌<◌, length, sym, subst}
+use Rattle.std.proofs.Common.{rules, ◌<◌, length, sym, subst}
 use Rattle.lw_tree.specs.Tree.{TreeState}
 use Rattle.lw_tree.specs.bodies.Nodes.{tree_of}
 use Rattle.lw_tree.specs.bodies.Transitions.{IsTransition}

@@ -1,6 +1,6 @@
-use Rattle.std.proofs.Common.{rules, ◌≡◌, ◌+◌, ◌*◌, ◌^◌, ◌<◌, ℕ, List, [], ◌∷◌, ◌++◌, length, replicate, set, get_or, sym, ◌∙◌, ap, subst, arith}
+use Rattle.std.proofs.Common.{rules, ◌≡◌, ◌+◌, ◌*◌, ◌^◌, ◌<◌, ℕ, List, [], ◌∷◌, ◌++◌, length, replicate, set, sym, ap, subst, arith}
 use Rattle.std.proofs.lemmas.List.{get_or_default}
-use Rattle.lw_tree.specs.Tree.{TreeState, no_place, node_at, place_at, leaf_at, edge_at, no_edge, IsTree}
+use Rattle.lw_tree.specs.Tree.{TreeState, no_place, node_at, leaf_at, edge_at, no_edge, IsTree}
 use Rattle.lw_tree.specs.bodies.Nodes.{tree_of}
 use Rattle.lw_tree.specs.bodies.Steps.{set_place, leaf_below, moved_edge, inner_node, lowered, IsNextSplit, split_tree}
 use Rattle.lw_tree.specs.bodies.Transitions.{word_of, place_by}
@@ -39,7 +39,7 @@ returns-clause-ok c output following =
     let moved : c.move_edge.new.places.items ≡ moved_edge t.inputs t.places (edge_at t.spanning q) q (length t.nodes) = search (rules, edge) in
     let number : c.number-number.result ≡ c.args.edge.state * t.inputs + c.args.edge.letter = c.number-number.ensures in
     let in_places : c.number-number.result < length c.move_edge.new.places.items = subst (λ (n : ℕ). n < length c.move_edge.new.places.items) (sym number)
-        (subst (λ (l : List Place). c.args.edge.state * t.inputs + c.args.edge.letter < length l) (sym moved) (subst (λ (n : ℕ). c.args.edge.state * t.inputs + c.args.edge.letter < n) (sym (length-moved_edge t.inputs t.places (edge_at t.spanning q) (length t.nodes) q)) (place_inside t (shape_of t c.self.invariant) c.args.edge next.from))) in
+    (subst (λ (l : List Place). c.args.edge.state * t.inputs + c.args.edge.letter < length l) (sym moved) (subst (λ (n : ℕ). c.args.edge.state * t.inputs + c.args.edge.letter < n) (sym (length-moved_edge t.inputs t.places (edge_at t.spanning q) (length t.nodes) q)) (place_inside t (shape_of t c.self.invariant) c.args.edge next.from))) in
     let found : c.index-2.result.now ≡ place_by (lowered t q c.args.suffix c.args.old) c.args.edge = search (rules, get_or_default c.move_edge.new.places.items c.number-number.result c.index-2.result.now no_place in_places, moved, number) in
     let places : c.push_places.new.places.items ≡ set_place t.inputs (moved_edge t.inputs t.places (edge_at t.spanning q) q (length t.nodes)) c.args.edge (record { output = c.index-2.result.now.output; node = length t.nodes + 1 }) ++ replicate t.inputs no_place = search (rules, moved, number) in
     let spanning : c.push_reserved-2.new.self.items ≡ t.spanning ++ c.args.edge ∷ [] = search rules in

@@ -1,8 +1,8 @@
-use Rattle.std.proofs.Common.{rules, ◌≡◌, ◌+◌, ◌*◌, ◌^◌, ◌<◌, ℕ, List, [], ◌∷◌, ◌++◌, length, replicate, set, sym, ◌∙◌, ap, subst, arith}
+use Rattle.std.proofs.Common.{rules, ◌≡◌, ◌+◌, ◌^◌, ◌<◌, [], ◌∷◌, ◌++◌, length, replicate, sym, ap, subst, arith}
 use Rattle.lw_tree.specs.Tree.{TreeState, no_place, IsTree}
 use Rattle.lw_tree.specs.bodies.Nodes.{tree_of}
 use Rattle.lw_tree.specs.bodies.Steps.{set_place, placed, leaf_below, IsNextState, with_state}
-use Rattle.lw_tree.specs.bodies.Transitions.{word_of, place_by}
+use Rattle.lw_tree.specs.bodies.Transitions.{word_of}
 use Rattle.lw_tree.specs.declared.transitions.Place.{Place}
 use Rattle.lw_tree.proofs.FieldLemmas.{found_place, state_is_tree, state_value}
 use Rattle.lw_tree.proofs.tree.DiscriminationTree.push_state.Goals as goal

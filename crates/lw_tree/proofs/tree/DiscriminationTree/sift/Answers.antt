@@ -1,7 +1,7 @@
-use Rattle.std.proofs.Common.{rules, ◌≡◌, ℕ, List, Option, Err, None, sym, ◌∙◌, ap, subst}
+use Rattle.std.proofs.Common.{rules, List, Option, Err, sym, ◌∙◌, ap, subst}
 use Rattle.std.specs.List.{All}
 use Rattle.std.specs.Bool.{⊤}
-use Rattle.lw_words.specs.Answer.{Answer, AreAnswers, answers_of}
+use Rattle.lw_words.specs.Answer.{AreAnswers, answers_of}
 use Rattle.lw_words.specs.Word.{IsWord}
 use Rattle.lw_words.specs.declared.kept.KeptAnswer.{KeptAnswer}
 use Rattle.lw_cache.specs.Settling.{asked_stop, Leaves}
@@ -9,7 +9,7 @@ use Rattle.lw_cache.specs.declared.stops.AskStop.{AskStop}
 use Rattle.lw_tree.specs.Grown.{HasGrown, TellsCrowd}
 use Rattle.lw_cache.specs.declared.stops.AskStop.TheVariants.{NoMemory}
 use Rattle.lw_cache.proofs.SettlingLemmas.{leaves_nothing, leaves_settled, leaves_grown_own}
-use Rattle.lw_tree.specs.Tree.{TreeState, IsTree, BranchesAreRead}
+use Rattle.lw_tree.specs.Tree.{TreeState, BranchesAreRead}
 use Rattle.lw_tree.proofs.BranchLemmas.{branches_more}
 use Rattle.lw_tree.proofs.CloseLemmas.{stopped_level, not_levelled}
 use Rattle.lw_tree.proofs.StepLemmas.{kept_words, leaves_after}
@@ -18,7 +18,7 @@ use Rattle.lw_tree.proofs.tree.DiscriminationTree.sift.Goals as goal
 pub returns-in_err-batch-clause-levels : goal.returns-in_err-batch-clause-levels
 returns-in_err-batch-clause-levels g c =
     let ks = answers_of (g.O.Oracle.state c.args.oracle.now).kept in
-    stopped_level ks c.args.self.now NoMemory c.from_residual.result (search rules) c.requires.read (search rules)
+    stopped_level ks c.args.self.now NoMemory c.from_residual.result c.open_words.ensures.tree c.requires.read (search rules)
 
 pub returns-in_err-batch-clause-leaves : goal.returns-in_err-batch-clause-leaves
 returns-in_err-batch-clause-leaves g c =
@@ -30,7 +30,7 @@ returns-in_err-settle-clause-levels g c =
     let o = g.O.Oracle.state c.args.oracle.now in
     let n = g.O.Oracle.state c.settle.new.self in
     let settles = c.in_err-settle.ensures.settles in
-    stopped_level (answers_of n.kept) c.args.self.now c.in_err-settle.field-0.0 c.from_residual-in_err-settle.result (search rules)
+    stopped_level (answers_of n.kept) c.args.self.now c.in_err-settle.field-0.0 c.from_residual-in_err-settle.result c.open_words.ensures.tree
     (branches_more o.kept settles.gains.gained n.kept c.args.self.now settles.gains.at_end c.requires.read) (search rules)
 
 pub advance_all-requires-clause-answers : goal.advance_all-requires-clause-answers

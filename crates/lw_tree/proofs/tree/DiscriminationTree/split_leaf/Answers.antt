@@ -1,4 +1,4 @@
-use Rattle.std.proofs.Common.{rules, ◌≡◌, ◌+◌, ◌<◌, ℕ, List, [], ◌∷◌, ◌++◌, length, sym, ◌∙◌, ap, ap₂, subst}
+use Rattle.std.proofs.Common.{rules, ◌≡◌, ℕ, List, [], ◌∷◌, ◌++◌, length, sym, ◌∙◌, ap, subst}
 use Rattle.std.proofs.lemmas.Option.{get_or_from_slice_get}
 use Rattle.lw_words.specs.Answer.{answers_of}
 use Rattle.lw_mealy.specs.Machine.{output}
@@ -12,7 +12,7 @@ use Rattle.lw_tree.proofs.BranchLemmas.{split_crowd}
 use Rattle.lw_tree.proofs.CloseLemmas.{is_split}
 use Rattle.lw_tree.proofs.GrownLemmas.{not_grown, crowd_of, tells_crowd}
 use Rattle.lw_tree.proofs.ShapeLemmas.{shape_of}
-use Rattle.lw_tree.proofs.StepLemmas.{cut_from, cut_target, cut_splits, split_grown}
+use Rattle.lw_tree.proofs.StepLemmas.{cut_target, cut_splits, split_grown}
 use Rattle.lw_tree.proofs.tree.DiscriminationTree.split_leaf.Goals as goal
 
 pub returns-then-len-from-clause-grown : goal.returns-then-len-from-clause-grown
@@ -27,7 +27,7 @@ returns-then-len-from-clause-crowd c =
     let edge : Edge = record { state = cut.state; letter = cut.letter } in
     let old = c.in_ok-old.old in
     let new = c.in_ok-new.new in
-    let at : c.get-target.result.now ≡ word_at u.access cut.target = search (rules, get_or_from_slice_get) in
+    let at : c.get-target.result.now ≡ word_at u.access cut.target = sym (get_or_from_slice_get c.self.inside.access c.from.result c.get-target.result.now [] c.get-target.ensures) ∙ (ap (word_at c.self.inside.access) c.from.ensures ∙ ap (λ (v : TreeState). word_at v.access cut.target) c.self.view_is) in
     let told_old : Tells ks (word_at u.access cut.target) cut.suffix old = subst (λ (w : List ℕ). Tells ks w cut.suffix old) at c.in_ok-old.ensures.tells in
     let told_new : Tells ks (word_of u edge) cut.suffix new = subst (λ (w : List ℕ). Tells ks w cut.suffix new) c.in_ok-word.ensures.value c.in_ok-new.ensures.tells in
     let next = cut_splits ks u cut old new c.requires.answers c.requires.cut told_old told_new c.in_ok-old.ensures.size c.in_ok-new.ensures.size in
@@ -45,11 +45,13 @@ push_split-requires-clause-next c =
     let edge : Edge = record { state = cut.state; letter = cut.letter } in
     let old = c.in_ok-old.old in
     let new = c.in_ok-new.new in
-    let at : c.get-target.result.now ≡ word_at u.access cut.target = search (rules, get_or_from_slice_get) in
+    let at : c.get-target.result.now ≡ word_at u.access cut.target = sym (get_or_from_slice_get c.self.inside.access c.from.result c.get-target.result.now [] c.get-target.ensures) ∙ (ap (word_at c.self.inside.access) c.from.ensures ∙ ap (λ (v : TreeState). word_at v.access cut.target) c.self.view_is) in
     let told_old : Tells ks (word_at u.access cut.target) cut.suffix old = subst (λ (w : List ℕ). Tells ks w cut.suffix old) at c.in_ok-old.ensures.tells in
-    let told_new : Tells ks (word_of u edge) cut.suffix new = subst (λ (w : List ℕ). Tells ks w cut.suffix new) c.in_ok-word.ensures.value c.in_ok-new.ensures.tells in
-    (output c.requires.cut.0 cut.state cut.letter, subst (λ (e : List ℕ). IsNextSplit u edge (output c.requires.cut.0 cut.state cut.letter) cut.target e old new) (sym c.in_ok-suffix.ensures)
-    (cut_splits ks u cut old new c.requires.answers c.requires.cut told_old told_new c.in_ok-old.ensures.size c.in_ok-new.ensures.size))
+    let told_new : Tells ks (word_of u edge) cut.suffix new = subst (λ (w : List ℕ). Tells ks w cut.suffix new) c.in_ok-word.ensures.value c.in_ok-new.ensures.tells in (
+      output c.requires.cut.0 cut.state cut.letter,
+      subst (λ (e : List ℕ). IsNextSplit u edge (output c.requires.cut.0 cut.state cut.letter) cut.target e old new) (sym c.in_ok-suffix.ensures)
+          (cut_splits ks u cut old new c.requires.answers c.requires.cut told_old told_new c.in_ok-old.ensures.size c.in_ok-new.ensures.size),
+    )
 
 made : (c : goal.In_ok-push_split) → c.push_split.new.self ≡ split_tree c.args.self.now (record { state = c.args.cut.now.state; letter = c.args.cut.now.letter }) (output c.requires.cut.0 c.args.cut.now.state c.args.cut.now.letter) c.args.cut.now.target c.args.cut.now.suffix c.in_ok-old.old c.in_ok-new.new
 made c =
@@ -60,7 +62,7 @@ made c =
     let old = c.in_ok-old.old in
     let new = c.in_ok-new.new in
     let y : ℕ = output c.requires.cut.0 cut.state cut.letter in
-    let at : c.get-target.result.now ≡ word_at u.access cut.target = search (rules, get_or_from_slice_get) in
+    let at : c.get-target.result.now ≡ word_at u.access cut.target = sym (get_or_from_slice_get c.self.inside.access c.from.result c.get-target.result.now [] c.get-target.ensures) ∙ (ap (word_at c.self.inside.access) c.from.ensures ∙ ap (λ (v : TreeState). word_at v.access cut.target) c.self.view_is) in
     let told_old : Tells ks (word_at u.access cut.target) cut.suffix old = subst (λ (w : List ℕ). Tells ks w cut.suffix old) at c.in_ok-old.ensures.tells in
     let told_new : Tells ks (word_of u edge) cut.suffix new = subst (λ (w : List ℕ). Tells ks w cut.suffix new) c.in_ok-word.ensures.value c.in_ok-new.ensures.tells in
     let next = cut_splits ks u cut old new c.requires.answers c.requires.cut told_old told_new c.in_ok-old.ensures.size c.in_ok-new.ensures.size in
@@ -74,7 +76,7 @@ returns-clause-grown c =
     let edge : Edge = record { state = cut.state; letter = cut.letter } in
     let old = c.in_ok-old.old in
     let new = c.in_ok-new.new in
-    let at : c.get-target.result.now ≡ word_at u.access cut.target = search (rules, get_or_from_slice_get) in
+    let at : c.get-target.result.now ≡ word_at u.access cut.target = sym (get_or_from_slice_get c.self.inside.access c.from.result c.get-target.result.now [] c.get-target.ensures) ∙ (ap (word_at c.self.inside.access) c.from.ensures ∙ ap (λ (v : TreeState). word_at v.access cut.target) c.self.view_is) in
     let told_old : Tells ks (word_at u.access cut.target) cut.suffix old = subst (λ (w : List ℕ). Tells ks w cut.suffix old) at c.in_ok-old.ensures.tells in
     let told_new : Tells ks (word_of u edge) cut.suffix new = subst (λ (w : List ℕ). Tells ks w cut.suffix new) c.in_ok-word.ensures.value c.in_ok-new.ensures.tells in
     let next = cut_splits ks u cut old new c.requires.answers c.requires.cut told_old told_new c.in_ok-old.ensures.size c.in_ok-new.ensures.size in

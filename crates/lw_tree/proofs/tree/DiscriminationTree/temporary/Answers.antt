@@ -1,6 +1,5 @@
-use Rattle.std.proofs.Common.{rules, ◌≡◌, ◌+◌, ◌^◌, ◌<◌, ◌≤◌, ℕ, drop, length, sym, ◌∙◌, subst, arith}
-use Rattle.lw_tree.specs.Tree.{temporaries}
-use Rattle.lw_tree.proofs.FieldLemmas.{few_temporaries, one_more_temporary, no_more_temporary}
+use Rattle.std.proofs.Common.{rules, ◌+◌, ◌^◌, ◌<◌, length, sym, ◌∙◌, arith}
+use Rattle.lw_tree.proofs.FieldLemmas.{few_temporaries, one_more_temporary}
 use Rattle.lw_tree.proofs.tree.DiscriminationTree.temporary.Goals as goal
 
 pub overflow_add-count : goal.overflow_add-count
