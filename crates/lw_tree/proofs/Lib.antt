@@ -11,4 +11,5 @@ mod PartLemmas
 mod PlaceLemmas
 mod ShapeLemmas
 mod StepLemmas
+mod TrialLemmas
 mod WayLemmas

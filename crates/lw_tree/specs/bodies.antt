@@ -2,3 +2,4 @@
 pub mod Nodes
 pub mod Steps
 pub mod Transitions
+pub mod Trials
