@@ -1,5 +1,5 @@
 -- An oracle and a closed tree, from one call to the next.
-use Rattle.std.proofs.Common.{◌≡◌, List, None, refl, ap, sym, ◌∙◌, subst}
+use Rattle.std.proofs.Common.{◌≡◌, None, sym, ◌∙◌}
 use Rattle.lw_words.specs.Answer.{answers_of}
 use Rattle.lw_cache.specs.Settling.{OracleState, Leaves}
 use Rattle.lw_tree.specs.Grown.{HasGrown}

@@ -1,4 +1,5 @@
 //! New trees, and the laws.
+mod drawn;
 mod levels;
 mod splits;
 mod trial;

@@ -13,8 +13,9 @@ fn a_counter_is_split_once(rt: HostRuntime) -> Result<(), Fail> {
     let alloc = rt.alloc();
     let mut trial = closed(alloc, counter(alloc)?, 3, NEVER)?;
     ask(alloc, &mut trial.oracle, &trial.tree, &[A, A, A])?;
-    let split = split_by_known(alloc, &mut trial.oracle, &mut trial.tree)?;
-    assert!(rt; split.is_ok());
+    let Some(Ok(())) = split_by_known(alloc, &mut trial.oracle, &mut trial.tree)? else {
+        return Err(Fail::from("no split"));
+    };
     assert_eq!(rt; trial.oracle.batches().len(), 5);
     assert!(rt; trial.oracle.asked(2, &[&[A, A]]));
     assert!(rt; trial.oracle.asked(3, &[&[A, A], &[A, A, A, A]]));
@@ -33,10 +34,10 @@ fn lock_split_twice(alloc: Global, most: u16) -> Result<Trial, Fail>
 {
     let mut trial = closed(alloc, lock(alloc)?, most, NEVER)?;
     ask(alloc, &mut trial.oracle, &trial.tree, &[A, B, A, B])?;
-    let Ok(()) = split_by_known(alloc, &mut trial.oracle, &mut trial.tree)? else {
+    let Some(Ok(())) = split_by_known(alloc, &mut trial.oracle, &mut trial.tree)? else {
         return Err(Fail::from("the first split is refused"));
     };
-    let Ok(()) = split_by_known(alloc, &mut trial.oracle, &mut trial.tree)? else {
+    let Some(Ok(())) = split_by_known(alloc, &mut trial.oracle, &mut trial.tree)? else {
         return Err(Fail::from("the second split is refused"));
     };
     Ok(trial)
@@ -52,7 +53,14 @@ fn what_stood_at_the_leaf_goes_on(rt: HostRuntime) -> Result<(), Fail> {
     assert!(rt;
         trial.oracle.asked(
             4,
-            &[&[B], &[B, B, A, B], &[A, A], &[A, A, B, A, B], &[A, B], &[A, B, B, A, B]]
+            &[
+                &[B],
+                &[B, B, A, B],
+                &[A, A],
+                &[A, A, B, A, B],
+                &[A, B],
+                &[A, B, B, A, B]
+            ]
         )
     );
     Ok(())
@@ -112,7 +120,7 @@ fn a_split_is_one_state_too_many(rt: HostRuntime) -> Result<(), Fail> {
     let mut trial = closed(alloc, counter(alloc)?, 1, NEVER)?;
     ask(alloc, &mut trial.oracle, &trial.tree, &[A, A, A])?;
     let split = split_by_known(alloc, &mut trial.oracle, &mut trial.tree)?;
-    let Err(GrowStop::Crowd(words)) = split else {
+    let Some(Err(GrowStop::Crowd(words))) = split else {
         return Err(Fail::from("no crowd"));
     };
     assert!(rt; are(&words, &[&[], &[A]]));
@@ -127,7 +135,7 @@ fn a_level_is_one_state_too_many(rt: HostRuntime) -> Result<(), Fail> {
     let mut trial = closed(alloc, counter(alloc)?, 2, NEVER)?;
     ask(alloc, &mut trial.oracle, &trial.tree, &[A, A, A])?;
     let split = split_by_known(alloc, &mut trial.oracle, &mut trial.tree)?;
-    let Err(GrowStop::Crowd(words)) = split else {
+    let Some(Err(GrowStop::Crowd(words))) = split else {
         return Err(Fail::from("no crowd"));
     };
     assert!(rt; are(&words, &[&[], &[A], &[A, A]]));
@@ -144,7 +152,7 @@ fn a_refused_level_is_asked_again(rt: HostRuntime) -> Result<(), Fail> {
     let mut trial = closed(alloc, counter(alloc)?, 3, 3)?;
     ask(alloc, &mut trial.oracle, &trial.tree, &[A, A, A])?;
     let split = split_by_known(alloc, &mut trial.oracle, &mut trial.tree)?;
-    let Err(GrowStop::Ask(AskStop::NoMemory)) = split else {
+    let Some(Err(GrowStop::Ask(AskStop::NoMemory))) = split else {
         return Err(Fail::from("no level is refused"));
     };
     assert!(rt; are(trial.tree.access(), &[&[], &[A]]));

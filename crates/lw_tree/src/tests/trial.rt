@@ -1,5 +1,5 @@
 //! A machine that is asked, and a tree over it that is closed and split.
-ghost use Rattle.std.specs.Prelude.{◌≡◌, ◌≤◌, IfOk, OnOk};
+ghost use Rattle.std.specs.Prelude.{◌≡◌, ◌≤◌, IfOk, OnOk, MatchOption};
 ghost use Rattle.lw_words.specs.Word.{IsWord};
 ghost use Rattle.lw_tree.specs.bodies.Trials.{IsReady};
 ghost use Rattle.test_oracle.specs.Recording.{state_of};
@@ -71,15 +71,17 @@ pub fn ask<O: Oracle>(
     Ok(())
 }
 
-/// Splits a closed tree by the least known word on which its machine differs.
+/// Splits a closed tree by the least known word on which its machine differs, where there is one.
 pub fn split_by_known<O: Oracle>(
     alloc: Global,
     oracle: &mut O,
     tree: &mut DiscriminationTree,
-) -> Result<Result<(), GrowStop>, Fail>
+) -> Result<Option<Result<(), GrowStop>>, Fail>
     requires can { O.can_settle oracle.old }
     requires ready { IsReady (O.state oracle.old) tree.old }
-    ensures ready { IfOk result (λ split. OnOk split (IsReady (O.state oracle.new) tree.new)) }
+    ensures ready { IfOk result (λ found. MatchOption found
+        (IsReady (O.state oracle.new) tree.new)
+        (λ split. OnOk split (IsReady (O.state oracle.new) tree.new))) }
     ensures can { O.can_settle oracle.new }
 {
     // The laws of a closed tree say what a cut asks of its access words.
@@ -88,11 +90,11 @@ pub fn split_by_known<O: Oracle>(
     let model = tree.machine()?;
     let against = oracle.cache().against(&model)?;
     let Some(word) = against else {
-        return Err(Fail::from("no known word differs"));
+        return Ok(None);
     };
     let found = lw_cex::split(oracle, alloc, &model, tree.access(), &word);
     let Ok(cut) = found else {
         return Err(Fail::from("the oracle stopped"));
     };
-    Ok(tree.split(oracle, &cut))
+    Ok(Some(tree.split(oracle, &cut)))
 }

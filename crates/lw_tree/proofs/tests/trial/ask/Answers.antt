@@ -1,4 +1,4 @@
-use Rattle.std.proofs.Common.{◌≡◌, Option, ap, subst}
+use Rattle.std.proofs.Common.{Option, ap, subst}
 use Rattle.lw_cache.specs.Settling.{Leaves, asked_stop}
 use Rattle.lw_cache.specs.declared.stops.AskStop.{AskStop}
 use Rattle.lw_cache.proofs.SettlingLemmas.{leaves_settled}

@@ -1,4 +1,4 @@
-use Rattle.std.proofs.Common.{◌≡◌, List, ℕ, sym, ◌∙◌, subst}
+use Rattle.std.proofs.Common.{List, ℕ, sym, ◌∙◌, subst}
 use Rattle.std.specs.List.{All}
 use Rattle.lw_words.specs.Answer.{AreAnswers, answers_of}
 use Rattle.lw_words.specs.Word.{IsWord}
