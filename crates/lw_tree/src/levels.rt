@@ -184,7 +184,8 @@ impl DiscriminationTree {
         requires inputs { self.old.inputs ≡ (O.state oracle.old).inputs }
         requires outputs { self.old.outputs ≡ (O.state oracle.old).outputs }
         requires read { BranchesAreRead (answers_of (O.state oracle.old).kept) self.old }
-        ensures levels { HasLevelled (answers_of (O.state oracle.new).kept) self.old self.new result }
+        ensures levels { HasLevelled (answers_of (O.state oracle.new).kept) self.old self.new
+            result }
         ensures moved { IfOk result (λ _. HasMoved self.old self.new) }
         ensures leaves { Leaves (O.state oracle.old) (O.state oracle.new) (grown_stop result) }
         ensures can { O.can_settle oracle.new }
@@ -209,7 +210,8 @@ impl DiscriminationTree {
         requires inputs { self.old.inputs ≡ (O.state oracle.old).inputs }
         requires outputs { self.old.outputs ≡ (O.state oracle.old).outputs }
         requires read { BranchesAreRead (answers_of (O.state oracle.old).kept) self.old }
-        ensures levels { HasLevelled (answers_of (O.state oracle.new).kept) self.old self.new result }
+        ensures levels { HasLevelled (answers_of (O.state oracle.new).kept) self.old self.new
+            result }
         ensures leaves { Leaves (O.state oracle.old) (O.state oracle.new) (grown_stop result) }
         ensures can { O.can_settle oracle.new }
     {

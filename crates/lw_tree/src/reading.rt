@@ -19,7 +19,8 @@ pub(crate) fn read_tail(
 ) -> Result<Word, NoMemory>
     requires answers { (a : ℕ) × AreAnswers a (answers_of cache.now.kept) }
     requires known { IsKnown (answers_of cache.now.kept) (word.now ++ suffix.now) }
-    ensures tells { IfOk result (λ outs. Tells (answers_of cache.now.kept) word.now suffix.now outs) }
+    ensures tells { IfOk result (λ outs. Tells (answers_of cache.now.kept) word.now suffix.now
+        outs) }
     ensures size { IfOk result (λ outs. length outs ≡ length suffix.now) }
 {
     let asked = join(word, suffix)?;

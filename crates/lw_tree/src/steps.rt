@@ -132,7 +132,8 @@ impl DiscriminationTree {
         requires next { (output : ℕ) × IsNextSplit self.old edge output target suffix old new }
         requires word { word ≡ word_of self.old edge }
         requires room { length self.old.access < self.old.most }
-        ensures ok { OnOk result ((output : ℕ) → IsNextSplit self.old edge output target suffix old new →
+        ensures ok { OnOk result ((output : ℕ) →
+            IsNextSplit self.old edge output target suffix old new →
             self.new ≡ split_tree self.old edge output target suffix old new) }
         ensures err { OnErr result (self.new ≡ self.old) }
         ensures tree { IsTree self.new }
