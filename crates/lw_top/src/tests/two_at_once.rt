@@ -110,11 +110,11 @@ impl Link for MeetingLink {
     }
 }
 
-/// What starts two such links.
+/// What starts two such links. A third one would meet no other.
 #[derive(Drop)]
 struct MeetingSpawner {
-    first: Arc<AtomicU32, Global>,
-    second: Arc<AtomicU32, Global>,
+    first: Option<Meeting>,
+    second: Option<Meeting>,
     started: u64,
     faults: u64,
     retired: Log<MeetingLink, ()>,
@@ -123,26 +123,19 @@ struct MeetingSpawner {
 
 impl MeetingSpawner {
     fn new(alloc: Global) -> Result<MeetingSpawner, Fail> {
+        let one = Arc::new(alloc, AtomicU32::new(0))?;
+        let other = Arc::new(alloc, AtomicU32::new(0))?;
+        let (here, there) = (Arc::try_clone(&one)?, Arc::try_clone(&other)?);
         Ok(MeetingSpawner {
-            first: Arc::new(alloc, AtomicU32::new(0))?,
-            second: Arc::new(alloc, AtomicU32::new(0))?,
+            first: Some(Meeting { here, there }),
+            second: Some(Meeting {
+                here: other,
+                there: one,
+            }),
             started: 0,
             faults: 0,
             retired: Log::new(),
         })
-    }
-
-    /// The meeting of a link by its number.
-    fn meeting(&self, number: u64) -> Result<Option<Meeting>, StartStop> {
-        let (here, there) = match number {
-            0 => (&self.first, &self.second),
-            1 => (&self.second, &self.first),
-            _ => return Ok(None),
-        };
-        match (Arc::try_clone(here), Arc::try_clone(there)) {
-            (Ok(here), Ok(there)) => Ok(Some(Meeting { here, there })),
-            _ => Err(StartStop::NoMemory),
-        }
     }
 }
 
@@ -168,10 +161,12 @@ impl Spawner for MeetingSpawner {
         let Some(started) = self.started.checked_add(1) else {
             return Err(StartStop::NoMemory);
         };
+        let meeting = self.first.take();
+        self.first = self.second.take();
         let link = MeetingLink {
             number: self.started,
             answer: b"",
-            meeting: self.meeting(self.started)?,
+            meeting,
             faults: 0,
             ends: 0,
         };

@@ -1,0 +1,158 @@
+-- Trees that are sifted, closed and split: what each call leaves.
+use Rattle.std.proofs.Common.{◌≡◌, inl, inr, ℕ, zero, suc, ◌+◌, ◌<◌, Bool, true, false, if◌then◌else◌, List, [], ◌∷◌, ◌++◌, length, set, refl, ap, sym, ◌∙◌, subst, arith, Result, Ok, Err, IsErrAnd, append_assoc}
+use Rattle.std.specs.Bool.{⊤}
+use Rattle.std.proofs.lemmas.List.{length-append}
+use Rattle.lw_words.specs.Answer.{Answer}
+use Rattle.lw_cache.specs.Settling.{OracleState, Leaves, grown_stop}
+use Rattle.lw_cache.specs.declared.stops.AskStop.{AskStop}
+use Rattle.lw_cache.specs.declared.stops.GrowStop.{GrowStop}
+use Rattle.lw_cache.specs.declared.stops.GrowStop.TheVariants.{Ask, Crowd}
+use Rattle.lw_cache.specs.Cut.{word_at}
+use Rattle.lw_tree.specs.bodies.Transitions.{place_by}
+use Rattle.lw_tree.specs.Grown.{HasGrown, KeepsDiscriminators, TellsCrowd, HasLevelled, HasClosed, IsSplit, HasSplit}
+use Rattle.lw_tree.specs.Tree.{TreeState, node_at, leaf_at, IsLive, IsTree, BranchesAreRead, IsClosed, HasOpen, discriminators, temporaries, is_temporary, words_of}
+use Rattle.lw_tree.specs.bodies.Steps.{leaf_below, inner_node, lowered, split_tree, refined_once}
+use Rattle.lw_tree.specs.declared.nodes.Node.{Node}
+use Rattle.lw_tree.specs.declared.nodes.Content.{Content}
+use Rattle.lw_tree.specs.declared.nodes.Content.TheVariants.{State}
+use Rattle.lw_tree.specs.declared.transitions.Edge.{Edge}
+use Rattle.lw_tree.proofs.GrownLemmas.{keeps_same, not_grown, grown_then, no_crowd, access_longer, discriminators_leaf, temporaries_leaf}
+use Rattle.lw_tree.proofs.NodeLemmas.{live_within}
+
+-- a stop that is handed on
+pub handed_stop : {X : Type 0} (stop : GrowStop) (result : Result X GrowStop) → IsErrAnd result (λ e. e ≡ stop) → result ≡ Err stop
+handed_stop stop (Ok _) is = elim is [ ]
+handed_stop stop (Err e) is = ap Err is
+
+pub handed_leaves : (X : Type 0) {Y : Type 0} (before now : OracleState) (stop : GrowStop) (result : Result Y GrowStop) → Leaves before now (grown_stop {X = X} (Err stop)) → IsErrAnd result (λ e. e ≡ stop) → Leaves before now (grown_stop result)
+handed_leaves X {Y} before now stop result leaves is = subst (λ (r : Result Y GrowStop). Leaves before now (grown_stop r)) (sym (handed_stop stop result is)) (of stop leaves)
+  where
+    of : (s : GrowStop) → Leaves before now (grown_stop {X = X} (Err s)) → Leaves before now (grown_stop {X = Y} (Err s))
+    of (Ask a) l = l
+    of (Crowd words) l = l
+
+abbrev stop_of : {X : Type 0} → GrowStop → Result X GrowStop → GrowStop
+stop_of d (Ok _) = d
+stop_of d (Err e) = e
+
+pub crowd_too : {X Y : Type 0} (ks : List Answer) (t : TreeState) (stop : GrowStop) → TellsCrowd {X = X} ks t (Err stop) → TellsCrowd {X = Y} ks t (Err stop)
+crowd_too {X} {Y} ks t stop crowd words same = crowd words (ap (λ (r : Result Y GrowStop). Err (stop_of stop r)) same)
+
+pub levelled : (ks : List Answer) (before now : TreeState) (is_left : Bool) → HasGrown ks before now → KeepsDiscriminators before now → (is_left ≡ false → IsClosed now) → (is_left ≡ true → HasOpen now) → HasLevelled ks before now (Ok is_left)
+levelled ks before now is_left grown keeps closed open_left = record { grown = grown; keeps = keeps; closed = closed; left = open_left; crowd = λ words told. cc }
+
+pub not_levelled : (ks : List Answer) (before now : TreeState) (stop : GrowStop) (result : Result Bool GrowStop) → HasGrown ks before now → KeepsDiscriminators before now → TellsCrowd {X = ⊤} ks now (Err stop) → IsErrAnd result (λ e. e ≡ stop) → HasLevelled ks before now result
+not_levelled ks before now stop result grown keeps crowd is =
+    subst (HasLevelled ks before now) (sym (handed_stop stop result is)) (record { grown = grown; keeps = keeps; closed = tt; left = tt; crowd = λ words same. crowd words (ap (λ (r : Result Bool GrowStop). Err (stop_of stop r)) same) })
+
+-- a stop of the oracle, or out of memory, before anything was changed
+pub stopped_level : (ks : List Answer) (t : TreeState) (stop : AskStop) (result : Result Bool GrowStop) → IsTree t → BranchesAreRead ks t → IsErrAnd result (λ e. e ≡ Ask stop) → HasLevelled ks t t result
+stopped_level ks t stop result tree read is = not_levelled ks t t (Ask stop) result (not_grown ks t tree read) (keeps_same t) (no_crowd ks t stop) is
+
+pub has_closed : (ks : List Answer) (before now : TreeState) → HasGrown ks before now → KeepsDiscriminators before now → IsClosed now → HasClosed ks before now (Ok tt)
+has_closed ks before now grown keeps closed = record { grown = grown; keeps = keeps; closed = closed; crowd = λ words told. cc }
+
+pub not_closed : (ks : List Answer) (before now : TreeState) (stop : GrowStop) (result : Result ⊤ GrowStop) → HasGrown ks before now → KeepsDiscriminators before now → TellsCrowd {X = ⊤} ks now (Err stop) → IsErrAnd result (λ e. e ≡ stop) → HasClosed ks before now result
+not_closed ks before now stop result grown keeps crowd is = subst (HasClosed ks before now) (sym (handed_stop stop result is)) (record { grown = grown; keeps = keeps; closed = tt; crowd = crowd })
+
+-- a leaf that became temporary is one discriminator more
+word_more : (nodes : List Node) (leaf q : ℕ) (suffix : List ℕ) → leaf < length nodes → (node_at nodes leaf).content ≡ State q
+    → (front : List (List ℕ)) × (back : List (List ℕ)) × (discriminators nodes ≡ front ++ back) × (discriminators (set nodes leaf (inner_node (node_at nodes leaf) suffix)) ≡ front ++ suffix ∷ back)
+word_more [] leaf q suffix lt is = absurd (omega (arith, lt))
+word_more (n ∷ nodes) zero q suffix lt is = ([], discriminators nodes, ap (λ (c : Content). words_of c ++ discriminators nodes) is, refl)
+word_more (n ∷ nodes) (suc leaf) q suffix lt is =
+    let r = word_more nodes leaf q suffix (omega (arith, lt)) is in (
+      words_of n.content ++ r.0,
+      r.1,
+      ap (λ (l : List (List ℕ)). words_of n.content ++ l) r.2 ∙ sym (append_assoc (words_of n.content) r.0 r.1),
+      ap (λ (l : List (List ℕ)). words_of n.content ++ l) r.3 ∙ sym (append_assoc (words_of n.content) r.0 (suffix ∷ r.1)),
+    )
+
+count_more : (nodes : List Node) (leaf q : ℕ) (suffix : List ℕ) → leaf < length nodes → (node_at nodes leaf).content ≡ State q → temporaries (set nodes leaf (inner_node (node_at nodes leaf) suffix)) ≡ temporaries nodes + 1
+count_more [] leaf q suffix lt is = absurd (omega (arith, lt))
+count_more (n ∷ nodes) zero q suffix lt is =
+    let none : (if is_temporary n.content then 1 else 0) + temporaries nodes ≡ 0 + temporaries nodes = ap (λ (c : Content). (if is_temporary c then 1 else 0) + temporaries nodes) is in
+    omega (arith, none)
+count_more (n ∷ nodes) (suc leaf) q suffix lt is =
+    let r = count_more nodes leaf q suffix (omega (arith, lt)) is in
+    omega (arith, r)
+
+module _ (t : TreeState) (edge : Edge) (output q : ℕ) (suffix old new : List ℕ) (g : IsTree t) (target : q < length t.access) where
+  abbrev leaf : ℕ
+  leaf = leaf_at t.leaves q
+
+  abbrev first : List Node
+  first = set t.nodes leaf (inner_node (node_at t.nodes leaf) suffix)
+
+  is_leaf : (node_at t.nodes leaf).content ≡ State q
+  is_leaf = g.leaves.leaves q target
+
+  inside : leaf < length t.nodes
+  inside = live_within t.nodes leaf (subst IsLive (sym is_leaf) tt)
+
+  pub is_split : IsSplit suffix t (split_tree t edge output q suffix old new)
+  is_split =
+      let w = word_more t.nodes leaf q suffix inside is_leaf in
+      let long = length-append t.access ((word_at t.access edge.state ++ edge.letter ∷ []) ∷ []) in
+      record {
+        states = omega (arith, long);
+        front = w.0;
+        back = w.1;
+        discriminators_were = w.2;
+        discriminators_are = discriminators_leaf (first ++ leaf_below leaf old q ∷ []) (place_by (lowered t q suffix old) edge).node new (length t.access) ∙ (discriminators_leaf first leaf old q ∙ w.3);
+        temporary = temporaries_leaf (first ++ leaf_below leaf old q ∷ []) (place_by (lowered t q suffix old) edge).node new (length t.access) ∙ (temporaries_leaf first leaf old q ∙ count_more t.nodes leaf q suffix inside is_leaf);
+      }
+
+-- a split tree that was closed, all or in part
+pub split_then : (ks : List Answer) (suffix : List ℕ) (t middle now : TreeState) → IsSplit suffix t middle → HasGrown ks middle now → KeepsDiscriminators middle now → IsSplit suffix t now
+split_then ks suffix t middle now split grown keeps =
+    record {
+      states = let s = split.states in let l = access_longer ks middle now grown in omega (arith, s, l);
+      front = split.front;
+      back = split.back;
+      discriminators_were = split.discriminators_were;
+      discriminators_are = keeps.discriminators_are ∙ split.discriminators_are;
+      temporary = keeps.temporary ∙ split.temporary;
+    }
+
+pub room_to_count : (ks : List Answer) (suffix : List ℕ) (t middle now : TreeState) → IsTree t → IsSplit suffix t middle → middle.refinements ≡ t.refinements → HasGrown ks middle now → KeepsDiscriminators middle now → now.refinements + 1 < length now.access
+room_to_count ks suffix t middle now g split same grown keeps =
+    let s = (split_then ks suffix t middle now split grown keeps).states in
+    let r = g.refined in
+    let k = keeps.refinements in
+    omega (arith, s, r, k, same)
+
+pub has_split : (first ks : List Answer) (suffix : List ℕ) (t middle now last : TreeState) → HasGrown first t middle → IsSplit suffix t middle → middle.refinements ≡ t.refinements → HasClosed ks middle now (Ok tt) → last ≡ refined_once now → IsTree last → HasSplit ks suffix t last (Ok tt)
+has_split first ks suffix t middle now last one split same done is tree =
+    let grown = grown_then first ks t middle now one done.grown in
+    let s = split_then ks suffix t middle now split done.grown done.keeps in
+    subst (λ (u : TreeState). HasSplit ks suffix t u (Ok tt)) (sym is)
+    (record {
+      grown = record { inputs = grown.inputs; outputs = grown.outputs; most = grown.most; more = grown.more; access = grown.access; tree = subst (λ (u : TreeState). IsTree u) is tree; read = record { outs = grown.read.outs; transitions = grown.read.transitions; access = grown.read.access } };
+      closed = done.closed;
+      split = record { states = s.states; front = s.front; back = s.back; discriminators_were = s.discriminators_were; discriminators_are = s.discriminators_are; temporary = s.temporary };
+      left = tt;
+      refined = ap (λ (n : ℕ). n + 1) (done.keeps.refinements ∙ same);
+      refused = tt;
+      crowd = λ words told. cc;
+    })
+
+-- where the closing was refused
+pub not_all_split : (first ks : List Answer) (suffix : List ℕ) (t middle now : TreeState) (stop : GrowStop) (result : Result ⊤ GrowStop) → HasGrown first t middle → IsSplit suffix t middle → middle.refinements ≡ t.refinements → HasClosed ks middle now (Err stop) → IsErrAnd result (λ e. e ≡ stop) → HasSplit ks suffix t now result
+not_all_split first ks suffix t middle now stop result one split same done is =
+    subst (HasSplit ks suffix t now) (sym (handed_stop stop result is))
+    (record {
+      grown = grown_then first ks t middle now one done.grown;
+      closed = tt;
+      split = tt;
+      left = inr (split_then ks suffix t middle now split done.grown done.keeps);
+      refined = tt;
+      refused = done.keeps.refinements ∙ same;
+      crowd = done.crowd;
+    })
+
+-- where nothing was split
+pub not_split : (ks : List Answer) (suffix : List ℕ) (t now : TreeState) (stop : GrowStop) (result : Result ⊤ GrowStop) → HasGrown ks t now → now ≡ t → TellsCrowd {X = ⊤} ks now (Err stop) → IsErrAnd result (λ e. e ≡ stop) → HasSplit ks suffix t now result
+not_split ks suffix t now stop result grown same crowd is =
+    subst (HasSplit ks suffix t now) (sym (handed_stop stop result is))
+    (record { grown = grown; closed = tt; split = tt; left = inl same; refined = tt; refused = ap (λ (u : TreeState). u.refinements) same; crowd = crowd })

@@ -1,0 +1,240 @@
+-- What a tree gains, from one step to the next.
+use Rattle.std.proofs.Common.{◌≡◌, ◌≢◌, ◌⊎◌, inl, inr, ⊎_elim, ℕ, ◌+◌, ◌*◌, ◌<◌, ◌≤◌, Bool, true, false, true≢false, if◌then◌else◌, List, [], ◌∷◌, ◌++◌, length, Result, Ok, Err, refl, ap, ap₂, sym, ◌∙◌, subst, arith, append-nil, append_assoc}
+use Rattle.std.proofs.Math.ListN.{get_or-append}
+use Rattle.std.proofs.Math.Nat.{mul-le-mul_right}
+use Rattle.std.proofs.lemmas.Bool.{cases_lt, cases_eq}
+use Rattle.std.proofs.lemmas.List.{length-append}
+use Rattle.lw_words.specs.Answer.{Answer}
+use Rattle.lw_cache.specs.declared.stops.AskStop.{AskStop}
+use Rattle.lw_cache.specs.declared.stops.GrowStop.{GrowStop}
+use Rattle.lw_cache.specs.declared.stops.GrowStop.TheVariants.{Ask, Crowd}
+use Rattle.lw_cache.specs.Crowd.{IsCrowd}
+use Rattle.lw_cache.specs.Cut.{word_at}
+use Rattle.lw_tree.specs.Grown.{HasGrown, KeepsDiscriminators, IsCrowdOf, TellsCrowd}
+use Rattle.lw_tree.specs.Tree.{TreeState, node_at, place_at, IsLive, IsTree, Tells, Agrees, BranchesAreRead, discriminator, discriminators, temporaries, is_temporary, words_of, is_open, is_inner}
+use Rattle.lw_tree.specs.bodies.Steps.{placed, with_place, leaf_below, with_state, IsNextState, IsRead, HasStepped, MovesOn, HasSifted, HasMoved}
+use Rattle.lw_tree.specs.bodies.Transitions.{IsTransition, word_of, place_by, content_by, is_open_by, IsAsked}
+use Rattle.lw_tree.specs.declared.nodes.Node.{Node}
+use Rattle.lw_tree.specs.declared.nodes.Content.{Content}
+use Rattle.lw_tree.specs.declared.transitions.Place.{Place}
+use Rattle.lw_tree.specs.declared.transitions.Edge.{Edge}
+use Rattle.lw_tree.proofs.NodeLemmas.{Updates}
+use Rattle.lw_tree.proofs.ShapeLemmas.{shape_of, all_places, place_update, node_stays, node_update, places_update}
+use Rattle.lw_tree.proofs.BranchLemmas.{placed_read, state_read}
+
+pub keeps_same : (t : TreeState) → KeepsDiscriminators t t
+keeps_same t = record { discriminators_are = refl; temporary = refl; refinements = refl }
+
+pub keeps_and_keeps : (a b c : TreeState) → KeepsDiscriminators a b → KeepsDiscriminators b c → KeepsDiscriminators a c
+keeps_and_keeps a b c one two = record { discriminators_are = two.discriminators_are ∙ one.discriminators_are; temporary = two.temporary ∙ one.temporary; refinements = two.refinements ∙ one.refinements }
+
+-- where nothing came
+pub not_grown : (ks : List Answer) (t : TreeState) → IsTree t → BranchesAreRead ks t → HasGrown ks t t
+not_grown ks t tree read = record { inputs = refl; outputs = refl; most = refl; more = []; access = sym (append-nil t.access); tree = tree; read = read }
+
+-- one step after another
+pub grown_then : (first ks : List Answer) (a b c : TreeState) → HasGrown first a b → HasGrown ks b c → HasGrown ks a c
+grown_then first ks a b c one two =
+    record {
+      inputs = two.inputs ∙ one.inputs;
+      outputs = two.outputs ∙ one.outputs;
+      most = two.most ∙ one.most;
+      more = one.more ++ two.more;
+      access = two.access ∙ (ap (λ (l : List (List ℕ)). l ++ two.more) one.access ∙ append_assoc a.access one.more two.more);
+      tree = two.tree;
+      read = two.read;
+    }
+
+-- a stop of the oracle is no crowd
+pub no_crowd : {X : Type 0} (ks : List Answer) (t : TreeState) (stop : AskStop) → TellsCrowd {X = X} ks t (Err (Ask stop))
+no_crowd ks t stop words same = cc
+
+abbrev told_words : {X : Type 0} → List (List ℕ) → Result X GrowStop → List (List ℕ)
+told_words d (Ok _) = d
+told_words d (Err (Ask stop)) = d
+told_words d (Err (Crowd words)) = words
+
+pub tells_crowd : {X : Type 0} (ks : List Answer) (t : TreeState) (words : List (List ℕ)) → IsCrowdOf ks t words → TellsCrowd {X = X} ks t (Err (Crowd words))
+tells_crowd ks t words is told same = subst (IsCrowdOf ks t) (ap (told_words []) same) is
+
+-- the access words and one word more are one word too many
+pub crowd_of : (ks : List Answer) (t : TreeState) (edge : Edge) (words : List (List ℕ)) → IsTransition t edge → length t.access ≡ t.most → IsCrowd ks (t.access ++ word_of t edge ∷ []) → words ≡ t.access ++ word_of t edge ∷ [] → IsCrowdOf ks t words
+crowd_of ks t edge words from count apart all =
+    record {
+      count = ap (λ (l : List (List ℕ)). length l) all ∙ (length-append t.access (word_of t edge ∷ []) ∙ ap (λ (n : ℕ). n + 1) count);
+      state = edge.state;
+      letter = edge.letter;
+      from = from.0;
+      small = from.1;
+      all = all;
+      apart = subst (IsCrowd ks) (sym all) apart;
+    }
+
+-- a leaf more changes no discriminator
+pub discriminators_leaf : (nodes : List Node) (parent : ℕ) (branch : List ℕ) (q : ℕ) → discriminators (nodes ++ leaf_below parent branch q ∷ []) ≡ discriminators nodes
+discriminators_leaf [] parent branch q = refl
+discriminators_leaf (n ∷ nodes) parent branch q = ap (λ (l : List (List ℕ)). words_of n.content ++ l) (discriminators_leaf nodes parent branch q)
+
+pub temporaries_leaf : (nodes : List Node) (parent : ℕ) (branch : List ℕ) (q : ℕ) → temporaries (nodes ++ leaf_below parent branch q ∷ []) ≡ temporaries nodes
+temporaries_leaf [] parent branch q = refl
+temporaries_leaf (n ∷ nodes) parent branch q = ap (λ (k : ℕ). (if is_temporary n.content then 1 else 0) + k) (temporaries_leaf nodes parent branch q)
+
+-- steps of one transition
+pub not_stepped : (ks : List Answer) (t : TreeState) (edge : Edge) → IsTree t → BranchesAreRead ks t → HasStepped ks t edge t
+not_stepped ks t edge tree read = record { grown = not_grown ks t tree read; keeps = keeps_same t; nodes = λ n live. refl; others = λ k lt other. refl }
+
+module _ (ks : List Answer) (t : TreeState) (edge : Edge) (output n : ℕ) (g : IsTree t) (from : IsTransition t edge) (stands : is_open_by t edge ≡ true) (below : output < t.outputs) (live : IsLive (node_at t.nodes n).content) where
+  abbrev placed_tree : TreeState
+  placed_tree = with_place t edge output n
+
+  place_now : Updates (place_at t.places) (place_at placed_tree.places) (edge.state * t.inputs + edge.letter) (placed output n)
+  place_now = place_update t edge output n (shape_of t g) from stands below live
+
+  pub placed_stepped : IsTree placed_tree → BranchesAreRead ks t → Tells ks (word_at t.access edge.state) (edge.letter ∷ []) (output ∷ []) → Agrees ks (node_at t.nodes) (word_of t edge) n → HasStepped ks t edge placed_tree
+  placed_stepped tree read out agrees =
+      record {
+        grown = record { inputs = refl; outputs = refl; most = refl; more = []; access = sym (append-nil t.access); tree = tree; read = placed_read ks t edge output n (shape_of t g) from stands below live read out agrees };
+        keeps = record { discriminators_are = refl; temporary = refl; refinements = refl };
+        nodes = λ m is. refl;
+        others = λ k lt other. place_now.others k other;
+      }
+
+  -- at a leaf it has a target; at another node it stands lower
+  pub placed_moves : (is_inner (node_at t.nodes n).content ≡ false) ⊎ ((place_by t edge).node < n) → MovesOn t placed_tree (edge.state * t.inputs + edge.letter)
+  placed_moves to is = (
+    stands,
+    ⊎_elim
+        (λ (leaf : is_inner (node_at t.nodes n).content ≡ false).
+        let at : is_open (node_at t.nodes) (place_at placed_tree.places (edge.state * t.inputs + edge.letter)) ≡ false = ap (is_open (node_at t.nodes)) place_now.here ∙ leaf in
+        absurd (true≢false (sym is ∙ at)))
+        (λ (lt : (place_by t edge).node < n). subst (λ (m : ℕ). (place_by t edge).node < m) (sym (ap (λ (p : Place). p.node) place_now.here)) lt)
+        to,
+  )
+
+module _ (ks : List Answer) (t : TreeState) (edge : Edge) (output : ℕ) (branch : List ℕ) (g : IsTree t) (next : IsNextState t edge output branch) where
+  abbrev state_tree : TreeState
+  state_tree = with_state t edge output branch
+
+  state_place : Updates (place_at t.places) (place_at state_tree.places) (edge.state * t.inputs + edge.letter) (placed output (length t.nodes))
+  state_place = places_update t edge output branch (shape_of t g) next
+
+  pub state_stepped : IsTree state_tree → IsRead ks t edge output branch → HasStepped ks t edge state_tree
+  state_stepped tree read =
+      record {
+        grown = record { inputs = refl; outputs = refl; most = refl; more = word_of t edge ∷ []; access = refl; tree = tree; read = state_read ks t edge output branch (shape_of t g) next read };
+        keeps = record { discriminators_are = discriminators_leaf t.nodes (place_by t edge).node branch (length t.access); temporary = temporaries_leaf t.nodes (place_by t edge).node branch (length t.access); refinements = refl };
+        nodes = λ m live. node_stays t edge output branch (shape_of t g) next m live;
+        others = λ k lt other. state_place.others k other;
+      }
+
+  pub state_moves : MovesOn t state_tree (edge.state * t.inputs + edge.letter)
+  state_moves is =
+      let made = (node_update t edge output branch (shape_of t g) next).here in
+      let at : is_open (node_at state_tree.nodes) (place_at state_tree.places (edge.state * t.inputs + edge.letter)) ≡ false =
+      ap (is_open (node_at state_tree.nodes)) state_place.here ∙ ap (λ (m : Node). is_inner m.content) made in
+      absurd (true≢false (sym is ∙ at))
+
+-- more access words have more transitions
+pub access_longer : (ks : List Answer) (before now : TreeState) → HasGrown ks before now → length before.access ≤ length now.access
+access_longer ks before now grown =
+    let e : length now.access ≡ length before.access + length grown.more = ap (λ (l : List (List ℕ)). length l) grown.access ∙ length-append before.access grown.more in
+    omega (arith, e)
+
+pub places_longer : (ks : List Answer) (before now : TreeState) → IsTree before → HasGrown ks before now → length before.places ≤ length now.places
+places_longer ks before now g grown =
+    let more : length before.access * before.inputs ≤ length now.access * before.inputs = mul-le-mul_right before.inputs (access_longer ks before now grown) in
+    let at : length now.access * now.inputs ≡ length now.access * before.inputs = ap (λ (n : ℕ). length now.access * n) grown.inputs in
+    let was = g.each_place in
+    let is = grown.tree.each_place in
+    omega (arith, was, is, more, at)
+
+pub words_stay : (ks : List Answer) (before now : TreeState) → HasGrown ks before now → (q : ℕ) → q < length before.access → word_at now.access q ≡ word_at before.access q
+words_stay ks before now grown q lt = ap (λ (l : List (List ℕ)). word_at l q) grown.access ∙ get_or-append before.access grown.more [] q lt
+
+-- where a place and its node are as before, so is whether it is open
+same_open : (before now : TreeState) (k : ℕ) → IsLive (node_at before.nodes (place_at before.places k).node).content → ((n : ℕ) → IsLive (node_at before.nodes n).content → node_at now.nodes n ≡ node_at before.nodes n) → place_at now.places k ≡ place_at before.places k
+    → is_open (node_at now.nodes) (place_at now.places k) ≡ is_open (node_at before.nodes) (place_at before.places k)
+same_open before now k live nodes at =
+    let b : Place = place_at before.places k in
+    let whole : is_open (node_at now.nodes) b ≡ is_open (node_at before.nodes) b = ap (λ (m : Node). open_with b m) (nodes b.node live) in
+    ap (is_open (node_at now.nodes)) at ∙ whole
+  where
+    open_with : Place → Node → Bool
+    open_with p m = is_open (λ _. m) p
+
+module _ (ks : List Answer) (before : TreeState) (to : ℕ) (now after : TreeState) (edge : Edge) (g : IsTree before) (sifted : HasSifted ks before to now) (is_next : to ≡ edge.state * now.inputs + edge.letter) (inside : to < length before.places)
+    (stepped : HasStepped ks now edge after) where
+  node_live : (k : ℕ) → IsLive (node_at before.nodes (place_at before.places k).node).content
+  node_live k = (all_places before (shape_of before g) k).live
+
+  now_live : (k : ℕ) → IsLive (node_at now.nodes (place_at now.places k).node).content
+  now_live k = (all_places now (shape_of now sifted.grown.tree) k).live
+
+  longer : length before.places ≤ length now.places
+  longer = places_longer ks before now g sifted.grown
+
+  nodes_still : (n : ℕ) → IsLive (node_at before.nodes n).content → node_at after.nodes n ≡ node_at before.nodes n
+  nodes_still n live =
+      let was = sifted.nodes n live in
+      stepped.nodes n (subst (λ (m : Node). IsLive m.content) (sym was) live) ∙ was
+
+  other_place : (k : ℕ) → k < length before.places → k ≢ to → place_at after.places k ≡ place_at now.places k
+  other_place k lt other = stepped.others k (omega (arith, lt, longer)) (λ same. other (same ∙ sym is_next))
+
+  pub sifted_more : MovesOn now after (edge.state * now.inputs + edge.letter) → HasSifted ks before (to + 1) after
+  sifted_more moves =
+      record {
+        grown = grown_then ks ks before now after sifted.grown stepped.grown;
+        keeps = keeps_and_keeps before now after sifted.keeps stepped.keeps;
+        nodes = nodes_still;
+        left = λ k le lt. other_place k lt (λ same. omega (arith, same, le)) ∙ sifted.left k (omega (arith, le)) lt;
+        moved = λ k below lt. ⊎_elim
+            (λ (same : k ≡ to). λ is.
+            let m = moves (subst (λ (j : ℕ). is_open (node_at after.nodes) (place_at after.places j) ≡ true) (same ∙ is_next) is) in
+            let at : place_at now.places to ≡ place_at before.places to = sifted.left to (omega arith) inside in
+            let stood : is_open (node_at now.nodes) (place_at now.places to) ≡ true = ap (λ (j : ℕ). is_open (node_at now.nodes) (place_at now.places j)) is_next ∙ m.0 in
+            let lower : (place_at now.places to).node < (place_at after.places to).node = subst (λ (j : ℕ). (place_at now.places j).node < (place_at after.places j).node) (sym is_next) m.1 in
+            subst (λ (j : ℕ). (is_open (node_at before.nodes) (place_at before.places j) ≡ true) × ((place_at before.places j).node < (place_at after.places j).node)) (sym same)
+            (sym (same_open before now to (node_live to) sifted.nodes at) ∙ stood, subst (λ (p : Place). p.node < (place_at after.places to).node) at lower))
+            (λ (other : k ≢ to). λ is.
+            let at = other_place k lt other in
+            let m = sifted.moved k (⊎_elim (λ (lt : k < to). lt) (λ (le : to ≤ k). absurd (other (omega (arith, le, below)))) (cases_lt k to)) lt (sym (same_open now after k (now_live k) stepped.nodes at) ∙ is) in
+            (m.0, subst (λ (p : Place). (place_at before.places k).node < p.node) (sym at) m.1))
+            (cases_eq k to);
+      }
+
+  pub sifted_grown : HasGrown ks before after
+  sifted_grown = grown_then ks ks before now after sifted.grown stepped.grown
+
+  pub sifted_keeps : KeepsDiscriminators before after
+  sifted_keeps = keeps_and_keeps before now after sifted.keeps stepped.keeps
+
+-- before any transition
+pub sifted_none : (ks : List Answer) (t : TreeState) → IsTree t → BranchesAreRead ks t → HasSifted ks t 0 t
+sifted_none ks t tree read =
+    record { grown = not_grown ks t tree read; keeps = keeps_same t; nodes = λ n live. refl; left = λ k le lt. refl; moved = λ k lt. absurd (omega (arith, lt)) }
+
+-- after all
+pub sifted_all : (ks : List Answer) (before : TreeState) (to : ℕ) (now : TreeState) → IsTree before → length before.places ≤ to → HasSifted ks before to now → HasMoved before now
+sifted_all ks before to now g past sifted =
+    ⊎_elim
+    (λ (more : length before.access < length now.access). inl more)
+    (λ (le : length now.access ≤ length before.access).
+    let same : length now.access ≡ length before.access = (let ge = access_longer ks before now sifted.grown in omega (arith, le, ge)) in
+    let count : length now.places ≡ length before.places = sifted.grown.tree.each_place ∙ (ap₂ (λ (x y : ℕ). x * y) same sifted.grown.inputs ∙ sym g.each_place) in
+    inr (λ k lt. sifted.moved k (omega (arith, lt, count, past)) (omega (arith, lt, count))))
+    (cases_lt (length before.access) (length now.access))
+
+-- the words that an open transition is asked by stay the same
+pub asked_still : (P : List ℕ → Type 0) (ks : List Answer) (before : TreeState) (to : ℕ) (now : TreeState) (edge : Edge) → IsTree before → HasSifted ks before to now → IsTransition before edge → to ≤ edge.state * before.inputs + edge.letter → edge.state * before.inputs + edge.letter < length before.places → IsAsked P before edge → IsAsked P now edge
+asked_still P ks before to now edge g sifted from le inside asked stands =
+    let same : edge.state * now.inputs + edge.letter ≡ edge.state * before.inputs + edge.letter = ap (λ (a : ℕ). edge.state * a + edge.letter) sifted.grown.inputs in
+    let k : ℕ = edge.state * before.inputs + edge.letter in
+    let live : IsLive (node_at before.nodes (place_at before.places k).node).content = (all_places before (shape_of before g) k).live in
+    let at : place_at now.places k ≡ place_at before.places k = sifted.left k le inside in
+    let place : place_by now edge ≡ place_by before edge = ap (place_at now.places) same ∙ at in
+    let word : word_of now edge ≡ word_of before edge = ap (λ (w : List ℕ). w ++ edge.letter ∷ []) (words_stay ks before now sifted.grown edge.state from.0) in
+    let content : content_by now edge ≡ content_by before edge = ap (λ (p : Place). (node_at now.nodes p.node).content) place ∙ ap (λ (m : Node). m.content) (sifted.nodes (place_at before.places k).node live) in
+    let was : is_open_by before edge ≡ true = sym (same_open before now k live sifted.nodes at) ∙ (ap (λ (j : ℕ). is_open (node_at now.nodes) (place_at now.places j)) (sym same) ∙ stands) in
+    let r = asked was in
+    (subst P (sym word) r.0, subst P (sym (ap₂ (λ (w : List ℕ) (c : Content). w ++ discriminator c) word content)) r.1)

@@ -1,0 +1,15 @@
+mod BranchLemmas
+mod CloseLemmas
+mod FieldLemmas
+mod GrownLemmas
+mod ListingLemmas
+mod LowerLemmas
+mod MachineLemmas
+mod MeasureLemmas
+mod NodeLemmas
+mod PartLemmas
+mod PlaceLemmas
+mod ShapeLemmas
+mod StepLemmas
+mod TrialLemmas
+mod WayLemmas

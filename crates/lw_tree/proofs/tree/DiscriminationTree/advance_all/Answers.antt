@@ -1,0 +1,50 @@
+use Rattle.std.proofs.Common.{rules, ◌≡◌, ◌+◌, ◌*◌, ◌<◌, ◌≤◌, ℕ, length, sym, ◌∙◌, ap, subst, arith}
+use Rattle.lw_words.specs.Answer.{answers_of}
+use Rattle.lw_cache.specs.Known.{IsKnown}
+use Rattle.lw_tree.specs.Tree.{TreeState, IsTree}
+use Rattle.lw_tree.proofs.GrownLemmas.{asked_still, sifted_more, sifted_all}
+use Rattle.lw_tree.proofs.StepLemmas.{handed_crowd}
+use Rattle.lw_tree.proofs.tree.DiscriminationTree.advance_all.Goals as goal
+
+pub advance-requires-clause-known : goal.advance-requires-clause-known
+advance-requires-clause-known c =
+    let s = c.self.inside in
+    let u : TreeState = c.args.self.now in
+    let l = c.loop-number in
+    let ks = answers_of c.args.cache.now.kept in
+    let edge = c.with_number.result in
+    let g : IsTree u = subst (λ (v : TreeState). IsTree v) c.self.view_is c.self.invariant in
+    let in_items : l.number < length s.places.items = search rules in
+    let inside : l.number < length u.places = subst (λ (v : TreeState). l.number < length v.places) c.self.view_is in_items in
+    let inputs : c.advance.inside.inputs ≡ u.inputs = ap (λ (v : TreeState). v.inputs) c.advance.view_is ∙ l.invariant.grown.inputs in
+    let number : l.number ≡ edge.state * u.inputs + edge.letter = c.with_number.ensures.number ∙ ap (λ (a : ℕ). edge.state * a + edge.letter) inputs in
+    let letter : edge.letter < u.inputs = subst (λ (a : ℕ). edge.letter < a) inputs c.with_number.ensures.letter in
+    let state : edge.state < length u.access = c.with_number.ensures.state (length u.access) (subst (λ (a : ℕ). l.number < length u.access * a) (sym inputs) (subst (λ (n : ℕ). l.number < n) g.each_place inside)) in
+    asked_still (IsKnown ks) ks u l.number l.self edge g l.invariant (state, letter) (omega (arith, number)) (omega (arith, number, inside)) (c.requires.known edge (state, letter) (omega arith) (omega (arith, number, inside)))
+
+pub returns-in_err-advance-clause-crowd : goal.returns-in_err-advance-clause-crowd
+returns-in_err-advance-clause-crowd c =
+    handed_crowd (answers_of c.args.cache.now.kept) c.advance-in-loop-number.new.self c.in_err-advance.field-0.0 c.from_residual.result c.in_err-advance.ensures.crowd (search rules)
+
+pub loop-number-preserved : goal.loop-number-preserved
+loop-number-preserved c =
+    let s = c.self.inside in
+    let u : TreeState = c.args.self.now in
+    let l = c.loop-number in
+    let ks = answers_of c.args.cache.now.kept in
+    let edge = c.with_number.result in
+    let g : IsTree u = subst (λ (v : TreeState). IsTree v) c.self.view_is c.self.invariant in
+    let in_items : l.number < length s.places.items = search rules in
+    let inside : l.number < length u.places = subst (λ (v : TreeState). l.number < length v.places) c.self.view_is in_items in
+    let number : l.number ≡ edge.state * l.self.inputs + edge.letter = c.with_number.ensures.number ∙ ap (λ (v : TreeState). edge.state * v.inputs + edge.letter) c.advance.view_is in
+    sifted_more ks u l.number l.self c.advance-in-loop-number.new.self edge g l.invariant number inside c.in_ok-advance.ensures.stepped c.in_ok-advance.ensures.moved
+
+pub returns-clause-moved : goal.returns-clause-moved
+returns-clause-moved c =
+    let s = c.self.inside in
+    let u : TreeState = c.args.self.now in
+    let l = c.loop-number in
+    let ks = answers_of c.args.cache.now.kept in
+    let g : IsTree u = subst (λ (v : TreeState). IsTree v) c.self.view_is c.self.invariant in
+    let in_items : length s.places.items ≤ l.number = search rules in
+    sifted_all ks u l.number l.self g (subst (λ (v : TreeState). length v.places ≤ l.number) c.self.view_is in_items) l.invariant

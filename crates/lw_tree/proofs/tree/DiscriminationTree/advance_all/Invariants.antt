@@ -1,0 +1,6 @@
+use Rattle.lw_words.specs.Answer.{answers_of}
+use Rattle.lw_tree.specs.bodies.Steps.{HasSifted}
+use Rattle.lw_tree.proofs.tree.DiscriminationTree.advance_all.Given as goal
+
+abbrev pub invariant-loop-number : goal.invariant-loop-number
+invariant-loop-number l = HasSifted (answers_of l.cache.kept) l.fn.self l.number l.self

@@ -1,0 +1,62 @@
+use Rattle.std.proofs.Common.{rules, ◌^◌, Bool, Err, None, subst}
+use Rattle.lw_words.specs.Answer.{answers_of}
+use Rattle.lw_cache.specs.Settling.{grown_stop}
+use Rattle.lw_cache.proofs.SettlingLemmas.{leaves_nothing, leaves_then}
+use Rattle.lw_tree.specs.Tree.{TreeState, IsTree}
+use Rattle.lw_tree.proofs.CloseLemmas.{not_closed, crowd_too, handed_leaves}
+use Rattle.lw_tree.proofs.GrownLemmas.{keeps_same, keeps_and_keeps, not_grown, grown_then}
+use Rattle.lw_tree.proofs.MeasureLemmas.{closer}
+use Rattle.lw_tree.proofs.tree.DiscriminationTree.close.Goals as goal
+
+pub loop-init : goal.loop-init
+loop-init g c =
+    let o = g.O.Oracle.state c.args.oracle.now in
+    let u : TreeState = c.args.self.now in
+    record {
+      grown = not_grown (answers_of o.kept) u (subst (λ (v : TreeState). IsTree v) c.self.view_is c.self.invariant) c.requires.read;
+      keeps = keeps_same u;
+      leaves = leaves_nothing o c.cache.ensures.keeps c.requires.may;
+      can = c.requires.can;
+    }
+
+pub returns-in_err-sift-clause-closes : goal.returns-in_err-sift-clause-closes
+returns-in_err-sift-clause-closes g c =
+    let l = c.loop in
+    let ks = answers_of (g.O.Oracle.state c.sift.new.oracle).kept in
+    let done = c.in_err-sift.ensures.levels in
+    let stop = c.in_err-sift.field-0.0 in
+    not_closed ks c.args.self.now c.sift.new.self stop c.from_residual.result
+    (grown_then (answers_of (g.O.Oracle.state l.oracle).kept) ks c.args.self.now l.self c.sift.new.self l.invariant.grown done.grown) (keeps_and_keeps c.args.self.now l.self c.sift.new.self l.invariant.keeps done.keeps)
+    (crowd_too ks c.sift.new.self stop done.crowd) (search rules)
+
+pub returns-in_err-sift-clause-leaves : goal.returns-in_err-sift-clause-leaves
+returns-in_err-sift-clause-leaves g c =
+    let l = c.loop in
+    let o = g.O.Oracle.state c.args.oracle.now in
+    let n = g.O.Oracle.state c.sift.new.oracle in
+    let stop = c.in_err-sift.field-0.0 in
+    handed_leaves Bool o n stop c.from_residual.result (leaves_then o (g.O.Oracle.state l.oracle) n (grown_stop {X = Bool} (Err stop)) l.invariant.leaves c.in_err-sift.ensures.leaves) (search rules)
+
+pub loop-smaller : goal.loop-smaller
+loop-smaller g c =
+    let l = c.loop in
+    let ks = answers_of (g.O.Oracle.state c.sift.new.oracle).kept in
+    let done = c.in_ok-sift.ensures.levels in
+    closer (2 ^ 32) ks l.self c.sift.new.self done.grown done.grown.tree.few_nodes c.in_ok-sift.ensures.moved (done.left c.if-branch.true) l.invariant.grown.tree
+
+pub loop-preserved : goal.loop-preserved
+loop-preserved g c =
+    let l = c.loop in
+    let o = g.O.Oracle.state c.args.oracle.now in
+    let n = g.O.Oracle.state c.sift.new.oracle in
+    let done = c.in_ok-sift.ensures.levels in
+    record {
+      grown = grown_then (answers_of (g.O.Oracle.state l.oracle).kept) (answers_of n.kept) c.args.self.now l.self c.sift.new.self l.invariant.grown done.grown;
+      keeps = keeps_and_keeps c.args.self.now l.self c.sift.new.self l.invariant.keeps done.keeps;
+      leaves = leaves_then o (g.O.Oracle.state l.oracle) n None l.invariant.leaves c.in_ok-sift.ensures.leaves;
+      can = c.in_ok-sift.ensures.can;
+    }
+
+pub returns-clause-leaves : goal.returns-clause-leaves
+returns-clause-leaves g c =
+    leaves_then (g.O.Oracle.state c.args.oracle.now) (g.O.Oracle.state c.loop.oracle) (g.O.Oracle.state c.sift.new.oracle) None c.loop.invariant.leaves c.in_ok-sift.ensures.leaves

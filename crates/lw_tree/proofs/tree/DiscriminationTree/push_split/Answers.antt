@@ -1,0 +1,62 @@
+use Rattle.std.proofs.Common.{rules, ◌≡◌, ◌+◌, ◌*◌, ◌^◌, ◌<◌, ℕ, List, [], ◌∷◌, ◌++◌, length, replicate, set, sym, ap, subst, arith}
+use Rattle.std.proofs.lemmas.List.{get_or_default}
+use Rattle.lw_tree.specs.Tree.{TreeState, no_place, node_at, leaf_at, edge_at, no_edge, IsTree}
+use Rattle.lw_tree.specs.bodies.Nodes.{tree_of}
+use Rattle.lw_tree.specs.bodies.Steps.{set_place, leaf_below, moved_edge, inner_node, lowered, IsNextSplit, split_tree}
+use Rattle.lw_tree.specs.bodies.Transitions.{word_of, place_by}
+use Rattle.lw_tree.specs.declared.transitions.Edge.{Edge}
+use Rattle.lw_tree.specs.declared.transitions.Place.{Place}
+use Rattle.lw_tree.proofs.FieldLemmas.{split_is_tree, split_value}
+use Rattle.lw_tree.proofs.LowerLemmas.{edge_inside, length-moved_edge}
+use Rattle.lw_tree.proofs.ShapeLemmas.{shape_of, place_inside}
+use Rattle.lw_tree.proofs.tree.DiscriminationTree.push_split.Goals as goal
+
+pub move_edge-requires : goal.move_edge-requires
+move_edge-requires c some =
+    let s = c.self.inside in
+    let t : TreeState = tree_of s.inputs s.outputs s.most s.access s.nodes.items s.leaves.items s.places.items s.spanning.items s.refinements in
+    let n = subst (λ (u : TreeState). (output : ℕ) × IsNextSplit u c.args.edge output c.args.target c.args.suffix c.args.old c.args.new) (sym c.self.view_is) c.requires.next in
+    let next = n.1 in
+    let in_spanning : c.args.target < length s.spanning.items = omega (arith, next.target, c.self.invariant.each_edge) in
+    let edge : c.index.result.now ≡ edge_at t.spanning c.args.target = search (rules, get_or_default s.spanning.items c.args.target c.index.result.now no_edge in_spanning) in
+    let inside = edge_inside t c.args.target c.args.suffix c.args.old (shape_of t c.self.invariant) next.target next.letters next.some next.old_size (search (rules, some)) in
+    search (rules, subst (λ (e : Edge). e.state * t.inputs + e.letter < length t.places) (sym edge) inside)
+
+pub returns-clause-ok : goal.returns-clause-ok
+returns-clause-ok c output following =
+    let s = c.self.inside in
+    let t : TreeState = tree_of s.inputs s.outputs s.most s.access s.nodes.items s.leaves.items s.places.items s.spanning.items s.refinements in
+    let q : ℕ = c.args.target in
+    let next = subst (λ (u : TreeState). IsNextSplit u c.args.edge output c.args.target c.args.suffix c.args.old c.args.new) (sym c.self.view_is) following in
+    let word : c.args.word ≡ word_of t c.args.edge = subst (λ (u : TreeState). c.args.word ≡ word_of u c.args.edge) (sym c.self.view_is) c.requires.word in
+    let access : c.push.new.self ≡ s.access ++ word_of t c.args.edge ∷ [] = search (rules, word) in
+    let in_spanning : q < length s.spanning.items = omega (arith, next.target, c.self.invariant.each_edge) in
+    let in_leaves : q < length s.leaves.items = omega (arith, next.target, c.self.invariant.each_leaf) in
+    let edge : c.index.result.now ≡ edge_at t.spanning q = search (rules, get_or_default s.spanning.items q c.index.result.now no_edge in_spanning) in
+    let leaf : c.index-leaf.result.now ≡ leaf_at t.leaves q = search (rules, get_or_default s.leaves.items q c.index-leaf.result.now 0 in_leaves) in
+    let nodes : c.push_leaf-2.new.nodes.items ≡ (set t.nodes (leaf_at t.leaves q) (inner_node (node_at t.nodes (leaf_at t.leaves q)) c.args.suffix) ++ leaf_below (leaf_at t.leaves q) c.args.old q ∷ []) ++ leaf_below (leaf_at t.leaves q) c.args.new (length t.leaves) ∷ [] = search (rules, leaf) in
+    let leaves : c.push_reserved.new.self.items ≡ set t.leaves q (length t.nodes) ++ (length t.nodes + 1) ∷ [] = search rules in
+    let moved : c.move_edge.new.places.items ≡ moved_edge t.inputs t.places (edge_at t.spanning q) q (length t.nodes) = search (rules, edge) in
+    let number : c.number-number.result ≡ c.args.edge.state * t.inputs + c.args.edge.letter = c.number-number.ensures in
+    let in_places : c.number-number.result < length c.move_edge.new.places.items = subst (λ (n : ℕ). n < length c.move_edge.new.places.items) (sym number)
+    (subst (λ (l : List Place). c.args.edge.state * t.inputs + c.args.edge.letter < length l) (sym moved) (subst (λ (n : ℕ). c.args.edge.state * t.inputs + c.args.edge.letter < n) (sym (length-moved_edge t.inputs t.places (edge_at t.spanning q) (length t.nodes) q)) (place_inside t (shape_of t c.self.invariant) c.args.edge next.from))) in
+    let found : c.index-2.result.now ≡ place_by (lowered t q c.args.suffix c.args.old) c.args.edge = search (rules, get_or_default c.move_edge.new.places.items c.number-number.result c.index-2.result.now no_place in_places, moved, number) in
+    let places : c.push_places.new.places.items ≡ set_place t.inputs (moved_edge t.inputs t.places (edge_at t.spanning q) q (length t.nodes)) c.args.edge (record { output = c.index-2.result.now.output; node = length t.nodes + 1 }) ++ replicate t.inputs no_place = search (rules, moved, number) in
+    let spanning : c.push_reserved-2.new.self.items ≡ t.spanning ++ c.args.edge ∷ [] = search rules in
+    subst (λ (u : TreeState). tree_of s.inputs s.outputs s.most c.push.new.self c.push_leaf-2.new.nodes.items c.push_reserved.new.self.items c.push_places.new.places.items c.push_reserved-2.new.self.items s.refinements ≡ split_tree u c.args.edge output q c.args.suffix c.args.old c.args.new) c.self.view_is
+    (split_value t c.args.edge output q c.args.suffix c.args.old c.args.new c.self.invariant next c.push.new.self c.push_leaf-2.new.nodes.items c.push_reserved.new.self.items c.push_places.new.places.items c.push_reserved-2.new.self.items c.index-2.result.now.output
+    access nodes leaves places (ap (λ (p : Place). p.output) found) spanning)
+
+pub returns-clause-tree : goal.returns-clause-tree
+returns-clause-tree c =
+    let s = c.self.inside in
+    let t : TreeState = c.args.self.now in
+    let g : IsTree t = subst (λ (u : TreeState). IsTree u) c.self.view_is c.self.invariant in
+    let output = c.requires.next.0 in
+    let next = c.requires.next.1 in
+    let nodes : length s.nodes.items < 4294967294 = search rules in
+    let small : length t.nodes + 2 < 2 ^ 32 = subst (λ (u : TreeState). length u.nodes + 2 < 2 ^ 32) c.self.view_is (omega (arith, nodes)) in
+    subst (λ (u : TreeState). IsTree u) (sym (returns-clause-ok c output next)) (split_is_tree t c.args.edge output c.args.target c.args.suffix c.args.old c.args.new g next c.requires.room small)
+
+pub invariant_of-self-2 : goal.invariant_of-self-2
+invariant_of-self-2 c = returns-clause-tree c

@@ -1,0 +1,36 @@
+use Rattle.std.proofs.Common.{rules, ◌≡◌, ◌+◌, ◌^◌, ◌<◌, [], ◌∷◌, ◌++◌, length, replicate, sym, ap, subst, arith}
+use Rattle.lw_tree.specs.Tree.{TreeState, no_place, IsTree}
+use Rattle.lw_tree.specs.bodies.Nodes.{tree_of}
+use Rattle.lw_tree.specs.bodies.Steps.{set_place, placed, leaf_below, IsNextState, with_state}
+use Rattle.lw_tree.specs.bodies.Transitions.{word_of}
+use Rattle.lw_tree.specs.declared.transitions.Place.{Place}
+use Rattle.lw_tree.proofs.FieldLemmas.{found_place, state_is_tree, state_value}
+use Rattle.lw_tree.proofs.tree.DiscriminationTree.push_state.Goals as goal
+
+pub returns-clause-ok : goal.returns-clause-ok
+returns-clause-ok c =
+    let s = c.self.inside in
+    let t : TreeState = tree_of s.inputs s.outputs s.most s.access s.nodes.items s.leaves.items s.places.items s.spanning.items s.refinements in
+    let next = subst (λ (u : TreeState). IsNextState u c.args.edge c.args.output c.args.branch) (sym c.self.view_is) c.requires.next in
+    let word : c.args.word ≡ word_of t c.args.edge = subst (λ (u : TreeState). c.args.word ≡ word_of u c.args.edge) (sym c.self.view_is) c.requires.word in
+    let access : c.push.new.self ≡ s.access ++ word_of t c.args.edge ∷ [] = search (rules, word) in
+    let place = found_place t c.self.invariant c.args.edge c.number-number.result c.index.result.now next.from c.number-number.ensures (search rules) in
+    let nodes : c.push_leaf.new.nodes.items ≡ t.nodes ++ leaf_below c.index.result.now.node c.args.branch (length t.leaves) ∷ [] = search rules in
+    let leaves : c.push_reserved.new.self.items ≡ t.leaves ++ length t.nodes ∷ [] = search rules in
+    let places : c.push_places.new.places.items ≡ set_place t.inputs t.places c.args.edge (placed c.args.output (length t.nodes)) ++ replicate t.inputs no_place = search (rules, c.number-number.ensures) in
+    let spanning : c.push_reserved-2.new.self.items ≡ t.spanning ++ c.args.edge ∷ [] = search rules in
+    subst (λ (u : TreeState). tree_of s.inputs s.outputs s.most c.push.new.self c.push_leaf.new.nodes.items c.push_reserved.new.self.items c.push_places.new.places.items c.push_reserved-2.new.self.items s.refinements ≡ with_state u c.args.edge c.args.output c.args.branch) c.self.view_is
+    (state_value t c.args.edge c.args.output c.args.branch c.push.new.self c.push_leaf.new.nodes.items c.push_reserved.new.self.items c.push_places.new.places.items c.push_reserved-2.new.self.items c.index.result.now.node c.self.invariant
+    access nodes (ap (λ (p : Place). p.node) place) leaves places spanning)
+
+pub returns-clause-tree : goal.returns-clause-tree
+returns-clause-tree c =
+    let s = c.self.inside in
+    let t : TreeState = c.args.self.now in
+    let g : IsTree t = subst (λ (u : TreeState). IsTree u) c.self.view_is c.self.invariant in
+    let nodes : length s.nodes.items < 4294967295 = search rules in
+    let small : length t.nodes + 1 < 2 ^ 32 = subst (λ (u : TreeState). length u.nodes + 1 < 2 ^ 32) c.self.view_is (omega (arith, nodes)) in
+    subst (λ (u : TreeState). IsTree u) (sym (returns-clause-ok c)) (state_is_tree t c.args.edge c.args.output c.args.branch g c.requires.next c.requires.room small)
+
+pub invariant_of-self-2 : goal.invariant_of-self-2
+invariant_of-self-2 c = returns-clause-tree c

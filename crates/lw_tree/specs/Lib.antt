@@ -1,0 +1,4 @@
+pub mod Grown
+pub mod Laws
+pub mod Tree
+pub mod bodies

@@ -1,0 +1,5 @@
+-- What the contracts of private functions cite, and no public clause.
+pub mod Nodes
+pub mod Steps
+pub mod Transitions
+pub mod Trials

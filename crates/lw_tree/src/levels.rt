@@ -1,0 +1,243 @@
+//! Sifting by levels: all transitions that have no target take one step down the discrimination tree.
+ghost use Rattle.std.specs.Prelude.{◌≡◌, ℕ, ◌+◌, ◌*◌, ◌^◌, ◌<◌, ◌≤◌, List, [], ◌∷◌, ◌++◌, length, Contains, IfOk, IfErr, OnOk, true, false};
+ghost use Rattle.std.specs.List.{All};
+ghost use Rattle.lw_words.specs.Answer.{Answer, AreAnswers, answers_of};
+ghost use Rattle.lw_words.specs.Word.{IsWord};
+ghost use Rattle.lw_cache.specs.Known.{IsKnown};
+ghost use Rattle.lw_cache.specs.Settling.{Keeps, MayAsk, Leaves, grown_stop};
+ghost use Rattle.lw_tree.specs.Grown.{HasGrown, KeepsDiscriminators, HasLevelled, HasClosed, TellsCrowd};
+ghost use Rattle.lw_tree.specs.Tree.{IsTree, BranchesAreRead, HasOpen, IsClosed, IsInner, discriminator};
+ghost use Rattle.lw_tree.specs.bodies.Steps.{IsRead, IsOwn, HasStepped, HasMoved, MovesOn};
+ghost use Rattle.lw_tree.specs.bodies.Transitions.{IsTransition, IsAsked, AreAsked, word_of, content_by, is_open_by};
+
+use crate::DiscriminationTree;
+use crate::nodes::{Content, child};
+use crate::reading::{read_output, read_tail};
+use crate::transitions::Edge;
+use lw_cache::{Cache, GrowStop, Oracle};
+use lw_words::{NoMemory, Word, Words, join};
+
+impl DiscriminationTree {
+    /// Whether a transition has no target.
+    fn is_open(&self, edge: Edge) -> bool
+        requires edge { IsTransition self.now edge }
+        ensures { result ≡ is_open_by self.now edge }
+    {
+        let place = self.places[edge.number(self.inputs)];
+        place.output.is_none() || self.nodes[place.node as usize].is_inner()
+    }
+
+    /// Whether some transition has no target.
+    fn has_open(&self) -> bool
+        ensures open { result ≡ true → HasOpen self.now }
+        ensures closed { result ≡ false → IsClosed self.now }
+    {
+        for number in 0..self.places.len() {
+            if self.is_open(Edge::with_number(self.inputs, number)) {
+                return true;
+            }
+        }
+        false
+    }
+
+    /// The access word of a state, followed by a letter.
+    pub(crate) fn extension(&self, edge: Edge) -> Result<Word, NoMemory>
+        requires edge { IsTransition self.now edge }
+        ensures value { IfOk result (λ word. word ≡ word_of self.now edge) }
+        ensures letters { IfOk result (IsWord self.now.inputs) }
+    {
+        let mut word = self.access.get(usize::from(edge.state)).copy()?;
+        word.push(edge.letter)?;
+        Ok(word)
+    }
+
+    /// Adds the words by which an open transition is asked: its own, and that followed by the discriminator where it stands.
+    fn add_words(&self, words: &mut Words, edge: Edge) -> Result<(), NoMemory>
+        requires edge { IsTransition self.now edge }
+        ensures more { (more : List (List ℕ)) × (words.new ≡ words.old ++ more) }
+        ensures asked { OnOk result (IsAsked (Contains words.new) self.now edge) }
+        ensures letters { All (IsWord self.now.inputs) words.old →
+            All (IsWord self.now.inputs) words.new }
+    {
+        if !self.is_open(edge) {
+            return Ok(());
+        }
+        let word = self.extension(edge)?;
+        let node = self.places[edge.number(self.inputs)].node;
+        if let Content::Discriminator { word: suffix, .. } = &self.nodes[node as usize].content {
+            let long = join(&word, suffix)?;
+            words.push(word)?;
+            words.push(long)?;
+        } else {
+            words.push(word)?;
+        }
+        Ok(())
+    }
+
+    /// The words by which the open transitions are asked, by state and then by letter.
+    fn open_words(&self) -> Result<Words, NoMemory>
+        ensures asked { IfOk result (λ words. AreAsked (Contains words) self.now 0
+            (length self.now.places)) }
+        ensures letters { IfOk result (All (IsWord self.now.inputs)) }
+        ensures small { IfOk result (λ words. length words < 2 ^ 32) }
+        ensures tree { IsTree self.now }
+    {
+        let mut words = Words::new(self.alloc);
+        for number in 0..self.places.len() {
+            self.add_words(&mut words, Edge::with_number(self.inputs, number))?;
+        }
+        if words.len() > u32::MAX as usize {
+            return Err(NoMemory);
+        }
+        Ok(words)
+    }
+
+    /// The access words, and one word more.
+    pub(crate) fn with_word(&self, word: Word) -> Result<Words, NoMemory>
+        ensures { IfOk result (λ words. words ≡ self.now.access ++ word ∷ []) }
+    {
+        let mut words = Words::new(self.alloc);
+        for known in self.access.as_slice() {
+            words.push(known.copy()?)?;
+        }
+        words.push(word)?;
+        Ok(words)
+    }
+
+    /// Moves a transition to the child for its outputs, or to a new state's leaf, where there is no such child.
+    fn descend(&mut self, edge: Edge, word: Word, output: u16, branch: Word) -> Result<(), GrowStop>
+        requires edge { IsTransition self.old edge }
+        requires inner { IsInner (content_by self.old edge) }
+        requires word { word ≡ word_of self.old edge }
+        requires output { output < self.old.outputs }
+        requires size { length branch ≡ length (discriminator (content_by self.old edge)) }
+        ensures stepped { (ks : List Answer) → IsRead ks self.old edge output branch →
+            HasStepped ks self.old edge self.new }
+        ensures moved { OnOk result (MovesOn self.old self.new
+            (edge.state * self.old.inputs + edge.letter)) }
+        ensures crowd { (ks : List Answer) → IsRead ks self.old edge output branch →
+            TellsCrowd ks self.new result }
+        ensures own { IfErr result IsOwn }
+    {
+        let node = self.places[edge.number(self.inputs)].node;
+        if let Some(child) = child(&self.nodes, node, branch.as_slice()) {
+            self.place(edge, output, child as u32);
+            return Ok(());
+        }
+        if self.access.len() == usize::from(self.most) {
+            return Err(GrowStop::Crowd(self.with_word(word)?));
+        }
+        Ok(self.push_state(edge, word, output, branch)?)
+    }
+
+    /// Lets a transition that has no target take its output, and one step down from an inner node.
+    fn advance(&mut self, cache: &Cache, edge: Edge) -> Result<(), GrowStop>
+        requires answers { AreAnswers self.old.inputs (answers_of cache.now.kept) }
+        requires outs { All (λ k. IsWord self.old.outputs k.outs) (answers_of cache.now.kept) }
+        requires read { BranchesAreRead (answers_of cache.now.kept) self.old }
+        requires edge { IsTransition self.old edge }
+        requires known { IsAsked (IsKnown (answers_of cache.now.kept)) self.old edge }
+        ensures stepped { HasStepped (answers_of cache.now.kept) self.old edge self.new }
+        ensures moved { OnOk result (MovesOn self.old self.new
+            (edge.state * self.old.inputs + edge.letter)) }
+        ensures crowd { TellsCrowd (answers_of cache.now.kept) self.new result }
+        ensures own { IfErr result IsOwn }
+    {
+        if !self.is_open(edge) {
+            return Ok(());
+        }
+        let word = self.extension(edge)?;
+        let output = read_output(cache, &word)?;
+        let node = self.places[edge.number(self.inputs)].node;
+        let Content::Discriminator { word: suffix, .. } = &self.nodes[node as usize].content else {
+            self.place(edge, output, node);
+            return Ok(());
+        };
+        let branch = read_tail(self.alloc, cache, &word, suffix)?;
+        self.descend(edge, word, output, branch)
+    }
+
+    /// Lets all transitions that have no target take their step.
+    fn advance_all(&mut self, cache: &Cache) -> Result<(), GrowStop>
+        requires answers { AreAnswers self.old.inputs (answers_of cache.now.kept) }
+        requires outs { All (λ k. IsWord self.old.outputs k.outs) (answers_of cache.now.kept) }
+        requires read { BranchesAreRead (answers_of cache.now.kept) self.old }
+        requires known { AreAsked (IsKnown (answers_of cache.now.kept)) self.old 0
+            (length self.old.places) }
+        ensures grown { HasGrown (answers_of cache.now.kept) self.old self.new }
+        ensures keeps { KeepsDiscriminators self.old self.new }
+        ensures moved { OnOk result (HasMoved self.old self.new) }
+        ensures crowd { TellsCrowd (answers_of cache.now.kept) self.new result }
+        ensures own { IfErr result IsOwn }
+    {
+        for number in 0..self.places.len() {
+            self.advance(cache, Edge::with_number(self.inputs, number))?;
+        }
+        Ok(())
+    }
+
+    /// Sifts a level: whether transitions are left that have no target.
+    fn sift<O: Oracle>(&mut self, oracle: &mut O) -> Result<bool, GrowStop>
+        requires can { O.can_settle oracle.old }
+        requires may { MayAsk (O.state oracle.old).stop }
+        requires keeps { Keeps (O.state oracle.old) }
+        requires inputs { self.old.inputs ≡ (O.state oracle.old).inputs }
+        requires outputs { self.old.outputs ≡ (O.state oracle.old).outputs }
+        requires read { BranchesAreRead (answers_of (O.state oracle.old).kept) self.old }
+        ensures levels { HasLevelled (answers_of (O.state oracle.new).kept) self.old self.new
+            result }
+        ensures moved { IfOk result (λ _. HasMoved self.old self.new) }
+        ensures leaves { Leaves (O.state oracle.old) (O.state oracle.new) (grown_stop result) }
+        ensures can { O.can_settle oracle.new }
+    {
+        let batch = self.open_words()?;
+        oracle.settle(batch.as_slice())?;
+        self.advance_all(oracle.cache())?;
+        Ok(self.has_open())
+    }
+
+    /// Sifts a level: all transitions that have no target are asked in one batch, take their outputs, and go one step down the
+    /// discrimination tree. Where there is no child for what was answered, it is the leaf of a new state.
+    ///
+    /// Answers whether transitions are left that have no target.
+    ///
+    /// # Errors
+    /// The stop of the oracle, or out of memory; or the words of a crowd, where a state more than may be would be needed. The
+    /// tree stays as it was after the last transition that took its step, and a later call goes on from there.
+    pub fn sift_level<O: Oracle>(&mut self, oracle: &mut O) -> Result<bool, GrowStop>
+        requires can { O.can_settle oracle.old }
+        requires may { MayAsk (O.state oracle.old).stop }
+        requires inputs { self.old.inputs ≡ (O.state oracle.old).inputs }
+        requires outputs { self.old.outputs ≡ (O.state oracle.old).outputs }
+        requires read { BranchesAreRead (answers_of (O.state oracle.old).kept) self.old }
+        ensures levels { HasLevelled (answers_of (O.state oracle.new).kept) self.old self.new
+            result }
+        ensures leaves { Leaves (O.state oracle.old) (O.state oracle.new) (grown_stop result) }
+        ensures can { O.can_settle oracle.new }
+    {
+        // The cache tells that its answers are over the inputs and outputs.
+        let _ = oracle.cache();
+        self.sift(oracle)
+    }
+
+    /// Sifts levels until each transition has a target.
+    ///
+    /// # Errors
+    /// As `sift_level`.
+    pub fn close<O: Oracle>(&mut self, oracle: &mut O) -> Result<(), GrowStop>
+        requires can { O.can_settle oracle.old }
+        requires may { MayAsk (O.state oracle.old).stop }
+        requires inputs { self.old.inputs ≡ (O.state oracle.old).inputs }
+        requires outputs { self.old.outputs ≡ (O.state oracle.old).outputs }
+        requires read { BranchesAreRead (answers_of (O.state oracle.old).kept) self.old }
+        ensures closes { HasClosed (answers_of (O.state oracle.new).kept) self.old self.new result }
+        ensures leaves { Leaves (O.state oracle.old) (O.state oracle.new) (grown_stop result) }
+        ensures can { O.can_settle oracle.new }
+    {
+        // As in `sift_level`; and the tree tells that it is one.
+        let _ = oracle.cache();
+        let _ = &self.access;
+        while self.sift(oracle)? {}
+        Ok(())
+    }
+}

@@ -1,0 +1,21 @@
+//! The spanning tree and the discrimination tree of a learner: which word reaches a state, and which state a word reaches.
+#![tactic(auto)]
+
+mod laws;
+mod levels;
+mod machine;
+mod nodes;
+mod reading;
+mod splitting;
+mod steps;
+mod transitions;
+mod tree;
+
+pub use laws::{
+    access_is_crowd, access_leads, branches_stay, closed_has_machine, machine_gives_steps,
+    new_is_read, one_machine,
+};
+pub use tree::DiscriminationTree;
+
+#[cfg(test)]
+mod tests;

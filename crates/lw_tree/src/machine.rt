@@ -1,0 +1,77 @@
+//! The machine of a closed tree.
+ghost use Rattle.std.specs.Prelude.{◌≡◌, ◌<◌, length, map, IfOk, MatchOption};
+ghost use Rattle.lw_mealy.specs.Limits.{IsWithinLimits, mealy_of};
+ghost use Rattle.lw_tree.specs.Tree.{IsClosed, IsMachineOf};
+ghost use Rattle.lw_tree.specs.bodies.Transitions.{AreSteps, IsStep, IsTransition};
+
+use crate::DiscriminationTree;
+use crate::nodes::Content;
+use crate::transitions::Edge;
+use lw_mealy::{Mealy, MealyFault};
+use lw_words::NoMemory;
+use std::alloc::Global;
+
+/// The machine of these rows.
+fn machine_of(
+    alloc: Global,
+    inputs: u16,
+    outputs: u16,
+    rows: Vec<Vec<(u16, u16)>>,
+) -> Result<Mealy, NoMemory>
+    requires { IsWithinLimits (mealy_of inputs outputs (map (λ r. r.items) rows.items)) }
+    ensures { IfOk result (λ m. m ≡ mealy_of inputs outputs (map (λ r. r.items) rows.items)) }
+{
+    match Mealy::new(alloc, inputs, outputs, rows) {
+        Ok(mealy) => Ok(mealy),
+        Err(MealyFault::NoMemory) => Err(NoMemory),
+        Err(_) => unreachable!(),
+    }
+}
+
+impl DiscriminationTree {
+    /// The target and the output of a transition.
+    fn step(&self, edge: Edge) -> (u16, u16)
+        requires closed { IsClosed self.now }
+        requires edge { IsTransition self.now edge }
+        ensures { IsStep self.now edge.state edge.letter result.0 result.1 }
+    {
+        let place = self.places[edge.number(self.inputs)];
+        let Some(output) = place.output else {
+            unreachable!();
+        };
+        let Content::State(target) = &self.nodes[place.node as usize].content else {
+            unreachable!();
+        };
+        (*target, output)
+    }
+
+    /// The targets and the outputs of a state, by letter.
+    fn steps(&self, state: u16) -> Result<Vec<(u16, u16)>, NoMemory>
+        requires closed { IsClosed self.now }
+        requires state { state < length self.now.access }
+        ensures { IfOk result (λ row. AreSteps self.now state row.items) }
+    {
+        let mut row = Vec::with_capacity(self.alloc, usize::from(self.inputs))?;
+        for letter in 0..self.inputs {
+            row.push(self.step(Edge { state, letter }))?;
+        }
+        Ok(row)
+    }
+
+    /// The machine of a closed tree: a state for each access word, in their order.
+    ///
+    /// # Errors
+    /// Only where memory runs out.
+    pub fn machine(&self) -> Result<Mealy, NoMemory>
+        requires closed { IsClosed self.now }
+        ensures value { IfOk result (λ m. IsMachineOf self.now m.rows) }
+        ensures inputs { IfOk result (λ m. m.inputs ≡ self.now.inputs) }
+        ensures outputs { IfOk result (λ m. m.outputs ≡ self.now.outputs) }
+    {
+        let mut rows = Vec::with_capacity(self.alloc, self.access.len())?;
+        for state in 0..self.access.len() {
+            rows.push(self.steps(state as u16)?)?;
+        }
+        machine_of(self.alloc, self.inputs, self.outputs, rows)
+    }
+}

@@ -1,0 +1,80 @@
+//! Splitting a leaf by a cut.
+ghost use Rattle.std.specs.Prelude.{◌≡◌, ◌≢◌, ℕ, ◌+◌, ◌<◌, List, length, IfErr, OnOk, OnErr};
+ghost use Rattle.lw_words.specs.Answer.{AreAnswers, answers_of};
+ghost use Rattle.lw_mealy.specs.Machine.{Rows};
+ghost use Rattle.lw_cache.specs.Cut.{IsCut};
+ghost use Rattle.lw_cache.specs.Settling.{MayAsk, Leaves, grown_stop};
+ghost use Rattle.lw_tree.specs.Grown.{HasGrown, IsSplit, HasSplit, TellsCrowd};
+ghost use Rattle.lw_tree.specs.Tree.{IsTree, BranchesAreRead, IsClosed, IsMachineOf};
+ghost use Rattle.lw_tree.specs.bodies.Steps.{refined_once, IsOwn};
+
+use crate::DiscriminationTree;
+use crate::reading::read_tail;
+use crate::transitions::Edge;
+use lw_cache::{Cache, Cut, GrowStop, Oracle};
+use lw_words::NoMemory;
+
+impl DiscriminationTree {
+    /// Makes the leaf of a cut's target a temporary node, with a new state beside the target below it.
+    fn split_leaf(&mut self, cache: &Cache, cut: &Cut) -> Result<(), GrowStop>
+        requires answers { AreAnswers self.old.inputs (answers_of cache.now.kept) }
+        requires read { BranchesAreRead (answers_of cache.now.kept) self.old }
+        requires closed { IsClosed self.old }
+        requires cut { (m : Rows) × IsMachineOf self.old m × IsCut (answers_of cache.now.kept)
+            self.old.inputs m self.old.access cut.now }
+        ensures was { IsTree self.old }
+        ensures grown { HasGrown (answers_of cache.now.kept) self.old self.new }
+        ensures split { OnOk result (IsSplit cut.now.suffix self.old self.new) }
+        ensures refinements { self.new.refinements ≡ self.old.refinements }
+        ensures err { OnErr result (self.new ≡ self.old) }
+        ensures crowd { TellsCrowd (answers_of cache.now.kept) self.new result }
+        ensures own { IfErr result IsOwn }
+    {
+        let edge = Edge {
+            state: cut.state,
+            letter: cut.letter,
+        };
+        let word = self.extension(edge)?;
+        let target = self.access.get(usize::from(cut.target));
+        let old = read_tail(self.alloc, cache, target, &cut.suffix)?;
+        let new = read_tail(self.alloc, cache, &word, &cut.suffix)?;
+        if self.access.len() == usize::from(self.most) {
+            return Err(GrowStop::Crowd(self.with_word(word)?));
+        }
+        let suffix = cut.suffix.copy()?;
+        Ok(self.push_split(edge, word, cut.target, suffix, old, new)?)
+    }
+
+    /// Counts a split. There are more states than before it.
+    fn count_refinement(&mut self)
+        requires { self.old.refinements + 1 < length self.old.access }
+        ensures value { self.new ≡ refined_once self.old }
+        ensures tree { IsTree self.new }
+    {
+        self.refinements += 1;
+    }
+
+    /// Splits the leaf of a cut's target with the suffix, and closes the tree again.
+    ///
+    /// # Errors
+    /// As `close`. Where the leaf was split, `close` goes on from there.
+    pub fn split<O: Oracle>(&mut self, oracle: &mut O, cut: &Cut) -> Result<(), GrowStop>
+        requires can { O.can_settle oracle.old }
+        requires may { MayAsk (O.state oracle.old).stop }
+        requires inputs { self.old.inputs ≡ (O.state oracle.old).inputs }
+        requires outputs { self.old.outputs ≡ (O.state oracle.old).outputs }
+        requires read { BranchesAreRead (answers_of (O.state oracle.old).kept) self.old }
+        requires closed { IsClosed self.old }
+        requires cut { (m : Rows) × IsMachineOf self.old m × IsCut
+            (answers_of (O.state oracle.old).kept) self.old.inputs m self.old.access cut.now }
+        ensures splits { HasSplit (answers_of (O.state oracle.new).kept) cut.now.suffix self.old
+            self.new result }
+        ensures leaves { Leaves (O.state oracle.old) (O.state oracle.new) (grown_stop result) }
+        ensures can { O.can_settle oracle.new }
+    {
+        self.split_leaf(oracle.cache(), cut)?;
+        self.close(oracle)?;
+        self.count_refinement();
+        Ok(())
+    }
+}

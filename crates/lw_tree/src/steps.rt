@@ -1,0 +1,174 @@
+//! The steps by which a tree grows: a transition is placed, a state is added, a leaf is split.
+ghost use Rattle.std.specs.Prelude.{◌≡◌, ◌≢◌, ◌⊎◌, ℕ, zero, ◌+◌, ◌*◌, ◌^◌, ◌<◌, ◌≤◌, List, [], ◌∷◌, ◌++◌, length, replicate, slice_set, vec_len, vec_capacity, OnOk, OnErr, true};
+ghost use Rattle.lw_words.specs.Word.{IsWord};
+ghost use Rattle.lw_tree.specs.Tree.{node_at, no_place, IsLive, IsTree};
+ghost use Rattle.lw_tree.specs.bodies.Steps.{with_place, with_state, split_tree, leaf_below, inner_node, moved_edge, IsNextState, IsNextSplit};
+ghost use Rattle.lw_tree.specs.bodies.Transitions.{IsTransition, word_of, place_by, is_open_by};
+
+use crate::DiscriminationTree;
+use crate::nodes::{Content, Node};
+use crate::transitions::{Edge, Place, UNASKED};
+use lw_words::{NoMemory, Word};
+
+/// Puts the leaf of a state below a node. There is room for it.
+fn push_leaf(nodes: &mut Vec<Node>, parent: u32, branch: Word, state: u16)
+    requires room { vec_len nodes.old + 1 ≤ vec_capacity nodes.old }
+    ensures value { nodes.new.items ≡ nodes.old.items ++ leaf_below parent branch state ∷ [] }
+    ensures capacity { vec_capacity nodes.new ≡ vec_capacity nodes.old }
+{
+    nodes.push_reserved(Node {
+        parent,
+        branch,
+        content: Content::State(state),
+    });
+}
+
+/// Adds the places of a new state's transitions. There is room for them.
+fn push_places(places: &mut Vec<Place>, count: usize)
+    requires room { vec_len places.old + count ≤ vec_capacity places.old }
+    ensures { places.new.items ≡ places.old.items ++ replicate count no_place }
+{
+    for _ in 0..count {
+        places.push_reserved(UNASKED);
+    }
+}
+
+impl DiscriminationTree {
+    /// Puts a transition that has no target at a node, with its output.
+    pub(crate) fn place(&mut self, edge: Edge, output: u16, node: u32)
+        requires edge { IsTransition self.old edge }
+        requires open { is_open_by self.old edge ≡ true }
+        requires output { output < self.old.outputs }
+        requires node { IsLive (node_at self.old.nodes node).content }
+        ensures value { self.new ≡ with_place self.old edge output node }
+        ensures tree { IsTree self.new }
+    {
+        self.places[edge.number(self.inputs)] = Place {
+            output: Some(output),
+            node,
+        };
+    }
+
+    /// Adds the state that a transition leads to, as a leaf below the inner node where it stands.
+    pub(crate) fn push_state(
+        &mut self,
+        edge: Edge,
+        word: Word,
+        output: u16,
+        branch: Word,
+    ) -> Result<(), NoMemory>
+        requires next { IsNextState self.old edge output branch }
+        requires word { word ≡ word_of self.old edge }
+        requires room { length self.old.access < self.old.most }
+        ensures ok { OnOk result (self.new ≡ with_state self.old edge output branch) }
+        ensures err { OnErr result (self.new ≡ self.old) }
+        ensures tree { IsTree self.new }
+    {
+        let letters = usize::from(self.inputs);
+        let number = edge.number(self.inputs);
+        let node = self.nodes.len();
+        if node >= u32::MAX as usize {
+            return Err(NoMemory);
+        }
+        self.nodes.reserve(1)?;
+        self.leaves.reserve(1)?;
+        self.spanning.reserve(1)?;
+        self.places.reserve(letters)?;
+        self.access.push(word)?;
+        let parent = self.places[number].node;
+        let state = self.leaves.len() as u16;
+        push_leaf(&mut self.nodes, parent, branch, state);
+        self.leaves.push_reserved(node as u32);
+        self.spanning.push_reserved(edge);
+        self.places[number] = Place {
+            output: Some(output),
+            node: node as u32,
+        };
+        push_places(&mut self.places, letters);
+        Ok(())
+    }
+}
+
+/// Puts the transition by which a state was reached at another node. State 0 was reached by none.
+fn move_edge(places: &mut Vec<Place>, inputs: u16, edge: Edge, state: usize, node: u32)
+    requires { 0 < state → edge.state * inputs + edge.letter < length places.old.items }
+    ensures value { places.new.items ≡ moved_edge inputs places.old.items edge state node }
+    ensures capacity { vec_capacity places.new ≡ vec_capacity places.old }
+{
+    if state > 0 {
+        let number = edge.number(inputs);
+        places[number] = Place {
+            output: places[number].output,
+            node,
+        };
+    }
+}
+
+/// Gives a leaf a temporary discriminator.
+fn lower_leaf(nodes: &mut Vec<Node>, leaf: u32, word: Word)
+    requires { leaf < length nodes.old.items }
+    ensures value { nodes.new.items ≡ slice_set nodes.old.items leaf
+        (inner_node (node_at nodes.old.items leaf) word) }
+    ensures capacity { vec_capacity nodes.new ≡ vec_capacity nodes.old }
+{
+    nodes[leaf as usize].content = Content::Discriminator {
+        word,
+        temporary: true,
+    };
+}
+
+impl DiscriminationTree {
+    /// Makes the leaf of a state a temporary node with two leaves: that of the state, under its outputs on the suffix, and that of a
+    /// new state, to which the transition leads.
+    pub(crate) fn push_split(
+        &mut self,
+        edge: Edge,
+        word: Word,
+        target: u16,
+        suffix: Word,
+        old: Word,
+        new: Word,
+    ) -> Result<(), NoMemory>
+        requires next { (output : ℕ) × IsNextSplit self.old edge output target suffix old new }
+        requires word { word ≡ word_of self.old edge }
+        requires room { length self.old.access < self.old.most }
+        ensures ok { OnOk result ((output : ℕ) →
+            IsNextSplit self.old edge output target suffix old new →
+            self.new ≡ split_tree self.old edge output target suffix old new) }
+        ensures err { OnErr result (self.new ≡ self.old) }
+        ensures tree { IsTree self.new }
+    {
+        let letters = usize::from(self.inputs);
+        let number = edge.number(self.inputs);
+        let state = usize::from(target);
+        let node = self.nodes.len();
+        if node >= u32::MAX as usize - 1 {
+            return Err(NoMemory);
+        }
+        self.nodes.reserve(2)?;
+        self.leaves.reserve(1)?;
+        self.spanning.reserve(1)?;
+        self.places.reserve(letters)?;
+        self.access.push(word)?;
+        let leaf = self.leaves[state];
+        lower_leaf(&mut self.nodes, leaf, suffix);
+        push_leaf(&mut self.nodes, leaf, old, target);
+        push_leaf(&mut self.nodes, leaf, new, self.leaves.len() as u16);
+        self.leaves[state] = node as u32;
+        self.leaves.push_reserved(node as u32 + 1);
+        move_edge(
+            &mut self.places,
+            self.inputs,
+            self.spanning[state],
+            state,
+            node as u32,
+        );
+        self.places[number] = Place {
+            output: self.places[number].output,
+            node: node as u32 + 1,
+        };
+        self.spanning.push_reserved(edge);
+        push_places(&mut self.places, letters);
+        Ok(())
+    }
+}

@@ -1,0 +1,145 @@
+//! The tree.
+ghost use Rattle.std.specs.Prelude.{◌≡◌, ℕ, ◌<◌, ◌≤◌, List, [], ◌∷◌, IfOk};
+ghost use Rattle.lw_tree.specs.declared.nodes.Content.TheVariants.{State};
+ghost use Rattle.lw_tree.specs.Tree.{discriminators, temporaries, IsTree, new_tree};
+
+use crate::nodes::{Content, Node};
+use crate::transitions::{Edge, Place, UNASKED};
+use lw_words::{NoMemory, Word, Words};
+use std::alloc::Global;
+use std::marker::Model;
+
+/// A spanning tree, by which each state has its access word, and a discrimination tree, whose leaves are the states (Kearns and
+/// Vazirani 1994, with the temporary discriminators of Isberner, Howar and Steffen 2014).
+///
+/// Nodes and transitions are found by their numbers. A transition stands at the node that it was sifted to; where a leaf is
+/// split, what stood there stands at the inner node that it became.
+#[derive(Drop)]
+pub struct DiscriminationTree {
+    pub(crate) inputs: u16,
+    pub(crate) outputs: u16,
+    pub(crate) most: u16,
+    pub(crate) access: Words,
+    pub(crate) nodes: Vec<Node>,
+    /// The leaf of each state.
+    pub(crate) leaves: Vec<u32>,
+    /// The place of each transition, by state and then by letter.
+    pub(crate) places: Vec<Place>,
+    /// How each state but 0 was reached.
+    pub(crate) spanning: Vec<Edge>,
+    pub(crate) refinements: u32,
+    pub(crate) alloc: Global,
+}
+
+impl Model for DiscriminationTree {
+    ghost use Rattle.lw_tree.specs.Tree.{TreeState, IsTree};
+    ghost use Rattle.lw_tree.specs.bodies.Nodes.{tree_of};
+
+    ghost Value = { TreeState };
+
+    ghost view = { λ t. tree_of t.inputs t.outputs t.most t.access t.nodes.items t.leaves.items
+        t.places.items t.spanning.items t.refinements };
+
+    ghost invariant = { λ t. IsTree (tree_of t.inputs t.outputs t.most t.access t.nodes.items
+        t.leaves.items t.places.items t.spanning.items t.refinements) };
+}
+
+/// The list of the empty word alone.
+fn the_empty_word(alloc: Global) -> Result<Words, NoMemory>
+    ensures { IfOk result (λ words. words ≡ [] ∷ []) }
+{
+    let mut words = Words::new(alloc);
+    words.push(Word::new(alloc))?;
+    Ok(words)
+}
+
+/// The leaf of state 0 alone.
+fn the_root(alloc: Global) -> Result<Vec<Node>, NoMemory>
+    ensures { IfOk result (λ nodes. nodes.items ≡
+        record { parent = 0; branch = []; content = State 0 } ∷ []) }
+{
+    let mut nodes = Vec::new(alloc);
+    nodes.push(Node {
+        parent: 0,
+        branch: Word::new(alloc),
+        content: Content::State(0),
+    })?;
+    Ok(nodes)
+}
+
+impl DiscriminationTree {
+    /// The tree of the empty word alone, before anything was asked.
+    pub fn new(
+        alloc: Global,
+        inputs: u16,
+        outputs: u16,
+        max_states: u16,
+    ) -> Result<DiscriminationTree, NoMemory>
+        requires inputs { (1 ≤ inputs) × (inputs ≤ 64) }
+        requires outputs { (1 ≤ outputs) × (outputs ≤ 4096) }
+        requires max_states { (1 ≤ max_states) × (max_states ≤ 1024) }
+        ensures value { IfOk result (λ t. t ≡ new_tree inputs outputs max_states) }
+        ensures tree { IfOk result IsTree }
+    {
+        Ok(DiscriminationTree {
+            inputs,
+            outputs,
+            most: max_states,
+            access: the_empty_word(alloc)?,
+            nodes: the_root(alloc)?,
+            leaves: vec![in alloc; 0; 1]?,
+            places: vec![in alloc; UNASKED; usize::from(inputs)]?,
+            spanning: vec![in alloc; Edge {
+                state: 0,
+                letter: 0
+            }; 1]?,
+            refinements: 0,
+            alloc,
+        })
+    }
+
+    /// The access words, in the order of the states.
+    pub fn access(&self) -> &Words
+        ensures value { result.now ≡ self.now.access }
+        ensures tree { IsTree self.now }
+    {
+        &self.access
+    }
+
+    /// The discriminators, in the order of their nodes.
+    ///
+    /// # Errors
+    /// Only where memory runs out.
+    pub fn discriminators(&self) -> Result<Words, NoMemory>
+        ensures { IfOk result (λ words. words ≡ discriminators self.now.nodes) }
+    {
+        let mut words = Words::new(self.alloc);
+        for node in &self.nodes {
+            if let Content::Discriminator { word, .. } = &node.content {
+                words.push(word.copy()?)?;
+            }
+        }
+        Ok(words)
+    }
+
+    /// How many discriminators are temporary.
+    pub fn temporary(&self) -> u32
+        ensures { result ≡ temporaries self.now.nodes }
+    {
+        let mut count = 0;
+        for node in &self.nodes {
+            if node.is_temporary() {
+                count += 1;
+            }
+        }
+        count
+    }
+
+    /// How often the tree was split.
+    pub fn refinements(&self) -> u32
+        ensures value { result ≡ self.now.refinements }
+        ensures tree { IsTree self.now }
+    {
+        self.refinements
+    }
+}
