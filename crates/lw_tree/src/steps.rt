@@ -1,8 +1,8 @@
 //! The steps by which a tree grows: a transition is placed, a state is added, a leaf is split.
-ghost use Rattle.std.specs.Prelude.{◌≡◌, ◌≢◌, ◌⊎◌, ℕ, zero, ◌+◌, ◌*◌, ◌^◌, ◌<◌, ◌≤◌, List, [], ◌∷◌, ◌++◌, length, replicate, slice_set, vec_len, vec_capacity, OnOk, OnErr, true};
+ghost use Rattle.std.specs.Prelude.{◌≡◌, ◌≢◌, ◌⊎◌, ℕ, zero, ◌+◌, ◌*◌, ◌^◌, ◌<◌, ◌≤◌, List, ◌++◌, length, replicate, vec_len, vec_capacity, OnOk, OnErr, true};
 ghost use Rattle.lw_words.specs.Word.{IsWord};
 ghost use Rattle.lw_tree.specs.Tree.{node_at, no_place, IsLive, IsTree};
-ghost use Rattle.lw_tree.specs.bodies.Steps.{with_place, with_state, split_tree, leaf_below, inner_node, moved_edge, IsNextState, IsNextSplit};
+ghost use Rattle.lw_tree.specs.bodies.Steps.{with_place, with_state, split_tree, moved_edge, IsNextState, IsNextSplit};
 ghost use Rattle.lw_tree.specs.bodies.Transitions.{IsTransition, word_of, place_by, is_open_by};
 
 use crate::DiscriminationTree;
