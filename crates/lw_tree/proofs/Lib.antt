@@ -2,6 +2,7 @@ mod BranchLemmas
 mod CloseLemmas
 mod FieldLemmas
 mod GrownLemmas
+mod LinkLemmas
 mod ListingLemmas
 mod LowerLemmas
 mod MachineLemmas

@@ -1,20 +1,17 @@
--- Words that are listed one after another, and children that are looked for.
-use Rattle.std.proofs.Common.{◌≡◌, ◌≢◌, ⊎_elim, ℕ, ◌+◌, ◌*◌, ◌<◌, ◌≤◌, Bool, List, [], ◌∷◌, ◌++◌, length, get_or, Contains, refl, ap, ap₂, sym, ◌∙◌, subst, arith}
+-- Words that are listed one after another.
+use Rattle.std.proofs.Common.{◌≡◌, ⊎_elim, ℕ, ◌+◌, ◌*◌, ◌<◌, ◌≤◌, Bool, List, [], ◌∷◌, ◌++◌, length, Contains, refl, ap₂, sym, subst, arith}
 use Rattle.std.specs.List.{All}
 use Rattle.std.proofs.Math.Seq.{get_or-append_seam}
 use Rattle.std.proofs.lemmas.Bool.{cases_lt}
 use Rattle.std.proofs.lemmas.List.{length-append}
 use Rattle.std.proofs.lemmas.List.Elements.{All-push, Contains-append_left}
 use Rattle.lw_words.specs.Word.{IsWord}
-use Rattle.lw_tree.specs.Tree.{TreeState, node_at, discriminator, IsLive}
-use Rattle.lw_tree.specs.bodies.Nodes.{IsChild}
+use Rattle.lw_tree.specs.Tree.{TreeState, discriminator}
 use Rattle.lw_tree.specs.bodies.Transitions.{IsTransition, IsAsked, AreAsked, word_of, content_by}
-use Rattle.lw_tree.specs.declared.nodes.Node.{Node}
 use Rattle.lw_tree.specs.declared.nodes.Content.{Content}
 use Rattle.lw_tree.specs.declared.nodes.Content.TheVariants.{State, Discriminator, Gone}
 use Rattle.lw_tree.specs.declared.transitions.Edge.{Edge}
 use Rattle.lw_tree.proofs.PlaceLemmas.{one_transition}
-use Rattle.lw_tree.proofs.FieldLemmas.{node_read}
 
 pub pushed_last : (was now : List (List ℕ)) (w : List ℕ) → now ≡ was ++ w ∷ [] → Contains now w
 pushed_last was now w grown =
@@ -44,23 +41,6 @@ asked_more t was now to edge grown asked at from here other is ge lt stands =
     let same : edge ≡ other = ap₂ (λ (q x : ℕ). record { state = q; letter = x }) one.0 one.1 in
     subst (λ (e : Edge). IsAsked (Contains now) t e) same here stands)
     (cases_lt (other.state * t.inputs + other.letter) to)
-
--- a child that was found, and one number more without one
-pub child_found : (nodes : List Node) (parent n : ℕ) (outputs : List ℕ) (m : Node) → 0 < n → n < length nodes → m ≡ get_or nodes n m → IsLive m.content × (m.parent ≡ parent) × (m.branch ≡ outputs) → IsChild (node_at nodes) parent n × ((node_at nodes n).branch ≡ outputs)
-child_found nodes parent n outputs m some lt at is =
-    let here = node_read nodes n m lt at in
-    subst (λ (k : Node). ((0 < n) × IsLive k.content × (k.parent ≡ parent)) × (k.branch ≡ outputs)) here ((some, is.0, is.1), is.2)
-
-pub child_passed : (nodes : List Node) (parent n : ℕ) (outputs : List ℕ) (m : Node) → n < length nodes → m ≡ get_or nodes n m → (IsLive m.content → m.parent ≡ parent → m.branch ≢ outputs)
-    → ((k : ℕ) → k < n → IsChild (node_at nodes) parent k → (node_at nodes k).branch ≢ outputs) → (k : ℕ) → k < n + 1 → IsChild (node_at nodes) parent k → (node_at nodes k).branch ≢ outputs
-child_passed nodes parent n outputs m lt at other was k below child same =
-    let here = node_read nodes n m lt at in
-    ⊎_elim
-    (λ (lower : k < n). was k lower child same)
-    (λ (ge : n ≤ k).
-    let is : node_at nodes k ≡ m = ap (node_at nodes) (omega (arith, ge, below)) ∙ sym here in
-    other (subst (λ (x : Node). IsLive x.content) is child.1) (ap (λ (x : Node). x.parent) (sym is) ∙ child.2) (ap (λ (x : Node). x.branch) (sym is) ∙ same))
-    (cases_lt k n)
 
 pub no_discriminator : (c : Content) → ((word : List ℕ) (temporary : Bool) → c ≡ Discriminator word temporary → ⊥) → discriminator c ≡ []
 no_discriminator (State q) other = refl

@@ -25,16 +25,16 @@ use Rattle.lw_tree.specs.declared.transitions.Edge.{Edge}
 use Rattle.lw_tree.specs.declared.transitions.Place.{Place}
 use Rattle.lw_tree.proofs.BranchLemmas.{split_read}
 use Rattle.lw_tree.proofs.CloseLemmas.{handed_stop}
-use Rattle.lw_tree.proofs.FieldLemmas.{node_read, found_place, found_node}
+use Rattle.lw_tree.proofs.FieldLemmas.{found_place}
 use Rattle.lw_tree.proofs.GrownLemmas.{placed_stepped}
 use Rattle.lw_tree.proofs.PlaceLemmas.{inner_open}
 use Rattle.lw_tree.proofs.ShapeLemmas.{shape_of}
 use Rattle.lw_tree.proofs.WayLemmas.{agrees_below}
 
 -- the content of the node that was read for a transition
-pub found_content : (t : TreeState) (g : IsTree t) (edge : Edge) (k : ℕ) (p : Place) (m : Node) → IsTransition t edge → k ≡ edge.state * t.inputs + edge.letter → p ≡ get_or t.places k p → m ≡ get_or t.nodes p.node m → m.content ≡ content_by t edge
+pub found_content : (t : TreeState) (g : IsTree t) (edge : Edge) (k : ℕ) (p : Place) (m : Node) → IsTransition t edge → k ≡ edge.state * t.inputs + edge.letter → p ≡ get_or t.places k p → m ≡ node_at t.nodes p.node → m.content ≡ content_by t edge
 found_content t g edge k p m from number at read =
-    ap (λ (n : Node). n.content) (node_read t.nodes p.node m (found_node t g edge k p from number at) read)
+    ap (λ (n : Node). n.content) read
     ∙ ap (λ (q : Place). (node_at t.nodes q.node).content) (found_place t g edge k p from number at)
 
 -- a transition that goes to a child

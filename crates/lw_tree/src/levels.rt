@@ -11,7 +11,7 @@ ghost use Rattle.lw_tree.specs.bodies.Steps.{IsRead, IsOwn, HasStepped, HasMoved
 ghost use Rattle.lw_tree.specs.bodies.Transitions.{IsTransition, IsAsked, AreAsked, word_of, content_by, is_open_by};
 
 use crate::DiscriminationTree;
-use crate::nodes::{Content, child};
+use crate::nodes::Content;
 use crate::reading::{read_output, read_tail};
 use crate::transitions::Edge;
 use lw_cache::{Cache, GrowStop, Oracle};
@@ -24,7 +24,7 @@ impl DiscriminationTree {
         ensures { result ≡ is_open_by self.now edge }
     {
         let place = self.places[edge.number(self.inputs)];
-        place.output.is_none() || self.nodes[place.node as usize].is_inner()
+        place.output.is_none() || self.nodes.get(place.node).is_inner()
     }
 
     /// Whether some transition has no target.
@@ -64,7 +64,7 @@ impl DiscriminationTree {
         }
         let word = self.extension(edge)?;
         let node = self.places[edge.number(self.inputs)].node;
-        if let Content::Discriminator { word: suffix, .. } = &self.nodes[node as usize].content {
+        if let Content::Discriminator { word: suffix, .. } = &self.nodes.get(node).content {
             let long = join(&word, suffix)?;
             words.push(word)?;
             words.push(long)?;
@@ -120,8 +120,8 @@ impl DiscriminationTree {
         ensures own { IfErr result IsOwn }
     {
         let node = self.places[edge.number(self.inputs)].node;
-        if let Some(child) = child(&self.nodes, node, branch.as_slice()) {
-            self.place(edge, output, child as u32);
+        if let Some(child) = self.nodes.child(node, branch.as_slice()) {
+            self.place(edge, output, child);
             return Ok(());
         }
         if self.access.len() == usize::from(self.most) {
@@ -149,7 +149,7 @@ impl DiscriminationTree {
         let word = self.extension(edge)?;
         let output = read_output(cache, &word)?;
         let node = self.places[edge.number(self.inputs)].node;
-        let Content::Discriminator { word: suffix, .. } = &self.nodes[node as usize].content else {
+        let Content::Discriminator { word: suffix, .. } = &self.nodes.get(node).content else {
             self.place(edge, output, node);
             return Ok(());
         };

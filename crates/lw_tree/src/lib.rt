@@ -3,6 +3,7 @@
 
 mod laws;
 mod levels;
+mod linked;
 mod machine;
 mod nodes;
 mod reading;

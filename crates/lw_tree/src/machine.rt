@@ -39,7 +39,7 @@ impl DiscriminationTree {
         let Some(output) = place.output else {
             unreachable!();
         };
-        let Content::State(target) = &self.nodes[place.node as usize].content else {
+        let Content::State(target) = &self.nodes.get(place.node).content else {
             unreachable!();
         };
         (*target, output)

@@ -1,7 +1,6 @@
 //! The nodes of a discrimination tree.
-ghost use Rattle.std.specs.Prelude.{◌≡◌, ◌≢◌, ℕ, ◌+◌, ◌<◌, ◌≤◌, length, true, false, MatchOption};
-ghost use Rattle.lw_tree.specs.Tree.{node_at, is_inner, is_temporary, IsLive};
-ghost use Rattle.lw_tree.specs.bodies.Nodes.{IsChild};
+ghost use Rattle.std.specs.Prelude.{◌≡◌};
+ghost use Rattle.lw_tree.specs.Tree.{is_inner, is_temporary};
 
 use lw_words::Word;
 
@@ -44,31 +43,4 @@ impl Node {
             _ => false,
         }
     }
-
-    /// Whether it is the child of a node under these outputs.
-    fn is_under(&self, parent: u32, outputs: &[u16]) -> bool
-        ensures under { result ≡ true → IsLive self.now.content × (self.now.parent ≡ parent) ×
-            (self.now.branch ≡ outputs.now) }
-        ensures other { result ≡ false → IsLive self.now.content → self.now.parent ≡ parent →
-            self.now.branch ≢ outputs.now }
-    {
-        match &self.content {
-            Content::Gone => false,
-            _ => self.parent == parent && self.branch.as_slice() == outputs,
-        }
-    }
-}
-
-/// The child of a node under these outputs, if there is one.
-pub(crate) fn child(nodes: &[Node], parent: u32, outputs: &[u16]) -> Option<usize>
-    ensures { MatchOption result
-        ((n : ℕ) → IsChild (node_at nodes.now) parent n → (node_at nodes.now n).branch ≢ outputs.now)
-        (λ n. IsChild (node_at nodes.now) parent n × ((node_at nodes.now n).branch ≡ outputs.now)) }
-{
-    for number in 1..nodes.len() {
-        if nodes[number].is_under(parent, outputs) {
-            return Some(number);
-        }
-    }
-    None
 }

@@ -1,27 +1,13 @@
 //! The steps by which a tree grows: a transition is placed, a state is added, a leaf is split.
-ghost use Rattle.std.specs.Prelude.{◌≡◌, ◌≢◌, ◌⊎◌, ℕ, zero, ◌+◌, ◌*◌, ◌^◌, ◌<◌, ◌≤◌, List, [], ◌∷◌, ◌++◌, length, replicate, slice_set, vec_len, vec_capacity, OnOk, OnErr, true};
+ghost use Rattle.std.specs.Prelude.{◌≡◌, ◌≢◌, ◌⊎◌, ℕ, zero, ◌+◌, ◌*◌, ◌^◌, ◌<◌, ◌≤◌, List, ◌++◌, length, replicate, vec_len, vec_capacity, OnOk, OnErr, true};
 ghost use Rattle.lw_words.specs.Word.{IsWord};
 ghost use Rattle.lw_tree.specs.Tree.{node_at, no_place, IsLive, IsTree};
-ghost use Rattle.lw_tree.specs.bodies.Steps.{with_place, with_state, split_tree, leaf_below, inner_node, moved_edge, IsNextState, IsNextSplit};
+ghost use Rattle.lw_tree.specs.bodies.Steps.{with_place, with_state, split_tree, moved_edge, IsNextState, IsNextSplit};
 ghost use Rattle.lw_tree.specs.bodies.Transitions.{IsTransition, word_of, place_by, is_open_by};
 
 use crate::DiscriminationTree;
-use crate::nodes::{Content, Node};
 use crate::transitions::{Edge, Place, UNASKED};
 use lw_words::{NoMemory, Word};
-
-/// Puts the leaf of a state below a node. There is room for it.
-fn push_leaf(nodes: &mut Vec<Node>, parent: u32, branch: Word, state: u16)
-    requires room { vec_len nodes.old + 1 ≤ vec_capacity nodes.old }
-    ensures value { nodes.new.items ≡ nodes.old.items ++ leaf_below parent branch state ∷ [] }
-    ensures capacity { vec_capacity nodes.new ≡ vec_capacity nodes.old }
-{
-    nodes.push_reserved(Node {
-        parent,
-        branch,
-        content: Content::State(state),
-    });
-}
 
 /// Adds the places of a new state's transitions. There is room for them.
 fn push_places(places: &mut Vec<Place>, count: usize)
@@ -77,7 +63,7 @@ impl DiscriminationTree {
         self.access.push(word)?;
         let parent = self.places[number].node;
         let state = self.leaves.len() as u16;
-        push_leaf(&mut self.nodes, parent, branch, state);
+        self.nodes.push_leaf(parent, branch, state);
         self.leaves.push_reserved(node as u32);
         self.spanning.push_reserved(edge);
         self.places[number] = Place {
@@ -102,19 +88,6 @@ fn move_edge(places: &mut Vec<Place>, inputs: u16, edge: Edge, state: usize, nod
             node,
         };
     }
-}
-
-/// Gives a leaf a temporary discriminator.
-fn lower_leaf(nodes: &mut Vec<Node>, leaf: u32, word: Word)
-    requires { leaf < length nodes.old.items }
-    ensures value { nodes.new.items ≡ slice_set nodes.old.items leaf
-        (inner_node (node_at nodes.old.items leaf) word) }
-    ensures capacity { vec_capacity nodes.new ≡ vec_capacity nodes.old }
-{
-    nodes[leaf as usize].content = Content::Discriminator {
-        word,
-        temporary: true,
-    };
 }
 
 impl DiscriminationTree {
@@ -151,9 +124,9 @@ impl DiscriminationTree {
         self.places.reserve(letters)?;
         self.access.push(word)?;
         let leaf = self.leaves[state];
-        lower_leaf(&mut self.nodes, leaf, suffix);
-        push_leaf(&mut self.nodes, leaf, old, target);
-        push_leaf(&mut self.nodes, leaf, new, self.leaves.len() as u16);
+        self.nodes.lower_leaf(leaf, suffix);
+        self.nodes.push_leaf(leaf, old, target);
+        self.nodes.push_leaf(leaf, new, self.leaves.len() as u16);
         self.leaves[state] = node as u32;
         self.leaves.push_reserved(node as u32 + 1);
         move_edge(

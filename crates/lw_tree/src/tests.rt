@@ -1,6 +1,7 @@
 //! New trees, and the laws.
 mod drawn;
 mod levels;
+mod linked;
 mod splits;
 mod trial;
 

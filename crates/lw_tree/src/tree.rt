@@ -1,9 +1,9 @@
 //! The tree.
 ghost use Rattle.std.specs.Prelude.{◌≡◌, ℕ, ◌<◌, ◌≤◌, List, [], ◌∷◌, IfOk};
-ghost use Rattle.lw_tree.specs.declared.nodes.Content.TheVariants.{State};
 ghost use Rattle.lw_tree.specs.Tree.{discriminators, temporaries, IsTree, new_tree};
 
-use crate::nodes::{Content, Node};
+use crate::linked::Nodes;
+use crate::nodes::Content;
 use crate::transitions::{Edge, Place, UNASKED};
 use lw_words::{NoMemory, Word, Words};
 use std::alloc::Global;
@@ -20,7 +20,7 @@ pub struct DiscriminationTree {
     pub(crate) outputs: u16,
     pub(crate) most: u16,
     pub(crate) access: Words,
-    pub(crate) nodes: Vec<Node>,
+    pub(crate) nodes: Nodes,
     /// The leaf of each state.
     pub(crate) leaves: Vec<u32>,
     /// The place of each transition, by state and then by letter.
@@ -53,20 +53,6 @@ fn the_empty_word(alloc: Global) -> Result<Words, NoMemory>
     Ok(words)
 }
 
-/// The leaf of state 0 alone.
-fn the_root(alloc: Global) -> Result<Vec<Node>, NoMemory>
-    ensures { IfOk result (λ nodes. nodes.items ≡
-        record { parent = 0; branch = []; content = State 0 } ∷ []) }
-{
-    let mut nodes = Vec::new(alloc);
-    nodes.push(Node {
-        parent: 0,
-        branch: Word::new(alloc),
-        content: Content::State(0),
-    })?;
-    Ok(nodes)
-}
-
 impl DiscriminationTree {
     /// The tree of the empty word alone, before anything was asked.
     pub fn new(
@@ -86,7 +72,7 @@ impl DiscriminationTree {
             outputs,
             most: max_states,
             access: the_empty_word(alloc)?,
-            nodes: the_root(alloc)?,
+            nodes: Nodes::of_root(alloc)?,
             leaves: vec![in alloc; 0; 1]?,
             places: vec![in alloc; UNASKED; usize::from(inputs)]?,
             spanning: vec![in alloc; Edge {
@@ -114,7 +100,7 @@ impl DiscriminationTree {
         ensures { IfOk result (λ words. words ≡ discriminators self.now.nodes) }
     {
         let mut words = Words::new(self.alloc);
-        for node in &self.nodes {
+        for node in self.nodes.as_slice() {
             if let Content::Discriminator { word, .. } = &node.content {
                 words.push(word.copy()?)?;
             }
@@ -127,7 +113,7 @@ impl DiscriminationTree {
         ensures { result ≡ temporaries self.now.nodes }
     {
         let mut count = 0;
-        for node in &self.nodes {
+        for node in self.nodes.as_slice() {
             if node.is_temporary() {
                 count += 1;
             }

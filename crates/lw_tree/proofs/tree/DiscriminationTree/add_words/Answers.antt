@@ -8,7 +8,7 @@ use Rattle.lw_tree.specs.declared.nodes.Content.{Content}
 use Rattle.lw_tree.specs.declared.nodes.Node.{Node}
 use Rattle.lw_tree.specs.declared.transitions.Place.{Place}
 use Rattle.lw_tree.specs.declared.nodes.Content.TheVariants.{Discriminator}
-use Rattle.lw_tree.proofs.FieldLemmas.{found_place, found_node, node_read}
+use Rattle.lw_tree.proofs.FieldLemmas.{found_place}
 use Rattle.lw_tree.proofs.ListingLemmas.{pushed_last, pushed_two, all_pushed, no_discriminator}
 use Rattle.lw_tree.proofs.tree.DiscriminationTree.add_words.Goals as goal
 
@@ -19,7 +19,7 @@ returns-in_ok-push-2-clause-asked c stands =
     let from : IsTransition t c.args.edge = subst (λ (u : TreeState). IsTransition u c.args.edge) (sym c.self.view_is) c.requires.edge in
     let p = c.index.result.now in
     let place : p ≡ place_by t c.args.edge = found_place t c.self.invariant c.args.edge c.number.result p from c.number.ensures c.index.ensures in
-    let node : c.index-2.result.now ≡ node_at t.nodes p.node = node_read t.nodes p.node c.index-2.result.now (found_node t c.self.invariant c.args.edge c.number.result p from c.number.ensures c.index.ensures) c.index-2.ensures in
+    let node : c.get.result.now ≡ node_at t.nodes p.node = c.get.ensures in
     let content : content_by t c.args.edge ≡ Discriminator c.in-Discriminator.suffix c.in-Discriminator.temporary = ap (λ (q : Place). (node_at t.nodes q.node).content) (sym place) ∙ (ap (λ (m : Node). m.content) (sym node) ∙ c.in-Discriminator.is) in
     let word : c.in_ok-word.word ≡ word_of c.args.self.now c.args.edge = c.in_ok-word.ensures.value in
     let tail : discriminator (content_by c.args.self.now c.args.edge) ≡ c.in-Discriminator.suffix = ap (λ (u : TreeState). discriminator (content_by u c.args.edge)) (sym c.self.view_is) ∙ ap discriminator content in
@@ -33,7 +33,7 @@ returns-in_ok-push-2-clause-letters c each =
     let t : TreeState = tree_of s.inputs s.outputs s.most s.access s.nodes.items s.leaves.items s.places.items s.spanning.items s.refinements in
     let from : IsTransition t c.args.edge = subst (λ (u : TreeState). IsTransition u c.args.edge) (sym c.self.view_is) c.requires.edge in
     let p = c.index.result.now in
-    let node : c.index-2.result.now ≡ node_at t.nodes p.node = node_read t.nodes p.node c.index-2.result.now (found_node t c.self.invariant c.args.edge c.number.result p from c.number.ensures c.index.ensures) c.index-2.ensures in
+    let node : c.get.result.now ≡ node_at t.nodes p.node = c.get.ensures in
     let content : (node_at t.nodes p.node).content ≡ Discriminator c.in-Discriminator.suffix c.in-Discriminator.temporary = ap (λ (m : Node). m.content) (sym node) ∙ c.in-Discriminator.is in
     let letters : IsWord t.inputs c.in-Discriminator.suffix = subst (λ (k : Content). IsWord t.inputs (discriminator k)) content (c.self.invariant.nodes.words p.node (subst IsInner (sym content) tt)).0 in
     let a : ℕ = c.args.self.now.inputs in
@@ -50,9 +50,9 @@ returns-in_ok-push-3 c =
     let from : IsTransition t c.args.edge = subst (λ (u : TreeState). IsTransition u c.args.edge) (sym c.self.view_is) c.requires.edge in
     let p = c.index.result.now in
     let place : p ≡ place_by t c.args.edge = found_place t c.self.invariant c.args.edge c.number.result p from c.number.ensures c.index.ensures in
-    let node : c.index-2.result.now ≡ node_at t.nodes p.node = node_read t.nodes p.node c.index-2.result.now (found_node t c.self.invariant c.args.edge c.number.result p from c.number.ensures c.index.ensures) c.index-2.ensures in
-    let content : c.index-2.result.now.content ≡ content_by t c.args.edge = ap (λ (m : Node). m.content) node ∙ ap (λ (q : Place). (node_at t.nodes q.node).content) place in
-    let none : discriminator (content_by c.args.self.now c.args.edge) ≡ [] = ap (λ (u : TreeState). discriminator (content_by u c.args.edge)) (sym c.self.view_is) ∙ (ap discriminator (sym content) ∙ no_discriminator c.index-2.result.now.content c.in_default.not-Discriminator) in
+    let node : c.get.result.now ≡ node_at t.nodes p.node = c.get.ensures in
+    let content : c.get.result.now.content ≡ content_by t c.args.edge = ap (λ (m : Node). m.content) node ∙ ap (λ (q : Place). (node_at t.nodes q.node).content) place in
+    let none : discriminator (content_by c.args.self.now c.args.edge) ≡ [] = ap (λ (u : TreeState). discriminator (content_by u c.args.edge)) (sym c.self.view_is) ∙ (ap discriminator (sym content) ∙ no_discriminator c.get.result.now.content c.in_default.not-Discriminator) in
     let word : c.in_ok-word.word ≡ word_of c.args.self.now c.args.edge = c.in_ok-word.ensures.value in
     let now = c.push-in_default.new.self in
     let has : Contains now (word_of c.args.self.now c.args.edge) = subst (Contains now) word (pushed_last c.args.words.now now c.in_ok-word.word c.in_ok-push-3.ensures.ok) in

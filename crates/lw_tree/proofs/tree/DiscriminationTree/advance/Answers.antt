@@ -43,8 +43,8 @@ returns-in_default c =
     let below : output < u.outputs = c.in_ok-output.ensures.below u.outputs c.requires.outs in
     let live : IsLive (node_at u.nodes n).content = subst (λ (v : TreeState). IsLive (node_at v.nodes n).content) c.self.view_is (found_live t c.self.invariant edge c.number.result c.index.result.now from c.number.ensures c.index.ensures) in
     let place : n ≡ (place_by u edge).node = subst (λ (v : TreeState). n ≡ (place_by v edge).node) c.self.view_is (ap (λ (p : Place). p.node) (found_place t c.self.invariant edge c.number.result c.index.result.now from c.number.ensures c.index.ensures)) in
-    let content : c.index-2.result.now.content ≡ content_by u edge = subst (λ (v : TreeState). c.index-2.result.now.content ≡ content_by v edge) c.self.view_is (found_content t c.self.invariant edge c.number.result c.index.result.now c.index-2.result.now from c.number.ensures c.index.ensures c.index-2.ensures) in
-    let leaf : is_inner (node_at u.nodes n).content ≡ false = ap (λ (m : ℕ). is_inner (node_at u.nodes m).content) place ∙ (ap is_inner (sym content) ∙ not_inner c.index-2.result.now.content c.in_default.not-Discriminator) in
+    let content : c.get.result.now.content ≡ content_by u edge = subst (λ (v : TreeState). c.get.result.now.content ≡ content_by v edge) c.self.view_is (found_content t c.self.invariant edge c.number.result c.index.result.now c.get.result.now from c.number.ensures c.index.ensures c.get.ensures) in
+    let leaf : is_inner (node_at u.nodes n).content ≡ false = ap (λ (m : ℕ). is_inner (node_at u.nodes m).content) place ∙ (ap is_inner (sym content) ∙ not_inner c.get.result.now.content c.in_default.not-Discriminator) in
     let value : c.place.new.self ≡ with_place u edge output n = c.place.ensures.value in
     let out : Tells ks (word_at u.access edge.state) (edge.letter ∷ []) (output ∷ []) = c.in_ok-output.ensures.tells (word_at u.access edge.state) edge.letter c.in_ok-word.ensures.value in
     let agrees : Agrees ks (node_at u.nodes) (word_of u edge) n = subst (Agrees ks (node_at u.nodes) (word_of u edge)) (sym place) (c.requires.read.transitions edge.state edge.letter c.requires.edge.0 c.requires.edge.1) in
@@ -64,7 +64,7 @@ read_tail-requires-clause-known c =
     let ks = answers_of c.args.cache.now.kept in
     let edge = c.args.edge in
     let from : IsTransition t edge = subst (λ (v : TreeState). IsTransition v edge) (sym c.self.view_is) c.requires.edge in
-    let content : content_by u edge ≡ Discriminator c.in-Discriminator.suffix c.in-Discriminator.temporary = sym (subst (λ (v : TreeState). c.index-2.result.now.content ≡ content_by v edge) c.self.view_is (found_content t c.self.invariant edge c.number.result c.index.result.now c.index-2.result.now from c.number.ensures c.index.ensures c.index-2.ensures)) ∙ c.in-Discriminator.is in
+    let content : content_by u edge ≡ Discriminator c.in-Discriminator.suffix c.in-Discriminator.temporary = sym (subst (λ (v : TreeState). c.get.result.now.content ≡ content_by v edge) c.self.view_is (found_content t c.self.invariant edge c.number.result c.index.result.now c.get.result.now from c.number.ensures c.index.ensures c.get.ensures)) ∙ c.in-Discriminator.is in
     let stands : is_open_by u edge ≡ true = search rules in
     subst (IsKnown ks) (ap₂ (λ (w : List ℕ) (k : Content). w ++ discriminator k) (sym c.in_ok-word.ensures.value) content) (c.requires.known stands).1
 
@@ -75,7 +75,7 @@ descend-requires-clause-inner c =
     let u : TreeState = c.args.self.now in
     let edge = c.args.edge in
     let from : IsTransition t edge = subst (λ (v : TreeState). IsTransition v edge) (sym c.self.view_is) c.requires.edge in
-    let content : content_by u edge ≡ Discriminator c.in-Discriminator.suffix c.in-Discriminator.temporary = sym (subst (λ (v : TreeState). c.index-2.result.now.content ≡ content_by v edge) c.self.view_is (found_content t c.self.invariant edge c.number.result c.index.result.now c.index-2.result.now from c.number.ensures c.index.ensures c.index-2.ensures)) ∙ c.in-Discriminator.is in
+    let content : content_by u edge ≡ Discriminator c.in-Discriminator.suffix c.in-Discriminator.temporary = sym (subst (λ (v : TreeState). c.get.result.now.content ≡ content_by v edge) c.self.view_is (found_content t c.self.invariant edge c.number.result c.index.result.now c.get.result.now from c.number.ensures c.index.ensures c.get.ensures)) ∙ c.in-Discriminator.is in
     subst IsInner (sym content) tt
 
 pub descend-requires-clause-output : goal.descend-requires-clause-output
@@ -88,7 +88,7 @@ descend-requires-clause-size c =
     let u : TreeState = c.args.self.now in
     let edge = c.args.edge in
     let from : IsTransition t edge = subst (λ (v : TreeState). IsTransition v edge) (sym c.self.view_is) c.requires.edge in
-    let content : content_by u edge ≡ Discriminator c.in-Discriminator.suffix c.in-Discriminator.temporary = sym (subst (λ (v : TreeState). c.index-2.result.now.content ≡ content_by v edge) c.self.view_is (found_content t c.self.invariant edge c.number.result c.index.result.now c.index-2.result.now from c.number.ensures c.index.ensures c.index-2.ensures)) ∙ c.in-Discriminator.is in
+    let content : content_by u edge ≡ Discriminator c.in-Discriminator.suffix c.in-Discriminator.temporary = sym (subst (λ (v : TreeState). c.get.result.now.content ≡ content_by v edge) c.self.view_is (found_content t c.self.invariant edge c.number.result c.index.result.now c.get.result.now from c.number.ensures c.index.ensures c.get.ensures)) ∙ c.in-Discriminator.is in
     c.in_ok-branch.ensures.size ∙ ap (λ (k : Content). length (discriminator k)) (sym content)
 
 read_so : (c : goal.After-descend) → IsRead (answers_of c.args.cache.now.kept) c.args.self.now c.args.edge c.in_ok-output.output c.in_ok-branch.branch
@@ -99,7 +99,7 @@ read_so c =
     let ks = answers_of c.args.cache.now.kept in
     let edge = c.args.edge in
     let from : IsTransition t edge = subst (λ (v : TreeState). IsTransition v edge) (sym c.self.view_is) c.requires.edge in
-    let content : content_by u edge ≡ Discriminator c.in-Discriminator.suffix c.in-Discriminator.temporary = sym (subst (λ (v : TreeState). c.index-2.result.now.content ≡ content_by v edge) c.self.view_is (found_content t c.self.invariant edge c.number.result c.index.result.now c.index-2.result.now from c.number.ensures c.index.ensures c.index-2.ensures)) ∙ c.in-Discriminator.is in
+    let content : content_by u edge ≡ Discriminator c.in-Discriminator.suffix c.in-Discriminator.temporary = sym (subst (λ (v : TreeState). c.get.result.now.content ≡ content_by v edge) c.self.view_is (found_content t c.self.invariant edge c.number.result c.index.result.now c.get.result.now from c.number.ensures c.index.ensures c.get.ensures)) ∙ c.in-Discriminator.is in
     record {
       branches = c.requires.read;
       out = c.in_ok-output.ensures.tells (word_at u.access edge.state) edge.letter c.in_ok-word.ensures.value;

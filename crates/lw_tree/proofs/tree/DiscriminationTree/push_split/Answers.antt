@@ -1,6 +1,6 @@
 use Rattle.std.proofs.Common.{rules, ◌≡◌, ◌+◌, ◌*◌, ◌^◌, ◌<◌, ℕ, List, [], ◌∷◌, ◌++◌, length, replicate, set, sym, ap, subst, arith}
 use Rattle.std.proofs.lemmas.List.{get_or_default}
-use Rattle.lw_tree.specs.Tree.{TreeState, no_place, node_at, leaf_at, edge_at, no_edge, IsTree}
+use Rattle.lw_tree.specs.Tree.{TreeState, no_place, node_at, leaf_at, edge_at, no_edge, IsLive, IsTree}
 use Rattle.lw_tree.specs.bodies.Nodes.{tree_of}
 use Rattle.lw_tree.specs.bodies.Steps.{set_place, leaf_below, moved_edge, inner_node, lowered, IsNextSplit, split_tree}
 use Rattle.lw_tree.specs.bodies.Transitions.{word_of, place_by}
@@ -8,7 +8,7 @@ use Rattle.lw_tree.specs.declared.transitions.Edge.{Edge}
 use Rattle.lw_tree.specs.declared.transitions.Place.{Place}
 use Rattle.lw_tree.proofs.FieldLemmas.{split_is_tree, split_value}
 use Rattle.lw_tree.proofs.LowerLemmas.{edge_inside, length-moved_edge}
-use Rattle.lw_tree.proofs.ShapeLemmas.{shape_of, place_inside}
+use Rattle.lw_tree.proofs.ShapeLemmas.{shape_of, leaf_live, place_inside}
 use Rattle.lw_tree.proofs.tree.DiscriminationTree.push_split.Goals as goal
 
 pub move_edge-requires : goal.move_edge-requires
@@ -22,6 +22,17 @@ move_edge-requires c some =
     let inside = edge_inside t c.args.target c.args.suffix c.args.old (shape_of t c.self.invariant) next.target next.letters next.some next.old_size (search (rules, some)) in
     search (rules, subst (λ (e : Edge). e.state * t.inputs + e.letter < length t.places) (sym edge) inside)
 
+pub lower_leaf-requires : goal.lower_leaf-requires
+lower_leaf-requires c =
+    let s = c.self.inside in
+    let t : TreeState = tree_of s.inputs s.outputs s.most s.access s.nodes.items s.leaves.items s.places.items s.spanning.items s.refinements in
+    let q : ℕ = c.args.target in
+    let next = subst (λ (u : TreeState). (output : ℕ) × IsNextSplit u c.args.edge output c.args.target c.args.suffix c.args.old c.args.new) (sym c.self.view_is) c.requires.next in
+    let in_leaves : q < length s.leaves.items = omega (arith, next.1.target, c.self.invariant.each_leaf) in
+    let leaf : c.index-leaf.result.now ≡ leaf_at t.leaves q = search (rules, get_or_default s.leaves.items q c.index-leaf.result.now 0 in_leaves) in
+    let live : IsLive (node_at s.nodes.items (leaf_at t.leaves q)).content = leaf_live t (shape_of t c.self.invariant) q next.1.target in
+    search (rules, leaf, live)
+
 pub returns-clause-ok : goal.returns-clause-ok
 returns-clause-ok c output following =
     let s = c.self.inside in
@@ -34,7 +45,7 @@ returns-clause-ok c output following =
     let in_leaves : q < length s.leaves.items = omega (arith, next.target, c.self.invariant.each_leaf) in
     let edge : c.index.result.now ≡ edge_at t.spanning q = search (rules, get_or_default s.spanning.items q c.index.result.now no_edge in_spanning) in
     let leaf : c.index-leaf.result.now ≡ leaf_at t.leaves q = search (rules, get_or_default s.leaves.items q c.index-leaf.result.now 0 in_leaves) in
-    let nodes : c.push_leaf-2.new.nodes.items ≡ (set t.nodes (leaf_at t.leaves q) (inner_node (node_at t.nodes (leaf_at t.leaves q)) c.args.suffix) ++ leaf_below (leaf_at t.leaves q) c.args.old q ∷ []) ++ leaf_below (leaf_at t.leaves q) c.args.new (length t.leaves) ∷ [] = search (rules, leaf) in
+    let nodes : c.push_leaf-2.new.self.items ≡ (set t.nodes (leaf_at t.leaves q) (inner_node (node_at t.nodes (leaf_at t.leaves q)) c.args.suffix) ++ leaf_below (leaf_at t.leaves q) c.args.old q ∷ []) ++ leaf_below (leaf_at t.leaves q) c.args.new (length t.leaves) ∷ [] = search (rules, leaf) in
     let leaves : c.push_reserved.new.self.items ≡ set t.leaves q (length t.nodes) ++ (length t.nodes + 1) ∷ [] = search rules in
     let moved : c.move_edge.new.places.items ≡ moved_edge t.inputs t.places (edge_at t.spanning q) q (length t.nodes) = search (rules, edge) in
     let number : c.number-number.result ≡ c.args.edge.state * t.inputs + c.args.edge.letter = c.number-number.ensures in
@@ -43,8 +54,8 @@ returns-clause-ok c output following =
     let found : c.index-2.result.now ≡ place_by (lowered t q c.args.suffix c.args.old) c.args.edge = search (rules, get_or_default c.move_edge.new.places.items c.number-number.result c.index-2.result.now no_place in_places, moved, number) in
     let places : c.push_places.new.places.items ≡ set_place t.inputs (moved_edge t.inputs t.places (edge_at t.spanning q) q (length t.nodes)) c.args.edge (record { output = c.index-2.result.now.output; node = length t.nodes + 1 }) ++ replicate t.inputs no_place = search (rules, moved, number) in
     let spanning : c.push_reserved-2.new.self.items ≡ t.spanning ++ c.args.edge ∷ [] = search rules in
-    subst (λ (u : TreeState). tree_of s.inputs s.outputs s.most c.push.new.self c.push_leaf-2.new.nodes.items c.push_reserved.new.self.items c.push_places.new.places.items c.push_reserved-2.new.self.items s.refinements ≡ split_tree u c.args.edge output q c.args.suffix c.args.old c.args.new) c.self.view_is
-    (split_value t c.args.edge output q c.args.suffix c.args.old c.args.new c.self.invariant next c.push.new.self c.push_leaf-2.new.nodes.items c.push_reserved.new.self.items c.push_places.new.places.items c.push_reserved-2.new.self.items c.index-2.result.now.output
+    subst (λ (u : TreeState). tree_of s.inputs s.outputs s.most c.push.new.self c.push_leaf-2.new.self.items c.push_reserved.new.self.items c.push_places.new.places.items c.push_reserved-2.new.self.items s.refinements ≡ split_tree u c.args.edge output q c.args.suffix c.args.old c.args.new) c.self.view_is
+    (split_value t c.args.edge output q c.args.suffix c.args.old c.args.new c.self.invariant next c.push.new.self c.push_leaf-2.new.self.items c.push_reserved.new.self.items c.push_places.new.places.items c.push_reserved-2.new.self.items c.index-2.result.now.output
     access nodes leaves places (ap (λ (p : Place). p.output) found) spanning)
 
 pub returns-clause-tree : goal.returns-clause-tree

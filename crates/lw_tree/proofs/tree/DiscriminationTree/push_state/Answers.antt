@@ -15,12 +15,12 @@ returns-clause-ok c =
     let word : c.args.word ≡ word_of t c.args.edge = subst (λ (u : TreeState). c.args.word ≡ word_of u c.args.edge) (sym c.self.view_is) c.requires.word in
     let access : c.push.new.self ≡ s.access ++ word_of t c.args.edge ∷ [] = search (rules, word) in
     let place = found_place t c.self.invariant c.args.edge c.number-number.result c.index.result.now next.from c.number-number.ensures (search rules) in
-    let nodes : c.push_leaf.new.nodes.items ≡ t.nodes ++ leaf_below c.index.result.now.node c.args.branch (length t.leaves) ∷ [] = search rules in
+    let nodes : c.push_leaf.new.self.items ≡ t.nodes ++ leaf_below c.index.result.now.node c.args.branch (length t.leaves) ∷ [] = search rules in
     let leaves : c.push_reserved.new.self.items ≡ t.leaves ++ length t.nodes ∷ [] = search rules in
     let places : c.push_places.new.places.items ≡ set_place t.inputs t.places c.args.edge (placed c.args.output (length t.nodes)) ++ replicate t.inputs no_place = search (rules, c.number-number.ensures) in
     let spanning : c.push_reserved-2.new.self.items ≡ t.spanning ++ c.args.edge ∷ [] = search rules in
-    subst (λ (u : TreeState). tree_of s.inputs s.outputs s.most c.push.new.self c.push_leaf.new.nodes.items c.push_reserved.new.self.items c.push_places.new.places.items c.push_reserved-2.new.self.items s.refinements ≡ with_state u c.args.edge c.args.output c.args.branch) c.self.view_is
-    (state_value t c.args.edge c.args.output c.args.branch c.push.new.self c.push_leaf.new.nodes.items c.push_reserved.new.self.items c.push_places.new.places.items c.push_reserved-2.new.self.items c.index.result.now.node c.self.invariant
+    subst (λ (u : TreeState). tree_of s.inputs s.outputs s.most c.push.new.self c.push_leaf.new.self.items c.push_reserved.new.self.items c.push_places.new.places.items c.push_reserved-2.new.self.items s.refinements ≡ with_state u c.args.edge c.args.output c.args.branch) c.self.view_is
+    (state_value t c.args.edge c.args.output c.args.branch c.push.new.self c.push_leaf.new.self.items c.push_reserved.new.self.items c.push_places.new.places.items c.push_reserved-2.new.self.items c.index.result.now.node c.self.invariant
     access nodes (ap (λ (p : Place). p.node) place) leaves places spanning)
 
 pub returns-clause-tree : goal.returns-clause-tree

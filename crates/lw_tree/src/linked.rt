@@ -1,0 +1,185 @@
+//! The nodes of a discrimination tree by their numbers, with a list of those below each.
+ghost use Rattle.std.specs.Prelude.{◌≡◌, ◌≢◌, ℕ, ◌+◌, ◌^◌, ◌<◌, ◌≤◌, [], ◌∷◌, ◌++◌, length, slice_set, vec_len, vec_capacity, MatchOption, IfOk, OnOk};
+ghost use Rattle.lw_tree.specs.Tree.{node_at, IsLive};
+ghost use Rattle.lw_tree.specs.bodies.Nodes.{IsChild, AreLinked, linked_leaf};
+ghost use Rattle.lw_tree.specs.bodies.Steps.{leaf_below, inner_node};
+
+use crate::nodes::{Content, Node};
+use lw_words::{NoMemory, Word};
+use std::alloc::Global;
+use std::marker::Model;
+
+/// How the nodes below one node are linked, the newest first: the first below this node, and the next one beside it. The root
+/// stands below none, so 0 is none.
+#[derive(Clone, Copy, Drop)]
+pub struct Link {
+    first: u32,
+    next: u32,
+}
+
+/// The link of a node that has none below it, and none beside it.
+const ALONE: Link = Link { first: 0, next: 0 };
+
+/// Nodes, each with its link. Contracts see the nodes in order, and beside them the room: so many more can be added without
+/// memory.
+#[derive(Drop)]
+pub struct Nodes {
+    nodes: Vec<Node>,
+    links: Vec<Link>,
+}
+
+impl Model for Nodes {
+    ghost use Rattle.std.specs.Prelude.{◌-◌, min, vec_len, vec_capacity};
+    ghost use Rattle.lw_tree.specs.bodies.Nodes.{NodeList, AreLinked};
+
+    ghost Value = { NodeList };
+
+    ghost view = { λ n. record {
+      items = n.nodes.items;
+      room =
+          min (vec_capacity n.nodes - vec_len n.nodes) (vec_capacity n.links - vec_len n.links);
+    } };
+
+    ghost invariant = { λ n. AreLinked n.nodes.items n.links.items };
+}
+
+/// The leaf of state 0 alone.
+fn the_root(alloc: Global) -> Result<Vec<Node>, NoMemory>
+    ensures { IfOk result (λ nodes. nodes.items ≡ leaf_below 0 [] 0 ∷ []) }
+{
+    let mut nodes = Vec::new(alloc);
+    nodes.push(Node {
+        parent: 0,
+        branch: Word::new(alloc),
+        content: Content::State(0),
+    })?;
+    Ok(nodes)
+}
+
+/// The child of a node under these outputs, if there is one.
+fn find_child(nodes: &[Node], links: &[Link], parent: u32, outputs: &[u16]) -> Option<u32>
+    requires linked { AreLinked nodes.now links.now }
+    requires parent { parent < length nodes.now }
+    ensures { MatchOption result
+        ((n : ℕ) → IsChild (node_at nodes.now) parent n → (node_at nodes.now n).branch ≢ outputs.now)
+        (λ n. IsChild (node_at nodes.now) parent n × ((node_at nodes.now n).branch ≡ outputs.now)) }
+{
+    let mut cursor = links[parent as usize].first;
+    while cursor != 0 {
+        if nodes[cursor as usize].branch.as_slice() == outputs {
+            return Some(cursor);
+        }
+        cursor = links[cursor as usize].next;
+    }
+    None
+}
+
+/// Puts a node first among those below another one. There is room for its link.
+fn add_link(links: &mut Vec<Link>, parent: u32, number: u32)
+    requires room { vec_len links.old + 1 ≤ vec_capacity links.old }
+    requires parent { parent < length links.old.items }
+    ensures items { links.new.items ≡ linked_leaf links.old.items parent number }
+    ensures capacity { vec_capacity links.new ≡ vec_capacity links.old }
+{
+    let old = links[parent as usize];
+    links[parent as usize] = Link {
+        first: number,
+        ..old
+    };
+    links.push_reserved(Link {
+        next: old.first,
+        ..ALONE
+    });
+}
+
+/// Gives a node a temporary discriminator.
+fn lower(nodes: &mut Vec<Node>, leaf: u32, word: Word)
+    requires { leaf < length nodes.old.items }
+    ensures items { nodes.new.items ≡ slice_set nodes.old.items leaf
+        (inner_node (node_at nodes.old.items leaf) word) }
+    ensures capacity { vec_capacity nodes.new ≡ vec_capacity nodes.old }
+{
+    nodes[leaf as usize].content = Content::Discriminator {
+        word,
+        temporary: true,
+    };
+}
+
+impl Nodes {
+    /// The leaf of state 0 alone, as the root.
+    pub(crate) fn of_root(alloc: Global) -> Result<Nodes, NoMemory>
+        ensures { IfOk result (λ nodes. nodes.items ≡ leaf_below 0 [] 0 ∷ []) }
+    {
+        Ok(Nodes {
+            nodes: the_root(alloc)?,
+            links: vec![in alloc; ALONE; 1]?,
+        })
+    }
+
+    pub(crate) fn len(&self) -> usize
+        ensures { result ≡ length self.now.items }
+    {
+        self.nodes.len()
+    }
+
+    pub(crate) fn get(&self, number: u32) -> &Node
+        requires { number < length self.now.items }
+        ensures { result.now ≡ node_at self.now.items number }
+    {
+        &self.nodes[number as usize]
+    }
+
+    pub(crate) fn as_slice(&self) -> &[Node]
+        ensures { result.now ≡ self.now.items }
+    {
+        &self.nodes
+    }
+
+    /// The child of a node under these outputs, if there is one.
+    pub(crate) fn child(&self, parent: u32, outputs: &[u16]) -> Option<u32>
+        requires { parent < length self.now.items }
+        ensures { MatchOption result
+            ((n : ℕ) → IsChild (node_at self.now.items) parent n →
+            (node_at self.now.items n).branch ≢ outputs.now)
+            (λ n. IsChild (node_at self.now.items) parent n ×
+            ((node_at self.now.items n).branch ≡ outputs.now)) }
+    {
+        find_child(&self.nodes, &self.links, parent, outputs)
+    }
+
+    /// Makes room for `more` nodes.
+    pub(crate) fn reserve(&mut self, more: usize) -> Result<(), NoMemory>
+        ensures items { self.new.items ≡ self.old.items }
+        ensures room { OnOk result (more ≤ self.new.room) }
+    {
+        self.nodes.reserve(more)?;
+        self.links.reserve(more)?;
+        Ok(())
+    }
+
+    /// Puts the leaf of a state below a node. There is room for it.
+    pub(crate) fn push_leaf(&mut self, parent: u32, branch: Word, state: u16)
+        requires room { 1 ≤ self.old.room }
+        requires few { length self.old.items < 2 ^ 32 }
+        requires parent { parent < length self.old.items }
+        ensures items { self.new.items ≡ self.old.items ++ leaf_below parent branch state ∷ [] }
+        ensures room { self.old.room ≤ self.new.room + 1 }
+    {
+        add_link(&mut self.links, parent, self.nodes.len() as u32);
+        self.nodes.push_reserved(Node {
+            parent,
+            branch,
+            content: Content::State(state),
+        });
+    }
+
+    /// Gives a leaf a temporary discriminator.
+    pub(crate) fn lower_leaf(&mut self, leaf: u32, word: Word)
+        requires { IsLive (node_at self.old.items leaf).content }
+        ensures items { self.new.items ≡ slice_set self.old.items leaf
+            (inner_node (node_at self.old.items leaf) word) }
+        ensures room { self.new.room ≡ self.old.room }
+    {
+        lower(&mut self.nodes, leaf, word);
+    }
+}
