@@ -5,7 +5,7 @@ use Rattle.lw_cache.specs.Crowd.{IsCrowd}
 use Rattle.lw_cache.specs.Cut.{word_at}
 use Rattle.lw_cache.specs.declared.stops.GrowStop.{GrowStop}
 use Rattle.lw_cache.specs.declared.stops.GrowStop.TheVariants.{Crowd}
-use Rattle.lw_tree.specs.Tree.{TreeState, discriminators, temporaries, IsTree, BranchesAreRead, IsClosed, HasOpen}
+use Rattle.lw_tree.specs.Tree.{TreeState, discriminators, final_discriminators, temporaries, IsTree, BranchesAreRead, IsClosed, HasOpen}
 
 -- the same numbers, more access words at the end, and a tree whose branches are what the answers say
 pub record HasGrown (ks : List Answer) (before now : TreeState) : Type 0 where
@@ -20,6 +20,7 @@ pub record HasGrown (ks : List Answer) (before now : TreeState) : Type 0 where
 -- the discriminators and the count of refinements are as before
 pub record KeepsDiscriminators (before now : TreeState) : Type 0 where
   pub discriminators_are : discriminators now.nodes ≡ discriminators before.nodes
+  pub finals : final_discriminators now.nodes ≡ final_discriminators before.nodes
   pub temporary : temporaries now.nodes ≡ temporaries before.nodes
   pub refinements : now.refinements ≡ before.refinements
 
@@ -59,6 +60,7 @@ pub record IsSplit (suffix : List ℕ) (before now : TreeState) : Type 0 where
   pub back : List (List ℕ)
   pub discriminators_were : discriminators before.nodes ≡ front ++ back
   pub discriminators_are : discriminators now.nodes ≡ front ++ suffix ∷ back
+  pub finals : final_discriminators now.nodes ≡ final_discriminators before.nodes
   pub temporary : temporaries now.nodes ≡ temporaries before.nodes + 1
 
 -- a tree once it was to be split with a suffix; where it was refused, it is as before, or was split and not closed

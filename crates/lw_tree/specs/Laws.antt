@@ -1,10 +1,11 @@
 -- What the machine of a closed tree is.
-use Rattle.std.specs.Prelude.{◌≡◌, ℕ, List, ◌++◌}
+use Rattle.std.specs.Prelude.{◌≡◌, ℕ, ◌<◌, List, ◌++◌, length}
+use Rattle.std.specs.List.{All}
 use Rattle.lw_words.specs.Answer.{Answer, AreAnswers}
 use Rattle.lw_mealy.specs.Machine.{Rows}
 use Rattle.lw_cache.specs.Crowd.{IsCrowd}
 use Rattle.lw_cache.specs.Cut.{AreAccess, StepsAreRead}
-use Rattle.lw_tree.specs.Tree.{TreeState, IsTree, BranchesAreRead, IsClosed, IsMachineOf, new_tree}
+use Rattle.lw_tree.specs.Tree.{TreeState, discriminators, final_discriminators, temporaries, IsTree, BranchesAreRead, IsClosed, IsMachineOf, new_tree}
 
 -- a new tree has no branch and no output that could be read otherwise
 abbrev pub NewIsRead : Type 0
@@ -33,3 +34,14 @@ MachineGivesSteps = (ks : List Answer) (t : TreeState) (m : Rows) → IsTree t �
 -- any two access words are apart
 abbrev pub AccessIsCrowd : Type 0
 AccessIsCrowd = (ks : List Answer) (t : TreeState) → IsTree t → BranchesAreRead ks t → IsCrowd ks t.access
+
+-- there are fewer inner nodes than states, and so fewer final ones
+abbrev pub InnersAreFew : Type 0
+InnersAreFew = (t : TreeState) → IsTree t → length (discriminators t.nodes) < length t.access
+
+abbrev pub FinalsAreFew : Type 0
+FinalsAreFew = (t : TreeState) → IsTree t → length (final_discriminators t.nodes) < length t.access
+
+-- where no node is temporary, each discriminator has fewer letters than there are states
+abbrev pub DiscriminatorsAreShort : Type 0
+DiscriminatorsAreShort = (t : TreeState) → IsTree t → temporaries t.nodes ≡ 0 → All (λ w. length w < length t.access) (discriminators t.nodes)

@@ -1,3 +1,4 @@
+pub mod Blocks
 pub mod Grown
 pub mod Laws
 pub mod Tree

@@ -92,6 +92,18 @@ abbrev pub discriminators : List Node → List (List ℕ)
 discriminators [] = []
 discriminators (n ∷ nodes) = words_of n.content ++ discriminators nodes
 
+-- the word of a final node, or none
+abbrev pub final_words_of : Content → List (List ℕ)
+final_words_of (State q) = []
+final_words_of (Discriminator word true) = []
+final_words_of (Discriminator word false) = word ∷ []
+final_words_of Gone = []
+
+-- the discriminators of the final nodes, by their numbers
+abbrev pub final_discriminators : List Node → List (List ℕ)
+final_discriminators [] = []
+final_discriminators (n ∷ nodes) = final_words_of n.content ++ final_discriminators nodes
+
 abbrev pub is_temporary : Content → Bool
 is_temporary (State q) = false
 is_temporary (Discriminator word temporary) = temporary
@@ -114,13 +126,25 @@ pub record IsBranch (node : ℕ → Node) (n : ℕ) : Type 0 where
 abbrev pub HasTail : (ℕ → Node) → List ℕ → Type 0
 HasTail node word = (x : ℕ) × ((word ≡ x ∷ []) ⊎ ((n : ℕ) × IsFinal (node n).content × (word ≡ x ∷ discriminator (node n).content)))
 
--- the nodes of a discrimination tree over a letters; past the end no node is live
+-- two nodes stand below a node
+pub record HasTwo (node : ℕ → Node) (n : ℕ) : Type 0 where
+  pub one : ℕ
+  pub other : ℕ
+  pub below : 0 < one
+  pub rising : one < other
+  pub one_live : IsLive (node one).content
+  pub other_live : IsLive (node other).content
+  pub one_parent : (node one).parent ≡ n
+  pub other_parent : (node other).parent ≡ n
+
+-- the nodes of a discrimination tree over a letters, each inner one with two below it; past the end no node is live
 pub record AreNodes (a : ℕ) (node : ℕ → Node) : Type 0 where
   pub root : IsLive (node 0).content
   pub branches : (n : ℕ) → 0 < n → IsLive (node n).content → IsBranch node n
   pub apart : (m n : ℕ) → 0 < m → m < n → IsLive (node m).content → IsLive (node n).content → (node m).parent ≡ (node n).parent → (node m).branch ≢ (node n).branch
   pub words : (n : ℕ) → IsInner (node n).content → IsWord a (discriminator (node n).content) × (discriminator (node n).content ≢ [])
   pub tails : (n : ℕ) → IsFinal (node n).content → HasTail node (discriminator (node n).content)
+  pub two : (n : ℕ) → IsInner (node n).content → HasTwo node n
 
 -- states and leaves are one to one
 pub record AreLeaves (count : ℕ) (node : ℕ → Node) (leaf : ℕ → ℕ) : Type 0 where
@@ -165,9 +189,13 @@ abbrev pub IsOnWayWithin : ℕ → (ℕ → Node) → ℕ → ℕ → Type 0
 IsOnWayWithin zero node m n = ⊥
 IsOnWayWithin (suc steps) node m n = (0 < n) × ((m ≡ n) ⊎ IsOnWayWithin steps node m (node n).parent)
 
--- the node m is on the way from the root to the node n; parents have lower numbers
+-- the node m is on the way from the root, which isn't, to the node n, which is; parents have lower numbers
 abbrev pub IsOnWay : (ℕ → Node) → ℕ → ℕ → Type 0
 IsOnWay node m n = IsOnWayWithin n node m n
+
+-- the node m is the node n, or above it
+abbrev pub IsAbove : (ℕ → Node) → ℕ → ℕ → Type 0
+IsAbove node m n = (m ≡ 0) ⊎ IsOnWay node m n
 
 -- what is read of the word followed by the suffix ends with these outputs
 abbrev pub Tells : List Answer → List ℕ → List ℕ → List ℕ → Type 0

@@ -1,5 +1,5 @@
 //! Laws of the definitions. Each is a function with no code, whose contract is the law.
-ghost use Rattle.lw_tree.specs.Laws.{NewIsRead, BranchesStay, HasMachine, OneMachine, AccessLeads, MachineGivesSteps, AccessIsCrowd};
+ghost use Rattle.lw_tree.specs.Laws.{NewIsRead, BranchesStay, HasMachine, OneMachine, AccessLeads, MachineGivesSteps, AccessIsCrowd, InnersAreFew, FinalsAreFew, DiscriminatorsAreShort};
 
 /// A new tree has no branch and no output that could be read otherwise.
 pub fn new_is_read()
@@ -34,4 +34,19 @@ pub fn machine_gives_steps()
 /// Any two access words are apart.
 pub fn access_is_crowd()
     ensures { AccessIsCrowd }
+{}
+
+/// There are fewer inner nodes than states.
+pub fn inners_are_few()
+    ensures { InnersAreFew }
+{}
+
+/// So there are fewer final ones.
+pub fn finals_are_few()
+    ensures { FinalsAreFew }
+{}
+
+/// Where no node is temporary, each discriminator has fewer letters than there are states.
+pub fn discriminators_are_short()
+    ensures { DiscriminatorsAreShort }
 {}

@@ -1,0 +1,44 @@
+-- What settling a block of a discrimination tree does, and that there is always one to settle. Source: Isberner, Howar and
+-- Steffen (2014).
+use Rattle.std.specs.Prelude.{◌≡◌, ◌≢◌, ◌⊎◌, ℕ, ◌<◌, List, Result, OnOk, OnErr, IfOk}
+use Rattle.lw_words.specs.Answer.{Answer}
+use Rattle.lw_mealy.specs.Gives.{Gives}
+use Rattle.lw_mealy.specs.Machine.{Rows, next, output}
+use Rattle.lw_cache.specs.declared.stops.GrowStop.{GrowStop}
+use Rattle.lw_tree.specs.Blocks.{IsBlock, IsMember, AreOfOneClass, HasFinal}
+use Rattle.lw_tree.specs.Grown.{HasGrown, TellsCrowd}
+use Rattle.lw_tree.specs.Tree.{TreeState, temporaries, IsTree, BranchesAreRead, IsClosed, IsMachineOf}
+use Rattle.lw_settle.specs.declared.settling.Settled.{Settled}
+use Rattle.lw_settle.specs.declared.settling.Settled.TheVariants.{NoBlock, Replaced}
+
+-- a letter parts a block: two of its states answer it differently, or go on to states of different classes
+pub record IsParted (t : TreeState) (m : Rows) (r letter : ℕ) : Type 0 where
+  pub block : IsBlock t r
+  pub small : letter < t.inputs
+  pub one : ℕ
+  pub other : ℕ
+  pub one_member : IsMember t r one
+  pub other_member : IsMember t r other
+  pub parts : (output m one letter ≢ output m other letter) ⊎ ¬ (AreOfOneClass t (next m one letter) (next m other letter))
+
+-- while a node is temporary, and the tree's machine gives the answers, some letter parts some block
+abbrev pub SomeBlockIsParted : Type 0
+SomeBlockIsParted = (ks : List Answer) (t : TreeState) (m : Rows) → IsTree t → BranchesAreRead ks t → IsClosed t → IsMachineOf t m → Gives m ks → 0 < temporaries t.nodes → (r letter : ℕ) × IsParted t m r letter
+
+-- a final node more, of some word; and those that there were
+abbrev pub IsReplaced : TreeState → TreeState → Type 0
+IsReplaced before now = (word : List ℕ) × HasFinal word before now
+
+-- what is answered: no node was temporary, and nothing was done; or one was replaced
+abbrev pub IsSettled : TreeState → TreeState → Settled → Type 0
+IsSettled before now NoBlock = (temporaries before.nodes ≡ 0) × (now ≡ before)
+IsSettled before now Replaced = (0 < temporaries before.nodes) × IsReplaced before now
+
+-- a tree once a block was to be settled; where that was refused, it is as before, or a node was replaced and the tree not closed
+pub record HasSettled (ks : List Answer) (before now : TreeState) (result : Result Settled GrowStop) : Type 0 where
+  pub grown : HasGrown ks before now
+  pub closed : OnOk result (IsClosed now)
+  pub settled : IfOk result (IsSettled before now)
+  pub left : OnErr result ((now ≡ before) ⊎ IsReplaced before now)
+  pub refinements : now.refinements ≡ before.refinements
+  pub crowd : TellsCrowd ks now result

@@ -1,0 +1,48 @@
+//! Settling a block.
+ghost use Rattle.std.specs.Prelude.{◌≡◌};
+ghost use Rattle.lw_words.specs.Answer.{answers_of};
+ghost use Rattle.lw_mealy.specs.Gives.{Gives};
+ghost use Rattle.lw_mealy.specs.Machine.{Rows};
+ghost use Rattle.lw_cache.specs.Settling.{MayAsk, Leaves, grown_stop};
+ghost use Rattle.lw_settle.specs.Settling.{HasSettled};
+ghost use Rattle.lw_tree.specs.Tree.{BranchesAreRead, IsClosed, IsMachineOf};
+
+use lw_cache::{AskStop, GrowStop, Oracle};
+use lw_tree::DiscriminationTree;
+use std::alloc::Global;
+
+/// What a settling did.
+#[derive(Clone, Copy, Debug, PartialEq, Eq)]
+pub enum Settled {
+    /// No node is temporary.
+    NoBlock,
+    /// The temporary root of a block was replaced by a final node, and the tree closed again.
+    Replaced,
+}
+
+/// Settles the first block that a letter parts: by its least state, and then by letter.
+///
+/// The discriminator of the final node is the letter, where states of the block answer it differently; else the letter followed
+/// by the discriminator of the lowest node above the states that it leads to.
+///
+/// # Errors
+/// As the tree's `close`. The answers on the new discriminator are asked before the tree changes.
+pub fn settle_block<O: Oracle>(
+    oracle: &mut O,
+    alloc: Global,
+    tree: &mut DiscriminationTree,
+) -> Result<Settled, GrowStop>
+    requires can { O.can_settle oracle.old }
+    requires may { MayAsk (O.state oracle.old).stop }
+    requires inputs { tree.old.inputs ≡ (O.state oracle.old).inputs }
+    requires outputs { tree.old.outputs ≡ (O.state oracle.old).outputs }
+    requires read { BranchesAreRead (answers_of (O.state oracle.old).kept) tree.old }
+    requires closed { IsClosed tree.old }
+    requires gives { (m : Rows) × IsMachineOf tree.old m × Gives m
+        (answers_of (O.state oracle.old).kept) }
+    ensures settles { HasSettled (answers_of (O.state oracle.new).kept) tree.old tree.new result }
+    ensures leaves { Leaves (O.state oracle.old) (O.state oracle.new) (grown_stop result) }
+    ensures can { O.can_settle oracle.new }
+{
+    Err(GrowStop::Ask(AskStop::NoMemory))
+}

@@ -1,0 +1,68 @@
+-- The classes of a tree's states, and how the root of a block is replaced. Source: Isberner, Howar and Steffen (2014).
+use Rattle.std.specs.Prelude.{◌≡◌, ◌≢◌, ◌⊎◌, ℕ, ◌<◌, Bool, true, false, List, [], ◌∷◌, ◌++◌, length, Result, OnOk, OnErr, ⊤}
+use Rattle.lw_words.specs.Answer.{Answer}
+use Rattle.lw_words.specs.Word.{IsWord}
+use Rattle.lw_cache.specs.Crowd.{Separates}
+use Rattle.lw_cache.specs.Cut.{word_at}
+use Rattle.lw_cache.specs.Known.{IsKnown}
+use Rattle.lw_tree.specs.Grown.{HasGrown}
+use Rattle.lw_tree.specs.Tree.{TreeState, node_at, leaf_at, final_discriminators, is_temporary, IsLive, IsFinal, HasTail, IsAbove}
+use Rattle.lw_tree.specs.declared.nodes.Node.{Node}
+
+-- the root of the class of a node: of the nodes that aren't final, the highest one above it
+pub record IsClassRoot (node : ℕ → Node) (r n : ℕ) : Type 0 where
+  pub above : IsAbove node r n
+  pub live : IsLive (node r).content
+  pub lower : ¬ IsFinal (node r).content
+  pub highest : 0 < r → IsFinal (node (node r).parent).content
+
+-- the state is of the class with this root
+abbrev pub IsMember : TreeState → ℕ → ℕ → Type 0
+IsMember t r q = (q < length t.access) × IsClassRoot (node_at t.nodes) r (leaf_at t.leaves q)
+
+-- two states are of one class
+abbrev pub AreOfOneClass : TreeState → ℕ → ℕ → Type 0
+AreOfOneClass t p q = (r : ℕ) × IsMember t r p × IsMember t r q
+
+-- the lowest node above two
+pub record IsFork (node : ℕ → Node) (one other n : ℕ) : Type 0 where
+  pub above_one : IsAbove node n one
+  pub above_other : IsAbove node n other
+  pub lowest : (m : ℕ) → IsAbove node m one → IsAbove node m other → IsAbove node m n
+
+-- the root of a block, which is a class of several states: a temporary node, and the root or below a final node
+pub record IsBlock (t : TreeState) (r : ℕ) : Type 0 where
+  pub temporary : is_temporary (node_at t.nodes r).content ≡ true
+  pub highest : 0 < r → IsFinal (node_at t.nodes (node_at t.nodes r).parent).content
+
+-- two states have known outputs on the word, which differ
+pub record AreTold (ks : List Answer) (t : TreeState) (r : ℕ) (word : List ℕ) : Type 0 where
+  pub one : ℕ
+  pub other : ℕ
+  pub one_member : IsMember t r one
+  pub other_member : IsMember t r other
+  pub differ : Separates ks word (word_at t.access one) (word_at t.access other)
+
+-- the word may take the place of the root of a block: it is a letter, or a letter followed by a final discriminator; the outputs
+-- of all members on it are known, and those of two of them differ
+pub record MayReplace (ks : List Answer) (t : TreeState) (r : ℕ) (word : List ℕ) : Type 0 where
+  pub block : IsBlock t r
+  pub letters : IsWord t.inputs word
+  pub tail : HasTail (node_at t.nodes) word
+  pub known : (q : ℕ) → IsMember t r q → IsKnown ks (word_at t.access q ++ word)
+  pub told : AreTold ks t r word
+
+-- a final node more, with this discriminator; the final nodes that there were stay
+pub record HasFinal (word : List ℕ) (before now : TreeState) : Type 0 where
+  pub front : List (List ℕ)
+  pub back : List (List ℕ)
+  pub were : final_discriminators before.nodes ≡ front ++ back
+  pub are : final_discriminators now.nodes ≡ front ++ word ∷ back
+
+-- a tree once the root of a block was to be replaced
+pub record HasReplaced {E : Type 0} (ks : List Answer) (word : List ℕ) (before now : TreeState) (result : Result ⊤ E) : Type 0 where
+  pub grown : OnOk result (HasGrown ks before now)
+  pub replaced : OnOk result (HasFinal word before now)
+  pub access : OnOk result (now.access ≡ before.access)
+  pub refinements : OnOk result (now.refinements ≡ before.refinements)
+  pub left : OnErr result (now ≡ before)
