@@ -7,6 +7,7 @@ mod ListingLemmas
 mod LowerLemmas
 mod MachineLemmas
 mod MeasureLemmas
+mod NewLemmas
 mod NodeLemmas
 mod PartLemmas
 mod PlaceLemmas
