@@ -1,5 +1,6 @@
-mod BranchLemmas
+pub mod BranchLemmas
 mod CloseLemmas
+mod FewLemmas
 mod FieldLemmas
 mod GrownLemmas
 mod LinkLemmas
@@ -9,6 +10,7 @@ mod MachineLemmas
 mod MeasureLemmas
 mod NewLemmas
 mod NodeLemmas
+mod NumberLemmas
 mod PartLemmas
 mod PlaceLemmas
 mod ShapeLemmas
