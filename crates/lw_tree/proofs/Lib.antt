@@ -1,4 +1,5 @@
 mod BranchLemmas
+mod ClassLemmas
 mod CloseLemmas
 mod FieldLemmas
 mod GrownLemmas
