@@ -1,6 +1,7 @@
-mod BranchLemmas
+pub mod BranchLemmas
 mod ClassLemmas
 mod CloseLemmas
+mod FewLemmas
 mod FieldLemmas
 mod GrownLemmas
 mod LinkLemmas
@@ -8,7 +9,9 @@ mod ListingLemmas
 mod LowerLemmas
 mod MachineLemmas
 mod MeasureLemmas
+mod NewLemmas
 mod NodeLemmas
+mod NumberLemmas
 mod PartLemmas
 mod PlaceLemmas
 mod ShapeLemmas
