@@ -1,14 +1,18 @@
 //! Settling a block.
-ghost use Rattle.std.specs.Prelude.{◌≡◌};
+ghost use Rattle.std.specs.Prelude.{◌≡◌, IfOk, MatchOption};
 ghost use Rattle.lw_words.specs.Answer.{answers_of};
 ghost use Rattle.lw_mealy.specs.Gives.{Gives};
 ghost use Rattle.lw_mealy.specs.Machine.{Rows};
 ghost use Rattle.lw_cache.specs.Settling.{MayAsk, Leaves, grown_stop};
 ghost use Rattle.lw_settle.specs.Settling.{HasSettled};
+ghost use Rattle.lw_settle.specs.bodies.Parting.{NothingIsParted, IsReplacement};
 ghost use Rattle.lw_tree.specs.Tree.{BranchesAreRead, IsClosed, IsMachineOf};
 
-use lw_cache::{AskStop, GrowStop, Oracle};
+use crate::classes::{class_roots, least_states, members_of};
+use crate::parting::{find_parting, member_words, parting_word};
+use lw_cache::{GrowStop, Oracle};
 use lw_tree::DiscriminationTree;
+use lw_words::{NoMemory, Word};
 use std::alloc::Global;
 
 /// What a settling did.
@@ -18,6 +22,40 @@ pub enum Settled {
     NoBlock,
     /// The temporary root of a block was replaced by a final node, and the tree closed again.
     Replaced,
+}
+
+/// A block that a letter parts: its root, its states, and the word that takes the root's place.
+#[derive(Drop)]
+struct Replacement {
+    root: u32,
+    members: Vec<u16>,
+    word: Word,
+}
+
+/// The first block that a letter parts, with its word.
+fn next_replacement(
+    alloc: Global,
+    tree: &DiscriminationTree,
+) -> Result<Option<Replacement>, NoMemory>
+    requires closed { IsClosed tree.now }
+    ensures { IfOk result (λ found. MatchOption found (NothingIsParted tree.now)
+        (IsReplacement tree.now)) }
+{
+    // The tree tells that it is one.
+    let _ = tree.access();
+    let roots = class_roots(alloc, tree)?;
+    let least = least_states(alloc, &roots)?;
+    let Some(parting) = find_parting(tree, &roots, &least) else {
+        return Ok(None);
+    };
+    let root = roots[usize::from(parting.one)];
+    let members = members_of(alloc, &roots, root)?;
+    let word = parting_word(alloc, tree, &members, parting)?;
+    Ok(Some(Replacement {
+        root,
+        members,
+        word,
+    }))
 }
 
 /// Settles the first block that a letter parts: by its least state, and then by letter.
@@ -44,5 +82,20 @@ pub fn settle_block<O: Oracle>(
     ensures leaves { Leaves (O.state oracle.old) (O.state oracle.new) (grown_stop result) }
     ensures can { O.can_settle oracle.new }
 {
-    Err(GrowStop::Ask(AskStop::NoMemory))
+    // The cache tells that its answers are over the inputs, and the tree that it is one.
+    let _ = oracle.cache();
+    let _ = tree.access();
+    let Some(replacement) = next_replacement(alloc, tree)? else {
+        return Ok(Settled::NoBlock);
+    };
+    let Replacement {
+        root,
+        members,
+        word,
+    } = replacement;
+    let batch = member_words(alloc, tree, &members, &word)?;
+    oracle.settle(batch.as_slice())?;
+    tree.replace(oracle.cache(), root, word)?;
+    tree.close(oracle)?;
+    Ok(Settled::Replaced)
 }

@@ -1,19 +1,20 @@
 pub mod BranchLemmas
-mod CloseLemmas
+pub mod ClassLemmas
+pub mod CloseLemmas
 mod FewLemmas
 mod FieldLemmas
-mod GrownLemmas
+pub mod GrownLemmas
 mod LinkLemmas
 mod ListingLemmas
 mod LowerLemmas
-mod MachineLemmas
+pub mod MachineLemmas
 mod MeasureLemmas
 mod NewLemmas
-mod NodeLemmas
+pub mod NodeLemmas
 mod NumberLemmas
 mod PartLemmas
 mod PlaceLemmas
-mod ShapeLemmas
-mod StepLemmas
+pub mod ShapeLemmas
+pub mod StepLemmas
 mod TrialLemmas
-mod WayLemmas
+pub mod WayLemmas

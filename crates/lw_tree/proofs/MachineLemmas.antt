@@ -92,6 +92,13 @@ module _ (t : TreeState) (m n : Rows) (g : IsTree t) (one : IsMachineOf t m) (tw
   pub same_rows : m ≡ n
   same_rows = ext_get_or [] m n (one.states ∙ sym two.states) (λ q lt. same_row q (subst (λ (k : ℕ). q < k) one.states lt))
 
+-- a transition leads where the machine says, with its output
+pub step_is : (t : TreeState) (m : Rows) → IsTree t → IsMachineOf t m → (q x p y : ℕ) → q < length t.access → x < t.inputs → IsStep t q x p y → (p ≡ next m q x) × (y ≡ output m q x)
+step_is t m g is q x p y lt small step = (
+  leaves_once t (shape_of t g) p (next m q x) step.within (is.within q x lt small) (sym step.node ∙ is.targets q x lt small),
+  same_output y (output m q x) (sym step.output ∙ is.outs q x lt small),
+)
+
 pub one_machine : OneMachine
 one_machine t m n g one two = same_rows t m n g one two
 

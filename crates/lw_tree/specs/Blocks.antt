@@ -1,5 +1,5 @@
 -- The classes of a tree's states, and how the root of a block is replaced. Source: Isberner, Howar and Steffen (2014).
-use Rattle.std.specs.Prelude.{◌≡◌, ◌≢◌, ◌⊎◌, ℕ, ◌<◌, Bool, true, false, List, [], ◌∷◌, ◌++◌, length, Result, OnOk, OnErr, ⊤}
+use Rattle.std.specs.Prelude.{◌≡◌, ℕ, ◌<◌, true, List, ◌∷◌, ◌++◌, length, Result, OnOk, OnErr, ⊤}
 use Rattle.lw_words.specs.Answer.{Answer}
 use Rattle.lw_words.specs.Word.{IsWord}
 use Rattle.lw_cache.specs.Crowd.{Separates}

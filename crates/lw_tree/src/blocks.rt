@@ -48,16 +48,16 @@ impl DiscriminationTree {
         ensures fork { IsFork (node_at self.now.nodes) one other result }
         ensures live { IsLive (node_at self.now.nodes result).content }
     {
-        let mut one = one;
-        let mut other = other;
-        while one != other {
-            if one < other {
-                other = self.nodes.get(other).parent;
+        let mut here = one;
+        let mut there = other;
+        while here != there {
+            if here < there {
+                there = self.nodes.get(there).parent;
             } else {
-                one = self.nodes.get(one).parent;
+                here = self.nodes.get(here).parent;
             }
         }
-        one
+        here
     }
 
     /// The discriminator of an inner node.

@@ -1,6 +1,7 @@
 //! The machine of a closed tree.
 ghost use Rattle.std.specs.Prelude.{◌≡◌, ◌<◌, length, map, IfOk, MatchOption};
 ghost use Rattle.lw_mealy.specs.Limits.{IsWithinLimits, mealy_of};
+ghost use Rattle.lw_mealy.specs.Machine.{Rows, next, output};
 ghost use Rattle.lw_tree.specs.Tree.{IsClosed, IsMachineOf};
 ghost use Rattle.lw_tree.specs.bodies.Transitions.{AreSteps, IsStep, IsTransition};
 
@@ -30,7 +31,7 @@ fn machine_of(
 
 impl DiscriminationTree {
     /// The target and the output of a transition.
-    fn step(&self, edge: Edge) -> (u16, u16)
+    fn step_by(&self, edge: Edge) -> (u16, u16)
         requires closed { IsClosed self.now }
         requires edge { IsTransition self.now edge }
         ensures { IsStep self.now edge.state edge.letter result.0 result.1 }
@@ -45,6 +46,20 @@ impl DiscriminationTree {
         (*target, output)
     }
 
+    /// The target and the output of a state at a letter.
+    pub fn step(&self, state: u16, letter: u16) -> (u16, u16)
+        requires closed { IsClosed self.now }
+        requires state { state < length self.now.access }
+        requires letter { letter < self.now.inputs }
+        ensures step { (m : Rows) → IsMachineOf self.now m →
+            (result.0 ≡ next m state letter) × (result.1 ≡ output m state letter) }
+        ensures within { result.0 < length self.now.access }
+    {
+        // The tree tells that it is one.
+        let _ = &self.access;
+        self.step_by(Edge { state, letter })
+    }
+
     /// The targets and the outputs of a state, by letter.
     fn steps(&self, state: u16) -> Result<Vec<(u16, u16)>, NoMemory>
         requires closed { IsClosed self.now }
@@ -53,7 +68,7 @@ impl DiscriminationTree {
     {
         let mut row = Vec::with_capacity(self.alloc, usize::from(self.inputs))?;
         for letter in 0..self.inputs {
-            row.push(self.step(Edge { state, letter }))?;
+            row.push(self.step_by(Edge { state, letter }))?;
         }
         Ok(row)
     }

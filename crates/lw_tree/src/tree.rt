@@ -1,5 +1,5 @@
 //! The tree.
-ghost use Rattle.std.specs.Prelude.{◌≡◌, ℕ, ◌<◌, ◌≤◌, List, [], ◌∷◌, IfOk};
+ghost use Rattle.std.specs.Prelude.{◌≡◌, ℕ, ◌<◌, ◌≤◌, List, [], ◌∷◌, length, IfOk};
 ghost use Rattle.lw_tree.specs.Tree.{discriminators, temporaries, IsTree, new_tree};
 
 use crate::linked::Nodes;
@@ -90,6 +90,21 @@ impl DiscriminationTree {
         ensures tree { IsTree self.now }
     {
         &self.access
+    }
+
+    /// The number of inputs.
+    pub fn inputs(&self) -> u16
+        ensures { result ≡ self.now.inputs }
+    {
+        self.inputs
+    }
+
+    /// How many states there are.
+    pub fn states(&self) -> u16
+        ensures value { result ≡ length self.now.access }
+        ensures tree { IsTree self.now }
+    {
+        self.access.len() as u16
     }
 
     /// The discriminators, in the order of their nodes.

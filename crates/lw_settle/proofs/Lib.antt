@@ -1,0 +1,4 @@
+mod BlockLemmas
+mod ChoiceLemmas
+mod PartingLemmas
+mod SettleLemmas

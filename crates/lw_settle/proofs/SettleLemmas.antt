@@ -1,0 +1,91 @@
+-- What settling a block leaves of a tree.
+use Rattle.std.proofs.Common.{◌≡◌, ◌⊎◌, inl, inr, ⊎_elim, ℕ, ◌^◌, ◌<◌, ◌≤◌, List, ◌++◌, length, Contains, Result, Ok, Err, IsErrAnd, refl, sym, ◌∙◌, subst, arith}
+use Rattle.std.specs.Bool.{⊤}
+use Rattle.std.specs.List.{All}
+use Rattle.std.proofs.lemmas.Bool.{cases_lt}
+use Rattle.std.proofs.lemmas.List.Elements.{All-contains}
+use Rattle.lw_words.specs.Answer.{Answer}
+use Rattle.lw_mealy.specs.Gives.{Gives}
+use Rattle.lw_mealy.specs.Machine.{Rows}
+use Rattle.lw_cache.specs.Cut.{word_at}
+use Rattle.lw_cache.specs.Known.{IsKnown}
+use Rattle.lw_cache.specs.declared.stops.GrowStop.{GrowStop}
+use Rattle.lw_tree.specs.Blocks.{IsBlock, MayReplace, HasFinal}
+use Rattle.lw_tree.specs.Grown.{HasGrown, KeepsDiscriminators, TellsCrowd, HasClosed}
+use Rattle.lw_tree.specs.Tree.{TreeState, temporaries, IsTree, BranchesAreRead, IsClosed, IsMachineOf}
+use Rattle.lw_tree.proofs.CloseLemmas.{handed_stop, crowd_too}
+use Rattle.lw_tree.proofs.GrownLemmas.{not_grown, grown_then}
+use Rattle.lw_settle.specs.Settling.{IsReplaced, HasSettled}
+use Rattle.lw_settle.specs.bodies.Parting.{AreMembers, IsReplacement, AreWordsOf, NothingIsParted}
+use Rattle.lw_settle.specs.declared.settling.Replacement.{Replacement}
+use Rattle.lw_settle.specs.declared.settling.Settled.{Settled}
+use Rattle.lw_settle.specs.declared.settling.Settled.TheVariants.{NoBlock, Replaced}
+use Rattle.lw_settle.proofs.PartingLemmas.{some_block_is_parted, temporary_counts}
+
+-- no node is temporary, and nothing was done
+pub nothing_settled : (ks : List Answer) (t : TreeState) (m : Rows) → IsTree t → BranchesAreRead ks t → IsClosed t → IsMachineOf t m → Gives m ks → NothingIsParted t → HasSettled ks t t (Ok NoBlock)
+nothing_settled ks t m g read closed is gives nothing =
+    record {
+      grown = not_grown ks t g read;
+      closed = closed;
+      settled = (
+        ⊎_elim
+            (λ (some : 0 < temporaries t.nodes). let p = some_block_is_parted ks t m g read closed is gives some in absurd (nothing m is p.0 p.1 p.2))
+            (λ (none : temporaries t.nodes ≤ 0). omega (arith, none))
+            (cases_lt 0 (temporaries t.nodes)),
+        refl,
+      );
+      left = tt;
+      refinements = refl;
+      crowd = λ words told. cc;
+    }
+
+-- where the settling was refused
+pub not_settled : (ks : List Answer) (t now : TreeState) (stop : GrowStop) (result : Result Settled GrowStop) → HasGrown ks t now → now.refinements ≡ t.refinements → (now ≡ t) ⊎ IsReplaced t now → TellsCrowd {X = ⊤} ks now (Err stop) → IsErrAnd result (λ e. e ≡ stop) → HasSettled ks t now result
+not_settled ks t now stop result grown same left crowd is =
+    subst (HasSettled ks t now) (sym (handed_stop stop result is))
+    (record { grown = grown; closed = tt; settled = tt; left = left; refinements = same; crowd = crowd_too {X = ⊤} {Y = Settled} ks now stop crowd })
+
+pub untouched : (ks : List Answer) (t now : TreeState) (stop : GrowStop) (result : Result Settled GrowStop) → now ≡ t → IsTree t → BranchesAreRead ks t → TellsCrowd {X = ⊤} ks t (Err stop) → IsErrAnd result (λ e. e ≡ stop) → HasSettled ks t now result
+untouched ks t now stop result same g read crowd is = subst (λ (u : TreeState). HasSettled ks t u result) (sym same) (not_settled ks t t stop result (not_grown ks t g read) refl (inl refl) crowd is)
+
+-- a replaced node stays while the tree is closed
+final_then : (word : List ℕ) (t middle now : TreeState) → HasFinal word t middle → KeepsDiscriminators middle now → IsReplaced t now
+final_then word t middle now final keeps = (word, record { front = final.front; back = final.back; were = final.were; are = keeps.finals ∙ final.are })
+
+-- where the closing was refused
+pub not_closed_then : (first ks : List Answer) (word : List ℕ) (t middle now : TreeState) (stop : GrowStop) (result : Result Settled GrowStop) → HasGrown first t middle → HasFinal word t middle → middle.refinements ≡ t.refinements → HasClosed ks middle now (Err stop) → IsErrAnd result (λ e. e ≡ stop) → HasSettled ks t now result
+not_closed_then first ks word t middle now stop result one final same done is =
+    not_settled ks t now stop result (grown_then first ks t middle now one done.grown) (done.keeps.refinements ∙ same) (inr (final_then word t middle now final done.keeps)) done.crowd is
+
+pub all_settled : (first ks : List Answer) (word : List ℕ) (r : ℕ) (t middle now : TreeState) → IsBlock t r → HasGrown first t middle → HasFinal word t middle → middle.refinements ≡ t.refinements → HasClosed ks middle now (Ok tt) → HasSettled ks t now (Ok Replaced)
+all_settled first ks word r t middle now block one final same done =
+    record {
+      grown = grown_then first ks t middle now one done.grown;
+      closed = done.closed;
+      settled = (temporary_counts t.nodes r block.temporary, final_then word t middle now final done.keeps);
+      left = tt;
+      refinements = done.keeps.refinements ∙ same;
+      crowd = λ words told. cc;
+    }
+
+-- once the words of all members are known, the word may replace the root
+pub may_replace : (ks : List Answer) (t : TreeState) (replacement : Replacement) (words : List (List ℕ)) → BranchesAreRead ks t → IsReplacement t replacement → AreWordsOf t replacement.members.items replacement.word words → All (IsKnown ks) words → MayReplace ks t replacement.root replacement.word
+may_replace ks t replacement words read is are known =
+    record {
+      block = is.block;
+      letters = is.chosen.letters;
+      tail = is.chosen.tail;
+      known = λ q member. All-contains (IsKnown ks) words (word_at t.access q ++ replacement.word) known
+          (All-contains (λ p. Contains words (word_at t.access p ++ replacement.word)) replacement.members.items q are.asked (is.members.each q member));
+      told = is.chosen.told ks read;
+    }
+
+-- the words are few
+pub few_words : (t : TreeState) (r : ℕ) (members suffix : List ℕ) (words : List (List ℕ)) → IsTree t → AreMembers t r members → AreWordsOf t members suffix words → length words < 2 ^ 32
+few_words t r members suffix words g are of =
+    let count = of.count in
+    let few = are.few in
+    let states = g.few in
+    let most = g.most in
+    omega (arith, count, few, states, most.1)
