@@ -43,8 +43,8 @@ fn counter(alloc: Global) -> Result<Trial, Fail>
     Ok(trial)
 }
 
-/// States 0 and 1 answer 0 to the letter, and state 2 answers 1: so the letter is the root's new word, and the two stay a block.
-/// The transition of state 2 stands at the root then, and goes down by two levels.
+/// States 0 and 1 answer 0 to the letter, and state 2 answers 1: so the letter is the root's new word, and the two stay a
+/// block. The transition of state 2 stands at the root then, and goes down by two levels.
 #[test]
 fn a_letter_parts_by_outputs(rt: HostRuntime) -> Result<(), Fail> {
     let alloc = rt.alloc();
