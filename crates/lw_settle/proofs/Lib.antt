@@ -1,4 +1,5 @@
 mod BlockLemmas
 mod ChoiceLemmas
 mod PartingLemmas
+mod ReadyLemmas
 mod SettleLemmas
