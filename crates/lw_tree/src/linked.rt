@@ -1,8 +1,9 @@
 //! The nodes of a discrimination tree by their numbers, with a list of those below each.
-ghost use Rattle.std.specs.Prelude.{◌≡◌, ◌≢◌, ℕ, ◌+◌, ◌^◌, ◌<◌, ◌≤◌, [], ◌∷◌, ◌++◌, length, slice_set, vec_len, vec_capacity, MatchOption, IfOk, OnOk};
+ghost use Rattle.std.specs.Prelude.{◌≡◌, ◌≢◌, ℕ, ◌+◌, ◌^◌, ◌<◌, ◌≤◌, [], ◌∷◌, ◌++◌, length, replicate, slice_set, vec_len, vec_capacity, MatchOption, IfOk, OnOk};
 ghost use Rattle.lw_tree.specs.Tree.{node_at, IsLive};
-ghost use Rattle.lw_tree.specs.bodies.Nodes.{IsChild, AreLinked, linked_leaf};
+ghost use Rattle.lw_tree.specs.bodies.Nodes.{IsChild, AreLinked, AreLower, linked_leaf};
 ghost use Rattle.lw_tree.specs.bodies.Steps.{leaf_below, inner_node};
+ghost use Rattle.lw_tree.specs.bodies.Sprouts.{cleared, final_node, replaced_root};
 
 use crate::nodes::{Content, Node};
 use lw_words::{NoMemory, Word};
@@ -93,7 +94,7 @@ fn add_link(links: &mut Vec<Link>, parent: u32, number: u32)
 }
 
 /// Gives a node a temporary discriminator.
-fn lower(nodes: &mut Vec<Node>, leaf: u32, word: Word)
+pub(crate) fn lower(nodes: &mut Vec<Node>, leaf: u32, word: Word)
     requires { leaf < length nodes.old.items }
     ensures items { nodes.new.items ≡ slice_set nodes.old.items leaf
         (inner_node (node_at nodes.old.items leaf) word) }
@@ -103,6 +104,69 @@ fn lower(nodes: &mut Vec<Node>, leaf: u32, word: Word)
         word,
         temporary: true,
     };
+}
+
+/// Takes away what stands at the marked nodes.
+fn clear(nodes: &mut Vec<Node>, below: &[bool])
+    ensures items { nodes.new.items ≡ cleared nodes.old.items below.now }
+    ensures capacity { vec_capacity nodes.new ≡ vec_capacity nodes.old }
+{
+    for number in 0..nodes.len() {
+        if number < below.len() && below[number] {
+            nodes[number].content = Content::Gone;
+        }
+    }
+}
+
+/// Gives a node a final discriminator.
+fn make_final(nodes: &mut Vec<Node>, root: u32, word: Word)
+    requires { root < length nodes.old.items }
+    ensures items { nodes.new.items ≡ slice_set nodes.old.items root
+        (final_node (node_at nodes.old.items root) word) }
+    ensures capacity { vec_capacity nodes.new ≡ vec_capacity nodes.old }
+{
+    nodes[root as usize].content = Content::Discriminator {
+        word,
+        temporary: false,
+    };
+}
+
+/// Puts nodes behind others. There is room for them.
+fn append(nodes: &mut Vec<Node>, more: Vec<Node>)
+    requires { vec_len nodes.old + length more.items ≤ vec_capacity nodes.old }
+    ensures { nodes.new.items ≡ nodes.old.items ++ more.items }
+{
+    for node in more {
+        nodes.push_reserved(node);
+    }
+}
+
+/// Gives each node a link of its own. There is room for them.
+fn add_links(links: &mut Vec<Link>, count: usize)
+    requires { count ≤ vec_capacity links.old }
+    ensures { links.new.items ≡ replicate count (record { first = 0; next = 0 }) }
+{
+    links.clear();
+    for _ in 0..count {
+        links.push_reserved(ALONE);
+    }
+}
+
+/// Links nodes anew, where each link is alone.
+fn relink(nodes: &[Node], links: &mut [Link])
+    requires alone { links.old ≡ replicate (length nodes.now) (record { first = 0; next = 0 }) }
+    requires lower { AreLower nodes.now }
+    requires few { length nodes.now < 2 ^ 32 }
+    ensures { AreLinked nodes.now links.new }
+{
+    for number in 1..nodes.len() {
+        if let Content::Gone = &nodes[number].content {
+            continue;
+        }
+        let parent = nodes[number].parent as usize;
+        links[number].next = links[parent].first;
+        links[parent].first = number as u32;
+    }
 }
 
 impl Nodes {
@@ -181,5 +245,21 @@ impl Nodes {
         ensures room { self.new.room ≡ self.old.room }
     {
         lower(&mut self.nodes, leaf, word);
+    }
+
+    /// Puts a final node in the place of another one, with these nodes behind all others, and takes away what stands at the
+    /// marked ones. There is room for them.
+    pub(crate) fn replace(&mut self, root: u32, word: Word, below: &[bool], more: Vec<Node>)
+        requires room { length more.items ≤ self.old.room }
+        requires few { length self.old.items + length more.items < 2 ^ 32 }
+        requires root { root < length self.old.items }
+        requires lower { AreLower (replaced_root self.old.items root word below.now ++ more.items) }
+        ensures { self.new.items ≡ replaced_root self.old.items root word below.now ++ more.items }
+    {
+        clear(&mut self.nodes, below);
+        make_final(&mut self.nodes, root, word);
+        append(&mut self.nodes, more);
+        add_links(&mut self.links, self.nodes.len());
+        relink(&self.nodes, self.links.as_mut_slice());
     }
 }

@@ -35,6 +35,10 @@ link_at links n = slice_index_or links n (record { first = 0; next = 0 })
 abbrev pub IsNewest : (ℕ → Node) → ℕ → ℕ → ℕ → Type 0
 IsNewest node p bound c = ((c ≡ 0) × ((n : ℕ) → n < bound → ¬ (IsChild node p n))) ⊎ (IsChild node p c × (c < bound) × ((n : ℕ) → c < n → n < bound → ¬ (IsChild node p n)))
 
+-- live nodes but the root have parents with lower numbers
+abbrev pub AreLower : List Node → Type 0
+AreLower nodes = (n : ℕ) → 0 < n → IsLive (node_at nodes n).content → (node_at nodes n).parent < n
+
 -- each node knows the newest one below it, and the next older one beside it; parents have lower numbers
 pub record AreLinked (nodes : List Node) (links : List Link) : Type 0 where
   pub each : length links ≡ length nodes
