@@ -16,7 +16,7 @@ use Rattle.lw_tree.proofs.BranchedLemmas.{final_is_inner, tail_stays}
 use Rattle.lw_tree.proofs.NodeLemmas.{Updates, everywhere, pushed, written, live_within}
 use Rattle.lw_tree.proofs.WayLemmas.{inner_is_live}
 
-marked_or_not : (b : Bool) → (b ≡ true) ⊎ (b ≡ false)
+pub marked_or_not : (b : Bool) → (b ≡ true) ⊎ (b ≡ false)
 marked_or_not true = inl refl
 marked_or_not false = inr refl
 
@@ -116,6 +116,9 @@ temporary_inner (State q) is = absurd (true≢false (sym is))
 temporary_inner (Discriminator word true) is = (tt, λ f. elim f [ ])
 temporary_inner (Discriminator word false) is = absurd (true≢false (sym is))
 temporary_inner Gone is = absurd (true≢false (sym is))
+
+pub temporary_plain : (c : Content) → is_temporary c ≡ true → ¬ IsFinal c
+temporary_plain c is = (temporary_inner c is).1
 
 tail_some : (node : ℕ → Node) (word : List ℕ) → HasTail node word → word ≢ []
 tail_some node word tail none =

@@ -3,6 +3,7 @@ mod BranchLemmas
 mod BranchedLemmas
 mod ClearedLemmas
 mod CloseLemmas
+mod EdgeLemmas
 mod FieldLemmas
 mod GrownLemmas
 mod LinkLemmas
@@ -15,6 +16,8 @@ mod NodeLemmas
 mod PartLemmas
 mod PartingLemmas
 mod PlaceLemmas
+mod PlantLemmas
+mod RelinkLemmas
 mod ShapeLemmas
 mod SproutLemmas
 mod StepLemmas

@@ -1,9 +1,9 @@
 //! The nodes of a discrimination tree by their numbers, with a list of those below each.
 ghost use Rattle.std.specs.Prelude.{◌≡◌, ◌≢◌, ℕ, ◌+◌, ◌^◌, ◌<◌, ◌≤◌, [], ◌∷◌, ◌++◌, length, replicate, slice_set, vec_len, vec_capacity, MatchOption, IfOk, OnOk};
 ghost use Rattle.lw_tree.specs.Tree.{node_at, IsLive};
-ghost use Rattle.lw_tree.specs.bodies.Nodes.{IsChild, AreLinked, AreLower, linked_leaf};
+ghost use Rattle.lw_tree.specs.bodies.Nodes.{IsChild, AreLinked, AreLower, linked_leaf, with_first};
 ghost use Rattle.lw_tree.specs.bodies.Steps.{leaf_below, inner_node};
-ghost use Rattle.lw_tree.specs.bodies.Sprouts.{cleared, final_node, replaced_root};
+ghost use Rattle.lw_tree.specs.bodies.Sprouts.{gone_node, cleared, final_node, replaced_root};
 
 use crate::nodes::{Content, Node};
 use lw_words::{NoMemory, Word};
@@ -106,15 +106,27 @@ pub(crate) fn lower(nodes: &mut Vec<Node>, leaf: u32, word: Word)
     };
 }
 
+/// Takes away what stands at a node.
+fn take_away(nodes: &mut Vec<Node>, number: usize)
+    requires { number < length nodes.old.items }
+    ensures items { nodes.new.items ≡ slice_set nodes.old.items number
+        (gone_node (node_at nodes.old.items number)) }
+    ensures capacity { vec_capacity nodes.new ≡ vec_capacity nodes.old }
+{
+    nodes[number].content = Content::Gone;
+}
+
 /// Takes away what stands at the marked nodes.
 fn clear(nodes: &mut Vec<Node>, below: &[bool])
+    requires { length below.now ≡ length nodes.old.items }
     ensures items { nodes.new.items ≡ cleared nodes.old.items below.now }
     ensures capacity { vec_capacity nodes.new ≡ vec_capacity nodes.old }
 {
-    for number in 0..nodes.len() {
-        if number < below.len() && below[number] {
-            nodes[number].content = Content::Gone;
+    for number in 0..below.len() {
+        if !below[number] {
+            continue;
         }
+        take_away(nodes, number);
     }
 }
 
@@ -152,20 +164,38 @@ fn add_links(links: &mut Vec<Link>, count: usize)
     }
 }
 
+/// Puts a node first among those below another one.
+fn put_first(links: &mut Vec<Link>, parent: u32, number: u32)
+    requires parent { parent < length links.old.items }
+    requires number { number < length links.old.items }
+    ensures { links.new.items ≡ with_first links.old.items parent number }
+{
+    let old = links[parent as usize];
+    let own = links[number as usize];
+    links[number as usize] = Link {
+        next: old.first,
+        ..own
+    };
+    links[parent as usize] = Link {
+        first: number,
+        ..old
+    };
+}
+
 /// Links nodes anew, where each link is alone.
-fn relink(nodes: &[Node], links: &mut [Link])
-    requires alone { links.old ≡ replicate (length nodes.now) (record { first = 0; next = 0 }) }
+fn relink(nodes: &[Node], links: &mut Vec<Link>)
+    requires alone { links.old.items ≡ replicate (length nodes.now) (record { first = 0; next = 0 }) }
     requires lower { AreLower nodes.now }
+    requires some { 0 < length nodes.now }
     requires few { length nodes.now < 2 ^ 32 }
-    ensures { AreLinked nodes.now links.new }
+    ensures { AreLinked nodes.now links.new.items }
 {
     for number in 1..nodes.len() {
-        if let Content::Gone = &nodes[number].content {
+        let node = &nodes[number];
+        if let Content::Gone = &node.content {
             continue;
         }
-        let parent = nodes[number].parent as usize;
-        links[number].next = links[parent].first;
-        links[parent].first = number as u32;
+        put_first(links, node.parent, number as u32);
     }
 }
 
@@ -253,6 +283,7 @@ impl Nodes {
         requires room { length more.items ≤ self.old.room }
         requires few { length self.old.items + length more.items < 2 ^ 32 }
         requires root { root < length self.old.items }
+        requires each { length below.now ≡ length self.old.items }
         requires lower { AreLower (replaced_root self.old.items root word below.now ++ more.items) }
         ensures { self.new.items ≡ replaced_root self.old.items root word below.now ++ more.items }
     {
@@ -260,6 +291,6 @@ impl Nodes {
         make_final(&mut self.nodes, root, word);
         append(&mut self.nodes, more);
         add_links(&mut self.links, self.nodes.len());
-        relink(&self.nodes, self.links.as_mut_slice());
+        relink(&self.nodes, &mut self.links);
     }
 }

@@ -1,8 +1,8 @@
 //! Replacing the root of a block by a final node.
-ghost use Rattle.std.specs.Prelude.{◌≡◌, ℕ, ◌+◌, ◌*◌, ◌<◌, ◌≤◌, length, map, IfOk};
+ghost use Rattle.std.specs.Prelude.{◌≡◌, ℕ, ◌+◌, ◌*◌, ◌<◌, ◌≤◌, length, map, slice_set, IfOk};
 ghost use Rattle.lw_words.specs.Answer.{AreAnswers, answers_of};
 ghost use Rattle.lw_tree.specs.Blocks.{MayReplace, HasReplaced};
-ghost use Rattle.lw_tree.specs.Tree.{BranchesAreRead, IsClosed, leaf_at, edge_at};
+ghost use Rattle.lw_tree.specs.Tree.{BranchesAreRead, IsClosed, edge_at, place_at};
 ghost use Rattle.lw_tree.specs.bodies.Sprouts.{lifted_place, AreEdgePlaces};
 
 use crate::DiscriminationTree;
@@ -31,8 +31,21 @@ fn lifted_places(
     Ok(moved)
 }
 
+/// Puts a transition at a node.
+fn put_place(places: &mut Vec<Place>, number: usize, node: u32)
+    requires { number < length places.old.items }
+    ensures { places.new.items ≡ slice_set places.old.items number
+        (record { output = (place_at places.old.items number).output; node = node }) }
+{
+    places[number] = Place {
+        output: places[number].output,
+        node,
+    };
+}
+
 /// Puts each transition by which a state was reached where that state stands.
 fn place_edges(places: &mut Vec<Place>, inputs: u16, spanning: &[Edge], leaves: &[u32])
+    requires some { 0 < length leaves.now }
     requires each { length spanning.now ≡ length leaves.now }
     requires within { (q : ℕ) → 0 < q → q < length leaves.now →
         (edge_at spanning.now q).state * inputs + (edge_at spanning.now q).letter < length places.old.items }
@@ -41,7 +54,7 @@ fn place_edges(places: &mut Vec<Place>, inputs: u16, spanning: &[Edge], leaves: 
 {
     for state in 1..leaves.len() {
         let number = spanning[state].number(inputs);
-        places[number].node = leaves[state];
+        put_place(places, number, leaves[state]);
     }
 }
 

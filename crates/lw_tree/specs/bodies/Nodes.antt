@@ -49,3 +49,7 @@ pub record AreLinked (nodes : List Node) (links : List Link) : Type 0 where
 -- the links once there is a node more, below one that there was
 abbrev pub linked_leaf : List Link → ℕ → ℕ → List Link
 linked_leaf links parent new = slice_set links parent (record { first = new; next = (link_at links parent).next }) ++ record { first = 0; next = (link_at links parent).first } ∷ []
+
+-- the links once a node that was in no list stands first below another one
+abbrev pub with_first : List Link → ℕ → ℕ → List Link
+with_first links parent number = slice_set (slice_set links number (record { first = (link_at links number).first; next = (link_at links parent).first })) parent (record { first = number; next = (link_at links parent).next })

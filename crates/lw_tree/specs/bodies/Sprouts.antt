@@ -105,11 +105,14 @@ pub record IsCleared (node now : ℕ → Node) (r : ℕ) (word : List ℕ) (mark
   pub gone : (n : ℕ) → n ≢ r → mark_at marks n ≡ true → (now n).content ≡ Gone
   pub kept : (n : ℕ) → n ≢ r → mark_at marks n ≡ false → (now n).content ≡ (node n).content
 
+abbrev pub gone_node : Node → Node
+gone_node n = record { parent = n.parent; branch = n.branch; content = Gone }
+
 -- the nodes in order, each marked one gone
 abbrev pub cleared : List Node → List Bool → List Node
 cleared [] marks = []
 cleared (n ∷ nodes) [] = n ∷ nodes
-cleared (n ∷ nodes) (true ∷ marks) = record { parent = n.parent; branch = n.branch; content = Gone } ∷ cleared nodes marks
+cleared (n ∷ nodes) (true ∷ marks) = gone_node n ∷ cleared nodes marks
 cleared (n ∷ nodes) (false ∷ marks) = n ∷ cleared nodes marks
 
 abbrev pub final_node : Node → List ℕ → Node
