@@ -3,7 +3,6 @@ mod BranchLemmas
 mod BranchedLemmas
 mod ClearedLemmas
 mod CloseLemmas
-mod EdgeLemmas
 mod FieldLemmas
 mod GrownLemmas
 mod LinkLemmas

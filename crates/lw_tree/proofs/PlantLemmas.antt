@@ -1,12 +1,14 @@
 -- The tree in which a sprout stands below a root.
-use Rattle.std.proofs.Common.{◌≡◌, ◌≢◌, ◌⊎◌, inl, inr, ⊎_elim, ℕ, zero, suc, ◌+◌, ◌*◌, ◌^◌, ◌<◌, ◌≤◌, Bool, true, false, true≢false, List, [], ◌∷◌, ◌++◌, length, map, get_or, Option, Some, None, IsSome, refl, ap, ap₂, sym, ◌∙◌, subst, append_assoc, append-nil, arith}
+use Rattle.std.proofs.Common.{◌≡◌, ◌≢◌, ◌⊎◌, inl, inr, ⊎_elim, ℕ, zero, suc, ◌+◌, ◌*◌, ◌^◌, ◌<◌, ◌≤◌, Bool, true, false, true≢false, List, [], ◌∷◌, ◌++◌, length, map, get_or, Option, Some, None, IsSome, Result, Ok, refl, ap, ap₂, sym, ◌∙◌, subst, append_assoc, append-nil, arith}
 use Rattle.std.proofs.Math.ListN.{get_or-append}
 use Rattle.std.proofs.lemmas.Bool.{cases_lt, cases_eq}
 use Rattle.std.proofs.lemmas.List.{length-append, length-map, get_or-map, get_or-append-add}
 use Rattle.lw_words.specs.Answer.{Answer}
 use Rattle.lw_cache.specs.Cut.{word_at}
-use Rattle.lw_tree.specs.Blocks.{MayReplace, HasFinal}
+use Rattle.lw_tree.specs.Blocks.{MayReplace, HasFinal, HasReplaced}
+use Rattle.lw_tree.specs.Grown.{HasGrown}
 use Rattle.lw_tree.specs.Tree.{TreeState, no_node, no_place, node_at, place_at, leaf_at, edge_at, place_of, final_words_of, final_discriminators, is_temporary, IsLive, IsInner, IsFinal, AreNodes, AreLeaves, IsEdge, IsPlace, IsTree, Agrees, BranchesAreRead}
+use Rattle.lw_tree.specs.bodies.Nodes.{AreLower}
 use Rattle.lw_tree.specs.bodies.Sprouts.{AreMarks, mark_at, lifted, lifted_place, AreStanding, IsSprout, IsCleared, edge_number, AreEdgePlaces}
 use Rattle.lw_tree.specs.declared.nodes.Node.{Node}
 use Rattle.lw_tree.specs.declared.nodes.Content.{Content}
@@ -27,6 +29,21 @@ abbrev pub state_of : Content → ℕ
 state_of (State q) = q
 state_of (Discriminator word temporary) = 0
 state_of Gone = 0
+
+-- the transition by which a state was reached has a place
+pub edge_within : (t : TreeState) (g : IsTree t) (q : ℕ) → 0 < q → q < length t.access → edge_number t.inputs t.spanning q < length t.places
+edge_within t g q some lt =
+    let is = g.edges q some lt in
+    let before = is.before in
+    subst (λ (n : ℕ). edge_number t.inputs t.spanning q < n) (sym g.each_place) (number_within t.inputs (length t.access) (edge_at t.spanning q).state (edge_at t.spanning q).letter (omega (arith, before, lt)) is.small)
+
+pub same_edge_places : (a : ℕ) (spanning own_spanning : List Edge) (leaves own_leaves : List ℕ) (places own_places now : List Place) → spanning ≡ own_spanning → leaves ≡ own_leaves → places ≡ own_places → AreEdgePlaces a spanning leaves (length leaves) places now → AreEdgePlaces a own_spanning own_leaves (length own_leaves) own_places now
+same_edge_places a spanning own_spanning leaves own_leaves places own_places now one two three e =
+    subst (λ (l : List Place). AreEdgePlaces a own_spanning own_leaves (length own_leaves) l now) three
+    (subst (λ (l : List ℕ). AreEdgePlaces a own_spanning l (length l) places now) two (subst (λ (l : List Edge). AreEdgePlaces a l leaves (length leaves) places now) one e))
+
+pub replaced_ok : {E : Type 0} (ks : List Answer) (word : List ℕ) (before now : TreeState) → HasGrown ks before now → HasFinal word before now → now.access ≡ before.access → now.refinements ≡ before.refinements → HasReplaced {E = E} ks word before now (Ok tt)
+replaced_ok ks word before now grown replaced access refinements = record { grown = grown; replaced = replaced; access = access; refinements = refinements; left = tt }
 
 module _ (ks : List Answer) (t : TreeState) (r : ℕ) (word : List ℕ) (marks : List Bool) (base more : List Node) (stand : List ℕ) (placed : List Place) (g : IsTree t) (read : BranchesAreRead ks t) (may : MayReplace ks t r word) (are : AreMarks (node_at t.nodes) r marks) (each : length marks ≡ length t.nodes)
     (clear : IsCleared (node_at t.nodes) (node_at base) r word marks) (long : length base ≡ length t.nodes) (few : length t.nodes + length more < 2 ^ 32) (s : IsSprout ks t.inputs t.access (length t.nodes) (base ++ more) stand (length t.nodes + length more))
@@ -87,12 +104,6 @@ module _ (ks : List Answer) (t : TreeState) (r : ℕ) (word : List ℕ) (marks :
   leaves_once : (p q : ℕ) → p < length t.access → q < length t.access → leaf_at t.leaves p ≡ leaf_at t.leaves q → p ≡ q
   leaves_once p q lp lq same = ap state_of (sym (g.leaves.leaves p lp) ∙ (ap (λ (n : ℕ). (node_at t.nodes n).content) same ∙ g.leaves.leaves q lq))
 
-  edge_inside : (q : ℕ) → 0 < q → q < length t.access → edge_number t.inputs t.spanning q < length t.places
-  edge_inside q some lt =
-      let is = g.edges q some lt in
-      let before = is.before in
-      inside_of (edge_at t.spanning q).state (edge_at t.spanning q).letter (omega (arith, before, lt)) is.small
-
   edges_once : (p q : ℕ) → 0 < p → p < length t.access → 0 < q → q < length t.access → edge_number t.inputs t.spanning p ≡ edge_number t.inputs t.spanning q → p ≡ q
   edges_once p q some_p lp some_q lq same =
       let one : (place_at t.places (edge_number t.inputs t.spanning p)).node ≡ leaf_at t.leaves p = (g.edges p some_p lp).target in
@@ -107,7 +118,7 @@ module _ (ks : List Answer) (t : TreeState) (r : ℕ) (word : List ℕ) (marks :
         small = was.small;
         word_is = was.word_is;
         target = e.edges q some (omega (arith, lt, s.each)) (λ p some_p lp same. edges_once p q some_p (omega (arith, lp, s.each)) some lt same);
-        known = subst IsSome (sym (output_at (edge_number t.inputs t.spanning q) (edge_inside q some lt))) was.known;
+        known = subst IsSome (sym (output_at (edge_number t.inputs t.spanning q) (edge_within t g q some lt))) was.known;
       }
 
   -- the node of a place
@@ -181,6 +192,12 @@ module _ (ks : List Answer) (t : TreeState) (r : ℕ) (word : List ℕ) (marks :
             (place_cases k inside);
         access = s.standing.agrees;
       }
+
+  pub planted_grown : HasGrown ks t after
+  planted_grown = record { inputs = refl; outputs = refl; most = refl; more = []; access = sym (append-nil t.access); tree = planted_tree; read = planted_read }
+
+  pub planted_lower : AreLower (base ++ more)
+  planted_lower n some live = (s.standing.shape.branches n some live).lower
 
 -- lists of nodes with the same final words have the same final discriminators
 same_finals : (xs ys : List Node) → length xs ≡ length ys → ((n : ℕ) → final_words_of (node_at xs n).content ≡ final_words_of (node_at ys n).content) → final_discriminators xs ≡ final_discriminators ys
