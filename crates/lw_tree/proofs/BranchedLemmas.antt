@@ -200,4 +200,3 @@ module _ (a : ℕ) (node now : ℕ → Node) (leaf q : ℕ) (word : List ℕ) (g
             let at : now n ≡ node n = u.others n was.0 in
             subst (λ (m : Node). HasTail now (discriminator m.content)) (sym at) (tail_stays node now (discriminator (node n).content) (λ k f. inner_same k (final_is_inner (node k).content f)) (g.tails n was.1));
       }
-

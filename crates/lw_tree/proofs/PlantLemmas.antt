@@ -224,8 +224,7 @@ finals_replaced (x ∷ xs) (y ∷ ys) zero word long inside same old new =
     ([], final_discriminators xs, ap (λ (l : List (List ℕ)). l ++ final_discriminators xs) old, ap (λ (l : List (List ℕ)). l ++ final_discriminators ys) new ∙ ap (λ (l : List (List ℕ)). word ∷ l) (sym rest))
 finals_replaced (x ∷ xs) (y ∷ ys) (suc r) word long inside same old new =
     let rest = finals_replaced xs ys r word (omega (arith, long)) (omega (arith, inside)) (λ n other. same (suc n) (λ e. other (omega (arith, e)))) old new in
-    let head : final_words_of x.content ≡ final_words_of y.content = same 0 (λ e. omega (arith, e)) in
-    (
+    let head : final_words_of x.content ≡ final_words_of y.content = same 0 (λ e. omega (arith, e)) in (
       final_words_of x.content ++ rest.0,
       rest.1,
       split_old (final_words_of x.content) (final_discriminators xs) rest.0 rest.1 rest.2,

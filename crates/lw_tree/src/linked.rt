@@ -184,7 +184,8 @@ fn put_first(links: &mut Vec<Link>, parent: u32, number: u32)
 
 /// Links nodes anew, where each link is alone.
 fn relink(nodes: &[Node], links: &mut Vec<Link>)
-    requires alone { links.old.items ≡ replicate (length nodes.now) (record { first = 0; next = 0 }) }
+    requires alone { links.old.items ≡
+        replicate (length nodes.now) (record { first = 0; next = 0 }) }
     requires lower { AreLower nodes.now }
     requires some { 0 < length nodes.now }
     requires few { length nodes.now < 2 ^ 32 }

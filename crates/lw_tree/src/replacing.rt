@@ -1,9 +1,9 @@
 //! Replacing the root of a block by a final node.
-ghost use Rattle.std.specs.Prelude.{◌≡◌, ℕ, ◌+◌, ◌*◌, ◌<◌, ◌≤◌, length, map, slice_set, IfOk};
+ghost use Rattle.std.specs.Prelude.{◌≡◌, ℕ, ◌<◌, length, map, slice_set, IfOk};
 ghost use Rattle.lw_words.specs.Answer.{AreAnswers, answers_of};
 ghost use Rattle.lw_tree.specs.Blocks.{MayReplace, HasReplaced};
-ghost use Rattle.lw_tree.specs.Tree.{BranchesAreRead, IsClosed, edge_at, place_at};
-ghost use Rattle.lw_tree.specs.bodies.Sprouts.{lifted_place, AreEdgePlaces};
+ghost use Rattle.lw_tree.specs.Tree.{BranchesAreRead, IsClosed, place_at};
+ghost use Rattle.lw_tree.specs.bodies.Sprouts.{lifted_place, edge_number, AreEdgePlaces};
 
 use crate::DiscriminationTree;
 use crate::sprouts::lift;
@@ -48,7 +48,7 @@ fn place_edges(places: &mut Vec<Place>, inputs: u16, spanning: &[Edge], leaves: 
     requires some { 0 < length leaves.now }
     requires each { length spanning.now ≡ length leaves.now }
     requires within { (q : ℕ) → 0 < q → q < length leaves.now →
-        (edge_at spanning.now q).state * inputs + (edge_at spanning.now q).letter < length places.old.items }
+        edge_number inputs spanning.now q < length places.old.items }
     ensures { AreEdgePlaces inputs spanning.now leaves.now (length leaves.now) places.old.items
         places.new.items }
 {
@@ -60,8 +60,8 @@ fn place_edges(places: &mut Vec<Place>, inputs: u16, spanning: &[Edge], leaves: 
 
 impl DiscriminationTree {
     /// Puts a final node with this discriminator in the place of a block's root. Below it stands, for each of the members'
-    /// output words, what the block had of those members, with nodes of one child left out; and the transitions into the members
-    /// stand at it, but for those that they were reached by.
+    /// output words, what the block had of those members, with nodes of one child left out; and the transitions into the
+    /// members stand at it, but for those that they were reached by.
     ///
     /// # Errors
     /// Only where memory runs out; the tree is then as before.

@@ -1,10 +1,10 @@
 //! What is to stand below the root of a block once that is replaced, made beside the tree.
-ghost use Rattle.std.specs.Prelude.{◌≡◌, ◌≢◌, ℕ, ◌+◌, ◌^◌, ◌<◌, ◌≤◌, List, ◌++◌, length, map, MatchOption, OnOk, IfOk};
+ghost use Rattle.std.specs.Prelude.{◌≡◌, ◌≢◌, ℕ, ◌+◌, ◌^◌, ◌<◌, ◌≤◌, List, length, map, MatchOption, OnOk, IfOk};
 ghost use Rattle.lw_words.specs.Answer.{AreAnswers, answers_of};
 ghost use Rattle.lw_tree.specs.Blocks.{MayReplace};
 ghost use Rattle.lw_tree.specs.Tree.{BranchesAreRead, node_at, leaf_at, IsLive, IsTree};
 ghost use Rattle.lw_tree.specs.declared.nodes.Node.{Node};
-ghost use Rattle.lw_tree.specs.bodies.Sprouts.{AreMarks, IsNextMark, lifted, HasDescended, IsLowest, IsSprout, IsOpen, CanPart, IsCleared};
+ghost use Rattle.lw_tree.specs.bodies.Sprouts.{AreMarks, IsNextMark, lifted, HasDescended, IsLowest, IsSproutOf, IsOpenOf, CanPart, IsCleared};
 
 use crate::DiscriminationTree;
 use crate::linked::lower;
@@ -111,7 +111,8 @@ impl DiscriminationTree {
 
     /// The leaf of each state, but the root for the members of its block.
     fn lifted_leaves(&self, root: u32, below: &[bool]) -> Result<Vec<u32>, NoMemory>
-        ensures { IfOk result (λ leaves. leaves.items ≡ map (lifted below.now root) self.now.leaves) }
+        ensures { IfOk result (λ leaves.
+            leaves.items ≡ map (lifted below.now root) self.now.leaves) }
     {
         let mut leaves = Vec::with_capacity(self.alloc, self.leaves.len())?;
         for leaf in &self.leaves {
@@ -149,12 +150,14 @@ impl DiscriminationTree {
         requires answers { AreAnswers self.now.inputs (answers_of cache.now.kept) }
         requires can { CanPart (answers_of cache.now.kept) self.now.access sprout.old.leaves.items
             number word.now }
-        ensures longer { OnOk result (length sprout.old.nodes.items ≤ length sprout.new.nodes.items) }
-        ensures grown { OnOk result ((base : List Node) (next : ℕ) → length base ≡ length self.now.nodes →
-            IsOpen (answers_of cache.now.kept) self.now.inputs self.now.access (length self.now.nodes)
-            (base ++ sprout.old.nodes.items) sprout.old.leaves.items next number word.now →
-            IsSprout (answers_of cache.now.kept) self.now.inputs self.now.access (length self.now.nodes)
-            (base ++ sprout.new.nodes.items) sprout.new.leaves.items next) }
+        ensures longer { OnOk result
+            (length sprout.old.nodes.items ≤ length sprout.new.nodes.items) }
+        ensures grown { OnOk result ((base : List Node) (next : ℕ) →
+            length base ≡ length self.now.nodes →
+            IsOpenOf (answers_of cache.now.kept) self.now base sprout.old.nodes.items
+            sprout.old.leaves.items next number word.now →
+            IsSproutOf (answers_of cache.now.kept) self.now base sprout.new.nodes.items
+            sprout.new.leaves.items next) }
     {
         let front = sprout.nodes.len();
         for state in 0..self.access.len() {
@@ -167,25 +170,23 @@ impl DiscriminationTree {
         Ok(())
     }
 
-    /// Makes a node of a sprout what it is to be: a leaf where one state stands there, else a copy of the lowest node above their
-    /// leaves.
+    /// Makes a node of a sprout what it is to be: a leaf where one state stands there, else a copy of the lowest node above
+    /// their leaves.
     fn grow_node(&self, cache: &Cache, sprout: &mut Sprout, place: usize) -> Result<(), NoMemory>
         requires answers { AreAnswers self.now.inputs (answers_of cache.now.kept) }
         requires read { BranchesAreRead (answers_of cache.now.kept) self.now }
         requires place { place < length sprout.old.nodes.items }
         requires few { length self.now.nodes + place < 2 ^ 32 }
         requires sprout { (base : List Node) × (length base ≡ length self.now.nodes) ×
-            IsSprout (answers_of cache.now.kept) self.now.inputs self.now.access (length self.now.nodes)
-            (base ++ sprout.old.nodes.items) sprout.old.leaves.items
-            (length self.now.nodes + place) }
-        ensures longer { OnOk result (length sprout.old.nodes.items ≤ length sprout.new.nodes.items) }
+            IsSproutOf (answers_of cache.now.kept) self.now base sprout.old.nodes.items
+            sprout.old.leaves.items (length self.now.nodes + place) }
+        ensures longer { OnOk result
+            (length sprout.old.nodes.items ≤ length sprout.new.nodes.items) }
         ensures grown { OnOk result ((base : List Node) → length base ≡ length self.now.nodes →
-            IsSprout (answers_of cache.now.kept) self.now.inputs self.now.access (length self.now.nodes)
-            (base ++ sprout.old.nodes.items) sprout.old.leaves.items
-            (length self.now.nodes + place) →
-            IsSprout (answers_of cache.now.kept) self.now.inputs self.now.access (length self.now.nodes)
-            (base ++ sprout.new.nodes.items) sprout.new.leaves.items
-            (length self.now.nodes + place + 1)) }
+            IsSproutOf (answers_of cache.now.kept) self.now base sprout.old.nodes.items
+            sprout.old.leaves.items (length self.now.nodes + place) →
+            IsSproutOf (answers_of cache.now.kept) self.now base sprout.new.nodes.items
+            sprout.new.leaves.items (length self.now.nodes + place + 1)) }
     {
         let number = (self.nodes.len() + place) as u32;
         let Content::State(state) = &sprout.nodes[place].content else {
@@ -205,17 +206,14 @@ impl DiscriminationTree {
         requires answers { AreAnswers self.now.inputs (answers_of cache.now.kept) }
         requires read { BranchesAreRead (answers_of cache.now.kept) self.now }
         requires sprout { (base : List Node) × (length base ≡ length self.now.nodes) ×
-            IsSprout (answers_of cache.now.kept) self.now.inputs self.now.access (length self.now.nodes)
-            (base ++ sprout.old.nodes.items) sprout.old.leaves.items
-            (length self.now.nodes) }
+            IsSproutOf (answers_of cache.now.kept) self.now base sprout.old.nodes.items
+            sprout.old.leaves.items (length self.now.nodes) }
         ensures few { OnOk result (length self.now.nodes + length sprout.new.nodes.items < 2 ^ 32) }
         ensures grown { OnOk result ((base : List Node) → length base ≡ length self.now.nodes →
-            IsSprout (answers_of cache.now.kept) self.now.inputs self.now.access (length self.now.nodes)
-            (base ++ sprout.old.nodes.items) sprout.old.leaves.items
-            (length self.now.nodes) →
-            IsSprout (answers_of cache.now.kept) self.now.inputs self.now.access (length self.now.nodes)
-            (base ++ sprout.new.nodes.items) sprout.new.leaves.items
-            (length self.now.nodes + length sprout.new.nodes.items)) }
+            IsSproutOf (answers_of cache.now.kept) self.now base sprout.old.nodes.items
+            sprout.old.leaves.items (length self.now.nodes) →
+            IsSproutOf (answers_of cache.now.kept) self.now base sprout.new.nodes.items
+            sprout.new.leaves.items (length self.now.nodes + length sprout.new.nodes.items)) }
     {
         for place in 0..u32::MAX as usize - self.nodes.len() {
             if place == sprout.nodes.len() {
@@ -243,9 +241,8 @@ impl DiscriminationTree {
         ensures grown { IfOk result (λ s. (base : List Node) →
             length base ≡ length self.now.nodes →
             IsCleared (node_at self.now.nodes) (node_at base) root word.now below.now →
-            IsSprout (answers_of cache.now.kept) self.now.inputs self.now.access (length self.now.nodes)
-            (base ++ s.nodes.items) s.leaves.items
-            (length self.now.nodes + length s.nodes.items)) }
+            IsSproutOf (answers_of cache.now.kept) self.now base s.nodes.items
+            s.leaves.items (length self.now.nodes + length s.nodes.items)) }
     {
         let mut sprout = Sprout {
             nodes: Vec::new(self.alloc),

@@ -5,7 +5,7 @@ use Rattle.lw_words.specs.Word.{IsWord}
 use Rattle.lw_cache.specs.Crowd.{Separates}
 use Rattle.lw_cache.specs.Cut.{word_at}
 use Rattle.lw_cache.specs.Known.{IsKnown}
-use Rattle.lw_tree.specs.Tree.{node_at, place_at, edge_at, leaf_at, discriminator, IsLive, IsInner, IsFinal, IsBranch, HasTail, HasTwo, IsAbove, Tells, Agrees}
+use Rattle.lw_tree.specs.Tree.{TreeState, node_at, place_at, edge_at, leaf_at, discriminator, IsLive, IsInner, IsFinal, IsBranch, HasTail, HasTwo, IsAbove, Tells, Agrees}
 use Rattle.lw_tree.specs.bodies.Steps.{leaf_below}
 use Rattle.lw_tree.specs.declared.nodes.Node.{Node}
 use Rattle.lw_tree.specs.declared.transitions.Edge.{Edge}
@@ -84,6 +84,13 @@ pub record IsOpen (ks : List Answer) (a : ℕ) (access : List (List ℕ)) (first
   pub unmade : (n : ℕ) → next ≤ n → ¬ IsInner (node_at nodes n).content
   pub all : (n : ℕ) → first ≤ n → n < length nodes → IsLive (node_at nodes n).content
   pub childless : (n : ℕ) → 0 < n → IsLive (node_at nodes n).content → (node_at nodes n).parent ≢ c
+
+-- the same of nodes behind others, which a tree may have in the place of its own
+abbrev pub IsSproutOf : List Answer → TreeState → List Node → List Node → List ℕ → ℕ → Type 0
+IsSproutOf ks t base nodes leaves next = IsSprout ks t.inputs t.access (length t.nodes) (base ++ nodes) leaves next
+
+abbrev pub IsOpenOf : List Answer → TreeState → List Node → List Node → List ℕ → ℕ → ℕ → List ℕ → Type 0
+IsOpenOf ks t base nodes leaves next c word = IsOpen ks t.inputs t.access (length t.nodes) (base ++ nodes) leaves next c word
 
 -- the outputs on a word are known of the states that stand at a node, and those of two of them differ
 pub record CanPart (ks : List Answer) (access : List (List ℕ)) (leaves : List ℕ) (c : ℕ) (word : List ℕ) : Type 0 where

@@ -1,7 +1,5 @@
-use Rattle.std.proofs.Common.{rules, ◌≡◌, ℕ, ◌+◌, ◌<◌, ◌≤◌, true, false, List, length, ap, sym, ◌∙◌, subst, arith}
-use Rattle.lw_tree.specs.Tree.{node_at}
+use Rattle.std.proofs.Common.{rules, ◌≡◌, ◌+◌, ◌<◌, ◌≤◌, true, false, length, sym, ◌∙◌, subst, arith}
 use Rattle.lw_tree.specs.bodies.Sprouts.{mark_at}
-use Rattle.lw_tree.specs.declared.nodes.Node.{Node}
 use Rattle.lw_tree.proofs.RelinkLemmas.{AreClearedTo, cleared_skip, cleared_next, cleared_all}
 use Rattle.lw_tree.proofs.linked.clear.Goals as goal
 

@@ -1,7 +1,6 @@
-use Rattle.std.proofs.Common.{rules, ◌≡◌, ℕ, ◌+◌, ◌<◌, ◌≤◌, List, length, ap, sym, ◌∙◌, subst, arith}
+use Rattle.std.proofs.Common.{rules, ◌≡◌, ◌+◌, ◌<◌, ◌≤◌, length, ap, sym, ◌∙◌, subst, arith}
 use Rattle.lw_tree.specs.Tree.{node_at, IsLive}
 use Rattle.lw_tree.specs.bodies.Nodes.{with_first}
-use Rattle.lw_tree.specs.declared.linked.Link.{Link}
 use Rattle.lw_tree.specs.declared.nodes.Node.{Node}
 use Rattle.lw_tree.proofs.FieldLemmas.{node_read}
 use Rattle.lw_tree.proofs.RelinkLemmas.{AreLinkedTo, live_else, linked_first, linked_all}

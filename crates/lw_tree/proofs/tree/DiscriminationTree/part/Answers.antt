@@ -1,11 +1,10 @@
-use Rattle.std.proofs.Common.{rules, ◌≡◌, ◌≢◌, ℕ, ◌+◌, ◌<◌, ◌≤◌, List, [], ◌++◌, length, refl, ap, sym, ◌∙◌, subst, arith}
+use Rattle.std.proofs.Common.{rules, ◌≡◌, ◌≢◌, ℕ, ◌<◌, ◌≤◌, List, [], ◌++◌, length, refl, ap, sym, ◌∙◌, subst, arith}
 use Rattle.lw_words.specs.Answer.{answers_of}
 use Rattle.lw_cache.specs.Cut.{word_at}
 use Rattle.lw_cache.specs.Known.{IsKnown}
 use Rattle.std.proofs.lemmas.List.{get_or_default}
 use Rattle.std.proofs.lemmas.Option.{get_or_from_slice_get}
 use Rattle.lw_tree.specs.Tree.{TreeState, leaf_at, Tells}
-use Rattle.lw_tree.specs.declared.nodes.Node.{Node}
 use Rattle.lw_tree.proofs.PartingLemmas.{parting_start, parting_skip, parting_descends, parting_done, descended_each, descended_longer, descended_left}
 use Rattle.lw_tree.proofs.tree.DiscriminationTree.part.Goals as goal
 
