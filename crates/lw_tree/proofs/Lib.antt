@@ -1,20 +1,28 @@
+mod AboveLemmas
 pub mod BranchLemmas
+mod BranchedLemmas
 pub mod ClassLemmas
+mod ClearedLemmas
 pub mod CloseLemmas
-mod FewLemmas
+pub mod FewLemmas
 mod FieldLemmas
 pub mod GrownLemmas
 mod LinkLemmas
 mod ListingLemmas
 mod LowerLemmas
+mod LowestLemmas
 pub mod MachineLemmas
 mod MeasureLemmas
 mod NewLemmas
 pub mod NodeLemmas
 mod NumberLemmas
 mod PartLemmas
+mod PartingLemmas
 mod PlaceLemmas
+mod PlantLemmas
+mod RelinkLemmas
 pub mod ShapeLemmas
+mod SproutLemmas
 pub mod StepLemmas
 mod TrialLemmas
 pub mod WayLemmas

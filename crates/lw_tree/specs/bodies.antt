@@ -1,5 +1,6 @@
 -- What the contracts of private functions cite, and no public clause.
 pub mod Nodes
+pub mod Sprouts
 pub mod Steps
 pub mod Transitions
 pub mod Trials

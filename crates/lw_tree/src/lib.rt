@@ -10,6 +10,7 @@ mod nodes;
 mod reading;
 mod replacing;
 mod splitting;
+mod sprouts;
 mod steps;
 mod transitions;
 mod tree;

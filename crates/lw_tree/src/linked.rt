@@ -1,8 +1,9 @@
 //! The nodes of a discrimination tree by their numbers, with a list of those below each.
-ghost use Rattle.std.specs.Prelude.{◌≡◌, ◌≢◌, ℕ, ◌+◌, ◌^◌, ◌<◌, ◌≤◌, [], ◌∷◌, ◌++◌, length, slice_set, vec_len, vec_capacity, MatchOption, IfOk, OnOk};
+ghost use Rattle.std.specs.Prelude.{◌≡◌, ◌≢◌, ℕ, ◌+◌, ◌^◌, ◌<◌, ◌≤◌, [], ◌∷◌, ◌++◌, length, replicate, slice_set, vec_len, vec_capacity, MatchOption, IfOk, OnOk};
 ghost use Rattle.lw_tree.specs.Tree.{node_at, IsLive};
-ghost use Rattle.lw_tree.specs.bodies.Nodes.{IsChild, AreLinked, linked_leaf};
+ghost use Rattle.lw_tree.specs.bodies.Nodes.{IsChild, AreLinked, AreLower, linked_leaf, with_first};
 ghost use Rattle.lw_tree.specs.bodies.Steps.{leaf_below, inner_node};
+ghost use Rattle.lw_tree.specs.bodies.Sprouts.{gone_node, cleared, final_node, replaced_root};
 
 use crate::nodes::{Content, Node};
 use lw_words::{NoMemory, Word};
@@ -93,7 +94,7 @@ fn add_link(links: &mut Vec<Link>, parent: u32, number: u32)
 }
 
 /// Gives a node a temporary discriminator.
-fn lower(nodes: &mut Vec<Node>, leaf: u32, word: Word)
+pub(crate) fn lower(nodes: &mut Vec<Node>, leaf: u32, word: Word)
     requires { leaf < length nodes.old.items }
     ensures items { nodes.new.items ≡ slice_set nodes.old.items leaf
         (inner_node (node_at nodes.old.items leaf) word) }
@@ -103,6 +104,100 @@ fn lower(nodes: &mut Vec<Node>, leaf: u32, word: Word)
         word,
         temporary: true,
     };
+}
+
+/// Takes away what stands at a node.
+fn take_away(nodes: &mut Vec<Node>, number: usize)
+    requires { number < length nodes.old.items }
+    ensures items { nodes.new.items ≡ slice_set nodes.old.items number
+        (gone_node (node_at nodes.old.items number)) }
+    ensures capacity { vec_capacity nodes.new ≡ vec_capacity nodes.old }
+{
+    nodes[number].content = Content::Gone;
+}
+
+/// Takes away what stands at the marked nodes.
+fn clear(nodes: &mut Vec<Node>, below: &[bool])
+    requires { length below.now ≡ length nodes.old.items }
+    ensures items { nodes.new.items ≡ cleared nodes.old.items below.now }
+    ensures capacity { vec_capacity nodes.new ≡ vec_capacity nodes.old }
+{
+    for number in 0..below.len() {
+        if !below[number] {
+            continue;
+        }
+        take_away(nodes, number);
+    }
+}
+
+/// Gives a node a final discriminator.
+fn make_final(nodes: &mut Vec<Node>, root: u32, word: Word)
+    requires { root < length nodes.old.items }
+    ensures items { nodes.new.items ≡ slice_set nodes.old.items root
+        (final_node (node_at nodes.old.items root) word) }
+    ensures capacity { vec_capacity nodes.new ≡ vec_capacity nodes.old }
+{
+    nodes[root as usize].content = Content::Discriminator {
+        word,
+        temporary: false,
+    };
+}
+
+/// Puts nodes behind others. There is room for them.
+fn append(nodes: &mut Vec<Node>, more: Vec<Node>)
+    requires { vec_len nodes.old + length more.items ≤ vec_capacity nodes.old }
+    ensures { nodes.new.items ≡ nodes.old.items ++ more.items }
+{
+    for node in more {
+        nodes.push_reserved(node);
+    }
+}
+
+/// Gives each node a link of its own. There is room for them.
+fn add_links(links: &mut Vec<Link>, count: usize)
+    requires { count ≤ vec_capacity links.old }
+    ensures { links.new.items ≡ replicate count (record { first = 0; next = 0 }) }
+{
+    links.clear();
+    for _ in 0..count {
+        links.push_reserved(ALONE);
+    }
+}
+
+/// Puts a node first among those below another one.
+fn put_first(links: &mut Vec<Link>, parent: u32, number: u32)
+    requires parent { parent < length links.old.items }
+    requires number { number < length links.old.items }
+    ensures { links.new.items ≡ with_first links.old.items parent number }
+{
+    let old = links[parent as usize];
+    let own = links[number as usize];
+    links[number as usize] = Link {
+        next: old.first,
+        ..own
+    };
+    links[parent as usize] = Link {
+        first: number,
+        ..old
+    };
+}
+
+/// Links nodes anew, where each link is alone.
+fn relink(nodes: &[Node], links: &mut Vec<Link>)
+    requires alone { links.old.items ≡
+        replicate (length nodes.now) (record { first = 0; next = 0 }) }
+    requires lower { AreLower nodes.now }
+    requires some { 0 < length nodes.now }
+    requires few { length nodes.now < 2 ^ 32 }
+    ensures { AreLinked nodes.now links.new.items }
+{
+    for number in 1..nodes.len() {
+        let node = &nodes[number];
+        if let Content::Gone = &node.content {
+            continue;
+        }
+        put_first(links, node.parent, number as u32);
+    }
 }
 
 impl Nodes {
@@ -181,5 +276,22 @@ impl Nodes {
         ensures room { self.new.room ≡ self.old.room }
     {
         lower(&mut self.nodes, leaf, word);
+    }
+
+    /// Puts a final node in the place of another one, with these nodes behind all others, and takes away what stands at the
+    /// marked ones. There is room for them.
+    pub(crate) fn replace(&mut self, root: u32, word: Word, below: &[bool], more: Vec<Node>)
+        requires room { length more.items ≤ self.old.room }
+        requires few { length self.old.items + length more.items < 2 ^ 32 }
+        requires root { root < length self.old.items }
+        requires each { length below.now ≡ length self.old.items }
+        requires lower { AreLower (replaced_root self.old.items root word below.now ++ more.items) }
+        ensures { self.new.items ≡ replaced_root self.old.items root word below.now ++ more.items }
+    {
+        clear(&mut self.nodes, below);
+        make_final(&mut self.nodes, root, word);
+        append(&mut self.nodes, more);
+        add_links(&mut self.links, self.nodes.len());
+        relink(&self.nodes, &mut self.links);
     }
 }

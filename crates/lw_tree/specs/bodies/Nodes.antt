@@ -35,6 +35,10 @@ link_at links n = slice_index_or links n (record { first = 0; next = 0 })
 abbrev pub IsNewest : (ℕ → Node) → ℕ → ℕ → ℕ → Type 0
 IsNewest node p bound c = ((c ≡ 0) × ((n : ℕ) → n < bound → ¬ (IsChild node p n))) ⊎ (IsChild node p c × (c < bound) × ((n : ℕ) → c < n → n < bound → ¬ (IsChild node p n)))
 
+-- live nodes but the root have parents with lower numbers
+abbrev pub AreLower : List Node → Type 0
+AreLower nodes = (n : ℕ) → 0 < n → IsLive (node_at nodes n).content → (node_at nodes n).parent < n
+
 -- each node knows the newest one below it, and the next older one beside it; parents have lower numbers
 pub record AreLinked (nodes : List Node) (links : List Link) : Type 0 where
   pub each : length links ≡ length nodes
@@ -45,3 +49,7 @@ pub record AreLinked (nodes : List Node) (links : List Link) : Type 0 where
 -- the links once there is a node more, below one that there was
 abbrev pub linked_leaf : List Link → ℕ → ℕ → List Link
 linked_leaf links parent new = slice_set links parent (record { first = new; next = (link_at links parent).next }) ++ record { first = 0; next = (link_at links parent).first } ∷ []
+
+-- the links once a node that was in no list stands first below another one
+abbrev pub with_first : List Link → ℕ → ℕ → List Link
+with_first links parent number = slice_set (slice_set links number (record { first = (link_at links number).first; next = (link_at links parent).first })) parent (record { first = number; next = (link_at links parent).next })
