@@ -10,13 +10,13 @@ use Rattle.lw_cache.specs.declared.stops.GrowStop.TheVariants.{Ask, Crowd}
 use Rattle.lw_cache.specs.Cut.{word_at}
 use Rattle.lw_tree.specs.bodies.Transitions.{place_by}
 use Rattle.lw_tree.specs.Grown.{HasGrown, KeepsDiscriminators, TellsCrowd, HasLevelled, HasClosed, IsSplit, HasSplit}
-use Rattle.lw_tree.specs.Tree.{TreeState, node_at, leaf_at, IsLive, IsTree, BranchesAreRead, IsClosed, HasOpen, discriminators, temporaries, is_temporary, words_of}
+use Rattle.lw_tree.specs.Tree.{TreeState, node_at, leaf_at, IsLive, IsTree, BranchesAreRead, IsClosed, HasOpen, discriminators, final_discriminators, temporaries, is_temporary, words_of, final_words_of}
 use Rattle.lw_tree.specs.bodies.Steps.{leaf_below, inner_node, lowered, split_tree, refined_once}
 use Rattle.lw_tree.specs.declared.nodes.Node.{Node}
 use Rattle.lw_tree.specs.declared.nodes.Content.{Content}
 use Rattle.lw_tree.specs.declared.nodes.Content.TheVariants.{State}
 use Rattle.lw_tree.specs.declared.transitions.Edge.{Edge}
-use Rattle.lw_tree.proofs.GrownLemmas.{keeps_same, not_grown, grown_then, no_crowd, access_longer, discriminators_leaf, temporaries_leaf}
+use Rattle.lw_tree.proofs.GrownLemmas.{keeps_same, not_grown, grown_then, no_crowd, access_longer, discriminators_leaf, finals_leaf, temporaries_leaf}
 use Rattle.lw_tree.proofs.NodeLemmas.{live_within}
 
 -- a stop that is handed on
@@ -68,6 +68,12 @@ word_more (n ∷ nodes) (suc leaf) q suffix lt is =
       ap (λ (l : List (List ℕ)). words_of n.content ++ l) r.3 ∙ sym (append_assoc (words_of n.content) r.0 (suffix ∷ r.1)),
     )
 
+-- and no final one
+same_finals : (nodes : List Node) (leaf q : ℕ) (suffix : List ℕ) → leaf < length nodes → (node_at nodes leaf).content ≡ State q → final_discriminators (set nodes leaf (inner_node (node_at nodes leaf) suffix)) ≡ final_discriminators nodes
+same_finals [] leaf q suffix lt is = absurd (omega (arith, lt))
+same_finals (n ∷ nodes) zero q suffix lt is = sym (ap (λ (c : Content). final_words_of c ++ final_discriminators nodes) is)
+same_finals (n ∷ nodes) (suc leaf) q suffix lt is = ap (λ (l : List (List ℕ)). final_words_of n.content ++ l) (same_finals nodes leaf q suffix (omega (arith, lt)) is)
+
 count_more : (nodes : List Node) (leaf q : ℕ) (suffix : List ℕ) → leaf < length nodes → (node_at nodes leaf).content ≡ State q → temporaries (set nodes leaf (inner_node (node_at nodes leaf) suffix)) ≡ temporaries nodes + 1
 count_more [] leaf q suffix lt is = absurd (omega (arith, lt))
 count_more (n ∷ nodes) zero q suffix lt is =
@@ -100,6 +106,7 @@ module _ (t : TreeState) (edge : Edge) (output q : ℕ) (suffix old new : List �
         back = w.1;
         discriminators_were = w.2;
         discriminators_are = discriminators_leaf (first ++ leaf_below leaf old q ∷ []) (place_by (lowered t q suffix old) edge).node new (length t.access) ∙ (discriminators_leaf first leaf old q ∙ w.3);
+        finals = finals_leaf (first ++ leaf_below leaf old q ∷ []) (place_by (lowered t q suffix old) edge).node new (length t.access) ∙ (finals_leaf first leaf old q ∙ same_finals t.nodes leaf q suffix inside is_leaf);
         temporary = temporaries_leaf (first ++ leaf_below leaf old q ∷ []) (place_by (lowered t q suffix old) edge).node new (length t.access) ∙ (temporaries_leaf first leaf old q ∙ count_more t.nodes leaf q suffix inside is_leaf);
       }
 
@@ -112,6 +119,7 @@ split_then ks suffix t middle now split grown keeps =
       back = split.back;
       discriminators_were = split.discriminators_were;
       discriminators_are = keeps.discriminators_are ∙ split.discriminators_are;
+      finals = keeps.finals ∙ split.finals;
       temporary = keeps.temporary ∙ split.temporary;
     }
 
@@ -130,7 +138,7 @@ has_split first ks suffix t middle now last one split same done is tree =
     (record {
       grown = record { inputs = grown.inputs; outputs = grown.outputs; most = grown.most; more = grown.more; access = grown.access; tree = subst (λ (u : TreeState). IsTree u) is tree; read = record { outs = grown.read.outs; transitions = grown.read.transitions; access = grown.read.access } };
       closed = done.closed;
-      split = record { states = s.states; front = s.front; back = s.back; discriminators_were = s.discriminators_were; discriminators_are = s.discriminators_are; temporary = s.temporary };
+      split = record { states = s.states; front = s.front; back = s.back; discriminators_were = s.discriminators_were; discriminators_are = s.discriminators_are; finals = s.finals; temporary = s.temporary };
       left = tt;
       refined = ap (λ (n : ℕ). n + 1) (done.keeps.refinements ∙ same);
       refused = tt;

@@ -9,8 +9,8 @@ use Rattle.lw_tree.specs.declared.nodes.Node.{Node}
 use Rattle.lw_tree.specs.declared.transitions.Place.{Place}
 use Rattle.lw_tree.specs.declared.transitions.Edge.{Edge}
 use Rattle.lw_tree.proofs.NodeLemmas.{live_within}
-use Rattle.lw_tree.proofs.ShapeLemmas.{shape_of, tree_of_shape, all_places, place_inside, state_shape}
-use Rattle.lw_tree.proofs.LowerLemmas.{at_leaf, same_place, lower_count, lower_shape, split_next}
+use Rattle.lw_tree.proofs.ShapeLemmas.{shape_of, tree_of_shape, all_places, place_inside, state_shape, state_two}
+use Rattle.lw_tree.proofs.LowerLemmas.{at_leaf, same_place, lower_count, lower_shape, split_next, split_two}
 use Rattle.std.proofs.lemmas.List.{length-append}
 
 -- an element that was read
@@ -73,7 +73,7 @@ pub state_is_tree : (t : TreeState) (edge : Edge) (output : ℕ) (branch : List 
 state_is_tree t edge output branch g next room small =
     let long = length-append t.access (word_of t edge ∷ []) in
     let nodes = length-append t.nodes (leaf_below (place_by t edge).node branch (length t.access) ∷ []) in
-    tree_of_shape t (with_state t edge output branch) g (state_shape t edge output branch (shape_of t g) next) refl refl refl refl (omega (arith, long)) (omega (arith, long, room)) (subst (λ (n : ℕ). n < 2 ^ 32) (sym nodes) small)
+    tree_of_shape t (with_state t edge output branch) g (state_shape t edge output branch (shape_of t g) next) (state_two t edge output branch (shape_of t g) next g.nodes.two) refl refl refl refl (omega (arith, long)) (omega (arith, long, room)) (subst (λ (n : ℕ). n < 2 ^ 32) (sym nodes) small)
 
 module _ (t : TreeState) (edge : Edge) (output q : ℕ) (suffix old new : List ℕ) (g : IsTree t) (next : IsNextSplit t edge output q suffix old new) where
   abbrev leaf : ℕ
@@ -87,7 +87,7 @@ module _ (t : TreeState) (edge : Edge) (output q : ℕ) (suffix old new : List �
       let long = length-append t.access (word_of t edge ∷ []) in
       let nodes = length-append (lowered t q suffix old).nodes (leaf_below (place_by (lowered t q suffix old) edge).node new (length t.access) ∷ []) in
       let all : length (split_tree t edge output q suffix old new).nodes ≡ length t.nodes + 2 = omega (arith, nodes, lowered_count) in
-      tree_of_shape t (split_tree t edge output q suffix old new) g (state_shape (lowered t q suffix old) edge output new (lower_shape t q suffix old (shape_of t g) next.target next.letters next.some next.old_size) (split_next t edge output q suffix old new (shape_of t g) next)) refl refl refl refl (omega (arith, long)) (omega (arith, long, room)) (subst (λ (n : ℕ). n < 2 ^ 32) (sym all) small)
+      tree_of_shape t (split_tree t edge output q suffix old new) g (state_shape (lowered t q suffix old) edge output new (lower_shape t q suffix old (shape_of t g) next.target next.letters next.some next.old_size) (split_next t edge output q suffix old new (shape_of t g) next)) (split_two t edge output q suffix old new (shape_of t g) next g.nodes.two) refl refl refl refl (omega (arith, long)) (omega (arith, long, room)) (subst (λ (n : ℕ). n < 2 ^ 32) (sym all) small)
 
   -- the vectors once all is pushed
   pub split_value : (access : List (List ℕ)) (nodes : List Node) (leaves : List ℕ) (places : List Place) (spanning : List Edge) (out : Option ℕ)

@@ -11,7 +11,7 @@ use Rattle.lw_cache.specs.declared.stops.GrowStop.TheVariants.{Ask, Crowd}
 use Rattle.lw_cache.specs.Crowd.{IsCrowd}
 use Rattle.lw_cache.specs.Cut.{word_at}
 use Rattle.lw_tree.specs.Grown.{HasGrown, KeepsDiscriminators, IsCrowdOf, TellsCrowd}
-use Rattle.lw_tree.specs.Tree.{TreeState, node_at, place_at, IsLive, IsTree, Tells, Agrees, BranchesAreRead, discriminator, discriminators, temporaries, is_temporary, words_of, is_open, is_inner}
+use Rattle.lw_tree.specs.Tree.{TreeState, node_at, place_at, IsLive, IsTree, Tells, Agrees, BranchesAreRead, discriminator, discriminators, final_discriminators, temporaries, is_temporary, words_of, final_words_of, is_open, is_inner}
 use Rattle.lw_tree.specs.bodies.Steps.{placed, with_place, leaf_below, with_state, IsNextState, IsRead, HasStepped, MovesOn, HasSifted, HasMoved}
 use Rattle.lw_tree.specs.bodies.Transitions.{IsTransition, word_of, place_by, content_by, is_open_by, IsAsked}
 use Rattle.lw_tree.specs.declared.nodes.Node.{Node}
@@ -23,10 +23,10 @@ use Rattle.lw_tree.proofs.ShapeLemmas.{shape_of, all_places, place_update, node_
 use Rattle.lw_tree.proofs.BranchLemmas.{placed_read, state_read}
 
 pub keeps_same : (t : TreeState) → KeepsDiscriminators t t
-keeps_same t = record { discriminators_are = refl; temporary = refl; refinements = refl }
+keeps_same t = record { discriminators_are = refl; finals = refl; temporary = refl; refinements = refl }
 
 pub keeps_and_keeps : (a b c : TreeState) → KeepsDiscriminators a b → KeepsDiscriminators b c → KeepsDiscriminators a c
-keeps_and_keeps a b c one two = record { discriminators_are = two.discriminators_are ∙ one.discriminators_are; temporary = two.temporary ∙ one.temporary; refinements = two.refinements ∙ one.refinements }
+keeps_and_keeps a b c one two = record { discriminators_are = two.discriminators_are ∙ one.discriminators_are; finals = two.finals ∙ one.finals; temporary = two.temporary ∙ one.temporary; refinements = two.refinements ∙ one.refinements }
 
 -- where nothing came
 pub not_grown : (ks : List Answer) (t : TreeState) → IsTree t → BranchesAreRead ks t → HasGrown ks t t
@@ -75,6 +75,10 @@ pub discriminators_leaf : (nodes : List Node) (parent : ℕ) (branch : List ℕ)
 discriminators_leaf [] parent branch q = refl
 discriminators_leaf (n ∷ nodes) parent branch q = ap (λ (l : List (List ℕ)). words_of n.content ++ l) (discriminators_leaf nodes parent branch q)
 
+pub finals_leaf : (nodes : List Node) (parent : ℕ) (branch : List ℕ) (q : ℕ) → final_discriminators (nodes ++ leaf_below parent branch q ∷ []) ≡ final_discriminators nodes
+finals_leaf [] parent branch q = refl
+finals_leaf (n ∷ nodes) parent branch q = ap (λ (l : List (List ℕ)). final_words_of n.content ++ l) (finals_leaf nodes parent branch q)
+
 pub temporaries_leaf : (nodes : List Node) (parent : ℕ) (branch : List ℕ) (q : ℕ) → temporaries (nodes ++ leaf_below parent branch q ∷ []) ≡ temporaries nodes
 temporaries_leaf [] parent branch q = refl
 temporaries_leaf (n ∷ nodes) parent branch q = ap (λ (k : ℕ). (if is_temporary n.content then 1 else 0) + k) (temporaries_leaf nodes parent branch q)
@@ -94,7 +98,7 @@ module _ (ks : List Answer) (t : TreeState) (edge : Edge) (output n : ℕ) (g : 
   placed_stepped tree read out agrees =
       record {
         grown = record { inputs = refl; outputs = refl; most = refl; more = []; access = sym (append-nil t.access); tree = tree; read = placed_read ks t edge output n (shape_of t g) from stands below live read out agrees };
-        keeps = record { discriminators_are = refl; temporary = refl; refinements = refl };
+        keeps = record { discriminators_are = refl; finals = refl; temporary = refl; refinements = refl };
         nodes = λ m is. refl;
         others = λ k lt other. place_now.others k other;
       }
@@ -122,7 +126,7 @@ module _ (ks : List Answer) (t : TreeState) (edge : Edge) (output : ℕ) (branch
   state_stepped tree read =
       record {
         grown = record { inputs = refl; outputs = refl; most = refl; more = word_of t edge ∷ []; access = refl; tree = tree; read = state_read ks t edge output branch (shape_of t g) next read };
-        keeps = record { discriminators_are = discriminators_leaf t.nodes (place_by t edge).node branch (length t.access); temporary = temporaries_leaf t.nodes (place_by t edge).node branch (length t.access); refinements = refl };
+        keeps = record { discriminators_are = discriminators_leaf t.nodes (place_by t edge).node branch (length t.access); finals = finals_leaf t.nodes (place_by t edge).node branch (length t.access); temporary = temporaries_leaf t.nodes (place_by t edge).node branch (length t.access); refinements = refl };
         nodes = λ m live. node_stays t edge output branch (shape_of t g) next m live;
         others = λ k lt other. state_place.others k other;
       }

@@ -4,19 +4,19 @@ use Rattle.std.proofs.lemmas.Bool.{cases_lt, cases_eq}
 use Rattle.std.proofs.lemmas.List.{length-append, length-set}
 use Rattle.lw_words.specs.Word.{IsWord}
 use Rattle.lw_cache.specs.Cut.{word_at}
-use Rattle.lw_tree.specs.Tree.{TreeState, no_node, no_place, node_at, place_at, leaf_at, edge_at, place_of, IsLive, IsInner, AreNodes, AreLeaves, IsEdge, IsPlace, discriminator}
+use Rattle.lw_tree.specs.Tree.{TreeState, no_node, no_place, node_at, place_at, leaf_at, edge_at, place_of, IsLive, IsInner, HasTwo, AreLeaves, IsEdge, IsPlace, discriminator}
 use Rattle.lw_tree.specs.bodies.Nodes.{IsChild}
-use Rattle.lw_tree.specs.bodies.Steps.{leaf_below, IsNextState, moved_edge, inner_node, lowered, IsNextSplit}
+use Rattle.lw_tree.specs.bodies.Steps.{leaf_below, IsNextState, moved_edge, inner_node, lowered, IsNextSplit, split_tree}
 use Rattle.lw_tree.specs.bodies.Transitions.{place_by, content_by}
 use Rattle.lw_tree.specs.declared.nodes.Node.{Node}
 use Rattle.lw_tree.specs.declared.nodes.Content.{Content}
 use Rattle.lw_tree.specs.declared.nodes.Content.TheVariants.{State, Discriminator}
 use Rattle.lw_tree.specs.declared.transitions.Place.{Place}
 use Rattle.lw_tree.specs.declared.transitions.Edge.{Edge}
-use Rattle.lw_tree.proofs.WayLemmas.{KeepsNodes}
-use Rattle.lw_tree.proofs.NodeLemmas.{Updates, everywhere, pushed, written, live_within, leaf_keeps, with_leaf, lowered_keeps, live_still, lowered_nodes, lowered_childless}
+use Rattle.lw_tree.proofs.WayLemmas.{AreJoined, KeepsNodes}
+use Rattle.lw_tree.proofs.NodeLemmas.{Updates, everywhere, pushed, written, live_within, leaf_keeps, inner_was, with_leaf, two_stay, lowered_keeps, live_still, lowered_nodes, lowered_childless}
 use Rattle.lw_tree.proofs.PlaceLemmas.{one_transition, number_within}
-use Rattle.lw_tree.proofs.ShapeLemmas.{IsShaped, all_places, leaves_once, leaf_live, state_of}
+use Rattle.lw_tree.proofs.ShapeLemmas.{IsShaped, all_places, leaves_once, leaf_live, state_of, second_of_two}
 
 -- one step after another
 keeps_then : (a : ℕ) (node middle now : ℕ → Node) → ((n : ℕ) → IsLive (node n).content → IsLive (middle n).content) → KeepsNodes node middle → KeepsNodes middle now → KeepsNodes node now
@@ -98,7 +98,7 @@ module _ (t : TreeState) (q : ℕ) (suffix branch : List ℕ) (g : IsShaped t) (
   middle_last : (n : ℕ) → IsLive (middle n).content → n < new
   middle_last n live = subst (λ (m : ℕ). n < m) middle_size (live_within middle_nodes n live)
 
-  middle_is : AreNodes t.inputs middle
+  middle_is : AreJoined t.inputs middle
   middle_is = lowered_nodes t.inputs node middle leaf q suffix g.nodes inner_update is_leaf letters some_letter
 
   middle_inner : IsInner (middle leaf).content
@@ -113,7 +113,7 @@ module _ (t : TreeState) (q : ℕ) (suffix branch : List ℕ) (g : IsShaped t) (
   childless : (n : ℕ) → IsChild middle leaf n → (middle n).branch ≢ branch
   childless n child = absurd (lowered_childless t.inputs node middle leaf q suffix g.nodes inner_update is_leaf letters some_letter n child)
 
-  pub lower_nodes : AreNodes t.inputs now
+  pub lower_nodes : AreJoined t.inputs now
   lower_nodes = with_leaf t.inputs middle now new leaf branch q middle_is leaf_update middle_last middle_inner middle_fits childless
 
   second_keeps : KeepsNodes middle now
@@ -132,6 +132,19 @@ module _ (t : TreeState) (q : ℕ) (suffix branch : List ℕ) (g : IsShaped t) (
 
   pub new_live : IsLive (now new).content
   new_live = subst (λ (m : Node). IsLive m.content) (sym leaf_update.here) tt
+
+  pub new_parent : (now new).parent ≡ leaf
+  new_parent = ap (λ (m : Node). m.parent) leaf_update.here
+
+  pub some_nodes : 0 < length t.nodes
+  some_nodes = omega (arith, leaf_inside)
+
+  -- below each inner node but this one stand two, as before
+  pub lower_two : ((n : ℕ) → IsInner (node n).content → HasTwo node n) → (n : ℕ) → n ≢ leaf → IsInner (now n).content → HasTwo now n
+  lower_two two n other is =
+      let middle_is_inner : IsInner (middle n).content = inner_was t.inputs middle now new leaf branch q middle_is leaf_update middle_last middle_inner middle_fits childless n is in
+      let was : IsInner (node n).content = subst (λ (m : Node). IsInner m.content) (inner_update.others n other) middle_is_inner in
+      two_stay node now live_stays lower_keeps.parent n (two n was)
 
   -- the leaf's node once both are done
   pub lower_leaf : (now leaf).content ≡ Discriminator suffix true
@@ -273,3 +286,10 @@ module _ (t : TreeState) (edge : Edge) (output q : ℕ) (suffix old new : List �
         size = next.new_size ∙ ap (λ (c : Content). length (discriminator c)) (sym at_discriminator);
         new = λ n child. other_branch t q suffix old g next.target next.letters next.some next.old_size n new next.differ (subst (λ (p : ℕ). IsChild (node_at middle_tree.nodes) p n) at_leaf child);
       }
+
+  pub split_two : ((n : ℕ) → IsInner (node_at t.nodes n).content → HasTwo (node_at t.nodes) n) → (n : ℕ) → IsInner (node_at (split_tree t edge output q suffix old new).nodes n).content → HasTwo (node_at (split_tree t edge output q suffix old new).nodes) n
+  split_two two =
+      second_of_two middle_tree edge output new (lower_shape t q suffix old g next.target next.letters next.some next.old_size) split_next (length t.nodes)
+      (some_nodes t q suffix old g next.target next.letters next.some next.old_size) (new_live t q suffix old g next.target next.letters next.some next.old_size)
+      (new_parent t q suffix old g next.target next.letters next.some next.old_size ∙ sym at_leaf)
+      (λ n other is. lower_two t q suffix old g next.target next.letters next.some next.old_size two n (λ same. other (same ∙ sym at_leaf)) is)

@@ -5,13 +5,13 @@ use Rattle.std.proofs.Math.Seq.{get_or-append_seam}
 use Rattle.std.proofs.lemmas.Bool.{cases_lt, cases_eq}
 use Rattle.std.proofs.lemmas.List.{length-append, get_or-set_same, get_or-set_other, get_or_past}
 use Rattle.lw_words.specs.Word.{IsWord}
-use Rattle.lw_tree.specs.Tree.{no_node, node_at, IsLive, IsInner, IsFinal, IsBranch, AreNodes, HasTail, discriminator}
+use Rattle.lw_tree.specs.Tree.{no_node, node_at, IsLive, IsInner, IsFinal, IsBranch, HasTwo, HasTail, discriminator}
 use Rattle.lw_tree.specs.bodies.Nodes.{IsChild}
 use Rattle.lw_tree.specs.bodies.Steps.{leaf_below, inner_node}
 use Rattle.lw_tree.specs.declared.nodes.Node.{Node}
 use Rattle.lw_tree.specs.declared.nodes.Content.{Content}
 use Rattle.lw_tree.specs.declared.nodes.Content.TheVariants.{State, Discriminator, Gone}
-use Rattle.lw_tree.proofs.WayLemmas.{KeepsNodes, inner_is_live}
+use Rattle.lw_tree.proofs.WayLemmas.{AreJoined, KeepsNodes, inner_is_live}
 
 -- two functions that differ at one number at most
 pub record Updates {A : Type 0} (was now : ℕ → A) (at : ℕ) (value : A) : Type 0 where
@@ -58,7 +58,7 @@ live_within nodes n live =
     (λ (past : length nodes ≤ n). absurd (subst (λ (m : Node). IsLive m.content) (past_no_node nodes n past) live))
     (cases_lt n (length nodes))
 
-final_is_inner : (c : Content) → IsFinal c → IsInner c
+pub final_is_inner : (c : Content) → IsFinal c → IsInner c
 final_is_inner (State q) is = elim is [ ]
 final_is_inner (Discriminator word temporary) is = tt
 final_is_inner Gone is = elim is [ ]
@@ -76,8 +76,22 @@ tail_stays node now word stays tail =
           tail.1,
     )
 
+-- two nodes that stand below one stand there after a step that leaves live nodes so, and their parents
+pub two_stay : (node now : ℕ → Node) → ((n : ℕ) → IsLive (node n).content → IsLive (now n).content) → ((n : ℕ) → IsLive (node n).content → (now n).parent ≡ (node n).parent) → (n : ℕ) → HasTwo node n → HasTwo now n
+two_stay node now live parent n w =
+    record {
+      one = w.one;
+      other = w.other;
+      below = w.below;
+      rising = w.rising;
+      one_live = live w.one w.one_live;
+      other_live = live w.other w.other_live;
+      one_parent = parent w.one w.one_live ∙ w.one_parent;
+      other_parent = parent w.other w.other_live ∙ w.other_parent;
+    }
+
 -- a new leaf below an inner node
-module _ (a : ℕ) (node now : ℕ → Node) (new parent : ℕ) (branch : List ℕ) (q : ℕ) (g : AreNodes a node) (u : Updates node now new (leaf_below parent branch q)) (last : (n : ℕ) → IsLive (node n).content → n < new)
+module _ (a : ℕ) (node now : ℕ → Node) (new parent : ℕ) (branch : List ℕ) (q : ℕ) (g : AreJoined a node) (u : Updates node now new (leaf_below parent branch q)) (last : (n : ℕ) → IsLive (node n).content → n < new)
     (inner : IsInner (node parent).content) (size : length branch ≡ length (discriminator (node parent).content)) (fresh : (n : ℕ) → IsChild node parent n → (node n).branch ≢ branch) where
   stays : (n : ℕ) → IsLive (node n).content → now n ≡ node n
   stays n live = u.others n (λ same. let lt = last n live in omega (arith, same, lt))
@@ -158,7 +172,7 @@ module _ (a : ℕ) (node now : ℕ → Node) (new parent : ℕ) (branch : List �
       (live_or_new n live_n))
       (live_or_new m live_m)
 
-  pub with_leaf : AreNodes a now
+  pub with_leaf : AreJoined a now
   with_leaf =
       record {
         root = let at = stays 0 g.root in subst (λ (m : Node). IsLive m.content) (sym at) g.root;
@@ -176,7 +190,7 @@ module _ (a : ℕ) (node now : ℕ → Node) (new parent : ℕ) (branch : List �
       }
 
 -- a leaf that became a temporary node
-module _ (a : ℕ) (node now : ℕ → Node) (leaf q : ℕ) (word : List ℕ) (g : AreNodes a node) (u : Updates node now leaf (inner_node (node leaf) word)) (was_leaf : (node leaf).content ≡ State q) (letters : IsWord a word) (some_letter : word ≢ []) where
+module _ (a : ℕ) (node now : ℕ → Node) (leaf q : ℕ) (word : List ℕ) (g : AreJoined a node) (u : Updates node now leaf (inner_node (node leaf) word)) (was_leaf : (node leaf).content ≡ State q) (letters : IsWord a word) (some_letter : word ≢ []) where
   parent_same : (n : ℕ) → (now n).parent ≡ (node n).parent
   parent_same = everywhere node now leaf (inner_node (node leaf) word) (λ n m. m.parent ≡ (node n).parent) u refl (λ n other. refl)
 
@@ -220,7 +234,7 @@ module _ (a : ℕ) (node now : ℕ → Node) (leaf q : ℕ) (word : List ℕ) (g
         final = λ is. subst IsFinal (sym content) (was.final (final_was n is).1);
       }
 
-  pub lowered_nodes : AreNodes a now
+  pub lowered_nodes : AreJoined a now
   lowered_nodes =
       record {
         root = live_still 0 g.root;

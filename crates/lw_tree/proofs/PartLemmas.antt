@@ -5,11 +5,11 @@ use Rattle.std.proofs.lemmas.List.{get_or_default}
 use Rattle.lw_words.specs.Answer.{Answer}
 use Rattle.lw_cache.specs.Crowd.{Separates, IsCrowd}
 use Rattle.lw_cache.specs.Cut.{word_at}
-use Rattle.lw_tree.specs.Tree.{IsLive, IsInner, AreNodes, AreLeaves, discriminator, IsOnWay, Tells, Agrees}
+use Rattle.lw_tree.specs.Tree.{IsLive, IsInner, AreLeaves, discriminator, IsOnWay, Tells, Agrees}
 use Rattle.lw_tree.specs.declared.nodes.Node.{Node}
 use Rattle.lw_tree.specs.declared.nodes.Content.{Content}
 use Rattle.lw_tree.specs.declared.nodes.Content.TheVariants.{State, Discriminator, Gone}
-use Rattle.lw_tree.proofs.WayLemmas.{live_parent, on_way_here, on_way_down, on_way_live}
+use Rattle.lw_tree.proofs.WayLemmas.{AreJoined, live_parent, on_way_here, on_way_down, on_way_live}
 
 -- different branches of one node lead to the two
 pub record Parted (node : ℕ → Node) (m n : ℕ) : Type 0 where
@@ -39,7 +39,7 @@ turn node m n (above x) = below x
 turn node m n (below x) = above x
 turn node m n (parted x) = parted (turned node m n x)
 
-module _ (a : ℕ) (node : ℕ → Node) (g : AreNodes a node) where
+module _ (a : ℕ) (node : ℕ → Node) (g : AreJoined a node) where
   -- the greater of the two is reached from its parent
   from_parent : (m n : ℕ) → m < n → IsLive (node m).content → IsLive (node n).content → (m ≡ (node n).parent) ⊎ Lie node m (node n).parent → Lie node m n
   from_parent m n lt live_m live_n up =
@@ -113,7 +113,7 @@ module _ (a : ℕ) (node : ℕ → Node) (g : AreNodes a node) where
       )
 
 -- the access words of states whose leaves they agree with the ways to
-pub crowd_of_leaves : (a : ℕ) (ks : List Answer) (node : ℕ → Node) (leaf : ℕ → ℕ) (access : List (List ℕ)) → AreNodes a node → AreLeaves (length access) node leaf → ((q : ℕ) → q < length access → Agrees ks node (word_at access q) (leaf q)) → IsCrowd ks access
+pub crowd_of_leaves : (a : ℕ) (ks : List Answer) (node : ℕ → Node) (leaf : ℕ → ℕ) (access : List (List ℕ)) → AreJoined a node → AreLeaves (length access) node leaf → ((q : ℕ) → q < length access → Agrees ks node (word_at access q) (leaf q)) → IsCrowd ks access
 crowd_of_leaves a ks node leaf access g are agrees i j d lt lj =
     let li : i < length access = omega (arith, lt, lj) in
     let differ : leaf i ≢ leaf j = λ same.

@@ -7,7 +7,7 @@ use Rattle.std.proofs.lemmas.List.{length-append, length-set}
 use Rattle.std.proofs.lemmas.List.Elements.{All-push, All-get_or}
 use Rattle.lw_words.specs.Word.{IsWord}
 use Rattle.lw_cache.specs.Cut.{word_at}
-use Rattle.lw_tree.specs.Tree.{TreeState, no_node, no_place, node_at, place_at, leaf_at, edge_at, place_of, IsLive, AreNodes, AreLeaves, IsEdge, IsPlace, IsTree, is_open}
+use Rattle.lw_tree.specs.Tree.{TreeState, no_node, no_place, node_at, place_at, leaf_at, edge_at, place_of, IsLive, IsInner, HasTwo, AreLeaves, IsEdge, IsPlace, IsTree, is_open}
 use Rattle.lw_tree.specs.bodies.Steps.{placed, with_place, leaf_below, with_state, IsNextState}
 use Rattle.lw_tree.specs.bodies.Transitions.{IsTransition, word_of, place_by, is_open_by}
 use Rattle.lw_tree.specs.declared.nodes.Node.{Node}
@@ -15,8 +15,8 @@ use Rattle.lw_tree.specs.declared.nodes.Content.{Content}
 use Rattle.lw_tree.specs.declared.nodes.Content.TheVariants.{State, Discriminator, Gone}
 use Rattle.lw_tree.specs.declared.transitions.Place.{Place}
 use Rattle.lw_tree.specs.declared.transitions.Edge.{Edge}
-use Rattle.lw_tree.proofs.WayLemmas.{KeepsNodes}
-use Rattle.lw_tree.proofs.NodeLemmas.{Updates, everywhere, pushed, written, live_within, leaf_keeps, with_leaf}
+use Rattle.lw_tree.proofs.WayLemmas.{AreJoined, joined, KeepsNodes}
+use Rattle.lw_tree.proofs.NodeLemmas.{Updates, everywhere, pushed, written, live_within, leaf_keeps, inner_was, with_leaf, two_stay}
 use Rattle.lw_tree.proofs.PlaceLemmas.{number_within, known_leaf, inner_open, past_place, set_and_more, length-set_and_more}
 
 pub record IsShaped (t : TreeState) : Type 0 where
@@ -24,7 +24,7 @@ pub record IsShaped (t : TreeState) : Type 0 where
   pub some : 0 < length t.access
   pub words : All (IsWord t.inputs) t.access
   pub first : word_at t.access 0 ≡ []
-  pub nodes : AreNodes t.inputs (node_at t.nodes)
+  pub nodes : AreJoined t.inputs (node_at t.nodes)
   pub each_leaf : length t.leaves ≡ length t.access
   pub leaves : AreLeaves (length t.access) (node_at t.nodes) (leaf_at t.leaves)
   pub each_edge : length t.spanning ≡ length t.access
@@ -39,7 +39,7 @@ shape_of t g =
       some = g.some;
       words = g.words;
       first = g.first;
-      nodes = g.nodes;
+      nodes = joined t.inputs (node_at t.nodes) g.nodes;
       each_leaf = g.each_leaf;
       leaves = g.leaves;
       each_edge = g.each_edge;
@@ -48,9 +48,9 @@ shape_of t g =
       places = g.places;
     }
 
--- a tree of this shape that keeps the limits
-pub tree_of_shape : (t now : TreeState) → IsTree t → IsShaped now → now.inputs ≡ t.inputs → now.outputs ≡ t.outputs → now.most ≡ t.most → now.refinements ≡ t.refinements → length t.access ≤ length now.access → length now.access ≤ t.most → length now.nodes < 2 ^ 32 → IsTree now
-tree_of_shape t now g s inputs outputs most refinements more few few_nodes =
+-- a tree of this shape that keeps the limits, with two nodes below each inner one
+pub tree_of_shape : (t now : TreeState) → IsTree t → IsShaped now → ((n : ℕ) → IsInner (node_at now.nodes n).content → HasTwo (node_at now.nodes) n) → now.inputs ≡ t.inputs → now.outputs ≡ t.outputs → now.most ≡ t.most → now.refinements ≡ t.refinements → length t.access ≤ length now.access → length now.access ≤ t.most → length now.nodes < 2 ^ 32 → IsTree now
+tree_of_shape t now g s two inputs outputs most refinements more few few_nodes =
     record {
       inputs = subst (λ (n : ℕ). (1 ≤ n) × (n ≤ 64)) (sym inputs) g.inputs;
       outputs = subst (λ (n : ℕ). (1 ≤ n) × (n ≤ 4096)) (sym outputs) g.outputs;
@@ -60,7 +60,7 @@ tree_of_shape t now g s inputs outputs most refinements more few few_nodes =
       words = s.words;
       first = s.first;
       few_nodes = few_nodes;
-      nodes = s.nodes;
+      nodes = record { root = s.nodes.root; branches = s.nodes.branches; apart = s.nodes.apart; words = s.nodes.words; tails = s.nodes.tails; two = two };
       each_leaf = s.each_leaf;
       leaves = s.leaves;
       each_edge = s.each_edge;
@@ -174,7 +174,7 @@ module _ (t : TreeState) (edge : Edge) (output : ℕ) (branch : List ℕ) (g : I
   pub node_update : Updates node now new (leaf_below parent branch count)
   node_update = pushed t.nodes (leaf_below parent branch count) no_node
 
-  pub state_nodes : AreNodes t.inputs now
+  pub state_nodes : AreJoined t.inputs now
   state_nodes = with_leaf t.inputs node now new parent branch count g.nodes node_update (live_within t.nodes) next.inner next.size next.new
 
   pub state_keeps : KeepsNodes node now
@@ -188,6 +188,36 @@ module _ (t : TreeState) (edge : Edge) (output : ℕ) (branch : List ℕ) (g : I
 
   pub new_live : IsLive (now new).content
   new_live = subst (λ (m : Node). IsLive m.content) (sym node_update.here) tt
+
+  new_parent : (now new).parent ≡ parent
+  new_parent = ap (λ (m : Node). m.parent) node_update.here
+
+  was_inner : (n : ℕ) → IsInner (now n).content → IsInner (node n).content
+  was_inner = inner_was t.inputs node now new parent branch count g.nodes node_update (live_within t.nodes) next.inner next.size next.new
+
+  still_two : (n : ℕ) → HasTwo node n → HasTwo now n
+  still_two = two_stay node now live_stays (λ n live. ap (λ (m : Node). m.parent) (node_stays n live))
+
+  pub state_two : ((n : ℕ) → IsInner (node n).content → HasTwo node n) → (n : ℕ) → IsInner (now n).content → HasTwo now n
+  state_two two n is = still_two n (two n (was_inner n is))
+
+  -- where just one node stood below the parent, the new one is the other
+  pub second_of_two : (one : ℕ) → 0 < one → IsLive (node one).content → (node one).parent ≡ parent → ((n : ℕ) → n ≢ parent → IsInner (node n).content → HasTwo node n) → (n : ℕ) → IsInner (now n).content → HasTwo now n
+  second_of_two one below live up two n is =
+      ⊎_elim
+      (λ (same : n ≡ parent).
+      record {
+        one = one;
+        other = new;
+        below = below;
+        rising = live_within t.nodes one live;
+        one_live = live_stays one live;
+        other_live = new_live;
+        one_parent = ap (λ (m : Node). m.parent) (node_stays one live) ∙ (up ∙ sym same);
+        other_parent = new_parent ∙ sym same;
+      })
+      (λ (other : n ≢ parent). still_two n (two n other (was_inner n is)))
+      (cases_eq n parent)
 
   state_count : length after.access ≡ count + 1
   state_count = length-append t.access (word_of t edge ∷ [])

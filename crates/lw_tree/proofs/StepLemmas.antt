@@ -44,7 +44,7 @@ child_stepped ks t edge output branch n g from inner below is tree read =
     let child = is.0 in
     let up : (node_at t.nodes n).parent ≡ (place_by t edge).node = child.2 in
     let agrees : Agrees ks (node_at t.nodes) (word_of t edge) n =
-    agrees_below t.inputs (node_at t.nodes) g.nodes ks (word_of t edge) n child.0 child.1
+    agrees_below t.inputs (node_at t.nodes) (shape_of t g).nodes ks (word_of t edge) n child.0 child.1
     (subst (λ (p : ℕ). Agrees ks (node_at t.nodes) (word_of t edge) p) (sym up) (read.branches.transitions edge.state edge.letter from.0 from.1))
     (subst (λ (p : ℕ). Tells ks (word_of t edge) (discriminator (node_at t.nodes p).content) (node_at t.nodes n).branch) (sym up) (subst (λ (b : List ℕ). Tells ks (word_of t edge) (discriminator (content_by t edge)) b) (sym is.1) read.outs)) in
     placed_stepped ks t edge output n g from (inner_open (node_at t.nodes) (place_by t edge) inner) below child.1 tree read.branches read.out agrees

@@ -1,14 +1,12 @@
 //! The spanning tree and the discrimination tree of a learner: which word reaches a state, and which state a word reaches.
 #![tactic(auto)]
 
-mod blocks;
 mod laws;
 mod levels;
 mod linked;
 mod machine;
 mod nodes;
 mod reading;
-mod replacing;
 mod splitting;
 mod steps;
 mod transitions;
