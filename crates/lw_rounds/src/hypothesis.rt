@@ -16,8 +16,8 @@ ghost use Rattle.lw_rounds.specs.Learner.{IsRead, IsFinal, IsMachineOf};
 ghost use Rattle.lw_rounds.specs.Stops.{learn_stop};
 ghost use Rattle.lw_rounds.specs.bodies.Rounds.{IsTested, StopsTest, of_fault};
 
-use crate::{LearnStop, Learner};
 use crate::conformance::settle_suite;
+use crate::{LearnStop, Learner};
 use lw_cache::{AskStop, Cache, Oracle};
 use lw_certify::{Verdict, certify};
 use lw_mealy::Mealy;

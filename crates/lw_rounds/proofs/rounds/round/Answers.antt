@@ -20,10 +20,12 @@ pub settle-requires-clause-gives : goal.settle-requires-clause-gives
 settle-requires-clause-gives g c =
     let before = g.O.Oracle.state c.args.oracle.now in
     let h = c.in_ok-hypothesis.hypothesis in
-    let ready = c.requires.ready in
-    (h.rows, c.in_ok-hypothesis.ensures.value,
-    none_differs h.inputs h.rows (answers_of before.kept) (kept_are_answers before h.inputs (c.in_ok-hypothesis.ensures.inputs ∙ ready.inputs) ready.keeps) ready.nothing
-    (subst (λ (kept : List KeptAnswer). DiffersFirst h.rows (answers_of kept) None) c.cache.ensures.kept (rw c.in_default.is at c.in_ok-word.ensures)))
+    let ready = c.requires.ready in (
+      h.rows,
+      c.in_ok-hypothesis.ensures.value,
+      none_differs h.inputs h.rows (answers_of before.kept) (kept_are_answers before h.inputs (c.in_ok-hypothesis.ensures.inputs ∙ ready.inputs) ready.keeps) ready.nothing
+          (subst (λ (kept : List KeptAnswer). DiffersFirst h.rows (answers_of kept) None) c.cache.ensures.kept (rw c.in_default.is at c.in_ok-word.ensures)),
+    )
 
 pub returns-in-Replaced-clause-ready : goal.returns-in-Replaced-clause-ready
 returns-in-Replaced-clause-ready g c =
