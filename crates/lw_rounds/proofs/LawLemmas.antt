@@ -3,6 +3,7 @@ use Rattle.std.proofs.Common.{ℕ, ◌+◌, ◌*◌, ◌≤◌, length, sym, sub
 use Rattle.std.proofs.Math.Nat.{mul-le-mul_right}
 use Rattle.lw_suite.specs.Size.{powers, suite_size}
 use Rattle.lw_cache.proofs.CrowdLemmas.{crowd_needs_states}
+use Rattle.lw_rounds.specs.Learner.{access_of}
 use Rattle.lw_rounds.specs.Laws.{ModelIsCanonical, ModelIsLeast, TooManyIsNone, TooLargeIsLeast, TooLargeForAll}
 
 pub model_is_canonical : ModelIsCanonical
@@ -19,8 +20,8 @@ model_is_canonical a b k ks model is m machine few gives =
     }
 
 pub model_is_least : ModelIsLeast
-model_is_least a b k most ks model table are is m machine gives =
-    subst (λ (n : ℕ). n ≤ length m) is.carried.each (crowd_needs_states a m ks table.access machine are gives is.carried.crowd)
+model_is_least kind a b k most ks model l are is m machine gives =
+    subst (λ (n : ℕ). n ≤ length m) is.carried.each (crowd_needs_states a m ks (access_of l) machine are gives is.carried.crowd)
 
 pub too_many_is_none : TooManyIsNone
 too_many_is_none a most ks words are is m machine few gives =

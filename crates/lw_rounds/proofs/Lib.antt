@@ -3,5 +3,6 @@ mod ConformanceLemmas
 mod DifferenceLemmas
 mod HypothesisLemmas
 pub mod LawLemmas
+mod LearnerLemmas
 mod RoundLemmas
 mod StopLemmas

@@ -6,7 +6,8 @@ use Rattle.lw_mealy.specs.Limits.{MealyMachine}
 use Rattle.lw_mealy.specs.Machine.{Rows, IsMachine}
 use Rattle.lw_separate.specs.Canonical.{IsCanonical}
 use Rattle.lw_suite.specs.Size.{suite_size, greatest_suite}
-use Rattle.lw_table.specs.Table.{TableState}
+use Rattle.lw_rounds.specs.declared.learner.Kind.{Kind}
+use Rattle.lw_rounds.specs.declared.learner.Learner.{Learner}
 use Rattle.lw_rounds.specs.Learned.{IsCertified, IsLearned, IsTooMany, IsTooLarge}
 
 -- a machine of at most k states more than the model that gives the answers has the model as its canonical form
@@ -15,7 +16,7 @@ ModelIsCanonical = (a b k : ℕ) (ks : List Answer) (model : MealyMachine) → I
 
 -- no machine of fewer states than the model gives the answers
 abbrev pub ModelIsLeast : Type 0
-ModelIsLeast = (a b k most : ℕ) (ks : List Answer) (model : MealyMachine) (table : TableState) → AreAnswers a ks → IsLearned a b k most ks model table → (m : Rows) → IsMachine a m → Gives m ks → length model.rows ≤ length m
+ModelIsLeast = (kind : Kind) (a b k most : ℕ) (ks : List Answer) (model : MealyMachine) (l : Learner) → AreAnswers a ks → IsLearned kind a b k most ks model l → (m : Rows) → IsMachine a m → Gives m ks → length model.rows ≤ length m
 
 -- where words are too many, no machine of as many states as there may be gives the answers
 abbrev pub TooManyIsNone : Type 0

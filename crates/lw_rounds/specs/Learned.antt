@@ -11,7 +11,9 @@ use Rattle.lw_suite.specs.Size.{suite_size, greatest_suite}
 use Rattle.lw_certify.specs.Sure.{Sure}
 use Rattle.lw_certify.specs.Verdict.{IsVerdict}
 use Rattle.lw_certify.specs.declared.verdict.Verdict.TheVariants as verdict
-use Rattle.lw_table.specs.Table.{TableState, IsTable, CellsAreRead, IsClosed, IsMachineOf}
+use Rattle.lw_rounds.specs.Learner.{kind_of, inputs_of, outputs_of, most_of, access_of, refinements_of, IsLearner, IsRead, IsClosed, IsFinal, IsMachineOf}
+use Rattle.lw_rounds.specs.declared.learner.Kind.{Kind}
+use Rattle.lw_rounds.specs.declared.learner.Learner.{Learner}
 use Rattle.lw_rounds.specs.declared.stops.LearnStop.{LearnStop}
 use Rattle.lw_rounds.specs.declared.stops.LearnStop.TheVariants as learn
 
@@ -25,25 +27,28 @@ pub record IsCertified (a b k : ℕ) (ks : List Answer) (model : MealyMachine) :
   pub verdict : IsVerdict a model.rows ks k verdict.Sure
   pub sure : Sure a model.rows ks k
 
--- the table is closed, the rows are the canonical form of its machine, and its access words are a crowd of as many words
-pub record IsReadOff (a b most : ℕ) (ks : List Answer) (rows : Rows) (t : TableState) : Type 0 where
-  pub inputs : t.inputs ≡ a
-  pub outputs : t.outputs ≡ b
-  pub limit : t.most ≡ most
-  pub table : IsTable t
-  pub closed : IsClosed t
-  pub read : CellsAreRead ks t
+-- the learner is of the kind that was asked for; it is closed, a tree without temporary nodes; the rows are the canonical form
+-- of its machine, and its access words are a crowd of as many words
+pub record IsReadOff (kind : Kind) (a b most : ℕ) (ks : List Answer) (rows : Rows) (l : Learner) : Type 0 where
+  pub of_kind : kind_of l ≡ kind
+  pub inputs : inputs_of l ≡ a
+  pub outputs : outputs_of l ≡ b
+  pub limit : most_of l ≡ most
+  pub learner : IsLearner l
+  pub closed : IsClosed l
+  pub final : IsFinal l
+  pub read : IsRead ks l
   pub machine : Rows
-  pub of_table : IsMachineOf t machine
+  pub of_learner : IsMachineOf l machine
   pub canonical : IsCanonical a machine rows
-  pub crowd : IsCrowd ks t.access
-  pub each : length t.access ≡ length rows
-  pub refined : t.refinements < length rows
+  pub crowd : IsCrowd ks (access_of l)
+  pub each : length (access_of l) ≡ length rows
+  pub refined : refinements_of l < length rows
 
 -- what a learning answers
-pub record IsLearned (a b k most : ℕ) (ks : List Answer) (model : MealyMachine) (table : TableState) : Type 0 where
+pub record IsLearned (kind : Kind) (a b k most : ℕ) (ks : List Answer) (model : MealyMachine) (l : Learner) : Type 0 where
   pub certified : IsCertified a b k ks model
-  pub carried : IsReadOff a b most ks model.rows table
+  pub carried : IsReadOff kind a b most ks model.rows l
 
 -- one word more than there may be states, any two apart
 pub record IsTooMany (most : ℕ) (ks : List Answer) (words : List (List ℕ)) : Type 0 where

@@ -1,4 +1,5 @@
 pub mod Laws
 pub mod Learned
+pub mod Learner
 pub mod Stops
 pub mod bodies

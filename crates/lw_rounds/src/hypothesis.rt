@@ -1,4 +1,4 @@
-//! The test of a hypothesis: by what is known, then by the words of its suite, then by the certificate.
+//! The test of a hypothesis by the words of its suite, then by the certificate.
 ghost use Rattle.std.specs.Prelude.{◌≡◌, ◌≤◌, length, IfOk, IfErr};
 ghost use Rattle.std.specs.List.{All};
 ghost use Rattle.lw_words.specs.Answer.{answers_of};
@@ -12,11 +12,12 @@ ghost use Rattle.lw_suite.specs.Suite.{IsSuite};
 ghost use Rattle.lw_certify.specs.Verdict.{IsVerdict};
 ghost use Rattle.lw_certify.specs.declared.verdict.Verdict.{Verdict as Came};
 ghost use Rattle.lw_rounds.specs.Learned.{IsCertified};
+ghost use Rattle.lw_rounds.specs.Learner.{IsRead, IsFinal, IsMachineOf};
 ghost use Rattle.lw_rounds.specs.Stops.{learn_stop};
-ghost use Rattle.lw_rounds.specs.bodies.Rounds.{HasCrowd, IsTested, StopsTest, of_fault};
+ghost use Rattle.lw_rounds.specs.bodies.Rounds.{IsTested, StopsTest, of_fault};
 
-use crate::LearnStop;
 use crate::conformance::settle_suite;
+use crate::{LearnStop, Learner};
 use lw_cache::{AskStop, Cache, Oracle};
 use lw_certify::{Verdict, certify};
 use lw_mealy::Mealy;
@@ -99,10 +100,12 @@ fn without_suite(model: Mealy, fault: SuiteFault) -> LearnStop
 }
 
 #[tactic(auto, using(lw_cache::proofs::SettlingLemmas::leaves_nothing, crate::proofs::StopLemmas::leaves_learn_own))]
-/// Tests a hypothesis that gives the kept answers by the suite of its canonical form.
-fn test_by_suite<O: Oracle>(
+/// Tests the machine of a learner, which gives the kept answers, by the suite of its canonical form. No node of a tree is
+/// temporary then.
+pub fn test_by_suite<O: Oracle>(
     oracle: &mut O,
     alloc: Global,
+    learner: &Learner,
     hypothesis: &Mealy,
     extra: u8,
 ) -> Result<Tested, LearnStop>
@@ -113,7 +116,9 @@ fn test_by_suite<O: Oracle>(
     requires inputs { hypothesis.now.inputs ≡ (O.state oracle.old).inputs }
     requires few { extra ≤ 4 }
     requires gives { Gives hypothesis.now.rows (answers_of (O.state oracle.old).kept) }
-    requires crowd { HasCrowd (answers_of (O.state oracle.old).kept) (length hypothesis.now.rows) }
+    requires machine { IsMachineOf learner.now hypothesis.now.rows }
+    requires read { IsRead (answers_of (O.state oracle.old).kept) learner.now }
+    requires settled { IsFinal learner.now }
     ensures tested { IfOk result (IsTested hypothesis.now extra
         (answers_of (O.state oracle.new).kept)) }
     ensures stops { IfErr result (StopsTest hypothesis.now.inputs hypothesis.now.outputs extra
@@ -121,40 +126,12 @@ fn test_by_suite<O: Oracle>(
     ensures leaves { Leaves (O.state oracle.old) (O.state oracle.new) (learn_stop result) }
     ensures can { O.can_settle oracle.new }
 {
-    // The hypothesis tells that it is a machine.
+    // The learner tells that it is one, and the hypothesis that it is a machine.
+    let _ = learner.access();
     let _ = hypothesis.inputs();
     let model = canonical(alloc, hypothesis)?;
     match Suite::new(alloc, &model, extra) {
         Ok(suite) => settle_and_certify(oracle, alloc, hypothesis, model, suite, extra),
         Err(fault) => Err(without_suite(model, fault)),
-    }
-}
-
-#[tactic(auto, using(lw_cache::proofs::SettlingLemmas::leaves_nothing, crate::proofs::StopLemmas::leaves_learn_own))]
-/// Tests a hypothesis: whether it gives what is known, and then by its suite.
-pub fn test<O: Oracle>(
-    oracle: &mut O,
-    alloc: Global,
-    hypothesis: &Mealy,
-    extra: u8,
-) -> Result<Tested, LearnStop>
-    requires can { O.can_settle oracle.old }
-    requires may { MayAsk (O.state oracle.old).stop }
-    requires keeps { Keeps (O.state oracle.old) }
-    requires nothing { NothingClashes (answers_of (O.state oracle.old).kept) }
-    requires inputs { hypothesis.now.inputs ≡ (O.state oracle.old).inputs }
-    requires few { extra ≤ 4 }
-    requires crowd { HasCrowd (answers_of (O.state oracle.old).kept) (length hypothesis.now.rows) }
-    ensures tested { IfOk result (IsTested hypothesis.now extra
-        (answers_of (O.state oracle.new).kept)) }
-    ensures stops { IfErr result (StopsTest hypothesis.now.inputs hypothesis.now.outputs extra
-        (length hypothesis.now.rows) (answers_of (O.state oracle.new).kept)) }
-    ensures leaves { Leaves (O.state oracle.old) (O.state oracle.new) (learn_stop result) }
-    ensures can { O.can_settle oracle.new }
-{
-    let known = oracle.cache().against(hypothesis)?;
-    match known {
-        Some(word) => Ok(Tested::Differs(word)),
-        None => test_by_suite(oracle, alloc, hypothesis, extra),
     }
 }

@@ -1,30 +1,23 @@
 //! What a learning answers.
 ghost use Rattle.std.specs.Prelude.{◌≡◌};
-ghost use Rattle.lw_table.specs.Table.{IsTable};
+ghost use Rattle.lw_rounds.specs.Learner.{refinements_of, IsLearner};
 
+use crate::Learner;
 use lw_mealy::Mealy;
-use lw_table::ObservationTable;
 
-/// The learner that a model is read off.
-#[derive(Clone, Copy, Debug, PartialEq, Eq)]
-pub enum Kind {
-    /// An observation table.
-    Table,
-}
-
-/// A model that is sure, and the table that it was read off.
+/// A model that is sure, and the learner that it was read off.
 #[derive(Drop)]
 pub struct Learned {
     pub model: Mealy,
-    pub table: ObservationTable,
+    pub learner: Learner,
 }
 
 impl Learned {
-    /// How often the table was refined.
+    /// How often the learner was refined.
     pub fn refinements(&self) -> u32
-        ensures value { result ≡ self.now.table.refinements }
-        ensures table { IsTable self.now.table }
+        ensures value { result ≡ refinements_of self.now.learner }
+        ensures learner { IsLearner self.now.learner }
     {
-        self.table.refinements()
+        self.learner.refinements()
     }
 }

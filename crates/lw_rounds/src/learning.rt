@@ -7,49 +7,14 @@ ghost use Rattle.lw_rounds.specs.Learned.{IsLearned, StopsAs};
 ghost use Rattle.lw_rounds.specs.Stops.{learn_stop};
 
 use crate::rounds::rounds;
-use crate::{Kind, LearnStop, Learned};
+use crate::{Kind, LearnStop, Learned, Learner};
 use lw_cache::Oracle;
-use lw_table::{ObservationTable, new_is_read};
 use std::alloc::Global;
 
 #[tactic(auto, using(lw_cache::proofs::SettlingLemmas::leaves_nothing, crate::proofs::StopLemmas::leaves_learn_own))]
-/// The learning with an observation table.
-fn learn_table<O: Oracle>(
-    oracle: &mut O,
-    alloc: Global,
-    inputs: u16,
-    outputs: u16,
-    extra: u8,
-    max_states: u16,
-) -> Result<Learned, LearnStop>
-    requires can { O.can_settle oracle.old }
-    requires may { MayAsk (O.state oracle.old).stop }
-    requires nothing { NothingClashes (answers_of (O.state oracle.old).kept) }
-    requires inputs { inputs ≡ (O.state oracle.old).inputs }
-    requires outputs { outputs ≡ (O.state oracle.old).outputs }
-    requires letters { (1 ≤ inputs) × (inputs ≤ 64) }
-    requires signs { (1 ≤ outputs) × (outputs ≤ 4096) }
-    requires few { extra ≤ 4 }
-    requires most { (1 ≤ max_states) × (max_states ≤ 1024) }
-    ensures learned { IfOk result (λ l. IsLearned inputs outputs extra max_states
-        (answers_of (O.state oracle.new).kept) l.model l.table) }
-    ensures stops { IfErr result (StopsAs inputs outputs extra max_states
-        (answers_of (O.state oracle.new).kept)) }
-    ensures leaves { Leaves (O.state oracle.old) (O.state oracle.new) (learn_stop result) }
-    ensures can { O.can_settle oracle.new }
-{
-    new_is_read();
-    // The cache tells that its answers are over the inputs and outputs.
-    let _ = oracle.cache();
-    let mut table = ObservationTable::new(alloc, inputs, outputs, max_states)?;
-    table.close(oracle)?;
-    let model = rounds(oracle, alloc, &mut table, extra)?;
-    Ok(Learned { model, table })
-}
-
 /// A model of the system behind an oracle, which every machine of at most `extra` states more that gives the kept answers
 /// equals: a learner of this kind is closed and its machine tested, until nothing known and no word of its suite tells it
-/// apart (Angluin 1987, with the suite of Vasilevskii 1973 and Chow 1978).
+/// apart (Angluin 1987, or Isberner, Howar and Steffen 2014, with the suite of Vasilevskii 1973 and Chow 1978).
 ///
 /// # Errors
 /// What the oracle stopped by, or out of memory; a crowd of `max_states + 1` words; or the canonical model whose suite would
@@ -72,14 +37,17 @@ pub fn learn<O: Oracle>(
     requires signs { (1 ≤ outputs) × (outputs ≤ 4096) }
     requires few { extra ≤ 4 }
     requires most { (1 ≤ max_states) × (max_states ≤ 1024) }
-    ensures learned { IfOk result (λ l. IsLearned inputs outputs extra max_states
-        (answers_of (O.state oracle.new).kept) l.model l.table) }
+    ensures learned { IfOk result (λ l. IsLearned kind inputs outputs extra max_states
+        (answers_of (O.state oracle.new).kept) l.model l.learner) }
     ensures stops { IfErr result (StopsAs inputs outputs extra max_states
         (answers_of (O.state oracle.new).kept)) }
     ensures leaves { Leaves (O.state oracle.old) (O.state oracle.new) (learn_stop result) }
     ensures can { O.can_settle oracle.new }
 {
-    match kind {
-        Kind::Table => learn_table(oracle, alloc, inputs, outputs, extra, max_states),
-    }
+    // The cache tells that its answers are over the inputs and outputs.
+    let _ = oracle.cache();
+    let mut learner = Learner::new(alloc, inputs, outputs, kind, max_states)?;
+    learner.close(oracle)?;
+    let model = rounds(oracle, alloc, &mut learner, extra)?;
+    Ok(Learned { model, learner })
 }

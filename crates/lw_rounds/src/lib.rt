@@ -1,4 +1,4 @@
-//! The rounds of a learning: a table is closed, its machine is tested, and a difference refines it.
+//! The rounds of a learning: a learner is closed, its machine is tested, and a difference refines it.
 #![tactic(auto)]
 
 mod conformance;
@@ -6,6 +6,7 @@ mod difference;
 mod hypothesis;
 mod laws;
 mod learned;
+mod learner;
 mod learning;
 mod rounds;
 mod stops;
@@ -13,7 +14,8 @@ mod stops;
 pub use laws::{
     model_is_canonical, model_is_least, too_large_for_all, too_large_is_least, too_many_is_none,
 };
-pub use learned::{Kind, Learned};
+pub use learned::Learned;
+pub use learner::{Kind, Learner};
 pub use learning::learn;
 pub use stops::LearnStop;
 

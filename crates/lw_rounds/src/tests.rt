@@ -1,5 +1,6 @@
 //! Learnings worked by hand: the batches that are settled, in their order, and what is answered.
 mod chunks;
+mod trees;
 
 ghost use Rattle.std.specs.Prelude.{◌≡◌, IfOk};
 

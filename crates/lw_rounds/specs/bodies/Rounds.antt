@@ -1,5 +1,5 @@
--- The rounds: what is so of an oracle and a table between them, and what a test comes to.
-use Rattle.std.specs.Prelude.{◌≡◌, ℕ, List, length}
+-- The rounds: what is so of an oracle and a learner between them, and what a test comes to.
+use Rattle.std.specs.Prelude.{◌≡◌, ℕ, ◌+◌, ◌-◌, ◌<◌, ◌≤◌, List, length, Result, OnOk, IfErr}
 use Rattle.lw_words.specs.Answer.{Answer, answers_of}
 use Rattle.lw_mealy.specs.Limits.{MealyMachine}
 use Rattle.lw_cache.specs.Against.{Differs}
@@ -12,8 +12,14 @@ use Rattle.lw_cache.specs.declared.stops.GrowStop.{GrowStop}
 use Rattle.lw_cache.specs.declared.stops.GrowStop.TheVariants as grow
 use Rattle.lw_suite.specs.declared.suite.SuiteFault.{SuiteFault}
 use Rattle.lw_suite.specs.declared.suite.SuiteFault.TheVariants as fault
-use Rattle.lw_table.specs.Table.{TableState, IsTable, CellsAreRead, IsClosed}
-use Rattle.lw_rounds.specs.Learned.{IsCertified, IsTooLarge, IsTooMany}
+use Rattle.lw_settle.specs.declared.settling.Settled.{Settled}
+use Rattle.lw_settle.specs.declared.settling.Settled.TheVariants.{NoBlock, Replaced}
+use Rattle.lw_tree.specs.Tree.{final_discriminators}
+use Rattle.lw_rounds.specs.Learner.{kind_of, inputs_of, outputs_of, most_of, access_of, IsLearner, IsRead, IsClosed, IsFinal}
+use Rattle.lw_rounds.specs.declared.learner.Kind.{Kind}
+use Rattle.lw_rounds.specs.declared.learner.Learner.{Learner}
+use Rattle.lw_rounds.specs.declared.learner.Learner.TheVariants.{Table, Tree}
+use Rattle.lw_rounds.specs.Learned.{IsCertified, IsLearned, IsTooLarge, IsTooMany, StopsAs}
 use Rattle.lw_rounds.specs.declared.stops.LearnStop.{LearnStop}
 use Rattle.lw_rounds.specs.declared.stops.LearnStop.TheVariants as learn
 use Rattle.lw_rounds.specs.declared.hypothesis.Tested.{Tested}
@@ -41,7 +47,7 @@ StopsTest a b k n ks (learn.Ask stop) = Unit {0}
 StopsTest a b k n ks (learn.Crowd words) = ⊥
 StopsTest a b k n ks (learn.TooLarge model number) = IsTooLarge a b k n ks model number
 
--- what is so where a table that was to be refined stops
+-- what is so where a learner that was to grow stops
 abbrev pub StopsGrowth : ℕ → List Answer → GrowStop → Type 0
 StopsGrowth most ks (grow.Ask stop) = Unit {0}
 StopsGrowth most ks (grow.Crowd words) = IsTooMany most ks words
@@ -51,19 +57,62 @@ abbrev pub of_fault : MealyMachine → SuiteFault → LearnStop
 of_fault model (fault.TooLarge number) = learn.TooLarge model number
 of_fault model fault.NoMemory = learn.Ask NoMemory
 
--- an oracle that may be asked, and a closed table over what it knows
-pub record IsReady (o : OracleState) (t : TableState) : Type 0 where
-  pub inputs : t.inputs ≡ o.inputs
-  pub outputs : t.outputs ≡ o.outputs
+-- a learner before anything was asked, of which any answers say what it knows
+pub record IsNew (kind : Kind) (a b most : ℕ) (l : Learner) : Type 0 where
+  pub of_kind : kind_of l ≡ kind
+  pub inputs : inputs_of l ≡ a
+  pub outputs : outputs_of l ≡ b
+  pub limit : most_of l ≡ most
+  pub read : (ks : List Answer) → IsRead ks l
+
+-- the kind and the numbers of a learner stay
+pub record IsAlike (before now : Learner) : Type 0 where
+  pub kind : kind_of now ≡ kind_of before
+  pub inputs : inputs_of now ≡ inputs_of before
+  pub outputs : outputs_of now ≡ outputs_of before
+  pub most : most_of now ≡ most_of before
+
+-- the final nodes of a tree
+abbrev pub finals_of : Learner → ℕ
+finals_of (Table t) = 0
+finals_of (Tree t) = length (final_discriminators t.nodes)
+
+-- how many states and final nodes there may be yet
+abbrev pub left_of : Learner → ℕ
+left_of l = (most_of l - length (access_of l)) + (most_of l - finals_of l)
+
+abbrev pub GoesOn : Learner → Learner → Type 0
+GoesOn before now = left_of now < left_of before
+
+-- a learner once it was to grow: it has no fewer access words, what it knows is what the answers say, and it is closed
+pub record Grows {X : Type 0} (ks : List Answer) (before now : Learner) (result : Result X GrowStop) : Type 0 where
+  pub alike : IsAlike before now
+  pub learner : IsLearner now
+  pub read : IsRead ks now
+  pub finals : finals_of before ≤ finals_of now
+  pub longer : length (access_of before) ≤ length (access_of now)
+  pub closed : OnOk result (IsClosed now)
+  pub stops : IfErr result (StopsGrowth (most_of before) ks)
+
+-- what a settling did: nothing, where no node is temporary; else one is final that was temporary
+abbrev pub Settles : Learner → Learner → Settled → Type 0
+Settles before now NoBlock = IsFinal now × (now ≡ before)
+Settles before now Replaced = finals_of before < finals_of now
+
+-- an oracle that may be asked, and a closed learner over what it knows
+pub record IsReady (o : OracleState) (l : Learner) : Type 0 where
+  pub inputs : inputs_of l ≡ o.inputs
+  pub outputs : outputs_of l ≡ o.outputs
   pub may : MayAsk o.stop
   pub keeps : Keeps o
   pub nothing : NothingClashes (answers_of o.kept)
-  pub table : IsTable t
-  pub closed : IsClosed t
-  pub read : CellsAreRead (answers_of o.kept) t
+  pub learner : IsLearner l
+  pub closed : IsClosed l
+  pub read : IsRead (answers_of o.kept) l
 
--- the numbers of a table that stay
-pub record IsAlike (before now : TableState) : Type 0 where
-  pub inputs : now.inputs ≡ before.inputs
-  pub outputs : now.outputs ≡ before.outputs
-  pub most : now.most ≡ before.most
+-- what is learned, and why it isn't, by the kind and the numbers of the learner that a learning began with
+abbrev pub IsLearnedFrom : Learner → ℕ → List Answer → MealyMachine → Learner → Type 0
+IsLearnedFrom before k ks model now = IsLearned (kind_of before) (inputs_of before) (outputs_of before) k (most_of before) ks model now
+
+abbrev pub StopsFrom : Learner → ℕ → List Answer → LearnStop → Type 0
+StopsFrom before k ks stop = StopsAs (inputs_of before) (outputs_of before) k (most_of before) ks stop

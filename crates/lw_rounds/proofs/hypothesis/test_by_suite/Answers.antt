@@ -6,6 +6,7 @@ use Rattle.lw_rounds.specs.Stops.{learn_stop}
 use Rattle.lw_rounds.specs.bodies.Rounds.{StopsTest}
 use Rattle.lw_rounds.specs.declared.hypothesis.Tested.{Tested}
 use Rattle.lw_rounds.specs.declared.stops.LearnStop.{LearnStop}
+use Rattle.lw_rounds.proofs.LearnerLemmas.{has_crowd}
 use Rattle.lw_rounds.proofs.HypothesisLemmas.{without_suite_stops, without_suite_leaves}
 use Rattle.lw_rounds.proofs.hypothesis.test_by_suite.Goals as goal
 
@@ -16,7 +17,8 @@ returns-in-Err-clause-stops g c =
     let model = c.in_ok-model.model in
     subst (StopsTest h.inputs h.outputs c.args.extra (length h.rows) (answers_of before.kept)) (sym c.without_suite.ensures)
     (without_suite_stops h model (answers_of before.kept) c.args.extra c.inputs.ensures.complete.machine c.in_ok-model.ensures.alphabets.0 c.in_ok-model.ensures.alphabets.1 c.in_ok-model.ensures.complete
-    c.in_ok-model.ensures.canonical (kept_are_answers before h.inputs c.requires.inputs c.requires.keeps) c.requires.gives c.requires.crowd c.in-Err.fault (λ number is. c.in-Err.ensures.size number (ap Err is)))
+    c.in_ok-model.ensures.canonical (kept_are_answers before h.inputs c.requires.inputs c.requires.keeps) c.requires.gives
+    (has_crowd (answers_of before.kept) c.args.learner.now h.rows c.access.ensures.learner c.requires.read c.requires.machine) c.in-Err.fault (λ number is. c.in-Err.ensures.size number (ap Err is)))
 
 pub returns-in-Err-clause-leaves : goal.returns-in-Err-clause-leaves
 returns-in-Err-clause-leaves g c =

@@ -1,37 +1,45 @@
 use Rattle.std.proofs.Common.{List, ℕ, sym, subst}
 use Rattle.lw_words.specs.Answer.{answers_of}
-use Rattle.lw_cache.specs.Cut.{StepsAreRead}
+use Rattle.lw_cache.specs.Cut.{AreAccess, StepsAreRead}
 use Rattle.lw_cache.specs.Settling.{grown_stop}
 use Rattle.lw_cache.proofs.SettlingLemmas.{kept_are_answers, leaves_then}
-use Rattle.lw_table.proofs.CellLemmas.{cells_more}
-use Rattle.lw_rounds.proofs.RoundLemmas.{ready_more, ready_after, growth_stops}
+use Rattle.lw_rounds.specs.Learner.{inputs_of, access_of}
+use Rattle.lw_rounds.proofs.LearnerLemmas.{access_leads, read_more, steps_are_read}
+use Rattle.lw_rounds.proofs.RoundLemmas.{ready_more, ready_after, refined_goes}
 use Rattle.lw_rounds.proofs.rounds.refine.Goals as goal
+
+pub split-requires-clause-access : goal.split-requires-clause-access
+split-requires-clause-access g c =
+    let l = c.args.learner.now in
+    let h = c.args.hypothesis.now in
+    subst (λ (access : List (List ℕ)). AreAccess h.inputs h.rows access) (sym c.access.ensures.value)
+    (subst (λ (a : ℕ). AreAccess a h.rows (access_of l)) (sym c.requires.inputs) (access_leads l h.rows c.requires.ready.learner c.requires.machine))
 
 pub split-requires-clause-steps : goal.split-requires-clause-steps
 split-requires-clause-steps g c =
     let before = g.O.Oracle.state c.args.oracle.now in
-    let t = c.args.table.now in
+    let l = c.args.learner.now in
     let h = c.args.hypothesis.now in
     let ready = c.requires.ready in
     subst (λ (access : List (List ℕ)). StepsAreRead (answers_of before.kept) h.inputs h.rows access) (sym c.access.ensures.value)
-    (subst (λ (a : ℕ). StepsAreRead (answers_of before.kept) a h.rows t.access) (sym c.requires.inputs)
-    (c.machine_gives_cells.ensures (answers_of before.kept) t h.rows ready.table (kept_are_answers before t.inputs ready.inputs ready.keeps) ready.read ready.closed c.requires.machine))
+    (subst (λ (a : ℕ). StepsAreRead (answers_of before.kept) a h.rows (access_of l)) (sym c.requires.inputs)
+    (steps_are_read (answers_of before.kept) l h.rows ready.learner (kept_are_answers before (inputs_of l) ready.inputs ready.keeps) ready.read ready.closed c.requires.machine))
 
 pub refine-requires-clause-read : goal.refine-requires-clause-read
 refine-requires-clause-read g c =
     let leaves = c.in_ok-cut.ensures.leaves in
-    cells_more (g.O.Oracle.state c.args.oracle.now).kept leaves.gained (g.O.Oracle.state c.split.new.oracle).kept c.args.table.now leaves.at_end c.requires.ready.read
+    read_more (g.O.Oracle.state c.args.oracle.now).kept leaves.gained (g.O.Oracle.state c.split.new.oracle).kept c.args.learner.now leaves.at_end c.requires.ready.read
 
 pub returns-clause-ready : goal.returns-clause-ready
 returns-clause-ready g c =
     let between = g.O.Oracle.state c.split.new.oracle in
     let now = g.O.Oracle.state c.refine.new.oracle in
-    let ready = ready_more (g.O.Oracle.state c.args.oracle.now) between c.args.table.now c.in_ok-cut.ensures.leaves c.requires.ready in
-    ready_after between now c.args.table.now c.refine.new.self c.refine.result c.refine.ensures.leaves c.refine.ensures.refines.grown c.refine.ensures.refines.closed ready.inputs ready.outputs ready.nothing
+    let ready = ready_more (g.O.Oracle.state c.args.oracle.now) between c.args.learner.now c.in_ok-cut.ensures.leaves c.requires.ready in
+    ready_after between now c.args.learner.now c.refine.new.self c.refine.result c.refine.ensures.leaves c.refine.ensures.grows ready.inputs ready.outputs ready.nothing
 
-pub returns-clause-stops : goal.returns-clause-stops
-returns-clause-stops g c =
-    growth_stops (answers_of (g.O.Oracle.state c.refine.new.oracle).kept) c.args.table.now c.refine.new.self c.refine.result c.refine.ensures.refines.grown.most c.refine.ensures.refines.crowd
+pub returns-clause-goes : goal.returns-clause-goes
+returns-clause-goes g c =
+    refined_goes (answers_of (g.O.Oracle.state c.refine.new.oracle).kept) c.args.learner.now c.refine.new.self c.refine.result c.refine.ensures.grows c.refine.ensures.more
 
 pub returns-clause-leaves : goal.returns-clause-leaves
 returns-clause-leaves g c =

@@ -1,33 +1,58 @@
-use Rattle.std.proofs.Common.{None, rules}
-use Rattle.std.specs.Prelude.{⊤}
-use Rattle.lw_cache.proofs.SettlingLemmas.{leaves_then}
-use Rattle.lw_rounds.proofs.StopLemmas.{leaves_learn_grown}
-use Rattle.lw_rounds.proofs.RoundLemmas.{ready_more, has_crowd, is_learned}
+use Rattle.std.proofs.Common.{List, None, Ok, ◌∙◌, sym, subst}
+use Rattle.lw_words.specs.Answer.{answers_of}
+use Rattle.lw_words.specs.declared.kept.KeptAnswer.{KeptAnswer}
+use Rattle.lw_mealy.specs.Gives.{Gives}
+use Rattle.lw_cache.specs.Against.{DiffersFirst}
+use Rattle.lw_cache.specs.Settling.{OracleState}
+use Rattle.lw_cache.proofs.SettlingLemmas.{kept_are_answers, leaves_then}
+use Rattle.lw_rounds.specs.Stops.{learn_stop}
+use Rattle.lw_rounds.proofs.ConformanceLemmas.{none_differs}
+use Rattle.lw_rounds.proofs.HypothesisLemmas.{kept_words}
+use Rattle.lw_rounds.proofs.RoundLemmas.{ready_after, more_finals}
 use Rattle.lw_rounds.proofs.rounds.round.Goals as goal
 
-pub test-requires-clause-crowd : goal.test-requires-clause-crowd
-test-requires-clause-crowd g c =
-    has_crowd c.access_is_crowd.ensures (g.O.Oracle.state c.args.oracle.now) c.args.table.now c.in_ok-hypothesis.hypothesis.rows c.requires.ready c.in_ok-hypothesis.ensures.value
+pub against-requires : goal.against-requires
+against-requires g c =
+    let ready = c.requires.ready in
+    kept_words (g.O.Oracle.state c.args.oracle.now) c.in_ok-hypothesis.hypothesis.inputs c.cache.result.now.kept (c.in_ok-hypothesis.ensures.inputs ∙ ready.inputs) c.cache.ensures.kept ready.keeps
 
-pub refine-requires-clause-ready : goal.refine-requires-clause-ready
-refine-requires-clause-ready g c = ready_more (g.O.Oracle.state c.args.oracle.now) (g.O.Oracle.state c.test.new.oracle) c.args.table.now c.in_ok-word.ensures.leaves c.requires.ready
-
-pub returns-in_err-refine-in-Differs-clause-leaves : goal.returns-in_err-refine-in-Differs-clause-leaves
-returns-in_err-refine-in-Differs-clause-leaves g c =
-    leaves_learn_grown ⊤ (g.O.Oracle.state c.args.oracle.now) (g.O.Oracle.state c.refine.new.oracle) c.in_err-refine-in-Differs.field-0.0 c.from_residual-in_err-refine-in-Differs.result
-    (leaves_then (g.O.Oracle.state c.args.oracle.now) (g.O.Oracle.state c.test.new.oracle) (g.O.Oracle.state c.refine.new.oracle) _ c.in_ok-word.ensures.leaves c.in_err-refine-in-Differs.ensures.leaves) (search rules)
-
-pub returns-in-Differs-clause-leaves : goal.returns-in-Differs-clause-leaves
-returns-in-Differs-clause-leaves g c =
-    leaves_then (g.O.Oracle.state c.args.oracle.now) (g.O.Oracle.state c.test.new.oracle) (g.O.Oracle.state c.refine.new.oracle) None c.in_ok-word.ensures.leaves c.in_ok-refine-in-Differs.ensures.leaves
-
-pub returns-clause-ready : goal.returns-clause-ready
-returns-clause-ready g c = ready_more (g.O.Oracle.state c.args.oracle.now) (g.O.Oracle.state c.test.new.oracle) c.args.table.now c.in_ok-word.ensures.leaves c.requires.ready
-
-pub returns-clause-goes : goal.returns-clause-goes
-returns-clause-goes g c =
+pub settle-requires-clause-gives : goal.settle-requires-clause-gives
+settle-requires-clause-gives g c =
     let before = g.O.Oracle.state c.args.oracle.now in
-    let now = g.O.Oracle.state c.test.new.oracle in
-    let t = c.args.table.now in
-    is_learned c.access_is_crowd.ensures now t c.in_ok-hypothesis.hypothesis c.in-Sure.model c.args.extra (ready_more before now t c.in_ok-word.ensures.leaves c.requires.ready)
-    c.in_ok-hypothesis.ensures.value c.inputs.ensures.complete.machine c.in_ok-hypothesis.ensures.inputs c.in_ok-hypothesis.ensures.outputs (rw c.in-Sure.is at c.in_ok-word.ensures.tested)
+    let h = c.in_ok-hypothesis.hypothesis in
+    let ready = c.requires.ready in (
+      h.rows,
+      c.in_ok-hypothesis.ensures.value,
+      none_differs h.inputs h.rows (answers_of before.kept) (kept_are_answers before h.inputs (c.in_ok-hypothesis.ensures.inputs ∙ ready.inputs) ready.keeps) ready.nothing
+          (subst (λ (kept : List KeptAnswer). DiffersFirst h.rows (answers_of kept) None) c.cache.ensures.kept (rw c.in_default.is at c.in_ok-word.ensures)),
+    )
+
+pub returns-in-Replaced-clause-ready : goal.returns-in-Replaced-clause-ready
+returns-in-Replaced-clause-ready g c =
+    let ready = c.requires.ready in
+    ready_after (g.O.Oracle.state c.args.oracle.now) (g.O.Oracle.state c.settle.new.oracle) c.args.learner.now c.settle.new.self (Ok c.in_ok-settle.field-0) c.in_ok-settle.ensures.leaves c.in_ok-settle.ensures.grows
+    ready.inputs ready.outputs ready.nothing
+
+pub returns-in-Replaced-clause-goes : goal.returns-in-Replaced-clause-goes
+returns-in-Replaced-clause-goes g c =
+    let grows = c.in_ok-settle.ensures.grows in
+    more_finals c.args.learner.now c.settle.new.self grows.learner grows.alike.most (rw c.in-Replaced.is at c.in_ok-settle.ensures.settles) grows.longer
+
+pub round_by_suite-requires-clause-ready : goal.round_by_suite-requires-clause-ready
+round_by_suite-requires-clause-ready g c =
+    let ready = c.requires.ready in
+    ready_after (g.O.Oracle.state c.args.oracle.now) (g.O.Oracle.state c.settle.new.oracle) c.args.learner.now c.settle.new.self (Ok c.in_ok-settle.field-0) c.in_ok-settle.ensures.leaves c.in_ok-settle.ensures.grows
+    ready.inputs ready.outputs ready.nothing
+
+pub round_by_suite-requires-clause-gives : goal.round_by_suite-requires-clause-gives
+round_by_suite-requires-clause-gives g c =
+    let before = g.O.Oracle.state c.args.oracle.now in
+    let h = c.in_ok-hypothesis.hypothesis in
+    let ready = c.requires.ready in
+    subst (λ (o : OracleState). Gives h.rows (answers_of o.kept)) (sym (c.in_ok-settle.ensures.unasked c.in-NoBlock.is))
+    (none_differs h.inputs h.rows (answers_of before.kept) (kept_are_answers before h.inputs (c.in_ok-hypothesis.ensures.inputs ∙ ready.inputs) ready.keeps) ready.nothing
+    (subst (λ (kept : List KeptAnswer). DiffersFirst h.rows (answers_of kept) None) c.cache.ensures.kept (rw c.in_default.is at c.in_ok-word.ensures)))
+
+pub returns-clause-leaves : goal.returns-clause-leaves
+returns-clause-leaves g c =
+    leaves_then (g.O.Oracle.state c.args.oracle.now) (g.O.Oracle.state c.settle.new.oracle) (g.O.Oracle.state c.round_by_suite.new.oracle) (learn_stop c.round_by_suite.result) c.in_ok-settle.ensures.leaves c.round_by_suite.ensures.leaves
