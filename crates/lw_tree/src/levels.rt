@@ -220,7 +220,7 @@ impl DiscriminationTree {
         self.sift(oracle)
     }
 
-    /// Sifts levels until each transition has a target.
+    /// Sifts levels until each transition has a target. Where each has one, nothing is asked.
     ///
     /// # Errors
     /// As `sift_level`.
@@ -237,6 +237,9 @@ impl DiscriminationTree {
         // As in `sift_level`; and the tree tells that it is one.
         let _ = oracle.cache();
         let _ = &self.access;
+        if !self.has_open() {
+            return Ok(());
+        }
         while self.sift(oracle)? {}
         Ok(())
     }

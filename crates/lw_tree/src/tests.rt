@@ -8,7 +8,8 @@ mod trial;
 
 use crate::{
     DiscriminationTree, access_is_crowd, access_leads, branches_stay, closed_has_machine,
-    machine_gives_steps, new_is_read, one_machine,
+    discriminators_are_short, finals_are_few, inners_are_few, machine_gives_steps, new_is_read,
+    one_machine,
 };
 use lw_mealy::Mealy;
 use lw_words::Words;
@@ -88,4 +89,7 @@ fn the_laws() {
     access_leads();
     machine_gives_steps();
     access_is_crowd();
+    inners_are_few();
+    finals_are_few();
+    discriminators_are_short();
 }
