@@ -2,7 +2,7 @@
 use Rattle.std.proofs.Common.{◌≡◌, List, None, sym, ◌∙◌, subst}
 use Rattle.std.specs.List.{All}
 use Rattle.std.proofs.lemmas.List.Elements.{All-map}
-use Rattle.lw_words.specs.Answer.{Answer, answer_of, answers_of}
+use Rattle.lw_words.specs.Answer.{answer_of, answers_of}
 use Rattle.lw_words.specs.declared.kept.KeptAnswer.{KeptAnswer}
 use Rattle.lw_mealy.specs.Gives.{Gives}
 use Rattle.lw_mealy.specs.Machine.{Rows, answer}

@@ -1,4 +1,5 @@
 //! New trees, and the laws.
+mod blocks;
 mod drawn;
 mod levels;
 mod linked;
