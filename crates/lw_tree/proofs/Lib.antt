@@ -10,6 +10,7 @@ mod ListingLemmas
 mod LowerLemmas
 mod LowestLemmas
 mod MachineLemmas
+mod MayLemmas
 mod MeasureLemmas
 mod NodeLemmas
 mod PartLemmas

@@ -2,6 +2,7 @@
 mod drawn;
 mod levels;
 mod linked;
+mod replacing;
 mod splits;
 mod trial;
 
