@@ -12,6 +12,7 @@ mod ListingLemmas
 mod LowerLemmas
 mod LowestLemmas
 pub mod MachineLemmas
+mod MayLemmas
 mod MeasureLemmas
 mod NewLemmas
 pub mod NodeLemmas

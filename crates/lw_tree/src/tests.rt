@@ -3,6 +3,7 @@ mod blocks;
 mod drawn;
 mod levels;
 mod linked;
+mod replacing;
 mod splits;
 mod trial;
 

@@ -1,5 +1,7 @@
 //! Splits by counterexamples, worked by hand: the words that are asked, in their order, and the machines.
-ghost use Rattle.std.specs.Prelude.{◌≤◌};
+ghost use Rattle.std.specs.Prelude.{◌≤◌, IfOk};
+ghost use Rattle.lw_tree.specs.bodies.Trials.{IsReady};
+ghost use Rattle.test_oracle.specs.Recording.{state_of};
 
 use super::trial::{Trial, ask, closed, split_by_known};
 use super::{A, B, NEVER, are, counter, lock};
@@ -28,9 +30,10 @@ fn a_counter_is_split_once(rt: HostRuntime) -> Result<(), Fail> {
 }
 
 /// A lock's tree that was split twice, and what was asked.
-fn lock_split_twice(alloc: Global, most: u16) -> Result<Trial, Fail>
+pub fn lock_split_twice(alloc: Global, most: u16) -> Result<Trial, Fail>
     requires some { 1 ≤ most }
     requires few { most ≤ 1024 }
+    ensures { IfOk result (λ trial. IsReady (state_of trial.oracle) trial.tree) }
 {
     let mut trial = closed(alloc, lock(alloc)?, most, NEVER)?;
     ask(alloc, &mut trial.oracle, &trial.tree, &[A, B, A, B])?;
