@@ -6,7 +6,7 @@ use Rattle.lw_tree.specs.Tree.{IsLive, IsInner, IsFinal, IsBranch, discriminator
 use Rattle.lw_tree.specs.bodies.Sprouts.{IsUnder}
 use Rattle.lw_tree.specs.declared.nodes.Node.{Node}
 use Rattle.lw_tree.specs.declared.nodes.Content.{Content}
-use Rattle.lw_tree.specs.declared.nodes.Content.TheVariants.{State, Discriminator, Gone}
+use Rattle.lw_tree.specs.declared.nodes.Content.TheVariants.{State}
 use Rattle.lw_tree.proofs.WayLemmas.{KeepsNodes, inner_is_live}
 
 abbrev pub HaveBranches : (ℕ → Node) → Type 0

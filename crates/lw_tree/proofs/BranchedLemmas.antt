@@ -1,5 +1,5 @@
 -- Nodes of which some may have fewer than two below them, once there is a leaf more, or a leaf is a temporary node.
-use Rattle.std.proofs.Common.{◌≡◌, ◌≢◌, ◌⊎◌, inl, inr, ⊎_elim, ℕ, ◌+◌, ◌<◌, ◌≤◌, List, [], ◌∷◌, length, refl, ap, sym, ◌∙◌, subst, arith}
+use Rattle.std.proofs.Common.{◌≡◌, ◌≢◌, ◌⊎◌, inl, inr, ⊎_elim, ℕ, ◌<◌, List, [], ◌∷◌, length, refl, ap, sym, ◌∙◌, subst, arith}
 use Rattle.std.proofs.lemmas.Bool.{cases_eq}
 use Rattle.lw_words.specs.Word.{IsWord}
 use Rattle.lw_tree.specs.Tree.{IsLive, IsInner, IsFinal, IsBranch, HasTail, HasTwo, discriminator}

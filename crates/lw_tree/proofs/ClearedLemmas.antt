@@ -1,17 +1,17 @@
 -- A tree's nodes once the root of a block is a final node, and what stood below it is gone.
-use Rattle.std.proofs.Common.{◌≡◌, ◌≢◌, ◌⊎◌, inl, inr, ⊎_elim, ℕ, zero, suc, ◌+◌, ◌<◌, ◌≤◌, Bool, true, false, true≢false, List, [], ◌∷◌, ◌++◌, length, map, get_or, set, if◌then◌else◌, refl, ap, sym, ◌∙◌, subst, subst₂, append-nil, arith}
+use Rattle.std.proofs.Common.{◌≡◌, ◌≢◌, ◌⊎◌, inl, inr, ⊎_elim, ℕ, zero, suc, ◌<◌, ◌≤◌, Bool, true, false, true≢false, List, [], ◌∷◌, ◌++◌, length, map, if◌then◌else◌, refl, ap, sym, ◌∙◌, subst, subst₂, append-nil, arith}
 use Rattle.std.proofs.lemmas.Bool.{cases_lt, cases_eq}
-use Rattle.std.proofs.lemmas.List.{length-append, length-set, length-map, get_or-map, get_or_past}
+use Rattle.std.proofs.lemmas.List.{length-append, length-set, length-map, get_or-map}
 use Rattle.lw_words.specs.Answer.{Answer}
 use Rattle.lw_words.specs.Word.{IsWord}
 use Rattle.lw_cache.specs.Cut.{word_at}
 use Rattle.lw_tree.specs.Blocks.{IsMember, MayReplace}
-use Rattle.lw_tree.specs.Tree.{TreeState, no_node, node_at, leaf_at, discriminator, is_temporary, IsLive, IsInner, IsFinal, IsBranch, HasTail, HasTwo, IsTree, IsOnWayWithin, IsOnWay, IsAbove, Tells, Agrees, BranchesAreRead}
+use Rattle.lw_tree.specs.Tree.{TreeState, no_node, node_at, leaf_at, discriminator, is_temporary, IsLive, IsInner, IsFinal, IsBranch, HasTail, HasTwo, IsTree, IsOnWayWithin, IsOnWay, Tells, Agrees, BranchesAreRead}
 use Rattle.lw_tree.specs.bodies.Sprouts.{IsUnder, mark_at, AreMarks, IsNextMark, lifted, AreBranched, AreStanding, IsOpen, CanPart, IsCleared, cleared, final_node, replaced_root}
 use Rattle.lw_tree.specs.declared.nodes.Node.{Node}
 use Rattle.lw_tree.specs.declared.nodes.Content.{Content}
 use Rattle.lw_tree.specs.declared.nodes.Content.TheVariants.{State, Discriminator, Gone}
-use Rattle.lw_tree.proofs.AboveLemmas.{HaveBranches, parent_live, way_live, above_here, above_le, above_trans, way_trans, under_parent, under_child, final_up}
+use Rattle.lw_tree.proofs.AboveLemmas.{HaveBranches, way_live, above_le, above_trans, way_trans, under_parent, under_child, final_up}
 use Rattle.lw_tree.proofs.BranchedLemmas.{final_is_inner, tail_stays}
 use Rattle.lw_tree.proofs.NodeLemmas.{Updates, everywhere, pushed, written, live_within}
 use Rattle.lw_tree.proofs.WayLemmas.{inner_is_live}

@@ -1,11 +1,10 @@
 -- The lowest node above some leaves.
-use Rattle.std.proofs.Common.{◌≡◌, ◌≢◌, ◌⊎◌, inl, inr, ⊎_elim, ℕ, zero, suc, ◌+◌, ◌<◌, ◌≤◌, Bool, List, ◌++◌, length, drop, refl, ap, sym, ◌∙◌, subst, arith}
+use Rattle.std.proofs.Common.{◌≡◌, ◌≢◌, ◌⊎◌, inl, inr, ⊎_elim, ℕ, zero, suc, ◌+◌, ◌<◌, ◌≤◌, Bool, List, ◌++◌, length, ap, sym, ◌∙◌, subst, arith}
 use Rattle.std.proofs.lemmas.Bool.{cases_lt, cases_eq}
 use Rattle.lw_words.specs.Answer.{Answer, AreAnswers}
-use Rattle.lw_cache.specs.Crowd.{Separates}
 use Rattle.lw_cache.specs.Cut.{word_at}
 use Rattle.lw_cache.specs.Known.{IsKnown}
-use Rattle.lw_cache.proofs.KnownLemmas.{known_is_read, reads_once}
+use Rattle.lw_cache.proofs.KnownLemmas.{known_is_read}
 use Rattle.lw_tree.specs.Blocks.{IsFork}
 use Rattle.lw_tree.specs.Tree.{TreeState, node_at, leaf_at, discriminator, IsLive, IsInner, IsTree, IsOnWay, IsAbove, Tells, BranchesAreRead}
 use Rattle.lw_tree.specs.bodies.Sprouts.{IsLowest, CanPart}

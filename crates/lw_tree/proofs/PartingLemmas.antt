@@ -1,5 +1,5 @@
 -- The steps by which the nodes that are to stand below a block's root are made.
-use Rattle.std.proofs.Common.{◌≡◌, ◌≢◌, ◌⊎◌, inl, inr, ⊎_elim, ℕ, suc, ◌+◌, ◌-◌, ◌<◌, ◌≤◌, Bool, true, List, [], ◌∷◌, ◌++◌, length, drop, get_or, set, refl, ap, sym, ◌∙◌, subst, subst₂, append_assoc, arith}
+use Rattle.std.proofs.Common.{◌≡◌, ◌≢◌, ◌⊎◌, inl, inr, ⊎_elim, ℕ, ◌+◌, ◌-◌, ◌<◌, ◌≤◌, Bool, true, List, [], ◌∷◌, ◌++◌, length, drop, set, refl, ap, sym, ◌∙◌, subst, subst₂, append_assoc, arith}
 use Rattle.std.proofs.lemmas.Bool.{cases_lt, cases_eq}
 use Rattle.std.proofs.lemmas.List.{length-append, length-set, get_or-append-add, get_or-set_other}
 use Rattle.lw_words.specs.Answer.{Answer, AreAnswers}
@@ -15,7 +15,7 @@ use Rattle.lw_tree.specs.declared.nodes.Node.{Node}
 use Rattle.lw_tree.specs.declared.nodes.Content.{Content}
 use Rattle.lw_tree.specs.declared.nodes.Content.TheVariants.{State, Discriminator, Gone}
 use Rattle.lw_tree.proofs.AboveLemmas.{agrees_child, agrees_still}
-use Rattle.lw_tree.proofs.BranchedLemmas.{final_is_inner, two_stays, branched_leaf, branched_lower, lower_keeps, live_was, live_still, inner_was}
+use Rattle.lw_tree.proofs.BranchedLemmas.{final_is_inner, two_stays, branched_leaf, branched_lower, lower_keeps, live_was, live_still}
 use Rattle.lw_tree.proofs.NodeLemmas.{Updates, everywhere, pushed, written, live_within}
 use Rattle.lw_tree.proofs.WayLemmas.{KeepsNodes, inner_is_live}
 

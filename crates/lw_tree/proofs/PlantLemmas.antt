@@ -1,22 +1,21 @@
 -- The tree in which a sprout stands below a root.
-use Rattle.std.proofs.Common.{◌≡◌, ◌≢◌, ◌⊎◌, inl, inr, ⊎_elim, ℕ, zero, suc, ◌+◌, ◌*◌, ◌^◌, ◌<◌, ◌≤◌, Bool, true, false, true≢false, List, [], ◌∷◌, ◌++◌, length, map, get_or, Option, Some, None, IsSome, Result, Ok, refl, ap, ap₂, sym, ◌∙◌, subst, append_assoc, append-nil, arith}
+use Rattle.std.proofs.Common.{◌≡◌, ◌≢◌, ◌⊎◌, inl, inr, ⊎_elim, ℕ, zero, suc, ◌+◌, ◌*◌, ◌^◌, ◌<◌, ◌≤◌, Bool, true, false, List, [], ◌∷◌, ◌++◌, length, map, IsSome, Ok, refl, ap, ap₂, sym, ◌∙◌, subst, append_assoc, append-nil, arith}
 use Rattle.std.proofs.Math.ListN.{get_or-append}
-use Rattle.std.proofs.lemmas.Bool.{cases_lt, cases_eq}
 use Rattle.std.proofs.lemmas.List.{length-append, length-map, get_or-map, get_or-append-add}
 use Rattle.lw_words.specs.Answer.{Answer}
 use Rattle.lw_cache.specs.Cut.{word_at}
 use Rattle.lw_tree.specs.Blocks.{MayReplace, HasFinal, HasReplaced}
 use Rattle.lw_tree.specs.Grown.{HasGrown}
-use Rattle.lw_tree.specs.Tree.{TreeState, no_node, no_place, node_at, place_at, leaf_at, edge_at, place_of, final_words_of, final_discriminators, is_temporary, IsLive, IsInner, IsFinal, AreNodes, AreLeaves, IsEdge, IsPlace, IsTree, Agrees, BranchesAreRead}
+use Rattle.lw_tree.specs.Tree.{TreeState, no_node, no_place, node_at, place_at, leaf_at, edge_at, place_of, final_words_of, final_discriminators, IsLive, IsFinal, AreNodes, AreLeaves, IsEdge, IsPlace, IsTree, Agrees, BranchesAreRead}
 use Rattle.lw_tree.specs.bodies.Nodes.{AreLower}
-use Rattle.lw_tree.specs.bodies.Sprouts.{AreMarks, mark_at, lifted, lifted_place, AreStanding, IsSprout, IsCleared, edge_number, AreEdgePlaces}
+use Rattle.lw_tree.specs.bodies.Sprouts.{AreMarks, mark_at, lifted, lifted_place, IsSprout, IsCleared, edge_number, AreEdgePlaces}
 use Rattle.lw_tree.specs.declared.nodes.Node.{Node}
 use Rattle.lw_tree.specs.declared.nodes.Content.{Content}
 use Rattle.lw_tree.specs.declared.nodes.Content.TheVariants.{State, Discriminator, Gone}
 use Rattle.lw_tree.specs.declared.transitions.Place.{Place}
 use Rattle.lw_tree.specs.declared.transitions.Edge.{Edge}
 use Rattle.lw_tree.proofs.AboveLemmas.{agrees_still, final_up}
-use Rattle.lw_tree.proofs.ClearedLemmas.{marked_or_not, temporary_plain, base_branched, lifted_agrees, lifted_live, r_inside}
+use Rattle.lw_tree.proofs.ClearedLemmas.{marked_or_not, temporary_plain, base_branched, lifted_agrees, lifted_live}
 use Rattle.lw_tree.proofs.NodeLemmas.{live_within}
 use Rattle.lw_tree.proofs.PlaceLemmas.{one_transition, number_within}
 use Rattle.lw_tree.proofs.WayLemmas.{KeepsNodes, inner_is_live}

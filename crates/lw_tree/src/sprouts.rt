@@ -2,7 +2,7 @@
 ghost use Rattle.std.specs.Prelude.{◌≡◌, ◌≢◌, ℕ, ◌+◌, ◌^◌, ◌<◌, ◌≤◌, List, length, map, MatchOption, OnOk, IfOk};
 ghost use Rattle.lw_words.specs.Answer.{AreAnswers, answers_of};
 ghost use Rattle.lw_tree.specs.Blocks.{MayReplace};
-ghost use Rattle.lw_tree.specs.Tree.{BranchesAreRead, node_at, leaf_at, IsLive, IsTree};
+ghost use Rattle.lw_tree.specs.Tree.{BranchesAreRead, node_at, leaf_at, IsLive};
 ghost use Rattle.lw_tree.specs.declared.nodes.Node.{Node};
 ghost use Rattle.lw_tree.specs.bodies.Sprouts.{AreMarks, IsNextMark, lifted, HasDescended, IsLowest, IsSproutOf, IsOpenOf, CanPart, IsCleared};
 

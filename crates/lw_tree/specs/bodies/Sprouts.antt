@@ -5,7 +5,7 @@ use Rattle.lw_words.specs.Word.{IsWord}
 use Rattle.lw_cache.specs.Crowd.{Separates}
 use Rattle.lw_cache.specs.Cut.{word_at}
 use Rattle.lw_cache.specs.Known.{IsKnown}
-use Rattle.lw_tree.specs.Tree.{TreeState, node_at, place_at, edge_at, leaf_at, discriminator, IsLive, IsInner, IsFinal, IsBranch, HasTail, HasTwo, IsAbove, Tells, Agrees}
+use Rattle.lw_tree.specs.Tree.{TreeState, node_at, place_at, edge_at, leaf_at, discriminator, IsLive, IsInner, IsFinal, IsBranch, HasTail, HasTwo, IsAbove, Agrees}
 use Rattle.lw_tree.specs.bodies.Steps.{leaf_below}
 use Rattle.lw_tree.specs.declared.nodes.Node.{Node}
 use Rattle.lw_tree.specs.declared.transitions.Edge.{Edge}

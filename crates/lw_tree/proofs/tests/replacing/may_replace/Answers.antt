@@ -1,4 +1,4 @@
-use Rattle.std.proofs.Common.{rules, ◌≡◌, ◌≢◌, ℕ, ◌+◌, ◌*◌, ◌<◌, true, List, length, ap, sym, ◌∙◌, subst, subst₂}
+use Rattle.std.proofs.Common.{rules, ◌≡◌, ◌≢◌, ℕ, ◌+◌, ◌*◌, ◌<◌, true, ap, ◌∙◌, subst, subst₂}
 use Rattle.lw_tree.specs.Blocks.{IsMember}
 use Rattle.lw_tree.specs.Tree.{TreeState, node_at, place_at, is_temporary, IsTree}
 use Rattle.lw_tree.proofs.MayLemmas.{letter_may}

@@ -1,4 +1,4 @@
-use Rattle.std.proofs.Common.{rules, ◌≡◌, ℕ, ◌+◌, ◌<◌, ◌≤◌, List, ◌++◌, length, subst, arith}
+use Rattle.std.proofs.Common.{rules, ◌≡◌, ◌+◌, ◌<◌, List, ◌++◌, length, subst, arith}
 use Rattle.lw_words.specs.Answer.{answers_of}
 use Rattle.lw_tree.specs.Tree.{TreeState}
 use Rattle.lw_tree.specs.bodies.Sprouts.{IsSprout}

@@ -1,4 +1,4 @@
-use Rattle.std.proofs.Common.{◌≡◌, ℕ, ◌+◌, ◌≤◌, List, ◌++◌, length}
+use Rattle.std.proofs.Common.{◌≡◌, ◌+◌, ◌≤◌, List, ◌++◌, length}
 use Rattle.lw_words.specs.Answer.{answers_of}
 use Rattle.lw_tree.specs.bodies.Sprouts.{IsSprout}
 use Rattle.lw_tree.specs.declared.nodes.Node.{Node}

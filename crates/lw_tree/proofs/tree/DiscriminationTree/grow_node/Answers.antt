@@ -1,11 +1,10 @@
-use Rattle.std.proofs.Common.{rules, ◌≡◌, ◌≢◌, ℕ, ◌+◌, ◌<◌, ◌≤◌, List, ◌++◌, length, set, ap, sym, ◌∙◌, subst, subst₂, arith}
+use Rattle.std.proofs.Common.{◌≡◌, ℕ, ◌+◌, List, ◌++◌, length, set, ap, sym, ◌∙◌, subst, subst₂}
 use Rattle.lw_words.specs.Answer.{answers_of}
 use Rattle.lw_tree.specs.Tree.{TreeState, node_at, leaf_at, IsTree}
 use Rattle.lw_tree.specs.bodies.Sprouts.{IsLowest, IsOpen, CanPart}
 use Rattle.lw_tree.specs.bodies.Steps.{inner_node}
 use Rattle.lw_tree.specs.declared.nodes.Node.{Node}
-use Rattle.lw_tree.specs.declared.nodes.Content.{Content}
-use Rattle.lw_tree.specs.declared.nodes.Content.TheVariants.{State, Discriminator, Gone}
+use Rattle.lw_tree.specs.declared.nodes.Content.TheVariants.{State, Discriminator}
 use Rattle.lw_tree.proofs.FieldLemmas.{node_read}
 use Rattle.lw_tree.proofs.SproutLemmas.{has_state, state_inside, state_there, grown_leaf, grown_can, grown_open}
 use Rattle.lw_tree.proofs.tree.DiscriminationTree.grow_node.Goals as goal

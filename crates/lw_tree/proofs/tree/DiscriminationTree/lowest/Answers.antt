@@ -1,4 +1,4 @@
-use Rattle.std.proofs.Common.{rules, ◌≡◌, ◌+◌, ◌<◌, ℕ, length, ap, sym, ◌∙◌, subst, arith}
+use Rattle.std.proofs.Common.{rules, ◌<◌, ℕ, length, sym, subst, arith}
 use Rattle.lw_tree.specs.Blocks.{IsFork}
 use Rattle.lw_tree.specs.Tree.{TreeState, node_at, leaf_at, IsTree, IsLive}
 use Rattle.lw_tree.proofs.LowestLemmas.{lowest_fork}

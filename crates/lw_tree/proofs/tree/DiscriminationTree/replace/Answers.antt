@@ -1,16 +1,16 @@
-use Rattle.std.proofs.Common.{rules, ◌≡◌, ℕ, ◌+◌, ◌*◌, ◌<◌, ◌≤◌, Bool, Ok, List, ◌++◌, length, map, refl, ap, ap₂, sym, ◌∙◌, subst, arith}
+use Rattle.std.proofs.Common.{◌≡◌, ℕ, ◌+◌, ◌<◌, Bool, Ok, List, ◌++◌, length, map, refl, ap, ap₂, sym, ◌∙◌, subst, arith}
 use Rattle.std.proofs.lemmas.List.{length-map}
 use Rattle.lw_words.specs.Answer.{answers_of}
 use Rattle.lw_words.specs.declared.memory.NoMemory.{NoMemory}
 use Rattle.lw_tree.specs.Blocks.{HasReplaced}
-use Rattle.lw_tree.specs.Tree.{TreeState, node_at, leaf_at, edge_at, IsTree}
+use Rattle.lw_tree.specs.Tree.{TreeState, node_at, IsTree}
 use Rattle.lw_tree.specs.bodies.Nodes.{AreLower}
 use Rattle.lw_tree.specs.bodies.Sprouts.{lifted_place, IsSprout, IsCleared, replaced_root, edge_number, AreEdgePlaces}
 use Rattle.lw_tree.specs.declared.nodes.Node.{Node}
 use Rattle.lw_tree.specs.declared.transitions.Edge.{Edge}
 use Rattle.lw_tree.specs.declared.transitions.Place.{Place}
 use Rattle.lw_tree.proofs.ClearedLemmas.{replaced_long, replaced_clears, block_inside}
-use Rattle.lw_tree.proofs.PlantLemmas.{planted, edge_within, same_edge_places, replaced_ok, planted_tree, planted_grown, planted_lower, planted_final}
+use Rattle.lw_tree.proofs.PlantLemmas.{planted, edge_within, same_edge_places, replaced_ok, planted_tree, planted_grown, planted_final}
 use Rattle.lw_tree.proofs.tree.DiscriminationTree.replace.Goals as goal
 
 pub place_edges-requires-clause-some : goal.place_edges-requires-clause-some

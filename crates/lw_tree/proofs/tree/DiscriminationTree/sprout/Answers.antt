@@ -1,7 +1,7 @@
-use Rattle.std.proofs.Common.{rules, ◌≡◌, ℕ, ◌+◌, ◌<◌, ◌≤◌, List, [], ◌++◌, length, map, ap, sym, ◌∙◌, subst, arith}
+use Rattle.std.proofs.Common.{◌≡◌, ℕ, List, [], length, sym, subst}
 use Rattle.lw_words.specs.Answer.{answers_of}
-use Rattle.lw_tree.specs.Tree.{TreeState, node_at, leaf_at, IsTree}
-use Rattle.lw_tree.specs.bodies.Sprouts.{lifted, IsSprout, IsOpen, IsCleared, CanPart, replaced_root}
+use Rattle.lw_tree.specs.Tree.{TreeState, IsTree}
+use Rattle.lw_tree.specs.bodies.Sprouts.{CanPart, replaced_root}
 use Rattle.lw_tree.specs.declared.nodes.Node.{Node}
 use Rattle.lw_tree.proofs.ClearedLemmas.{replaced_long, replaced_clears, block_inside, base_open, root_can}
 use Rattle.lw_tree.proofs.tree.DiscriminationTree.sprout.Goals as goal
