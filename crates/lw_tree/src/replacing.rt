@@ -2,7 +2,7 @@
 ghost use Rattle.std.specs.Prelude.{◌≡◌, ℕ, ◌<◌, length, map, slice_set, IfOk};
 ghost use Rattle.lw_words.specs.Answer.{AreAnswers, answers_of};
 ghost use Rattle.lw_tree.specs.Blocks.{MayReplace, HasReplaced};
-ghost use Rattle.lw_tree.specs.Tree.{BranchesAreRead, IsClosed, place_at};
+ghost use Rattle.lw_tree.specs.Tree.{BranchesAreRead, place_at};
 ghost use Rattle.lw_tree.specs.bodies.Sprouts.{lifted_place, edge_number, AreEdgePlaces};
 
 use crate::DiscriminationTree;
@@ -68,7 +68,6 @@ impl DiscriminationTree {
     pub fn replace(&mut self, cache: &Cache, root: u32, word: Word) -> Result<(), NoMemory>
         requires answers { AreAnswers self.old.inputs (answers_of cache.now.kept) }
         requires read { BranchesAreRead (answers_of cache.now.kept) self.old }
-        requires closed { IsClosed self.old }
         requires may { MayReplace (answers_of cache.now.kept) self.old root word }
         ensures { HasReplaced (answers_of cache.now.kept) word self.old self.new result }
     {
