@@ -13,6 +13,7 @@ use Rattle.lw_mealy.specs.Renumbering.{renumbered_cell, renumbered_cells, renumb
 use Rattle.lw_rounds.specs.Learned.{IsLearned, StopsAs}
 use Rattle.lw_rounds.proofs.LawLemmas.{model_is_least}
 use Rattle.lw_rounds.specs.declared.learned.Learned.{Learned}
+use Rattle.lw_rounds.specs.declared.learner.Kind.{Kind}
 use Rattle.lw_rounds.specs.declared.stops.LearnStop.{LearnStop}
 use Rattle.lw_rounds.specs.declared.stops.LearnStop.TheVariants as learn
 use Rattle.lw_renumber.specs.Renaming.{Renames, renamed_cell, renamed_row, renamed_rows, renamed_answers}
@@ -62,9 +63,9 @@ some_output t n is below =
 
 module _ (f g : ℕ → ℕ) (r : Renames f g) (n : ℕ) (within : (y : ℕ) → y < n → f y < n) (past : (y : ℕ) → n ≤ y → f y ≡ y) (few : n ≤ 4096) (ks : List Answer) where
   -- the model is settled by the renamed answers
-  settled : (a b k most : ℕ) (l : Learned) → AreAnswers a ks → AnswersBelow n l.model.rows → IsLearned a b k most ks l.model l.table
+  settled : (kind : Kind) (a b k most : ℕ) (l : Learned) → AreAnswers a ks → AnswersBelow n l.model.rows → IsLearned kind a b k most ks l.model l.learner
       → IsSettled a n k (renamed_answers f ks) (mealy_of l.model.inputs n (renamed_rows f l.model.rows))
-  settled a b k most l are below is =
+  settled kind a b k most l are below is =
       let c = is.certified in
       let some : 1 ≤ n = some_output l.model n c.complete below in
       let model : MealyMachine = mealy_of a n (renamed_rows f l.model.rows) in
@@ -72,7 +73,7 @@ module _ (f g : ℕ → ℕ) (r : Renames f g) (n : ℕ) (within : (y : ℕ) →
       (record {
         certified = renamed_is_certified f g a b n k ks l.model r are c (some, few) (rows_below f n n l.model.rows within below);
         least = renamed_is_least f g a (length model.rows) ks r are (λ m machine gives.
-            subst (λ (s : ℕ). s ≤ length m) (sym (states_same f l.model.rows)) (model_is_least a b k most ks l.model l.table are is m machine gives));
+            subst (λ (s : ℕ). s ≤ length m) (sym (states_same f l.model.rows)) (model_is_least kind a b k most ks l.model l.learner are is m machine gives));
       })
 
   still : (a b k most : ℕ) (stop : LearnStop) → AreAnswers a ks → StopsAs a b k most ks stop → StillStops a k most f (renamed_answers f ks) stop
@@ -83,10 +84,10 @@ module _ (f g : ℕ → ℕ) (r : Renames f g) (n : ℕ) (within : (y : ℕ) →
       (rows_below f 4096 4096 model.rows (λ y lt. stays_below f n 4096 y within past few lt)
       (λ q d lt x e le. let low = is.complete.answers q d lt x e le in omega (arith, low, is.complete.outputs)))
 
-  learned_still : (a b k most : ℕ) (was : Result Learned LearnStop) → AreAnswers a ks → IfOk was (λ l. AnswersBelow n l.model.rows) → IfOk was (λ l. IsLearned a b k most ks l.model l.table)
+  learned_still : (kind : Kind) (a b k most : ℕ) (was : Result Learned LearnStop) → AreAnswers a ks → IfOk was (λ l. AnswersBelow n l.model.rows) → IfOk was (λ l. IsLearned kind a b k most ks l.model l.learner)
       → IfOk (renamed_learned n f was) (λ l. IsSettled a n k (renamed_answers f ks) l.model)
-  learned_still a b k most (Ok l) are below is = settled a b k most l are below is
-  learned_still a b k most (Err stop) are below is = is
+  learned_still kind a b k most (Ok l) are below is = settled kind a b k most l are below is
+  learned_still kind a b k most (Err stop) are below is = is
 
   stopped_still : (a b k most : ℕ) (was : Result Learned LearnStop) → AreAnswers a ks → IfErr was (StopsAs a b k most ks)
       → IfErr (renamed_learned n f was) (StillStops a k most f (renamed_answers f ks))
@@ -108,11 +109,11 @@ has_sorted to before now f g ks more was is r few below answers renamed =
       are = λ a are. subst (λ (ls : List Answer). AreAnswers a ls) (sym answers) (answers_too f a ks are);
       nothing = λ a are nothing. subst (λ (ls : List Answer). NothingClashes ls) (sym answers) (renamed_never_clash f g a ks r.renames are nothing);
       renamed = renamed ∙ ap (λ (c : ℕ). renamed_learned c f was) same;
-      learned = λ a b k most are learned.
+      learned = λ kind a b k most are learned.
           subst (λ (c : ℕ). IfOk is (λ l. IsSettled a c k more l.model)) same
           (subst (λ (ls : List Answer). IfOk is (λ l. IsSettled a n k ls l.model)) (sym answers)
           (subst (λ (now : Result Learned LearnStop). IfOk now (λ l. IsSettled a n k (renamed_answers f ks) l.model)) (sym renamed)
-          (learned_still f g r.renames n r.within r.past few ks a b k most was are below learned)));
+          (learned_still f g r.renames n r.within r.past few ks kind a b k most was are below learned)));
       stopped = λ a b k most are stops.
           subst (λ (ls : List Answer). IfErr is (StillStops a k most f ls)) (sym answers)
           (subst (λ (now : Result Learned LearnStop). IfErr now (StillStops a k most f (renamed_answers f ks))) (sym renamed)
@@ -122,5 +123,5 @@ has_sorted to before now f g ks more was is r few below answers renamed =
 pub learned_listed : (to : List ℕ) (f : ℕ → ℕ) (n : ℕ) (was : Result Learned LearnStop) → ((y : ℕ) → y < n → get_or to y 0 ≡ f y) → IfOk was (λ l. AnswersBelow n l.model.rows)
     → renumbered_learned n to was ≡ renamed_learned n f was
 learned_listed to f n (Ok l) listed below =
-    ap (λ (m : Rows). Ok (record { model = mealy_of l.model.inputs n m; table = l.table })) (rows_listed to f n listed l.model.rows below)
+    ap (λ (m : Rows). Ok (record { model = mealy_of l.model.inputs n m; learner = l.learner })) (rows_listed to f n listed l.model.rows below)
 learned_listed to f n (Err stop) listed below = refl

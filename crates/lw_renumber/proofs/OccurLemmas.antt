@@ -15,6 +15,7 @@ use Rattle.lw_mealy.proofs.RowLemmas.{is_row}
 use Rattle.lw_mealy.proofs.WordLemmas.{out-append, length-out}
 use Rattle.lw_rounds.specs.Learned.{IsCertified, IsLearned}
 use Rattle.lw_rounds.specs.declared.learned.Learned.{Learned}
+use Rattle.lw_rounds.specs.declared.learner.Kind.{Kind}
 use Rattle.lw_rounds.specs.declared.stops.LearnStop.{LearnStop}
 use Rattle.lw_renumber.specs.Laws.{OutputsOccur}
 use Rattle.lw_renumber.specs.Renaming.{renamed_rows, renamed_answers, OutsBelow}
@@ -92,10 +93,10 @@ pub outputs_occur : OutputsOccur
 outputs_occur a b k n ks model are is below = all_below a b k n ks model are is below
 
 -- the same of what a learning answers
-pub learned_below : (a b k most n : ℕ) (ks : List Answer) (was : Result Learned LearnStop) → AreAnswers a ks → OutsBelow n ks
-    → IfOk was (λ l. IsLearned a b k most ks l.model l.table) → IfOk was (λ l. AnswersBelow n l.model.rows)
-learned_below a b k most n ks (Ok l) are below is = outputs_occur a b k n ks l.model are is.certified below
-learned_below a b k most n ks (Err stop) are below is = is
+pub learned_below : (kind : Kind) (a b k most n : ℕ) (ks : List Answer) (was : Result Learned LearnStop) → AreAnswers a ks → OutsBelow n ks
+    → IfOk was (λ l. IsLearned kind a b k most ks l.model l.learner) → IfOk was (λ l. AnswersBelow n l.model.rows)
+learned_below kind a b k most n ks (Ok l) are below is = outputs_occur a b k n ks l.model are is.certified below
+learned_below kind a b k most n ks (Err stop) are below is = is
 
 pub kept_below : (n : ℕ) (kept : List KeptAnswer) → All (λ k. IsWord n k.outs) kept → OutsBelow n (answers_of kept)
 kept_below n kept below = All-map (λ k. All (λ y. y < n) k.outs) answer_of kept below

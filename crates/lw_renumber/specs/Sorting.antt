@@ -10,6 +10,7 @@ use Rattle.lw_mealy.specs.Renumbering.{renumbered_rows}
 use Rattle.lw_sul.specs.Names.{name_at, named}
 use Rattle.lw_rounds.specs.Learned.{IsCertified, IsLearned, IsTooMany, IsTooLarge, StopsAs}
 use Rattle.lw_rounds.specs.declared.learned.Learned.{Learned}
+use Rattle.lw_rounds.specs.declared.learner.Kind.{Kind}
 use Rattle.lw_rounds.specs.declared.stops.LearnStop.{LearnStop}
 use Rattle.lw_rounds.specs.declared.stops.LearnStop.TheVariants as learn
 use Rattle.lw_renumber.specs.Renaming.{Renames, renamed_rows, renamed_answers}
@@ -35,7 +36,7 @@ IsWithin n to = (y : ℕ) → y < n → slice_index_or to y 0 < n
 abbrev pub renumbered_learned : ℕ → List ℕ → Result Learned LearnStop → Result Learned LearnStop
 renumbered_learned outputs to (Ok l) = Ok (record {
   model = mealy_of l.model.inputs outputs (renumbered_rows to l.model.rows);
-  table = l.table;
+  learner = l.learner;
 })
 renumbered_learned outputs to (Err stop) = Err stop
 
@@ -43,7 +44,7 @@ renumbered_learned outputs to (Err stop) = Err stop
 abbrev pub renamed_learned : ℕ → (ℕ → ℕ) → Result Learned LearnStop → Result Learned LearnStop
 renamed_learned outputs f (Ok l) = Ok (record {
   model = mealy_of l.model.inputs outputs (renamed_rows f l.model.rows);
-  table = l.table;
+  learner = l.learner;
 })
 renamed_learned outputs f (Err stop) = Err stop
 
@@ -69,8 +70,8 @@ pub record HasSorted (to : List ℕ) (before now : List (List ℕ)) (ks more : L
   pub are : (a : ℕ) → AreAnswers a ks → AreAnswers a more
   pub nothing : (a : ℕ) → AreAnswers a ks → NothingClashes ks → NothingClashes more
   pub renamed : is ≡ renamed_learned (length now) f was
-  pub learned : (a b k most : ℕ) → AreAnswers a ks
-      → IfOk was (λ l. IsLearned a b k most ks l.model l.table)
+  pub learned : (kind : Kind) (a b k most : ℕ) → AreAnswers a ks
+      → IfOk was (λ l. IsLearned kind a b k most ks l.model l.learner)
       → IfOk is (λ l. IsSettled a (length now) k more l.model)
   pub stopped : (a b k most : ℕ) → AreAnswers a ks → IfErr was (StopsAs a b k most ks)
       → IfErr is (StillStops a k most f more)

@@ -32,7 +32,7 @@ pub(crate) fn renumber_learned(learned: &mut Result<Learned, LearnStop>, outputs
 /// Sorts the names of outputs that weren't declared, and gives the outputs of the kept answers and of
 /// the model their new numbers, which are in `to` then. Takes no memory.
 ///
-/// The table that the model was read off, and a model whose suite is too large, keep the old numbers.
+/// The learner that the model was read off, and a model whose suite is too large, keep the old numbers.
 pub fn sort_outputs(
     names: &mut OutNames,
     to: &mut [u16],

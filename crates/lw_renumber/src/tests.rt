@@ -12,7 +12,7 @@ use crate::tests::names::brought;
 use lw_cache::AskStop;
 use lw_desk::OutNames;
 use lw_mealy::Mealy;
-use lw_rounds::{LearnStop, Learned};
+use lw_rounds::{LearnStop, Learned, Learner};
 use lw_table::ObservationTable;
 use lw_words::{Kept, KeptAnswer, Word};
 use std::alloc::Global;
@@ -28,8 +28,8 @@ fn of_one_letter(alloc: Global, outputs: u16, cells: &[(u16, u16)]) -> Result<Le
         rows.push(Vec::from_slice(alloc, &[*cell])?)?;
     }
     let model = Mealy::new(alloc, 1, outputs, rows)?;
-    let table = ObservationTable::new(alloc, 1, outputs, 4)?;
-    Ok(Learned { model, table })
+    let learner = Learner::Table(ObservationTable::new(alloc, 1, outputs, 4)?);
+    Ok(Learned { model, learner })
 }
 
 /// Whether each number of a list is below its length.
