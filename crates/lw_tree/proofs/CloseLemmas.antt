@@ -9,7 +9,7 @@ use Rattle.lw_cache.specs.declared.stops.GrowStop.{GrowStop}
 use Rattle.lw_cache.specs.declared.stops.GrowStop.TheVariants.{Ask, Crowd}
 use Rattle.lw_cache.specs.Cut.{word_at}
 use Rattle.lw_tree.specs.bodies.Transitions.{place_by}
-use Rattle.lw_tree.specs.Grown.{HasGrown, KeepsDiscriminators, TellsCrowd, HasLevelled, HasClosed, IsSplit, HasSplit}
+use Rattle.lw_tree.specs.Grown.{HasGrown, KeepsDiscriminators, TellsCrowd, HasMoved, HasLevelled, HasClosed, IsSplit, HasSplit}
 use Rattle.lw_tree.specs.Tree.{TreeState, node_at, leaf_at, IsLive, IsTree, BranchesAreRead, IsClosed, HasOpen, discriminators, final_discriminators, temporaries, is_temporary, words_of, final_words_of}
 use Rattle.lw_tree.specs.bodies.Steps.{leaf_below, inner_node, lowered, split_tree, refined_once}
 use Rattle.lw_tree.specs.declared.nodes.Node.{Node}
@@ -38,12 +38,12 @@ stop_of d (Err e) = e
 pub crowd_too : {X Y : Type 0} (ks : List Answer) (t : TreeState) (stop : GrowStop) → TellsCrowd {X = X} ks t (Err stop) → TellsCrowd {X = Y} ks t (Err stop)
 crowd_too {X} {Y} ks t stop crowd words same = crowd words (ap (λ (r : Result Y GrowStop). Err (stop_of stop r)) same)
 
-pub levelled : (ks : List Answer) (before now : TreeState) (is_left : Bool) → HasGrown ks before now → KeepsDiscriminators before now → (is_left ≡ false → IsClosed now) → (is_left ≡ true → HasOpen now) → HasLevelled ks before now (Ok is_left)
-levelled ks before now is_left grown keeps closed open_left = record { grown = grown; keeps = keeps; closed = closed; left = open_left; crowd = λ words told. cc }
+pub levelled : (ks : List Answer) (before now : TreeState) (is_left : Bool) → HasGrown ks before now → KeepsDiscriminators before now → (is_left ≡ false → IsClosed now) → (is_left ≡ true → HasOpen now) → HasMoved before now → HasLevelled ks before now (Ok is_left)
+levelled ks before now is_left grown keeps closed open_left moved = record { grown = grown; keeps = keeps; closed = closed; left = open_left; moved = moved; crowd = λ words told. cc }
 
 pub not_levelled : (ks : List Answer) (before now : TreeState) (stop : GrowStop) (result : Result Bool GrowStop) → HasGrown ks before now → KeepsDiscriminators before now → TellsCrowd {X = ⊤} ks now (Err stop) → IsErrAnd result (λ e. e ≡ stop) → HasLevelled ks before now result
 not_levelled ks before now stop result grown keeps crowd is =
-    subst (HasLevelled ks before now) (sym (handed_stop stop result is)) (record { grown = grown; keeps = keeps; closed = tt; left = tt; crowd = λ words same. crowd words (ap (λ (r : Result Bool GrowStop). Err (stop_of stop r)) same) })
+    subst (HasLevelled ks before now) (sym (handed_stop stop result is)) (record { grown = grown; keeps = keeps; closed = tt; left = tt; moved = tt; crowd = λ words same. crowd words (ap (λ (r : Result Bool GrowStop). Err (stop_of stop r)) same) })
 
 -- a stop of the oracle, or out of memory, before anything was changed
 pub stopped_level : (ks : List Answer) (t : TreeState) (stop : AskStop) (result : Result Bool GrowStop) → IsTree t → BranchesAreRead ks t → IsErrAnd result (λ e. e ≡ Ask stop) → HasLevelled ks t t result
@@ -96,11 +96,13 @@ module _ (t : TreeState) (edge : Edge) (output q : ℕ) (suffix old new : List �
   inside : leaf < length t.nodes
   inside = live_within t.nodes leaf (subst IsLive (sym is_leaf) tt)
 
-  pub is_split : IsSplit suffix t (split_tree t edge output q suffix old new)
+  pub is_split : IsSplit (word_at t.access edge.state ++ edge.letter ∷ []) suffix t (split_tree t edge output q suffix old new)
   is_split =
       let w = word_more t.nodes leaf q suffix inside is_leaf in
       let long = length-append t.access ((word_at t.access edge.state ++ edge.letter ∷ []) ∷ []) in
       record {
+        more = [];
+        access = refl;
         states = omega (arith, long);
         front = w.0;
         back = w.1;
@@ -111,9 +113,11 @@ module _ (t : TreeState) (edge : Edge) (output q : ℕ) (suffix old new : List �
       }
 
 -- a split tree that was closed, all or in part
-pub split_then : (ks : List Answer) (suffix : List ℕ) (t middle now : TreeState) → IsSplit suffix t middle → HasGrown ks middle now → KeepsDiscriminators middle now → IsSplit suffix t now
-split_then ks suffix t middle now split grown keeps =
+pub split_then : (ks : List Answer) (word suffix : List ℕ) (t middle now : TreeState) → IsSplit word suffix t middle → HasGrown ks middle now → KeepsDiscriminators middle now → IsSplit word suffix t now
+split_then ks word suffix t middle now split grown keeps =
     record {
+      more = split.more ++ grown.more;
+      access = grown.access ∙ (ap (λ (words : List (List ℕ)). words ++ grown.more) split.access ∙ append_assoc t.access (word ∷ split.more) grown.more);
       states = let s = split.states in let l = access_longer ks middle now grown in omega (arith, s, l);
       front = split.front;
       back = split.back;
@@ -123,22 +127,22 @@ split_then ks suffix t middle now split grown keeps =
       temporary = keeps.temporary ∙ split.temporary;
     }
 
-pub room_to_count : (ks : List Answer) (suffix : List ℕ) (t middle now : TreeState) → IsTree t → IsSplit suffix t middle → middle.refinements ≡ t.refinements → HasGrown ks middle now → KeepsDiscriminators middle now → now.refinements + 1 < length now.access
-room_to_count ks suffix t middle now g split same grown keeps =
-    let s = (split_then ks suffix t middle now split grown keeps).states in
+pub room_to_count : (ks : List Answer) (word suffix : List ℕ) (t middle now : TreeState) → IsTree t → IsSplit word suffix t middle → middle.refinements ≡ t.refinements → HasGrown ks middle now → KeepsDiscriminators middle now → now.refinements + 1 < length now.access
+room_to_count ks word suffix t middle now g split same grown keeps =
+    let s = (split_then ks word suffix t middle now split grown keeps).states in
     let r = g.refined in
     let k = keeps.refinements in
     omega (arith, s, r, k, same)
 
-pub has_split : (first ks : List Answer) (suffix : List ℕ) (t middle now last : TreeState) → HasGrown first t middle → IsSplit suffix t middle → middle.refinements ≡ t.refinements → HasClosed ks middle now (Ok tt) → last ≡ refined_once now → IsTree last → HasSplit ks suffix t last (Ok tt)
-has_split first ks suffix t middle now last one split same done is tree =
+pub has_split : (first ks : List Answer) (word suffix : List ℕ) (t middle now last : TreeState) → HasGrown first t middle → IsSplit word suffix t middle → middle.refinements ≡ t.refinements → HasClosed ks middle now (Ok tt) → last ≡ refined_once now → IsTree last → HasSplit ks word suffix t last (Ok tt)
+has_split first ks word suffix t middle now last one split same done is tree =
     let grown = grown_then first ks t middle now one done.grown in
-    let s = split_then ks suffix t middle now split done.grown done.keeps in
-    subst (λ (u : TreeState). HasSplit ks suffix t u (Ok tt)) (sym is)
+    let s = split_then ks word suffix t middle now split done.grown done.keeps in
+    subst (λ (u : TreeState). HasSplit ks word suffix t u (Ok tt)) (sym is)
     (record {
       grown = record { inputs = grown.inputs; outputs = grown.outputs; most = grown.most; more = grown.more; access = grown.access; tree = subst (λ (u : TreeState). IsTree u) is tree; read = record { outs = grown.read.outs; transitions = grown.read.transitions; access = grown.read.access } };
       closed = done.closed;
-      split = record { states = s.states; front = s.front; back = s.back; discriminators_were = s.discriminators_were; discriminators_are = s.discriminators_are; finals = s.finals; temporary = s.temporary };
+      split = record { more = s.more; access = s.access; states = s.states; front = s.front; back = s.back; discriminators_were = s.discriminators_were; discriminators_are = s.discriminators_are; finals = s.finals; temporary = s.temporary };
       left = tt;
       refined = ap (λ (n : ℕ). n + 1) (done.keeps.refinements ∙ same);
       refused = tt;
@@ -146,21 +150,21 @@ has_split first ks suffix t middle now last one split same done is tree =
     })
 
 -- where the closing was refused
-pub not_all_split : (first ks : List Answer) (suffix : List ℕ) (t middle now : TreeState) (stop : GrowStop) (result : Result ⊤ GrowStop) → HasGrown first t middle → IsSplit suffix t middle → middle.refinements ≡ t.refinements → HasClosed ks middle now (Err stop) → IsErrAnd result (λ e. e ≡ stop) → HasSplit ks suffix t now result
-not_all_split first ks suffix t middle now stop result one split same done is =
-    subst (HasSplit ks suffix t now) (sym (handed_stop stop result is))
+pub not_all_split : (first ks : List Answer) (word suffix : List ℕ) (t middle now : TreeState) (stop : GrowStop) (result : Result ⊤ GrowStop) → HasGrown first t middle → IsSplit word suffix t middle → middle.refinements ≡ t.refinements → HasClosed ks middle now (Err stop) → IsErrAnd result (λ e. e ≡ stop) → HasSplit ks word suffix t now result
+not_all_split first ks word suffix t middle now stop result one split same done is =
+    subst (HasSplit ks word suffix t now) (sym (handed_stop stop result is))
     (record {
       grown = grown_then first ks t middle now one done.grown;
       closed = tt;
       split = tt;
-      left = inr (split_then ks suffix t middle now split done.grown done.keeps);
+      left = inr (split_then ks word suffix t middle now split done.grown done.keeps);
       refined = tt;
       refused = done.keeps.refinements ∙ same;
       crowd = done.crowd;
     })
 
 -- where nothing was split
-pub not_split : (ks : List Answer) (suffix : List ℕ) (t now : TreeState) (stop : GrowStop) (result : Result ⊤ GrowStop) → HasGrown ks t now → now ≡ t → TellsCrowd {X = ⊤} ks now (Err stop) → IsErrAnd result (λ e. e ≡ stop) → HasSplit ks suffix t now result
-not_split ks suffix t now stop result grown same crowd is =
-    subst (HasSplit ks suffix t now) (sym (handed_stop stop result is))
+pub not_split : (ks : List Answer) (word suffix : List ℕ) (t now : TreeState) (stop : GrowStop) (result : Result ⊤ GrowStop) → HasGrown ks t now → now ≡ t → TellsCrowd {X = ⊤} ks now (Err stop) → IsErrAnd result (λ e. e ≡ stop) → HasSplit ks word suffix t now result
+not_split ks word suffix t now stop result grown same crowd is =
+    subst (HasSplit ks word suffix t now) (sym (handed_stop stop result is))
     (record { grown = grown; closed = tt; split = tt; left = inl same; refined = tt; refused = ap (λ (u : TreeState). u.refinements) same; crowd = crowd })

@@ -6,7 +6,7 @@ use Rattle.std.proofs.lemmas.Bool.{cases_lt}
 use Rattle.lw_words.specs.Answer.{Answer}
 use Rattle.lw_tree.specs.Grown.{HasGrown}
 use Rattle.lw_tree.specs.Tree.{TreeState, node_at, place_at, is_open, IsTree, HasOpen}
-use Rattle.lw_tree.specs.bodies.Steps.{MovesOn, HasMoved}
+use Rattle.lw_tree.specs.Grown.{MovesOn, HasMoved}
 use Rattle.lw_tree.specs.declared.nodes.Node.{Node}
 use Rattle.lw_tree.specs.declared.transitions.Place.{Place}
 use Rattle.lw_tree.proofs.GrownLemmas.{access_longer}

@@ -3,9 +3,10 @@ use Rattle.std.specs.Prelude.{◌≡◌, ◌⊎◌, ℕ, ◌+◌, ◌<◌, List,
 use Rattle.lw_words.specs.Answer.{Answer}
 use Rattle.lw_cache.specs.Crowd.{IsCrowd}
 use Rattle.lw_cache.specs.Cut.{word_at}
+use Rattle.lw_cache.specs.declared.cut.Cut.{Cut}
 use Rattle.lw_cache.specs.declared.stops.GrowStop.{GrowStop}
 use Rattle.lw_cache.specs.declared.stops.GrowStop.TheVariants.{Crowd}
-use Rattle.lw_tree.specs.Tree.{TreeState, discriminators, final_discriminators, temporaries, IsTree, BranchesAreRead, IsClosed, HasOpen}
+use Rattle.lw_tree.specs.Tree.{TreeState, discriminators, final_discriminators, temporaries, is_open, node_at, place_at, IsTree, BranchesAreRead, IsClosed, HasOpen}
 
 -- the same numbers, more access words at the end, and a tree whose branches are what the answers say
 pub record HasGrown (ks : List Answer) (before now : TreeState) : Type 0 where
@@ -38,12 +39,22 @@ pub record IsCrowdOf (ks : List Answer) (t : TreeState) (words : List (List ℕ)
 abbrev pub TellsCrowd : {X : Type 0} → List Answer → TreeState → Result X GrowStop → Type 0
 TellsCrowd ks now result = (words : List (List ℕ)) → result ≡ Err (Crowd words) → IsCrowdOf ks now words
 
+-- a transition that has no target now had none before, and stood higher up
+abbrev pub MovesOn : TreeState → TreeState → ℕ → Type 0
+MovesOn before now k = is_open (node_at now.nodes) (place_at now.places k) ≡ true
+    → (is_open (node_at before.nodes) (place_at before.places k) ≡ true) × ((place_at before.places k).node < (place_at now.places k).node)
+
+-- there are more states, or each transition that is without a target was so before and stood higher up
+abbrev pub HasMoved : TreeState → TreeState → Type 0
+HasMoved before now = (length before.access < length now.access) ⊎ ((k : ℕ) → k < length now.places → MovesOn before now k)
+
 -- a tree once a level was to be sifted; the answer is whether a transition is left that has no target
 pub record HasLevelled (ks : List Answer) (before now : TreeState) (result : Result Bool GrowStop) : Type 0 where
   pub grown : HasGrown ks before now
   pub keeps : KeepsDiscriminators before now
   pub closed : IfOk result (λ is_left. is_left ≡ false → IsClosed now)
   pub left : IfOk result (λ is_left. is_left ≡ true → HasOpen now)
+  pub moved : IfOk result (λ is_left. HasMoved before now)
   pub crowd : TellsCrowd ks now result
 
 -- a tree once it was to be closed
@@ -53,8 +64,14 @@ pub record HasClosed (ks : List Answer) (before now : TreeState) (result : Resul
   pub closed : OnOk result (IsClosed now)
   pub crowd : TellsCrowd ks now result
 
--- a leaf became a temporary node with this discriminator, and there is a state more at least
-pub record IsSplit (suffix : List ℕ) (before now : TreeState) : Type 0 where
+-- the access word of a cut's state, followed by its letter
+abbrev pub cut_word : List (List ℕ) → Cut → List ℕ
+cut_word access cut = word_at access cut.state ++ cut.letter ∷ []
+
+-- a leaf became a temporary node with this discriminator; the first new access word is this one
+pub record IsSplit (word suffix : List ℕ) (before now : TreeState) : Type 0 where
+  pub more : List (List ℕ)
+  pub access : now.access ≡ before.access ++ word ∷ more
   pub states : length before.access < length now.access
   pub front : List (List ℕ)
   pub back : List (List ℕ)
@@ -63,12 +80,13 @@ pub record IsSplit (suffix : List ℕ) (before now : TreeState) : Type 0 where
   pub finals : final_discriminators now.nodes ≡ final_discriminators before.nodes
   pub temporary : temporaries now.nodes ≡ temporaries before.nodes + 1
 
--- a tree once it was to be split with a suffix; where it was refused, it is as before, or was split and not closed
-pub record HasSplit (ks : List Answer) (suffix : List ℕ) (before now : TreeState) (result : Result ⊤ GrowStop) : Type 0 where
+-- a tree once it was to be split with a suffix, for a new state with this access word; where it was refused, it is as before, or
+-- was split and maybe not closed
+pub record HasSplit (ks : List Answer) (word suffix : List ℕ) (before now : TreeState) (result : Result ⊤ GrowStop) : Type 0 where
   pub grown : HasGrown ks before now
   pub closed : OnOk result (IsClosed now)
-  pub split : OnOk result (IsSplit suffix before now)
-  pub left : OnErr result ((now ≡ before) ⊎ IsSplit suffix before now)
+  pub split : OnOk result (IsSplit word suffix before now)
+  pub left : OnErr result ((now ≡ before) ⊎ IsSplit word suffix before now)
   pub refined : OnOk result (now.refinements ≡ before.refinements + 1)
   pub refused : OnErr result (now.refinements ≡ before.refinements)
   pub crowd : TellsCrowd ks now result

@@ -7,7 +7,8 @@ ghost use Rattle.lw_cache.specs.Known.{IsKnown};
 ghost use Rattle.lw_cache.specs.Settling.{Keeps, MayAsk, Leaves, grown_stop};
 ghost use Rattle.lw_tree.specs.Grown.{HasGrown, KeepsDiscriminators, HasLevelled, HasClosed, TellsCrowd};
 ghost use Rattle.lw_tree.specs.Tree.{IsTree, BranchesAreRead, HasOpen, IsClosed, IsInner, discriminator};
-ghost use Rattle.lw_tree.specs.bodies.Steps.{IsRead, IsOwn, HasStepped, HasMoved, MovesOn};
+ghost use Rattle.lw_tree.specs.bodies.Steps.{IsRead, IsOwn, HasStepped};
+ghost use Rattle.lw_tree.specs.Grown.{HasMoved, MovesOn};
 ghost use Rattle.lw_tree.specs.bodies.Transitions.{IsTransition, IsAsked, AreAsked, word_of, content_by, is_open_by};
 
 use crate::DiscriminationTree;
@@ -186,7 +187,6 @@ impl DiscriminationTree {
         requires read { BranchesAreRead (answers_of (O.state oracle.old).kept) self.old }
         ensures levels { HasLevelled (answers_of (O.state oracle.new).kept) self.old self.new
             result }
-        ensures moved { IfOk result (λ _. HasMoved self.old self.new) }
         ensures leaves { Leaves (O.state oracle.old) (O.state oracle.new) (grown_stop result) }
         ensures can { O.can_settle oracle.new }
     {
@@ -231,6 +231,7 @@ impl DiscriminationTree {
         requires outputs { self.old.outputs ≡ (O.state oracle.old).outputs }
         requires read { BranchesAreRead (answers_of (O.state oracle.old).kept) self.old }
         ensures closes { HasClosed (answers_of (O.state oracle.new).kept) self.old self.new result }
+        ensures unasked { IsClosed self.old → O.state oracle.new ≡ O.state oracle.old }
         ensures leaves { Leaves (O.state oracle.old) (O.state oracle.new) (grown_stop result) }
         ensures can { O.can_settle oracle.new }
     {

@@ -6,7 +6,7 @@ use Rattle.lw_cache.specs.Cut.{word_at}
 use Rattle.lw_cache.specs.declared.stops.AskStop.TheVariants.{NoMemory}
 use Rattle.lw_cache.specs.declared.stops.GrowStop.{GrowStop}
 use Rattle.lw_cache.specs.declared.stops.GrowStop.TheVariants.{Ask, Crowd}
-use Rattle.lw_tree.specs.Grown.{HasGrown, KeepsDiscriminators}
+use Rattle.lw_tree.specs.Grown.{HasGrown, KeepsDiscriminators, MovesOn}
 use Rattle.lw_tree.specs.Tree.{TreeState, node_at, place_at, leaf_at, edge_at, no_place, discriminator, is_open, IsLive, IsInner, BranchesAreRead, Tells}
 use Rattle.lw_tree.specs.bodies.Nodes.{IsChild}
 use Rattle.lw_tree.specs.bodies.Transitions.{IsTransition, word_of, place_by, content_by}
@@ -99,22 +99,13 @@ pub record HasStepped (ks : List Answer) (before : TreeState) (edge : Edge) (now
   pub nodes : (n : ℕ) → IsLive (node_at before.nodes n).content → node_at now.nodes n ≡ node_at before.nodes n
   pub others : (k : ℕ) → k < length before.places → k ≢ edge.state * before.inputs + edge.letter → place_at now.places k ≡ place_at before.places k
 
--- a transition that has no target now had none before, and stood higher up
-abbrev pub MovesOn : TreeState → TreeState → ℕ → Type 0
-MovesOn before now k = is_open (node_at now.nodes) (place_at now.places k) ≡ true
-    → (is_open (node_at before.nodes) (place_at before.places k) ≡ true) × ((place_at before.places k).node < (place_at now.places k).node)
-
--- the same of all transitions before a number; those from it on are where they were
+-- each transition before a number has moved on; those from it on are where they were
 pub record HasSifted (ks : List Answer) (before : TreeState) (to : ℕ) (now : TreeState) : Type 0 where
   pub grown : HasGrown ks before now
   pub keeps : KeepsDiscriminators before now
   pub nodes : (n : ℕ) → IsLive (node_at before.nodes n).content → node_at now.nodes n ≡ node_at before.nodes n
   pub left : (k : ℕ) → to ≤ k → k < length before.places → place_at now.places k ≡ place_at before.places k
   pub moved : (k : ℕ) → k < to → k < length before.places → MovesOn before now k
-
--- there are more states, or each transition that is without a target was so before and stood higher up
-abbrev pub HasMoved : TreeState → TreeState → Type 0
-HasMoved before now = (length before.access < length now.access) ⊎ ((k : ℕ) → k < length now.places → MovesOn before now k)
 
 -- out of memory, or a crowd: no stop of the oracle
 abbrev pub IsOwn : GrowStop → Type 0

@@ -4,7 +4,8 @@ use Rattle.lw_cache.specs.Cut.{word_at}
 use Rattle.lw_cache.specs.Known.{IsKnown}
 use Rattle.lw_tree.specs.Tree.{TreeState, node_at, IsTree, IsLive, IsInner, Tells, Agrees, discriminator, is_inner}
 use Rattle.lw_tree.specs.bodies.Nodes.{tree_of}
-use Rattle.lw_tree.specs.bodies.Steps.{HasStepped, IsRead, MovesOn, with_place}
+use Rattle.lw_tree.specs.bodies.Steps.{HasStepped, IsRead, with_place}
+use Rattle.lw_tree.specs.Grown.{MovesOn}
 use Rattle.lw_tree.specs.bodies.Transitions.{IsTransition, word_of, place_by, content_by, is_open_by}
 use Rattle.lw_tree.specs.declared.nodes.Content.{Content}
 use Rattle.lw_tree.specs.declared.nodes.Content.TheVariants.{Discriminator}

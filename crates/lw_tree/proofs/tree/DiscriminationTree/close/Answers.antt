@@ -42,7 +42,7 @@ loop-smaller g c =
     let l = c.loop in
     let ks = answers_of (g.O.Oracle.state c.sift.new.oracle).kept in
     let done = c.in_ok-sift.ensures.levels in
-    closer (2 ^ 32) ks l.self c.sift.new.self done.grown done.grown.tree.few_nodes c.in_ok-sift.ensures.moved (done.left c.if-branch.true) l.invariant.grown.tree
+    closer (2 ^ 32) ks l.self c.sift.new.self done.grown done.grown.tree.few_nodes done.moved (done.left c.if-branch.true) l.invariant.grown.tree
 
 pub loop-preserved : goal.loop-preserved
 loop-preserved g c =

@@ -3,6 +3,7 @@ use Rattle.std.proofs.lemmas.Option.{get_or_from_slice_get}
 use Rattle.lw_words.specs.Answer.{answers_of}
 use Rattle.lw_mealy.specs.Machine.{output}
 use Rattle.lw_cache.specs.Cut.{word_at}
+use Rattle.lw_tree.specs.Grown.{cut_word}
 use Rattle.lw_tree.specs.Grown.{HasGrown, IsSplit}
 use Rattle.lw_tree.specs.Tree.{TreeState, IsTree, Tells}
 use Rattle.lw_tree.specs.bodies.Steps.{IsNextSplit, split_tree}
@@ -90,7 +91,7 @@ returns-clause-split c =
     let ks = answers_of c.args.cache.now.kept in
     let edge : Edge = record { state = cut.state; letter = cut.letter } in
     let g : IsTree u = subst (λ (v : TreeState). IsTree v) c.self.view_is c.self.invariant in
-    subst (IsSplit cut.suffix u) (sym (made c)) (is_split u edge (output c.requires.cut.0 cut.state cut.letter) cut.target cut.suffix c.in_ok-old.old c.in_ok-new.new g (cut_target ks u cut c.in_ok-old.old c.in_ok-new.new c.requires.answers c.requires.cut))
+    subst (IsSplit (cut_word u.access cut) cut.suffix u) (sym (made c)) (is_split u edge (output c.requires.cut.0 cut.state cut.letter) cut.target cut.suffix c.in_ok-old.old c.in_ok-new.new g (cut_target ks u cut c.in_ok-old.old c.in_ok-new.new c.requires.answers c.requires.cut))
 
 pub returns-clause-refinements : goal.returns-clause-refinements
 returns-clause-refinements c = ap (λ (v : TreeState). v.refinements) (made c)
