@@ -1,6 +1,5 @@
 mod AboveLemmas
 pub mod BranchLemmas
-mod BranchedLemmas
 pub mod ClassLemmas
 mod ClearedLemmas
 pub mod CloseLemmas
@@ -25,5 +24,5 @@ mod RelinkLemmas
 pub mod ShapeLemmas
 mod SproutLemmas
 pub mod StepLemmas
-mod TrialLemmas
+pub mod TrialLemmas
 pub mod WayLemmas

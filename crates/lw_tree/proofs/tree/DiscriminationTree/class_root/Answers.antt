@@ -2,11 +2,12 @@ use Rattle.std.proofs.Common.{rules, ◌≡◌, ℕ, ◌<◌, Bool, true, false,
 use Rattle.lw_tree.specs.Blocks.{IsMember}
 use Rattle.lw_tree.specs.Tree.{TreeState, node_at, leaf_at, is_temporary, IsLive}
 use Rattle.lw_tree.specs.bodies.Nodes.{tree_of}
+use Rattle.lw_tree.specs.bodies.Sprouts.{AreBranched}
 use Rattle.lw_tree.specs.declared.nodes.Content.TheVariants.{State}
 use Rattle.lw_tree.specs.declared.nodes.Node.{Node}
 use Rattle.lw_tree.proofs.ClassLemmas.{IsClimbing, climb_start, climb_on, climb_ends, climb_at_root}
 use Rattle.lw_tree.proofs.NodeLemmas.{live_within}
-use Rattle.lw_tree.proofs.WayLemmas.{AreJoined, joined, live_parent}
+use Rattle.lw_tree.proofs.WayLemmas.{joined, live_parent}
 use Rattle.lw_tree.proofs.tree.DiscriminationTree.class_root.Goals as goal
 
 pub loop-root-init : goal.loop-root-init
@@ -14,7 +15,7 @@ loop-root-init c =
     let s = c.self.inside in
     let t : TreeState = tree_of s.inputs s.outputs s.most s.access s.nodes.items s.leaves.items s.places.items s.spanning.items s.refinements in
     let node : ℕ → Node = node_at s.nodes.items in
-    let g : AreJoined s.inputs node = joined s.inputs node c.self.invariant.nodes in
+    let g : AreBranched s.inputs node = joined s.inputs node c.self.invariant.nodes in
     let member : c.args.state < length s.access = subst (λ (u : TreeState). c.args.state < length u.access) (sym c.self.view_is) c.requires in
     let leaf : ℕ = leaf_at s.leaves.items c.args.state in
     let is : (node leaf).content ≡ State c.args.state = c.self.invariant.leaves.leaves c.args.state member in
@@ -32,7 +33,7 @@ get-requires-in-loop-root c =
     let s = c.self.inside in
     let t : TreeState = tree_of s.inputs s.outputs s.most s.access s.nodes.items s.leaves.items s.places.items s.spanning.items s.refinements in
     let node : ℕ → Node = node_at s.nodes.items in
-    let g : AreJoined s.inputs node = joined s.inputs node c.self.invariant.nodes in
+    let g : AreBranched s.inputs node = joined s.inputs node c.self.invariant.nodes in
     let member : c.args.state < length s.access = subst (λ (u : TreeState). c.args.state < length u.access) (sym c.self.view_is) c.requires in
     let leaf : ℕ = leaf_at s.leaves.items c.args.state in
     let is : (node leaf).content ≡ State c.args.state = c.self.invariant.leaves.leaves c.args.state member in
@@ -47,7 +48,7 @@ returns-then-not-is_temporary c =
     let s = c.self.inside in
     let t : TreeState = tree_of s.inputs s.outputs s.most s.access s.nodes.items s.leaves.items s.places.items s.spanning.items s.refinements in
     let node : ℕ → Node = node_at s.nodes.items in
-    let g : AreJoined s.inputs node = joined s.inputs node c.self.invariant.nodes in
+    let g : AreBranched s.inputs node = joined s.inputs node c.self.invariant.nodes in
     let member : c.args.state < length s.access = subst (λ (u : TreeState). c.args.state < length u.access) (sym c.self.view_is) c.requires in
     let leaf : ℕ = leaf_at s.leaves.items c.args.state in
     let is : (node leaf).content ≡ State c.args.state = c.self.invariant.leaves.leaves c.args.state member in
@@ -63,7 +64,7 @@ loop-root-smaller c =
     let s = c.self.inside in
     let t : TreeState = tree_of s.inputs s.outputs s.most s.access s.nodes.items s.leaves.items s.places.items s.spanning.items s.refinements in
     let node : ℕ → Node = node_at s.nodes.items in
-    let g : AreJoined s.inputs node = joined s.inputs node c.self.invariant.nodes in
+    let g : AreBranched s.inputs node = joined s.inputs node c.self.invariant.nodes in
     let member : c.args.state < length s.access = subst (λ (u : TreeState). c.args.state < length u.access) (sym c.self.view_is) c.requires in
     let leaf : ℕ = leaf_at s.leaves.items c.args.state in
     let is : (node leaf).content ≡ State c.args.state = c.self.invariant.leaves.leaves c.args.state member in
@@ -78,7 +79,7 @@ loop-root-preserved c =
     let s = c.self.inside in
     let t : TreeState = tree_of s.inputs s.outputs s.most s.access s.nodes.items s.leaves.items s.places.items s.spanning.items s.refinements in
     let node : ℕ → Node = node_at s.nodes.items in
-    let g : AreJoined s.inputs node = joined s.inputs node c.self.invariant.nodes in
+    let g : AreBranched s.inputs node = joined s.inputs node c.self.invariant.nodes in
     let member : c.args.state < length s.access = subst (λ (u : TreeState). c.args.state < length u.access) (sym c.self.view_is) c.requires in
     let leaf : ℕ = leaf_at s.leaves.items c.args.state in
     let is : (node leaf).content ≡ State c.args.state = c.self.invariant.leaves.leaves c.args.state member in
@@ -94,7 +95,7 @@ returns c =
     let s = c.self.inside in
     let t : TreeState = tree_of s.inputs s.outputs s.most s.access s.nodes.items s.leaves.items s.places.items s.spanning.items s.refinements in
     let node : ℕ → Node = node_at s.nodes.items in
-    let g : AreJoined s.inputs node = joined s.inputs node c.self.invariant.nodes in
+    let g : AreBranched s.inputs node = joined s.inputs node c.self.invariant.nodes in
     let member : c.args.state < length s.access = subst (λ (u : TreeState). c.args.state < length u.access) (sym c.self.view_is) c.requires in
     let leaf : ℕ = leaf_at s.leaves.items c.args.state in
     let is : (node leaf).content ≡ State c.args.state = c.self.invariant.leaves.leaves c.args.state member in
