@@ -5,6 +5,7 @@ mod ClearedLemmas
 pub mod CloseLemmas
 pub mod FewLemmas
 mod FieldLemmas
+mod GrowingLemmas
 pub mod GrownLemmas
 mod LinkLemmas
 mod ListingLemmas
@@ -21,6 +22,7 @@ mod PartingLemmas
 mod PlaceLemmas
 mod PlantLemmas
 mod RelinkLemmas
+mod ReplaceLemmas
 pub mod ShapeLemmas
 mod SproutLemmas
 pub mod StepLemmas
