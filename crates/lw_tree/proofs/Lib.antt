@@ -2,6 +2,7 @@ mod AboveLemmas
 pub mod BranchLemmas
 pub mod ClassLemmas
 mod ClearedLemmas
+mod ClimbLemmas
 pub mod CloseLemmas
 pub mod FewLemmas
 mod FieldLemmas
