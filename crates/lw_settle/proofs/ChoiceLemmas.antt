@@ -11,6 +11,7 @@ use Rattle.lw_cache.specs.Cut.{word_at}
 use Rattle.lw_cache.specs.Known.{Reads}
 use Rattle.lw_tree.specs.Blocks.{IsMember, IsBlock, AreOfOneClass, AreTold}
 use Rattle.lw_tree.specs.Tree.{TreeState, node_at, leaf_at, discriminator, IsLive, IsFinal, IsInner, IsTree, IsOnWay, IsAbove, Tells, Agrees, IsClosed, IsMachineOf, BranchesAreRead}
+use Rattle.lw_tree.specs.bodies.Sprouts.{AreBranched}
 use Rattle.lw_tree.specs.declared.nodes.Node.{Node}
 use Rattle.lw_tree.specs.declared.nodes.Content.{Content}
 use Rattle.lw_tree.specs.declared.nodes.Content.TheVariants.{State, Discriminator, Gone}
@@ -18,7 +19,7 @@ use Rattle.lw_tree.proofs.ClassLemmas.{above_up, above_here, above_down, above_l
 use Rattle.lw_tree.proofs.MachineLemmas.{has_machine}
 use Rattle.lw_tree.proofs.NodeLemmas.{final_is_inner}
 use Rattle.lw_tree.proofs.ShapeLemmas.{shape_of, leaf_live}
-use Rattle.lw_tree.proofs.WayLemmas.{AreJoined, joined, live_parent}
+use Rattle.lw_tree.proofs.WayLemmas.{joined, live_parent}
 use Rattle.lw_settle.specs.bodies.Parting.{number_at, AreRoots, AreLeast, AreAllAlike, IsParting, IsPartingOf, AreMembers, IsForkOf, IsChosen, NothingIsParted}
 use Rattle.lw_settle.specs.declared.parting.Parting.{Parting}
 use Rattle.lw_settle.proofs.PartingLemmas.{all_below, class_once, block_of_two}
@@ -55,7 +56,7 @@ record IsToward (node : ℕ → Node) (m n c : ℕ) : Type 0 where
   parent : (node c).parent ≡ m
   above : IsAbove node c n
 
-module _ (a : ℕ) (node : ℕ → Node) (g : AreJoined a node) where
+module _ (a : ℕ) (node : ℕ → Node) (g : AreBranched a node) where
   toward_below : (bound m n : ℕ) → n < bound → IsLive (node n).content → IsAbove node m n → m ≢ n → (c : ℕ) × IsToward node m n c
   toward_below zero m n lt live above differ = absurd (omega (arith, lt))
   toward_below (suc bound) m zero lt live above differ =
@@ -107,7 +108,7 @@ module _ (t : TreeState) (m : Rows) (g : IsTree t) (is : IsMachineOf t m) (membe
   abbrev node : ℕ → Node
   node = node_at t.nodes
 
-  abbrev ways : AreJoined t.inputs node
+  abbrev ways : AreBranched t.inputs node
   ways = joined t.inputs node g.nodes
 
   target : (q : ℕ) → Contains members q → next m q x < length t.access

@@ -1,5 +1,6 @@
 mod BlockLemmas
 mod ChoiceLemmas
 mod PartingLemmas
+mod PickedLemmas
 mod ReadyLemmas
 mod SettleLemmas

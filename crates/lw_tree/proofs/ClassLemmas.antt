@@ -3,10 +3,11 @@ use Rattle.std.proofs.Common.{◌≡◌, ◌⊎◌, inl, inr, ⊎_elim, ℕ, zer
 use Rattle.std.proofs.lemmas.Bool.{cases_lt}
 use Rattle.lw_tree.specs.Blocks.{IsClassRoot, IsFork}
 use Rattle.lw_tree.specs.Tree.{IsLive, IsInner, IsFinal, is_temporary, IsOnWay, IsAbove}
+use Rattle.lw_tree.specs.bodies.Sprouts.{AreBranched}
 use Rattle.lw_tree.specs.declared.nodes.Node.{Node}
 use Rattle.lw_tree.specs.declared.nodes.Content.{Content}
 use Rattle.lw_tree.specs.declared.nodes.Content.TheVariants.{State, Discriminator, Gone}
-use Rattle.lw_tree.proofs.WayLemmas.{AreJoined, live_parent, on_way_up, on_way_here, on_way_down, on_way_live}
+use Rattle.lw_tree.proofs.WayLemmas.{live_parent, on_way_up, on_way_here, on_way_down, on_way_live}
 
 -- an inner node is temporary or final, and not both
 pub final_of_inner : (c : Content) → IsInner c → is_temporary c ≡ false → IsFinal c
@@ -29,7 +30,7 @@ temporary_is_inner Gone e = absurd (true≢false (sym e))
 pub state_not_final : (c : Content) (q : ℕ) → c ≡ State q → IsFinal c → ⊥
 state_not_final c q e is = subst IsFinal e is
 
-module _ (a : ℕ) (node : ℕ → Node) (g : AreJoined a node) where
+module _ (a : ℕ) (node : ℕ → Node) (g : AreBranched a node) where
   pub above_here : (n : ℕ) → IsAbove node n n
   above_here zero = inl refl
   above_here (suc n) = inr (on_way_here a node g (suc n) (omega arith))
@@ -82,7 +83,7 @@ module _ (a : ℕ) (node : ℕ → Node) (g : AreJoined a node) where
   pub parent_above : (m n : ℕ) → 0 < m → IsLive (node n).content → IsAbove node m n → IsAbove node (node m).parent n
   parent_above m n some live above = above_trans (node m).parent m n live (above_down (node m).parent m some (above_live m n live above).0 (above_here (node m).parent)) above
 
-module _ (a : ℕ) (node : ℕ → Node) (g : AreJoined a node) where
+module _ (a : ℕ) (node : ℕ → Node) (g : AreBranched a node) where
   linear_below : (bound k m n : ℕ) → n < bound → IsLive (node n).content → IsAbove node k n → IsAbove node m n → k ≤ m → IsAbove node k m
   linear_below zero k m n lt live one two le = absurd (omega (arith, lt))
   linear_below (suc bound) k m zero lt live one two le = inl (let low = (above_live a node g m zero live two).1 in omega (arith, low, le))
@@ -173,7 +174,7 @@ pub record IsClimbing (node : ℕ → Node) (root n : ℕ) : Type 0 where
   pub live : IsLive (node root).content
   pub lower : IsFinal (node root).content → ⊥
 
-module _ (a : ℕ) (node : ℕ → Node) (g : AreJoined a node) where
+module _ (a : ℕ) (node : ℕ → Node) (g : AreBranched a node) where
   pub climb_start : (n q : ℕ) → (node n).content ≡ State q → IsClimbing node n n
   climb_start n q is = record { above = above_here a node g n; live = subst IsLive (sym is) tt; lower = state_not_final (node n).content q is }
 
@@ -224,7 +225,7 @@ pub record IsForking (node : ℕ → Node) (one other here there : ℕ) : Type 0
   pub other_above : IsAbove node there other
   pub lowest : (m : ℕ) → IsAbove node m one → IsAbove node m other → IsAbove node m here × IsAbove node m there
 
-module _ (a : ℕ) (node : ℕ → Node) (g : AreJoined a node) (one other : ℕ) (live : IsLive (node one).content) (other_live : IsLive (node other).content) where
+module _ (a : ℕ) (node : ℕ → Node) (g : AreBranched a node) (one other : ℕ) (live : IsLive (node one).content) (other_live : IsLive (node other).content) where
   pub fork_start : IsForking node one other one other
   fork_start = record { one_live = live; other_live = other_live; one_above = above_here a node g one; other_above = above_here a node g other; lowest = λ m x y. (x, y) }
 

@@ -12,8 +12,7 @@ use Rattle.lw_tree.specs.declared.nodes.Node.{Node}
 use Rattle.lw_tree.specs.declared.nodes.Content.{Content}
 use Rattle.lw_tree.specs.declared.nodes.Content.TheVariants.{State, Discriminator, Gone}
 use Rattle.lw_tree.proofs.AboveLemmas.{HaveBranches, way_live, above_le, above_trans, way_trans, under_parent, under_child, final_up}
-use Rattle.lw_tree.proofs.BranchedLemmas.{final_is_inner, tail_stays}
-use Rattle.lw_tree.proofs.NodeLemmas.{Updates, everywhere, pushed, written, live_within}
+use Rattle.lw_tree.proofs.NodeLemmas.{Updates, everywhere, pushed, written, live_within, final_is_inner, tail_stays}
 use Rattle.lw_tree.proofs.WayLemmas.{inner_is_live}
 
 pub marked_or_not : (b : Bool) → (b ≡ true) ⊎ (b ≡ false)

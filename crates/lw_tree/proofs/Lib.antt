@@ -1,11 +1,12 @@
 mod AboveLemmas
 pub mod BranchLemmas
-mod BranchedLemmas
 pub mod ClassLemmas
 mod ClearedLemmas
+mod ClimbLemmas
 pub mod CloseLemmas
 pub mod FewLemmas
 mod FieldLemmas
+mod GrowingLemmas
 pub mod GrownLemmas
 mod LinkLemmas
 mod ListingLemmas
@@ -22,8 +23,9 @@ mod PartingLemmas
 mod PlaceLemmas
 mod PlantLemmas
 mod RelinkLemmas
+mod ReplaceLemmas
 pub mod ShapeLemmas
 mod SproutLemmas
 pub mod StepLemmas
-mod TrialLemmas
+pub mod TrialLemmas
 pub mod WayLemmas

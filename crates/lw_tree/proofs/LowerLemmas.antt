@@ -6,6 +6,7 @@ use Rattle.lw_words.specs.Word.{IsWord}
 use Rattle.lw_cache.specs.Cut.{word_at}
 use Rattle.lw_tree.specs.Tree.{TreeState, no_node, no_place, node_at, place_at, leaf_at, edge_at, place_of, IsLive, IsInner, HasTwo, AreLeaves, IsEdge, IsPlace, discriminator}
 use Rattle.lw_tree.specs.bodies.Nodes.{IsChild}
+use Rattle.lw_tree.specs.bodies.Sprouts.{AreBranched}
 use Rattle.lw_tree.specs.bodies.Steps.{leaf_below, IsNextState, moved_edge, inner_node, lowered, IsNextSplit, split_tree}
 use Rattle.lw_tree.specs.bodies.Transitions.{place_by, content_by}
 use Rattle.lw_tree.specs.declared.nodes.Node.{Node}
@@ -13,7 +14,7 @@ use Rattle.lw_tree.specs.declared.nodes.Content.{Content}
 use Rattle.lw_tree.specs.declared.nodes.Content.TheVariants.{State, Discriminator}
 use Rattle.lw_tree.specs.declared.transitions.Place.{Place}
 use Rattle.lw_tree.specs.declared.transitions.Edge.{Edge}
-use Rattle.lw_tree.proofs.WayLemmas.{AreJoined, KeepsNodes}
+use Rattle.lw_tree.proofs.WayLemmas.{KeepsNodes}
 use Rattle.lw_tree.proofs.NodeLemmas.{Updates, everywhere, pushed, written, live_within, leaf_keeps, inner_was, with_leaf, two_stay, lowered_keeps, live_still, lowered_nodes, lowered_childless}
 use Rattle.lw_tree.proofs.PlaceLemmas.{one_transition, number_within}
 use Rattle.lw_tree.proofs.ShapeLemmas.{IsShaped, all_places, leaves_once, leaf_live, state_of, second_of_two}
@@ -98,7 +99,7 @@ module _ (t : TreeState) (q : ℕ) (suffix branch : List ℕ) (g : IsShaped t) (
   middle_last : (n : ℕ) → IsLive (middle n).content → n < new
   middle_last n live = subst (λ (m : ℕ). n < m) middle_size (live_within middle_nodes n live)
 
-  middle_is : AreJoined t.inputs middle
+  middle_is : AreBranched t.inputs middle
   middle_is = lowered_nodes t.inputs node middle leaf q suffix g.nodes inner_update is_leaf letters some_letter
 
   middle_inner : IsInner (middle leaf).content
@@ -113,7 +114,7 @@ module _ (t : TreeState) (q : ℕ) (suffix branch : List ℕ) (g : IsShaped t) (
   childless : (n : ℕ) → IsChild middle leaf n → (middle n).branch ≢ branch
   childless n child = absurd (lowered_childless t.inputs node middle leaf q suffix g.nodes inner_update is_leaf letters some_letter n child)
 
-  pub lower_nodes : AreJoined t.inputs now
+  pub lower_nodes : AreBranched t.inputs now
   lower_nodes = with_leaf t.inputs middle now new leaf branch q middle_is leaf_update middle_last middle_inner middle_fits childless
 
   second_keeps : KeepsNodes middle now

@@ -7,11 +7,12 @@ use Rattle.std.proofs.lemmas.List.{length-append, get_or-set_same, get_or-set_ot
 use Rattle.lw_words.specs.Word.{IsWord}
 use Rattle.lw_tree.specs.Tree.{no_node, node_at, IsLive, IsInner, IsFinal, IsBranch, HasTwo, HasTail, discriminator}
 use Rattle.lw_tree.specs.bodies.Nodes.{IsChild}
+use Rattle.lw_tree.specs.bodies.Sprouts.{AreBranched}
 use Rattle.lw_tree.specs.bodies.Steps.{leaf_below, inner_node}
 use Rattle.lw_tree.specs.declared.nodes.Node.{Node}
 use Rattle.lw_tree.specs.declared.nodes.Content.{Content}
 use Rattle.lw_tree.specs.declared.nodes.Content.TheVariants.{State, Discriminator, Gone}
-use Rattle.lw_tree.proofs.WayLemmas.{AreJoined, KeepsNodes, inner_is_live}
+use Rattle.lw_tree.proofs.WayLemmas.{KeepsNodes, inner_is_live}
 
 -- two functions that differ at one number at most
 pub record Updates {A : Type 0} (was now : ℕ → A) (at : ℕ) (value : A) : Type 0 where
@@ -64,7 +65,7 @@ final_is_inner (Discriminator word temporary) is = tt
 final_is_inner Gone is = elim is [ ]
 
 -- where a final discriminator has a tail, it has it after a step that leaves final nodes
-tail_stays : (node now : ℕ → Node) (word : List ℕ) → ((n : ℕ) → IsFinal (node n).content → (now n).content ≡ (node n).content) → HasTail node word → HasTail now word
+pub tail_stays : (node now : ℕ → Node) (word : List ℕ) → ((n : ℕ) → IsFinal (node n).content → (now n).content ≡ (node n).content) → HasTail node word → HasTail now word
 tail_stays node now word stays tail =
     let x = tail.0 in (
       x,
@@ -91,7 +92,7 @@ two_stay node now live parent n w =
     }
 
 -- a new leaf below an inner node
-module _ (a : ℕ) (node now : ℕ → Node) (new parent : ℕ) (branch : List ℕ) (q : ℕ) (g : AreJoined a node) (u : Updates node now new (leaf_below parent branch q)) (last : (n : ℕ) → IsLive (node n).content → n < new)
+module _ (a : ℕ) (node now : ℕ → Node) (new parent : ℕ) (branch : List ℕ) (q : ℕ) (g : AreBranched a node) (u : Updates node now new (leaf_below parent branch q)) (last : (n : ℕ) → IsLive (node n).content → n < new)
     (inner : IsInner (node parent).content) (size : length branch ≡ length (discriminator (node parent).content)) (fresh : (n : ℕ) → IsChild node parent n → (node n).branch ≢ branch) where
   stays : (n : ℕ) → IsLive (node n).content → now n ≡ node n
   stays n live = u.others n (λ same. let lt = last n live in omega (arith, same, lt))
@@ -172,7 +173,7 @@ module _ (a : ℕ) (node now : ℕ → Node) (new parent : ℕ) (branch : List �
       (live_or_new n live_n))
       (live_or_new m live_m)
 
-  pub with_leaf : AreJoined a now
+  pub with_leaf : AreBranched a now
   with_leaf =
       record {
         root = let at = stays 0 g.root in subst (λ (m : Node). IsLive m.content) (sym at) g.root;
@@ -190,7 +191,7 @@ module _ (a : ℕ) (node now : ℕ → Node) (new parent : ℕ) (branch : List �
       }
 
 -- a leaf that became a temporary node
-module _ (a : ℕ) (node now : ℕ → Node) (leaf q : ℕ) (word : List ℕ) (g : AreJoined a node) (u : Updates node now leaf (inner_node (node leaf) word)) (was_leaf : (node leaf).content ≡ State q) (letters : IsWord a word) (some_letter : word ≢ []) where
+module _ (a : ℕ) (node now : ℕ → Node) (leaf q : ℕ) (word : List ℕ) (g : AreBranched a node) (u : Updates node now leaf (inner_node (node leaf) word)) (was_leaf : (node leaf).content ≡ State q) (letters : IsWord a word) (some_letter : word ≢ []) where
   parent_same : (n : ℕ) → (now n).parent ≡ (node n).parent
   parent_same = everywhere node now leaf (inner_node (node leaf) word) (λ n m. m.parent ≡ (node n).parent) u refl (λ n other. refl)
 
@@ -234,7 +235,7 @@ module _ (a : ℕ) (node now : ℕ → Node) (leaf q : ℕ) (word : List ℕ) (g
         final = λ is. subst IsFinal (sym content) (was.final (final_was n is).1);
       }
 
-  pub lowered_nodes : AreJoined a now
+  pub lowered_nodes : AreBranched a now
   lowered_nodes =
       record {
         root = live_still 0 g.root;

@@ -6,10 +6,11 @@ use Rattle.lw_words.specs.Answer.{Answer}
 use Rattle.lw_cache.specs.Crowd.{Separates, IsCrowd}
 use Rattle.lw_cache.specs.Cut.{word_at}
 use Rattle.lw_tree.specs.Tree.{IsLive, IsInner, AreLeaves, discriminator, IsOnWay, Tells, Agrees}
+use Rattle.lw_tree.specs.bodies.Sprouts.{AreBranched}
 use Rattle.lw_tree.specs.declared.nodes.Node.{Node}
 use Rattle.lw_tree.specs.declared.nodes.Content.{Content}
 use Rattle.lw_tree.specs.declared.nodes.Content.TheVariants.{State, Discriminator, Gone}
-use Rattle.lw_tree.proofs.WayLemmas.{AreJoined, live_parent, on_way_here, on_way_down, on_way_live}
+use Rattle.lw_tree.proofs.WayLemmas.{live_parent, on_way_here, on_way_down, on_way_live}
 
 -- different branches of one node lead to the two
 pub record Parted (node : ℕ → Node) (m n : ℕ) : Type 0 where
@@ -21,7 +22,7 @@ pub record Parted (node : ℕ → Node) (m n : ℕ) : Type 0 where
   pub differ : (node one).branch ≢ (node other).branch
 
 -- a child of one is on the way to the other
-record IsAbove (node : ℕ → Node) (m n : ℕ) : Type 0 where
+record LeadsTo (node : ℕ → Node) (m n : ℕ) : Type 0 where
   child : ℕ
   below : (node child).parent ≡ m
   to : IsOnWay node child n
@@ -30,8 +31,8 @@ turned : (node : ℕ → Node) (m n : ℕ) → Parted node m n → Parted node n
 turned node m n p = record { one = p.other; other = p.one; to_one = p.to_other; to_other = p.to_one; same = sym p.same; differ = λ e. p.differ (sym e) }
 
 data Lie (node : ℕ → Node) (m n : ℕ) : Type 0 where
-  above : IsAbove node m n → Lie node m n
-  below : IsAbove node n m → Lie node m n
+  above : LeadsTo node m n → Lie node m n
+  below : LeadsTo node n m → Lie node m n
   parted : Parted node m n → Lie node m n
 
 turn : (node : ℕ → Node) (m n : ℕ) → Lie node m n → Lie node n m
@@ -39,7 +40,7 @@ turn node m n (above x) = below x
 turn node m n (below x) = above x
 turn node m n (parted x) = parted (turned node m n x)
 
-module _ (a : ℕ) (node : ℕ → Node) (g : AreJoined a node) where
+module _ (a : ℕ) (node : ℕ → Node) (g : AreBranched a node) where
   -- the greater of the two is reached from its parent
   from_parent : (m n : ℕ) → m < n → IsLive (node m).content → IsLive (node n).content → (m ≡ (node n).parent) ⊎ Lie node m (node n).parent → Lie node m n
   from_parent m n lt live_m live_n up =
@@ -86,7 +87,7 @@ module _ (a : ℕ) (node : ℕ → Node) (g : AreJoined a node) where
       (cases_lt m n)
 
   -- no node is below a leaf
-  leaf_is_last : (q m n : ℕ) → (node m).content ≡ State q → IsLive (node n).content → IsAbove node m n → ⊥
+  leaf_is_last : (q m n : ℕ) → (node m).content ≡ State q → IsLive (node n).content → LeadsTo node m n → ⊥
   leaf_is_last q m n leaf live x =
       let r = on_way_live a node g x.child n live x.to in
       subst IsInner leaf (subst (λ (p : ℕ). IsInner (node p).content) x.below (g.branches x.child r.0 r.1).inner)
@@ -113,7 +114,7 @@ module _ (a : ℕ) (node : ℕ → Node) (g : AreJoined a node) where
       )
 
 -- the access words of states whose leaves they agree with the ways to
-pub crowd_of_leaves : (a : ℕ) (ks : List Answer) (node : ℕ → Node) (leaf : ℕ → ℕ) (access : List (List ℕ)) → AreJoined a node → AreLeaves (length access) node leaf → ((q : ℕ) → q < length access → Agrees ks node (word_at access q) (leaf q)) → IsCrowd ks access
+pub crowd_of_leaves : (a : ℕ) (ks : List Answer) (node : ℕ → Node) (leaf : ℕ → ℕ) (access : List (List ℕ)) → AreBranched a node → AreLeaves (length access) node leaf → ((q : ℕ) → q < length access → Agrees ks node (word_at access q) (leaf q)) → IsCrowd ks access
 crowd_of_leaves a ks node leaf access g are agrees i j d lt lj =
     let li : i < length access = omega (arith, lt, lj) in
     let differ : leaf i ≢ leaf j = λ same.

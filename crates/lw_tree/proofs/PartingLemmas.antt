@@ -15,8 +15,7 @@ use Rattle.lw_tree.specs.declared.nodes.Node.{Node}
 use Rattle.lw_tree.specs.declared.nodes.Content.{Content}
 use Rattle.lw_tree.specs.declared.nodes.Content.TheVariants.{State, Discriminator, Gone}
 use Rattle.lw_tree.proofs.AboveLemmas.{agrees_child, agrees_still}
-use Rattle.lw_tree.proofs.BranchedLemmas.{final_is_inner, two_stays, branched_leaf, branched_lower, lower_keeps, live_was, live_still}
-use Rattle.lw_tree.proofs.NodeLemmas.{Updates, everywhere, pushed, written, live_within}
+use Rattle.lw_tree.proofs.NodeLemmas.{Updates, everywhere, pushed, written, live_within, final_is_inner, two_stay, with_leaf, lowered_keeps, live_was, live_still, lowered_nodes}
 use Rattle.lw_tree.proofs.WayLemmas.{KeepsNodes, inner_is_live}
 
 -- the states before a number took their step down from a node; the nodes from the end of those before on stand below it
@@ -194,7 +193,7 @@ module _ (ks : List Answer) (a : ℕ) (access : List (List ℕ)) (start : ℕ) (
           longer = (let l = P.longer in omega (arith, l, longer));
           temporary = P.temporary;
           content = content_now;
-          two = λ n other is. two_stays (node_at nodes) (node_at later) n (λ k live. (live_too k live, keeps.parent k live)) (P.two n other (inner_old n is));
+          two = λ n other is. two_stay (node_at nodes) (node_at later) live_too keeps.parent n (P.two n other (inner_old n is));
           stood = everywhere (leaf_at leaves) (leaf_at (set leaves upto m)) upto m (λ q n. q < length access → ((node_at later n).content ≡ State q) ⊎ ((next ≤ n) ⊎ ((upto + 1 ≤ q) × (n ≡ c)))) update
               (λ lt. inr (inl (let w = P.within in omega (arith, w, m_past))))
               (λ q other lt. ⊎_elim
@@ -236,7 +235,7 @@ module _ (ks : List Answer) (a : ℕ) (access : List (List ℕ)) (start : ℕ) (
       let update = pushed nodes leaf no_node in
       let inner : IsInner (node_at nodes c).content = subst IsInner (sym P.content) tt in
       let apart : (n : ℕ) → IsChild (node_at nodes) c n → (node_at nodes n).branch ≢ branch = λ n child. fresh n (P.children n child.0 child.1 child.2) child.1 in
-      let shape : AreBranched a (node_at (nodes ++ leaf ∷ [])) = branched_leaf a (node_at nodes) (node_at (nodes ++ leaf ∷ [])) (length nodes) c branch upto P.standing.shape update (live_within nodes) inner (size ∙ ap (λ (k : Content). length (discriminator k)) (sym P.content)) apart in
+      let shape : AreBranched a (node_at (nodes ++ leaf ∷ [])) = with_leaf a (node_at nodes) (node_at (nodes ++ leaf ∷ [])) (length nodes) c branch upto P.standing.shape update (live_within nodes) inner (size ∙ ap (λ (k : Content). length (discriminator k)) (sym P.content)) apart in
       parting_moves (nodes ++ leaf ∷ []) (length nodes) branch shape
       (λ n live. update.others n (λ same. let lt = live_within nodes n live in omega (arith, same, lt)))
       (λ n live. ⊎_elim (λ (same : n ≡ length nodes). inr (same, (let l = P.longer in omega (arith, same, l)), ap (node_at (nodes ++ leaf ∷ [])) same ∙ update.here)) (λ (other : n ≢ length nodes). inl (subst (λ (k : Node). IsLive k.content) (update.others n other) live)) (cases_eq n (length nodes)))
@@ -350,7 +349,7 @@ sprout_opens ks a access start nodes leaves i p word s leaf letters some_letter 
       within = (let long = length-set nodes i (inner_node (node_at nodes i) word) in omega (arith, long, inside));
       temporary = true;
       content = ap (λ (k : Node). k.content) update.here;
-      two = λ n other is. two_stays node now n (λ k live. (live_still a node now i p word s.standing.shape update leaf letters some_letter k live, keeps.parent k live)) (s.two n (subst (λ (k : Node). IsInner k.content) (update.others n other) is));
+      two = λ n other is. two_stay node now (live_still a node now i p word s.standing.shape update leaf letters some_letter) keeps.parent n (s.two n (subst (λ (k : Node). IsInner k.content) (update.others n other) is));
       stood = λ q lt. ⊎_elim
           (λ (here : leaf_at leaves q ≡ i). inr (inr here))
           (λ (other : leaf_at leaves q ≢ i). ⊎_elim
@@ -384,10 +383,10 @@ sprout_opens ks a access start nodes leaves i p word s leaf letters some_letter 
     update = written nodes i (inner_node (node_at nodes i) word) no_node inside
 
     shape : AreBranched a (node_at (set nodes i (inner_node (node_at nodes i) word)))
-    shape = branched_lower a (node_at nodes) (node_at (set nodes i (inner_node (node_at nodes i) word))) i p word s.standing.shape update leaf letters some_letter
+    shape = lowered_nodes a (node_at nodes) (node_at (set nodes i (inner_node (node_at nodes i) word))) i p word s.standing.shape update leaf letters some_letter
 
     keeps : KeepsNodes (node_at nodes) (node_at (set nodes i (inner_node (node_at nodes i) word)))
-    keeps = lower_keeps a (node_at nodes) (node_at (set nodes i (inner_node (node_at nodes i) word))) i p word s.standing.shape update leaf letters some_letter
+    keeps = lowered_keeps a (node_at nodes) (node_at (set nodes i (inner_node (node_at nodes i) word))) i p word s.standing.shape update leaf letters some_letter
 
 -- the same, for nodes that stand behind others
 pub parting_descends : (ks : List Answer) (a : ℕ) (access : List (List ℕ)) (start : ℕ) (base first : List Node) (before : List ℕ) (next c : ℕ) (word : List ℕ) (upto : ℕ) (nodes : List Node) (leaves : List ℕ) (branch : List ℕ) (later : List Node) (stand : List ℕ) (n front : ℕ)

@@ -8,6 +8,7 @@ use Rattle.std.proofs.lemmas.List.Elements.{All-push, All-get_or}
 use Rattle.lw_words.specs.Word.{IsWord}
 use Rattle.lw_cache.specs.Cut.{word_at}
 use Rattle.lw_tree.specs.Tree.{TreeState, no_node, no_place, node_at, place_at, leaf_at, edge_at, place_of, IsLive, IsInner, HasTwo, AreLeaves, IsEdge, IsPlace, IsTree, is_open}
+use Rattle.lw_tree.specs.bodies.Sprouts.{AreBranched}
 use Rattle.lw_tree.specs.bodies.Steps.{placed, with_place, leaf_below, with_state, IsNextState}
 use Rattle.lw_tree.specs.bodies.Transitions.{IsTransition, word_of, place_by, is_open_by}
 use Rattle.lw_tree.specs.declared.nodes.Node.{Node}
@@ -15,7 +16,7 @@ use Rattle.lw_tree.specs.declared.nodes.Content.{Content}
 use Rattle.lw_tree.specs.declared.nodes.Content.TheVariants.{State, Discriminator, Gone}
 use Rattle.lw_tree.specs.declared.transitions.Place.{Place}
 use Rattle.lw_tree.specs.declared.transitions.Edge.{Edge}
-use Rattle.lw_tree.proofs.WayLemmas.{AreJoined, joined, KeepsNodes}
+use Rattle.lw_tree.proofs.WayLemmas.{joined, KeepsNodes}
 use Rattle.lw_tree.proofs.NodeLemmas.{Updates, everywhere, pushed, written, live_within, leaf_keeps, inner_was, with_leaf, two_stay}
 use Rattle.lw_tree.proofs.PlaceLemmas.{number_within, known_leaf, inner_open, past_place, set_and_more, length-set_and_more}
 
@@ -24,7 +25,7 @@ pub record IsShaped (t : TreeState) : Type 0 where
   pub some : 0 < length t.access
   pub words : All (IsWord t.inputs) t.access
   pub first : word_at t.access 0 ≡ []
-  pub nodes : AreJoined t.inputs (node_at t.nodes)
+  pub nodes : AreBranched t.inputs (node_at t.nodes)
   pub each_leaf : length t.leaves ≡ length t.access
   pub leaves : AreLeaves (length t.access) (node_at t.nodes) (leaf_at t.leaves)
   pub each_edge : length t.spanning ≡ length t.access
@@ -174,7 +175,7 @@ module _ (t : TreeState) (edge : Edge) (output : ℕ) (branch : List ℕ) (g : I
   pub node_update : Updates node now new (leaf_below parent branch count)
   node_update = pushed t.nodes (leaf_below parent branch count) no_node
 
-  pub state_nodes : AreJoined t.inputs now
+  pub state_nodes : AreBranched t.inputs now
   state_nodes = with_leaf t.inputs node now new parent branch count g.nodes node_update (live_within t.nodes) next.inner next.size next.new
 
   pub state_keeps : KeepsNodes node now

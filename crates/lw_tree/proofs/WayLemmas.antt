@@ -1,8 +1,8 @@
 -- The ways from the root of a discrimination tree to its nodes.
-use Rattle.std.proofs.Common.{◌≡◌, ◌≢◌, ◌⊎◌, inl, inr, ⊎_elim, ℕ, zero, suc, ◌<◌, ◌≤◌, List, [], refl, ap, sym, ◌∙◌, subst, arith}
+use Rattle.std.proofs.Common.{◌≡◌, ◌⊎◌, inl, inr, ⊎_elim, ℕ, zero, suc, ◌<◌, ◌≤◌, List, refl, ap, sym, ◌∙◌, subst, arith}
 use Rattle.lw_words.specs.Answer.{Answer}
-use Rattle.lw_words.specs.Word.{IsWord}
-use Rattle.lw_tree.specs.Tree.{IsLive, IsInner, IsFinal, IsBranch, HasTail, AreNodes, discriminator, IsOnWayWithin, IsOnWay, Tells, Agrees}
+use Rattle.lw_tree.specs.Tree.{IsLive, IsInner, AreNodes, discriminator, IsOnWayWithin, IsOnWay, Tells, Agrees}
+use Rattle.lw_tree.specs.bodies.Sprouts.{AreBranched}
 use Rattle.lw_tree.specs.declared.nodes.Node.{Node}
 use Rattle.lw_tree.specs.declared.nodes.Content.{Content}
 use Rattle.lw_tree.specs.declared.nodes.Content.TheVariants.{State, Discriminator, Gone}
@@ -12,18 +12,11 @@ inner_is_live (State q) is = elim is [ ]
 inner_is_live (Discriminator word temporary) is = tt
 inner_is_live Gone is = elim is [ ]
 
--- what is so of nodes while an inner one may still have fewer than two below it
-pub record AreJoined (a : ℕ) (node : ℕ → Node) : Type 0 where
-  pub root : IsLive (node 0).content
-  pub branches : (n : ℕ) → 0 < n → IsLive (node n).content → IsBranch node n
-  pub apart : (m n : ℕ) → 0 < m → m < n → IsLive (node m).content → IsLive (node n).content → (node m).parent ≡ (node n).parent → (node m).branch ≢ (node n).branch
-  pub words : (n : ℕ) → IsInner (node n).content → IsWord a (discriminator (node n).content) × (discriminator (node n).content ≢ [])
-  pub tails : (n : ℕ) → IsFinal (node n).content → HasTail node (discriminator (node n).content)
-
-pub joined : (a : ℕ) (node : ℕ → Node) → AreNodes a node → AreJoined a node
+-- what is so of nodes whether or not each inner one has two below it
+pub joined : (a : ℕ) (node : ℕ → Node) → AreNodes a node → AreBranched a node
 joined a node g = record { root = g.root; branches = g.branches; apart = g.apart; words = g.words; tails = g.tails }
 
-module _ (a : ℕ) (node : ℕ → Node) (g : AreJoined a node) where
+module _ (a : ℕ) (node : ℕ → Node) (g : AreBranched a node) where
   -- the parent of a live node is live and lower
   pub live_parent : (n : ℕ) → 0 < n → IsLive (node n).content → IsLive (node (node n).parent).content
   live_parent n some live = inner_is_live (node (node n).parent).content (g.branches n some live).inner
@@ -83,7 +76,7 @@ pub record KeepsNodes (node now : ℕ → Node) : Type 0 where
   pub branch : (n : ℕ) → IsLive (node n).content → (now n).branch ≡ (node n).branch
   pub inner : (n : ℕ) → IsInner (node n).content → (now n).content ≡ (node n).content
 
-module _ (a : ℕ) (node now : ℕ → Node) (g : AreJoined a node) (keeps : KeepsNodes node now) where
+module _ (a : ℕ) (node now : ℕ → Node) (g : AreBranched a node) (keeps : KeepsNodes node now) where
   same_way_within : (steps m n : ℕ) → IsLive (node n).content → IsOnWayWithin steps now m n → IsOnWayWithin steps node m n
   same_way_within zero m n live on = on
   same_way_within (suc steps) m n live on =
@@ -107,7 +100,7 @@ module _ (a : ℕ) (node now : ℕ → Node) (g : AreJoined a node) (keeps : Kee
       (subst (λ (b : List ℕ). Tells ks word (discriminator (node (node m).parent).content) b) (sym (keeps.branch m r.1)) (agrees m was))
 
 -- a word agrees with the way to a node where it agrees with that to the parent and with the node's branch
-pub agrees_below : (a : ℕ) (node : ℕ → Node) (g : AreJoined a node) (ks : List Answer) (word : List ℕ) (n : ℕ) → 0 < n → IsLive (node n).content → Agrees ks node word (node n).parent → Tells ks word (discriminator (node (node n).parent).content) (node n).branch → Agrees ks node word n
+pub agrees_below : (a : ℕ) (node : ℕ → Node) (g : AreBranched a node) (ks : List Answer) (word : List ℕ) (n : ℕ) → 0 < n → IsLive (node n).content → Agrees ks node word (node n).parent → Tells ks word (discriminator (node (node n).parent).content) (node n).branch → Agrees ks node word n
 agrees_below a node g ks word n some live above here m on =
     ⊎_elim
     (λ (same : m ≡ n). subst (λ (k : ℕ). Tells ks word (discriminator (node (node k).parent).content) (node k).branch) (sym same) here)

@@ -2,7 +2,7 @@ use Rattle.std.proofs.Common.{Option, ap, subst}
 use Rattle.lw_cache.specs.Settling.{Leaves, asked_stop}
 use Rattle.lw_cache.specs.declared.stops.AskStop.{AskStop}
 use Rattle.lw_cache.proofs.SettlingLemmas.{leaves_settled}
-use Rattle.lw_settle.proofs.ReadyLemmas.{ready_more}
+use Rattle.lw_tree.proofs.TrialLemmas.{ready_more}
 use Rattle.lw_settle.proofs.tests.trial.ask.Goals as goal
 
 pub returns-clause-ready : goal.returns-clause-ready

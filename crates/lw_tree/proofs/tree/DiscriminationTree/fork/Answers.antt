@@ -1,15 +1,16 @@
 use Rattle.std.proofs.Common.{rules, ◌≡◌, ℕ, ◌<◌, ap, sym, subst}
 use Rattle.lw_tree.specs.Tree.{TreeState, node_at, IsLive}
+use Rattle.lw_tree.specs.bodies.Sprouts.{AreBranched}
 use Rattle.lw_tree.specs.declared.nodes.Node.{Node}
 use Rattle.lw_tree.proofs.ClassLemmas.{IsForking, fork_one, fork_other}
-use Rattle.lw_tree.proofs.WayLemmas.{AreJoined, joined}
+use Rattle.lw_tree.proofs.WayLemmas.{joined}
 use Rattle.lw_tree.proofs.tree.DiscriminationTree.fork.Goals as goal
 
 pub loop-here-preserved-then-here-there : goal.loop-here-preserved-then-here-there
 loop-here-preserved-then-here-there c =
     let s = c.self.inside in
     let node : ℕ → Node = node_at s.nodes.items in
-    let g : AreJoined s.inputs node = joined s.inputs node c.self.invariant.nodes in
+    let g : AreBranched s.inputs node = joined s.inputs node c.self.invariant.nodes in
     let l = c.loop-here in
     let other_live : IsLive (node c.args.other).content = subst (λ (u : TreeState). IsLive (node_at u.nodes c.args.other).content) (sym c.self.view_is) c.requires.other in
     let live : IsLive (node c.args.one).content = subst (λ (u : TreeState). IsLive (node_at u.nodes c.args.one).content) (sym c.self.view_is) c.requires.one in
@@ -20,7 +21,7 @@ pub loop-here-preserved : goal.loop-here-preserved
 loop-here-preserved c =
     let s = c.self.inside in
     let node : ℕ → Node = node_at s.nodes.items in
-    let g : AreJoined s.inputs node = joined s.inputs node c.self.invariant.nodes in
+    let g : AreBranched s.inputs node = joined s.inputs node c.self.invariant.nodes in
     let l = c.loop-here in
     let live : IsLive (node c.args.one).content = subst (λ (u : TreeState). IsLive (node_at u.nodes c.args.one).content) (sym c.self.view_is) c.requires.one in
     let other_live : IsLive (node c.args.other).content = subst (λ (u : TreeState). IsLive (node_at u.nodes c.args.other).content) (sym c.self.view_is) c.requires.other in
