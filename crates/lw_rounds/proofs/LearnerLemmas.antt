@@ -30,7 +30,7 @@ use Rattle.lw_rounds.specs.Learner.{inputs_of, most_of, access_of, refinements_o
 use Rattle.lw_rounds.specs.declared.learner.Learner.{Learner}
 use Rattle.lw_rounds.specs.declared.learner.Learner.TheVariants.{Table, Tree}
 use Rattle.lw_rounds.specs.declared.learner.Kind.TheVariants as kind
-use Rattle.lw_rounds.specs.bodies.Rounds.{HasCrowd, IsNew, Grows, Settles, StopsGrowth, finals_of}
+use Rattle.lw_rounds.specs.bodies.Rounds.{HasCrowd, IsNew, Grows, SettlesBlock, StopsGrowth, finals_of}
 
 pub read_more : (before gained now : List KeptAnswer) (l : Learner) → now ≡ before ++ gained → IsRead (answers_of before) l → IsRead (answers_of now) l
 read_more before gained now (Table t) grown read = cells_more before gained now t grown read
@@ -134,9 +134,9 @@ as_many_finals t u is = let e : length (final_discriminators u.nodes) ≡ length
 -- a settling adds one
 one_more : (t u : TreeState) → IsReplaced t u → finals_of (Tree t) < finals_of (Tree u)
 one_more t u is =
-    let has = is.1 in
+    let has = is.3 in
     let were : length (final_discriminators t.nodes) ≡ length has.front + length has.back = ap length has.were ∙ length-append has.front has.back in
-    let are : length (final_discriminators u.nodes) ≡ length has.front + suc (length has.back) = ap length has.are ∙ length-append has.front (is.0 ∷ has.back) in
+    let are : length (final_discriminators u.nodes) ≡ length has.front + suc (length has.back) = ap length has.are ∙ length-append has.front (is.1 ∷ has.back) in
     omega (arith, were, are)
 
 pub settled_finals : (ks : List Answer) (t u : TreeState) (result : Result Settled GrowStop) → IfOk result (IsSettled t u) → OnErr result ((u ≡ t) ⊎ IsReplaced t u) → finals_of (Tree t) ≤ finals_of (Tree u)
@@ -145,16 +145,16 @@ settled_finals ks t u (Ok Replaced) settled left = let more = one_more t u settl
 settled_finals ks t u (Err stop) settled (inl same) = as_many_finals t u (ap (λ (s : TreeState). final_discriminators s.nodes) same)
 settled_finals ks t u (Err stop) settled (inr replaced) = let more = one_more t u replaced in omega (arith, more)
 
-pub tree_settles : (t u : TreeState) (result : Result Settled GrowStop) → IfOk result (IsSettled t u) → IfOk result (Settles (Tree t) (Tree u))
+pub tree_settles : (t u : TreeState) (result : Result Settled GrowStop) → IfOk result (IsSettled t u) → IfOk result (SettlesBlock (Tree t) (Tree u))
 tree_settles t u (Ok NoBlock) settled = (subst (λ (s : TreeState). temporaries s.nodes ≡ 0) (sym settled.1) settled.0, ap Tree settled.1)
 tree_settles t u (Ok Replaced) settled = one_more t u settled.1
 tree_settles t u (Err stop) settled = tt
 
 -- a split leaves them
-pub split_finals : (suffix : List ℕ) (t u : TreeState) (result : Result ⊤ GrowStop) → OnOk result (tree.IsSplit suffix t u) → OnErr result ((u ≡ t) ⊎ tree.IsSplit suffix t u) → finals_of (Tree t) ≤ finals_of (Tree u)
-split_finals suffix t u (Ok _) split left = as_many_finals t u split.finals
-split_finals suffix t u (Err stop) split (inl same) = as_many_finals t u (ap (λ (s : TreeState). final_discriminators s.nodes) same)
-split_finals suffix t u (Err stop) split (inr is) = as_many_finals t u is.finals
+pub split_finals : (word suffix : List ℕ) (t u : TreeState) (result : Result ⊤ GrowStop) → OnOk result (tree.IsSplit word suffix t u) → OnErr result ((u ≡ t) ⊎ tree.IsSplit word suffix t u) → finals_of (Tree t) ≤ finals_of (Tree u)
+split_finals word suffix t u (Ok _) split left = as_many_finals t u split.finals
+split_finals word suffix t u (Err stop) split (inl same) = as_many_finals t u (ap (λ (s : TreeState). final_discriminators s.nodes) same)
+split_finals word suffix t u (Err stop) split (inr is) = as_many_finals t u is.finals
 
 pub few_finals : (l : Learner) → IsLearner l → finals_of l < most_of l
 few_finals (Table t) is = is.most.0

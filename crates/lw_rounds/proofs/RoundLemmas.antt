@@ -11,7 +11,7 @@ use Rattle.lw_cache.specs.declared.stops.GrowStop.TheVariants as grow
 use Rattle.lw_cache.proofs.SettlingLemmas.{kept_are_answers}
 use Rattle.lw_separate.specs.Canonical.{IsCanonical}
 use Rattle.lw_rounds.specs.Learned.{IsCertified, IsLearned, StopsAs}
-use Rattle.lw_rounds.specs.Learner.{kind_of, inputs_of, outputs_of, most_of, access_of, refinements_of, IsFinal, IsLearner, IsMachineOf}
+use Rattle.lw_rounds.specs.Learner.{kind_of, inputs_of, outputs_of, most_of, access_of, refinements_of, HasNoTemporary, IsLearner, IsMachineOf}
 use Rattle.lw_rounds.specs.Stops.{of_growth}
 use Rattle.lw_rounds.specs.declared.learner.Kind.{Kind}
 use Rattle.lw_rounds.specs.declared.learner.Learner.{Learner}
@@ -57,7 +57,7 @@ growth_as a b k most ks (grow.Crowd words) is = is
 pub alike_then : (l m n : Learner) → IsAlike l m → IsAlike m n → IsAlike l n
 alike_then l m n first next = record { kind = next.kind ∙ first.kind; inputs = next.inputs ∙ first.inputs; outputs = next.outputs ∙ first.outputs; most = next.most ∙ first.most }
 
-module _ (o : OracleState) (l : Learner) (h model : MealyMachine) (k : ℕ) (ready : IsReady o l) (settled : IsFinal l) (of : IsMachineOf l h.rows) (machine : IsMachine h.inputs h.rows) (inputs : h.inputs ≡ inputs_of l) (outputs : h.outputs ≡ outputs_of l)
+module _ (o : OracleState) (l : Learner) (h model : MealyMachine) (k : ℕ) (ready : IsReady o l) (settled : HasNoTemporary l) (of : IsMachineOf l h.rows) (machine : IsMachine h.inputs h.rows) (inputs : h.inputs ≡ inputs_of l) (outputs : h.outputs ≡ outputs_of l)
     (sure : IsSureOf h k (answers_of o.kept) model) where
   certified : IsCertified (inputs_of l) (outputs_of l) k (answers_of o.kept) model
   certified = subst₂ (λ (a b : ℕ). IsCertified a b k (answers_of o.kept) model) inputs outputs sure.certified

@@ -48,9 +48,9 @@ IsClosed (Table t) = table.IsClosed t
 IsClosed (Tree t) = tree.IsClosed t
 
 -- a tree has no temporary node
-abbrev pub IsFinal : Learner → Type 0
-IsFinal (Table t) = Unit {0}
-IsFinal (Tree t) = tree.temporaries t.nodes ≡ 0
+abbrev pub HasNoTemporary : Learner → Type 0
+HasNoTemporary (Table t) = Unit {0}
+HasNoTemporary (Tree t) = tree.temporaries t.nodes ≡ 0
 
 abbrev pub IsMachineOf : Learner → Rows → Type 0
 IsMachineOf (Table t) m = table.IsMachineOf t m

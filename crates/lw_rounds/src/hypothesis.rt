@@ -12,7 +12,7 @@ ghost use Rattle.lw_suite.specs.Suite.{IsSuite};
 ghost use Rattle.lw_certify.specs.Verdict.{IsVerdict};
 ghost use Rattle.lw_certify.specs.declared.verdict.Verdict.{Verdict as Came};
 ghost use Rattle.lw_rounds.specs.Learned.{IsCertified};
-ghost use Rattle.lw_rounds.specs.Learner.{IsRead, IsFinal, IsMachineOf};
+ghost use Rattle.lw_rounds.specs.Learner.{IsRead, HasNoTemporary, IsMachineOf};
 ghost use Rattle.lw_rounds.specs.Stops.{learn_stop};
 ghost use Rattle.lw_rounds.specs.bodies.Rounds.{IsTested, StopsTest, of_fault};
 
@@ -118,7 +118,7 @@ pub fn test_by_suite<O: Oracle>(
     requires gives { Gives hypothesis.now.rows (answers_of (O.state oracle.old).kept) }
     requires machine { IsMachineOf learner.now hypothesis.now.rows }
     requires read { IsRead (answers_of (O.state oracle.old).kept) learner.now }
-    requires settled { IsFinal learner.now }
+    requires settled { HasNoTemporary learner.now }
     ensures tested { IfOk result (IsTested hypothesis.now extra
         (answers_of (O.state oracle.new).kept)) }
     ensures stops { IfErr result (StopsTest hypothesis.now.inputs hypothesis.now.outputs extra

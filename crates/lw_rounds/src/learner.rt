@@ -7,7 +7,7 @@ ghost use Rattle.lw_cache.specs.Cut.{IsCut};
 ghost use Rattle.lw_cache.specs.Settling.{Keeps, MayAsk, Leaves, grown_stop};
 ghost use Rattle.lw_settle.specs.declared.settling.Settled.TheVariants.{NoBlock};
 ghost use Rattle.lw_rounds.specs.Learner.{inputs_of, outputs_of, access_of, refinements_of, IsLearner, IsRead, IsClosed, IsMachineOf};
-ghost use Rattle.lw_rounds.specs.bodies.Rounds.{IsNew, Grows, Settles};
+ghost use Rattle.lw_rounds.specs.bodies.Rounds.{IsNew, Grows, SettlesBlock};
 
 use lw_cache::{Cut, GrowStop, Oracle};
 use lw_mealy::Mealy;
@@ -148,7 +148,7 @@ impl Learner {
         requires gives { (m : Rows) × IsMachineOf self.old m × Gives m
             (answers_of (O.state oracle.old).kept) }
         ensures grows { Grows (answers_of (O.state oracle.new).kept) self.old self.new result }
-        ensures settles { IfOk result (Settles self.old self.new) }
+        ensures settles { IfOk result (SettlesBlock self.old self.new) }
         ensures unasked { IfOk result (λ s. s ≡ NoBlock →
             O.state oracle.new ≡ O.state oracle.old) }
         ensures leaves { Leaves (O.state oracle.old) (O.state oracle.new) (grown_stop result) }

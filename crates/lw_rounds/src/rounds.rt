@@ -4,7 +4,7 @@ ghost use Rattle.lw_words.specs.Answer.{answers_of};
 ghost use Rattle.lw_mealy.specs.Gives.{Gives};
 ghost use Rattle.lw_cache.specs.Against.{Differs};
 ghost use Rattle.lw_cache.specs.Settling.{Leaves, grown_stop};
-ghost use Rattle.lw_rounds.specs.Learner.{inputs_of, outputs_of, most_of, IsFinal, IsMachineOf};
+ghost use Rattle.lw_rounds.specs.Learner.{inputs_of, outputs_of, most_of, HasNoTemporary, IsMachineOf};
 ghost use Rattle.lw_rounds.specs.Stops.{learn_stop};
 ghost use Rattle.lw_rounds.specs.bodies.Rounds.{IsReady, IsAlike, GoesOn, IsLearnedFrom, StopsFrom, StopsGrowth};
 
@@ -57,7 +57,7 @@ fn round_by_suite<O: Oracle>(
     requires inputs { hypothesis.now.inputs ≡ inputs_of learner.old }
     requires outputs { hypothesis.now.outputs ≡ outputs_of learner.old }
     requires gives { Gives hypothesis.now.rows (answers_of (O.state oracle.old).kept) }
-    requires settled { IsFinal learner.old }
+    requires settled { HasNoTemporary learner.old }
     ensures ready { OnOk result (IsReady (O.state oracle.new) learner.new) }
     ensures alike { IsAlike learner.old learner.new }
     ensures goes { IfOk result (λ found. MatchOption found (GoesOn learner.old learner.new)

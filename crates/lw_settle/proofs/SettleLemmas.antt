@@ -50,20 +50,20 @@ pub untouched : (ks : List Answer) (t now : TreeState) (stop : GrowStop) (result
 untouched ks t now stop result same g read crowd is = subst (λ (u : TreeState). HasSettled ks t u result) (sym same) (not_settled ks t t stop result (not_grown ks t g read) refl (inl refl) crowd is)
 
 -- a replaced node stays while the tree is closed
-final_then : (word : List ℕ) (t middle now : TreeState) → HasFinal word t middle → KeepsDiscriminators middle now → IsReplaced t now
-final_then word t middle now final keeps = (word, record { front = final.front; back = final.back; were = final.were; are = keeps.finals ∙ final.are })
+final_then : (word : List ℕ) (r : ℕ) (t middle now : TreeState) → IsBlock t r → HasFinal word t middle → KeepsDiscriminators middle now → IsReplaced t now
+final_then word r t middle now block final keeps = (r, word, block, record { front = final.front; back = final.back; were = final.were; are = keeps.finals ∙ final.are })
 
 -- where the closing was refused
-pub not_closed_then : (first ks : List Answer) (word : List ℕ) (t middle now : TreeState) (stop : GrowStop) (result : Result Settled GrowStop) → HasGrown first t middle → HasFinal word t middle → middle.refinements ≡ t.refinements → HasClosed ks middle now (Err stop) → IsErrAnd result (λ e. e ≡ stop) → HasSettled ks t now result
-not_closed_then first ks word t middle now stop result one final same done is =
-    not_settled ks t now stop result (grown_then first ks t middle now one done.grown) (done.keeps.refinements ∙ same) (inr (final_then word t middle now final done.keeps)) done.crowd is
+pub not_closed_then : (first ks : List Answer) (word : List ℕ) (r : ℕ) (t middle now : TreeState) (stop : GrowStop) (result : Result Settled GrowStop) → IsBlock t r → HasGrown first t middle → HasFinal word t middle → middle.refinements ≡ t.refinements → HasClosed ks middle now (Err stop) → IsErrAnd result (λ e. e ≡ stop) → HasSettled ks t now result
+not_closed_then first ks word r t middle now stop result block one final same done is =
+    not_settled ks t now stop result (grown_then first ks t middle now one done.grown) (done.keeps.refinements ∙ same) (inr (final_then word r t middle now block final done.keeps)) done.crowd is
 
 pub all_settled : (first ks : List Answer) (word : List ℕ) (r : ℕ) (t middle now : TreeState) → IsBlock t r → HasGrown first t middle → HasFinal word t middle → middle.refinements ≡ t.refinements → HasClosed ks middle now (Ok tt) → HasSettled ks t now (Ok Replaced)
 all_settled first ks word r t middle now block one final same done =
     record {
       grown = grown_then first ks t middle now one done.grown;
       closed = done.closed;
-      settled = (temporary_counts t.nodes r block.temporary, final_then word t middle now final done.keeps);
+      settled = (temporary_counts t.nodes r block.temporary, final_then word r t middle now block final done.keeps);
       left = tt;
       refinements = done.keeps.refinements ∙ same;
       crowd = λ words told. cc;

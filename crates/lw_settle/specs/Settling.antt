@@ -25,16 +25,17 @@ pub record IsParted (t : TreeState) (m : Rows) (r letter : ℕ) : Type 0 where
 abbrev pub SomeBlockIsParted : Type 0
 SomeBlockIsParted = (ks : List Answer) (t : TreeState) (m : Rows) → IsTree t → BranchesAreRead ks t → IsClosed t → IsMachineOf t m → Gives m ks → 0 < temporaries t.nodes → (r letter : ℕ) × IsParted t m r letter
 
--- a final node more, of some word; and those that there were
+-- the root of a block gave way to a final node, of some word; the final nodes that there were stay
 abbrev pub IsReplaced : TreeState → TreeState → Type 0
-IsReplaced before now = (word : List ℕ) × HasFinal word before now
+IsReplaced before now = (r : ℕ) × (word : List ℕ) × IsBlock before r × HasFinal word before now
 
 -- what is answered: no node was temporary, and nothing was done; or one was replaced
 abbrev pub IsSettled : TreeState → TreeState → Settled → Type 0
 IsSettled before now NoBlock = (temporaries before.nodes ≡ 0) × (now ≡ before)
 IsSettled before now Replaced = (0 < temporaries before.nodes) × IsReplaced before now
 
--- a tree once a block was to be settled; where that was refused, it is as before, or a node was replaced and the tree not closed
+-- a tree once a block was to be settled; where that was refused, it is as before, or a node was replaced and the
+-- tree maybe not closed
 pub record HasSettled (ks : List Answer) (before now : TreeState) (result : Result Settled GrowStop) : Type 0 where
   pub grown : HasGrown ks before now
   pub closed : OnOk result (IsClosed now)

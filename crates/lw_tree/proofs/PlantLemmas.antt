@@ -41,8 +41,8 @@ same_edge_places a spanning own_spanning leaves own_leaves places own_places now
     subst (λ (l : List Place). AreEdgePlaces a own_spanning own_leaves (length own_leaves) l now) three
     (subst (λ (l : List ℕ). AreEdgePlaces a own_spanning l (length l) places now) two (subst (λ (l : List Edge). AreEdgePlaces a l leaves (length leaves) places now) one e))
 
-pub replaced_ok : {E : Type 0} (ks : List Answer) (word : List ℕ) (before now : TreeState) → HasGrown ks before now → HasFinal word before now → now.access ≡ before.access → now.refinements ≡ before.refinements → HasReplaced {E = E} ks word before now (Ok tt)
-replaced_ok ks word before now grown replaced access refinements = record { grown = grown; replaced = replaced; access = access; refinements = refinements; left = tt }
+pub replaced_ok : {E : Type 0} (ks : List Answer) (r : ℕ) (word : List ℕ) (before now : TreeState) → HasGrown ks before now → HasFinal word before now → (node_at now.nodes r).content ≡ Discriminator word false → now.access ≡ before.access → now.refinements ≡ before.refinements → HasReplaced {E = E} ks r word before now (Ok tt)
+replaced_ok ks r word before now grown replaced root access refinements = record { grown = grown; replaced = replaced; root = root; access = access; refinements = refinements; left = tt }
 
 module _ (ks : List Answer) (t : TreeState) (r : ℕ) (word : List ℕ) (marks : List Bool) (base more : List Node) (stand : List ℕ) (placed : List Place) (g : IsTree t) (read : BranchesAreRead ks t) (may : MayReplace ks t r word) (are : AreMarks (node_at t.nodes) r marks) (each : length marks ≡ length t.nodes)
     (clear : IsCleared (node_at t.nodes) (node_at base) r word marks) (long : length base ≡ length t.nodes) (few : length t.nodes + length more < 2 ^ 32) (s : IsSprout ks t.inputs t.access (length t.nodes) (base ++ more) stand (length t.nodes + length more))

@@ -1,10 +1,10 @@
 -- What the calls of a replacement give, taken together.
 use Rattle.std.proofs.Common.{◌≡◌, ℕ, ◌+◌, ◌^◌, ◌<◌, Bool, Ok, List, ◌++◌, length, map, refl, ap, ap₂, sym, ◌∙◌, subst, arith}
-use Rattle.std.proofs.lemmas.List.{length-map}
+use Rattle.std.proofs.lemmas.List.{length-map, get_or_append_left}
 use Rattle.lw_words.specs.Answer.{Answer}
 use Rattle.lw_words.specs.declared.memory.NoMemory.{NoMemory}
 use Rattle.lw_tree.specs.Blocks.{MayReplace, HasReplaced}
-use Rattle.lw_tree.specs.Tree.{TreeState, node_at, IsTree, BranchesAreRead}
+use Rattle.lw_tree.specs.Tree.{TreeState, node_at, no_node, IsTree, BranchesAreRead}
 use Rattle.lw_tree.specs.bodies.Nodes.{AreLower}
 use Rattle.lw_tree.specs.bodies.Sprouts.{AreMarks, lifted_place, IsSproutOf, IsCleared, replaced_root, edge_number, AreEdgePlaces}
 use Rattle.lw_tree.specs.declared.nodes.Node.{Node}
@@ -109,8 +109,9 @@ module _ {ks : List Answer} {t : TreeState} {r : ℕ} {word : List ℕ} {marks :
           subst (λ (l : List Node). IsTree (planted t l stand placed)) (sym nodes_are)
           (planted_tree ks t r word marks base more stand placed p.tree p.read p.may p.are p.each p.clear p.long p.few p.sprout edges)
 
-      pub replaced_has : HasReplaced {E = NoMemory} ks word t (planted t nodes stand placed) (Ok tt)
+      pub replaced_has : HasReplaced {E = NoMemory} ks r word t (planted t nodes stand placed) (Ok tt)
       replaced_has =
-          subst (λ (l : List Node). HasReplaced {E = NoMemory} ks word t (planted t l stand placed) (Ok tt)) (sym nodes_are)
-          (replaced_ok ks word t (planted t (base ++ more) stand placed) (planted_grown ks t r word marks base more stand placed p.tree p.read p.may p.are p.each p.clear p.long p.few p.sprout edges)
-          (planted_final ks t r word marks base more stand (length t.nodes + length more) p.tree p.may p.are p.clear p.long p.inside p.sprout placed) refl refl)
+          subst (λ (l : List Node). HasReplaced {E = NoMemory} ks r word t (planted t l stand placed) (Ok tt)) (sym nodes_are)
+          (replaced_ok ks r word t (planted t (base ++ more) stand placed) (planted_grown ks t r word marks base more stand placed p.tree p.read p.may p.are p.each p.clear p.long p.few p.sprout edges)
+          (planted_final ks t r word marks base more stand (length t.nodes + length more) p.tree p.may p.are p.clear p.long p.inside p.sprout placed)
+          (ap (λ (n : Node). n.content) (get_or_append_left base more no_node r (subst (λ (n : ℕ). r < n) (sym p.long) p.inside)) ∙ p.clear.root) refl refl)

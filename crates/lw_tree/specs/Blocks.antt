@@ -1,5 +1,5 @@
 -- The classes of a tree's states, and how the root of a block is replaced. Source: Isberner, Howar and Steffen (2014).
-use Rattle.std.specs.Prelude.{◌≡◌, ℕ, ◌<◌, true, List, ◌∷◌, ◌++◌, length, Result, OnOk, OnErr, ⊤}
+use Rattle.std.specs.Prelude.{◌≡◌, ℕ, ◌<◌, true, false, List, ◌∷◌, ◌++◌, length, Result, OnOk, OnErr, ⊤}
 use Rattle.lw_words.specs.Answer.{Answer}
 use Rattle.lw_words.specs.Word.{IsWord}
 use Rattle.lw_cache.specs.Crowd.{Separates}
@@ -8,6 +8,7 @@ use Rattle.lw_cache.specs.Known.{IsKnown}
 use Rattle.lw_tree.specs.Grown.{HasGrown}
 use Rattle.lw_tree.specs.Tree.{TreeState, node_at, leaf_at, final_discriminators, is_temporary, IsLive, IsFinal, HasTail, IsAbove}
 use Rattle.lw_tree.specs.declared.nodes.Node.{Node}
+use Rattle.lw_tree.specs.declared.nodes.Content.TheVariants.{Discriminator}
 
 -- the root of the class of a node: of the nodes that aren't final, the highest one above it
 pub record IsClassRoot (node : ℕ → Node) (r n : ℕ) : Type 0 where
@@ -59,10 +60,11 @@ pub record HasFinal (word : List ℕ) (before now : TreeState) : Type 0 where
   pub were : final_discriminators before.nodes ≡ front ++ back
   pub are : final_discriminators now.nodes ≡ front ++ word ∷ back
 
--- a tree once the root of a block was to be replaced
-pub record HasReplaced {E : Type 0} (ks : List Answer) (word : List ℕ) (before now : TreeState) (result : Result ⊤ E) : Type 0 where
+-- a tree once the root r of a block was to be replaced: it is final now
+pub record HasReplaced {E : Type 0} (ks : List Answer) (r : ℕ) (word : List ℕ) (before now : TreeState) (result : Result ⊤ E) : Type 0 where
   pub grown : OnOk result (HasGrown ks before now)
   pub replaced : OnOk result (HasFinal word before now)
+  pub root : OnOk result ((node_at now.nodes r).content ≡ Discriminator word false)
   pub access : OnOk result (now.access ≡ before.access)
   pub refinements : OnOk result (now.refinements ≡ before.refinements)
   pub left : OnErr result (now ≡ before)

@@ -69,7 +69,7 @@ impl DiscriminationTree {
         requires answers { AreAnswers self.old.inputs (answers_of cache.now.kept) }
         requires read { BranchesAreRead (answers_of cache.now.kept) self.old }
         requires may { MayReplace (answers_of cache.now.kept) self.old root word }
-        ensures { HasReplaced (answers_of cache.now.kept) word self.old self.new result }
+        ensures { HasReplaced (answers_of cache.now.kept) root word self.old self.new result }
     {
         let below = self.below(root)?;
         let sprout = self.sprout(cache, root, &word, &below)?;

@@ -15,7 +15,7 @@ use Rattle.lw_suite.specs.declared.suite.SuiteFault.TheVariants as fault
 use Rattle.lw_settle.specs.declared.settling.Settled.{Settled}
 use Rattle.lw_settle.specs.declared.settling.Settled.TheVariants.{NoBlock, Replaced}
 use Rattle.lw_tree.specs.Tree.{final_discriminators}
-use Rattle.lw_rounds.specs.Learner.{kind_of, inputs_of, outputs_of, most_of, access_of, IsLearner, IsRead, IsClosed, IsFinal}
+use Rattle.lw_rounds.specs.Learner.{kind_of, inputs_of, outputs_of, most_of, access_of, IsLearner, IsRead, IsClosed, HasNoTemporary}
 use Rattle.lw_rounds.specs.declared.learner.Kind.{Kind}
 use Rattle.lw_rounds.specs.declared.learner.Learner.{Learner}
 use Rattle.lw_rounds.specs.declared.learner.Learner.TheVariants.{Table, Tree}
@@ -95,9 +95,9 @@ pub record Grows {X : Type 0} (ks : List Answer) (before now : Learner) (result 
   pub stops : IfErr result (StopsGrowth (most_of before) ks)
 
 -- what a settling did: nothing, where no node is temporary; else one is final that was temporary
-abbrev pub Settles : Learner → Learner → Settled → Type 0
-Settles before now NoBlock = IsFinal now × (now ≡ before)
-Settles before now Replaced = finals_of before < finals_of now
+abbrev pub SettlesBlock : Learner → Learner → Settled → Type 0
+SettlesBlock before now NoBlock = HasNoTemporary now × (now ≡ before)
+SettlesBlock before now Replaced = finals_of before < finals_of now
 
 -- an oracle that may be asked, and a closed learner over what it knows
 pub record IsReady (o : OracleState) (l : Learner) : Type 0 where

@@ -101,9 +101,11 @@ pub returns-in_err-close-clause-settles : goal.returns-in_err-close-clause-settl
 returns-in_err-close-clause-settles g c =
     let t : TreeState = c.args.tree.now in
     let p = g.O.Oracle.state c.close.new.oracle in
+    let r : Replacement = c.in-Some.replacement in
+    let is : IsReplacement t r = subst (λ (found : Option Replacement). MatchOption found (NothingIsParted t) (IsReplacement t)) c.in-Some.is c.in_ok-replacement.ensures in
     let first = answers_of c.cache-2.result.now.kept in
     let one = c.in_ok-replace.ensures in
-    not_closed_then first (answers_of p.kept) c.in-Some.replacement.word t c.replace.new.self c.close.new.self c.in_err-close.field-0.0 c.from_residual-in_err-close.result one.grown one.replaced one.refinements c.in_err-close.ensures.closes (search rules)
+    not_closed_then first (answers_of p.kept) r.word r.root t c.replace.new.self c.close.new.self c.in_err-close.field-0.0 c.from_residual-in_err-close.result is.block one.grown one.replaced one.refinements c.in_err-close.ensures.closes (search rules)
 
 pub returns-in_err-close-clause-leaves : goal.returns-in_err-close-clause-leaves
 returns-in_err-close-clause-leaves g c =

@@ -2,7 +2,7 @@ use Rattle.std.proofs.Common.{sym, subst}
 use Rattle.lw_words.specs.Answer.{answers_of}
 use Rattle.lw_rounds.specs.declared.learner.Learner.{Learner}
 use Rattle.lw_rounds.specs.declared.learner.Learner.TheVariants.{Tree}
-use Rattle.lw_rounds.specs.bodies.Rounds.{Grows, Settles}
+use Rattle.lw_rounds.specs.bodies.Rounds.{Grows, SettlesBlock}
 use Rattle.lw_rounds.proofs.LearnerLemmas.{table_stays, tree_grows, settled_finals, tree_settles}
 use Rattle.std.proofs.Common.{Ok, IfOk}
 use Rattle.lw_rounds.specs.Learner.{IsLearner, IsRead, IsClosed}
@@ -30,5 +30,5 @@ returns-in-Tree-clause-grows g c =
 
 pub returns-in-Tree-clause-settles : goal.returns-in-Tree-clause-settles
 returns-in-Tree-clause-settles g c =
-    subst (λ (l : Learner). IfOk c.settle_block.result (Settles l (Tree c.settle_block.new.tree))) (sym c.in-Tree.is)
+    subst (λ (l : Learner). IfOk c.settle_block.result (SettlesBlock l (Tree c.settle_block.new.tree))) (sym c.in-Tree.is)
     (tree_settles c.in-Tree.tree c.settle_block.new.tree c.settle_block.result c.settle_block.ensures.settles.settled)

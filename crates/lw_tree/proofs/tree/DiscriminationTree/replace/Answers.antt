@@ -43,5 +43,5 @@ returns c =
     let p = planting c.self.view_is c.self.invariant c.requires.read c.requires.may c.in_ok-below.ensures.marks c.in_ok-below.ensures.size c.deref.ensures.value c.in_ok-sprout.ensures.few c.in_ok-sprout.ensures.grown in
     let h = at_hand c.args.root c.self.view_is c.deref-2.ensures.value c.deref-3.ensures.value c.in_ok-places.ensures c.deref-4.ensures.value c.deref-5.ensures.value in
     let nodes = c.replace.ensures ∙ replaced_nodes p c.self.view_is c.in_ok-reserve.ensures.items c.deref-6.ensures.value in
-    subst (λ (v : TreeState). HasReplaced {E = NoMemory} (answers_of c.args.cache.now.kept) c.args.word c.args.self.now (planted v c.replace.new.self.items c.in_ok-sprout.sprout.leaves.items c.place_edges.new.places.items) (Ok tt)) (sym c.self.view_is)
+    subst (λ (v : TreeState). HasReplaced {E = NoMemory} (answers_of c.args.cache.now.kept) c.args.root c.args.word c.args.self.now (planted v c.replace.new.self.items c.in_ok-sprout.sprout.leaves.items c.place_edges.new.places.items) (Ok tt)) (sym c.self.view_is)
     (replaced_has p h c.place_edges.ensures nodes)
