@@ -1,5 +1,5 @@
 -- What the calls give by which two states that part are picked, taken together.
-use Rattle.std.proofs.Common.{◌≡◌, ℕ, ◌<◌, List, length, get_or, sym, subst}
+use Rattle.std.proofs.Common.{◌≡◌, ℕ, ◌<◌, List, get_or, sym, subst}
 use Rattle.lw_tree.specs.Blocks.{IsBlock}
 use Rattle.lw_tree.specs.Tree.{TreeState, IsTree, IsClosed}
 use Rattle.lw_settle.specs.bodies.Parting.{number_at, AreRoots, AreMembers, IsParting, IsPartingOf}

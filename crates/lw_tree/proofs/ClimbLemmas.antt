@@ -1,6 +1,6 @@
 -- The way up from a state's leaf to the root of its class.
 use Rattle.std.proofs.Common.{◌≡◌, ℕ, ◌<◌, Bool, true, false, length, ap, sym, ◌∙◌, subst}
-use Rattle.lw_tree.specs.Blocks.{IsClassRoot, IsMember}
+use Rattle.lw_tree.specs.Blocks.{IsMember}
 use Rattle.lw_tree.specs.Tree.{TreeState, node_at, leaf_at, is_temporary, IsLive, IsTree}
 use Rattle.lw_tree.specs.bodies.Sprouts.{AreBranched}
 use Rattle.lw_tree.specs.declared.nodes.Node.{Node}

@@ -1,29 +1,15 @@
-use Rattle.std.proofs.Common.{List, ℕ, sym, ◌∙◌, subst}
-use Rattle.std.specs.List.{All}
-use Rattle.lw_words.specs.Answer.{AreAnswers, answers_of}
-use Rattle.lw_words.specs.Word.{IsWord}
-use Rattle.lw_words.specs.declared.kept.KeptAnswer.{KeptAnswer}
-use Rattle.lw_cache.specs.Cut.{StepsAreRead}
-use Rattle.lw_cache.proofs.SettlingLemmas.{kept_are_answers}
+use Rattle.std.proofs.Common.{◌∙◌}
 use Rattle.lw_tree.proofs.BranchLemmas.{branches_more}
+use Rattle.lw_tree.proofs.TrialLemmas.{kept_words, steps_kept}
 use Rattle.lw_tree.proofs.tests.trial.split_by_known.Goals as goal
 
 pub against-requires : goal.against-requires
-against-requires g c =
-    let o = g.O.Oracle.state c.args.oracle.now in
-    let a : ℕ = c.in_ok-model.model.inputs in
-    let are : AreAnswers a (answers_of o.kept) = kept_are_answers o a (c.in_ok-model.ensures.inputs ∙ c.requires.ready.inputs) c.cache.ensures.keeps in
-    subst (λ (k : List KeptAnswer). All (λ w. IsWord a w.word) (answers_of k)) (sym c.cache.ensures.kept) (λ k d lt. (are k d lt).0)
+against-requires g c = kept_words (g.O.Oracle.state c.args.oracle.now) c.in_ok-model.model.inputs (c.in_ok-model.ensures.inputs ∙ c.requires.ready.inputs) c.cache.ensures.keeps c.cache.ensures.kept
 
 pub split-found-requires-clause-steps : goal.split-found-requires-clause-steps
 split-found-requires-clause-steps g c =
-    let o = g.O.Oracle.state c.args.oracle.now in
-    let t = c.args.tree.now in
     let h = c.in_ok-model.model in
-    let ready = c.requires.ready in
-    subst (λ (access : List (List ℕ)). StepsAreRead (answers_of o.kept) h.inputs h.rows access) (sym c.access.ensures.value)
-    (subst (λ (a : ℕ). StepsAreRead (answers_of o.kept) a h.rows t.access) (sym c.in_ok-model.ensures.inputs)
-    (c.machine_gives_steps.ensures (answers_of o.kept) t h.rows c.access.ensures.tree (kept_are_answers o t.inputs ready.inputs c.cache.ensures.keeps) ready.read c.in_ok-model.ensures.value))
+    steps_kept (g.O.Oracle.state c.args.oracle.now) c.args.tree.now h.inputs h.rows c.machine_gives_steps.ensures c.access.ensures.tree c.requires.ready c.cache.ensures.keeps c.in_ok-model.ensures.inputs c.in_ok-model.ensures.value c.access.ensures.value
 
 pub split-requires-clause-read : goal.split-requires-clause-read
 split-requires-clause-read g c =
