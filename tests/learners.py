@@ -38,6 +38,10 @@ class System:
         self.asked += asked
         return asked
 
+    def settle_suite(self, chunk):
+        """Asks what isn't known of a chunk of the suite."""
+        self.asked_by_suite += self.settle(chunk)
+
     def outputs(self, before, word):
         """The last outputs of the answer to a word after another."""
         return outputs_of(self.rows, state_after(self.rows, before), word)
@@ -267,7 +271,7 @@ def chunks(words):
 def differing_in_suite(system, rows, letters, extra):
     """The first word of the suite on which a machine differs from the system, cut to where it does."""
     for chunk in chunks(suite(canonical(rows), letters, extra)):
-        system.asked_by_suite += system.settle(chunk)
+        system.settle_suite(chunk)
         for word in chunk:
             own, other = outputs_of(system.rows, 0, word), outputs_of(rows, 0, word)
             if own != other:
