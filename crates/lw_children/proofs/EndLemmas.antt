@@ -26,6 +26,7 @@ use Rattle.lw_rounds.specs.Laws.{ModelIsLeast, TooManyIsNone, TooLargeForAll}
 use Rattle.lw_rounds.specs.Learned.{IsLearned, StopsAs}
 use Rattle.lw_rounds.specs.Stops.{learn_stop, IsOwnStop}
 use Rattle.lw_rounds.specs.declared.learned.Learned.{Learned}
+use Rattle.lw_rounds.specs.declared.learner.Kind.{Kind}
 use Rattle.lw_rounds.specs.declared.stops.LearnStop.{LearnStop}
 use Rattle.lw_rounds.specs.declared.stops.LearnStop.TheVariants as learn
 use Rattle.lw_workers.specs.Leaving.{HasLearned}
@@ -179,7 +180,7 @@ prior_words : (naming : Naming) (inputs count : ℕ) (prior : List KeptAnswer) �
 prior_words naming inputs count prior may = All-map (IsAnswer inputs) answer_of prior may.answers
 
 -- a learning that never began
-module _ (words letters : List (List ℕ)) (outputs : Option (List (List ℕ))) (workers k most : ℕ) (prior : List KeptAnswer) (before now : SpawnerSeen) (naming : Naming) (may : MayBegin naming (length letters) (count_of outputs) prior) (links : List Retired) (spawner : StartsAndRetires words before now links) (few : length links ≤ workers) (ends : AreChildEnds letters outputs naming.names [] before.started links) where
+module _ (kind : Kind) (words letters : List (List ℕ)) (outputs : Option (List (List ℕ))) (workers k most : ℕ) (prior : List KeptAnswer) (before now : SpawnerSeen) (naming : Naming) (may : MayBegin naming (length letters) (count_of outputs) prior) (links : List Retired) (spawner : StartsAndRetires words before now links) (few : length links ≤ workers) (ends : AreChildEnds letters outputs naming.names [] before.started links) where
   -- nothing was kept but the prior answers
   kept_prior : KeepsChildren letters outputs naming.names prior prior links
   kept_prior =
@@ -189,11 +190,11 @@ module _ (words letters : List (List ℕ)) (outputs : Option (List (List ℕ))) 
       may.named
       (λ i d le lt. absurd (omega (arith, le, lt)))
 
-  pub out_of_memory : (learned : Result Learned LearnStop) (kept : List KeptAnswer) (names : List (List ℕ)) → learned ≡ Err (learn.Ask ask.NoMemory) → kept ≡ prior → names ≡ naming.names → IsOfChildren words letters outputs workers k most prior before now learned kept names
+  pub out_of_memory : (learned : Result Learned LearnStop) (kept : List KeptAnswer) (names : List (List ℕ)) → learned ≡ Err (learn.Ask ask.NoMemory) → kept ≡ prior → names ≡ naming.names → IsOfChildren kind words letters outputs workers k most prior before now learned kept names
   out_of_memory learned kept names is kept_is names_are =
-      subst (λ (r : Result Learned LearnStop). IsOfChildren words letters outputs workers k most prior before now r kept names) (sym is)
-      (subst (λ (l : List KeptAnswer). IsOfChildren words letters outputs workers k most prior before now (Err (learn.Ask ask.NoMemory)) l names) (sym kept_is)
-      (subst (λ (l : List (List ℕ)). IsOfChildren words letters outputs workers k most prior before now (Err (learn.Ask ask.NoMemory)) prior l) (sym names_are) (record {
+      subst (λ (r : Result Learned LearnStop). IsOfChildren kind words letters outputs workers k most prior before now r kept names) (sym is)
+      (subst (λ (l : List KeptAnswer). IsOfChildren kind words letters outputs workers k most prior before now (Err (learn.Ask ask.NoMemory)) l names) (sym kept_is)
+      (subst (λ (l : List (List ℕ)). IsOfChildren kind words letters outputs workers k most prior before now (Err (learn.Ask ask.NoMemory)) prior l) (sym names_are) (record {
         links = links;
         spawner = spawner;
         few = few;
@@ -207,11 +208,11 @@ module _ (words letters : List (List ℕ)) (outputs : Option (List (List ℕ))) 
         reached = λ m within gives quiet sound. refl;
       })))
 
-  pub not_started : (n : ℕ) (learned : Result Learned LearnStop) (kept : List KeptAnswer) (names : List (List ℕ)) → learned ≡ Err (learn.Ask (ask.Sul n sul.Failed)) → kept ≡ prior → names ≡ naming.names → n < workers → length links ≡ n → CountedFault before.faults now.faults → IsOfChildren words letters outputs workers k most prior before now learned kept names
+  pub not_started : (n : ℕ) (learned : Result Learned LearnStop) (kept : List KeptAnswer) (names : List (List ℕ)) → learned ≡ Err (learn.Ask (ask.Sul n sul.Failed)) → kept ≡ prior → names ≡ naming.names → n < workers → length links ≡ n → CountedFault before.faults now.faults → IsOfChildren kind words letters outputs workers k most prior before now learned kept names
   not_started n learned kept names is kept_is names_are lt count failed =
-      subst (λ (r : Result Learned LearnStop). IsOfChildren words letters outputs workers k most prior before now r kept names) (sym is)
-      (subst (λ (l : List KeptAnswer). IsOfChildren words letters outputs workers k most prior before now (Err (learn.Ask (ask.Sul n sul.Failed))) l names) (sym kept_is)
-      (subst (λ (l : List (List ℕ)). IsOfChildren words letters outputs workers k most prior before now (Err (learn.Ask (ask.Sul n sul.Failed))) prior l) (sym names_are) (record {
+      subst (λ (r : Result Learned LearnStop). IsOfChildren kind words letters outputs workers k most prior before now r kept names) (sym is)
+      (subst (λ (l : List KeptAnswer). IsOfChildren kind words letters outputs workers k most prior before now (Err (learn.Ask (ask.Sul n sul.Failed))) l names) (sym kept_is)
+      (subst (λ (l : List (List ℕ)). IsOfChildren kind words letters outputs workers k most prior before now (Err (learn.Ask (ask.Sul n sul.Failed))) prior l) (sym names_are) (record {
         links = links;
         spawner = spawner;
         few = few;
@@ -240,11 +241,11 @@ begun_linked number faults ends transcript letters outputs words before mid sess
     last (Some l) is = is.0
 
 -- a learning that was given up before it began
-pub given_up : {L : Type 0} (number faults ends : L → ℕ) (transcript : L → Option Transcript) (words letters : List (List ℕ)) (outputs : Option (List (List ℕ))) (workers k most : ℕ) (prior : List KeptAnswer) (before mid now : SpawnerSeen) (naming : Naming) (sessions : List (SessionState (LineState L))) (loose : Option L) (refusal : Refusal)
+pub given_up : {L : Type 0} (kind : Kind) (number faults ends : L → ℕ) (transcript : L → Option Transcript) (words letters : List (List ℕ)) (outputs : Option (List (List ℕ))) (workers k most : ℕ) (prior : List KeptAnswer) (before mid now : SpawnerSeen) (naming : Naming) (sessions : List (SessionState (LineState L))) (loose : Option L) (refusal : Refusal)
     → MayBegin naming (length letters) (count_of outputs) prior → HasBegun number faults ends transcript letters outputs before sessions loose → StartsSome words before mid (length sessions + count_link loose)
     → RetiresWith number faults ends transcript sessions loose mid now → length sessions + count_link loose ≤ workers → length sessions < workers → (refusal ≡ Failed → (loose ≡ None) × CountedFault before.faults mid.faults)
-    → (learned : Result Learned LearnStop) (kept : List KeptAnswer) (names : List (List ℕ)) → learned ≡ Err (broken_stop refusal (length sessions)) → kept ≡ prior → names ≡ naming.names → IsOfChildren words letters outputs workers k most prior before now learned kept names
-given_up number faults ends transcript words letters outputs workers k most prior before mid now naming sessions loose refusal may begun some retires few less failed learned kept names is kept_is names_are =
+    → (learned : Result Learned LearnStop) (kept : List KeptAnswer) (names : List (List ℕ)) → learned ≡ Err (broken_stop refusal (length sessions)) → kept ≡ prior → names ≡ naming.names → IsOfChildren kind words letters outputs workers k most prior before now learned kept names
+given_up kind number faults ends transcript words letters outputs workers k most prior before mid now naming sessions loose refusal may begun some retires few less failed learned kept names is kept_is names_are =
     by refusal failed is
   where
     links : List Retired
@@ -265,12 +266,12 @@ given_up number faults ends transcript words letters outputs workers k most prio
         (retires.retired ∙ (ap (λ (l : List Retired). l ++ loose_records number faults ends transcript loose) retires.first.retired ∙ append_assoc mid.retired retires.first.records (loose_records number faults ends transcript loose)))
         (retires.faults_same ∙ retires.first.faults) (retires.commands ∙ retires.first.commands) count (numbers_rise letters outputs naming.names [] before.started links ended)
 
-    by : (refusal : Refusal) → (refusal ≡ Failed → (loose ≡ None) × CountedFault before.faults mid.faults) → learned ≡ Err (broken_stop refusal (length sessions)) → IsOfChildren words letters outputs workers k most prior before now learned kept names
+    by : (refusal : Refusal) → (refusal ≡ Failed → (loose ≡ None) × CountedFault before.faults mid.faults) → learned ≡ Err (broken_stop refusal (length sessions)) → IsOfChildren kind words letters outputs workers k most prior before now learned kept names
     by Failed failed is =
         let f = failed refl in
-        not_started words letters outputs workers k most prior before now naming may links spawner (omega (arith, count, few)) ended (length sessions) learned kept names is kept_is names_are less
+        not_started kind words letters outputs workers k most prior before now naming may links spawner (omega (arith, count, few)) ended (length sessions) learned kept names is kept_is names_are less
         (omega (arith, count, ap (λ (o : Option _). count_link o) f.0)) (subst (λ (n : ℕ). CountedFault before.faults n) (sym (retires.faults_same ∙ retires.first.faults)) f.1)
-    by NoMemory failed is = out_of_memory words letters outputs workers k most prior before now naming may links spawner (omega (arith, count, few)) ended learned kept names is kept_is names_are
+    by NoMemory failed is = out_of_memory kind words letters outputs workers k most prior before now naming may links spawner (omega (arith, count, few)) ended learned kept names is kept_is names_are
 
 module _ {L : Type 0} (number faults ends : L → ℕ) (transcript : L → Option Transcript) (words letters : List (List ℕ)) (outputs : Option (List (List ℕ))) (workers : ℕ) (before mid : SpawnerSeen) (sessions : List (SessionState (LineState L))) (begun : HasBegun number faults ends transcript letters outputs before sessions None) (starts : Starts words before mid workers) (count : length sessions ≡ workers) where
   earlier_all : 0 < length sessions → All (λ r. r.number < before.started) mid.retired
@@ -300,10 +301,10 @@ module _ {L : Type 0} (number faults ends : L → ℕ) (transcript : L → Optio
   }
 
   -- a learning for which there was no memory once all were made
-  pub refused_pool : (k most : ℕ) (prior : List KeptAnswer) (now : SpawnerSeen) (naming : Naming) (left : List (SessionState (LineState L))) → MayBegin naming (length letters) (count_of outputs) prior → left ≡ sessions → RetiresAll number left mid now
-      → (learned : Result Learned LearnStop) (kept : List KeptAnswer) (names : List (List ℕ)) → learned ≡ Err (learn.Ask ask.NoMemory) → kept ≡ prior → names ≡ naming.names → IsOfChildren words letters outputs workers k most prior before now learned kept names
-  refused_pool k most prior now naming left may same retires' learned kept names is kept_is names_are =
-      out_of_memory words letters outputs workers k most prior before now naming may links spawner (omega (arith, counted)) ended learned kept names is kept_is names_are
+  pub refused_pool : (kind : Kind) (k most : ℕ) (prior : List KeptAnswer) (now : SpawnerSeen) (naming : Naming) (left : List (SessionState (LineState L))) → MayBegin naming (length letters) (count_of outputs) prior → left ≡ sessions → RetiresAll number left mid now
+      → (learned : Result Learned LearnStop) (kept : List KeptAnswer) (names : List (List ℕ)) → learned ≡ Err (learn.Ask ask.NoMemory) → kept ≡ prior → names ≡ naming.names → IsOfChildren kind words letters outputs workers k most prior before now learned kept names
+  refused_pool kind k most prior now naming left may same retires' learned kept names is kept_is names_are =
+      out_of_memory kind words letters outputs workers k most prior before now naming may links spawner (omega (arith, counted)) ended learned kept names is kept_is names_are
     where
       retires : RetiresAll number sessions mid now
       retires = subst (λ (l : List (SessionState (LineState L))). RetiresAll number l mid now) same retires'
@@ -323,9 +324,9 @@ module _ {L : Type 0} (number faults ends : L → ℕ) (transcript : L → Optio
           retires.faults retires.commands counted (numbers_rise letters outputs naming.names [] before.started links ended)
 
 -- a learning over a pool of children that were all started
-module _ {L : Type 0} (number : L → ℕ) (words letters : List (List ℕ)) (outputs : Option (List (List ℕ))) (workers k most : ℕ) (prior : List KeptAnswer) (before mid now : SpawnerSeen) (sessions : List (SessionState (LineState L))) (new : AreNew number letters outputs before.started sessions) (starts : Starts words before mid workers) (count : length sessions ≡ workers)
+module _ {L : Type 0} (kind : Kind) (number : L → ℕ) (words letters : List (List ℕ)) (outputs : Option (List (List ℕ))) (workers k most : ℕ) (prior : List KeptAnswer) (before mid now : SpawnerSeen) (sessions : List (SessionState (LineState L))) (new : AreNew number letters outputs before.started sessions) (starts : Starts words before mid workers) (count : length sessions ≡ workers)
     (pool : PoolState (LineState L)) (members : map (child_member number) sessions ≡ pool.members) (naming_is : pool.naming ≡ first_naming outputs) (prior_is : pool.prior ≡ prior) (inputs_is : pool.inputs ≡ length letters) (outputs_is : pool.outputs ≡ count_of outputs) (unrefused : pool.refused ≡ false)
-    (learned : Result Learned LearnStop) (kept : List KeptAnswer) (naming : Naming) (ended : HasRetired number k most pool mid now learned kept naming) where
+    (learned : Result Learned LearnStop) (kept : List KeptAnswer) (naming : Naming) (ended : HasRetired kind number k most pool mid now learned kept naming) where
   abbrev left : PoolState (LineState L)
   left = ended.left
 
@@ -409,13 +410,13 @@ module _ {L : Type 0} (number : L → ℕ) (words letters : List (List ℕ)) (ou
   words_are : AreAnswers (length letters) (answers_of left.kept)
   words_are = subst (λ (n : ℕ). AreAnswers n (answers_of left.kept)) (ended.learned.leaves.same.inputs ∙ inputs_is) (All-map (IsAnswer left.inputs) answer_of left.kept ended.learned.stands.keeps.answers)
 
-  ok_is : IfOk learned (λ l. IsLearned (length letters) (count_of outputs) k most (answers_of left.kept) l.model l.table)
-  ok_is = subst₂ (λ (a b : ℕ). IfOk learned (λ l. IsLearned a b k most (answers_of left.kept) l.model l.table)) inputs_is outputs_is ended.ok
+  ok_is : IfOk learned (λ l. IsLearned kind (length letters) (count_of outputs) k most (answers_of left.kept) l.model l.learner)
+  ok_is = subst₂ (λ (a b : ℕ). IfOk learned (λ l. IsLearned kind a b k most (answers_of left.kept) l.model l.learner)) inputs_is outputs_is ended.ok
 
   stops_are : IfErr learned (StopsAs (length letters) (count_of outputs) k most (answers_of left.kept))
   stops_are = subst₂ (λ (a b : ℕ). IfErr learned (StopsAs a b k most (answers_of left.kept))) inputs_is outputs_is ended.stops
 
-  of_left : ModelIsLeast → TooManyIsNone → TooLargeForAll → IsOfChildren words letters outputs workers k most prior before now learned left.kept left.naming.names
+  of_left : ModelIsLeast → TooManyIsNone → TooLargeForAll → IsOfChildren kind words letters outputs workers k most prior before now learned left.kept left.naming.names
   of_left least none large = record {
     links = links;
     spawner = started_retired words before mid now workers links (quietly_some words before mid workers starts) ended.retires.started ended.retires.retired ended.retires.faults ended.retires.commands all_links (numbers_rise letters outputs left.naming.names since before.started links ends_are);
@@ -432,17 +433,17 @@ module _ {L : Type 0} (number : L → ℕ) (words letters : List (List ℕ)) (ou
     stops = stops_are;
     causes = caused learned ended.learned.leaves.told;
     reached = λ m within gives quiet sound.
-        reached (length letters) (count_of outputs) k most (answers_of left.kept) learned least none large words_are ok_is stops_are (own_stop m gives sound learned ended.learned.leaves.told) m within gives;
+        reached kind (length letters) (count_of outputs) k most (answers_of left.kept) learned least none large words_are ok_is stops_are (own_stop m gives sound learned ended.learned.leaves.told) m within gives;
   }
     where
       always : (P : Type 0) (r : Result Learned LearnStop) → P → OnOk r P
       always P (Ok l) is = is
       always P (Err e) is = tt
 
-  pub of_pool : ModelIsLeast → TooManyIsNone → TooLargeForAll → IsOfChildren words letters outputs workers k most prior before now learned kept naming.names
+  pub of_pool : ModelIsLeast → TooManyIsNone → TooLargeForAll → IsOfChildren kind words letters outputs workers k most prior before now learned kept naming.names
   of_pool least none large =
-      subst (λ (l : List KeptAnswer). IsOfChildren words letters outputs workers k most prior before now learned l naming.names) (sym ended.kept_is)
-      (subst (λ (n : Naming). IsOfChildren words letters outputs workers k most prior before now learned left.kept n.names) (sym ended.naming_is) (of_left least none large))
+      subst (λ (l : List KeptAnswer). IsOfChildren kind words letters outputs workers k most prior before now learned l naming.names) (sym ended.kept_is)
+      (subst (λ (n : Naming). IsOfChildren kind words letters outputs workers k most prior before now learned left.kept n.names) (sym ended.naming_is) (of_left least none large))
 
 -- the links of the sessions of a pool may be retired once a learning over it has ended
 pub later_linked : {L : Type 0} (number : L → ℕ) (spawner : SpawnerSeen) (pool left : PoolState (LineState L)) (later : List (SessionState (LineState L))) (stop : Option AskStop) → IsChildrenPool number spawner pool → HasLearned pool left stop → map (child_member number) later ≡ left.members → AreLinked number later spawner

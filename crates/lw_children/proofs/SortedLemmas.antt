@@ -22,6 +22,7 @@ use Rattle.lw_pool.specs.Opening.{MayBegin}
 use Rattle.lw_pool.specs.Pool.{AskedOnce}
 use Rattle.lw_pool.specs.Sharing.{declared_by}
 use Rattle.lw_rounds.specs.declared.learned.Learned.{Learned}
+use Rattle.lw_rounds.specs.declared.learner.Kind.{Kind}
 use Rattle.lw_rounds.specs.declared.stops.LearnStop.{LearnStop}
 use Rattle.lw_rounds.specs.declared.stops.LearnStop.TheVariants as learn
 use Rattle.lw_renumber.specs.Renaming.{Renames, renamed_answer, renamed_answers, renamed_rows}
@@ -212,14 +213,14 @@ within_stays g a k most m is =
     }
 
 -- a learning over children whose outputs weren't declared, and its names sorted
-module _ (words letters : List (List ℕ)) (workers k most : ℕ) (before now : SpawnerSeen) (own learned : Result Learned LearnStop) (was : List KeptAnswer) (own_names names : List (List ℕ)) (to : List ℕ) (of : IsOfChildren words letters None workers k most [] before now own was own_names) (sorted : AreSorted names) where
+module _ (kind : Kind) (words letters : List (List ℕ)) (workers k most : ℕ) (before now : SpawnerSeen) (own learned : Result Learned LearnStop) (was : List KeptAnswer) (own_names names : List (List ℕ)) (to : List ℕ) (of : IsOfChildren kind words letters None workers k most [] before now own was own_names) (sorted : AreSorted names) where
   whole_sorted : outs_named names (renumbered_answers to was) ≡ outs_named own_names was → LeavesNothing letters None own_names of.keeps.since of.links → LeavesNothing letters None names (renumbered_answers to was) of.links
   whole_sorted named whole i d lt =
       whole_stays letters None own_names names i of.keeps.since (renumbered_answers to was) (get_or of.links i d).transcript
       (runs_stay own_names names to i was named ∙ ap (kept_runs own_names i) of.keeps.first)
       (whole i d lt)
 
-  renumbered_free : ComeUp (renumbered_answers to was) names → All (λ k. IsWord (length names) k.outs) (renumbered_answers to was) → outs_named names (renumbered_answers to was) ≡ outs_named own_names was → HasSorted to own_names names (answers_of was) (answers_of (renumbered_answers to was)) own learned → IsOfFree words letters workers k most before now learned (renumbered_answers to was) names
+  renumbered_free : ComeUp (renumbered_answers to was) names → All (λ k. IsWord (length names) k.outs) (renumbered_answers to was) → outs_named names (renumbered_answers to was) ≡ outs_named own_names was → HasSorted to own_names names (answers_of was) (answers_of (renumbered_answers to was)) own learned → IsOfFree kind words letters workers k most before now learned (renumbered_answers to was) names
   renumbered_free come_up below named has =
       let a : ℕ = length letters in
       let r = has.renumbering.renames in
@@ -255,9 +256,9 @@ module _ (words letters : List (List ℕ)) (workers k most : ℕ) (before now : 
             quiet sound)));
       }
 
-  pub sorted_free : (kept : List KeptAnswer) → kept ≡ renumbered_answers to was → ComeUp kept names → All (λ k. IsWord (length names) k.outs) kept → outs_named names kept ≡ outs_named own_names was → HasSorted to own_names names (answers_of was) (answers_of kept) own learned → IsOfFree words letters workers k most before now learned kept names
+  pub sorted_free : (kept : List KeptAnswer) → kept ≡ renumbered_answers to was → ComeUp kept names → All (λ k. IsWord (length names) k.outs) kept → outs_named names kept ≡ outs_named own_names was → HasSorted to own_names names (answers_of was) (answers_of kept) own learned → IsOfFree kind words letters workers k most before now learned kept names
   sorted_free kept made =
-      subst (λ (ks : List KeptAnswer). ComeUp ks names → All (λ k. IsWord (length names) k.outs) ks → outs_named names ks ≡ outs_named own_names was → HasSorted to own_names names (answers_of was) (answers_of ks) own learned → IsOfFree words letters workers k most before now learned ks names) (sym made)
+      subst (λ (ks : List KeptAnswer). ComeUp ks names → All (λ k. IsWord (length names) k.outs) ks → outs_named names ks ≡ outs_named own_names was → HasSorted to own_names names (answers_of was) (answers_of ks) own learned → IsOfFree kind words letters workers k most before now learned ks names) (sym made)
       (λ come_up below named has. renumbered_free come_up below named has)
 
 -- nothing is renumbered where there is nothing
@@ -277,13 +278,13 @@ none_sorted = record {
   are = λ a are. are;
   nothing = λ a are nothing. nothing;
   renamed = refl;
-  learned = λ a b k most are is. tt;
+  learned = λ kind a b k most are is. tt;
   stopped = λ a b k most are is. tt;
 }
 
 -- no child was started: there was no memory
-none_free : (words letters : List (List ℕ)) (workers k most : ℕ) (before : SpawnerSeen) → IsOfFree words letters workers k most before before (Err (learn.Ask ask.NoMemory)) [] []
-none_free words letters workers k most before = record {
+none_free : (kind : Kind) (words letters : List (List ℕ)) (workers k most : ℕ) (before : SpawnerSeen) → IsOfFree kind words letters workers k most before before (Err (learn.Ask ask.NoMemory)) [] []
+none_free kind words letters workers k most before = record {
   links = [];
   spawner = record {
     started = omega arith;
@@ -322,11 +323,11 @@ none_free words letters workers k most before = record {
   reached = λ m within gives quiet sound. refl;
 }
 
-pub not_begun : (words letters : List (List ℕ)) (workers k most : ℕ) (before : SpawnerSeen) (learned : Result Learned LearnStop) (kept : List KeptAnswer) (naming : Naming) → learned ≡ Err (learn.Ask ask.NoMemory) → kept ≡ [] → naming ≡ first_naming None → IsOfFree words letters workers k most before before learned kept naming.names
-not_begun words letters workers k most before learned kept naming is none names_are =
-    subst (λ (r : Result Learned LearnStop). IsOfFree words letters workers k most before before r kept naming.names) (sym is)
-    (subst (λ (ks : List KeptAnswer). IsOfFree words letters workers k most before before (Err (learn.Ask ask.NoMemory)) ks naming.names) (sym none)
-    (subst (λ (n : Naming). IsOfFree words letters workers k most before before (Err (learn.Ask ask.NoMemory)) [] n.names) (sym names_are) (none_free words letters workers k most before)))
+pub not_begun : (kind : Kind) (words letters : List (List ℕ)) (workers k most : ℕ) (before : SpawnerSeen) (learned : Result Learned LearnStop) (kept : List KeptAnswer) (naming : Naming) → learned ≡ Err (learn.Ask ask.NoMemory) → kept ≡ [] → naming ≡ first_naming None → IsOfFree kind words letters workers k most before before learned kept naming.names
+not_begun kind words letters workers k most before learned kept naming is none names_are =
+    subst (λ (r : Result Learned LearnStop). IsOfFree kind words letters workers k most before before r kept naming.names) (sym is)
+    (subst (λ (ks : List KeptAnswer). IsOfFree kind words letters workers k most before before (Err (learn.Ask ask.NoMemory)) ks naming.names) (sym none)
+    (subst (λ (n : Naming). IsOfFree kind words letters workers k most before before (Err (learn.Ask ask.NoMemory)) [] n.names) (sym names_are) (none_free kind words letters workers k most before)))
 
 -- what a learning without prior answers may begin with
 pub none_prior : (naming : Naming) (inputs outputs : ℕ) (prior : List KeptAnswer) → prior ≡ [] → MayBegin naming inputs outputs prior
@@ -341,7 +342,7 @@ pub none_clashes : (prior : List KeptAnswer) → prior ≡ [] → NothingClashes
 none_clashes prior none = subst (λ (ks : List KeptAnswer). NothingClashes (answers_of ks)) (sym none) (λ i j d lt within. absurd (omega (arith, within)))
 
 -- a learning over children by a command, by whether its outputs were declared
-module _ (words letters : List (List ℕ)) (outputs : Option (List (List ℕ))) (workers k most : ℕ) (prior : List KeptAnswer) (before now : SpawnerSeen) (learned : Result Learned LearnStop) (kept : List KeptAnswer) where
+module _ (kind : Kind) (words letters : List (List ℕ)) (outputs : Option (List (List ℕ))) (workers k most : ℕ) (prior : List KeptAnswer) (before now : SpawnerSeen) (learned : Result Learned LearnStop) (kept : List KeptAnswer) where
   abbrev some_names : List (List ℕ) → Option (List (List ℕ)) → List (List ℕ)
   some_names d None = d
   some_names d (Some ns) = ns
@@ -351,16 +352,16 @@ module _ (words letters : List (List ℕ)) (outputs : Option (List (List ℕ))) 
   names_declared declared names None same = ap (some_names declared) same
   names_declared declared names (Some b) same = ap (some_names names) same
 
-  pub of_declared : (declared : List (List ℕ)) (first later : Naming) → outputs ≡ Some declared → first ≡ first_naming outputs → declared_by later.names later.brought ≡ declared_by first.names first.brought → IsOfChildren words letters outputs workers k most prior before now learned kept later.names → IsOfCommand words letters outputs workers k most prior before now learned kept later.names
+  pub of_declared : (declared : List (List ℕ)) (first later : Naming) → outputs ≡ Some declared → first ≡ first_naming outputs → declared_by later.names later.brought ≡ declared_by first.names first.brought → IsOfChildren kind words letters outputs workers k most prior before now learned kept later.names → IsOfCommand kind words letters outputs workers k most prior before now learned kept later.names
   of_declared declared first later are named sharing of =
-      subst (λ (o : Option (List (List ℕ))). IsOfCommand words letters o workers k most prior before now learned kept later.names) (sym are) (
+      subst (λ (o : Option (List (List ℕ))). IsOfCommand kind words letters o workers k most prior before now learned kept later.names) (sym are) (
         names_declared declared later.names later.brought (sharing ∙ ap (λ (n : Naming). declared_by n.names n.brought) (named ∙ ap first_naming are)),
-        subst (λ (o : Option (List (List ℕ))). IsOfChildren words letters o workers k most prior before now learned kept later.names) are of,
+        subst (λ (o : Option (List (List ℕ))). IsOfChildren kind words letters o workers k most prior before now learned kept later.names) are of,
       )
 
-  pub of_free : (names : List (List ℕ)) → outputs ≡ None → prior ≡ [] → IsOfFree words letters workers k most before now learned kept names → IsOfCommand words letters outputs workers k most prior before now learned kept names
-  of_free names none empty of = subst (λ (o : Option (List (List ℕ))). IsOfCommand words letters o workers k most prior before now learned kept names) (sym none) (empty, of)
+  pub of_free : (names : List (List ℕ)) → outputs ≡ None → prior ≡ [] → IsOfFree kind words letters workers k most before now learned kept names → IsOfCommand kind words letters outputs workers k most prior before now learned kept names
+  of_free names none empty of = subst (λ (o : Option (List (List ℕ))). IsOfCommand kind words letters o workers k most prior before now learned kept names) (sym none) (empty, of)
 
 -- a learning that began with nothing kept, over outputs that weren't declared
-pub without_outputs : (words letters : List (List ℕ)) (outputs : Option (List (List ℕ))) (workers k most : ℕ) (prior : List KeptAnswer) (before now : SpawnerSeen) (learned : Result Learned LearnStop) (kept : List KeptAnswer) (names : List (List ℕ)) → outputs ≡ None → prior ≡ [] → IsOfChildren words letters outputs workers k most prior before now learned kept names → IsOfChildren words letters None workers k most [] before now learned kept names
-without_outputs words letters outputs workers k most prior before now learned kept names none empty of = subst₂ (λ (o : Option (List (List ℕ))) (ks : List KeptAnswer). IsOfChildren words letters o workers k most ks before now learned kept names) none empty of
+pub without_outputs : (kind : Kind) (words letters : List (List ℕ)) (outputs : Option (List (List ℕ))) (workers k most : ℕ) (prior : List KeptAnswer) (before now : SpawnerSeen) (learned : Result Learned LearnStop) (kept : List KeptAnswer) (names : List (List ℕ)) → outputs ≡ None → prior ≡ [] → IsOfChildren kind words letters outputs workers k most prior before now learned kept names → IsOfChildren kind words letters None workers k most [] before now learned kept names
+without_outputs kind words letters outputs workers k most prior before now learned kept names none empty of = subst₂ (λ (o : Option (List (List ℕ))) (ks : List KeptAnswer). IsOfChildren kind words letters o workers k most ks before now learned kept names) none empty of

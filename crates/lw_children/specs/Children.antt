@@ -15,6 +15,7 @@ use Rattle.lw_desk.specs.Naming.{AreSorted}
 use Rattle.lw_renumber.specs.Sorting.{HasSorted}
 use Rattle.lw_rounds.specs.Learned.{IsLearned, StopsAs}
 use Rattle.lw_rounds.specs.declared.learned.Learned.{Learned}
+use Rattle.lw_rounds.specs.declared.learner.Kind.{Kind}
 use Rattle.lw_rounds.specs.declared.stops.LearnStop.{LearnStop}
 use Rattle.lw_rounds.specs.declared.stops.LearnStop.TheVariants as learn
 use Rattle.lw_workers.specs.Machines.{IsReached, IsWithin}
@@ -65,7 +66,7 @@ LeavesNothing letters outputs names since links = (i : ℕ) (d : Retired) → i 
 
 -- a learning over children with letters and perhaps outputs of these names, that began with prior answers; the names are those of
 -- the kept answers' outputs
-pub record IsOfChildren (words letters : List (List ℕ)) (outputs : Option (List (List ℕ))) (workers k most : ℕ) (prior : List KeptAnswer) (before now : SpawnerSeen) (learned : Result Learned LearnStop) (kept : List KeptAnswer) (names : List (List ℕ)) : Type 0 where
+pub record IsOfChildren (kind : Kind) (words letters : List (List ℕ)) (outputs : Option (List (List ℕ))) (workers k most : ℕ) (prior : List KeptAnswer) (before now : SpawnerSeen) (learned : Result Learned LearnStop) (kept : List KeptAnswer) (names : List (List ℕ)) : Type 0 where
   -- the children: started in order, and all retired in that order
   pub links : List Retired
   pub spawner : StartsAndRetires words before now links
@@ -77,7 +78,7 @@ pub record IsOfChildren (words letters : List (List ℕ)) (outputs : Option (Lis
   pub keeps : KeepsChildren letters outputs names prior kept links
   -- where there is a model nothing that went over the links is left out
   pub whole : OnOk learned (LeavesNothing letters outputs names keeps.since links)
-  pub ok : IfOk learned (λ l. IsLearned (length letters) (count_of outputs) k most (answers_of kept) l.model l.table)
+  pub ok : IfOk learned (λ l. IsLearned kind (length letters) (count_of outputs) k most (answers_of kept) l.model l.learner)
   pub stops : IfErr learned (StopsAs (length letters) (count_of outputs) k most (answers_of kept))
   pub causes : IfErr learned (IsCausedBy outputs workers before now links kept)
   -- where nothing outside was wrong and the limits hold for some machine that gives the answers, a model comes, or memory runs out
@@ -85,7 +86,7 @@ pub record IsOfChildren (words letters : List (List ℕ)) (outputs : Option (Lis
 
 -- the same where outputs weren't declared, with the names sorted by bytes in the end: the kept answers and the model have their
 -- new numbers
-pub record IsOfFree (words letters : List (List ℕ)) (workers k most : ℕ) (before now : SpawnerSeen) (learned : Result Learned LearnStop) (kept : List KeptAnswer) (names : List (List ℕ)) : Type 0 where
+pub record IsOfFree (kind : Kind) (words letters : List (List ℕ)) (workers k most : ℕ) (before now : SpawnerSeen) (learned : Result Learned LearnStop) (kept : List KeptAnswer) (names : List (List ℕ)) : Type 0 where
   pub links : List Retired
   pub spawner : StartsAndRetires words before now links
   pub few : length links ≤ workers
@@ -103,12 +104,12 @@ pub record IsOfFree (words letters : List (List ℕ)) (workers k most : ℕ) (be
   pub new_numbers : List ℕ
   pub same : HasSorted new_numbers own_names names own_answers (answers_of kept) own learned
   pub answers : AreAnswers (length letters) own_answers
-  pub ok : IfOk own (λ l. IsLearned (length letters) 4096 k most own_answers l.model l.table)
+  pub ok : IfOk own (λ l. IsLearned kind (length letters) 4096 k most own_answers l.model l.learner)
   pub stops : IfErr own (StopsAs (length letters) 4096 k most own_answers)
   pub causes : IfErr learned (IsCausedBy None workers before now links kept)
   pub reached : (m : Rows) → IsWithin (length letters) k most m → Gives m (answers_of kept) → ¬ CountedFault before.faults now.faults → All (IsSound None) links → IsReached (length m) learned
 
 -- a learning over children by a command, whose outputs were declared or not; prior answers come with declared ones alone
-abbrev pub IsOfCommand : (words letters : List (List ℕ)) → Option (List (List ℕ)) → (workers k most : ℕ) → List KeptAnswer → (before now : SpawnerSeen) → Result Learned LearnStop → List KeptAnswer → List (List ℕ) → Type 0
-IsOfCommand words letters None workers k most prior before now learned kept names = (prior ≡ []) × IsOfFree words letters workers k most before now learned kept names
-IsOfCommand words letters (Some outputs) workers k most prior before now learned kept names = (names ≡ outputs) × IsOfChildren words letters (Some outputs) workers k most prior before now learned kept names
+abbrev pub IsOfCommand : Kind → (words letters : List (List ℕ)) → Option (List (List ℕ)) → (workers k most : ℕ) → List KeptAnswer → (before now : SpawnerSeen) → Result Learned LearnStop → List KeptAnswer → List (List ℕ) → Type 0
+IsOfCommand kind words letters None workers k most prior before now learned kept names = (prior ≡ []) × IsOfFree kind words letters workers k most before now learned kept names
+IsOfCommand kind words letters (Some outputs) workers k most prior before now learned kept names = (names ≡ outputs) × IsOfChildren kind words letters (Some outputs) workers k most prior before now learned kept names

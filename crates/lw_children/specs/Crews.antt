@@ -11,6 +11,7 @@ use Rattle.lw_pool.specs.Pool.{Member, PoolState, Seen}
 use Rattle.lw_rounds.specs.Learned.{IsLearned, StopsAs}
 use Rattle.lw_rounds.specs.Stops.{learn_stop}
 use Rattle.lw_rounds.specs.declared.learned.Learned.{Learned}
+use Rattle.lw_rounds.specs.declared.learner.Kind.{Kind}
 use Rattle.lw_rounds.specs.declared.stops.LearnStop.{LearnStop}
 use Rattle.lw_workers.specs.Leaving.{HasLearned}
 use Rattle.lw_line.specs.Causes.{IsCounted, IsTranscriptOf}
@@ -170,13 +171,13 @@ pub record IsChildrenPool {L : Type 0} (number : L → ℕ) (spawner : SpawnerSe
   pub within : base + length sessions ≤ spawner.started
 
 -- a learning over a pool has ended so, and all links were retired
-pub record HasRetired {L : Type 0} (number : L → ℕ) (k most : ℕ) (pool : PoolState (LineState L)) (before now : SpawnerSeen) (result : Result Learned LearnStop) (kept : List KeptAnswer) (naming : Naming) : Type 0 where
+pub record HasRetired {L : Type 0} (kind : Kind) (number : L → ℕ) (k most : ℕ) (pool : PoolState (LineState L)) (before now : SpawnerSeen) (result : Result Learned LearnStop) (kept : List KeptAnswer) (naming : Naming) : Type 0 where
   pub left : PoolState (LineState L)
   pub later : List (SessionState (LineState L))
   pub learned : HasLearned pool left (learn_stop result)
   pub members : map (child_member number) later ≡ left.members
   pub retires : RetiresAll number later before now
-  pub ok : IfOk result (λ l. IsLearned pool.inputs pool.outputs k most (answers_of left.kept) l.model l.table)
+  pub ok : IfOk result (λ l. IsLearned kind pool.inputs pool.outputs k most (answers_of left.kept) l.model l.learner)
   pub stops : IfErr result (StopsAs pool.inputs pool.outputs k most (answers_of left.kept))
   pub kept_is : kept ≡ left.kept
   pub naming_is : naming ≡ left.naming

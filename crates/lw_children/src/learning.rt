@@ -111,7 +111,7 @@ fn learn_and_retire<P: Spawner, R: Threads + Wait + Sync + Drop>(
     requires children { IsChildrenPool P.Link.number
         (spawner_seen (P.faults spawner.old) (P.started spawner.old) (P.retired spawner.old)
         (P.commands spawner.old)) pool }
-    ensures { HasRetired P.Link.number extra max_states pool
+    ensures { HasRetired kind P.Link.number extra max_states pool
         (spawner_seen (P.faults spawner.old) (P.started spawner.old) (P.retired spawner.old)
         (P.commands spawner.old))
         (spawner_seen (P.faults spawner.new) (P.started spawner.new) (P.retired spawner.new)
@@ -151,8 +151,8 @@ pub(crate) fn learn_over<P: Spawner, R: Threads + Wait + Sync + Drop>(
     requires workers { (1 ≤ workers) × (workers ≤ 16) }
     requires few { extra ≤ 4 }
     requires most { (1 ≤ max_states) × (max_states ≤ 1024) }
-    ensures found { IsOfChildren command.now.words command.now.inputs command.now.outputs workers
-        extra max_states cache.kept
+    ensures found { IsOfChildren kind command.now.words command.now.inputs command.now.outputs
+        workers extra max_states cache.kept
         (spawner_seen (P.faults spawner.old) (P.started spawner.old) (P.retired spawner.old)
         (P.commands spawner.old))
         (spawner_seen (P.faults spawner.new) (P.started spawner.new) (P.retired spawner.new)

@@ -52,7 +52,7 @@ fn learn_free<P: Spawner, R: Threads + Wait + Sync + Drop>(
     requires workers { (1 ≤ workers) × (workers ≤ 16) }
     requires few { extra ≤ 4 }
     requires most { (1 ≤ max_states) × (max_states ≤ 1024) }
-    ensures { IsOfFree command.now.words command.now.inputs workers extra max_states
+    ensures { IsOfFree kind command.now.words command.now.inputs workers extra max_states
         (spawner_seen (P.faults spawner.old) (P.started spawner.old) (P.retired spawner.old)
         (P.commands spawner.old))
         (spawner_seen (P.faults spawner.new) (P.started spawner.new) (P.retired spawner.new)
@@ -108,8 +108,8 @@ pub fn learn_children<P: Spawner, R: Threads + Wait + Sync + Drop>(
     requires workers { (1 ≤ workers) × (workers ≤ 16) }
     requires few { extra ≤ 4 }
     requires most { (1 ≤ max_states) × (max_states ≤ 1024) }
-    ensures { IsOfCommand command.now.words command.now.inputs command.now.outputs workers extra
-        max_states cache.kept
+    ensures { IsOfCommand kind command.now.words command.now.inputs command.now.outputs workers
+        extra max_states cache.kept
         (spawner_seen (P.faults spawner.old) (P.started spawner.old) (P.retired spawner.old)
         (P.commands spawner.old))
         (spawner_seen (P.faults spawner.new) (P.started spawner.new) (P.retired spawner.new)

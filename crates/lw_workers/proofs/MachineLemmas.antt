@@ -21,6 +21,7 @@ use Rattle.lw_rounds.specs.Laws.{ModelIsLeast, TooManyIsNone, TooLargeForAll}
 use Rattle.lw_rounds.specs.Learned.{IsLearned, StopsAs}
 use Rattle.lw_rounds.specs.Stops.{learn_stop, IsOwnStop}
 use Rattle.lw_rounds.specs.declared.learned.Learned.{Learned}
+use Rattle.lw_rounds.specs.declared.learner.Kind.{Kind}
 use Rattle.lw_rounds.specs.declared.stops.LearnStop.{LearnStop}
 use Rattle.lw_rounds.specs.declared.stops.LearnStop.TheVariants as learn
 use Rattle.lw_workers.specs.Leaving.{HasLearned}
@@ -72,37 +73,37 @@ never_stopped f sessions members are live i = subst (λ (ms : List (Member _)). 
     each (s ∷ ss) (suc k) = each ss k
 
 -- where the limits hold for some machine that gives the answers, a model comes or memory runs out
-pub reached : (a b k most : ℕ) (ks : List Answer) (r : Result Learned LearnStop) → ModelIsLeast → TooManyIsNone → TooLargeForAll → AreAnswers a ks → IfOk r (λ l. IsLearned a b k most ks l.model l.table) → IfErr r (StopsAs a b k most ks) → IfErr r IsOwnStop → (m : Rows) → IsWithin a k most m → Gives m ks → IsReached (length m) r
-reached a b k most ks (Ok l) least none large are learned stops own m within gives =
-    omega (arith, least a b k most ks l.model l.table are learned m within.machine gives, learned.carried.refined)
-reached a b k most ks (Err (learn.Ask stop)) least none large are learned stops own m within gives = own
-reached a b k most ks (Err (learn.Crowd words)) least none large are learned stops own m within gives = none a most ks words are stops m within.machine within.few gives
-reached a b k most ks (Err (learn.TooLarge model number)) least none large are learned stops own m within gives =
+pub reached : (kind : Kind) (a b k most : ℕ) (ks : List Answer) (r : Result Learned LearnStop) → ModelIsLeast → TooManyIsNone → TooLargeForAll → AreAnswers a ks → IfOk r (λ l. IsLearned kind a b k most ks l.model l.learner) → IfErr r (StopsAs a b k most ks) → IfErr r IsOwnStop → (m : Rows) → IsWithin a k most m → Gives m ks → IsReached (length m) r
+reached kind a b k most ks (Ok l) least none large are learned stops own m within gives =
+    omega (arith, least kind a b k most ks l.model l.learner are learned m within.machine gives, learned.carried.refined)
+reached kind a b k most ks (Err (learn.Ask stop)) least none large are learned stops own m within gives = own
+reached kind a b k most ks (Err (learn.Crowd words)) least none large are learned stops own m within gives = none a most ks words are stops m within.machine within.few gives
+reached kind a b k most ks (Err (learn.TooLarge model number)) least none large are learned stops own m within gives =
     omega (arith, large a b k most ks model number are stops m within.machine gives, within.small)
 
 -- what a learning of a machine answers, and what its instances answered
-pub record HasEnded (t : MealyMachine) (workers k most : ℕ) (prior : List KeptAnswer) (learned : Result Learned LearnStop) (kept : List KeptAnswer) : Type 0 where
-  pub ok : IfOk learned (λ l. IsLearned t.inputs t.outputs k most (answers_of kept) l.model l.table)
+pub record HasEnded (kind : Kind) (t : MealyMachine) (workers k most : ℕ) (prior : List KeptAnswer) (learned : Result Learned LearnStop) (kept : List KeptAnswer) : Type 0 where
+  pub ok : IfOk learned (λ l. IsLearned kind t.inputs t.outputs k most (answers_of kept) l.model l.learner)
   pub stops : IfErr learned (StopsAs t.inputs t.outputs k most (answers_of kept))
   pub caused : IfErr learned (IsMachineStop kept)
   pub reached_by : (m : Rows) → IsWithin t.inputs k most m → Gives m (answers_of kept) → IsReached (length m) learned
   pub runs : KeepsRuns t workers prior kept
 
-pub has_ended : {S : Type 0} (t : MealyMachine) (workers k most : ℕ) (names : Naming) (prior : List KeptAnswer) (before now : PoolState S) (learned : Result Learned LearnStop) (kept : List KeptAnswer) → ModelIsLeast → TooManyIsNone → TooLargeForAll
+pub has_ended : {S : Type 0} (kind : Kind) (t : MealyMachine) (workers k most : ℕ) (names : Naming) (prior : List KeptAnswer) (before now : PoolState S) (learned : Result Learned LearnStop) (kept : List KeptAnswer) → ModelIsLeast → TooManyIsNone → TooLargeForAll
     → IsPoolOf t workers names prior before → HasLearned before now (learn_stop learned)
     → ((i : ℕ) → (seen_at (seen_of now) i).stop ≡ None)
-    → IfOk learned (λ l. IsLearned before.inputs before.outputs k most (answers_of now.kept) l.model l.table)
+    → IfOk learned (λ l. IsLearned kind before.inputs before.outputs k most (answers_of now.kept) l.model l.learner)
     → IfErr learned (StopsAs before.inputs before.outputs k most (answers_of now.kept))
-    → kept ≡ now.kept → HasEnded t workers k most prior learned kept
-has_ended t workers k most names prior before now learned kept least none large is left never ok stops same =
+    → kept ≡ now.kept → HasEnded kind t workers k most prior learned kept
+has_ended kind t workers k most names prior before now learned kept least none large is left never ok stops same =
     let runs : KeepsRuns t workers prior now.kept = keeps_runs t workers names prior before now (learn_stop learned) is left in
-    let ok_of = subst₂ (λ (a b : ℕ). IfOk learned (λ l. IsLearned a b k most (answers_of now.kept) l.model l.table)) is.inputs is.outputs ok in
+    let ok_of = subst₂ (λ (a b : ℕ). IfOk learned (λ l. IsLearned kind a b k most (answers_of now.kept) l.model l.learner)) is.inputs is.outputs ok in
     let stops_of = subst₂ (λ (a b : ℕ). IfErr learned (StopsAs a b k most (answers_of now.kept))) is.inputs is.outputs stops in
     let caused_of = learn_caused (seen_of now) now.kept never learned now.stop left.stands.why left.leaves.told in
-    subst (HasEnded t workers k most prior learned) (sym same) (record {
+    subst (HasEnded kind t workers k most prior learned) (sym same) (record {
       ok = ok_of;
       stops = stops_of;
       caused = caused_of;
-      reached_by = λ m within gives. reached t.inputs t.outputs k most (answers_of now.kept) learned least none large runs.words ok_of stops_of (learn_own m now.kept gives learned caused_of) m within gives;
+      reached_by = λ m within gives. reached kind t.inputs t.outputs k most (answers_of now.kept) learned least none large runs.words ok_of stops_of (learn_own m now.kept gives learned caused_of) m within gives;
       runs = runs;
     })

@@ -11,6 +11,7 @@ use Rattle.lw_cache.specs.declared.stops.AskStop.TheVariants as ask
 use Rattle.lw_desk.specs.Ending.{CameFirst}
 use Rattle.lw_pool.specs.Pool.{AskedOnce}
 use Rattle.lw_suite.specs.Size.{suite_size, greatest_suite}
+use Rattle.lw_rounds.specs.Learner.{refinements_of}
 use Rattle.lw_rounds.specs.declared.learned.Learned.{Learned}
 use Rattle.lw_rounds.specs.declared.stops.LearnStop.{LearnStop}
 use Rattle.lw_rounds.specs.declared.stops.LearnStop.TheVariants as learn
@@ -41,9 +42,9 @@ IsMachineStop kept (learn.Ask ask.NoMemory) = Unit {0}
 IsMachineStop kept (learn.Crowd words) = Unit {0}
 IsMachineStop kept (learn.TooLarge model number) = Unit {0}
 
--- a model comes, of a table that was refined fewer times than n, or memory runs out
+-- a model comes, of a learner that was refined fewer times than n, or memory runs out
 abbrev pub IsReached : ℕ → Result Learned LearnStop → Type 0
-IsReached n (Ok l) = l.table.refinements < n
+IsReached n (Ok l) = refinements_of l.learner < n
 IsReached n (Err (learn.Ask stop)) = stop ≡ ask.NoMemory
 IsReached n (Err (learn.Crowd words)) = ⊥
 IsReached n (Err (learn.TooLarge model number)) = ⊥

@@ -40,8 +40,8 @@ pub fn learn_with<S: Sul + Send, R: Threads + Wait + Sync>(
     requires signs { (1 ≤ pool.outputs) × (pool.outputs ≤ 4096) }
     requires few { extra ≤ 4 }
     requires most { (1 ≤ max_states) × (max_states ≤ 1024) }
-    ensures learned { IfOk result.learned (λ l. IsLearned pool.inputs pool.outputs extra max_states
-        (answers_of result.pool.kept) l.model l.table) }
+    ensures learned { IfOk result.learned (λ l. IsLearned kind pool.inputs pool.outputs extra
+        max_states (answers_of result.pool.kept) l.model l.learner) }
     ensures stops { IfErr result.learned (StopsAs pool.inputs pool.outputs extra max_states
         (answers_of result.pool.kept)) }
     ensures leaves { HasLearned pool result.pool (learn_stop result.learned) }

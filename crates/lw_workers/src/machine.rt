@@ -103,8 +103,8 @@ pub fn learn_machine<R: Threads + Wait + Sync + Drop>(
     requires workers { (1 ≤ workers) × (workers ≤ 16) }
     requires few { extra ≤ 4 }
     requires most { (1 ≤ max_states) × (max_states ≤ 1024) }
-    ensures learned { IfOk result.learned (λ l. IsLearned system.now.inputs system.now.outputs extra
-        max_states (answers_of result.kept.answers) l.model l.table) }
+    ensures learned { IfOk result.learned (λ l. IsLearned kind system.now.inputs system.now.outputs
+        extra max_states (answers_of result.kept.answers) l.model l.learner) }
     ensures stops { IfErr result.learned (StopsAs system.now.inputs system.now.outputs extra
         max_states (answers_of result.kept.answers)) }
     ensures caused { IfErr result.learned (IsMachineStop result.kept.answers) }

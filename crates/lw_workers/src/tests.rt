@@ -38,22 +38,41 @@ fn is_found(learned: &Result<Learned, LearnStop>, states: u16, refinements: u32)
     learned.model.states() == states && learned.refinements() == refinements
 }
 
-/// Whether so many sessions find the counter with one refinement. Each batch has one word to ask.
+/// Whether so many sessions find the counter with one refinement, by the answers to words of these numbers of letters. Each
+/// batch has one word to ask.
 fn find_counter<R: Threads + Wait + Sync + Drop>(
     rt: R,
     alloc: Global,
     sessions: usize,
+    kind: Kind,
+    letters: &[usize],
 ) -> Result<bool, Fail> {
     let pool = pool_of(rt, alloc, &COUNTER, sessions, None)?;
-    let ended = learn_with(pool, alloc, Kind::Table, 2, 4);
-    Ok(is_found(&ended.learned, 3, 1) && has_asked(&ended, sessions, &[2, 3, 4, 5, 7]))
+    let ended = learn_with(pool, alloc, kind, 2, 4);
+    Ok(is_found(&ended.learned, 3, 1) && has_asked(&ended, sessions, letters))
 }
 
 #[test]
 fn however_many_sessions_find_a_counter(rt: HostRuntime) -> Result<(), Fail> {
     let alloc = rt.alloc();
     for sessions in [1usize, 2, 3] {
-        assert!(rt; find_counter(rt, alloc, sessions)?, "{sessions} sessions");
+        assert!(rt;
+            find_counter(rt, alloc, sessions, Kind::Table, &[2, 3, 4, 5, 7])?,
+            "{sessions} sessions"
+        );
+    }
+    Ok(())
+}
+
+/// The tree begins with the word of one letter. Its temporary discriminator, of two, is settled without a further word.
+#[test]
+fn however_many_sessions_find_a_counter_by_a_tree(rt: HostRuntime) -> Result<(), Fail> {
+    let alloc = rt.alloc();
+    for sessions in [1usize, 2, 3] {
+        assert!(rt;
+            find_counter(rt, alloc, sessions, Kind::Ttt, &[1, 3, 4, 5, 7])?,
+            "{sessions} sessions"
+        );
     }
     Ok(())
 }

@@ -58,6 +58,7 @@ fn learn<P: Spawner, R: Threads + Wait + Sync + Drop>(
     spawner: &mut P,
     command: &Command,
     workers: u8,
+    kind: Kind,
 ) -> Result<LearnedChildren, Fail>
     requires words { 0 < length command.now.words }
     requires workers { (1 ≤ workers) × (workers ≤ 16) }
@@ -68,16 +69,7 @@ fn learn<P: Spawner, R: Threads + Wait + Sync + Drop>(
     }
     let cache = Cache::new(alloc);
     Ok(learn_children(
-        rt,
-        alloc,
-        spawner,
-        command,
-        names,
-        cache,
-        workers,
-        Kind::Table,
-        1,
-        4,
+        rt, alloc, spawner, command, names, cache, workers, kind, 1, 4,
     ))
 }
 
@@ -99,13 +91,23 @@ fn says_first(model: &Mealy, output: u16) -> bool {
     model.states() == 2 && model.inputs() == 1 && model.step(0, 0) == (1, output)
 }
 
-/// Whether a model was found that says this output first, of so many answers, with these names.
-fn is_found(ended: &LearnedChildren, output: u16, answers: usize, want: &[&str]) -> bool {
+/// How many answers the learning of the machine takes by a learner of this kind, and how many refinements.
+///
+/// A table asks words of two and three letters, and a tree one of one letter before them. A word of four tests the model.
+fn counts_of(kind: Kind) -> (usize, u32) {
+    match kind {
+        Kind::Table => (3, 0),
+        Kind::Ttt => (4, 1),
+    }
+}
+
+/// Whether a model was found that says this output first, by a learner of this kind, with these names.
+fn is_found(ended: &LearnedChildren, kind: Kind, output: u16, want: &[&str]) -> bool {
     let Ok(learned) = &ended.learned else {
         return false;
     };
     says_first(&learned.model, output)
-        && ended.kept.len() == answers
+        && counts_of(kind) == (ended.kept.len(), learned.refinements())
         && are_named(&ended.names, want)
 }
 
@@ -120,13 +122,14 @@ fn finds_over<R: Threads + Wait + Sync + Drop>(
     alloc: Global,
     spawner: &mut MemorySpawner,
     command: &Command,
+    kind: Kind,
     output: u16,
     want: &[&str],
 ) -> Result<bool, Fail>
     requires { 0 < length command.now.words }
 {
-    let ended = learn(rt, alloc, spawner, command, 1)?;
-    Ok(is_found(&ended, output, 3, want) && are_retired(spawner, 1))
+    let ended = learn(rt, alloc, spawner, command, 1, kind)?;
+    Ok(is_found(&ended, kind, output, want) && are_retired(spawner, 1))
 }
 
 /// The same over children that play the machine.
@@ -134,19 +137,27 @@ fn finds<R: Threads + Wait + Sync + Drop>(
     rt: R,
     alloc: Global,
     command: &Command,
+    kind: Kind,
     output: u16,
     want: &[&str],
 ) -> Result<bool, Fail>
     requires { 0 < length command.now.words }
 {
     let mut spawner = players(alloc)?;
-    finds_over(rt, alloc, &mut spawner, command, output, want)
+    finds_over(rt, alloc, &mut spawner, command, kind, output, want)
 }
 
 #[test]
 fn names_are_sorted_in_the_end(rt: HostRuntime) -> Result<(), Fail> {
     let command = command(rt.alloc(), None)?;
-    assert!(rt; finds(rt, rt.alloc(), &command, 1, &["a", "z"])?);
+    assert!(rt; finds(rt, rt.alloc(), &command, Kind::Table, 1, &["a", "z"])?);
+    Ok(())
+}
+
+#[test]
+fn a_tree_learns_the_same(rt: HostRuntime) -> Result<(), Fail> {
+    let command = command(rt.alloc(), None)?;
+    assert!(rt; finds(rt, rt.alloc(), &command, Kind::Ttt, 1, &["a", "z"])?);
     Ok(())
 }
 
@@ -154,7 +165,7 @@ fn names_are_sorted_in_the_end(rt: HostRuntime) -> Result<(), Fail> {
 fn declared_names_stay(rt: HostRuntime) -> Result<(), Fail> {
     let outputs = names(rt.alloc(), &["z", "a"])?;
     let command = command(rt.alloc(), Some(outputs))?;
-    assert!(rt; finds(rt, rt.alloc(), &command, 0, &["z", "a"])?);
+    assert!(rt; finds(rt, rt.alloc(), &command, Kind::Table, 0, &["z", "a"])?);
     Ok(())
 }
 
@@ -243,7 +254,7 @@ fn ends_over<R: Threads + Wait + Sync + Drop>(
     if row.workers == 0 || row.workers > 16 {
         return Err(Fail::from("no such number of workers"));
     }
-    let ended = learn(rt, alloc, spawner, command, row.workers)?;
+    let ended = learn(rt, alloc, spawner, command, row.workers, Kind::Table)?;
     Ok(
         has_stopped(&ended, row.instance, row.ending)
             && spawner.started().len() == row.starts
