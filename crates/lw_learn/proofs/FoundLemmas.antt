@@ -13,6 +13,7 @@ use Rattle.lw_pool.specs.Pool.{ArePrior}
 use Rattle.lw_renumber.specs.Sorting.{HasSorted, StillStops}
 use Rattle.lw_rounds.specs.Learned.{IsLearned, StopsAs}
 use Rattle.lw_rounds.specs.declared.learned.Learned.{Learned}
+use Rattle.lw_rounds.specs.declared.learner.Kind.{Kind}
 use Rattle.lw_rounds.specs.declared.stops.LearnStop.{LearnStop}
 use Rattle.lw_rounds.specs.declared.stops.LearnStop.TheVariants as learn
 use Rattle.lw_children.specs.Children.{IsOfChildren, IsOfCommand}
@@ -38,17 +39,17 @@ few_instances n prior since kept is are below few =
     subst (λ (l : List KeptAnswer). All (λ k. k.instance ≤ 16) l) (sym is) (All-append (λ (k : KeptAnswer). k.instance ≤ 16) prior since (λ i d lt. omega (arith, (are i d lt).0)) (λ i d lt. omega (arith, few, below i d lt)))
 
 -- what was learned gives its model to each end that carries it
-gives_by : (a b k most : ℕ) (kept : List KeptAnswer) (l : Learned) → AreAnswers a (answers_of kept) → IsLearned a b k most (answers_of kept) l.model l.table → GivesModel a b k most kept l
-gives_by a b k most kept l are is end same carried counted =
-    has_model a b k most end l.model l.table (subst (λ (ks : List KeptAnswer). AreAnswers a (answers_of ks)) (sym same) are) (subst (λ (ks : List KeptAnswer). IsLearned a b k most (answers_of ks) l.model l.table) (sym same) is) carried counted
+gives_by : (kind : Kind) (a b k most : ℕ) (kept : List KeptAnswer) (l : Learned) → AreAnswers a (answers_of kept) → IsLearned kind a b k most (answers_of kept) l.model l.learner → GivesModel kind a b k most kept l
+gives_by kind a b k most kept l are is end same carried counted =
+    has_model kind a b k most end l.model l.learner (subst (λ (ks : List KeptAnswer). AreAnswers a (answers_of ks)) (sym same) are) (subst (λ (ks : List KeptAnswer). IsLearned kind a b k most (answers_of ks) l.model l.learner) (sym same) is) carried counted
 
-pub learned_gives : (a b k most : ℕ) (kept : List KeptAnswer) (r : Result Learned LearnStop) → AreAnswers a (answers_of kept) → IfOk r (λ l. IsLearned a b k most (answers_of kept) l.model l.table) → IfOk r (GivesModel a b k most kept)
-learned_gives a b k most kept (Ok l) are is = gives_by a b k most kept l are is
-learned_gives a b k most kept (Err stop) are is = tt
+pub learned_gives : (kind : Kind) (a b k most : ℕ) (kept : List KeptAnswer) (r : Result Learned LearnStop) → AreAnswers a (answers_of kept) → IfOk r (λ l. IsLearned kind a b k most (answers_of kept) l.model l.learner) → IfOk r (GivesModel kind a b k most kept)
+learned_gives kind a b k most kept (Ok l) are is = gives_by kind a b k most kept l are is
+learned_gives kind a b k most kept (Err stop) are is = tt
 
-pub learned_sizes : (a b k most : ℕ) (kept : List KeptAnswer) (r : Result Learned LearnStop) → IfOk r (λ l. IsLearned a b k most (answers_of kept) l.model l.table) → IfOk r (λ l. (l.model.inputs ≡ a) × (l.model.outputs ≡ b))
-learned_sizes a b k most kept (Ok l) is = (is.certified.inputs, is.certified.outputs)
-learned_sizes a b k most kept (Err stop) is = tt
+pub learned_sizes : (kind : Kind) (a b k most : ℕ) (kept : List KeptAnswer) (r : Result Learned LearnStop) → IfOk r (λ l. IsLearned kind a b k most (answers_of kept) l.model l.learner) → IfOk r (λ l. (l.model.inputs ≡ a) × (l.model.outputs ≡ b))
+learned_sizes kind a b k most kept (Ok l) is = (is.certified.inputs, is.certified.outputs)
+learned_sizes kind a b k most kept (Err stop) is = tt
 
 stops_as : (a b k most : ℕ) (ks : List Answer) (stop : LearnStop) → AreAnswers a ks → StopsAs a b k most ks stop → StopsBy a b k most ks stop
 stops_as a b k most ks (learn.Ask stop) are is = tt
@@ -64,15 +65,15 @@ module _ (a : LearnValues) (m : Machine) (prior : List KeptAnswer) (learned : Re
   words_of_table : AreAnswers (length m.inputs) (answers_of kept)
   words_of_table = subst (λ (n : ℕ). AreAnswers n (answers_of kept)) m.named.0 is.keeps.words
 
-  pub table_gives : IfOk learned (GivesModel (length m.inputs) (length names) a.extra a.max_states kept)
+  pub table_gives : IfOk learned (GivesModel a.learner (length m.inputs) (length names) a.extra a.max_states kept)
   table_gives =
-      subst (λ (ns : List (List ℕ)). IfOk learned (GivesModel (length m.inputs) (length ns) a.extra a.max_states kept)) (sym is.named)
-      (learned_gives (length m.inputs) (length m.outputs) a.extra a.max_states kept learned words_of_table is.ok)
+      subst (λ (ns : List (List ℕ)). IfOk learned (GivesModel a.learner (length m.inputs) (length ns) a.extra a.max_states kept)) (sym is.named)
+      (learned_gives a.learner (length m.inputs) (length m.outputs) a.extra a.max_states kept learned words_of_table is.ok)
 
   pub table_sizes : IfOk learned (λ l. (l.model.inputs ≡ length m.inputs) × (l.model.outputs ≡ length names))
   table_sizes =
       subst (λ (ns : List (List ℕ)). IfOk learned (λ l. (l.model.inputs ≡ length m.inputs) × (l.model.outputs ≡ length ns))) (sym is.named)
-      (learned_sizes (length m.inputs) (length m.outputs) a.extra a.max_states kept learned is.ok)
+      (learned_sizes a.learner (length m.inputs) (length m.outputs) a.extra a.max_states kept learned is.ok)
 
   pub table_stops : IfErr learned (StopsBy (length m.inputs) (length m.outputs) a.extra a.max_states (answers_of kept))
   table_stops = learned_stops (length m.inputs) (length m.outputs) a.extra a.max_states (answers_of kept) learned words_of_table is.stops
@@ -84,28 +85,28 @@ module _ (a : LearnValues) (m : Machine) (prior : List KeptAnswer) (learned : Re
       (few_instances a.workers prior is.keeps.since kept is.keeps.first are is.keeps.instances_are few)
 
 -- of children whose outputs were declared
-module _ (words letters outputs : List (List ℕ)) (workers k most : ℕ) (prior : List KeptAnswer) (before now : SpawnerSeen) (learned : Result Learned LearnStop) (kept : List KeptAnswer) (names : List (List ℕ)) (named : names ≡ outputs) (is : IsOfChildren words letters (Some outputs) workers k most prior before now learned kept names) where
-  declared_gives : IfOk learned (GivesModel (length letters) (length names) k most kept)
+module _ (kind : Kind) (words letters outputs : List (List ℕ)) (workers k most : ℕ) (prior : List KeptAnswer) (before now : SpawnerSeen) (learned : Result Learned LearnStop) (kept : List KeptAnswer) (names : List (List ℕ)) (named : names ≡ outputs) (is : IsOfChildren kind words letters (Some outputs) workers k most prior before now learned kept names) where
+  declared_gives : IfOk learned (GivesModel kind (length letters) (length names) k most kept)
   declared_gives =
-      subst (λ (ns : List (List ℕ)). IfOk learned (GivesModel (length letters) (length ns) k most kept)) (sym named)
-      (learned_gives (length letters) (length outputs) k most kept learned is.keeps.words is.ok)
+      subst (λ (ns : List (List ℕ)). IfOk learned (GivesModel kind (length letters) (length ns) k most kept)) (sym named)
+      (learned_gives kind (length letters) (length outputs) k most kept learned is.keeps.words is.ok)
 
   declared_sizes : IfOk learned (λ l. (l.model.inputs ≡ length letters) × (l.model.outputs ≡ length names))
   declared_sizes =
       subst (λ (ns : List (List ℕ)). IfOk learned (λ l. (l.model.inputs ≡ length letters) × (l.model.outputs ≡ length ns))) (sym named)
-      (learned_sizes (length letters) (length outputs) k most kept learned is.ok)
+      (learned_sizes kind (length letters) (length outputs) k most kept learned is.ok)
 
 -- of children whose outputs weren't declared
-module _ (letters : List (List ℕ)) (k most : ℕ) (kept : List KeptAnswer) (names own_names : List (List ℕ)) (to : List ℕ) (ks : List Answer) (are : AreAnswers (length letters) ks) where
-  free_gives : (own learned : Result Learned LearnStop) → HasSorted to own_names names ks (answers_of kept) own learned → IfOk own (λ l. IsLearned (length letters) 4096 k most ks l.model l.table) → IfOk learned (GivesModel (length letters) (length names) k most kept)
+module _ (kind : Kind) (letters : List (List ℕ)) (k most : ℕ) (kept : List KeptAnswer) (names own_names : List (List ℕ)) (to : List ℕ) (ks : List Answer) (are : AreAnswers (length letters) ks) where
+  free_gives : (own learned : Result Learned LearnStop) → HasSorted to own_names names ks (answers_of kept) own learned → IfOk own (λ l. IsLearned kind (length letters) 4096 k most ks l.model l.learner) → IfOk learned (GivesModel kind (length letters) (length names) k most kept)
   free_gives (Ok l0) (Ok l) same is = λ end kept_is carried counted.
-      has_model_sorted (length letters) 4096 k most to own_names names ks (answers_of kept) (Ok l0) (Ok l) l0 l end same refl are is refl (ap (λ (x : List KeptAnswer). answers_of x) kept_is) carried counted
+      has_model_sorted kind (length letters) 4096 k most to own_names names ks (answers_of kept) (Ok l0) (Ok l) l0 l end same refl are is refl (ap (λ (x : List KeptAnswer). answers_of x) kept_is) carried counted
   free_gives (Err stop) (Ok l) same is = let wrong = same.renamed in absurd (cc)
   free_gives own (Err stop) same is = tt
 
-  free_sizes : (own learned : Result Learned LearnStop) → HasSorted to own_names names ks (answers_of kept) own learned → IfOk own (λ l. IsLearned (length letters) 4096 k most ks l.model l.table) → IfOk learned (λ l. (l.model.inputs ≡ length letters) × (l.model.outputs ≡ length names))
+  free_sizes : (own learned : Result Learned LearnStop) → HasSorted to own_names names ks (answers_of kept) own learned → IfOk own (λ l. IsLearned kind (length letters) 4096 k most ks l.model l.learner) → IfOk learned (λ l. (l.model.inputs ≡ length letters) × (l.model.outputs ≡ length names))
   free_sizes (Ok l0) (Ok l) same is =
-      let settled = sorted_settled to own_names names ks (answers_of kept) (Ok l0) (Ok l) l0 l same refl refl (length letters) 4096 k most are is in
+      let settled = sorted_settled to own_names names ks (answers_of kept) (Ok l0) (Ok l) l0 l same refl refl kind (length letters) 4096 k most are is in
       (settled.certified.inputs, settled.certified.outputs)
   free_sizes (Err stop) (Ok l) same is = let wrong = same.renamed in absurd (cc)
   free_sizes own (Err stop) same is = tt
@@ -124,19 +125,19 @@ keeps_over letters outputs names prior kept links workers keeps are few small =
     over_of (length letters) (length names) kept keeps.words keeps.below (few_instances (length links) prior keeps.since kept keeps.first are keeps.instances (omega (arith, few, small)))
 
 -- of children by a command
-module _ (words letters : List (List ℕ)) (workers k most : ℕ) (prior : List KeptAnswer) (before now : SpawnerSeen) (learned : Result Learned LearnStop) (kept : List KeptAnswer) (names : List (List ℕ)) where
-  pub command_gives : (outputs : Option (List (List ℕ))) → IsOfCommand words letters outputs workers k most prior before now learned kept names → IfOk learned (GivesModel (length letters) (length names) k most kept)
-  command_gives None is = let free = is.1 in free_gives letters k most kept names free.own_names free.new_numbers free.own_answers free.answers free.own learned free.same free.ok
-  command_gives (Some outputs) is = declared_gives words letters outputs workers k most prior before now learned kept names is.0 is.1
+module _ (kind : Kind) (words letters : List (List ℕ)) (workers k most : ℕ) (prior : List KeptAnswer) (before now : SpawnerSeen) (learned : Result Learned LearnStop) (kept : List KeptAnswer) (names : List (List ℕ)) where
+  pub command_gives : (outputs : Option (List (List ℕ))) → IsOfCommand kind words letters outputs workers k most prior before now learned kept names → IfOk learned (GivesModel kind (length letters) (length names) k most kept)
+  command_gives None is = let free = is.1 in free_gives kind letters k most kept names free.own_names free.new_numbers free.own_answers free.answers free.own learned free.same free.ok
+  command_gives (Some outputs) is = declared_gives kind words letters outputs workers k most prior before now learned kept names is.0 is.1
 
-  pub command_sizes : (outputs : Option (List (List ℕ))) → IsOfCommand words letters outputs workers k most prior before now learned kept names → IfOk learned (λ l. (l.model.inputs ≡ length letters) × (l.model.outputs ≡ length names))
-  command_sizes None is = let free = is.1 in free_sizes letters k most kept names free.own_names free.new_numbers free.own_answers free.answers free.own learned free.same free.ok
-  command_sizes (Some outputs) is = declared_sizes words letters outputs workers k most prior before now learned kept names is.0 is.1
+  pub command_sizes : (outputs : Option (List (List ℕ))) → IsOfCommand kind words letters outputs workers k most prior before now learned kept names → IfOk learned (λ l. (l.model.inputs ≡ length letters) × (l.model.outputs ≡ length names))
+  command_sizes None is = let free = is.1 in free_sizes kind letters k most kept names free.own_names free.new_numbers free.own_answers free.answers free.own learned free.same free.ok
+  command_sizes (Some outputs) is = declared_sizes kind words letters outputs workers k most prior before now learned kept names is.0 is.1
 
-  pub command_stops : (outputs : Option (List (List ℕ))) → IsOfCommand words letters outputs workers k most prior before now learned kept names → IfErr learned (StopsBy (length letters) (count_of outputs) k most (answers_of kept))
-  command_stops None is = let free = is.1 in free_stops letters k most kept names free.own_names free.new_numbers free.own_answers free.answers free.own learned free.keeps.words free.same free.stops
+  pub command_stops : (outputs : Option (List (List ℕ))) → IsOfCommand kind words letters outputs workers k most prior before now learned kept names → IfErr learned (StopsBy (length letters) (count_of outputs) k most (answers_of kept))
+  command_stops None is = let free = is.1 in free_stops kind letters k most kept names free.own_names free.new_numbers free.own_answers free.answers free.own learned free.keeps.words free.same free.stops
   command_stops (Some outputs) is = learned_stops (length letters) (length outputs) k most (answers_of kept) learned is.1.keeps.words is.1.stops
 
-  pub command_over : (outputs : Option (List (List ℕ))) → IsOfCommand words letters outputs workers k most prior before now learned kept names → ArePrior prior → workers ≤ 16 → AreKeptOver (length letters) (length names) kept
+  pub command_over : (outputs : Option (List (List ℕ))) → IsOfCommand kind words letters outputs workers k most prior before now learned kept names → ArePrior prior → workers ≤ 16 → AreKeptOver (length letters) (length names) kept
   command_over None is are small = let free = is.1 in keeps_over letters None names [] kept free.links workers free.keeps (λ i d lt. absurd (omega (arith, lt))) free.few small
   command_over (Some outputs) is are small = keeps_over letters (Some outputs) names prior kept is.1.links workers is.1.keeps are is.1.few small

@@ -11,7 +11,10 @@ use Rattle.lw_desk.specs.Naming.{Naming}
 use Rattle.lw_mealy.specs.Gives.{Gives}
 use Rattle.lw_mealy.specs.Limits.{MealyMachine}
 use Rattle.lw_mealy.specs.Machine.{Rows}
+use Rattle.lw_rounds.specs.Learner.{refinements_of}
 use Rattle.lw_rounds.specs.declared.learned.Learned.{Learned as Found}
+use Rattle.lw_rounds.specs.declared.learner.Kind.{Kind}
+use Rattle.lw_rounds.specs.declared.learner.Learner.{Learner}
 use Rattle.lw_rounds.specs.declared.stops.LearnStop.{LearnStop}
 use Rattle.lw_rounds.specs.declared.stops.LearnStop.TheVariants as learn
 use Rattle.lw_workers.specs.Machines.{IsReached, IsWithin}
@@ -34,7 +37,6 @@ use Rattle.lw_learn.specs.Arguments.{LearnValues}
 use Rattle.lw_learn.specs.Calls.{MadeWrites}
 use Rattle.lw_json.specs.MachineText.{written_text}
 use Rattle.lw_json.specs.declared.machine.Machine.{Machine}
-use Rattle.lw_table.specs.Table.{TableState}
 use Rattle.lw_report.specs.declared.stops.TellStop.TheVariants as tell
 use Rattle.lw_children.specs.Keeping.{count_of}
 use Rattle.lw_learn.specs.Ending.{Carries, EndsLearned, EndsRead, EndsUnread, IsSoundSystem, IsToldOf, end_outputs}
@@ -141,14 +143,14 @@ reached_stop n (learn.Ask ask.NoMemory) is = tt
 reached_stop n (learn.Crowd words) is = absurd is
 reached_stop n (learn.TooLarge model number) is = absurd is
 
-reached_command : (words letters : List (List ℕ)) (outputs : Option (List (List ℕ))) (workers k most : ℕ) (prior : List KeptAnswer) (b z : SpawnerSeen) (learned : Result Found LearnStop) (kept : List KeptAnswer) (names : List (List ℕ)) (r : Rows) → IsOfCommand words letters outputs workers k most prior b z learned kept names
+reached_command : (kind : Kind) (words letters : List (List ℕ)) (outputs : Option (List (List ℕ))) (workers k most : ℕ) (prior : List KeptAnswer) (b z : SpawnerSeen) (learned : Result Found LearnStop) (kept : List KeptAnswer) (names : List (List ℕ)) (r : Rows) → IsOfCommand kind words letters outputs workers k most prior b z learned kept names
     → (¬ CountedFault b.faults z.faults) → ((links : List Retired) → z.retired ≡ b.retired ++ links → All (IsSound outputs) links) → IsWithin (length letters) k most r → Gives r (answers_of kept) → IsReached (length r) learned
-reached_command words letters None workers k most prior b z learned kept names r is quiet sound within gives = let free = is.1 in free.reached r within gives quiet (sound free.links free.spawner.retired)
-reached_command words letters (Some outputs) workers k most prior b z learned kept names r is quiet sound within gives = is.1.reached r within gives quiet (sound is.1.links is.1.spawner.retired)
+reached_command kind words letters None workers k most prior b z learned kept names r is quiet sound within gives = let free = is.1 in free.reached r within gives quiet (sound free.links free.spawner.retired)
+reached_command kind words letters (Some outputs) workers k most prior b z learned kept names r is quiet sound within gives = is.1.reached r within gives quiet (sound is.1.links is.1.spawner.retired)
 
 reached_system : (a : LearnValues) (s : System) (prior : List KeptAnswer) (b z : SpawnerSeen) (learned : Result Found LearnStop) (kept : List KeptAnswer) (names : List (List ℕ)) (r : Rows) → IsOfSystem a s prior b z learned kept names → IsSoundSystem s b z → IsWithin (length (letters_of s)) a.extra a.max_states r → Gives r (answers_of kept) → IsReached (length r) learned
 reached_system a (Table m) prior b z learned kept names r found sound within gives = found.1.reached r within gives
-reached_system a (Children c) prior b z learned kept names r found sound within gives = reached_command c.words c.inputs c.outputs a.workers a.extra a.max_states prior b z learned kept names r found sound.0 sound.1 within gives
+reached_system a (Children c) prior b z learned kept names r found sound within gives = reached_command a.learner c.words c.inputs c.outputs a.workers a.extra a.max_states prior b z learned kept names r found sound.0 sound.1 within gives
 
 -- so a call comes to a model, or runs out of memory
 pub reached_end : (a : LearnValues) (s : System) (prior : List KeptAnswer) (naming : Naming) (learned : Result Found LearnStop) (kept : List KeptAnswer) (f g : FilesState) (b z : SpawnerSeen) (o p e d : SinkState) (end : End) → IsOfSystem a s prior b z learned kept naming.names → IsToldOf a s naming learned kept f g o p e d end
@@ -158,22 +160,22 @@ reached_end a s prior naming learned kept f g b z o p e d end found told r none 
   where
     by : (x : Result Found LearnStop) → IsReached (length r) x → Carries x end → IsReachedOutcome (length r) end.outcome
     by (Ok l) few carries =
-        told_reached (length r) l.model l.table.refinements end.outcome few carries.3
+        told_reached (length r) l.model (refinements_of l.learner) end.outcome few carries.3
         (λ is. ⊎_elim (λ (x : CountedFault o.faults p.faults). none.of_out x) (λ (x : CountedFault e.faults d.faults). none.of_err x) (told.sink_fault is))
         (λ role is. none.of_files (told.file_fault role is))
     by (Err stop) is carries = stands_as (IsReachedOutcome (length r)) (learn_outcome stop) end.outcome carries.2 (reached_stop (length r) stop is) tt
 
 -- and has the model that was learned
-pub model_end : (a b k most : ℕ) (learned : Result Found LearnStop) (kept : List KeptAnswer) (end : End) → IfOk learned (GivesModel a b k most kept) → end.kept.answers ≡ kept → Carries learned end → IfSome end.model (HasModel a b k most end)
-model_end a b k most (Ok l) kept end gives same carries = subst (λ (m : Option MealyMachine). IfSome m (HasModel a b k most end)) (sym carries.0) (gives end same carries.1 carries.2)
-model_end a b k most (Err stop) kept end gives same carries = subst (λ (m : Option MealyMachine). IfSome m (HasModel a b k most end)) (sym carries.0) tt
+pub model_end : (kind : Kind) (a b k most : ℕ) (learned : Result Found LearnStop) (kept : List KeptAnswer) (end : End) → IfOk learned (GivesModel kind a b k most kept) → end.kept.answers ≡ kept → Carries learned end → IfSome end.model (HasModel kind a b k most end)
+model_end kind a b k most (Ok l) kept end gives same carries = subst (λ (m : Option MealyMachine). IfSome m (HasModel kind a b k most end)) (sym carries.0) (gives end same carries.1 carries.2)
+model_end kind a b k most (Err stop) kept end gives same carries = subst (λ (m : Option MealyMachine). IfSome m (HasModel kind a b k most end)) (sym carries.0) tt
 
 -- what writing a model out came to
-pub record HasWritten (a : LearnValues) (m : Machine) (table : TableState) (kept : List KeptAnswer) (f g : FilesState) (o p : SinkState) (e d : SinkState) (end : End) : Type 0 where
-  pub outcome : IsTold m.mealy table.refinements end.outcome
+pub record HasWritten (a : LearnValues) (m : Machine) (learner : Learner) (kept : List KeptAnswer) (f g : FilesState) (o p : SinkState) (e d : SinkState) (end : End) : Type 0 where
+  pub outcome : IsTold m.mealy (refinements_of learner) end.outcome
   pub model : end.model ≡ Some m.mealy
-  pub table_is : end.table ≡ Some table
-  pub refinements : end.refinements ≡ table.refinements
+  pub learner_is : end.learner ≡ Some learner
+  pub refinements : end.refinements ≡ refinements_of learner
   pub kept_is : end.kept.answers ≡ kept
   pub files : WritesFiles a m kept end.outcome g.holds (f.calls, g.calls)
   pub out : WritesOut a.model (written_text m) end.outcome (o.taken, p.taken) (o.faults, p.faults)
@@ -182,15 +184,15 @@ pub record HasWritten (a : LearnValues) (m : Machine) (table : TableState) (kept
   pub failed : (r : Role) → end.outcome ≡ FileFault r → CountedFault f.faults g.faults
   pub refused : end.outcome ≡ SinkFault → CountedFault o.faults p.faults ⊎ CountedFault e.faults d.faults
   pub said : ¬ CountedFault e.faults d.faults → TakesAll (text_of m.inputs m.outputs kept a.extra end.outcome) e.taken d.taken
-  pub part : TakesInTurn (text_of m.inputs m.outputs kept a.extra (Learned m.mealy table.refinements)) (text_of m.inputs m.outputs kept a.extra end.outcome) e.taken d.taken
+  pub part : TakesInTurn (text_of m.inputs m.outputs kept a.extra (Learned m.mealy (refinements_of learner))) (text_of m.inputs m.outputs kept a.extra end.outcome) e.taken d.taken
   pub reads : g.reads ≡ f.reads
   pub quiet : IsLearnedOutcome end.outcome → (g.faults ≡ f.faults) × (p.faults ≡ o.faults) × (d.faults ≡ e.faults)
   pub counts : (f.faults ≤ g.faults) × (o.faults ≤ p.faults) × (e.faults ≤ d.faults)
 
 -- a learning with a model, which was written out under its names
-pub told_written : (a : LearnValues) (s : System) (naming : Naming) (l : Found) (m : Machine) (kept : List KeptAnswer) (f g : FilesState) (o p e d : SinkState) (end : End) → m.inputs ≡ letters_of s → m.outputs ≡ naming.names → m.mealy ≡ l.model → end.outputs ≡ end_outputs (declared_of s) kept naming → HasWritten a m l.table kept f g o p e d end → IsToldOf a s naming (Ok l) kept f g o p e d end
+pub told_written : (a : LearnValues) (s : System) (naming : Naming) (l : Found) (m : Machine) (kept : List KeptAnswer) (f g : FilesState) (o p e d : SinkState) (end : End) → m.inputs ≡ letters_of s → m.outputs ≡ naming.names → m.mealy ≡ l.model → end.outputs ≡ end_outputs (declared_of s) kept naming → HasWritten a m l.learner kept f g o p e d end → IsToldOf a s naming (Ok l) kept f g o p e d end
 told_written a s naming l m kept f g o p e d end inputs outputs mealy own w = record {
-  carries = (w.model ∙ ap (λ (h : MealyMachine). Some h) mealy, w.table_is, w.refinements, subst (λ (h : MealyMachine). IsTold h l.table.refinements end.outcome) mealy w.outcome);
+  carries = (w.model ∙ ap (λ (h : MealyMachine). Some h) mealy, w.learner_is, w.refinements, subst (λ (h : MealyMachine). IsTold h (refinements_of l.learner) end.outcome) mealy w.outcome);
   kept_is = w.kept_is;
   outputs = own;
   written = subst (λ (h : Option MealyMachine). IfSome h (WritesModel a kept end.outcome g.holds (o.taken, p.taken) (o.faults, p.faults) (letters_of s) naming.names)) (sym w.model) done;
@@ -217,17 +219,17 @@ told_written a s naming l m kept f g o p e d end inputs outputs mealy own w = re
     same : (x : Outcome) → text_of m.inputs m.outputs kept a.extra x ≡ text_of (letters_of s) naming.names kept a.extra x
     same x = text_same m.inputs (letters_of s) m.outputs naming.names kept kept a.extra x inputs outputs refl
 
-    line : text_of m.inputs m.outputs kept a.extra (Learned m.mealy l.table.refinements) ≡ line_of (letters_of s) naming.names kept a.extra end.model end.refinements
+    line : text_of m.inputs m.outputs kept a.extra (Learned m.mealy (refinements_of l.learner)) ≡ line_of (letters_of s) naming.names kept a.extra end.model end.refinements
     line =
-        same (Learned m.mealy l.table.refinements)
+        same (Learned m.mealy (refinements_of l.learner))
         ∙ (ap (λ (n : ℕ). line_of (letters_of s) naming.names kept a.extra (Some m.mealy) n) (sym w.refinements)
         ∙ ap (λ (h : Option MealyMachine). line_of (letters_of s) naming.names kept a.extra h end.refinements) (sym w.model))
 
 -- a learning with a model for whose texts there was no memory: nothing was written
-pub told_left : (a : LearnValues) (s : System) (naming : Naming) (l : Found) (kept : List KeptAnswer) (f : FilesState) (o e d : SinkState) (end : End) → length (letters_of s) ≤ 64 → (l.model.inputs ≡ length (letters_of s)) × (l.model.outputs ≡ length naming.names) → end.outcome ≡ NoMemory → end.model ≡ Some l.model → end.table ≡ Some l.table → end.refinements ≡ l.table.refinements → end.kept.answers ≡ kept
+pub told_left : (a : LearnValues) (s : System) (naming : Naming) (l : Found) (kept : List KeptAnswer) (f : FilesState) (o e d : SinkState) (end : End) → length (letters_of s) ≤ 64 → (l.model.inputs ≡ length (letters_of s)) × (l.model.outputs ≡ length naming.names) → end.outcome ≡ NoMemory → end.model ≡ Some l.model → end.learner ≡ Some l.learner → end.refinements ≡ refinements_of l.learner → end.kept.answers ≡ kept
     → end.outputs ≡ end_outputs (declared_of s) kept naming → (¬ CountedFault e.faults d.faults → TakesAll (text_of [] [] [] 0 NoMemory) e.taken d.taken) → TakesSome (text_of [] [] [] 0 NoMemory) e.taken d.taken → e.faults ≤ d.faults → IsToldOf a s naming (Ok l) kept f f o o e d end
-told_left a s naming l kept f o e d end few sizes wants model table refinements kept_is outputs said part counts = record {
-  carries = (model, table, refinements, subst (λ (x : Outcome). IsTold l.model l.table.refinements x) (sym wants) tt);
+told_left a s naming l kept f o e d end few sizes wants model learner refinements kept_is outputs said part counts = record {
+  carries = (model, learner, refinements, subst (λ (x : Outcome). IsTold l.model (refinements_of l.learner) x) (sym wants) tt);
   kept_is = kept_is;
   outputs = outputs;
   written = subst (λ (h : Option MealyMachine). IfSome h (WritesModel a kept end.outcome f.holds (o.taken, o.taken) (o.faults, o.faults) (letters_of s) naming.names)) (sym model) none_written;
@@ -271,13 +273,13 @@ told_left a s naming l kept f o e d end few sizes wants model table refinements 
     text = sym (ap (λ (x : Outcome). text_of (letters_of s) naming.names kept a.extra x) wants)
 
 -- what was found of a system, and told
-pub ends_learned : (a : LearnValues) (s : System) (prior : List KeptAnswer) (naming : Naming) (learned : Result Found LearnStop) (kept : List KeptAnswer) (f g : FilesState) (b z : SpawnerSeen) (o p e d : SinkState) (end : End) → IsOfSystem a s prior b z learned kept naming.names → IfOk learned (GivesModel (length (letters_of s)) (length naming.names) a.extra a.max_states kept)
+pub ends_learned : (a : LearnValues) (s : System) (prior : List KeptAnswer) (naming : Naming) (learned : Result Found LearnStop) (kept : List KeptAnswer) (f g : FilesState) (b z : SpawnerSeen) (o p e d : SinkState) (end : End) → IsOfSystem a s prior b z learned kept naming.names → IfOk learned (GivesModel a.learner (length (letters_of s)) (length naming.names) a.extra a.max_states kept)
     → IfErr learned (StopsBy (length (letters_of s)) (count_of (declared_of s)) a.extra a.max_states (answers_of kept)) → IsToldOf a s naming learned kept f g o p e d end → EndsLearned a s prior f g b z o p e d end
 ends_learned a s prior naming learned kept f g b z o p e d end found gives stops told = record {
   naming = naming;
   learned = learned;
   found = subst (λ (ks : List KeptAnswer). IsOfSystem a s prior b z learned ks naming.names) (sym told.kept_is) found;
-  model = model_end (length (letters_of s)) (length naming.names) a.extra a.max_states learned kept end gives told.kept_is told.carries;
+  model = model_end a.learner (length (letters_of s)) (length naming.names) a.extra a.max_states learned kept end gives told.kept_is told.carries;
   stops = subst (λ (ks : List KeptAnswer). IfErr learned (StopsBy (length (letters_of s)) (count_of (declared_of s)) a.extra a.max_states (answers_of ks))) (sym told.kept_is) stops;
   reached = reached_end a s prior naming learned kept f g b z o p e d end found told;
   told = subst (λ (ks : List KeptAnswer). IsToldOf a s naming learned ks f g o p e d end) (sym told.kept_is) told;

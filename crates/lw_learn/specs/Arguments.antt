@@ -1,14 +1,16 @@
 -- The values of the arguments of `learn`, as contracts see them.
 use Rattle.std.specs.Prelude.{ℕ, ◌≤◌, List, Option}
+use Rattle.lw_rounds.specs.declared.learner.Kind.{Kind}
 use Rattle.lw_learn.specs.declared.arguments.Source.{Source}
 
--- the kind and the name of the system's file, the number of instances, the extra states, the greatest number of states, the
--- file for the model and that for the answers, and the file of prior answers
+-- the kind and the name of the system's file, the number of instances, the extra states, the kind of the learner, the greatest
+-- number of states, the file for the model and that for the answers, and the file of prior answers
 pub record LearnValues : Type 0 where
   pub source : Source
   pub system : List ℕ
   pub workers : ℕ
   pub extra : ℕ
+  pub learner : Kind
   pub max_states : ℕ
   pub model : Option (List ℕ)
   pub answers : Option (List ℕ)

@@ -9,6 +9,7 @@ use Rattle.lw_desk.specs.Naming.{Naming}
 use Rattle.lw_mealy.specs.Gives.{Gives}
 use Rattle.lw_mealy.specs.Machine.{Rows}
 use Rattle.lw_outside.specs.Links.{Retired}
+use Rattle.lw_rounds.specs.Learner.{refinements_of}
 use Rattle.lw_rounds.specs.declared.learned.Learned.{Learned as Found}
 use Rattle.lw_rounds.specs.declared.stops.LearnStop.{LearnStop}
 use Rattle.lw_workers.specs.Machines.{IsWithin}
@@ -52,7 +53,7 @@ pub record EndsUnread (a : LearnValues) (f g : FilesState) (b z : SpawnerSeen) (
 -- what a learning answered is what the end says: its model is carried with its learner, and was written out, but that a write
 -- may have failed or memory run out; or the outcome is that of its stop, but that memory may have run out
 abbrev pub Carries : Result Found LearnStop → End → Type 0
-Carries (Ok l) end = (end.model ≡ Some l.model) × (end.table ≡ Some l.table) × (end.refinements ≡ l.table.refinements) × IsTold l.model l.table.refinements end.outcome
+Carries (Ok l) end = (end.model ≡ Some l.model) × (end.learner ≡ Some l.learner) × (end.refinements ≡ refinements_of l.learner) × IsTold l.model (refinements_of l.learner) end.outcome
 Carries (Err stop) end = (end.model ≡ None) × IsWithoutLearner end × StandsOrWants (learn_outcome stop) end.outcome
 
 -- the names of outputs that an end has: where they weren't declared, those of the kept answers, if there are any
@@ -93,7 +94,7 @@ pub record EndsLearned (a : LearnValues) (s : System) (prior : List KeptAnswer) 
   pub learned : Result Found LearnStop
   pub found : IsOfSystem a s prior b z learned end.kept.answers naming.names
   -- the model, and what it is worth
-  pub model : IfSome end.model (HasModel (length (letters_of s)) (length naming.names) a.extra a.max_states end)
+  pub model : IfSome end.model (HasModel a.learner (length (letters_of s)) (length naming.names) a.extra a.max_states end)
   pub stops : IfErr learned (StopsBy (length (letters_of s)) (count_of (declared_of s)) a.extra a.max_states (answers_of end.kept.answers))
   -- where nothing outside was wrong, and a machine of n states that gives the answers is within the limits, a model comes within
   -- n - 1 refinements, or memory runs out

@@ -22,7 +22,7 @@ use Rattle.lw_learn.specs.declared.task.System.TheVariants.{Table, Children}
 pub record IsOfInstances (a : LearnValues) (m : Machine) (prior : List KeptAnswer) (learned : Result Learned LearnStop) (kept : List KeptAnswer) (names : List (List ℕ)) : Type 0 where
   pub named : names ≡ m.outputs
   pub keeps : KeepsRuns m.mealy a.workers prior kept
-  pub ok : IfOk learned (λ l. IsLearned (length m.inputs) (length m.outputs) a.extra a.max_states (answers_of kept) l.model l.table)
+  pub ok : IfOk learned (λ l. IsLearned a.learner (length m.inputs) (length m.outputs) a.extra a.max_states (answers_of kept) l.model l.learner)
   pub stops : IfErr learned (StopsAs (length m.inputs) (length m.outputs) a.extra a.max_states (answers_of kept))
   pub causes : IfErr learned (IsMachineStop kept)
   pub reached : (r : Rows) → IsWithin (length m.inputs) a.extra a.max_states r → Gives r (answers_of kept) → IsReached (length r) learned
@@ -30,7 +30,7 @@ pub record IsOfInstances (a : LearnValues) (m : Machine) (prior : List KeptAnswe
 -- of a system: no child is started for a machine
 abbrev pub IsOfSystem : LearnValues → System → List KeptAnswer → (before now : SpawnerSeen) → Result Learned LearnStop → List KeptAnswer → List (List ℕ) → Type 0
 IsOfSystem a (Table m) prior before now learned kept names = (now ≡ before) × IsOfInstances a m prior learned kept names
-IsOfSystem a (Children c) prior before now learned kept names = IsOfCommand c.words c.inputs c.outputs a.workers a.extra a.max_states prior before now learned kept names
+IsOfSystem a (Children c) prior before now learned kept names = IsOfCommand a.learner c.words c.inputs c.outputs a.workers a.extra a.max_states prior before now learned kept names
 
 -- why there is no model, by the answers: too many words are apart, or the suite is too large; nothing where an ask stopped
 abbrev pub StopsBy : (a b k most : ℕ) → List Answer → LearnStop → Type 0

@@ -1,6 +1,7 @@
 //! The values of the arguments of `learn`.
 ghost use Rattle.std.specs.Prelude.{◌≡◌, ◌≤◌, option_map, string_bytes};
 
+use lw_rounds::Kind;
 use std::marker::Model;
 
 /// What kind of file a system is read of.
@@ -13,14 +14,15 @@ pub enum Source {
 }
 
 /// The values of the arguments of `learn`: the file of the system and its kind, how many instances there are, the extra states,
-/// the greatest number of states, the files for the model and for the answers, where these are to be written, and the file of
-/// prior answers, where there are some.
+/// the kind of the learner, the greatest number of states, the files for the model and for the answers, where these are to be
+/// written, and the file of prior answers, where there are some.
 #[derive(Drop)]
 pub struct LearnArguments {
     source: Source,
     system: String,
     workers: u8,
     extra: u8,
+    learner: Kind,
     max_states: u16,
     model: Option<String>,
     answers: Option<String>,
@@ -38,6 +40,7 @@ impl Model for LearnArguments {
       system = string_bytes a.system;
       workers = a.workers;
       extra = a.extra;
+      learner = a.learner;
       max_states = a.max_states;
       model = option_map (λ s. string_bytes s) a.model;
       answers = option_map (λ s. string_bytes s) a.answers;
@@ -49,6 +52,7 @@ impl Model for LearnArguments {
       system = string_bytes a.system;
       workers = a.workers;
       extra = a.extra;
+      learner = a.learner;
       max_states = a.max_states;
       model = option_map (λ s. string_bytes s) a.model;
       answers = option_map (λ s. string_bytes s) a.answers;
@@ -63,6 +67,7 @@ impl LearnArguments {
         system: String,
         workers: u8,
         extra: u8,
+        learner: Kind,
         max_states: u16,
         model: Option<String>,
         answers: Option<String>,
@@ -76,6 +81,7 @@ impl LearnArguments {
           system = string_bytes system;
           workers = workers;
           extra = extra;
+          learner = learner;
           max_states = max_states;
           model = option_map (λ s. string_bytes s) model;
           answers = option_map (λ s. string_bytes s) answers;
@@ -87,6 +93,7 @@ impl LearnArguments {
             system,
             workers,
             extra,
+            learner,
             max_states,
             model,
             answers,
@@ -120,6 +127,13 @@ impl LearnArguments {
         ensures limit { result ≤ 4 }
     {
         self.extra
+    }
+
+    /// The kind of the learner.
+    pub fn learner(&self) -> Kind
+        ensures { result ≡ self.now.learner }
+    {
+        self.learner
     }
 
     pub fn max_states(&self) -> u16

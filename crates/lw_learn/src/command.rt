@@ -4,6 +4,7 @@ ghost use Rattle.lw_words.specs.Cause.{CountedFault};
 ghost use Rattle.lw_json.specs.KeptOver.{AreKeptOver};
 ghost use Rattle.lw_json.specs.MachineText.{written_text};
 ghost use Rattle.lw_children.specs.Spawners.{spawner_seen};
+ghost use Rattle.lw_rounds.specs.Learner.{refinements_of};
 ghost use Rattle.lw_report.specs.Ends.{IsWithoutLearner};
 ghost use Rattle.lw_report.specs.Learnings.{learn_outcome as outcome_of};
 ghost use Rattle.lw_report.specs.Outcomes.{StandsOrWants, status_of};
@@ -32,8 +33,7 @@ use lw_json::Machine;
 use lw_mealy::Mealy;
 use lw_outside::{Files, Sink, Spawner};
 use lw_report::{End, Outcome, learn_outcome, refuse, say};
-use lw_rounds::{LearnStop, Learned};
-use lw_table::ObservationTable;
+use lw_rounds::{LearnStop, Learned, Learner};
 use lw_words::{Kept, Names, NoMemory};
 use std::alloc::Global;
 use std::sync::Wait;
@@ -44,7 +44,7 @@ fn write_out<F: Files, O: Sink, E: Sink>(
     alloc: Global,
     arguments: &LearnArguments,
     machine: Machine,
-    table: ObservationTable,
+    learner: Learner,
     kept: Kept,
     outputs: Option<OutNames>,
     files: &mut F,
@@ -52,11 +52,11 @@ fn write_out<F: Files, O: Sink, E: Sink>(
     err: &mut E,
 ) -> End
     requires over { AreKeptOver (length machine.inputs) (length machine.outputs) kept.answers }
-    ensures outcome { IsTold machine.mealy table.refinements result.outcome }
+    ensures outcome { IsTold machine.mealy (refinements_of learner) result.outcome }
     ensures status { result.status ≡ status_of result.outcome }
     ensures model { result.model ≡ Some machine.mealy }
-    ensures table { result.table ≡ Some table }
-    ensures refinements { result.refinements ≡ table.refinements }
+    ensures learner { result.learner ≡ Some learner }
+    ensures refinements { result.refinements ≡ refinements_of learner }
     ensures kept { result.kept ≡ kept }
     ensures outputs { result.outputs ≡ outputs }
     ensures files { WritesFiles arguments.now machine kept.answers result.outcome
@@ -77,7 +77,7 @@ fn write_out<F: Files, O: Sink, E: Sink>(
         TakesAll (text_of machine.inputs machine.outputs kept.answers arguments.now.extra
         result.outcome) (E.taken err.old) (E.taken err.new) }
     ensures part { TakesInTurn (text_of machine.inputs machine.outputs kept.answers
-        arguments.now.extra (Came.Learned machine.mealy table.refinements))
+        arguments.now.extra (Came.Learned machine.mealy (refinements_of learner)))
         (text_of machine.inputs machine.outputs kept.answers arguments.now.extra result.outcome)
         (E.taken err.old) (E.taken err.new) }
     ensures reads { F.reads files.new ≡ F.reads files.old }
@@ -86,7 +86,7 @@ fn write_out<F: Files, O: Sink, E: Sink>(
     ensures counts { (F.faults files.old ≤ F.faults files.new) ×
         (O.faults out.old ≤ O.faults out.new) × (E.faults err.old ≤ E.faults err.new) }
 {
-    let refinements = table.refinements();
+    let refinements = learner.refinements();
     let outcome = tell_model(
         alloc,
         arguments,
@@ -99,7 +99,7 @@ fn write_out<F: Files, O: Sink, E: Sink>(
     );
     let learned = Learned {
         model: machine.mealy,
-        table,
+        learner,
     };
     End::with_model(outcome, learned, kept, outputs)
 }
@@ -146,8 +146,8 @@ fn leave_model<E: Sink>(
     ensures outcome { result.outcome ≡ Came.NoMemory }
     ensures status { result.status ≡ status_of result.outcome }
     ensures model { result.model ≡ Some learned.model }
-    ensures table { result.table ≡ Some learned.table }
-    ensures refinements { result.refinements ≡ learned.table.refinements }
+    ensures learner { result.learner ≡ Some learned.learner }
+    ensures refinements { result.refinements ≡ refinements_of learned.learner }
     ensures kept { result.kept ≡ kept }
     ensures outputs { result.outputs ≡ outputs }
     ensures said { ¬ CountedFault (E.faults err.old) (E.faults err.new) →
@@ -188,15 +188,15 @@ fn end_model<F: Files, O: Sink, E: Sink>(
         (sink_state (E.taken err.old) (E.faults err.old))
         (sink_state (E.taken err.new) (E.faults err.new)) result }
 {
-    let Learned { model, table } = learned;
+    let Learned { model, learner } = learned;
     let read = named(system, &names, model, alloc);
     let outputs = outputs_of(system, &kept, names);
     match read {
         Ok(machine) => write_out(
-            alloc, arguments, machine, table, kept, outputs, files, out, err,
+            alloc, arguments, machine, learner, kept, outputs, files, out, err,
         ),
         Err(model) => {
-            let learned = Learned { model, table };
+            let learned = Learned { model, learner };
             leave_model(alloc, learned, kept, outputs, arguments.extra(), err)
         }
     }

@@ -19,7 +19,7 @@ use lw_children::{Command, LearnedChildren, learn_children};
 use lw_desk::OutNames;
 use lw_json::Machine;
 use lw_outside::Spawner;
-use lw_rounds::{Kind, LearnStop, Learned};
+use lw_rounds::{LearnStop, Learned};
 use lw_words::Kept;
 use lw_workers::{LearnedMachine, learn_machine};
 use std::alloc::Global;
@@ -49,6 +49,7 @@ fn learn_table<R: Threads + Wait + Sync + Drop>(
     ensures few { arguments.now.workers ≤ 16 }
 {
     let (workers, extra) = (arguments.workers(), arguments.extra());
+    let learner = arguments.learner();
     let most = arguments.max_states();
     let LearnedMachine {
         learned,
@@ -62,7 +63,7 @@ fn learn_table<R: Threads + Wait + Sync + Drop>(
         names,
         cache,
         workers,
-        Kind::Table,
+        learner,
         extra,
         most,
     );
@@ -84,8 +85,8 @@ fn learn_command<P: Spawner, R: Threads + Wait + Sync + Drop>(
     cache: Cache,
 ) -> Found
     requires ready { IsReady (Of.Children command.now) names cache }
-    ensures found { IsOfCommand command.now.words command.now.inputs command.now.outputs
-        arguments.now.workers arguments.now.extra arguments.now.max_states cache.kept
+    ensures found { IsOfCommand arguments.now.learner command.now.words command.now.inputs
+        command.now.outputs arguments.now.workers arguments.now.extra arguments.now.max_states cache.kept
         (spawner_seen (P.faults spawner.old) (P.started spawner.old) (P.retired spawner.old)
         (P.commands spawner.old))
         (spawner_seen (P.faults spawner.new) (P.started spawner.new) (P.retired spawner.new)
@@ -104,7 +105,7 @@ fn learn_command<P: Spawner, R: Threads + Wait + Sync + Drop>(
         names,
         cache,
         arguments.workers(),
-        Kind::Table,
+        arguments.learner(),
         arguments.extra(),
         arguments.max_states(),
     );
@@ -131,8 +132,8 @@ pub(crate) fn learn_system<P: Spawner, R: Threads + Wait + Sync + Drop>(
         (P.commands spawner.old))
         (spawner_seen (P.faults spawner.new) (P.started spawner.new) (P.retired spawner.new)
         (P.commands spawner.new)) result.learned result.kept.answers result.names.names }
-    ensures model { IfOk result.learned (GivesModel (length (letters_of system.now))
-        (length result.names.names) arguments.now.extra arguments.now.max_states
+    ensures model { IfOk result.learned (GivesModel arguments.now.learner
+        (length (letters_of system.now)) (length result.names.names) arguments.now.extra arguments.now.max_states
         result.kept.answers) }
     ensures sizes { IfOk result.learned (λ l.
         (l.model.inputs ≡ length (letters_of system.now)) ×

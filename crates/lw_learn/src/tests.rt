@@ -4,6 +4,7 @@ ghost use Rattle.std.specs.Prelude.{◌≤◌};
 use crate::{LearnArguments, Source, bad_is_refused, learn, told_is_learned};
 use lw_outside::{MemoryFiles, MemorySink, MemorySpawner};
 use lw_report::{End, Outcome};
+use lw_rounds::{Kind, Learner};
 use std::alloc::Global;
 use std::sync::Wait;
 use std::test::Fail;
@@ -47,7 +48,17 @@ fn limited<R: Threads + Wait + Sync + Drop>(
 {
     let mut files = files_of(alloc, TWO)?;
     let table = String::from_str(alloc, "m")?;
-    let arguments = LearnArguments::new(Source::Table, table, 2, 1, max_states, None, None, None);
+    let arguments = LearnArguments::new(
+        Source::Table,
+        table,
+        2,
+        1,
+        Kind::Table,
+        max_states,
+        None,
+        None,
+        None,
+    );
     let mut children = no_children(alloc)?;
     Ok(learn(rt, alloc, &arguments, &mut files, &mut children, out, err))
 }
@@ -66,7 +77,17 @@ fn told<R: Threads + Wait + Sync + Drop>(
     let (plan, links) = (Vec::new(alloc), Vec::new(alloc));
     let mut children = MemorySpawner::scripted(alloc, scripts, 4096, plan, links)?;
     let setup = String::from_str(alloc, "m")?;
-    let arguments = LearnArguments::new(Source::Setup, setup, 1, 0, 8, None, None, None);
+    let arguments = LearnArguments::new(
+        Source::Setup,
+        setup,
+        1,
+        0,
+        Kind::Table,
+        8,
+        None,
+        None,
+        None,
+    );
     let end = learn(rt, alloc, &arguments, &mut files, &mut children, out, err);
     let retired = children.retired().len();
     Ok((end, retired))
@@ -111,7 +132,7 @@ fn a_limit_of_states(rt: HostRuntime) -> Result<(), Fail> {
     let mut err = sink(alloc)?;
     let end = limited(rt, alloc, 1, &mut out, &mut err)?;
     assert!(rt; matches!(end.outcome, Outcome::TooManyStates(_)));
-    assert!(rt; end.model.is_none() && end.table.is_none());
+    assert!(rt; end.model.is_none() && end.learner.is_none());
     let lines = "too many states: 2 words are pairwise apart\n\"\"\n\"t\"\n";
     assert_eq!(rt; err.taken(), lines.as_bytes());
     assert_eq!(rt; out.taken().len(), 0);
@@ -125,7 +146,8 @@ fn a_model_with_its_table(rt: HostRuntime) -> Result<(), Fail> {
     let mut err = sink(alloc)?;
     let end = limited(rt, alloc, 2, &mut out, &mut err)?;
     assert!(rt; matches!(end.outcome, Outcome::Learned { refinements: 0, .. }));
-    assert!(rt; end.model.is_some() && end.table.is_some() && end.kept.len() == 3);
+    assert!(rt; end.model.is_some() && end.kept.len() == 3);
+    assert!(rt; matches!(end.learner, Some(Learner::Table(_))));
     let line = "learned: states 2, refinements 0, extra 1, answers 3\n";
     assert_eq!(rt; err.taken(), line.as_bytes());
     Ok(())

@@ -8,14 +8,16 @@ use Rattle.lw_mealy.specs.Machine.{Row, Rows}
 use Rattle.lw_cache.specs.declared.stops.AskStop.{AskStop}
 use Rattle.lw_cache.specs.declared.stops.AskStop.TheVariants as ask
 use Rattle.lw_rounds.specs.Learned.{IsCertified, IsLearned, IsReadOff, IsTooLarge}
+use Rattle.lw_rounds.specs.Learner.{refinements_of}
 use Rattle.lw_rounds.specs.Stops.{IsOwnStop}
 use Rattle.lw_rounds.specs.declared.learned.Learned.{Learned}
+use Rattle.lw_rounds.specs.declared.learner.Kind.{Kind}
+use Rattle.lw_rounds.specs.declared.learner.Learner.{Learner}
 use Rattle.lw_rounds.specs.declared.stops.LearnStop.{LearnStop}
 use Rattle.lw_rounds.specs.declared.stops.LearnStop.TheVariants as learn
 use Rattle.lw_rounds.proofs.LawLemmas.{model_is_canonical, model_is_least, too_large_is_least}
 use Rattle.lw_renumber.specs.Renaming.{renamed_answers, renamed_row, renamed_rows}
 use Rattle.lw_renumber.specs.Sorting.{HasSorted, IsSettled, StillStops, renamed_learned}
-use Rattle.lw_table.specs.Table.{TableState}
 use Rattle.lw_report.specs.Learnings.{HasModel, HasLargeSuite, IsReadOffAs, ask_outcome, learn_outcome}
 use Rattle.lw_report.specs.declared.«end».End.{End}
 use Rattle.lw_report.specs.declared.outcome.Outcome.{Outcome}
@@ -38,8 +40,8 @@ same_answers [] = refl
 same_answers (k ∷ ks) = ap₂ (λ (ys : List ℕ) (ls : List Answer). let l : Answer = record { word = k.word; outs = ys } in l ∷ ls) (same_outs k.outs) (same_answers ks)
 
 -- where no output got another number
-pub read_off_as : (a b most : ℕ) (ks : List Answer) (rows : Rows) (t : TableState) → IsReadOff a b most ks rows t → IsReadOffAs a most ks rows t
-read_off_as a b most ks rows t is = record {
+pub read_off_as : (kind : Kind) (a b most : ℕ) (ks : List Answer) (rows : Rows) (t : Learner) → IsReadOff kind a b most ks rows t → IsReadOffAs kind a most ks rows t
+read_off_as kind a b most ks rows t is = record {
   own_rows = rows;
   own_answers = ks;
   count = b;
@@ -51,14 +53,14 @@ read_off_as a b most ks rows t is = record {
   read_off = is;
 }
 
-pub has_model : (a b k most : ℕ) (end : End) (h : MealyMachine) (t : TableState) → AreAnswers a (answers_of end.kept.answers) → IsLearned a b k most (answers_of end.kept.answers) h t → end.table ≡ Some t → end.refinements ≡ t.refinements → HasModel a b k most end h
-has_model a b k most end h t are is carried counted = record {
+pub has_model : (kind : Kind) (a b k most : ℕ) (end : End) (h : MealyMachine) (t : Learner) → AreAnswers a (answers_of end.kept.answers) → IsLearned kind a b k most (answers_of end.kept.answers) h t → end.learner ≡ Some t → end.refinements ≡ refinements_of t → HasModel kind a b k most end h
+has_model kind a b k most end h t are is carried counted = record {
   certified = is.certified;
   canonical = λ m machine few gives. model_is_canonical a b k (answers_of end.kept.answers) h is.certified m machine few gives;
-  least = λ m machine gives. model_is_least a b k most (answers_of end.kept.answers) h t are is m machine gives;
-  table = t;
+  least = λ m machine gives. model_is_least kind a b k most (answers_of end.kept.answers) h t are is m machine gives;
+  learner = t;
   carried = carried;
-  read_off = read_off_as a b most (answers_of end.kept.answers) h.rows t is.carried;
+  read_off = read_off_as kind a b most (answers_of end.kept.answers) h.rows t is.carried;
   counted = counted;
 }
 
@@ -68,9 +70,9 @@ module _ (to : List ℕ) (before now : List (List ℕ)) (ks more : List Answer) 
   model_of (Ok x) = x.model
   model_of (Err stop) = l.model
 
-  abbrev table_of : Result Learned LearnStop → TableState
-  table_of (Ok x) = x.table
-  table_of (Err stop) = l.table
+  abbrev learner_of : Result Learned LearnStop → Learner
+  learner_of (Ok x) = x.learner
+  learner_of (Err stop) = l.learner
 
   renamed : Ok l ≡ renamed_learned (length now) sorted.f (Ok l0)
   renamed = sym is_is ∙ (sorted.renamed ∙ ap (renamed_learned (length now) sorted.f) was_is)
@@ -78,11 +80,11 @@ module _ (to : List ℕ) (before now : List (List ℕ)) (ks more : List Answer) 
   sorted_rows : l.model.rows ≡ renamed_rows sorted.f l0.model.rows
   sorted_rows = ap (λ (r : Result Learned LearnStop). (model_of r).rows) renamed
 
-  sorted_table : l.table ≡ l0.table
-  sorted_table = ap table_of renamed
+  sorted_learner : l.learner ≡ l0.learner
+  sorted_learner = ap learner_of renamed
 
-  pub sorted_read_off : (a b most : ℕ) → IsReadOff a b most ks l0.model.rows l0.table → IsReadOffAs a most more l.model.rows l.table
-  sorted_read_off a b most read = record {
+  pub sorted_read_off : (kind : Kind) (a b most : ℕ) → IsReadOff kind a b most ks l0.model.rows l0.learner → IsReadOffAs kind a most more l.model.rows l.learner
+  sorted_read_off kind a b most read = record {
     own_rows = l0.model.rows;
     own_answers = ks;
     count = b;
@@ -91,26 +93,26 @@ module _ (to : List ℕ) (before now : List (List ℕ)) (ks more : List Answer) 
     renames = sorted.renumbering.renames;
     rows_are = sorted_rows;
     answers_are = sorted.answers;
-    read_off = subst (IsReadOff a b most ks l0.model.rows) (sym sorted_table) read;
+    read_off = subst (IsReadOff kind a b most ks l0.model.rows) (sym sorted_learner) read;
   }
 
-  pub sorted_settled : (a b k most : ℕ) → AreAnswers a ks → IsLearned a b k most ks l0.model l0.table → IsSettled a (length now) k more l.model
-  sorted_settled a b k most are learned =
+  pub sorted_settled : (kind : Kind) (a b k most : ℕ) → AreAnswers a ks → IsLearned kind a b k most ks l0.model l0.learner → IsSettled a (length now) k more l.model
+  sorted_settled kind a b k most are learned =
       subst (λ (r : Result Learned LearnStop). IfOk r (λ x. IsSettled a (length now) k more x.model)) is_is
-      (sorted.learned a b k most are (subst (λ (r : Result Learned LearnStop). IfOk r (λ x. IsLearned a b k most ks x.model x.table)) (sym was_is) learned))
+      (sorted.learned kind a b k most are (subst (λ (r : Result Learned LearnStop). IfOk r (λ x. IsLearned kind a b k most ks x.model x.learner)) (sym was_is) learned))
 
-pub has_model_sorted : (a b k most : ℕ) (to : List ℕ) (before now : List (List ℕ)) (ks more : List Answer) (was is : Result Learned LearnStop) (l0 l : Learned) (end : End) → HasSorted to before now ks more was is → was ≡ Ok l0 → AreAnswers a ks → IsLearned a b k most ks l0.model l0.table → is ≡ Ok l
-    → answers_of end.kept.answers ≡ more → end.table ≡ Some l.table → end.refinements ≡ l.table.refinements → HasModel a (length now) k most end l.model
-has_model_sorted a b k most to before now ks more was is l0 l end sorted was_is are learned is_is kept carried counted =
-    let settled = sorted_settled to before now ks more was is l0 l sorted was_is is_is a b k most are learned in
+pub has_model_sorted : (kind : Kind) (a b k most : ℕ) (to : List ℕ) (before now : List (List ℕ)) (ks more : List Answer) (was is : Result Learned LearnStop) (l0 l : Learned) (end : End) → HasSorted to before now ks more was is → was ≡ Ok l0 → AreAnswers a ks → IsLearned kind a b k most ks l0.model l0.learner → is ≡ Ok l
+    → answers_of end.kept.answers ≡ more → end.learner ≡ Some l.learner → end.refinements ≡ refinements_of l.learner → HasModel kind a (length now) k most end l.model
+has_model_sorted kind a b k most to before now ks more was is l0 l end sorted was_is are learned is_is kept carried counted =
+    let settled = sorted_settled to before now ks more was is l0 l sorted was_is is_is kind a b k most are learned in
     let certified : IsCertified a (length now) k (answers_of end.kept.answers) l.model = subst (λ (xs : List Answer). IsCertified a (length now) k xs l.model) (sym kept) settled.certified in
     record {
       certified = certified;
       canonical = λ m machine few gives. model_is_canonical a (length now) k (answers_of end.kept.answers) l.model certified m machine few gives;
       least = λ m machine gives. settled.least m machine (subst (Gives m) kept gives);
-      table = l.table;
+      learner = l.learner;
       carried = carried;
-      read_off = subst (λ (xs : List Answer). IsReadOffAs a most xs l.model.rows l.table) (sym kept) (sorted_read_off to before now ks more was is l0 l sorted was_is is_is a b most learned.carried);
+      read_off = subst (λ (xs : List Answer). IsReadOffAs kind a most xs l.model.rows l.learner) (sym kept) (sorted_read_off to before now ks more was is l0 l sorted was_is is_is kind a b most learned.carried);
       counted = counted;
     }
 

@@ -4,5 +4,5 @@ use Rattle.lw_report.specs.declared.«end».End.{End}
 
 -- no learner is carried, and no refinement counted
 pub record IsWithoutLearner (end : End) : Type 0 where
-  pub table : end.table ≡ None
+  pub learner : end.learner ≡ None
   pub refinements : end.refinements ≡ 0

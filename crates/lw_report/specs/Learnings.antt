@@ -1,4 +1,4 @@
--- What the end of a learning says, of a system over a inputs and b outputs, with k extra states and at most so many states.
+-- What the end of a learning says, of a learner of a kind and a system over a inputs and b outputs, with k extra states and at most so many states.
 use Rattle.std.specs.Prelude.{◌≡◌, ℕ, ◌+◌, ◌≤◌, List, length, Some}
 use Rattle.lw_words.specs.Answer.{Answer, answers_of}
 use Rattle.lw_words.specs.declared.stop.SulStop.{SulStop}
@@ -10,18 +10,20 @@ use Rattle.lw_mealy.specs.Limits.{MealyMachine}
 use Rattle.lw_mealy.specs.Machine.{Rows, IsMachine}
 use Rattle.lw_separate.specs.Canonical.{IsCanonical}
 use Rattle.lw_rounds.specs.Learned.{IsCertified, IsReadOff, IsTooLarge}
+use Rattle.lw_rounds.specs.Learner.{refinements_of}
+use Rattle.lw_rounds.specs.declared.learner.Kind.{Kind}
+use Rattle.lw_rounds.specs.declared.learner.Learner.{Learner}
 use Rattle.lw_rounds.specs.declared.stops.LearnStop.{LearnStop}
 use Rattle.lw_rounds.specs.declared.stops.LearnStop.TheVariants as learn
 use Rattle.lw_renumber.specs.Renaming.{Renames, renamed_answers, renamed_rows}
-use Rattle.lw_table.specs.Table.{TableState}
 use Rattle.lw_report.specs.declared.«end».End.{End}
 use Rattle.lw_report.specs.declared.outcome.Outcome.{Outcome}
 use Rattle.lw_report.specs.declared.outcome.Outcome.TheVariants.{Nondeterministic, NoMemory, SulFailed, Gone, BadLine, TooManyStates, SuiteTooLarge}
 
--- the table is closed, the rows are the canonical form of its machine, and its access words are a crowd of as many words; all
--- but that the outputs of the rows and of the answers may have got other numbers since, by f, which g takes back: before that
--- there were so many
-pub record IsReadOffAs (a most : ℕ) (ks : List Answer) (rows : Rows) (table : TableState) : Type 0 where
+-- the learner is of the kind that was asked for; it is closed, a tree without temporary nodes; the rows are the canonical form
+-- of its machine, and its access words are a crowd of as many words; all but that the outputs of the rows and of the answers may
+-- have got other numbers since, by f, which g takes back: before that there were so many
+pub record IsReadOffAs (kind : Kind) (a most : ℕ) (ks : List Answer) (rows : Rows) (learner : Learner) : Type 0 where
   pub own_rows : Rows
   pub own_answers : List Answer
   pub count : ℕ
@@ -30,10 +32,10 @@ pub record IsReadOffAs (a most : ℕ) (ks : List Answer) (rows : Rows) (table : 
   pub renames : Renames f g
   pub rows_are : rows ≡ renamed_rows f own_rows
   pub answers_are : ks ≡ renamed_answers f own_answers
-  pub read_off : IsReadOff a count most own_answers own_rows table
+  pub read_off : IsReadOff kind a count most own_answers own_rows learner
 
 -- the end has this model, and the kept answers fix it
-pub record HasModel (a b k most : ℕ) (end : End) (h : MealyMachine) : Type 0 where
+pub record HasModel (kind : Kind) (a b k most : ℕ) (end : End) (h : MealyMachine) : Type 0 where
   -- complete, within the limits and in canonical form; it gives the kept answers; and every machine of at most k states more
   -- that gives them does on every word what the model does
   pub certified : IsCertified a b k (answers_of end.kept.answers) h
@@ -41,11 +43,12 @@ pub record HasModel (a b k most : ℕ) (end : End) (h : MealyMachine) : Type 0 w
   pub canonical : (m : Rows) → IsMachine a m → length m ≤ length h.rows + k → Gives m (answers_of end.kept.answers) → IsCanonical a m h.rows
   -- no machine of fewer states gives the answers
   pub least : (m : Rows) → IsMachine a m → Gives m (answers_of end.kept.answers) → length h.rows ≤ length m
-  -- the closed table that it is read off is carried, and the refinements are those of the table, fewer than the states
-  pub table : TableState
-  pub carried : end.table ≡ Some table
-  pub read_off : IsReadOffAs a most (answers_of end.kept.answers) h.rows table
-  pub counted : end.refinements ≡ table.refinements
+  -- the closed learner that it is read off is carried, of the kind that was asked for, and the refinements are those of the
+  -- learner, fewer than the states
+  pub learner : Learner
+  pub carried : end.learner ≡ Some learner
+  pub read_off : IsReadOffAs kind a most (answers_of end.kept.answers) h.rows learner
+  pub counted : end.refinements ≡ refinements_of learner
 
 -- so many states is the least number of a machine that gives the answers, and its suite, of this size, is too large
 pub record HasLargeSuite (a b k most : ℕ) (ks : List Answer) (states number : ℕ) : Type 0 where

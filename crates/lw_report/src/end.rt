@@ -1,6 +1,7 @@
 //! The end of a call of the program.
 ghost use Rattle.std.specs.Prelude.{◌≡◌, ◌≤◌, None, Some, option_map};
 ghost use Rattle.lw_words.specs.Cause.{CountedFault};
+ghost use Rattle.lw_rounds.specs.Learner.{refinements_of};
 ghost use Rattle.lw_report.specs.Ends.{IsWithoutLearner};
 ghost use Rattle.lw_report.specs.Outcomes.{StandsOrWants, status_of};
 ghost use Rattle.lw_report.specs.Writing.{TakesAll, TakesSome, said_text};
@@ -9,13 +10,12 @@ use crate::{Outcome, say, status};
 use lw_desk::OutNames;
 use lw_mealy::Mealy;
 use lw_outside::Sink;
-use lw_rounds::Learned;
-use lw_table::ObservationTable;
+use lw_rounds::{Learned, Learner};
 use lw_words::{Kept, Names};
 use std::alloc::Global;
 
 /// The end of a call of the program: what it came to with its exit status; the model where there is one, also where a later
-/// write failed, with the table that it was read off and how often that was refined; the kept answers; and the names of the
+/// write failed, with the learner that it was read off and how often that was refined; the kept answers; and the names of the
 /// outputs by which the model and the kept answers are numbered, where a call has them.
 #[derive(Drop)]
 pub struct End {
@@ -24,7 +24,7 @@ pub struct End {
     pub model: Option<Mealy>,
     pub kept: Kept,
     pub refinements: u32,
-    pub table: Option<ObservationTable>,
+    pub learner: Option<Learner>,
     pub outputs: Option<OutNames>,
 }
 
@@ -44,7 +44,7 @@ impl End {
             model: None,
             kept,
             refinements: 0,
-            table: None,
+            learner: None,
             outputs,
         }
     }
@@ -59,20 +59,20 @@ impl End {
         ensures outcome { result.outcome ≡ outcome }
         ensures status { result.status ≡ status_of outcome }
         ensures model { result.model ≡ Some learned.model }
-        ensures table { result.table ≡ Some learned.table }
-        ensures refinements { result.refinements ≡ learned.table.refinements }
+        ensures learner { result.learner ≡ Some learned.learner }
+        ensures refinements { result.refinements ≡ refinements_of learned.learner }
         ensures kept { result.kept ≡ kept }
         ensures outputs { result.outputs ≡ outputs }
     {
         let refinements = learned.refinements();
-        let Learned { model, table } = learned;
+        let Learned { model, learner } = learned;
         End {
             status: status(&outcome),
             outcome,
             model: Some(model),
             kept,
             refinements,
-            table: Some(table),
+            learner: Some(learner),
             outputs,
         }
     }

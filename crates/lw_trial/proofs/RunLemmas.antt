@@ -11,10 +11,11 @@ use Rattle.lw_mealy.specs.Limits.{MealyMachine, IsWithinLimits}
 use Rattle.lw_mealy.specs.Machine.{Rows, IsMachine}
 use Rattle.lw_cache.proofs.CrowdLemmas.{crowd_needs_states}
 use Rattle.lw_suite.specs.Size.{suite_size, greatest_suite}
-use Rattle.lw_table.specs.Table.{TableState}
 use Rattle.lw_rounds.specs.Learned.{IsLearned, IsReadOff, StopsAs}
+use Rattle.lw_rounds.specs.Learner.{refinements_of}
 use Rattle.lw_rounds.specs.Stops.{IsOwnStop}
 use Rattle.lw_rounds.specs.declared.learned.Learned.{Learned}
+use Rattle.lw_rounds.specs.declared.learner.Learner.{Learner}
 use Rattle.lw_rounds.specs.declared.stops.LearnStop.{LearnStop}
 use Rattle.lw_rounds.specs.declared.stops.LearnStop.TheVariants as learn
 use Rattle.lw_desk.specs.Naming.{Naming}
@@ -126,8 +127,8 @@ refused_run : (v : TrialValues) (o e d : SinkState) (end : End) → end.model �
 refused_run v o e d end none learner outputs is =
     let no_trial : IsTrial end.outcome → ⊥ = bare_no_trial end.outcome is.bare in
     record {
-      model = subst (λ (m : Option MealyMachine). IfSome m (HasModel v.inputs 2 1 1024 end)) (sym none) tt;
-      read_off = subst (λ (m : Option MealyMachine). IfSome m (λ h. (t : TableState) × (end.table ≡ Some t) × IsReadOff v.inputs 2 1024 (answers_of end.kept.answers) h.rows t)) (sym none) tt;
+      model = subst (λ (m : Option MealyMachine). IfSome m (HasModel v.learner v.inputs 2 1 1024 end)) (sym none) tt;
+      read_off = subst (λ (m : Option MealyMachine). IfSome m (λ h. (l : Learner) × (end.learner ≡ Some l) × IsReadOff v.learner v.inputs 2 1024 (answers_of end.kept.answers) h.rows l)) (sym none) tt;
       without = λ _. learner;
       told = λ t e. absurd (no_trial (subst IsTrial (sym e) tt));
       quiet = λ t. absurd (no_trial t);
@@ -165,7 +166,7 @@ learning_reached : (v : TrialValues) (kept : List KeptAnswer) (r : Result Learne
 learning_reached v kept r is small =
     subst (λ (n : ℕ). IsReached n r) (drawn_states v) (is.reached (drawn_machine v).rows (drawn_is_within v is.within small) (all_given (drawn_machine v) v.workers kept is.runs))
 
-pub few_refinements : (v : TrialValues) (kept : List KeptAnswer) (l : Learned) → HasCome (drawn_machine v) v.workers kept (Ok l) → suite_size v.states v.inputs 1 ≤ greatest_suite → l.table.refinements < v.states
+pub few_refinements : (v : TrialValues) (kept : List KeptAnswer) (l : Learned) → HasCome (drawn_machine v) v.workers kept (Ok l) → suite_size v.states v.inputs 1 ≤ greatest_suite → refinements_of l.learner < v.states
 few_refinements v kept l is small = learning_reached v kept (Ok l) is small
 
 -- a call whose learning stopped
@@ -186,27 +187,27 @@ stopped_run v o e d end stop kept come same none learner outputs stands said par
     refused_run v o e d end none learner outputs (subst (IsRefusal v e d end.outcome) (sym same) is)
 
 -- what was learned, of the end of a call
-pub record IsCarried (v : TrialValues) (end : End) (h : MealyMachine) (table : TableState) (kept : List KeptAnswer) : Type 0 where
+pub record IsCarried (v : TrialValues) (end : End) (h : MealyMachine) (learner : Learner) (kept : List KeptAnswer) : Type 0 where
   pub model : end.model ≡ Some h
-  pub carried : end.table ≡ Some table
-  pub counted : end.refinements ≡ table.refinements
+  pub carried : end.learner ≡ Some learner
+  pub counted : end.refinements ≡ refinements_of learner
   pub keeps : end.kept.answers ≡ kept
   pub outputs : end.outputs ≡ Some drawn_naming
   pub runs : KeepsRuns (drawn_machine v) v.workers [] kept
-  pub learned : IsLearned v.inputs 2 1 1024 (answers_of kept) h table
-  pub reached : suite_size v.states v.inputs 1 ≤ greatest_suite → table.refinements < v.states
+  pub learned : IsLearned v.learner v.inputs 2 1 1024 (answers_of kept) h learner
+  pub reached : suite_size v.states v.inputs 1 ≤ greatest_suite → refinements_of learner < v.states
 
-module _ (v : TrialValues) (end : End) (h : MealyMachine) (table : TableState) (kept : List KeptAnswer) (is : IsCarried v end h table kept) where
+module _ (v : TrialValues) (end : End) (h : MealyMachine) (learner : Learner) (kept : List KeptAnswer) (is : IsCarried v end h learner kept) where
   keeps_runs : KeepsRuns (drawn_machine v) v.workers [] end.kept.answers
   keeps_runs = subst (KeepsRuns (drawn_machine v) v.workers []) (sym is.keeps) is.runs
 
-  carries : IfSome end.model (HasModel v.inputs 2 1 1024 end)
+  carries : IfSome end.model (HasModel v.learner v.inputs 2 1 1024 end)
   carries =
-      let learned : IsLearned v.inputs 2 1 1024 (answers_of end.kept.answers) h table = subst (λ (ks : List KeptAnswer). IsLearned v.inputs 2 1 1024 (answers_of ks) h table) (sym is.keeps) is.learned in
-      subst (λ (m : Option MealyMachine). IfSome m (HasModel v.inputs 2 1 1024 end)) (sym is.model) (has_model v.inputs 2 1 1024 end h table keeps_runs.words learned is.carried is.counted)
+      let learned : IsLearned v.learner v.inputs 2 1 1024 (answers_of end.kept.answers) h learner = subst (λ (ks : List KeptAnswer). IsLearned v.learner v.inputs 2 1 1024 (answers_of ks) h learner) (sym is.keeps) is.learned in
+      subst (λ (m : Option MealyMachine). IfSome m (HasModel v.learner v.inputs 2 1 1024 end)) (sym is.model) (has_model v.learner v.inputs 2 1 1024 end h learner keeps_runs.words learned is.carried is.counted)
 
-  reads_off : IfSome end.model (λ h. (t : TableState) × (end.table ≡ Some t) × IsReadOff v.inputs 2 1024 (answers_of end.kept.answers) h.rows t)
-  reads_off = subst (λ (m : Option MealyMachine). IfSome m (λ h. (t : TableState) × (end.table ≡ Some t) × IsReadOff v.inputs 2 1024 (answers_of end.kept.answers) h.rows t)) (sym is.model) (table, is.carried, subst (λ (ks : List KeptAnswer). IsReadOff v.inputs 2 1024 (answers_of ks) h.rows table) (sym is.keeps) is.learned.carried)
+  reads_off : IfSome end.model (λ h. (l : Learner) × (end.learner ≡ Some l) × IsReadOff v.learner v.inputs 2 1024 (answers_of end.kept.answers) h.rows l)
+  reads_off = subst (λ (m : Option MealyMachine). IfSome m (λ h. (l : Learner) × (end.learner ≡ Some l) × IsReadOff v.learner v.inputs 2 1024 (answers_of end.kept.answers) h.rows l)) (sym is.model) (learner, is.carried, subst (λ (ks : List KeptAnswer). IsReadOff v.learner v.inputs 2 1024 (answers_of ks) h.rows learner) (sym is.keeps) is.learned.carried)
 
   outputs_are : IfSome end.outputs (λ named. named ≡ drawn_naming)
   outputs_are = subst (λ (n : Option Naming). IfSome n (λ named. named ≡ drawn_naming)) (sym is.outputs) refl
@@ -217,7 +218,7 @@ module _ (v : TrialValues) (end : End) (h : MealyMachine) (table : TableState) (
   modelled : end.model ≡ None → ⊥
   modelled none = let wrong : Some h ≡ None = sym is.model ∙ none in cc
 
-  is_tried : (t : Tried) → IsToldOf v (drawn_machine v) h table.refinements (length kept) t → IsTried v end t
+  is_tried : (t : Tried) → IsToldOf v (drawn_machine v) h (refinements_of learner) (length kept) t → IsTried v end t
   is_tried t told = record {
     states = told.states;
     inputs = told.inputs;
@@ -234,20 +235,20 @@ all_is_some : (text : List ℕ) (before now : Option (List ℕ)) → TakesAll te
 all_is_some text before now is = (length text, is ∙ ap (λ (bytes : List ℕ). option_map (λ t. t ++ bytes) before) (sym (take_all (length text) text (omega arith))))
 
 -- a call that told of a trial
-pub tried_run : (v : TrialValues) (o p e : SinkState) (end : End) (h : MealyMachine) (table : TableState) (kept : List KeptAnswer) (t : Tried) → IsCarried v end h table kept → end.outcome ≡ Trial t → IsToldOf v (drawn_machine v) h table.refinements (length kept) t
+pub tried_run : (v : TrialValues) (o p e : SinkState) (end : End) (h : MealyMachine) (learner : Learner) (kept : List KeptAnswer) (t : Tried) → IsCarried v end h learner kept → end.outcome ≡ Trial t → IsToldOf v (drawn_machine v) h (refinements_of learner) (length kept) t
     → TakesAll (trial_lines t) o.taken p.taken → p.faults ≡ o.faults → IsTrialRun v o p e e end
-tried_run v o p e end h table kept t is out told takes quiet =
-    let tried : IsTried v end t = is_tried v end h table kept is t told in
+tried_run v o p e end h learner kept t is out told takes quiet =
+    let tried : IsTried v end t = is_tried v end h learner kept is t told in
     let is_trial : IsTrial end.outcome = subst IsTrial (sym out) tt in
     record {
-      model = carries v end h table kept is;
-      read_off = reads_off v end h table kept is;
-      without = λ none. absurd (modelled v end h table kept is none);
+      model = carries v end h learner kept is;
+      read_off = reads_off v end h learner kept is;
+      without = λ none. absurd (modelled v end h learner kept is none);
       told = λ u e. let both : Trial t ≡ Trial u = sym out ∙ e in let same : t ≡ u = cc in subst (IsTried v end) same tried;
       quiet = λ _. (quiet, refl);
-      kept = keeps_runs v end h table kept is;
-      outputs = outputs_are v end h table kept is;
-      unnamed = λ none. absurd (named v end h table kept is none);
+      kept = keeps_runs v end h learner kept is;
+      outputs = outputs_are v end h learner kept is;
+      unnamed = λ none. absurd (named v end h learner kept is none);
       reached = λ small _ _. let few : t.refinements < v.states = omega (arith, told.refined, is.reached small) in subst (IsReachedTrial v.states) (sym out) few;
       written = λ _. (subst (λ (outcome : Outcome). TakesAll (said_text None None end.kept.answers 1 outcome) o.taken p.taken) (sym out) takes, refl);
       part = λ _. (t, tried, all_is_some (trial_lines t) o.taken p.taken takes);
@@ -277,15 +278,15 @@ by_cause o p P sink none outcome cause =
     cause
 
 -- a call that learned a model and didn't tell of it
-pub record IsUntold (v : TrialValues) (o p e d : SinkState) (h : MealyMachine) (table : TableState) (outcome : Outcome) (kept : List KeptAnswer) : Type 0 where
+pub record IsUntold (v : TrialValues) (o p e d : SinkState) (h : MealyMachine) (learner : Learner) (outcome : Outcome) (kept : List KeptAnswer) : Type 0 where
   pub cause : IsCause o p outcome
-  pub some : p.taken ≢ o.taken → (t : Tried) × IsToldOf v (drawn_machine v) h table.refinements (length kept) t × TakesSome (trial_lines t) o.taken p.taken
+  pub some : p.taken ≢ o.taken → (t : Tried) × IsToldOf v (drawn_machine v) h (refinements_of learner) (length kept) t × TakesSome (trial_lines t) o.taken p.taken
   pub said : ¬ CountedFault e.faults d.faults → TakesAll (said_text None None kept 1 outcome) e.taken d.taken
   pub part : TakesSome (said_text None None kept 1 outcome) e.taken d.taken
 
-pub untold_run : (v : TrialValues) (o p e d : SinkState) (end : End) (h : MealyMachine) (table : TableState) (kept : List KeptAnswer) (outcome : Outcome) → IsCarried v end h table kept → end.outcome ≡ outcome → IsUntold v o p e d h table outcome kept
+pub untold_run : (v : TrialValues) (o p e d : SinkState) (end : End) (h : MealyMachine) (learner : Learner) (kept : List KeptAnswer) (outcome : Outcome) → IsCarried v end h learner kept → end.outcome ≡ outcome → IsUntold v o p e d h learner outcome kept
     → IsTrialRun v o p e d end
-untold_run v o p e d end h table kept outcome is out untold =
+untold_run v o p e d end h learner kept outcome is out untold =
     let cause : IsCause o p end.outcome = subst (IsCause o p) (sym out) untold.cause in
     let no_trial : IsTrial end.outcome → ⊥ = by_cause o p (λ x. IsTrial x → ⊥) (λ _ t. t) (λ _ t. t) end.outcome cause in
     let said = subst (λ (x : Outcome). ¬ CountedFault e.faults d.faults → TakesAll (said_text None None end.kept.answers 1 x) e.taken d.taken) (sym out)
@@ -293,17 +294,17 @@ untold_run v o p e d end h table kept outcome is out untold =
     let part = subst (λ (x : Outcome). TakesSome (said_text None None end.kept.answers 1 x) e.taken d.taken) (sym out)
     (subst (λ (ks : List KeptAnswer). TakesSome (said_text None None ks 1 outcome) e.taken d.taken) (sym is.keeps) untold.part) in
     record {
-      model = carries v end h table kept is;
-      read_off = reads_off v end h table kept is;
-      without = λ none. absurd (modelled v end h table kept is none);
+      model = carries v end h learner kept is;
+      read_off = reads_off v end h learner kept is;
+      without = λ none. absurd (modelled v end h learner kept is none);
       told = λ t e. absurd (no_trial (subst IsTrial (sym e) tt));
       quiet = λ t. absurd (no_trial t);
-      kept = keeps_runs v end h table kept is;
-      outputs = outputs_are v end h table kept is;
-      unnamed = λ none. absurd (named v end h table kept is none);
+      kept = keeps_runs v end h learner kept is;
+      outputs = outputs_are v end h learner kept is;
+      unnamed = λ none. absurd (named v end h learner kept is none);
       reached = λ _ quiet _. by_cause o p (IsReachedTrial v.states) (λ counted. absurd (quiet counted)) (λ _. tt) end.outcome cause;
       written = λ t. absurd (no_trial t);
-      part = λ moved. let some = untold.some moved in (some.0, is_tried v end h table kept is some.0 some.1, some.2);
+      part = λ moved. let some = untold.some moved in (some.0, is_tried v end h learner kept is some.0 some.1, some.2);
       unwritten = λ _ no. by_cause o p (λ x. x ≢ SinkFault → p.taken ≡ o.taken) (λ _ other. absurd (other refl)) (λ same _. same) end.outcome cause no;
       said = λ _ quiet. said quiet;
       said_part = λ _. part;

@@ -7,7 +7,7 @@ use Rattle.lw_separate.specs.Canonical.{IsCanonical}
 use Rattle.lw_suite.specs.Size.{suite_size, greatest_suite}
 use Rattle.lw_desk.specs.Naming.{Naming}
 use Rattle.lw_rounds.specs.Learned.{IsReadOff}
-use Rattle.lw_table.specs.Table.{TableState}
+use Rattle.lw_rounds.specs.declared.learner.Learner.{Learner}
 use Rattle.lw_workers.specs.Machines.{KeepsRuns}
 use Rattle.lw_report.specs.Ends.{IsWithoutLearner}
 use Rattle.lw_report.specs.Learnings.{HasModel, HasLargeSuite}
@@ -65,9 +65,9 @@ IsTrial _ = ⊥
 -- a call with these arguments found `out` and `err` as o and e, left them as p and d, and came to the end
 pub record IsTrialRun (v : TrialValues) (o p : SinkState) (e d : SinkState) (end : End) : Type 0 where
   -- the model of the machine that was drawn, with one extra state and at most 1,024 states
-  pub model : IfSome end.model (HasModel v.inputs 2 1 1024 end)
-  -- no output has another number since: the model is the canonical form of the carried table's machine
-  pub read_off : IfSome end.model (λ h. (t : TableState) × (end.table ≡ Some t) × IsReadOff v.inputs 2 1024 (answers_of end.kept.answers) h.rows t)
+  pub model : IfSome end.model (HasModel v.learner v.inputs 2 1 1024 end)
+  -- no output has another number since: the model is the canonical form of the carried learner's machine
+  pub read_off : IfSome end.model (λ h. (l : Learner) × (end.learner ≡ Some l) × IsReadOff v.learner v.inputs 2 1024 (answers_of end.kept.answers) h.rows l)
   pub without : end.model ≡ None → IsWithoutLearner end
   pub told : (t : Tried) → end.outcome ≡ Trial t → IsTried v end t
   pub quiet : IsTrial end.outcome → (p.faults ≡ o.faults) × (d.faults ≡ e.faults)

@@ -1,16 +1,18 @@
 //! The values of the arguments of `trial`.
 ghost use Rattle.std.specs.Prelude.{◌≡◌, ◌<◌, ◌≤◌, ◌^◌};
 
+use lw_rounds::Kind;
 use std::marker::Model;
 
-/// The values of the arguments of `trial`: the states and inputs of the machine that is drawn, the seed that it is drawn by, and
-/// the number of its instances.
+/// The values of the arguments of `trial`: the states and inputs of the machine that is drawn, the seed that it is drawn by, the
+/// number of its instances, and the kind of the learner.
 #[derive(Drop)]
 pub struct TrialArguments {
     states: u16,
     inputs: u16,
     seed: u64,
     workers: u8,
+    learner: Kind,
 }
 
 impl Model for TrialArguments {
@@ -23,6 +25,7 @@ impl Model for TrialArguments {
       inputs = a.inputs;
       seed = a.seed;
       workers = a.workers;
+      learner = a.learner;
     } };
 
     ghost invariant = { λ a. AreWithinLimits (record {
@@ -30,12 +33,13 @@ impl Model for TrialArguments {
       inputs = a.inputs;
       seed = a.seed;
       workers = a.workers;
+      learner = a.learner;
     }) };
 }
 
 impl TrialArguments {
     /// These values, which are within their limits.
-    pub fn new(states: u16, inputs: u16, seed: u64, workers: u8) -> TrialArguments
+    pub fn new(states: u16, inputs: u16, seed: u64, workers: u8, learner: Kind) -> TrialArguments
         requires states { (1 ≤ states) × (states ≤ 1024) }
         requires inputs { (1 ≤ inputs) × (inputs ≤ 64) }
         requires workers { (1 ≤ workers) × (workers ≤ 16) }
@@ -44,6 +48,7 @@ impl TrialArguments {
           inputs = inputs;
           seed = seed;
           workers = workers;
+          learner = learner;
         } }
     {
         TrialArguments {
@@ -51,6 +56,7 @@ impl TrialArguments {
             inputs,
             seed,
             workers,
+            learner,
         }
     }
 
@@ -79,5 +85,12 @@ impl TrialArguments {
         ensures limits { (1 ≤ result) × (result ≤ 16) }
     {
         self.workers
+    }
+
+    /// The kind of the learner.
+    pub fn learner(&self) -> Kind
+        ensures { result ≡ self.now.learner }
+    {
+        self.learner
     }
 }

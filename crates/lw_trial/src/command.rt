@@ -3,6 +3,7 @@ ghost use Rattle.std.specs.Prelude.{◌≡◌, ◌≤◌, ◌<◌, [], IfOk, Non
 ghost use Rattle.lw_words.specs.Answer.{answers_of};
 ghost use Rattle.lw_mealy.specs.Limits.{IsWithinLimits};
 ghost use Rattle.lw_rounds.specs.Learned.{IsLearned};
+ghost use Rattle.lw_rounds.specs.Learner.{refinements_of};
 ghost use Rattle.lw_suite.specs.Size.{suite_size, greatest_suite};
 ghost use Rattle.lw_workers.specs.Machines.{KeepsRuns};
 ghost use Rattle.lw_report.specs.Outcomes.{status_of};
@@ -16,7 +17,7 @@ use lw_desk::OutNames;
 use lw_mealy::Mealy;
 use lw_outside::Sink;
 use lw_report::{End, Outcome, learn_outcome, refuse, say};
-use lw_rounds::{Kind, Learned};
+use lw_rounds::Learned;
 use lw_words::{Kept, Names, NamesFault, NoMemory};
 use lw_workers::{LearnedMachine, learn_machine};
 use std::alloc::Global;
@@ -79,13 +80,13 @@ fn report<O: Sink, E: Sink>(
     err: &mut E,
 ) -> End
     requires machine { drawn.now.machine ≡ drawn_machine arguments.now }
-    requires learned { IsLearned arguments.now.inputs 2 1 1024 (answers_of kept.answers)
-        learned.model learned.table }
+    requires learned { IsLearned arguments.now.learner arguments.now.inputs 2 1 1024
+        (answers_of kept.answers) learned.model learned.learner }
     requires kept { KeepsRuns (drawn_machine arguments.now) arguments.now.workers []
         kept.answers }
     requires named { named ≡ drawn_naming }
     requires reached { suite_size arguments.now.states arguments.now.inputs 1 ≤ greatest_suite →
-        learned.table.refinements < arguments.now.states }
+        refinements_of learned.learner < arguments.now.states }
     ensures status { result.status ≡ status_of result.outcome }
     ensures ran { IsTrialRun arguments.now
         (sink_state (O.taken out.old) (O.faults out.old))
@@ -145,7 +146,7 @@ fn learn<R: Threads + Wait + Sync + Drop, O: Sink, E: Sink>(
         named,
         Cache::new(alloc),
         arguments.workers(),
-        Kind::Table,
+        arguments.learner(),
         EXTRA,
         MOST_STATES,
     );
@@ -158,8 +159,9 @@ fn learn<R: Threads + Wait + Sync + Drop, O: Sink, E: Sink>(
     }
 }
 
-/// `trial --states N --inputs A --seed S [--workers N]`: draws a machine, learns it over so many instances, and tells on `out`
-/// what was learned and whether that is the machine. The text of every other outcome goes to `err`.
+/// `trial --states N --inputs A --seed S [--workers N] [--learner table|ttt]`: draws a machine, learns it over so many instances
+/// with a learner of that kind, and tells on `out` what was learned and whether that is the machine. The text of every other
+/// outcome goes to `err`.
 pub fn trial<R: Threads + Wait + Sync + Drop, O: Sink, E: Sink>(
     rt: R,
     alloc: Global,

@@ -1,6 +1,7 @@
 //! What is told of a trial.
 ghost use Rattle.std.specs.Prelude.{◌≡◌, ◌≢◌, ◌≤◌, length, Err, IfOk, OnOk};
 ghost use Rattle.lw_words.specs.Cause.{CountedFault};
+ghost use Rattle.lw_rounds.specs.Learner.{refinements_of};
 ghost use Rattle.lw_report.specs.Text.{trial_lines};
 ghost use Rattle.lw_report.specs.Writing.{TakesAll, TakesSome};
 ghost use Rattle.lw_report.specs.declared.outcome.Tried.{Tried as Told};
@@ -27,7 +28,7 @@ fn tried(
 ) -> Result<Tried, NoMemory>
     requires alphabets { learned.now.model.inputs ≡ machine.now.inputs }
     ensures { IfOk result (IsToldOf arguments.now machine.now learned.now.model
-        learned.now.table.refinements answers) }
+        (refinements_of learned.now.learner) answers) }
 {
     let equal = is_canonical(alloc, machine, &learned.model)?;
     Ok(Tried {
@@ -72,12 +73,12 @@ pub(crate) fn tell<O: Sink>(
 ) -> Result<Tried, TellStop>
     requires alphabets { learned.now.model.inputs ≡ machine.now.inputs }
     ensures told { IfOk result (IsToldOf arguments.now machine.now learned.now.model
-        learned.now.table.refinements (length kept.now.answers)) }
+        (refinements_of learned.now.learner) (length kept.now.answers)) }
     ensures ok { IfOk result (λ tried.
         TakesAll (trial_lines tried) (O.taken out.old) (O.taken out.new)) }
     ensures part { O.taken out.new ≢ O.taken out.old → (tried : Told) ×
-        IsToldOf arguments.now machine.now learned.now.model learned.now.table.refinements
-        (length kept.now.answers) tried ×
+        IsToldOf arguments.now machine.now learned.now.model
+        (refinements_of learned.now.learner) (length kept.now.answers) tried ×
         TakesSome (trial_lines tried) (O.taken out.old) (O.taken out.new) }
     ensures memory { result ≡ Err Stop.NoMemory → O.taken out.new ≡ O.taken out.old }
     ensures failed { result ≡ Err Stop.Sink → CountedFault (O.faults out.old) (O.faults out.new) }

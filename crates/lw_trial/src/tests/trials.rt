@@ -1,7 +1,8 @@
 //! Trials worked by hand, streams that fail, and trials of several instances.
 use crate::{TrialArguments, trial};
 use lw_outside::MemorySink;
-use lw_report::{End, Outcome};
+use lw_report::{End, Outcome, Tried};
+use lw_rounds::Kind;
 use lw_words::Kept;
 use std::alloc::Global;
 use std::sync::Wait;
@@ -32,12 +33,18 @@ const PLAIN: Case = Case {
 };
 
 /// The arguments, where they are within their limits.
-fn arguments(states: u16, inputs: u16, seed: u64, workers: u8) -> Result<TrialArguments, Fail> {
+fn arguments(
+    states: u16,
+    inputs: u16,
+    seed: u64,
+    workers: u8,
+    learner: Kind,
+) -> Result<TrialArguments, Fail> {
     let inside = (1..=1024).contains(&states) && (1..=64).contains(&inputs);
     if !inside || !(1..=16).contains(&workers) {
         return Err(Fail::from("no such arguments"));
     }
-    Ok(TrialArguments::new(states, inputs, seed, workers))
+    Ok(TrialArguments::new(states, inputs, seed, workers, learner))
 }
 
 /// A stream that takes seven bytes a call.
@@ -64,7 +71,7 @@ fn is_ended_so<R: Threads + Wait + Sync + Drop>(
     out: &mut MemorySink,
     err: &mut MemorySink,
 ) -> Result<bool, Fail> {
-    let arguments = arguments(case.states, case.inputs, 0, 1)?;
+    let arguments = arguments(case.states, case.inputs, 0, 1, Kind::Table)?;
     let end = trial(rt, alloc, &arguments, out, err);
     Ok(ends_so(&end, case))
 }
@@ -137,7 +144,7 @@ fn is_shared_trial<R: Threads + Wait + Sync + Drop>(
     out: &mut MemorySink,
     err: &mut MemorySink,
 ) -> Result<bool, Fail> {
-    let arguments = arguments(20, 4, 7, 8)?;
+    let arguments = arguments(20, 4, 7, 8, Kind::Table)?;
     let end = trial(rt, alloc, &arguments, out, err);
     Ok(is_shared(&end.kept))
 }
@@ -171,7 +178,7 @@ fn finds<R: Threads + Wait + Sync + Drop>(
     workers: u8,
     out: &mut MemorySink,
 ) -> Result<bool, Fail> {
-    let arguments = arguments(20, 4, 7, workers)?;
+    let arguments = arguments(20, 4, 7, workers, Kind::Table)?;
     let mut err = sink(alloc, &[])?;
     let end = trial(rt, alloc, &arguments, out, &mut err);
     Ok(is_found(&end))
@@ -203,5 +210,35 @@ fn the_same_text_of_any_number_of_instances(rt: HostRuntime) -> Result<(), Fail>
     assert!(rt; finds(rt, rt.alloc(), 1, &mut one)?);
     assert!(rt; is_told(rt, rt.alloc(), 2, one.taken())?);
     assert!(rt; is_told(rt, rt.alloc(), 8, one.taken())?);
+    Ok(())
+}
+
+/// What a trial of 20 states and 2 inputs by seed 1 tells with a learner of this kind.
+fn tried_by<R: Threads + Wait + Sync + Drop>(
+    rt: R,
+    alloc: Global,
+    learner: Kind,
+) -> Result<Tried, Fail> {
+    let arguments = arguments(20, 2, 1, 1, learner)?;
+    let mut out = sink(alloc, &[])?;
+    let mut err = sink(alloc, &[])?;
+    let end = trial(rt, alloc, &arguments, &mut out, &mut err);
+    match &end.outcome {
+        Outcome::Trial(tried) => Ok(*tried),
+        _ => Err(Fail::from("no trial was told")),
+    }
+}
+
+#[test]
+fn a_tree_finds_what_a_table_does(rt: HostRuntime) -> Result<(), Fail> {
+    let table = tried_by(rt, rt.alloc(), Kind::Table)?;
+    let tree = tried_by(rt, rt.alloc(), Kind::Ttt)?;
+    assert!(rt; table.equal && tree.equal);
+    let same = Tried {
+        refinements: table.refinements,
+        answers: table.answers,
+        ..tree
+    };
+    assert_eq!(rt; same, table);
     Ok(())
 }

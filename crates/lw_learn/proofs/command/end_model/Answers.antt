@@ -24,7 +24,7 @@ returns-in-Ok-clause-told g c =
     (record {
       outcome = w.outcome;
       model = w.model;
-      table_is = w.table;
+      learner_is = w.learner;
       refinements = w.refinements;
       kept_is = ap (λ k. k.answers) w.kept;
       files = w.files;
@@ -53,7 +53,7 @@ returns-in-Err-clause-told g c =
     let w = c.leave_model.ensures in
     told_left c.args.arguments.now c.args.system.now c.args.names c.args.learned c.args.kept.answers f o e d c.leave_model.result c.requires.few c.requires.sizes w.outcome
     (w.model ∙ ap (λ (m : MealyMachine). Some m) c.in-Err.ensures.back)
-    w.table w.refinements
+    w.learner w.refinements
     (ap (λ k. k.answers) w.kept)
     (w.outputs ∙ c.outputs_of-outputs.ensures)
     w.said w.part w.counts

@@ -1,4 +1,5 @@
 use Rattle.std.proofs.Common.{◌∙◌, ℕ, sym, subst}
+use Rattle.lw_rounds.specs.Learner.{refinements_of}
 use Rattle.lw_report.specs.Text.{text_of}
 use Rattle.lw_report.specs.declared.outcome.Outcome.{Outcome}
 use Rattle.lw_report.specs.declared.outcome.Outcome.TheVariants.{Learned}
@@ -16,4 +17,4 @@ returns-clause-part g c =
     let taken = g.E.Sink.taken in
     let told = c.tell_model-outcome.ensures.part in
     let counted = subst (λ (n : ℕ). TakesInTurn (text_of m.inputs m.outputs kept extra (Learned m.mealy n)) (text_of m.inputs m.outputs kept extra c.tell_model-outcome.result) (taken c.args.err.now) (taken c.tell_model-outcome.new.err)) c.refinements-refinements.ensures.value told in
-    subst (λ (o : Outcome). TakesInTurn (text_of m.inputs m.outputs kept extra (Learned m.mealy c.args.table.refinements)) (text_of m.inputs m.outputs kept extra o) (taken c.args.err.now) (taken c.tell_model-outcome.new.err)) (sym c.with_model.ensures.outcome) counted
+    subst (λ (o : Outcome). TakesInTurn (text_of m.inputs m.outputs kept extra (Learned m.mealy (refinements_of c.args.learner))) (text_of m.inputs m.outputs kept extra o) (taken c.args.err.now) (taken c.tell_model-outcome.new.err)) (sym c.with_model.ensures.outcome) counted

@@ -1,6 +1,7 @@
 use Rattle.std.proofs.Common.{◌≢◌, ◌∙◌, Err, Some, ap, length, subst}
 use Rattle.lw_desk.specs.Naming.{Naming}
 use Rattle.lw_mealy.specs.Limits.{MealyMachine}
+use Rattle.lw_rounds.specs.Learner.{refinements_of}
 use Rattle.lw_report.specs.Outcomes.{StandsOrWants}
 use Rattle.lw_report.specs.States.{sink_state}
 use Rattle.lw_report.specs.Text.{trial_lines}
@@ -23,11 +24,11 @@ returns-in-Ok-clause-ran g c =
     let end = c.with_model.result in
     let made = c.with_model.ensures in
     let h = c.args.learned.model in
-    let table = c.args.learned.table in
+    let learner = c.args.learned.learner in
     let kept = c.args.kept.answers in
-    let carried : IsCarried v end h table kept = record {
+    let carried : IsCarried v end h learner kept = record {
       model = made.model;
-      carried = made.table;
+      carried = made.learner;
       counted = made.refinements;
       keeps = ap (λ k. k.answers) made.kept;
       outputs = made.outputs ∙ ap (λ (n : Naming). Some n) c.requires.named;
@@ -35,8 +36,8 @@ returns-in-Ok-clause-ran g c =
       learned = c.requires.learned;
       reached = c.requires.reached;
     } in
-    let told = subst (λ (m : MealyMachine). IsToldOf v m h table.refinements (length kept) c.in-Ok.tried) c.requires.machine c.in-Ok.ensures.told in
-    tried_run v o p e end h table kept c.in-Ok.tried carried made.outcome told c.in-Ok.ensures.ok c.in-Ok.ensures.quiet
+    let told = subst (λ (m : MealyMachine). IsToldOf v m h (refinements_of learner) (length kept) c.in-Ok.tried) c.requires.machine c.in-Ok.ensures.told in
+    tried_run v o p e end h learner kept c.in-Ok.tried carried made.outcome told c.in-Ok.ensures.ok c.in-Ok.ensures.quiet
 
 pub returns-in-Err-clause-ran : goal.returns-in-Err-clause-ran
 returns-in-Err-clause-ran g c =
@@ -50,14 +51,14 @@ returns-in-Err-clause-ran g c =
     let end = c.with_model-in-Err.result in
     let made = c.with_model-in-Err.ensures in
     let h = c.args.learned.model in
-    let table = c.args.learned.table in
+    let learner = c.args.learned.learner in
     let kept = c.args.kept.answers in
     let stop = c.in-Err.stop in
     let why = c.in-Err.ensures in
     let now = c.say-outcome.result in
-    let carried : IsCarried v end h table kept = record {
+    let carried : IsCarried v end h learner kept = record {
       model = made.model;
-      carried = made.table;
+      carried = made.learner;
       counted = made.refinements;
       keeps = ap (λ k. k.answers) made.kept;
       outputs = made.outputs ∙ ap (λ (n : Naming). Some n) c.requires.named;
@@ -66,10 +67,10 @@ returns-in-Err-clause-ran g c =
       reached = c.requires.reached;
     } in
     let stands = subst (λ (x : Outcome). StandsOrWants x now) c.from.ensures c.say-outcome.ensures.outcome in
-    let untold : IsUntold v o p e d h table now kept = record {
+    let untold : IsUntold v o p e d h learner now kept = record {
       cause = tell_cause o p stop (λ role is. why.no_file role (ap (λ (s : TellStop). Err s) is)) (λ is. why.failed (ap (λ (s : TellStop). Err s) is)) (λ is. why.memory (ap (λ (s : TellStop). Err s) is)) now stands;
-      some = subst (λ (m : MealyMachine). p.taken ≢ o.taken → (t : Tried) × IsToldOf v m h table.refinements (length kept) t × TakesSome (trial_lines t) o.taken p.taken) c.requires.machine why.part;
+      some = subst (λ (m : MealyMachine). p.taken ≢ o.taken → (t : Tried) × IsToldOf v m h (refinements_of learner) (length kept) t × TakesSome (trial_lines t) o.taken p.taken) c.requires.machine why.part;
       said = c.say-outcome.ensures.said;
       part = c.say-outcome.ensures.part;
     } in
-    untold_run v o p e d end h table kept now carried made.outcome untold
+    untold_run v o p e d end h learner kept now carried made.outcome untold
