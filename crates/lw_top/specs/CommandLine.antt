@@ -1,11 +1,13 @@
 -- What the arguments of the command line say, over clap's meaning of a simple command.
-use Rattle.std.specs.Prelude.{ℕ, Bool, true, false, List, [], ◌∷◌, map, String, string_bytes, Option, Some, None, if◌then◌else◌}
+use Rattle.std.specs.Prelude.{ℕ, Bool, true, false, List, [], ◌∷◌, map, codes, String, string_bytes, Option, Some, None, if◌then◌else◌}
 use Rattle.std.specs.declared.alloc.Global.{Global}
 use Rattle.std.specs.Str.{bytes_eq}
 use Rattle.std.specs.Str.Parse.{digits_value, without_leading_plus}
 use Rattle.clap.specs.Kinds.{Kinds}
 use Rattle.clap.specs.declared.error.kind.ErrorKind.{ErrorKind}
 use Rattle.clap.specs.declared.error.kind.ErrorKind.TheVariants.{OutOfMemory}
+use Rattle.lw_rounds.specs.declared.learner.Kind.{Kind}
+use Rattle.lw_rounds.specs.declared.learner.Kind.TheVariants as kind
 use Rattle.lw_top.specs.declared.values.ArgumentStop.{ArgumentStop}
 use Rattle.lw_top.specs.declared.values.ArgumentStop.TheVariants.{NoMemory, Usage}
 use Rattle.clap.specs.ValueTests.{is_unsigned_in}
@@ -27,6 +29,10 @@ is_faultless (k ∷ ks) = false
 abbrev pub number_in : ℕ → ℕ → Option (List ℕ) → Option ℕ
 number_in low high None = None
 number_in low high (Some text) = if is_unsigned_in low high text then Some (digits_value 10 (without_leading_plus text)) else None
+
+-- the kind of learner that a text names
+abbrev pub kind_named : List ℕ → Option Kind
+kind_named text = if bytes_eq text (codes "table") then Some kind.Table else if bytes_eq text (codes "ttt") then Some kind.Ttt else None
 
 -- why a parse failed, by the kind of its error
 abbrev pub refusal_of : ErrorKind → ArgumentStop

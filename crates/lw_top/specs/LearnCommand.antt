@@ -1,14 +1,15 @@
 -- The command `learn` as clap sees it, and what arguments that it takes say.
-use Rattle.std.specs.Prelude.{ℕ, List, codes, Option, Some, None, if◌then◌else◌, ◌&&◌}
+use Rattle.std.specs.Prelude.{ℕ, List, codes, Option, Some, None, option_and_then, if◌then◌else◌, ◌&&◌}
 use Rattle.clap.specs.Faults.{fault_of}
 use Rattle.clap.specs.Words.{App, Row, first_of, matches_of, new_app, one_of, with_rule}
+use Rattle.lw_rounds.specs.declared.learner.Kind.{Kind}
 use Rattle.lw_learn.specs.Arguments.{LearnValues}
 use Rattle.lw_learn.specs.declared.arguments.Source.{Source}
 use Rattle.lw_learn.specs.declared.arguments.Source.TheVariants.{Setup, Table}
-use Rattle.lw_top.specs.CommandLine.{is_command, is_faultless, number_in}
-use Rattle.lw_top.specs.Options.{number_option, optional_argument, text_option}
+use Rattle.lw_top.specs.CommandLine.{is_command, is_faultless, kind_named, number_in}
+use Rattle.lw_top.specs.Options.{default_option, number_option, optional_argument, text_option}
 
--- learn (SETUP | --table FILE) [--workers N] [--extra K] [--max-states N] [--model FILE] [--answers FILE] [--prior FILE]
+-- learn (SETUP | --table FILE) [--workers N] [--extra K] [--learner table|ttt] [--max-states N] [--model FILE] [--answers FILE] [--prior FILE]
 abbrev pub learn_app : App
 learn_app =
     with_rule
@@ -17,9 +18,11 @@ learn_app =
     (with_rule
     (with_rule
     (with_rule
+    (with_rule
     (with_rule (with_rule (new_app (codes "learn")) (optional_argument (codes "setup"))) (text_option (codes "table")))
     (number_option (codes "workers") 1 16 (codes "1")))
     (number_option (codes "extra") 0 4 (codes "1")))
+    (default_option (codes "learner") (codes "table")))
     (number_option (codes "max-states") 1 1024 (codes "1024")))
     (text_option (codes "model")))
     (text_option (codes "answers")))
@@ -32,19 +35,20 @@ source_from None (Some table) = Some (Table, table)
 source_from (Some setup) (Some table) = None
 source_from None None = None
 
--- the values, where the system's file is named and the numbers are in their ranges
-abbrev pub values_from : Option (Source × List ℕ) → (workers extra max_states : Option ℕ) → (model answers prior : Option (List ℕ)) → Option LearnValues
-values_from None workers extra max_states model answers prior = None
-values_from (Some s) None extra max_states model answers prior = None
-values_from (Some s) (Some workers) None max_states model answers prior = None
-values_from (Some s) (Some workers) (Some extra) None model answers prior = None
-values_from (Some s) (Some workers) (Some extra) (Some max_states) model answers prior =
-    Some (record { source = s.0; system = s.1; workers = workers; extra = extra; max_states = max_states; model = model; answers = answers; prior = prior })
+-- the values, where the system's file is named, the numbers are in their ranges and the learner is of a kind
+abbrev pub values_from : Option (Source × List ℕ) → (workers extra : Option ℕ) → Option Kind → Option ℕ → (model answers prior : Option (List ℕ)) → Option LearnValues
+values_from None workers extra learner max_states model answers prior = None
+values_from (Some s) None extra learner max_states model answers prior = None
+values_from (Some s) (Some workers) None learner max_states model answers prior = None
+values_from (Some s) (Some workers) (Some extra) None max_states model answers prior = None
+values_from (Some s) (Some workers) (Some extra) (Some learner) None model answers prior = None
+values_from (Some s) (Some workers) (Some extra) (Some learner) (Some max_states) model answers prior =
+    Some (record { source = s.0; system = s.1; workers = workers; extra = extra; learner = learner; max_states = max_states; model = model; answers = answers; prior = prior })
 
 abbrev pub values_in : List Row → Option LearnValues
 values_in rows =
     values_from (source_from (first_of (codes "setup") rows) (first_of (codes "table") rows)) (number_in 1 16 (one_of (codes "workers") rows)) (number_in 0 4 (one_of (codes "extra") rows))
-    (number_in 1 1024 (one_of (codes "max-states") rows))
+    (option_and_then kind_named (first_of (codes "learner") rows)) (number_in 1 1024 (one_of (codes "max-states") rows))
     (first_of (codes "model") rows) (first_of (codes "answers") rows) (first_of (codes "prior") rows)
 
 -- what the arguments say to `learn`, where they are taken

@@ -8,6 +8,10 @@ use Rattle.clap.specs.declared.builder.value_parser.ValueParser.TheVariants.{Uns
 abbrev pub text_option : List ℕ → Rule
 text_option name = record (new_rule name) { long = Some name }
 
+-- an option that takes a text, with a default
+abbrev pub default_option : List ℕ → List ℕ → Rule
+default_option name default = record (new_rule name) { long = Some name; defaults = default ∷ [] }
+
 -- an option that takes a whole number in a range, with a default
 abbrev pub number_option : List ℕ → ℕ → ℕ → List ℕ → Rule
 number_option name low high default = record (new_rule name) { long = Some name; parser = Some (Unsigned low high); defaults = default ∷ [] }

@@ -7,8 +7,10 @@ ghost use Rattle.lw_top.specs.LearnCommand.{learn_app, learn_values, source_from
 ghost use Rattle.lw_top.specs.declared.values.ArgumentStop.{ArgumentStop as Stop};
 
 use crate::ArgumentStop;
-use crate::options::{extra_option, optional_argument, states_option, text_option, workers_option};
-use crate::values::{number_at, stop_of, text_at};
+use crate::options::{
+    extra_option, learner_option, optional_argument, states_option, text_option, workers_option,
+};
+use crate::values::{kind_at, number_at, stop_of, text_at};
 use clap::{ArgMatches, Command};
 use lw_learn::{LearnArguments, Source};
 use std::alloc::{AllocError, Global};
@@ -22,6 +24,7 @@ fn learn_command<'a>(alloc: Global) -> Result<Command<'a>, AllocError>
         .arg(text_option(alloc, "table"))?
         .arg(workers_option(alloc))?
         .arg(extra_option(alloc))?
+        .arg(learner_option(alloc))?
         .arg(states_option(alloc))?
         .arg(text_option(alloc, "model"))?
         .arg(text_option(alloc, "answers"))?
@@ -73,6 +76,9 @@ fn values_of(alloc: Global, matches: &ArgMatches) -> Result<LearnArguments, Argu
     let Some(extra) = number_at(matches, "extra", 0, 4) else {
         return Err(ArgumentStop::Usage);
     };
+    let Some(learner) = kind_at(matches, "learner") else {
+        return Err(ArgumentStop::Usage);
+    };
     let Some(max_states) = number_at(matches, "max-states", 1, 1024) else {
         return Err(ArgumentStop::Usage);
     };
@@ -81,6 +87,7 @@ fn values_of(alloc: Global, matches: &ArgMatches) -> Result<LearnArguments, Argu
         system,
         workers as u8,
         extra as u8,
+        learner,
         max_states as u16,
         text_at(alloc, matches, "model")?,
         text_at(alloc, matches, "answers")?,

@@ -1,7 +1,7 @@
 //! The options of the commands, as clap takes them.
 ghost use Rattle.std.specs.Prelude.{◌≡◌, codes, false};
 ghost use Rattle.clap.specs.Words.{rule_of};
-ghost use Rattle.lw_top.specs.Options.{number_option, optional_argument, required_argument, required_number, text_option};
+ghost use Rattle.lw_top.specs.Options.{default_option, number_option, optional_argument, required_argument, required_number, text_option};
 
 use clap::{Arg, ArgAction};
 use std::alloc::Global;
@@ -61,6 +61,16 @@ pub(crate) fn states_option<'a>(alloc: Global) -> Arg<'a>
         .long("max-states")
         .value_parser(clap::value_parser!(u64).range(1..=1024))
         .default_value("1024")
+}
+
+/// `--learner table|ttt`, of which the table is the default.
+pub(crate) fn learner_option<'a>(alloc: Global) -> Arg<'a>
+    ensures rule { rule_of result ≡ default_option (codes "learner") (codes "table") }
+    ensures local { result.global ≡ false }
+{
+    Arg::new(alloc, "learner")
+        .long("learner")
+        .default_value("table")
 }
 
 /// `--states N`, from 1 to 1024, which has to be there.

@@ -7,8 +7,10 @@ ghost use Rattle.lw_top.specs.TrialCommand.{trial_app, trial_values, values_in};
 ghost use Rattle.lw_top.specs.declared.values.ArgumentStop.{ArgumentStop as Stop};
 
 use crate::ArgumentStop;
-use crate::options::{drawn_inputs_option, drawn_states_option, seed_option, workers_option};
-use crate::values::{number_at, stop_of};
+use crate::options::{
+    drawn_inputs_option, drawn_states_option, learner_option, seed_option, workers_option,
+};
+use crate::values::{kind_at, number_at, stop_of};
 use clap::{ArgMatches, Command};
 use lw_trial::TrialArguments;
 use std::alloc::{AllocError, Global};
@@ -24,7 +26,8 @@ fn trial_command<'a>(alloc: Global) -> Result<Command<'a>, AllocError>
         .arg(drawn_states_option(alloc))?
         .arg(drawn_inputs_option(alloc))?
         .arg(seed_option(alloc))?
-        .arg(workers_option(alloc))?;
+        .arg(workers_option(alloc))?
+        .arg(learner_option(alloc))?;
     Ok(command)
 }
 
@@ -61,7 +64,10 @@ fn values_of(matches: &ArgMatches) -> Result<TrialArguments, ArgumentStop>
     let Some(workers) = number_at(matches, "workers", 1, 16) else {
         return Err(ArgumentStop::Usage);
     };
-    Ok(TrialArguments::new(states as u16, inputs as u16, seed, workers as u8))
+    let Some(learner) = kind_at(matches, "learner") else {
+        return Err(ArgumentStop::Usage);
+    };
+    Ok(TrialArguments::new(states as u16, inputs as u16, seed, workers as u8, learner))
 }
 
 /// Reads the arguments of `trial`, of which the first is the command.

@@ -1,11 +1,12 @@
 //! The values of arguments that clap has read.
 ghost use Rattle.std.specs.Prelude.{◌≡◌, ◌&&◌, Some, None, nat_le, if◌then◌else◌, option_and_then, option_map, IfOk, string_bytes};
 ghost use Rattle.clap.specs.Words.{first_of, found_of, kind_of, one_of, rows_of};
-ghost use Rattle.lw_top.specs.CommandLine.{number_in, refusal_of};
+ghost use Rattle.lw_top.specs.CommandLine.{kind_named, number_in, refusal_of};
 
 use clap::error::ErrorKind;
 use clap::{ArgMatches, Error};
 use lw_report::Outcome;
+use lw_rounds::Kind;
 use std::alloc::{AllocError, Global};
 
 /// Why the arguments weren't taken.
@@ -82,4 +83,28 @@ pub(crate) fn number_at(matches: &ArgMatches, id: &str, low: u64, high: u64) -> 
     ensures { result ≡ number_in low high (one_of id.now (rows_of (found_of matches.now))) }
 {
     within(matches.get_one::<u64>(id), low, high)
+}
+
+/// The kind of learner of this name.
+fn kind_named(name: &str) -> Option<Kind>
+    ensures { result ≡ kind_named name.now }
+{
+    if name == "table" {
+        return Some(Kind::Table);
+    }
+    if name == "ttt" {
+        return Some(Kind::Ttt);
+    }
+    None
+}
+
+/// The kind of learner that an argument names.
+pub(crate) fn kind_at(matches: &ArgMatches, id: &str) -> Option<Kind>
+    ensures { result ≡ option_and_then kind_named
+        (first_of id.now (rows_of (found_of matches.now))) }
+{
+    match matches.get_str(id) {
+        Some(name) => kind_named(name),
+        None => None,
+    }
 }

@@ -11,7 +11,7 @@ const USAGE: &str =
     "usage: learn (SETUP | --table FILE) [--workers N] [--extra K] [--learner table|ttt] [--max-states N] [--model FILE] [--answers FILE] [--prior FILE]\n       check MODEL ANSWERS [--extra K]\n       serve MODEL\n       trial --states N --inputs A --seed S [--workers N] [--learner table|ttt]\n";
 
 /// Arguments that are not taken.
-static REFUSED: [&[&str]; 21] = [
+static REFUSED: [&[&str]; 24] = [
     &[],
     &["learn"],
     &["learn", "--table"],
@@ -22,7 +22,10 @@ static REFUSED: [&[&str]; 21] = [
     &["learn", "--table", "m", "--max-states", "0"],
     &["learn", "--table", "m", "--workers", "17"],
     &["learn", "--table", "m", "--workers", "0"],
-    &["learn", "--table", "m", "--learner", "table"],
+    &["learn", "--table", "m", "--learner", "tree"],
+    &["learn", "--table", "m", "--learner", ""],
+    &["learn", "--table", "m", "--learner"],
+    &["learn", "--table", "m", "--learner=ttt", "--learner=ttt"],
     &["trial", "--states", "3", "--inputs", "1"],
     &["trial", "--states", "0", "--inputs", "1", "--seed", "0"],
     &["trial", "--states", "3", "--inputs", "65", "--seed", "0"],

@@ -4,6 +4,7 @@ use crate::tests::cases::{
     Case, LEARN, PLAIN, check, end_of, files_of, no_children, sink, source, texts,
 };
 use lw_outside::MemorySink;
+use lw_rounds::Learner;
 use lw_words::Kept;
 use std::alloc::Global;
 use std::sync::Wait;
@@ -27,7 +28,7 @@ const CODE_MODEL: &str =
 const RING: &str =
     "{\"inputs\":[\"t\"],\"outputs\":[\"0\",\"1\",\"2\"],\"states\":[[[1,\"0\"]],[[2,\"1\"]],[[0,\"2\"]]]}\n";
 
-static LEARNED: [Case; 7] = [
+static LEARNED: [Case; 8] = [
     Case {
         arguments: &["learn", "--table", "m", "--extra", "0"],
         err: "learned: states 1, refinements 0, extra 0, answers 1\n",
@@ -55,6 +56,13 @@ static LEARNED: [Case; 7] = [
     },
     Case {
         arguments: &["learn", "--table", "m", "--extra", "2", "--workers", "2"],
+        file: COUNTER,
+        out: COUNTER,
+        err: "learned: states 3, refinements 1, extra 2, answers 5\n",
+        ..PLAIN
+    },
+    Case {
+        arguments: &["learn", "--learner=table", "--table", "m", "--extra=2"],
         file: COUNTER,
         out: COUNTER,
         err: "learned: states 3, refinements 1, extra 2, answers 5\n",
@@ -98,7 +106,25 @@ fn the_words_that_find_a_counter(rt: HostRuntime) -> Result<(), Fail> {
     let end = end_of(rt, rt.alloc(), &LEARNED[3])?;
     assert!(rt; are_long(&end.kept, &[2, 3, 4, 5, 7]));
     assert_eq!(rt; end.refinements, 1);
-    assert!(rt; end.table.is_some());
+    assert!(rt; matches!(end.learner, Some(Learner::Table(_))));
+    Ok(())
+}
+
+/// The same call with a tree.
+const COUNTER_BY_TREE: Case = Case {
+    arguments: &["learn", "--table", "m", "--extra", "2", "--learner", "ttt"],
+    file: COUNTER,
+    out: COUNTER,
+    err: "learned: states 3, refinements 1, extra 2, answers 5\n",
+    ..PLAIN
+};
+
+#[test]
+fn the_words_that_find_a_counter_by_a_tree(rt: HostRuntime) -> Result<(), Fail> {
+    let end = end_of(rt, rt.alloc(), &COUNTER_BY_TREE)?;
+    assert!(rt; are_long(&end.kept, &[1, 3, 4, 5, 7]));
+    assert_eq!(rt; end.refinements, 1);
+    assert!(rt; matches!(end.learner, Some(Learner::Tree(_))));
     Ok(())
 }
 

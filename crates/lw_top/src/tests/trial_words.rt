@@ -1,6 +1,7 @@
 //! Arguments that `trial` takes, and some that it doesn't.
 use crate::tests::cases::texts;
 use crate::trial_arguments;
+use lw_rounds::Kind;
 use lw_trial::TrialArguments;
 use std::alloc::Global;
 use std::test::Fail;
@@ -42,8 +43,41 @@ fn arguments_of_trial(rt: HostRuntime) -> Result<(), Fail> {
     Ok(())
 }
 
+/// The kind of learner that the arguments name to `trial`, if it takes them.
+fn learner_of(alloc: Global, arguments: &[&str]) -> Result<Option<Kind>, Fail> {
+    match taken(alloc, arguments)? {
+        Some(t) => Ok(Some(t.learner())),
+        None => Ok(None),
+    }
+}
+
+#[test]
+fn learners_of_trial(rt: HostRuntime) -> Result<(), Fail> {
+    let alloc = rt.alloc();
+    let plain = ["trial", "--seed=0", "--inputs=1", "--states=1"];
+    assert!(rt; learner_of(alloc, &plain)? == Some(Kind::Table));
+    let table = [
+        "trial",
+        "--learner",
+        "table",
+        "--seed=0",
+        "--inputs=1",
+        "--states=1",
+    ];
+    assert!(rt; learner_of(alloc, &table)? == Some(Kind::Table));
+    let tree = [
+        "trial",
+        "--seed=0",
+        "--inputs=1",
+        "--states=1",
+        "--learner=ttt",
+    ];
+    assert!(rt; learner_of(alloc, &tree)? == Some(Kind::Ttt));
+    Ok(())
+}
+
 /// The arguments of a trial, of which one is missing, out of its range or there twice.
-static REFUSED: [&[&str]; 13] = [
+static REFUSED: [&[&str]; 15] = [
     &["trial"],
     &["trial", "--inputs=1", "--seed=0"],
     &["trial", "--states=1", "--seed=0"],
@@ -74,6 +108,21 @@ static REFUSED: [&[&str]; 13] = [
     ],
     &["trial", "--states=1", "--inputs=1", "--seed=0", "--seed=0"],
     &["trial", "--states=1", "--inputs=1", "--seed=0", "more"],
+    &[
+        "trial",
+        "--states=1",
+        "--inputs=1",
+        "--seed=0",
+        "--learner=TTT",
+    ],
+    &[
+        "trial",
+        "--states=1",
+        "--inputs=1",
+        "--seed=0",
+        "--learner=ttt",
+        "--learner=ttt",
+    ],
 ];
 
 #[test]

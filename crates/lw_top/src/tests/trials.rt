@@ -91,6 +91,38 @@ fn two_hundred_states_at_any_number_of_workers(rt: HostRuntime) -> Result<(), Fa
     Ok(())
 }
 
+/// What `out` takes of a trial of twenty states and two inputs by seed 1, with this learner.
+fn twenty<R: Threads + Wait + Sync + Drop>(
+    rt: R,
+    alloc: Global,
+    learner: &str,
+) -> Result<MemorySink, Fail> {
+    let arguments = [
+        "trial",
+        "--states=20",
+        "--inputs=2",
+        "--seed=1",
+        "--learner",
+        learner,
+    ];
+    let (_end, out) = try_out(rt, alloc, &arguments)?;
+    Ok(out)
+}
+
+#[test]
+fn a_machine_is_found_by_either_learner(rt: HostRuntime) -> Result<(), Fail> {
+    let begun = "trial: states 20, inputs 2, seed 1\nlearned: states 20, refinements ".as_bytes();
+    for learner in ["table", "ttt"] {
+        let out = twenty(rt, rt.alloc(), learner)?;
+        assert!(rt; out.taken().starts_with(begun), "{learner}");
+        assert!(rt;
+            out.taken().ends_with("\nequal: yes\n".as_bytes()),
+            "{learner}"
+        );
+    }
+    Ok(())
+}
+
 /// Whether answers of two instances are kept.
 fn has_two_instances(end: &End) -> bool {
     let mut later = false;

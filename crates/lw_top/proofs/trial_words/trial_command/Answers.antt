@@ -4,8 +4,9 @@ use Rattle.lw_top.proofs.trial_words.trial_command.Goals as goal
 
 pub returns : goal.returns
 returns c =
-    c.in_ok-command.ensures.shape c.workers_option.ensures.local
+    c.in_ok-command.ensures.shape c.learner_option.ensures.local
+    ∙ ap₂ with_rule (c.in_ok-arg-4.ensures.shape c.workers_option.ensures.local
     ∙ ap₂ with_rule (c.in_ok-arg-3.ensures.shape c.seed_option.ensures.local
     ∙ ap₂ with_rule (c.in_ok-arg-2.ensures.shape c.drawn_inputs_option.ensures.local
     ∙ ap₂ with_rule (c.in_ok-arg.ensures.shape c.drawn_states_option.ensures.local
-    ∙ ap₂ with_rule c.new.ensures.app c.drawn_states_option.ensures.rule) c.drawn_inputs_option.ensures.rule) c.seed_option.ensures.rule) c.workers_option.ensures.rule
+    ∙ ap₂ with_rule c.new.ensures.app c.drawn_states_option.ensures.rule) c.drawn_inputs_option.ensures.rule) c.seed_option.ensures.rule) c.workers_option.ensures.rule) c.learner_option.ensures.rule
