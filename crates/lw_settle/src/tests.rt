@@ -10,7 +10,7 @@ use lw_mealy::Mealy;
 use lw_words::Words;
 use std::alloc::Global;
 use std::test::Fail;
-use trial::{Trial, closed, settle, split_by};
+use trial::{Trial, closed, closed_over, is_refused, settle, split_by};
 
 /// The only letter.
 const T: u16 = 0;
@@ -41,6 +41,39 @@ fn counter(alloc: Global) -> Result<Trial, Fail>
     let mut trial = closed(alloc, cycle(alloc, [0, 0, 1])?)?;
     split_by(alloc, &mut trial.oracle, &mut trial.tree, &[T, T, T])?;
     Ok(trial)
+}
+
+/// The same over an oracle that refuses the batch with this number.
+fn counter_refused(alloc: Global, refused: usize) -> Result<Trial, Fail>
+    ensures { IfOk result (λ trial. IsReady (state_of trial.oracle) trial.tree) }
+{
+    let mut trial = closed_over(alloc, cycle(alloc, [0, 0, 1])?, refused)?;
+    split_by(alloc, &mut trial.oracle, &mut trial.tree, &[T, T, T])?;
+    Ok(trial)
+}
+
+/// Where the words of a block's states are refused, the tree is as it was.
+#[test]
+fn the_words_of_a_block_are_refused(rt: HostRuntime) -> Result<(), Fail> {
+    let alloc = rt.alloc();
+    let mut trial = counter_refused(alloc, 5)?;
+    assert!(rt; is_refused(alloc, &mut trial.oracle, &mut trial.tree)?);
+    assert_eq!(rt; trial.oracle.batches().len(), 6);
+    assert!(rt; has_just(&trial.tree.discriminators()?, &[&[T, T]]));
+    assert_eq!(rt; trial.tree.temporary(), 1);
+    Ok(())
+}
+
+/// Where the level after it is refused, the root was replaced.
+#[test]
+fn a_level_of_a_settling_is_refused(rt: HostRuntime) -> Result<(), Fail> {
+    let alloc = rt.alloc();
+    let mut trial = counter_refused(alloc, 6)?;
+    assert!(rt; is_refused(alloc, &mut trial.oracle, &mut trial.tree)?);
+    assert_eq!(rt; trial.oracle.batches().len(), 7);
+    assert!(rt; has_just(&trial.tree.discriminators()?, &[&[T], &[T, T]]));
+    assert_eq!(rt; trial.tree.temporary(), 1);
+    Ok(())
 }
 
 /// States 0 and 1 answer 0 to the letter, and state 2 answers 1: so the letter is the root's new word, and the two stay a

@@ -27,10 +27,17 @@ pub struct Trial {
 pub fn closed(alloc: Global, mealy: Mealy) -> Result<Trial, Fail>
     ensures { IfOk result (λ trial. IsReady (state_of trial.oracle) trial.tree) }
 {
+    closed_over(alloc, mealy, usize::MAX)
+}
+
+/// The same, over an oracle that refuses the batch with this number.
+pub fn closed_over(alloc: Global, mealy: Mealy, refused: usize) -> Result<Trial, Fail>
+    ensures { IfOk result (λ trial. IsReady (state_of trial.oracle) trial.tree) }
+{
     new_is_read();
     let inputs = mealy.inputs();
     let outputs = mealy.outputs();
-    let mut oracle = Recording::new(alloc, mealy);
+    let mut oracle = Recording::refusing(alloc, mealy, refused);
     let mut tree = DiscriminationTree::new(alloc, inputs, outputs, 8)?;
     let closing = tree.close(&mut oracle);
     let Ok(()) = closing else {
@@ -153,4 +160,21 @@ pub fn settle<O: Oracle>(
         return Err(Fail::from("a settling is refused"));
     };
     Ok(settled)
+}
+
+/// Whether settling a block of such a tree is refused.
+pub fn is_refused<O: Oracle>(
+    alloc: Global,
+    oracle: &mut O,
+    tree: &mut DiscriminationTree,
+) -> Result<bool, Fail>
+    requires can { O.can_settle oracle.old }
+    requires ready { IsReady (O.state oracle.old) tree.old }
+{
+    let model = tree.machine()?;
+    if !gives_all(&model, oracle.cache().kept()) {
+        return Err(Fail::from("the machine is told otherwise"));
+    }
+    let settling = settle_block(oracle, alloc, tree);
+    Ok(settling.is_err())
 }

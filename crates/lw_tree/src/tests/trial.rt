@@ -37,6 +37,20 @@ pub fn closed(alloc: Global, mealy: Mealy, most: u16, refused: usize) -> Result<
     Ok(Trial { oracle, tree })
 }
 
+/// Whether transitions are left without a target once one level of a new tree was sifted, and how many batches were settled.
+#[tactic(auto, using(crate::proofs::BranchLemmas::new_is_read))]
+pub fn after_a_level(alloc: Global, mealy: Mealy) -> Result<(bool, usize), Fail> {
+    let inputs = mealy.inputs();
+    let outputs = mealy.outputs();
+    let mut oracle = Recording::new(alloc, mealy);
+    let mut tree = DiscriminationTree::new(alloc, inputs, outputs, 8)?;
+    let sifting = tree.sift_level(&mut oracle);
+    let Ok(left) = sifting else {
+        return Err(Fail::from("a level is refused"));
+    };
+    Ok((left, oracle.batches().len()))
+}
+
 /// A word over the inputs.
 fn word_over(alloc: Global, inputs: u16, letters: &[u16]) -> Result<Word, Fail>
     ensures { IfOk result (IsWord inputs) }
