@@ -15,7 +15,7 @@ use Rattle.lw_check.specs.Decision.{Pair, SameNames, HasVerdict, IsNo, IsDecisio
 use Rattle.lw_report.specs.declared.role.Role.{Role}
 use Rattle.lw_report.specs.declared.role.Role.TheVariants.{Answers}
 use Rattle.lw_report.specs.declared.outcome.Outcome.{Outcome}
-use Rattle.lw_report.specs.declared.outcome.Outcome.TheVariants.{Learned, Trial, Yes, Served, No, Usage, BadFile, Alphabets, FileTooLong, Nondeterministic, NoMemory, SulFailed, Gone, BadLine, BadAsk, TooManyStates, SuiteTooLarge, FileFault, SourceFault, SinkFault}
+use Rattle.lw_report.specs.declared.outcome.Outcome.TheVariants.{Learned, Trial, Yes, Served, No, Usage, BadFile, Alphabets, FileTooLong, Nondeterministic, NoMemory, SulFailed, Gone, BadLine, BadAsk, TooManyStates, SuiteTooLarge, FileFault, SourceFault, SinkFault, Compared, Asked, Rechecked, UnknownLetter, Unstarted}
 
 blank : Answer
 blank = record { word = []; outs = [] }
@@ -75,6 +75,11 @@ module _ (p : Pair) (extra : ℕ) where
   yes_is n (BadLine instance line) f g = absurd g
   yes_is n (BadAsk number) f g = absurd g
   yes_is n SourceFault f g = absurd g
+  yes_is n (Compared comparison) f g = absurd g
+  yes_is n Asked f g = absurd g
+  yes_is n (Rechecked count) f g = absurd g
+  yes_is n (UnknownLetter w place) f g = absurd g
+  yes_is n (Unstarted cause) f g = absurd g
   yes_is n (BadFile r b) f g = absurd g
   yes_is n (FileTooLong r) f g = absurd g
   yes_is n NoMemory f g = absurd g
@@ -97,6 +102,11 @@ module _ (p : Pair) (extra : ℕ) where
   no_is v (BadLine instance line) f g = absurd g
   no_is v (BadAsk number) f g = absurd g
   no_is v SourceFault f g = absurd g
+  no_is v (Compared comparison) f g = absurd g
+  no_is v Asked f g = absurd g
+  no_is v (Rechecked count) f g = absurd g
+  no_is v (UnknownLetter w place) f g = absurd g
+  no_is v (Unstarted cause) f g = absurd g
   no_is v (BadFile r b) f g = absurd g
   no_is v (FileTooLong r) f g = absurd g
   no_is v NoMemory f g = absurd g
@@ -122,6 +132,11 @@ module _ (p : Pair) (extra : ℕ) where
   suite_is n s (BadLine instance line) f g = absurd g
   suite_is n s (BadAsk number) f g = absurd g
   suite_is n s SourceFault f g = absurd g
+  suite_is n s (Compared comparison) f g = absurd g
+  suite_is n s Asked f g = absurd g
+  suite_is n s (Rechecked count) f g = absurd g
+  suite_is n s (UnknownLetter w place) f g = absurd g
+  suite_is n s (Unstarted cause) f g = absurd g
   suite_is n s (BadFile r b) f g = absurd g
   suite_is n s (FileTooLong r) f g = absurd g
   suite_is n s NoMemory f g = absurd g
@@ -144,6 +159,11 @@ module _ (p : Pair) (extra : ℕ) where
   other_names_is (BadLine instance line) f g = absurd g
   other_names_is (BadAsk number) f g = absurd g
   other_names_is SourceFault f g = absurd g
+  other_names_is (Compared comparison) f g = absurd g
+  other_names_is Asked f g = absurd g
+  other_names_is (Rechecked count) f g = absurd g
+  other_names_is (UnknownLetter w place) f g = absurd g
+  other_names_is (Unstarted cause) f g = absurd g
   other_names_is (BadFile r b) f g = absurd g
   other_names_is (FileTooLong r) f g = absurd g
   other_names_is NoMemory f g = absurd g
@@ -166,6 +186,11 @@ module _ (p : Pair) (extra : ℕ) where
   clash_is c (BadLine instance line) f g = absurd g
   clash_is c (BadAsk number) f g = absurd g
   clash_is c SourceFault f g = absurd g
+  clash_is c (Compared comparison) f g = absurd g
+  clash_is c Asked f g = absurd g
+  clash_is c (Rechecked count) f g = absurd g
+  clash_is c (UnknownLetter w place) f g = absurd g
+  clash_is c (Unstarted cause) f g = absurd g
   clash_is c (BadFile r b) f g = absurd g
   clash_is c (FileTooLong r) f g = absurd g
   clash_is c NoMemory f g = absurd g
@@ -188,6 +213,11 @@ one_decision p extra (Gone instance) two f g = absurd f
 one_decision p extra (BadLine instance line) two f g = absurd f
 one_decision p extra (BadAsk number) two f g = absurd f
 one_decision p extra SourceFault two f g = absurd f
+one_decision p extra (Compared comparison) two f g = absurd f
+one_decision p extra Asked two f g = absurd f
+one_decision p extra (Rechecked count) two f g = absurd f
+one_decision p extra (UnknownLetter w place) two f g = absurd f
+one_decision p extra (Unstarted cause) two f g = absurd f
 one_decision p extra (BadFile r b) two f g = absurd f
 one_decision p extra (FileTooLong r) two f g = absurd f
 one_decision p extra NoMemory two f g = absurd f

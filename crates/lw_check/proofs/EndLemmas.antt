@@ -17,7 +17,7 @@ use Rattle.lw_report.specs.Text.{text_of}
 use Rattle.lw_report.specs.Writing.{TakesSome}
 use Rattle.lw_report.specs.declared.role.Role.TheVariants as role
 use Rattle.lw_report.specs.declared.outcome.Outcome.{Outcome}
-use Rattle.lw_report.specs.declared.outcome.Outcome.TheVariants.{Learned, Trial, Yes, Served, No, Usage, BadFile, Alphabets, FileTooLong, Nondeterministic, NoMemory, SulFailed, Gone, BadLine, BadAsk, TooManyStates, SuiteTooLarge, FileFault, SourceFault, SinkFault}
+use Rattle.lw_report.specs.declared.outcome.Outcome.TheVariants.{Learned, Trial, Yes, Served, No, Usage, BadFile, Alphabets, FileTooLong, Nondeterministic, NoMemory, SulFailed, Gone, BadLine, BadAsk, TooManyStates, SuiteTooLarge, FileFault, SourceFault, SinkFault, Compared, Asked, Rechecked, UnknownLetter, Unstarted}
 use Rattle.lw_check.specs.Decision.{IsAnswered, IsDecision, Pair, pair_of}
 use Rattle.lw_desk.specs.Naming.{Naming}
 use Rattle.lw_check.specs.Ending.{ComesTo, DecidesAs}
@@ -63,6 +63,9 @@ no_text model answers before now (BadFile role.Answers fault) own u = inr (inr u
 no_text model answers before now (BadFile role.Setup fault) own u = absurd u
 no_text model answers before now (BadFile role.Table fault) own u = absurd u
 no_text model answers before now (BadFile role.Prior fault) own u = absurd u
+no_text model answers before now (BadFile role.Second fault) own u = absurd u
+no_text model answers before now (BadFile role.Words fault) own u = absurd u
+no_text model answers before now (BadFile role.Kept fault) own u = absurd u
 no_text model answers before now (FileTooLong r) own u = absurd own
 no_text model answers before now (FileFault r) own u = absurd own
 no_text model answers before now NoMemory own u = absurd own
@@ -77,6 +80,11 @@ no_text model answers before now (Gone instance) own u = absurd u
 no_text model answers before now (BadLine instance line) own u = absurd u
 no_text model answers before now (BadAsk number) own u = absurd u
 no_text model answers before now SourceFault own u = absurd u
+no_text model answers before now (Compared comparison) own u = absurd u
+no_text model answers before now Asked own u = absurd u
+no_text model answers before now (Rechecked count) own u = absurd u
+no_text model answers before now (UnknownLetter w place) own u = absurd u
+no_text model answers before now (Unstarted cause) own u = absurd u
 no_text model answers before now (Alphabets role) own u = absurd u
 no_text model answers before now (Nondeterministic c) own u = absurd u
 no_text model answers before now (TooManyStates ws) own u = absurd u
@@ -119,11 +127,17 @@ exact_unread model answers before now m a decision (BadFile role.Answers fault) 
 exact_unread model answers before now m a decision (BadFile role.Setup fault) u tm ta = absurd u
 exact_unread model answers before now m a decision (BadFile role.Table fault) u tm ta = absurd u
 exact_unread model answers before now m a decision (BadFile role.Prior fault) u tm ta = absurd u
+exact_unread model answers before now m a decision (BadFile role.Second fault) u tm ta = absurd u
+exact_unread model answers before now m a decision (BadFile role.Words fault) u tm ta = absurd u
+exact_unread model answers before now m a decision (BadFile role.Kept fault) u tm ta = absurd u
 exact_unread model answers before now m a decision (FileTooLong role.Model) u tm ta = absurd (not_long IsMachineFile model m before.holds tm u.0)
 exact_unread model answers before now m a decision (FileTooLong role.Answers) u tm ta = absurd (not_long IsAnswersFile answers a before.holds ta u.0)
 exact_unread model answers before now m a decision (FileTooLong role.Setup) u tm ta = absurd u
 exact_unread model answers before now m a decision (FileTooLong role.Table) u tm ta = absurd u
 exact_unread model answers before now m a decision (FileTooLong role.Prior) u tm ta = absurd u
+exact_unread model answers before now m a decision (FileTooLong role.Second) u tm ta = absurd u
+exact_unread model answers before now m a decision (FileTooLong role.Words) u tm ta = absurd u
+exact_unread model answers before now m a decision (FileTooLong role.Kept) u tm ta = absurd u
 exact_unread model answers before now m a decision (FileFault r) u tm ta = inr (inr (inr (r, refl)))
 exact_unread model answers before now m a decision NoMemory u tm ta = inr (inl refl)
 exact_unread model answers before now m a decision (Learned h r) u tm ta = absurd u
@@ -137,6 +151,11 @@ exact_unread model answers before now m a decision (Gone instance) u tm ta = abs
 exact_unread model answers before now m a decision (BadLine instance line) u tm ta = absurd u
 exact_unread model answers before now m a decision (BadAsk number) u tm ta = absurd u
 exact_unread model answers before now m a decision SourceFault u tm ta = absurd u
+exact_unread model answers before now m a decision (Compared comparison) u tm ta = absurd u
+exact_unread model answers before now m a decision Asked u tm ta = absurd u
+exact_unread model answers before now m a decision (Rechecked count) u tm ta = absurd u
+exact_unread model answers before now m a decision (UnknownLetter w place) u tm ta = absurd u
+exact_unread model answers before now m a decision (Unstarted cause) u tm ta = absurd u
 exact_unread model answers before now m a decision (Alphabets role) u tm ta = absurd u
 exact_unread model answers before now m a decision (Nondeterministic c) u tm ta = absurd u
 exact_unread model answers before now m a decision (TooManyStates ws) u tm ta = absurd u

@@ -18,7 +18,7 @@ use Rattle.lw_report.specs.Reading.{HasRead, ReadsBadFile, ReadsFile, WasRead}
 use Rattle.lw_report.specs.States.{FilesState}
 use Rattle.lw_report.specs.Stops.{read_outcome}
 use Rattle.lw_report.specs.declared.outcome.Outcome.{Outcome}
-use Rattle.lw_report.specs.declared.outcome.Outcome.TheVariants.{Learned, Trial, Yes, Served, No, Usage, BadFile, Alphabets, FileTooLong, Nondeterministic, NoMemory, SulFailed, Gone, BadLine, BadAsk, TooManyStates, SuiteTooLarge, FileFault, SourceFault, SinkFault}
+use Rattle.lw_report.specs.declared.outcome.Outcome.TheVariants.{Learned, Trial, Yes, Served, No, Usage, BadFile, Alphabets, FileTooLong, Nondeterministic, NoMemory, SulFailed, Gone, BadLine, BadAsk, TooManyStates, SuiteTooLarge, FileFault, SourceFault, SinkFault, Compared, Asked, Rechecked, UnknownLetter, Unstarted}
 use Rattle.lw_report.specs.declared.role.Role.{Role}
 use Rattle.lw_report.specs.declared.role.Role.TheVariants as role
 use Rattle.lw_report.specs.declared.stops.ReadStop.{ReadStop}
@@ -148,6 +148,11 @@ module _ {V : Type 0} (IsFile : List ℕ → V → Type 0) (HasFirst : List ℕ 
     refused_then (TooManyStates words) memory refused = absurd refused
     refused_then (SuiteTooLarge states number) memory refused = absurd refused
     refused_then SourceFault memory refused = absurd refused
+    refused_then (Compared comparison) memory refused = absurd refused
+    refused_then Asked memory refused = absurd refused
+    refused_then (Rechecked answers) memory refused = absurd refused
+    refused_then (UnknownLetter word place) memory refused = absurd refused
+    refused_then (Unstarted cause) memory refused = absurd refused
     refused_then SinkFault memory refused = absurd refused
     refused_then (Alphabets r) memory refused = absurd refused
     refused_then (Nondeterministic clash) memory refused = absurd refused
@@ -294,6 +299,11 @@ module _ (a : LearnValues) (f m g : FilesState) (s : System) (whole : SaysWhole 
     unfit p read kept was then (TooManyStates words) is = absurd is
     unfit p read kept was then (SuiteTooLarge states number) is = absurd is
     unfit p read kept was then SourceFault is = absurd is
+    unfit p read kept was then (Compared comparison) is = absurd is
+    unfit p read kept was then Asked is = absurd is
+    unfit p read kept was then (Rechecked answers) is = absurd is
+    unfit p read kept was then (UnknownLetter word place) is = absurd is
+    unfit p read kept was then (Unstarted cause) is = absurd is
     unfit p read kept was then SinkFault is = absurd is
     unfit p read kept was then (BadFile r fault) is = absurd is
     unfit p read kept was then (FileTooLong r) is = absurd is
@@ -320,6 +330,11 @@ module _ (a : LearnValues) (f m g : FilesState) (s : System) (whole : SaysWhole 
     prior_refused read kept none (TooManyStates words) refused back = absurd refused
     prior_refused read kept none (SuiteTooLarge states number) refused back = absurd refused
     prior_refused read kept none SourceFault refused back = absurd refused
+    prior_refused read kept none (Compared comparison) refused back = absurd refused
+    prior_refused read kept none Asked refused back = absurd refused
+    prior_refused read kept none (Rechecked answers) refused back = absurd refused
+    prior_refused read kept none (UnknownLetter word place) refused back = absurd refused
+    prior_refused read kept none (Unstarted cause) refused back = absurd refused
     prior_refused read kept none SinkFault refused back = absurd refused
     prior_refused read kept none (Alphabets r) refused back = absurd refused
     prior_refused read kept none (Nondeterministic clash) refused back = absurd refused

@@ -1,5 +1,6 @@
 -- How a call ends that has learned a system, by what the learning answered.
-use Rattle.std.proofs.Common.{◌≡◌, ◌≢◌, ◌∙◌, ◌⊎◌, ⊎_elim, ℕ, ◌<◌, ◌≤◌, List, [], ◌++◌, length, Option, Some, None, Result, Ok, Err, IfErr, IfOk, IfSome, option_and_then, option_map, inl, inr, refl, ap, sym, subst, arith}
+use Rattle.std.proofs.Common.{◌≡◌, ◌≢◌, ◌∙◌, ◌∷◌, ◌⊎◌, ⊎_elim, ℕ, ◌<◌, ◌≤◌, ◌+◌, ◌-◌, ◌^◌, min, List, [], ◌++◌, length, Option, Some, None, Result, Ok, Err, IfErr, IfOk, IfSome, option_and_then, option_map, inl, inr, refl, ap, sym, subst, arith}
+use Rattle.std.proofs.Math.Nat.{le-min, le_trans, min-le_left, min-le_right}
 use Rattle.std.specs.List.{All}
 use Rattle.lw_words.specs.Answer.{answers_of}
 use Rattle.lw_words.specs.Cause.{CountedFault}
@@ -18,6 +19,7 @@ use Rattle.lw_rounds.specs.declared.learner.Learner.{Learner}
 use Rattle.lw_rounds.specs.declared.stops.LearnStop.{LearnStop}
 use Rattle.lw_rounds.specs.declared.stops.LearnStop.TheVariants as learn
 use Rattle.lw_workers.specs.Machines.{IsReached, IsWithin}
+use Rattle.lw_outside.specs.Files.{File}
 use Rattle.lw_outside.specs.Links.{Retired}
 use Rattle.lw_children.specs.Children.{IsOfCommand, IsSound}
 use Rattle.lw_children.specs.Spawners.{SpawnerSeen}
@@ -25,13 +27,14 @@ use Rattle.lw_report.specs.Ends.{IsWithoutLearner}
 use Rattle.lw_report.specs.Learnings.{HasModel, learn_outcome}
 use Rattle.lw_report.specs.Outcomes.{StandsOrWants}
 use Rattle.lw_report.specs.States.{FilesState, SinkState}
-use Rattle.lw_report.specs.Text.{text_of}
+use Rattle.lw_report.specs.Text.{names_of, text_of}
 use Rattle.lw_report.specs.Writing.{TakesAll, TakesSome, said_text}
 use Rattle.lw_report.specs.declared.«end».End.{End}
 use Rattle.lw_report.specs.declared.role.Role.{Role}
-use Rattle.lw_report.specs.declared.role.Role.TheVariants.{Answers, Model}
+use Rattle.lw_report.specs.declared.role.Role.TheVariants.{Answers, Kept, Model}
+use Rattle.lw_report.specs.declared.role.Role.TheVariants as role
 use Rattle.lw_report.specs.declared.outcome.Outcome.{Outcome}
-use Rattle.lw_report.specs.declared.outcome.Outcome.TheVariants.{Learned, Trial, Yes, Served, No, Usage, BadFile, Alphabets, FileTooLong, Nondeterministic, NoMemory, SulFailed, Gone, BadLine, BadAsk, TooManyStates, SuiteTooLarge, FileFault, SourceFault, SinkFault}
+use Rattle.lw_report.specs.declared.outcome.Outcome.TheVariants.{Learned, Trial, Yes, Served, No, Usage, BadFile, Alphabets, FileTooLong, Nondeterministic, NoMemory, SulFailed, Gone, BadLine, BadAsk, TooManyStates, SuiteTooLarge, FileFault, SourceFault, SinkFault, Compared, Asked, Rechecked, UnknownLetter, Unstarted}
 use Rattle.lw_report.proofs.SinkLemmas.{sink_none}
 use Rattle.lw_learn.specs.Arguments.{LearnValues}
 use Rattle.lw_learn.specs.Calls.{MadeWrites}
@@ -39,19 +42,22 @@ use Rattle.lw_json.specs.MachineText.{written_text}
 use Rattle.lw_json.specs.declared.machine.Machine.{Machine}
 use Rattle.lw_report.specs.declared.stops.TellStop.TheVariants as tell
 use Rattle.lw_children.specs.Keeping.{count_of}
-use Rattle.lw_learn.specs.Ending.{Carries, EndsLearned, EndsRead, EndsUnread, IsSoundSystem, IsToldOf, end_outputs}
+use Rattle.lw_learn.specs.Ending.{Carries, EndsLearned, EndsRead, EndsUnread, IsEndOf, IsSoundSystem, IsToldOf, end_outputs}
 use Rattle.lw_learn.specs.Findings.{IsOfSystem, StopsBy}
 use Rattle.lw_learn.specs.Outcomes.{HasFiles, HasModelFile, IsLearnedOutcome, IsReachedOutcome, IsTold}
+use Rattle.lw_learn.specs.Saving.{HasSaved, IsKeptWritten, IsSaved, IsTextWritten, KeptStand, MayTell, saved_outcome}
 use Rattle.lw_learn.specs.Tasks.{declared_of, letters_of}
 use Rattle.lw_learn.specs.Writing.{NothingFailed, StaysBesides, TakesInTurn, WritesFiles, WritesModel, WritesOut, line_of}
 use Rattle.lw_learn.specs.bodies.UnreadState.{UnreadState}
 use Rattle.lw_learn.specs.Unread.{IsUnreadAs, IsUnreadBy, names_read}
 use Rattle.lw_learn.specs.bodies.Ready.{GivesModel, IsReady}
 use Rattle.lw_learn.specs.bodies.Stages.{IsStage, SaysReady}
+use Rattle.lw_learn.specs.declared.saving.Saved.{Saved}
+use Rattle.lw_learn.specs.declared.saving.Saved.TheVariants as saving
 use Rattle.lw_learn.specs.declared.task.Task.{Task}
 use Rattle.lw_learn.specs.declared.task.System.{System}
 use Rattle.lw_learn.specs.declared.task.System.TheVariants.{Table, Children}
-use Rattle.lw_learn.proofs.WriteLemmas.{gained_none, out_before, stays_same, text_same}
+use Rattle.lw_learn.proofs.WriteLemmas.{gained_none, holds_beside, out_before, stays_joined, stays_same, text_same}
 
 -- an outcome that stands, or is out of memory, has what both have
 pub stands_as : (P : Outcome → Type 0) (outcome result : Outcome) → StandsOrWants outcome result → P outcome → P NoMemory → P result
@@ -81,27 +87,54 @@ pub wants_any : (stop : LearnStop) (result : Outcome) → result ≡ NoMemory �
 wants_any stop result is =
     by_stop (λ o. StandsOrWants o result) (inl is) (λ c. inr (tt, is)) (λ i. inr (tt, is)) (λ i. inr (tt, is)) (λ i line. inr (tt, is)) (λ words. inr (tt, is)) (λ states number. inr (tt, is)) stop
 
--- a learning that stopped: nothing was written, and why it stopped was said
-pub told_stop : (a : LearnValues) (s : System) (naming : Naming) (stop : LearnStop) (kept : List KeptAnswer) (f : FilesState) (o : SinkState) (e d : SinkState) (end : End) → StandsOrWants (learn_outcome stop) end.outcome → end.model ≡ None → IsWithoutLearner end → end.kept.answers ≡ kept → end.outputs ≡ end_outputs (declared_of s) kept naming
-    → (¬ CountedFault e.faults d.faults → TakesAll (text_of (letters_of s) naming.names kept a.extra end.outcome) e.taken d.taken) → TakesSome (text_of (letters_of s) naming.names kept a.extra end.outcome) e.taken d.taken → e.faults ≤ d.faults → IsToldOf a s naming (Err stop) kept f f o o e d end
-told_stop a s naming stop kept f o e d end stands none learner kept_is outputs said part counts = record {
+-- out of memory, or an outcome that stands but for that
+pub wanted : (outcome : Outcome) → StandsOrWants NoMemory outcome → outcome ≡ NoMemory
+wanted outcome (inl same) = same
+wanted outcome (inr wants) = wants.1
+
+pub wanted_or : (why outcome : Outcome) → StandsOrWants why outcome → (outcome ≡ why) ⊎ (outcome ≡ NoMemory)
+wanted_or why outcome (inl same) = inl same
+wanted_or why outcome (inr wants) = inr wants.1
+
+-- saving what is kept leaves the outcome, but where memory runs out
+pub saved_stands : (was : Saved) (stop : LearnStop) (outcome : Outcome) → StandsOrWants (saved_outcome was (learn_outcome stop)) outcome → StandsOrWants (learn_outcome stop) outcome
+saved_stands saving.Stand stop outcome stands = stands
+saved_stands saving.Failed stop outcome stands = stands
+saved_stands saving.NoMemory stop outcome stands = wants_any stop outcome (wanted outcome stands)
+
+pub saved_wants : (was : Saved) (why outcome : Outcome) → StandsOrWants (saved_outcome was why) outcome → was ≡ saving.NoMemory → outcome ≡ NoMemory
+saved_wants was why outcome stands is = wanted outcome (subst (λ (x : Saved). StandsOrWants (saved_outcome x why) outcome) is stands)
+
+pub saved_or : (was : Saved) (why outcome : Outcome) → StandsOrWants (saved_outcome was why) outcome → (outcome ≡ why) ⊎ (outcome ≡ NoMemory)
+saved_or saving.Stand why outcome stands = wanted_or why outcome stands
+saved_or saving.Failed why outcome stands = wanted_or why outcome stands
+saved_or saving.NoMemory why outcome stands = inr (wanted outcome stands)
+
+-- a learning that stopped: nothing further was written, and why it stopped was said
+pub told_stop : (a : LearnValues) (s : System) (naming : Naming) (stop : LearnStop) (kept : List KeptAnswer) (was : Saved) (f : FilesState) (o : SinkState) (e d : SinkState) (end : End) → StandsOrWants (learn_outcome stop) end.outcome → (was ≡ saving.NoMemory → end.outcome ≡ NoMemory) → end.model ≡ None → IsWithoutLearner end → end.kept.answers ≡ kept → end.outputs ≡ end_outputs (declared_of s) kept naming
+    → (¬ CountedFault e.faults d.faults → TakesAll (text_of (letters_of s) naming.names kept a.extra end.outcome) e.taken d.taken) → TakesSome (text_of (letters_of s) naming.names kept a.extra end.outcome) e.taken d.taken → e.faults ≤ d.faults → IsToldOf a s naming (Err stop) kept was f f o o e d end
+told_stop a s naming stop kept was f o e d end stands wants none learner kept_is outputs said part counts = record {
   carries = (none, learner, stands);
   kept_is = kept_is;
   outputs = outputs;
   written = subst (λ (m : Option MealyMachine). IfSome m (WritesModel a kept end.outcome f.holds (o.taken, o.taken) (o.faults, o.faults) (letters_of s) naming.names)) (sym none) tt;
   nothing = λ is. (refl, refl);
-  beside = stays_same a.model a.answers f.holds;
+  beside = stays_same a.model a.answers None f.holds;
   said = said;
   in_turn = record { between = e.taken; some = (0, sink_none e.taken (line_of (letters_of s) naming.names kept a.extra end.model end.refinements)); then = part };
-  quiet = λ is. absurd (stopped_has (λ x. IsLearnedOutcome x → ⊥) stop end.outcome stands (λ x. x) (λ c x. x) (λ i x. x) (λ i x. x) (λ i line x. x) (λ words x. x) (λ states number x. x) is);
+  may = record { learned = λ is. absurd (not_learned is); failed = λ is. absurd (not_file Kept is); wants = wants };
+  quiet = λ is. absurd (not_learned is);
   role = λ r is. absurd (not_file r is);
-  file_fault = λ r is. absurd (not_file r is);
+  file_fault = λ r is other. absurd (not_file r is);
   sink_fault = λ is. absurd (not_sink is);
   reads = refl;
   writes = stopped_has (λ x. MadeWrites a x f.calls f.calls) stop end.outcome stands (0, gained_none f.calls) (λ c. refl) (λ i. refl) (λ i. refl) (λ i line. refl) (λ words. refl) (λ states number. refl);
   counts = (omega arith, omega arith, counts);
 }
   where
+    not_learned : IsLearnedOutcome end.outcome → ⊥
+    not_learned is = stopped_has (λ x. IsLearnedOutcome x → ⊥) stop end.outcome stands (λ x. x) (λ c x. x) (λ i x. x) (λ i x. x) (λ i line x. x) (λ words x. x) (λ states number x. x) is
+
     not_file : (r : Role) → end.outcome ≡ FileFault r → ⊥
     not_file r is = stopped_has (λ x. x ≡ FileFault r → ⊥) stop end.outcome stands
         (λ h. let wrong : NoMemory ≡ FileFault r = h in cc) (λ c h. let wrong : Nondeterministic c ≡ FileFault r = h in cc) (λ i h. let wrong : SulFailed i ≡ FileFault r = h in cc) (λ i h. let wrong : Gone i ≡ FileFault r = h in cc)
@@ -126,6 +159,11 @@ told_reached n model count (Gone instance) few told sink file = absurd told
 told_reached n model count (BadLine instance line) few told sink file = absurd told
 told_reached n model count (BadAsk number) few told sink file = absurd told
 told_reached n model count SourceFault few told sink file = absurd told
+told_reached n model count (Compared comparison) few told sink file = absurd told
+told_reached n model count Asked few told sink file = absurd told
+told_reached n model count (Rechecked answers) few told sink file = absurd told
+told_reached n model count (UnknownLetter word place) few told sink file = absurd told
+told_reached n model count (Unstarted cause) few told sink file = absurd told
 told_reached n model count (Yes states) few told sink file = absurd told
 told_reached n model count (No verdict) few told sink file = absurd told
 told_reached n model count (Alphabets role) few told sink file = absurd told
@@ -152,17 +190,72 @@ reached_system : (a : LearnValues) (s : System) (prior : List KeptAnswer) (b z :
 reached_system a (Table m) prior b z learned kept names r found sound within gives = found.1.reached r within gives
 reached_system a (Children c) prior b z learned kept names r found sound within gives = reached_command a.learner c.words c.inputs c.outputs a.workers a.extra a.max_states prior b z learned kept names r found sound.0 sound.1 within gives
 
+-- a count of faults that rose, seen from before and from later
+min_from : (f m g most : ℕ) → f ≤ m → min (m + 1) most ≤ g → min (f + 1) most ≤ g
+min_from f m g most few counted =
+    let low : min (f + 1) most ≤ min (m + 1) most = le-min (omega (arith, few, min-le_left (f + 1) most)) (min-le_right (f + 1) most) in
+    omega (arith, low, counted)
+
+pub counted_from : (f m g : ℕ) → f ≤ m → CountedFault m g → CountedFault f g
+counted_from f m g few counted = min_from f m g (2 ^ 64 - 1) few counted
+
+pub counted_to : (f m g : ℕ) → CountedFault f m → m ≤ g → CountedFault f g
+counted_to f m g counted few = le_trans counted few
+
+-- a file of kept answers that failed was named, and its fault counted
+pub failed_counted : (file : Option (List ℕ)) (inputs outputs : List (List ℕ)) (kept : List KeptAnswer) (f g : FilesState) (was : Saved) → IsKeptWritten file inputs outputs kept f g was → was ≡ saving.Failed → CountedFault f.faults g.faults
+failed_counted None inputs outputs kept f g was written is = let wrong : saving.Stand ≡ saving.Failed = sym written.1 ∙ is in absurd (cc)
+failed_counted (Some name) inputs outputs [] f g was written is = let wrong : saving.Stand ≡ saving.Failed = sym written.1 ∙ is in absurd (cc)
+failed_counted (Some name) inputs outputs (k ∷ ks) f g was written is = (subst (λ (x : Saved). IsTextWritten name inputs outputs (k ∷ ks) f g x) is written).1
+
+-- what is kept stands in its file, but for a later write under its name
+pub kept_stands : (file m a : Option (List ℕ)) (inputs outputs : List (List ℕ)) (kept : List KeptAnswer) (f g : FilesState) (now : Option (List File)) (was : Saved) → IsKeptWritten file inputs outputs kept f g was → StaysBesides m a None g.holds now → was ≡ saving.Stand → file ≢ m → file ≢ a → KeptStand file now inputs outputs kept
+kept_stands None m a inputs outputs kept f g now was written stays is one two = tt
+kept_stands (Some name) m a inputs outputs [] f g now was written stays is one two = tt
+kept_stands (Some name) m a inputs outputs (k ∷ ks) f g now was written stays is one two =
+    let stood = subst (λ (x : Saved). IsTextWritten name inputs outputs (k ∷ ks) f g x) is written in
+    (stood.0, stood.1, holds_beside name m a None g.holds now stood.0 (λ e. one (sym e)) (λ e. two (sym e)) (λ e. let wrong : None ≡ Some name = e in absurd (cc)) stays stood.2.0)
+
+kept_or : (role : Role) → (role ≡ Kept → ⊥) ⊎ (role ≡ Kept)
+kept_or role.Setup = inl (λ e. let wrong : role.Setup ≡ Kept = e in cc)
+kept_or role.Table = inl (λ e. let wrong : role.Table ≡ Kept = e in cc)
+kept_or role.Model = inl (λ e. let wrong : role.Model ≡ Kept = e in cc)
+kept_or role.Answers = inl (λ e. let wrong : role.Answers ≡ Kept = e in cc)
+kept_or role.Prior = inl (λ e. let wrong : role.Prior ≡ Kept = e in cc)
+kept_or role.Second = inl (λ e. let wrong : role.Second ≡ Kept = e in cc)
+kept_or role.Words = inl (λ e. let wrong : role.Words ≡ Kept = e in cc)
+kept_or role.Kept = inr refl
+
+-- what was saved and then told is how the call ends
+pub end_of : (a : LearnValues) (s : System) (naming : Naming) (learned : Result Found LearnStop) (kept : List KeptAnswer) (was : Saved) (f m g : FilesState) (o p e d : SinkState) (end : End) → HasSaved a.kept (letters_of s) naming.names kept f m was → IsToldOf a s naming learned kept was m g o p e d end → IsEndOf a s naming learned kept f g o p e d end
+end_of a s naming learned kept was f m g o p e d end saved told = record {
+  between = m;
+  was = was;
+  saved = saved;
+  told = told;
+  stands = λ is one two. kept_stands a.kept a.model a.answers (letters_of s) naming.names kept f m g.holds was saved.written told.beside is one two;
+  beside = stays_joined a.model a.answers a.kept f.holds m.holds g.holds saved.beside told.beside;
+  counts = (le_trans saved.counts told.counts.0, told.counts.1, told.counts.2);
+}
+
 -- so a call comes to a model, or runs out of memory
-pub reached_end : (a : LearnValues) (s : System) (prior : List KeptAnswer) (naming : Naming) (learned : Result Found LearnStop) (kept : List KeptAnswer) (f g : FilesState) (b z : SpawnerSeen) (o p e d : SinkState) (end : End) → IsOfSystem a s prior b z learned kept naming.names → IsToldOf a s naming learned kept f g o p e d end
+pub reached_end : (a : LearnValues) (s : System) (prior : List KeptAnswer) (naming : Naming) (learned : Result Found LearnStop) (kept : List KeptAnswer) (f g : FilesState) (b z : SpawnerSeen) (o p e d : SinkState) (end : End) → IsOfSystem a s prior b z learned kept naming.names → IsEndOf a s naming learned kept f g o p e d end
     → (r : Rows) → NothingFailed (f.faults, g.faults) (o.faults, p.faults) (e.faults, d.faults) → IsSoundSystem s b z → IsWithin (length (letters_of s)) a.extra a.max_states r → Gives r (answers_of end.kept.answers) → IsReachedOutcome (length r) end.outcome
-reached_end a s prior naming learned kept f g b z o p e d end found told r none sound within gives =
-    by learned (reached_system a s prior b z learned kept naming.names r found sound within (subst (λ (ks : List KeptAnswer). Gives r (answers_of ks)) told.kept_is gives)) told.carries
+reached_end a s prior naming learned kept f g b z o p e d end found whole r none sound within gives =
+    by learned (reached_system a s prior b z learned kept naming.names r found sound within (subst (λ (ks : List KeptAnswer). Gives r (answers_of ks)) whole.told.kept_is gives)) whole.told.carries
   where
+    unfailed : (role : Role) → end.outcome ≡ FileFault role → ⊥
+    unfailed role is =
+        elim (kept_or role) as (λ _. ⊥) [
+          | inl other ↦ none.of_files (counted_from f.faults whole.between.faults g.faults whole.saved.counts (whole.told.file_fault role is other))
+          | inr same ↦ none.of_files (counted_to f.faults whole.between.faults g.faults (failed_counted a.kept (letters_of s) naming.names kept f whole.between whole.was whole.saved.written (whole.told.may.failed (is ∙ ap (λ (r : Role). FileFault r) same))) whole.told.counts.0)
+        ]
+
     by : (x : Result Found LearnStop) → IsReached (length r) x → Carries x end → IsReachedOutcome (length r) end.outcome
     by (Ok l) few carries =
         told_reached (length r) l.model (refinements_of l.learner) end.outcome few carries.3
-        (λ is. ⊎_elim (λ (x : CountedFault o.faults p.faults). none.of_out x) (λ (x : CountedFault e.faults d.faults). none.of_err x) (told.sink_fault is))
-        (λ role is. none.of_files (told.file_fault role is))
+        (λ is. ⊎_elim (λ (x : CountedFault o.faults p.faults). none.of_out x) (λ (x : CountedFault e.faults d.faults). none.of_err x) (whole.told.sink_fault is))
+        unfailed
     by (Err stop) is carries = stands_as (IsReachedOutcome (length r)) (learn_outcome stop) end.outcome carries.2 (reached_stop (length r) stop is) tt
 
 -- and has the model that was learned
@@ -171,7 +264,7 @@ model_end kind a b k most (Ok l) kept end gives same carries = subst (λ (m : Op
 model_end kind a b k most (Err stop) kept end gives same carries = subst (λ (m : Option MealyMachine). IfSome m (HasModel kind a b k most end)) (sym carries.0) tt
 
 -- what writing a model out came to
-pub record HasWritten (a : LearnValues) (m : Machine) (learner : Learner) (kept : List KeptAnswer) (f g : FilesState) (o p : SinkState) (e d : SinkState) (end : End) : Type 0 where
+pub record HasWritten (a : LearnValues) (m : Machine) (learner : Learner) (kept : List KeptAnswer) (was : Saved) (f g : FilesState) (o p : SinkState) (e d : SinkState) (end : End) : Type 0 where
   pub outcome : IsTold m.mealy (refinements_of learner) end.outcome
   pub model : end.model ≡ Some m.mealy
   pub learner_is : end.learner ≡ Some learner
@@ -179,9 +272,10 @@ pub record HasWritten (a : LearnValues) (m : Machine) (learner : Learner) (kept 
   pub kept_is : end.kept.answers ≡ kept
   pub files : WritesFiles a m kept end.outcome g.holds (f.calls, g.calls)
   pub out : WritesOut a.model (written_text m) end.outcome (o.taken, p.taken) (o.faults, p.faults)
-  pub beside : StaysBesides a.model a.answers f.holds g.holds
-  pub role : (r : Role) → end.outcome ≡ FileFault r → ((r ≡ Model) × (a.model ≢ None)) ⊎ ((r ≡ Answers) × (a.answers ≢ None))
-  pub failed : (r : Role) → end.outcome ≡ FileFault r → CountedFault f.faults g.faults
+  pub beside : StaysBesides a.model a.answers None f.holds g.holds
+  pub role : (r : Role) → end.outcome ≡ FileFault r → ((r ≡ Model) × (a.model ≢ None)) ⊎ (((r ≡ Answers) × (a.answers ≢ None)) ⊎ (r ≡ Kept))
+  pub failed : (r : Role) → end.outcome ≡ FileFault r → r ≢ Kept → CountedFault f.faults g.faults
+  pub may : MayTell was end.outcome
   pub refused : end.outcome ≡ SinkFault → CountedFault o.faults p.faults ⊎ CountedFault e.faults d.faults
   pub said : ¬ CountedFault e.faults d.faults → TakesAll (text_of m.inputs m.outputs kept a.extra end.outcome) e.taken d.taken
   pub part : TakesInTurn (text_of m.inputs m.outputs kept a.extra (Learned m.mealy (refinements_of learner))) (text_of m.inputs m.outputs kept a.extra end.outcome) e.taken d.taken
@@ -190,14 +284,15 @@ pub record HasWritten (a : LearnValues) (m : Machine) (learner : Learner) (kept 
   pub counts : (f.faults ≤ g.faults) × (o.faults ≤ p.faults) × (e.faults ≤ d.faults)
 
 -- a learning with a model, which was written out under its names
-pub told_written : (a : LearnValues) (s : System) (naming : Naming) (l : Found) (m : Machine) (kept : List KeptAnswer) (f g : FilesState) (o p e d : SinkState) (end : End) → m.inputs ≡ letters_of s → m.outputs ≡ naming.names → m.mealy ≡ l.model → end.outputs ≡ end_outputs (declared_of s) kept naming → HasWritten a m l.learner kept f g o p e d end → IsToldOf a s naming (Ok l) kept f g o p e d end
-told_written a s naming l m kept f g o p e d end inputs outputs mealy own w = record {
+pub told_written : (a : LearnValues) (s : System) (naming : Naming) (l : Found) (m : Machine) (kept : List KeptAnswer) (was : Saved) (f g : FilesState) (o p e d : SinkState) (end : End) → m.inputs ≡ letters_of s → m.outputs ≡ naming.names → m.mealy ≡ l.model → end.outputs ≡ end_outputs (declared_of s) kept naming → HasWritten a m l.learner kept was f g o p e d end → IsToldOf a s naming (Ok l) kept was f g o p e d end
+told_written a s naming l m kept was f g o p e d end inputs outputs mealy own w = record {
   carries = (w.model ∙ ap (λ (h : MealyMachine). Some h) mealy, w.learner_is, w.refinements, subst (λ (h : MealyMachine). IsTold h (refinements_of l.learner) end.outcome) mealy w.outcome);
   kept_is = w.kept_is;
   outputs = own;
   written = subst (λ (h : Option MealyMachine). IfSome h (WritesModel a kept end.outcome g.holds (o.taken, p.taken) (o.faults, p.faults) (letters_of s) naming.names)) (sym w.model) done;
   nothing = λ is. let wrong : Some m.mealy ≡ None = sym w.model ∙ is in absurd (cc);
   beside = w.beside;
+  may = w.may;
   said = λ none. subst (λ (t : List ℕ). TakesAll t e.taken d.taken) (same end.outcome) (w.said none);
   in_turn = record {
     between = w.part.between;
@@ -226,24 +321,29 @@ told_written a s naming l m kept f g o p e d end inputs outputs mealy own w = re
         ∙ ap (λ (h : Option MealyMachine). line_of (letters_of s) naming.names kept a.extra h end.refinements) (sym w.model))
 
 -- a learning with a model for whose texts there was no memory: nothing was written
-pub told_left : (a : LearnValues) (s : System) (naming : Naming) (l : Found) (kept : List KeptAnswer) (f : FilesState) (o e d : SinkState) (end : End) → length (letters_of s) ≤ 64 → (l.model.inputs ≡ length (letters_of s)) × (l.model.outputs ≡ length naming.names) → end.outcome ≡ NoMemory → end.model ≡ Some l.model → end.learner ≡ Some l.learner → end.refinements ≡ refinements_of l.learner → end.kept.answers ≡ kept
-    → end.outputs ≡ end_outputs (declared_of s) kept naming → (¬ CountedFault e.faults d.faults → TakesAll (text_of [] [] [] 0 NoMemory) e.taken d.taken) → TakesSome (text_of [] [] [] 0 NoMemory) e.taken d.taken → e.faults ≤ d.faults → IsToldOf a s naming (Ok l) kept f f o o e d end
-told_left a s naming l kept f o e d end few sizes wants model learner refinements kept_is outputs said part counts = record {
+pub told_left : (a : LearnValues) (s : System) (naming : Naming) (l : Found) (kept : List KeptAnswer) (was : Saved) (f : FilesState) (o e d : SinkState) (end : End) → length (letters_of s) ≤ 64 → (l.model.inputs ≡ length (letters_of s)) × (l.model.outputs ≡ length naming.names) → end.outcome ≡ NoMemory → end.model ≡ Some l.model → end.learner ≡ Some l.learner → end.refinements ≡ refinements_of l.learner → end.kept.answers ≡ kept
+    → end.outputs ≡ end_outputs (declared_of s) kept naming → (¬ CountedFault e.faults d.faults → TakesAll (text_of [] [] [] 0 NoMemory) e.taken d.taken) → TakesSome (text_of [] [] [] 0 NoMemory) e.taken d.taken → e.faults ≤ d.faults → IsToldOf a s naming (Ok l) kept was f f o o e d end
+told_left a s naming l kept was f o e d end few sizes wants model learner refinements kept_is outputs said part counts = record {
   carries = (model, learner, refinements, subst (λ (x : Outcome). IsTold l.model (refinements_of l.learner) x) (sym wants) tt);
   kept_is = kept_is;
   outputs = outputs;
   written = subst (λ (h : Option MealyMachine). IfSome h (WritesModel a kept end.outcome f.holds (o.taken, o.taken) (o.faults, o.faults) (letters_of s) naming.names)) (sym model) none_written;
   nothing = λ is. (refl, refl);
-  beside = stays_same a.model a.answers f.holds;
+  beside = stays_same a.model a.answers None f.holds;
   said = λ none. subst (λ (t : List ℕ). TakesAll t e.taken d.taken) text (said none);
   in_turn = record {
     between = e.taken;
     some = (0, sink_none e.taken (line_of (letters_of s) naming.names kept a.extra end.model end.refinements));
     then = subst (λ (t : List ℕ). TakesSome t e.taken d.taken) text part;
   };
+  may = record {
+    learned = λ is. absurd (subst (λ (x : Outcome). IsLearnedOutcome x) wants is);
+    failed = λ is. let wrong : NoMemory ≡ FileFault Kept = sym wants ∙ is in absurd (cc);
+    wants = λ _. wants;
+  };
   quiet = λ is. absurd (subst (λ (x : Outcome). IsLearnedOutcome x) wants is);
   role = λ r is. let wrong : NoMemory ≡ FileFault r = sym wants ∙ is in absurd (cc);
-  file_fault = λ r is. let wrong : NoMemory ≡ FileFault r = sym wants ∙ is in absurd (cc);
+  file_fault = λ r is other. let wrong : NoMemory ≡ FileFault r = sym wants ∙ is in absurd (cc);
   sink_fault = λ is. let wrong : NoMemory ≡ SinkFault = sym wants ∙ is in absurd (cc);
   reads = refl;
   writes = subst (λ (x : Outcome). MadeWrites a x f.calls f.calls) (sym wants) (0, gained_none f.calls);
@@ -256,7 +356,7 @@ told_left a s naming l kept f o e d end few sizes wants model learner refinement
     out_none : WritesOut a.model (written_text machine) end.outcome (o.taken, o.taken) (o.faults, o.faults)
     out_none =
         subst (λ (x : Outcome). WritesOut a.model (written_text machine) x (o.taken, o.taken) (o.faults, o.faults)) (sym wants)
-        (out_before a.model (written_text machine) o.taken (o.faults, o.faults) tell.NoMemory (λ x. let wrong : tell.NoMemory ≡ tell.Sink = x in cc))
+        (out_before a.model (written_text machine) o.taken (o.faults, o.faults) tell.NoMemory (λ x. let wrong : tell.NoMemory ≡ tell.Sink = x in cc) (λ x. let wrong : tell.NoMemory ≡ tell.File Kept = x in cc))
 
     none_written : WritesModel a kept end.outcome f.holds (o.taken, o.taken) (o.faults, o.faults) (letters_of s) naming.names l.model
     none_written = record {
@@ -274,15 +374,15 @@ told_left a s naming l kept f o e d end few sizes wants model learner refinement
 
 -- what was found of a system, and told
 pub ends_learned : (a : LearnValues) (s : System) (prior : List KeptAnswer) (naming : Naming) (learned : Result Found LearnStop) (kept : List KeptAnswer) (f g : FilesState) (b z : SpawnerSeen) (o p e d : SinkState) (end : End) → IsOfSystem a s prior b z learned kept naming.names → IfOk learned (GivesModel a.learner (length (letters_of s)) (length naming.names) a.extra a.max_states kept)
-    → IfErr learned (StopsBy (length (letters_of s)) (count_of (declared_of s)) a.extra a.max_states (answers_of kept)) → IsToldOf a s naming learned kept f g o p e d end → EndsLearned a s prior f g b z o p e d end
-ends_learned a s prior naming learned kept f g b z o p e d end found gives stops told = record {
+    → IfErr learned (StopsBy (length (letters_of s)) (count_of (declared_of s)) a.extra a.max_states (answers_of kept)) → IsEndOf a s naming learned kept f g o p e d end → EndsLearned a s prior f g b z o p e d end
+ends_learned a s prior naming learned kept f g b z o p e d end found gives stops whole = record {
   naming = naming;
   learned = learned;
-  found = subst (λ (ks : List KeptAnswer). IsOfSystem a s prior b z learned ks naming.names) (sym told.kept_is) found;
-  model = model_end a.learner (length (letters_of s)) (length naming.names) a.extra a.max_states learned kept end gives told.kept_is told.carries;
-  stops = subst (λ (ks : List KeptAnswer). IfErr learned (StopsBy (length (letters_of s)) (count_of (declared_of s)) a.extra a.max_states (answers_of ks))) (sym told.kept_is) stops;
-  reached = reached_end a s prior naming learned kept f g b z o p e d end found told;
-  told = subst (λ (ks : List KeptAnswer). IsToldOf a s naming learned ks f g o p e d end) (sym told.kept_is) told;
+  found = subst (λ (ks : List KeptAnswer). IsOfSystem a s prior b z learned ks naming.names) (sym whole.told.kept_is) found;
+  model = model_end a.learner (length (letters_of s)) (length naming.names) a.extra a.max_states learned kept end gives whole.told.kept_is whole.told.carries;
+  stops = subst (λ (ks : List KeptAnswer). IfErr learned (StopsBy (length (letters_of s)) (count_of (declared_of s)) a.extra a.max_states (answers_of ks))) (sym whole.told.kept_is) stops;
+  reached = reached_end a s prior naming learned kept f g b z o p e d end found whole;
+  told = subst (λ (ks : List KeptAnswer). IsEndOf a s naming learned ks f g o p e d end) (sym whole.told.kept_is) whole;
 }
 
 -- and before that read
@@ -304,41 +404,55 @@ unread_as a f g read kept why outcome by (inl same) = inl (subst (λ (x : Outcom
 unread_as a f g read kept why outcome by (inr wants) = inr (wants, (why, by))
 
 -- the end of a call that began no learning
-pub record HasSaid (u : UnreadState) (extra : ℕ) (e d : SinkState) (end : End) : Type 0 where
+pub record HasSaid (u : UnreadState) (extra : ℕ) (file : Option (List ℕ)) (m g : FilesState) (e d : SinkState) (end : End) : Type 0 where
   pub outcome : (end.outcome ≡ u.outcome) ⊎ (end.outcome ≡ NoMemory)
   pub model : end.model ≡ None
   pub learner : IsWithoutLearner end
   pub kept : end.kept.answers ≡ u.kept
   pub outputs : (end.outputs ≡ names_read u.system) ⊎ ((end.outcome ≡ NoMemory) × (end.outputs ≡ None) × (end.kept.answers ≡ []))
+  pub saved : IsSaved file (names_of (option_map letters_of u.system)) (names_of (option_and_then declared_of u.system)) u.kept m g end.outcome
   pub said : ¬ CountedFault e.faults d.faults → TakesAll (said_text (option_map letters_of u.system) (option_and_then declared_of u.system) end.kept.answers extra end.outcome) e.taken d.taken
   pub part : TakesSome (said_text (option_map letters_of u.system) (option_and_then declared_of u.system) end.kept.answers extra end.outcome) e.taken d.taken
 
-pub ends_unread : (a : LearnValues) (f g : FilesState) (b : SpawnerSeen) (o e d : SinkState) (end : End) (r : Result Task UnreadState) (u : UnreadState) (extra : ℕ) → r ≡ Err u → IsStage a f g (SaysReady a f g) r → extra ≡ a.extra → HasSaid u extra e d end → EndsUnread a f g b b o o e d end
-ends_unread a f g b o e d end r u extra is stage extra_is has = by (subst (λ (x : Result Task UnreadState). IsStage a f g (SaysReady a f g) x) is stage) (subst (λ (k : ℕ). HasSaid u k e d end) extra_is has)
+pub ends_unread : (a : LearnValues) (f m g : FilesState) (b : SpawnerSeen) (o e d : SinkState) (end : End) (r : Result Task UnreadState) (u : UnreadState) → r ≡ Err u → IsStage a f m (SaysReady a f m) r → HasSaid u a.extra a.kept m g e d end → EndsUnread a f g b b o o e d end
+ends_unread a f m g b o e d end r u is stage h = by (subst (λ (x : Result Task UnreadState). IsStage a f m (SaysReady a f m) x) is stage)
   where
-    by : IsStage a f g (SaysReady a f g) (Err u) → HasSaid u a.extra e d end → EndsUnread a f g b b o o e d end
-    by x h = record {
+    same : u.kept ≡ end.kept.answers
+    same = sym h.kept
+
+    by : IsStage a f m (SaysReady a f m) (Err u) → EndsUnread a f g b b o o e d end
+    by x = record {
       read = u.system;
-      cause = unread_as a f g u.system end.kept.answers u.outcome end.outcome (subst (λ (ks : List KeptAnswer). IsUnreadBy a f g u.system ks u.outcome) (sym h.kept) x.err) h.outcome;
+      between = m;
+      cause = unread_as a f m u.system end.kept.answers u.outcome end.outcome (subst (λ (ks : List KeptAnswer). IsUnreadBy a f m u.system ks u.outcome) same x.err) h.outcome;
+      same = x.same;
       model = h.model;
       learner = h.learner;
       outputs = h.outputs;
-      holds = x.same;
+      saved = subst (λ (ks : List KeptAnswer). IsSaved a.kept (names_of (option_map letters_of u.system)) (names_of (option_and_then declared_of u.system)) ks m g end.outcome) same h.saved;
       unstarted = refl;
       unwritten = refl;
       said = h.said;
       part = h.part;
     }
 
+-- where nothing is kept, nothing is saved
+pub none_saved : (file : Option (List ℕ)) (inputs outputs : List (List ℕ)) (kept : List KeptAnswer) (f : FilesState) (outcome : Outcome) → kept ≡ [] → IsSaved file inputs outputs kept f f outcome
+none_saved file inputs outputs kept f outcome none = record {
+  was = saving.Stand;
+  saved = record {
+    written = subst (λ (ks : List KeptAnswer). IsKeptWritten file inputs outputs ks f f saving.Stand) (sym none) (by file);
+    beside = stays_same file None None f.holds;
+    reads = refl;
+    counts = omega arith;
+  };
+  wants = λ is. let wrong : saving.Stand ≡ saving.NoMemory = is in absurd (cc);
+}
+  where
+    by : (x : Option (List ℕ)) → IsKeptWritten x inputs outputs [] f f saving.Stand
+    by None = (refl, refl)
+    by (Some name) = (refl, refl)
+
 -- the text of memory that ran out says nothing else
 pub text_memory : (i j o p : List (List ℕ)) (k l : List KeptAnswer) (x y : ℕ) (outcome : Outcome) → outcome ≡ NoMemory → text_of i o k x outcome ≡ text_of j p l y outcome
 text_memory i j o p k l x y outcome is = ap (λ (c : Outcome). text_of i o k x c) is ∙ sym (ap (λ (c : Outcome). text_of j p l y c) is)
-
--- out of memory, or an outcome that stands but for that
-pub wanted : (outcome : Outcome) → StandsOrWants NoMemory outcome → outcome ≡ NoMemory
-wanted outcome (inl same) = same
-wanted outcome (inr wants) = wants.1
-
-pub wanted_or : (why outcome : Outcome) → StandsOrWants why outcome → (outcome ≡ why) ⊎ (outcome ≡ NoMemory)
-wanted_or why outcome (inl same) = inl same
-wanted_or why outcome (inr wants) = inr wants.1

@@ -1,5 +1,5 @@
 -- What is told of files is what was read of them.
-use Rattle.std.proofs.Common.{◌≡◌, ◌∙◌, ◌⊎◌, ⊎_elim, ℕ, ◌<◌, List, [], length, Option, Some, None, ap, sym, subst, arith}
+use Rattle.std.proofs.Common.{◌≡◌, ◌∙◌, ⊎_elim, ℕ, ◌<◌, List, length, Option, Some, None, ap, sym, subst, arith}
 use Rattle.lw_words.specs.Cause.{CountedFault}
 use Rattle.lw_words.specs.declared.kept.KeptAnswer.{KeptAnswer}
 use Rattle.lw_json.proofs.OneAnswers.{one_answers}
@@ -19,13 +19,14 @@ use Rattle.lw_prior.specs.Prior.{FitNames}
 use Rattle.lw_report.specs.Reading.{ReadsBadFile, ReadsFile}
 use Rattle.lw_report.specs.States.{FilesState}
 use Rattle.lw_report.specs.declared.outcome.Outcome.{Outcome}
-use Rattle.lw_report.specs.declared.outcome.Outcome.TheVariants.{Learned, Trial, Yes, Served, No, Usage, BadFile, Alphabets, FileTooLong, Nondeterministic, NoMemory, SulFailed, Gone, BadLine, BadAsk, TooManyStates, SuiteTooLarge, FileFault, SourceFault, SinkFault}
+use Rattle.lw_report.specs.declared.outcome.Outcome.TheVariants.{Learned, Trial, Yes, Served, No, Usage, BadFile, Alphabets, FileTooLong, Nondeterministic, NoMemory, SulFailed, Gone, BadLine, BadAsk, TooManyStates, SuiteTooLarge, FileFault, SourceFault, SinkFault, Compared, Asked, Rechecked, UnknownLetter, Unstarted}
 use Rattle.lw_report.specs.declared.role.Role.{Role}
 use Rattle.lw_report.specs.declared.role.Role.TheVariants as role
 use Rattle.lw_learn.specs.Arguments.{LearnValues}
 use Rattle.lw_learn.specs.Tasks.{FitsSystem, ReadsSystem, SaysSystem, declared_of, letters_of, or_these}
 use Rattle.lw_learn.specs.Told.{BadIsRefused, IsNoRefusal, TellsBad, TellsFile, TellsNoSystem, TellsPrior, TellsSetup, TellsSystem, TellsTask, ToldIsLearned}
 use Rattle.lw_learn.specs.Unread.{IsNext, IsTableNext, IsUnreadBy, ReadsBad}
+use Rattle.lw_learn.proofs.RunLemmas.{counted_to}
 use Rattle.lw_learn.specs.declared.arguments.Source.{Source}
 use Rattle.lw_learn.specs.declared.arguments.Source.TheVariants as source
 use Rattle.lw_learn.specs.declared.task.System.{System}
@@ -89,6 +90,9 @@ TellsRole role.Table holds name = (m : Machine) × TellsFile IsMachineFile holds
 TellsRole role.Prior holds name = (p : Answers) × TellsFile IsAnswersFile holds name p
 TellsRole role.Model holds name = ⊥
 TellsRole role.Answers holds name = ⊥
+TellsRole role.Second holds name = ⊥
+TellsRole role.Words holds name = ⊥
+TellsRole role.Kept holds name = ⊥
 
 table_told : (k : Source) (system : List ℕ) (holds : Option (List File)) (before now : List File) (name : List ℕ) (s : System) → IsTableNext k system holds before now name → TellsSystem k system holds s → (m : Machine) × TellsFile IsMachineFile holds name m
 table_told source.Table system holds before now name s next told = (told.0, subst (λ (n : List ℕ). TellsFile IsMachineFile holds n told.0) (sym next.0) told.1)
@@ -107,6 +111,9 @@ role_told a holds before now role.Prior name read s told next =
     (said.0, said.1)
 role_told a holds before now role.Model name read s told next = absurd next
 role_told a holds before now role.Answers name read s told next = absurd next
+role_told a holds before now role.Second name read s told next = absurd next
+role_told a holds before now role.Words name read s told next = absurd next
+role_told a holds before now role.Kept name read s told next = absurd next
 
 role_not_bad : (r : Role) (name : List ℕ) (holds : Option (List File)) (now after : List File) (fault : JsonFault) → TellsRole r holds name → ReadsBad r name holds now after fault → ⊥
 role_not_bad role.Setup name holds now after fault told bad = told_not_bad IsSetupFile HasSetupFault name holds now after fault told.0 told.1 bad
@@ -114,6 +121,9 @@ role_not_bad role.Table name holds now after fault told bad = told_not_bad IsMac
 role_not_bad role.Prior name holds now after fault told bad = told_not_bad IsAnswersFile HasAnswersFault name holds now after fault told.0 told.1 bad
 role_not_bad role.Model name holds now after fault told bad = told
 role_not_bad role.Answers name holds now after fault told bad = told
+role_not_bad role.Second name holds now after fault told bad = told
+role_not_bad role.Words name holds now after fault told bad = told
+role_not_bad role.Kept name holds now after fault told bad = told
 
 role_not_long : (r : Role) (name : List ℕ) (holds : Option (List File)) → TellsRole r holds name → HoldsLong holds name → ⊥
 role_not_long role.Setup name holds told long = told_not_long IsSetupFile HasSetupFault name holds told.0 told.1 long
@@ -121,6 +131,9 @@ role_not_long role.Table name holds told long = told_not_long IsMachineFile HasM
 role_not_long role.Prior name holds told long = told_not_long IsAnswersFile HasAnswersFault name holds told.0 told.1 long
 role_not_long role.Model name holds told long = told
 role_not_long role.Answers name holds told long = told
+role_not_long role.Second name holds told long = told
+role_not_long role.Words name holds told long = told
+role_not_long role.Kept name holds told long = told
 
 -- the names of a system that is told are those of the one that was read
 abbrev SameNames : System → System → Type 0
@@ -179,13 +192,18 @@ taken_by a f g read kept s told quiet (BadAsk number) is = is
 taken_by a f g read kept s told quiet (TooManyStates words) is = is
 taken_by a f g read kept s told quiet (SuiteTooLarge states number) is = is
 taken_by a f g read kept s told quiet SourceFault is = is
+taken_by a f g read kept s told quiet (Compared comparison) is = is
+taken_by a f g read kept s told quiet Asked is = is
+taken_by a f g read kept s told quiet (Rechecked answers) is = is
+taken_by a f g read kept s told quiet (UnknownLetter word place) is = is
+taken_by a f g read kept s told quiet (Unstarted cause) is = is
 taken_by a f g read kept s told quiet SinkFault is = is
 
 pub told_is_learned : ToldIsLearned
 told_is_learned a f g b z o p e d end s told quiet ended =
     ⊎_elim
-    (λ (is : IsUnreadBy a f g ended.read end.kept.answers end.outcome). taken_by a f g ended.read end.kept.answers s told quiet end.outcome is)
-    (λ (wants : (end.outcome ≡ NoMemory) × ((why : Outcome) × IsUnreadBy a f g ended.read end.kept.answers why)). subst (λ (x : Outcome). IsNoRefusal x) (sym wants.0) tt)
+    (λ (is : IsUnreadBy a f ended.between ended.read end.kept.answers end.outcome). taken_by a f ended.between ended.read end.kept.answers s told (λ h. quiet (counted_to f.faults ended.between.faults g.faults h ended.saved.saved.counts)) end.outcome is)
+    (λ (wants : (end.outcome ≡ NoMemory) × ((why : Outcome) × IsUnreadBy a f ended.between ended.read end.kept.answers why)). subst (λ (x : Outcome). IsNoRefusal x) (sym wants.0) tt)
     ended.cause
 
 system_not_bad : (k : Source) (name : List ℕ) (holds : Option (List File)) (before now : List File) (t : System) → TellsNoSystem k name holds → ReadsSystem k name holds before now t → ⊥

@@ -1,20 +1,25 @@
 -- Writing out: what the files hold, which calls were made, and what `out` took, by the outcome.
-use Rattle.std.proofs.Common.{◌≡◌, ◌≢◌, ◌∙◌, ℕ, ◌++◌, List, [], ◌∷◌, take, Option, Some, None, Result, Ok, Err, OnOk, IsErrAnd, length, refl, sym, subst, ap, append_assoc, append-nil}
+use Rattle.std.proofs.Common.{◌≡◌, ◌≢◌, ◌⊎◌, ◌∙◌, inl, inr, ℕ, ◌++◌, List, [], ◌∷◌, take, Option, Some, None, Result, Ok, Err, OnOk, IsErrAnd, length, refl, sym, subst, ap, append_assoc, append-nil}
+use Rattle.lw_words.specs.Cause.{CountedFault}
 use Rattle.lw_words.specs.declared.kept.KeptAnswer.{KeptAnswer}
 use Rattle.lw_mealy.specs.Limits.{MealyMachine}
 use Rattle.lw_json.specs.AnswersText.{IsAnswersText}
+use Rattle.lw_json.specs.MachineText.{written_text}
 use Rattle.lw_json.specs.declared.machine.Machine.{Machine}
-use Rattle.lw_outside.specs.Files.{Call, File, Holds, file_at}
+use Rattle.lw_outside.specs.Files.{Call, File, Holds}
 use Rattle.lw_report.specs.Stops.{tell_outcome}
 use Rattle.lw_report.specs.Text.{text_of}
 use Rattle.lw_report.specs.declared.stops.TellStop.{TellStop}
 use Rattle.lw_report.specs.declared.stops.TellStop.TheVariants.{File as FileStop, Sink, NoMemory as NoMemoryToTell}
 use Rattle.lw_report.specs.declared.outcome.Outcome.{Outcome}
+use Rattle.lw_report.specs.declared.role.Role.{Role}
+use Rattle.lw_report.specs.declared.role.Role.TheVariants.{Answers, Kept, Model}
 use Rattle.lw_report.specs.declared.outcome.Outcome.TheVariants.{FileFault, NoMemory, SinkFault}
 use Rattle.lw_report.proofs.SinkLemmas.{sink_none}
-use Rattle.lw_learn.specs.Calls.{gained}
+use Rattle.lw_learn.specs.Arguments.{LearnValues}
+use Rattle.lw_learn.specs.Calls.{all_writes, gained}
 use Rattle.lw_learn.specs.Outcomes.{told_outcome}
-use Rattle.lw_learn.specs.Writing.{AnswersStand, PutsSome, Stands, StaysBesides, WritesOut}
+use Rattle.lw_learn.specs.Writing.{AnswersStand, PutsAll, PutsSome, Stands, StaysBesides, WritesFiles, WritesOut}
 
 -- calls gained in two steps
 pub gained_twice : (a b : List Call) (first second third : Option (List Call)) → second ≡ gained a first → third ≡ gained b second → third ≡ gained (a ++ b) first
@@ -26,17 +31,29 @@ gained_none None = refl
 gained_none (Some cs) = ap (λ (l : List Call). Some l) (sym (append-nil cs))
 
 -- files that stay
-pub stays_same : (m a : Option (List ℕ)) (holds : Option (List File)) → StaysBesides m a holds holds
-stays_same m a None = refl
-stays_same m a (Some fs) = (fs, refl, λ other one two. refl)
+pub stays_same : (m a k : Option (List ℕ)) (holds : Option (List File)) → StaysBesides m a k holds holds
+stays_same m a k None = refl
+stays_same m a k (Some fs) = (fs, refl, λ other one two three. refl)
+
+none_some : (name : List ℕ) → ◌≡◌ {A = Option (List ℕ)} None (Some name) → ⊥
+none_some name e = cc
+
+-- what stands in a file stands while others are written
+pub holds_beside : (name : List ℕ) (m a k : Option (List ℕ)) (before now : Option (List File)) (bytes : List ℕ) → m ≢ Some name → a ≢ Some name → k ≢ Some name → StaysBesides m a k before now → Holds before name bytes → Holds now name bytes
+holds_beside name m a k None now bytes one two three stays holds = subst (λ (h : Option (List File)). Holds h name bytes) (sym stays) tt
+holds_beside name m a k (Some fs) now bytes one two three stays holds = subst (λ (h : Option (List File)). Holds h name bytes) (sym stays.1) (stays.2 name one two three ∙ holds)
+
+-- the file of the kept answers is written, then those of the model and the answers
+pub stays_joined : (m a k : Option (List ℕ)) (one two three : Option (List File)) → StaysBesides k None None one two → StaysBesides m a None two three → StaysBesides m a k one three
+stays_joined m a k None two three first second = subst (λ (h : Option (List File)). StaysBesides m a None h three) first second
+stays_joined m a k (Some fs) two three first second =
+    let later = subst (λ (h : Option (List File)). StaysBesides m a None h three) first.1 second in
+    (later.0, later.1, λ other nm na nk. later.2 other nm na (none_some other) ∙ first.2 other nk (none_some other) (none_some other))
 
 -- what stands in a file stands while another is written
-pub stands_beside : (m a : Option (List ℕ)) (before now : Option (List File)) (bytes : List ℕ) → m ≢ a → StaysBesides a None before now → Stands m before bytes → Stands m now bytes
+pub stands_beside : (m a : Option (List ℕ)) (before now : Option (List File)) (bytes : List ℕ) → m ≢ a → StaysBesides a None None before now → Stands m before bytes → Stands m now bytes
 stands_beside None a before now bytes differ stays stands = tt
-stands_beside (Some name) a None now bytes differ stays stands = subst (λ (h : Option (List File)). Holds h name bytes) (sym stays) tt
-stands_beside (Some name) a (Some fs) now bytes differ stays stands =
-    let same : file_at name stays.0 ≡ file_at name fs = stays.2 name (λ e. differ (sym e)) (λ e. let wrong : None ≡ Some name = e in absurd (cc)) in
-    subst (λ (h : Option (List File)). Holds h name bytes) (sym stays.1) (same ∙ stands)
+stands_beside (Some name) a before now bytes differ stays stands = holds_beside name a None None before now bytes (λ e. differ (sym e)) (none_some name) (none_some name) stays stands
 
 pub take_front : {X : Type 0} (xs ys : List X) → take (length xs) (xs ++ ys) ≡ xs
 take_front [] ys = refl
@@ -57,10 +74,37 @@ puts_none None text taken = (0, sink_none taken text)
 puts_none (Some name) text taken = refl
 
 -- what became of `out` where a write ended the call before it
-pub out_before : (file : Option (List ℕ)) (text : List ℕ) (taken : Option (List ℕ)) (faults : ℕ × ℕ) (stop : TellStop) → (stop ≡ Sink → ⊥) → WritesOut file text (tell_outcome stop) (taken, taken) faults
-out_before file text taken faults (FileStop role) other = record { told = λ u. absurd u; whole = λ is. let wrong : FileFault role ≡ SinkFault = is in absurd (cc); part = puts_none file text taken; before = λ _. refl }
-out_before file text taken faults Sink other = absurd (other refl)
-out_before file text taken faults NoMemoryToTell other = record { told = λ u. absurd u; whole = λ is. let wrong : NoMemory ≡ SinkFault = is in absurd (cc); part = puts_none file text taken; before = λ _. refl }
+pub out_before : (file : Option (List ℕ)) (text : List ℕ) (taken : Option (List ℕ)) (faults : ℕ × ℕ) (stop : TellStop) → (stop ≡ Sink → ⊥) → (stop ≡ FileStop Kept → ⊥) → WritesOut file text (tell_outcome stop) (taken, taken) faults
+out_before file text taken faults (FileStop role) other early = record {
+  told = λ is. absurd (early (ap (λ (r : Role). FileStop r) is));
+  whole = λ is. let wrong : FileFault role ≡ SinkFault = is in absurd (cc);
+  part = puts_none file text taken;
+  before = λ _. refl;
+}
+out_before file text taken faults Sink other early = absurd (other refl)
+out_before file text taken faults NoMemoryToTell other early = record { told = λ u. absurd u; whole = λ is. let wrong : NoMemory ≡ SinkFault = is in absurd (cc); part = puts_none file text taken; before = λ _. refl }
+
+pub not_kept : {A B : Type 0} → ((Kept ≡ Model) × A) ⊎ ((Kept ≡ Answers) × B) → ⊥
+not_kept (inl both) = let wrong : Kept ≡ Model = both.0 in cc
+not_kept (inr both) = let wrong : Kept ≡ Answers = both.0 in cc
+
+-- what became of the files and of `out` where a stream refused, or where the kept answers' file failed before
+pub files_behind : (a : LearnValues) (m : Machine) (kept : List KeptAnswer) (holds : Option (List File)) (made : Option (List Call) × Option (List Call)) (stop : TellStop) → (stop ≡ Sink) ⊎ (stop ≡ FileStop Kept) → (a.model ≢ a.answers → Stands a.model holds (written_text m)) → AnswersStand a.answers holds m kept → made.1 ≡ gained (all_writes a) made.0 → WritesFiles a m kept (tell_outcome stop) holds made
+files_behind a m kept holds made stop (inl sink) model answers calls = subst (λ (s : TellStop). WritesFiles a m kept (tell_outcome s) holds made) (sym sink) (record { model = λ _. model; answers = λ _. answers; calls = calls })
+files_behind a m kept holds made stop (inr file) model answers calls = subst (λ (s : TellStop). WritesFiles a m kept (tell_outcome s) holds made) (sym file) (record { model = λ _. model; answers = λ _. answers; calls = calls })
+
+pub out_behind : (file : Option (List ℕ)) (text : List ℕ) (taken : Option (List ℕ) × Option (List ℕ)) (faults : ℕ × ℕ) (stop : TellStop) → (stop ≡ Sink) ⊎ (stop ≡ FileStop Kept) → (¬ CountedFault faults.0 faults.1 → PutsAll file text taken.0 taken.1) → (stop ≡ FileStop Kept → PutsAll file text taken.0 taken.1) → PutsSome file text taken.0 taken.1 → WritesOut file text (tell_outcome stop) taken faults
+out_behind file text taken faults stop (inl sink) whole kept part =
+    subst (λ (s : TellStop). WritesOut file text (tell_outcome s) taken faults) (sym sink) (record { told = λ u. absurd u; whole = λ _. whole; part = part; before = λ u. absurd u })
+out_behind file text taken faults stop (inr failed) whole kept part = subst (λ (s : TellStop). WritesOut file text (tell_outcome s) taken faults) (sym failed) (record {
+  told = λ _. kept failed;
+  whole = λ is. let wrong : FileFault Kept ≡ SinkFault = is in absurd (cc);
+  part = part;
+  before = λ is. absurd (elim is as (λ _. ⊥) [
+    | inl e ↦ let wrong : Kept ≡ Model = e in cc
+    | inr e ↦ let wrong : Kept ≡ Answers = e in cc
+  ]);
+})
 
 -- the answers' text stands where a file is named for it
 pub answers_stand : (file : Option (List ℕ)) (holds : Option (List File)) (m : Machine) (kept : List KeptAnswer) (text : List ℕ) → (file ≢ None → IsAnswersText m.inputs m.outputs kept text) → Stands file holds text → AnswersStand file holds m kept

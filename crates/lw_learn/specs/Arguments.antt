@@ -4,7 +4,8 @@ use Rattle.lw_rounds.specs.declared.learner.Kind.{Kind}
 use Rattle.lw_learn.specs.declared.arguments.Source.{Source}
 
 -- the kind and the name of the system's file, the number of instances, the extra states, the kind of the learner, the greatest
--- number of states, the file for the model and that for the answers, and the file of prior answers
+-- number of states, the file for the model and that for the answers, the file of prior answers, and the file for the answers
+-- that are kept at any end
 pub record LearnValues : Type 0 where
   pub source : Source
   pub system : List ℕ
@@ -15,6 +16,7 @@ pub record LearnValues : Type 0 where
   pub model : Option (List ℕ)
   pub answers : Option (List ℕ)
   pub prior : Option (List ℕ)
+  pub kept : Option (List ℕ)
 
 -- within their limits
 pub record AreWithinLimits (v : LearnValues) : Type 0 where

@@ -1,11 +1,12 @@
--- The writes of `learn`: the model file is written, then the answers file, up to the write that ends the run.
+-- The writes of a model by `learn`: the model file is written, then the answers file, up to the write that ends the run. A fault
+-- of the kept answers' file is told once these are written.
 use Rattle.std.specs.Prelude.{◌≡◌, ℕ, List, [], ◌∷◌, ◌++◌, take, Bool, true, false, Option, Some, None, option_map}
 use Rattle.lw_learn.specs.Arguments.{LearnValues}
 use Rattle.lw_outside.specs.Files.{Call, write_call}
 use Rattle.lw_report.specs.declared.outcome.Outcome.{Outcome}
 use Rattle.lw_report.specs.declared.outcome.Outcome.TheVariants.{Learned, NoMemory, FileFault, SinkFault}
 use Rattle.lw_report.specs.declared.role.Role.{Role}
-use Rattle.lw_report.specs.declared.role.Role.TheVariants.{Setup, Table, Model, Answers, Prior}
+use Rattle.lw_report.specs.declared.role.Role.TheVariants.{Setup, Table, Model, Answers, Prior, Second, Words, Kept}
 
 -- the write of a file, where one is named
 abbrev pub write_of : Option (List ℕ) → Bool → List Call
@@ -16,13 +17,16 @@ write_of (Some name) failed = write_call name failed ∷ []
 abbrev pub all_writes : LearnValues → List Call
 all_writes a = write_of a.model false ++ write_of a.answers false
 
--- the writes up to the one of the file in this role, which failed
+-- the writes up to the one of the file in this role, which failed, or behind which its fault is told
 abbrev pub writes_to : LearnValues → Role → List Call
 writes_to a Setup = []
 writes_to a Table = []
 writes_to a Model = write_of a.model true
 writes_to a Answers = write_of a.model false ++ write_of a.answers true
 writes_to a Prior = []
+writes_to a Second = []
+writes_to a Words = []
+writes_to a Kept = all_writes a
 
 -- told calls, and these
 abbrev pub gained : List Call → Option (List Call) → Option (List Call)

@@ -20,31 +20,37 @@ use Rattle.lw_report.specs.Ends.{IsWithoutLearner}
 use Rattle.lw_report.specs.Learnings.{HasModel, learn_outcome}
 use Rattle.lw_report.specs.Outcomes.{StandsOrWants}
 use Rattle.lw_report.specs.States.{FilesState, SinkState}
-use Rattle.lw_report.specs.Text.{text_of}
+use Rattle.lw_report.specs.Text.{names_of, text_of}
 use Rattle.lw_report.specs.Writing.{TakesAll, TakesSome, said_text}
 use Rattle.lw_report.specs.declared.«end».End.{End}
 use Rattle.lw_report.specs.declared.outcome.Outcome.TheVariants.{FileFault, NoMemory, SinkFault}
 use Rattle.lw_report.specs.declared.role.Role.{Role}
-use Rattle.lw_report.specs.declared.role.Role.TheVariants.{Answers, Model}
+use Rattle.lw_report.specs.declared.role.Role.TheVariants.{Answers, Kept, Model}
 use Rattle.lw_learn.specs.Arguments.{LearnValues}
 use Rattle.lw_learn.specs.Calls.{MadeWrites}
 use Rattle.lw_learn.specs.Findings.{IsOfSystem, StopsBy}
 use Rattle.lw_learn.specs.Outcomes.{IsLearnedOutcome, IsReachedOutcome, IsTold}
+use Rattle.lw_learn.specs.Saving.{HasSaved, IsSaved, KeptStand, MayTell}
 use Rattle.lw_learn.specs.Tasks.{ReadsTask, declared_of, letters_of}
 use Rattle.lw_learn.specs.Unread.{IsUnreadAs, MadeReads, names_read}
 use Rattle.lw_learn.specs.Writing.{NothingFailed, StaysBesides, TakesInTurn, WritesModel, line_of}
+use Rattle.lw_learn.specs.declared.saving.Saved.{Saved}
+use Rattle.lw_learn.specs.declared.saving.Saved.TheVariants as saving
 use Rattle.lw_learn.specs.declared.task.System.{System}
 use Rattle.lw_learn.specs.declared.task.System.TheVariants.{Table, Children}
 
--- no learning began: nothing is written, no child started, and the outcome's text goes to `err`
+-- no learning began: no child is started, nothing is written but the prior answers where they clash, which are what is kept,
+-- and the outcome's text goes to `err`
 pub record EndsUnread (a : LearnValues) (f g : FilesState) (b z : SpawnerSeen) (o p : SinkState) (e d : SinkState) (end : End) : Type 0 where
   pub read : Option System
-  pub cause : IsUnreadAs a f g read end.kept.answers end.outcome
+  pub between : FilesState
+  pub cause : IsUnreadAs a f between read end.kept.answers end.outcome
+  pub same : between.holds ≡ f.holds
   pub model : end.model ≡ None
   pub learner : IsWithoutLearner end
   -- no names only where nothing is kept
   pub outputs : (end.outputs ≡ names_read read) ⊎ ((end.outcome ≡ NoMemory) × (end.outputs ≡ None) × (end.kept.answers ≡ []))
-  pub holds : g.holds ≡ f.holds
+  pub saved : IsSaved a.kept (names_of (option_map letters_of read)) (names_of (option_and_then declared_of read)) end.kept.answers between g end.outcome
   pub unstarted : z ≡ b
   pub unwritten : p ≡ o
   pub said : ¬ CountedFault e.faults d.faults → TakesAll (said_text (option_map letters_of read) (option_and_then declared_of read) end.kept.answers a.extra end.outcome) e.taken d.taken
@@ -62,24 +68,36 @@ end_outputs (Some declared) kept naming = Some naming
 end_outputs None [] naming = None
 end_outputs None (k ∷ ks) naming = Some naming
 
--- what was learned of a system is written out, or why nothing was is said
-pub record IsToldOf (a : LearnValues) (s : System) (naming : Naming) (learned : Result Found LearnStop) (kept : List KeptAnswer) (f g : FilesState) (o p : SinkState) (e d : SinkState) (end : End) : Type 0 where
+-- once the kept answers were saved, what was learned of a system is written out, or why nothing was is said
+pub record IsToldOf (a : LearnValues) (s : System) (naming : Naming) (learned : Result Found LearnStop) (kept : List KeptAnswer) (was : Saved) (f g : FilesState) (o p : SinkState) (e d : SinkState) (end : End) : Type 0 where
   pub carries : Carries learned end
   pub kept_is : end.kept.answers ≡ kept
   pub outputs : end.outputs ≡ end_outputs (declared_of s) kept naming
   -- files and streams: of a model by the outcome, and nothing where there is none
   pub written : IfSome end.model (WritesModel a kept end.outcome g.holds (o.taken, p.taken) (o.faults, p.faults) (letters_of s) naming.names)
   pub nothing : end.model ≡ None → (p ≡ o) × (g ≡ f)
-  pub beside : StaysBesides a.model a.answers f.holds g.holds
+  pub beside : StaysBesides a.model a.answers None f.holds g.holds
+  pub may : MayTell was end.outcome
   pub said : ¬ CountedFault e.faults d.faults → TakesAll (text_of (letters_of s) naming.names kept a.extra end.outcome) e.taken d.taken
   pub in_turn : TakesInTurn (line_of (letters_of s) naming.names kept a.extra end.model end.refinements) (text_of (letters_of s) naming.names kept a.extra end.outcome) e.taken d.taken
   pub quiet : IsLearnedOutcome end.outcome → (g.faults ≡ f.faults) × (p.faults ≡ o.faults) × (d.faults ≡ e.faults)
-  -- a write that failed, of a file that is named or of a stream
-  pub role : (r : Role) → end.outcome ≡ FileFault r → ((r ≡ Model) × (a.model ≢ None)) ⊎ ((r ≡ Answers) × (a.answers ≢ None))
-  pub file_fault : (r : Role) → end.outcome ≡ FileFault r → CountedFault f.faults g.faults
+  -- a write that failed, of a file that is named or of a stream; or the kept answers' file failed before
+  pub role : (r : Role) → end.outcome ≡ FileFault r → ((r ≡ Model) × (a.model ≢ None)) ⊎ (((r ≡ Answers) × (a.answers ≢ None)) ⊎ (r ≡ Kept))
+  pub file_fault : (r : Role) → end.outcome ≡ FileFault r → r ≢ Kept → CountedFault f.faults g.faults
   pub sink_fault : end.outcome ≡ SinkFault → CountedFault o.faults p.faults ⊎ CountedFault e.faults d.faults
   pub reads : g.reads ≡ f.reads
   pub writes : MadeWrites a end.outcome f.calls g.calls
+  pub counts : (f.faults ≤ g.faults) × (o.faults ≤ p.faults) × (e.faults ≤ d.faults)
+
+-- whatever a learning came to, what it kept is saved first; then the rest is told
+pub record IsEndOf (a : LearnValues) (s : System) (naming : Naming) (learned : Result Found LearnStop) (kept : List KeptAnswer) (f g : FilesState) (o p : SinkState) (e d : SinkState) (end : End) : Type 0 where
+  pub between : FilesState
+  pub was : Saved
+  pub saved : HasSaved a.kept (letters_of s) naming.names kept f between was
+  pub told : IsToldOf a s naming learned kept was between g o p e d end
+  -- so it stands in its file where no write of it failed and memory didn't run out, but for a later write under its name
+  pub stands : was ≡ saving.Stand → a.kept ≢ a.model → a.kept ≢ a.answers → KeptStand a.kept g.holds (letters_of s) naming.names kept
+  pub beside : StaysBesides a.model a.answers a.kept f.holds g.holds
   pub counts : (f.faults ≤ g.faults) × (o.faults ≤ p.faults) × (e.faults ≤ d.faults)
 
 -- no start failed, and nothing is wrong with a link that was retired
@@ -105,7 +123,7 @@ pub record EndsLearned (a : LearnValues) (s : System) (prior : List KeptAnswer) 
       → IsWithin (length (letters_of s)) a.extra a.max_states r
       → Gives r (answers_of end.kept.answers)
       → IsReachedOutcome (length r) end.outcome
-  pub told : IsToldOf a s naming learned end.kept.answers f g o p e d end
+  pub told : IsEndOf a s naming learned end.kept.answers f g o p e d end
 
 -- the files say a system and prior answers, and that was learned
 pub record EndsRead (a : LearnValues) (f g : FilesState) (b z : SpawnerSeen) (o p : SinkState) (e d : SinkState) (end : End) : Type 0 where

@@ -4,6 +4,7 @@ pub mod Ending
 pub mod Findings
 pub mod LearnRun
 pub mod Outcomes
+pub mod Saving
 pub mod Tasks
 pub mod Told
 pub mod Unread

@@ -5,13 +5,13 @@ use Rattle.lw_report.specs.Stops.{tell_outcome}
 use Rattle.lw_report.specs.declared.stops.TellStop.{TellStop}
 use Rattle.lw_report.specs.declared.outcome.Outcome.{Outcome}
 use Rattle.lw_report.specs.declared.outcome.Outcome.TheVariants.{Learned, NoMemory, FileFault, SinkFault}
-use Rattle.lw_report.specs.declared.role.Role.TheVariants.{Model, Answers}
+use Rattle.lw_report.specs.declared.role.Role.TheVariants.{Model, Answers, Kept}
 
 -- what writing a model out comes to
 abbrev pub IsTold : MealyMachine → ℕ → Outcome → Type 0
 IsTold model refinements (Learned told count) = (told ≡ model) × (count ≡ refinements)
 IsTold model refinements NoMemory = Unit {0}
-IsTold model refinements (FileFault role) = (role ≡ Model) ⊎ (role ≡ Answers)
+IsTold model refinements (FileFault role) = (role ≡ Model) ⊎ ((role ≡ Answers) ⊎ (role ≡ Kept))
 IsTold model refinements SinkFault = Unit {0}
 IsTold model refinements _ = ⊥
 
@@ -20,30 +20,31 @@ abbrev pub told_outcome : {T : Type 0} → MealyMachine → ℕ → Result T Tel
 told_outcome model refinements (Ok done) = Learned model refinements
 told_outcome model refinements (Err stop) = tell_outcome stop
 
--- the outcome of a call whose files were all written
+-- the outcome of a call whose model file and answers file, if it names them, were written
 abbrev pub HasFiles : Outcome → Type 0
 HasFiles (Learned model refinements) = Unit {0}
 HasFiles SinkFault = Unit {0}
+HasFiles (FileFault role) = role ≡ Kept
 HasFiles _ = ⊥
 
 -- the outcome of a call whose model file, if it names one, was written
 abbrev pub HasModelFile : Outcome → Type 0
 HasModelFile (Learned model refinements) = Unit {0}
 HasModelFile SinkFault = Unit {0}
-HasModelFile (FileFault role) = role ≡ Answers
+HasModelFile (FileFault role) = (role ≡ Answers) ⊎ (role ≡ Kept)
 HasModelFile _ = ⊥
-
--- a write failed
-abbrev pub IsWriteFault : Outcome → Type 0
-IsWriteFault (FileFault role) = (role ≡ Model) ⊎ (role ≡ Answers)
-IsWriteFault SinkFault = Unit {0}
-IsWriteFault _ = ⊥
 
 -- nothing was put to `out`
 abbrev pub IsBeforeOut : Outcome → Type 0
 IsBeforeOut NoMemory = Unit {0}
-IsBeforeOut (FileFault role) = Unit {0}
+IsBeforeOut (FileFault role) = (role ≡ Model) ⊎ (role ≡ Answers)
 IsBeforeOut _ = ⊥
+
+-- the model was put to `out`, where it goes there
+abbrev pub IsBehindOut : Outcome → Type 0
+IsBehindOut (Learned model refinements) = Unit {0}
+IsBehindOut (FileFault role) = role ≡ Kept
+IsBehindOut _ = ⊥
 
 -- the model is told
 abbrev pub IsLearnedOutcome : Outcome → Type 0

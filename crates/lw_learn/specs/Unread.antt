@@ -39,6 +39,9 @@ IsNext a holds before now role.Table name read = IsTableNext a.source a.system h
 IsNext a holds before now role.Prior name read = (a.prior ≡ Some name) × ((s : System) × (read ≡ Some s) × ReadsSystem a.source a.system holds before now s)
 IsNext a holds before now role.Model name read = ⊥
 IsNext a holds before now role.Answers name read = ⊥
+IsNext a holds before now role.Second name read = ⊥
+IsNext a holds before now role.Words name read = ⊥
+IsNext a holds before now role.Kept name read = ⊥
 
 -- the bytes that were read of the file in a role have this first fault
 abbrev pub ReadsBad : Role → List ℕ → Option (List File) → List File → List File → JsonFault → Type 0
@@ -47,6 +50,9 @@ ReadsBad role.Table name holds before after fault = ReadsBadFile IsMachineFile H
 ReadsBad role.Prior name holds before after fault = ReadsBadFile IsAnswersFile HasAnswersFault name holds before after fault
 ReadsBad role.Model name holds before after fault = ⊥
 ReadsBad role.Answers name holds before after fault = ⊥
+ReadsBad role.Second name holds before after fault = ⊥
+ReadsBad role.Words name holds before after fault = ⊥
+ReadsBad role.Kept name holds before after fault = ⊥
 
 -- reads that gave bytes, one after the other, and then these calls
 abbrev pub MadeReads : FilesState → FilesState → List Call → Type 0

@@ -8,7 +8,7 @@ use Rattle.lw_json.specs.MachineText.{written_text}
 use Rattle.lw_json.specs.declared.machine.Machine.{Machine}
 use Rattle.lw_learn.specs.Arguments.{LearnValues}
 use Rattle.lw_learn.specs.Calls.{MadeWrites}
-use Rattle.lw_learn.specs.Outcomes.{HasFiles, HasModelFile, IsBeforeOut, IsLearnedOutcome}
+use Rattle.lw_learn.specs.Outcomes.{HasFiles, HasModelFile, IsBeforeOut, IsBehindOut}
 use Rattle.lw_outside.specs.Files.{Call, File, Holds, file_at}
 use Rattle.lw_report.specs.Text.{text_of}
 use Rattle.lw_report.specs.Writing.{TakesAll, TakesSome}
@@ -42,18 +42,19 @@ pub record WritesFiles (a : LearnValues) (m : Machine) (kept : List KeptAnswer) 
   pub calls : MadeWrites a outcome made.0 made.1
 
 -- what became of the text that goes to `out` where no file is named for it, by the outcome: all of it was put where the model
--- is told, and where `out` counted no fault though a stream did; some in any case; none where the files weren't written
+-- or a fault of the kept answers' file is told, and where `out` counted no fault though a stream did; some in any case; none
+-- where the files weren't written
 pub record WritesOut (file : Option (List ℕ)) (text : List ℕ) (outcome : Outcome) (taken : Option (List ℕ) × Option (List ℕ)) (faults : ℕ × ℕ) : Type 0 where
-  pub told : IsLearnedOutcome outcome → PutsAll file text taken.0 taken.1
+  pub told : IsBehindOut outcome → PutsAll file text taken.0 taken.1
   pub whole : outcome ≡ SinkFault → ¬ CountedFault faults.0 faults.1 → PutsAll file text taken.0 taken.1
   pub part : PutsSome file text taken.0 taken.1
   pub before : IsBeforeOut outcome → taken.1 ≡ taken.0
 
 -- what is told of the files beside those that are named stays
-abbrev pub StaysBesides : Option (List ℕ) → Option (List ℕ) → Option (List File) → Option (List File) → Type 0
-StaysBesides model answers None after = after ≡ None
-StaysBesides model answers (Some fs) after =
-    (gs : List File) × (after ≡ Some gs) × ((other : List ℕ) → model ≢ Some other → answers ≢ Some other → file_at other gs ≡ file_at other fs)
+abbrev pub StaysBesides : (model answers kept : Option (List ℕ)) → Option (List File) → Option (List File) → Type 0
+StaysBesides model answers kept None after = after ≡ None
+StaysBesides model answers kept (Some fs) after =
+    (gs : List File) × (after ≡ Some gs) × ((other : List ℕ) → model ≢ Some other → answers ≢ Some other → kept ≢ Some other → file_at other gs ≡ file_at other fs)
 
 -- a model under these names is written out, by the outcome
 pub record WritesModel (a : LearnValues) (kept : List KeptAnswer) (outcome : Outcome) (holds : Option (List File)) (taken : Option (List ℕ) × Option (List ℕ)) (faults : ℕ × ℕ) (inputs outputs : List (List ℕ)) (h : MealyMachine) : Type 0 where

@@ -15,7 +15,7 @@ pub enum Source {
 
 /// The values of the arguments of `learn`: the file of the system and its kind, how many instances there are, the extra states,
 /// the kind of the learner, the greatest number of states, the files for the model and for the answers, where these are to be
-/// written, and the file of prior answers, where there are some.
+/// written, the file of prior answers, where there are some, and the file for the answers that are kept at any end.
 #[derive(Drop)]
 pub struct LearnArguments {
     source: Source,
@@ -27,6 +27,7 @@ pub struct LearnArguments {
     model: Option<String>,
     answers: Option<String>,
     prior: Option<String>,
+    kept: Option<String>,
 }
 
 impl Model for LearnArguments {
@@ -45,6 +46,7 @@ impl Model for LearnArguments {
       model = option_map (λ s. string_bytes s) a.model;
       answers = option_map (λ s. string_bytes s) a.answers;
       prior = option_map (λ s. string_bytes s) a.prior;
+      kept = option_map (λ s. string_bytes s) a.kept;
     } };
 
     ghost invariant = { λ a. AreWithinLimits (record {
@@ -57,6 +59,7 @@ impl Model for LearnArguments {
       model = option_map (λ s. string_bytes s) a.model;
       answers = option_map (λ s. string_bytes s) a.answers;
       prior = option_map (λ s. string_bytes s) a.prior;
+      kept = option_map (λ s. string_bytes s) a.kept;
     }) };
 }
 
@@ -72,6 +75,7 @@ impl LearnArguments {
         model: Option<String>,
         answers: Option<String>,
         prior: Option<String>,
+        kept: Option<String>,
     ) -> LearnArguments
         requires workers { (1 ≤ workers) × (workers ≤ 16) }
         requires extra { extra ≤ 4 }
@@ -86,6 +90,7 @@ impl LearnArguments {
           model = option_map (λ s. string_bytes s) model;
           answers = option_map (λ s. string_bytes s) answers;
           prior = option_map (λ s. string_bytes s) prior;
+          kept = option_map (λ s. string_bytes s) kept;
         } }
     {
         LearnArguments {
@@ -98,6 +103,7 @@ impl LearnArguments {
             model,
             answers,
             prior,
+            kept,
         }
     }
 
@@ -159,6 +165,12 @@ impl LearnArguments {
         ensures { option_map (λ s. s.now) result ≡ self.now.prior }
     {
         text_of(&self.prior)
+    }
+
+    pub fn kept(&self) -> Option<&str>
+        ensures { option_map (λ s. s.now) result ≡ self.now.kept }
+    {
+        text_of(&self.kept)
     }
 }
 

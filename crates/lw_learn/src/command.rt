@@ -13,21 +13,24 @@ ghost use Rattle.lw_report.specs.Text.{names_of as names_said, text_of};
 ghost use Rattle.lw_report.specs.Writing.{TakesAll, TakesSome, said_text};
 ghost use Rattle.lw_report.specs.declared.outcome.Outcome.{Outcome as Came};
 ghost use Rattle.lw_report.specs.declared.role.Role.{Role as Part};
-ghost use Rattle.lw_report.specs.declared.role.Role.TheVariants.{Answers as AnswersRole, Model as ModelRole};
-ghost use Rattle.lw_learn.specs.Ending.{EndsLearned, IsToldOf, end_outputs};
+ghost use Rattle.lw_report.specs.declared.role.Role.TheVariants.{Answers as AnswersRole, Kept as KeptRole, Model as ModelRole};
+ghost use Rattle.lw_learn.specs.Ending.{EndsLearned, IsEndOf, IsToldOf, end_outputs};
 ghost use Rattle.lw_learn.specs.LearnRun.{IsLearnRun};
 ghost use Rattle.lw_learn.specs.Outcomes.{IsLearnedOutcome, IsTold};
+ghost use Rattle.lw_learn.specs.Saving.{HasSaved, IsSaved, MayTell};
 ghost use Rattle.lw_learn.specs.Tasks.{declared_of, letters_of};
 ghost use Rattle.lw_learn.specs.Unread.{names_read};
 ghost use Rattle.lw_learn.specs.Writing.{StaysBesides, TakesInTurn, WritesFiles, WritesOut};
 ghost use Rattle.lw_learn.specs.bodies.Ready.{IsReady};
+ghost use Rattle.lw_learn.specs.declared.saving.Saved.TheVariants as Was;
 
-use crate::LearnArguments;
 use crate::learning::{Found, learn_system};
 use crate::naming::names_of;
 use crate::reading::{Unread, read_task};
+use crate::saving::save_kept;
 use crate::task::{System, Task};
 use crate::writing::tell_model;
+use crate::{LearnArguments, Saved};
 use lw_desk::OutNames;
 use lw_json::Machine;
 use lw_mealy::Mealy;
@@ -47,6 +50,7 @@ fn write_out<F: Files, O: Sink, E: Sink>(
     learner: Learner,
     kept: Kept,
     outputs: Option<OutNames>,
+    saved: Saved,
     files: &mut F,
     out: &mut O,
     err: &mut E,
@@ -63,13 +67,14 @@ fn write_out<F: Files, O: Sink, E: Sink>(
         (F.holds files.new) (F.calls files.old, F.calls files.new) }
     ensures out { WritesOut arguments.now.model (written_text machine) result.outcome
         (O.taken out.old, O.taken out.new) (O.faults out.old, O.faults out.new) }
-    ensures beside { StaysBesides arguments.now.model arguments.now.answers (F.holds files.old)
+    ensures beside { StaysBesides arguments.now.model arguments.now.answers None (F.holds files.old)
         (F.holds files.new) }
     ensures role { (role : Part) → result.outcome ≡ Came.FileFault role →
         ((role ≡ ModelRole) × (arguments.now.model ≢ None)) ⊎
-        ((role ≡ AnswersRole) × (arguments.now.answers ≢ None)) }
-    ensures failed { (role : Part) → result.outcome ≡ Came.FileFault role →
+        (((role ≡ AnswersRole) × (arguments.now.answers ≢ None)) ⊎ (role ≡ KeptRole)) }
+    ensures failed { (role : Part) → result.outcome ≡ Came.FileFault role → role ≢ KeptRole →
         CountedFault (F.faults files.old) (F.faults files.new) }
+    ensures may { MayTell saved result.outcome }
     ensures refused { result.outcome ≡ Came.SinkFault →
         CountedFault (O.faults out.old) (O.faults out.new) ⊎
         CountedFault (E.faults err.old) (E.faults err.new) }
@@ -93,6 +98,7 @@ fn write_out<F: Files, O: Sink, E: Sink>(
         &machine,
         refinements,
         &kept,
+        saved,
         files,
         out,
         err,
@@ -168,6 +174,7 @@ fn end_model<F: Files, O: Sink, E: Sink>(
     learned: Learned,
     kept: Kept,
     names: OutNames,
+    saved: Saved,
     files: &mut F,
     out: &mut O,
     err: &mut E,
@@ -178,7 +185,7 @@ fn end_model<F: Files, O: Sink, E: Sink>(
     requires over { AreKeptOver (length (letters_of system.now)) (length names.names)
         kept.answers }
     ensures status { result.status ≡ status_of result.outcome }
-    ensures told { IsToldOf arguments.now system.now names (Ok learned) kept.answers
+    ensures told { IsToldOf arguments.now system.now names (Ok learned) kept.answers saved
         (files_state (F.holds files.old) (F.calls files.old) (F.reads files.old)
         (F.faults files.old))
         (files_state (F.holds files.new) (F.calls files.new) (F.reads files.new)
@@ -193,7 +200,7 @@ fn end_model<F: Files, O: Sink, E: Sink>(
     let outputs = outputs_of(system, &kept, names);
     match read {
         Ok(machine) => write_out(
-            alloc, arguments, machine, learner, kept, outputs, files, out, err,
+            alloc, arguments, machine, learner, kept, outputs, saved, files, out, err,
         ),
         Err(model) => {
             let learned = Learned { model, learner };
@@ -219,10 +226,12 @@ fn end_stop<E: Sink>(
     stop: LearnStop,
     kept: Kept,
     names: OutNames,
+    saved: Saved,
     extra: u8,
     err: &mut E,
 ) -> End
     ensures outcome { StandsOrWants (outcome_of stop) result.outcome }
+    ensures wants { saved ≡ Was.NoMemory → result.outcome ≡ Came.NoMemory }
     ensures status { result.status ≡ status_of result.outcome }
     ensures model { result.model ≡ None }
     ensures learner { IsWithoutLearner result }
@@ -240,7 +249,7 @@ fn end_stop<E: Sink>(
     let inputs = Some(system.inputs());
     match texts {
         Ok(texts) => {
-            let outcome = learn_outcome(stop);
+            let outcome = saved.outcome(learn_outcome(stop));
             refuse(
                 alloc,
                 outcome,
@@ -265,7 +274,7 @@ fn end_stop<E: Sink>(
     }
 }
 
-/// Ends a call by what it learned, or by why it learned nothing.
+/// Ends a call by what it learned, or by why it learned nothing, once what is kept was saved.
 fn finish<F: Files, O: Sink, E: Sink>(
     alloc: Global,
     arguments: &LearnArguments,
@@ -282,7 +291,7 @@ fn finish<F: Files, O: Sink, E: Sink>(
     requires over { AreKeptOver (length (letters_of system.now)) (length found.names.names)
         found.kept.answers }
     ensures status { result.status ≡ status_of result.outcome }
-    ensures told { IsToldOf arguments.now system.now found.names found.learned
+    ensures told { IsEndOf arguments.now system.now found.names found.learned
         found.kept.answers
         (files_state (F.holds files.old) (F.calls files.old) (F.reads files.old)
         (F.faults files.old))
@@ -298,11 +307,21 @@ fn finish<F: Files, O: Sink, E: Sink>(
         kept,
         names,
     } = found;
+    let saved = save_kept(alloc, arguments, system.inputs(), &names, &kept, files);
     match learned {
         Ok(learned) => end_model(
-            alloc, arguments, system, learned, kept, names, files, out, err,
+            alloc, arguments, system, learned, kept, names, saved, files, out, err,
         ),
-        Err(stop) => end_stop(alloc, system, stop, kept, names, arguments.extra(), err),
+        Err(stop) => end_stop(
+            alloc,
+            system,
+            stop,
+            kept,
+            names,
+            saved,
+            arguments.extra(),
+            err,
+        ),
     }
 }
 
@@ -408,8 +427,93 @@ fn end_bare<E: Sink>(
     refuse(alloc, outcome, inputs, names, kept, outputs, extra, err)
 }
 
-/// Ends a call that began no learning, with what it kept of prior answers.
-fn end_unread<E: Sink>(alloc: Global, unread: Unread, extra: u8, err: &mut E) -> End
+/// Saves the prior answers of a system that was read.
+fn save_read<F: Files>(
+    alloc: Global,
+    arguments: &LearnArguments,
+    system: &Option<System>,
+    names: &OutNames,
+    kept: &Kept,
+    files: &mut F,
+) -> Saved
+    requires named { names_read system.now ≡ Some names.now }
+    requires few { length (names_said (option_map letters_of system.now)) ≤ 64 }
+    requires over { AreKeptOver (length (names_said (option_map letters_of system.now)))
+        (length names.now.names) kept.now.answers }
+    ensures { HasSaved arguments.now.kept (names_said (option_map letters_of system.now))
+        (names_said (option_and_then declared_of system.now)) kept.now.answers
+        (files_state (F.holds files.old) (F.calls files.old) (F.reads files.old)
+        (F.faults files.old))
+        (files_state (F.holds files.new) (F.calls files.new) (F.reads files.new)
+        (F.faults files.new)) result }
+{
+    let Some(system) = system else {
+        unreachable!();
+    };
+    save_kept(alloc, arguments, system.inputs(), names, kept, files)
+}
+
+/// Ends a call whose prior answers clash, which are kept, once they were saved.
+fn end_kept<F: Files, E: Sink>(
+    alloc: Global,
+    arguments: &LearnArguments,
+    outcome: Outcome,
+    system: Option<System>,
+    kept: Kept,
+    names: OutNames,
+    files: &mut F,
+    err: &mut E,
+) -> End
+    requires named { names_read system ≡ Some names }
+    requires few { length (names_said (option_map letters_of system)) ≤ 64 }
+    requires over { AreKeptOver (length (names_said (option_map letters_of system)))
+        (length names.names) kept.answers }
+    ensures outcome { (result.outcome ≡ outcome) ⊎ (result.outcome ≡ Came.NoMemory) }
+    ensures status { result.status ≡ status_of result.outcome }
+    ensures model { result.model ≡ None }
+    ensures learner { IsWithoutLearner result }
+    ensures kept { result.kept.answers ≡ kept.answers }
+    ensures outputs { result.outputs ≡ names_read system }
+    ensures saved { IsSaved arguments.now.kept (names_said (option_map letters_of system))
+        (names_said (option_and_then declared_of system)) kept.answers
+        (files_state (F.holds files.old) (F.calls files.old) (F.reads files.old)
+        (F.faults files.old))
+        (files_state (F.holds files.new) (F.calls files.new) (F.reads files.new)
+        (F.faults files.new)) result.outcome }
+    ensures said { ¬ CountedFault (E.faults err.old) (E.faults err.new) →
+        TakesAll (said_text (option_map letters_of system) (option_and_then declared_of system)
+        result.kept.answers arguments.now.extra result.outcome) (E.taken err.old)
+        (E.taken err.new) }
+    ensures part { TakesSome (said_text (option_map letters_of system)
+        (option_and_then declared_of system) result.kept.answers arguments.now.extra
+        result.outcome) (E.taken err.old) (E.taken err.new) }
+    ensures counts { E.faults err.old ≤ E.faults err.new }
+{
+    let saved = save_read(alloc, arguments, &system, &names, &kept, files);
+    let outcome = saved.outcome(outcome);
+    let inputs = letters_read(&system);
+    let outputs = outputs_read(&system);
+    let extra = arguments.extra();
+    refuse(
+        alloc,
+        outcome,
+        inputs,
+        outputs,
+        kept,
+        Some(names),
+        extra,
+        err,
+    )
+}
+
+/// Ends a call that began no learning, with what it kept of prior answers, once that was saved.
+fn end_unread<F: Files, E: Sink>(
+    alloc: Global,
+    arguments: &LearnArguments,
+    unread: Unread,
+    files: &mut F,
+    err: &mut E,
+) -> End
     ensures outcome { (result.outcome ≡ unread.outcome) ⊎ (result.outcome ≡ Came.NoMemory) }
     ensures status { result.status ≡ status_of result.outcome }
     ensures model { result.model ≡ None }
@@ -418,13 +522,19 @@ fn end_unread<E: Sink>(alloc: Global, unread: Unread, extra: u8, err: &mut E) ->
     ensures outputs { (result.outputs ≡ names_read unread.system) ⊎
         ((result.outcome ≡ Came.NoMemory) × (result.outputs ≡ None) ×
         (result.kept.answers ≡ [])) }
+    ensures saved { IsSaved arguments.now.kept (names_said (option_map letters_of unread.system))
+        (names_said (option_and_then declared_of unread.system)) unread.kept
+        (files_state (F.holds files.old) (F.calls files.old) (F.reads files.old)
+        (F.faults files.old))
+        (files_state (F.holds files.new) (F.calls files.new) (F.reads files.new)
+        (F.faults files.new)) result.outcome }
     ensures said { ¬ CountedFault (E.faults err.old) (E.faults err.new) →
         TakesAll (said_text (option_map letters_of unread.system)
-        (option_and_then declared_of unread.system) result.kept.answers extra result.outcome)
-        (E.taken err.old) (E.taken err.new) }
+        (option_and_then declared_of unread.system) result.kept.answers arguments.now.extra
+        result.outcome) (E.taken err.old) (E.taken err.new) }
     ensures part { TakesSome (said_text (option_map letters_of unread.system)
-        (option_and_then declared_of unread.system) result.kept.answers extra result.outcome)
-        (E.taken err.old) (E.taken err.new) }
+        (option_and_then declared_of unread.system) result.kept.answers arguments.now.extra
+        result.outcome) (E.taken err.old) (E.taken err.new) }
     ensures counts { E.faults err.old ≤ E.faults err.new }
 {
     let Unread {
@@ -434,29 +544,17 @@ fn end_unread<E: Sink>(alloc: Global, unread: Unread, extra: u8, err: &mut E) ->
         names,
     } = unread;
     match names {
-        Some(names) => {
-            let inputs = letters_read(&system);
-            let outputs = outputs_read(&system);
-            refuse(
-                alloc,
-                outcome,
-                inputs,
-                outputs,
-                kept,
-                Some(names),
-                extra,
-                err,
-            )
-        }
-        None => end_bare(alloc, outcome, system, kept, extra, err),
+        Some(names) => end_kept(alloc, arguments, outcome, system, kept, names, files, err),
+        None => end_bare(alloc, outcome, system, kept, arguments.extra(), err),
     }
 }
 
 /// Learns a system. First the files are read that say what it is: a setup or a table file, the table file that a setup names, and
 /// the file of prior answers, where one is named. Then the system is learned, over so many instances: of a table's machine, or
-/// children that a setup's command starts, and that are all ended again, whatever comes. Then the model file and the answers file
-/// are written, where they are named, the model's text to `out`, where no file is named for it, and a line about it to `err`. The
-/// text of every other outcome goes to `err`. May wait for a child, and for a turn of its workers.
+/// children that a setup's command starts, and that are all ended again, whatever comes. Then the answers that are kept are saved,
+/// where a file is named for them, whatever came of the learning; the model file and the answers file are written, where they are
+/// named, the model's text to `out`, where no file is named for it, and a line about it to `err`. The text of every other outcome
+/// goes to `err`. May wait for a child, and for a turn of its workers.
 pub fn learn<R: Threads + Wait + Sync + Drop, F: Files, P: Spawner, O: Sink, E: Sink>(
     rt: R,
     alloc: Global,
@@ -486,6 +584,6 @@ pub fn learn<R: Threads + Wait + Sync + Drop, F: Files, P: Spawner, O: Sink, E: 
 {
     match read_task(alloc, arguments, files) {
         Ok(task) => learn_read(rt, alloc, arguments, task, files, spawner, out, err),
-        Err(unread) => end_unread(alloc, unread, arguments.extra(), err),
+        Err(unread) => end_unread(alloc, arguments, unread, files, err),
     }
 }

@@ -7,12 +7,14 @@ mod laws;
 mod learning;
 mod naming;
 mod reading;
+mod saving;
 mod task;
 mod writing;
 
 pub use arguments::{LearnArguments, Source};
 pub use command::learn;
 pub use laws::{bad_is_refused, told_is_learned};
+pub use saving::Saved;
 pub use task::System;
 
 #[cfg(test)]

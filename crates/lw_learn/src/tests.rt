@@ -10,6 +10,8 @@ use std::sync::Wait;
 use std::test::Fail;
 use std::thread::Threads;
 
+mod kept;
+
 const TWO: &str =
     "{\"inputs\":[\"t\"],\"outputs\":[\"0\",\"1\"],\"states\":[[[1,\"0\"]],[[0,\"1\"]]]}";
 
@@ -58,6 +60,7 @@ fn limited<R: Threads + Wait + Sync + Drop>(
         None,
         None,
         None,
+        None,
     );
     let mut children = no_children(alloc)?;
     Ok(learn(rt, alloc, &arguments, &mut files, &mut children, out, err))
@@ -84,6 +87,7 @@ fn told<R: Threads + Wait + Sync + Drop>(
         0,
         Kind::Table,
         8,
+        None,
         None,
         None,
         None,

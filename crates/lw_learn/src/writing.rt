@@ -7,14 +7,16 @@ ghost use Rattle.lw_json.specs.MachineText.{written_text};
 ghost use Rattle.lw_report.specs.Writing.{TakesAll, TakesSome};
 ghost use Rattle.lw_report.specs.Text.{text_of};
 ghost use Rattle.lw_report.specs.declared.role.Role.{Role as Part};
-ghost use Rattle.lw_report.specs.declared.role.Role.TheVariants.{Answers as AnswersRole, Model as ModelRole};
+ghost use Rattle.lw_report.specs.declared.role.Role.TheVariants.{Answers as AnswersRole, Kept as KeptRole, Model as ModelRole};
 ghost use Rattle.lw_report.specs.declared.stops.TellStop.{TellStop as Stop};
 ghost use Rattle.lw_report.specs.declared.outcome.Outcome.{Outcome as Came};
 ghost use Rattle.lw_learn.specs.Calls.{all_writes, gained, write_of};
 ghost use Rattle.lw_learn.specs.Outcomes.{IsTold, IsLearnedOutcome, told_outcome};
+ghost use Rattle.lw_learn.specs.Saving.{MayTell};
+ghost use Rattle.lw_learn.specs.declared.saving.Saved.TheVariants as Was;
 ghost use Rattle.lw_learn.specs.Writing.{PutsAll, PutsSome, Stands, StaysBesides, TakesInTurn, WritesFiles, WritesOut};
 
-use crate::LearnArguments;
+use crate::{LearnArguments, Saved};
 use lw_json::{Machine, answers_text, machine_text};
 use lw_outside::{Failed, Files, Sink};
 use lw_report::{Outcome, Role, TellStop, put_all, say, text, write_file};
@@ -77,7 +79,7 @@ fn write_named<F: Files>(
 ) -> Result<(), TellStop>
     ensures told { OnOk result (Stands (option_map (λ n. n.now) name.entry) (F.holds files.new)
         bytes.now) }
-    ensures beside { StaysBesides (option_map (λ n. n.now) name.entry) None (F.holds files.old)
+    ensures beside { StaysBesides (option_map (λ n. n.now) name.entry) None None (F.holds files.old)
         (F.holds files.new) }
     ensures ok { OnOk result (F.calls files.new ≡
         gained (write_of (option_map (λ n. n.now) name.entry) false) (F.calls files.old)) }
@@ -113,7 +115,7 @@ fn write_files<F: Files>(
     ensures model_before { result ≡ Err (Stop.File AnswersRole) →
         arguments.now.model ≢ arguments.now.answers →
         Stands arguments.now.model (F.holds files.new) texts.now.model.items }
-    ensures beside { StaysBesides arguments.now.model arguments.now.answers (F.holds files.old)
+    ensures beside { StaysBesides arguments.now.model arguments.now.answers None (F.holds files.old)
         (F.holds files.new) }
     ensures ok { OnOk result (F.calls files.new ≡
         gained (all_writes arguments.now) (F.calls files.old)) }
@@ -154,13 +156,40 @@ fn put_model<O: Sink>(out: &mut O, file: Option<&str>, bytes: &[u8]) -> Result<(
     }
 }
 
-/// Puts the model's text to `out`, where no file is named for it, then the line to `err`.
+/// Puts the line about a model to `err`, where the kept answers' file didn't fail.
+fn put_line<E: Sink>(saved: Saved, line: &[u8], err: &mut E) -> Result<(), TellStop>
+    requires memory { ¬ (saved ≡ Was.NoMemory) }
+    ensures ok { OnOk result (TakesAll line.now (E.taken err.old) (E.taken err.new)) }
+    ensures stood { OnOk result (saved ≡ Was.Stand) }
+    ensures part { TakesSome line.now (E.taken err.old) (E.taken err.new) }
+    ensures unsaid { OnErr result (¬ CountedFault (E.faults err.old) (E.faults err.new) →
+        E.taken err.new ≡ E.taken err.old) }
+    ensures stops { IfErr result (λ stop. (stop ≡ Stop.Sink) ⊎ (stop ≡ Stop.File KeptRole)) }
+    ensures kept { result ≡ Err (Stop.File KeptRole) → saved ≡ Was.Failed }
+    ensures refused { result ≡ Err Stop.Sink → CountedFault (E.faults err.old) (E.faults err.new) }
+    ensures quiet { OnOk result (E.faults err.new ≡ E.faults err.old) }
+    ensures counts { E.faults err.old ≤ E.faults err.new }
+{
+    match saved {
+        Saved::Stand => {
+            put_all(err, line)?;
+            Ok(())
+        }
+        Saved::Failed => Err(TellStop::File(Role::Kept)),
+        Saved::NoMemory => unreachable!(),
+    }
+}
+
+/// Puts the model's text to `out`, where no file is named for it, then the line to `err`, where the kept answers' file didn't
+/// fail.
 fn put_streams<O: Sink, E: Sink>(
     arguments: &LearnArguments,
     texts: &Texts,
+    saved: Saved,
     out: &mut O,
     err: &mut E,
 ) -> Result<(), TellStop>
+    requires memory { ¬ (saved ≡ Was.NoMemory) }
     ensures written { OnOk result (PutsAll arguments.now.model texts.now.model.items
         (O.taken out.old) (O.taken out.new)) }
     ensures part { PutsSome arguments.now.model texts.now.model.items (O.taken out.old)
@@ -171,26 +200,31 @@ fn put_streams<O: Sink, E: Sink>(
     ensures line_part { TakesSome texts.now.line.items (E.taken err.old) (E.taken err.new) }
     ensures unsaid { OnErr result (¬ CountedFault (E.faults err.old) (E.faults err.new) →
         E.taken err.new ≡ E.taken err.old) }
-    ensures refused { OnErr result (CountedFault (O.faults out.old) (O.faults out.new) ⊎
-        CountedFault (E.faults err.old) (E.faults err.new)) }
-    ensures sink { IfErr result (λ stop. stop ≡ Stop.Sink) }
+    ensures stood { OnOk result (saved ≡ Was.Stand) }
+    ensures behind { result ≡ Err (Stop.File KeptRole) → PutsAll arguments.now.model
+        texts.now.model.items (O.taken out.old) (O.taken out.new) }
+    ensures kept { result ≡ Err (Stop.File KeptRole) → saved ≡ Was.Failed }
+    ensures refused { result ≡ Err Stop.Sink → CountedFault (O.faults out.old) (O.faults out.new) ⊎
+        CountedFault (E.faults err.old) (E.faults err.new) }
+    ensures stops { IfErr result (λ stop. (stop ≡ Stop.Sink) ⊎ (stop ≡ Stop.File KeptRole)) }
     ensures quiet { OnOk result ((O.faults out.new ≡ O.faults out.old) ×
         (E.faults err.new ≡ E.faults err.old)) }
     ensures counts { (O.faults out.old ≤ O.faults out.new) × (E.faults err.old ≤ E.faults err.new) }
 {
     put_model(out, arguments.model(), &texts.model)?;
-    put_all(err, &texts.line)?;
-    Ok(())
+    put_line(saved, &texts.line, err)
 }
 
-/// Writes a model out: the files that are named, the model's text to `out` where none is named for it, and the line about it to
-/// `err`. All texts are made before the first is written.
+/// Writes a model out, once the kept answers were saved: the files that are named, the model's text to `out` where none is named
+/// for it, and the line about it to `err`, or in place of the line that the kept answers' file failed. All these texts are made
+/// before the first is written.
 fn write_model<F: Files, O: Sink, E: Sink>(
     alloc: Global,
     arguments: &LearnArguments,
     machine: &Machine,
     refinements: u32,
     kept: &Kept,
+    saved: Saved,
     files: &mut F,
     out: &mut O,
     err: &mut E,
@@ -204,13 +238,16 @@ fn write_model<F: Files, O: Sink, E: Sink>(
     ensures out { WritesOut arguments.now.model (written_text machine.now)
         (told_outcome machine.now.mealy refinements result) (O.taken out.old, O.taken out.new)
         (O.faults out.old, O.faults out.new) }
-    ensures beside { StaysBesides arguments.now.model arguments.now.answers (F.holds files.old)
+    ensures beside { StaysBesides arguments.now.model arguments.now.answers None (F.holds files.old)
         (F.holds files.new) }
     ensures role { (role : Part) → result ≡ Err (Stop.File role) →
         ((role ≡ ModelRole) × (arguments.now.model ≢ None)) ⊎
-        ((role ≡ AnswersRole) × (arguments.now.answers ≢ None)) }
-    ensures failed { (role : Part) → result ≡ Err (Stop.File role) →
+        (((role ≡ AnswersRole) × (arguments.now.answers ≢ None)) ⊎ (role ≡ KeptRole)) }
+    ensures failed { (role : Part) → result ≡ Err (Stop.File role) → role ≢ KeptRole →
         CountedFault (F.faults files.old) (F.faults files.new) }
+    ensures stood { OnOk result (saved ≡ Was.Stand) }
+    ensures unsaved { result ≡ Err (Stop.File KeptRole) → saved ≡ Was.Failed }
+    ensures wants { saved ≡ Was.NoMemory → result ≡ Err Stop.NoMemory }
     ensures refused { result ≡ Err Stop.Sink → CountedFault (O.faults out.old) (O.faults out.new) ⊎
         CountedFault (E.faults err.old) (E.faults err.new) }
     ensures line { OnOk result (TakesAll (text_of machine.now.inputs machine.now.outputs
@@ -227,13 +264,14 @@ fn write_model<F: Files, O: Sink, E: Sink>(
     ensures counts { (F.faults files.old ≤ F.faults files.new) ×
         (O.faults out.old ≤ O.faults out.new) × (E.faults err.old ≤ E.faults err.new) }
 {
+    saved.memory()?;
     let outcome = Outcome::Learned {
         model: machine.mealy.copy()?,
         refinements,
     };
     let texts = texts_of(alloc, arguments, machine, kept, &outcome)?;
     write_files(files, arguments, &texts)?;
-    put_streams(arguments, &texts, out, err)?;
+    put_streams(arguments, &texts, saved, out, err)?;
     Ok(outcome)
 }
 
@@ -244,6 +282,7 @@ pub(crate) fn tell_model<F: Files, O: Sink, E: Sink>(
     machine: &Machine,
     refinements: u32,
     kept: &Kept,
+    saved: Saved,
     files: &mut F,
     out: &mut O,
     err: &mut E,
@@ -255,13 +294,14 @@ pub(crate) fn tell_model<F: Files, O: Sink, E: Sink>(
         (F.holds files.new) (F.calls files.old, F.calls files.new) }
     ensures out { WritesOut arguments.now.model (written_text machine.now) result
         (O.taken out.old, O.taken out.new) (O.faults out.old, O.faults out.new) }
-    ensures beside { StaysBesides arguments.now.model arguments.now.answers (F.holds files.old)
+    ensures beside { StaysBesides arguments.now.model arguments.now.answers None (F.holds files.old)
         (F.holds files.new) }
     ensures role { (role : Part) → result ≡ Came.FileFault role →
         ((role ≡ ModelRole) × (arguments.now.model ≢ None)) ⊎
-        ((role ≡ AnswersRole) × (arguments.now.answers ≢ None)) }
-    ensures failed { (role : Part) → result ≡ Came.FileFault role →
+        (((role ≡ AnswersRole) × (arguments.now.answers ≢ None)) ⊎ (role ≡ KeptRole)) }
+    ensures failed { (role : Part) → result ≡ Came.FileFault role → role ≢ KeptRole →
         CountedFault (F.faults files.old) (F.faults files.new) }
+    ensures may { MayTell saved result }
     ensures refused { result ≡ Came.SinkFault → CountedFault (O.faults out.old) (O.faults out.new) ⊎
         CountedFault (E.faults err.old) (E.faults err.new) }
     ensures said { ¬ CountedFault (E.faults err.old) (E.faults err.new) →
@@ -283,6 +323,7 @@ pub(crate) fn tell_model<F: Files, O: Sink, E: Sink>(
         machine,
         refinements,
         kept,
+        saved,
         files,
         out,
         err,

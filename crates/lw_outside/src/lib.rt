@@ -7,6 +7,7 @@ mod cast;
 mod child;
 mod files;
 mod links;
+mod logs;
 mod memory_files;
 mod memory_link;
 mod memory_sink;
@@ -20,7 +21,8 @@ mod transcript;
 
 pub use answer_line::AnswerLine;
 pub use files::{Files, FilesStop, LONGEST_FILE, WriteStop};
-pub use links::{Link, Spawner, StartStop};
+pub use links::{Link, Spawner, StartFailure, StartStop};
+pub use logs::LogFile;
 pub use memory_files::{FileCall, MemoryFiles};
 pub use memory_link::MemoryLink;
 pub use memory_sink::MemorySink;

@@ -3,6 +3,7 @@ ghost use Rattle.std.specs.Prelude.{◌≡◌, ◌≢◌, ℕ, ◌+◌, ◌<◌,
 ghost use Rattle.std.specs.List.{All};
 ghost use Rattle.lw_words.specs.Cause.{CountedFault};
 ghost use Rattle.lw_outside.specs.Links.{IsUntouched, Retired, SendsPart, Transcript, receives, sends, with_start};
+ghost use Rattle.lw_outside.specs.declared.links.StartFailure.{StartFailure};
 ghost use Rattle.lw_outside.specs.declared.links.StartStop.{StartStop as StartRefusal};
 
 use crate::Failed;
@@ -58,6 +59,20 @@ pub enum StartStop {
     NoMemory,
 }
 
+/// Why a start failed, as far as its spawner knows.
+#[derive(Clone, Copy, Debug, PartialEq, Eq)]
+pub enum StartFailure {
+    /// There is no such program.
+    NotFound,
+    /// The program may not be run.
+    NotExecutable,
+    /// It is a folder.
+    Folder,
+    /// What the system says, by the number of its error.
+    System(u32),
+    Unknown,
+}
+
 /// What starts children, and retires the links to them.
 pub trait Spawner {
     type Link: Link + Send + Drop;
@@ -72,6 +87,12 @@ pub trait Spawner {
 
     /// The words of each start that was answered other than `NoMemory`, where they are told.
     ghost commands: { Self → Option (List (List (List ℕ))) };
+
+    /// Why the last of its starts that failed did so.
+    ghost cause: { Self → StartFailure };
+
+    fn failure(&self) -> StartFailure
+        ensures { result ≡ cause self.now };
 
     /// Starts the program of the first word, with the others as its arguments.
     fn start(&mut self, words: &[String]) -> Result<Self::Link, StartStop>

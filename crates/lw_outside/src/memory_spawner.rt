@@ -10,7 +10,7 @@ ghost use Rattle.lw_outside.specs.declared.links.StartStop.{StartStop as StartRe
 
 use crate::cast::Cast;
 use crate::child::Child;
-use crate::{Link, MemoryLink, Spawner, StartStop, Transcript};
+use crate::{Link, MemoryLink, Spawner, StartFailure, StartStop, Transcript};
 use http_server::Log;
 use lw_json::Machine;
 use lw_words::NoMemory;
@@ -239,6 +239,15 @@ impl Spawner for MemorySpawner {
     ghost retired = { λ s. map retired_of s.retired };
 
     ghost commands = { λ s. Some s.commands };
+
+    ghost use Rattle.lw_outside.specs.declared.links.StartFailure.TheVariants.{Unknown};
+
+    ghost cause = { λ _. Unknown };
+
+    /// Its starts fail by their plan, for no cause of a system's.
+    fn failure(&self) -> StartFailure {
+        StartFailure::Unknown
+    }
 
     fn start(&mut self, words: &[String]) -> Result<MemoryLink, StartStop>
         requires { 0 < length words.now }

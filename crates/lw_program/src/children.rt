@@ -4,8 +4,8 @@ ghost use Rattle.std.specs.Prelude.{◌≡◌, ◌<◌, ◌≤◌, [], length, I
 ghost use Rattle.std.specs.List.{All};
 
 use http_server::Log;
-use lw_outside::{Failed, Link, Spawner, StartStop};
-use std::fs::Files;
+use lw_outside::{Failed, Link, Spawner, StartFailure, StartStop};
+use std::fs::{self, Files};
 use std::io::{self, ErrorKind, PipeReader, PipeWriter, Read, Write};
 use std::process::{Child, Command, Processes, Stdio, SystemProcess};
 
@@ -79,6 +79,7 @@ pub struct RealSpawner<R> {
     rt: R,
     started: u64,
     faults: u64,
+    cause: StartFailure,
     retired: Log<RealLink, ()>,
     ghost earlier: { All (λ r. r.0.number < started) retired.items },
 }
@@ -95,13 +96,19 @@ impl<R> RealSpawner<R> {
             rt,
             started: 0,
             faults: 0,
+            cause: StartFailure::Unknown,
             retired: Log::new(),
         }
     }
 }
 
+/// The variable that tells a child how many children this call of the program had started before it: workers that share a
+/// machine keep apart by it, in their ports, folders and keys.
+const INSTANCE: &str = "NOFJAND_INSTANCE";
+
 /// Starts the program of the first word with the others as its arguments, and a new pipe each for its input and its output. Its
-/// standard error is that of this program, and it has no other descriptor, so none of another child's pipes.
+/// environment is that of this program with its number besides. Its standard error is that of this program, and it has no other
+/// descriptor, so none of another child's pipes.
 fn start_child<R: Files + Processes<Started = SystemProcess> + AllocGlobal>(
     rt: &R,
     words: &[String],
@@ -116,6 +123,8 @@ fn start_child<R: Files + Processes<Started = SystemProcess> + AllocGlobal>(
     for argument in arguments {
         command.arg(argument)?;
     }
+    let instance = format!(in rt.alloc(); "{number}")?;
+    command.env(INSTANCE, instance.as_str())?;
     let (their_input, input) = io::pipe(rt)?;
     let (output, their_output) = io::pipe(rt)?;
     command.stdin(Stdio::from(their_input));
@@ -129,6 +138,30 @@ fn start_child<R: Files + Processes<Started = SystemProcess> + AllocGlobal>(
         faults: 0,
         ends: 0,
     })
+}
+
+/// Whether the program of these words is a folder. A name without a slash is looked for on the path, where folders are passed over.
+fn is_folder<R: Files>(rt: &R, words: &[String]) -> bool {
+    match words.first() {
+        Some(program) if program.contains('/') => match fs::metadata(rt, program) {
+            Ok(metadata) => metadata.is_dir(),
+            Err(_) => false,
+        },
+        _ => false,
+    }
+}
+
+/// What an error at a start says. Of a folder the system says that it may not be run.
+fn failure_of<R: Files>(rt: &R, words: &[String], error: &io::Error) -> StartFailure {
+    match error.kind() {
+        ErrorKind::NotFound => StartFailure::NotFound,
+        ErrorKind::PermissionDenied if is_folder(rt, words) => StartFailure::Folder,
+        ErrorKind::PermissionDenied => StartFailure::NotExecutable,
+        _ => match error.raw_os_error() {
+            Some(code) => u32::try_from(code).map_or(StartFailure::Unknown, StartFailure::System),
+            None => StartFailure::Unknown,
+        },
+    }
 }
 
 impl<R: Files + Processes<Started = SystemProcess> + AllocGlobal> Spawner for RealSpawner<R> {
@@ -149,6 +182,12 @@ impl<R: Files + Processes<Started = SystemProcess> + AllocGlobal> Spawner for Re
 
     ghost commands = { λ _. None };
 
+    ghost cause = { λ s. s.cause };
+
+    fn failure(&self) -> StartFailure {
+        self.cause
+    }
+
     /// A first word without a slash is looked for in the folders of the path. What isn't there, may not be run, is a folder or no
     /// program that the system knows is `Failed`.
     fn start(&mut self, words: &[String]) -> Result<RealLink, StartStop> {
@@ -161,7 +200,8 @@ impl<R: Files + Processes<Started = SystemProcess> + AllocGlobal> Spawner for Re
                 Ok(link)
             }
             Err(error) if error.kind() == ErrorKind::OutOfMemory => Err(StartStop::NoMemory),
-            Err(_) => {
+            Err(error) => {
+                self.cause = failure_of(&self.rt, words, &error);
                 self.faults = self.faults.saturating_add(1);
                 Err(StartStop::Failed)
             }

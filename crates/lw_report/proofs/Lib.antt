@@ -1,3 +1,4 @@
+pub mod ComparisonLemmas
 pub mod LearningLemmas
 pub mod SinkLemmas
 pub mod ReadLemmas

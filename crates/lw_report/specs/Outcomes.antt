@@ -1,20 +1,33 @@
 -- The exit status of each outcome, and which outcomes may come when.
 use Rattle.std.specs.Prelude.{◌≡◌, ◌⊎◌, ℕ}
+use Rattle.lw_report.specs.declared.comparison.Comparison.{Comparison}
+use Rattle.lw_report.specs.declared.comparison.Comparison.TheVariants.{Equal, Differ, OtherInputs}
 use Rattle.lw_report.specs.declared.outcome.Outcome.{Outcome}
-use Rattle.lw_report.specs.declared.outcome.Outcome.TheVariants.{Learned, Trial, Yes, Served, No, Usage, BadFile, Alphabets, FileTooLong, Nondeterministic, NoMemory, SulFailed, Gone, BadLine, BadAsk, TooManyStates, SuiteTooLarge, FileFault, SourceFault, SinkFault}
+use Rattle.lw_report.specs.declared.outcome.Outcome.TheVariants.{Learned, Trial, Yes, Served, No, Usage, BadFile, Alphabets, FileTooLong, Nondeterministic, NoMemory, SulFailed, Gone, BadLine, BadAsk, TooManyStates, SuiteTooLarge, FileFault, SourceFault, SinkFault, Compared, Asked, Rechecked, UnknownLetter, Unstarted}
+
+-- 1 where two models differ, as of answers that do not fix a model, and 3 where they have no inputs in common to compare by
+abbrev pub comparison_status : Comparison → ℕ
+comparison_status Equal = 0
+comparison_status (Differ difference) = 1
+comparison_status (OtherInputs first second) = 3
 
 abbrev pub status_of : Outcome → ℕ
 status_of (Learned model refinements) = 0
 status_of (Trial tried) = 0
 status_of (Yes states) = 0
 status_of (Served served) = 0
+status_of Asked = 0
+status_of (Rechecked answers) = 0
+status_of (Compared comparison) = comparison_status comparison
 status_of (No verdict) = 1
 status_of Usage = 2
 status_of (BadFile role fault) = 3
 status_of (Alphabets role) = 3
 status_of (FileTooLong role) = 3
+status_of (UnknownLetter word place) = 3
 status_of (Nondeterministic clash) = 4
 status_of NoMemory = 5
+status_of (Unstarted cause) = 6
 status_of (SulFailed instance) = 6
 status_of (Gone instance) = 6
 status_of (BadLine instance line) = 6
@@ -39,6 +52,10 @@ HasOwnText (BadLine instance line) = Unit {0}
 HasOwnText (BadAsk number) = Unit {0}
 HasOwnText (TooManyStates words) = Unit {0}
 HasOwnText (SuiteTooLarge states number) = Unit {0}
+HasOwnText (Unstarted cause) = Unit {0}
+HasOwnText (Compared comparison) = Unit {0}
+HasOwnText (Rechecked answers) = Unit {0}
+HasOwnText (UnknownLetter word place) = Unit {0}
 HasOwnText _ = ⊥
 
 -- an outcome as it was, or out of memory in place of one whose text takes memory

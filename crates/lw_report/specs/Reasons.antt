@@ -10,7 +10,7 @@ use Rattle.lw_json.specs.declared.fault.Field.TheVariants as field
 use Rattle.lw_json.specs.declared.fault.JsonFault.{JsonFault}
 use Rattle.lw_json.specs.declared.fault.JsonFault.TheVariants.{NotJson, Shape, Inputs, Outputs, UnknownOutput, Mealy, BadWord, Lengths, NoMemory}
 use Rattle.lw_report.specs.declared.role.Role.{Role}
-use Rattle.lw_report.specs.declared.role.Role.TheVariants.{Setup, Table, Model, Answers, Prior}
+use Rattle.lw_report.specs.declared.role.Role.TheVariants.{Setup, Table, Model, Answers, Prior, Second, Words, Kept}
 
 abbrev pub role_name : Role → List ℕ
 role_name Setup = codes "setup"
@@ -18,6 +18,9 @@ role_name Table = codes "table"
 role_name Model = codes "model"
 role_name Answers = codes "answers"
 role_name Prior = codes "prior"
+role_name Second = codes "second model"
+role_name Words = codes "words"
+role_name Kept = codes "kept"
 
 abbrev pub field_name : Field → List ℕ
 field_name field.Root = codes "root"

@@ -11,9 +11,13 @@ use Rattle.lw_certify.specs.declared.verdict.Verdict.TheVariants as verdict
 use Rattle.lw_report.specs.Reasons.{reason_of, role_name}
 use Rattle.lw_report.specs.declared.role.Role.{Role}
 use Rattle.lw_report.specs.declared.role.Role.TheVariants.{Prior}
+use Rattle.lw_outside.specs.declared.links.StartFailure.{StartFailure}
+use Rattle.lw_outside.specs.declared.links.StartFailure.TheVariants.{NotFound, NotExecutable, Folder, System, Unknown}
+use Rattle.lw_report.specs.declared.comparison.Comparison.{Comparison}
+use Rattle.lw_report.specs.declared.comparison.Comparison.TheVariants.{Equal, Differ, OtherInputs}
 use Rattle.lw_report.specs.declared.outcome.Outcome.{Outcome}
 use Rattle.lw_report.specs.declared.outcome.Tried.{Tried}
-use Rattle.lw_report.specs.declared.outcome.Outcome.TheVariants.{Learned, Trial, Yes, Served, No, Usage, BadFile, Alphabets, FileTooLong, Nondeterministic, NoMemory, SulFailed, Gone, BadLine, BadAsk, TooManyStates, SuiteTooLarge, FileFault, SourceFault, SinkFault}
+use Rattle.lw_report.specs.declared.outcome.Outcome.TheVariants.{Learned, Trial, Yes, Served, No, Usage, BadFile, Alphabets, FileTooLong, Nondeterministic, NoMemory, SulFailed, Gone, BadLine, BadAsk, TooManyStates, SuiteTooLarge, FileFault, SourceFault, SinkFault, Compared, Asked, Rechecked, UnknownLetter, Unstarted}
 
 -- the name of a letter
 abbrev pub name_of : List (List ℕ) → ℕ → List ℕ
@@ -48,10 +52,13 @@ crowd_lines names words = (codes "too many states: " ++ (decimal (length words) 
 
 abbrev pub usage_lines : List ℕ
 usage_lines =
-    codes "usage: learn (SETUP | --table FILE) [--workers N] [--extra K] [--learner table|ttt] [--max-states N] [--model FILE] [--answers FILE] [--prior FILE]\n"
+    codes "usage: learn (SETUP | --table FILE) [--workers N] [--extra K] [--learner table|ttt] [--max-states N]\n"
+    ++ (codes "             [--model FILE] [--answers FILE] [--prior FILE] [--kept FILE]\n"
     ++ (codes "       check MODEL ANSWERS [--extra K]\n"
     ++ (codes "       serve MODEL\n"
-    ++ codes "       trial --states N --inputs A --seed S [--workers N] [--learner table|ttt]\n"))
+    ++ (codes "       ask (SETUP | --table FILE) WORD...\n"
+    ++ (codes "       compare MODEL MODEL\n"
+    ++ codes "       trial --states N --inputs A --seed S [--workers N] [--learner table|ttt]\n")))))
 
 abbrev pub differs_line : ℕ → ℕ → List ℕ
 differs_line answer place = codes "no: answer " ++ (decimal answer ++ (codes " differs at place " ++ (decimal place ++ codes "\n")))
@@ -108,12 +115,52 @@ bad_line instance line = codes "bad line: instance " ++ (decimal instance ++ (co
 abbrev pub bad_ask_line : ℕ → List ℕ
 bad_ask_line number = codes "bad line: " ++ (decimal number ++ codes "\n")
 
--- the text of the outcome; nothing is said of a child that was served
+-- names, joined by one blank
+abbrev pub joined : List (List ℕ) → List ℕ
+joined names = join_by (λ n. n) (codes " ") names
+
+-- what one of two models gives for a word
+abbrev pub given_line : (which : List ℕ) (word outs : List (List ℕ)) → List ℕ
+given_line which word outs = which ++ (codes ": " ++ (joined word ++ (codes " / " ++ (joined outs ++ codes "\n"))))
+
+-- the inputs of one of two models alone
+abbrev pub only_line : (which : List ℕ) (names : List (List ℕ)) → List ℕ
+only_line which names = which ++ (codes " only: " ++ (joined names ++ codes "\n"))
+
+-- how two models compare
+abbrev pub comparison_lines : Comparison → List ℕ
+comparison_lines Equal = codes "equal\n"
+comparison_lines (Differ d) = codes "differ\n" ++ (given_line (codes "first") d.word d.first ++ given_line (codes "second") d.word d.second)
+comparison_lines (OtherInputs first second) = codes "inputs differ\n" ++ (only_line (codes "first") first ++ only_line (codes "second") second)
+
+-- how many answers were given again
+abbrev pub rechecked_line : ℕ → List ℕ
+rechecked_line answers = codes "same: answers " ++ (decimal answers ++ codes "\n")
+
+-- a letter that is no input, by the numbers of its word and of its place
+abbrev pub letter_line : (word place : ℕ) → List ℕ
+letter_line word place = codes "bad word " ++ (decimal word ++ (codes ": letter " ++ (decimal place ++ codes " is no input\n")))
+
+-- why no child was started
+abbrev pub cause_text : StartFailure → List ℕ
+cause_text NotFound = codes "no such program"
+cause_text NotExecutable = codes "the program may not be run"
+cause_text Folder = codes "the program is a folder"
+cause_text (System code) = codes "error " ++ (decimal code ++ codes " of the system")
+cause_text Unknown = codes "unknown cause"
+
+abbrev pub unstarted_line : StartFailure → List ℕ
+unstarted_line cause = codes "system not started: " ++ (cause_text cause ++ codes "\n")
+
+-- the text of the outcome; nothing is said of a child that was served, or of words that were all answered
 abbrev pub text_of : List (List ℕ) → List (List ℕ) → List KeptAnswer → ℕ → Outcome → List ℕ
 text_of inputs outputs kept extra (Learned model refinements) = learned_line (length model.rows) refinements extra (length kept)
 text_of inputs outputs kept extra (Trial tried) = trial_lines tried
 text_of inputs outputs kept extra (Yes states) = yes_line states extra (length kept)
 text_of inputs outputs kept extra (Served served) = []
+text_of inputs outputs kept extra (Compared comparison) = comparison_lines comparison
+text_of inputs outputs kept extra Asked = []
+text_of inputs outputs kept extra (Rechecked answers) = rechecked_line answers
 text_of inputs outputs kept extra (No v) = no_line inputs v
 text_of inputs outputs kept extra Usage = usage_lines
 text_of inputs outputs kept extra (BadFile role fault) = codes "bad file " ++ (role_name role ++ (codes ": " ++ (reason_of fault ++ codes "\n")))
@@ -121,6 +168,8 @@ text_of inputs outputs kept extra (Alphabets role) = names_line role
 text_of inputs outputs kept extra (Nondeterministic clash) = clash_lines inputs outputs kept clash
 text_of inputs outputs kept extra (FileTooLong role) = codes "file too long: " ++ (role_name role ++ codes "\n")
 text_of inputs outputs kept extra NoMemory = codes "no memory\n"
+text_of inputs outputs kept extra (UnknownLetter word place) = letter_line word place
+text_of inputs outputs kept extra (Unstarted cause) = unstarted_line cause
 text_of inputs outputs kept extra (SulFailed instance) = failed_line instance
 text_of inputs outputs kept extra (Gone instance) = gone_line instance
 text_of inputs outputs kept extra (BadLine instance line) = bad_line instance line

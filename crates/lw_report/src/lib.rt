@@ -1,6 +1,7 @@
 //! What a call of the program comes to: its outcome, exit status and text, and the files and streams that it reads and writes.
 #![tactic(auto)]
 
+mod comparison;
 mod end;
 mod outcome;
 mod reading;
@@ -13,6 +14,7 @@ mod tried_text;
 mod verdict_texts;
 mod writing;
 
+pub use comparison::{Comparison, Difference};
 pub use end::{End, refuse};
 pub use outcome::{Outcome, Tried, status};
 pub use reading::{read_answers_file, read_machine_file, read_setup_file};

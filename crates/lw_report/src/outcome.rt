@@ -2,12 +2,13 @@
 ghost use Rattle.std.specs.Prelude.{◌≡◌};
 ghost use Rattle.lw_report.specs.Outcomes.{status_of};
 
-use crate::Role;
+use crate::{Comparison, Role};
 use lw_cache::Clash;
 use lw_certify::Verdict;
 use lw_json::JsonFault;
 use lw_line::Served;
 use lw_mealy::Mealy;
+use lw_outside::StartFailure;
 use lw_words::{Line, Words};
 
 /// A trial: so many states and inputs of a machine that was drawn by the seed; the states, refinements and kept answers of what
@@ -34,6 +35,12 @@ pub enum Outcome {
     Yes { states: u16 },
     /// A machine was played as a child, up to where nothing more was asked of it.
     Served(Served),
+    /// How two models compare.
+    Compared(Comparison),
+    /// Each word was asked, and answered.
+    Asked,
+    /// Each of so many answers was given again.
+    Rechecked { answers: u64 },
     /// The answers don't fix the model, for this cause, which is none of `TooLarge` and `Sure`.
     No(Verdict),
     /// The arguments are none that the program knows.
@@ -42,11 +49,15 @@ pub enum Outcome {
     BadFile { role: Role, fault: JsonFault },
     /// The names of the file in this role, answers or those of an earlier call, aren't the model's, or the setup's.
     Alphabets(Role),
+    /// The letter at this place of the word of this number, both counted from 1, is no input.
+    UnknownLetter { word: u64, place: u64 },
     /// The file in this role has more than 16,777,216 bytes.
     FileTooLong(Role),
     /// Two kept answers that no one machine gives.
     Nondeterministic(Clash),
     NoMemory,
+    /// No child was started, for this cause.
+    Unstarted(StartFailure),
     /// The system of this instance failed.
     SulFailed(u32),
     /// The output of this instance's system ended before its answer did.
@@ -73,12 +84,17 @@ pub fn status(outcome: &Outcome) -> u8
 {
     match outcome {
         Outcome::Learned { .. } | Outcome::Trial(_) | Outcome::Yes { .. } | Outcome::Served(_) => 0,
+        Outcome::Asked | Outcome::Rechecked { .. } => 0,
+        Outcome::Compared(Comparison::Equal) => 0,
+        Outcome::Compared(Comparison::Differ(_)) => 1,
+        Outcome::Compared(Comparison::OtherInputs { .. }) => 3,
         Outcome::No(_) => 1,
         Outcome::Usage => 2,
         Outcome::BadFile { .. } | Outcome::Alphabets(_) | Outcome::FileTooLong(_) => 3,
+        Outcome::UnknownLetter { .. } => 3,
         Outcome::Nondeterministic(_) => 4,
         Outcome::NoMemory => 5,
-        Outcome::SulFailed(_) | Outcome::Gone(_) => 6,
+        Outcome::SulFailed(_) | Outcome::Gone(_) | Outcome::Unstarted(_) => 6,
         Outcome::BadLine(_, _) | Outcome::BadAsk(_) => 6,
         Outcome::TooManyStates(_) | Outcome::SuiteTooLarge { .. } => 7,
         Outcome::FileFault(_) | Outcome::SourceFault | Outcome::SinkFault => 8,

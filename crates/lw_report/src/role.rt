@@ -2,7 +2,8 @@
 ghost use Rattle.std.specs.Prelude.{◌≡◌};
 ghost use Rattle.lw_report.specs.Reasons.{role_name};
 
-/// What a file is to a call: a setup, a machine that is learned, a model, answers, or those of an earlier call.
+/// What a file is to a call: a setup, a machine that is learned, a model, answers, or those of an earlier call;
+/// the second of two models, words that are asked besides, or the answers that are kept at any end.
 #[derive(Clone, Copy, Debug, PartialEq, Eq)]
 pub enum Role {
     Setup,
@@ -10,6 +11,9 @@ pub enum Role {
     Model,
     Answers,
     Prior,
+    Second,
+    Words,
+    Kept,
 }
 
 impl Role {
@@ -23,6 +27,9 @@ impl Role {
             Role::Model => "model",
             Role::Answers => "answers",
             Role::Prior => "prior",
+            Role::Second => "second model",
+            Role::Words => "words",
+            Role::Kept => "kept",
         }
     }
 }

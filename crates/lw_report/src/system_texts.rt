@@ -1,7 +1,8 @@
 //! The texts about systems that stopped, and about what is asked of a child.
 ghost use Rattle.std.specs.Prelude.{◌≡◌, IfOk, string_bytes};
-ghost use Rattle.lw_report.specs.Text.{bad_ask_line, bad_line, failed_line, gone_line};
+ghost use Rattle.lw_report.specs.Text.{bad_ask_line, bad_line, cause_text, failed_line, gone_line, letter_line, rechecked_line, unstarted_line};
 
+use lw_outside::StartFailure;
 use lw_words::{Line, NoMemory};
 use std::alloc::Global;
 
@@ -32,4 +33,39 @@ pub(crate) fn bad_ask_text(alloc: Global, number: u32) -> Result<String, NoMemor
     ensures { IfOk result (λ text. string_bytes text ≡ bad_ask_line number) }
 {
     Ok(format!(in alloc; "bad line: {number}\n")?)
+}
+
+/// Why no child was started.
+fn cause(alloc: Global, cause: StartFailure) -> Result<String, NoMemory>
+    ensures { IfOk result (λ text. string_bytes text ≡ cause_text cause) }
+{
+    match cause {
+        StartFailure::NotFound => Ok(String::from_str(alloc, "no such program")?),
+        StartFailure::NotExecutable => Ok(String::from_str(alloc, "the program may not be run")?),
+        StartFailure::Folder => Ok(String::from_str(alloc, "the program is a folder")?),
+        StartFailure::System(code) => Ok(format!(in alloc; "error {code} of the system")?),
+        StartFailure::Unknown => Ok(String::from_str(alloc, "unknown cause")?),
+    }
+}
+
+/// The line about a child that was not started.
+pub(crate) fn unstarted_text(alloc: Global, failure: StartFailure) -> Result<String, NoMemory>
+    ensures { IfOk result (λ text. string_bytes text ≡ unstarted_line failure) }
+{
+    let cause = cause(alloc, failure)?;
+    Ok(format!(in alloc; "system not started: {cause}\n")?)
+}
+
+/// The line about a letter that is no input.
+pub(crate) fn letter_text(alloc: Global, word: u64, place: u64) -> Result<String, NoMemory>
+    ensures { IfOk result (λ text. string_bytes text ≡ letter_line word place) }
+{
+    Ok(format!(in alloc; "bad word {word}: letter {place} is no input\n")?)
+}
+
+/// The line about answers that were given again.
+pub(crate) fn rechecked_text(alloc: Global, answers: u64) -> Result<String, NoMemory>
+    ensures { IfOk result (λ text. string_bytes text ≡ rechecked_line answers) }
+{
+    Ok(format!(in alloc; "same: answers {answers}\n")?)
 }

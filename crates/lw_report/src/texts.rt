@@ -6,8 +6,12 @@ ghost use Rattle.lw_report.specs.Outcomes.{HasOwnText};
 ghost use Rattle.lw_report.specs.Reasons.{reason_of, role_name};
 ghost use Rattle.lw_report.specs.Text.{crowd_lines, name_of, learned_line, names_line, names_of, text_of, word_line};
 
+use crate::comparison::comparison_text;
 use crate::reasons::reason;
-use crate::system_texts::{bad_ask_text, bad_line_text, failed_text, gone_text};
+use crate::system_texts::{
+    bad_ask_text, bad_line_text, failed_text, gone_text, letter_text, rechecked_text,
+    unstarted_text,
+};
 use crate::tried_text::trial_text;
 use crate::verdict_texts::{clash_text, no_text, suite_text, yes_text};
 use crate::{Outcome, Role};
@@ -16,9 +20,12 @@ use lw_words::{Kept, Names, NoMemory, Words};
 use std::alloc::Global;
 
 const USAGE: &str =
-    "usage: learn (SETUP | --table FILE) [--workers N] [--extra K] [--learner table|ttt] [--max-states N] [--model FILE] [--answers FILE] [--prior FILE]
+    "usage: learn (SETUP | --table FILE) [--workers N] [--extra K] [--learner table|ttt] [--max-states N]
+             [--model FILE] [--answers FILE] [--prior FILE] [--kept FILE]
        check MODEL ANSWERS [--extra K]
        serve MODEL
+       ask (SETUP | --table FILE) WORD...
+       compare MODEL MODEL
        trial --states N --inputs A --seed S [--workers N] [--learner table|ttt]
 ";
 
@@ -117,6 +124,9 @@ fn too_long_text(role: Role) -> &'static str
         Role::Model => "file too long: model\n",
         Role::Answers => "file too long: answers\n",
         Role::Prior => "file too long: prior\n",
+        Role::Second => "file too long: second model\n",
+        Role::Words => "file too long: words\n",
+        Role::Kept => "file too long: kept\n",
     }
 }
 
@@ -129,6 +139,9 @@ fn file_fault_text(role: Role) -> &'static str
         Role::Model => "file fault: model\n",
         Role::Answers => "file fault: answers\n",
         Role::Prior => "file fault: prior\n",
+        Role::Second => "file fault: second model\n",
+        Role::Words => "file fault: words\n",
+        Role::Kept => "file fault: kept\n",
     }
 }
 
@@ -155,8 +168,10 @@ pub(crate) fn fixed_text(outcome: &Outcome) -> Option<&'static str>
         Outcome::Yes { .. } | Outcome::No(_) => None,
         Outcome::Nondeterministic(_) | Outcome::SuiteTooLarge { .. } => None,
         Outcome::SulFailed(_) | Outcome::Gone(_) => None,
-        Outcome::BadLine(_, _) | Outcome::BadAsk(_) => None,
-        Outcome::Served(_) => Some(""),
+        Outcome::BadLine(_, _) | Outcome::BadAsk(_) | Outcome::Unstarted(_) => None,
+        Outcome::Compared(_) | Outcome::Rechecked { .. } => None,
+        Outcome::UnknownLetter { .. } => None,
+        Outcome::Served(_) | Outcome::Asked => Some(""),
         Outcome::Alphabets(role) => Some(names_text(*role)),
         Outcome::Usage => Some(USAGE),
         Outcome::FileTooLong(role) => Some(too_long_text(*role)),
@@ -195,6 +210,10 @@ pub(crate) fn outcome_text(
         Outcome::Gone(instance) => gone_text(alloc, *instance),
         Outcome::BadLine(instance, line) => bad_line_text(alloc, *instance, line),
         Outcome::BadAsk(number) => bad_ask_text(alloc, *number),
+        Outcome::Unstarted(cause) => unstarted_text(alloc, *cause),
+        Outcome::Compared(comparison) => comparison_text(alloc, comparison),
+        Outcome::Rechecked { answers } => rechecked_text(alloc, *answers),
+        Outcome::UnknownLetter { word, place } => letter_text(alloc, *word, *place),
         _ => Ok(String::from_str(alloc, fixed_text(outcome).unwrap_or(NO_MEMORY))?),
     }
 }

@@ -1,5 +1,7 @@
 pub mod CheckLemmas
+pub mod AskLemmas
 pub mod CommandLemmas
+pub mod CompareLemmas
 pub mod RunLemmas
 pub mod ValueLemmas
 pub mod ServeLemmas

@@ -11,6 +11,8 @@ use Rattle.lw_learn.specs.Arguments.{LearnValues}
 use Rattle.lw_learn.specs.LearnRun.{IsLearnRun}
 use Rattle.lw_learn.specs.Unread.{IsUnreadBy}
 use Rattle.lw_learn.proofs.ReadLemmas.{made_none, some_made}
+use Rattle.lw_learn.proofs.RunLemmas.{none_saved}
+use Rattle.lw_report.specs.Text.{names_of}
 use Rattle.lw_top.specs.Run.{IsRefused, argument_outcome}
 use Rattle.lw_top.specs.declared.values.ArgumentStop.{ArgumentStop}
 use Rattle.lw_top.specs.declared.values.ArgumentStop.TheVariants as stop
@@ -28,7 +30,9 @@ wanted_run a f b o e d end out r =
       model = r.model;
       learner = r.learner;
       outputs = inl r.outputs;
-      holds = refl;
+      between = f;
+      same = refl;
+      saved = none_saved a.kept (names_of None) (names_of None) end.kept.answers f end.outcome r.kept;
       unstarted = refl;
       unwritten = refl;
       said = λ quiet. said end.outcome out (r.said quiet);

@@ -10,9 +10,11 @@ use Rattle.lw_top.specs.CommandLine.{is_command, is_faultless, kind_named, numbe
 use Rattle.lw_top.specs.Options.{default_option, number_option, optional_argument, text_option}
 
 -- learn (SETUP | --table FILE) [--workers N] [--extra K] [--learner table|ttt] [--max-states N] [--model FILE] [--answers FILE] [--prior FILE]
+-- [--kept FILE]
 abbrev pub learn_app : App
 learn_app =
     with_rule
+    (with_rule
     (with_rule
     (with_rule
     (with_rule
@@ -26,7 +28,8 @@ learn_app =
     (number_option (codes "max-states") 1 1024 (codes "1024")))
     (text_option (codes "model")))
     (text_option (codes "answers")))
-    (text_option (codes "prior"))
+    (text_option (codes "prior")))
+    (text_option (codes "kept"))
 
 -- the file of the system and its kind: one of a setup and a table, never both
 abbrev pub source_from : (setup table : Option (List ℕ)) → Option (Source × List ℕ)
@@ -36,20 +39,21 @@ source_from (Some setup) (Some table) = None
 source_from None None = None
 
 -- the values, where the system's file is named, the numbers are in their ranges and the learner is of a kind
-abbrev pub values_from : Option (Source × List ℕ) → (workers extra : Option ℕ) → Option Kind → Option ℕ → (model answers prior : Option (List ℕ)) → Option LearnValues
-values_from None workers extra learner max_states model answers prior = None
-values_from (Some s) None extra learner max_states model answers prior = None
-values_from (Some s) (Some workers) None learner max_states model answers prior = None
-values_from (Some s) (Some workers) (Some extra) None max_states model answers prior = None
-values_from (Some s) (Some workers) (Some extra) (Some learner) None model answers prior = None
-values_from (Some s) (Some workers) (Some extra) (Some learner) (Some max_states) model answers prior =
-    Some (record { source = s.0; system = s.1; workers = workers; extra = extra; learner = learner; max_states = max_states; model = model; answers = answers; prior = prior })
+abbrev pub values_from : Option (Source × List ℕ) → (workers extra : Option ℕ) → Option Kind → Option ℕ → (model answers prior kept : Option (List ℕ)) → Option LearnValues
+values_from None workers extra learner max_states model answers prior kept = None
+values_from (Some s) None extra learner max_states model answers prior kept = None
+values_from (Some s) (Some workers) None learner max_states model answers prior kept = None
+values_from (Some s) (Some workers) (Some extra) None max_states model answers prior kept = None
+values_from (Some s) (Some workers) (Some extra) (Some learner) None model answers prior kept = None
+values_from (Some s) (Some workers) (Some extra) (Some learner) (Some max_states) model answers prior kept =
+    Some (record { source = s.0; system = s.1; workers = workers; extra = extra; learner = learner; max_states = max_states; model = model; answers = answers; prior = prior; kept = kept })
 
 abbrev pub values_in : List Row → Option LearnValues
 values_in rows =
     values_from (source_from (first_of (codes "setup") rows) (first_of (codes "table") rows)) (number_in 1 16 (one_of (codes "workers") rows)) (number_in 0 4 (one_of (codes "extra") rows))
     (option_and_then kind_named (first_of (codes "learner") rows)) (number_in 1 1024 (one_of (codes "max-states") rows))
     (first_of (codes "model") rows) (first_of (codes "answers") rows) (first_of (codes "prior") rows)
+    (first_of (codes "kept") rows)
 
 -- what the arguments say to `learn`, where they are taken
 abbrev pub learn_values : List (List ℕ) → Option LearnValues

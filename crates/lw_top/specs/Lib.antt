@@ -1,6 +1,9 @@
 pub mod Call
+pub mod AskCommand
 pub mod CheckCommand
 pub mod CommandLine
+pub mod CompareCommand
+pub mod FilePairs
 pub mod LearnCommand
 pub mod Options
 pub mod Run

@@ -1,7 +1,7 @@
 -- The options of the commands, as clap sees them.
 use Rattle.std.specs.Prelude.{ℕ, List, [], ◌∷◌, true, Some}
 use Rattle.clap.specs.Words.{Rule, new_rule}
-use Rattle.clap.specs.declared.builder.action.ArgAction.TheVariants.{Set}
+use Rattle.clap.specs.declared.builder.action.ArgAction.TheVariants.{Append, Set}
 use Rattle.clap.specs.declared.builder.value_parser.ValueParser.TheVariants.{Unsigned}
 
 -- an option that takes a text
@@ -23,6 +23,10 @@ required_argument name = record (new_rule name) { required = true; action = Some
 -- an argument without a name of an option, which may be left out
 abbrev pub optional_argument : List ℕ → Rule
 optional_argument name = record (new_rule name) { action = Some Set }
+
+-- an argument without a name of an option, which may be given several times
+abbrev pub many_arguments : List ℕ → Rule
+many_arguments name = record (new_rule name) { action = Some Append }
 
 -- an option that takes a whole number in a range, which has to be there
 abbrev pub required_number : List ℕ → ℕ → ℕ → Rule

@@ -4,11 +4,15 @@ ghost use Rattle.lw_top.specs.Call.{IsCall, IsNoCall};
 ghost use Rattle.lw_top.specs.CommandLine.{texts};
 ghost use Rattle.lw_top.specs.declared.values.ArgumentStop.{ArgumentStop as Stop};
 
+use crate::ask_words::ask_arguments;
 use crate::check_words::{CheckArguments, check_arguments};
+use crate::compare_words::compare_arguments;
+use crate::file_pair::FilePair;
 use crate::learn_words::learn_arguments;
 use crate::serve_words::serve_arguments;
 use crate::trial_words::trial_arguments;
 use crate::values::ArgumentStop;
+use lw_ask::AskArguments;
 use lw_learn::LearnArguments;
 use lw_trial::TrialArguments;
 use std::alloc::Global;
@@ -21,6 +25,9 @@ pub(crate) enum Call {
     Trial(TrialArguments),
     /// The name of the model file.
     Serve(String),
+    Ask(AskArguments),
+    /// The model files.
+    Compare(FilePair),
 }
 
 /// The command that takes the arguments.
@@ -28,23 +35,16 @@ pub(crate) fn read_call(alloc: Global, arguments: &[String]) -> Result<Call, Arg
     ensures ok { IfOk result (IsCall (texts arguments.now)) }
     ensures refused { result ≡ Err Stop.Usage → IsNoCall (texts arguments.now) }
 {
-    match learn_arguments(alloc, arguments) {
-        Ok(values) => return Ok(Call::Learn(values)),
-        Err(ArgumentStop::NoMemory) => return Err(ArgumentStop::NoMemory),
-        Err(ArgumentStop::Usage) => {}
-    }
-    match check_arguments(alloc, arguments) {
-        Ok(values) => return Ok(Call::Check(values)),
-        Err(ArgumentStop::NoMemory) => return Err(ArgumentStop::NoMemory),
-        Err(ArgumentStop::Usage) => {}
-    }
-    match trial_arguments(alloc, arguments) {
-        Ok(values) => return Ok(Call::Trial(values)),
-        Err(ArgumentStop::NoMemory) => return Err(ArgumentStop::NoMemory),
-        Err(ArgumentStop::Usage) => {}
-    }
-    match serve_arguments(alloc, arguments) {
-        Ok(model) => Ok(Call::Serve(model)),
-        Err(stop) => Err(stop),
+    let Some(command) = arguments.first() else {
+        return Err(ArgumentStop::Usage);
+    };
+    match command.as_str() {
+        "learn" => Ok(Call::Learn(learn_arguments(alloc, arguments)?)),
+        "check" => Ok(Call::Check(check_arguments(alloc, arguments)?)),
+        "trial" => Ok(Call::Trial(trial_arguments(alloc, arguments)?)),
+        "serve" => Ok(Call::Serve(serve_arguments(alloc, arguments)?)),
+        "ask" => Ok(Call::Ask(ask_arguments(alloc, arguments)?)),
+        "compare" => Ok(Call::Compare(compare_arguments(alloc, arguments)?)),
+        _ => Err(ArgumentStop::Usage),
     }
 }

@@ -8,9 +8,14 @@ ghost use Rattle.lw_learn.specs.LearnRun.{IsLearnRun};
 ghost use Rattle.lw_check.specs.CheckRun.{IsCheckRun};
 ghost use Rattle.lw_trial.specs.TrialRun.{IsTrialRun};
 ghost use Rattle.lw_serve.specs.ServeRun.{IsServeRun};
+ghost use Rattle.lw_ask.specs.AskRun.{IsAskRun};
+ghost use Rattle.lw_compare.specs.CompareRun.{IsCompareRun};
 
 use crate::check_words::CheckArguments;
+use crate::file_pair::FilePair;
+use lw_ask::{AskArguments, ask};
 use lw_check::check;
+use lw_compare::compare;
 use lw_learn::{LearnArguments, learn};
 use lw_outside::{Files, Sink, Source, Spawner};
 use lw_report::End;
@@ -125,4 +130,59 @@ pub(crate) fn run_serve<F: Files, I: Source, O: Sink, E: Sink>(
         (sink_state (E.taken err.new) (E.faults err.new)) result }
 {
     serve(alloc, model, files, input, out, err)
+}
+
+/// `ask` with these values.
+pub(crate) fn run_ask<F: Files, P: Spawner, O: Sink, E: Sink>(
+    alloc: Global,
+    values: &AskArguments,
+    files: &mut F,
+    spawner: &mut P,
+    out: &mut O,
+    err: &mut E,
+) -> End
+    ensures status { result.status ≡ status_of result.outcome }
+    ensures taken { ¬ (result.outcome ≡ Came.Usage) }
+    ensures counts { (F.faults files.old ≤ F.faults files.new) ×
+        (O.faults out.old ≤ O.faults out.new) × (E.faults err.old ≤ E.faults err.new) }
+    ensures all { IsAskRun values.now
+        (files_state (F.holds files.old) (F.calls files.old) (F.reads files.old)
+        (F.faults files.old))
+        (files_state (F.holds files.new) (F.calls files.new) (F.reads files.new)
+        (F.faults files.new))
+        (spawner_seen (P.faults spawner.old) (P.started spawner.old) (P.retired spawner.old)
+        (P.commands spawner.old))
+        (spawner_seen (P.faults spawner.new) (P.started spawner.new) (P.retired spawner.new)
+        (P.commands spawner.new))
+        (sink_state (O.taken out.old) (O.faults out.old))
+        (sink_state (O.taken out.new) (O.faults out.new))
+        (sink_state (E.taken err.old) (E.faults err.old))
+        (sink_state (E.taken err.new) (E.faults err.new)) result }
+{
+    ask(alloc, values, files, spawner, out, err)
+}
+
+/// `compare` with these model files.
+pub(crate) fn run_compare<F: Files, O: Sink, E: Sink>(
+    alloc: Global,
+    pair: &FilePair,
+    files: &mut F,
+    out: &mut O,
+    err: &mut E,
+) -> End
+    ensures status { result.status ≡ status_of result.outcome }
+    ensures taken { ¬ (result.outcome ≡ Came.Usage) }
+    ensures counts { (F.faults files.old ≤ F.faults files.new) ×
+        (O.faults out.old ≤ O.faults out.new) × (E.faults err.old ≤ E.faults err.new) }
+    ensures all { IsCompareRun pair.now.first pair.now.second
+        (files_state (F.holds files.old) (F.calls files.old) (F.reads files.old)
+        (F.faults files.old))
+        (files_state (F.holds files.new) (F.calls files.new) (F.reads files.new)
+        (F.faults files.new))
+        (sink_state (O.taken out.old) (O.faults out.old))
+        (sink_state (O.taken out.new) (O.faults out.new))
+        (sink_state (E.taken err.old) (E.faults err.old))
+        (sink_state (E.taken err.new) (E.faults err.new)) result }
+{
+    compare(alloc, pair.first(), pair.second(), files, out, err)
 }

@@ -28,7 +28,8 @@ fn learn_command<'a>(alloc: Global) -> Result<Command<'a>, AllocError>
         .arg(states_option(alloc))?
         .arg(text_option(alloc, "model"))?
         .arg(text_option(alloc, "answers"))?
-        .arg(text_option(alloc, "prior"))?;
+        .arg(text_option(alloc, "prior"))?
+        .arg(text_option(alloc, "kept"))?;
     Ok(command)
 }
 
@@ -92,6 +93,7 @@ fn values_of(alloc: Global, matches: &ArgMatches) -> Result<LearnArguments, Argu
         text_at(alloc, matches, "model")?,
         text_at(alloc, matches, "answers")?,
         text_at(alloc, matches, "prior")?,
+        text_at(alloc, matches, "kept")?,
     ))
 }
 

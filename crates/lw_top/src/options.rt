@@ -1,7 +1,7 @@
 //! The options of the commands, as clap takes them.
 ghost use Rattle.std.specs.Prelude.{◌≡◌, codes, false};
 ghost use Rattle.clap.specs.Words.{rule_of};
-ghost use Rattle.lw_top.specs.Options.{default_option, number_option, optional_argument, required_argument, required_number, text_option};
+ghost use Rattle.lw_top.specs.Options.{default_option, many_arguments, number_option, optional_argument, required_argument, required_number, text_option};
 
 use clap::{Arg, ArgAction};
 use std::alloc::Global;
@@ -28,6 +28,14 @@ pub(crate) fn optional_argument<'a>(alloc: Global, name: &'a str) -> Arg<'a>
     ensures local { result.global ≡ false }
 {
     Arg::new(alloc, name).action(ArgAction::Set)
+}
+
+/// An argument without a name of an option, which may be given several times.
+pub(crate) fn many_arguments<'a>(alloc: Global, name: &'a str) -> Arg<'a>
+    ensures rule { rule_of result ≡ many_arguments name.entry.now }
+    ensures local { result.global ≡ false }
+{
+    Arg::new(alloc, name).action(ArgAction::Append)
 }
 
 /// `--extra K`, from 0 to 4.

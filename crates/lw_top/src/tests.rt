@@ -1,4 +1,5 @@
 //! The rows worked by hand, and faults at each place.
+mod asking;
 mod cases;
 mod children;
 mod prior;
@@ -10,9 +11,10 @@ mod trials;
 mod two_at_once;
 
 use crate::tests::cases::{
-    Case, LEARN, ONE, PLAIN, check, check_over, end_of, files_of, no_children, sink, source, texts,
+    Case, LEARN, ONE, PLAIN, call, check, check_over, end_of, files_of, no_children, sink, source,
+    texts,
 };
-use crate::{run, without_arguments};
+use crate::without_arguments;
 use lw_outside::MemoryFiles;
 use lw_report::End;
 use lw_words::Kept;
@@ -239,7 +241,7 @@ fn ends_with<R: Threads + Wait + Sync + Drop>(
     let mut out = sink(alloc, 4096, &[])?;
     let mut err = sink(alloc, 4096, &[])?;
     let arguments = texts(alloc, &LEARN)?;
-    let end = run(
+    let end = call(
         rt,
         alloc,
         &arguments,

@@ -1,6 +1,6 @@
 //! The values of arguments that clap has read.
-ghost use Rattle.std.specs.Prelude.{◌≡◌, ◌&&◌, Some, None, nat_le, if◌then◌else◌, option_and_then, option_map, IfOk, string_bytes};
-ghost use Rattle.clap.specs.Words.{first_of, found_of, kind_of, one_of, rows_of};
+ghost use Rattle.std.specs.Prelude.{◌≡◌, ◌&&◌, [], map, unwrap_or, Some, None, nat_le, if◌then◌else◌, option_and_then, option_map, IfOk, string_bytes};
+ghost use Rattle.clap.specs.Words.{all_of, first_of, found_of, kind_of, one_of, rows_of};
 ghost use Rattle.lw_top.specs.CommandLine.{kind_named, number_in, refusal_of};
 
 use clap::error::ErrorKind;
@@ -64,6 +64,33 @@ pub(crate) fn text_at(
     match matches.get_str(id) {
         Some(text) => Ok(Some(String::from_str(alloc, text)?)),
         None => Ok(None),
+    }
+}
+
+/// The same texts once more.
+fn copies(alloc: Global, texts: &[&str]) -> Result<Vec<String>, AllocError>
+    ensures { IfOk result (λ copies. map (λ s. string_bytes s) copies.items ≡
+        map (λ t. t.now) texts.now) }
+{
+    let mut copies = Vec::with_capacity(alloc, texts.len())?;
+    for text in texts {
+        copies.push(String::from_str(alloc, text)?)?;
+    }
+    Ok(copies)
+}
+
+/// The texts of an argument that may be given several times.
+pub(crate) fn texts_at(
+    alloc: Global,
+    matches: &ArgMatches,
+    id: &str,
+) -> Result<Vec<String>, AllocError>
+    ensures { IfOk result (λ texts. map (λ s. string_bytes s) texts.items ≡
+        unwrap_or (all_of id.now (rows_of (found_of matches.now))) []) }
+{
+    match matches.get_strs(id) {
+        Some(texts) => copies(alloc, texts),
+        None => Ok(Vec::new(alloc)),
     }
 }
 

@@ -82,6 +82,20 @@ pub fn no_children(alloc: Global) -> Result<MemorySpawner, NoMemory> {
     MemorySpawner::scripted(alloc, Vec::new(alloc), 0, Vec::new(alloc), Vec::new(alloc))
 }
 
+/// The top call over forms in memory. What its contract says ends here: a test looks at what came.
+pub fn call<R: Threads + Wait + Sync + Drop>(
+    rt: R,
+    alloc: Global,
+    arguments: &[String],
+    files: &mut MemoryFiles,
+    children: &mut MemorySpawner,
+    input: &mut MemorySource,
+    out: &mut MemorySink,
+    err: &mut MemorySink,
+) -> End {
+    run(rt, alloc, arguments, files, children, input, out, err)
+}
+
 /// Plays a case over these files.
 fn play<R: Abort + Threads + Wait + Sync + Copy + Drop>(
     rt: R,
@@ -94,7 +108,7 @@ fn play<R: Abort + Threads + Wait + Sync + Copy + Drop>(
     let mut out = sink(alloc, case.piece, case.out_plan)?;
     let mut err = sink(alloc, case.piece, case.err_plan)?;
     let arguments = texts(alloc, case.arguments)?;
-    let end = run(
+    let end = call(
         rt,
         alloc,
         &arguments,

@@ -1,8 +1,7 @@
 //! Children in memory that are learned, worked by hand: what they say, and faults at each call.
 ghost use Rattle.std.specs.Prelude.{◌<◌};
 
-use crate::run;
-use crate::tests::cases::{files_of, sink, source, texts};
+use crate::tests::cases::{call, files_of, sink, source, texts};
 use lw_json::read_machine;
 use lw_outside::{MemoryFiles, MemorySink, MemorySpawner};
 use lw_report::End;
@@ -145,7 +144,7 @@ fn check<R: Abort + Threads + Wait + Sync + Copy + Drop>(
     let mut out = sink(alloc, row.piece, row.out_plan)?;
     let mut err = sink(alloc, row.piece, row.err_plan)?;
     let arguments = texts(alloc, row.arguments)?;
-    let end = run(
+    let end = call(
         rt,
         alloc,
         &arguments,
@@ -392,7 +391,7 @@ fn said_of<R: Threads + Wait + Sync + Drop>(
     let mut out = sink(alloc, 4096, &[])?;
     let mut err = sink(alloc, 4096, &[])?;
     let arguments = texts(alloc, &LEARN)?;
-    let end = run(
+    let end = call(
         rt,
         alloc,
         &arguments,

@@ -1,6 +1,5 @@
 //! Learnings behind earlier answers, worked by hand.
-use crate::run;
-use crate::tests::cases::{no_children, sink, source, texts};
+use crate::tests::cases::{call, no_children, sink, source, texts};
 use lw_outside::{Files, MemoryFiles, MemorySink};
 use std::alloc::Global;
 use std::sync::Wait;
@@ -121,7 +120,7 @@ fn learned<R: Threads + Wait + Sync + Drop>(
     let mut input = source(alloc, "", &[])?;
     let mut out = sink(alloc, 4096, &[])?;
     let mut err = sink(alloc, 4096, &[])?;
-    let end = run(
+    let end = call(
         rt,
         alloc,
         &arguments,

@@ -7,8 +7,15 @@ use std::sync::Wait;
 use std::test::Fail;
 use std::thread::Threads;
 
-const USAGE: &str =
-    "usage: learn (SETUP | --table FILE) [--workers N] [--extra K] [--learner table|ttt] [--max-states N] [--model FILE] [--answers FILE] [--prior FILE]\n       check MODEL ANSWERS [--extra K]\n       serve MODEL\n       trial --states N --inputs A --seed S [--workers N] [--learner table|ttt]\n";
+pub const USAGE: &str =
+    "usage: learn (SETUP | --table FILE) [--workers N] [--extra K] [--learner table|ttt] [--max-states N]
+             [--model FILE] [--answers FILE] [--prior FILE] [--kept FILE]
+       check MODEL ANSWERS [--extra K]
+       serve MODEL
+       ask (SETUP | --table FILE) WORD...
+       compare MODEL MODEL
+       trial --states N --inputs A --seed S [--workers N] [--learner table|ttt]
+";
 
 /// Arguments that are not taken.
 static REFUSED: [&[&str]; 24] = [

@@ -1,7 +1,6 @@
 //! Machines that are learned, worked by hand: at one worker, at two and at sixteen.
-use crate::run;
 use crate::tests::cases::{
-    Case, LEARN, PLAIN, check, end_of, files_of, no_children, sink, source, texts,
+    Case, LEARN, PLAIN, call, check, end_of, files_of, no_children, sink, source, texts,
 };
 use lw_outside::MemorySink;
 use lw_rounds::Learner;
@@ -148,7 +147,7 @@ fn play<R: Threads + Wait + Sync + Drop>(
     let mut out = sink(alloc, 4096, &[])?;
     let mut err = sink(alloc, 4096, &[])?;
     let words = texts(alloc, arguments)?;
-    let end = run(
+    let end = call(
         rt,
         alloc,
         &words,

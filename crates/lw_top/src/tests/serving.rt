@@ -1,6 +1,6 @@
 //! A counter modulo three that is served, worked by hand, and what is asked of other commands.
-use crate::tests::cases::{Case, PLAIN, check, files_of, no_children, sink, source, texts};
-use crate::{run, serve_arguments};
+use crate::serve_arguments;
+use crate::tests::cases::{Case, PLAIN, call, check, files_of, no_children, sink, source, texts};
 use lw_outside::{MemorySink, MemorySource, Source};
 use std::alloc::Global;
 use std::sync::Wait;
@@ -124,7 +124,7 @@ fn input_after<R: Threads + Wait + Sync + Drop>(
         sink(alloc, 4096, &[])?,
         sink(alloc, 4096, &[])?,
     );
-    let _end = run(
+    let _end = call(
         rt,
         alloc,
         &words,

@@ -1,6 +1,5 @@
 //! Trials: small ones worked by hand, and greater ones that many workers make as one does.
-use crate::run;
-use crate::tests::cases::{Case, PLAIN, check, files_of, no_children, sink, source, texts};
+use crate::tests::cases::{Case, PLAIN, call, check, files_of, no_children, sink, source, texts};
 use lw_outside::MemorySink;
 use lw_report::End;
 use std::alloc::Global;
@@ -50,7 +49,7 @@ fn try_out<R: Threads + Wait + Sync + Drop>(
     let mut out = sink(alloc, 4096, &[])?;
     let mut err = sink(alloc, 4096, &[])?;
     let words = texts(alloc, arguments)?;
-    let end = run(
+    let end = call(
         rt,
         alloc,
         &words,

@@ -5,7 +5,7 @@ ghost use Rattle.std.specs.List.{All};
 use crate::run;
 use crate::tests::cases::{files_of, sink, source, texts};
 use http_server::Log;
-use lw_outside::{Failed, Link, Spawner, StartStop};
+use lw_outside::{Failed, Link, Spawner, StartFailure, StartStop};
 use std::alloc::Global;
 use std::sync::Arc;
 use std::sync::atomic::{AtomicU32, Ordering};
@@ -156,6 +156,14 @@ impl Spawner for MeetingSpawner {
     }) s.retired.items };
 
     ghost commands = { λ _. None };
+
+    ghost use Rattle.lw_outside.specs.declared.links.StartFailure.TheVariants.{Unknown};
+
+    ghost cause = { λ _. Unknown };
+
+    fn failure(&self) -> StartFailure {
+        StartFailure::Unknown
+    }
 
     fn start(&mut self, _words: &[String]) -> Result<MeetingLink, StartStop> {
         let Some(started) = self.started.checked_add(1) else {

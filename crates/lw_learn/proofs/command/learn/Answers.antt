@@ -42,6 +42,12 @@ returns-in-Ok-clause-counts g c =
     let files = learned.0 in
     (omega arith, learned.1, learned.2)
 
+pub returns-in-Err-clause-counts : goal.returns-in-Err-clause-counts
+returns-in-Err-clause-counts g c =
+    let read = c.read_task.ensures.counts in
+    let saved = c.end_unread.ensures.saved.saved.counts in
+    (omega arith, omega arith, c.end_unread.ensures.counts)
+
 pub returns-in-Err-clause-run : goal.returns-in-Err-clause-run
 returns-in-Err-clause-run g c =
     let F = g.F.Files in
@@ -52,11 +58,13 @@ returns-in-Err-clause-run g c =
     let read = c.read_task.new.files in
     let child = c.args.spawner.now in
     let f = files_state (F.holds before) (F.calls before) (F.reads before) (F.faults before) in
-    let h = files_state (F.holds read) (F.calls read) (F.reads read) (F.faults read) in
+    let files = c.end_unread.new.files in
+    let m = files_state (F.holds read) (F.calls read) (F.reads read) (F.faults read) in
+    let h = files_state (F.holds files) (F.calls files) (F.reads files) (F.faults files) in
     let b = spawner_seen (P.faults child) (P.started child) (P.retired child) (P.commands child) in
     let o = sink_state (O.taken c.args.out.now) (O.faults c.args.out.now) in
     let e = sink_state (E.taken c.args.err.now) (E.faults c.args.err.now) in
     let d = sink_state (E.taken c.end_unread.new.err) (E.faults c.end_unread.new.err) in
     let w = c.end_unread.ensures in
-    inl (ends_unread c.args.arguments.now f h b o e d c.end_unread.result c.read_task.result c.in-Err.unread c.extra.result c.in-Err.is c.read_task.ensures c.extra.ensures.value
-    (record { outcome = w.outcome; model = w.model; learner = w.learner; kept = w.kept; outputs = w.outputs; said = w.said; part = w.part }))
+    inl (ends_unread c.args.arguments.now f m h b o e d c.end_unread.result c.read_task.result c.in-Err.unread c.in-Err.is c.read_task.ensures
+    (record { outcome = w.outcome; model = w.model; learner = w.learner; kept = w.kept; outputs = w.outputs; saved = w.saved; said = w.said; part = w.part }))

@@ -14,7 +14,7 @@ returns-clause-model g c =
     let bytes = c.args.texts.now.model.items in
     let stands : Stands a.model before bytes =
     subst (λ (b : List ℕ). Stands a.model before b) c.deref.ensures.value (subst (λ (m : Option (List ℕ)). Stands m before c.deref.result.now) c.model.ensures c.in_ok-write_named.ensures.told) in
-    let stays : StaysBesides a.answers None before now = subst (λ (m : Option (List ℕ)). StaysBesides m None before now) c.answers.ensures c.write_named-2.ensures.beside in
+    let stays : StaysBesides a.answers None None before now = subst (λ (m : Option (List ℕ)). StaysBesides m None None before now) c.answers.ensures c.write_named-2.ensures.beside in
     always c.write_named-2.result (λ differ. stands_beside a.model a.answers before now bytes differ stays stands)
 
 pub returns-clause-memory : goal.returns-clause-memory

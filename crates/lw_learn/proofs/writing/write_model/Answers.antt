@@ -6,11 +6,12 @@ use Rattle.lw_report.specs.Stops.{tell_outcome}
 use Rattle.lw_report.specs.Text.{text_of}
 use Rattle.lw_report.specs.Writing.{TakesAll, TakesSome}
 use Rattle.lw_report.specs.declared.outcome.Outcome.{Outcome}
-use Rattle.lw_report.specs.declared.outcome.Outcome.TheVariants.{SinkFault, Learned}
+use Rattle.lw_report.specs.declared.outcome.Outcome.TheVariants.{Learned}
+use Rattle.lw_report.specs.declared.role.Role.TheVariants.{Kept}
 use Rattle.lw_report.specs.declared.stops.TellStop.{TellStop}
-use Rattle.lw_report.specs.declared.stops.TellStop.TheVariants.{NoMemory, Sink}
+use Rattle.lw_report.specs.declared.stops.TellStop.TheVariants.{File, NoMemory, Sink}
 use Rattle.lw_learn.specs.Writing.{Stands, WritesFiles, WritesOut}
-use Rattle.lw_learn.proofs.WriteLemmas.{answers_stand, out_before, told_err}
+use Rattle.lw_learn.proofs.WriteLemmas.{answers_stand, files_behind, not_kept, out_before, out_behind, told_err}
 use Rattle.lw_learn.proofs.writing.write_model.Goals as goal
 
 pub returns-in_err-texts-clause-out : goal.returns-in_err-texts-clause-out
@@ -19,7 +20,7 @@ returns-in_err-texts-clause-out g c =
     let faults : ℕ × ℕ = (g.O.Sink.faults c.args.out.now, g.O.Sink.faults c.args.out.now) in
     let is = told_err c.args.machine.now.mealy c.args.refinements c.from_residual-in_err-texts.result NoMemory c.from_residual-in_err-texts.ensures.1 in
     subst (λ (o : Outcome). WritesOut c.args.arguments.now.model (written_text c.args.machine.now) o (taken, taken) faults) (sym is)
-    (out_before c.args.arguments.now.model (written_text c.args.machine.now) taken faults NoMemory (λ e. let wrong : NoMemory ≡ Sink = e in cc))
+    (out_before c.args.arguments.now.model (written_text c.args.machine.now) taken faults NoMemory (λ e. let wrong : NoMemory ≡ Sink = e in cc) (λ e. let wrong : NoMemory ≡ File Kept = e in cc))
 
 pub returns-in_err-write_files-clause-out : goal.returns-in_err-write_files-clause-out
 returns-in_err-write_files-clause-out g c =
@@ -28,7 +29,8 @@ returns-in_err-write_files-clause-out g c =
     let stop = c.in_err-write_files.field-0.0 in
     let is = told_err c.args.machine.now.mealy c.args.refinements c.from_residual-in_err-write_files.result stop c.from_residual-in_err-write_files.ensures.1 in
     subst (λ (o : Outcome). WritesOut c.args.arguments.now.model (written_text c.args.machine.now) o (taken, taken) faults) (sym is)
-    (out_before c.args.arguments.now.model (written_text c.args.machine.now) taken faults stop (λ e. c.in_err-write_files.ensures.no_sink (ap (λ (s : TellStop). Err s) e)))
+    (out_before c.args.arguments.now.model (written_text c.args.machine.now) taken faults stop (λ e. c.in_err-write_files.ensures.no_sink (ap (λ (s : TellStop). Err s) e))
+    (λ e. not_kept (c.in_err-write_files.ensures.role Kept (ap (λ (s : TellStop). Err s) e))))
 
 pub returns-in_err-put_streams-clause-files : goal.returns-in_err-put_streams-clause-files
 returns-in_err-put_streams-clause-files g c =
@@ -39,13 +41,25 @@ returns-in_err-put_streams-clause-files g c =
     let holds = F.holds c.write_files.new.files in
     let calls : Option (List Call) × Option (List Call) = (F.calls c.args.files.now, F.calls c.write_files.new.files) in
     let stop = c.in_err-put_streams.field-0.0 in
-    let is = told_err m.mealy c.args.refinements c.from_residual-in_err-put_streams.result stop c.from_residual-in_err-put_streams.ensures.1 ∙ ap tell_outcome c.in_err-put_streams.ensures.sink in
-    let done : WritesFiles a m kept SinkFault holds calls = record {
-      model = λ _ differ. subst (λ (t : List ℕ). Stands a.model holds t) c.in_ok-texts.ensures.model (c.in_ok-write_files.ensures.model differ);
-      answers = λ _. answers_stand a.answers holds m kept c.in_ok-texts.texts.answers.items c.in_ok-texts.ensures.answers c.in_ok-write_files.ensures.answers;
-      calls = c.in_ok-write_files.ensures.ok;
-    } in
-    subst (λ (o : Outcome). WritesFiles a m kept o holds calls) (sym is) done
+    let is = told_err m.mealy c.args.refinements c.from_residual-in_err-put_streams.result stop c.from_residual-in_err-put_streams.ensures.1 in
+    subst (λ (o : Outcome). WritesFiles a m kept o holds calls) (sym is)
+    (files_behind a m kept holds calls stop c.in_err-put_streams.ensures.stops
+    (λ differ. subst (λ (t : List ℕ). Stands a.model holds t) c.in_ok-texts.ensures.model (c.in_ok-write_files.ensures.model differ))
+    (answers_stand a.answers holds m kept c.in_ok-texts.texts.answers.items c.in_ok-texts.ensures.answers c.in_ok-write_files.ensures.answers) c.in_ok-write_files.ensures.ok)
+
+pub returns-in_err-put_streams-clause-out : goal.returns-in_err-put_streams-clause-out
+returns-in_err-put_streams-clause-out g c =
+    let O = g.O.Sink in
+    let a = c.args.arguments.now in
+    let m = c.args.machine.now in
+    let taken : Option (List ℕ) × Option (List ℕ) = (O.taken c.args.out.now, O.taken c.put_streams.new.out) in
+    let faults : ℕ × ℕ = (O.faults c.args.out.now, O.faults c.put_streams.new.out) in
+    let stop = c.in_err-put_streams.field-0.0 in
+    let w = c.in_err-put_streams.ensures in
+    let is = told_err m.mealy c.args.refinements c.from_residual-in_err-put_streams.result stop c.from_residual-in_err-put_streams.ensures.1 in
+    subst (λ (o : Outcome). WritesOut a.model (written_text m) o taken faults) (sym is)
+    (subst (λ (t : List ℕ). WritesOut a.model t (tell_outcome stop) taken faults) c.in_ok-texts.ensures.model
+    (out_behind a.model c.in_ok-texts.texts.model.items taken faults stop w.stops w.whole (λ e. w.behind (ap (λ (s : TellStop). Err s) e)) w.part))
 
 pub returns-clause-files : goal.returns-clause-files
 returns-clause-files g c =

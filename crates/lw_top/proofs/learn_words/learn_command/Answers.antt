@@ -4,7 +4,8 @@ use Rattle.lw_top.proofs.learn_words.learn_command.Goals as goal
 
 pub returns : goal.returns
 returns c =
-    c.in_ok-command.ensures.shape c.text_option-4.ensures.local
+    c.in_ok-command.ensures.shape c.text_option-5.ensures.local
+    ∙ ap₂ with_rule (c.in_ok-arg-9.ensures.shape c.text_option-4.ensures.local
     ∙ ap₂ with_rule (c.in_ok-arg-8.ensures.shape c.text_option-3.ensures.local
     ∙ ap₂ with_rule (c.in_ok-arg-7.ensures.shape c.text_option-2.ensures.local
     ∙ ap₂ with_rule (c.in_ok-arg-6.ensures.shape c.states_option.ensures.local
@@ -13,4 +14,4 @@ returns c =
     ∙ ap₂ with_rule (c.in_ok-arg-3.ensures.shape c.workers_option.ensures.local
     ∙ ap₂ with_rule (c.in_ok-arg-2.ensures.shape c.text_option.ensures.local
     ∙ ap₂ with_rule (c.in_ok-arg.ensures.shape c.optional_argument.ensures.local
-    ∙ ap₂ with_rule c.new.ensures.app c.optional_argument.ensures.rule) c.text_option.ensures.rule) c.workers_option.ensures.rule) c.extra_option.ensures.rule) c.learner_option.ensures.rule) c.states_option.ensures.rule) c.text_option-2.ensures.rule) c.text_option-3.ensures.rule) c.text_option-4.ensures.rule
+    ∙ ap₂ with_rule c.new.ensures.app c.optional_argument.ensures.rule) c.text_option.ensures.rule) c.workers_option.ensures.rule) c.extra_option.ensures.rule) c.learner_option.ensures.rule) c.states_option.ensures.rule) c.text_option-2.ensures.rule) c.text_option-3.ensures.rule) c.text_option-4.ensures.rule) c.text_option-5.ensures.rule

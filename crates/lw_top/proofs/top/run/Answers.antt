@@ -2,10 +2,14 @@ use Rattle.std.proofs.Common.{◌∙◌, Err, List, ℕ, string_bytes, sym, ap, 
 use Rattle.lw_children.specs.Spawners.{spawner_seen}
 use Rattle.lw_learn.specs.LearnRun.{IsLearnRun}
 use Rattle.lw_report.specs.States.{files_state, sink_state, source_state}
+use Rattle.lw_ask.specs.AskRun.{IsAskRun}
 use Rattle.lw_check.specs.CheckRun.{IsCheckRun}
+use Rattle.lw_compare.specs.CompareRun.{IsCompareRun}
 use Rattle.lw_serve.specs.ServeRun.{IsServeRun}
 use Rattle.lw_top.specs.Call.{IsCall}
+use Rattle.lw_top.specs.AskCommand.{ask_values}
 use Rattle.lw_top.specs.CheckCommand.{check_values}
+use Rattle.lw_top.specs.CompareCommand.{compare_values}
 use Rattle.lw_top.specs.CommandLine.{texts}
 use Rattle.lw_top.specs.LearnCommand.{learn_values}
 use Rattle.lw_top.specs.Run.{IsRefused}
@@ -13,7 +17,9 @@ use Rattle.lw_top.specs.ServeCommand.{serve_values}
 use Rattle.lw_top.specs.TrialCommand.{trial_values}
 use Rattle.lw_trial.specs.TrialRun.{IsTrialRun}
 use Rattle.lw_top.specs.declared.values.ArgumentStop.{ArgumentStop}
+use Rattle.lw_top.proofs.AskLemmas.{wanted_ask}
 use Rattle.lw_top.proofs.CheckLemmas.{wanted_check}
+use Rattle.lw_top.proofs.CompareLemmas.{wanted_compare}
 use Rattle.lw_top.proofs.ServeLemmas.{wanted_serve}
 use Rattle.lw_top.proofs.TrialLemmas.{wanted_trial}
 use Rattle.lw_top.proofs.RunLemmas.{at_value, by_value, none_is_some, not_usage, wanted_run}
@@ -38,7 +44,7 @@ returns-in-Learn-clause-learn g c =
     at_value (learn_values words) c.in-Learn.values (λ a. IsLearnRun a f h b z o p e d c.run_learn.result) is.0 c.run_learn.ensures.all
 
 pub returns-in-Learn-clause-unstarted : goal.returns-in-Learn-clause-unstarted
-returns-in-Learn-clause-unstarted g c none =
+returns-in-Learn-clause-unstarted g c none _ =
     let words = texts c.args.arguments.now in
     let is = subst (IsCall words) c.in-Learn.is c.in-Ok.ensures.ok in
     absurd (none_is_some c.in-Learn.values (sym none ∙ is.0))
@@ -195,3 +201,94 @@ returns-in-Err-clause-serve g c =
     by_value (serve_values (texts c.args.arguments.now)) (λ (m : List ℕ). IsServeRun m f f i i o o e d end) (λ m is.
     wanted_serve m f i o e d end (not_usage c.in-Err.stop end.outcome outcome (λ u.
     none_is_some m (sym (c.in-Err.ensures.refused (ap (λ (s : ArgumentStop). Err s) u)).3 ∙ is))) refused)
+
+pub returns-in-Ask-clause-ask : goal.returns-in-Ask-clause-ask
+returns-in-Ask-clause-ask g c =
+    let F = g.F.Files in
+    let O = g.O.Sink in
+    let E = g.E.Sink in
+    let f = files_state (F.holds c.args.files.now) (F.calls c.args.files.now) (F.reads c.args.files.now) (F.faults c.args.files.now) in
+    let h = files_state (F.holds c.run_ask.new.files) (F.calls c.run_ask.new.files) (F.reads c.run_ask.new.files) (F.faults c.run_ask.new.files) in
+    let o = sink_state (O.taken c.args.out.now) (O.faults c.args.out.now) in
+    let p = sink_state (O.taken c.run_ask.new.out) (O.faults c.run_ask.new.out) in
+    let e = sink_state (E.taken c.args.err.now) (E.faults c.args.err.now) in
+    let d = sink_state (E.taken c.run_ask.new.err) (E.faults c.run_ask.new.err) in
+    let P = g.P.Spawner in
+    let b = spawner_seen (P.faults c.args.spawner.now) (P.started c.args.spawner.now) (P.retired c.args.spawner.now) (P.commands c.args.spawner.now) in
+    let z = spawner_seen (P.faults c.run_ask.new.spawner) (P.started c.run_ask.new.spawner) (P.retired c.run_ask.new.spawner) (P.commands c.run_ask.new.spawner) in
+    let words = texts c.args.arguments.now in
+    let is = subst (IsCall words) c.in-Ask.is c.in-Ok.ensures.ok in
+    at_value (ask_values words) c.in-Ask.values (λ v. IsAskRun v f h b z o p e d c.run_ask.result) is.4 c.run_ask.ensures.all
+
+pub returns-in-Err-clause-ask : goal.returns-in-Err-clause-ask
+returns-in-Err-clause-ask g c =
+    let F = g.F.Files in
+    let O = g.O.Sink in
+    let E = g.E.Sink in
+    let f = files_state (F.holds c.args.files.now) (F.calls c.args.files.now) (F.reads c.args.files.now) (F.faults c.args.files.now) in
+    let o = sink_state (O.taken c.args.out.now) (O.faults c.args.out.now) in
+    let e = sink_state (E.taken c.args.err.now) (E.faults c.args.err.now) in
+    let d = sink_state (E.taken c.refuse_arguments.new.err) (E.faults c.refuse_arguments.new.err) in
+    let P = g.P.Spawner in
+    let b = spawner_seen (P.faults c.args.spawner.now) (P.started c.args.spawner.now) (P.retired c.args.spawner.now) (P.commands c.args.spawner.now) in
+    let end = c.refuse_arguments.result in
+    let outcome = c.refuse_arguments.ensures.outcome in
+    let refused : IsRefused f f o o e d end = record {
+      files = refl;
+      out = refl;
+      model = c.refuse_arguments.ensures.model;
+      learner = c.refuse_arguments.ensures.learner;
+      kept = c.refuse_arguments.ensures.kept;
+      outputs = c.refuse_arguments.ensures.outputs;
+      said = c.refuse_arguments.ensures.said;
+      part = c.refuse_arguments.ensures.part;
+    } in
+    by_value (ask_values (texts c.args.arguments.now)) (λ v. IsAskRun v f f b b o o e d end) (λ v is.
+    wanted_ask v f b o e d end (not_usage c.in-Err.stop end.outcome outcome (λ u.
+    none_is_some v (sym (c.in-Err.ensures.refused (ap (λ (s : ArgumentStop). Err s) u)).4 ∙ is))) refused)
+
+pub returns-in-Ask-clause-unstarted : goal.returns-in-Ask-clause-unstarted
+returns-in-Ask-clause-unstarted g c _ none =
+    let words = texts c.args.arguments.now in
+    let is = subst (IsCall words) c.in-Ask.is c.in-Ok.ensures.ok in
+    absurd (none_is_some c.in-Ask.values (sym none ∙ is.4))
+
+pub returns-in-Compare-clause-compare : goal.returns-in-Compare-clause-compare
+returns-in-Compare-clause-compare g c =
+    let F = g.F.Files in
+    let O = g.O.Sink in
+    let E = g.E.Sink in
+    let f = files_state (F.holds c.args.files.now) (F.calls c.args.files.now) (F.reads c.args.files.now) (F.faults c.args.files.now) in
+    let h = files_state (F.holds c.run_compare.new.files) (F.calls c.run_compare.new.files) (F.reads c.run_compare.new.files) (F.faults c.run_compare.new.files) in
+    let o = sink_state (O.taken c.args.out.now) (O.faults c.args.out.now) in
+    let p = sink_state (O.taken c.run_compare.new.out) (O.faults c.run_compare.new.out) in
+    let e = sink_state (E.taken c.args.err.now) (E.faults c.args.err.now) in
+    let d = sink_state (E.taken c.run_compare.new.err) (E.faults c.run_compare.new.err) in
+    let words = texts c.args.arguments.now in
+    let is = subst (IsCall words) c.in-Compare.is c.in-Ok.ensures.ok in
+    at_value (compare_values words) c.in-Compare.pair (λ v. IsCompareRun v.first v.second f h o p e d c.run_compare.result) is.5 c.run_compare.ensures.all
+
+pub returns-in-Err-clause-compare : goal.returns-in-Err-clause-compare
+returns-in-Err-clause-compare g c =
+    let F = g.F.Files in
+    let O = g.O.Sink in
+    let E = g.E.Sink in
+    let f = files_state (F.holds c.args.files.now) (F.calls c.args.files.now) (F.reads c.args.files.now) (F.faults c.args.files.now) in
+    let o = sink_state (O.taken c.args.out.now) (O.faults c.args.out.now) in
+    let e = sink_state (E.taken c.args.err.now) (E.faults c.args.err.now) in
+    let d = sink_state (E.taken c.refuse_arguments.new.err) (E.faults c.refuse_arguments.new.err) in
+    let end = c.refuse_arguments.result in
+    let outcome = c.refuse_arguments.ensures.outcome in
+    let refused : IsRefused f f o o e d end = record {
+      files = refl;
+      out = refl;
+      model = c.refuse_arguments.ensures.model;
+      learner = c.refuse_arguments.ensures.learner;
+      kept = c.refuse_arguments.ensures.kept;
+      outputs = c.refuse_arguments.ensures.outputs;
+      said = c.refuse_arguments.ensures.said;
+      part = c.refuse_arguments.ensures.part;
+    } in
+    by_value (compare_values (texts c.args.arguments.now)) (λ v. IsCompareRun v.first v.second f f o o e d end) (λ v is.
+    wanted_compare v.first v.second f o e d end (not_usage c.in-Err.stop end.outcome outcome (λ u.
+    none_is_some v (sym (c.in-Err.ensures.refused (ap (λ (s : ArgumentStop). Err s) u)).5 ∙ is))) refused)

@@ -1,0 +1,6 @@
+pub mod AskLemmas
+pub mod ChildLemmas
+pub mod LineLemmas
+pub mod ReadSteps
+pub mod RunLemmas
+pub mod WordLemmas

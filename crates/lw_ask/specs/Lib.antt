@@ -1,0 +1,10 @@
+pub mod Arguments
+pub mod AskRun
+pub mod Asking
+pub mod Child
+pub mod Lines
+pub mod Outcomes
+pub mod Reading
+pub mod Stops
+pub mod Words
+pub mod bodies

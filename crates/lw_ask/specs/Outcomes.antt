@@ -1,0 +1,33 @@
+-- What asking comes to.
+use Rattle.std.specs.Prelude.{Result, Ok, Err}
+use Rattle.lw_outside.specs.declared.links.StartFailure.{StartFailure}
+use Rattle.lw_outside.specs.declared.links.StartStop.{StartStop}
+use Rattle.lw_outside.specs.declared.links.StartStop.TheVariants as start
+use Rattle.lw_report.specs.Learnings.{system_outcome}
+use Rattle.lw_report.specs.declared.outcome.Outcome.{Outcome}
+use Rattle.lw_report.specs.declared.outcome.Outcome.TheVariants as outcome
+use Rattle.lw_ask.specs.declared.stop.AskingStop.{AskingStop}
+use Rattle.lw_ask.specs.declared.stop.AskingStop.TheVariants.{Sul, Sink, NoMemory}
+use Rattle.lw_ask.specs.declared.words.WordStop.{WordStop}
+use Rattle.lw_ask.specs.declared.words.WordStop.TheVariants as word
+
+-- what asking that stopped so comes to: of a child it is the one of instance 0
+abbrev pub stop_outcome : AskingStop → Outcome
+stop_outcome (Sul stop) = system_outcome 0 stop
+stop_outcome Sink = outcome.SinkFault
+stop_outcome NoMemory = outcome.NoMemory
+
+-- what asking comes to
+abbrev pub came_outcome : Result (Unit {0}) AskingStop → Outcome
+came_outcome (Ok done) = outcome.Asked
+came_outcome (Err stop) = stop_outcome stop
+
+-- what texts that are no words come to
+abbrev pub word_outcome : WordStop → Outcome
+word_outcome (word.Unknown number place) = outcome.UnknownLetter number place
+word_outcome word.NoMemory = outcome.NoMemory
+
+-- what a start that gave no child comes to
+abbrev pub start_outcome : StartFailure → StartStop → Outcome
+start_outcome cause start.Failed = outcome.Unstarted cause
+start_outcome cause start.NoMemory = outcome.NoMemory

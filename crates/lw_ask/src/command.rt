@@ -1,0 +1,259 @@
+//! The command.
+ghost use Rattle.std.specs.Prelude.{◌≡◌, ◌<◌, ◌≤◌, length, map, string_bytes};
+ghost use Rattle.std.specs.List.{All};
+ghost use Rattle.lw_words.specs.Word.{IsWord};
+ghost use Rattle.lw_outside.specs.declared.links.StartFailure.{StartFailure as Cause};
+ghost use Rattle.lw_children.specs.Spawners.{spawner_seen};
+ghost use Rattle.lw_report.specs.Outcomes.{status_of};
+ghost use Rattle.lw_report.specs.States.{files_state, sink_state};
+ghost use Rattle.lw_report.specs.declared.outcome.Outcome.{Outcome as Came};
+ghost use Rattle.lw_learn.specs.Tasks.{letters_of};
+ghost use Rattle.lw_learn.specs.bodies.Ready.{HasWords};
+ghost use Rattle.lw_report.specs.Learnings.{system_outcome};
+ghost use Rattle.lw_ask.specs.AskRun.{AsksCommand, AsksMachine, AsksSystem, AsksTexts, IsAskRun, IsEnd};
+ghost use Rattle.lw_ask.specs.Outcomes.{came_outcome, start_outcome, stop_outcome, word_outcome};
+
+use crate::AskArguments;
+use crate::asking::{Asked, ask_session};
+use crate::child::ask_child;
+use crate::reading::read_system;
+use crate::stop::AskingStop;
+use crate::words::{WordStop, read_words};
+use lw_children::Command;
+use lw_json::Machine;
+use lw_learn::System;
+use lw_outside::{Files, Sink, Spawner, StartStop};
+use lw_report::{End, Outcome, refuse};
+use lw_sul::{Session, TableSul};
+use lw_words::{Kept, SulStop, Words};
+use std::alloc::Global;
+
+/// What asking comes to.
+fn came_outcome(came: Result<(), AskingStop>) -> Outcome
+    ensures { result ≡ came_outcome came }
+{
+    match came {
+        Ok(()) => Outcome::Asked,
+        Err(stop) => stop_outcome(stop),
+    }
+}
+
+/// What asking comes to that stopped so.
+fn stop_outcome(stop: AskingStop) -> Outcome
+    ensures { result ≡ stop_outcome stop }
+{
+    match stop {
+        AskingStop::Sul(stop) => child_outcome(stop),
+        AskingStop::Sink => Outcome::SinkFault,
+        AskingStop::NoMemory => Outcome::NoMemory,
+    }
+}
+
+/// What a child that stopped so comes to.
+fn child_outcome(stop: SulStop) -> Outcome
+    ensures { result ≡ system_outcome 0 stop }
+{
+    match stop {
+        SulStop::Failed => Outcome::SulFailed(0),
+        SulStop::BadLine(line) => Outcome::BadLine(0, line),
+        SulStop::Gone => Outcome::Gone(0),
+    }
+}
+
+/// What texts that are no words come to.
+fn word_outcome(stop: WordStop) -> Outcome
+    ensures { result ≡ word_outcome stop }
+{
+    match stop {
+        WordStop::Unknown { word, place } => Outcome::UnknownLetter { word, place },
+        WordStop::NoMemory => Outcome::NoMemory,
+    }
+}
+
+/// What a start that gave no child comes to.
+fn start_outcome<P: Spawner>(spawner: &P, stop: StartStop) -> Outcome
+    ensures { result ≡ start_outcome (P.cause spawner.now) stop }
+{
+    match stop {
+        StartStop::Failed => Outcome::Unstarted(spawner.failure()),
+        StartStop::NoMemory => Outcome::NoMemory,
+    }
+}
+
+/// What came of asking a system: the answers that are kept, and what it comes to.
+#[derive(Drop)]
+struct Told {
+    kept: Kept,
+    outcome: Outcome,
+}
+
+/// Asks a machine.
+fn ask_table<O: Sink>(alloc: Global, machine: Machine, words: &Words, out: &mut O) -> Told
+    requires { All (IsWord (length machine.inputs)) words.now }
+    ensures asks { AsksMachine machine words.now
+        (sink_state (O.taken out.old) (O.faults out.old))
+        (sink_state (O.taken out.new) (O.faults out.new)) result.kept.answers result.outcome }
+    ensures counts { O.faults out.old ≤ O.faults out.new }
+{
+    let Machine {
+        inputs,
+        outputs,
+        mealy,
+    } = machine;
+    let mut session = Session::new(alloc, 0, TableSul::new(mealy, outputs));
+    let Asked { kept, came } = ask_session(alloc, &mut session, &inputs, words, out);
+    Told {
+        kept,
+        outcome: came_outcome(came),
+    }
+}
+
+/// Asks a child of a command.
+fn ask_command<P: Spawner, O: Sink>(
+    alloc: Global,
+    command: Command,
+    words: &Words,
+    spawner: &mut P,
+    out: &mut O,
+) -> Told
+    requires command { 0 < length command.words }
+    requires words { All (IsWord (length command.inputs)) words.now }
+    ensures asks { AsksCommand command words.now
+        (spawner_seen (P.faults spawner.old) (P.started spawner.old) (P.retired spawner.old)
+        (P.commands spawner.old))
+        (spawner_seen (P.faults spawner.new) (P.started spawner.new) (P.retired spawner.new)
+        (P.commands spawner.new))
+        (sink_state (O.taken out.old) (O.faults out.old))
+        (sink_state (O.taken out.new) (O.faults out.new)) result.kept.answers result.outcome }
+    ensures why { (cause : Cause) → result.outcome ≡ Came.Unstarted cause →
+        cause ≡ P.cause spawner.new }
+    ensures counts { O.faults out.old ≤ O.faults out.new }
+{
+    let Command {
+        words: command,
+        inputs,
+        outputs,
+    } = command;
+    match ask_child(alloc, spawner, command.get(), &inputs, outputs, words, out) {
+        Ok(Asked { kept, came }) => Told {
+            kept,
+            outcome: came_outcome(came),
+        },
+        Err(stop) => Told {
+            kept: Kept::new(alloc),
+            outcome: start_outcome(spawner, stop),
+        },
+    }
+}
+
+/// Asks a system these words.
+fn ask_system<P: Spawner, O: Sink>(
+    alloc: Global,
+    system: System,
+    words: &Words,
+    spawner: &mut P,
+    out: &mut O,
+) -> Told
+    requires command { HasWords system }
+    requires words { All (IsWord (length (letters_of system))) words.now }
+    ensures asks { AsksSystem system words.now
+        (spawner_seen (P.faults spawner.old) (P.started spawner.old) (P.retired spawner.old)
+        (P.commands spawner.old))
+        (spawner_seen (P.faults spawner.new) (P.started spawner.new) (P.retired spawner.new)
+        (P.commands spawner.new))
+        (sink_state (O.taken out.old) (O.faults out.old))
+        (sink_state (O.taken out.new) (O.faults out.new)) result.kept.answers result.outcome }
+    ensures why { (cause : Cause) → result.outcome ≡ Came.Unstarted cause →
+        cause ≡ P.cause spawner.new }
+    ensures counts { O.faults out.old ≤ O.faults out.new }
+{
+    match system {
+        System::Table(machine) => ask_table(alloc, machine, words, out),
+        System::Children(command) => ask_command(alloc, command, words, spawner, out),
+    }
+}
+
+/// Ends a call: puts the outcome's text to `err`.
+fn end_call<E: Sink>(alloc: Global, told: Told, err: &mut E) -> End
+    ensures status { result.status ≡ status_of result.outcome }
+    ensures ended { IsEnd told.outcome told.kept.answers
+        (sink_state (E.taken err.old) (E.faults err.old))
+        (sink_state (E.taken err.new) (E.faults err.new)) result }
+    ensures counts { E.faults err.old ≤ E.faults err.new }
+{
+    let Told { kept, outcome } = told;
+    refuse(alloc, outcome, None, None, kept, None, 0, err)
+}
+
+/// Asks the words of these texts of a system that was read.
+fn ask_texts<P: Spawner, O: Sink>(
+    alloc: Global,
+    system: System,
+    texts: &[String],
+    spawner: &mut P,
+    out: &mut O,
+) -> Told
+    requires command { HasWords system }
+    ensures asks { AsksTexts system (map (λ s. string_bytes s) texts.now)
+        (spawner_seen (P.faults spawner.old) (P.started spawner.old) (P.retired spawner.old)
+        (P.commands spawner.old))
+        (spawner_seen (P.faults spawner.new) (P.started spawner.new) (P.retired spawner.new)
+        (P.commands spawner.new))
+        (sink_state (O.taken out.old) (O.faults out.old))
+        (sink_state (O.taken out.new) (O.faults out.new)) result.kept.answers result.outcome }
+    ensures why { (cause : Cause) → result.outcome ≡ Came.Unstarted cause →
+        cause ≡ P.cause spawner.new }
+    ensures counts { O.faults out.old ≤ O.faults out.new }
+{
+    match read_words(alloc, system.inputs(), texts) {
+        Ok(words) => ask_system(alloc, system, &words, spawner, out),
+        Err(stop) => Told {
+            kept: Kept::new(alloc),
+            outcome: word_outcome(stop),
+        },
+    }
+}
+
+/// Asks words of a system: of one child, which is started and retired again whatever comes, or of a machine. First the file is
+/// read that says the system, and the table file that a setup names, and the texts of the words. Then each word is asked, and its
+/// line put to `out` at once. The text of every other outcome goes to `err`. May wait for the child.
+pub fn ask<F: Files, P: Spawner, O: Sink, E: Sink>(
+    alloc: Global,
+    arguments: &AskArguments,
+    files: &mut F,
+    spawner: &mut P,
+    out: &mut O,
+    err: &mut E,
+) -> End
+    ensures status { result.status ≡ status_of result.outcome }
+    ensures ran { IsAskRun arguments.now
+        (files_state (F.holds files.old) (F.calls files.old) (F.reads files.old)
+        (F.faults files.old))
+        (files_state (F.holds files.new) (F.calls files.new) (F.reads files.new)
+        (F.faults files.new))
+        (spawner_seen (P.faults spawner.old) (P.started spawner.old) (P.retired spawner.old)
+        (P.commands spawner.old))
+        (spawner_seen (P.faults spawner.new) (P.started spawner.new) (P.retired spawner.new)
+        (P.commands spawner.new))
+        (sink_state (O.taken out.old) (O.faults out.old))
+        (sink_state (O.taken out.new) (O.faults out.new))
+        (sink_state (E.taken err.old) (E.faults err.old))
+        (sink_state (E.taken err.new) (E.faults err.new)) result }
+    // Why no child was started is what the spawner tells.
+    ensures why { (cause : Cause) → result.outcome ≡ Came.Unstarted cause →
+        cause ≡ P.cause spawner.new }
+    // No count of faults falls.
+    ensures counts { (F.faults files.old ≤ F.faults files.new) ×
+        (O.faults out.old ≤ O.faults out.new) × (E.faults err.old ≤ E.faults err.new) }
+{
+    match read_system(alloc, arguments.source(), arguments.system(), files) {
+        Ok(system) => {
+            let told = ask_texts(alloc, system, arguments.words(), spawner, out);
+            end_call(alloc, told, err)
+        }
+        Err(outcome) => {
+            let kept = Kept::new(alloc);
+            end_call(alloc, Told { kept, outcome }, err)
+        }
+    }
+}

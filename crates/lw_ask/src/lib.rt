@@ -1,0 +1,21 @@
+//! The command `ask`, over the files, streams and children that it is handed.
+#![tactic(auto)]
+
+mod arguments;
+mod asking;
+mod child;
+mod command;
+mod lines;
+mod reading;
+mod stop;
+mod words;
+
+pub use arguments::AskArguments;
+pub use asking::ask_words;
+pub use command::ask;
+pub use reading::read_system;
+pub use stop::AskingStop;
+pub use words::{WordStop, read_words};
+
+#[cfg(test)]
+mod tests;

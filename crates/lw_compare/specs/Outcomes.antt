@@ -1,0 +1,36 @@
+-- Which outcomes of `compare` are answers, and which are refusals.
+use Rattle.std.specs.Prelude.{◌≡◌, ◌⊎◌}
+use Rattle.lw_report.specs.declared.comparison.Comparison.{Comparison}
+use Rattle.lw_report.specs.declared.comparison.Comparison.TheVariants.{Equal, Differ, OtherInputs}
+use Rattle.lw_report.specs.declared.outcome.Outcome.{Outcome}
+use Rattle.lw_report.specs.declared.outcome.Outcome.TheVariants.{BadFile, Compared, FileFault, FileTooLong, NoMemory, SinkFault}
+use Rattle.lw_report.specs.declared.role.Role.{Role}
+
+-- equal, or a word on which they differ
+abbrev pub IsVerdict : Comparison → Type 0
+IsVerdict Equal = Unit {0}
+IsVerdict (Differ difference) = Unit {0}
+IsVerdict (OtherInputs first second) = ⊥
+
+-- a verdict, whose text goes to `out`
+abbrev pub IsAnswered : Outcome → Type 0
+IsAnswered (Compared comparison) = IsVerdict comparison
+IsAnswered _ = ⊥
+
+-- nothing was compared
+abbrev pub IsRefused : Outcome → Type 0
+IsRefused (BadFile role fault) = Unit {0}
+IsRefused (FileTooLong role) = Unit {0}
+IsRefused (FileFault role) = Unit {0}
+IsRefused NoMemory = Unit {0}
+IsRefused _ = ⊥
+
+-- the models were compared, or memory ran out
+abbrev pub IsUntroubled : Outcome → Type 0
+IsUntroubled (Compared comparison) = Unit {0}
+IsUntroubled NoMemory = Unit {0}
+IsUntroubled _ = ⊥
+
+-- the comparison, or a fault or memory came between
+abbrev pub ComesAs : Comparison → Outcome → Type 0
+ComesAs comparison outcome = (outcome ≡ Compared comparison) ⊎ ((outcome ≡ NoMemory) ⊎ ((outcome ≡ SinkFault) ⊎ ((role : Role) × (outcome ≡ FileFault role))))

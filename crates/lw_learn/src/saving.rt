@@ -1,0 +1,137 @@
+//! The kept answers, saved in the file that is named for them, whatever a learning came to.
+ghost use Rattle.std.specs.Prelude.{◌≡◌, ◌≤◌, length, None, Some, IfOk, OnOk, OnErr};
+ghost use Rattle.lw_json.specs.AnswersText.{IsAnswersText};
+ghost use Rattle.lw_json.specs.KeptOver.{AreKeptOver};
+ghost use Rattle.lw_report.specs.States.{files_state};
+ghost use Rattle.lw_learn.specs.Saving.{HasSaved, IsTextWritten, IsWritten, saved_outcome};
+ghost use Rattle.lw_learn.specs.Writing.{StaysBesides};
+ghost use Rattle.lw_learn.specs.declared.saving.Saved.TheVariants as Was;
+
+use crate::LearnArguments;
+use crate::naming::names_of;
+use lw_desk::OutNames;
+use lw_json::answers_text;
+use lw_outside::{Files, WriteStop};
+use lw_report::Outcome;
+use lw_words::{Kept, Names, NoMemory};
+use std::alloc::Global;
+
+/// What became of the file of the kept answers.
+#[derive(Clone, Copy, Debug, PartialEq, Eq)]
+pub enum Saved {
+    /// They stand in it, where one is named and some are kept.
+    Stand,
+    /// It could not be written.
+    Failed,
+    /// There was no memory to write it.
+    NoMemory,
+}
+
+impl Saved {
+    /// Refuses where memory ran out.
+    pub(crate) fn memory(self) -> Result<(), NoMemory>
+        ensures ok { OnOk result (¬ (self ≡ Was.NoMemory)) }
+        ensures err { OnErr result (self ≡ Was.NoMemory) }
+    {
+        match self {
+            Saved::Stand | Saved::Failed => Ok(()),
+            Saved::NoMemory => Err(NoMemory),
+        }
+    }
+
+    /// The outcome of a call without a model, which a file that failed does not change.
+    pub(crate) fn outcome(self, outcome: Outcome) -> Outcome
+        ensures { result ≡ saved_outcome self outcome }
+    {
+        match self {
+            Saved::Stand | Saved::Failed => outcome,
+            Saved::NoMemory => Outcome::NoMemory,
+        }
+    }
+}
+
+/// A text of kept answers.
+fn kept_text(
+    alloc: Global,
+    inputs: &Names,
+    names: &OutNames,
+    kept: &Kept,
+) -> Result<Vec<u8>, NoMemory>
+    requires few { length inputs.now ≤ 64 }
+    requires over { AreKeptOver (length inputs.now) (length names.now.names) kept.now.answers }
+    ensures { IfOk result
+        (λ text. IsAnswersText inputs.now names.now.names kept.now.answers text.items) }
+{
+    let outputs = names_of(alloc, names)?;
+    answers_text(alloc, inputs, &outputs, kept)
+}
+
+/// Writes the file of the kept answers.
+fn write_kept<F: Files>(files: &mut F, name: &str, bytes: &[u8]) -> Saved
+    ensures written { IsWritten name.now bytes.now
+        (files_state (F.holds files.old) (F.calls files.old) (F.reads files.old)
+        (F.faults files.old))
+        (files_state (F.holds files.new) (F.calls files.new) (F.reads files.new)
+        (F.faults files.new)) result }
+    ensures beside { StaysBesides (Some name.now) None None (F.holds files.old) (F.holds files.new) }
+    ensures reads { F.reads files.new ≡ F.reads files.old }
+    ensures counts { F.faults files.old ≤ F.faults files.new }
+{
+    match files.write(name, bytes) {
+        Ok(()) => Saved::Stand,
+        Err(WriteStop::Failed) => Saved::Failed,
+        Err(WriteStop::NoMemory) => Saved::NoMemory,
+    }
+}
+
+/// Saves kept answers under a name.
+fn save_as<F: Files>(
+    alloc: Global,
+    name: &str,
+    inputs: &Names,
+    names: &OutNames,
+    kept: &Kept,
+    files: &mut F,
+) -> Saved
+    requires few { length inputs.now ≤ 64 }
+    requires over { AreKeptOver (length inputs.now) (length names.now.names) kept.now.answers }
+    ensures written { IsTextWritten name.now inputs.now names.now.names kept.now.answers
+        (files_state (F.holds files.old) (F.calls files.old) (F.reads files.old)
+        (F.faults files.old))
+        (files_state (F.holds files.new) (F.calls files.new) (F.reads files.new)
+        (F.faults files.new)) result }
+    ensures beside { StaysBesides (Some name.now) None None (F.holds files.old) (F.holds files.new) }
+    ensures reads { F.reads files.new ≡ F.reads files.old }
+    ensures counts { F.faults files.old ≤ F.faults files.new }
+{
+    match kept_text(alloc, inputs, names, kept) {
+        Ok(text) => write_kept(files, name, &text),
+        Err(NoMemory) => Saved::NoMemory,
+    }
+}
+
+/// Saves what is kept, where a file is named for it and something is.
+pub(crate) fn save_kept<F: Files>(
+    alloc: Global,
+    arguments: &LearnArguments,
+    inputs: &Names,
+    names: &OutNames,
+    kept: &Kept,
+    files: &mut F,
+) -> Saved
+    requires few { length inputs.now ≤ 64 }
+    requires over { AreKeptOver (length inputs.now) (length names.now.names) kept.now.answers }
+    ensures { HasSaved arguments.now.kept inputs.now names.now.names kept.now.answers
+        (files_state (F.holds files.old) (F.calls files.old) (F.reads files.old)
+        (F.faults files.old))
+        (files_state (F.holds files.new) (F.calls files.new) (F.reads files.new)
+        (F.faults files.new)) result }
+{
+    let Some(name) = arguments.kept() else {
+        return Saved::Stand;
+    };
+    if kept.len() == 0 {
+        return Saved::Stand;
+    }
+    save_as(alloc, name, inputs, names, kept, files)
+}

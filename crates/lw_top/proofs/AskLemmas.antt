@@ -1,0 +1,38 @@
+-- Calls of `ask` for whose arguments there was no memory.
+use Rattle.std.proofs.Common.{◌≡◌, List, ℕ, [], inl, inr, refl, sym, subst}
+use Rattle.lw_children.specs.Spawners.{SpawnerSeen}
+use Rattle.lw_report.specs.States.{FilesState, SinkState}
+use Rattle.lw_report.specs.Text.{text_of}
+use Rattle.lw_report.specs.Writing.{TakesAll, TakesSome, said_text}
+use Rattle.lw_report.specs.declared.«end».End.{End}
+use Rattle.lw_report.specs.declared.outcome.Outcome.{Outcome}
+use Rattle.lw_report.specs.declared.outcome.Outcome.TheVariants.{NoMemory}
+use Rattle.lw_learn.specs.declared.arguments.Source.{Source}
+use Rattle.lw_learn.specs.declared.arguments.Source.TheVariants.{Setup, Table}
+use Rattle.lw_learn.proofs.ReadLemmas.{made_none, some_made}
+use Rattle.lw_ask.specs.Arguments.{AskValues}
+use Rattle.lw_ask.specs.AskRun.{IsAskRun}
+use Rattle.lw_ask.specs.Reading.{IsUnread}
+use Rattle.lw_top.specs.Run.{IsRefused}
+
+nothing_read : (kind : Source) (name : List ℕ) (f : FilesState) → IsUnread kind name f f NoMemory
+nothing_read Setup name f = inl (some_made f f (made_none f))
+nothing_read Table name f = some_made f f (made_none f)
+
+-- the end of a call that touched nothing, which is out of memory, is one that `ask` may come to
+pub wanted_ask : (a : AskValues) (f : FilesState) (b : SpawnerSeen) (o e d : SinkState) (end : End) → end.outcome ≡ NoMemory → IsRefused f f o o e d end → IsAskRun a f f b b o o e d end
+wanted_ask a f b o e d end out r = record {
+  why = NoMemory;
+  kept = [];
+  came = inr (record { cause = nothing_read a.source a.system f; nothing = refl; unstarted = refl; unput = refl });
+  ended = record {
+    outcome = inl out;
+    model = r.model;
+    learner = r.learner;
+    kept_is = r.kept;
+    outputs = r.outputs;
+    said = r.said;
+    part = r.part;
+  };
+  holds = refl;
+}
