@@ -16,6 +16,3 @@ pub use command::ask;
 pub use reading::read_system;
 pub use stop::AskingStop;
 pub use words::{WordStop, read_words};
-
-#[cfg(test)]
-mod tests;

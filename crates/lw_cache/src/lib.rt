@@ -20,6 +20,3 @@ pub use cut::Cut;
 pub use known::Known;
 pub use oracle::Oracle;
 pub use stops::{AskStop, Clash, GrowStop, KeepStop};
-
-#[cfg(test)]
-mod tests;

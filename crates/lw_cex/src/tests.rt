@@ -25,106 +25,134 @@ fn words(alloc: Global, list: &[&[u16]]) -> Result<Words, Fail> {
     Ok(words)
 }
 
-/// The machine of these rows over one letter.
-fn of_one_letter(alloc: Global, cells: &[(u16, u16)]) -> Result<Mealy, Fail> {
-    let mut rows = Vec::new(alloc);
-    for cell in cells {
-        rows.push(Vec::from_slice(alloc, &[*cell])?)?;
+/// The machine of these rows over so many letters.
+fn machine(alloc: Global, inputs: u16, list: &[&[(u16, u16)]]) -> Result<Mealy, Fail> {
+    if inputs == 0 || inputs > 64 {
+        return Err(Fail::from("no such alphabet"));
     }
-    Ok(Mealy::new(alloc, 1, 2, rows)?)
-}
-
-/// The machine of these rows over two letters.
-fn of_two_letters(alloc: Global, cells: &[[(u16, u16); 2]]) -> Result<Mealy, Fail> {
     let mut rows = Vec::new(alloc);
-    for row in cells {
-        rows.push(Vec::from_slice(alloc, row)?)?;
+    for row in list {
+        rows.push(Vec::from_slice(alloc, *row)?)?;
     }
-    Ok(Mealy::new(alloc, 2, 2, rows)?)
+    Ok(Mealy::new(alloc, inputs, 2, rows)?)
 }
 
-/// Whether a cut has this state, letter, suffix and target.
-fn is_cut(cut: &Cut, state: u16, letter: u16, suffix: &[u16], target: u16) -> bool {
-    let same_suffix = cut.suffix.as_slice() == suffix;
-    cut.state == state && cut.letter == letter && same_suffix && cut.target == target
-}
-
-#[test]
-fn the_probe_in_the_middle_agrees(rt: HostRuntime) -> Result<(), Fail> {
-    let alloc = rt.alloc();
-    let counter = of_one_letter(alloc, &[(1, 0), (2, 0), (0, 1)])?;
-    let model = of_one_letter(alloc, &[(0, 0)])?;
-    let mut oracle = Recording::new(alloc, counter);
-    let known = words(alloc, &[&[A, A, A]])?;
-    let access = words(alloc, &[&[]])?;
-    let cut = split_after(&mut oracle, alloc, &known, &model, &access)?;
-    assert!(rt; is_cut(&cut, 0, A, &[A, A], 0));
-    assert_eq!(rt; oracle.batches().len(), 2);
-    assert!(rt; oracle.asked(1, &[&[A, A]]));
-    Ok(())
-}
-
-#[test]
-fn the_search_goes_both_ways(rt: HostRuntime) -> Result<(), Fail> {
-    let alloc = rt.alloc();
-    // Each fourth a is answered 1.
-    let rows = [
-        [(1, 0), (0, 0)],
-        [(2, 0), (1, 0)],
-        [(3, 0), (2, 0)],
-        [(0, 1), (3, 0)],
-    ];
-    let mut oracle = Recording::new(alloc, of_two_letters(alloc, &rows)?);
-    let model = of_two_letters(alloc, &[[(1, 0), (0, 0)], [(1, 0), (1, 0)]])?;
-    let known = words(alloc, &[&[A, B, A, A, B, A], &[A, A], &[B]])?;
-    let access = words(alloc, &[&[], &[A]])?;
-    let cut = split_after(&mut oracle, alloc, &known, &model, &access)?;
-    assert!(rt; is_cut(&cut, 1, A, &[A, B, A], 1));
-    assert_eq!(rt; oracle.batches().len(), 4);
-    assert!(rt; oracle.asked(1, &[&[A, A, B, A]]));
-    assert!(rt; oracle.asked(2, &[&[A, B, A, A, B, A]]));
-    assert!(rt; oracle.asked(3, &[&[A, A, A, B, A]]));
-    Ok(())
+/// A system and a model over so many letters, the words that are known, of which the model differs on the first, and the access
+/// words; and what comes: the words that are asked then, one after the other, and the cut.
+#[derive(Clone, Copy)]
+struct Case {
+    inputs: u16,
+    system: &'static [&'static [(u16, u16)]],
+    model: &'static [&'static [(u16, u16)]],
+    known: &'static [&'static [u16]],
+    access: &'static [&'static [u16]],
+    asked: &'static [&'static [u16]],
+    state: u16,
+    letter: u16,
+    suffix: &'static [u16],
+    target: u16,
 }
 
 /// The machine that answers 1 to the last letter of a b a b alone.
-fn lock(alloc: Global) -> Result<Mealy, Fail> {
-    let rows = [
-        [(1, 0), (4, 0)],
-        [(4, 0), (2, 0)],
-        [(3, 0), (4, 0)],
-        [(4, 0), (0, 1)],
-        [(4, 0), (4, 0)],
-    ];
-    of_two_letters(alloc, &rows)
+const LOCK: &[&[(u16, u16)]] = &[
+    &[(1, 0), (4, 0)],
+    &[(4, 0), (2, 0)],
+    &[(3, 0), (4, 0)],
+    &[(4, 0), (0, 1)],
+    &[(4, 0), (4, 0)],
+];
+
+static CASES: [Case; 4] = [
+    // the probe in the middle agrees
+    Case {
+        inputs: 1,
+        system: &[&[(1, 0)], &[(2, 0)], &[(0, 1)]],
+        model: &[&[(0, 0)]],
+        known: &[&[A, A, A]],
+        access: &[&[]],
+        asked: &[&[A, A]],
+        state: 0,
+        letter: A,
+        suffix: &[A, A],
+        target: 0,
+    },
+    // the search goes both ways: each fourth a is answered 1
+    Case {
+        inputs: 2,
+        system: &[
+            &[(1, 0), (0, 0)],
+            &[(2, 0), (1, 0)],
+            &[(3, 0), (2, 0)],
+            &[(0, 1), (3, 0)],
+        ],
+        model: &[&[(1, 0), (0, 0)], &[(1, 0), (1, 0)]],
+        known: &[&[A, B, A, A, B, A], &[A, A], &[B]],
+        access: &[&[], &[A]],
+        asked: &[&[A, A, B, A], &[A, B, A, A, B, A], &[A, A, A, B, A]],
+        state: 1,
+        letter: A,
+        suffix: &[A, B, A],
+        target: 1,
+    },
+    // the first letter is cut off
+    Case {
+        inputs: 2,
+        system: LOCK,
+        model: &[&[(0, 0), (0, 0)]],
+        known: &[&[A, B, A, B], &[B]],
+        access: &[&[]],
+        asked: &[&[A, B], &[B, A, B]],
+        state: 0,
+        letter: A,
+        suffix: &[B, A, B],
+        target: 0,
+    },
+    // the word itself is a probe
+    Case {
+        inputs: 2,
+        system: LOCK,
+        model: &[&[(1, 0), (0, 0)], &[(0, 0), (0, 0)]],
+        known: &[&[A, B, A, B], &[B], &[A, A]],
+        access: &[&[], &[A]],
+        asked: &[&[A, B], &[A, B, A, B]],
+        state: 1,
+        letter: B,
+        suffix: &[A, B],
+        target: 0,
+    },
+];
+
+/// Whether these words were asked one by one, behind the batch of the known words.
+fn asked_in_turn(oracle: &Recording, words: &[&[u16]]) -> bool {
+    let mut each = words.iter().enumerate();
+    oracle.batches().len() == words.len() + 1 && each.all(|(i, word)| oracle.asked(i + 1, &[*word]))
+}
+
+/// Whether a cut is that of a case.
+fn is_cut(cut: &Cut, case: &Case) -> bool {
+    let same_suffix = cut.suffix.as_slice() == case.suffix;
+    cut.state == case.state && cut.letter == case.letter && same_suffix && cut.target == case.target
+}
+
+/// What the model of a case is split by.
+fn split(alloc: Global, oracle: &mut Recording, case: &Case) -> Result<Cut, Fail> {
+    let model = machine(alloc, case.inputs, case.model)?;
+    let known = words(alloc, case.known)?;
+    let access = words(alloc, case.access)?;
+    split_after(oracle, alloc, &known, &model, &access)
+}
+
+/// Whether a case comes to what it says.
+fn comes_so(alloc: Global, case: &Case) -> Result<bool, Fail> {
+    let mut oracle = Recording::new(alloc, machine(alloc, case.inputs, case.system)?);
+    let cut = split(alloc, &mut oracle, case)?;
+    Ok(is_cut(&cut, case) && asked_in_turn(&oracle, case.asked))
 }
 
 #[test]
-fn the_first_letter_is_cut_off(rt: HostRuntime) -> Result<(), Fail> {
-    let alloc = rt.alloc();
-    let mut oracle = Recording::new(alloc, lock(alloc)?);
-    let model = of_two_letters(alloc, &[[(0, 0), (0, 0)]])?;
-    let known = words(alloc, &[&[A, B, A, B], &[B]])?;
-    let access = words(alloc, &[&[]])?;
-    let cut = split_after(&mut oracle, alloc, &known, &model, &access)?;
-    assert!(rt; is_cut(&cut, 0, A, &[B, A, B], 0));
-    assert_eq!(rt; oracle.batches().len(), 3);
-    assert!(rt; oracle.asked(1, &[&[A, B]]));
-    assert!(rt; oracle.asked(2, &[&[B, A, B]]));
-    Ok(())
-}
-
-#[test]
-fn the_word_itself_is_a_probe(rt: HostRuntime) -> Result<(), Fail> {
-    let alloc = rt.alloc();
-    let mut oracle = Recording::new(alloc, lock(alloc)?);
-    let model = of_two_letters(alloc, &[[(1, 0), (0, 0)], [(0, 0), (0, 0)]])?;
-    let known = words(alloc, &[&[A, B, A, B], &[B], &[A, A]])?;
-    let access = words(alloc, &[&[], &[A]])?;
-    let cut = split_after(&mut oracle, alloc, &known, &model, &access)?;
-    assert!(rt; is_cut(&cut, 1, B, &[A, B], 0));
-    assert_eq!(rt; oracle.batches().len(), 3);
-    assert!(rt; oracle.asked(1, &[&[A, B]]));
-    assert!(rt; oracle.asked(2, &[&[A, B, A, B]]));
+fn each_case_comes_so(rt: HostRuntime) -> Result<(), Fail> {
+    for case in &CASES {
+        assert!(rt; comes_so(rt.alloc(), case)?);
+    }
     Ok(())
 }

@@ -9,6 +9,3 @@ mod telling;
 
 pub use checking::check;
 pub use laws::decision_is_unique;
-
-#[cfg(test)]
-mod tests;

@@ -13,6 +13,3 @@ pub use learning::LearnedChildren;
 pub use retiring::{retire_all, retire_with};
 pub use sorted::learn_children;
 pub use starting::{Broken, Refusal, Unmade, start_all};
-
-#[cfg(test)]
-mod tests;

@@ -12,6 +12,3 @@ mod walk;
 pub use command::compare;
 pub use comparing::compare_models;
 pub use laws::comparison_is_unique;
-
-#[cfg(test)]
-mod tests;

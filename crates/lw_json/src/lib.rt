@@ -28,6 +28,3 @@ pub use machine_reader::read_machine;
 pub use machine_writer::machine_text;
 pub use setup::{Setup, Text, Texts};
 pub use setup_reader::read_setup;
-
-#[cfg(test)]
-mod tests;

@@ -3,10 +3,12 @@
 
 mod arguments;
 mod command;
+mod ending;
 mod laws;
 mod learning;
 mod naming;
 mod reading;
+mod refusing;
 mod saving;
 mod task;
 mod writing;
@@ -16,6 +18,3 @@ pub use command::learn;
 pub use laws::{bad_is_refused, told_is_learned};
 pub use saving::Saved;
 pub use task::System;
-
-#[cfg(test)]
-mod tests;

@@ -10,6 +10,3 @@ mod system;
 
 pub use serving::{ServeFault, Served, ServedCause, serve};
 pub use system::LineSul;
-
-#[cfg(test)]
-mod tests;

@@ -54,29 +54,45 @@ fn differs(m: &Mealy, alloc: Global, letters: &[u16], outs: &[u16]) -> Result<Op
     Ok(m.agrees(&word(alloc, letters)?, &word(alloc, outs)?))
 }
 
+/// Whether a machine answers so to these letters, and ends in this state.
+fn answers_so(
+    m: &Mealy,
+    alloc: Global,
+    letters: &[u16],
+    outs: &[u16],
+    end: u16,
+) -> Result<bool, Fail> {
+    let (word, state) = answers(m, alloc, letters)?;
+    Ok(word.as_slice() == outs && state == end)
+}
+
 #[test]
 fn the_counter_answers(rt: HostRuntime) -> Result<(), Fail> {
     let alloc = rt.alloc();
     let counter = counter(alloc)?.copy()?;
-    assert_eq!(rt;
-        (counter.inputs(), counter.outputs(), counter.states()),
-        (1, 2, 3)
+    let sizes = (counter.inputs(), counter.outputs(), counter.states());
+    assert_eq!(rt; sizes, (1, 2, 3));
+    let (letters, outs) = ([0, 0, 0, 0, 0, 0, 0], [0, 0, 1, 0, 0, 1, 0]);
+    assert!(rt;
+        answers_so(&counter, alloc, &letters, &outs, 1)?
+            && answers_so(&counter, alloc, &[], &[], 0)?
     );
-    let (outs, state) = answers(&counter, alloc, &[0, 0, 0, 0, 0, 0, 0])?;
-    assert_eq!(rt; outs.as_slice(), [0, 0, 1, 0, 0, 1, 0].as_slice());
-    assert_eq!(rt; state, 1);
-    let (outs, state) = answers(&counter, alloc, &[])?;
-    assert_eq!(rt; (outs.len(), state), (0, 0));
     Ok(())
 }
 
+/// Letters that the counter is asked, outputs, and the first place at which its own differ.
+static DIFFERENCES: [(&[u16], &[u16], Option<usize>); 3] = [
+    (&[0, 0, 0], &[0, 0, 1], None),
+    (&[0, 0, 0], &[0, 1, 0], Some(1)),
+    (&[], &[], None),
+];
+
 #[test]
 fn the_first_difference_of_an_answer(rt: HostRuntime) -> Result<(), Fail> {
-    let alloc = rt.alloc();
-    let counter = counter(alloc)?;
-    assert_eq!(rt; differs(&counter, alloc, &[0, 0, 0], &[0, 0, 1])?, None);
-    assert_eq!(rt; differs(&counter, alloc, &[0, 0, 0], &[0, 1, 0])?, Some(1));
-    assert_eq!(rt; differs(&counter, alloc, &[], &[])?, None);
+    let counter = counter(rt.alloc())?;
+    for (letters, outs, place) in &DIFFERENCES {
+        assert!(rt; differs(&counter, rt.alloc(), *letters, *outs)? == *place);
+    }
     Ok(())
 }
 
@@ -90,20 +106,27 @@ fn ring(alloc: Global, states: u16, inputs: u16, outputs: u16) -> Result<Rows, F
     Ok(rows)
 }
 
+/// Whether the greatest machine answers each of so many letters by its last output, and ends in this state.
+fn greatest_answers(largest: &Mealy, alloc: Global, count: usize, end: u16) -> Result<bool, Fail> {
+    let letters = vec![in alloc; 63u16; count]?;
+    let (outs, state) = answers(largest, alloc, letters.as_slice())?;
+    Ok(outs.len() == count && state == end && outs.as_slice().iter().all(|y| *y == 4095))
+}
+
 #[test]
 fn the_largest_machine(rt: HostRuntime) -> Result<(), Fail> {
     let alloc = rt.alloc();
     let largest = machine(alloc, 64, 4096, ring(alloc, 1024, 64, 4096)?)?.copy()?;
-    assert_eq!(rt;
-        (largest.inputs(), largest.outputs(), largest.states()),
-        (64, 4096, 1024)
-    );
-    let letters = vec![in alloc; 63u16; 70_000]?;
-    let (outs, state) = answers(&largest, alloc, letters.as_slice())?;
-    assert_eq!(rt; (outs.len(), state), (70_000, 368));
-    assert!(rt; outs.as_slice().iter().all(|y| *y == 4095));
-    let more = ring(alloc, 1025, 1, 2)?;
-    assert_eq!(rt; fault(alloc, more), Some(MealyFault::TooMany(1025)));
+    let sizes = (largest.inputs(), largest.outputs(), largest.states());
+    assert_eq!(rt; sizes, (64, 4096, 1024));
+    assert!(rt; greatest_answers(&largest, alloc, 70_000, 368)?);
+    Ok(())
+}
+
+#[test]
+fn a_state_too_many(rt: HostRuntime) -> Result<(), Fail> {
+    let more = ring(rt.alloc(), 1025, 1, 2)?;
+    assert_eq!(rt; fault(rt.alloc(), more), Some(MealyFault::TooMany(1025)));
     Ok(())
 }
 
@@ -111,16 +134,37 @@ fn fault(alloc: Global, rows: Rows) -> Option<MealyFault> {
     Mealy::new(alloc, 1, 2, rows).err()
 }
 
+/// Rows, and their first fault.
+#[derive(Clone, Copy)]
+struct Faulty {
+    rows: &'static [&'static [(u16, u16)]],
+    fault: MealyFault,
+}
+
+static FAULTS: [Faulty; 4] = [
+    Faulty {
+        rows: &[],
+        fault: MealyFault::NoState,
+    },
+    Faulty {
+        rows: &[&[(5, 7)], &[(0, 0), (0, 0)]],
+        fault: MealyFault::Ragged(1),
+    },
+    Faulty {
+        rows: &[&[(0, 7)], &[(2, 0)]],
+        fault: MealyFault::Target(1, 0, 2),
+    },
+    Faulty {
+        rows: &[&[(1, 1)], &[(0, 2)]],
+        fault: MealyFault::Output(1, 0, 2),
+    },
+];
+
 #[test]
 fn the_first_fault_of_rows(rt: HostRuntime) -> Result<(), Fail> {
-    let alloc = rt.alloc();
-    assert_eq!(rt; fault(alloc, rows(alloc, &[])?), Some(MealyFault::NoState));
-    let ragged = rows(alloc, &[&[(5, 7)], &[(0, 0), (0, 0)]])?;
-    assert_eq!(rt; fault(alloc, ragged), Some(MealyFault::Ragged(1)));
-    let target = rows(alloc, &[&[(0, 7)], &[(2, 0)]])?;
-    assert_eq!(rt; fault(alloc, target), Some(MealyFault::Target(1, 0, 2)));
-    let output = rows(alloc, &[&[(1, 1)], &[(0, 2)]])?;
-    assert_eq!(rt; fault(alloc, output), Some(MealyFault::Output(1, 0, 2)));
+    for faulty in &FAULTS {
+        assert!(rt; fault(rt.alloc(), rows(rt.alloc(), faulty.rows)?) == Some(faulty.fault));
+    }
     Ok(())
 }
 

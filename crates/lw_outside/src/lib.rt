@@ -31,6 +31,3 @@ pub use memory_spawner::MemorySpawner;
 pub use player::{Player, Reply};
 pub use streams::{Failed, Sink, Source};
 pub use transcript::{Bytes, Transcript};
-
-#[cfg(test)]
-mod tests;

@@ -1,7 +1,6 @@
 pub mod BatchLemmas
 pub mod CrewLemmas
 pub mod CrewSends
-pub mod FirstNames
 pub mod GiveLemmas
 pub mod HandLemmas
 pub mod JoinLemmas

@@ -24,7 +24,7 @@ pub(crate) struct Engaged {
 }
 
 /// How many places a worker takes at once, where so many are left: few enough that all workers share the end of a batch.
-pub(crate) fn share(left: u32, crew: u32) -> u32
+pub fn share(left: u32, crew: u32) -> u32
     ensures some { 0 < result }
     ensures few { result ≤ 16 }
 {

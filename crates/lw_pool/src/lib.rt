@@ -9,8 +9,6 @@ mod parts;
 mod pool;
 mod worker;
 
+pub use crew::share;
 pub use oracle::{ByCall, Telling};
 pub use pool::Pool;
-
-#[cfg(test)]
-mod tests;

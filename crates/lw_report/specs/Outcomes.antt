@@ -5,7 +5,7 @@ use Rattle.lw_report.specs.declared.comparison.Comparison.TheVariants.{Equal, Di
 use Rattle.lw_report.specs.declared.outcome.Outcome.{Outcome}
 use Rattle.lw_report.specs.declared.outcome.Outcome.TheVariants.{Learned, Trial, Yes, Served, No, Usage, BadFile, Alphabets, FileTooLong, Nondeterministic, NoMemory, SulFailed, Gone, BadLine, BadAsk, TooManyStates, SuiteTooLarge, FileFault, SourceFault, SinkFault, Compared, Asked, Rechecked, UnknownLetter, Unstarted}
 
--- 1 where two models differ, as of answers that do not fix a model, and 3 where they have no inputs in common to compare by
+-- 1 where two models differ, as of answers that do not fix a model, and 3 where one has an input that the other one lacks
 abbrev pub comparison_status : Comparison → ℕ
 comparison_status Equal = 0
 comparison_status (Differ difference) = 1

@@ -22,6 +22,3 @@ pub use role::Role;
 pub use stops::{ReadStop, TellStop, learn_outcome};
 pub use texts::text;
 pub use writing::{put_all, put_report, say, write_file};
-
-#[cfg(test)]
-mod tests;

@@ -18,6 +18,3 @@ pub use learned::Learned;
 pub use learner::{Kind, Learner};
 pub use learning::learn;
 pub use stops::LearnStop;
-
-#[cfg(test)]
-mod tests;

@@ -21,6 +21,3 @@ pub use laws::{
 };
 pub use separating_word::separating;
 pub use separator_words::separators;
-
-#[cfg(test)]
-mod tests;

@@ -32,11 +32,16 @@ fn of_one_state(alloc: Global, inputs: u16) -> Result<Mealy, Fail> {
     Ok(Mealy::new(alloc, inputs, 1, rows)?)
 }
 
-/// The chunks of the suite of a machine's canonical form, one after the other.
-fn all_words(alloc: Global, m: &Mealy, extra: u8, sizes: &mut Vec<usize>) -> Result<Words, Fail>
-    requires { extra ≤ 4 }
-{
-    let mut suite = Suite::new(alloc, &canonical(alloc, m)?, extra)?;
+/// Puts copies of a chunk's words behind a list.
+fn put_all(all: &mut Words, chunk: &[Word]) -> Result<(), Fail> {
+    for word in chunk {
+        plain::put(all, word.copy()?)?;
+    }
+    Ok(())
+}
+
+/// The chunks of a suite, one after the other.
+fn gather(alloc: Global, suite: &mut Suite, sizes: &mut Vec<usize>) -> Result<Words, Fail> {
     let mut all = Words::new(alloc);
     let mut chunk = Vec::new(alloc);
     for _ in 0..40 {
@@ -44,13 +49,17 @@ fn all_words(alloc: Global, m: &Mealy, extra: u8, sizes: &mut Vec<usize>) -> Res
             return Ok(all);
         }
         sizes.push(chunk.len())?;
-        for word in &chunk {
-            if all.push(word.copy()?).is_err() {
-                return Err(Fail::from("out of memory"));
-            }
-        }
+        put_all(&mut all, &chunk)?;
     }
     Err(Fail::from("the suite doesn't end"))
+}
+
+/// The chunks of the suite of a machine's canonical form, one after the other.
+fn all_words(alloc: Global, m: &Mealy, extra: u8, sizes: &mut Vec<usize>) -> Result<Words, Fail>
+    requires { extra ≤ 4 }
+{
+    let mut suite = Suite::new(alloc, &canonical(alloc, m)?, extra)?;
+    gather(alloc, &mut suite, sizes)
 }
 
 #[test]
@@ -62,9 +71,13 @@ fn a_suite_in_three_chunks(rt: HostRuntime) -> Result<(), Fail> {
     assert_eq!(rt; words.len(), 1365);
     assert_eq!(rt; words.get(512).as_slice(), [0, 2, 2, 2, 3].as_slice());
     assert_eq!(rt; words.get(1024).as_slice(), [2, 2, 2, 2, 3].as_slice());
+    Ok(())
+}
+
+#[test]
+fn laws_have_no_code() {
     suite_is_unique();
     suite_is_of_words();
-    Ok(())
 }
 
 /// The numbers of letters of the words of a suite.
@@ -122,17 +135,23 @@ fn drawn(alloc: Global, states: u16, seed: u64) -> Result<Mealy, Fail> {
     Ok(Mealy::new(alloc, 2, 2, rows)?)
 }
 
+/// Whether two lists have the same words.
+fn same(words: &Words, others: &Words) -> bool {
+    let mut each = words.as_slice().iter().zip(others.as_slice());
+    words.len() == others.len() && each.all(|(word, other)| word.as_slice() == other.as_slice())
+}
+
+/// Whether the suite of a drawn machine is that of the plain body.
+fn is_plain(alloc: Global, seed: u64) -> Result<bool, Fail> {
+    let m = drawn(alloc, 4, seed)?;
+    let words = all_words(alloc, &m, 1, &mut Vec::new(alloc))?;
+    Ok(same(&words, &plain::suite(alloc, &m, 1)?))
+}
+
 #[test]
 fn drawn_machines_beside_the_plain_body(rt: HostRuntime) -> Result<(), Fail> {
-    let alloc = rt.alloc();
     for seed in 0..3 {
-        let m = drawn(alloc, 4, seed)?;
-        let words = all_words(alloc, &m, 1, &mut Vec::new(alloc))?;
-        let plain = plain::suite(alloc, &m, 1)?;
-        assert_eq!(rt; words.len(), plain.len());
-        for (word, other) in words.as_slice().iter().zip(plain.as_slice()) {
-            assert_eq!(rt; word.as_slice(), other.as_slice());
-        }
+        assert!(rt; is_plain(rt.alloc(), seed)?);
     }
     Ok(())
 }

@@ -3,4 +3,3 @@ pub mod SessionState
 pub mod Runs
 pub mod TableState
 pub mod Told
-pub mod TestScript

@@ -15,6 +15,3 @@ pub use runs::Run;
 pub use session::{NamedAnswer, Session};
 pub use system::Sul;
 pub use table::TableSul;
-
-#[cfg(test)]
-mod tests;

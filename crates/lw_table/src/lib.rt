@@ -15,6 +15,3 @@ pub use laws::{
     new_is_read, one_machine,
 };
 pub use table::ObservationTable;
-
-#[cfg(test)]
-mod tests;

@@ -23,6 +23,3 @@ pub use serve_words::serve_arguments;
 pub use top::{run, without_arguments};
 pub use trial_words::trial_arguments;
 pub use values::ArgumentStop;
-
-#[cfg(test)]
-mod tests;

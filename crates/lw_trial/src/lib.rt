@@ -10,6 +10,3 @@ mod telling;
 pub use arguments::TrialArguments;
 pub use command::trial;
 pub use drawing::drawn;
-
-#[cfg(test)]
-mod tests;

@@ -18,6 +18,3 @@ pub use order::{shortlex, shortlex_is_an_order};
 pub use stop::{RunStop, SulStop};
 pub use word::{Word, join};
 pub use words::Words;
-
-#[cfg(test)]
-mod tests;

@@ -6,6 +6,3 @@ mod machine;
 
 pub use learning::{LearnedWith, learn_with};
 pub use machine::{LearnedMachine, learn_machine};
-
-#[cfg(test)]
-mod tests;

@@ -1,0 +1,171 @@
+//! Where a machine differs first: at the shortest word, and of equally long ones at the first by its letters.
+ghost use Rattle.std.specs.Prelude.{◌≡◌, [], true, IfOk, OnOk};
+ghost use Rattle.std.specs.List.{All};
+ghost use Rattle.lw_words.specs.Answer.{answers_of};
+ghost use Rattle.lw_words.specs.Word.{IsWord};
+
+use lw_cache::Cache;
+use lw_mealy::Mealy;
+use lw_words::Word;
+use std::alloc::Global;
+use std::test::Fail;
+
+/// Answers, and the first word on which the machine that answers each letter with its number differs from them.
+struct Case {
+    answers: &'static [(&'static [u16], &'static [u16])],
+    first: &'static [u16],
+}
+
+static CASES: [Case; 7] = [
+    // Of words of one length the first different letter decides, not the last, in either order of the answers.
+    Case {
+        answers: &[(&[1, 0], &[1, 1]), (&[0, 1], &[0, 0])],
+        first: &[0, 1],
+    },
+    Case {
+        answers: &[(&[0, 1], &[0, 0]), (&[1, 0], &[1, 1])],
+        first: &[0, 1],
+    },
+    // The words part at their last letter.
+    Case {
+        answers: &[(&[1, 0, 1], &[1, 0, 0]), (&[1, 0, 0], &[1, 0, 1])],
+        first: &[1, 0, 0],
+    },
+    // A shorter word is before a longer one, whose letters are before it, in either order.
+    Case {
+        answers: &[(&[0, 0, 0], &[0, 0, 1]), (&[1, 1], &[1, 0])],
+        first: &[1, 1],
+    },
+    Case {
+        answers: &[(&[1, 1], &[1, 0]), (&[0, 0, 0], &[0, 0, 1])],
+        first: &[1, 1],
+    },
+    // Below the first difference there are more.
+    Case {
+        answers: &[(&[0, 0, 1], &[1, 1, 0])],
+        first: &[0],
+    },
+    // Of three ties the first is neither the first nor the last that is found.
+    Case {
+        answers: &[
+            (&[1, 0, 1], &[1, 0, 0]),
+            (&[0, 1, 1], &[0, 1, 0]),
+            (&[1, 1, 0], &[1, 1, 1]),
+        ],
+        first: &[0, 1, 1],
+    },
+];
+
+/// The machine of one state that answers each of two letters with its number.
+fn echo(alloc: Global) -> Result<Mealy, Fail>
+    ensures { IfOk result (λ m. m.inputs ≡ 2) }
+{
+    let rows = vec![in alloc; vec![in alloc; (0u16, 0u16), (0, 1)]?]?;
+    match Mealy::new(alloc, 2, 2, rows) {
+        Ok(m) => Ok(m),
+        Err(_) => Err(Fail::from("the machine is one")),
+    }
+}
+
+/// Whether all letters are 0 or 1.
+fn are_of_two(letters: &[u16]) -> bool
+    ensures { result ≡ true → IsWord 2 letters.now }
+{
+    for letter in letters {
+        if *letter >= 2 {
+            return false;
+        }
+    }
+    true
+}
+
+/// Keeps an answer over the letters 0 and 1.
+fn keep(cache: &mut Cache, word: Word, outs: Word) -> Result<(), Fail>
+    requires claims { cache.old.claims ≡ [] }
+    requires letters { All (λ k. IsWord 2 k.word) (answers_of cache.old.kept) }
+    ensures claims { cache.new.claims ≡ [] }
+    ensures letters { OnOk result (All (λ k. IsWord 2 k.word) (answers_of cache.new.kept)) }
+{
+    if outs.len() != word.len() || !are_of_two(word.as_slice()) {
+        return Err(Fail::from("no answer over two letters"));
+    }
+    match cache.keep(word, outs, 0, 0) {
+        Ok(()) => Ok(()),
+        Err(_) => Err(Fail::from("an answer was not kept")),
+    }
+}
+
+/// A cache that keeps these answers.
+fn keeps(alloc: Global, answers: &[(&[u16], &[u16])]) -> Result<Cache, Fail>
+    ensures { IfOk result (λ cache. All (λ k. IsWord 2 k.word) (answers_of cache.kept)) }
+{
+    let mut cache = Cache::new(alloc);
+    for (letters, outs) in answers {
+        let word = Word::from_letters(alloc, letters.to_vec(alloc)?);
+        let outs = Word::from_letters(alloc, outs.to_vec(alloc)?);
+        keep(&mut cache, word, outs)?;
+    }
+    Ok(cache)
+}
+
+/// Whether the first word on which the machine differs is this one.
+fn is_first(cache: &Cache, m: &Mealy, word: &[u16]) -> Result<bool, Fail>
+    requires inputs { m.now.inputs ≡ 2 }
+    requires letters { All (λ k. IsWord 2 k.word) (answers_of cache.now.kept) }
+{
+    match cache.against(m)? {
+        Some(first) => Ok(first.as_slice() == word),
+        None => Ok(false),
+    }
+}
+
+#[test]
+fn the_first_of_several_differences(rt: HostRuntime) -> Result<(), Fail> {
+    let alloc = rt.alloc();
+    let m = echo(alloc)?;
+    for case in &CASES {
+        let cache = keeps(alloc, case.answers)?;
+        assert!(rt; is_first(&cache, &m, case.first)?);
+    }
+    Ok(())
+}
+
+/// A word of this length: the first letter, then letter 0, and from a place on letter `last`.
+fn level(alloc: Global, first: u16, len: usize, place: usize, last: u16) -> Result<Word, Fail> {
+    let mut letters = Vec::with_capacity(alloc, len)?;
+    for i in 0..len {
+        let later = if i < place { 0 } else { last };
+        letters.push(if i == 0 { first } else { later })?;
+    }
+    Ok(Word::from_letters(alloc, letters))
+}
+
+/// A cache with answers to two words of this length, which part at their first letter. The machine differs from both at
+/// each letter from a place on, which isn't the first.
+fn keeps_long(alloc: Global, len: usize, place: usize) -> Result<Cache, Fail>
+    ensures { IfOk result (λ cache. All (λ k. IsWord 2 k.word) (answers_of cache.kept)) }
+{
+    let mut cache = Cache::new(alloc);
+    for first in [1, 0] {
+        let word = level(alloc, first, len, len, 0)?;
+        let outs = level(alloc, first, len, place, 1)?;
+        keep(&mut cache, word, outs)?;
+    }
+    Ok(cache)
+}
+
+/// Whether the first difference from answers to two words of this length is the front of the later one up to the place.
+fn is_found(alloc: Global, len: usize, place: usize) -> Result<bool, Fail> {
+    let m = echo(alloc)?;
+    let cache = keeps_long(alloc, len, place)?;
+    let front = level(alloc, 0, place.saturating_add(1), len, 0)?;
+    is_first(&cache, &m, front.as_slice())
+}
+
+#[test]
+fn two_long_answers(rt: HostRuntime) -> Result<(), Fail> {
+    let alloc = rt.alloc();
+    assert!(rt; is_found(alloc, 5000, 1)?);
+    assert!(rt; is_found(alloc, 5000, 4999)?);
+    Ok(())
+}

@@ -1,0 +1,60 @@
+use Rattle.std.proofs.Common.{◌∙◌, Some, ap}
+use Rattle.lw_mealy.specs.Limits.{MealyMachine}
+use Rattle.lw_report.specs.States.{files_state, sink_state}
+use Rattle.lw_learn.proofs.RunLemmas.{told_left, told_written}
+use Rattle.lw_learn.proofs.ending.end_model.Goals as goal
+
+pub returns-in-Ok-clause-told : goal.returns-in-Ok-clause-told
+returns-in-Ok-clause-told g c =
+    let F = g.F.Files in
+    let O = g.O.Sink in
+    let E = g.E.Sink in
+    let before = c.args.files.now in
+    let files = c.write_out.new.files in
+    let f = files_state (F.holds before) (F.calls before) (F.reads before) (F.faults before) in
+    let h = files_state (F.holds files) (F.calls files) (F.reads files) (F.faults files) in
+    let o = sink_state (O.taken c.args.out.now) (O.faults c.args.out.now) in
+    let p = sink_state (O.taken c.write_out.new.out) (O.faults c.write_out.new.out) in
+    let e = sink_state (E.taken c.args.err.now) (E.faults c.args.err.now) in
+    let d = sink_state (E.taken c.write_out.new.err) (E.faults c.write_out.new.err) in
+    let is = c.in-Ok.ensures in
+    let w = c.write_out.ensures in
+    told_written c.args.arguments.now c.args.system.now c.args.names c.args.learned c.in-Ok.machine c.args.kept.answers c.args.saved f h o p e d c.write_out.result is.inputs is.outputs is.mealy
+    (w.outputs ∙ c.outputs_of-outputs.ensures)
+    (record {
+      outcome = w.outcome;
+      model = w.model;
+      learner_is = w.learner;
+      refinements = w.refinements;
+      kept_is = ap (λ k. k.answers) w.kept;
+      files = w.files;
+      out = w.out;
+      beside = w.beside;
+      may = w.may;
+      role = w.role;
+      failed = w.failed;
+      refused = w.refused;
+      said = w.said;
+      part = w.part;
+      reads = w.reads;
+      quiet = w.quiet;
+      counts = w.counts;
+    })
+
+pub returns-in-Err-clause-told : goal.returns-in-Err-clause-told
+returns-in-Err-clause-told g c =
+    let F = g.F.Files in
+    let O = g.O.Sink in
+    let E = g.E.Sink in
+    let before = c.args.files.now in
+    let f = files_state (F.holds before) (F.calls before) (F.reads before) (F.faults before) in
+    let o = sink_state (O.taken c.args.out.now) (O.faults c.args.out.now) in
+    let e = sink_state (E.taken c.args.err.now) (E.faults c.args.err.now) in
+    let d = sink_state (E.taken c.leave_model.new.err) (E.faults c.leave_model.new.err) in
+    let w = c.leave_model.ensures in
+    told_left c.args.arguments.now c.args.system.now c.args.names c.args.learned c.args.kept.answers c.args.saved f o e d c.leave_model.result c.requires.few c.requires.sizes w.outcome
+    (w.model ∙ ap (λ (m : MealyMachine). Some m) c.in-Err.ensures.back)
+    w.learner w.refinements
+    (ap (λ k. k.answers) w.kept)
+    (w.outputs ∙ c.outputs_of-outputs.ensures)
+    w.said w.part w.counts

@@ -1,0 +1,20 @@
+use Rattle.std.proofs.Common.{◌∙◌, ℕ, sym, subst}
+use Rattle.lw_rounds.specs.Learner.{refinements_of}
+use Rattle.lw_report.specs.Text.{text_of}
+use Rattle.lw_report.specs.declared.outcome.Outcome.{Outcome}
+use Rattle.lw_report.specs.declared.outcome.Outcome.TheVariants.{Learned}
+use Rattle.lw_learn.specs.Writing.{TakesInTurn}
+use Rattle.lw_learn.proofs.ending.write_out.Goals as goal
+
+pub returns-clause-role : goal.returns-clause-role
+returns-clause-role g c role is = c.tell_model-outcome.ensures.role role (sym c.with_model.ensures.outcome ∙ is)
+
+pub returns-clause-part : goal.returns-clause-part
+returns-clause-part g c =
+    let m = c.args.machine in
+    let kept = c.args.kept.answers in
+    let extra = c.args.arguments.now.extra in
+    let taken = g.E.Sink.taken in
+    let told = c.tell_model-outcome.ensures.part in
+    let counted = subst (λ (n : ℕ). TakesInTurn (text_of m.inputs m.outputs kept extra (Learned m.mealy n)) (text_of m.inputs m.outputs kept extra c.tell_model-outcome.result) (taken c.args.err.now) (taken c.tell_model-outcome.new.err)) c.refinements-refinements.ensures.value told in
+    subst (λ (o : Outcome). TakesInTurn (text_of m.inputs m.outputs kept extra (Learned m.mealy (refinements_of c.args.learner))) (text_of m.inputs m.outputs kept extra o) (taken c.args.err.now) (taken c.tell_model-outcome.new.err)) (sym c.with_model.ensures.outcome) counted

@@ -1,0 +1,319 @@
+//! How a call ends whose system was learned: what is written of its model, and what is said of a stop.
+ghost use Rattle.std.specs.Prelude.{◌≡◌, ◌≢◌, ◌⊎◌, ◌≤◌, [], length, Some, None, Ok, Err, IfErr, IfOk};
+ghost use Rattle.lw_words.specs.Cause.{CountedFault};
+ghost use Rattle.lw_json.specs.KeptOver.{AreKeptOver};
+ghost use Rattle.lw_json.specs.MachineText.{written_text};
+ghost use Rattle.lw_rounds.specs.Learner.{refinements_of};
+ghost use Rattle.lw_report.specs.Ends.{IsWithoutLearner};
+ghost use Rattle.lw_report.specs.Learnings.{learn_outcome as outcome_of};
+ghost use Rattle.lw_report.specs.Outcomes.{StandsOrWants, status_of};
+ghost use Rattle.lw_report.specs.States.{files_state, sink_state};
+ghost use Rattle.lw_report.specs.Text.{names_of as names_said, text_of};
+ghost use Rattle.lw_report.specs.Writing.{TakesAll, TakesSome};
+ghost use Rattle.lw_report.specs.declared.outcome.Outcome.{Outcome as Came};
+ghost use Rattle.lw_report.specs.declared.role.Role.{Role as Part};
+ghost use Rattle.lw_report.specs.declared.role.Role.TheVariants.{Answers as AnswersRole, Kept as KeptRole, Model as ModelRole};
+ghost use Rattle.lw_learn.specs.Ending.{IsEndOf, IsToldOf, end_outputs};
+ghost use Rattle.lw_learn.specs.Outcomes.{IsLearnedOutcome, IsTold};
+ghost use Rattle.lw_learn.specs.Saving.{MayTell};
+ghost use Rattle.lw_learn.specs.Tasks.{declared_of, letters_of};
+ghost use Rattle.lw_learn.specs.Writing.{StaysBesides, TakesInTurn, WritesFiles, WritesOut};
+ghost use Rattle.lw_learn.specs.declared.saving.Saved.TheVariants as Was;
+
+use crate::learning::Found;
+use crate::naming::names_of;
+use crate::saving::save_kept;
+use crate::task::System;
+use crate::writing::tell_model;
+use crate::{LearnArguments, Saved};
+use lw_desk::OutNames;
+use lw_json::Machine;
+use lw_mealy::Mealy;
+use lw_outside::{Files, Sink};
+use lw_report::{End, Outcome, learn_outcome, refuse, say};
+use lw_rounds::{LearnStop, Learned, Learner};
+use lw_words::{Kept, Names, NoMemory};
+use std::alloc::Global;
+
+/// Ends a call with its model, which is written out.
+fn write_out<F: Files, O: Sink, E: Sink>(
+    alloc: Global,
+    arguments: &LearnArguments,
+    machine: Machine,
+    learner: Learner,
+    kept: Kept,
+    outputs: Option<OutNames>,
+    saved: Saved,
+    files: &mut F,
+    out: &mut O,
+    err: &mut E,
+) -> End
+    requires over { AreKeptOver (length machine.inputs) (length machine.outputs) kept.answers }
+    ensures outcome { IsTold machine.mealy (refinements_of learner) result.outcome }
+    ensures status { result.status ≡ status_of result.outcome }
+    ensures model { result.model ≡ Some machine.mealy }
+    ensures learner { result.learner ≡ Some learner }
+    ensures refinements { result.refinements ≡ refinements_of learner }
+    ensures kept { result.kept ≡ kept }
+    ensures outputs { result.outputs ≡ outputs }
+    ensures files { WritesFiles arguments.now machine kept.answers result.outcome
+        (F.holds files.new) (F.calls files.old, F.calls files.new) }
+    ensures out { WritesOut arguments.now.model (written_text machine) result.outcome
+        (O.taken out.old, O.taken out.new) (O.faults out.old, O.faults out.new) }
+    ensures beside { StaysBesides arguments.now.model arguments.now.answers None (F.holds files.old)
+        (F.holds files.new) }
+    ensures role { (role : Part) → result.outcome ≡ Came.FileFault role →
+        ((role ≡ ModelRole) × (arguments.now.model ≢ None)) ⊎
+        (((role ≡ AnswersRole) × (arguments.now.answers ≢ None)) ⊎ (role ≡ KeptRole)) }
+    ensures failed { (role : Part) → result.outcome ≡ Came.FileFault role → role ≢ KeptRole →
+        CountedFault (F.faults files.old) (F.faults files.new) }
+    ensures may { MayTell saved result.outcome }
+    ensures refused { result.outcome ≡ Came.SinkFault →
+        CountedFault (O.faults out.old) (O.faults out.new) ⊎
+        CountedFault (E.faults err.old) (E.faults err.new) }
+    ensures said { ¬ CountedFault (E.faults err.old) (E.faults err.new) →
+        TakesAll (text_of machine.inputs machine.outputs kept.answers arguments.now.extra
+        result.outcome) (E.taken err.old) (E.taken err.new) }
+    ensures part { TakesInTurn (text_of machine.inputs machine.outputs kept.answers
+        arguments.now.extra (Came.Learned machine.mealy (refinements_of learner)))
+        (text_of machine.inputs machine.outputs kept.answers arguments.now.extra result.outcome)
+        (E.taken err.old) (E.taken err.new) }
+    ensures reads { F.reads files.new ≡ F.reads files.old }
+    ensures quiet { IsLearnedOutcome result.outcome → (F.faults files.new ≡ F.faults files.old) ×
+        (O.faults out.new ≡ O.faults out.old) × (E.faults err.new ≡ E.faults err.old) }
+    ensures counts { (F.faults files.old ≤ F.faults files.new) ×
+        (O.faults out.old ≤ O.faults out.new) × (E.faults err.old ≤ E.faults err.new) }
+{
+    let refinements = learner.refinements();
+    let outcome = tell_model(
+        alloc,
+        arguments,
+        &machine,
+        refinements,
+        &kept,
+        saved,
+        files,
+        out,
+        err,
+    );
+    let learned = Learned {
+        model: machine.mealy,
+        learner,
+    };
+    End::with_model(outcome, learned, kept, outputs)
+}
+
+/// The names of outputs that an end has: of children that weren't declared only where something is kept.
+fn outputs_of(system: &System, kept: &Kept, names: OutNames) -> Option<OutNames>
+    ensures { result ≡ end_outputs (declared_of system.now) kept.now.answers names }
+{
+    if system.outputs().is_none() && kept.len() == 0 {
+        return None;
+    }
+    Some(names)
+}
+
+/// A model with its names.
+fn named(system: &System, names: &OutNames, model: Mealy, alloc: Global) -> Result<Machine, Mealy>
+    requires inputs { model.inputs ≡ length (letters_of system.now) }
+    requires outputs { model.outputs ≡ length names.now.names }
+    requires few { length (letters_of system.now) ≤ 64 }
+    ensures inputs { IfOk result (λ m. m.inputs ≡ letters_of system.now) }
+    ensures outputs { IfOk result (λ m. m.outputs ≡ names.now.names) }
+    ensures mealy { IfOk result (λ m. m.mealy ≡ model) }
+    ensures back { IfErr result (λ m. m ≡ model) }
+{
+    match (system.inputs().copy(), names_of(alloc, names)) {
+        (Ok(inputs), Ok(outputs)) => Ok(Machine {
+            inputs,
+            outputs,
+            mealy: model,
+        }),
+        _ => Err(model),
+    }
+}
+
+/// Ends a call with its model, for whose texts there was no memory.
+fn leave_model<E: Sink>(
+    alloc: Global,
+    learned: Learned,
+    kept: Kept,
+    outputs: Option<OutNames>,
+    extra: u8,
+    err: &mut E,
+) -> End
+    ensures outcome { result.outcome ≡ Came.NoMemory }
+    ensures status { result.status ≡ status_of result.outcome }
+    ensures model { result.model ≡ Some learned.model }
+    ensures learner { result.learner ≡ Some learned.learner }
+    ensures refinements { result.refinements ≡ refinements_of learned.learner }
+    ensures kept { result.kept ≡ kept }
+    ensures outputs { result.outputs ≡ outputs }
+    ensures said { ¬ CountedFault (E.faults err.old) (E.faults err.new) →
+        TakesAll (text_of [] [] [] 0 Came.NoMemory) (E.taken err.old) (E.taken err.new) }
+    ensures part { TakesSome (text_of [] [] [] 0 Came.NoMemory) (E.taken err.old)
+        (E.taken err.new) }
+    ensures counts { E.faults err.old ≤ E.faults err.new }
+{
+    let outcome = say(alloc, Outcome::NoMemory, None, None, &kept, extra, err);
+    End::with_model(outcome, learned, kept, outputs)
+}
+
+/// Ends a call that has learned a model, which is written out.
+fn end_model<F: Files, O: Sink, E: Sink>(
+    alloc: Global,
+    arguments: &LearnArguments,
+    system: &System,
+    learned: Learned,
+    kept: Kept,
+    names: OutNames,
+    saved: Saved,
+    files: &mut F,
+    out: &mut O,
+    err: &mut E,
+) -> End
+    requires few { length (letters_of system.now) ≤ 64 }
+    requires sizes { (learned.model.inputs ≡ length (letters_of system.now)) ×
+        (learned.model.outputs ≡ length names.names) }
+    requires over { AreKeptOver (length (letters_of system.now)) (length names.names)
+        kept.answers }
+    ensures status { result.status ≡ status_of result.outcome }
+    ensures told { IsToldOf arguments.now system.now names (Ok learned) kept.answers saved
+        (files_state (F.holds files.old) (F.calls files.old) (F.reads files.old)
+        (F.faults files.old))
+        (files_state (F.holds files.new) (F.calls files.new) (F.reads files.new)
+        (F.faults files.new))
+        (sink_state (O.taken out.old) (O.faults out.old))
+        (sink_state (O.taken out.new) (O.faults out.new))
+        (sink_state (E.taken err.old) (E.faults err.old))
+        (sink_state (E.taken err.new) (E.faults err.new)) result }
+{
+    let Learned { model, learner } = learned;
+    let read = named(system, &names, model, alloc);
+    let outputs = outputs_of(system, &kept, names);
+    match read {
+        Ok(machine) => write_out(
+            alloc, arguments, machine, learner, kept, outputs, saved, files, out, err,
+        ),
+        Err(model) => {
+            let learned = Learned { model, learner };
+            leave_model(alloc, learned, kept, outputs, arguments.extra(), err)
+        }
+    }
+}
+
+/// The names of outputs for a text: none where there are none.
+fn text_names(alloc: Global, names: &OutNames) -> Result<Option<Names>, NoMemory>
+    ensures { IfOk result (λ list. names_said list ≡ names.now.names) }
+{
+    if names.len() == 0 {
+        return Ok(None);
+    }
+    Ok(Some(names_of(alloc, names)?))
+}
+
+/// Ends a call whose learning stopped.
+fn end_stop<E: Sink>(
+    alloc: Global,
+    system: &System,
+    stop: LearnStop,
+    kept: Kept,
+    names: OutNames,
+    saved: Saved,
+    extra: u8,
+    err: &mut E,
+) -> End
+    ensures outcome { StandsOrWants (outcome_of stop) result.outcome }
+    ensures wants { saved ≡ Was.NoMemory → result.outcome ≡ Came.NoMemory }
+    ensures status { result.status ≡ status_of result.outcome }
+    ensures model { result.model ≡ None }
+    ensures learner { IsWithoutLearner result }
+    ensures kept { result.kept ≡ kept }
+    ensures outputs { result.outputs ≡ end_outputs (declared_of system.now) kept.answers names }
+    ensures said { ¬ CountedFault (E.faults err.old) (E.faults err.new) →
+        TakesAll (text_of (letters_of system.now) names.names kept.answers extra result.outcome)
+        (E.taken err.old) (E.taken err.new) }
+    ensures part { TakesSome (text_of (letters_of system.now) names.names kept.answers extra
+        result.outcome) (E.taken err.old) (E.taken err.new) }
+    ensures counts { E.faults err.old ≤ E.faults err.new }
+{
+    let texts = text_names(alloc, &names);
+    let outputs = outputs_of(system, &kept, names);
+    let inputs = Some(system.inputs());
+    match texts {
+        Ok(texts) => {
+            let outcome = saved.outcome(learn_outcome(stop));
+            refuse(
+                alloc,
+                outcome,
+                inputs,
+                texts.as_ref(),
+                kept,
+                outputs,
+                extra,
+                err,
+            )
+        }
+        Err(NoMemory) => refuse(
+            alloc,
+            Outcome::NoMemory,
+            inputs,
+            None,
+            kept,
+            outputs,
+            extra,
+            err,
+        ),
+    }
+}
+
+/// Ends a call by what it learned, or by why it learned nothing, once what is kept was saved.
+pub(crate) fn finish<F: Files, O: Sink, E: Sink>(
+    alloc: Global,
+    arguments: &LearnArguments,
+    system: &System,
+    found: Found,
+    files: &mut F,
+    out: &mut O,
+    err: &mut E,
+) -> End
+    requires few { length (letters_of system.now) ≤ 64 }
+    requires sizes { IfOk found.learned (λ l.
+        (l.model.inputs ≡ length (letters_of system.now)) ×
+        (l.model.outputs ≡ length found.names.names)) }
+    requires over { AreKeptOver (length (letters_of system.now)) (length found.names.names)
+        found.kept.answers }
+    ensures status { result.status ≡ status_of result.outcome }
+    ensures told { IsEndOf arguments.now system.now found.names found.learned
+        found.kept.answers
+        (files_state (F.holds files.old) (F.calls files.old) (F.reads files.old)
+        (F.faults files.old))
+        (files_state (F.holds files.new) (F.calls files.new) (F.reads files.new)
+        (F.faults files.new))
+        (sink_state (O.taken out.old) (O.faults out.old))
+        (sink_state (O.taken out.new) (O.faults out.new))
+        (sink_state (E.taken err.old) (E.faults err.old))
+        (sink_state (E.taken err.new) (E.faults err.new)) result }
+{
+    let Found {
+        learned,
+        kept,
+        names,
+    } = found;
+    let saved = save_kept(alloc, arguments, system.inputs(), &names, &kept, files);
+    match learned {
+        Ok(learned) => end_model(
+            alloc, arguments, system, learned, kept, names, saved, files, out, err,
+        ),
+        Err(stop) => end_stop(
+            alloc,
+            system,
+            stop,
+            kept,
+            names,
+            saved,
+            arguments.extra(),
+            err,
+        ),
+    }
+}

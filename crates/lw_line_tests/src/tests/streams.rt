@@ -1,0 +1,233 @@
+//! Serving over streams in memory, streams that fail, and streams that tell the order of their calls.
+use lw_json::{Machine, read_machine};
+use lw_line::{ServeFault, Served, serve};
+use lw_outside::{Failed, MemorySink, MemorySource, Sink, Source};
+use std::alloc::Global;
+use std::cell::Cell;
+use std::test::Fail;
+
+static COUNTER: &[u8] =
+    br#"{"inputs":["t"],"outputs":["0","1"],"states":[[[1,"0"]],[[2,"0"]],[[0,"1"]]]}"#;
+
+pub fn counter(alloc: Global) -> Result<Machine, Fail> {
+    match read_machine(alloc, COUNTER) {
+        Ok(machine) => Ok(machine),
+        Err(_) => Err(Fail::from("a machine was refused")),
+    }
+}
+
+/// Calls that are to fail.
+#[derive(Clone, Copy)]
+struct Plans<'a> {
+    source: &'a [u64],
+    sink: &'a [u64],
+}
+
+fn source_of(
+    alloc: Global,
+    input: &[u8],
+    piece: usize,
+    plan: &[u64],
+) -> Result<MemorySource, Fail> {
+    if piece == 0 {
+        return Err(Fail::from("no piece"));
+    }
+    Ok(MemorySource::new(
+        Vec::from_slice(alloc, input)?,
+        piece,
+        Vec::from_slice(alloc, plan)?,
+    )?)
+}
+
+fn sink_of(alloc: Global, piece: usize, plan: &[u64]) -> Result<MemorySink, Fail> {
+    if piece == 0 {
+        return Err(Fail::from("no piece"));
+    }
+    Ok(MemorySink::new(alloc, 256, piece, Vec::from_slice(alloc, plan)?)?)
+}
+
+fn same_end(end: &Result<Served, ServeFault>, want: &Result<Served, ServeFault>) -> bool {
+    match (end, want) {
+        (Ok(a), Ok(b)) => *a == *b,
+        (Err(a), Err(b)) => *a == *b,
+        _ => false,
+    }
+}
+
+/// Whether serving the machine on these streams answers and ends so.
+fn serves_on(
+    source: &mut MemorySource,
+    sink: &mut MemorySink,
+    machine: &Machine,
+    answers: &[u8],
+    want: &Result<Served, ServeFault>,
+) -> bool {
+    let end = serve(source, sink, machine);
+    same_end(&end, want) && sink.taken() == answers
+}
+
+/// Whether serving the machine answers and ends so.
+pub fn serves(
+    alloc: Global,
+    machine: &Machine,
+    input: &[u8],
+    piece: usize,
+    answers: &[u8],
+    want: Result<Served, ServeFault>,
+) -> Result<bool, Fail> {
+    let mut source = source_of(alloc, input, piece, &[])?;
+    let mut sink = sink_of(alloc, piece, &[])?;
+    Ok(serves_on(&mut source, &mut sink, machine, answers, &want))
+}
+
+static INPUT: &[u8] = b"reset\nin t\n";
+
+/// Whether serving ends so, with these answers, where these calls fail.
+fn fails_so(
+    alloc: Global,
+    plans: Plans<'_>,
+    answers: &[u8],
+    want: ServeFault,
+) -> Result<bool, Fail> {
+    let machine = counter(alloc)?;
+    let mut source = source_of(alloc, INPUT, 6, plans.source)?;
+    let mut sink = sink_of(alloc, 6, plans.sink)?;
+    Ok(serves_on(&mut source, &mut sink, &machine, answers, &Err(want)))
+}
+
+#[test]
+fn each_read_may_fail(rt: HostRuntime) -> Result<(), Fail> {
+    let fault = ServeFault::SourceFault;
+    assert!(rt;
+        fails_so(
+            rt.alloc(),
+            Plans {
+                source: &[0],
+                sink: &[]
+            },
+            b"",
+            fault
+        )?
+    );
+    assert!(rt;
+        fails_so(
+            rt.alloc(),
+            Plans {
+                source: &[1],
+                sink: &[]
+            },
+            b"ready\n",
+            fault
+        )?
+    );
+    assert!(rt;
+        fails_so(
+            rt.alloc(),
+            Plans {
+                source: &[2],
+                sink: &[]
+            },
+            b"ready\nout 0\n",
+            fault
+        )?
+    );
+    Ok(())
+}
+
+#[test]
+fn each_write_may_fail(rt: HostRuntime) -> Result<(), Fail> {
+    let fault = ServeFault::SinkFault;
+    assert!(rt;
+        fails_so(
+            rt.alloc(),
+            Plans {
+                source: &[],
+                sink: &[0]
+            },
+            b"",
+            fault
+        )?
+    );
+    assert!(rt;
+        fails_so(
+            rt.alloc(),
+            Plans {
+                source: &[],
+                sink: &[1]
+            },
+            b"ready\n",
+            fault
+        )?
+    );
+    Ok(())
+}
+
+/// A source that gives a line a read, and counts its reads.
+#[derive(Drop)]
+struct ClockedSource<'a> {
+    reads: &'a Cell<u32>,
+    lines: u32,
+    ends: u64,
+}
+
+impl Source for ClockedSource<'_> {
+    ghost use Rattle.std.specs.Prelude.{None};
+
+    ghost left = { λ _. None };
+
+    ghost faults = { λ _. 0 };
+
+    ghost ends = { λ s. s.ends };
+
+    fn read(&mut self, buffer: &mut [u8]) -> Result<usize, Failed> {
+        self.reads.set(self.reads.get().saturating_add(1));
+        if self.lines == 0 || buffer.len() < 6 {
+            self.ends = self.ends.saturating_add(1);
+            return Ok(0);
+        }
+        self.lines -= 1;
+        buffer[..6].copy_from_slice(b"reset\n");
+        Ok(6)
+    }
+}
+
+/// A sink that takes four bytes a call, and notes how many reads there were before it.
+#[derive(Drop)]
+struct ClockedSink<'a> {
+    reads: &'a Cell<u32>,
+    noted: Vec<u32>,
+}
+
+impl Sink for ClockedSink<'_> {
+    ghost use Rattle.std.specs.Prelude.{None};
+
+    ghost taken = { λ _. None };
+
+    ghost faults = { λ _. 0 };
+
+    fn put(&mut self, bytes: &[u8]) -> Result<usize, Failed> {
+        if self.noted.len() < self.noted.capacity() {
+            self.noted.push_reserved(self.reads.get());
+        }
+        Ok(bytes.len().min(4))
+    }
+}
+
+#[test]
+fn an_answer_is_whole_before_the_next_line_is_read(rt: HostRuntime) -> Result<(), Fail> {
+    let alloc = rt.alloc();
+    let machine = counter(alloc)?;
+    let reads = Cell::new(0);
+    let mut source = ClockedSource {
+        reads: &reads,
+        lines: 3,
+        ends: 0,
+    };
+    let mut sink = ClockedSink {
+        reads: &reads,
+        noted: Vec::with_capacity(alloc, 16)?,
+    };
+    assert!(rt; serve(&mut source, &mut sink, &machine).is_ok());
+    assert_eq!(rt; sink.noted.as_slice(), [1u32, 1, 2, 2, 3, 3].as_slice());
+    Ok(())
+}

@@ -1,0 +1,11 @@
+use Rattle.std.proofs.Common.{ap, sym, subst}
+use Rattle.lw_desk.specs.Naming.{Naming}
+use Rattle.lw_desk.specs.Ending.{IsShared}
+use Rattle.lw_pool.proofs.JoinLemmas.{declared_come_up, declared_shared}
+use Rattle.lw_pool_tests.proofs.tests.prior.pool_after.Goals as goal
+
+pub new-requires-clause-shared : goal.new-requires-clause-shared
+new-requires-clause-shared g c = subst (λ (n : Naming). IsShared n) (sym c.in_ok-shared.ensures) (declared_shared _)
+
+pub new-requires-clause-come_up : goal.new-requires-clause-come_up
+new-requires-clause-come_up g c = declared_come_up _ _ (ap (λ (n : Naming). n.brought) c.in_ok-shared.ensures)

@@ -1,0 +1,154 @@
+//! What is refused: arguments that are not taken, and texts that are no machine file.
+use crate::tests::cases::{Case, PLAIN, check, texts};
+use lw_top::check_arguments;
+use std::alloc::Global;
+use std::process::Abort;
+use std::sync::Wait;
+use std::test::Fail;
+use std::thread::Threads;
+
+pub const USAGE: &str =
+    "usage: learn (SETUP | --table FILE) [--workers N] [--extra K] [--learner table|ttt] [--max-states N]
+             [--model FILE] [--answers FILE] [--prior FILE] [--kept FILE]
+       check MODEL ANSWERS [--extra K]
+       serve MODEL
+       ask (SETUP | --table FILE) WORD...
+       compare MODEL MODEL
+       trial --states N --inputs A --seed S [--workers N] [--learner table|ttt]
+";
+
+/// Arguments that are not taken.
+static REFUSED: [&[&str]; 24] = [
+    &[],
+    &["learn"],
+    &["learn", "--table"],
+    &["learn", "--table", "m", "m"],
+    &["learn", "--table", "m", "--table", "m"],
+    &["learn", "--table", "m", "--extra", "5"],
+    &["learn", "--table", "m", "--extra", "-0"],
+    &["learn", "--table", "m", "--max-states", "0"],
+    &["learn", "--table", "m", "--workers", "17"],
+    &["learn", "--table", "m", "--workers", "0"],
+    &["learn", "--table", "m", "--learner", "tree"],
+    &["learn", "--table", "m", "--learner", ""],
+    &["learn", "--table", "m", "--learner"],
+    &["learn", "--table", "m", "--learner=ttt", "--learner=ttt"],
+    &["trial", "--states", "3", "--inputs", "1"],
+    &["trial", "--states", "0", "--inputs", "1", "--seed", "0"],
+    &["trial", "--states", "3", "--inputs", "65", "--seed", "0"],
+    &[
+        "trial", "m", "--states", "3", "--inputs", "1", "--seed", "0",
+    ],
+    &["learn", "--help"],
+    &["--version"],
+    &["serve"],
+    &["serve", "m", "m"],
+    &["serve", "m", "--extra", "1"],
+    &["check", "--table", "m"],
+];
+
+/// Checks that these arguments are not taken.
+fn check_usage<R: Abort + Threads + Wait + Sync + Copy + Drop>(
+    rt: R,
+    alloc: Global,
+    arguments: &'static [&'static str],
+) -> Result<(), Fail> {
+    let case = Case {
+        arguments,
+        status: 2,
+        out: "",
+        err: USAGE,
+        ..PLAIN
+    };
+    check(rt, alloc, &case)
+}
+
+#[test]
+fn arguments_that_are_not_taken(rt: HostRuntime) -> Result<(), Fail> {
+    for arguments in &REFUSED {
+        check_usage(rt, rt.alloc(), arguments)?;
+    }
+    Ok(())
+}
+
+/// Whether `check` takes the arguments.
+fn is_check(alloc: Global, arguments: &[&str]) -> Result<bool, Fail> {
+    Ok(check_arguments(alloc, &texts(alloc, arguments)?).is_ok())
+}
+
+#[test]
+fn arguments_of_check(rt: HostRuntime) -> Result<(), Fail> {
+    let alloc = rt.alloc();
+    assert!(rt; is_check(alloc, &["check", "m", "k"])?);
+    assert!(rt; is_check(alloc, &["check", "--extra", "0", "m", "k"])?);
+    assert!(rt; !is_check(alloc, &["check", "m"])?);
+    assert!(rt; !is_check(alloc, &["check", "m", "k", "--extra", "5"])?);
+    Ok(())
+}
+
+/// Texts that are no machine file, with what is said of each.
+static FAULTS: [(&str, &str); 14] = [
+    ("", "bad file table: not JSON\n"),
+    ("[1]", "bad file table: shape of root\n"),
+    ("{}", "bad file table: shape of inputs\n"),
+    ("{\"inputs\":[\"t\"]}", "bad file table: shape of outputs\n"),
+    (
+        "{\"inputs\":[\"t\"],\"outputs\":[\"0\"]}",
+        "bad file table: shape of states\n",
+    ),
+    (
+        "{\"inputs\":[],\"outputs\":[\"0\"],\"states\":[[]]}",
+        "bad file table: inputs: empty list\n",
+    ),
+    (
+        "{\"inputs\":[\"t\",\"\"],\"outputs\":[\"0\"],\"states\":[]}",
+        "bad file table: inputs: bad name at 1\n",
+    ),
+    (
+        "{\"inputs\":[\"t\"],\"outputs\":[\"0\",\"1\",\"0\"],\"states\":[]}",
+        "bad file table: outputs: repeated name at 0 and 2\n",
+    ),
+    (
+        "{\"inputs\":[\"t\"],\"outputs\":[\"0\"],\"states\":[[[0,\"0\"]],[[0,\"1\"]]]}",
+        "bad file table: unknown output at state 1, letter 0\n",
+    ),
+    (
+        "{\"inputs\":[\"t\"],\"outputs\":[\"0\"],\"states\":[]}",
+        "bad file table: no state\n",
+    ),
+    (
+        "{\"inputs\":[\"t\"],\"outputs\":[\"0\"],\"states\":[[[0,\"0\"]],[]]}",
+        "bad file table: wrong number of cells at state 1\n",
+    ),
+    (
+        "{\"inputs\":[\"t\"],\"outputs\":[\"0\"],\"states\":[[[7,\"0\"]]]}",
+        "bad file table: no such target at state 0, letter 0: 7\n",
+    ),
+    ("{\"table\":\"x\"}", "bad file table: shape of inputs\n"),
+    ("x", "bad file table: not JSON\n"),
+];
+
+/// Checks what is said of a text that is no machine file.
+fn check_fault<R: Abort + Threads + Wait + Sync + Copy + Drop>(
+    rt: R,
+    alloc: Global,
+    file: &'static str,
+    err: &'static str,
+) -> Result<(), Fail> {
+    let case = Case {
+        file,
+        status: 3,
+        out: "",
+        err,
+        ..PLAIN
+    };
+    check(rt, alloc, &case)
+}
+
+#[test]
+fn each_fault_of_a_table(rt: HostRuntime) -> Result<(), Fail> {
+    for (file, err) in &FAULTS {
+        check_fault(rt, rt.alloc(), file, err)?;
+    }
+    Ok(())
+}
