@@ -24,7 +24,7 @@ use Rattle.lw_children.specs.Crews.{first_names}
 use Rattle.lw_children.specs.Spawners.{SpawnerSeen, Starts, StartsAndRetires, with_starts}
 use Rattle.lw_ask.specs.Asking.{HasPut}
 use Rattle.lw_ask.specs.Child.{AsksChild, HasNotStarted, SpellsRuns, SpellsWhole}
-use Rattle.lw_ask.specs.bodies.Ends.{IsBorneOut}
+use Rattle.lw_ask.specs.Ends.{IsBorneOut}
 use Rattle.lw_ask.specs.declared.stop.AskingStop.{AskingStop}
 use Rattle.lw_ask.specs.declared.stop.AskingStop.TheVariants.{Sul}
 
@@ -43,13 +43,13 @@ none_came declared names grown naming =
     naming
 
 -- the names that a child gave: those that were declared, or different ones, each of which was told
-names_own : (outputs : Option (List (List ℕ))) (names : List (List ℕ)) (told : Option Transcript) → IsGrown (first_names outputs) names → AreNamed (most_of outputs) names → IsNaming names (most_of outputs) (count_of outputs) → AreToldIfFree names (most_of outputs) (count_of outputs) told → IfTold (AreOwn outputs names) told
+pub names_own : (outputs : Option (List (List ℕ))) (names : List (List ℕ)) (told : Option Transcript) → IsGrown (first_names outputs) names → AreNamed (most_of outputs) names → IsNaming names (most_of outputs) (count_of outputs) → AreToldIfFree names (most_of outputs) (count_of outputs) told → IfTold (AreOwn outputs names) told
 names_own outputs names None grown named naming free = tt
 names_own None names (Some t) grown named naming free = (named.few, named.differ, free (refl, refl))
 names_own (Some declared) names (Some t) grown named naming free = none_came declared names grown naming
 
 -- declared names are those that a child gave, whatever is told of its link
-names_declared : (outputs : Option (List (List ℕ))) (names : List (List ℕ)) → IsGrown (first_names outputs) names → IsNaming names (most_of outputs) (count_of outputs) → IfSome outputs (λ ns. names ≡ ns)
+pub names_declared : (outputs : Option (List (List ℕ))) (names : List (List ℕ)) → IsGrown (first_names outputs) names → IsNaming names (most_of outputs) (count_of outputs) → IfSome outputs (λ ns. names ≡ ns)
 names_declared None names grown naming = tt
 names_declared (Some declared) names grown naming = none_came declared names grown naming
 
@@ -65,11 +65,11 @@ module _ (letters : List (List ℕ)) (outputs : Option (List (List ℕ))) (names
   ends t runs (Some stop) false counted told covered journal = inr (broken t stop counted told, (false, covered, journal))
   ends t runs (Some stop) true counted told covered journal = inr (broken t stop counted told, (true, covered, journal))
 
-  spells_told : (told : Option Transcript) (runs : List Run) (stop : Option SulStop) (cut : Bool) → IfTold (AreOwn outputs names) told → IsCounted r.faults r.ends stop → IsTranscriptOf letters names (most_of outputs) r.faults stop cut told → IsJournal (told_runs letters names told) runs stop cut → IfTold (SpellsRuns letters outputs names runs r) told
+  pub spells_told : (told : Option Transcript) (runs : List Run) (stop : Option SulStop) (cut : Bool) → IfTold (AreOwn outputs names) told → IsCounted r.faults r.ends stop → IsTranscriptOf letters names (most_of outputs) r.faults stop cut told → IsJournal (told_runs letters names told) runs stop cut → IfTold (SpellsRuns letters outputs names runs r) told
   spells_told None runs stop cut owns counted told journal = tt
   spells_told (Some t) runs stop cut owns counted told journal = record { proper = told.0; owns = owns; ends = ends t runs stop cut counted told.1 told.2 journal }
 
-  whole_told : (told : Option Transcript) (runs : List Run) (cut : Bool) → IsTranscriptOf letters names (most_of outputs) r.faults None cut told → IsJournal (told_runs letters names told) runs None cut → IfTold (SpellsWhole letters names runs) told
+  pub whole_told : (told : Option Transcript) (runs : List Run) (cut : Bool) → IsTranscriptOf letters names (most_of outputs) r.faults None cut told → IsJournal (told_runs letters names told) runs None cut → IfTold (SpellsWhole letters names runs) told
   whole_told None runs cut told journal = tt
   whole_told (Some t) runs cut told journal = record { covered = told.2; runs_are = journal }
 
@@ -81,7 +81,7 @@ module _ (letters : List (List ℕ)) (outputs : Option (List (List ℕ))) (names
   line_told None line cut owns is = tt
   line_told (Some t) line cut owns is = (names, owns, is.1)
 
-  stopped_by : (why : SulStop) (cut : Bool) → IfTold (AreOwn outputs names) r.transcript → IsCounted r.faults r.ends (Some why) → IsTranscriptOf letters names (most_of outputs) r.faults (Some why) cut r.transcript → IsStopped outputs why r
+  pub stopped_by : (why : SulStop) (cut : Bool) → IfTold (AreOwn outputs names) r.transcript → IsCounted r.faults r.ends (Some why) → IsTranscriptOf letters names (most_of outputs) r.faults (Some why) cut r.transcript → IsStopped outputs why r
   stopped_by sul.Failed cut owns counted is = counted
   stopped_by sul.Gone cut owns counted is = (counted, gone_told r.transcript cut is)
   stopped_by (sul.BadLine line) cut owns counted is = line_told r.transcript line cut owns is

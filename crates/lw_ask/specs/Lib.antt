@@ -2,6 +2,7 @@ pub mod Arguments
 pub mod AskRun
 pub mod Asking
 pub mod Child
+pub mod Ends
 pub mod Lines
 pub mod Outcomes
 pub mod Reading

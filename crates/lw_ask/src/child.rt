@@ -9,7 +9,7 @@ ghost use Rattle.lw_report.specs.States.{sink_state};
 ghost use Rattle.lw_children.specs.Crews.{new_line, retired_of};
 ghost use Rattle.lw_children.specs.Spawners.{Starts, spawner_seen};
 ghost use Rattle.lw_ask.specs.Child.{AsksChild, HasNotStarted};
-ghost use Rattle.lw_ask.specs.bodies.Ends.{IsBorneOut};
+ghost use Rattle.lw_ask.specs.Ends.{IsBorneOut};
 
 use crate::asking::{Asked, ask_session};
 use lw_line::LineSul;
@@ -40,7 +40,7 @@ fn line_over<L: Link>(
 }
 
 /// Starts a child. A link for whose system there is no memory is retired.
-fn start_line<P: Spawner>(
+pub fn start_line<P: Spawner>(
     alloc: Global,
     spawner: &mut P,
     words: &[String],
@@ -79,7 +79,7 @@ fn start_line<P: Spawner>(
 }
 
 /// The link of a session that is at its end.
-fn link_of<L: Link + Drop>(session: Session<LineSul<L>>) -> L
+pub fn link_of<L: Link + Drop>(session: Session<LineSul<L>>) -> L
     ensures link { result ≡ session.sul.link }
     ensures bears { IsBorneOut session.sul.letters session.sul.names session.sul.most
         session.sul.outputs session.sul.stop session.sul.cut session.journal

@@ -50,7 +50,7 @@ fn stop_outcome(stop: AskingStop) -> Outcome
 }
 
 /// What a child that stopped so comes to.
-fn child_outcome(stop: SulStop) -> Outcome
+pub fn child_outcome(stop: SulStop) -> Outcome
     ensures { result ≡ system_outcome 0 stop }
 {
     match stop {
@@ -71,7 +71,7 @@ fn word_outcome(stop: WordStop) -> Outcome
 }
 
 /// What a start that gave no child comes to.
-fn start_outcome<P: Spawner>(spawner: &P, stop: StartStop) -> Outcome
+pub fn start_outcome<P: Spawner>(spawner: &P, stop: StartStop) -> Outcome
     ensures { result ≡ start_outcome (P.cause spawner.now) stop }
 {
     match stop {

@@ -12,7 +12,8 @@ mod words;
 
 pub use arguments::AskArguments;
 pub use asking::ask_words;
-pub use command::ask;
+pub use child::{link_of, start_line};
+pub use command::{ask, child_outcome, start_outcome};
 pub use reading::read_system;
 pub use stop::AskingStop;
 pub use words::{WordStop, read_words};

@@ -57,8 +57,9 @@ usage_lines =
     ++ (codes "       check MODEL ANSWERS [--extra K]\n"
     ++ (codes "       serve MODEL\n"
     ++ (codes "       ask (SETUP | --table FILE) WORD...\n"
+    ++ (codes "       recheck SETUP ANSWERS\n"
     ++ (codes "       compare MODEL MODEL\n"
-    ++ codes "       trial --states N --inputs A --seed S [--workers N] [--learner table|ttt]\n")))))
+    ++ codes "       trial --states N --inputs A --seed S [--workers N] [--learner table|ttt]\n"))))))
 
 abbrev pub differs_line : ℕ → ℕ → List ℕ
 differs_line answer place = codes "no: answer " ++ (decimal answer ++ (codes " differs at place " ++ (decimal place ++ codes "\n")))

@@ -25,6 +25,7 @@ const USAGE: &str =
        check MODEL ANSWERS [--extra K]
        serve MODEL
        ask (SETUP | --table FILE) WORD...
+       recheck SETUP ANSWERS
        compare MODEL MODEL
        trial --states N --inputs A --seed S [--workers N] [--learner table|ttt]
 ";

@@ -12,6 +12,7 @@ use Rattle.lw_top.specs.CheckCommand.{check_app, values_in as check_values_in}
 use Rattle.lw_top.specs.CommandLine.{is_faultless, texts}
 use Rattle.lw_top.specs.CompareCommand.{compare_app, values_in as compare_values_in}
 use Rattle.lw_top.specs.LearnCommand.{learn_app, values_in as learn_values_in}
+use Rattle.lw_top.specs.RecheckCommand.{recheck_app, values_in as recheck_values_in}
 use Rattle.lw_top.specs.ServeCommand.{serve_app}
 use Rattle.lw_top.specs.TrialCommand.{trial_app, values_in as trial_values_in}
 use Rattle.clap.specs.Words.{first_of}
@@ -31,9 +32,9 @@ same_text s a e = cc
 
 -- no command takes arguments whose first one has another name than each of them
 pub no_call : (args : List (String Global)) (s : String Global) (w : List ℕ) → Some s ≡ slice_get args 0 → w ≡ string_bytes s
-    → (w ≡ codes "learn" → ⊥) → (w ≡ codes "check" → ⊥) → (w ≡ codes "trial" → ⊥) → (w ≡ codes "serve" → ⊥) → (w ≡ codes "ask" → ⊥) → (w ≡ codes "compare" → ⊥) → IsNoCall (texts args)
-no_call [] s w first is learn check trial serve ask compare = (refl, refl, refl, refl, refl, refl)
-no_call (a ∷ more) s w first is learn check trial serve ask compare =
+    → (w ≡ codes "learn" → ⊥) → (w ≡ codes "check" → ⊥) → (w ≡ codes "trial" → ⊥) → (w ≡ codes "serve" → ⊥) → (w ≡ codes "ask" → ⊥) → (w ≡ codes "compare" → ⊥) → (w ≡ codes "recheck" → ⊥) → IsNoCall (texts args)
+no_call [] s w first is learn check trial serve ask compare recheck = (refl, refl, refl, refl, refl, refl, refl)
+no_call (a ∷ more) s w first is learn check trial serve ask compare recheck =
     let words : List (List ℕ) = texts (a ∷ more) in
     let here : w ≡ string_bytes a = is ∙ ap string_bytes (same_text s a first) in
     let other : (name : List ℕ) → (w ≡ name → ⊥) → bytes_eq (string_bytes a) name ≡ false = λ name differs. is_other (string_bytes a) name (λ e. differs (here ∙ e)) in (
@@ -43,4 +44,5 @@ no_call (a ∷ more) s w first is learn check trial serve ask compare =
       not_taken (bytes_eq (string_bytes a) (codes "serve")) (is_faultless (fault_of serve_app words)) (first_of (codes "model") (matches_of serve_app words)) (other (codes "serve") serve),
       not_taken (bytes_eq (string_bytes a) (codes "ask")) (is_faultless (fault_of ask_app words)) (ask_values_in (matches_of ask_app words)) (other (codes "ask") ask),
       not_taken (bytes_eq (string_bytes a) (codes "compare")) (is_faultless (fault_of compare_app words)) (compare_values_in (matches_of compare_app words)) (other (codes "compare") compare),
+      not_taken (bytes_eq (string_bytes a) (codes "recheck")) (is_faultless (fault_of recheck_app words)) (recheck_values_in (matches_of recheck_app words)) (other (codes "recheck") recheck),
     )

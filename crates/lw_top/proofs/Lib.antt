@@ -2,6 +2,7 @@ pub mod CheckLemmas
 pub mod AskLemmas
 pub mod CommandLemmas
 pub mod CompareLemmas
+pub mod RecheckLemmas
 pub mod RunLemmas
 pub mod ValueLemmas
 pub mod ServeLemmas

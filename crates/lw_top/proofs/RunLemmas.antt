@@ -1,12 +1,13 @@
 -- Calls for whose arguments there was no memory.
 use Rattle.std.proofs.Common.{◌≡◌, ◌⊎◌, List, ℕ, [], Option, Some, None, IfSome, inl, inr, refl, sym, ◌∙◌, subst, append-nil}
 use Rattle.lw_words.specs.declared.kept.KeptAnswer.{KeptAnswer}
+use Rattle.lw_outside.specs.declared.links.StartFailure.{StartFailure}
 use Rattle.lw_children.specs.Spawners.{SpawnerSeen}
 use Rattle.lw_report.specs.Writing.{TakesAll, TakesSome, said_text}
 use Rattle.lw_report.specs.States.{FilesState, SinkState}
 use Rattle.lw_report.specs.declared.«end».End.{End}
 use Rattle.lw_report.specs.declared.outcome.Outcome.{Outcome}
-use Rattle.lw_report.specs.declared.outcome.Outcome.TheVariants.{NoMemory, Usage}
+use Rattle.lw_report.specs.declared.outcome.Outcome.TheVariants.{NoMemory, Unstarted, Usage}
 use Rattle.lw_learn.specs.Arguments.{LearnValues}
 use Rattle.lw_learn.specs.LearnRun.{IsLearnRun}
 use Rattle.lw_learn.specs.Unread.{IsUnreadBy}
@@ -51,6 +52,11 @@ refused_as stop.NoMemory outcome is = inr is
 pub not_usage : (s : ArgumentStop) (outcome : Outcome) → outcome ≡ argument_outcome s → (s ≡ stop.Usage → ⊥) → outcome ≡ NoMemory
 not_usage stop.Usage outcome is other = absurd (other refl)
 not_usage stop.NoMemory outcome is other = is
+
+-- arguments that weren't taken start nothing
+pub never_unstarted : (s : ArgumentStop) (outcome : Outcome) (cause : StartFailure) → outcome ≡ argument_outcome s → outcome ≡ Unstarted cause → ⊥
+never_unstarted stop.Usage outcome cause is came = let wrong : Usage ≡ Unstarted cause = sym is ∙ came in absurd (cc)
+never_unstarted stop.NoMemory outcome cause is came = let wrong : NoMemory ≡ Unstarted cause = sym is ∙ came in absurd (cc)
 
 -- a value that may be there
 pub by_value : {V : Type 0} (v : Option V) (Is : V → Type 0) → ((a : V) → v ≡ Some a → Is a) → IfSome v Is

@@ -9,11 +9,13 @@ use crate::check_words::{CheckArguments, check_arguments};
 use crate::compare_words::compare_arguments;
 use crate::file_pair::FilePair;
 use crate::learn_words::learn_arguments;
+use crate::recheck_words::recheck_arguments;
 use crate::serve_words::serve_arguments;
 use crate::trial_words::trial_arguments;
 use crate::values::ArgumentStop;
 use lw_ask::AskArguments;
 use lw_learn::LearnArguments;
+use lw_recheck::RecheckArguments;
 use lw_trial::TrialArguments;
 use std::alloc::Global;
 
@@ -28,6 +30,7 @@ pub(crate) enum Call {
     Ask(AskArguments),
     /// The model files.
     Compare(FilePair),
+    Recheck(RecheckArguments),
 }
 
 /// The command that takes the arguments.
@@ -45,6 +48,7 @@ pub(crate) fn read_call(alloc: Global, arguments: &[String]) -> Result<Call, Arg
         "serve" => Ok(Call::Serve(serve_arguments(alloc, arguments)?)),
         "ask" => Ok(Call::Ask(ask_arguments(alloc, arguments)?)),
         "compare" => Ok(Call::Compare(compare_arguments(alloc, arguments)?)),
+        "recheck" => Ok(Call::Recheck(recheck_arguments(alloc, arguments)?)),
         _ => Err(ArgumentStop::Usage),
     }
 }

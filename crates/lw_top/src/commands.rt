@@ -10,6 +10,8 @@ ghost use Rattle.lw_trial.specs.TrialRun.{IsTrialRun};
 ghost use Rattle.lw_serve.specs.ServeRun.{IsServeRun};
 ghost use Rattle.lw_ask.specs.AskRun.{IsAskRun};
 ghost use Rattle.lw_compare.specs.CompareRun.{IsCompareRun};
+ghost use Rattle.lw_outside.specs.declared.links.StartFailure.{StartFailure as Cause};
+ghost use Rattle.lw_recheck.specs.RecheckRun.{IsRecheckRun};
 
 use crate::check_words::CheckArguments;
 use crate::file_pair::FilePair;
@@ -18,6 +20,7 @@ use lw_check::check;
 use lw_compare::compare;
 use lw_learn::{LearnArguments, learn};
 use lw_outside::{Files, Sink, Source, Spawner};
+use lw_recheck::{RecheckArguments, recheck};
 use lw_report::End;
 use lw_serve::serve;
 use lw_trial::{TrialArguments, trial};
@@ -145,6 +148,8 @@ pub(crate) fn run_ask<F: Files, P: Spawner, O: Sink, E: Sink>(
     ensures taken { ¬ (result.outcome ≡ Came.Usage) }
     ensures counts { (F.faults files.old ≤ F.faults files.new) ×
         (O.faults out.old ≤ O.faults out.new) × (E.faults err.old ≤ E.faults err.new) }
+    ensures why { (cause : Cause) → result.outcome ≡ Came.Unstarted cause →
+        cause ≡ P.cause spawner.new }
     ensures all { IsAskRun values.now
         (files_state (F.holds files.old) (F.calls files.old) (F.reads files.old)
         (F.faults files.old))
@@ -185,4 +190,36 @@ pub(crate) fn run_compare<F: Files, O: Sink, E: Sink>(
         (sink_state (E.taken err.new) (E.faults err.new)) result }
 {
     compare(alloc, pair.first(), pair.second(), files, out, err)
+}
+
+/// `recheck` with these values.
+pub(crate) fn run_recheck<F: Files, P: Spawner, O: Sink, E: Sink>(
+    alloc: Global,
+    values: &RecheckArguments,
+    files: &mut F,
+    spawner: &mut P,
+    out: &mut O,
+    err: &mut E,
+) -> End
+    ensures status { result.status ≡ status_of result.outcome }
+    ensures taken { ¬ (result.outcome ≡ Came.Usage) }
+    ensures counts { (F.faults files.old ≤ F.faults files.new) ×
+        (O.faults out.old ≤ O.faults out.new) × (E.faults err.old ≤ E.faults err.new) }
+    ensures why { (cause : Cause) → result.outcome ≡ Came.Unstarted cause →
+        cause ≡ P.cause spawner.new }
+    ensures all { IsRecheckRun values.now
+        (files_state (F.holds files.old) (F.calls files.old) (F.reads files.old)
+        (F.faults files.old))
+        (files_state (F.holds files.new) (F.calls files.new) (F.reads files.new)
+        (F.faults files.new))
+        (spawner_seen (P.faults spawner.old) (P.started spawner.old) (P.retired spawner.old)
+        (P.commands spawner.old))
+        (spawner_seen (P.faults spawner.new) (P.started spawner.new) (P.retired spawner.new)
+        (P.commands spawner.new))
+        (sink_state (O.taken out.old) (O.faults out.old))
+        (sink_state (O.taken out.new) (O.faults out.new))
+        (sink_state (E.taken err.old) (E.faults err.old))
+        (sink_state (E.taken err.new) (E.faults err.new)) result }
+{
+    recheck(alloc, values, files, spawner, out, err)
 }

@@ -12,12 +12,15 @@ ghost use Rattle.lw_trial.specs.TrialRun.{IsTrialRun};
 ghost use Rattle.lw_serve.specs.ServeRun.{IsServeRun};
 ghost use Rattle.lw_ask.specs.AskRun.{IsAskRun};
 ghost use Rattle.lw_compare.specs.CompareRun.{IsCompareRun};
+ghost use Rattle.lw_outside.specs.declared.links.StartFailure.{StartFailure as Cause};
+ghost use Rattle.lw_recheck.specs.RecheckRun.{IsRecheckRun};
 ghost use Rattle.lw_top.specs.Call.{IsNoCall};
 ghost use Rattle.lw_top.specs.AskCommand.{ask_values};
 ghost use Rattle.lw_top.specs.CheckCommand.{check_values};
 ghost use Rattle.lw_top.specs.CompareCommand.{compare_values};
 ghost use Rattle.lw_top.specs.CommandLine.{texts};
 ghost use Rattle.lw_top.specs.LearnCommand.{learn_values};
+ghost use Rattle.lw_top.specs.RecheckCommand.{recheck_values};
 ghost use Rattle.lw_top.specs.Run.{IsRefused, argument_outcome};
 ghost use Rattle.lw_top.specs.ServeCommand.{serve_values};
 ghost use Rattle.lw_top.specs.TrialCommand.{trial_values};
@@ -25,7 +28,9 @@ ghost use Rattle.lw_report.specs.Ends.{IsWithoutLearner};
 
 use crate::ArgumentStop;
 use crate::call::{Call, read_call};
-use crate::commands::{run_ask, run_check, run_compare, run_learn, run_serve, run_trial};
+use crate::commands::{
+    run_ask, run_check, run_compare, run_learn, run_recheck, run_serve, run_trial,
+};
 use lw_outside::{Files, Sink, Source, Spawner};
 use lw_report::{End, Outcome, refuse};
 use lw_words::Kept;
@@ -125,9 +130,10 @@ pub fn run<R: Threads + Wait + Sync + Drop, F: Files, P: Spawner, I: Source, O: 
         (sink_state (E.taken err.old) (E.faults err.old))
         (sink_state (E.taken err.new) (E.faults err.new)) result) }
 
-    // Nothing but `learn` and `ask` starts a child.
+    // Nothing but `learn`, `ask` and `recheck` starts a child.
     ensures unstarted { learn_values (texts arguments.now) ≡ None →
         ask_values (texts arguments.now) ≡ None →
+        recheck_values (texts arguments.now) ≡ None →
         spawner_seen (P.faults spawner.new) (P.started spawner.new) (P.retired spawner.new)
         (P.commands spawner.new) ≡
         spawner_seen (P.faults spawner.old) (P.started spawner.old) (P.retired spawner.old)
@@ -169,7 +175,7 @@ pub fn run<R: Threads + Wait + Sync + Drop, F: Files, P: Spawner, I: Source, O: 
         (sink_state (O.taken out.new) (O.faults out.new))
         (sink_state (E.taken err.old) (E.faults err.old))
         (sink_state (E.taken err.new) (E.faults err.new)) result) }
-    // `ask` and `compare` likewise.
+    // `ask`, `compare` and `recheck` likewise; why `ask` and `recheck` started no child is what the spawner tells.
     ensures ask { IfSome (ask_values (texts arguments.now)) (λ values. IsAskRun values
         (files_state (F.holds files.old) (F.calls files.old) (F.reads files.old)
         (F.faults files.old))
@@ -183,6 +189,8 @@ pub fn run<R: Threads + Wait + Sync + Drop, F: Files, P: Spawner, I: Source, O: 
         (sink_state (O.taken out.new) (O.faults out.new))
         (sink_state (E.taken err.old) (E.faults err.old))
         (sink_state (E.taken err.new) (E.faults err.new)) result) }
+    ensures ask_why { IfSome (ask_values (texts arguments.now)) (λ _. (cause : Cause) →
+        result.outcome ≡ Came.Unstarted cause → cause ≡ P.cause spawner.new) }
     ensures compare { IfSome (compare_values (texts arguments.now)) (λ pair. IsCompareRun
         pair.first pair.second
         (files_state (F.holds files.old) (F.calls files.old) (F.reads files.old)
@@ -193,6 +201,21 @@ pub fn run<R: Threads + Wait + Sync + Drop, F: Files, P: Spawner, I: Source, O: 
         (sink_state (O.taken out.new) (O.faults out.new))
         (sink_state (E.taken err.old) (E.faults err.old))
         (sink_state (E.taken err.new) (E.faults err.new)) result) }
+    ensures recheck { IfSome (recheck_values (texts arguments.now)) (λ values. IsRecheckRun values
+        (files_state (F.holds files.old) (F.calls files.old) (F.reads files.old)
+        (F.faults files.old))
+        (files_state (F.holds files.new) (F.calls files.new) (F.reads files.new)
+        (F.faults files.new))
+        (spawner_seen (P.faults spawner.old) (P.started spawner.old) (P.retired spawner.old)
+        (P.commands spawner.old))
+        (spawner_seen (P.faults spawner.new) (P.started spawner.new) (P.retired spawner.new)
+        (P.commands spawner.new))
+        (sink_state (O.taken out.old) (O.faults out.old))
+        (sink_state (O.taken out.new) (O.faults out.new))
+        (sink_state (E.taken err.old) (E.faults err.old))
+        (sink_state (E.taken err.new) (E.faults err.new)) result) }
+    ensures recheck_why { IfSome (recheck_values (texts arguments.now)) (λ _. (cause : Cause) →
+        result.outcome ≡ Came.Unstarted cause → cause ≡ P.cause spawner.new) }
     ensures unasked { serve_values (texts arguments.now) ≡ None →
         source_state (I.left input.new) (I.faults input.new) (I.ends input.new) ≡
         source_state (I.left input.old) (I.faults input.old) (I.ends input.old) }
@@ -208,5 +231,6 @@ pub fn run<R: Threads + Wait + Sync + Drop, F: Files, P: Spawner, I: Source, O: 
         Call::Serve(model) => run_serve(alloc, model.as_str(), files, input, out, err),
         Call::Ask(values) => run_ask(alloc, &values, files, spawner, out, err),
         Call::Compare(pair) => run_compare(alloc, &pair, files, out, err),
+        Call::Recheck(values) => run_recheck(alloc, &values, files, spawner, out, err),
     }
 }

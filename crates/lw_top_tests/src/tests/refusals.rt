@@ -13,12 +13,13 @@ pub const USAGE: &str =
        check MODEL ANSWERS [--extra K]
        serve MODEL
        ask (SETUP | --table FILE) WORD...
+       recheck SETUP ANSWERS
        compare MODEL MODEL
        trial --states N --inputs A --seed S [--workers N] [--learner table|ttt]
 ";
 
 /// Arguments that are not taken.
-static REFUSED: [&[&str]; 24] = [
+static REFUSED: [&[&str]; 28] = [
     &[],
     &["learn"],
     &["learn", "--table"],
@@ -45,6 +46,10 @@ static REFUSED: [&[&str]; 24] = [
     &["serve", "m", "m"],
     &["serve", "m", "--extra", "1"],
     &["check", "--table", "m"],
+    &["recheck"],
+    &["recheck", "s"],
+    &["recheck", "s", "a", "b"],
+    &["recheck", "--table", "s", "a"],
 ];
 
 /// Checks that these arguments are not taken.

@@ -1,10 +1,13 @@
-use Rattle.std.proofs.Common.{◌∙◌, Err, List, ℕ, string_bytes, sym, ap, refl, subst}
+use Rattle.std.proofs.Common.{◌≡◌, ◌∙◌, Err, List, ℕ, string_bytes, sym, ap, refl, subst}
 use Rattle.lw_children.specs.Spawners.{spawner_seen}
+use Rattle.lw_outside.specs.declared.links.StartFailure.{StartFailure}
+use Rattle.lw_report.specs.declared.outcome.Outcome.TheVariants.{Unstarted}
 use Rattle.lw_learn.specs.LearnRun.{IsLearnRun}
 use Rattle.lw_report.specs.States.{files_state, sink_state, source_state}
 use Rattle.lw_ask.specs.AskRun.{IsAskRun}
 use Rattle.lw_check.specs.CheckRun.{IsCheckRun}
 use Rattle.lw_compare.specs.CompareRun.{IsCompareRun}
+use Rattle.lw_recheck.specs.RecheckRun.{IsRecheckRun}
 use Rattle.lw_serve.specs.ServeRun.{IsServeRun}
 use Rattle.lw_top.specs.Call.{IsCall}
 use Rattle.lw_top.specs.AskCommand.{ask_values}
@@ -12,6 +15,7 @@ use Rattle.lw_top.specs.CheckCommand.{check_values}
 use Rattle.lw_top.specs.CompareCommand.{compare_values}
 use Rattle.lw_top.specs.CommandLine.{texts}
 use Rattle.lw_top.specs.LearnCommand.{learn_values}
+use Rattle.lw_top.specs.RecheckCommand.{recheck_values}
 use Rattle.lw_top.specs.Run.{IsRefused}
 use Rattle.lw_top.specs.ServeCommand.{serve_values}
 use Rattle.lw_top.specs.TrialCommand.{trial_values}
@@ -20,9 +24,10 @@ use Rattle.lw_top.specs.declared.values.ArgumentStop.{ArgumentStop}
 use Rattle.lw_top.proofs.AskLemmas.{wanted_ask}
 use Rattle.lw_top.proofs.CheckLemmas.{wanted_check}
 use Rattle.lw_top.proofs.CompareLemmas.{wanted_compare}
+use Rattle.lw_top.proofs.RecheckLemmas.{wanted_recheck}
 use Rattle.lw_top.proofs.ServeLemmas.{wanted_serve}
 use Rattle.lw_top.proofs.TrialLemmas.{wanted_trial}
-use Rattle.lw_top.proofs.RunLemmas.{at_value, by_value, none_is_some, not_usage, wanted_run}
+use Rattle.lw_top.proofs.RunLemmas.{at_value, by_value, never_unstarted, none_is_some, not_usage, wanted_run}
 use Rattle.lw_top.proofs.top.run.Goals as goal
 
 pub returns-in-Learn-clause-learn : goal.returns-in-Learn-clause-learn
@@ -44,7 +49,7 @@ returns-in-Learn-clause-learn g c =
     at_value (learn_values words) c.in-Learn.values (λ a. IsLearnRun a f h b z o p e d c.run_learn.result) is.0 c.run_learn.ensures.all
 
 pub returns-in-Learn-clause-unstarted : goal.returns-in-Learn-clause-unstarted
-returns-in-Learn-clause-unstarted g c none _ =
+returns-in-Learn-clause-unstarted g c none _ _ =
     let words = texts c.args.arguments.now in
     let is = subst (IsCall words) c.in-Learn.is c.in-Ok.ensures.ok in
     absurd (none_is_some c.in-Learn.values (sym none ∙ is.0))
@@ -248,7 +253,7 @@ returns-in-Err-clause-ask g c =
     none_is_some v (sym (c.in-Err.ensures.refused (ap (λ (s : ArgumentStop). Err s) u)).4 ∙ is))) refused)
 
 pub returns-in-Ask-clause-unstarted : goal.returns-in-Ask-clause-unstarted
-returns-in-Ask-clause-unstarted g c _ none =
+returns-in-Ask-clause-unstarted g c _ none _ =
     let words = texts c.args.arguments.now in
     let is = subst (IsCall words) c.in-Ask.is c.in-Ok.ensures.ok in
     absurd (none_is_some c.in-Ask.values (sym none ∙ is.4))
@@ -292,3 +297,76 @@ returns-in-Err-clause-compare g c =
     by_value (compare_values (texts c.args.arguments.now)) (λ v. IsCompareRun v.first v.second f f o o e d end) (λ v is.
     wanted_compare v.first v.second f o e d end (not_usage c.in-Err.stop end.outcome outcome (λ u.
     none_is_some v (sym (c.in-Err.ensures.refused (ap (λ (s : ArgumentStop). Err s) u)).5 ∙ is))) refused)
+
+pub returns-in-Recheck-clause-recheck : goal.returns-in-Recheck-clause-recheck
+returns-in-Recheck-clause-recheck g c =
+    let F = g.F.Files in
+    let O = g.O.Sink in
+    let E = g.E.Sink in
+    let f = files_state (F.holds c.args.files.now) (F.calls c.args.files.now) (F.reads c.args.files.now) (F.faults c.args.files.now) in
+    let h = files_state (F.holds c.run_recheck.new.files) (F.calls c.run_recheck.new.files) (F.reads c.run_recheck.new.files) (F.faults c.run_recheck.new.files) in
+    let o = sink_state (O.taken c.args.out.now) (O.faults c.args.out.now) in
+    let p = sink_state (O.taken c.run_recheck.new.out) (O.faults c.run_recheck.new.out) in
+    let e = sink_state (E.taken c.args.err.now) (E.faults c.args.err.now) in
+    let d = sink_state (E.taken c.run_recheck.new.err) (E.faults c.run_recheck.new.err) in
+    let P = g.P.Spawner in
+    let b = spawner_seen (P.faults c.args.spawner.now) (P.started c.args.spawner.now) (P.retired c.args.spawner.now) (P.commands c.args.spawner.now) in
+    let z = spawner_seen (P.faults c.run_recheck.new.spawner) (P.started c.run_recheck.new.spawner) (P.retired c.run_recheck.new.spawner) (P.commands c.run_recheck.new.spawner) in
+    let words = texts c.args.arguments.now in
+    let is = subst (IsCall words) c.in-Recheck.is c.in-Ok.ensures.ok in
+    at_value (recheck_values words) c.in-Recheck.values (λ v. IsRecheckRun v f h b z o p e d c.run_recheck.result) is.6 c.run_recheck.ensures.all
+
+pub returns-in-Err-clause-recheck : goal.returns-in-Err-clause-recheck
+returns-in-Err-clause-recheck g c =
+    let F = g.F.Files in
+    let O = g.O.Sink in
+    let E = g.E.Sink in
+    let f = files_state (F.holds c.args.files.now) (F.calls c.args.files.now) (F.reads c.args.files.now) (F.faults c.args.files.now) in
+    let o = sink_state (O.taken c.args.out.now) (O.faults c.args.out.now) in
+    let e = sink_state (E.taken c.args.err.now) (E.faults c.args.err.now) in
+    let d = sink_state (E.taken c.refuse_arguments.new.err) (E.faults c.refuse_arguments.new.err) in
+    let P = g.P.Spawner in
+    let b = spawner_seen (P.faults c.args.spawner.now) (P.started c.args.spawner.now) (P.retired c.args.spawner.now) (P.commands c.args.spawner.now) in
+    let end = c.refuse_arguments.result in
+    let outcome = c.refuse_arguments.ensures.outcome in
+    let refused : IsRefused f f o o e d end = record {
+      files = refl;
+      out = refl;
+      model = c.refuse_arguments.ensures.model;
+      learner = c.refuse_arguments.ensures.learner;
+      kept = c.refuse_arguments.ensures.kept;
+      outputs = c.refuse_arguments.ensures.outputs;
+      said = c.refuse_arguments.ensures.said;
+      part = c.refuse_arguments.ensures.part;
+    } in
+    by_value (recheck_values (texts c.args.arguments.now)) (λ v. IsRecheckRun v f f b b o o e d end) (λ v is.
+    wanted_recheck v f b o e d end (not_usage c.in-Err.stop end.outcome outcome (λ u.
+    none_is_some v (sym (c.in-Err.ensures.refused (ap (λ (s : ArgumentStop). Err s) u)).6 ∙ is))) refused)
+
+pub returns-in-Recheck-clause-unstarted : goal.returns-in-Recheck-clause-unstarted
+returns-in-Recheck-clause-unstarted g c _ _ none =
+    let words = texts c.args.arguments.now in
+    let is = subst (IsCall words) c.in-Recheck.is c.in-Ok.ensures.ok in
+    absurd (none_is_some c.in-Recheck.values (sym none ∙ is.6))
+
+pub returns-in-Ask-clause-ask_why : goal.returns-in-Ask-clause-ask_why
+returns-in-Ask-clause-ask_why g c =
+    let words = texts c.args.arguments.now in
+    let is = subst (IsCall words) c.in-Ask.is c.in-Ok.ensures.ok in
+    at_value (ask_values words) c.in-Ask.values (λ _. (cause : StartFailure) → c.run_ask.result.outcome ≡ Unstarted cause → cause ≡ g.P.Spawner.cause c.run_ask.new.spawner) is.4 c.run_ask.ensures.why
+
+pub returns-in-Err-clause-ask_why : goal.returns-in-Err-clause-ask_why
+returns-in-Err-clause-ask_why g c =
+    by_value (ask_values (texts c.args.arguments.now)) (λ _. (cause : StartFailure) → c.refuse_arguments.result.outcome ≡ Unstarted cause → cause ≡ g.P.Spawner.cause c.args.spawner.now)
+    (λ v is cause came. absurd (never_unstarted c.in-Err.stop c.refuse_arguments.result.outcome cause c.refuse_arguments.ensures.outcome came))
+
+pub returns-in-Recheck-clause-recheck_why : goal.returns-in-Recheck-clause-recheck_why
+returns-in-Recheck-clause-recheck_why g c =
+    let words = texts c.args.arguments.now in
+    let is = subst (IsCall words) c.in-Recheck.is c.in-Ok.ensures.ok in
+    at_value (recheck_values words) c.in-Recheck.values (λ _. (cause : StartFailure) → c.run_recheck.result.outcome ≡ Unstarted cause → cause ≡ g.P.Spawner.cause c.run_recheck.new.spawner) is.6 c.run_recheck.ensures.why
+
+pub returns-in-Err-clause-recheck_why : goal.returns-in-Err-clause-recheck_why
+returns-in-Err-clause-recheck_why g c =
+    by_value (recheck_values (texts c.args.arguments.now)) (λ _. (cause : StartFailure) → c.refuse_arguments.result.outcome ≡ Unstarted cause → cause ≡ g.P.Spawner.cause c.args.spawner.now)
+    (λ v is cause came. absurd (never_unstarted c.in-Err.stop c.refuse_arguments.result.outcome cause c.refuse_arguments.ensures.outcome came))

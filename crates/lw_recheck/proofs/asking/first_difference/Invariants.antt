@@ -1,0 +1,7 @@
+use Rattle.std.proofs.Common.{◌≡◌, take}
+use Rattle.lw_sul.specs.Names.{named}
+use Rattle.lw_recheck.proofs.asking.first_difference.Given as goal
+
+-- the names are the same so far
+abbrev pub invariant-loop-place : goal.invariant-loop-place
+invariant-loop-place g l = take l.place (named (g.S.Sul.names l.sul) l.given) ≡ take l.place (named l.outputs l.known)
