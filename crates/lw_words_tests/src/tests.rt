@@ -158,8 +158,8 @@ fn kept_outputs_are_renumbered(rt: HostRuntime) -> Result<(), Fail> {
     let answer = KeptAnswer {
         instance: 0,
         run: 7,
-        word: word(alloc, &[0, 0])?,
-        outs: word(alloc, &[2, 0])?,
+        word: Word::from_letters(alloc, Vec::from_slice(alloc, &[0, 0])?),
+        outs: Word::from_letters(alloc, Vec::from_slice(alloc, &[2, 0])?),
     };
     let None = kept.push(answer).err() else {
         return Err(Fail::from("an answer was handed back"));
