@@ -91,22 +91,59 @@ fn session_sends<S: Sul + Send>(session: &Session<S>) {
     sends(session);
 }
 
+/// Letters that a session is asked, and the outputs that come, or none where its system fails.
+struct Asked {
+    letters: &'static [u16],
+    outs: Option<&'static [u16]>,
+}
+
+/// Whether a session is asked so, one after another.
+fn goes<S: Sul>(alloc: Global, session: &mut Session<S>, list: &[Asked]) -> Result<bool, Fail> {
+    for asked in list {
+        let right = match asked.outs {
+            Some(outs) => answers(alloc, session, asked.letters, outs)?,
+            None => fails(alloc, session, asked.letters)?,
+        };
+        if !right {
+            return Ok(false);
+        }
+    }
+    Ok(true)
+}
+
+/// The numbers of a session over the counter.
+fn is_fourth<S: Sul + Send>(session: &Session<S>) -> bool {
+    session_sends(session);
+    let numbers = (session.instance(), session.inputs(), session.outputs());
+    numbers_of(session.sul()) == (1, 2) && numbers == (4, 1, 2)
+}
+
+static COUNTED: [Asked; 3] = [
+    Asked {
+        letters: &[0, 0],
+        outs: Some(&[0, 0]),
+    },
+    Asked {
+        letters: &[0, 0, 0, 0],
+        outs: Some(&[0, 0, 1, 0]),
+    },
+    Asked {
+        letters: &[],
+        outs: Some(&[]),
+    },
+];
+
+/// Whether a session over the counter has its numbers, and counts three runs.
+fn counts_runs(alloc: Global) -> Result<bool, Fail> {
+    let mut session = Session::new(alloc, 4, table(alloc)?);
+    let fourth = is_fourth(&session);
+    let counted = goes(alloc, &mut session, &COUNTED)?;
+    Ok(fourth && counted && session.runs() == 3 && session.stopped().is_none())
+}
+
 #[test]
 fn a_session_counts_its_runs(rt: HostRuntime) -> Result<(), Fail> {
-    let alloc = rt.alloc();
-    let sul = table(alloc)?;
-    assert_eq!(rt; numbers_of(&sul), (1, 2));
-    let mut session = Session::new(alloc, 4, sul);
-    session_sends(&session);
-    assert_eq!(rt;
-        (session.instance(), session.inputs(), session.outputs()),
-        (4, 1, 2)
-    );
-    assert!(rt; answers(alloc, &mut session, &[0, 0], &[0, 0])?);
-    assert!(rt; answers(alloc, &mut session, &[0, 0, 0, 0], &[0, 0, 1, 0])?);
-    assert!(rt; answers(alloc, &mut session, &[], &[])?);
-    assert_eq!(rt; session.runs(), 3);
-    assert!(rt; session.stopped().is_none());
+    assert!(rt; counts_runs(rt.alloc())?);
     Ok(())
 }
 
@@ -121,24 +158,75 @@ fn three_names(alloc: Global, script: Vec<Reply>, known: u16) -> Result<Scripted
     Ok(Scripted::new(alloc, script, names, known)?)
 }
 
-/// A session over a script that has two finished runs, and then these replies.
-fn after_two_runs(alloc: Global, last: &[Reply]) -> Result<Session<Scripted>, Fail> {
-    let mut script = [
+/// A session over a script, so many of whose names came already.
+fn over(alloc: Global, replies: &[Reply], known: u16) -> Result<Session<Scripted>, Fail> {
+    let script = replies.to_vec(alloc)?;
+    Ok(Session::new(alloc, 0, three_names(alloc, script, known)?))
+}
+
+/// Two finished runs and one that stops, and how many calls the system answered and was asked.
+struct Stop {
+    replies: &'static [Reply],
+    asked: &'static [Asked],
+    log: usize,
+    made: usize,
+}
+
+static IN_A_RESET: Stop = Stop {
+    replies: &[
         Reply::Ready,
         Reply::Output(2),
         Reply::Ready,
         Reply::Output(1),
         Reply::Output(0),
-    ]
-    .to_vec(alloc)?;
-    script.extend_from_slice(last)?;
-    let mut session = Session::new(alloc, 0, three_names(alloc, script, 3)?);
-    let first = answers(alloc, &mut session, &[1], &[2])?;
-    if !first || !answers(alloc, &mut session, &[0, 1], &[1, 0])? {
-        return Err(Fail::from("the script answers otherwise"));
-    }
-    Ok(session)
-}
+        Reply::Refused,
+    ],
+    asked: &[
+        Asked {
+            letters: &[1],
+            outs: Some(&[2]),
+        },
+        Asked {
+            letters: &[0, 1],
+            outs: Some(&[1, 0]),
+        },
+        Asked {
+            letters: &[0],
+            outs: None,
+        },
+    ],
+    log: 5,
+    made: 6,
+};
+
+static IN_A_STEP: Stop = Stop {
+    replies: &[
+        Reply::Ready,
+        Reply::Output(2),
+        Reply::Ready,
+        Reply::Output(1),
+        Reply::Output(0),
+        Reply::Ready,
+        Reply::Output(2),
+        Reply::Refused,
+    ],
+    asked: &[
+        Asked {
+            letters: &[1],
+            outs: Some(&[2]),
+        },
+        Asked {
+            letters: &[0, 1],
+            outs: Some(&[1, 0]),
+        },
+        Asked {
+            letters: &[0, 1, 1],
+            outs: None,
+        },
+    ],
+    log: 7,
+    made: 8,
+};
 
 /// The two finished runs alone are counted, and the system isn't asked again.
 fn keeps_two_runs(alloc: Global, session: &mut Session<Scripted>) -> Result<bool, Fail> {
@@ -147,44 +235,65 @@ fn keeps_two_runs(alloc: Global, session: &mut Session<Scripted>) -> Result<bool
     Ok(again && session.sul().made() == made && session.runs() == 2)
 }
 
+/// Whether a session's system answered so many calls, and was asked so many.
+fn leaves(session: Session<Scripted>, log: usize, made: usize) -> bool {
+    session.sul().log().len() == log && session.into_sul().made() == made
+}
+
+/// Whether a session stops so, and keeps its two runs.
+fn stops(alloc: Global, stop: &Stop) -> Result<bool, Fail> {
+    let mut session = over(alloc, stop.replies, 3)?;
+    let gone = goes(alloc, &mut session, stop.asked)?;
+    let kept = keeps_two_runs(alloc, &mut session)?;
+    Ok(gone && kept && leaves(session, stop.log, stop.made))
+}
+
 #[test]
 fn a_stop_in_a_reset_cuts_no_run_off(rt: HostRuntime) -> Result<(), Fail> {
-    let alloc = rt.alloc();
-    let mut session = after_two_runs(alloc, &[Reply::Refused])?;
-    assert!(rt; fails(alloc, &mut session, &[0])?);
-    assert!(rt; keeps_two_runs(alloc, &mut session)?);
-    assert_eq!(rt; session.sul().log().len(), 5);
+    assert!(rt; stops(rt.alloc(), &IN_A_RESET)?);
     Ok(())
 }
 
 #[test]
 fn a_stop_in_a_step_cuts_the_run_off(rt: HostRuntime) -> Result<(), Fail> {
-    let alloc = rt.alloc();
-    let replies = [Reply::Ready, Reply::Output(2), Reply::Refused];
-    let mut session = after_two_runs(alloc, replies.as_slice())?;
-    assert!(rt; fails(alloc, &mut session, &[0, 1, 1])?);
-    assert!(rt; keeps_two_runs(alloc, &mut session)?);
-    assert_eq!(rt; session.sul().log().len(), 7);
-    let system = session.into_sul();
-    assert_eq!(rt; system.made(), 8);
+    assert!(rt; stops(rt.alloc(), &IN_A_STEP)?);
     Ok(())
+}
+
+/// Whether a word of so many letters is answered.
+fn answers_long<S: Sul>(alloc: Global, session: &mut Session<S>, len: usize) -> Result<bool, Fail> {
+    let long = vec![in alloc; 0u16; len]?;
+    match ask(alloc, session, &long)? {
+        Ok(answer) => Ok(answer.len() == len),
+        Err(_) => Ok(false),
+    }
+}
+
+/// Whether a counter answers so many runs of three letters.
+fn answers_often<S: Sul>(
+    alloc: Global,
+    session: &mut Session<S>,
+    times: u32,
+) -> Result<bool, Fail> {
+    for _ in 0..times {
+        if !answers(alloc, session, &[0, 0, 0], &[0, 0, 1])? {
+            return Ok(false);
+        }
+    }
+    Ok(true)
+}
+
+/// Whether a session over the counter answers a word of so many letters and then so many runs, and counts them all.
+fn lasts(alloc: Global, len: usize, times: u32) -> Result<bool, Fail> {
+    let mut session = Session::new(alloc, 0, table(alloc)?);
+    let long = answers_long(alloc, &mut session, len)?;
+    let often = answers_often(alloc, &mut session, times)?;
+    Ok(long && often && session.runs() == u64::from(times).saturating_add(1))
 }
 
 #[test]
 fn long_runs_and_many(rt: HostRuntime) -> Result<(), Fail> {
-    let alloc = rt.alloc();
-    let mut session = Session::new(alloc, 0, table(alloc)?);
-    let long = vec![in alloc; 0u16; 70_000]?;
-    match ask(alloc, &mut session, long.as_slice())? {
-        Ok(answer) => assert_eq!(rt; answer.len(), 70_000),
-        Err(_) => return Err(Fail::from("a long word isn't answered")),
-    }
-    for _ in 0..100_000 {
-        if !answers(alloc, &mut session, &[0, 0, 0], &[0, 0, 1])? {
-            return Err(Fail::from("a run isn't answered"));
-        }
-    }
-    assert_eq!(rt; session.runs(), 100_001);
+    assert!(rt; lasts(rt.alloc(), 70_000, 100_000)?);
     Ok(())
 }
 
@@ -220,45 +329,95 @@ fn brings<S: Sul>(
     }
 }
 
+/// Letters that a session is asked, the outputs that come, and the names that came up first.
+struct Brought {
+    letters: &'static [u16],
+    outs: &'static [u16],
+    names: &'static [&'static str],
+}
+
+/// Whether a session is asked so, one after another.
+fn all_come<S: Sul>(
+    alloc: Global,
+    session: &mut Session<S>,
+    list: &[Brought],
+) -> Result<bool, Fail> {
+    for one in list {
+        if !brings(alloc, session, one.letters, one.outs, one.names)? {
+            return Ok(false);
+        }
+    }
+    Ok(true)
+}
+
+static NAMING: [Reply; 11] = [
+    Reply::Ready,
+    Reply::Output(0),
+    Reply::Output(1),
+    Reply::Output(0),
+    Reply::Ready,
+    Reply::Output(1),
+    Reply::Output(0),
+    Reply::Ready,
+    Reply::Output(2),
+    Reply::Ready,
+    Reply::Output(3),
+];
+
+static NAMED: [Brought; 3] = [
+    Brought {
+        letters: &[0, 1, 0],
+        outs: &[0, 1, 0],
+        names: &["a", "b"],
+    },
+    Brought {
+        letters: &[1, 0],
+        outs: &[1, 0],
+        names: &[],
+    },
+    Brought {
+        letters: &[0],
+        outs: &[2],
+        names: &["c"],
+    },
+];
+
+/// Whether so many of three names came.
+fn has_named<S: Sul>(sul: &S, named: u16) -> bool {
+    sul.named() == named && sul.most() == 3
+}
+
+/// Whether all three names come in three runs, and an output without a name isn't answered.
+fn names_come(alloc: Global) -> Result<bool, Fail> {
+    let mut session = over(alloc, &NAMING, 0)?;
+    let none = has_named(session.sul(), 0);
+    let come = all_come(alloc, &mut session, &NAMED)?;
+    let all = has_named(session.sul(), 3) && session.runs() == 3;
+    let refused = fails(alloc, &mut session, &[0])?;
+    Ok(none && come && all && refused && session.runs() == 3)
+}
+
 #[test]
 fn names_come_once_and_in_order(rt: HostRuntime) -> Result<(), Fail> {
-    let alloc = rt.alloc();
-    let script = [
-        Reply::Ready,
-        Reply::Output(0),
-        Reply::Output(1),
-        Reply::Output(0),
-        Reply::Ready,
-        Reply::Output(1),
-        Reply::Output(0),
-        Reply::Ready,
-        Reply::Output(2),
-        Reply::Ready,
-        Reply::Output(3),
-    ]
-    .to_vec(alloc)?;
-    let mut session = Session::new(alloc, 0, three_names(alloc, script, 0)?);
-    assert_eq!(rt; (session.sul().named(), session.sul().most()), (0, 3));
-    assert!(rt; brings(alloc, &mut session, &[0, 1, 0], &[0, 1, 0], &["a", "b"])?);
-    assert!(rt; brings(alloc, &mut session, &[1, 0], &[1, 0], &[])?);
-    assert!(rt; brings(alloc, &mut session, &[0], &[2], &["c"])?);
-    assert_eq!(rt; (session.sul().named(), session.sul().most()), (3, 3));
-    assert_eq!(rt; session.runs(), 3);
-    assert!(rt; fails(alloc, &mut session, &[0])?);
-    assert_eq!(rt; session.runs(), 3);
+    assert!(rt; names_come(rt.alloc())?);
     Ok(())
+}
+
+/// Whether the name with number 1 is `tock`.
+fn has_tock<S: Sul>(sul: &S) -> bool {
+    sul.named() > 1 && sul.name(1).copy().as_slice() == b"tock".as_slice()
+}
+
+/// Whether a session over the counter brings no name, and its system has its second one.
+fn table_is_named(alloc: Global) -> Result<bool, Fail> {
+    let mut session = Session::new(alloc, 0, table(alloc)?);
+    let none = brings(alloc, &mut session, &[0, 0, 0], &[0, 0, 1], &[])?;
+    Ok(none && has_tock(session.sul()))
 }
 
 #[test]
 fn a_table_has_its_names(rt: HostRuntime) -> Result<(), Fail> {
-    let alloc = rt.alloc();
-    let mut session = Session::new(alloc, 0, table(alloc)?);
-    assert!(rt; brings(alloc, &mut session, &[0, 0, 0], &[0, 0, 1], &[])?);
-    let sul = session.sul();
-    if sul.named() > 1 {
-        let tock = sul.name(1).copy();
-        assert_eq!(rt; tock.as_slice(), b"tock".as_slice());
-    }
+    assert!(rt; table_is_named(rt.alloc())?);
     assert!(rt; OutName::new("a b").is_none());
     Ok(())
 }
