@@ -2,5 +2,4 @@ mod BlockLemmas
 mod ChoiceLemmas
 mod PartingLemmas
 mod PickedLemmas
-mod ReadyLemmas
 mod SettleLemmas

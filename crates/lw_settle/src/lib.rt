@@ -8,6 +8,3 @@ mod settling;
 
 pub use laws::some_block_is_parted;
 pub use settling::{Settled, settle_block};
-
-#[cfg(test)]
-mod tests;

@@ -13,7 +13,6 @@ mod ListingLemmas
 mod LowerLemmas
 mod LowestLemmas
 pub mod MachineLemmas
-mod MayLemmas
 mod MeasureLemmas
 mod NewLemmas
 pub mod NodeLemmas
@@ -27,5 +26,4 @@ mod ReplaceLemmas
 pub mod ShapeLemmas
 mod SproutLemmas
 pub mod StepLemmas
-pub mod TrialLemmas
 pub mod WayLemmas

@@ -3,4 +3,3 @@ pub mod Nodes
 pub mod Sprouts
 pub mod Steps
 pub mod Transitions
-pub mod Trials

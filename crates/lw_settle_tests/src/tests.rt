@@ -1,0 +1,316 @@
+//! Blocks that are settled, worked by hand: the words that are asked, in their order, and the discriminators.
+ghost use Rattle.std.specs.Prelude.{IfOk};
+ghost use Rattle.test_oracle.specs.Recording.{state_of};
+ghost use Rattle.test_tree.specs.Trials.{IsReady};
+
+mod trial;
+
+use lw_mealy::Mealy;
+use lw_settle::{Settled, some_block_is_parted};
+use lw_words::Words;
+use std::alloc::Global;
+use std::test::Fail;
+use test_oracle::Recording;
+use test_tree::{Trial, closed};
+use trial::{is_refused, settle, split_by};
+
+/// The only letter.
+const T: u16 = 0;
+
+/// Whether a list has just these words, in any order.
+fn has_just(words: &Words, expected: &[&[u16]]) -> bool {
+    let has = |letters: &[u16]| words
+        .as_slice()
+        .iter()
+        .any(|word| word.as_slice() == letters);
+    words.len() == expected.len() && expected.iter().all(|letters| has(letters))
+}
+
+/// The machine that answers these outputs, one after the other, and then begins anew.
+fn cycle(alloc: Global, outputs: [u16; 3]) -> Result<Mealy, Fail> {
+    let cells = [(1, outputs[0]), (2, outputs[1]), (0, outputs[2])];
+    let mut rows = Vec::new(alloc);
+    for cell in &cells {
+        rows.push(Vec::from_slice(alloc, &[*cell])?)?;
+    }
+    Ok(Mealy::new(alloc, 1, 2, rows)?)
+}
+
+/// A batch by its number, and its words in their order.
+struct Batch {
+    number: usize,
+    words: &'static [&'static [u16]],
+}
+
+/// How many batches were settled, and the words of some; the discriminators, in any order, and how many nodes are temporary.
+struct Left {
+    count: usize,
+    batches: &'static [Batch],
+    discriminators: &'static [&'static [u16]],
+    temporary: u32,
+}
+
+/// Whether an oracle settled so many batches, and these among them.
+fn has_settled(oracle: &Recording, count: usize, batches: &[Batch]) -> bool {
+    let are_asked = batches
+        .iter()
+        .all(|batch| oracle.asked(batch.number, batch.words));
+    oracle.batches().len() == count && are_asked
+}
+
+/// Whether that is left.
+fn is_left(trial: &Trial, left: &Left) -> Result<bool, Fail> {
+    let words = trial.tree.discriminators()?;
+    let are_words = has_just(&words, left.discriminators);
+    let has_asked = has_settled(&trial.oracle, left.count, left.batches);
+    Ok(are_words && has_asked && trial.tree.temporary() == left.temporary)
+}
+
+/// The tree of a cycle, split once by each of these words, over an oracle that refuses the batch with this number.
+fn split_tree(
+    alloc: Global,
+    outputs: [u16; 3],
+    refused: usize,
+    words: &[&[u16]],
+) -> Result<Trial, Fail>
+    ensures { IfOk result (λ trial. IsReady (state_of trial.oracle) trial.tree) }
+{
+    let mut trial = closed(alloc, cycle(alloc, outputs)?, 8, refused)?;
+    for word in words {
+        split_by(alloc, &mut trial.oracle, &mut trial.tree, word)?;
+    }
+    Ok(trial)
+}
+
+/// Whether a settling of a counter's tree is refused with the batch of this number, and this is left.
+fn is_refused_at(alloc: Global, refused: usize, left: &Left) -> Result<bool, Fail> {
+    let mut trial = split_tree(alloc, [0, 0, 1], refused, &[&[T, T, T]])?;
+    let stopped = is_refused(alloc, &mut trial.oracle, &mut trial.tree)?;
+    Ok(stopped && is_left(&trial, left)?)
+}
+
+/// Where the words of a block's states are refused, the tree is as it was.
+static REFUSED_WORDS: Left = Left {
+    count: 6,
+    batches: &[],
+    discriminators: &[&[T, T]],
+    temporary: 1,
+};
+
+#[test]
+fn the_words_of_a_block_are_refused(rt: HostRuntime) -> Result<(), Fail> {
+    assert!(rt; is_refused_at(rt.alloc(), 5, &REFUSED_WORDS)?);
+    Ok(())
+}
+
+/// Where the level after it is refused, the root was replaced.
+static REFUSED_LEVEL: Left = Left {
+    count: 7,
+    batches: &[],
+    discriminators: &[&[T], &[T, T]],
+    temporary: 1,
+};
+
+#[test]
+fn a_level_of_a_settling_is_refused(rt: HostRuntime) -> Result<(), Fail> {
+    assert!(rt; is_refused_at(rt.alloc(), 6, &REFUSED_LEVEL)?);
+    Ok(())
+}
+
+/// What a settling does, and what is left.
+struct Step {
+    settled: Settled,
+    left: Left,
+}
+
+/// A tree of a cycle that was split by words, what is left then, and what settlings do after that.
+struct Case {
+    outputs: [u16; 3],
+    words: &'static [&'static [u16]],
+    begun: Left,
+    steps: &'static [Step],
+    refinements: u32,
+}
+
+/// Whether settlings do so, one after another.
+fn settles(alloc: Global, trial: &mut Trial, steps: &[Step]) -> Result<bool, Fail>
+    requires { IsReady (state_of trial.old.oracle) trial.old.tree }
+{
+    for step in steps {
+        let settled = settle(alloc, &mut trial.oracle, &mut trial.tree)?;
+        if settled != step.settled || !is_left(trial, &step.left)? {
+            return Ok(false);
+        }
+    }
+    Ok(true)
+}
+
+/// Whether a tree that was split goes on as a case says.
+fn goes_on(alloc: Global, trial: &mut Trial, case: &Case) -> Result<bool, Fail>
+    requires { IsReady (state_of trial.old.oracle) trial.old.tree }
+{
+    let begun = is_left(trial, &case.begun)?;
+    let settled = settles(alloc, trial, case.steps)?;
+    Ok(begun && settled && trial.tree.refinements() == case.refinements)
+}
+
+/// Whether a case goes so.
+fn goes(alloc: Global, case: &Case) -> Result<bool, Fail> {
+    let mut trial = split_tree(alloc, case.outputs, usize::MAX, case.words)?;
+    goes_on(alloc, &mut trial, case)
+}
+
+/// The tree of a counter, split by t t: one block of all three states, which the letter parts.
+///
+/// States 0 and 1 answer 0 to the letter, and state 2 answers 1: so the letter is the root's new word, and the two stay a
+/// block. The transition of state 2 stands at the root then, and goes down by two levels.
+///
+/// Then states 0 and 1 answer the letter alike, and go on to states that the root tells apart: the word is t t. After it no
+/// node is temporary.
+static COUNTER: Case = Case {
+    outputs: [0, 0, 1],
+    words: &[&[T, T, T]],
+    begun: Left {
+        count: 5,
+        batches: &[],
+        discriminators: &[&[T, T]],
+        temporary: 1,
+    },
+    steps: &[
+        Step {
+            settled: Settled::Replaced,
+            left: Left {
+                count: 8,
+                batches: &[
+                    Batch {
+                        number: 5,
+                        words: &[&[T], &[T, T], &[T, T, T]],
+                    },
+                    Batch {
+                        number: 6,
+                        words: &[&[T, T, T], &[T, T, T, T]],
+                    },
+                    Batch {
+                        number: 7,
+                        words: &[&[T, T, T], &[T, T, T, T, T]],
+                    },
+                ],
+                discriminators: &[&[T], &[T, T]],
+                temporary: 1,
+            },
+        },
+        Step {
+            settled: Settled::Replaced,
+            left: Left {
+                count: 10,
+                batches: &[
+                    Batch {
+                        number: 8,
+                        words: &[&[T, T], &[T, T, T]],
+                    },
+                    Batch {
+                        number: 9,
+                        words: &[&[T, T, T], &[T, T, T, T, T]],
+                    },
+                ],
+                discriminators: &[&[T], &[T, T]],
+                temporary: 0,
+            },
+        },
+        Step {
+            settled: Settled::NoBlock,
+            left: Left {
+                count: 10,
+                batches: &[],
+                discriminators: &[&[T], &[T, T]],
+                temporary: 0,
+            },
+        },
+    ],
+    refinements: 1,
+};
+
+#[test]
+fn a_letter_parts_by_outputs_and_then_by_targets(rt: HostRuntime) -> Result<(), Fail> {
+    assert!(rt; goes(rt.alloc(), &COUNTER)?);
+    Ok(())
+}
+
+/// The tree of a machine that answers every second of three letters by 1, split by t and then by t t: below node t are a leaf,
+/// and node t t with the two states that answer 0.
+///
+/// Of a block of three states 0 and 2 stay together, below a temporary node. Then their targets are states 1 and 0, which the
+/// root tells apart.
+static NESTED: Case = Case {
+    outputs: [0, 1, 0],
+    words: &[&[T, T], &[T, T, T, T]],
+    begun: Left {
+        count: 9,
+        batches: &[],
+        discriminators: &[&[T], &[T, T]],
+        temporary: 2,
+    },
+    steps: &[
+        Step {
+            settled: Settled::Replaced,
+            left: Left {
+                count: 12,
+                batches: &[
+                    Batch {
+                        number: 9,
+                        words: &[&[T], &[T, T], &[T, T, T]],
+                    },
+                    Batch {
+                        number: 10,
+                        words: &[&[T, T, T], &[T, T, T, T]],
+                    },
+                    Batch {
+                        number: 11,
+                        words: &[&[T, T, T], &[T, T, T, T, T]],
+                    },
+                ],
+                discriminators: &[&[T], &[T, T]],
+                temporary: 1,
+            },
+        },
+        Step {
+            settled: Settled::Replaced,
+            left: Left {
+                count: 14,
+                batches: &[
+                    Batch {
+                        number: 12,
+                        words: &[&[T, T], &[T, T, T, T]],
+                    },
+                    Batch {
+                        number: 13,
+                        words: &[&[T, T, T], &[T, T, T, T, T]],
+                    },
+                ],
+                discriminators: &[&[T], &[T, T]],
+                temporary: 0,
+            },
+        },
+        Step {
+            settled: Settled::NoBlock,
+            left: Left {
+                count: 14,
+                batches: &[],
+                discriminators: &[&[T], &[T, T]],
+                temporary: 0,
+            },
+        },
+    ],
+    refinements: 2,
+};
+
+#[test]
+fn two_of_three_stay_a_block_and_are_parted_then(rt: HostRuntime) -> Result<(), Fail> {
+    assert!(rt; goes(rt.alloc(), &NESTED)?);
+    Ok(())
+}
+
+#[test]
+fn the_law() {
+    some_block_is_parted();
+}

@@ -1,0 +1,87 @@
+//! A tree over a machine that is asked, which is split and settled.
+ghost use Rattle.std.specs.Prelude.{◌≡◌, OnOk, true};
+ghost use Rattle.std.specs.List.{All};
+ghost use Rattle.lw_words.specs.Answer.{answer_of, IsAnswer};
+ghost use Rattle.lw_mealy.specs.Machine.{answer};
+ghost use Rattle.test_tree.specs.Trials.{IsReady};
+
+use lw_cache::Oracle;
+use lw_mealy::Mealy;
+use lw_settle::{Settled, settle_block};
+use lw_tree::DiscriminationTree;
+use lw_words::Kept;
+use std::alloc::Global;
+use std::test::Fail;
+use test_tree::{ask, split_by_known};
+
+/// Asks a word, and splits the tree by what is known then.
+pub fn split_by<O: Oracle>(
+    alloc: Global,
+    oracle: &mut O,
+    tree: &mut DiscriminationTree,
+    letters: &[u16],
+) -> Result<(), Fail>
+    requires can { O.can_settle oracle.old }
+    requires ready { IsReady (O.state oracle.old) tree.old }
+    ensures ready { OnOk result (IsReady (O.state oracle.new) tree.new) }
+    ensures can { O.can_settle oracle.new }
+{
+    ask(alloc, oracle, tree, letters)?;
+    let Some(Ok(())) = split_by_known(alloc, oracle, tree)? else {
+        return Err(Fail::from("a split is refused"));
+    };
+    Ok(())
+}
+
+/// Whether a machine gives each kept answer.
+fn gives_all(model: &Mealy, kept: &Kept) -> bool
+    requires { All (λ k. IsAnswer model.now.inputs (answer_of k)) kept.now.answers }
+    ensures { result ≡ true → All (λ k. answer model.now.rows k.word ≡ k.outs) kept.now.answers }
+{
+    for number in 0..kept.len() {
+        let answer = kept.get(number);
+        if model.agrees(&answer.word, &answer.outs).is_some() {
+            return false;
+        }
+    }
+    true
+}
+
+/// Settles a block of a tree whose machine gives all that is known.
+pub fn settle<O: Oracle>(
+    alloc: Global,
+    oracle: &mut O,
+    tree: &mut DiscriminationTree,
+) -> Result<Settled, Fail>
+    requires can { O.can_settle oracle.old }
+    requires ready { IsReady (O.state oracle.old) tree.old }
+    ensures ready { OnOk result (IsReady (O.state oracle.new) tree.new) }
+    ensures can { O.can_settle oracle.new }
+{
+    let model = tree.machine()?;
+    if !gives_all(&model, oracle.cache().kept()) {
+        return Err(Fail::from("the machine is told otherwise"));
+    }
+    let settling = settle_block(oracle, alloc, tree);
+    let Ok(settled) = settling else {
+        return Err(Fail::from("a settling is refused"));
+    };
+    Ok(settled)
+}
+
+/// Whether settling a block of such a tree is refused.
+pub fn is_refused<O: Oracle>(
+    alloc: Global,
+    oracle: &mut O,
+    tree: &mut DiscriminationTree,
+) -> Result<bool, Fail>
+    requires can { O.can_settle oracle.old }
+    requires ready { IsReady (O.state oracle.old) tree.old }
+{
+    let model = tree.machine()?;
+    if !gives_all(&model, oracle.cache().kept()) {
+        return Err(Fail::from("the machine is told otherwise"));
+    }
+    let settling = settle_block(oracle, alloc, tree);
+    Ok(settling.is_err())
+}

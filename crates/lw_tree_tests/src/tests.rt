@@ -1,0 +1,207 @@
+//! New trees, and the laws.
+ghost use Rattle.std.specs.Prelude.{◌<◌, ◌≤◌, length};
+ghost use Rattle.lw_tree.specs.Tree.{IsClosed};
+
+mod children;
+mod drawn;
+mod levels;
+mod replacing;
+mod splits;
+
+use lw_mealy::Mealy;
+use lw_tree::{
+    DiscriminationTree, access_is_crowd, access_leads, branches_stay, closed_has_machine,
+    discriminators_are_short, finals_are_few, inners_are_few, machine_gives_steps, new_is_read,
+    one_machine,
+};
+use lw_words::Words;
+use std::alloc::Global;
+use std::test::Fail;
+use test_oracle::Recording;
+
+const A: u16 = 0;
+
+const B: u16 = 1;
+
+/// No batch is refused.
+const NEVER: usize = 1000;
+
+/// Whether a list has just these words, in this order.
+fn are(words: &Words, expected: &[&[u16]]) -> bool {
+    let mut each = words.as_slice().iter().zip(expected.iter());
+    words.len() == expected.len() && each.all(|(word, letters)| word.as_slice() == *letters)
+}
+
+/// Whether a state of a closed tree has this row.
+fn has_row(tree: &DiscriminationTree, state: u16, row: &[(u16, u16)]) -> bool
+    requires closed { IsClosed tree.now }
+    requires state { state < length tree.now.access }
+{
+    if row.len() != usize::from(tree.inputs()) {
+        return false;
+    }
+    for letter in 0..tree.inputs() {
+        if tree.step(state, letter) != row[usize::from(letter)] {
+            return false;
+        }
+    }
+    true
+}
+
+/// Whether these are the rows of a closed tree.
+fn has_rows(tree: &DiscriminationTree, rows: &[&[(u16, u16)]]) -> bool
+    requires { IsClosed tree.now }
+{
+    if rows.len() != usize::from(tree.states()) {
+        return false;
+    }
+    for state in 0..tree.states() {
+        if !has_row(tree, state, rows[usize::from(state)]) {
+            return false;
+        }
+    }
+    true
+}
+
+/// The machine of these rows over one letter.
+fn of_one_letter(alloc: Global, cells: &[(u16, u16)]) -> Result<Mealy, Fail> {
+    let mut rows = Vec::new(alloc);
+    for cell in cells {
+        rows.push(Vec::from_slice(alloc, &[*cell])?)?;
+    }
+    Ok(Mealy::new(alloc, 1, 2, rows)?)
+}
+
+/// The machine of these rows over two letters.
+fn of_two_letters(alloc: Global, outputs: u16, cells: &[[(u16, u16); 2]]) -> Result<Mealy, Fail>
+    requires { (1 ≤ outputs) × (outputs ≤ 4096) }
+{
+    let mut rows = Vec::new(alloc);
+    for row in cells {
+        rows.push(Vec::from_slice(alloc, row)?)?;
+    }
+    Ok(Mealy::new(alloc, 2, outputs, rows)?)
+}
+
+/// The machine whose every third a is answered 1.
+fn counter(alloc: Global) -> Result<Mealy, Fail> {
+    of_one_letter(alloc, &[(1, 0), (2, 0), (0, 1)])
+}
+
+/// The machine that answers 1 to the last letter of a b a b, each time from its start.
+fn lock(alloc: Global) -> Result<Mealy, Fail> {
+    let rows = [
+        [(1, 0), (4, 0)],
+        [(4, 0), (2, 0)],
+        [(3, 0), (4, 0)],
+        [(4, 0), (0, 1)],
+        [(4, 0), (4, 0)],
+    ];
+    of_two_letters(alloc, 2, &rows)
+}
+
+/// A machine whose states are told apart by a and then by b, each with outputs of its own and some that both have.
+fn fan(alloc: Global) -> Result<Mealy, Fail> {
+    let rows = [
+        [(1, 7), (3, 7)],
+        [(2, 8), (0, 7)],
+        [(0, 8), (3, 9)],
+        [(1, 9), (4, 7)],
+        [(2, 8), (1, 8)],
+    ];
+    of_two_letters(alloc, 10, &rows)
+}
+
+/// Which machine is asked.
+#[derive(Clone, Copy)]
+enum Asked {
+    Counter,
+    Fan,
+    Lock,
+}
+
+fn machine(alloc: Global, asked: Asked) -> Result<Mealy, Fail> {
+    match asked {
+        Asked::Counter => counter(alloc),
+        Asked::Fan => fan(alloc),
+        Asked::Lock => lock(alloc),
+    }
+}
+
+/// A batch by its number, and its words in their order.
+struct Batch {
+    number: usize,
+    words: &'static [&'static [u16]],
+}
+
+/// Whether an oracle settled so many batches, and these among them.
+fn has_settled(oracle: &Recording, count: usize, batches: &[Batch]) -> bool {
+    let are_asked = batches
+        .iter()
+        .all(|batch| oracle.asked(batch.number, batch.words));
+    oracle.batches().len() == count && are_asked
+}
+
+/// What a tree tells of itself.
+struct Shown {
+    access: &'static [&'static [u16]],
+    discriminators: &'static [&'static [u16]],
+    temporary: u32,
+    refinements: u32,
+}
+
+/// Whether a tree tells this of itself.
+fn shows(tree: &DiscriminationTree, shown: &Shown) -> Result<bool, Fail> {
+    let words = tree.discriminators()?;
+    let are_words = are(tree.access(), shown.access) && are(&words, shown.discriminators);
+    let counts = (tree.temporary(), tree.refinements());
+    Ok(are_words && counts == (shown.temporary, shown.refinements))
+}
+
+/// A tree of one state.
+static ONE_STATE: Shown = Shown {
+    access: &[&[]],
+    discriminators: &[],
+    temporary: 0,
+    refinements: 0,
+};
+
+/// Whether these are the leaves of a tree's states.
+fn has_leaves(tree: &DiscriminationTree, leaves: &[u32]) -> bool {
+    if leaves.len() != usize::from(tree.states()) {
+        return false;
+    }
+    for state in 0..tree.states() {
+        if tree.leaf(state) != leaves[usize::from(state)] {
+            return false;
+        }
+    }
+    true
+}
+
+/// Whether the lowest node above the leaves of two states is this one.
+fn is_fork(tree: &DiscriminationTree, one: u16, other: u16, node: u32) -> bool {
+    let states = tree.states();
+    one < states && other < states && tree.fork(tree.leaf(one), tree.leaf(other)) == node
+}
+
+#[test]
+fn a_new_tree_of_two_letters(rt: HostRuntime) -> Result<(), Fail> {
+    let tree = DiscriminationTree::new(rt.alloc(), 2, 3, 5)?;
+    assert!(rt; shows(&tree, &ONE_STATE)?);
+    Ok(())
+}
+
+#[test]
+fn the_laws() {
+    new_is_read();
+    branches_stay();
+    closed_has_machine();
+    one_machine();
+    access_leads();
+    machine_gives_steps();
+    access_is_crowd();
+    inners_are_few();
+    finals_are_few();
+    discriminators_are_short();
+}

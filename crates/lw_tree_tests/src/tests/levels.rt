@@ -1,0 +1,69 @@
+//! First levels, worked by hand: the words that are asked, in their order, and the machines.
+ghost use Rattle.lw_tree.specs.Tree.{IsClosed};
+
+use super::{A, Asked, B, Batch, NEVER, ONE_STATE, counter, has_settled, machine, shows};
+use lw_mealy::Mealy;
+use lw_tree::{DiscriminationTree, new_is_read};
+use std::alloc::Global;
+use std::test::Fail;
+use test_oracle::Recording;
+use test_tree::closed;
+
+/// Whether the machine of a closed tree has one state, which answers a by 0.
+fn is_mute(tree: &DiscriminationTree) -> Result<bool, Fail>
+    requires { IsClosed tree.now }
+{
+    let model = tree.machine()?;
+    Ok(model.states() == 1 && model.inputs() > 0 && model.step(0, A) == (0, 0))
+}
+
+/// Whether a new tree has one state once it was closed over a machine, and this batch was all that was asked.
+fn is_closed_by(alloc: Global, asked: Asked, batches: &[Batch]) -> Result<bool, Fail> {
+    let trial = closed(alloc, machine(alloc, asked)?, 5, NEVER)?;
+    let has_asked = has_settled(&trial.oracle, 1, batches);
+    Ok(has_asked && is_mute(&trial.tree)? && shows(&trial.tree, &ONE_STATE)?)
+}
+
+static ONE_LETTER: [Batch; 1] = [Batch {
+    number: 0,
+    words: &[&[A]],
+}];
+
+#[test]
+fn a_counter_has_one_state_at_first(rt: HostRuntime) -> Result<(), Fail> {
+    assert!(rt; is_closed_by(rt.alloc(), Asked::Counter, &ONE_LETTER)?);
+    Ok(())
+}
+
+static TWO_LETTERS: [Batch; 1] = [Batch {
+    number: 0,
+    words: &[&[A], &[B]],
+}];
+
+#[test]
+fn a_level_goes_by_letter(rt: HostRuntime) -> Result<(), Fail> {
+    assert!(rt; is_closed_by(rt.alloc(), Asked::Lock, &TWO_LETTERS)?);
+    Ok(())
+}
+
+/// Whether transitions are left without a target once one level of a new tree was sifted, and how many batches were settled.
+fn after_a_level(alloc: Global, mealy: Mealy) -> Result<(bool, usize), Fail> {
+    new_is_read();
+    let inputs = mealy.inputs();
+    let outputs = mealy.outputs();
+    let mut oracle = Recording::new(alloc, mealy);
+    let mut tree = DiscriminationTree::new(alloc, inputs, outputs, 8)?;
+    let sifting = tree.sift_level(&mut oracle);
+    let Ok(left) = sifting else {
+        return Err(Fail::from("a level is refused"));
+    };
+    Ok((left, oracle.batches().len()))
+}
+
+/// A new tree has one leaf, where each transition has its target after one level.
+#[test]
+fn one_level_of_a_new_tree(rt: HostRuntime) -> Result<(), Fail> {
+    let alloc = rt.alloc();
+    assert!(rt; after_a_level(alloc, counter(alloc)?)? == (false, 1));
+    Ok(())
+}
