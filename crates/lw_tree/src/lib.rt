@@ -20,6 +20,3 @@ pub use laws::{
     finals_are_few, inners_are_few, machine_gives_steps, new_is_read, one_machine,
 };
 pub use tree::DiscriminationTree;
-
-#[cfg(test)]
-mod tests;

@@ -1,2 +1,0 @@
-//! What isn't public.
-mod linked;
