@@ -14,18 +14,19 @@ fn are(words: &Words, expected: &[&[u16]]) -> bool {
     words.len() == expected.len() && each.all(|(word, letters)| word.as_slice() == *letters)
 }
 
+/// Whether a table has these access words and suffixes, and was never refined.
+fn has(table: &ObservationTable, access: &[&[u16]], suffixes: &[&[u16]]) -> bool {
+    are(table.access(), access) && are(table.suffixes(), suffixes) && table.refinements() == 0
+}
+
+static ONE_STATE: [&[u16]; 1] = [&[]];
+
+static TWO_LETTERS: [&[u16]; 2] = [&[0], &[1]];
+
 #[test]
 fn a_new_table_of_two_letters(rt: HostRuntime) -> Result<(), Fail> {
-    let alloc = rt.alloc();
-    let table = ObservationTable::new(alloc, 2, 3, 5)?;
-    assert!(rt; are(table.access(), [[].as_slice()].as_slice()));
-    assert!(rt;
-        are(
-            table.suffixes(),
-            [[0u16].as_slice(), [1u16].as_slice()].as_slice()
-        )
-    );
-    assert_eq!(rt; table.refinements(), 0);
+    let table = ObservationTable::new(rt.alloc(), 2, 3, 5)?;
+    assert!(rt; has(&table, &ONE_STATE, &TWO_LETTERS));
     Ok(())
 }
 

@@ -1,8 +1,8 @@
 //! Tables that are closed over machines, worked by hand: the words that are asked, in their order, and the machines.
-ghost use Rattle.std.specs.Prelude.{◌≤◌, IfOk, OnOk};
+ghost use Rattle.std.specs.Prelude.{◌<◌, IfOk, length};
 ghost use Rattle.lw_table.specs.Table.{IsClosed};
 
-use super::are;
+use super::{are, has};
 use lw_cache::{AskStop, GrowStop};
 use lw_mealy::Mealy;
 use lw_table::ObservationTable;
@@ -24,10 +24,11 @@ struct Trial {
 /// A new table that was closed over a machine, or the stop.
 #[tactic(auto, using(lw_table::proofs::NewLemmas::new_is_read))]
 fn closed_over(alloc: Global, mealy: Mealy, most: u16) -> Result<Result<Trial, GrowStop>, Fail>
-    requires some { 1 ≤ most }
-    requires few { most ≤ 1024 }
     ensures { IfOk result (λ closed. IfOk closed (λ trial. IsClosed trial.table)) }
 {
+    if most == 0 || most > 1024 {
+        return Err(Fail::from("another limit was meant"));
+    }
     let inputs = mealy.inputs();
     let outputs = mealy.outputs();
     let mut oracle = Recording::new(alloc, mealy);
@@ -40,8 +41,6 @@ fn closed_over(alloc: Global, mealy: Mealy, most: u16) -> Result<Result<Trial, G
 
 /// Such a table where it is closed.
 fn closed(alloc: Global, mealy: Mealy, most: u16) -> Result<Trial, Fail>
-    requires some { 1 ≤ most }
-    requires few { most ≤ 1024 }
     ensures { IfOk result (λ trial. IsClosed trial.table) }
 {
     match closed_over(alloc, mealy, most)? {
@@ -68,69 +67,14 @@ fn of_two_letters(alloc: Global, cells: &[[(u16, u16); 2]]) -> Result<Mealy, Fai
     Ok(Mealy::new(alloc, 2, 2, rows)?)
 }
 
-/// Whether a machine has this cell.
-fn has_cell(model: &Mealy, state: u16, letter: u16, cell: (u16, u16)) -> bool {
-    state < model.states() && letter < model.inputs() && model.step(state, letter) == cell
-}
-
-#[test]
-fn a_counter_has_one_row_at_first(rt: HostRuntime) -> Result<(), Fail> {
-    let alloc = rt.alloc();
-    let counter = of_one_letter(alloc, &[(1, 0), (2, 0), (0, 1)])?;
-    let trial = closed(alloc, counter, 3)?;
-    assert_eq!(rt; trial.oracle.batches().len(), 1);
-    assert!(rt; trial.oracle.asked(0, &[&[A], &[A, A]]));
-    assert!(rt; are(trial.table.access(), &[&[]]));
-    let model = trial.table.machine()?;
-    assert_eq!(rt; model.states(), 1);
-    assert!(rt; has_cell(&model, 0, A, (0, 0)));
-    Ok(())
+/// The machine whose every third a is answered 1.
+fn counter(alloc: Global) -> Result<Mealy, Fail> {
+    of_one_letter(alloc, &[(1, 0), (2, 0), (0, 1)])
 }
 
 /// The machine whose letter b does nothing, and whose every second a is answered 1.
 fn toggle(alloc: Global) -> Result<Mealy, Fail> {
     of_two_letters(alloc, &[[(1, 0), (0, 0)], [(0, 1), (1, 0)]])
-}
-
-#[test]
-fn an_extension_becomes_an_access_word(rt: HostRuntime) -> Result<(), Fail> {
-    let alloc = rt.alloc();
-    let trial = closed(alloc, toggle(alloc)?, 2)?;
-    assert_eq!(rt; trial.oracle.batches().len(), 2);
-    assert!(rt;
-        trial
-            .oracle
-            .asked(0, &[&[A], &[B], &[A, A], &[A, B], &[B, A], &[B, B]])
-    );
-    assert!(rt;
-        trial
-            .oracle
-            .asked(1, &[&[A, A, A], &[A, A, B], &[A, B, A], &[A, B, B]])
-    );
-    assert!(rt; are(trial.table.access(), &[&[], &[A]]));
-    Ok(())
-}
-
-#[test]
-fn the_machine_of_two_states(rt: HostRuntime) -> Result<(), Fail> {
-    let alloc = rt.alloc();
-    let trial = closed(alloc, toggle(alloc)?, 2)?;
-    let model = trial.table.machine()?;
-    assert_eq!(rt; model.states(), 2);
-    assert!(rt; has_cell(&model, 0, A, (1, 0)) && has_cell(&model, 0, B, (0, 0)));
-    assert!(rt; has_cell(&model, 1, A, (0, 1)) && has_cell(&model, 1, B, (1, 0)));
-    assert_eq!(rt; trial.table.refinements(), 0);
-    Ok(())
-}
-
-#[test]
-fn one_access_word_too_many(rt: HostRuntime) -> Result<(), Fail> {
-    let alloc = rt.alloc();
-    let Err(GrowStop::Crowd(words)) = closed_over(alloc, toggle(alloc)?, 1)? else {
-        return Err(Fail::from("no crowd"));
-    };
-    assert!(rt; are(&words, &[&[], &[A]]));
-    Ok(())
 }
 
 /// The machine that answers 1 to the last letter of a b a b, each time from its start.
@@ -145,33 +89,211 @@ fn lock(alloc: Global) -> Result<Mealy, Fail> {
     of_two_letters(alloc, &rows)
 }
 
+/// The machine that stays where the first letter leads, and answers that letter by 1 from then on.
+fn switch(alloc: Global) -> Result<Mealy, Fail> {
+    of_two_letters(
+        alloc,
+        &[[(1, 0), (2, 0)], [(1, 1), (1, 0)], [(2, 0), (2, 1)]],
+    )
+}
+
+/// Which machine is asked.
+#[derive(Clone, Copy)]
+enum Asked {
+    Counter,
+    Toggle,
+    Lock,
+    Switch,
+}
+
+fn machine(alloc: Global, asked: Asked) -> Result<Mealy, Fail> {
+    match asked {
+        Asked::Counter => counter(alloc),
+        Asked::Toggle => toggle(alloc),
+        Asked::Lock => lock(alloc),
+        Asked::Switch => switch(alloc),
+    }
+}
+
+/// A batch by its number, and its words in their order.
+struct Batch {
+    number: usize,
+    words: &'static [&'static [u16]],
+}
+
+/// How many batches were asked, and the words of some; the access words and the suffixes.
+struct Left {
+    count: usize,
+    batches: &'static [Batch],
+    access: &'static [&'static [u16]],
+    suffixes: &'static [&'static [u16]],
+}
+
+/// Whether an oracle settled so many batches, and these among them.
+fn has_settled(oracle: &Recording, count: usize, batches: &[Batch]) -> bool {
+    let are_asked = batches
+        .iter()
+        .all(|batch| oracle.asked(batch.number, batch.words));
+    oracle.batches().len() == count && are_asked
+}
+
+/// Whether that is left.
+fn is_left(trial: &Trial, left: &Left) -> bool {
+    let has_asked = has_settled(&trial.oracle, left.count, left.batches);
+    has_asked && has(&trial.table, left.access, left.suffixes)
+}
+
+/// Whether a state of a machine has this row.
+fn has_row(model: &Mealy, state: u16, row: &[(u16, u16)]) -> bool
+    requires { state < length model.now.rows }
+{
+    if row.len() != usize::from(model.inputs()) {
+        return false;
+    }
+    for letter in 0..model.inputs() {
+        if model.step(state, letter) != row[usize::from(letter)] {
+            return false;
+        }
+    }
+    true
+}
+
+/// Whether a machine has these rows.
+fn has_rows(model: &Mealy, rows: &[&[(u16, u16)]]) -> bool {
+    if rows.len() != usize::from(model.states()) {
+        return false;
+    }
+    for state in 0..model.states() {
+        if !has_row(model, state, rows[usize::from(state)]) {
+            return false;
+        }
+    }
+    true
+}
+
+/// A machine that is asked, how many states there may be, what is left once a table is closed over it, and the table's
+/// machine.
+struct Case {
+    asked: Asked,
+    most: u16,
+    left: Left,
+    rows: &'static [&'static [(u16, u16)]],
+}
+
+/// Whether a case goes so.
+fn goes(alloc: Global, case: &Case) -> Result<bool, Fail> {
+    let trial = closed(alloc, machine(alloc, case.asked)?, case.most)?;
+    let model = trial.table.machine()?;
+    Ok(is_left(&trial, &case.left) && has_rows(&model, case.rows))
+}
+
+static COUNTER: Case = Case {
+    asked: Asked::Counter,
+    most: 3,
+    left: Left {
+        count: 1,
+        batches: &[Batch {
+            number: 0,
+            words: &[&[A], &[A, A]],
+        }],
+        access: &[&[]],
+        suffixes: &[&[A]],
+    },
+    rows: &[&[(0, 0)]],
+};
+
+#[test]
+fn a_counter_has_one_row_at_first(rt: HostRuntime) -> Result<(), Fail> {
+    assert!(rt; goes(rt.alloc(), &COUNTER)?);
+    Ok(())
+}
+
+static TOGGLE: Case = Case {
+    asked: Asked::Toggle,
+    most: 2,
+    left: Left {
+        count: 2,
+        batches: &[
+            Batch {
+                number: 0,
+                words: &[&[A], &[B], &[A, A], &[A, B], &[B, A], &[B, B]],
+            },
+            Batch {
+                number: 1,
+                words: &[&[A, A, A], &[A, A, B], &[A, B, A], &[A, B, B]],
+            },
+        ],
+        access: &[&[], &[A]],
+        suffixes: &[&[A], &[B]],
+    },
+    rows: &[&[(1, 0), (0, 0)], &[(0, 1), (1, 0)]],
+};
+
+#[test]
+fn an_extension_becomes_an_access_word(rt: HostRuntime) -> Result<(), Fail> {
+    assert!(rt; goes(rt.alloc(), &TOGGLE)?);
+    Ok(())
+}
+
+/// Whether no table of a toggle has one state: these are the words of the crowd.
+fn is_crowd(alloc: Global, expected: &[&[u16]]) -> Result<bool, Fail> {
+    match closed_over(alloc, toggle(alloc)?, 1)? {
+        Err(GrowStop::Crowd(words)) => Ok(are(&words, expected)),
+        _ => Ok(false),
+    }
+}
+
+static TWO_ROWS: [&[u16]; 2] = [&[], &[A]];
+
+#[test]
+fn one_access_word_too_many(rt: HostRuntime) -> Result<(), Fail> {
+    assert!(rt; is_crowd(rt.alloc(), &TWO_ROWS)?);
+    Ok(())
+}
+
+static LOCK: Case = Case {
+    asked: Asked::Lock,
+    most: 5,
+    left: Left {
+        count: 1,
+        batches: &[],
+        access: &[&[]],
+        suffixes: &[&[A], &[B]],
+    },
+    rows: &[&[(0, 0), (0, 0)]],
+};
+
 #[test]
 fn a_lock_shows_nothing_at_first(rt: HostRuntime) -> Result<(), Fail> {
-    let alloc = rt.alloc();
-    let trial = closed(alloc, lock(alloc)?, 5)?;
-    assert_eq!(rt; trial.oracle.batches().len(), 1);
-    assert!(rt; are(trial.table.suffixes(), &[&[A], &[B]]));
+    assert!(rt; goes(rt.alloc(), &LOCK)?);
     Ok(())
 }
 
 /// Two rows are open at once: that of a becomes an access word's first, its extensions are asked, and then that of b.
+static SWITCH: Case = Case {
+    asked: Asked::Switch,
+    most: 3,
+    left: Left {
+        count: 3,
+        batches: &[
+            Batch {
+                number: 1,
+                words: &[&[A, A, A], &[A, A, B], &[A, B, A], &[A, B, B]],
+            },
+            Batch {
+                number: 2,
+                words: &[&[B, A, A], &[B, A, B], &[B, B, A], &[B, B, B]],
+            },
+        ],
+        access: &[&[], &[A], &[B]],
+        suffixes: &[&[A], &[B]],
+    },
+    rows: &[&[(1, 0), (2, 0)], &[(1, 1), (1, 0)], &[(2, 0), (2, 1)]],
+};
+
 #[test]
 fn the_first_open_row_comes_first(rt: HostRuntime) -> Result<(), Fail> {
-    let alloc = rt.alloc();
-    let rows = [[(1, 0), (2, 0)], [(1, 1), (1, 0)], [(2, 0), (2, 1)]];
-    let trial = closed(alloc, of_two_letters(alloc, &rows)?, 3)?;
-    assert!(rt;
-        trial
-            .oracle
-            .asked(1, &[&[A, A, A], &[A, A, B], &[A, B, A], &[A, B, B]])
-    );
-    assert!(rt;
-        trial
-            .oracle
-            .asked(2, &[&[B, A, A], &[B, A, B], &[B, B, A], &[B, B, B]])
-    );
-    assert_eq!(rt; trial.oracle.batches().len(), 3);
-    assert!(rt; are(trial.table.access(), &[&[], &[A], &[B]]));
+    assert!(rt; goes(rt.alloc(), &SWITCH)?);
     Ok(())
 }
 
@@ -191,21 +313,25 @@ fn closed_again(alloc: Global, mealy: Mealy) -> Result<Trial, Fail> {
     Ok(Trial { oracle, table })
 }
 
+static REFUSED: Left = Left {
+    count: 3,
+    batches: &[
+        Batch {
+            number: 1,
+            words: &[&[A, A, A], &[A, A, B], &[A, B, A], &[A, B, B]],
+        },
+        Batch {
+            number: 2,
+            words: &[&[A, A, A], &[A, A, B], &[A, B, A], &[A, B, B]],
+        },
+    ],
+    access: &[&[], &[A]],
+    suffixes: &[&[A], &[B]],
+};
+
 #[test]
 fn a_closing_goes_on_after_a_refusal(rt: HostRuntime) -> Result<(), Fail> {
-    let alloc = rt.alloc();
-    let trial = closed_again(alloc, toggle(alloc)?)?;
-    assert_eq!(rt; trial.oracle.batches().len(), 3);
-    assert!(rt;
-        trial
-            .oracle
-            .asked(1, &[&[A, A, A], &[A, A, B], &[A, B, A], &[A, B, B]])
-    );
-    assert!(rt;
-        trial
-            .oracle
-            .asked(2, &[&[A, A, A], &[A, A, B], &[A, B, A], &[A, B, B]])
-    );
-    assert!(rt; are(trial.table.access(), &[&[], &[A]]));
+    let trial = closed_again(rt.alloc(), toggle(rt.alloc())?)?;
+    assert!(rt; is_left(&trial, &REFUSED));
     Ok(())
 }
