@@ -10,40 +10,50 @@ use lw_words::Word;
 use std::alloc::Global;
 use std::test::Fail;
 
-/// Answers, and the first word on which the machine that answers each letter with its number differs from them.
+/// Answers, and the first word on which the machine that answers each letter with its number differs from them, if any.
 struct Case {
     answers: &'static [(&'static [u16], &'static [u16])],
-    first: &'static [u16],
+    first: Option<&'static [u16]>,
 }
 
-static CASES: [Case; 7] = [
+static CASES: [Case; 9] = [
+    // The machine differs nowhere.
+    Case {
+        answers: &[(&[0, 1, 0], &[0, 1, 0])],
+        first: None,
+    },
+    // It differs twice.
+    Case {
+        answers: &[(&[0, 1, 0, 0], &[0, 0, 0, 1])],
+        first: Some(&[0, 1]),
+    },
     // Of words of one length the first different letter decides, not the last, in either order of the answers.
     Case {
         answers: &[(&[1, 0], &[1, 1]), (&[0, 1], &[0, 0])],
-        first: &[0, 1],
+        first: Some(&[0, 1]),
     },
     Case {
         answers: &[(&[0, 1], &[0, 0]), (&[1, 0], &[1, 1])],
-        first: &[0, 1],
+        first: Some(&[0, 1]),
     },
     // The words part at their last letter.
     Case {
         answers: &[(&[1, 0, 1], &[1, 0, 0]), (&[1, 0, 0], &[1, 0, 1])],
-        first: &[1, 0, 0],
+        first: Some(&[1, 0, 0]),
     },
     // A shorter word is before a longer one, whose letters are before it, in either order.
     Case {
         answers: &[(&[0, 0, 0], &[0, 0, 1]), (&[1, 1], &[1, 0])],
-        first: &[1, 1],
+        first: Some(&[1, 1]),
     },
     Case {
         answers: &[(&[1, 1], &[1, 0]), (&[0, 0, 0], &[0, 0, 1])],
-        first: &[1, 1],
+        first: Some(&[1, 1]),
     },
     // Below the first difference there are more.
     Case {
         answers: &[(&[0, 0, 1], &[1, 1, 0])],
-        first: &[0],
+        first: Some(&[0]),
     },
     // Of three ties the first is neither the first nor the last that is found.
     Case {
@@ -52,7 +62,7 @@ static CASES: [Case; 7] = [
             (&[0, 1, 1], &[0, 1, 0]),
             (&[1, 1, 0], &[1, 1, 1]),
         ],
-        first: &[0, 1, 1],
+        first: Some(&[0, 1, 1]),
     },
 ];
 
@@ -108,24 +118,30 @@ fn keeps(alloc: Global, answers: &[(&[u16], &[u16])]) -> Result<Cache, Fail>
     Ok(cache)
 }
 
-/// Whether the first word on which the machine differs is this one.
-fn is_first(cache: &Cache, m: &Mealy, word: &[u16]) -> Result<bool, Fail>
+/// Whether the first word on which the machine differs is this one, or it differs nowhere.
+fn is_first(cache: &Cache, m: &Mealy, word: Option<&[u16]>) -> Result<bool, Fail>
     requires inputs { m.now.inputs ≡ 2 }
     requires letters { All (λ k. IsWord 2 k.word) (answers_of cache.now.kept) }
 {
     match cache.against(m)? {
-        Some(first) => Ok(first.as_slice() == word),
-        None => Ok(false),
+        Some(first) => Ok(word == Some(first.as_slice())),
+        None => Ok(word.is_none()),
     }
+}
+
+/// Whether the machine differs first as a case says.
+fn goes(alloc: Global, m: &Mealy, case: &Case) -> Result<bool, Fail>
+    requires { m.now.inputs ≡ 2 }
+{
+    let cache = keeps(alloc, case.answers)?;
+    is_first(&cache, m, case.first)
 }
 
 #[test]
 fn the_first_of_several_differences(rt: HostRuntime) -> Result<(), Fail> {
-    let alloc = rt.alloc();
-    let m = echo(alloc)?;
+    let m = echo(rt.alloc())?;
     for case in &CASES {
-        let cache = keeps(alloc, case.answers)?;
-        assert!(rt; is_first(&cache, &m, case.first)?);
+        assert!(rt; goes(rt.alloc(), &m, case)?);
     }
     Ok(())
 }
@@ -140,32 +156,54 @@ fn level(alloc: Global, first: u16, len: usize, place: usize, last: u16) -> Resu
     Ok(Word::from_letters(alloc, letters))
 }
 
+/// Keeps an answer to the word of this length that begins with `first`, from which the machine differs at each letter from a
+/// place on.
+fn keep_level(
+    alloc: Global,
+    cache: &mut Cache,
+    first: u16,
+    len: usize,
+    place: usize,
+) -> Result<(), Fail>
+    requires claims { cache.old.claims ≡ [] }
+    requires letters { All (λ k. IsWord 2 k.word) (answers_of cache.old.kept) }
+    ensures claims { cache.new.claims ≡ [] }
+    ensures letters { OnOk result (All (λ k. IsWord 2 k.word) (answers_of cache.new.kept)) }
+{
+    let word = level(alloc, first, len, len, 0)?;
+    let outs = level(alloc, first, len, place, 1)?;
+    keep(cache, word, outs)
+}
+
 /// A cache with answers to two words of this length, which part at their first letter. The machine differs from both at
 /// each letter from a place on, which isn't the first.
 fn keeps_long(alloc: Global, len: usize, place: usize) -> Result<Cache, Fail>
     ensures { IfOk result (λ cache. All (λ k. IsWord 2 k.word) (answers_of cache.kept)) }
 {
     let mut cache = Cache::new(alloc);
-    for first in [1, 0] {
-        let word = level(alloc, first, len, len, 0)?;
-        let outs = level(alloc, first, len, place, 1)?;
-        keep(&mut cache, word, outs)?;
-    }
+    keep_level(alloc, &mut cache, 1, len, place)?;
+    keep_level(alloc, &mut cache, 0, len, place)?;
     Ok(cache)
+}
+
+/// Whether the first difference is the front of the word that begins with 0, up to a place.
+fn is_front(alloc: Global, cache: &Cache, len: usize, place: usize) -> Result<bool, Fail>
+    requires { All (λ k. IsWord 2 k.word) (answers_of cache.now.kept) }
+{
+    let front = level(alloc, 0, place.saturating_add(1), len, 0)?;
+    let m = echo(alloc)?;
+    is_first(cache, &m, Some(front.as_slice()))
 }
 
 /// Whether the first difference from answers to two words of this length is the front of the later one up to the place.
 fn is_found(alloc: Global, len: usize, place: usize) -> Result<bool, Fail> {
-    let m = echo(alloc)?;
     let cache = keeps_long(alloc, len, place)?;
-    let front = level(alloc, 0, place.saturating_add(1), len, 0)?;
-    is_first(&cache, &m, front.as_slice())
+    is_front(alloc, &cache, len, place)
 }
 
 #[test]
 fn two_long_answers(rt: HostRuntime) -> Result<(), Fail> {
-    let alloc = rt.alloc();
-    assert!(rt; is_found(alloc, 5000, 1)?);
-    assert!(rt; is_found(alloc, 5000, 4999)?);
+    assert!(rt; is_found(rt.alloc(), 5000, 1)?);
+    assert!(rt; is_found(rt.alloc(), 5000, 4999)?);
     Ok(())
 }
