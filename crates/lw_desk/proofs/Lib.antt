@@ -11,7 +11,6 @@ pub mod ReplayLemmas
 pub mod RunLemmas
 pub mod SeatLemmas
 pub mod StopLemmas
-pub mod TestTrials
 pub mod TidyLemmas
 pub mod TurnLemmas
 pub mod WordOrder

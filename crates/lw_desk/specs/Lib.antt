@@ -3,6 +3,5 @@ pub mod History
 pub mod Ending
 pub mod Naming
 pub mod Step
-pub mod TestTrial
 pub mod bodies
 pub mod lemmas

@@ -16,6 +16,3 @@ pub use desk::Desk;
 pub use opening::Opening;
 pub use out_names::OutNames;
 pub use places::{MOST_PLACES, Places};
-
-#[cfg(test)]
-mod tests;
