@@ -1,6 +1,4 @@
 //! What no clause says: that the calls succeed, and the forms in memory through the traits, by hand.
-ghost use Rattle.std.specs.Prelude.{◌<◌, length};
-
 mod links;
 mod player;
 mod spawners;
@@ -11,15 +9,21 @@ use lw_outside::{
 use std::alloc::Global;
 use std::test::Fail;
 
+/// Names and their texts.
+fn named(alloc: Global, list: &[(&str, &str)]) -> Result<Vec<(String, Vec<u8>)>, Fail> {
+    let mut files = Vec::new(alloc);
+    for (name, text) in list {
+        let name = String::from_str(alloc, name)?;
+        files.push((name, Vec::from_slice(alloc, text.as_bytes())?))?;
+    }
+    Ok(files)
+}
+
+static FILES: [(&str, &str); 3] = [("a", "old"), ("b", "two"), ("a", "new")];
+
 /// Files `a` and `b`, where a later `a` wins, and the calls of the plan fail.
 fn two_files(alloc: Global, plan: &[u64]) -> Result<MemoryFiles, Fail> {
-    let mut files = Vec::new(alloc);
-    for (name, text) in [("a", "old"), ("b", "two"), ("a", "new")] {
-        files.push((
-            String::from_str(alloc, name)?,
-            Vec::from_slice(alloc, text.as_bytes())?,
-        ))?;
-    }
+    let files = named(alloc, &FILES)?;
     Ok(MemoryFiles::new(alloc, files, plan.to_vec(alloc)?)?)
 }
 
@@ -34,59 +38,134 @@ fn read_stop<F: Files>(files: &mut F, name: &str) -> Option<FilesStop> {
     files.read(name).err()
 }
 
+/// What is asked of files, and how it is to go.
+enum Turn {
+    Reads(&'static str, &'static str),
+    RefusesRead(&'static str),
+    Writes(&'static str, &'static str),
+    RefusesWrite(&'static str, &'static str),
+}
+
+fn goes<F: Files>(files: &mut F, turn: &Turn) -> bool {
+    match turn {
+        Turn::Reads(name, text) => reads(files, name, text),
+        Turn::RefusesRead(name) => read_stop(files, name) == Some(FilesStop::Failed),
+        Turn::Writes(name, text) => files.write(name, text.as_bytes()) == Ok(()),
+        Turn::RefusesWrite(name, text) => {
+            files.write(name, text.as_bytes()) == Err(WriteStop::Failed)
+        }
+    }
+}
+
+/// Whether each turn goes as it is to.
+fn all_go<F: Files>(files: &mut F, turns: &[Turn]) -> bool {
+    for turn in turns {
+        if !goes(files, turn) {
+            return false;
+        }
+    }
+    true
+}
+
+static BY_NAME: [Turn; 5] = [
+    Turn::Reads("a", "new"),
+    Turn::Reads("b", "two"),
+    Turn::RefusesRead("c"),
+    Turn::Writes("c", "three"),
+    Turn::Reads("c", "three"),
+];
+
+/// Whether files are found by their names, and the calls are noted.
+fn are_found(alloc: Global) -> Result<bool, Fail> {
+    let mut files = two_files(alloc, &[])?;
+    let found = all_go(&mut files, &BY_NAME);
+    Ok(found && files.calls().len() == 5 && files.bytes("d").is_none())
+}
+
 #[test]
 fn files_by_name(rt: HostRuntime) -> Result<(), Fail> {
-    let mut files = two_files(rt.alloc(), &[])?;
-    assert!(rt; reads(&mut files, "a", "new"));
-    assert!(rt; reads(&mut files, "b", "two"));
-    assert_eq!(rt; read_stop(&mut files, "c"), Some(FilesStop::Failed));
-    assert_eq!(rt; files.write("c", b"three"), Ok(()));
-    assert!(rt; reads(&mut files, "c", "three"));
-    assert_eq!(rt; files.calls().len(), 5);
-    assert!(rt; files.bytes("d").is_none());
+    assert!(rt; are_found(rt.alloc())?);
     Ok(())
+}
+
+static BY_PLAN: [Turn; 4] = [
+    Turn::Reads("b", "two"),
+    Turn::RefusesRead("b"),
+    Turn::RefusesWrite("b", "three"),
+    Turn::Reads("b", "two"),
+];
+
+/// Whether the calls of a plan fail.
+fn fail_by_plan(alloc: Global) -> Result<bool, Fail> {
+    let mut files = two_files(alloc, &[1, 2])?;
+    Ok(all_go(&mut files, &BY_PLAN))
 }
 
 #[test]
 fn files_fail_by_their_plan(rt: HostRuntime) -> Result<(), Fail> {
-    let mut files = two_files(rt.alloc(), &[1, 2])?;
-    assert!(rt; reads(&mut files, "b", "two"));
-    assert_eq!(rt; read_stop(&mut files, "b"), Some(FilesStop::Failed));
-    assert_eq!(rt; files.write("b", b"three"), Err(WriteStop::Failed));
-    assert!(rt; reads(&mut files, "b", "two"));
+    assert!(rt; fail_by_plan(rt.alloc())?);
     Ok(())
+}
+
+/// Files of one letter, so many times each.
+fn long_files(alloc: Global, lengths: &[(&str, usize)]) -> Result<MemoryFiles, Fail> {
+    let mut files = Vec::new(alloc);
+    for (name, length) in lengths {
+        let name = String::from_str(alloc, name)?;
+        files.push((name, vec![in alloc; b'x'; *length]?))?;
+    }
+    Ok(MemoryFiles::new(alloc, files, Vec::new(alloc))?)
+}
+
+static LENGTHS: [(&str, usize); 2] = [("long", 16_777_216), ("longer", 16_777_217)];
+
+/// Whether the longer of two files is too long.
+fn longer_is_too_long<F: Files>(files: &mut F) -> bool {
+    let long = read_stop(files, "long");
+    long.is_none() && read_stop(files, "longer") == Some(FilesStop::TooLong)
 }
 
 #[test]
 fn a_long_file_is_not_read(rt: HostRuntime) -> Result<(), Fail> {
-    let alloc = rt.alloc();
-    let mut files = Vec::new(alloc);
-    for (name, length) in [("long", 16_777_216usize), ("longer", 16_777_217)] {
-        let bytes = vec![in alloc; b'x'; length]?;
-        files.push((String::from_str(alloc, name)?, bytes))?;
-    }
-    let mut files = MemoryFiles::new(alloc, files, Vec::new(alloc))?;
-    assert_eq!(rt; read_stop(&mut files, "long"), None);
-    assert_eq!(rt; read_stop(&mut files, "longer"), Some(FilesStop::TooLong));
+    let mut files = long_files(rt.alloc(), &LENGTHS)?;
+    assert!(rt; longer_is_too_long(&mut files));
     Ok(())
 }
 
-/// How many bytes a sink takes of these, or None where it fails.
-fn put<K: Sink>(sink: &mut K, bytes: &[u8]) -> Option<usize>
-    requires { 0 < length bytes.now }
-{
-    sink.put(bytes).ok()
+/// Whether a sink takes so many of these bytes, which are not none, or fails where it is to.
+fn takes_so<K: Sink>(sink: &mut K, bytes: &[u8], count: Option<usize>) -> bool {
+    if bytes.is_empty() {
+        return false;
+    }
+    sink.put(bytes).ok() == count
+}
+
+/// Whether it does, one time after another.
+fn takes_all_so<K: Sink>(sink: &mut K, puts: &[(&[u8], Option<usize>)]) -> bool {
+    for (bytes, count) in puts {
+        if !takes_so(sink, bytes, *count) {
+            return false;
+        }
+    }
+    true
+}
+
+static PUTS: [(&[u8], Option<usize>); 4] = [
+    (b"abcd", Some(3)),
+    (b"d", None),
+    (b"def", Some(2)),
+    (b"f", None),
+];
+
+/// Whether a sink with a room of five bytes takes three at a time, but for a call that fails.
+fn sink_goes(alloc: Global) -> Result<bool, Fail> {
+    let mut sink = MemorySink::new(alloc, 5, 3, [1u64].to_vec(alloc)?)?;
+    Ok(takes_all_so(&mut sink, &PUTS) && sink.taken() == b"abcde".as_slice())
 }
 
 #[test]
 fn a_sink_takes_pieces_up_to_its_room(rt: HostRuntime) -> Result<(), Fail> {
-    let alloc = rt.alloc();
-    let mut sink = MemorySink::new(alloc, 5, 3, [1u64].to_vec(alloc)?)?;
-    assert_eq!(rt; put(&mut sink, b"abcd"), Some(3));
-    assert_eq!(rt; put(&mut sink, b"d"), None);
-    assert_eq!(rt; put(&mut sink, b"def"), Some(2));
-    assert_eq!(rt; put(&mut sink, b"f"), None);
-    assert_eq!(rt; sink.taken(), b"abcde".as_slice());
+    assert!(rt; sink_goes(rt.alloc())?);
     Ok(())
 }
 
@@ -99,13 +178,27 @@ fn take<S: Source>(source: &mut S) -> Option<(usize, u8)> {
     }
 }
 
+/// Whether a source gives these, one after another.
+fn gives_so<S: Source>(source: &mut S, reads: &[Option<(usize, u8)>]) -> bool {
+    for read in reads {
+        if take(source) != *read {
+            return false;
+        }
+    }
+    true
+}
+
+static READS: [Option<(usize, u8)>; 4] = [Some((3, b'a')), None, Some((2, b'd')), Some((0, 0))];
+
+/// Whether a source of five bytes gives three at a time, but for a call that fails.
+fn source_goes(alloc: Global) -> Result<bool, Fail> {
+    let bytes = b"abcde".to_vec(alloc)?;
+    let mut source = MemorySource::new(bytes, 3, [1u64].to_vec(alloc)?)?;
+    Ok(gives_so(&mut source, &READS))
+}
+
 #[test]
 fn a_source_gives_pieces_up_to_its_end(rt: HostRuntime) -> Result<(), Fail> {
-    let alloc = rt.alloc();
-    let mut source = MemorySource::new(b"abcde".to_vec(alloc)?, 3, [1u64].to_vec(alloc)?)?;
-    assert_eq!(rt; take(&mut source), Some((3, b'a')));
-    assert_eq!(rt; take(&mut source), None);
-    assert_eq!(rt; take(&mut source), Some((2, b'd')));
-    assert_eq!(rt; take(&mut source), Some((0, 0)));
+    assert!(rt; source_goes(rt.alloc())?);
     Ok(())
 }
