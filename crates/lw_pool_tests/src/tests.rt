@@ -14,7 +14,7 @@ mod telling;
 
 use crate::tests::acting::Acting;
 use crate::tests::crews::{
-    Plan, ROWS, all_words, are_all_answers, machine, meeting_pool, pool_of, settle, sound,
+    Plan, ROWS, all_words, are_all_answers, machine, meeting_pool, pool_of, settle, settles, sound,
     sound_plans, words,
 };
 use lw_cache::{AskStop, Clash, Oracle};
@@ -115,18 +115,8 @@ fn each_word_is_asked_once_by_however_many(rt: HostRuntime) -> Result<(), Fail> 
     Ok(())
 }
 
-/// Settles a word behind one of its prefixes, and the prefix again; whether that succeeds.
-fn settles_prefixes<R: Threads + Wait + Sync>(
-    pool: &mut Pool<Acting, R>,
-    alloc: Global,
-) -> Result<bool, Fail>
-    requires { pool.old.inputs ≡ 2 }
-    ensures { IfOk result (λ _. pool.new.inputs ≡ 2) }
-{
-    let (one, three) = ([0u16], [0u16, 0, 0]);
-    let batch = words(alloc, &[one.as_slice(), three.as_slice(), one.as_slice()])?;
-    Ok(settle(pool, &batch)?.is_ok())
-}
+/// A word behind one of its prefixes, and the prefix again.
+static PREFIXES: [&[u16]; 3] = [&[0], &[0, 0, 0], &[0]];
 
 /// Settles them twice; whether that succeeds, and one answer is kept.
 fn keeps_longest<R: Threads + Wait + Sync>(
@@ -135,8 +125,8 @@ fn keeps_longest<R: Threads + Wait + Sync>(
 ) -> Result<bool, Fail>
     requires { pool.old.inputs ≡ 2 }
 {
-    let first = settles_prefixes(pool, alloc)?;
-    let again = settles_prefixes(pool, alloc)?;
+    let first = settles(pool, alloc, &PREFIXES)?;
+    let again = settles(pool, alloc, &PREFIXES)?;
     Ok(first && again && pool.cache().kept().len() == 1)
 }
 
@@ -167,6 +157,8 @@ fn a_prefix_and_a_repeated_word_are_not_asked(rt: HostRuntime) -> Result<(), Fai
     Ok(())
 }
 
+static TWO_WORDS: [&[u16]; 2] = [&[0], &[1]];
+
 /// Settles two words; whether that succeeds, and both are kept.
 fn keeps_two<R: Threads + Wait + Sync>(
     pool: &mut Pool<Acting, R>,
@@ -174,8 +166,7 @@ fn keeps_two<R: Threads + Wait + Sync>(
 ) -> Result<bool, Fail>
     requires { pool.old.inputs ≡ 2 }
 {
-    let batch = words(alloc, &[[0u16].as_slice(), [1u16].as_slice()])?;
-    let settled = settle(pool, &batch)?.is_ok();
+    let settled = settles(pool, alloc, &TWO_WORDS)?;
     Ok(settled && pool.cache().kept().len() == 2)
 }
 
@@ -210,6 +201,8 @@ fn clashes<R: Threads + Wait + Sync>(
     Ok(clash == expected && pool.cache().kept().len() == 2)
 }
 
+static ALIKE: [&[u16]; 2] = [&[0, 0], &[0, 1]];
+
 /// Settles two words twice; whether they clash each time.
 fn stays_clashed<R: Threads + Wait + Sync>(
     pool: &mut Pool<Acting, R>,
@@ -217,7 +210,7 @@ fn stays_clashed<R: Threads + Wait + Sync>(
 ) -> Result<bool, Fail>
     requires { pool.old.inputs ≡ 2 }
 {
-    let batch = words(alloc, &[[0u16, 0].as_slice(), [0u16, 1].as_slice()])?;
+    let batch = words(alloc, &ALIKE)?;
     let first = clashes(pool, &batch)?;
     let again = clashes(pool, &batch)?;
     Ok(first && again)
@@ -320,13 +313,13 @@ fn kept_by<O: Oracle>(oracle: &mut O, batch: &[Word]) -> Result<usize, Fail>
     }
 }
 
-/// How many answers a pool of three keeps, asked as an oracle, once and again.
-fn kept_by_three<R: Threads + Wait + Sync + Drop>(
-    rt: R,
-    alloc: Global,
+/// How many answers a pool keeps, asked as an oracle, once and again.
+fn kept_by_pool<R: Threads + Wait + Sync + Drop>(
+    pool: Pool<Acting, R>,
     batch: &[Word],
-) -> Result<(usize, usize), Fail> {
-    let pool = pool_of(rt, alloc, sound_plans(alloc, 3)?)?;
+) -> Result<(usize, usize), Fail>
+    requires { pool.inputs ≡ 2 }
+{
     let settle = |pool: &mut Pool<Acting, R>, batch: &[Word]|
         requires letters { All (IsWord pool.now.inputs) batch.now }
         requires few { length batch.now < 2 ^ 32 }
@@ -337,11 +330,18 @@ fn kept_by_three<R: Threads + Wait + Sync + Drop>(
     Ok((first, kept_by(&mut oracle, batch)?))
 }
 
+/// The same of a pool of three, and all words of three letters.
+fn kept_by_three<R: Threads + Wait + Sync + Drop>(
+    rt: R,
+    alloc: Global,
+) -> Result<(usize, usize), Fail> {
+    let pool = pool_of(rt, alloc, sound_plans(alloc, 3)?)?;
+    let batch = all_words(alloc, 3)?;
+    kept_by_pool(pool, &batch)
+}
+
 #[test]
 fn a_pool_is_an_oracle(rt: HostRuntime) -> Result<(), Fail> {
-    let alloc = rt.alloc();
-    let (first, second) = kept_by_three(rt, alloc, &all_words(alloc, 3)?)?;
-    assert_eq!(rt; first, 8);
-    assert_eq!(rt; second, 8);
+    assert!(rt; kept_by_three(rt, rt.alloc())? == (8, 8));
     Ok(())
 }

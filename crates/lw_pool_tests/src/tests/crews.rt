@@ -34,18 +34,29 @@ pub fn names(alloc: Global) -> Result<Names, Fail> {
     Ok(Names::from_list(alloc, &texts)?)
 }
 
-/// Two ends of one meeting.
-pub fn meeting(alloc: Global) -> Result<(Meeting, Meeting), Fail> {
+/// A number that two share.
+type Shared = Arc<AtomicU32, Global>;
+
+/// Both ends of one.
+fn shared(alloc: Global) -> Result<(Shared, Shared), Fail> {
     let one = Arc::new(alloc, AtomicU32::new(0))?;
-    let other = Arc::new(alloc, AtomicU32::new(0))?;
-    let (here, there) = (Arc::try_clone(&one)?, Arc::try_clone(&other)?);
-    Ok((
-        Meeting { here, there },
-        Meeting {
-            here: other,
-            there: one,
-        },
-    ))
+    let other = Arc::try_clone(&one)?;
+    Ok((one, other))
+}
+
+/// Two ends of one meeting.
+fn meeting(alloc: Global) -> Result<(Meeting, Meeting), Fail> {
+    let (one, first) = shared(alloc)?;
+    let (other, second) = shared(alloc)?;
+    let here = Meeting {
+        here: first,
+        there: second,
+    };
+    let there = Meeting {
+        here: other,
+        there: one,
+    };
+    Ok((here, there))
 }
 
 /// A system of a pool that is to be: its machine, which of its calls it refuses, and whether it meets another one.
@@ -141,19 +152,29 @@ pub fn sound_plans(alloc: Global, count: usize) -> Result<Vec<Plan>, Fail> {
     Ok(plans)
 }
 
+/// A system that gives each letter this output, and meets another one.
+fn meets(alloc: Global, output: u16, meeting: Meeting) -> Result<Plan, Fail> {
+    Ok(Plan {
+        machine: machine(alloc, &[[(0, output), (0, output)]])?,
+        refused: None,
+        meeting: Some(meeting),
+    })
+}
+
+/// Two systems that meet, of which the first gives output 0.
+fn meeting_plans(alloc: Global, output: u16) -> Result<Vec<Plan>, Fail> {
+    let (here, there) = meeting(alloc)?;
+    let mut plans = Vec::with_capacity(alloc, 2)?;
+    plans.push_reserved(meets(alloc, 0, here)?);
+    plans.push_reserved(meets(alloc, output, there)?);
+    Ok(plans)
+}
+
 /// Two systems that meet in their first steps: one that answers 0 to each letter, and another.
 pub fn meeting_pool<R: Drop>(rt: R, alloc: Global, output: u16) -> Result<Pool<Acting, R>, Fail>
     ensures { IfOk result (λ p. p.inputs ≡ 2) }
 {
-    let (here, there) = meeting(alloc)?;
-    let mut first = sound(alloc, &[[(0, 0), (0, 0)]])?;
-    first.meeting = Some(here);
-    let mut second = sound(alloc, &[[(0, output), (0, output)]])?;
-    second.meeting = Some(there);
-    let mut plans = Vec::new(alloc);
-    plans.push(first)?;
-    plans.push(second)?;
-    pool_of(rt, alloc, plans)
+    pool_of(rt, alloc, meeting_plans(alloc, output)?)
 }
 
 /// Settles a batch of words over two letters.
@@ -177,6 +198,19 @@ pub fn words(alloc: Global, list: &[&[u16]]) -> Result<Vec<Word>, Fail> {
         words.push(Word::from_letters(alloc, letters.to_vec(alloc)?))?;
     }
     Ok(words)
+}
+
+/// Settles these words; whether that succeeds.
+pub fn settles<S: Sul + Send, R: Threads + Wait + Sync>(
+    pool: &mut Pool<S, R>,
+    alloc: Global,
+    list: &[&[u16]],
+) -> Result<bool, Fail>
+    requires { pool.old.inputs ≡ 2 }
+    ensures { IfOk result (λ _. pool.new.inputs ≡ 2) }
+{
+    let batch = words(alloc, list)?;
+    Ok(settle(pool, &batch)?.is_ok())
 }
 
 /// The word whose letters are the last bits of a number.

@@ -116,7 +116,30 @@ fn plans_of(alloc: Global, rows: &[[(u16, u16); 2]], count: usize) -> Result<Vec
     Ok(plans)
 }
 
-/// Lets so many sessions settle a drawn batch; whether all came as it should.
+/// The rows of a machine of three states.
+type Rows = [[(u16, u16); 2]; 3];
+
+/// Whether a cache keeps and knows what comes of a batch.
+fn is_filled(alloc: Global, cache: &Cache, rows: &Rows, batch: &[Word]) -> Result<bool, Fail> {
+    let m = machine(alloc, rows)?;
+    let kept = is_kept(&m, cache.kept(), batch)?;
+    Ok(kept && knows(alloc, cache, batch)?)
+}
+
+/// Lets so many sessions settle a batch; whether all came as it should.
+fn settles_batch<R: Threads + Wait + Sync + Drop>(
+    rt: R,
+    alloc: Global,
+    count: usize,
+    rows: &Rows,
+    batch: &[Word],
+) -> Result<bool, Fail> {
+    let mut pool = pool_of(rt, alloc, plans_of(alloc, rows, count)?)?;
+    let settled = settle(&mut pool, batch)?.is_ok();
+    Ok(settled && is_filled(alloc, pool.cache(), rows, batch)?)
+}
+
+/// The same of a drawn machine and a drawn batch.
 fn settles_drawn<R: Threads + Wait + Sync + Drop>(
     rt: R,
     alloc: Global,
@@ -125,10 +148,7 @@ fn settles_drawn<R: Threads + Wait + Sync + Drop>(
     let mut numbers = Lcg128Xsl64::seed_from_u64(count as u64);
     let rows = drawn_rows(&mut numbers);
     let batch = drawn_batch(alloc, &mut numbers)?;
-    let mut pool = pool_of(rt, alloc, plans_of(alloc, &rows, count)?)?;
-    let settled = settle(&mut pool, &batch)?.is_ok();
-    let kept = is_kept(&machine(alloc, &rows)?, pool.cache().kept(), &batch)?;
-    Ok(settled && kept && knows(alloc, pool.cache(), &batch)?)
+    settles_batch(rt, alloc, count, &rows, &batch)
 }
 
 #[test]

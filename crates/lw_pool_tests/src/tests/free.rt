@@ -2,7 +2,7 @@
 ghost use Rattle.std.specs.Prelude.{◌≡◌, ◌≤◌, IfOk, Some, length, replicate, []};
 ghost use Rattle.lw_pool.specs.Opening.{AllMayJoin, member_of};
 
-use crate::tests::crews::{machine, settle, words};
+use crate::tests::crews::{machine, settles};
 use crate::tests::growing::Growing;
 use lw_cache::Cache;
 use lw_desk::OutNames;
@@ -10,7 +10,9 @@ use lw_pool::Pool;
 use lw_sul::{Session, Sul, TableSul};
 use lw_words::{Kept, Names};
 use std::alloc::Global;
+use std::sync::Wait;
 use std::test::Fail;
+use std::thread::Threads;
 
 /// Names of outputs.
 fn names(alloc: Global, list: [&str; 2]) -> Result<Names, Fail> {
@@ -77,16 +79,29 @@ fn begins_with_a(names: &OutNames) -> bool {
     names.len() > 0 && names.name(0).as_slice() == b"a".as_slice()
 }
 
+/// Whether two answers are kept, where this is the number of the first one's first output and this the other one's.
+fn are_shared(kept: &Kept, first: u16, second: u16) -> bool {
+    let one = outs_of(kept, 0) == Some([first, second].as_slice());
+    let other = outs_of(kept, 1) == Some([second, first].as_slice());
+    kept.len() == 2 && one && other
+}
+
+static BOTH_WAYS: [&[u16]; 2] = [&[0, 1], &[1, 0]];
+
+/// Settles two words with two systems; whether their answers are kept by the numbers of the shared names.
+fn keeps_shared<R: Threads + Wait + Sync + Drop>(rt: R, alloc: Global) -> Result<bool, Fail> {
+    let mut pool = pool_of_two(rt, alloc)?;
+    let settled = settles(&mut pool, alloc, &BOTH_WAYS)?;
+    let (first, second) = if begins_with_a(pool.names()) {
+        (0, 1)
+    } else {
+        (1, 0)
+    };
+    Ok(settled && are_shared(pool.cache().kept(), first, second))
+}
+
 #[test]
 fn answers_are_kept_by_shared_numbers(rt: HostRuntime) -> Result<(), Fail> {
-    let alloc = rt.alloc();
-    let mut pool = pool_of_two(rt, alloc)?;
-    let batch = words(alloc, &[[0u16, 1].as_slice(), [1u16, 0].as_slice()])?;
-    assert!(rt; settle(&mut pool, &batch)?.is_ok());
-    let first = u16::from(!begins_with_a(pool.names()));
-    let kept = pool.cache().kept();
-    assert_eq!(rt; kept.len(), 2);
-    assert!(rt; outs_of(kept, 0) == Some([first, 1 - first].as_slice()));
-    assert!(rt; outs_of(kept, 1) == Some([1 - first, first].as_slice()));
+    assert!(rt; keeps_shared(rt, rt.alloc())?);
     Ok(())
 }

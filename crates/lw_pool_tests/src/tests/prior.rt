@@ -4,12 +4,12 @@ ghost use Rattle.std.specs.List.{All};
 ghost use Rattle.lw_pool.specs.Opening.{MayBegin};
 
 use crate::tests::acting::Acting;
-use crate::tests::crews::{hired, names, settle, words};
+use crate::tests::crews::{hired, names, settle, settles, words};
 use crate::tests::sound_plans;
 use lw_cache::{AskStop, Cache, Clash};
 use lw_desk::OutNames;
 use lw_pool::Pool;
-use lw_words::Word;
+use lw_words::{Kept, Word};
 use std::alloc::Global;
 use std::sync::Wait;
 use std::test::Fail;
@@ -60,25 +60,43 @@ fn word(alloc: Global, letters: &[u16]) -> Result<Word, Fail> {
     Ok(Word::from_letters(alloc, letters.to_vec(alloc)?))
 }
 
+/// The same of these letters and outputs.
+fn pool_knowing<R: Drop>(
+    rt: R,
+    alloc: Global,
+    letters: &[u16],
+    outs: &[u16],
+) -> Result<Pool<Acting, R>, Fail>
+    ensures { IfOk result (λ p. p.inputs ≡ 2) }
+{
+    let word_of_outs = word(alloc, outs)?;
+    pool_after(rt, alloc, word(alloc, letters)?, word_of_outs)
+}
+
+static TWO_LETTERS: [&[u16]; 1] = [&[0, 0]];
+
+/// Whether the prior answer is kept, and one of the first session to the word of letter 1.
+fn keeps_one_more(kept: &Kept) -> bool {
+    if kept.len() != 2 || kept.get(0).instance != 16 {
+        return false;
+    }
+    let answer = kept.get(1);
+    answer.instance == 0 && answer.word.as_slice() == [1u16].as_slice()
+}
+
+static KNOWN_BUT_ONE: [&[u16]; 3] = [&[0, 0], &[1], &[0, 0, 1]];
+
+/// Settles three words with a pool whose prior answer is to the last of them, and begins with the first; whether just the
+/// second one is asked.
+fn asks_one<R: Threads + Wait + Sync + Drop>(rt: R, alloc: Global) -> Result<bool, Fail> {
+    let mut pool = pool_knowing(rt, alloc, &[0, 0, 1], &[0, 1, 0])?;
+    let settled = settles(&mut pool, alloc, &KNOWN_BUT_ONE)?;
+    Ok(settled && keeps_one_more(pool.cache().kept()))
+}
+
 #[test]
 fn what_was_kept_before_is_not_asked(rt: HostRuntime) -> Result<(), Fail> {
-    let alloc = rt.alloc();
-    let outs = word(alloc, &[0, 1, 0])?;
-    let mut pool = pool_after(rt, alloc, word(alloc, &[0, 0, 1])?, outs)?;
-    let batch = words(
-        alloc,
-        &[
-            [0u16, 0].as_slice(),
-            [1u16].as_slice(),
-            [0u16, 0, 1].as_slice(),
-        ],
-    )?;
-    assert!(rt; settle(&mut pool, &batch)?.is_ok());
-    let kept = pool.cache().kept();
-    assert_eq!(rt; kept.len(), 2);
-    assert_eq!(rt; kept.get(0).instance, 16);
-    assert_eq!(rt; kept.get(1).instance, 0);
-    assert_eq!(rt; kept.get(1).word.as_slice(), [1u16].as_slice());
+    assert!(rt; asks_one(rt, rt.alloc())?);
     Ok(())
 }
 
@@ -87,8 +105,8 @@ fn clash_with_prior<R: Threads + Wait + Sync + Drop>(
     rt: R,
     alloc: Global,
 ) -> Result<Option<Clash>, Fail> {
-    let mut pool = pool_after(rt, alloc, word(alloc, &[0])?, word(alloc, &[1])?)?;
-    match settle(&mut pool, &words(alloc, &[[0u16, 0].as_slice()])?)? {
+    let mut pool = pool_knowing(rt, alloc, &[0], &[1])?;
+    match settle(&mut pool, &words(alloc, &TWO_LETTERS)?)? {
         Err(AskStop::Clash(clash)) => Ok(Some(clash)),
         _ => Ok(None),
     }

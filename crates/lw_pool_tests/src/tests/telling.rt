@@ -1,10 +1,13 @@
 //! What a pool tells of itself, and its parts.
 use crate::tests::acting::Acting;
-use crate::tests::crews::{all_words, pool_of, settle};
-use crate::tests::sound_plans;
+use crate::tests::crews::pool_of;
+use crate::tests::{settles_all, sound_plans};
 use lw_pool::Pool;
 use lw_sul::Session;
+use std::alloc::Global;
+use std::sync::Wait;
 use std::test::Fail;
+use std::thread::Threads;
 
 /// How many runs the sessions of a pool have made together.
 fn runs_of<R>(pool: &Pool<Acting, R>) -> u64 {
@@ -15,16 +18,23 @@ fn runs_of<R>(pool: &Pool<Acting, R>) -> u64 {
     runs
 }
 
+/// Whether a pool of three has these numbers.
+fn is_of_three<R>(pool: &Pool<Acting, R>) -> bool {
+    let letters = (pool.inputs(), pool.outputs());
+    letters == (2, 2) && pool.sessions() == 3 && pool.names().len() == 2
+}
+
+/// Whether a pool of three tells of itself, and its sessions make four runs for four words.
+fn tells_of_itself<R: Threads + Wait + Sync + Drop>(rt: R, alloc: Global) -> Result<bool, Fail> {
+    let mut pool = pool_of(rt, alloc, sound_plans(alloc, 3)?)?;
+    let told = is_of_three(&pool);
+    let settled = settles_all(&mut pool, alloc, 2)?;
+    Ok(told && settled && runs_of(&pool) == 4)
+}
+
 #[test]
 fn a_pool_tells_of_itself(rt: HostRuntime) -> Result<(), Fail> {
-    let alloc = rt.alloc();
-    let mut pool = pool_of(rt, alloc, sound_plans(alloc, 3)?)?;
-    assert_eq!(rt; pool.inputs(), 2);
-    assert_eq!(rt; pool.outputs(), 2);
-    assert_eq!(rt; pool.sessions(), 3);
-    assert_eq!(rt; pool.names().len(), 2);
-    assert!(rt; settle(&mut pool, &all_words(alloc, 2)?)?.is_ok());
-    assert_eq!(rt; runs_of(&pool), 4);
+    assert!(rt; tells_of_itself(rt, rt.alloc())?);
     Ok(())
 }
 
@@ -37,15 +47,22 @@ fn are_in_order(sessions: &[Session<Acting>]) -> bool {
     right
 }
 
+/// Whether a pool leaves two sessions, two names and four answers.
+fn leaves_parts<R: Drop>(pool: Pool<Acting, R>) -> bool {
+    let (sessions, names, cache) = pool.into_parts();
+    let in_order = sessions.len() == 2 && are_in_order(&sessions);
+    in_order && names.len() == 2 && cache.kept().len() == 4
+}
+
+/// Whether a pool of two leaves them once it has settled four words.
+fn is_taken_apart<R: Threads + Wait + Sync + Drop>(rt: R, alloc: Global) -> Result<bool, Fail> {
+    let mut pool = pool_of(rt, alloc, sound_plans(alloc, 2)?)?;
+    let settled = settles_all(&mut pool, alloc, 2)?;
+    Ok(settled && leaves_parts(pool))
+}
+
 #[test]
 fn a_pool_is_taken_apart(rt: HostRuntime) -> Result<(), Fail> {
-    let alloc = rt.alloc();
-    let mut pool = pool_of(rt, alloc, sound_plans(alloc, 2)?)?;
-    assert!(rt; settle(&mut pool, &all_words(alloc, 2)?)?.is_ok());
-    let (sessions, names, cache) = pool.into_parts();
-    assert_eq!(rt; sessions.len(), 2);
-    assert!(rt; are_in_order(&sessions));
-    assert_eq!(rt; names.len(), 2);
-    assert_eq!(rt; cache.kept().len(), 4);
+    assert!(rt; is_taken_apart(rt, rt.alloc())?);
     Ok(())
 }

@@ -1,5 +1,5 @@
 use Rattle.lw_pool.proofs.PoolLemmas.{oracle_settled}
-use Rattle.lw_pool_tests.proofs.tests.kept_by_three.Goals as goal
+use Rattle.lw_pool_tests.proofs.tests.kept_by_pool.Goals as goal
 
 pub kept_by-requires-clause-can : goal.kept_by-requires-clause-can
 kept_by-requires-clause-can g c = record {
