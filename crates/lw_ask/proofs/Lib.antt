@@ -3,4 +3,3 @@ pub mod ChildLemmas
 pub mod LineLemmas
 pub mod ReadSteps
 pub mod RunLemmas
-pub mod WordLemmas

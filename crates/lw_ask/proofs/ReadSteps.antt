@@ -13,8 +13,7 @@ use Rattle.lw_report.specs.Stops.{read_outcome}
 use Rattle.lw_report.specs.declared.outcome.Outcome.{Outcome}
 use Rattle.lw_report.specs.declared.role.Role.TheVariants as role
 use Rattle.lw_report.specs.declared.stops.ReadStop.{ReadStop}
-use Rattle.lw_learn.specs.Unread.{MadeReads}
-use Rattle.lw_learn.specs.bodies.Stages.{IsRefused}
+use Rattle.lw_learn.specs.Unread.{IsRefused, MadeReads}
 use Rattle.lw_learn.specs.declared.arguments.Source.TheVariants as source
 use Rattle.lw_learn.specs.declared.task.System.{System}
 use Rattle.lw_learn.specs.declared.task.System.TheVariants.{Table, Children}

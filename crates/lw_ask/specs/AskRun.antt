@@ -24,11 +24,11 @@ use Rattle.lw_ask.specs.Asking.{HasPut}
 use Rattle.lw_ask.specs.Child.{AsksChild, HasNotStarted}
 use Rattle.lw_ask.specs.Outcomes.{came_outcome, start_outcome, word_outcome}
 use Rattle.lw_ask.specs.Reading.{IsUnread}
-use Rattle.lw_ask.specs.Words.{IsFirstUnknown, words_of}
+use Rattle.lw_wordlist.specs.Words.{IsFirstUnknown, words_of}
 use Rattle.lw_ask.specs.declared.stop.AskingStop.{AskingStop}
 use Rattle.lw_ask.specs.declared.stop.AskingStop.TheVariants.{Sul}
-use Rattle.lw_ask.specs.declared.words.WordStop.{WordStop}
-use Rattle.lw_ask.specs.declared.words.WordStop.TheVariants.{Unknown}
+use Rattle.lw_wordlist.specs.declared.words.WordStop.{WordStop}
+use Rattle.lw_wordlist.specs.declared.words.WordStop.TheVariants.{Unknown}
 
 -- a machine was asked, which doesn't stop
 pub record AsksMachine (m : Machine) (words : List (List ℕ)) (o p : SinkState) (kept : List KeptAnswer) (why : Outcome) : Type 0 where

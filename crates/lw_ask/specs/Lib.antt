@@ -7,5 +7,4 @@ pub mod Lines
 pub mod Outcomes
 pub mod Reading
 pub mod Stops
-pub mod Words
 pub mod bodies

@@ -8,8 +8,8 @@ use Rattle.lw_report.specs.declared.outcome.Outcome.{Outcome}
 use Rattle.lw_report.specs.declared.outcome.Outcome.TheVariants as outcome
 use Rattle.lw_ask.specs.declared.stop.AskingStop.{AskingStop}
 use Rattle.lw_ask.specs.declared.stop.AskingStop.TheVariants.{Sul, Sink, NoMemory}
-use Rattle.lw_ask.specs.declared.words.WordStop.{WordStop}
-use Rattle.lw_ask.specs.declared.words.WordStop.TheVariants as word
+use Rattle.lw_wordlist.specs.declared.words.WordStop.{WordStop}
+use Rattle.lw_wordlist.specs.declared.words.WordStop.TheVariants as word
 
 -- what asking that stopped so comes to: of a child it is the one of instance 0
 abbrev pub stop_outcome : AskingStop → Outcome

@@ -8,7 +8,6 @@ mod command;
 mod lines;
 mod reading;
 mod stop;
-mod words;
 
 pub use arguments::AskArguments;
 pub use asking::ask_words;
@@ -16,4 +15,3 @@ pub use child::{link_of, start_line};
 pub use command::{ask, child_outcome, start_outcome};
 pub use reading::read_system;
 pub use stop::AskingStop;
-pub use words::{WordStop, read_words};

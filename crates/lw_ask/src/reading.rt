@@ -1,8 +1,7 @@
 //! The files that say what is asked: a setup, or a table.
 ghost use Rattle.std.specs.Prelude.{◌≡◌, ◌≤◌, length, IfOk};
 ghost use Rattle.lw_report.specs.States.{files_state};
-ghost use Rattle.lw_learn.specs.Tasks.{letters_of};
-ghost use Rattle.lw_learn.specs.bodies.Ready.{HasWords};
+ghost use Rattle.lw_learn.specs.Tasks.{HasWords, letters_of};
 ghost use Rattle.lw_learn.specs.declared.arguments.Source.{Source as Kind};
 ghost use Rattle.lw_ask.specs.Reading.{HasReadMachine, HasReadSystem};
 

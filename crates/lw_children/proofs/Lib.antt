@@ -1,3 +1,4 @@
+mod AskedLemmas
 mod BegunLemmas
 mod ComingUp
 mod EndLemmas

@@ -1,25 +1,32 @@
 //! A learning over children, from their starts to their ends.
-ghost use Rattle.std.specs.Prelude.{◌≡◌, ◌<◌, ◌≤◌, [], length, Err};
+ghost use Rattle.std.specs.Prelude.{◌≡◌, ◌<◌, ◌≤◌, ◌^◌, [], length, Err, None, IfSome, OnOk};
+ghost use Rattle.std.specs.List.{All};
 ghost use Rattle.lw_words.specs.Answer.{answers_of};
+ghost use Rattle.lw_words.specs.Word.{IsWord};
 ghost use Rattle.lw_cache.specs.Clash.{NothingClashes};
 ghost use Rattle.lw_cache.specs.Settling.{MayAsk};
 ghost use Rattle.lw_desk.specs.Ending.{FreeComeUp};
 ghost use Rattle.lw_pool.specs.Opening.{MayBegin};
 ghost use Rattle.lw_pool.specs.Sharing.{declared_by};
+ghost use Rattle.lw_workers.specs.Asking.{AnswersWords};
 ghost use Rattle.lw_children.specs.Children.{IsOfChildren};
 ghost use Rattle.lw_children.specs.Crews.{AreLinkedWith, HasRetired, IsChildrenPool, RetiresWith, first_naming};
+ghost use Rattle.lw_children.specs.Cuts.{IsStopOf};
 ghost use Rattle.lw_children.specs.Keeping.{count_of};
 ghost use Rattle.lw_children.specs.Spawners.{spawner_seen};
 ghost use Rattle.lw_children.specs.bodies.Ends.{broken_stop};
 
-use crate::{Broken, Command, Refusal, retire_all, retire_with, start_all};
+use crate::cut::cut_off;
+use crate::{Broken, Command, CutRun, Refusal, retire_all, retire_with, start_all};
 use lw_cache::{AskStop, Cache};
 use lw_desk::OutNames;
 use lw_line::LineSul;
 use lw_outside::Spawner;
 use lw_pool::Pool;
-use lw_rounds::{Kind, LearnStop, Learned, model_is_least, too_large_for_all, too_many_is_none};
-use lw_words::{Kept, Names, NoMemory, SulStop};
+use lw_rounds::{
+    Kind, LearnStop, Learned, Watcher, model_is_least, too_large_for_all, too_many_is_none,
+};
+use lw_words::{Kept, Names, NoMemory, SulStop, Word};
 use lw_workers::{LearnedWith, learn_with};
 use std::alloc::Global;
 use std::sync::Wait;
@@ -34,6 +41,8 @@ pub struct LearnedChildren {
     pub learned: Result<Learned, LearnStop>,
     pub kept: Kept,
     pub names: OutNames,
+    /// The run in which a child stopped, where that ended the learning. None too where memory ran out for it.
+    pub cut: Option<CutRun>,
 }
 
 /// Why a learning stops where this many sessions were made and then no more.
@@ -76,6 +85,7 @@ fn give_up<P: Spawner>(
         (length broken.sessions.items)) }
     ensures kept { result.kept.answers ≡ cache.kept }
     ensures names { result.names ≡ names }
+    ensures cut { result.cut ≡ None }
     ensures retires { RetiresWith P.Link.number P.Link.faults P.Link.ends P.Link.transcript
         broken.sessions.items broken.unmade.link
         (spawner_seen (P.faults spawner.old) (P.started spawner.old) (P.retired spawner.old)
@@ -90,56 +100,69 @@ fn give_up<P: Spawner>(
         learned,
         kept: cache.into_kept(),
         names,
+        cut: None,
     }
 }
 
-/// Learns over a pool of children, and then retires all their links.
-fn learn_and_retire<P: Spawner, R: Threads + Wait + Sync + Drop>(
+/// Asks words and then learns over a pool of children, and retires all their links.
+fn learn_and_retire<P: Spawner, R: Threads + Wait + Sync + Drop, W: Watcher>(
     spawner: &mut P,
     alloc: Global,
     pool: Pool<LineSul<P::Link>, R>,
+    words: &[Word],
     kind: Kind,
     extra: u8,
     max_states: u16,
+    watcher: &mut W,
 ) -> LearnedChildren
     requires may { MayAsk pool.stop }
     requires nothing { NothingClashes (answers_of pool.kept) }
     requires letters { (1 ≤ pool.inputs) × (pool.inputs ≤ 64) }
     requires signs { (1 ≤ pool.outputs) × (pool.outputs ≤ 4096) }
+    requires named_letters { All (IsWord pool.inputs) words.now }
+    requires named_few { length words.now < 2 ^ 32 }
     requires few { extra ≤ 4 }
     requires most { (1 ≤ max_states) × (max_states ≤ 1024) }
     requires children { IsChildrenPool P.Link.number
         (spawner_seen (P.faults spawner.old) (P.started spawner.old) (P.retired spawner.old)
         (P.commands spawner.old)) pool }
-    ensures { HasRetired kind P.Link.number extra max_states pool
+    ensures asked { OnOk result.learned (AnswersWords words.now result.kept.answers) }
+    ensures cut { IfSome result.cut (λ run. IsStopOf run.instance result.learned) }
+    ensures ended { HasRetired kind P.Link.number extra max_states pool
         (spawner_seen (P.faults spawner.old) (P.started spawner.old) (P.retired spawner.old)
         (P.commands spawner.old))
         (spawner_seen (P.faults spawner.new) (P.started spawner.new) (P.retired spawner.new)
         (P.commands spawner.new)) result.learned result.kept.answers result.names }
 {
-    let LearnedWith { learned, pool } = learn_with(pool, alloc, kind, extra, max_states);
+    let LearnedWith { learned, pool } = learn_with(
+        pool, alloc, words, kind, extra, max_states, watcher,
+    );
     let (sessions, names, cache) = pool.into_parts();
+    let cut = cut_off(alloc, &sessions, &learned);
     retire_all(spawner, sessions);
     LearnedChildren {
         learned,
         kept: cache.into_kept(),
         names,
+        cut,
     }
 }
 
-/// Starts a child for each worker by the command, learns a model over them behind the cache's prior answers, and retires every
-/// link that was started, in the order of their starts, whatever came. May wait for the children.
-pub(crate) fn learn_over<P: Spawner, R: Threads + Wait + Sync + Drop>(
+/// Starts a child for each worker by the command, asks them the words, learns a model over them behind the cache's prior answers,
+/// and retires every link that was started, in the order of their starts, whatever came. May wait for the children.
+pub(crate) fn learn_over<P: Spawner, R: Threads + Wait + Sync + Drop, W: Watcher>(
     rt: R,
     alloc: Global,
     spawner: &mut P,
     command: &Command,
     names: OutNames,
     cache: Cache,
+    words: &[Word],
     workers: u8,
     kind: Kind,
     extra: u8,
     max_states: u16,
+    watcher: &mut W,
 ) -> LearnedChildren
     requires words { 0 < length command.now.words }
     requires letters { length command.now.inputs ≤ 64 }
@@ -149,6 +172,8 @@ pub(crate) fn learn_over<P: Spawner, R: Threads + Wait + Sync + Drop>(
     requires prior { MayBegin names (length command.now.inputs) (count_of command.now.outputs)
         cache.kept }
     requires workers { (1 ≤ workers) × (workers ≤ 16) }
+    requires named_letters { All (IsWord (length command.now.inputs)) words.now }
+    requires named_few { length words.now < 2 ^ 32 }
     requires few { extra ≤ 4 }
     requires most { (1 ≤ max_states) × (max_states ≤ 1024) }
     ensures found { IsOfChildren kind command.now.words command.now.inputs command.now.outputs
@@ -160,6 +185,8 @@ pub(crate) fn learn_over<P: Spawner, R: Threads + Wait + Sync + Drop>(
     ensures sharing { declared_by result.names.names result.names.brought ≡
         declared_by names.names names.brought }
     ensures come_up { FreeComeUp result.kept.answers result.names }
+    ensures asked { OnOk result.learned (AnswersWords words.now result.kept.answers) }
+    ensures cut { IfSome result.cut (λ run. IsStopOf run.instance result.learned) }
 {
     model_is_least();
     too_many_is_none();
@@ -171,13 +198,16 @@ pub(crate) fn learn_over<P: Spawner, R: Threads + Wait + Sync + Drop>(
     let inputs = command.inputs.len() as u16;
     let outputs = count_outputs(&command.outputs);
     match Pool::new(rt, alloc, inputs, outputs, sessions, names, cache) {
-        Ok(pool) => learn_and_retire(spawner, alloc, pool, kind, extra, max_states),
+        Ok(pool) => learn_and_retire(
+            spawner, alloc, pool, words, kind, extra, max_states, watcher,
+        ),
         Err((sessions, names, cache, NoMemory)) => {
             retire_all(spawner, sessions);
             LearnedChildren {
                 learned: Err(LearnStop::from(NoMemory)),
                 kept: cache.into_kept(),
                 names,
+                cut: None,
             }
         }
     }

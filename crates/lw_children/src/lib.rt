@@ -3,12 +3,14 @@
 #![tactic(auto)]
 
 mod command;
+mod cut;
 mod learning;
 mod retiring;
 mod sorted;
 mod starting;
 
 pub use command::Command;
+pub use cut::CutRun;
 pub use learning::LearnedChildren;
 pub use retiring::{retire_all, retire_with};
 pub use sorted::learn_children;

@@ -1,10 +1,14 @@
 //! A learning over children, with the names of outputs that weren't declared sorted in the end.
-ghost use Rattle.std.specs.Prelude.{◌≡◌, ◌<◌, ◌≤◌, [], length, IfOk, None};
+ghost use Rattle.std.specs.Prelude.{◌≡◌, ◌<◌, ◌≤◌, ◌^◌, [], length, IfOk, IfSome, OnOk, None};
+ghost use Rattle.std.specs.List.{All};
 ghost use Rattle.lw_words.specs.Answer.{answers_of};
+ghost use Rattle.lw_words.specs.Word.{IsWord};
 ghost use Rattle.lw_cache.specs.Clash.{NothingClashes};
 ghost use Rattle.lw_pool.specs.Opening.{MayBegin};
+ghost use Rattle.lw_workers.specs.Asking.{AnswersWords};
 ghost use Rattle.lw_children.specs.Children.{IsOfCommand, IsOfFree};
 ghost use Rattle.lw_children.specs.Crews.{first_naming};
+ghost use Rattle.lw_children.specs.Cuts.{IsStopOf};
 ghost use Rattle.lw_children.specs.Keeping.{count_of};
 ghost use Rattle.lw_children.specs.Spawners.{spawner_seen};
 
@@ -14,8 +18,8 @@ use lw_cache::Cache;
 use lw_desk::OutNames;
 use lw_outside::Spawner;
 use lw_renumber::sort_outputs;
-use lw_rounds::{Kind, LearnStop};
-use lw_words::NoMemory;
+use lw_rounds::{Kind, LearnStop, Watcher};
+use lw_words::{NoMemory, Word};
 use std::alloc::Global;
 use std::sync::Wait;
 use std::thread::Threads;
@@ -31,17 +35,19 @@ fn new_numbers(alloc: Global) -> Result<Vec<u16>, NoMemory>
 }
 
 /// Learns over children whose outputs weren't declared. The room for new numbers is taken before the first child is started.
-fn learn_free<P: Spawner, R: Threads + Wait + Sync + Drop>(
+fn learn_free<P: Spawner, R: Threads + Wait + Sync + Drop, W: Watcher>(
     rt: R,
     alloc: Global,
     spawner: &mut P,
     command: &Command,
     names: OutNames,
     cache: Cache,
+    words: &[Word],
     workers: u8,
     kind: Kind,
     extra: u8,
     max_states: u16,
+    watcher: &mut W,
 ) -> LearnedChildren
     requires words { 0 < length command.now.words }
     requires letters { length command.now.inputs ≤ 64 }
@@ -50,9 +56,13 @@ fn learn_free<P: Spawner, R: Threads + Wait + Sync + Drop>(
     requires unclaimed { cache.claims ≡ [] }
     requires none { cache.kept ≡ [] }
     requires workers { (1 ≤ workers) × (workers ≤ 16) }
+    requires named_letters { All (IsWord (length command.now.inputs)) words.now }
+    requires named_few { length words.now < 2 ^ 32 }
     requires few { extra ≤ 4 }
     requires most { (1 ≤ max_states) × (max_states ≤ 1024) }
-    ensures { IsOfFree kind command.now.words command.now.inputs workers extra max_states
+    ensures asked { OnOk result.learned (AnswersWords words.now result.kept.answers) }
+    ensures cut { IfSome result.cut (λ run. IsStopOf run.instance result.learned) }
+    ensures found { IsOfFree kind command.now.words command.now.inputs workers extra max_states
         (spawner_seen (P.faults spawner.old) (P.started spawner.old) (P.retired spawner.old)
         (P.commands spawner.old))
         (spawner_seen (P.faults spawner.new) (P.started spawner.new) (P.retired spawner.new)
@@ -64,14 +74,16 @@ fn learn_free<P: Spawner, R: Threads + Wait + Sync + Drop>(
             learned: Err(LearnStop::from(NoMemory)),
             kept: cache.into_kept(),
             names,
+            cut: None,
         },
     };
     let LearnedChildren {
         mut learned,
         mut kept,
         mut names,
+        cut,
     } = learn_over(
-        rt, alloc, spawner, command, names, cache, workers, kind, extra, max_states,
+        rt, alloc, spawner, command, names, cache, words, workers, kind, extra, max_states, watcher,
     );
     let _few = names.len();
     sort_outputs(&mut names, &mut to, &mut learned, &mut kept);
@@ -79,23 +91,26 @@ fn learn_free<P: Spawner, R: Threads + Wait + Sync + Drop>(
         learned,
         kept,
         names,
+        cut,
     }
 }
 
-/// Starts a child for each worker by the command, learns a model over them behind the cache's prior answers, and retires every
-/// link that was started, in the order of their starts, whatever came. Names of outputs that weren't declared are sorted by their
-/// bytes in the end. May wait for the children.
-pub fn learn_children<P: Spawner, R: Threads + Wait + Sync + Drop>(
+/// Starts a child for each worker by the command, asks them the words in one batch, learns a model over them behind the cache's
+/// prior answers, and retires every link that was started, in the order of their starts, whatever came. Names of outputs that
+/// weren't declared are sorted by their bytes in the end. The watcher is told of the steps. May wait for the children.
+pub fn learn_children<P: Spawner, R: Threads + Wait + Sync + Drop, W: Watcher>(
     rt: R,
     alloc: Global,
     spawner: &mut P,
     command: &Command,
     names: OutNames,
     cache: Cache,
+    words: &[Word],
     workers: u8,
     kind: Kind,
     extra: u8,
     max_states: u16,
+    watcher: &mut W,
 ) -> LearnedChildren
     requires words { 0 < length command.now.words }
     requires letters { length command.now.inputs ≤ 64 }
@@ -106,9 +121,13 @@ pub fn learn_children<P: Spawner, R: Threads + Wait + Sync + Drop>(
         cache.kept }
     requires free { command.now.outputs ≡ None → cache.kept ≡ [] }
     requires workers { (1 ≤ workers) × (workers ≤ 16) }
+    requires named_letters { All (IsWord (length command.now.inputs)) words.now }
+    requires named_few { length words.now < 2 ^ 32 }
     requires few { extra ≤ 4 }
     requires most { (1 ≤ max_states) × (max_states ≤ 1024) }
-    ensures { IsOfCommand kind command.now.words command.now.inputs command.now.outputs workers
+    ensures asked { OnOk result.learned (AnswersWords words.now result.kept.answers) }
+    ensures cut { IfSome result.cut (λ run. IsStopOf run.instance result.learned) }
+    ensures found { IsOfCommand kind command.now.words command.now.inputs command.now.outputs workers
         extra max_states cache.kept
         (spawner_seen (P.faults spawner.old) (P.started spawner.old) (P.retired spawner.old)
         (P.commands spawner.old))
@@ -117,10 +136,12 @@ pub fn learn_children<P: Spawner, R: Threads + Wait + Sync + Drop>(
 {
     match command.outputs {
         Some(_) => learn_over(
-            rt, alloc, spawner, command, names, cache, workers, kind, extra, max_states,
+            rt, alloc, spawner, command, names, cache, words, workers, kind, extra, max_states,
+            watcher,
         ),
         None => learn_free(
-            rt, alloc, spawner, command, names, cache, workers, kind, extra, max_states,
+            rt, alloc, spawner, command, names, cache, words, workers, kind, extra, max_states,
+            watcher,
         ),
     }
 }

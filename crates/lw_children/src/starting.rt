@@ -73,7 +73,16 @@ fn copy_declared(outputs: &Option<Names>) -> Result<Option<Names>, NoMemory>
     }
 }
 
-/// The system over a link.
+/// A system that notes what it is asked.
+fn noting<L: Link>(alloc: Global, system: LineSul<L>) -> LineSul<L>
+    ensures { result ≡ system }
+{
+    let mut noting = system;
+    noting.note(alloc);
+    noting
+}
+
+/// The system over a link, which notes what it is asked.
 fn line_over<L: Link>(
     alloc: Global,
     link: L,
@@ -85,9 +94,9 @@ fn line_over<L: Link>(
     ensures back { IfErr result (λ l. l ≡ link) }
 {
     match outputs {
-        Some(outputs) => Ok(LineSul::new(link, inputs, outputs)),
+        Some(outputs) => Ok(noting(alloc, LineSul::new(link, inputs, outputs))),
         None => match LineSul::free(alloc, link, inputs) {
-            Ok(system) => Ok(system),
+            Ok(system) => Ok(noting(alloc, system)),
             Err((link, NoMemory)) => Err(link),
         },
     }

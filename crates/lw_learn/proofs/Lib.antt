@@ -2,4 +2,5 @@ pub mod FoundLemmas
 pub mod ReadLemmas
 pub mod RunLemmas
 pub mod ToldLemmas
+pub mod WordLemmas
 pub mod WriteLemmas

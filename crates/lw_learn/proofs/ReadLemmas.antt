@@ -26,10 +26,10 @@ use Rattle.lw_report.specs.declared.stops.ReadStop.TheVariants as stop
 use Rattle.lw_learn.specs.Arguments.{LearnValues}
 use Rattle.lw_learn.specs.Calls.{gained}
 use Rattle.lw_learn.specs.bodies.UnreadState.{UnreadState}
-use Rattle.lw_learn.specs.Unread.{IsNext, IsTableNext, IsUnreadBy, MadeReads, MadeSomeReads, ReadsBad}
+use Rattle.lw_learn.specs.Unread.{IsNext, IsRefused, IsTableNext, IsUnreadBy, MadeReads, MadeSomeReads, ReadsBad}
 use Rattle.lw_learn.specs.Tasks.{ReadsPrior, ReadsSystem, with_outputs}
 use Rattle.lw_learn.specs.bodies.Ready.{IsReady}
-use Rattle.lw_learn.specs.bodies.Stages.{HasPrior, IsBack, IsRefused, IsStage, IsTaskWith, IsUnfit, SaysReady, SaysWhole}
+use Rattle.lw_learn.specs.bodies.Stages.{HasPrior, IsBack, IsStage, IsTaskWith, IsUnfit, SaysReady, SaysWhole}
 use Rattle.lw_learn.specs.declared.arguments.Source.{Source}
 use Rattle.lw_learn.specs.declared.arguments.Source.TheVariants as source
 use Rattle.lw_learn.specs.declared.task.System.{System}
@@ -57,7 +57,7 @@ pub made_one : (f g : FilesState) (name bytes : List ℕ) → g.reads ≡ f.read
 made_one f g name bytes reads calls = ((name, bytes) ∷ [], reads, calls)
 
 -- a call gave none
-made_call : (f g : FilesState) (c : Call) → g.reads ≡ f.reads → g.calls ≡ noted c f.calls → MadeReads f g (c ∷ [])
+pub made_call : (f g : FilesState) (c : Call) → g.reads ≡ f.reads → g.calls ≡ noted c f.calls → MadeReads f g (c ∷ [])
 made_call f g c reads calls = ([], reads ∙ sym (append-nil f.reads), calls)
 
 -- reads that gave bytes, and then others

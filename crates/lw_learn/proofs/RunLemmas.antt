@@ -1,5 +1,5 @@
 -- How a call ends that has learned a system, by what the learning answered.
-use Rattle.std.proofs.Common.{◌≡◌, ◌≢◌, ◌∙◌, ◌∷◌, ◌⊎◌, ⊎_elim, ℕ, ◌<◌, ◌≤◌, ◌+◌, ◌-◌, ◌^◌, min, List, [], ◌++◌, length, Option, Some, None, Result, Ok, Err, IfErr, IfOk, IfSome, option_and_then, option_map, inl, inr, refl, ap, sym, subst, arith}
+use Rattle.std.proofs.Common.{◌≡◌, ◌≢◌, ◌∙◌, ◌∷◌, ◌⊎◌, ⊎_elim, ℕ, ◌<◌, ◌≤◌, ◌+◌, ◌-◌, ◌^◌, min, List, [], ◌++◌, length, Option, Some, None, Result, Ok, Err, IfErr, IfOk, OnOk, IfSome, option_and_then, option_map, inl, inr, refl, ap, sym, subst, arith}
 use Rattle.std.proofs.Math.Nat.{le-min, le_trans, min-le_left, min-le_right}
 use Rattle.std.specs.List.{All}
 use Rattle.lw_words.specs.Answer.{answers_of}
@@ -36,7 +36,9 @@ use Rattle.lw_report.specs.declared.role.Role.TheVariants as role
 use Rattle.lw_report.specs.declared.outcome.Outcome.{Outcome}
 use Rattle.lw_report.specs.declared.outcome.Outcome.TheVariants.{Learned, Trial, Yes, Served, No, Usage, BadFile, Alphabets, FileTooLong, Nondeterministic, NoMemory, SulFailed, Gone, BadLine, BadAsk, TooManyStates, SuiteTooLarge, FileFault, SourceFault, SinkFault, Compared, Asked, Rechecked, UnknownLetter, Unstarted}
 use Rattle.lw_report.proofs.SinkLemmas.{sink_none}
+use Rattle.lw_workers.specs.Asking.{AnswersWords}
 use Rattle.lw_learn.specs.Arguments.{LearnValues}
+use Rattle.lw_learn.specs.Asking.{IsWordlessTask}
 use Rattle.lw_learn.specs.Calls.{MadeWrites}
 use Rattle.lw_json.specs.MachineText.{written_text}
 use Rattle.lw_json.specs.declared.machine.Machine.{Machine}
@@ -50,11 +52,11 @@ use Rattle.lw_learn.specs.Tasks.{declared_of, letters_of}
 use Rattle.lw_learn.specs.Writing.{NothingFailed, StaysBesides, TakesInTurn, WritesFiles, WritesModel, WritesOut, line_of}
 use Rattle.lw_learn.specs.bodies.UnreadState.{UnreadState}
 use Rattle.lw_learn.specs.Unread.{IsUnreadAs, IsUnreadBy, names_read}
-use Rattle.lw_learn.specs.bodies.Ready.{GivesModel, IsReady}
-use Rattle.lw_learn.specs.bodies.Stages.{IsStage, SaysReady}
+use Rattle.lw_learn.specs.bodies.Ready.{GivesModel}
+use Rattle.lw_learn.specs.bodies.Stages.{IsWordedStage, SaysWorded}
 use Rattle.lw_learn.specs.declared.saving.Saved.{Saved}
 use Rattle.lw_learn.specs.declared.saving.Saved.TheVariants as saving
-use Rattle.lw_learn.specs.declared.task.Task.{Task}
+use Rattle.lw_learn.specs.declared.task.WordedTask.{WordedTask}
 use Rattle.lw_learn.specs.declared.task.System.{System}
 use Rattle.lw_learn.specs.declared.task.System.TheVariants.{Table, Children}
 use Rattle.lw_learn.proofs.WriteLemmas.{gained_none, holds_beside, out_before, stays_joined, stays_same, text_same}
@@ -385,18 +387,37 @@ ends_learned a s prior naming learned kept f g b z o p e d end found gives stops
   told = subst (λ (ks : List KeptAnswer). IsEndOf a s naming learned ks f g o p e d end) (sym whole.told.kept_is) whole;
 }
 
--- and before that read
-pub task_ready : (a : LearnValues) (f m : FilesState) (r : Result Task UnreadState) (t : Task) → r ≡ Ok t → IsStage a f m (SaysReady a f m) r → IsReady t.system t.names t.cache
-task_ready a f m r t is stage = by (subst (λ (x : Result Task UnreadState). IsStage a f m (SaysReady a f m) x) is stage)
-  where
-    by : IsStage a f m (SaysReady a f m) (Ok t) → IsReady t.system t.names t.cache
-    by x = x.ok.ready
+-- where an end has a model, the words that were asked first are answered in what it keeps
+pub answered_end : (words : List (List ℕ)) (learned : Result Found LearnStop) (kept : List KeptAnswer) (end : End) → Carries learned end → end.kept.answers ≡ kept → OnOk learned (AnswersWords words kept) → end.model ≢ None → AnswersWords words end.kept.answers
+answered_end words (Ok l) kept end carries same asked some = subst (λ (ks : List KeptAnswer). AnswersWords words ks) (sym same) asked
+answered_end words (Err stop) kept end carries same asked some = absurd (some carries.0)
 
-pub ends_read : (a : LearnValues) (f m g : FilesState) (b z : SpawnerSeen) (o p e d : SinkState) (end : End) (r : Result Task UnreadState) (t : Task) → r ≡ Ok t → IsStage a f m (SaysReady a f m) r → EndsLearned a t.system t.cache.kept m g b z o p e d end → EndsRead a f g b z o p e d end
-ends_read a f m g b z o p e d end r t is stage learned = by (subst (λ (x : Result Task UnreadState). IsStage a f m (SaysReady a f m) x) is stage)
+-- and before that read, with the words that are asked first
+pub task_ready : (a : LearnValues) (f m : FilesState) (r : Result WordedTask UnreadState) (t : WordedTask) → r ≡ Ok t → IsWordedStage a f m r → SaysWorded a f m t
+task_ready a f m r t is stage = by (subst (λ (x : Result WordedTask UnreadState). IsWordedStage a f m x) is stage)
   where
-    by : IsStage a f m (SaysReady a f m) (Ok t) → EndsRead a f g b z o p e d end
-    by x = record { system = t.system; prior = t.cache.kept; middle = m; task = x.ok.says; made = x.made; quiet = x.quiet; same = x.same; unclashed = x.ok.ready.nothing; learned = learned }
+    by : IsWordedStage a f m (Ok t) → SaysWorded a f m t
+    by x = x.ok
+
+pub ends_read : (a : LearnValues) (f m g : FilesState) (b z : SpawnerSeen) (o p e d : SinkState) (end : End) (r : Result WordedTask UnreadState) (t : WordedTask) → r ≡ Ok t → IsWordedStage a f m r → EndsLearned a t.task.system t.task.cache.kept m g b z o p e d end → (end.model ≢ None → AnswersWords t.words end.kept.answers) → EndsRead a f g b z o p e d end
+ends_read a f m g b z o p e d end r t is stage learned answered = by (subst (λ (x : Result WordedTask UnreadState). IsWordedStage a f m x) is stage)
+  where
+    by : IsWordedStage a f m (Ok t) → EndsRead a f g b z o p e d end
+    by x = record {
+      system = t.task.system;
+      prior = t.task.cache.kept;
+      words = t.words;
+      between = x.ok.between;
+      middle = m;
+      task = x.ok.task;
+      asked = x.ok.says;
+      made = x.made;
+      quiet = x.quiet;
+      same = x.same;
+      unclashed = x.ok.ready.nothing;
+      learned = learned;
+      answered = answered;
+    }
 
 -- what was unread, and what its end says
 unread_as : (a : LearnValues) (f g : FilesState) (read : Option System) (kept : List KeptAnswer) (why outcome : Outcome) → IsUnreadBy a f g read kept why → (outcome ≡ why) ⊎ (outcome ≡ NoMemory) → IsUnreadAs a f g read kept outcome
@@ -414,17 +435,35 @@ pub record HasSaid (u : UnreadState) (extra : ℕ) (file : Option (List ℕ)) (m
   pub said : ¬ CountedFault e.faults d.faults → TakesAll (said_text (option_map letters_of u.system) (option_and_then declared_of u.system) end.kept.answers extra end.outcome) e.taken d.taken
   pub part : TakesSome (said_text (option_map letters_of u.system) (option_and_then declared_of u.system) end.kept.answers extra end.outcome) e.taken d.taken
 
-pub ends_unread : (a : LearnValues) (f m g : FilesState) (b : SpawnerSeen) (o e d : SinkState) (end : End) (r : Result Task UnreadState) (u : UnreadState) → r ≡ Err u → IsStage a f m (SaysReady a f m) r → HasSaid u a.extra a.kept m g e d end → EndsUnread a f g b b o o e d end
-ends_unread a f m g b o e d end r u is stage h = by (subst (λ (x : Result Task UnreadState). IsStage a f m (SaysReady a f m) x) is stage)
+-- words that could not be asked
+wordless_as : (a : LearnValues) (f g : FilesState) (read : Option System) (kept : List KeptAnswer) (why outcome : Outcome) → IsWordlessTask a f g read kept why → (outcome ≡ why) ⊎ (outcome ≡ NoMemory) → IsWordlessTask a f g read kept outcome
+wordless_as a f g read kept why outcome by told = record {
+  system = by.system;
+  between = by.between;
+  read_is = by.read_is;
+  task = by.task;
+  made = by.made;
+  quiet = by.quiet;
+  same = by.same;
+  why = by.why;
+  because = by.because;
+  told = ⊎_elim (λ (same : outcome ≡ why). subst (λ (x : Outcome). (x ≡ by.why) ⊎ (x ≡ NoMemory)) (sym same) by.told) (λ (wants : outcome ≡ NoMemory). inr wants) told;
+}
+
+pub ends_unread : (a : LearnValues) (f m g : FilesState) (b : SpawnerSeen) (o e d : SinkState) (end : End) (r : Result WordedTask UnreadState) (u : UnreadState) → r ≡ Err u → IsWordedStage a f m r → HasSaid u a.extra a.kept m g e d end → EndsUnread a f g b b o o e d end
+ends_unread a f m g b o e d end r u is stage h = by (subst (λ (x : Result WordedTask UnreadState). IsWordedStage a f m x) is stage)
   where
     same : u.kept ≡ end.kept.answers
     same = sym h.kept
 
-    by : IsStage a f m (SaysReady a f m) (Err u) → EndsUnread a f g b b o o e d end
+    by : IsWordedStage a f m (Err u) → EndsUnread a f g b b o o e d end
     by x = record {
       read = u.system;
       between = m;
-      cause = unread_as a f m u.system end.kept.answers u.outcome end.outcome (subst (λ (ks : List KeptAnswer). IsUnreadBy a f m u.system ks u.outcome) same x.err) h.outcome;
+      cause = ⊎_elim
+          (λ (unread : IsUnreadBy a f m u.system u.kept u.outcome). inl (unread_as a f m u.system end.kept.answers u.outcome end.outcome (subst (λ (ks : List KeptAnswer). IsUnreadBy a f m u.system ks u.outcome) same unread) h.outcome))
+          (λ (wordless : IsWordlessTask a f m u.system u.kept u.outcome). inr (wordless_as a f m u.system end.kept.answers u.outcome end.outcome (subst (λ (ks : List KeptAnswer). IsWordlessTask a f m u.system ks u.outcome) same wordless) h.outcome))
+          x.err;
       same = x.same;
       model = h.model;
       learner = h.learner;

@@ -23,10 +23,12 @@ use Rattle.lw_report.specs.declared.outcome.Outcome.TheVariants.{Learned, Trial,
 use Rattle.lw_report.specs.declared.role.Role.{Role}
 use Rattle.lw_report.specs.declared.role.Role.TheVariants as role
 use Rattle.lw_learn.specs.Arguments.{LearnValues}
+use Rattle.lw_learn.specs.Asking.{IsWordless, IsWordlessTask}
 use Rattle.lw_learn.specs.Tasks.{FitsSystem, ReadsSystem, SaysSystem, declared_of, letters_of, or_these}
 use Rattle.lw_learn.specs.Told.{BadIsRefused, IsNoRefusal, TellsBad, TellsFile, TellsNoSystem, TellsPrior, TellsSetup, TellsSystem, TellsTask, ToldIsLearned}
-use Rattle.lw_learn.specs.Unread.{IsNext, IsTableNext, IsUnreadBy, ReadsBad}
+use Rattle.lw_learn.specs.Unread.{IsNext, IsTableNext, IsUnreadAs, IsUnreadBy, ReadsBad}
 use Rattle.lw_learn.proofs.RunLemmas.{counted_to}
+use Rattle.lw_learn.proofs.WordLemmas.{memory_alone}
 use Rattle.lw_learn.specs.declared.arguments.Source.{Source}
 use Rattle.lw_learn.specs.declared.arguments.Source.TheVariants as source
 use Rattle.lw_learn.specs.declared.task.System.{System}
@@ -200,11 +202,21 @@ taken_by a f g read kept s told quiet (Unstarted cause) is = is
 taken_by a f g read kept s told quiet SinkFault is = is
 
 pub told_is_learned : ToldIsLearned
-told_is_learned a f g b z o p e d end s told quiet ended =
-    ⊎_elim
-    (λ (is : IsUnreadBy a f ended.between ended.read end.kept.answers end.outcome). taken_by a f ended.between ended.read end.kept.answers s told (λ h. quiet (counted_to f.faults ended.between.faults g.faults h ended.saved.saved.counts)) end.outcome is)
-    (λ (wants : (end.outcome ≡ NoMemory) × ((why : Outcome) × IsUnreadBy a f ended.between ended.read end.kept.answers why)). subst (λ (x : Outcome). IsNoRefusal x) (sym wants.0) tt)
-    ended.cause
+told_is_learned a f g b z o p e d end s told none quiet ended = ⊎_elim unread wordless ended.cause
+  where
+    memory : end.outcome ≡ NoMemory → IsNoRefusal end.outcome
+    memory is = subst (λ (x : Outcome). IsNoRefusal x) (sym is) tt
+
+    unread : IsUnreadAs a f ended.between ended.read end.kept.answers end.outcome → IsNoRefusal end.outcome
+    unread by = ⊎_elim
+        (λ (is : IsUnreadBy a f ended.between ended.read end.kept.answers end.outcome). taken_by a f ended.between ended.read end.kept.answers s told (λ h. quiet (counted_to f.faults ended.between.faults g.faults h ended.saved.saved.counts)) end.outcome is)
+        (λ (wants : (end.outcome ≡ NoMemory) × ((why : Outcome) × IsUnreadBy a f ended.between ended.read end.kept.answers why)). memory wants.0)
+        by
+
+    wordless : IsWordlessTask a f ended.between ended.read end.kept.answers end.outcome → IsNoRefusal end.outcome
+    wordless by =
+        let because = subst (λ (w : Option (List ℕ)). IsWordless w (letters_of by.system) by.between ended.between by.why) none by.because in
+        ⊎_elim (λ (is : end.outcome ≡ by.why). memory (is ∙ memory_alone (letters_of by.system) by.between ended.between by.why because)) memory by.told
 
 system_not_bad : (k : Source) (name : List ℕ) (holds : Option (List File)) (before now : List File) (t : System) → TellsNoSystem k name holds → ReadsSystem k name holds before now t → ⊥
 system_not_bad source.Table name holds before now t told read = bad_not_read IsMachineFile HasMachineFault name holds before now read.0 told read.1

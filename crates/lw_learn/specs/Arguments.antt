@@ -1,11 +1,12 @@
 -- The values of the arguments of `learn`, as contracts see them.
-use Rattle.std.specs.Prelude.{ℕ, ◌≤◌, List, Option}
+use Rattle.std.specs.Prelude.{ℕ, ◌≤◌, List, Option, IfSome}
 use Rattle.lw_rounds.specs.declared.learner.Kind.{Kind}
+use Rattle.lw_learn.specs.declared.arguments.Drawn.{Drawn}
 use Rattle.lw_learn.specs.declared.arguments.Source.{Source}
 
 -- the kind and the name of the system's file, the number of instances, the extra states, the kind of the learner, the greatest
--- number of states, the file for the model and that for the answers, the file of prior answers, and the file for the answers
--- that are kept at any end
+-- number of states, the file for the model and that for the answers, the file of prior answers, the file for the answers that
+-- are kept at any end, the file of words that are asked first, the words that are drawn for that, and the file of the log
 pub record LearnValues : Type 0 where
   pub source : Source
   pub system : List ℕ
@@ -17,6 +18,14 @@ pub record LearnValues : Type 0 where
   pub answers : Option (List ℕ)
   pub prior : Option (List ℕ)
   pub kept : Option (List ℕ)
+  pub words : Option (List ℕ)
+  pub drawn : Option Drawn
+  pub log : Option (List ℕ)
+
+-- no more than a million words, of no more than 65,536 letters each
+pub record AreFewDrawn (d : Drawn) : Type 0 where
+  pub words : d.count ≤ 1000000
+  pub letters : d.length ≤ 65536
 
 -- within their limits
 pub record AreWithinLimits (v : LearnValues) : Type 0 where
@@ -25,3 +34,4 @@ pub record AreWithinLimits (v : LearnValues) : Type 0 where
   pub extra : v.extra ≤ 4
   pub some_state : 1 ≤ v.max_states
   pub few_states : v.max_states ≤ 1024
+  pub drawn : IfSome v.drawn AreFewDrawn

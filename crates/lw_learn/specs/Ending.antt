@@ -8,10 +8,12 @@ use Rattle.lw_cache.specs.Clash.{NothingClashes}
 use Rattle.lw_desk.specs.Naming.{Naming}
 use Rattle.lw_mealy.specs.Gives.{Gives}
 use Rattle.lw_mealy.specs.Machine.{Rows}
+use Rattle.lw_outside.specs.Files.{File}
 use Rattle.lw_outside.specs.Links.{Retired}
 use Rattle.lw_rounds.specs.Learner.{refinements_of}
 use Rattle.lw_rounds.specs.declared.learned.Learned.{Learned as Found}
 use Rattle.lw_rounds.specs.declared.stops.LearnStop.{LearnStop}
+use Rattle.lw_workers.specs.Asking.{AnswersWords}
 use Rattle.lw_workers.specs.Machines.{IsWithin}
 use Rattle.lw_children.specs.Children.{IsSound}
 use Rattle.lw_children.specs.Keeping.{count_of}
@@ -27,6 +29,7 @@ use Rattle.lw_report.specs.declared.outcome.Outcome.TheVariants.{FileFault, NoMe
 use Rattle.lw_report.specs.declared.role.Role.{Role}
 use Rattle.lw_report.specs.declared.role.Role.TheVariants.{Answers, Kept, Model}
 use Rattle.lw_learn.specs.Arguments.{LearnValues}
+use Rattle.lw_learn.specs.Asking.{IsWordlessTask, SaysWords}
 use Rattle.lw_learn.specs.Calls.{MadeWrites}
 use Rattle.lw_learn.specs.Findings.{IsOfSystem, StopsBy}
 use Rattle.lw_learn.specs.Outcomes.{IsLearnedOutcome, IsReachedOutcome, IsTold}
@@ -39,12 +42,12 @@ use Rattle.lw_learn.specs.declared.saving.Saved.TheVariants as saving
 use Rattle.lw_learn.specs.declared.task.System.{System}
 use Rattle.lw_learn.specs.declared.task.System.TheVariants.{Table, Children}
 
--- no learning began: no child is started, nothing is written but the prior answers where they clash, which are what is kept,
--- and the outcome's text goes to `err`
+-- no learning began: no child is started, nothing is written but prior answers, where they clash or words that are to be asked
+-- could not be read, which are what is kept, and the outcome's text goes to `err`
 pub record EndsUnread (a : LearnValues) (f g : FilesState) (b z : SpawnerSeen) (o p : SinkState) (e d : SinkState) (end : End) : Type 0 where
   pub read : Option System
   pub between : FilesState
-  pub cause : IsUnreadAs a f between read end.kept.answers end.outcome
+  pub cause : IsUnreadAs a f between read end.kept.answers end.outcome ⊎ IsWordlessTask a f between read end.kept.answers end.outcome
   pub same : between.holds ≡ f.holds
   pub model : end.model ≡ None
   pub learner : IsWithoutLearner end
@@ -125,15 +128,20 @@ pub record EndsLearned (a : LearnValues) (s : System) (prior : List KeptAnswer) 
       → IsReachedOutcome (length r) end.outcome
   pub told : IsEndOf a s naming learned end.kept.answers f g o p e d end
 
--- the files say a system and prior answers, and that was learned
+-- the files say a system, prior answers and words that are asked first, and the system was learned; where there is a model each
+-- of the words was answered
 pub record EndsRead (a : LearnValues) (f g : FilesState) (b z : SpawnerSeen) (o p : SinkState) (e d : SinkState) (end : End) : Type 0 where
   pub system : System
   pub prior : List KeptAnswer
+  pub words : List (List ℕ)
+  pub between : List File
   pub middle : FilesState
-  pub task : ReadsTask a f.holds f.reads middle.reads system prior
+  pub task : ReadsTask a f.holds f.reads between system prior
+  pub asked : SaysWords a (letters_of system) f.holds between middle.reads words
   pub made : MadeReads f middle []
   pub quiet : middle.faults ≡ f.faults
   pub same : middle.holds ≡ f.holds
   -- of two prior answers that clash nothing is learned
   pub unclashed : NothingClashes (answers_of prior)
   pub learned : EndsLearned a system prior middle g b z o p e d end
+  pub answered : end.model ≢ None → AnswersWords words end.kept.answers

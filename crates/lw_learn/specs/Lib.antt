@@ -1,4 +1,5 @@
 pub mod Arguments
+pub mod Asking
 pub mod Calls
 pub mod Ending
 pub mod Findings

@@ -1,5 +1,5 @@
 -- What is to be learned, by the files that were read: a system, and the answers that are there of it.
-use Rattle.std.specs.Prelude.{◌≡◌, ℕ, List, [], Option, Some, None}
+use Rattle.std.specs.Prelude.{◌≡◌, ℕ, ◌<◌, List, [], length, Option, Some, None}
 use Rattle.lw_words.specs.declared.kept.KeptAnswer.{KeptAnswer}
 use Rattle.lw_json.specs.AnswersFile.{IsAnswersFile}
 use Rattle.lw_json.specs.MachineFile.{IsMachineFile}
@@ -26,6 +26,11 @@ letters_of (Children c) = c.inputs
 abbrev pub declared_of : System → Option (List (List ℕ))
 declared_of (Table m) = Some m.outputs
 declared_of (Children c) = c.outputs
+
+-- a child is started by some words
+abbrev pub HasWords : System → Type 0
+HasWords (Table m) = Unit {0}
+HasWords (Children c) = 0 < length c.words
 
 -- names that are there, or else these
 abbrev pub or_these : List (List ℕ) → Option (List (List ℕ)) → List (List ℕ)

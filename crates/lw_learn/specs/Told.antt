@@ -62,11 +62,11 @@ IsNoRefusal NoMemory = Unit {0}
 IsNoRefusal (Nondeterministic clash) = Unit {0}
 IsNoRefusal _ = ⊥
 
--- where the files tell a system and fitting prior answers, and count no fault, the system is learned, but that two prior answers
--- may clash or memory run out
+-- where the files tell a system and fitting prior answers, no words are read, and the files count no fault, the system is
+-- learned, but that two prior answers may clash or memory run out
 abbrev pub ToldIsLearned : Type 0
 ToldIsLearned = (a : LearnValues) (f g : FilesState) (b z : SpawnerSeen) (o p e d : SinkState) (end : End) (s : System)
-    → TellsTask a f.holds s → ¬ CountedFault f.faults g.faults
+    → TellsTask a f.holds s → a.words ≡ None → ¬ CountedFault f.faults g.faults
     → EndsUnread a f g b z o p e d end → IsNoRefusal end.outcome
 
 -- where the file of the system is told to be of none, none is learned

@@ -62,6 +62,14 @@ MadeReads f g last = (more : List File) × (g.reads ≡ f.reads ++ more) × (g.c
 abbrev pub MadeSomeReads : FilesState → FilesState → Type 0
 MadeSomeReads f g = ((more : List File) × (g.reads ≡ f.reads ++ more)) × ((names : List (List ℕ)) × (g.calls ≡ gained (map (λ n. read_call n false) names) f.calls))
 
+-- why the file in a role wasn't read
+abbrev pub IsRefused : {V : Type 0} → (List ℕ → V → Type 0) → (List ℕ → JsonFault → Type 0) → Role → List ℕ → FilesState → FilesState → Outcome → Type 0
+IsRefused IsFile HasFirst role name f g (BadFile r fault) = (r ≡ role) × ReadsBadFile IsFile HasFirst name f.holds f.reads g.reads fault × MadeReads f g []
+IsRefused IsFile HasFirst role name f g (FileTooLong r) = (r ≡ role) × HoldsLong f.holds name × (g.reads ≡ f.reads) × MadeReads f g (read_call name false ∷ [])
+IsRefused IsFile HasFirst role name f g (FileFault r) = (r ≡ role) × CountedFault f.faults g.faults × (g.reads ≡ f.reads) × MadeReads f g (read_call name true ∷ [])
+IsRefused IsFile HasFirst role name f g NoMemory = MadeSomeReads f g
+IsRefused IsFile HasFirst role name f g _ = ⊥
+
 -- why no learning began, by the outcome: what it read, whether it read a system, and what it kept
 abbrev pub IsUnreadBy : LearnValues → FilesState → FilesState → Option System → List KeptAnswer → Outcome → Type 0
 IsUnreadBy a f g read kept (BadFile r fault) =

@@ -1,5 +1,6 @@
 //! The values of the arguments of `learn`.
-ghost use Rattle.std.specs.Prelude.{◌≡◌, ◌≤◌, option_map, string_bytes};
+ghost use Rattle.std.specs.Prelude.{◌≡◌, ◌≤◌, IfSome, option_map, string_bytes};
+ghost use Rattle.lw_learn.specs.Arguments.{AreFewDrawn};
 
 use lw_rounds::Kind;
 use std::marker::Model;
@@ -13,9 +14,18 @@ pub enum Source {
     Table,
 }
 
+/// Words that are drawn: how many, how many letters each has, and the seed of the generator.
+#[derive(Clone, Copy, Debug, PartialEq, Eq)]
+pub struct Drawn {
+    pub count: u32,
+    pub length: u32,
+    pub seed: u64,
+}
+
 /// The values of the arguments of `learn`: the file of the system and its kind, how many instances there are, the extra states,
 /// the kind of the learner, the greatest number of states, the files for the model and for the answers, where these are to be
-/// written, the file of prior answers, where there are some, and the file for the answers that are kept at any end.
+/// written, the file of prior answers, where there are some, the file for the answers that are kept at any end, the file of words
+/// that are asked first, the words that are drawn for that, and the file of the log.
 #[derive(Drop)]
 pub struct LearnArguments {
     source: Source,
@@ -28,6 +38,9 @@ pub struct LearnArguments {
     answers: Option<String>,
     prior: Option<String>,
     kept: Option<String>,
+    words: Option<String>,
+    drawn: Option<Drawn>,
+    log: Option<String>,
 }
 
 impl Model for LearnArguments {
@@ -47,6 +60,9 @@ impl Model for LearnArguments {
       answers = option_map (λ s. string_bytes s) a.answers;
       prior = option_map (λ s. string_bytes s) a.prior;
       kept = option_map (λ s. string_bytes s) a.kept;
+      words = option_map (λ s. string_bytes s) a.words;
+      drawn = a.drawn;
+      log = option_map (λ s. string_bytes s) a.log;
     } };
 
     ghost invariant = { λ a. AreWithinLimits (record {
@@ -60,6 +76,9 @@ impl Model for LearnArguments {
       answers = option_map (λ s. string_bytes s) a.answers;
       prior = option_map (λ s. string_bytes s) a.prior;
       kept = option_map (λ s. string_bytes s) a.kept;
+      words = option_map (λ s. string_bytes s) a.words;
+      drawn = a.drawn;
+      log = option_map (λ s. string_bytes s) a.log;
     }) };
 }
 
@@ -76,10 +95,14 @@ impl LearnArguments {
         answers: Option<String>,
         prior: Option<String>,
         kept: Option<String>,
+        words: Option<String>,
+        drawn: Option<Drawn>,
+        log: Option<String>,
     ) -> LearnArguments
         requires workers { (1 ≤ workers) × (workers ≤ 16) }
         requires extra { extra ≤ 4 }
         requires max_states { (1 ≤ max_states) × (max_states ≤ 1024) }
+        requires drawn { IfSome drawn AreFewDrawn }
         ensures { result ≡ record {
           source = source;
           system = string_bytes system;
@@ -91,6 +114,9 @@ impl LearnArguments {
           answers = option_map (λ s. string_bytes s) answers;
           prior = option_map (λ s. string_bytes s) prior;
           kept = option_map (λ s. string_bytes s) kept;
+          words = option_map (λ s. string_bytes s) words;
+          drawn = drawn;
+          log = option_map (λ s. string_bytes s) log;
         } }
     {
         LearnArguments {
@@ -104,6 +130,9 @@ impl LearnArguments {
             answers,
             prior,
             kept,
+            words,
+            drawn,
+            log,
         }
     }
 
@@ -171,6 +200,28 @@ impl LearnArguments {
         ensures { option_map (λ s. s.now) result ≡ self.now.kept }
     {
         text_of(&self.kept)
+    }
+
+    /// The name of the file of words that are asked first.
+    pub fn words(&self) -> Option<&str>
+        ensures { option_map (λ s. s.now) result ≡ self.now.words }
+    {
+        text_of(&self.words)
+    }
+
+    /// The words that are drawn and asked behind them.
+    pub fn drawn(&self) -> Option<Drawn>
+        ensures value { result ≡ self.now.drawn }
+        ensures limits { IfSome result AreFewDrawn }
+    {
+        self.drawn
+    }
+
+    /// The name of the file of the log.
+    pub fn log(&self) -> Option<&str>
+        ensures { option_map (λ s. s.now) result ≡ self.now.log }
+    {
+        text_of(&self.log)
     }
 }
 

@@ -1,38 +1,47 @@
 //! The command `learn`, over the files, streams and children that it is handed.
-ghost use Rattle.std.specs.Prelude.{◌≡◌, ◌≤◌, Ok, Err};
+ghost use Rattle.std.specs.Prelude.{◌≡◌, ◌≢◌, ◌<◌, ◌≤◌, ◌^◌, length, None};
+ghost use Rattle.std.specs.List.{All};
+ghost use Rattle.lw_words.specs.Word.{IsWord};
+ghost use Rattle.lw_workers.specs.Asking.{AnswersWords};
 ghost use Rattle.lw_children.specs.Spawners.{spawner_seen};
 ghost use Rattle.lw_report.specs.Outcomes.{status_of};
 ghost use Rattle.lw_report.specs.States.{files_state, sink_state};
 ghost use Rattle.lw_learn.specs.Ending.{EndsLearned};
-ghost use Rattle.lw_learn.specs.LearnRun.{IsLearnRun};
+ghost use Rattle.lw_learn.specs.LearnRun.{IsLearnEnd, IsLearnRun};
+ghost use Rattle.lw_learn.specs.Tasks.{letters_of};
 ghost use Rattle.lw_learn.specs.bodies.Ready.{IsReady};
 
 use crate::LearnArguments;
+use crate::asking::read_worded;
 use crate::ending::finish;
 use crate::learning::learn_system;
-use crate::reading::read_task;
+use crate::logging::{log_end, log_stop, log_unread, say_log, unread_text};
 use crate::refusing::end_unread;
-use crate::task::Task;
-use lw_outside::{Files, Sink, Spawner};
-use lw_report::{End, say};
+use crate::task::{Task, WordedTask};
+use lw_log::Log;
+use lw_outside::{Files, LogFile, Sink, Spawner};
+use lw_report::End;
 use std::alloc::Global;
 use std::sync::Wait;
 use std::thread::Threads;
 
 /// Learns what was read, and ends the call.
-fn learn_read<R: Threads + Wait + Sync + Drop, F: Files, P: Spawner, O: Sink, E: Sink>(
+fn learn_read<R: Threads + Wait + Sync + Drop, F: Files, P: Spawner, O: Sink, E: Sink, L: LogFile>(
     rt: R,
     alloc: Global,
     arguments: &LearnArguments,
-    task: Task,
+    worded: WordedTask,
     files: &mut F,
     spawner: &mut P,
     out: &mut O,
     err: &mut E,
+    log: &mut Log<L>,
 ) -> End
-    requires ready { IsReady task.system task.names task.cache }
+    requires ready { IsReady worded.task.system worded.task.names worded.task.cache }
+    requires letters { All (IsWord (length (letters_of worded.task.system))) worded.words }
+    requires batch { length worded.words < 2 ^ 32 }
     ensures status { result.status ≡ status_of result.outcome }
-    ensures learned { EndsLearned arguments.now task.system task.cache.kept
+    ensures learned { EndsLearned arguments.now worded.task.system worded.task.cache.kept
         (files_state (F.holds files.old) (F.calls files.old) (F.reads files.old)
         (F.faults files.old))
         (files_state (F.holds files.new) (F.calls files.new) (F.reads files.new)
@@ -45,23 +54,40 @@ fn learn_read<R: Threads + Wait + Sync + Drop, F: Files, P: Spawner, O: Sink, E:
         (sink_state (O.taken out.new) (O.faults out.new))
         (sink_state (E.taken err.old) (E.faults err.old))
         (sink_state (E.taken err.new) (E.faults err.new)) result }
+    ensures answered { result.model ≢ None → AnswersWords worded.words result.kept.answers }
 {
+    let WordedTask { task, words } = worded;
     let Task {
         system,
         names,
         cache,
     } = task;
-    let found = learn_system(rt, alloc, spawner, arguments, &system, names, cache);
-    finish(alloc, arguments, &system, found, files, out, err)
+    let found = learn_system(
+        rt,
+        alloc,
+        spawner,
+        arguments,
+        &system,
+        names,
+        cache,
+        words.as_slice(),
+        log,
+    );
+    log_stop(alloc, spawner, system.inputs(), &found, log);
+    let end = finish(alloc, arguments, &system, found, files, out, err);
+    log_end(alloc, &system, &end, arguments.extra(), log);
+    end
 }
 
-/// Learns a system. First the files are read that say what it is: a setup or a table file, the table file that a setup names, and
-/// the file of prior answers, where one is named. Then the system is learned, over so many instances: of a table's machine, or
-/// children that a setup's command starts, and that are all ended again, whatever comes. Then the answers that are kept are saved,
-/// where a file is named for them, whatever came of the learning; the model file and the answers file are written, where they are
-/// named, the model's text to `out`, where no file is named for it, and a line about it to `err`. The text of every other outcome
-/// goes to `err`. May wait for a child, and for a turn of its workers.
-pub fn learn<R: Threads + Wait + Sync + Drop, F: Files, P: Spawner, O: Sink, E: Sink>(
+/// Reads what is to be learned, learns it and ends the call.
+fn learn_logged<
+    R: Threads + Wait + Sync + Drop,
+    F: Files,
+    P: Spawner,
+    O: Sink,
+    E: Sink,
+    L: LogFile,
+>(
     rt: R,
     alloc: Global,
     arguments: &LearnArguments,
@@ -69,6 +95,53 @@ pub fn learn<R: Threads + Wait + Sync + Drop, F: Files, P: Spawner, O: Sink, E: 
     spawner: &mut P,
     out: &mut O,
     err: &mut E,
+    log: &mut Log<L>,
+) -> End
+    ensures status { result.status ≡ status_of result.outcome }
+    ensures ends { IsLearnEnd arguments.now
+        (files_state (F.holds files.old) (F.calls files.old) (F.reads files.old)
+        (F.faults files.old))
+        (files_state (F.holds files.new) (F.calls files.new) (F.reads files.new)
+        (F.faults files.new))
+        (spawner_seen (P.faults spawner.old) (P.started spawner.old) (P.retired spawner.old)
+        (P.commands spawner.old))
+        (spawner_seen (P.faults spawner.new) (P.started spawner.new) (P.retired spawner.new)
+        (P.commands spawner.new))
+        (sink_state (O.taken out.old) (O.faults out.old))
+        (sink_state (O.taken out.new) (O.faults out.new))
+        (sink_state (E.taken err.old) (E.faults err.old))
+        (sink_state (E.taken err.new) (E.faults err.new)) result }
+    ensures counts { (F.faults files.old ≤ F.faults files.new) ×
+        (O.faults out.old ≤ O.faults out.new) × (E.faults err.old ≤ E.faults err.new) }
+{
+    match read_worded(alloc, arguments, files, log) {
+        Ok(worded) => learn_read(rt, alloc, arguments, worded, files, spawner, out, err, log),
+        Err(unread) => {
+            let text = unread_text(alloc, &unread, arguments.extra());
+            let end = end_unread(alloc, arguments, unread, files, err);
+            log_unread(&end, text, log);
+            end
+        }
+    }
+}
+
+/// Learns a system. First the files are read that say what it is: a setup or a table file, the table file that a setup names, the
+/// file of prior answers, and the file of words that are asked first, where one is named. Then the system is learned, over so many
+/// instances: of a table's machine, or children that a setup's command starts, and that are all ended again, whatever comes: first
+/// those words and drawn ones are asked, in one batch, then the rounds go on until a model is sure. Then the answers that are kept
+/// are saved, where a file is named for them, whatever came of the learning; the model file and the answers file are written, where
+/// they are named, the model's text to `out`, where no file is named for it, and a line about it to `err`. The text of every other
+/// outcome goes to `err`. A log, where one is named, gets a line for each step, what stopped it midway, and the outcome's text;
+/// that it could not be written is said once, last of all, on `err`. May wait for a child, and for a turn of its workers.
+pub fn learn<R: Threads + Wait + Sync + Drop, F: Files, P: Spawner, O: Sink, E: Sink, L: LogFile>(
+    rt: R,
+    alloc: Global,
+    arguments: &LearnArguments,
+    files: &mut F,
+    spawner: &mut P,
+    out: &mut O,
+    err: &mut E,
+    log: &mut Log<L>,
 ) -> End
     ensures status { result.status ≡ status_of result.outcome }
     ensures run { IsLearnRun arguments.now
@@ -88,8 +161,10 @@ pub fn learn<R: Threads + Wait + Sync + Drop, F: Files, P: Spawner, O: Sink, E: 
     ensures counts { (F.faults files.old ≤ F.faults files.new) ×
         (O.faults out.old ≤ O.faults out.new) × (E.faults err.old ≤ E.faults err.new) }
 {
-    match read_task(alloc, arguments, files) {
-        Ok(task) => learn_read(rt, alloc, arguments, task, files, spawner, out, err),
-        Err(unread) => end_unread(alloc, arguments, unread, files, err),
+    if let Some(name) = arguments.log() {
+        log.open(name);
     }
+    let end = learn_logged(rt, alloc, arguments, files, spawner, out, err, log);
+    say_log(arguments, log, err);
+    end
 }

@@ -203,7 +203,7 @@ fn end_model<F: Files, O: Sink, E: Sink>(
 }
 
 /// The names of outputs for a text: none where there are none.
-fn text_names(alloc: Global, names: &OutNames) -> Result<Option<Names>, NoMemory>
+pub(crate) fn text_names(alloc: Global, names: &OutNames) -> Result<Option<Names>, NoMemory>
     ensures { IfOk result (λ list. names_said list ≡ names.now.names) }
 {
     if names.len() == 0 {
@@ -299,7 +299,9 @@ pub(crate) fn finish<F: Files, O: Sink, E: Sink>(
         learned,
         kept,
         names,
+        cut,
     } = found;
+    drop(cut);
     let saved = save_kept(alloc, arguments, system.inputs(), &names, &kept, files);
     match learned {
         Ok(learned) => end_model(

@@ -2,7 +2,8 @@
 //! is the law.
 ghost use Rattle.lw_learn.specs.Told.{BadIsRefused, ToldIsLearned};
 
-/// Where the files tell a system, and prior answers that fit it where some are named, none of them is refused.
+/// Where the files tell a system, and prior answers that fit it where some are named, none of them is refused, where no file of
+/// words is named.
 pub fn told_is_learned()
     ensures { ToldIsLearned }
 {}

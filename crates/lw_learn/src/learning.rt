@@ -1,9 +1,12 @@
 //! The learning of a system that was read.
-ghost use Rattle.std.specs.Prelude.{◌≡◌, ◌≤◌, [], length, IfOk, IfErr, Some, None, option_map};
+ghost use Rattle.std.specs.Prelude.{◌≡◌, ◌<◌, ◌≤◌, ◌^◌, [], length, IfOk, IfErr, OnOk, Some, None, option_map};
+ghost use Rattle.std.specs.List.{All};
 ghost use Rattle.lw_words.specs.Answer.{answers_of};
+ghost use Rattle.lw_words.specs.Word.{IsWord};
 ghost use Rattle.lw_cache.specs.Clash.{NothingClashes};
 ghost use Rattle.lw_json.specs.KeptOver.{AreKeptOver};
 ghost use Rattle.lw_pool.specs.Opening.{MayBegin};
+ghost use Rattle.lw_workers.specs.Asking.{AnswersWords};
 ghost use Rattle.lw_children.specs.Keeping.{count_of};
 ghost use Rattle.lw_children.specs.Spawners.{spawner_seen};
 ghost use Rattle.lw_children.specs.Children.{IsOfCommand};
@@ -15,37 +18,44 @@ ghost use Rattle.lw_learn.specs.bodies.Ready.{GivesModel, IsReady};
 use crate::LearnArguments;
 use crate::task::System;
 use lw_cache::Cache;
-use lw_children::{Command, LearnedChildren, learn_children};
+use lw_children::{Command, CutRun, LearnedChildren, learn_children};
 use lw_desk::OutNames;
 use lw_json::Machine;
 use lw_outside::Spawner;
-use lw_rounds::{LearnStop, Learned};
-use lw_words::Kept;
+use lw_rounds::{LearnStop, Learned, Watcher};
+use lw_words::{Kept, Word};
 use lw_workers::{LearnedMachine, learn_machine};
 use std::alloc::Global;
 use std::sync::Wait;
 use std::thread::Threads;
 
-/// What came of a learning: what was learned, the kept answers, and the names of their outputs.
+/// What came of a learning: what was learned, the kept answers, the names of their outputs, and the run that a child that stopped
+/// cut off.
 #[derive(Drop)]
 pub(crate) struct Found {
     pub(crate) learned: Result<Learned, LearnStop>,
     pub(crate) kept: Kept,
     pub(crate) names: OutNames,
+    pub(crate) cut: Option<CutRun>,
 }
 
 /// Learns a machine, over so many instances of it.
-fn learn_table<R: Threads + Wait + Sync + Drop>(
+fn learn_table<R: Threads + Wait + Sync + Drop, W: Watcher>(
     rt: R,
     alloc: Global,
     arguments: &LearnArguments,
     machine: &Machine,
     names: OutNames,
     cache: Cache,
+    words: &[Word],
+    watcher: &mut W,
 ) -> Found
     requires ready { IsReady (Of.Table machine.now) names cache }
+    requires letters { All (IsWord (length machine.now.inputs)) words.now }
+    requires batch { length words.now < 2 ^ 32 }
     ensures found { IsOfInstances arguments.now machine.now cache.kept result.learned
         result.kept.answers result.names.names }
+    ensures asked { OnOk result.learned (AnswersWords words.now result.kept.answers) }
     ensures few { arguments.now.workers ≤ 16 }
 {
     let (workers, extra) = (arguments.workers(), arguments.extra());
@@ -62,20 +72,23 @@ fn learn_table<R: Threads + Wait + Sync + Drop>(
         &machine.outputs,
         names,
         cache,
+        words,
         workers,
         learner,
         extra,
         most,
+        watcher,
     );
     Found {
         learned,
         kept,
         names,
+        cut: None,
     }
 }
 
 /// Learns children by their command.
-fn learn_command<P: Spawner, R: Threads + Wait + Sync + Drop>(
+fn learn_command<P: Spawner, R: Threads + Wait + Sync + Drop, W: Watcher>(
     rt: R,
     alloc: Global,
     spawner: &mut P,
@@ -83,20 +96,26 @@ fn learn_command<P: Spawner, R: Threads + Wait + Sync + Drop>(
     command: &Command,
     names: OutNames,
     cache: Cache,
+    words: &[Word],
+    watcher: &mut W,
 ) -> Found
     requires ready { IsReady (Of.Children command.now) names cache }
+    requires letters { All (IsWord (length command.now.inputs)) words.now }
+    requires batch { length words.now < 2 ^ 32 }
     ensures found { IsOfCommand arguments.now.learner command.now.words command.now.inputs
         command.now.outputs arguments.now.workers arguments.now.extra arguments.now.max_states cache.kept
         (spawner_seen (P.faults spawner.old) (P.started spawner.old) (P.retired spawner.old)
         (P.commands spawner.old))
         (spawner_seen (P.faults spawner.new) (P.started spawner.new) (P.retired spawner.new)
         (P.commands spawner.new)) result.learned result.kept.answers result.names.names }
+    ensures asked { OnOk result.learned (AnswersWords words.now result.kept.answers) }
     ensures few { arguments.now.workers ≤ 16 }
 {
     let LearnedChildren {
         learned,
         kept,
         names,
+        cut,
     } = learn_children(
         rt,
         alloc,
@@ -104,20 +123,23 @@ fn learn_command<P: Spawner, R: Threads + Wait + Sync + Drop>(
         command,
         names,
         cache,
+        words,
         arguments.workers(),
         arguments.learner(),
         arguments.extra(),
         arguments.max_states(),
+        watcher,
     );
     Found {
         learned,
         kept,
         names,
+        cut,
     }
 }
 
 /// Learns a system behind prior answers.
-pub(crate) fn learn_system<P: Spawner, R: Threads + Wait + Sync + Drop>(
+pub(crate) fn learn_system<P: Spawner, R: Threads + Wait + Sync + Drop, W: Watcher>(
     rt: R,
     alloc: Global,
     spawner: &mut P,
@@ -125,8 +147,12 @@ pub(crate) fn learn_system<P: Spawner, R: Threads + Wait + Sync + Drop>(
     system: &System,
     names: OutNames,
     cache: Cache,
+    words: &[Word],
+    watcher: &mut W,
 ) -> Found
     requires ready { IsReady system.now names cache }
+    requires letters { All (IsWord (length (letters_of system.now))) words.now }
+    requires batch { length words.now < 2 ^ 32 }
     ensures found { IsOfSystem arguments.now system.now cache.kept
         (spawner_seen (P.faults spawner.old) (P.started spawner.old) (P.retired spawner.old)
         (P.commands spawner.old))
@@ -143,11 +169,14 @@ pub(crate) fn learn_system<P: Spawner, R: Threads + Wait + Sync + Drop>(
         (answers_of result.kept.answers)) }
     ensures over { AreKeptOver (length (letters_of system.now)) (length result.names.names)
         result.kept.answers }
+    ensures asked { OnOk result.learned (AnswersWords words.now result.kept.answers) }
 {
     match system {
-        System::Table(machine) => learn_table(rt, alloc, arguments, machine, names, cache),
-        System::Children(command) => {
-            learn_command(rt, alloc, spawner, arguments, command, names, cache)
+        System::Table(machine) => {
+            learn_table(rt, alloc, arguments, machine, names, cache, words, watcher)
         }
+        System::Children(command) => learn_command(
+            rt, alloc, spawner, arguments, command, names, cache, words, watcher,
+        ),
     }
 }

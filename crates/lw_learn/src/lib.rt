@@ -2,10 +2,12 @@
 #![tactic(auto)]
 
 mod arguments;
+mod asking;
 mod command;
 mod ending;
 mod laws;
 mod learning;
+mod logging;
 mod naming;
 mod reading;
 mod refusing;
@@ -13,7 +15,7 @@ mod saving;
 mod task;
 mod writing;
 
-pub use arguments::{LearnArguments, Source};
+pub use arguments::{Drawn, LearnArguments, Source};
 pub use command::learn;
 pub use laws::{bad_is_refused, told_is_learned};
 pub use saving::Saved;

@@ -1,8 +1,10 @@
 //! The files that say what is to be learned: a setup or a table, and prior answers.
 ghost use Rattle.std.specs.Prelude.{◌≡◌, ℕ, ◌≤◌, List, [], length, None, Some, Ok, Err, IfOk, IfErr};
+ghost use Rattle.lw_report.specs.Reading.{HasRead};
 ghost use Rattle.lw_report.specs.States.{files_state};
 ghost use Rattle.lw_words.specs.Answer.{answers_of};
 ghost use Rattle.lw_cache.specs.Clash.{NothingClashes};
+ghost use Rattle.lw_json.specs.SetupFile.{HasSetupFault, IsSetupFile};
 ghost use Rattle.lw_json.specs.declared.machine.Machine.{Machine as Named};
 ghost use Rattle.lw_pool.specs.Opening.{MayBegin};
 ghost use Rattle.lw_children.specs.Crews.{first_naming};
@@ -11,8 +13,8 @@ ghost use Rattle.lw_report.specs.Stops.{read_outcome};
 ghost use Rattle.lw_report.specs.declared.outcome.Outcome.{Outcome as Came};
 ghost use Rattle.lw_report.specs.declared.role.Role.TheVariants.{Prior as PriorRole, Table as TableRole};
 ghost use Rattle.lw_report.specs.declared.stops.ReadStop.{ReadStop as Stop};
-ghost use Rattle.lw_learn.specs.Tasks.{declared_of, letters_of, or_these, with_outputs};
-ghost use Rattle.lw_learn.specs.bodies.Ready.{HasWords, IsReady};
+ghost use Rattle.lw_learn.specs.Tasks.{HasWords, declared_of, letters_of, or_these, with_outputs};
+ghost use Rattle.lw_learn.specs.bodies.Ready.{IsReady};
 ghost use Rattle.lw_learn.specs.bodies.Stages.{HasPrior, IsBack, IsClash, IsStage, IsTaskWith, IsUnfit, SaysReady, SaysWhole};
 ghost use Rattle.lw_learn.specs.declared.arguments.Source.{Source as Kind};
 ghost use Rattle.lw_learn.specs.declared.task.System.TheVariants as Of;
@@ -24,9 +26,12 @@ use lw_cache::Cache;
 use lw_children::Command;
 use lw_desk::OutNames;
 use lw_json::{Answers, Machine, Setup};
-use lw_outside::Files;
+use lw_log::Log;
+use lw_outside::{Files, LogFile};
 use lw_prior::{Prior, PriorStop, prior_of};
-use lw_report::{Outcome, ReadStop, Role, read_answers_file, read_machine_file, read_setup_file};
+use lw_report::{
+    Outcome, ReadStop, Role, SetupFile, read_answers_file, read_machine_file, read_setup_with,
+};
 use lw_words::{Kept, Names, NoMemory};
 use std::alloc::Global;
 use std::marker::Model;
@@ -53,7 +58,7 @@ impl Model for Unread {
 
 impl Unread {
     /// Nothing is kept.
-    fn bare(alloc: Global, outcome: Outcome, system: Option<System>) -> Unread
+    pub(crate) fn bare(alloc: Global, outcome: Outcome, system: Option<System>) -> Unread
         ensures outcome { result.outcome ≡ outcome }
         ensures system { result.system ≡ system }
         ensures kept { result.kept ≡ [] }
@@ -81,11 +86,36 @@ fn table_of(alloc: Global, read: Result<Machine, ReadStop>) -> Result<System, Un
     }
 }
 
+/// Reads a setup file. The log is told the first of its members that a setup doesn't know.
+fn read_hinted<F: Files, L: LogFile>(
+    alloc: Global,
+    files: &mut F,
+    name: &str,
+    log: &mut Log<L>,
+) -> Result<Setup, ReadStop>
+    ensures { HasRead IsSetupFile HasSetupFault name.now
+        (files_state (F.holds files.old) (F.calls files.old) (F.reads files.old)
+        (F.faults files.old))
+        (files_state (F.holds files.new) (F.calls files.new) (F.reads files.new)
+        (F.faults files.new))
+        result }
+{
+    let SetupFile { setup, hint } = match read_setup_with(alloc, files, name) {
+        Ok(file) => file,
+        Err(stop) => return Err(stop),
+    };
+    if !hint.is_empty() {
+        log.text(&hint);
+    }
+    Ok(setup)
+}
+
 /// Reads the setup file, and the table file that it names, if it names one.
-fn read_setup<F: Files>(
+fn read_setup<F: Files, L: LogFile>(
     alloc: Global,
     arguments: &LearnArguments,
     files: &mut F,
+    log: &mut Log<L>,
 ) -> Result<System, Unread>
     requires setup { arguments.now.source ≡ Kind.Setup }
     ensures { IsStage arguments.now
@@ -99,7 +129,7 @@ fn read_setup<F: Files>(
         (files_state (F.holds files.new) (F.calls files.new) (F.reads files.new)
         (F.faults files.new))) result }
 {
-    match read_setup_file(alloc, files, arguments.system()) {
+    match read_hinted(alloc, files, arguments.system(), log) {
         Ok(Setup::Table(name)) => {
             let read = read_machine_file(alloc, files, name.get().as_str());
             table_of(alloc, read)
@@ -120,10 +150,11 @@ fn read_setup<F: Files>(
 }
 
 /// Reads the system that is to be learned.
-fn read_system<F: Files>(
+fn read_system<F: Files, L: LogFile>(
     alloc: Global,
     arguments: &LearnArguments,
     files: &mut F,
+    log: &mut Log<L>,
 ) -> Result<System, Unread>
     ensures { IsStage arguments.now
         (files_state (F.holds files.old) (F.calls files.old) (F.reads files.old)
@@ -137,7 +168,7 @@ fn read_system<F: Files>(
         (F.faults files.new))) result }
 {
     match arguments.source() {
-        Source::Setup => read_setup(alloc, arguments, files),
+        Source::Setup => read_setup(alloc, arguments, files, log),
         Source::Table => {
             let read = read_machine_file(alloc, files, arguments.system());
             table_of(alloc, read)
@@ -313,10 +344,11 @@ fn read_prior<F: Files>(
 
 /// Reads what is to be learned: the setup or the table file, the table file that a setup names, and the prior answers, in this
 /// order.
-pub(crate) fn read_task<F: Files>(
+pub(crate) fn read_task<F: Files, L: LogFile>(
     alloc: Global,
     arguments: &LearnArguments,
     files: &mut F,
+    log: &mut Log<L>,
 ) -> Result<Task, Unread>
     ensures { IsStage arguments.now
         (files_state (F.holds files.old) (F.calls files.old) (F.reads files.old)
@@ -329,7 +361,7 @@ pub(crate) fn read_task<F: Files>(
         (files_state (F.holds files.new) (F.calls files.new) (F.reads files.new)
         (F.faults files.new))) result }
 {
-    let system = read_system(alloc, arguments, files)?;
+    let system = read_system(alloc, arguments, files, log)?;
     match arguments.prior() {
         Some(name) => read_prior(alloc, system, name, files),
         None => fresh_task(alloc, system),

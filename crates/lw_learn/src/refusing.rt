@@ -36,7 +36,7 @@ fn read_names(alloc: Global, system: &Option<System>) -> Result<Option<OutNames>
 }
 
 /// The names of the letters of a system that was read.
-fn letters_read(system: &Option<System>) -> Option<&Names>
+pub(crate) fn letters_read(system: &Option<System>) -> Option<&Names>
     ensures { option_map (λ n. n.now) result ≡ option_map letters_of system.now }
 {
     match system {
@@ -46,7 +46,7 @@ fn letters_read(system: &Option<System>) -> Option<&Names>
 }
 
 /// The names of the outputs of a system that was read and declares them.
-fn outputs_read(system: &Option<System>) -> Option<&Names>
+pub(crate) fn outputs_read(system: &Option<System>) -> Option<&Names>
     ensures { option_map (λ n. n.now) result ≡ option_and_then declared_of system.now }
 {
     match system {

@@ -6,7 +6,7 @@ use lw_cache::Cache;
 use lw_children::Command;
 use lw_desk::OutNames;
 use lw_json::Machine;
-use lw_words::{Names, NoMemory};
+use lw_words::{Names, NoMemory, Words};
 
 /// A system that is learned.
 #[derive(Drop)]
@@ -45,4 +45,11 @@ pub(crate) struct Task {
     pub(crate) system: System,
     pub(crate) names: OutNames,
     pub(crate) cache: Cache,
+}
+
+/// A task, and the words that are asked before its rounds.
+#[derive(Drop)]
+pub(crate) struct WordedTask {
+    pub(crate) task: Task,
+    pub(crate) words: Words,
 }

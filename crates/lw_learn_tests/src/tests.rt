@@ -2,6 +2,7 @@
 ghost use Rattle.std.specs.Prelude.{◌≤◌};
 
 use lw_learn::{LearnArguments, Source, bad_is_refused, learn, told_is_learned};
+use lw_log::{Log, MemoryLog};
 use lw_outside::{MemoryFiles, MemorySink, MemorySpawner};
 use lw_report::{End, Outcome};
 use lw_rounds::{Kind, Learner};
@@ -10,6 +11,7 @@ use std::sync::Wait;
 use std::test::Fail;
 use std::thread::Threads;
 
+mod asking;
 mod kept;
 
 const TWO: &str =
@@ -47,8 +49,9 @@ fn call<R: Threads + Wait + Sync + Drop>(
     children: &mut MemorySpawner,
     out: &mut MemorySink,
     err: &mut MemorySink,
+    log: &mut Log<MemoryLog>,
 ) -> End {
-    learn(rt, alloc, arguments, files, children, out, err)
+    learn(rt, alloc, arguments, files, children, out, err, log)
 }
 
 /// What a learning of `m` comes to at a limit of states.
@@ -74,9 +77,22 @@ fn limited<R: Threads + Wait + Sync + Drop>(
         None,
         None,
         None,
+        None,
+        None,
+        None,
     );
     let mut children = no_children(alloc)?;
-    Ok(call(rt, alloc, &arguments, &mut files, &mut children, out, err))
+    let mut log = Log::new(alloc, MemoryLog::new(alloc));
+    Ok(call(
+        rt,
+        alloc,
+        &arguments,
+        &mut files,
+        &mut children,
+        out,
+        err,
+        &mut log,
+    ))
 }
 
 /// What a learning of the setup `m`, of children that say what is listed, comes to.
@@ -104,8 +120,21 @@ fn told<R: Threads + Wait + Sync + Drop>(
         None,
         None,
         None,
+        None,
+        None,
+        None,
     );
-    let end = call(rt, alloc, &arguments, &mut files, &mut children, out, err);
+    let mut log = Log::new(alloc, MemoryLog::new(alloc));
+    let end = call(
+        rt,
+        alloc,
+        &arguments,
+        &mut files,
+        &mut children,
+        out,
+        err,
+        &mut log,
+    );
     let retired = children.retired().len();
     Ok((end, retired))
 }

@@ -1,6 +1,7 @@
 pub mod Calls
 pub mod Covering
 pub mod Naming
+pub mod Noting
 pub mod Pieces
 pub mod Playing
 pub mod Spelling

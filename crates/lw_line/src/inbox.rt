@@ -59,6 +59,18 @@ impl Inbox {
         Line::new(&self.bytes[..self.held])
     }
 
+    /// The bytes in front of the first line feed, or all where there is none; of a line that is too long none.
+    pub fn front(&self) -> Line {
+        if self.is_full() {
+            return Line::new(b"");
+        }
+        let held = &self.bytes[..self.held];
+        match line_end(held) {
+            Some(end) => Line::new(&held[..end]),
+            None => Line::new(held),
+        }
+    }
+
     /// Takes the first line out, without its line feed. The bytes behind it move to the front.
     pub fn take_line(&mut self) -> Option<Line>
         ensures { MatchOption result (NoFeed self.old × (self.new ≡ self.old))

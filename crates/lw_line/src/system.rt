@@ -1,5 +1,6 @@
 //! Systems that are programs at the other end of a link.
-ghost use Rattle.std.specs.Prelude.{◌≡◌, [], length, IfOk, IfErr, None, false};
+ghost use Rattle.std.specs.Prelude.{◌≡◌, [], length, IfOk, IfErr, IfSome, None, false};
+ghost use Rattle.lw_words.specs.Word.{IsWord};
 ghost use Rattle.lw_outside.specs.Links.{IsUntouched};
 ghost use Rattle.lw_line.specs.Causes.{IsCounted, IsTranscriptOf};
 ghost use Rattle.lw_line.specs.LineState.{AreToldIfFree, IsNaming, told_runs};
@@ -7,10 +8,11 @@ ghost use Rattle.lw_sul.specs.SessionState.{NoRuns};
 
 use crate::exchange::{ask, start};
 use crate::inbox::Inbox;
+use crate::note::{Note, Received, line_naming};
 use crate::outputs::OutputNames;
 use lw_outside::Link;
 use lw_sul::{OutName, Sul};
-use lw_words::{Names, NoMemory, SulStop};
+use lw_words::{Line, Names, NoMemory, SulStop};
 use std::alloc::Global;
 use std::marker::Model;
 
@@ -25,9 +27,12 @@ pub struct LineSul<L: Link> {
     started: bool,
     stop: Option<SulStop>,
     cut: bool,
+    note: Note,
 }
 
 impl<L: Link> Model for LineSul<L> {
+    ghost use Rattle.std.specs.Prelude.{length, IfSome};
+    ghost use Rattle.lw_words.specs.Word.{IsWord};
     ghost use Rattle.lw_line.specs.LineState.{AreToldIfFree, LineState};
     ghost use Rattle.lw_line.specs.bodies.Standing.{Stands};
 
@@ -36,7 +41,8 @@ impl<L: Link> Model for LineSul<L> {
     ghost view = { λ s. record { link = s.link; letters = s.letters; names = s.outputs.names; most = s.outputs.most; outputs = s.outputs.range; started = s.started; stop = s.stop; cut = s.cut } };
 
     ghost invariant = { λ s. Stands s.letters s.outputs.names s.outputs.most (L.faults s.link) (L.ends s.link) s.started s.inbox s.stop s.cut (L.transcript s.link)
-        × AreToldIfFree s.outputs.names s.outputs.most s.outputs.range (L.transcript s.link) };
+        × AreToldIfFree s.outputs.names s.outputs.most s.outputs.range (L.transcript s.link)
+        × IfSome s.note (IsWord (length s.letters)) };
 }
 
 impl<L: Link> LineSul<L> {
@@ -63,6 +69,7 @@ impl<L: Link> LineSul<L> {
             started: false,
             stop: None,
             cut: false,
+            note: Note::closed(),
         }
     }
 
@@ -92,9 +99,45 @@ impl<L: Link> LineSul<L> {
                 started: false,
                 stop: None,
                 cut: false,
+                note: Note::closed(),
             }),
             Err(stop) => Err((link, stop)),
         }
+    }
+
+    /// Notes what it is asked from now on, for a log, until memory runs out.
+    pub fn note(&mut self, alloc: Global)
+        ensures { self.new ≡ self.old }
+    {
+        self.note.open(alloc);
+    }
+
+    /// The letters that were sent since the last reset, the last of them perhaps in vain. None where they are not noted.
+    pub fn asked(&self) -> Option<&[u16]>
+        ensures { IfSome result (λ w. IsWord (length self.now.letters) w.now) }
+    {
+        self.note.letters()
+    }
+
+    /// The line that was received last, without its end. None where nothing is noted, or no line came since.
+    pub fn last_line(&self) -> Option<Line> {
+        self.note.letters()?;
+        if let Some(SulStop::BadLine(line)) = &self.stop {
+            return Some(line.copy());
+        }
+        match self.note.received() {
+            Received::Nothing => None,
+            Received::Ready => Some(Line::new(b"ready")),
+            Received::Output(y) if y < self.outputs.len() => {
+                Some(line_naming(&self.outputs.name(y)))
+            }
+            Received::Output(_) => None,
+        }
+    }
+
+    /// The bytes that were received behind the last line, up to a line feed if there is one.
+    pub fn rest(&self) -> Line {
+        self.inbox.front()
     }
 
     /// The link. Its counts and what went over it bear out the system's stop, and whether that was in a step.
@@ -116,6 +159,7 @@ impl<L: Link> LineSul<L> {
             started: _,
             stop: _,
             cut: _,
+            note: _,
         } = self;
         link
     }
@@ -168,9 +212,11 @@ impl<L: Link> Sul for LineSul<L> {
     }
 
     fn reset(&mut self) -> Result<(), SulStop> {
+        self.note.begin_run();
         match start(&mut self.link, &mut self.inbox) {
             Ok(()) => {
                 self.started = true;
+                self.note.receive(Received::Ready);
                 Ok(())
             }
             Err(stop) => {
@@ -183,9 +229,13 @@ impl<L: Link> Sul for LineSul<L> {
 
     fn step(&mut self, x: u16) -> Result<u16, SulStop> {
         let _letters = self.letters.len();
+        self.note.add_letter(x);
         let letter = self.letters.name(x);
         match ask(&mut self.link, &mut self.inbox, letter, &mut self.outputs) {
-            Ok(y) => Ok(y),
+            Ok(y) => {
+                self.note.receive(Received::Output(y));
+                Ok(y)
+            }
             Err(stop) => {
                 self.stop = Some(stop.copy());
                 self.cut = true;

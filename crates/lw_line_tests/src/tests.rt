@@ -4,6 +4,7 @@ mod asking;
 mod calls;
 mod free_names;
 mod lines;
+mod noting;
 mod scripted;
 mod served;
 mod session;

@@ -3,9 +3,12 @@
 
 mod adapters;
 mod children;
+mod log;
 
 use adapters::{Input, RealFiles, Stream};
 use children::RealSpawner;
+use log::RealLog;
+use lw_log::Log;
 use lw_top::{run, without_arguments};
 use std::alloc::Global;
 use std::io::ErrorKind;
@@ -39,6 +42,7 @@ fn main(rt: HostRuntime) -> ExitCode {
             &mut Input::new(rt.stdin()),
             &mut out,
             &mut err,
+            &mut Log::new(alloc, RealLog::new(rt)),
         ),
         Err(_) => without_arguments(alloc, &mut err),
     };

@@ -14,7 +14,7 @@ use Rattle.lw_report.specs.declared.outcome.Outcome.TheVariants.{Alphabets}
 use Rattle.lw_report.specs.declared.role.Role.TheVariants as role
 use Rattle.lw_report.specs.declared.stops.ReadStop.{ReadStop}
 use Rattle.lw_learn.specs.Tasks.{FitsSystem, ReadsSystem, declared_of, letters_of, or_these}
-use Rattle.lw_learn.specs.bodies.Stages.{IsRefused}
+use Rattle.lw_learn.specs.Unread.{IsRefused}
 use Rattle.lw_learn.specs.declared.arguments.Source.TheVariants as source
 use Rattle.lw_learn.specs.declared.task.System.{System}
 use Rattle.lw_learn.proofs.ReadLemmas.{made_then, read_made, read_refused}

@@ -10,8 +10,7 @@ use Rattle.lw_report.specs.declared.outcome.Outcome.{Outcome}
 use Rattle.lw_report.specs.declared.outcome.Outcome.TheVariants.{Alphabets}
 use Rattle.lw_report.specs.declared.role.Role.TheVariants as role
 use Rattle.lw_learn.specs.Tasks.{FitsSystem, ReadsSystem}
-use Rattle.lw_learn.specs.Unread.{MadeReads}
-use Rattle.lw_learn.specs.bodies.Stages.{IsRefused}
+use Rattle.lw_learn.specs.Unread.{IsRefused, MadeReads}
 use Rattle.lw_learn.specs.declared.arguments.Source.TheVariants as source
 use Rattle.lw_learn.specs.declared.task.System.{System}
 use Rattle.lw_ask.specs.Reading.{IsUnread as IsNoSystem}

@@ -6,8 +6,7 @@ ghost use Rattle.lw_children.specs.Spawners.{spawner_seen};
 ghost use Rattle.lw_report.specs.Outcomes.{status_of};
 ghost use Rattle.lw_report.specs.States.{files_state, sink_state};
 ghost use Rattle.lw_report.specs.declared.outcome.Outcome.{Outcome as Came};
-ghost use Rattle.lw_learn.specs.Tasks.{FitsSystem, letters_of};
-ghost use Rattle.lw_learn.specs.bodies.Ready.{HasWords};
+ghost use Rattle.lw_learn.specs.Tasks.{FitsSystem, HasWords, letters_of};
 ghost use Rattle.lw_recheck.specs.Outcomes.{came_outcome};
 ghost use Rattle.lw_recheck.specs.RecheckRun.{AsksTask, IsRecheckRun, RechecksCommand, RechecksMachine, RechecksSystem};
 

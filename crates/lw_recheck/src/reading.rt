@@ -4,8 +4,7 @@ ghost use Rattle.std.specs.List.{All};
 ghost use Rattle.lw_report.specs.States.{files_state};
 ghost use Rattle.lw_report.specs.declared.outcome.Outcome.{Outcome as Came};
 ghost use Rattle.lw_report.specs.declared.role.Role.{Role as Part};
-ghost use Rattle.lw_learn.specs.Tasks.{FitsSystem, letters_of};
-ghost use Rattle.lw_learn.specs.bodies.Ready.{HasWords};
+ghost use Rattle.lw_learn.specs.Tasks.{FitsSystem, HasWords, letters_of};
 ghost use Rattle.lw_recheck.specs.Reading.{HasReadBoth};
 
 use lw_ask::read_system;

@@ -1,5 +1,6 @@
 pub mod ComparisonLemmas
+pub mod HintLemmas
 pub mod LearningLemmas
-pub mod SinkLemmas
 pub mod ReadLemmas
+pub mod SinkLemmas
 pub mod TextLemmas

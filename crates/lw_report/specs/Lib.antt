@@ -1,8 +1,10 @@
 pub mod Ends
 pub mod Learnings
+pub mod Member
 pub mod Outcomes
 pub mod Reading
 pub mod Reasons
+pub mod SetupHint
 pub mod States
 pub mod Stops
 pub mod Text

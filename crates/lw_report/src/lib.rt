@@ -3,6 +3,7 @@
 
 mod comparison;
 mod end;
+mod member;
 mod outcome;
 mod reading;
 mod reasons;
@@ -17,8 +18,10 @@ mod writing;
 pub use comparison::{Comparison, Difference};
 pub use end::{End, refuse};
 pub use outcome::{Outcome, Tried, status};
-pub use reading::{read_answers_file, read_machine_file, read_setup_file};
+pub use reading::{
+    SetupFile, read_answers_file, read_machine_file, read_setup_file, read_setup_with,
+};
 pub use role::Role;
 pub use stops::{ReadStop, TellStop, learn_outcome};
-pub use texts::text;
+pub use texts::{outcome_text, text};
 pub use writing::{put_all, put_report, say, write_file};

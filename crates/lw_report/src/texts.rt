@@ -22,6 +22,7 @@ use std::alloc::Global;
 const USAGE: &str =
     "usage: learn (SETUP | --table FILE) [--workers N] [--extra K] [--learner table|ttt] [--max-states N]
              [--model FILE] [--answers FILE] [--prior FILE] [--kept FILE]
+             [--words FILE] [--random R --length L --seed S] [--log FILE]
        check MODEL ANSWERS [--extra K]
        serve MODEL
        ask (SETUP | --table FILE) WORD...
@@ -184,7 +185,7 @@ pub(crate) fn fixed_text(outcome: &Outcome) -> Option<&'static str>
 }
 
 /// The text of an outcome, with the names that a file has said, if any.
-pub(crate) fn outcome_text(
+pub fn outcome_text(
     alloc: Global,
     outcome: &Outcome,
     inputs: Option<&Names>,

@@ -41,6 +41,14 @@ grown_is X (grow.Crowd words) = refl
 pub leaves_learn_grown : {X : Type 0} (Y : Type 0) (before now : OracleState) (stop : GrowStop) (result : Result X LearnStop) → Leaves before now (grown_stop {X = Y} (Err stop)) → IsErrAnd result (λ e. e ≡ of_growth stop) → Leaves before now (learn_stop result)
 leaves_learn_grown Y before now stop result leaves is = subst (Leaves before now) (grown_is Y stop ∙ sym (told_stop (of_growth stop) result is)) leaves
 
+-- the same where it is handed on as it is
+same_growth : {X : Type 0} (Y : Type 0) (stop : GrowStop) (result : Result X GrowStop) → IsErrAnd result (λ e. e ≡ stop) → grown_stop {X = Y} (Err stop) ≡ grown_stop result
+same_growth {X = X} Y stop (Ok _) is = elim is [ ]
+same_growth {X = X} Y stop (Err e) is = grown_is Y stop ∙ (ap (λ (s : GrowStop). stop_of (of_growth s)) (sym is) ∙ sym (grown_is X e))
+
+pub leaves_grown_on : {X : Type 0} (Y : Type 0) (before now : OracleState) (stop : GrowStop) (result : Result X GrowStop) → Leaves before now (grown_stop {X = Y} (Err stop)) → IsErrAnd result (λ e. e ≡ stop) → Leaves before now (grown_stop result)
+leaves_grown_on Y before now stop result leaves is = subst (Leaves before now) (same_growth Y stop result is) leaves
+
 -- a stop of the learning that is handed on
 pub leaves_learn_handed : {X : Type 0} (Y : Type 0) (before now : OracleState) (stop : LearnStop) (result : Result X LearnStop) → Leaves before now (learn_stop {X = Y} (Err stop)) → IsErrAnd result (λ e. e ≡ stop) → Leaves before now (learn_stop result)
 leaves_learn_handed Y before now stop result leaves is = subst (Leaves before now) (err_stop Y stop ∙ sym (told_stop stop result is)) leaves

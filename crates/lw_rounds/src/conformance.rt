@@ -9,6 +9,8 @@ ghost use Rattle.lw_cache.specs.Settling.{Keeps, MayAsk, Leaves, asked_stop};
 ghost use Rattle.lw_rounds.specs.bodies.Conformance.{FindsFirst, Comes};
 
 use crate::difference::{first_difference, gives_from};
+use crate::watcher::Account;
+use crate::{Phase, Watcher};
 use lw_cache::{AskStop, Oracle};
 use lw_mealy::Mealy;
 use lw_suite::Suite;
@@ -46,11 +48,12 @@ fn settle_words<O: Oracle>(
 }
 
 /// Settles a suite, chunk by chunk, until the hypothesis differs.
-pub fn settle_suite<O: Oracle>(
+pub fn settle_suite<O: Oracle, W: Watcher>(
     oracle: &mut O,
     alloc: Global,
     hypothesis: &Mealy,
     suite: Suite,
+    account: &mut Account<'_, W>,
 ) -> Result<Option<Word>, AskStop>
     requires can { O.can_settle oracle.old }
     requires may { MayAsk (O.state oracle.old).stop }
@@ -67,7 +70,9 @@ pub fn settle_suite<O: Oracle>(
     let mut suite = suite;
     let mut chunk = Vec::new(alloc);
     while suite.next_chunk(&mut chunk)? {
-        if let Some(word) = settle_words(oracle, hypothesis, chunk.as_slice())? {
+        let found = settle_words(oracle, hypothesis, chunk.as_slice())?;
+        account.tell(Phase::Suite, oracle);
+        if let Some(word) = found {
             return Ok(Some(word));
         }
     }

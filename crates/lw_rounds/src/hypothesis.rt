@@ -17,7 +17,8 @@ ghost use Rattle.lw_rounds.specs.Stops.{learn_stop};
 ghost use Rattle.lw_rounds.specs.bodies.Rounds.{IsTested, StopsTest, of_fault};
 
 use crate::conformance::settle_suite;
-use crate::{LearnStop, Learner};
+use crate::watcher::Account;
+use crate::{LearnStop, Learner, Watcher};
 use lw_cache::{AskStop, Cache, Oracle};
 use lw_certify::{Verdict, certify};
 use lw_mealy::Mealy;
@@ -55,13 +56,14 @@ fn certified(alloc: Global, model: Mealy, cache: &Cache, extra: u8) -> Result<Me
 }
 
 /// Settles the suite of a model, which is the canonical form of the hypothesis.
-fn settle_and_certify<O: Oracle>(
+fn settle_and_certify<O: Oracle, W: Watcher>(
     oracle: &mut O,
     alloc: Global,
     hypothesis: &Mealy,
     model: Mealy,
     suite: Suite,
     extra: u8,
+    account: &mut Account<'_, W>,
 ) -> Result<Tested, LearnStop>
     requires can { O.can_settle oracle.old }
     requires may { MayAsk (O.state oracle.old).stop }
@@ -82,7 +84,7 @@ fn settle_and_certify<O: Oracle>(
     ensures leaves { Leaves (O.state oracle.old) (O.state oracle.new) (learn_stop result) }
     ensures can { O.can_settle oracle.new }
 {
-    let found = settle_suite(oracle, alloc, hypothesis, suite)?;
+    let found = settle_suite(oracle, alloc, hypothesis, suite, account)?;
     match found {
         Some(word) => Ok(Tested::Differs(word)),
         None => Ok(Tested::Sure(certified(alloc, model, oracle.cache(), extra)?)),
@@ -102,12 +104,13 @@ fn without_suite(model: Mealy, fault: SuiteFault) -> LearnStop
 #[tactic(auto, using(lw_cache::proofs::SettlingLemmas::leaves_nothing, crate::proofs::StopLemmas::leaves_learn_own))]
 /// Tests the machine of a learner, which gives the kept answers, by the suite of its canonical form. No node of a tree is
 /// temporary then.
-pub fn test_by_suite<O: Oracle>(
+pub fn test_by_suite<O: Oracle, W: Watcher>(
     oracle: &mut O,
     alloc: Global,
     learner: &Learner,
     hypothesis: &Mealy,
     extra: u8,
+    account: &mut Account<'_, W>,
 ) -> Result<Tested, LearnStop>
     requires can { O.can_settle oracle.old }
     requires may { MayAsk (O.state oracle.old).stop }
@@ -131,7 +134,7 @@ pub fn test_by_suite<O: Oracle>(
     let _ = hypothesis.inputs();
     let model = canonical(alloc, hypothesis)?;
     match Suite::new(alloc, &model, extra) {
-        Ok(suite) => settle_and_certify(oracle, alloc, hypothesis, model, suite, extra),
+        Ok(suite) => settle_and_certify(oracle, alloc, hypothesis, model, suite, extra, account),
         Err(fault) => Err(without_suite(model, fault)),
     }
 }

@@ -7,7 +7,8 @@ ghost use Rattle.lw_rounds.specs.Learned.{IsLearned, StopsAs};
 ghost use Rattle.lw_rounds.specs.Stops.{learn_stop};
 
 use crate::rounds::rounds;
-use crate::{Kind, LearnStop, Learned, Learner};
+use crate::watcher::Account;
+use crate::{Kind, LearnStop, Learned, Learner, Phase, Watcher};
 use lw_cache::Oracle;
 use std::alloc::Global;
 
@@ -16,10 +17,13 @@ use std::alloc::Global;
 /// equals: a learner of this kind is closed and its machine tested, until nothing known and no word of its suite tells it
 /// apart (Angluin 1987, or Isberner, Howar and Steffen 2014, with the suite of Vasilevskii 1973 and Chow 1978).
 ///
+/// The watcher is told of the first closing, of each chunk of a suite, of each refinement with the closing that it makes, and of
+/// each settling that replaced a block.
+///
 /// # Errors
 /// What the oracle stopped by, or out of memory; a crowd of `max_states + 1` words; or the canonical model whose suite would
 /// be too large.
-pub fn learn<O: Oracle>(
+pub fn learn<O: Oracle, W: Watcher>(
     oracle: &mut O,
     alloc: Global,
     inputs: u16,
@@ -27,6 +31,7 @@ pub fn learn<O: Oracle>(
     kind: Kind,
     extra: u8,
     max_states: u16,
+    watcher: &mut W,
 ) -> Result<Learned, LearnStop>
     requires can { O.can_settle oracle.old }
     requires may { MayAsk (O.state oracle.old).stop }
@@ -47,7 +52,9 @@ pub fn learn<O: Oracle>(
     // The cache tells that its answers are over the inputs and outputs.
     let _ = oracle.cache();
     let mut learner = Learner::new(alloc, inputs, outputs, kind, max_states)?;
+    let mut account = Account::new(watcher, oracle);
     learner.close(oracle)?;
-    let model = rounds(oracle, alloc, &mut learner, extra)?;
+    account.tell_learner(Phase::Table, &learner, oracle);
+    let model = rounds(oracle, alloc, &mut learner, extra, &mut account)?;
     Ok(Learned { model, learner })
 }

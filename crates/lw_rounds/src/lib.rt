@@ -10,6 +10,7 @@ mod learner;
 mod learning;
 mod rounds;
 mod stops;
+mod watcher;
 
 pub use laws::{
     model_is_canonical, model_is_least, too_large_for_all, too_large_is_least, too_many_is_none,
@@ -18,3 +19,4 @@ pub use learned::Learned;
 pub use learner::{Kind, Learner};
 pub use learning::learn;
 pub use stops::LearnStop;
+pub use watcher::{Phase, Step, Unwatched, Watcher};

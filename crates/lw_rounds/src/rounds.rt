@@ -9,7 +9,8 @@ ghost use Rattle.lw_rounds.specs.Stops.{learn_stop};
 ghost use Rattle.lw_rounds.specs.bodies.Rounds.{IsReady, IsAlike, GoesOn, IsLearnedFrom, StopsFrom, StopsGrowth};
 
 use crate::hypothesis::{Tested, test_by_suite};
-use crate::{LearnStop, Learner};
+use crate::watcher::Account;
+use crate::{LearnStop, Learner, Phase, Watcher};
 use lw_cache::{GrowStop, Oracle};
 use lw_cex::split;
 use lw_mealy::Mealy;
@@ -18,12 +19,13 @@ use lw_words::Word;
 use std::alloc::Global;
 
 /// Refines a learner by a known word on which its machine differs.
-fn refine<O: Oracle>(
+fn refine<O: Oracle, W: Watcher>(
     oracle: &mut O,
     alloc: Global,
     learner: &mut Learner,
     hypothesis: &Mealy,
     word: &Word,
+    account: &mut Account<'_, W>,
 ) -> Result<(), GrowStop>
     requires can { O.can_settle oracle.old }
     requires ready { IsReady (O.state oracle.old) learner.old }
@@ -39,16 +41,19 @@ fn refine<O: Oracle>(
     ensures can { O.can_settle oracle.new }
 {
     let cut = split(oracle, alloc, hypothesis, learner.access(), word)?;
-    learner.refine(oracle, &cut)
+    learner.refine(oracle, &cut)?;
+    account.tell_learner(Phase::Analysis, learner, oracle);
+    Ok(())
 }
 
 /// The end of a round: the machine of a learner gives what is known, no node of a tree is temporary, and its suite is tested.
-fn round_by_suite<O: Oracle>(
+fn round_by_suite<O: Oracle, W: Watcher>(
     oracle: &mut O,
     alloc: Global,
     learner: &mut Learner,
     hypothesis: &Mealy,
     extra: u8,
+    account: &mut Account<'_, W>,
 ) -> Result<Option<Mealy>, LearnStop>
     requires can { O.can_settle oracle.old }
     requires ready { IsReady (O.state oracle.old) learner.old }
@@ -70,9 +75,9 @@ fn round_by_suite<O: Oracle>(
 {
     // The hypothesis tells that it is a machine.
     let _ = hypothesis.inputs();
-    match test_by_suite(oracle, alloc, learner, hypothesis, extra)? {
+    match test_by_suite(oracle, alloc, learner, hypothesis, extra, account)? {
         Tested::Differs(word) => {
-            refine(oracle, alloc, learner, hypothesis, &word)?;
+            refine(oracle, alloc, learner, hypothesis, &word, account)?;
             Ok(None)
         }
         Tested::Sure(model) => Ok(Some(model)),
@@ -81,11 +86,12 @@ fn round_by_suite<O: Oracle>(
 
 #[tactic(auto, using(lw_cache::proofs::SettlingLemmas::leaves_nothing, crate::proofs::StopLemmas::leaves_learn_own))]
 /// One round: None where the learner was refined or settled, else the model.
-fn round<O: Oracle>(
+fn round<O: Oracle, W: Watcher>(
     oracle: &mut O,
     alloc: Global,
     learner: &mut Learner,
     extra: u8,
+    account: &mut Account<'_, W>,
 ) -> Result<Option<Mealy>, LearnStop>
     requires can { O.can_settle oracle.old }
     requires ready { IsReady (O.state oracle.old) learner.old }
@@ -102,23 +108,27 @@ fn round<O: Oracle>(
 {
     let hypothesis = learner.machine()?;
     if let Some(word) = oracle.cache().against(&hypothesis)? {
-        refine(oracle, alloc, learner, &hypothesis, &word)?;
+        refine(oracle, alloc, learner, &hypothesis, &word, account)?;
         return Ok(None);
     }
     match learner.settle(oracle, alloc)? {
-        Settled::Replaced => Ok(None),
-        Settled::NoBlock => round_by_suite(oracle, alloc, learner, &hypothesis, extra),
+        Settled::Replaced => {
+            account.tell_learner(Phase::Settling, learner, oracle);
+            Ok(None)
+        }
+        Settled::NoBlock => round_by_suite(oracle, alloc, learner, &hypothesis, extra, account),
     }
 }
 
 #[tactic(auto, using(crate::proofs::RoundLemmas::alike_then, crate::proofs::RoundLemmas::learned_alike, crate::proofs::RoundLemmas::stops_alike))]
 /// Rounds until a model is sure. Each one but the last adds a state or a final node, and there are no more of either than there may
 /// be states.
-pub fn rounds<O: Oracle>(
+pub fn rounds<O: Oracle, W: Watcher>(
     oracle: &mut O,
     alloc: Global,
     learner: &mut Learner,
     extra: u8,
+    account: &mut Account<'_, W>,
 ) -> Result<Mealy, LearnStop>
     requires can { O.can_settle oracle.old }
     requires ready { IsReady (O.state oracle.old) learner.old }
@@ -131,7 +141,8 @@ pub fn rounds<O: Oracle>(
     ensures can { O.can_settle oracle.new }
 {
     loop {
-        if let Some(model) = round(oracle, alloc, learner, extra)? {
+        account.begin_round();
+        if let Some(model) = round(oracle, alloc, learner, extra, account)? {
             return Ok(model);
         }
     }

@@ -9,7 +9,7 @@ use Rattle.lw_report.specs.declared.«end».End.{End}
 use Rattle.lw_report.specs.declared.outcome.Outcome.{Outcome}
 use Rattle.lw_report.specs.declared.outcome.Outcome.TheVariants.{NoMemory, Unstarted, Usage}
 use Rattle.lw_learn.specs.Arguments.{LearnValues}
-use Rattle.lw_learn.specs.LearnRun.{IsLearnRun}
+use Rattle.lw_learn.specs.LearnRun.{IsLearnRun, MaySayLog}
 use Rattle.lw_learn.specs.Unread.{IsUnreadBy}
 use Rattle.lw_learn.proofs.ReadLemmas.{made_none, some_made}
 use Rattle.lw_learn.proofs.RunLemmas.{none_saved}
@@ -18,6 +18,11 @@ use Rattle.lw_top.specs.Run.{IsRefused, argument_outcome}
 use Rattle.lw_top.specs.declared.values.ArgumentStop.{ArgumentStop}
 use Rattle.lw_top.specs.declared.values.ArgumentStop.TheVariants as stop
 
+-- nothing is said of a log
+none_told : (file : Option (List ℕ)) (d : SinkState) → MaySayLog file d d
+none_told None d = refl
+none_told (Some name) d = inl refl
+
 -- the end of a call that touched nothing, which is out of memory, is one that `learn` may come to
 pub wanted_run : (a : LearnValues) (f : FilesState) (b : SpawnerSeen) (o e d : SinkState) (end : End) → end.outcome ≡ NoMemory → IsRefused f f o o e d end → IsLearnRun a f f b b o o e d end
 wanted_run a f b o e d end out r =
@@ -25,20 +30,24 @@ wanted_run a f b o e d end out r =
     subst (λ (x : Outcome). TakesAll (said_text None None end.kept.answers a.extra x) e.taken d.taken) (sym is) (subst (λ (x : Outcome). TakesAll (said_text None None [] 0 x) e.taken d.taken) is t) in
     let part : (oc : Outcome) → oc ≡ NoMemory → TakesSome (said_text None None [] 0 oc) e.taken d.taken → TakesSome (said_text None None end.kept.answers a.extra oc) e.taken d.taken = λ oc is t.
     subst (λ (x : Outcome). TakesSome (said_text None None end.kept.answers a.extra x) e.taken d.taken) (sym is) (subst (λ (x : Outcome). TakesSome (said_text None None [] 0 x) e.taken d.taken) is t) in
-    inl (record {
-      read = None;
-      cause = inl (subst (λ (x : Outcome). IsUnreadBy a f f None end.kept.answers x) (sym out) (some_made f f (made_none f), r.kept, refl));
-      model = r.model;
-      learner = r.learner;
-      outputs = inl r.outputs;
-      between = f;
-      same = refl;
-      saved = none_saved a.kept (names_of None) (names_of None) end.kept.answers f end.outcome r.kept;
-      unstarted = refl;
-      unwritten = refl;
-      said = λ quiet. said end.outcome out (r.said quiet);
-      part = part end.outcome out r.part;
-    })
+    record {
+      told = d;
+      ends = inl (record {
+        read = None;
+        cause = inl (inl (subst (λ (x : Outcome). IsUnreadBy a f f None end.kept.answers x) (sym out) (some_made f f (made_none f), r.kept, refl)));
+        model = r.model;
+        learner = r.learner;
+        outputs = inl r.outputs;
+        between = f;
+        same = refl;
+        saved = none_saved a.kept (names_of None) (names_of None) end.kept.answers f end.outcome r.kept;
+        unstarted = refl;
+        unwritten = refl;
+        said = λ quiet. said end.outcome out (r.said quiet);
+        part = part end.outcome out r.part;
+      });
+      log = none_told a.log d;
+    }
 
 -- by the reason
 pub refused_usage : (s : ArgumentStop) (outcome : Outcome) → outcome ≡ argument_outcome s → outcome ≡ Usage → s ≡ stop.Usage

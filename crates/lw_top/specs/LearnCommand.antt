@@ -4,16 +4,22 @@ use Rattle.clap.specs.Faults.{fault_of}
 use Rattle.clap.specs.Words.{App, Row, first_of, matches_of, new_app, one_of, with_rule}
 use Rattle.lw_rounds.specs.declared.learner.Kind.{Kind}
 use Rattle.lw_learn.specs.Arguments.{LearnValues}
+use Rattle.lw_learn.specs.declared.arguments.Drawn.{Drawn}
 use Rattle.lw_learn.specs.declared.arguments.Source.{Source}
 use Rattle.lw_learn.specs.declared.arguments.Source.TheVariants.{Setup, Table}
 use Rattle.lw_top.specs.CommandLine.{is_command, is_faultless, kind_named, number_in}
-use Rattle.lw_top.specs.Options.{default_option, number_option, optional_argument, text_option}
+use Rattle.lw_top.specs.Options.{default_option, free_number, number_option, optional_argument, text_option}
 
 -- learn (SETUP | --table FILE) [--workers N] [--extra K] [--learner table|ttt] [--max-states N] [--model FILE] [--answers FILE] [--prior FILE]
--- [--kept FILE]
+-- [--kept FILE] [--words FILE] [--random R --length L --seed S] [--log FILE]
 abbrev pub learn_app : App
 learn_app =
     with_rule
+    (with_rule
+    (with_rule
+    (with_rule
+    (with_rule
+    (with_rule
     (with_rule
     (with_rule
     (with_rule
@@ -29,7 +35,12 @@ learn_app =
     (text_option (codes "model")))
     (text_option (codes "answers")))
     (text_option (codes "prior")))
-    (text_option (codes "kept"))
+    (text_option (codes "kept")))
+    (text_option (codes "words")))
+    (free_number (codes "random") 0 1000000))
+    (free_number (codes "length") 0 65536))
+    (free_number (codes "seed") 0 18446744073709551615))
+    (text_option (codes "log"))
 
 -- the file of the system and its kind: one of a setup and a table, never both
 abbrev pub source_from : (setup table : Option (List ℕ)) → Option (Source × List ℕ)
@@ -38,22 +49,47 @@ source_from None (Some table) = Some (Table, table)
 source_from (Some setup) (Some table) = None
 source_from None None = None
 
+-- the words that are to be drawn: all of their numbers are given, or none of them
+abbrev pub drawn_from : (count length seed : Option ℕ) → Option (Option Drawn)
+drawn_from None None None = Some None
+drawn_from (Some count) (Some length) (Some seed) = Some (Some (record { count = count; length = length; seed = seed }))
+drawn_from _ _ _ = None
+
+abbrev pub drawn_in : List Row → Option (Option Drawn)
+drawn_in rows = drawn_from (number_in 0 1000000 (one_of (codes "random") rows)) (number_in 0 65536 (one_of (codes "length") rows)) (number_in 0 18446744073709551615 (one_of (codes "seed") rows))
+
 -- the values, where the system's file is named, the numbers are in their ranges and the learner is of a kind
-abbrev pub values_from : Option (Source × List ℕ) → (workers extra : Option ℕ) → Option Kind → Option ℕ → (model answers prior kept : Option (List ℕ)) → Option LearnValues
-values_from None workers extra learner max_states model answers prior kept = None
-values_from (Some s) None extra learner max_states model answers prior kept = None
-values_from (Some s) (Some workers) None learner max_states model answers prior kept = None
-values_from (Some s) (Some workers) (Some extra) None max_states model answers prior kept = None
-values_from (Some s) (Some workers) (Some extra) (Some learner) None model answers prior kept = None
-values_from (Some s) (Some workers) (Some extra) (Some learner) (Some max_states) model answers prior kept =
-    Some (record { source = s.0; system = s.1; workers = workers; extra = extra; learner = learner; max_states = max_states; model = model; answers = answers; prior = prior; kept = kept })
+abbrev pub values_from : Option (Source × List ℕ) → (workers extra : Option ℕ) → Option Kind → Option ℕ → Option (Option Drawn) → (model answers prior kept words log : Option (List ℕ)) → Option LearnValues
+values_from None workers extra learner max_states drawn model answers prior kept words log = None
+values_from (Some s) None extra learner max_states drawn model answers prior kept words log = None
+values_from (Some s) (Some workers) None learner max_states drawn model answers prior kept words log = None
+values_from (Some s) (Some workers) (Some extra) None max_states drawn model answers prior kept words log = None
+values_from (Some s) (Some workers) (Some extra) (Some learner) None drawn model answers prior kept words log = None
+values_from (Some s) (Some workers) (Some extra) (Some learner) (Some max_states) None model answers prior kept words log = None
+values_from (Some s) (Some workers) (Some extra) (Some learner) (Some max_states) (Some drawn) model answers prior kept words log =
+    Some
+    (record {
+      source = s.0;
+      system = s.1;
+      workers = workers;
+      extra = extra;
+      learner = learner;
+      max_states = max_states;
+      model = model;
+      answers = answers;
+      prior = prior;
+      kept = kept;
+      words = words;
+      drawn = drawn;
+      log = log;
+    })
 
 abbrev pub values_in : List Row → Option LearnValues
 values_in rows =
     values_from (source_from (first_of (codes "setup") rows) (first_of (codes "table") rows)) (number_in 1 16 (one_of (codes "workers") rows)) (number_in 0 4 (one_of (codes "extra") rows))
-    (option_and_then kind_named (first_of (codes "learner") rows)) (number_in 1 1024 (one_of (codes "max-states") rows))
+    (option_and_then kind_named (first_of (codes "learner") rows)) (number_in 1 1024 (one_of (codes "max-states") rows)) (drawn_in rows)
     (first_of (codes "model") rows) (first_of (codes "answers") rows) (first_of (codes "prior") rows)
-    (first_of (codes "kept") rows)
+    (first_of (codes "kept") rows) (first_of (codes "words") rows) (first_of (codes "log") rows)
 
 -- what the arguments say to `learn`, where they are taken
 abbrev pub learn_values : List (List ℕ) → Option LearnValues

@@ -31,3 +31,7 @@ many_arguments name = record (new_rule name) { action = Some Append }
 -- an option that takes a whole number in a range, which has to be there
 abbrev pub required_number : List ℕ → ℕ → ℕ → Rule
 required_number name low high = record (new_rule name) { long = Some name; required = true; parser = Some (Unsigned low high) }
+
+-- an option that takes a whole number in a range, which may be left out
+abbrev pub free_number : List ℕ → ℕ → ℕ → Rule
+free_number name low high = record (new_rule name) { long = Some name; parser = Some (Unsigned low high) }

@@ -19,7 +19,8 @@ use lw_ask::{AskArguments, ask};
 use lw_check::check;
 use lw_compare::compare;
 use lw_learn::{LearnArguments, learn};
-use lw_outside::{Files, Sink, Source, Spawner};
+use lw_log::Log;
+use lw_outside::{Files, LogFile, Sink, Source, Spawner};
 use lw_recheck::{RecheckArguments, recheck};
 use lw_report::End;
 use lw_serve::serve;
@@ -29,7 +30,14 @@ use std::sync::Wait;
 use std::thread::Threads;
 
 /// `learn` with these values.
-pub(crate) fn run_learn<R: Threads + Wait + Sync + Drop, F: Files, P: Spawner, O: Sink, E: Sink>(
+pub(crate) fn run_learn<
+    R: Threads + Wait + Sync + Drop,
+    F: Files,
+    P: Spawner,
+    O: Sink,
+    E: Sink,
+    L: LogFile,
+>(
     rt: R,
     alloc: Global,
     values: &LearnArguments,
@@ -37,6 +45,7 @@ pub(crate) fn run_learn<R: Threads + Wait + Sync + Drop, F: Files, P: Spawner, O
     spawner: &mut P,
     out: &mut O,
     err: &mut E,
+    log: &mut Log<L>,
 ) -> End
     ensures status { result.status ≡ status_of result.outcome }
     ensures taken { ¬ (result.outcome ≡ Came.Usage) }
@@ -56,7 +65,7 @@ pub(crate) fn run_learn<R: Threads + Wait + Sync + Drop, F: Files, P: Spawner, O
         (sink_state (E.taken err.old) (E.faults err.old))
         (sink_state (E.taken err.new) (E.faults err.new)) result }
 {
-    learn(rt, alloc, values, files, spawner, out, err)
+    learn(rt, alloc, values, files, spawner, out, err, log)
 }
 
 /// `check` with these values.

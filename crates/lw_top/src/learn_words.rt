@@ -1,18 +1,20 @@
 //! The arguments of `learn`, read by clap.
-ghost use Rattle.std.specs.Prelude.{◌≡◌, true, false, Some, None, Err, IfOk, OnOk, option_map, string_bytes};
+ghost use Rattle.std.specs.Prelude.{◌≡◌, true, false, Some, None, Err, IfOk, IfSome, OnOk, option_map, string_bytes};
 ghost use Rattle.clap.specs.Faults.{fault_of};
 ghost use Rattle.clap.specs.Words.{app_of, found_of, matches_of, rows_of};
 ghost use Rattle.lw_top.specs.CommandLine.{is_faultless, texts};
-ghost use Rattle.lw_top.specs.LearnCommand.{learn_app, learn_values, source_from, values_in};
+ghost use Rattle.lw_learn.specs.Arguments.{AreFewDrawn};
+ghost use Rattle.lw_top.specs.LearnCommand.{drawn_in, learn_app, learn_values, source_from, values_in};
 ghost use Rattle.lw_top.specs.declared.values.ArgumentStop.{ArgumentStop as Stop};
 
 use crate::ArgumentStop;
 use crate::options::{
-    extra_option, learner_option, optional_argument, states_option, text_option, workers_option,
+    drawn_seed_option, extra_option, learner_option, length_option, optional_argument,
+    random_option, states_option, text_option, workers_option,
 };
 use crate::values::{kind_at, number_at, stop_of, text_at};
 use clap::{ArgMatches, Command};
-use lw_learn::{LearnArguments, Source};
+use lw_learn::{Drawn, LearnArguments, Source};
 use std::alloc::{AllocError, Global};
 
 /// The command `learn`.
@@ -29,7 +31,12 @@ fn learn_command<'a>(alloc: Global) -> Result<Command<'a>, AllocError>
         .arg(text_option(alloc, "model"))?
         .arg(text_option(alloc, "answers"))?
         .arg(text_option(alloc, "prior"))?
-        .arg(text_option(alloc, "kept"))?;
+        .arg(text_option(alloc, "kept"))?
+        .arg(text_option(alloc, "words"))?
+        .arg(random_option(alloc))?
+        .arg(length_option(alloc))?
+        .arg(drawn_seed_option(alloc))?
+        .arg(text_option(alloc, "log"))?;
     Ok(command)
 }
 
@@ -61,6 +68,25 @@ fn source_of(setup: Option<String>, table: Option<String>) -> Option<(Source, St
     }
 }
 
+/// The words that are to be drawn, where all of their numbers are given, or none; else the arguments aren't taken.
+fn drawn_at(matches: &ArgMatches) -> Option<Option<Drawn>>
+    ensures value { result ≡ drawn_in (rows_of (found_of matches.now)) }
+    ensures few { IfSome result (λ drawn. IfSome drawn AreFewDrawn) }
+{
+    let count = number_at(matches, "random", 0, 1_000_000);
+    let length = number_at(matches, "length", 0, 65_536);
+    let seed = number_at(matches, "seed", 0, u64::MAX);
+    match (count, length, seed) {
+        (None, None, None) => Some(None),
+        (Some(count), Some(length), Some(seed)) => Some(Some(Drawn {
+            count: count as u32,
+            length: length as u32,
+            seed,
+        })),
+        _ => None,
+    }
+}
+
 /// The values that clap found, where the file of the system is named.
 fn values_of(alloc: Global, matches: &ArgMatches) -> Result<LearnArguments, ArgumentStop>
     ensures ok { IfOk result (λ a. values_in (rows_of (found_of matches.now)) ≡ Some a) }
@@ -83,6 +109,9 @@ fn values_of(alloc: Global, matches: &ArgMatches) -> Result<LearnArguments, Argu
     let Some(max_states) = number_at(matches, "max-states", 1, 1024) else {
         return Err(ArgumentStop::Usage);
     };
+    let Some(drawn) = drawn_at(matches) else {
+        return Err(ArgumentStop::Usage);
+    };
     Ok(LearnArguments::new(
         source,
         system,
@@ -94,6 +123,9 @@ fn values_of(alloc: Global, matches: &ArgMatches) -> Result<LearnArguments, Argu
         text_at(alloc, matches, "answers")?,
         text_at(alloc, matches, "prior")?,
         text_at(alloc, matches, "kept")?,
+        text_at(alloc, matches, "words")?,
+        drawn,
+        text_at(alloc, matches, "log")?,
     ))
 }
 

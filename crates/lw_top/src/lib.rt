@@ -10,6 +10,7 @@ mod file_pair;
 mod learn_words;
 mod options;
 mod recheck_words;
+mod refused;
 mod serve_words;
 mod top;
 mod trial_words;

@@ -1,7 +1,7 @@
 //! The options of the commands, as clap takes them.
 ghost use Rattle.std.specs.Prelude.{◌≡◌, codes, false};
 ghost use Rattle.clap.specs.Words.{rule_of};
-ghost use Rattle.lw_top.specs.Options.{default_option, many_arguments, number_option, optional_argument, required_argument, required_number, text_option};
+ghost use Rattle.lw_top.specs.Options.{default_option, free_number, many_arguments, number_option, optional_argument, required_argument, required_number, text_option};
 
 use clap::{Arg, ArgAction};
 use std::alloc::Global;
@@ -69,6 +69,36 @@ pub(crate) fn states_option<'a>(alloc: Global) -> Arg<'a>
         .long("max-states")
         .value_parser(clap::value_parser!(u64).range(1..=1024))
         .default_value("1024")
+}
+
+/// `--random R`, from 0 to 1000000.
+pub(crate) fn random_option<'a>(alloc: Global) -> Arg<'a>
+    ensures rule { rule_of result ≡ free_number (codes "random") 0 1000000 }
+    ensures local { result.global ≡ false }
+{
+    Arg::new(alloc, "random")
+        .long("random")
+        .value_parser(clap::value_parser!(u64).range(0..=1_000_000))
+}
+
+/// `--length L`, from 0 to 65536.
+pub(crate) fn length_option<'a>(alloc: Global) -> Arg<'a>
+    ensures rule { rule_of result ≡ free_number (codes "length") 0 65536 }
+    ensures local { result.global ≡ false }
+{
+    Arg::new(alloc, "length")
+        .long("length")
+        .value_parser(clap::value_parser!(u64).range(0..=65_536))
+}
+
+/// `--seed S`, from 0 to 18446744073709551615, which may be left out.
+pub(crate) fn drawn_seed_option<'a>(alloc: Global) -> Arg<'a>
+    ensures rule { rule_of result ≡ free_number (codes "seed") 0 18446744073709551615 }
+    ensures local { result.global ≡ false }
+{
+    Arg::new(alloc, "seed")
+        .long("seed")
+        .value_parser(clap::value_parser!(u64))
 }
 
 /// `--learner table|ttt`, of which the table is the default.

@@ -31,7 +31,9 @@ use crate::call::{Call, read_call};
 use crate::commands::{
     run_ask, run_check, run_compare, run_learn, run_recheck, run_serve, run_trial,
 };
-use lw_outside::{Files, Sink, Source, Spawner};
+use crate::refused::log_refused;
+use lw_log::Log;
+use lw_outside::{Files, LogFile, Sink, Source, Spawner};
 use lw_report::{End, Outcome, refuse};
 use lw_words::Kept;
 use std::alloc::Global;
@@ -82,9 +84,17 @@ pub fn without_arguments<E: Sink>(alloc: Global, err: &mut E) -> End
 }
 
 /// All that the program does. `arguments` are those of the command line, without the program's own name; the first names the
-/// command. Each command has its own contract; a call whose arguments aren't taken touches nothing but `err`. May wait for a
-/// child and for a turn of its workers, and `serve` for its input.
-pub fn run<R: Threads + Wait + Sync + Drop, F: Files, P: Spawner, I: Source, O: Sink, E: Sink>(
+/// command. Each command has its own contract; a call whose arguments aren't taken touches nothing but `err`, and
+/// the log that arguments of `learn` name. Nothing but `learn` writes to a log. May wait for a child and for a turn of its workers, and `serve` for its input.
+pub fn run<
+    R: Threads + Wait + Sync + Drop,
+    F: Files,
+    P: Spawner,
+    I: Source,
+    O: Sink,
+    E: Sink,
+    L: LogFile,
+>(
     rt: R,
     alloc: Global,
     arguments: &[String],
@@ -93,6 +103,7 @@ pub fn run<R: Threads + Wait + Sync + Drop, F: Files, P: Spawner, I: Source, O: 
     input: &mut I,
     out: &mut O,
     err: &mut E,
+    log: &mut Log<L>,
 ) -> End
     ensures status { result.status ≡ status_of result.outcome }
 
@@ -222,10 +233,13 @@ pub fn run<R: Threads + Wait + Sync + Drop, F: Files, P: Spawner, I: Source, O: 
 {
     let call = match read_call(alloc, arguments) {
         Ok(call) => call,
-        Err(stop) => return refuse_arguments(alloc, stop, err),
+        Err(stop) => {
+            log_refused(alloc, arguments, stop, log);
+            return refuse_arguments(alloc, stop, err);
+        }
     };
     match call {
-        Call::Learn(values) => run_learn(rt, alloc, &values, files, spawner, out, err),
+        Call::Learn(values) => run_learn(rt, alloc, &values, files, spawner, out, err, log),
         Call::Check(values) => run_check(alloc, &values, files, out, err),
         Call::Trial(values) => run_trial(rt, alloc, &values, out, err),
         Call::Serve(model) => run_serve(alloc, model.as_str(), files, input, out, err),

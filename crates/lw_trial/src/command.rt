@@ -17,7 +17,7 @@ use lw_desk::OutNames;
 use lw_mealy::Mealy;
 use lw_outside::Sink;
 use lw_report::{End, Outcome, learn_outcome, refuse, say};
-use lw_rounds::Learned;
+use lw_rounds::{Learned, Unwatched};
 use lw_words::{Kept, Names, NamesFault, NoMemory};
 use lw_workers::{LearnedMachine, learn_machine};
 use std::alloc::Global;
@@ -145,10 +145,12 @@ fn learn<R: Threads + Wait + Sync + Drop, O: Sink, E: Sink>(
         &drawn.outputs,
         named,
         Cache::new(alloc),
+        &[],
         arguments.workers(),
         arguments.learner(),
         EXTRA,
         MOST_STATES,
+        &mut Unwatched,
     );
     match learned {
         Ok(learned) => report(alloc, arguments, drawn, learned, kept, names, out, err),

@@ -1,3 +1,4 @@
+pub mod AskingLemmas
 mod InstanceLemmas
 pub mod LeavingLemmas
 pub mod MachineLemmas

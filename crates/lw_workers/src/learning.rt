@@ -1,5 +1,5 @@
 //! The learning of a model over a pool.
-ghost use Rattle.std.specs.Prelude.{◌≡◌, ◌<◌, ◌≤◌, ◌^◌, IfOk, IfErr, length};
+ghost use Rattle.std.specs.Prelude.{◌≡◌, ◌<◌, ◌≤◌, ◌^◌, IfOk, IfErr, OnOk, length};
 ghost use Rattle.std.specs.List.{All};
 ghost use Rattle.lw_words.specs.Answer.{answers_of};
 ghost use Rattle.lw_words.specs.Word.{IsWord};
@@ -8,10 +8,12 @@ ghost use Rattle.lw_cache.specs.Settling.{MayAsk};
 ghost use Rattle.lw_pool.specs.Settling.{HasSettled};
 ghost use Rattle.lw_rounds.specs.Learned.{IsLearned, StopsAs};
 ghost use Rattle.lw_rounds.specs.Stops.{learn_stop};
+ghost use Rattle.lw_workers.specs.Asking.{AnswersWords};
 ghost use Rattle.lw_workers.specs.Leaving.{HasLearned};
 
+use crate::asking::learn_after;
 use lw_pool::{ByCall, Pool};
-use lw_rounds::{Kind, LearnStop, Learned, learn};
+use lw_rounds::{Kind, LearnStop, Learned, Watcher};
 use lw_sul::Sul;
 use lw_words::Word;
 use std::alloc::Global;
@@ -25,28 +27,33 @@ pub struct LearnedWith<S: Sul, R> {
     pub pool: Pool<S, R>,
 }
 
-/// A model of the system behind a pool's sessions, as `learn` of `lw_rounds` makes it of an oracle; and the pool, whatever comes
-/// of the learning. May wait for a system.
-pub fn learn_with<S: Sul + Send, R: Threads + Wait + Sync>(
+/// A model of the system behind a pool's sessions, as `learn` of `lw_rounds` makes it of an oracle, after the words were asked in
+/// one batch; and the pool, whatever comes of the learning. Where there are words, the watcher is told of that batch before all
+/// else. May wait for a system.
+pub fn learn_with<S: Sul + Send, R: Threads + Wait + Sync, W: Watcher>(
     pool: Pool<S, R>,
     alloc: Global,
+    words: &[Word],
     kind: Kind,
     extra: u8,
     max_states: u16,
+    watcher: &mut W,
 ) -> LearnedWith<S, R>
     requires may { MayAsk pool.stop }
     requires nothing { NothingClashes (answers_of pool.kept) }
     requires letters { (1 ≤ pool.inputs) × (pool.inputs ≤ 64) }
     requires signs { (1 ≤ pool.outputs) × (pool.outputs ≤ 4096) }
+    requires named_letters { All (IsWord pool.inputs) words.now }
+    requires named_few { length words.now < 2 ^ 32 }
     requires few { extra ≤ 4 }
     requires most { (1 ≤ max_states) × (max_states ≤ 1024) }
+    ensures asked { OnOk result.learned (AnswersWords words.now result.pool.kept) }
     ensures learned { IfOk result.learned (λ l. IsLearned kind pool.inputs pool.outputs extra
         max_states (answers_of result.pool.kept) l.model l.learner) }
     ensures stops { IfErr result.learned (StopsAs pool.inputs pool.outputs extra max_states
         (answers_of result.pool.kept)) }
     ensures leaves { HasLearned pool result.pool (learn_stop result.learned) }
 {
-    let (inputs, outputs) = (pool.inputs(), pool.outputs());
     // for the proof alone, here and below: the pool stands
     let _ = pool.cache();
     let settle = |pool: &mut Pool<S, R>, batch: &[Word]|
@@ -55,7 +62,7 @@ pub fn learn_with<S: Sul + Send, R: Threads + Wait + Sync>(
         ensures { HasSettled batch.entry.now pool.entry.now pool.exit.now result }
     { pool.settle_all(batch) };
     let mut oracle = ByCall { pool, settle };
-    let learned = learn(&mut oracle, alloc, inputs, outputs, kind, extra, max_states);
+    let learned = learn_after(&mut oracle, alloc, words, kind, extra, max_states, watcher);
     let ByCall { pool, settle: _ } = oracle;
     let _ = pool.cache();
     LearnedWith { learned, pool }

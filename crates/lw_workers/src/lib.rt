@@ -1,6 +1,7 @@
 //! Learnings with a pool of workers.
 #![tactic(auto)]
 
+mod asking;
 mod learning;
 mod machine;
 

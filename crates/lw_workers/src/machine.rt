@@ -1,11 +1,14 @@
 //! The learning of a machine that stands in for a system, over instances of it.
-ghost use Rattle.std.specs.Prelude.{◌≡◌, ◌≤◌, IfOk, IfErr, [], length, None};
+ghost use Rattle.std.specs.Prelude.{◌≡◌, ◌<◌, ◌≤◌, ◌^◌, IfOk, IfErr, OnOk, [], length, None};
+ghost use Rattle.std.specs.List.{All};
 ghost use Rattle.lw_words.specs.Answer.{answers_of};
+ghost use Rattle.lw_words.specs.Word.{IsWord};
 ghost use Rattle.lw_mealy.specs.Gives.{Gives};
 ghost use Rattle.lw_mealy.specs.Machine.{Rows};
 ghost use Rattle.lw_cache.specs.Clash.{NothingClashes};
 ghost use Rattle.lw_pool.specs.Opening.{MayBegin};
 ghost use Rattle.lw_rounds.specs.Learned.{IsLearned, StopsAs};
+ghost use Rattle.lw_workers.specs.Asking.{AnswersWords};
 ghost use Rattle.lw_workers.specs.Machines.{IsMachineStop, KeepsRuns, IsReached, IsWithin};
 ghost use Rattle.lw_workers.specs.bodies.Instances.{AreInstances, IsPoolOf};
 
@@ -14,9 +17,11 @@ use lw_cache::Cache;
 use lw_desk::OutNames;
 use lw_mealy::Mealy;
 use lw_pool::Pool;
-use lw_rounds::{Kind, LearnStop, Learned, model_is_least, too_large_for_all, too_many_is_none};
+use lw_rounds::{
+    Kind, LearnStop, Learned, Watcher, model_is_least, too_large_for_all, too_many_is_none,
+};
 use lw_sul::{Session, TableSul};
-use lw_words::{Kept, Names, NoMemory};
+use lw_words::{Kept, Names, NoMemory, Word};
 use std::alloc::Global;
 use std::sync::Wait;
 use std::thread::Threads;
@@ -83,17 +88,19 @@ fn pool_of<R: Drop>(
 ///
 /// A prior answer that isn't the machine's may be told by a clash; without one, a learning stops for want of states or memory
 /// alone, or because its suite is too large.
-pub fn learn_machine<R: Threads + Wait + Sync + Drop>(
+pub fn learn_machine<R: Threads + Wait + Sync + Drop, W: Watcher>(
     rt: R,
     alloc: Global,
     system: &Mealy,
     names: &Names,
     shared: OutNames,
     cache: Cache,
+    words: &[Word],
     workers: u8,
     kind: Kind,
     extra: u8,
     max_states: u16,
+    watcher: &mut W,
 ) -> LearnedMachine
     requires named { length names.now ≡ system.now.outputs }
     requires shared { shared ≡ record { names = names.now; brought = None } }
@@ -101,8 +108,11 @@ pub fn learn_machine<R: Threads + Wait + Sync + Drop>(
     requires nothing { NothingClashes (answers_of cache.kept) }
     requires prior { MayBegin shared system.now.inputs system.now.outputs cache.kept }
     requires workers { (1 ≤ workers) × (workers ≤ 16) }
+    requires named_letters { All (IsWord system.now.inputs) words.now }
+    requires named_few { length words.now < 2 ^ 32 }
     requires few { extra ≤ 4 }
     requires most { (1 ≤ max_states) × (max_states ≤ 1024) }
+    ensures asked { OnOk result.learned (AnswersWords words.now result.kept.answers) }
     ensures learned { IfOk result.learned (λ l. IsLearned kind system.now.inputs system.now.outputs
         extra max_states (answers_of result.kept.answers) l.model l.learner) }
     ensures stops { IfErr result.learned (StopsAs system.now.inputs system.now.outputs extra
@@ -128,7 +138,9 @@ pub fn learn_machine<R: Threads + Wait + Sync + Drop>(
             };
         }
     };
-    let LearnedWith { learned, pool } = learn_with(pool, alloc, kind, extra, max_states);
+    let LearnedWith { learned, pool } = learn_with(
+        pool, alloc, words, kind, extra, max_states, watcher,
+    );
     let (_, left, cache) = pool.into_parts();
     LearnedMachine {
         learned,

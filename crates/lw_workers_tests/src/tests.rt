@@ -1,8 +1,12 @@
 //! Learnings worked by hand, with pools of one to three sessions: what is asked, and what is answered.
+ghost use Rattle.std.specs.Prelude.{◌<◌, ◌^◌, IfOk, length};
+ghost use Rattle.std.specs.List.{All};
+ghost use Rattle.lw_words.specs.Word.{IsWord};
+
 use crate::tests::crews::{Refusing, pool_of};
 use lw_cache::AskStop;
-use lw_rounds::{Kind, LearnStop, Learned};
-use lw_words::Kept;
+use lw_rounds::{Kind, LearnStop, Learned, Phase, Step, Unwatched, Watcher};
+use lw_words::{Kept, Word, Words};
 use lw_workers::{LearnedWith, learn_with};
 use std::alloc::Global;
 use std::sync::Wait;
@@ -15,6 +19,60 @@ mod prior;
 
 /// The counter of three: each third letter is answered by 1.
 const COUNTER: [(u16, u16); 3] = [(1, 0), (2, 0), (0, 1)];
+
+/// What comes of a learning.
+#[derive(Clone, Copy)]
+enum Ending {
+    /// A model of so many states, of a learner that was refined so often.
+    Found(u16, u32),
+    /// So many words that need too many states.
+    Crowd(usize),
+    /// A stop of the session with this number.
+    Stopped(u32),
+}
+
+/// A learning, and the numbers of letters of the words whose answers are kept then, in their order.
+struct Case {
+    name: &'static str,
+    cells: &'static [(u16, u16)],
+    sessions: usize,
+    refused: Option<u32>,
+    /// The length of the word that is asked first, or 0.
+    first: usize,
+    kind: Kind,
+    extra: u8,
+    most: u16,
+    ending: Ending,
+    kept: &'static [usize],
+}
+
+/// What was told of a learning.
+#[derive(Drop)]
+struct Notes {
+    steps: Vec<Step>,
+    is_whole: bool,
+}
+
+impl Notes {
+    fn new(alloc: Global) -> Notes {
+        Notes {
+            steps: Vec::new(alloc),
+            is_whole: true,
+        }
+    }
+
+    /// Whether just these steps were told.
+    fn are(&self, steps: &[Step]) -> bool {
+        let mut each = self.steps.iter().zip(steps.iter());
+        self.is_whole && self.steps.len() == steps.len() && each.all(|(told, step)| told == step)
+    }
+}
+
+impl Watcher for Notes {
+    fn step(&mut self, step: Step) {
+        self.is_whole = self.steps.push(step).is_ok() && self.is_whole;
+    }
+}
 
 /// Whether the kept answers are to words of these numbers of letters, in this order.
 fn are_long(kept: &Kept, letters: &[usize]) -> bool {
@@ -38,75 +96,6 @@ fn is_found(learned: &Result<Learned, LearnStop>, states: u16, refinements: u32)
     learned.model.states() == states && learned.refinements() == refinements
 }
 
-/// Whether so many sessions find the counter with one refinement, by the answers to words of these numbers of letters. Each
-/// batch has one word to ask.
-fn find_counter<R: Threads + Wait + Sync + Drop>(
-    rt: R,
-    alloc: Global,
-    sessions: usize,
-    kind: Kind,
-    letters: &[usize],
-) -> Result<bool, Fail> {
-    let pool = pool_of(rt, alloc, &COUNTER, sessions, None)?;
-    let ended = learn_with(pool, alloc, kind, 2, 4);
-    Ok(is_found(&ended.learned, 3, 1) && has_asked(&ended, sessions, letters))
-}
-
-#[test]
-fn however_many_sessions_find_a_counter(rt: HostRuntime) -> Result<(), Fail> {
-    let alloc = rt.alloc();
-    for sessions in [1usize, 2, 3] {
-        assert!(rt;
-            find_counter(rt, alloc, sessions, Kind::Table, &[2, 3, 4, 5, 7])?,
-            "{sessions} sessions"
-        );
-    }
-    Ok(())
-}
-
-/// The tree begins with the word of one letter. Its temporary discriminator, of two, is settled without a further word.
-#[test]
-fn however_many_sessions_find_a_counter_by_a_tree(rt: HostRuntime) -> Result<(), Fail> {
-    let alloc = rt.alloc();
-    for sessions in [1usize, 2, 3] {
-        assert!(rt;
-            find_counter(rt, alloc, sessions, Kind::Ttt, &[1, 3, 4, 5, 7])?,
-            "{sessions} sessions"
-        );
-    }
-    Ok(())
-}
-
-/// Whether two sessions find the counter, and find it again without asking anything.
-fn find_again<R: Threads + Wait + Sync + Drop>(rt: R, alloc: Global) -> Result<bool, Fail> {
-    let pool = pool_of(rt, alloc, &COUNTER, 2, None)?;
-    let LearnedWith { learned, pool } = learn_with(pool, alloc, Kind::Table, 2, 4);
-    let Ok(_) = learned else {
-        return Ok(false);
-    };
-    let again = learn_with(pool, alloc, Kind::Table, 2, 4);
-    Ok(is_found(&again.learned, 3, 1) && has_asked(&again, 2, &[2, 3, 4, 5, 7]))
-}
-
-#[test]
-fn a_pool_that_has_learned_learns_again(rt: HostRuntime) -> Result<(), Fail> {
-    assert!(rt; find_again(rt, rt.alloc())?);
-    Ok(())
-}
-
-/// Whether two sessions find a machine of one state.
-fn find_one_state<R: Threads + Wait + Sync + Drop>(rt: R, alloc: Global) -> Result<bool, Fail> {
-    let pool = pool_of(rt, alloc, &[(0, 0)], 2, None)?;
-    let ended = learn_with(pool, alloc, Kind::Table, 1, 4);
-    Ok(is_found(&ended.learned, 1, 0) && has_asked(&ended, 2, &[2]))
-}
-
-#[test]
-fn two_sessions_find_a_machine_of_one_state(rt: HostRuntime) -> Result<(), Fail> {
-    assert!(rt; find_one_state(rt, rt.alloc())?);
-    Ok(())
-}
-
 /// Whether it ended with a crowd of so many words.
 fn is_crowd(learned: &Result<Learned, LearnStop>, count: usize) -> bool {
     match learned {
@@ -115,36 +104,236 @@ fn is_crowd(learned: &Result<Learned, LearnStop>, count: usize) -> bool {
     }
 }
 
-/// Whether two sessions stop at a limit of two states with three words of the counter.
-fn find_crowd<R: Threads + Wait + Sync + Drop>(rt: R, alloc: Global) -> Result<bool, Fail> {
-    let pool = pool_of(rt, alloc, &COUNTER, 2, None)?;
-    let ended = learn_with(pool, alloc, Kind::Table, 2, 2);
-    Ok(is_crowd(&ended.learned, 3) && has_asked(&ended, 2, &[2, 3, 4]))
-}
-
-#[test]
-fn two_states_are_too_few_for_a_counter(rt: HostRuntime) -> Result<(), Fail> {
-    assert!(rt; find_crowd(rt, rt.alloc())?);
-    Ok(())
-}
-
-/// Whether it ended with a stop of the first session.
-fn is_stop<R>(ended: &LearnedWith<Refusing, R>) -> bool {
-    match &ended.learned {
-        Err(LearnStop::Ask(AskStop::Sul { instance, .. })) => *instance == 0,
+/// Whether it ended with a stop of this session.
+fn is_stop(learned: &Result<Learned, LearnStop>, session: u32) -> bool {
+    match learned {
+        Err(LearnStop::Ask(AskStop::Sul { instance, .. })) => *instance == session,
         _ => false,
     }
 }
 
-/// Whether a session that refuses its fourth call, the second reset, ends a learning after one answer.
-fn find_stop<R: Threads + Wait + Sync + Drop>(rt: R, alloc: Global) -> Result<bool, Fail> {
-    let pool = pool_of(rt, alloc, &COUNTER, 1, Some(3))?;
-    let ended = learn_with(pool, alloc, Kind::Table, 2, 4);
-    Ok(is_stop(&ended) && has_asked(&ended, 1, &[2]))
+fn ends_so(learned: &Result<Learned, LearnStop>, ending: Ending) -> bool {
+    match ending {
+        Ending::Found(states, refinements) => is_found(learned, states, refinements),
+        Ending::Crowd(count) => is_crowd(learned, count),
+        Ending::Stopped(session) => is_stop(learned, session),
+    }
+}
+
+/// The empty word and the word of this length, where there is to be one.
+fn words_of(alloc: Global, long: usize) -> Result<Words, Fail>
+    ensures letters { IfOk result (λ words. All (IsWord 1) words) }
+    ensures few { IfOk result (λ words. length words < 2 ^ 32) }
+{
+    let mut words = Words::new(alloc);
+    if long == 0 {
+        return Ok(words);
+    }
+    let word = Word::from_letters(alloc, vec![in alloc; 0; long]?);
+    if !word.as_slice().iter().all(|x| *x < 1) {
+        return Err(Fail::from("another letter was meant"));
+    }
+    if words.push(Word::new(alloc)).is_err() {
+        return Err(Fail::from("out of memory"));
+    }
+    if words.push(word).is_err() {
+        return Err(Fail::from("out of memory"));
+    }
+    Ok(words)
+}
+
+/// What comes of a case: the clauses of `learn_with` would weigh down each proof that calls it.
+fn play<R: Threads + Wait + Sync + Drop>(
+    rt: R,
+    alloc: Global,
+    case: &Case,
+    notes: &mut Notes,
+) -> Result<LearnedWith<Refusing, R>, Fail> {
+    let (extra, most) = (case.extra, case.most);
+    if extra > 4 || most < 1 || most > 1024 {
+        return Err(Fail::from("another limit was meant"));
+    }
+    let words = words_of(alloc, case.first)?;
+    let pool = pool_of(rt, alloc, case.cells, case.sessions, case.refused)?;
+    let named = words.as_slice();
+    Ok(learn_with(pool, alloc, named, case.kind, extra, most, notes))
+}
+
+/// The name of the first case that goes otherwise than was worked out.
+fn first_wrong<R: Threads + Wait + Sync + Drop + Copy>(
+    rt: R,
+    alloc: Global,
+    cases: &[Case],
+) -> Result<Option<&'static str>, Fail> {
+    for case in cases {
+        let mut notes = Notes::new(alloc);
+        let ended = play(rt, alloc, case, &mut notes)?;
+        if !ends_so(&ended.learned, case.ending) || !has_asked(&ended, case.sessions, case.kept) {
+            return Ok(Some(case.name));
+        }
+    }
+    Ok(None)
+}
+
+/// A counter of three with two sessions.
+const PLAIN: Case = Case {
+    name: "two sessions find a counter",
+    cells: &COUNTER,
+    sessions: 2,
+    refused: None,
+    first: 0,
+    kind: Kind::Table,
+    extra: 2,
+    most: 4,
+    ending: Ending::Found(3, 1),
+    kept: &[2, 3, 4, 5, 7],
+};
+
+/// The tree begins with the word of one letter. Its temporary discriminator, of two, is settled without a further word.
+const TREE: Case = Case {
+    name: "two sessions find a counter by a tree",
+    kind: Kind::Ttt,
+    kept: &[1, 3, 4, 5, 7],
+    ..PLAIN
+};
+
+/// Each batch of the counter's has one word to ask.
+static CASES: [Case; 9] = [
+    PLAIN,
+    Case {
+        name: "one session finds a counter",
+        sessions: 1,
+        ..PLAIN
+    },
+    Case {
+        name: "three sessions find a counter",
+        sessions: 3,
+        ..PLAIN
+    },
+    TREE,
+    Case {
+        name: "one session finds a counter by a tree",
+        sessions: 1,
+        ..TREE
+    },
+    Case {
+        name: "three sessions find a counter by a tree",
+        sessions: 3,
+        ..TREE
+    },
+    Case {
+        name: "two sessions find a machine of one state",
+        cells: &[(0, 0)],
+        extra: 1,
+        ending: Ending::Found(1, 0),
+        kept: &[2],
+        ..PLAIN
+    },
+    Case {
+        name: "two states are too few for a counter",
+        most: 2,
+        ending: Ending::Crowd(3),
+        kept: &[2, 3, 4],
+        ..PLAIN
+    },
+    // The fourth call of the session is its second reset.
+    Case {
+        name: "a session that stops ends a learning",
+        sessions: 1,
+        refused: Some(3),
+        ending: Ending::Stopped(0),
+        kept: &[2],
+        ..PLAIN
+    },
+];
+
+#[test]
+fn learnings_go_as_was_worked_out(rt: HostRuntime) -> Result<(), Fail> {
+    assert_eq!(rt; first_wrong(rt, rt.alloc(), &CASES)?, None);
+    Ok(())
+}
+
+/// The word of three letters tells the first table's machine apart, and the empty word is not asked.
+static ASKED_FIRST: Case = Case {
+    name: "a word that is asked first",
+    first: 3,
+    kept: &[3, 4, 5, 7],
+    ..PLAIN
+};
+
+/// The table is closed by what is known. The refinement brings the words of four and of five letters, and the suite that of
+/// seven.
+static STEPS: [Step; 4] = [
+    Step {
+        round: 0,
+        phase: Phase::Words,
+        states: 0,
+        asked: 1,
+        known: 1,
+        refinements: 0,
+    },
+    Step {
+        round: 0,
+        phase: Phase::Table,
+        states: 1,
+        asked: 0,
+        known: 1,
+        refinements: 0,
+    },
+    Step {
+        round: 1,
+        phase: Phase::Analysis,
+        states: 3,
+        asked: 2,
+        known: 3,
+        refinements: 1,
+    },
+    Step {
+        round: 2,
+        phase: Phase::Suite,
+        states: 3,
+        asked: 1,
+        known: 4,
+        refinements: 1,
+    },
+];
+
+/// Whether the word is asked first, and each step is told.
+fn asks_first<R: Threads + Wait + Sync + Drop>(rt: R, alloc: Global) -> Result<bool, Fail> {
+    let mut notes = Notes::new(alloc);
+    let ended = play(rt, alloc, &ASKED_FIRST, &mut notes)?;
+    let right = ends_so(&ended.learned, ASKED_FIRST.ending);
+    Ok(right && has_asked(&ended, 2, ASKED_FIRST.kept) && notes.are(&STEPS))
 }
 
 #[test]
-fn a_session_that_stops_ends_a_learning(rt: HostRuntime) -> Result<(), Fail> {
-    assert!(rt; find_stop(rt, rt.alloc())?);
+fn words_are_asked_first(rt: HostRuntime) -> Result<(), Fail> {
+    assert!(rt; asks_first(rt, rt.alloc())?);
+    Ok(())
+}
+
+/// Whether two sessions find the counter, and find it again without asking anything.
+fn find_again<R: Threads + Wait + Sync + Drop>(rt: R, alloc: Global) -> Result<bool, Fail> {
+    let pool = pool_of(rt, alloc, &COUNTER, 2, None)?;
+    let mut nobody = Unwatched;
+    let LearnedWith { learned, pool } = learn_with(
+        pool,
+        alloc,
+        &[],
+        Kind::Table,
+        2,
+        4,
+        &mut nobody,
+    );
+    let Ok(_) = learned else {
+        return Ok(false);
+    };
+    let again = learn_with(pool, alloc, &[], Kind::Table, 2, 4, &mut nobody);
+    Ok(is_found(&again.learned, 3, 1) && has_asked(&again, 2, &[2, 3, 4, 5, 7]))
+}
+
+#[test]
+fn a_pool_that_has_learned_learns_again(rt: HostRuntime) -> Result<(), Fail> {
+    assert!(rt; find_again(rt, rt.alloc())?);
     Ok(())
 }

@@ -1,16 +1,18 @@
 //! Learnings over children in memory, by hand.
-ghost use Rattle.std.specs.Prelude.{◌≡◌, ◌<◌, ◌≤◌, length, IfOk};
+ghost use Rattle.std.specs.Prelude.{◌≡◌, ◌<◌, ◌≤◌, ◌^◌, length, IfOk, IsTrue};
+ghost use Rattle.std.specs.List.{All};
+ghost use Rattle.lw_words.specs.Word.{IsWord};
 ghost use Rattle.lw_children.specs.Crews.{first_naming};
 
 use super::{command, names};
 use lw_cache::{AskStop, Cache};
-use lw_children::{Command, LearnedChildren, learn_children};
+use lw_children::{Command, CutRun, LearnedChildren, learn_children};
 use lw_desk::OutNames;
 use lw_json::{Machine, read_machine};
 use lw_mealy::Mealy;
 use lw_outside::{MemorySpawner, Spawner};
-use lw_rounds::{Kind, LearnStop};
-use lw_words::{Names, SulStop};
+use lw_rounds::{Kind, LearnStop, Unwatched};
+use lw_words::{Line, Names, SulStop, Word};
 use std::alloc::Global;
 use std::sync::Wait;
 use std::test::Fail;
@@ -51,26 +53,65 @@ fn first_names(alloc: Global, outputs: &Option<Names>) -> Result<OutNames, Fail>
     }
 }
 
-/// A learning over so many children, with nothing known before.
+fn is_word(word: &Word, inputs: u16) -> bool
+    ensures { IsTrue result → IsWord inputs word.now }
+{
+    word.as_slice().iter().all(|x| *x < inputs)
+}
+
+/// Whether the letters of all these words are below a number.
+fn are_words(words: &[Word], inputs: u16) -> bool
+    ensures { IsTrue result → All (IsWord inputs) words.now }
+{
+    words.iter().all(|w| is_word(w, inputs))
+}
+
+fn words_of(alloc: Global, list: &[&[u16]]) -> Result<Vec<Word>, Fail> {
+    let mut words = Vec::new(alloc);
+    for letters in list {
+        words.push(Word::from_letters(alloc, Vec::from_slice(alloc, letters)?))?;
+    }
+    Ok(words)
+}
+
+/// A learning over so many children, with nothing known before, and these words asked first.
 fn learn<P: Spawner, R: Threads + Wait + Sync + Drop>(
     rt: R,
     alloc: Global,
     spawner: &mut P,
     command: &Command,
+    words: &[Word],
     workers: u8,
     kind: Kind,
 ) -> Result<LearnedChildren, Fail>
     requires words { 0 < length command.now.words }
-    requires workers { (1 ≤ workers) × (workers ≤ 16) }
 {
-    let names = first_names(alloc, &command.outputs)?;
-    if command.inputs.len() > 64 {
-        return Err(Fail::from("too many letters"));
+    let inputs = command.inputs.len();
+    if inputs > 64 || workers == 0 || workers > 16 {
+        return Err(Fail::from("too many letters, or no such number of workers"));
     }
+    if words.len() > 9 || !are_words(words, inputs) {
+        return Err(Fail::from("no such words"));
+    }
+    let names = first_names(alloc, &command.outputs)?;
     let cache = Cache::new(alloc);
-    Ok(learn_children(
-        rt, alloc, spawner, command, names, cache, workers, kind, 1, 4,
-    ))
+    let mut nobody = Unwatched;
+    let ended = learn_children(
+        rt,
+        alloc,
+        spawner,
+        command,
+        names,
+        cache,
+        words,
+        workers,
+        kind,
+        1,
+        4,
+        &mut nobody,
+    );
+    let Unwatched = nobody;
+    Ok(ended)
 }
 
 /// Whether these are the names, in this order.
@@ -91,81 +132,126 @@ fn says_first(model: &Mealy, output: u16) -> bool {
     model.states() == 2 && model.inputs() == 1 && model.step(0, 0) == (1, output)
 }
 
-/// How many answers the learning of the machine takes by a learner of this kind, and how many refinements.
-///
-/// A table asks words of two and three letters, and a tree one of one letter before them. A word of four tests the model.
-fn counts_of(kind: Kind) -> (usize, u32) {
-    match kind {
-        Kind::Table => (3, 0),
-        Kind::Ttt => (4, 1),
-    }
-}
-
-/// Whether a model was found that says this output first, by a learner of this kind, with these names.
-fn is_found(ended: &LearnedChildren, kind: Kind, output: u16, want: &[&str]) -> bool {
-    let Ok(learned) = &ended.learned else {
-        return false;
-    };
-    says_first(&learned.model, output)
-        && counts_of(kind) == (ended.kept.len(), learned.refinements())
-        && are_named(&ended.names, want)
-}
-
 /// Whether so many links were started, and retired.
 fn are_retired(spawner: &MemorySpawner, links: usize) -> bool {
     spawner.started().len() == links && spawner.retired().len() == links
 }
 
-/// Whether one child's machine is learned, with these names, and this output first.
+/// What a learning over one child that plays the machine is asked for, and what comes of it.
+struct Found {
+    outputs: Option<&'static [&'static str]>,
+    kind: Kind,
+    /// Words that are asked first.
+    words: &'static [&'static [u16]],
+    /// The number of the first state's output.
+    output: u16,
+    names: &'static [&'static str],
+    answers: usize,
+    refinements: u32,
+    /// What is sent at first.
+    sent: &'static [u8],
+}
+
+/// A table asks words of two and three letters, and a tree one of one letter before them. A word of four tests the model.
+static FOUND: [Found; 4] = [
+    Found {
+        outputs: None,
+        kind: Kind::Table,
+        words: &[],
+        output: 1,
+        names: &["a", "z"],
+        answers: 3,
+        refinements: 0,
+        sent: b"reset\nin t\nin t\nreset\n",
+    },
+    Found {
+        outputs: None,
+        kind: Kind::Ttt,
+        words: &[],
+        output: 1,
+        names: &["a", "z"],
+        answers: 4,
+        refinements: 1,
+        sent: b"reset\nin t\nreset\n",
+    },
+    Found {
+        outputs: Some(&["z", "a"]),
+        kind: Kind::Table,
+        words: &[],
+        output: 0,
+        names: &["z", "a"],
+        answers: 3,
+        refinements: 0,
+        sent: b"reset\nin t\nin t\nreset\n",
+    },
+    // The words that a table asks are fronts of one that was asked.
+    Found {
+        outputs: None,
+        kind: Kind::Table,
+        words: &[&[0, 0], &[0, 0, 0], &[]],
+        output: 1,
+        names: &["a", "z"],
+        answers: 2,
+        refinements: 0,
+        sent: b"reset\nin t\nin t\nin t\nreset\nin t\nin t\nin t\nin t\n",
+    },
+];
+
+/// Whether a model was found as a row says.
+fn is_found(ended: &LearnedChildren, row: &Found) -> bool {
+    let Ok(learned) = &ended.learned else {
+        return false;
+    };
+    says_first(&learned.model, row.output)
+        && ended.kept.len() == row.answers
+        && learned.refinements() == row.refinements
+        && ended.cut.is_none()
+        && are_named(&ended.names, row.names)
+}
+
+/// Whether one link was retired, over which this was sent at first.
+fn was_sent(spawner: &MemorySpawner, sent: &[u8]) -> bool {
+    if !are_retired(spawner, 1) || spawner.retired().is_empty() {
+        return false;
+    }
+    spawner.retired()[0].sent.get().as_slice().starts_with(sent)
+}
+
 fn finds_over<R: Threads + Wait + Sync + Drop>(
     rt: R,
     alloc: Global,
     spawner: &mut MemorySpawner,
     command: &Command,
-    kind: Kind,
-    output: u16,
-    want: &[&str],
+    row: &Found,
 ) -> Result<bool, Fail>
     requires { 0 < length command.now.words }
 {
-    let ended = learn(rt, alloc, spawner, command, 1, kind)?;
-    Ok(is_found(&ended, kind, output, want) && are_retired(spawner, 1))
+    let words = words_of(alloc, row.words)?;
+    let ended = learn(rt, alloc, spawner, command, words.as_slice(), 1, row.kind)?;
+    Ok(is_found(&ended, row) && was_sent(spawner, row.sent))
 }
 
-/// The same over children that play the machine.
-fn finds<R: Threads + Wait + Sync + Drop>(
-    rt: R,
-    alloc: Global,
-    command: &Command,
-    kind: Kind,
-    output: u16,
-    want: &[&str],
-) -> Result<bool, Fail>
-    requires { 0 < length command.now.words }
+/// The command of a row.
+fn command_of(alloc: Global, row: &Found) -> Result<Command, Fail>
+    ensures { IfOk result (λ c. 0 < length c.words) }
 {
+    match row.outputs {
+        Some(list) => command(alloc, Some(names(alloc, list)?)),
+        None => command(alloc, None),
+    }
+}
+
+fn finds<R: Threads + Wait + Sync + Drop>(rt: R, alloc: Global, row: &Found) -> Result<bool, Fail> {
+    let command = command_of(alloc, row)?;
     let mut spawner = players(alloc)?;
-    finds_over(rt, alloc, &mut spawner, command, kind, output, want)
+    finds_over(rt, alloc, &mut spawner, &command, row)
 }
 
 #[test]
-fn names_are_sorted_in_the_end(rt: HostRuntime) -> Result<(), Fail> {
-    let command = command(rt.alloc(), None)?;
-    assert!(rt; finds(rt, rt.alloc(), &command, Kind::Table, 1, &["a", "z"])?);
-    Ok(())
-}
-
-#[test]
-fn a_tree_learns_the_same(rt: HostRuntime) -> Result<(), Fail> {
-    let command = command(rt.alloc(), None)?;
-    assert!(rt; finds(rt, rt.alloc(), &command, Kind::Ttt, 1, &["a", "z"])?);
-    Ok(())
-}
-
-#[test]
-fn declared_names_stay(rt: HostRuntime) -> Result<(), Fail> {
-    let outputs = names(rt.alloc(), &["z", "a"])?;
-    let command = command(rt.alloc(), Some(outputs))?;
-    assert!(rt; finds(rt, rt.alloc(), &command, Kind::Table, 0, &["z", "a"])?);
+fn a_machine_is_found(rt: HostRuntime) -> Result<(), Fail> {
+    for row in &FOUND {
+        assert!(rt; finds(rt, rt.alloc(), row)?);
+    }
     Ok(())
 }
 
@@ -176,6 +262,13 @@ enum Ending {
     /// With this bad line.
     Bad(&'static [u8]),
     Failed,
+}
+
+/// What is told of the run that was cut off.
+struct Cut {
+    asked: &'static [u16],
+    received: Option<&'static [u8]>,
+    rest: &'static [u8],
 }
 
 /// Whether a stop is that of this instance, with this ending.
@@ -200,6 +293,30 @@ fn has_stopped(ended: &LearnedChildren, number: u32, want: Ending) -> bool {
     }
 }
 
+fn is_line(line: &Option<Line>, want: Option<&[u8]>) -> bool {
+    match (line, want) {
+        (Some(line), Some(bytes)) => line.as_slice() == bytes,
+        (None, None) => true,
+        _ => false,
+    }
+}
+
+fn is_run(run: &CutRun, number: u32, want: &Cut) -> bool {
+    run.instance == number
+        && run.asked.as_slice() == want.asked
+        && is_line(&run.received, want.received)
+        && run.rest.as_slice() == want.rest
+}
+
+/// Whether the run of this instance that was cut off is told so.
+fn is_cut(cut: &Option<CutRun>, number: u32, want: &Option<Cut>) -> bool {
+    match (cut, want) {
+        (Some(run), Some(want)) => is_run(run, number, want),
+        (None, None) => true,
+        _ => false,
+    }
+}
+
 /// What two children are, how many of them a learning asks for, and how it ends.
 struct Row {
     text: &'static [u8],
@@ -209,9 +326,10 @@ struct Row {
     links: usize,
     instance: u32,
     ending: Ending,
+    cut: Option<Cut>,
 }
 
-static ROWS: [Row; 3] = [
+static ROWS: [Row; 4] = [
     Row {
         text: b"",
         failing: 9,
@@ -220,6 +338,11 @@ static ROWS: [Row; 3] = [
         links: 1,
         instance: 0,
         ending: Ending::Gone,
+        cut: Some(Cut {
+            asked: &[],
+            received: None,
+            rest: b"",
+        }),
     },
     Row {
         text: b"Ready\n",
@@ -229,6 +352,26 @@ static ROWS: [Row; 3] = [
         links: 1,
         instance: 0,
         ending: Ending::Bad(b"Ready"),
+        cut: Some(Cut {
+            asked: &[],
+            received: Some(b"Ready"),
+            rest: b"",
+        }),
+    },
+    // The first word that a table asks has two letters.
+    Row {
+        text: b"ready\nout z\nou",
+        failing: 9,
+        workers: 1,
+        starts: 1,
+        links: 1,
+        instance: 0,
+        ending: Ending::Gone,
+        cut: Some(Cut {
+            asked: &[0, 0],
+            received: Some(b"out z"),
+            rest: b"ou",
+        }),
     },
     Row {
         text: b"ready\n",
@@ -238,6 +381,7 @@ static ROWS: [Row; 3] = [
         links: 1,
         instance: 1,
         ending: Ending::Failed,
+        cut: None,
     },
 ];
 
@@ -251,12 +395,10 @@ fn ends_over<R: Threads + Wait + Sync + Drop>(
 ) -> Result<bool, Fail>
     requires { 0 < length command.now.words }
 {
-    if row.workers == 0 || row.workers > 16 {
-        return Err(Fail::from("no such number of workers"));
-    }
-    let ended = learn(rt, alloc, spawner, command, row.workers, Kind::Table)?;
+    let ended = learn(rt, alloc, spawner, command, &[], row.workers, Kind::Table)?;
     Ok(
         has_stopped(&ended, row.instance, row.ending)
+            && is_cut(&ended.cut, row.instance, &row.cut)
             && spawner.started().len() == row.starts
             && spawner.retired().len() == row.links,
     )

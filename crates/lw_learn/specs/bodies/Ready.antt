@@ -13,14 +13,9 @@ use Rattle.lw_children.specs.Crews.{first_naming}
 use Rattle.lw_children.specs.Keeping.{count_of}
 use Rattle.lw_report.specs.Learnings.{HasModel}
 use Rattle.lw_report.specs.declared.«end».End.{End}
-use Rattle.lw_learn.specs.Tasks.{declared_of, letters_of}
+use Rattle.lw_learn.specs.Tasks.{HasWords, declared_of, letters_of}
 use Rattle.lw_learn.specs.declared.task.System.{System}
 use Rattle.lw_learn.specs.declared.task.System.TheVariants.{Table, Children}
-
--- a child is started by some words
-abbrev pub HasWords : System → Type 0
-HasWords (Table m) = Unit {0}
-HasWords (Children c) = 0 < length c.words
 
 -- the names of a system's outputs, and a cache of prior answers, of which nothing clashes
 pub record IsReady (s : System) (naming : Naming) (cache : Caching) : Type 0 where

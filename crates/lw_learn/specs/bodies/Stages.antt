@@ -1,28 +1,35 @@
 -- What a step of the reading of a task comes to.
-use Rattle.std.specs.Prelude.{◌≡◌, ◌⊎◌, ℕ, ◌≤◌, List, [], ◌∷◌, length, true, false, Option, Some, None, Result, IfOk, IfErr, OnOk}
+use Rattle.std.specs.Prelude.{◌≡◌, ◌⊎◌, ℕ, ◌<◌, ◌≤◌, ◌^◌, List, [], ◌∷◌, length, true, false, Option, Some, None, Result, IfOk, IfErr, OnOk}
+use Rattle.std.specs.List.{All}
+use Rattle.std.specs.Str.Lossy.{utf8_lossy}
 use Rattle.lw_words.specs.Answer.{answers_of}
 use Rattle.lw_words.specs.Cause.{CountedFault}
+use Rattle.lw_words.specs.Word.{IsWord}
 use Rattle.lw_words.specs.declared.kept.KeptAnswer.{KeptAnswer}
 use Rattle.lw_json.specs.AnswersFault.{HasAnswersFault}
 use Rattle.lw_json.specs.AnswersFile.{IsAnswersFile}
 use Rattle.lw_json.specs.declared.answers.Answers.{Answers}
 use Rattle.lw_json.specs.declared.fault.JsonFault.{JsonFault}
-use Rattle.lw_outside.specs.Files.{HoldsLong, read_call}
+use Rattle.lw_outside.specs.Files.{File, HoldsLong, read_call}
+use Rattle.lw_wordlist.specs.Lines.{lines_in}
+use Rattle.lw_wordlist.specs.Words.{IsFirstUnknown}
 use Rattle.lw_prior.specs.FirstClash.{IsFirstClash}
 use Rattle.lw_prior.specs.Prior.{prior_answers}
 use Rattle.lw_report.specs.Reading.{ReadsBadFile, ReadsFile}
 use Rattle.lw_report.specs.States.{FilesState}
 use Rattle.lw_report.specs.declared.outcome.Outcome.{Outcome}
-use Rattle.lw_report.specs.declared.outcome.Outcome.TheVariants.{Alphabets, BadFile, FileFault, FileTooLong, NoMemory, Nondeterministic}
+use Rattle.lw_report.specs.declared.outcome.Outcome.TheVariants.{Alphabets, BadFile, FileFault, FileTooLong, NoMemory, Nondeterministic, UnknownLetter}
 use Rattle.lw_report.specs.declared.role.Role.{Role}
 use Rattle.lw_report.specs.declared.role.Role.TheVariants.{Prior}
 use Rattle.lw_learn.specs.Arguments.{LearnValues}
-use Rattle.lw_learn.specs.Tasks.{FitsSystem, ReadsSystem, ReadsTask, declared_of, letters_of, or_these, with_outputs}
-use Rattle.lw_learn.specs.Unread.{IsUnreadBy, MadeReads, MadeSomeReads}
-use Rattle.lw_learn.specs.bodies.Ready.{HasWords, IsReady}
+use Rattle.lw_learn.specs.Asking.{IsWordless, IsWordlessTask, ReadsWords, SaysWords}
+use Rattle.lw_learn.specs.Tasks.{FitsSystem, HasWords, ReadsSystem, ReadsTask, declared_of, letters_of, or_these, with_outputs}
+use Rattle.lw_learn.specs.Unread.{IsRefused, IsUnreadBy, MadeReads}
+use Rattle.lw_learn.specs.bodies.Ready.{IsReady}
 use Rattle.lw_learn.specs.bodies.UnreadState.{UnreadState}
 use Rattle.lw_learn.specs.declared.task.System.{System}
 use Rattle.lw_learn.specs.declared.task.Task.{Task}
+use Rattle.lw_learn.specs.declared.task.WordedTask.{WordedTask}
 
 -- files were f and are g: what was to be read says the result, by reads that all gave bytes and counted no fault; or else it is
 -- why nothing can be learned
@@ -44,14 +51,6 @@ pub record SaysWhole (a : LearnValues) (f g : FilesState) (s : System) : Type 0 
 pub record SaysReady (a : LearnValues) (f g : FilesState) (t : Task) : Type 0 where
   pub says : ReadsTask a f.holds f.reads g.reads t.system t.cache.kept
   pub ready : IsReady t.system t.names t.cache
-
--- why the file in a role wasn't read
-abbrev pub IsRefused : {V : Type 0} → (List ℕ → V → Type 0) → (List ℕ → JsonFault → Type 0) → Role → List ℕ → FilesState → FilesState → Outcome → Type 0
-IsRefused IsFile HasFirst role name f g (BadFile r fault) = (r ≡ role) × ReadsBadFile IsFile HasFirst name f.holds f.reads g.reads fault × MadeReads f g []
-IsRefused IsFile HasFirst role name f g (FileTooLong r) = (r ≡ role) × HoldsLong f.holds name × (g.reads ≡ f.reads) × MadeReads f g (read_call name false ∷ [])
-IsRefused IsFile HasFirst role name f g (FileFault r) = (r ≡ role) × CountedFault f.faults g.faults × (g.reads ≡ f.reads) × MadeReads f g (read_call name true ∷ [])
-IsRefused IsFile HasFirst role name f g NoMemory = MadeSomeReads f g
-IsRefused IsFile HasFirst role name f g _ = ⊥
 
 -- two prior answers of a system clash, the first that do; or memory ran out
 abbrev pub IsClash : System → (prior : List KeptAnswer) → Option System → List KeptAnswer → Outcome → Type 0
@@ -90,3 +89,51 @@ pub record HasPrior (name : List ℕ) (s : System) (f g : FilesState) (result : 
   pub err : IfErr result (λ u. IsPriorRefused name s f g u.system u.kept u.outcome)
   pub same : g.holds ≡ f.holds
   pub counts : f.faults ≤ g.faults
+
+-- the files say what is to be learned and the words that are asked first, which are over its letters
+pub record SaysWorded (a : LearnValues) (f g : FilesState) (t : WordedTask) : Type 0 where
+  pub between : List File
+  pub task : ReadsTask a f.holds f.reads between t.task.system t.task.cache.kept
+  pub says : SaysWords a (letters_of t.task.system) f.holds between g.reads t.words
+  pub ready : IsReady t.task.system t.task.names t.task.cache
+  pub letters : All (IsWord (length (letters_of t.task.system))) t.words
+  pub few : length t.words < 2 ^ 32
+
+-- what reading them came to
+pub record IsWordedStage (a : LearnValues) (f g : FilesState) (result : Result WordedTask UnreadState) : Type 0 where
+  pub ok : IfOk result (SaysWorded a f g)
+  pub made : OnOk result (MadeReads f g [])
+  pub quiet : OnOk result (g.faults ≡ f.faults)
+  pub err : IfErr result (λ u. IsUnreadBy a f g u.system u.kept u.outcome ⊎ IsWordlessTask a f g u.system u.kept u.outcome)
+  pub same : g.holds ≡ f.holds
+  pub counts : f.faults ≤ g.faults
+
+-- what came of reading the words that are asked first
+pub record HasWorded (a : LearnValues) (letters : List (List ℕ)) (f g : FilesState) (result : Result (List (List ℕ)) Outcome) : Type 0 where
+  pub ok : IfOk result (SaysWords a letters f.holds f.reads g.reads)
+  pub words : IfOk result (All (IsWord (length letters)))
+  pub few : IfOk result (λ w. length w < 2 ^ 32)
+  pub made : OnOk result (MadeReads f g [])
+  pub quiet : OnOk result (g.faults ≡ f.faults)
+  pub err : IfErr result (IsWordless a.words letters f g)
+  pub same : g.holds ≡ f.holds
+  pub counts : f.faults ≤ g.faults
+
+-- why bytes say no words, by the outcome: the first name that is no letter's, or memory ran out
+abbrev pub SaysNoWords : (letters : List (List ℕ)) → List ℕ → Outcome → Type 0
+SaysNoWords letters bytes (UnknownLetter line place) = IsFirstUnknown letters (lines_in (utf8_lossy bytes)) line place
+SaysNoWords letters bytes NoMemory = Unit {0}
+SaysNoWords letters bytes _ = ⊥
+
+-- what came of reading a file of words
+pub record HasNamedWords (file : Option (List ℕ)) (letters : List (List ℕ)) (f g : FilesState) (result : Result (List (List ℕ)) Outcome) : Type 0 where
+  pub ok : IfOk result (ReadsWords file letters f.holds f.reads g.reads)
+  pub words : IfOk result (All (IsWord (length letters)))
+  pub made : OnOk result (MadeReads f g [])
+  pub quiet : OnOk result (g.faults ≡ f.faults)
+  pub err : IfErr result (IsWordless file letters f g)
+  pub same : g.holds ≡ f.holds
+  pub counts : f.faults ≤ g.faults
+
+abbrev pub HasNamed : List ℕ → (letters : List (List ℕ)) → (f g : FilesState) → Result (List (List ℕ)) Outcome → Type 0
+HasNamed name letters f g result = HasNamedWords (Some name) letters f g result

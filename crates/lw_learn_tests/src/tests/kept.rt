@@ -4,6 +4,7 @@ ghost use Rattle.std.specs.Prelude.{◌≤◌};
 use crate::tests::{call, sink};
 use lw_json::read_machine;
 use lw_learn::{LearnArguments, Source};
+use lw_log::{Log, MemoryLog};
 use lw_outside::{MemoryFiles, MemorySpawner};
 use lw_rounds::Kind;
 use std::alloc::Global;
@@ -104,6 +105,9 @@ fn arguments(alloc: Global, row: &Row) -> Result<LearnArguments, Fail>
         named(alloc, "a", row.to_files)?,
         named(alloc, "p", row.prior.is_some())?,
         named(alloc, "k", true)?,
+        None,
+        None,
+        None,
     ))
 }
 
@@ -129,6 +133,7 @@ fn check<R: Abort + Threads + Wait + Sync + Copy + Drop>(
         &mut children,
         &mut out,
         &mut err,
+        &mut Log::new(alloc, MemoryLog::new(alloc)),
     );
     let holds = has(&files, "k", row.kept) && has(&files, "h", row.model);
     assert!(rt; holds && end.status == row.status);

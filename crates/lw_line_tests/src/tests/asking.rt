@@ -91,3 +91,25 @@ pub fn ends<S: Sul>(sul: &mut S, outs: &[u16], want: Ending) -> bool
     }
     ended_so(&comes(sul, outs), want)
 }
+
+/// The same over this script, with declared outputs.
+pub fn declared_ends(
+    alloc: Global,
+    script: Script<'_>,
+    outs: &[u16],
+    want: Ending,
+) -> Result<bool, Fail> {
+    let mut sul = declared(alloc, script)?;
+    Ok(ends(&mut sul, outs, want))
+}
+
+/// The same over this script, with free outputs.
+pub fn free_ends(
+    alloc: Global,
+    script: Script<'_>,
+    outs: &[u16],
+    want: Ending,
+) -> Result<bool, Fail> {
+    let mut sul = free(alloc, script)?;
+    Ok(ends(&mut sul, outs, want))
+}

@@ -19,18 +19,21 @@ fn after_two(alloc: Global, piece: usize) -> Result<ScriptedLink, Fail> {
     Ok(sul.into_link())
 }
 
+/// Whether these are the calls, where so many bytes come at a time.
+fn calls_so(alloc: Global, piece: usize, calls: &[Call]) -> Result<bool, Fail> {
+    let link = after_two(alloc, piece)?;
+    Ok(link.sent() == b"reset\nin t\nin t\n".as_slice() && link.calls() == calls)
+}
+
 #[test]
 fn each_line_is_sent_by_one_call(rt: HostRuntime) -> Result<(), Fail> {
-    let link = after_two(rt.alloc(), 256)?;
-    assert_eq!(rt; link.sent(), b"reset\nin t\nin t\n".as_slice());
     let calls = [Call::Send(6), Call::Take(256), Call::Send(5), Call::Send(5)];
-    assert_eq!(rt; link.calls(), calls.as_slice());
+    assert!(rt; calls_so(rt.alloc(), 256, &calls)?);
     Ok(())
 }
 
 #[test]
 fn a_take_offers_the_free_rest(rt: HostRuntime) -> Result<(), Fail> {
-    let link = after_two(rt.alloc(), 4)?;
     let calls = [
         Call::Send(6),
         Call::Take(256),
@@ -41,6 +44,6 @@ fn a_take_offers_the_free_rest(rt: HostRuntime) -> Result<(), Fail> {
         Call::Take(256),
         Call::Take(252),
     ];
-    assert_eq!(rt; link.calls(), calls.as_slice());
+    assert!(rt; calls_so(rt.alloc(), 4, &calls)?);
     Ok(())
 }

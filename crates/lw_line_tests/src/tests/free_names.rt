@@ -1,6 +1,7 @@
 //! Names that come one after another.
+ghost use Rattle.std.specs.Prelude.{◌≡◌, None};
 
-use super::asking::{Ending, ends, free};
+use super::asking::{Ending, ends, free, free_ends};
 use super::scripted::Script;
 use lw_sul::Sul;
 use std::alloc::Global;
@@ -19,38 +20,40 @@ fn has_names<S: Sul>(sul: &S, want: &[&str]) -> bool {
     true
 }
 
+/// Whether a system names its outputs b, a and c, each once, and has room for the numbers of 256.
+fn names_three<S: Sul>(sul: &mut S) -> bool
+    requires { S.stop sul.old ≡ None }
+{
+    (sul.inputs(), sul.outputs(), sul.most(), sul.named()) == (1, 4096, 256, 0)
+        && ends(sul, &[0, 1, 0, 2, 1], Ending::Answered)
+        && has_names(sul, &["b", "a", "c"])
+}
+
+/// A child that says this all at once.
+fn saying(text: &[u8]) -> Script<'_> {
+    Script {
+        text,
+        piece: 256,
+        fails: None,
+    }
+}
+
+fn numbers_three(alloc: Global) -> Result<bool, Fail> {
+    let text = b"ready\nout b\nout a\nout b\nout c\nout a\n";
+    let mut sul = free(alloc, saying(text))?;
+    Ok(names_three(&mut sul))
+}
+
 #[test]
 fn a_name_has_one_number(rt: HostRuntime) -> Result<(), Fail> {
-    let text = b"ready\nout b\nout a\nout b\nout c\nout a\n";
-    let mut sul = free(
-        rt.alloc(),
-        Script {
-            text,
-            piece: 256,
-            fails: None,
-        },
-    )?;
-    assert_eq!(rt;
-        (sul.inputs(), sul.outputs(), sul.most(), sul.named()),
-        (1, 4096, 256, 0)
-    );
-    assert!(rt; ends(&mut sul, &[0, 1, 0, 2, 1], Ending::Answered));
-    assert!(rt; has_names(&sul, &["b", "a", "c"]));
+    assert!(rt; numbers_three(rt.alloc())?);
     Ok(())
 }
 
 #[test]
 fn what_is_no_name_is_a_bad_line(rt: HostRuntime) -> Result<(), Fail> {
-    let text = b"ready\nout a b\n";
-    let mut sul = free(
-        rt.alloc(),
-        Script {
-            text,
-            piece: 256,
-            fails: None,
-        },
-    )?;
-    assert!(rt; ends(&mut sul, &[0], Ending::Bad(b"out a b")));
+    let script = saying(b"ready\nout a b\n");
+    assert!(rt; free_ends(rt.alloc(), script, &[0], Ending::Bad(b"out a b"))?);
     Ok(())
 }
 
@@ -76,15 +79,7 @@ fn below(alloc: Global, count: u16) -> Result<Vec<u16>, Fail> {
 fn names_so_many(alloc: Global, count: u16, want: Ending) -> Result<bool, Fail> {
     let text = many(alloc, count)?;
     let outs = below(alloc, count)?;
-    let mut sul = free(
-        alloc,
-        Script {
-            text: &text,
-            piece: 256,
-            fails: None,
-        },
-    )?;
-    Ok(ends(&mut sul, &outs, want))
+    free_ends(alloc, saying(&text), &outs, want)
 }
 
 #[test]

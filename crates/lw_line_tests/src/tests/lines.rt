@@ -1,6 +1,6 @@
 //! Lines by hand, with the letter `t` and the outputs `0` and `1`.
 
-use super::asking::{Ending, declared, ends};
+use super::asking::{Ending, declared_ends};
 use super::scripted::Script;
 use std::alloc::Global;
 use std::test::Fail;
@@ -101,8 +101,7 @@ fn row_holds(alloc: Global, row: &Row, piece: usize) -> Result<bool, Fail> {
         piece,
         fails: None,
     };
-    let mut sul = declared(alloc, script)?;
-    Ok(ends(&mut sul, row.outs, row.want))
+    declared_ends(alloc, script, row.outs, row.want)
 }
 
 /// Whether each row holds where so many bytes come at a time.
@@ -136,8 +135,7 @@ fn answers_badly(alloc: Global, says: &'static [u8], want: &'static [u8]) -> Res
         piece: 100,
         fails: None,
     };
-    let mut sul = declared(alloc, script)?;
-    Ok(ends(&mut sul, &[], Ending::Bad(want)))
+    declared_ends(alloc, script, &[], Ending::Bad(want))
 }
 
 #[test]
@@ -153,8 +151,7 @@ fn fails_at(alloc: Global, call: u64) -> Result<bool, Fail> {
         piece: 6,
         fails: Some(call),
     };
-    let mut sul = declared(alloc, script)?;
-    Ok(ends(&mut sul, &[0, 0], Ending::Failed))
+    declared_ends(alloc, script, &[0, 0], Ending::Failed)
 }
 
 #[test]

@@ -92,7 +92,7 @@ static ROWS: [Row; 12] = [
 
 fn row_holds(alloc: Global, row: &Row, piece: usize) -> Result<bool, Fail> {
     let machine = counter(alloc)?;
-    serves(alloc, &machine, row.input, piece, row.answers, row.end)
+    serves(alloc, &machine, row.input, piece, row.answers, &row.end)
 }
 
 /// Whether each row holds where so many bytes go at a time.

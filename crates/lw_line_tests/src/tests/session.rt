@@ -32,7 +32,7 @@ fn answers<L: Link + Drop>(alloc: Global, session: &mut Session<LineSul<L>>) -> 
 }
 
 /// A link to a child that was started.
-fn started<P: Spawner>(alloc: Global, spawner: &mut P) -> Result<P::Link, Fail>
+pub fn started<P: Spawner>(alloc: Global, spawner: &mut P) -> Result<P::Link, Fail>
     ensures { IfOk result (λ l. IsUntouched (P.Link.transcript l)) }
 {
     let words = [String::from_str(alloc, "child")?];
@@ -46,33 +46,29 @@ fn asks_a_child<P: Spawner>(alloc: Global, spawner: &mut P) -> Result<bool, Fail
     asks(alloc, started(alloc, spawner)?)
 }
 
+/// A spawner of children that play the counter.
+fn players(alloc: Global) -> Result<MemorySpawner, Fail> {
+    let machine = counter(alloc)?;
+    Ok(MemorySpawner::serving(alloc, machine, 256, Vec::new(alloc), Vec::new(alloc))?)
+}
+
+/// A spawner of one child that says this and then ends.
+pub fn speaker(alloc: Global, text: &[u8]) -> Result<MemorySpawner, Fail> {
+    let mut scripts = Vec::new(alloc);
+    scripts.push(Vec::from_slice(alloc, text)?)?;
+    Ok(MemorySpawner::scripted(alloc, scripts, 512, Vec::new(alloc), Vec::new(alloc))?)
+}
+
 #[test]
 fn a_served_machine_is_asked(rt: HostRuntime) -> Result<(), Fail> {
-    let alloc = rt.alloc();
-    let machine = counter(alloc)?;
-    let mut spawner = MemorySpawner::serving(
-        alloc,
-        machine,
-        256,
-        Vec::new(alloc),
-        Vec::new(alloc),
-    )?;
-    assert!(rt; asks_a_child(alloc, &mut spawner)?);
+    let mut spawner = players(rt.alloc())?;
+    assert!(rt; asks_a_child(rt.alloc(), &mut spawner)?);
     Ok(())
 }
 
 #[test]
 fn a_script_is_asked(rt: HostRuntime) -> Result<(), Fail> {
-    let alloc = rt.alloc();
-    let mut scripts = Vec::new(alloc);
-    scripts.push(Vec::from_slice(alloc, b"ready\nout 0\nout 0\nout 1\n")?)?;
-    let mut spawner = MemorySpawner::scripted(
-        alloc,
-        scripts,
-        256,
-        Vec::new(alloc),
-        Vec::new(alloc),
-    )?;
-    assert!(rt; asks_a_child(alloc, &mut spawner)?);
+    let mut spawner = speaker(rt.alloc(), b"ready\nout 0\nout 0\nout 1\n")?;
+    assert!(rt; asks_a_child(rt.alloc(), &mut spawner)?);
     Ok(())
 }

@@ -66,6 +66,21 @@ fn serves_on(
     same_end(&end, want) && sink.taken() == answers
 }
 
+/// Whether serving the machine answers and ends so, where these calls fail.
+fn serves_with(
+    alloc: Global,
+    machine: &Machine,
+    input: &[u8],
+    plans: Plans<'_>,
+    piece: usize,
+    answers: &[u8],
+    want: &Result<Served, ServeFault>,
+) -> Result<bool, Fail> {
+    let mut source = source_of(alloc, input, piece, plans.source)?;
+    let mut sink = sink_of(alloc, piece, plans.sink)?;
+    Ok(serves_on(&mut source, &mut sink, machine, answers, want))
+}
+
 /// Whether serving the machine answers and ends so.
 pub fn serves(
     alloc: Global,
@@ -73,92 +88,83 @@ pub fn serves(
     input: &[u8],
     piece: usize,
     answers: &[u8],
-    want: Result<Served, ServeFault>,
+    want: &Result<Served, ServeFault>,
 ) -> Result<bool, Fail> {
-    let mut source = source_of(alloc, input, piece, &[])?;
-    let mut sink = sink_of(alloc, piece, &[])?;
-    Ok(serves_on(&mut source, &mut sink, machine, answers, &want))
+    let plans = Plans {
+        source: &[],
+        sink: &[],
+    };
+    serves_with(alloc, machine, input, plans, piece, answers, want)
 }
 
-static INPUT: &[u8] = b"reset\nin t\n";
+/// Which call fails, what is answered before it, and the fault.
+struct FaultRow {
+    plans: Plans<'static>,
+    answers: &'static [u8],
+    fault: ServeFault,
+}
 
-/// Whether serving ends so, with these answers, where these calls fail.
-fn fails_so(
-    alloc: Global,
-    plans: Plans<'_>,
-    answers: &[u8],
-    want: ServeFault,
-) -> Result<bool, Fail> {
+static FAULTS: [FaultRow; 5] = [
+    FaultRow {
+        plans: Plans {
+            source: &[0],
+            sink: &[],
+        },
+        answers: b"",
+        fault: ServeFault::SourceFault,
+    },
+    FaultRow {
+        plans: Plans {
+            source: &[1],
+            sink: &[],
+        },
+        answers: b"ready\n",
+        fault: ServeFault::SourceFault,
+    },
+    FaultRow {
+        plans: Plans {
+            source: &[2],
+            sink: &[],
+        },
+        answers: b"ready\nout 0\n",
+        fault: ServeFault::SourceFault,
+    },
+    FaultRow {
+        plans: Plans {
+            source: &[],
+            sink: &[0],
+        },
+        answers: b"",
+        fault: ServeFault::SinkFault,
+    },
+    FaultRow {
+        plans: Plans {
+            source: &[],
+            sink: &[1],
+        },
+        answers: b"ready\n",
+        fault: ServeFault::SinkFault,
+    },
+];
+
+fn fails_so(alloc: Global, row: &FaultRow) -> Result<bool, Fail> {
     let machine = counter(alloc)?;
-    let mut source = source_of(alloc, INPUT, 6, plans.source)?;
-    let mut sink = sink_of(alloc, 6, plans.sink)?;
-    Ok(serves_on(&mut source, &mut sink, &machine, answers, &Err(want)))
+    serves_with(
+        alloc,
+        &machine,
+        b"reset\nin t\n",
+        row.plans,
+        6,
+        row.answers,
+        &Err(row.fault),
+    )
 }
 
 #[test]
-fn each_read_may_fail(rt: HostRuntime) -> Result<(), Fail> {
-    let fault = ServeFault::SourceFault;
-    assert!(rt;
-        fails_so(
-            rt.alloc(),
-            Plans {
-                source: &[0],
-                sink: &[]
-            },
-            b"",
-            fault
-        )?
-    );
-    assert!(rt;
-        fails_so(
-            rt.alloc(),
-            Plans {
-                source: &[1],
-                sink: &[]
-            },
-            b"ready\n",
-            fault
-        )?
-    );
-    assert!(rt;
-        fails_so(
-            rt.alloc(),
-            Plans {
-                source: &[2],
-                sink: &[]
-            },
-            b"ready\nout 0\n",
-            fault
-        )?
-    );
-    Ok(())
-}
-
-#[test]
-fn each_write_may_fail(rt: HostRuntime) -> Result<(), Fail> {
-    let fault = ServeFault::SinkFault;
-    assert!(rt;
-        fails_so(
-            rt.alloc(),
-            Plans {
-                source: &[],
-                sink: &[0]
-            },
-            b"",
-            fault
-        )?
-    );
-    assert!(rt;
-        fails_so(
-            rt.alloc(),
-            Plans {
-                source: &[],
-                sink: &[1]
-            },
-            b"ready\n",
-            fault
-        )?
-    );
+fn each_read_and_each_write_may_fail(rt: HostRuntime) -> Result<(), Fail> {
+    for row in &FAULTS {
+        assert!(rt; fails_so(rt.alloc(), row)?);
+    }
     Ok(())
 }
 

@@ -1,6 +1,7 @@
 //! Calls of the program over memory, with what its streams take.
 ghost use Rattle.std.specs.Prelude.{◌<◌};
 
+use lw_log::{Log, MemoryLog};
 use lw_outside::{MemoryFiles, MemorySink, MemorySource, MemorySpawner};
 use lw_report::End;
 use lw_top::run;
@@ -93,7 +94,10 @@ pub fn call<R: Threads + Wait + Sync + Drop>(
     out: &mut MemorySink,
     err: &mut MemorySink,
 ) -> End {
-    run(rt, alloc, arguments, files, children, input, out, err)
+    let mut log = Log::new(alloc, MemoryLog::new(alloc));
+    run(
+        rt, alloc, arguments, files, children, input, out, err, &mut log,
+    )
 }
 
 /// Plays a case over these files.

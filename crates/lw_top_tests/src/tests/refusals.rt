@@ -10,6 +10,7 @@ use std::thread::Threads;
 pub const USAGE: &str =
     "usage: learn (SETUP | --table FILE) [--workers N] [--extra K] [--learner table|ttt] [--max-states N]
              [--model FILE] [--answers FILE] [--prior FILE] [--kept FILE]
+             [--words FILE] [--random R --length L --seed S] [--log FILE]
        check MODEL ANSWERS [--extra K]
        serve MODEL
        ask (SETUP | --table FILE) WORD...
@@ -19,7 +20,7 @@ pub const USAGE: &str =
 ";
 
 /// Arguments that are not taken.
-static REFUSED: [&[&str]; 28] = [
+static REFUSED: [&[&str]; 34] = [
     &[],
     &["learn"],
     &["learn", "--table"],
@@ -34,6 +35,18 @@ static REFUSED: [&[&str]; 28] = [
     &["learn", "--table", "m", "--learner", ""],
     &["learn", "--table", "m", "--learner"],
     &["learn", "--table", "m", "--learner=ttt", "--learner=ttt"],
+    &["learn", "--table", "m", "--random", "3"],
+    &["learn", "--table", "m", "--length", "3", "--seed", "1"],
+    &[
+        "learn", "--table", "m", "--random", "1000001", "--length", "3", "--seed", "1",
+    ],
+    &[
+        "learn", "--table", "m", "--random", "3", "--length", "65537", "--seed", "1",
+    ],
+    &[
+        "learn", "--table", "m", "--random", "3", "--length", "3", "--seed", "-1",
+    ],
+    &["learn", "--table", "m", "--words"],
     &["trial", "--states", "3", "--inputs", "1"],
     &["trial", "--states", "0", "--inputs", "1", "--seed", "0"],
     &["trial", "--states", "3", "--inputs", "65", "--seed", "0"],

@@ -4,6 +4,7 @@ ghost use Rattle.std.specs.List.{All};
 
 use crate::tests::cases::{files_of, sink, source, texts};
 use http_server::Log;
+use lw_log::MemoryLog;
 use lw_outside::{Failed, Link, Spawner, StartFailure, StartStop};
 use lw_top::run;
 use std::alloc::Global;
@@ -214,6 +215,7 @@ fn two_children_are_asked_at_once(rt: HostRuntime) -> Result<(), Fail> {
         &mut input,
         &mut out,
         &mut err,
+        &mut lw_log::Log::new(alloc, MemoryLog::new(alloc)),
     );
     assert_eq!(rt; end.status, 0);
     assert_eq!(rt; out.taken(), MODEL.as_bytes());

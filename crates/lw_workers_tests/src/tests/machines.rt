@@ -1,12 +1,15 @@
 //! Learnings of machines, worked by hand, with pools of one to sixteen instances: the model, and what the instances answered.
-ghost use Rattle.std.specs.Prelude.{◌≡◌, ◌≤◌, IfOk, length};
+ghost use Rattle.std.specs.Prelude.{◌≡◌, ◌≤◌, IfOk, [], length, None};
+ghost use Rattle.lw_words.specs.Answer.{answers_of};
+ghost use Rattle.lw_cache.specs.Clash.{NothingClashes};
+ghost use Rattle.lw_pool.specs.Opening.{MayBegin};
 
 use crate::tests::crews::{machine, two_names};
 use crate::tests::{COUNTER, are_long, is_crowd, is_found};
 use lw_cache::Cache;
 use lw_desk::OutNames;
 use lw_mealy::Mealy;
-use lw_rounds::{Kind, LearnStop};
+use lw_rounds::{Kind, LearnStop, Unwatched};
 use lw_words::Names;
 use lw_workers::{LearnedMachine, learn_machine};
 use std::alloc::Global;
@@ -14,35 +17,66 @@ use std::sync::Wait;
 use std::test::Fail;
 use std::thread::Threads;
 
-/// What comes of a machine of two outputs with so many instances.
+/// What comes of a machine with a table, where a cache may keep answers: the clauses of `learn_machine` would weigh down each
+/// proof that calls it.
+pub fn call<R: Threads + Wait + Sync + Drop>(
+    rt: R,
+    alloc: Global,
+    system: &Mealy,
+    names: &Names,
+    shared: OutNames,
+    cache: Cache,
+    workers: u8,
+    extra: u8,
+    max_states: u16,
+) -> LearnedMachine
+    requires named { length names.now ≡ system.now.outputs }
+    requires shared { shared ≡ record { names = names.now; brought = None } }
+    requires unclaimed { cache.claims ≡ [] }
+    requires nothing { NothingClashes (answers_of cache.kept) }
+    requires prior { MayBegin shared system.now.inputs system.now.outputs cache.kept }
+    requires workers { (1 ≤ workers) × (workers ≤ 16) }
+    requires few { extra ≤ 4 }
+    requires most { (1 ≤ max_states) × (max_states ≤ 1024) }
+{
+    let kind = Kind::Table;
+    learn_machine(
+        rt,
+        alloc,
+        system,
+        names,
+        shared,
+        cache,
+        &[],
+        workers,
+        kind,
+        extra,
+        max_states,
+        &mut Unwatched,
+    )
+}
+
+/// What comes of a machine whose outputs have these names with so many instances.
 fn learned_by<R: Threads + Wait + Sync + Drop>(
     rt: R,
     alloc: Global,
     system: &Mealy,
+    names: &Names,
     workers: u8,
     extra: u8,
     max_states: u16,
 ) -> Result<LearnedMachine, Fail>
-    requires outputs { system.now.outputs ≡ 2 }
+    requires named { length names.now ≡ system.now.outputs }
     requires few { extra ≤ 4 }
     requires most { (1 ≤ max_states) × (max_states ≤ 1024) }
 {
-    let names = two_names(alloc)?;
     if workers < 1 || workers > 16 {
         return Err(Fail::from("another number of instances was meant"));
     }
-    let shared = OutNames::declared(alloc, &names)?;
-    Ok(learn_machine(
-        rt,
-        alloc,
-        system,
-        &names,
-        shared,
-        Cache::new(alloc),
-        workers,
-        Kind::Table,
-        extra,
-        max_states,
+    let shared = OutNames::declared(alloc, names)?;
+    let cache = Cache::new(alloc);
+    Ok(call(
+        rt, alloc, system, names, shared, cache, workers, extra, max_states,
     ))
 }
 
@@ -57,8 +91,9 @@ fn counter_by<R: Threads + Wait + Sync + Drop>(
     requires few { extra ≤ 4 }
     requires most { (1 ≤ max_states) × (max_states ≤ 1024) }
 {
+    let names = two_names(alloc)?;
     let system = machine(alloc, &COUNTER)?;
-    learned_by(rt, alloc, &system, workers, extra, max_states)
+    learned_by(rt, alloc, &system, &names, workers, extra, max_states)
 }
 
 /// Whether a model of so many states was found with so many refinements, by the answers to words of these numbers of
@@ -140,19 +175,7 @@ fn many_letters_by<R: Threads + Wait + Sync + Drop>(
 ) -> Result<LearnedMachine, Fail> {
     let names = one_name(alloc)?;
     let system = of_many_letters(alloc)?;
-    let shared = OutNames::declared(alloc, &names)?;
-    Ok(learn_machine(
-        rt,
-        alloc,
-        &system,
-        &names,
-        shared,
-        Cache::new(alloc),
-        2,
-        Kind::Table,
-        3,
-        4,
-    ))
+    learned_by(rt, alloc, &system, &names, 2, 3, 4)
 }
 
 /// Each word of two letters was asked, and the suite wasn't: 1 + 64 + 64² + 64³ + 64⁴ words are too many.
@@ -203,8 +226,9 @@ fn four_states_by<R: Threads + Wait + Sync + Drop>(
     alloc: Global,
     workers: u8,
 ) -> Result<LearnedMachine, Fail> {
+    let names = two_names(alloc)?;
     let system = of_four_states(alloc)?;
-    learned_by(rt, alloc, &system, workers, 1, 12)
+    learned_by(rt, alloc, &system, &names, workers, 1, 12)
 }
 
 /// Whether the four states were found with two refinements.

@@ -5,13 +5,14 @@ ghost use Rattle.lw_cache.specs.Clash.{NothingClashes};
 ghost use Rattle.lw_pool.specs.Opening.{MayBegin};
 
 use crate::tests::crews::{machine, two_names};
+use crate::tests::machines::call;
 use crate::tests::{COUNTER, are_long, is_found};
 use lw_cache::{AskStop, Cache, Clash};
 use lw_desk::OutNames;
 use lw_mealy::Mealy;
-use lw_rounds::{Kind, LearnStop};
+use lw_rounds::LearnStop;
 use lw_words::{Kept, Word};
-use lw_workers::{LearnedMachine, learn_machine};
+use lw_workers::LearnedMachine;
 use std::alloc::Global;
 use std::sync::Wait;
 use std::test::Fail;
@@ -56,18 +57,7 @@ fn learned_after<R: Threads + Wait + Sync + Drop>(
     let names = two_names(alloc)?;
     let shared = OutNames::declared(alloc, &names)?;
     let cache = with_prior(alloc, &system, &shared, word, outs)?;
-    Ok(learn_machine(
-        rt,
-        alloc,
-        &system,
-        &names,
-        shared,
-        cache,
-        1,
-        Kind::Table,
-        2,
-        4,
-    ))
+    Ok(call(rt, alloc, &system, &names, shared, cache, 1, 2, 4))
 }
 
 /// This word.

@@ -1,70 +1,8 @@
-use Rattle.std.proofs.Common.{arith, inl, inr}
-use Rattle.lw_children.specs.Spawners.{spawner_seen}
-use Rattle.lw_report.specs.States.{files_state, sink_state}
-use Rattle.lw_learn.proofs.RunLemmas.{ends_read, ends_unread, task_ready}
+use Rattle.lw_report.specs.States.{sink_state}
 use Rattle.lw_learn.proofs.command.learn.Goals as goal
 
-pub learn_read-requires-clause-ready : goal.learn_read-requires-clause-ready
-learn_read-requires-clause-ready g c κs within =
-    let F = g.F.Files in
-    let before = c.args.files.now in
-    let read = c.read_task.new.files in
-    let f = files_state (F.holds before) (F.calls before) (F.reads before) (F.faults before) in
-    let m = files_state (F.holds read) (F.calls read) (F.reads read) (F.faults read) in
-    task_ready c.args.arguments.now f m c.read_task.result c.in-Ok.task c.in-Ok.is c.read_task.ensures
-
-pub returns-in-Ok-clause-run : goal.returns-in-Ok-clause-run
-returns-in-Ok-clause-run g c =
-    let F = g.F.Files in
-    let P = g.P.Spawner in
-    let O = g.O.Sink in
+pub returns-clause-run : goal.returns-clause-run
+returns-clause-run g c =
     let E = g.E.Sink in
-    let before = c.args.files.now in
-    let read = c.read_task.new.files in
-    let files = c.learn_read.new.files in
-    let child = c.args.spawner.now in
-    let children = c.learn_read.new.spawner in
-    let f = files_state (F.holds before) (F.calls before) (F.reads before) (F.faults before) in
-    let m = files_state (F.holds read) (F.calls read) (F.reads read) (F.faults read) in
-    let h = files_state (F.holds files) (F.calls files) (F.reads files) (F.faults files) in
-    let b = spawner_seen (P.faults child) (P.started child) (P.retired child) (P.commands child) in
-    let z = spawner_seen (P.faults children) (P.started children) (P.retired children) (P.commands children) in
-    let o = sink_state (O.taken c.args.out.now) (O.faults c.args.out.now) in
-    let p = sink_state (O.taken c.learn_read.new.out) (O.faults c.learn_read.new.out) in
-    let e = sink_state (E.taken c.args.err.now) (E.faults c.args.err.now) in
-    let d = sink_state (E.taken c.learn_read.new.err) (E.faults c.learn_read.new.err) in
-    inr (ends_read c.args.arguments.now f m h b z o p e d c.learn_read.result c.read_task.result c.in-Ok.task c.in-Ok.is c.read_task.ensures c.learn_read.ensures.learned)
-
-pub returns-in-Ok-clause-counts : goal.returns-in-Ok-clause-counts
-returns-in-Ok-clause-counts g c =
-    let read = c.read_task.ensures.counts in
-    let learned = c.learn_read.ensures.learned.told.counts in
-    let files = learned.0 in
-    (omega arith, learned.1, learned.2)
-
-pub returns-in-Err-clause-counts : goal.returns-in-Err-clause-counts
-returns-in-Err-clause-counts g c =
-    let read = c.read_task.ensures.counts in
-    let saved = c.end_unread.ensures.saved.saved.counts in
-    (omega arith, omega arith, c.end_unread.ensures.counts)
-
-pub returns-in-Err-clause-run : goal.returns-in-Err-clause-run
-returns-in-Err-clause-run g c =
-    let F = g.F.Files in
-    let P = g.P.Spawner in
-    let O = g.O.Sink in
-    let E = g.E.Sink in
-    let before = c.args.files.now in
-    let read = c.read_task.new.files in
-    let child = c.args.spawner.now in
-    let f = files_state (F.holds before) (F.calls before) (F.reads before) (F.faults before) in
-    let files = c.end_unread.new.files in
-    let m = files_state (F.holds read) (F.calls read) (F.reads read) (F.faults read) in
-    let h = files_state (F.holds files) (F.calls files) (F.reads files) (F.faults files) in
-    let b = spawner_seen (P.faults child) (P.started child) (P.retired child) (P.commands child) in
-    let o = sink_state (O.taken c.args.out.now) (O.faults c.args.out.now) in
-    let e = sink_state (E.taken c.args.err.now) (E.faults c.args.err.now) in
-    let d = sink_state (E.taken c.end_unread.new.err) (E.faults c.end_unread.new.err) in
-    let w = c.end_unread.ensures in
-    inl (ends_unread c.args.arguments.now f m h b o e d c.end_unread.result c.read_task.result c.in-Err.unread c.in-Err.is c.read_task.ensures
-    (record { outcome = w.outcome; model = w.model; learner = w.learner; kept = w.kept; outputs = w.outputs; saved = w.saved; said = w.said; part = w.part }))
+    let told = c.learn_logged-end.new.err in
+    record { told = sink_state (E.taken told) (E.faults told); ends = c.learn_logged-end.ensures.ends; log = c.say_log.ensures }

@@ -1,11 +1,12 @@
-use Rattle.std.proofs.Common.{List, ℕ, sym, subst}
+use Rattle.std.proofs.Common.{List, ℕ, None, Ok, rules, sym, subst}
 use Rattle.lw_words.specs.Answer.{answers_of}
 use Rattle.lw_cache.specs.Cut.{AreAccess, StepsAreRead}
-use Rattle.lw_cache.specs.Settling.{grown_stop}
 use Rattle.lw_cache.proofs.SettlingLemmas.{kept_are_answers, leaves_then}
 use Rattle.lw_rounds.specs.Learner.{inputs_of, access_of}
 use Rattle.lw_rounds.proofs.LearnerLemmas.{access_leads, read_more, steps_are_read}
 use Rattle.lw_rounds.proofs.RoundLemmas.{ready_more, ready_after, refined_goes}
+use Rattle.std.specs.Prelude.{⊤}
+use Rattle.lw_rounds.proofs.StopLemmas.{leaves_grown_on}
 use Rattle.lw_rounds.proofs.rounds.refine.Goals as goal
 
 pub split-requires-clause-access : goal.split-requires-clause-access
@@ -35,12 +36,17 @@ returns-clause-ready g c =
     let between = g.O.Oracle.state c.split.new.oracle in
     let now = g.O.Oracle.state c.refine.new.oracle in
     let ready = ready_more (g.O.Oracle.state c.args.oracle.now) between c.args.learner.now c.in_ok-cut.ensures.leaves c.requires.ready in
-    ready_after between now c.args.learner.now c.refine.new.self c.refine.result c.refine.ensures.leaves c.refine.ensures.grows ready.inputs ready.outputs ready.nothing
+    ready_after between now c.args.learner.now c.refine.new.self (Ok c.in_ok-refine.field-0) c.in_ok-refine.ensures.leaves c.in_ok-refine.ensures.grows ready.inputs ready.outputs ready.nothing
 
 pub returns-clause-goes : goal.returns-clause-goes
 returns-clause-goes g c =
-    refined_goes (answers_of (g.O.Oracle.state c.refine.new.oracle).kept) c.args.learner.now c.refine.new.self c.refine.result c.refine.ensures.grows c.refine.ensures.more
+    refined_goes (answers_of (g.O.Oracle.state c.refine.new.oracle).kept) c.args.learner.now c.refine.new.self (Ok c.in_ok-refine.field-0) c.in_ok-refine.ensures.grows c.in_ok-refine.ensures.more
 
 pub returns-clause-leaves : goal.returns-clause-leaves
 returns-clause-leaves g c =
-    leaves_then (g.O.Oracle.state c.args.oracle.now) (g.O.Oracle.state c.split.new.oracle) (g.O.Oracle.state c.refine.new.oracle) (grown_stop c.refine.result) c.in_ok-cut.ensures.leaves c.refine.ensures.leaves
+    leaves_then (g.O.Oracle.state c.args.oracle.now) (g.O.Oracle.state c.split.new.oracle) (g.O.Oracle.state c.refine.new.oracle) None c.in_ok-cut.ensures.leaves c.in_ok-refine.ensures.leaves
+
+pub returns-in_err-refine-clause-leaves : goal.returns-in_err-refine-clause-leaves
+returns-in_err-refine-clause-leaves g c =
+    leaves_grown_on ⊤ (g.O.Oracle.state c.args.oracle.now) (g.O.Oracle.state c.refine.new.oracle) c.in_err-refine.field-0.0 c.from_residual-in_err-refine.result
+    (leaves_then (g.O.Oracle.state c.args.oracle.now) (g.O.Oracle.state c.split.new.oracle) (g.O.Oracle.state c.refine.new.oracle) _ c.in_ok-cut.ensures.leaves c.in_err-refine.ensures.leaves) (search rules)

@@ -5,8 +5,8 @@ use Rattle.lw_workers.proofs.LeavingLemmas.{has_learned}
 use Rattle.lw_workers.proofs.SendLemmas.{nothing_seen}
 use Rattle.lw_workers.proofs.learning.learn_with.Goals as goal
 
-pub learn-learned-requires-clause-can : goal.learn-learned-requires-clause-can
-learn-learned-requires-clause-can g c = record {
+pub learn_after-learned-requires-clause-can : goal.learn_after-learned-requires-clause-can
+learn_after-learned-requires-clause-can g c = record {
   may = λ p batch letters few. (
     letters,
     (
@@ -21,4 +21,4 @@ learn-learned-requires-clause-can g c = record {
 }
 
 pub returns-clause-leaves : goal.returns-clause-leaves
-returns-clause-leaves g c = has_learned c.args.pool c.learn-learned.new.oracle.pool (learn_stop c.learn-learned.result) c.cache.ensures.stands c.cache-2.ensures.stands c.learn-learned.ensures.leaves
+returns-clause-leaves g c = has_learned c.args.pool c.learn_after-learned.new.oracle.pool (learn_stop c.learn_after-learned.result) c.cache.ensures.stands c.cache-2.ensures.stands c.learn_after-learned.ensures.leaves

@@ -1,4 +1,4 @@
-use Rattle.std.proofs.Common.{◌≡◌, None, Err, option_map, rules, ap, ◌∙◌}
+use Rattle.std.proofs.Common.{◌≡◌, None, Err, length, option_map, refl, rules, ap, ◌∙◌}
 use Rattle.lw_words.specs.declared.stop.SulStop.{SulStop}
 use Rattle.lw_sul.specs.Runs.{after_reset}
 use Rattle.lw_outside.specs.Protocol.{ready_line, reset_line}
@@ -6,6 +6,7 @@ use Rattle.lw_line.specs.Causes.{IsFormed}
 use Rattle.lw_line.specs.LineState.{told_runs}
 use Rattle.lw_line.specs.bodies.Exchanges.{ended}
 use Rattle.lw_line.proofs.Calls.{reset_ready, reset_refused}
+use Rattle.lw_line.proofs.Noting.{run_begun}
 use Rattle.lw_line.proofs.Telling.{answered_told, refused_told}
 use Rattle.lw_line.proofs.system.LineSulSul.reset.Goals as goal
 
@@ -17,7 +18,7 @@ invariant_of-self g c =
     let done =
     reset_ready s.letters s.outputs.names s.outputs.most (L.faults s.link) (L.ends s.link) (L.faults c.start.new.link) (L.ends c.start.new.link) s.started s.inbox c.start.new.inbox s.stop s.cut (L.transcript s.link) (L.transcript c.start.new.link) live c.self.invariant.0
     c.in-Ok.ensures.ready in
-    (done.0, λ free. answered_told s.outputs.names (ended reset_line) s.inbox c.start.new.inbox ready_line (L.transcript s.link) (L.transcript c.start.new.link) c.in-Ok.ensures.ready (c.self.invariant.1 free))
+    (done.0, λ free. answered_told s.outputs.names (ended reset_line) s.inbox c.start.new.inbox ready_line (L.transcript s.link) (L.transcript c.start.new.link) c.in-Ok.ensures.ready (c.self.invariant.1 free), run_begun (length s.letters) s.note c.begin_run.new.self c.receive.new.self c.begin_run.ensures c.receive.ensures)
 
 pub returns-in-Ok-clause-begins : goal.returns-in-Ok-clause-begins
 returns-in-Ok-clause-begins g c =
@@ -38,7 +39,7 @@ invariant_of-self-in-Err g c =
     let done =
     reset_refused s.letters s.outputs.names s.outputs.most (L.faults s.link) (L.ends s.link) (L.faults c.start.new.link) (L.ends c.start.new.link) s.started s.inbox c.start.new.inbox s.stop s.cut (L.transcript s.link) (L.transcript c.start.new.link) live c.self.invariant.0
     c.in-Err.stop c.copy.result c.copy.ensures (λ is. c.in-Err.ensures.failed (ap (λ (e : SulStop). Err e) is)) (λ is. c.in-Err.ensures.gone (ap (λ (e : SulStop). Err e) is)) c.in-Err.ensures.err in
-    (done.0, λ free. refused_told s.outputs.names (λ answer. ¬ IsFormed reset_line answer) (ended reset_line) s.inbox c.start.new.inbox c.in-Err.stop (L.transcript s.link) (L.transcript c.start.new.link) c.in-Err.ensures.err (c.self.invariant.1 free))
+    (done.0, λ free. refused_told s.outputs.names (λ answer. ¬ IsFormed reset_line answer) (ended reset_line) s.inbox c.start.new.inbox c.in-Err.stop (L.transcript s.link) (L.transcript c.start.new.link) c.in-Err.ensures.err (c.self.invariant.1 free), run_begun (length s.letters) s.note c.begin_run.new.self c.begin_run.new.self c.begin_run.ensures refl)
 
 pub returns-in-Err-clause-left : goal.returns-in-Err-clause-left
 returns-in-Err-clause-left g c =

@@ -1,13 +1,15 @@
-use Rattle.std.proofs.Common.{◌≡◌, ℕ, None, Some, true, Err, option_map, rules, ap, sym, ◌∙◌, subst}
+use Rattle.std.proofs.Common.{◌≡◌, ℕ, ◌<◌, None, Some, true, Err, IfSome, length, option_map, refl, rules, ap, sym, ◌∙◌, subst}
+use Rattle.lw_words.specs.Word.{IsWord}
 use Rattle.lw_words.specs.declared.stop.SulStop.{SulStop}
 use Rattle.lw_sul.specs.Runs.{after_step}
 use Rattle.lw_outside.specs.Protocol.{in_line}
-use Rattle.lw_line.specs.LineState.{AreToldIfFree, told_runs}
+use Rattle.lw_line.specs.LineState.{AreToldIfFree, LineState, told_runs}
 use Rattle.lw_line.specs.bodies.Exchanges.{NamesNone, ended}
 use Rattle.lw_line.specs.bodies.Naming.{OutputNaming}
 use Rattle.lw_line.specs.bodies.Standing.{Stands}
 use Rattle.lw_sul.proofs.NameLemmas.{IsName-at}
 use Rattle.lw_line.proofs.Calls.{letter_plain, step_answered, step_refused}
+use Rattle.lw_line.proofs.Noting.{letter_added}
 use Rattle.lw_line.proofs.Telling.{brought_told, refused_told}
 use Rattle.lw_line.proofs.system.LineSulSul.step.Goals as goal
 
@@ -17,6 +19,7 @@ invariant_of-self g c =
     let s = c.self.inside in
     let live : s.stop ≡ None = search rules in
     let begun : s.started ≡ true = search rules in
+    let known : c.args.x < length s.letters = subst (λ (t : LineState _). c.args.x < length t.letters) (sym c.self.view_is) c.requires.letter in
     let done =
     step_answered s.letters s.outputs.names s.outputs.most (L.faults s.link) (L.ends s.link) (L.faults c.ask.new.link) (L.ends c.ask.new.link) s.started s.inbox c.ask.new.inbox s.stop s.cut (L.transcript s.link) (L.transcript c.ask.new.link) live c.self.invariant.0
     begun c.args.x c.name-letter.result.now c.name-letter.ensures.value c.name-letter.ensures.inverse c.len-letters.ensures.names.each
@@ -27,6 +30,7 @@ invariant_of-self g c =
           brought_told s.letters s.outputs.names new.outputs.names s.outputs.most (L.faults s.link) s.started c.name-letter.result.now (letter_plain c.name-letter.result.now (IsName-at s.letters c.args.x c.name-letter.result.now c.len-letters.ensures.names.each c.name-letter.ensures.value)) s.inbox new.inbox c.in-Ok.ensures.output.0 c.in-Ok.y c.in-Ok.ensures.brings.0 c.in-Ok.ensures.output.2
           (L.ends s.link) s.stop s.cut (L.transcript s.link) (L.transcript new.link) live c.self.invariant.0 c.in-Ok.ensures.output.1
           (c.self.invariant.1 (sym c.in-Ok.ensures.same.1 ∙ free.0, sym c.in-Ok.ensures.same.2 ∙ free.1)),
+      letter_added (length s.letters) c.args.x s.note c.add_letter.new.self c.receive.new.self known c.add_letter.ensures c.receive.ensures c.self.invariant.2,
     )
 
 pub returns-in-Ok-clause-adds : goal.returns-in-Ok-clause-adds
@@ -48,16 +52,18 @@ invariant_of-self-in-Err g c =
     let s = c.self.inside in
     let live : s.stop ≡ None = search rules in
     let begun : s.started ≡ true = search rules in
+    let known : c.args.x < length s.letters = subst (λ (t : LineState _). c.args.x < length t.letters) (sym c.self.view_is) c.requires.letter in
     let done =
     step_refused s.letters s.outputs.names s.outputs.most (L.faults s.link) (L.ends s.link) (L.faults c.ask.new.link) (L.ends c.ask.new.link) s.started s.inbox c.ask.new.inbox s.stop s.cut (L.transcript s.link) (L.transcript c.ask.new.link) live c.self.invariant.0
     begun c.args.x c.name-letter.result.now c.name-letter.ensures.value c.name-letter.ensures.inverse c.len-letters.ensures.names.each
     c.in-Err.stop c.copy.result c.copy.ensures (λ is. c.in-Err.ensures.failed (ap (λ (e : SulStop). Err e) is)) (λ is. c.in-Err.ensures.gone (ap (λ (e : SulStop). Err e) is)) c.in-Err.ensures.err in
     let new = c.ask.new in
-    subst (λ (o : OutputNaming). Stands s.letters o.names o.most (L.faults new.link) (L.ends new.link) s.started new.inbox (Some c.copy.result) true (L.transcript new.link) × AreToldIfFree o.names o.most o.range (L.transcript new.link)) (sym c.in-Err.ensures.kept) (
+    subst (λ (o : OutputNaming). Stands s.letters o.names o.most (L.faults new.link) (L.ends new.link) s.started new.inbox (Some c.copy.result) true (L.transcript new.link) × AreToldIfFree o.names o.most o.range (L.transcript new.link) × IfSome c.add_letter.new.self (IsWord (length s.letters))) (sym c.in-Err.ensures.kept) (
       done.0,
       λ free.
           refused_told s.outputs.names (NamesNone s.outputs.names s.outputs.most) (ended (in_line c.name-letter.result.now)) s.inbox new.inbox c.in-Err.stop (L.transcript s.link) (L.transcript new.link)
           c.in-Err.ensures.err (c.self.invariant.1 free),
+      letter_added (length s.letters) c.args.x s.note c.add_letter.new.self c.add_letter.new.self known c.add_letter.ensures refl c.self.invariant.2,
     )
 
 pub returns-in-Err-clause-left : goal.returns-in-Err-clause-left

@@ -1,0 +1,39 @@
+use Rattle.std.proofs.Common.{◌≡◌, Err, ap, subst, sym, ◌∙◌, ◌++◌, ◌∷◌, [], ◌≤◌, length, List, ℕ}
+use Rattle.lw_outside.specs.Files.{Holds, longest_file}
+use Rattle.lw_outside.specs.declared.files.FilesStop.{FilesStop}
+use Rattle.lw_report.specs.States.{files_state}
+use Rattle.lw_report.specs.Stops.{read_outcome, unread}
+use Rattle.lw_report.specs.declared.outcome.Outcome.{Outcome}
+use Rattle.lw_report.specs.declared.role.Role.TheVariants.{Words}
+use Rattle.lw_report.specs.declared.stops.ReadStop.{ReadStop}
+use Rattle.lw_learn.specs.Asking.{IsWordless}
+use Rattle.lw_learn.proofs.WordLemmas.{named_read, named_unread, not_read_at}
+use Rattle.lw_learn.proofs.asking.read_named.Goals as goal
+
+pub returns-in-Err : goal.returns-in-Err
+returns-in-Err g c =
+    let F = g.F.Files in
+    let name = c.args.name.now in
+    let letters = c.args.inputs.now in
+    let before = c.args.files.now in
+    let now = c.read.new.self in
+    let f = files_state (F.holds before) (F.calls before) (F.reads before) (F.faults before) in
+    let h = files_state (F.holds now) (F.calls now) (F.reads now) (F.faults now) in
+    let read = c.in-Err.ensures in
+    let is = c.outcome.ensures ∙ ap (read_outcome Words) c.from.ensures in
+    named_unread name letters f h c.outcome.result
+    (not_read_at name letters f h c.in-Err.refusal c.outcome.result is (λ e. read.failed (ap (λ s. Err s) e)) (λ e. read.failed_call (ap (λ s. Err s) e)) (λ e. read.long (ap (λ s. Err s) e)) (λ e. read.long_call (ap (λ s. Err s) e)) (λ e. read.memory (ap (λ s. Err s) e)) read.withheld)
+    read.same read.counts
+
+pub returns : goal.returns
+returns g c =
+    let F = g.F.Files in
+    let before = c.args.files.now in
+    let now = c.read.new.self in
+    let f = files_state (F.holds before) (F.calls before) (F.reads before) (F.faults before) in
+    let h = files_state (F.holds now) (F.calls now) (F.reads now) (F.faults now) in
+    let read = c.in-Ok.ensures in
+    let words = c.words_in.ensures in
+    named_read c.args.name.now c.args.inputs.now f h c.deref.result.now c.words_in.result
+    (record { given = subst (λ (bytes : List ℕ). F.reads now ≡ F.reads before ++ (c.args.name.now, bytes) ∷ []) (sym c.deref.ensures.value) read.given; short = subst (λ (bytes : List ℕ). length bytes ≤ longest_file) (sym c.deref.ensures.value) read.short; held = subst (λ (bytes : List ℕ). Holds (F.holds before) c.args.name.now bytes) (sym c.deref.ensures.value) read.told })
+    read.ok read.quiet read.same read.counts words.ok words.words words.err

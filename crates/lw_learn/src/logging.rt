@@ -1,0 +1,122 @@
+//! What a log gets beside the steps of a learning: what stopped it midway, and the text of the outcome.
+ghost use Rattle.std.specs.Prelude.{codes};
+ghost use Rattle.lw_report.specs.States.{sink_state};
+ghost use Rattle.lw_learn.specs.LearnRun.{MaySayLog};
+
+use crate::LearnArguments;
+use crate::ending::text_names;
+use crate::learning::Found;
+use crate::reading::Unread;
+use crate::refusing::{letters_read, outputs_read};
+use crate::task::System;
+use lw_cache::AskStop;
+use lw_children::CutRun;
+use lw_log::{Log, LogState};
+use lw_outside::{LogFile, Sink, Spawner};
+use lw_report::{End, Outcome, outcome_text, put_all};
+use lw_rounds::LearnStop;
+use lw_words::{Names, NoMemory, SulStop};
+use std::alloc::Global;
+
+/// The text of a call that ran out of memory. Takes no memory itself.
+const NO_MEMORY: &[u8] = b"no memory\n";
+
+/// Puts the run that a child cut off when it stopped.
+fn log_cut<L: LogFile>(inputs: &Names, cut: &CutRun, log: &mut Log<L>) {
+    let received = match &cut.received {
+        Some(line) => Some(line.as_slice()),
+        None => None,
+    };
+    log.cut(
+        cut.instance,
+        inputs,
+        cut.asked.as_slice(),
+        received,
+        cut.rest.as_slice(),
+    );
+}
+
+/// Puts what stopped a learning midway: the run that was cut off, or why no child was started.
+pub(crate) fn log_stop<P: Spawner, L: LogFile>(
+    alloc: Global,
+    spawner: &P,
+    inputs: &Names,
+    found: &Found,
+    log: &mut Log<L>,
+) {
+    if let Some(cut) = &found.cut {
+        log_cut(inputs, cut, log);
+        return;
+    }
+    if let Err(
+        LearnStop::Ask(
+            AskStop::Sul {
+                instance: _,
+                stop: SulStop::Failed,
+            },
+        ),
+    ) = &found.learned
+    {
+        let cause = Outcome::Unstarted(spawner.failure());
+        log.line(outcome_text(alloc, &cause, None, None, &found.kept, 0));
+    }
+}
+
+/// The text of the outcome of a call that learned a system.
+fn end_text(alloc: Global, system: &System, end: &End, extra: u8) -> Result<String, NoMemory> {
+    let outputs = match &end.outputs {
+        Some(names) => text_names(alloc, names)?,
+        None => None,
+    };
+    let inputs = Some(system.inputs());
+    outcome_text(
+        alloc,
+        &end.outcome,
+        inputs,
+        outputs.as_ref(),
+        &end.kept,
+        extra,
+    )
+}
+
+/// Puts the text of the outcome of a call that learned a system.
+pub(crate) fn log_end<L: LogFile>(
+    alloc: Global,
+    system: &System,
+    end: &End,
+    extra: u8,
+    log: &mut Log<L>,
+) {
+    match end.outcome {
+        Outcome::NoMemory => log.text(NO_MEMORY),
+        _ => log.line(end_text(alloc, system, end, extra)),
+    }
+}
+
+/// The text of the outcome of a call that began no learning.
+pub(crate) fn unread_text(alloc: Global, unread: &Unread, extra: u8) -> Result<String, NoMemory> {
+    let inputs = letters_read(&unread.system);
+    let outputs = outputs_read(&unread.system);
+    outcome_text(alloc, &unread.outcome, inputs, outputs, &unread.kept, extra)
+}
+
+/// Puts the text of the outcome of a call that began no learning, which stands but where memory ran out since.
+pub(crate) fn log_unread<L: LogFile>(end: &End, text: Result<String, NoMemory>, log: &mut Log<L>) {
+    match end.outcome {
+        Outcome::NoMemory => log.text(NO_MEMORY),
+        _ => log.line(text),
+    }
+}
+
+/// Says on `err` that a log that is named could not be written.
+pub(crate) fn say_log<L: LogFile, E: Sink>(arguments: &LearnArguments, log: &Log<L>, err: &mut E)
+    ensures { MaySayLog arguments.now.log (sink_state (E.taken err.old) (E.faults err.old))
+        (sink_state (E.taken err.new) (E.faults err.new)) }
+{
+    if arguments.log().is_none() {
+        return;
+    }
+    if log.state() == LogState::Failed {
+        let _refused = put_all(err, b"log fault\n").is_err();
+    }
+}

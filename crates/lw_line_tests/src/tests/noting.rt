@@ -1,0 +1,203 @@
+//! What a system notes of the run that is under way, over links in memory.
+ghost use Rattle.std.specs.Prelude.{◌≡◌, None, true};
+ghost use Rattle.lw_outside.specs.Links.{IsUntouched};
+
+use super::asking::names;
+use super::session::{speaker, started};
+use lw_line::LineSul;
+use lw_outside::{Link, Spawner};
+use lw_sul::Sul;
+use lw_words::Line;
+use std::alloc::Global;
+use std::test::Fail;
+
+/// What a child says to runs, and what is told of the last of them.
+struct Row {
+    says: &'static [u8],
+    notes: bool,
+    runs: &'static [&'static [u16]],
+    asked: Option<&'static [u16]>,
+    last: Option<&'static [u8]>,
+    rest: &'static [u8],
+}
+
+static ROWS: [Row; 11] = [
+    // Nothing was asked.
+    Row {
+        says: b"ready\n",
+        notes: true,
+        runs: &[],
+        asked: Some(&[]),
+        last: None,
+        rest: b"",
+    },
+    Row {
+        says: b"ready\nout 1\nout 0\n",
+        notes: true,
+        runs: &[&[0, 1]],
+        asked: Some(&[0, 1]),
+        last: Some(b"out 0"),
+        rest: b"",
+    },
+    // A reset begins anew.
+    Row {
+        says: b"ready\r\nout 1\r\nready\r\n",
+        notes: true,
+        runs: &[&[1], &[]],
+        asked: Some(&[]),
+        last: Some(b"ready"),
+        rest: b"",
+    },
+    // The child ends midway: within a line, behind one, and in a reset.
+    Row {
+        says: b"ready\nout 0\nou",
+        notes: true,
+        runs: &[&[1, 0, 1]],
+        asked: Some(&[1, 0]),
+        last: Some(b"out 0"),
+        rest: b"ou",
+    },
+    Row {
+        says: b"ready\n",
+        notes: true,
+        runs: &[&[0, 1]],
+        asked: Some(&[0]),
+        last: Some(b"ready"),
+        rest: b"",
+    },
+    Row {
+        says: b"ready\nout 1\n",
+        notes: true,
+        runs: &[&[1], &[0]],
+        asked: Some(&[]),
+        last: Some(b"out 1"),
+        rest: b"",
+    },
+    Row {
+        says: b"",
+        notes: true,
+        runs: &[&[1]],
+        asked: Some(&[]),
+        last: None,
+        rest: b"",
+    },
+    // A bad line, with bytes behind it.
+    Row {
+        says: b"ready\nout 7\r\nout 0",
+        notes: true,
+        runs: &[&[1]],
+        asked: Some(&[1]),
+        last: Some(b"out 7"),
+        rest: b"out 0",
+    },
+    Row {
+        says: b"ready\nout 1\nno\nout 0\nout 1\n",
+        notes: true,
+        runs: &[&[0, 1]],
+        asked: Some(&[0, 1]),
+        last: Some(b"no"),
+        rest: b"out 0",
+    },
+    // A line that is too long.
+    Row {
+        says: &[b'x'; 300],
+        notes: true,
+        runs: &[&[1]],
+        asked: Some(&[]),
+        last: Some(&[b'x'; 256]),
+        rest: b"",
+    },
+    // Nothing is noted.
+    Row {
+        says: b"ready\nout 7\nou",
+        notes: false,
+        runs: &[&[1]],
+        asked: None,
+        last: None,
+        rest: b"ou",
+    },
+];
+
+/// Whether a run is answered to its end.
+fn goes_on<S: Sul>(sul: &mut S, letters: &[u16]) -> bool
+    requires { S.stop sul.old ≡ None }
+    ensures { result ≡ true → S.stop sul.new ≡ None }
+{
+    if sul.reset().is_err() {
+        return false;
+    }
+    for x in letters {
+        if *x >= sul.inputs() || sul.step(*x).is_err() {
+            return false;
+        }
+    }
+    true
+}
+
+/// Goes through runs, up to the first that is not answered to its end.
+fn run_all<S: Sul>(sul: &mut S, runs: &[&[u16]])
+    requires { S.stop sul.old ≡ None }
+{
+    for letters in runs {
+        if !goes_on(sul, letters) {
+            return;
+        }
+    }
+}
+
+fn is_line(line: &Option<Line>, want: Option<&[u8]>) -> bool {
+    match (line, want) {
+        (Some(line), Some(bytes)) => line.as_slice() == bytes,
+        (None, None) => true,
+        _ => false,
+    }
+}
+
+fn are_letters(letters: Option<&[u16]>, want: Option<&[u16]>) -> bool {
+    match (letters, want) {
+        (Some(letters), Some(want)) => letters == want,
+        (None, None) => true,
+        _ => false,
+    }
+}
+
+/// Whether a system tells what its row says.
+fn tells<L: Link>(sul: &LineSul<L>, row: &Row) -> bool {
+    are_letters(sul.asked(), row.asked)
+        && is_line(&sul.last_line(), row.last)
+        && sul.rest().as_slice() == row.rest
+}
+
+fn note_if<L: Link>(alloc: Global, sul: &mut LineSul<L>, notes: bool)
+    ensures { sul.new ≡ sul.old }
+{
+    if notes {
+        sul.note(alloc);
+    }
+}
+
+fn tells_over<L: Link + Drop>(alloc: Global, link: L, row: &Row) -> Result<bool, Fail>
+    requires { IsUntouched (L.transcript link) }
+{
+    let mut sul = LineSul::new(link, names(alloc, &["t", "u"])?, names(alloc, &["0", "1"])?);
+    note_if(alloc, &mut sul, row.notes);
+    run_all(&mut sul, row.runs);
+    Ok(tells(&sul, row))
+}
+
+fn tells_of_child<P: Spawner>(alloc: Global, spawner: &mut P, row: &Row) -> Result<bool, Fail> {
+    tells_over(alloc, started(alloc, spawner)?, row)
+}
+
+fn row_holds(alloc: Global, row: &Row) -> Result<bool, Fail> {
+    let mut spawner = speaker(alloc, row.says)?;
+    tells_of_child(alloc, &mut spawner, row)
+}
+
+#[test]
+fn a_run_is_noted(rt: HostRuntime) -> Result<(), Fail> {
+    for row in &ROWS {
+        assert!(rt; row_holds(rt.alloc(), row)?);
+    }
+    Ok(())
+}

@@ -1,0 +1,291 @@
+//! A learning that was worked out by hand, and whether it goes so.
+ghost use Rattle.std.specs.Prelude.{◌<◌, ◌≤◌, ◌^◌, IfOk, length};
+ghost use Rattle.std.specs.List.{All};
+ghost use Rattle.lw_words.specs.Answer.{answers_of};
+ghost use Rattle.lw_words.specs.Word.{IsWord};
+ghost use Rattle.lw_cache.specs.Clash.{NothingClashes};
+ghost use Rattle.lw_cache.specs.Settling.{MayAsk};
+
+use lw_cache::Oracle;
+use lw_mealy::Mealy;
+use lw_rounds::{Kind, LearnStop, Learned, Learner, Step, Watcher, learn};
+use lw_words::{NoMemory, Word, Words};
+use std::alloc::Global;
+use std::test::Fail;
+use test_oracle::Recording;
+
+pub const A: u16 = 0;
+
+pub const B: u16 = 1;
+
+/// The targets and outputs of a machine's states, by letter.
+pub type Rows = &'static [&'static [(u16, u16)]];
+
+/// What comes of a learning.
+#[derive(Clone, Copy)]
+pub enum Ending {
+    /// A model.
+    Model,
+    /// A model of so many states, of a learner that was refined so often.
+    Found(u16, u32),
+    /// A model of so many states.
+    FoundOf(u16),
+    /// Words of these lengths, which need too many states.
+    Crowd(&'static [usize]),
+    /// So many words that need too many states.
+    CrowdOf(usize),
+    /// A model of so many states whose suite would have so many words.
+    TooLarge(u16, u64),
+}
+
+/// A learning.
+#[derive(Clone, Copy)]
+pub struct Case {
+    pub name: &'static str,
+    pub outputs: u16,
+    pub rows: Rows,
+    /// The length of the word a a .. that is asked before it, or 0.
+    pub known: usize,
+    pub kind: Kind,
+    pub extra: u8,
+    pub most: u16,
+    pub ending: Ending,
+    /// How many batches are settled.
+    pub batches: usize,
+    /// The lengths of the words of the batches with these numbers.
+    pub lengths: &'static [(usize, &'static [usize])],
+    /// The words of the batches with these numbers.
+    pub words: &'static [(usize, &'static [&'static [u16]])],
+    /// The lengths of a tree's discriminators, none of which is temporary; none where they aren't looked at.
+    pub discriminators: &'static [usize],
+}
+
+/// A learning of a machine of two outputs with a table.
+pub const PLAIN: Case = Case {
+    name: "",
+    outputs: 2,
+    rows: &[],
+    known: 0,
+    kind: Kind::Table,
+    extra: 1,
+    most: 12,
+    ending: Ending::Model,
+    batches: 0,
+    lengths: &[],
+    words: &[],
+    discriminators: &[],
+};
+
+/// What was told of a learning.
+#[derive(Drop)]
+pub struct Notes {
+    steps: Vec<Step>,
+    is_whole: bool,
+}
+
+impl Notes {
+    pub fn new(alloc: Global) -> Notes {
+        Notes {
+            steps: Vec::new(alloc),
+            is_whole: true,
+        }
+    }
+
+    /// Whether just these steps were told.
+    pub fn are(&self, steps: &[Step]) -> bool {
+        let mut each = self.steps.iter().zip(steps.iter());
+        self.is_whole && self.steps.len() == steps.len() && each.all(|(told, step)| told == step)
+    }
+}
+
+impl Watcher for Notes {
+    fn step(&mut self, step: Step) {
+        self.is_whole = self.steps.push(step).is_ok() && self.is_whole;
+    }
+}
+
+/// What came of a learning.
+#[derive(Drop)]
+pub struct Came {
+    pub oracle: Recording,
+    pub learned: Result<Learned, LearnStop>,
+    pub notes: Notes,
+}
+
+/// The machine of these rows.
+fn machine_of(alloc: Global, outputs: u16, rows: Rows) -> Result<Mealy, Fail> {
+    let mut copies = Vec::new(alloc);
+    for row in rows {
+        copies.push(Vec::from_slice(alloc, row)?)?;
+    }
+    let inputs = rows.first().map_or(0, |row| row.len());
+    let inputs = u16::try_from(inputs)?;
+    if inputs < 1 || inputs > 64 || outputs < 1 || outputs > 4096 {
+        return Err(Fail::from("another machine was meant"));
+    }
+    Ok(Mealy::new(alloc, inputs, outputs, copies)?)
+}
+
+/// The word a a .. of this length, over so many letters.
+fn word_of(alloc: Global, inputs: u16, long: usize) -> Result<Words, Fail>
+    ensures letters { IfOk result (λ words. All (IsWord inputs) words) }
+    ensures few { IfOk result (λ words. length words < 2 ^ 32) }
+{
+    let mut words = Words::new(alloc);
+    let word = Word::from_letters(alloc, vec![in alloc; A; long]?);
+    if !word.as_slice().iter().all(|x| *x < inputs) {
+        return Err(Fail::from("another letter was meant"));
+    }
+    if words.push(word).is_err() {
+        return Err(Fail::from("out of memory"));
+    }
+    Ok(words)
+}
+
+/// The oracle of a machine that was asked the word a a .. of this length, if that isn't 0.
+fn oracle_of(alloc: Global, machine: Mealy, length: usize) -> Result<Recording, Fail>
+    ensures letters { IfOk result (λ o. (1 ≤ o.machine.inputs) × (o.machine.inputs ≤ 64)) }
+    ensures signs { IfOk result (λ o. (1 ≤ o.machine.outputs) × (o.machine.outputs ≤ 4096)) }
+    ensures nothing { IfOk result (λ o. NothingClashes (answers_of o.kept)) }
+    ensures may { IfOk result (λ o. MayAsk o.stop) }
+{
+    // The machine tells that it is within the limits.
+    let inputs = machine.inputs();
+    let mut oracle = Recording::new(alloc, machine);
+    if length == 0 {
+        return Ok(oracle);
+    }
+    let words = word_of(alloc, inputs, length)?;
+    match oracle.settle(words.as_slice()) {
+        Ok(()) => Ok(oracle),
+        Err(_) => Err(Fail::from("the word was refused")),
+    }
+}
+
+/// What comes of a learning: the clauses of `learn` would weigh down each proof that calls it.
+fn call(
+    alloc: Global,
+    oracle: &mut Recording,
+    kind: Kind,
+    extra: u8,
+    most: u16,
+    notes: &mut Notes,
+) -> Result<Learned, LearnStop>
+    requires letters { (1 ≤ oracle.old.machine.inputs) × (oracle.old.machine.inputs ≤ 64) }
+    requires signs { (1 ≤ oracle.old.machine.outputs) × (oracle.old.machine.outputs ≤ 4096) }
+    requires nothing { NothingClashes (answers_of oracle.old.kept) }
+    requires may { MayAsk oracle.old.stop }
+    requires few { extra ≤ 4 }
+    requires most { (1 ≤ most) × (most ≤ 1024) }
+{
+    let (inputs, outputs) = (oracle.inputs(), oracle.outputs());
+    learn(oracle, alloc, inputs, outputs, kind, extra, most, notes)
+}
+
+/// What comes of a case.
+pub fn play(alloc: Global, case: &Case) -> Result<Came, Fail> {
+    let (extra, most) = (case.extra, case.most);
+    if extra > 4 || most < 1 || most > 1024 {
+        return Err(Fail::from("another limit was meant"));
+    }
+    let machine = machine_of(alloc, case.outputs, case.rows)?;
+    let mut oracle = oracle_of(alloc, machine, case.known)?;
+    let mut notes = Notes::new(alloc);
+    let learned = call(alloc, &mut oracle, case.kind, extra, most, &mut notes);
+    Ok(Came {
+        oracle,
+        learned,
+        notes,
+    })
+}
+
+/// Whether words have just these lengths, in this order.
+fn are_long(words: &[Word], lengths: &[usize]) -> bool {
+    let mut each = words.iter().zip(lengths.iter());
+    words.len() == lengths.len() && each.all(|(word, length)| word.len() == *length)
+}
+
+/// Whether a model is meant.
+fn ends_with_model(learned: &Learned, ending: Ending) -> bool {
+    let states = learned.model.states();
+    match ending {
+        Ending::Model => true,
+        Ending::Found(count, refinements) => {
+            states == count && learned.refinements() == refinements
+        }
+        Ending::FoundOf(count) => states == count,
+        _ => false,
+    }
+}
+
+/// Whether a stop is meant.
+fn ends_with_stop(stop: &LearnStop, ending: Ending) -> bool {
+    match stop {
+        LearnStop::Ask(_) => false,
+        LearnStop::Crowd(words) => match ending {
+            Ending::Crowd(lengths) => are_long(words.as_slice(), lengths),
+            Ending::CrowdOf(count) => words.len() == count,
+            _ => false,
+        },
+        LearnStop::TooLarge { model, number } => match ending {
+            Ending::TooLarge(states, size) => model.states() == states && *number == size,
+            _ => false,
+        },
+    }
+}
+
+/// Whether a learning ends as is meant.
+pub fn ends_so(came: &Came, ending: Ending) -> bool {
+    match &came.learned {
+        Ok(learned) => ends_with_model(learned, ending),
+        Err(stop) => ends_with_stop(stop, ending),
+    }
+}
+
+/// Whether the batch with this number has words of just these lengths, in this order.
+fn asked_long(oracle: &Recording, number: usize, lengths: &[usize]) -> bool {
+    match oracle.batches().get(number) {
+        Some(batch) => are_long(batch.as_slice(), lengths),
+        None => false,
+    }
+}
+
+/// Whether the batches are those of a case.
+pub fn asks_so(oracle: &Recording, case: &Case) -> bool {
+    let mut lengths = case.lengths.iter();
+    let mut words = case.words.iter();
+    oracle.batches().len() == case.batches
+        && lengths.all(|(number, lengths)| asked_long(oracle, *number, lengths))
+        && words.all(|(number, words)| oracle.asked(*number, words))
+}
+
+/// Whether a learner is a tree whose discriminators have just these lengths, and none is temporary.
+fn has_discriminators(learner: &Learner, lengths: &[usize]) -> Result<bool, NoMemory> {
+    match learner {
+        Learner::Tree(tree) => {
+            let words = tree.discriminators()?;
+            Ok(tree.temporary() == 0 && are_long(words.as_slice(), lengths))
+        }
+        Learner::Table(_) => Ok(false),
+    }
+}
+
+/// Whether the discriminators are those of a case, where it tells them.
+pub fn parts_so(came: &Came, lengths: &[usize]) -> Result<bool, NoMemory> {
+    match &came.learned {
+        Ok(learned) if !lengths.is_empty() => has_discriminators(&learned.learner, lengths),
+        _ => Ok(lengths.is_empty()),
+    }
+}
+
+/// The name of the first case that goes otherwise than was worked out.
+pub fn first_wrong(alloc: Global, cases: &[Case]) -> Result<Option<&'static str>, Fail> {
+    for case in cases {
+        let came = play(alloc, case)?;
+        let right = ends_so(&came, case.ending) && asks_so(&came.oracle, case);
+        if !right || !parts_so(&came, case.discriminators)? {
+            return Ok(Some(case.name));
+        }
+    }
+    Ok(None)
+}

@@ -1,0 +1,121 @@
+//! What a log gets of arguments of `learn` that aren't taken: which option's value is out of its range.
+
+use crate::ArgumentStop;
+use lw_log::Log;
+use lw_outside::LogFile;
+use lw_report::{Outcome, outcome_text};
+use lw_words::{Kept, NoMemory};
+use std::alloc::Global;
+
+/// An option that takes a whole number, with the least and the greatest.
+struct Range {
+    option: &'static str,
+    low: u64,
+    high: u64,
+}
+
+/// The options of `learn` that take whole numbers.
+static RANGES: [Range; 6] = [
+    Range {
+        option: "--workers",
+        low: 1,
+        high: 16,
+    },
+    Range {
+        option: "--extra",
+        low: 0,
+        high: 4,
+    },
+    Range {
+        option: "--max-states",
+        low: 1,
+        high: 1024,
+    },
+    Range {
+        option: "--random",
+        low: 0,
+        high: 1_000_000,
+    },
+    Range {
+        option: "--length",
+        low: 0,
+        high: 65_536,
+    },
+    Range {
+        option: "--seed",
+        low: 0,
+        high: u64::MAX,
+    },
+];
+
+/// The value of an option in one argument, behind a `=`.
+fn value_in<'a>(argument: &'a str, option: &str) -> Option<&'a str> {
+    argument.strip_prefix(option)?.strip_prefix("=")
+}
+
+/// The value of an option: behind a `=`, or in the next argument, which begins no other option. What is behind `--` is no
+/// option's.
+fn value_of<'a>(arguments: &'a [String], option: &str) -> Option<&'a str> {
+    let mut is_next = false;
+    for argument in arguments {
+        let argument = argument.as_str();
+        if is_next && !argument.starts_with("-") {
+            return Some(argument);
+        }
+        if argument == "--" {
+            return None;
+        }
+        if let Some(value) = value_in(argument, option) {
+            return Some(value);
+        }
+        is_next = argument == option;
+    }
+    None
+}
+
+/// Whether a text is a whole number of the range.
+fn is_within(text: &str, range: &Range) -> bool {
+    match text.parse::<u64>() {
+        Ok(number) => range.low <= number && number <= range.high,
+        Err(_) => false,
+    }
+}
+
+/// The line about a value that is out of its range.
+fn range_line(alloc: Global, range: &Range) -> Result<String, NoMemory> {
+    let Range { option, low, high } = range;
+    Ok(format!(in alloc; "{option} is out of range: {low} to {high}\n")?)
+}
+
+/// Puts a line for each value that is out of its range.
+fn log_ranges<L: LogFile>(alloc: Global, arguments: &[String], log: &mut Log<L>) {
+    for range in &RANGES {
+        let Some(text) = value_of(arguments, range.option) else {
+            continue;
+        };
+        if !is_within(text, range) {
+            log.line(range_line(alloc, range));
+        }
+    }
+}
+
+/// Puts why arguments of `learn` aren't taken to the log that they name, if they name one: the values that are out of their
+/// ranges, and the outcome's text.
+pub(crate) fn log_refused<L: LogFile>(
+    alloc: Global,
+    arguments: &[String],
+    stop: ArgumentStop,
+    log: &mut Log<L>,
+) {
+    match arguments.first() {
+        Some(command) if command.as_str() == "learn" => {}
+        _ => return,
+    }
+    let Some(name) = value_of(arguments, "--log") else {
+        return;
+    };
+    log.open(name);
+    log_ranges(alloc, arguments, log);
+    let outcome = Outcome::from(stop);
+    log.line(outcome_text(alloc, &outcome, None, None, &Kept::new(alloc), 0));
+}

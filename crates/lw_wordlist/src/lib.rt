@@ -1,0 +1,13 @@
+//! Words as texts, and words that are drawn by a number.
+#![tactic(auto)]
+
+mod drawing;
+mod lines;
+mod words;
+
+pub use drawing::draw_words;
+pub use lines::read_lines;
+pub use words::{WordStop, read_words};
+
+#[cfg(test)]
+mod tests;

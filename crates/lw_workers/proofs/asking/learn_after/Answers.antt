@@ -1,0 +1,20 @@
+use Rattle.std.proofs.Common.{refl}
+use Rattle.lw_cache.proofs.SettlingLemmas.{leaves_then}
+use Rattle.lw_rounds.specs.Stops.{learn_stop}
+use Rattle.lw_workers.specs.Asking.{AnswersWords}
+use Rattle.lw_workers.proofs.AskingLemmas.{are_answered_more, when_ok}
+use Rattle.lw_workers.proofs.asking.learn_after.Goals as goal
+
+pub learn-requires-clause-nothing : goal.learn-requires-clause-nothing
+learn-requires-clause-nothing g c = c.in_ok-settle_named.ensures.leaves.unclashed refl c.requires.nothing
+
+pub returns-clause-asked : goal.returns-clause-asked
+returns-clause-asked g c =
+    let between = g.O.Oracle.state c.settle_named.new.oracle in
+    let now = g.O.Oracle.state c.learn.new.oracle in
+    let leaves = c.learn.ensures.leaves in
+    when_ok c.learn.result (AnswersWords c.args.words.now now.kept) (are_answered_more c.args.words.now between.kept leaves.gained now.kept leaves.at_end c.in_ok-settle_named.ensures.asked)
+
+pub returns-clause-leaves : goal.returns-clause-leaves
+returns-clause-leaves g c =
+    leaves_then (g.O.Oracle.state c.args.oracle.now) (g.O.Oracle.state c.settle_named.new.oracle) (g.O.Oracle.state c.learn.new.oracle) (learn_stop c.learn.result) c.in_ok-settle_named.ensures.leaves c.learn.ensures.leaves
