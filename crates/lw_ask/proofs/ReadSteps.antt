@@ -1,30 +1,42 @@
 -- The reading of a setup or a table.
-use Rattle.std.proofs.Common.{◌≡◌, ◌∙◌, ℕ, List, [], Option, Result, Ok, Err, inl, inr, refl, sym, subst, arith}
+use Rattle.std.proofs.Common.{◌≡◌, ◌∙◌, ⊎_elim, ℕ, List, [], ◌∷◌, ◌++◌, Option, Result, Ok, Err, inl, inr, refl, ap, sym, subst, arith, append_assoc, append-nil}
 use Rattle.lw_json.specs.MachineFault.{HasMachineFault}
 use Rattle.lw_json.specs.MachineFile.{IsMachineFile}
 use Rattle.lw_json.specs.SetupFile.{HasSetupFault, IsSetupFile}
+use Rattle.lw_json.specs.declared.fault.JsonFault.{JsonFault}
 use Rattle.lw_json.specs.declared.machine.Machine.{Machine}
 use Rattle.lw_json.specs.declared.setup.Setup.{Setup}
 use Rattle.lw_json.specs.declared.setup.Setup.TheVariants as setup
 use Rattle.lw_outside.specs.Files.{File}
-use Rattle.lw_report.specs.Reading.{HasRead, ReadsFile}
+use Rattle.lw_report.specs.Reading.{HasRead, ReadsFile, WasRead}
+use Rattle.lw_report.specs.SetupHint.{TellsHint}
 use Rattle.lw_report.specs.States.{FilesState}
 use Rattle.lw_report.specs.Stops.{read_outcome}
 use Rattle.lw_report.specs.declared.outcome.Outcome.{Outcome}
 use Rattle.lw_report.specs.declared.role.Role.TheVariants as role
 use Rattle.lw_report.specs.declared.stops.ReadStop.{ReadStop}
+use Rattle.lw_learn.specs.Tasks.{SaysSystem}
 use Rattle.lw_learn.specs.Unread.{IsRefused, MadeReads}
 use Rattle.lw_learn.specs.declared.arguments.Source.TheVariants as source
 use Rattle.lw_learn.specs.declared.task.System.{System}
 use Rattle.lw_learn.specs.declared.task.System.TheVariants.{Table, Children}
-use Rattle.lw_learn.proofs.ReadLemmas.{made_then, read_made, read_refused}
+use Rattle.lw_learn.proofs.ReadLemmas.{made_none, made_then, read_made, read_refused}
 use Rattle.lw_children.specs.declared.command.Command.{Command}
-use Rattle.lw_ask.specs.Reading.{HasReadMachine, HasReadSystem, IsNoTable}
+use Rattle.lw_ask.specs.Reading.{HasReadMachine, IsNoTable, NamesNoTable}
+use Rattle.lw_ask.specs.bodies.Found.{HasFound, HasReadSaid}
+
+-- what a read gave is added to the reads
+read_grown : {V : Type 0} (IsFile : List ℕ → V → Type 0) (HasFirst : List ℕ → JsonFault → Type 0) (name : List ℕ) (f g : FilesState) (r : Result V ReadStop) → HasRead IsFile HasFirst name f g r → (more : List File) × (g.reads ≡ f.reads ++ more)
+read_grown IsFile HasFirst name f g r has =
+    ⊎_elim (λ (same : g.reads ≡ f.reads). ([], same ∙ sym (append-nil f.reads))) (λ (one : (bytes : List ℕ) × WasRead f.holds f.reads g.reads name bytes). ((name, one.0) ∷ [], one.1.given)) has.reads
 
 -- a table file
 module _ (name : List ℕ) (f g : FilesState) (r : Result Machine ReadStop) (has : HasRead IsMachineFile HasMachineFault name f g r) where
+  grown : (more : List File) × (g.reads ≡ f.reads ++ more)
+  grown = read_grown IsMachineFile HasMachineFault name f g r has
+
   pub machine_read : (m : Machine) → r ≡ Ok m → HasReadMachine name f g (Ok (Table m))
-  machine_read m is = let read = read_made IsMachineFile HasMachineFault name f g r m has is in record { ok = (m, read.0, refl); made = read.1; quiet = read.2; err = tt; same = has.same; counts = has.counts }
+  machine_read m is = let read = read_made IsMachineFile HasMachineFault name f g r m has is in record { ok = (m, read.0, refl); made = read.1; quiet = read.2; err = tt; grown = grown; same = has.same; counts = has.counts }
 
   pub machine_unread : (why : ReadStop) (outcome : Outcome) → r ≡ Err why → outcome ≡ read_outcome role.Table why → HasReadMachine name f g (Err outcome)
   machine_unread why outcome is came = record {
@@ -32,50 +44,91 @@ module _ (name : List ℕ) (f g : FilesState) (r : Result Machine ReadStop) (has
     made = tt;
     quiet = tt;
     err = subst (λ (o : Outcome). IsNoTable name f g o) (sym came) (read_refused IsMachineFile HasMachineFault name role.Table f g r why has is);
+    grown = grown;
     same = has.same;
     counts = has.counts;
   }
 
--- a table file alone
-pub table_alone : (name : List ℕ) (f g : FilesState) (result : Result System Outcome) → HasReadMachine name f g result → HasReadSystem source.Table name f g result
-table_alone name f g (Ok s) has = record { ok = has.ok; made = has.made; quiet = has.quiet; err = tt; same = has.same; counts = has.counts }
-table_alone name f g (Err outcome) has = record { ok = tt; made = tt; quiet = tt; err = has.err; same = has.same; counts = has.counts }
+-- a table file alone: there is no hint
+pub table_found : (name : List ℕ) (f g : FilesState) (result : Result System Outcome) (hint : List ℕ) → HasReadMachine name f g result → hint ≡ [] → HasFound source.Table name f g result hint
+table_found name f g (Ok s) hint has none = record {
+  read = record { ok = has.ok; made = has.made; quiet = has.quiet; err = tt; same = has.same; counts = has.counts };
+  told = none;
+  err = tt;
+}
+table_found name f g (Err outcome) hint has none = record {
+  read = record { ok = tt; made = tt; quiet = tt; err = has.err; same = has.same; counts = has.counts };
+  told = tt;
+  err = (has.err, none);
+}
 
 -- a table file that a setup names
-pub table_named : (name table : List ℕ) (f m g : FilesState) → ReadsFile IsSetupFile name f.holds f.reads m.reads (setup.Table table) → MadeReads f m [] → m.faults ≡ f.faults → m.holds ≡ f.holds → (result : Result System Outcome) → HasReadMachine table m g result → HasReadSystem source.Setup name f g result
-table_named name table f m g setup_file made quiet same (Ok s) has = record {
-  ok = (m.reads, setup.Table table, setup_file, (has.ok.0, subst (λ (h : Option (List File)). ReadsFile IsMachineFile table h m.reads g.reads has.ok.0) same has.ok.1, has.ok.2));
-  made = made_then f m g [] made has.made;
-  quiet = has.quiet ∙ quiet;
-  err = tt;
-  same = has.same ∙ same;
-  counts = omega (arith, quiet, has.counts);
-}
-table_named name table f m g setup_file made quiet same (Err outcome) has = record {
-  ok = tt;
-  made = tt;
-  quiet = tt;
-  err = inr (record { between = m; table = table; setup_file = setup_file; made = made; quiet = quiet; same = same; refused = has.err });
-  same = has.same ∙ same;
-  counts = omega (arith, quiet, has.counts);
+pub table_said : (table : List ℕ) (f g : FilesState) (result : Result System Outcome) → HasReadMachine table f g result → HasReadSaid (setup.Table table) f g result
+table_said table f g (Ok s) has = record { ok = has.ok; made = has.made; quiet = has.quiet; err = tt; grown = has.grown; same = has.same; counts = has.counts }
+table_said table f g (Err outcome) has = record { ok = tt; made = tt; quiet = tt; err = (table, refl, has.err); grown = has.grown; same = has.same; counts = has.counts }
+
+-- and a command
+pub command_said : (c : Command) (f : FilesState) → HasReadSaid (setup.Command c.words c.inputs c.outputs) f f (Ok (Children c))
+command_said c f = record { ok = (refl, refl); made = made_none f; quiet = refl; err = tt; grown = ([], sym (append-nil f.reads)); same = refl; counts = omega (arith) }
+
+-- a hint stays that of its bytes while more is read
+told_then : (name : List ℕ) (before mid after : List File) (hint : List ℕ) → TellsHint name before mid hint → (more : List File) × (after ≡ mid ++ more) → TellsHint name before after hint
+told_then name before mid after hint tells more = record {
+  bytes = tells.bytes;
+  rest = tells.rest ++ more.0;
+  given = more.1 ∙ (ap (λ (l : List File). l ++ more.0) tells.given ∙ append_assoc before ((name, tells.bytes) ∷ tells.rest) more.0);
+  told = tells.told;
 }
 
 -- a setup file
-module _ (name : List ℕ) (f g : FilesState) (r : Result Setup ReadStop) (has : HasRead IsSetupFile HasSetupFault name f g r) where
-  pub setup_read : (v : Setup) → r ≡ Ok v → ReadsFile IsSetupFile name f.holds f.reads g.reads v × MadeReads f g [] × (g.faults ≡ f.faults)
-  setup_read v is = read_made IsSetupFile HasSetupFault name f g r v has is
+module _ (name : List ℕ) (f m : FilesState) (r : Result Setup ReadStop) (has : HasRead IsSetupFile HasSetupFault name f m r) where
+  module _ (g : FilesState) (v : Setup) (is : r ≡ Ok v) (hint : List ℕ) (tells : TellsHint name f.reads m.reads hint) where
+    was_read : ReadsFile IsSetupFile name f.holds f.reads m.reads v × MadeReads f m [] × (m.faults ≡ f.faults)
+    was_read = read_made IsSetupFile HasSetupFault name f m r v has is
 
-  pub command_read : (c : Command) → r ≡ Ok (setup.Command c.words c.inputs c.outputs) → HasReadSystem source.Setup name f g (Ok (Children c))
-  command_read c is =
-      let read = read_made IsSetupFile HasSetupFault name f g r (setup.Command c.words c.inputs c.outputs) has is in
-      record { ok = (g.reads, setup.Command c.words c.inputs c.outputs, read.0, (refl, refl)); made = read.1; quiet = read.2; err = tt; same = has.same; counts = has.counts }
+    no_table : (table : List ℕ) (why : Outcome) → v ≡ setup.Table table → IsNoTable table m g why → NamesNoTable name f g why
+    no_table table why names refused = record {
+      between = m;
+      table = table;
+      setup_file = subst (λ (x : Setup). ReadsFile IsSetupFile name f.holds f.reads m.reads x) names was_read.0;
+      made = was_read.1;
+      quiet = was_read.2;
+      same = has.same;
+      refused = refused;
+    }
 
-  pub setup_unread : (why : ReadStop) (outcome : Outcome) → r ≡ Err why → outcome ≡ read_outcome role.Setup why → HasReadSystem source.Setup name f g (Err outcome)
-  setup_unread why outcome is came = record {
-    ok = tt;
-    made = tt;
-    quiet = tt;
-    err = inl (subst (λ (o : Outcome). IsRefused IsSetupFile HasSetupFault role.Setup name f g o) (sym came) (read_refused IsSetupFile HasSetupFault name role.Setup f g r why has is));
-    same = has.same;
-    counts = has.counts;
-  }
+    -- which says a system, or names a table file that is refused
+    pub setup_found : (result : Result System Outcome) → HasReadSaid v m g result → HasFound source.Setup name f g result hint
+    setup_found (Ok s) said = record {
+      read = record {
+        ok = (m.reads, v, was_read.0, subst (λ (h : Option (List File)). SaysSystem v h m.reads g.reads s) has.same said.ok);
+        made = made_then f m g [] was_read.1 said.made;
+        quiet = said.quiet ∙ was_read.2;
+        err = tt;
+        same = said.same ∙ has.same;
+        counts = omega (arith, has.counts, said.counts);
+      };
+      told = told_then name f.reads m.reads g.reads hint tells said.grown;
+      err = tt;
+    }
+    setup_found (Err outcome) said =
+        let none = no_table said.err.0 outcome said.err.1 said.err.2 in
+        record {
+          read = record { ok = tt; made = tt; quiet = tt; err = inr none; same = said.same ∙ has.same; counts = omega (arith, has.counts, said.counts) };
+          told = tt;
+          err = inr (none, told_then name f.reads m.reads g.reads hint tells said.grown);
+        }
+
+  -- which is refused
+  pub setup_unfound : (why : ReadStop) (outcome : Outcome) (hint : List ℕ) → r ≡ Err why → outcome ≡ read_outcome role.Setup why → hint ≡ [] → HasFound source.Setup name f m (Err outcome) hint
+  setup_unfound why outcome hint is came none =
+      let refused = subst (λ (o : Outcome). IsRefused IsSetupFile HasSetupFault role.Setup name f m o) (sym came) (read_refused IsSetupFile HasSetupFault name role.Setup f m r why has is) in
+      record {
+        read = record { ok = tt; made = tt; quiet = tt; err = inl refused; same = has.same; counts = has.counts };
+        told = tt;
+        err = inl (refused, none);
+      }
+
+  -- whatever it says
+  pub file_of : (v : Setup) → r ≡ Ok v → (bytes : List ℕ) × IsSetupFile bytes v
+  file_of v is = let read = (read_made IsSetupFile HasSetupFault name f m r v has is).0 in (read.bytes, read.file)

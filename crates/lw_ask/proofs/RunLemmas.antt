@@ -1,5 +1,5 @@
 -- What a call of `ask` did, from what its parts did.
-use Rattle.std.proofs.Common.{◌≡◌, List, [], Result, Ok, Err, inl, inr, subst}
+use Rattle.std.proofs.Common.{◌≡◌, ℕ, List, [], Result, Ok, Err, inl, inr, subst}
 use Rattle.lw_words.specs.declared.kept.KeptAnswer.{KeptAnswer}
 use Rattle.lw_children.specs.Spawners.{SpawnerSeen}
 use Rattle.lw_report.specs.States.{FilesState, SinkState}
@@ -8,31 +8,38 @@ use Rattle.lw_report.specs.declared.outcome.Outcome.{Outcome}
 use Rattle.lw_learn.specs.declared.task.System.{System}
 use Rattle.lw_ask.specs.Arguments.{AskValues}
 use Rattle.lw_ask.specs.AskRun.{AsksTexts, IsAskRun, IsEnd}
-use Rattle.lw_ask.specs.Reading.{HasReadSystem}
+use Rattle.lw_ask.specs.Hints.{TakesHint}
+use Rattle.lw_ask.specs.bodies.Found.{HasFound}
 
-module _ (a : AskValues) (f g : FilesState) (b z : SpawnerSeen) (o p e d : SinkState) (end : End) (r : Result System Outcome) (has : HasReadSystem a.source a.system f g r) where
+module _ (a : AskValues) (f g : FilesState) (b z : SpawnerSeen) (o p e m d : SinkState) (end : End) (r : Result System Outcome) (hint : List ℕ) (has : HasFound a.source a.system f g r hint) (hinted : TakesHint hint e m) where
   -- a system was read
-  pub asked_run : (s : System) → r ≡ Ok s → (kept : List KeptAnswer) (why : Outcome) → AsksTexts s a.words b z o p kept why → IsEnd why kept e d end → IsAskRun a f g b z o p e d end
-  asked_run s is kept why asks ended = by (subst (λ (x : Result System Outcome). HasReadSystem a.source a.system f g x) is has)
+  pub asked_run : (s : System) → r ≡ Ok s → (kept : List KeptAnswer) (why : Outcome) → AsksTexts s a.words b z o p kept why → IsEnd why kept m d end → IsAskRun a f g b z o p e d end
+  asked_run s is kept why asks ended = by (subst (λ (x : Result System Outcome). HasFound a.source a.system f g x hint) is has)
     where
-      by : HasReadSystem a.source a.system f g (Ok s) → IsAskRun a f g b z o p e d end
-      by read = record {
+      by : HasFound a.source a.system f g (Ok s) hint → IsAskRun a f g b z o p e d end
+      by found = record {
         why = why;
         kept = kept;
-        came = inl (record { system = s; reads = read.ok; made = read.made; quiet = read.quiet; asks = asks });
+        hint = hint;
+        m = m;
+        came = inl (record { system = s; reads = found.read.ok; made = found.read.made; quiet = found.read.quiet; told = found.told; asks = asks });
+        hinted = hinted;
         ended = ended;
-        holds = has.same;
+        holds = has.read.same;
       }
 
   -- none was
-  pub unread_run : (why : Outcome) → r ≡ Err why → (kept : List KeptAnswer) → kept ≡ [] → z ≡ b → p ≡ o → IsEnd why kept e d end → IsAskRun a f g b z o p e d end
-  unread_run why is kept none unstarted unput ended = by (subst (λ (x : Result System Outcome). HasReadSystem a.source a.system f g x) is has)
+  pub unread_run : (why : Outcome) → r ≡ Err why → (kept : List KeptAnswer) → kept ≡ [] → z ≡ b → p ≡ o → IsEnd why kept m d end → IsAskRun a f g b z o p e d end
+  unread_run why is kept none unstarted unput ended = by (subst (λ (x : Result System Outcome). HasFound a.source a.system f g x hint) is has)
     where
-      by : HasReadSystem a.source a.system f g (Err why) → IsAskRun a f g b z o p e d end
-      by read = record {
+      by : HasFound a.source a.system f g (Err why) hint → IsAskRun a f g b z o p e d end
+      by found = record {
         why = why;
         kept = kept;
-        came = inr (record { cause = read.err; nothing = none; unstarted = unstarted; unput = unput });
+        hint = hint;
+        m = m;
+        came = inr (record { cause = found.err; nothing = none; unstarted = unstarted; unput = unput });
+        hinted = hinted;
         ended = ended;
-        holds = has.same;
+        holds = has.read.same;
       }

@@ -22,8 +22,8 @@ use Rattle.lw_learn.specs.declared.task.System.TheVariants.{Table, Children}
 use Rattle.lw_ask.specs.Arguments.{AskValues}
 use Rattle.lw_ask.specs.Asking.{HasPut}
 use Rattle.lw_ask.specs.Child.{AsksChild, HasNotStarted}
+use Rattle.lw_ask.specs.Hints.{HasHint, IsUnreadWith, TakesHint}
 use Rattle.lw_ask.specs.Outcomes.{came_outcome, start_outcome, word_outcome}
-use Rattle.lw_ask.specs.Reading.{IsUnread}
 use Rattle.lw_wordlist.specs.Words.{IsFirstUnknown, words_of}
 use Rattle.lw_ask.specs.declared.stop.AskingStop.{AskingStop}
 use Rattle.lw_ask.specs.declared.stop.AskingStop.TheVariants.{Sul}
@@ -79,19 +79,20 @@ pub record AsksWords (s : System) (texts : List (List ℕ)) (b z : SpawnerSeen) 
 abbrev pub AsksTexts : System → (texts : List (List ℕ)) → (b z : SpawnerSeen) → (o p : SinkState) → List KeptAnswer → Outcome → Type 0
 AsksTexts s texts b z o p kept why = AsksWords s texts b z o p kept why ⊎ HasNoWords s texts b z o p kept why
 
--- the system's file was refused: nothing is asked
-pub record HasNoSystem (a : AskValues) (f g : FilesState) (b z : SpawnerSeen) (o p : SinkState) (kept : List KeptAnswer) (why : Outcome) : Type 0 where
-  pub cause : IsUnread a.source a.system f g why
+-- the system's file was refused, with this hint: nothing is asked
+pub record HasNoSystem (a : AskValues) (f g : FilesState) (b z : SpawnerSeen) (o p : SinkState) (hint : List ℕ) (kept : List KeptAnswer) (why : Outcome) : Type 0 where
+  pub cause : IsUnreadWith a.source a.system f g hint why
   pub nothing : kept ≡ []
   pub unstarted : z ≡ b
   pub unput : p ≡ o
 
--- the files say a system, by reads of which none failed
-pub record HasSystem (a : AskValues) (f g : FilesState) (b z : SpawnerSeen) (o p : SinkState) (kept : List KeptAnswer) (why : Outcome) : Type 0 where
+-- the files say a system, by reads of which none failed, and this hint
+pub record HasSystem (a : AskValues) (f g : FilesState) (b z : SpawnerSeen) (o p : SinkState) (hint : List ℕ) (kept : List KeptAnswer) (why : Outcome) : Type 0 where
   pub system : System
   pub reads : ReadsSystem a.source a.system f.holds f.reads g.reads system
   pub made : MadeReads f g []
   pub quiet : g.faults ≡ f.faults
+  pub told : HasHint a.source a.system f.reads g.reads hint
   pub asks : AsksTexts system a.words b z o p kept why
 
 -- a call ended with these answers, its outcome's text put to `err`, which was e and is d; but there may be no memory for that text
@@ -105,10 +106,13 @@ pub record IsEnd (why : Outcome) (kept : List KeptAnswer) (e d : SinkState) (end
   pub part : TakesSome (said_text None None kept 0 end.outcome) e.taken d.taken
 
 -- a call with these arguments found files, a spawner, `out` and `err` as f, b, o and e, left them as g, z, p and d, and came to
--- the end
+-- the end; `err` was m once the hint was put, and before anything was asked
 pub record IsAskRun (a : AskValues) (f g : FilesState) (b z : SpawnerSeen) (o p e d : SinkState) (end : End) : Type 0 where
   pub why : Outcome
   pub kept : List KeptAnswer
-  pub came : HasSystem a f g b z o p kept why ⊎ HasNoSystem a f g b z o p kept why
-  pub ended : IsEnd why kept e d end
+  pub hint : List ℕ
+  pub m : SinkState
+  pub came : HasSystem a f g b z o p hint kept why ⊎ HasNoSystem a f g b z o p hint kept why
+  pub hinted : TakesHint hint e m
+  pub ended : IsEnd why kept m d end
   pub holds : g.holds ≡ f.holds

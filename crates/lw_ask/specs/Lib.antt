@@ -3,6 +3,7 @@ pub mod AskRun
 pub mod Asking
 pub mod Child
 pub mod Ends
+pub mod Hints
 pub mod Lines
 pub mod Outcomes
 pub mod Reading

@@ -1,10 +1,11 @@
 -- The reading of what is asked: a setup or a table.
-use Rattle.std.specs.Prelude.{◌≡◌, ◌⊎◌, ℕ, ◌≤◌, List, [], Result, IfOk, IfErr, OnOk}
+use Rattle.std.specs.Prelude.{◌≡◌, ◌⊎◌, ℕ, ◌≤◌, List, [], ◌++◌, Result, IfOk, IfErr, OnOk}
 use Rattle.lw_json.specs.MachineFault.{HasMachineFault}
 use Rattle.lw_json.specs.MachineFile.{IsMachineFile}
 use Rattle.lw_json.specs.SetupFile.{HasSetupFault, IsSetupFile}
 use Rattle.lw_json.specs.declared.machine.Machine.{Machine}
 use Rattle.lw_json.specs.declared.setup.Setup.TheVariants as setup
+use Rattle.lw_outside.specs.Files.{File}
 use Rattle.lw_report.specs.Reading.{ReadsFile}
 use Rattle.lw_report.specs.States.{FilesState}
 use Rattle.lw_report.specs.declared.outcome.Outcome.{Outcome}
@@ -41,6 +42,7 @@ pub record HasReadMachine (name : List ℕ) (f g : FilesState) (result : Result 
   pub made : OnOk result (MadeReads f g [])
   pub quiet : OnOk result (g.faults ≡ f.faults)
   pub err : IfErr result (IsNoTable name f g)
+  pub grown : (more : List File) × (g.reads ≡ f.reads ++ more)
   pub same : g.holds ≡ f.holds
   pub counts : f.faults ≤ g.faults
 

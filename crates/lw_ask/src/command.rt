@@ -10,18 +10,19 @@ ghost use Rattle.lw_report.specs.declared.outcome.Outcome.{Outcome as Came};
 ghost use Rattle.lw_learn.specs.Tasks.{HasWords, letters_of};
 ghost use Rattle.lw_report.specs.Learnings.{system_outcome};
 ghost use Rattle.lw_ask.specs.AskRun.{AsksCommand, AsksMachine, AsksSystem, AsksTexts, IsAskRun, IsEnd};
+ghost use Rattle.lw_ask.specs.Hints.{TakesHint};
 ghost use Rattle.lw_ask.specs.Outcomes.{came_outcome, start_outcome, stop_outcome, word_outcome};
 
 use crate::AskArguments;
 use crate::asking::{Asked, ask_session};
 use crate::child::ask_child;
-use crate::reading::read_system;
+use crate::reading::{Found, find_system};
 use crate::stop::AskingStop;
 use lw_children::Command;
 use lw_json::Machine;
 use lw_learn::System;
 use lw_outside::{Files, Sink, Spawner, StartStop};
-use lw_report::{End, Outcome, refuse};
+use lw_report::{End, Outcome, put_all, refuse};
 use lw_sul::{Session, TableSul};
 use lw_wordlist::{WordStop, read_words};
 use lw_words::{Kept, SulStop, Words};
@@ -172,6 +173,18 @@ fn ask_system<P: Spawner, O: Sink>(
     }
 }
 
+/// Puts a hint to a stream that may refuse it.
+fn put_hint<E: Sink>(hint: &[u8], err: &mut E)
+    ensures { TakesHint hint.now
+        (sink_state (E.taken err.old) (E.faults err.old))
+        (sink_state (E.taken err.new) (E.faults err.new)) }
+{
+    if hint.is_empty() {
+        return;
+    }
+    let _refused = put_all(err, hint).is_err();
+}
+
 /// Ends a call: puts the outcome's text to `err`.
 fn end_call<E: Sink>(alloc: Global, told: Told, err: &mut E) -> End
     ensures status { result.status ≡ status_of result.outcome }
@@ -214,8 +227,9 @@ fn ask_texts<P: Spawner, O: Sink>(
 }
 
 /// Asks words of a system: of one child, which is started and retired again whatever comes, or of a machine. First the file is
-/// read that says the system, and the table file that a setup names, and the texts of the words. Then each word is asked, and its
-/// line put to `out` at once. The text of every other outcome goes to `err`. May wait for the child.
+/// read that says the system, and the table file that a setup names. A member that the setup doesn't know is told to `err`. Then
+/// the texts of the words are read, each word is asked, and its line put to `out` at once. The text of every other outcome goes to
+/// `err`. May wait for the child.
 pub fn ask<F: Files, P: Spawner, O: Sink, E: Sink>(
     alloc: Global,
     arguments: &AskArguments,
@@ -245,7 +259,9 @@ pub fn ask<F: Files, P: Spawner, O: Sink, E: Sink>(
     ensures counts { (F.faults files.old ≤ F.faults files.new) ×
         (O.faults out.old ≤ O.faults out.new) × (E.faults err.old ≤ E.faults err.new) }
 {
-    match read_system(alloc, arguments.source(), arguments.system(), files) {
+    let Found { system, hint } = find_system(alloc, arguments.source(), arguments.system(), files);
+    put_hint(hint.as_slice(), err);
+    match system {
         Ok(system) => {
             let told = ask_texts(alloc, system, arguments.words(), spawner, out);
             end_call(alloc, told, err)

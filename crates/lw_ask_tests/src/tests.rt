@@ -17,6 +17,14 @@ const DECLARED: &str =
 /// The same child, whose outputs aren't.
 const FREE: &str = "{\"command\":[\"gate\"],\"inputs\":[\"coin\",\"push\"]}\n";
 
+/// The same child, whose outputs are declared by a member that no setup has.
+const MISSPELT: &str =
+    "{\"command\":[\"gate\"],\"inputs\":[\"coin\",\"push\"],\"outpts\":[\"ok\",\"shut\"]}\n";
+
+/// The same, with another member that no setup has, which stands behind it and comes before it by name.
+const TWICE: &str =
+    "{\"command\":[\"gate\"],\"inputs\":[\"coin\",\"push\"],\"outpts\":[\"ok\"],\"note\":1}\n";
+
 /// What stands in the file `f`, what the child says, which calls fail, and what comes of the words.
 #[derive(Clone, Copy)]
 struct Case {
@@ -64,7 +72,7 @@ const CHILD: Case = Case {
     ..TABLE
 };
 
-static CASES: [Case; 21] = [
+static CASES: [Case; 27] = [
     TABLE,
     // an empty word, blanks at both ends and several between, and the same word again
     Case {
@@ -86,6 +94,56 @@ static CASES: [Case; 21] = [
         held: FREE,
         script: "ready\nout no\nready\nout 200\nout no\n",
         out: "push / no\ncoin push / 200 no\n",
+        ..CHILD
+    },
+    // a member that no setup has
+    Case {
+        held: MISSPELT,
+        err: "unknown member \"outpts\" in setup\n",
+        ..CHILD
+    },
+    // two of them: the first by name is told
+    Case {
+        held: TWICE,
+        err: "unknown member \"note\" in setup\n",
+        ..CHILD
+    },
+    // it is told before the outcome's text
+    Case {
+        held: MISSPELT,
+        words: &["kick"],
+        status: 3,
+        kept: 0,
+        retired: 0,
+        out: "",
+        err: "unknown member \"outpts\" in setup\nbad word 1: letter 1 is no input\n",
+        ..CHILD
+    },
+    // also where the table file that the setup names is refused
+    Case {
+        source: Source::Setup,
+        held: "{\"table\":\"f\",\"note\":1}\n",
+        status: 3,
+        kept: 0,
+        out: "",
+        err: "unknown member \"note\" in setup\nbad file table: shape of inputs\n",
+        ..TABLE
+    },
+    // but not at a setup that is refused itself
+    Case {
+        held: "{\"note\":1}\n",
+        status: 3,
+        kept: 0,
+        retired: 0,
+        out: "",
+        err: "bad file setup: shape of neither\n",
+        ..CHILD
+    },
+    // a stream that refuses the hint
+    Case {
+        held: MISSPELT,
+        err_plan: &[0],
+        err: "",
         ..CHILD
     },
     // the child says something else at the third word

@@ -3,7 +3,8 @@ use Rattle.lw_children.specs.Spawners.{spawner_seen}
 use Rattle.lw_report.specs.States.{files_state, sink_state}
 use Rattle.lw_learn.specs.declared.arguments.Source.{Source}
 use Rattle.lw_ask.specs.AskRun.{AsksTexts}
-use Rattle.lw_ask.specs.Reading.{HasReadSystem}
+use Rattle.lw_ask.specs.Hints.{TakesHint}
+use Rattle.lw_ask.specs.bodies.Found.{HasFound}
 use Rattle.lw_ask.proofs.RunLemmas.{asked_run, unread_run}
 use Rattle.lw_ask.proofs.command.ask.Goals as goal
 
@@ -15,7 +16,7 @@ returns-in-Ok-clause-ran g c =
     let E = g.E.Sink in
     let a = c.args.arguments.now in
     let files = c.args.files.now in
-    let read = c.read_system.new.files in
+    let read = c.find_system-system.new.files in
     let f = files_state (F.holds files) (F.calls files) (F.reads files) (F.faults files) in
     let m = files_state (F.holds read) (F.calls read) (F.reads read) (F.faults read) in
     let before = c.args.spawner.now in
@@ -25,27 +26,33 @@ returns-in-Ok-clause-ran g c =
     let o = sink_state (O.taken c.args.out.now) (O.faults c.args.out.now) in
     let p = sink_state (O.taken c.ask_texts-told.new.out) (O.faults c.ask_texts-told.new.out) in
     let e = sink_state (E.taken c.args.err.now) (E.faults c.args.err.now) in
+    let hinted = sink_state (E.taken c.put_hint.new.err) (E.faults c.put_hint.new.err) in
     let d = sink_state (E.taken c.end_call.new.err) (E.faults c.end_call.new.err) in
+    let found = c.find_system-system.result in
+    let put = subst (λ (h : List ℕ). TakesHint h e hinted) c.as_slice.ensures.value c.put_hint.ensures in
     let told = c.ask_texts-told.result in
-    let has = subst₂ (λ (k : Source) (n : List ℕ). HasReadSystem k n f m c.read_system.result) c.source.ensures c.system.ensures c.read_system.ensures.read in
+    let has = subst₂ (λ (k : Source) (n : List ℕ). HasFound k n f m found.system found.hint.items) c.source.ensures c.system.ensures c.find_system-system.ensures.found in
     let asks = subst (λ (ws : List (List ℕ)). AsksTexts c.in-Ok.system ws b z o p told.kept.answers told.outcome) c.words.ensures c.ask_texts-told.ensures.asks in
-    asked_run a f m b z o p e d c.end_call.result c.read_system.result has c.in-Ok.system c.in-Ok.is told.kept.answers told.outcome asks c.end_call.ensures.ended
+    asked_run a f m b z o p e hinted d c.end_call.result found.system found.hint.items has put c.in-Ok.system c.in-Ok.is told.kept.answers told.outcome asks c.end_call.ensures.ended
 
-pub returns-in-Err-clause-ran : goal.returns-in-Err-clause-ran
-returns-in-Err-clause-ran g c =
+pub returns-clause-ran : goal.returns-clause-ran
+returns-clause-ran g c =
     let F = g.F.Files in
     let P = g.P.Spawner in
     let O = g.O.Sink in
     let E = g.E.Sink in
     let a = c.args.arguments.now in
     let files = c.args.files.now in
-    let read = c.read_system.new.files in
+    let read = c.find_system-system.new.files in
     let f = files_state (F.holds files) (F.calls files) (F.reads files) (F.faults files) in
     let m = files_state (F.holds read) (F.calls read) (F.reads read) (F.faults read) in
     let before = c.args.spawner.now in
     let b = spawner_seen (P.faults before) (P.started before) (P.retired before) (P.commands before) in
     let o = sink_state (O.taken c.args.out.now) (O.faults c.args.out.now) in
     let e = sink_state (E.taken c.args.err.now) (E.faults c.args.err.now) in
+    let hinted = sink_state (E.taken c.put_hint.new.err) (E.faults c.put_hint.new.err) in
     let d = sink_state (E.taken c.end_call-in-Err.new.err) (E.faults c.end_call-in-Err.new.err) in
-    let has = subst₂ (λ (k : Source) (n : List ℕ). HasReadSystem k n f m c.read_system.result) c.source.ensures c.system.ensures c.read_system.ensures.read in
-    unread_run a f m b b o o e d c.end_call-in-Err.result c.read_system.result has c.in-Err.outcome c.in-Err.is c.new-kept.result.answers c.new-kept.ensures refl refl c.end_call-in-Err.ensures.ended
+    let found = c.find_system-system.result in
+    let put = subst (λ (h : List ℕ). TakesHint h e hinted) c.as_slice.ensures.value c.put_hint.ensures in
+    let has = subst₂ (λ (k : Source) (n : List ℕ). HasFound k n f m found.system found.hint.items) c.source.ensures c.system.ensures c.find_system-system.ensures.found in
+    unread_run a f m b b o o e hinted d c.end_call-in-Err.result found.system found.hint.items has put c.in-Err.outcome c.in-Err.is c.new-kept.result.answers c.new-kept.ensures refl refl c.end_call-in-Err.ensures.ended
