@@ -1,7 +1,14 @@
 -- What is told of files is what was read of them.
-use Rattle.std.proofs.Common.{◌≡◌, ◌∙◌, ⊎_elim, ℕ, ◌<◌, List, length, Option, Some, None, ap, sym, subst, arith}
+use Rattle.std.proofs.Common.{◌≡◌, ◌∙◌, ⊎_elim, ℕ, ◌<◌, List, [], length, Option, Some, None, IsSome, slice_index_or, true≢false, refl, ap, sym, subst, arith}
+use Rattle.std.specs.List.{All}
+use Rattle.std.specs.Str.Lossy.{utf8_lossy}
 use Rattle.lw_words.specs.Cause.{CountedFault}
+use Rattle.lw_words.specs.Name.{number_of}
 use Rattle.lw_words.specs.declared.kept.KeptAnswer.{KeptAnswer}
+use Rattle.lw_wordlist.specs.Lines.{lines_in}
+use Rattle.lw_wordlist.specs.Words.{HasLetters, IsFirstUnknown, names_in, word_of, words_of}
+use Rattle.lw_wordlist.proofs.WordLemmas.{known_by}
+use Rattle.lw_json.proofs.NoFault.{each_some}
 use Rattle.lw_json.proofs.OneAnswers.{one_answers}
 use Rattle.lw_json.proofs.OneValue.{one_value}
 use Rattle.lw_json.specs.AnswersFault.{HasAnswersFault}
@@ -23,16 +30,15 @@ use Rattle.lw_report.specs.declared.outcome.Outcome.TheVariants.{Learned, Trial,
 use Rattle.lw_report.specs.declared.role.Role.{Role}
 use Rattle.lw_report.specs.declared.role.Role.TheVariants as role
 use Rattle.lw_learn.specs.Arguments.{LearnValues}
-use Rattle.lw_learn.specs.Asking.{IsWordless, IsWordlessTask}
-use Rattle.lw_learn.specs.Tasks.{FitsSystem, ReadsSystem, SaysSystem, declared_of, letters_of, or_these}
-use Rattle.lw_learn.specs.Told.{BadIsRefused, IsNoRefusal, TellsBad, TellsFile, TellsNoSystem, TellsPrior, TellsSetup, TellsSystem, TellsTask, ToldIsLearned}
+use Rattle.lw_learn.specs.Asking.{IsWordless, IsWordlessTask, IsWordsFile, ReadsUnknown}
+use Rattle.lw_learn.specs.Tasks.{FitsSystem, ReadsPrior, ReadsSystem, SaysSystem, declared_of, letters_of, or_these, with_outputs}
+use Rattle.lw_learn.specs.Told.{BadIsRefused, IsNoRefusal, TellsBad, TellsFile, TellsNoSystem, TellsPrior, TellsSetup, TellsSystem, TellsTask, TellsWords, ToldIsLearned}
 use Rattle.lw_learn.specs.Unread.{IsNext, IsTableNext, IsUnreadAs, IsUnreadBy, ReadsBad}
 use Rattle.lw_learn.proofs.RunLemmas.{counted_to}
-use Rattle.lw_learn.proofs.WordLemmas.{memory_alone}
 use Rattle.lw_learn.specs.declared.arguments.Source.{Source}
 use Rattle.lw_learn.specs.declared.arguments.Source.TheVariants as source
 use Rattle.lw_learn.specs.declared.task.System.{System}
-use Rattle.lw_learn.specs.declared.task.System.TheVariants.{Table}
+use Rattle.lw_learn.specs.declared.task.System.TheVariants.{Table, Children}
 
 module _ {A : Type 0} where
   some_same : (a b : A) → Some a ≡ Some b → a ≡ b
@@ -201,22 +207,98 @@ taken_by a f g read kept s told quiet (UnknownLetter word place) is = is
 taken_by a f g read kept s told quiet (Unstarted cause) is = is
 taken_by a f g read kept s told quiet SinkFault is = is
 
+-- prior answers change no letters
+letters_kept : (names : List (List ℕ)) (s : System) → letters_of (with_outputs names s) ≡ letters_of s
+letters_kept names (Table m) = refl
+letters_kept names (Children c) = refl
+
+prior_letters : (file : Option (List ℕ)) (holds : Option (List File)) (before after : List File) (read s : System) (kept : List KeptAnswer) → ReadsPrior file holds before after read s kept → letters_of s ≡ letters_of read
+prior_letters None holds before after read s kept is = ap (λ (x : System). letters_of x) is.1
+prior_letters (Some name) holds before after read s kept is = ap (λ (x : System). letters_of x) is.3 ∙ letters_kept is.0.outputs read
+
+some_value : {X : Type 0} (x : Option X) → IsSome x → (v : X) × (x ≡ Some v)
+some_value None is = absurd (true≢false (sym is))
+some_value (Some v) is = (v, refl)
+
+-- texts that all have words have letters alone
+letters_in : (letters texts words : List (List ℕ)) → words_of letters texts ≡ Some words → All (HasLetters letters) texts
+letters_in letters texts words is i d lt name e within =
+    let text = each_some (λ t. word_of letters (names_in t)) texts (rw is refl) i d lt in
+    let found = some_value (number_of (slice_index_or (names_in (slice_index_or texts i d)) name e) letters) (each_some (λ n. number_of n letters) (names_in (slice_index_or texts i d)) text name e within) in
+    known_by letters (slice_index_or (names_in (slice_index_or texts i d)) name e) found.0 found.1
+
+-- so none of them is the first that has none
+none_unknown : (letters texts words : List (List ℕ)) (word place : ℕ) → words_of letters texts ≡ Some words → IsFirstUnknown letters texts word place → ⊥
+none_unknown letters texts words word place is first = first.2.fails [] (letters_in letters texts words is first.0 [] first.2.within)
+
+told_not_unknown : (name : List ℕ) (letters : List (List ℕ)) (holds : Option (List File)) (before after : List File) (word place : ℕ) (words : List (List ℕ)) → TellsFile (IsWordsFile letters) holds name words → ReadsUnknown name letters holds before after word place → ⊥
+told_not_unknown name letters None before after word place words told read = absurd told
+told_not_unknown name letters (Some fs) before after word place words told read =
+    let same = same_bytes (file_at name fs) told.0 read.bytes told.1 read.read.held in
+    none_unknown letters (lines_in (utf8_lossy read.bytes)) words word place (subst (λ (b : List ℕ). IsWordsFile letters b words) same told.3) read.first
+
+-- the words of a file that is named, by its name
+named_words : (file : Option (List ℕ)) (name : List ℕ) (letters : List (List ℕ)) (holds : Option (List File)) → TellsWords file holds letters → file ≡ Some name → (words : List (List ℕ)) × TellsFile (IsWordsFile letters) holds name words
+named_words file name letters holds told is = subst (λ (f : Option (List ℕ)). TellsWords f holds letters) is told
+
+-- where the words are told there are some to ask, but that memory may run out
+memory_alone : (file : Option (List ℕ)) (letters : List (List ℕ)) (f g : FilesState) → TellsWords file f.holds letters → (¬ CountedFault f.faults g.faults) → (why : Outcome) → IsWordless file letters f g why → why ≡ NoMemory
+memory_alone file letters f g told quiet NoMemory is = refl
+memory_alone file letters f g told quiet (FileFault r) is = absurd (quiet is.1.2)
+memory_alone file letters f g told quiet (FileTooLong r) is =
+    let words = named_words file is.1.0 letters f.holds told is.1.1 in
+    absurd (told_not_long (IsWordsFile letters) (λ bytes fault. ⊥) is.1.0 f.holds words.0 words.1 is.1.2)
+memory_alone file letters f g told quiet (UnknownLetter word place) is =
+    let words = named_words file is.0 letters f.holds told is.1 in
+    absurd (told_not_unknown is.0 letters f.holds f.reads g.reads word place words.0 words.1 is.2)
+memory_alone file letters f g told quiet (BadFile r fault) is = absurd is
+memory_alone file letters f g told quiet (Alphabets r) is = absurd is
+memory_alone file letters f g told quiet (Nondeterministic clash) is = absurd is
+memory_alone file letters f g told quiet (Learned h r) is = absurd is
+memory_alone file letters f g told quiet (Trial t) is = absurd is
+memory_alone file letters f g told quiet (Yes states) is = absurd is
+memory_alone file letters f g told quiet (Served served) is = absurd is
+memory_alone file letters f g told quiet (No verdict) is = absurd is
+memory_alone file letters f g told quiet Usage is = absurd is
+memory_alone file letters f g told quiet (SulFailed i) is = absurd is
+memory_alone file letters f g told quiet (Gone i) is = absurd is
+memory_alone file letters f g told quiet (BadLine i line) is = absurd is
+memory_alone file letters f g told quiet (BadAsk number) is = absurd is
+memory_alone file letters f g told quiet (TooManyStates words) is = absurd is
+memory_alone file letters f g told quiet (SuiteTooLarge states number) is = absurd is
+memory_alone file letters f g told quiet SourceFault is = absurd is
+memory_alone file letters f g told quiet (Compared comparison) is = absurd is
+memory_alone file letters f g told quiet Asked is = absurd is
+memory_alone file letters f g told quiet (Rechecked answers) is = absurd is
+memory_alone file letters f g told quiet (Unstarted cause) is = absurd is
+memory_alone file letters f g told quiet SinkFault is = absurd is
+
 pub told_is_learned : ToldIsLearned
-told_is_learned a f g b z o p e d end s told none quiet ended = ⊎_elim unread wordless ended.cause
+told_is_learned a f g b z o p e d end s told quiet ended = ⊎_elim unread wordless ended.cause
   where
     memory : end.outcome ≡ NoMemory → IsNoRefusal end.outcome
     memory is = subst (λ (x : Outcome). IsNoRefusal x) (sym is) tt
 
+    between_quiet : ¬ CountedFault f.faults ended.between.faults
+    between_quiet h = quiet (counted_to f.faults ended.between.faults g.faults h ended.saved.saved.counts)
+
     unread : IsUnreadAs a f ended.between ended.read end.kept.answers end.outcome → IsNoRefusal end.outcome
     unread by = ⊎_elim
-        (λ (is : IsUnreadBy a f ended.between ended.read end.kept.answers end.outcome). taken_by a f ended.between ended.read end.kept.answers s told (λ h. quiet (counted_to f.faults ended.between.faults g.faults h ended.saved.saved.counts)) end.outcome is)
+        (λ (is : IsUnreadBy a f ended.between ended.read end.kept.answers end.outcome). taken_by a f ended.between ended.read end.kept.answers s told between_quiet end.outcome is)
         (λ (wants : (end.outcome ≡ NoMemory) × ((why : Outcome) × IsUnreadBy a f ended.between ended.read end.kept.answers why)). memory wants.0)
         by
 
     wordless : IsWordlessTask a f ended.between ended.read end.kept.answers end.outcome → IsNoRefusal end.outcome
     wordless by =
-        let because = subst (λ (w : Option (List ℕ)). IsWordless w (letters_of by.system) by.between ended.between by.why) none by.because in
-        ⊎_elim (λ (is : end.outcome ≡ by.why). memory (is ∙ memory_alone (letters_of by.system) by.between ended.between by.why because)) memory by.told
+        let same : letters_of s ≡ letters_of by.task.read = (systems_same a.source a.system f.holds f.reads by.task.between s by.task.read told.system by.task.system).0 in
+        let letters : letters_of s ≡ letters_of by.system = same ∙ sym (prior_letters a.prior f.holds by.task.between by.between.reads by.task.read by.system end.kept.answers by.task.answers) in
+        let words : TellsWords a.words by.between.holds (letters_of by.system) =
+        subst (λ (h : Option (List File)). TellsWords a.words h (letters_of by.system)) (sym by.same) (subst (λ (l : List (List ℕ)). TellsWords a.words f.holds l) letters told.words) in
+        let still : ¬ CountedFault by.between.faults ended.between.faults = subst (λ (n : ℕ). ¬ CountedFault n ended.between.faults) (sym by.quiet) between_quiet in
+        ⊎_elim
+        (λ (is : end.outcome ≡ by.why). memory (is ∙ memory_alone a.words (letters_of by.system) by.between ended.between words still by.why by.because))
+        memory
+        by.told
 
 system_not_bad : (k : Source) (name : List ℕ) (holds : Option (List File)) (before now : List File) (t : System) → TellsNoSystem k name holds → ReadsSystem k name holds before now t → ⊥
 system_not_bad source.Table name holds before now t told read = bad_not_read IsMachineFile HasMachineFault name holds before now read.0 told read.1

@@ -1,5 +1,5 @@
 -- The words that are asked first, and a task with them.
-use Rattle.std.proofs.Common.{◌≡◌, ◌∙◌, ◌⊎◌, ⊎_elim, ℕ, ◌<◌, ◌^◌, List, [], ◌∷◌, ◌++◌, length, true, false, Option, Some, None, Result, Ok, Err, IfOk, IfErr, ◌≤◌, arith, inl, inr, refl, ap, sym, subst}
+use Rattle.std.proofs.Common.{◌≡◌, ◌∙◌, ℕ, ◌<◌, ◌^◌, List, [], ◌++◌, length, true, false, Option, Some, None, Result, Ok, Err, IfOk, IfErr, ◌≤◌, arith, inl, inr, refl, ap, sym, subst}
 use Rattle.std.specs.Prelude.{option_map}
 use Rattle.std.specs.List.{All}
 use Rattle.std.proofs.lemmas.List.Elements.{All-append, All-nil}
@@ -7,7 +7,6 @@ use Rattle.lw_wordlist.proofs.DrawLemmas.{drawn_are_words}
 use Rattle.lw_words.specs.Cause.{CountedFault}
 use Rattle.lw_words.specs.Word.{IsWord}
 use Rattle.lw_words.specs.declared.kept.KeptAnswer.{KeptAnswer}
-use Rattle.lw_json.specs.KeptOver.{AreKeptOver}
 use Rattle.lw_outside.specs.Files.{File, HoldsLong, noted, read_call}
 use Rattle.lw_outside.specs.declared.files.FilesStop.{FilesStop}
 use Rattle.lw_outside.specs.declared.files.FilesStop.TheVariants as files
@@ -21,16 +20,15 @@ use Rattle.lw_report.specs.declared.outcome.Outcome.{Outcome}
 use Rattle.lw_report.specs.declared.outcome.Outcome.TheVariants.{Learned, Trial, Yes, Served, No, Usage, BadFile, Alphabets, FileTooLong, Nondeterministic, NoMemory, SulFailed, Gone, BadLine, BadAsk, TooManyStates, SuiteTooLarge, FileFault, SourceFault, SinkFault, Compared, Asked, Rechecked, UnknownLetter, Unstarted}
 use Rattle.lw_report.specs.declared.role.Role.TheVariants.{Words}
 use Rattle.lw_learn.specs.Arguments.{LearnValues}
-use Rattle.lw_learn.specs.Asking.{AreDrawn, IsWordless, IsWordlessTask, IsWordsFile, ReadsWords, SaysWords}
+use Rattle.lw_learn.specs.Asking.{AreDrawn, IsWordless, IsWordsFile, SaysWords}
 use Rattle.lw_learn.specs.Tasks.{ReadsTask, declared_of, letters_of}
-use Rattle.lw_learn.specs.Unread.{IsUnreadBy, MadeReads, names_read}
-use Rattle.lw_learn.specs.bodies.Stages.{HasNamedWords, HasWorded, IsStage, IsWordedStage, SaysNoWords, SaysReady, SaysWorded}
+use Rattle.lw_learn.specs.Unread.{MadeReads, names_read}
+use Rattle.lw_learn.specs.bodies.Stages.{HasNamedWords, HasWorded, IsStage, IsWordedStage, SaysNoWords, SaysReady}
 use Rattle.lw_learn.specs.bodies.Ready.{IsReady}
 use Rattle.lw_learn.specs.bodies.UnreadState.{UnreadState}
 use Rattle.lw_learn.specs.declared.task.System.{System}
 use Rattle.lw_learn.specs.declared.arguments.Drawn.{Drawn}
 use Rattle.lw_learn.specs.declared.task.Task.{Task}
-use Rattle.lw_learn.specs.declared.task.WordedTask.{WordedTask}
 use Rattle.lw_learn.proofs.ReadLemmas.{made_call, made_none, made_one, made_then, some_made}
 
 -- why the file of words was not read
@@ -170,31 +168,3 @@ module _ (a : LearnValues) (f m g : FilesState) (t : Task) (stage : IsStage a f 
 -- nothing was read
 pub unread_stage : (a : LearnValues) (f g : FilesState) (u : UnreadState) → IsStage a f g (SaysReady a f g) (Err u) → IsWordedStage a f g (Err u)
 unread_stage a f g u stage = record { ok = tt; made = tt; quiet = tt; err = inl stage.err; same = stage.same; counts = stage.counts }
-
--- where no file of words is named, there are no words to ask only where memory ran out
-pub memory_alone : (letters : List (List ℕ)) (f g : FilesState) (why : Outcome) → IsWordless None letters f g why → why ≡ NoMemory
-memory_alone letters f g NoMemory is = refl
-memory_alone letters f g (FileFault r) is = let wrong = is.1.1 in absurd (cc)
-memory_alone letters f g (FileTooLong r) is = let wrong = is.1.1 in absurd (cc)
-memory_alone letters f g (UnknownLetter word place) is = let wrong = is.1 in absurd (cc)
-memory_alone letters f g (BadFile r fault) is = absurd is
-memory_alone letters f g (Alphabets r) is = absurd is
-memory_alone letters f g (Nondeterministic clash) is = absurd is
-memory_alone letters f g (Learned h r) is = absurd is
-memory_alone letters f g (Trial t) is = absurd is
-memory_alone letters f g (Yes states) is = absurd is
-memory_alone letters f g (Served served) is = absurd is
-memory_alone letters f g (No verdict) is = absurd is
-memory_alone letters f g Usage is = absurd is
-memory_alone letters f g (SulFailed i) is = absurd is
-memory_alone letters f g (Gone i) is = absurd is
-memory_alone letters f g (BadLine i line) is = absurd is
-memory_alone letters f g (BadAsk number) is = absurd is
-memory_alone letters f g (TooManyStates words) is = absurd is
-memory_alone letters f g (SuiteTooLarge states number) is = absurd is
-memory_alone letters f g SourceFault is = absurd is
-memory_alone letters f g (Compared comparison) is = absurd is
-memory_alone letters f g Asked is = absurd is
-memory_alone letters f g (Rechecked answers) is = absurd is
-memory_alone letters f g (Unstarted cause) is = absurd is
-memory_alone letters f g SinkFault is = absurd is

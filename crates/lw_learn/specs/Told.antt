@@ -15,8 +15,9 @@ use Rattle.lw_report.specs.declared.«end».End.{End}
 use Rattle.lw_report.specs.declared.outcome.Outcome.{Outcome}
 use Rattle.lw_report.specs.declared.outcome.Outcome.TheVariants.{NoMemory, Nondeterministic}
 use Rattle.lw_learn.specs.Arguments.{LearnValues}
+use Rattle.lw_learn.specs.Asking.{IsWordsFile}
 use Rattle.lw_learn.specs.Ending.{EndsRead, EndsUnread}
-use Rattle.lw_learn.specs.Tasks.{FitsSystem}
+use Rattle.lw_learn.specs.Tasks.{FitsSystem, letters_of}
 use Rattle.lw_learn.specs.declared.arguments.Source.{Source}
 use Rattle.lw_learn.specs.declared.arguments.Source.TheVariants as source
 use Rattle.lw_learn.specs.declared.task.System.{System}
@@ -47,9 +48,15 @@ abbrev pub TellsPrior : Option (List ℕ) → Option (List File) → System → 
 TellsPrior None holds s = Unit {0}
 TellsPrior (Some name) holds s = (p : Answers) × TellsFile IsAnswersFile holds name p × FitsSystem p s
 
+-- they tell words over the letters, where a file of words is named
+abbrev pub TellsWords : Option (List ℕ) → Option (List File) → (letters : List (List ℕ)) → Type 0
+TellsWords None holds letters = Unit {0}
+TellsWords (Some name) holds letters = (words : List (List ℕ)) × TellsFile (IsWordsFile letters) holds name words
+
 pub record TellsTask (a : LearnValues) (holds : Option (List File)) (s : System) : Type 0 where
   pub system : TellsSystem a.source a.system holds s
   pub prior : TellsPrior a.prior holds s
+  pub words : TellsWords a.words holds (letters_of s)
 
 -- the file of the system is told to be too long or of no system
 abbrev pub TellsNoSystem : Source → List ℕ → Option (List File) → Type 0
@@ -62,11 +69,11 @@ IsNoRefusal NoMemory = Unit {0}
 IsNoRefusal (Nondeterministic clash) = Unit {0}
 IsNoRefusal _ = ⊥
 
--- where the files tell a system and fitting prior answers, no words are read, and the files count no fault, the system is
--- learned, but that two prior answers may clash or memory run out
+-- where the files tell a system, fitting prior answers and words over its letters, and count no fault, the system is learned, but
+-- that two prior answers may clash or memory run out
 abbrev pub ToldIsLearned : Type 0
 ToldIsLearned = (a : LearnValues) (f g : FilesState) (b z : SpawnerSeen) (o p e d : SinkState) (end : End) (s : System)
-    → TellsTask a f.holds s → a.words ≡ None → ¬ CountedFault f.faults g.faults
+    → TellsTask a f.holds s → ¬ CountedFault f.faults g.faults
     → EndsUnread a f g b z o p e d end → IsNoRefusal end.outcome
 
 -- where the file of the system is told to be of none, none is learned

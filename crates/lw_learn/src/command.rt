@@ -156,7 +156,7 @@ pub fn learn<R: Threads + Wait + Sync + Drop, F: Files, P: Spawner, O: Sink, E: 
         (sink_state (O.taken out.old) (O.faults out.old))
         (sink_state (O.taken out.new) (O.faults out.new))
         (sink_state (E.taken err.old) (E.faults err.old))
-        (sink_state (E.taken err.new) (E.faults err.new)) result }
+        (sink_state (E.taken err.new) (E.faults err.new)) log.new.state result }
     // No count of faults falls.
     ensures counts { (F.faults files.old ≤ F.faults files.new) ×
         (O.faults out.old ≤ O.faults out.new) × (E.faults err.old ≤ E.faults err.new) }

@@ -2,8 +2,8 @@
 //! is the law.
 ghost use Rattle.lw_learn.specs.Told.{BadIsRefused, ToldIsLearned};
 
-/// Where the files tell a system, and prior answers that fit it where some are named, none of them is refused, where no file of
-/// words is named.
+/// Where the files tell a system, and, where they are named, prior answers that fit it and words over its letters, none of them is
+/// refused.
 pub fn told_is_learned()
     ensures { ToldIsLearned }
 {}

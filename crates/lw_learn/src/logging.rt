@@ -1,7 +1,7 @@
 //! What a log gets beside the steps of a learning: what stopped it midway, and the text of the outcome.
 ghost use Rattle.std.specs.Prelude.{codes};
 ghost use Rattle.lw_report.specs.States.{sink_state};
-ghost use Rattle.lw_learn.specs.LearnRun.{MaySayLog};
+ghost use Rattle.lw_learn.specs.LearnRun.{SaysLog};
 
 use crate::LearnArguments;
 use crate::ending::text_names;
@@ -108,15 +108,16 @@ pub(crate) fn log_unread<L: LogFile>(end: &End, text: Result<String, NoMemory>, 
     }
 }
 
-/// Says on `err` that a log that is named could not be written.
+/// Says on `err` that a log that is named isn't open, so that it isn't whole.
 pub(crate) fn say_log<L: LogFile, E: Sink>(arguments: &LearnArguments, log: &Log<L>, err: &mut E)
-    ensures { MaySayLog arguments.now.log (sink_state (E.taken err.old) (E.faults err.old))
+    ensures { SaysLog arguments.now.log log.now.state
+        (sink_state (E.taken err.old) (E.faults err.old))
         (sink_state (E.taken err.new) (E.faults err.new)) }
 {
     if arguments.log().is_none() {
         return;
     }
-    if log.state() == LogState::Failed {
+    if log.state() != LogState::Open {
         let _refused = put_all(err, b"log fault\n").is_err();
     }
 }

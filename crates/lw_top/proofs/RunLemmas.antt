@@ -3,13 +3,14 @@ use Rattle.std.proofs.Common.{◌≡◌, ◌⊎◌, List, ℕ, [], Option, Some,
 use Rattle.lw_words.specs.declared.kept.KeptAnswer.{KeptAnswer}
 use Rattle.lw_outside.specs.declared.links.StartFailure.{StartFailure}
 use Rattle.lw_children.specs.Spawners.{SpawnerSeen}
+use Rattle.lw_log.specs.declared.log.LogState.{LogState}
 use Rattle.lw_report.specs.Writing.{TakesAll, TakesSome, said_text}
 use Rattle.lw_report.specs.States.{FilesState, SinkState}
 use Rattle.lw_report.specs.declared.«end».End.{End}
 use Rattle.lw_report.specs.declared.outcome.Outcome.{Outcome}
 use Rattle.lw_report.specs.declared.outcome.Outcome.TheVariants.{NoMemory, Unstarted, Usage}
 use Rattle.lw_learn.specs.Arguments.{LearnValues}
-use Rattle.lw_learn.specs.LearnRun.{IsLearnRun, MaySayLog}
+use Rattle.lw_learn.specs.LearnRun.{IsLearnRun}
 use Rattle.lw_learn.specs.Unread.{IsUnreadBy}
 use Rattle.lw_learn.proofs.ReadLemmas.{made_none, some_made}
 use Rattle.lw_learn.proofs.RunLemmas.{none_saved}
@@ -18,14 +19,9 @@ use Rattle.lw_top.specs.Run.{IsRefused, argument_outcome}
 use Rattle.lw_top.specs.declared.values.ArgumentStop.{ArgumentStop}
 use Rattle.lw_top.specs.declared.values.ArgumentStop.TheVariants as stop
 
--- nothing is said of a log
-none_told : (file : Option (List ℕ)) (d : SinkState) → MaySayLog file d d
-none_told None d = refl
-none_told (Some name) d = inl refl
-
 -- the end of a call that touched nothing, which is out of memory, is one that `learn` may come to
-pub wanted_run : (a : LearnValues) (f : FilesState) (b : SpawnerSeen) (o e d : SinkState) (end : End) → end.outcome ≡ NoMemory → IsRefused f f o o e d end → IsLearnRun a f f b b o o e d end
-wanted_run a f b o e d end out r =
+pub wanted_run : (a : LearnValues) (f : FilesState) (b : SpawnerSeen) (o e d : SinkState) (s : LogState) (end : End) → end.outcome ≡ NoMemory → IsRefused f f o o e d end → IsLearnRun a f f b b o o e d s end
+wanted_run a f b o e d s end out r =
     let said : (oc : Outcome) → oc ≡ NoMemory → TakesAll (said_text None None [] 0 oc) e.taken d.taken → TakesAll (said_text None None end.kept.answers a.extra oc) e.taken d.taken = λ oc is t.
     subst (λ (x : Outcome). TakesAll (said_text None None end.kept.answers a.extra x) e.taken d.taken) (sym is) (subst (λ (x : Outcome). TakesAll (said_text None None [] 0 x) e.taken d.taken) is t) in
     let part : (oc : Outcome) → oc ≡ NoMemory → TakesSome (said_text None None [] 0 oc) e.taken d.taken → TakesSome (said_text None None end.kept.answers a.extra oc) e.taken d.taken = λ oc is t.
@@ -46,7 +42,7 @@ wanted_run a f b o e d end out r =
         said = λ quiet. said end.outcome out (r.said quiet);
         part = part end.outcome out r.part;
       });
-      log = none_told a.log d;
+      log = inr (out, refl);
     }
 
 -- by the reason

@@ -63,7 +63,7 @@ pub(crate) fn run_learn<
         (sink_state (O.taken out.old) (O.faults out.old))
         (sink_state (O.taken out.new) (O.faults out.new))
         (sink_state (E.taken err.old) (E.faults err.old))
-        (sink_state (E.taken err.new) (E.faults err.new)) result }
+        (sink_state (E.taken err.new) (E.faults err.new)) log.new.state result }
 {
     learn(rt, alloc, values, files, spawner, out, err, log)
 }

@@ -139,7 +139,7 @@ pub fn run<
         (sink_state (O.taken out.old) (O.faults out.old))
         (sink_state (O.taken out.new) (O.faults out.new))
         (sink_state (E.taken err.old) (E.faults err.old))
-        (sink_state (E.taken err.new) (E.faults err.new)) result) }
+        (sink_state (E.taken err.new) (E.faults err.new)) log.new.state result) }
 
     // Nothing but `learn`, `ask` and `recheck` starts a child.
     ensures unstarted { learn_values (texts arguments.now) ≡ None →

@@ -1,5 +1,5 @@
 -- What a learning of a system begins with, and the model that it gives whatever end carries it.
-use Rattle.std.specs.Prelude.{◌≡◌, ℕ, ◌<◌, ◌≤◌, List, [], length, Some, None}
+use Rattle.std.specs.Prelude.{◌≡◌, ℕ, ◌≤◌, List, [], length, Some, None}
 use Rattle.lw_words.specs.Answer.{answers_of}
 use Rattle.lw_words.specs.declared.kept.KeptAnswer.{KeptAnswer}
 use Rattle.lw_cache.specs.Caching.{Caching}
@@ -15,7 +15,6 @@ use Rattle.lw_report.specs.Learnings.{HasModel}
 use Rattle.lw_report.specs.declared.«end».End.{End}
 use Rattle.lw_learn.specs.Tasks.{HasWords, declared_of, letters_of}
 use Rattle.lw_learn.specs.declared.task.System.{System}
-use Rattle.lw_learn.specs.declared.task.System.TheVariants.{Table, Children}
 
 -- the names of a system's outputs, and a cache of prior answers, of which nothing clashes
 pub record IsReady (s : System) (naming : Naming) (cache : Caching) : Type 0 where

@@ -1,12 +1,8 @@
 use Rattle.std.proofs.Common.{◌≡◌, Err, ap, subst, sym, ◌∙◌, ◌++◌, ◌∷◌, [], ◌≤◌, length, List, ℕ}
 use Rattle.lw_outside.specs.Files.{Holds, longest_file}
-use Rattle.lw_outside.specs.declared.files.FilesStop.{FilesStop}
 use Rattle.lw_report.specs.States.{files_state}
-use Rattle.lw_report.specs.Stops.{read_outcome, unread}
-use Rattle.lw_report.specs.declared.outcome.Outcome.{Outcome}
+use Rattle.lw_report.specs.Stops.{read_outcome}
 use Rattle.lw_report.specs.declared.role.Role.TheVariants.{Words}
-use Rattle.lw_report.specs.declared.stops.ReadStop.{ReadStop}
-use Rattle.lw_learn.specs.Asking.{IsWordless}
 use Rattle.lw_learn.proofs.WordLemmas.{named_read, named_unread, not_read_at}
 use Rattle.lw_learn.proofs.asking.read_named.Goals as goal
 

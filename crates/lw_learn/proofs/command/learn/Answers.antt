@@ -1,3 +1,4 @@
+use Rattle.std.proofs.Common.{inl}
 use Rattle.lw_report.specs.States.{sink_state}
 use Rattle.lw_learn.proofs.command.learn.Goals as goal
 
@@ -5,4 +6,4 @@ pub returns-clause-run : goal.returns-clause-run
 returns-clause-run g c =
     let E = g.E.Sink in
     let told = c.learn_logged-end.new.err in
-    record { told = sink_state (E.taken told) (E.faults told); ends = c.learn_logged-end.ensures.ends; log = c.say_log.ensures }
+    record { told = sink_state (E.taken told) (E.faults told); ends = c.learn_logged-end.ensures.ends; log = inl c.say_log.ensures }

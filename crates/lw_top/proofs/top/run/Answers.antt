@@ -46,7 +46,7 @@ returns-in-Learn-clause-learn g c =
     let z = spawner_seen (P.faults c.run_learn.new.spawner) (P.started c.run_learn.new.spawner) (P.retired c.run_learn.new.spawner) (P.commands c.run_learn.new.spawner) in
     let words = texts c.args.arguments.now in
     let is = subst (IsCall words) c.in-Learn.is c.in-Ok.ensures.ok in
-    at_value (learn_values words) c.in-Learn.values (λ a. IsLearnRun a f h b z o p e d c.run_learn.result) is.0 c.run_learn.ensures.all
+    at_value (learn_values words) c.in-Learn.values (λ a. IsLearnRun a f h b z o p e d c.run_learn.new.log.state c.run_learn.result) is.0 c.run_learn.ensures.all
 
 pub returns-in-Learn-clause-unstarted : goal.returns-in-Learn-clause-unstarted
 returns-in-Learn-clause-unstarted g c none _ _ =
@@ -92,8 +92,8 @@ returns-in-Err-clause-learn g c =
     } in
     let P = g.P.Spawner in
     let b = spawner_seen (P.faults c.args.spawner.now) (P.started c.args.spawner.now) (P.retired c.args.spawner.now) (P.commands c.args.spawner.now) in
-    by_value (learn_values (texts c.args.arguments.now)) (λ a. IsLearnRun a f f b b o o e d end) (λ a is.
-    wanted_run a f b o e d end (not_usage c.in-Err.stop end.outcome outcome (λ u.
+    by_value (learn_values (texts c.args.arguments.now)) (λ a. IsLearnRun a f f b b o o e d c.log_refused.new.log.state end) (λ a is.
+    wanted_run a f b o e d c.log_refused.new.log.state end (not_usage c.in-Err.stop end.outcome outcome (λ u.
     none_is_some a (sym (c.in-Err.ensures.refused (ap (λ (s : ArgumentStop). Err s) u)).0 ∙ is))) refused)
 
 pub returns-in-Err-clause-check : goal.returns-in-Err-clause-check
