@@ -4,7 +4,7 @@ use lw_learn::Source;
 use lw_outside::{MemoryFiles, MemorySink, MemorySpawner};
 use lw_report::End;
 use std::alloc::Global;
-use std::test::Fail;
+use std::process::Abort;
 
 /// Two states: a coin unlocks, a push locks again.
 const TURNSTILE: &str =
@@ -301,45 +301,49 @@ struct Outside {
 }
 
 /// A copy of numbers.
-fn plan(alloc: Global, calls: &[u64]) -> Result<Vec<u64>, Fail> {
-    Ok(Vec::from_slice(alloc, calls)?)
+fn plan(rt: &impl Abort, alloc: Global, calls: &[u64]) -> Vec<u64> {
+    Vec::from_slice(alloc, calls).expect(rt, "memory")
 }
 
-fn files(alloc: Global, case: &Case) -> Result<MemoryFiles, Fail> {
+fn files(rt: &impl Abort, alloc: Global, case: &Case) -> MemoryFiles {
     let mut held = Vec::new(alloc);
-    let bytes = Vec::from_slice(alloc, case.held.as_bytes())?;
-    held.push((String::from_str(alloc, "f")?, bytes))?;
-    Ok(MemoryFiles::new(alloc, held, plan(alloc, case.file_plan)?)?)
+    let name = String::from_str(alloc, "f").expect(rt, "memory");
+    let bytes = Vec::from_slice(alloc, case.held.as_bytes()).expect(rt, "memory");
+    held.push((name, bytes)).expect(rt, "memory");
+    MemoryFiles::new(alloc, held, plan(rt, alloc, case.file_plan)).expect(rt, "memory")
 }
 
 /// A spawner whose one child says the script.
-fn spawner(alloc: Global, case: &Case) -> Result<MemorySpawner, Fail> {
+fn spawner(rt: &impl Abort, alloc: Global, case: &Case) -> MemorySpawner {
     let mut scripts = Vec::new(alloc);
-    scripts.push(Vec::from_slice(alloc, case.script.as_bytes())?)?;
-    let starts = plan(alloc, case.start_plan)?;
-    Ok(MemorySpawner::scripted(alloc, scripts, 4096, starts, Vec::new(alloc))?)
+    let script = Vec::from_slice(alloc, case.script.as_bytes()).expect(rt, "memory");
+    scripts.push(script).expect(rt, "memory");
+    let starts = plan(rt, alloc, case.start_plan);
+    MemorySpawner::scripted(alloc, scripts, 4096, starts, Vec::new(alloc)).expect(rt, "memory")
 }
 
 /// A stream that takes seven bytes at most a put.
-fn sink(alloc: Global, calls: &[u64]) -> Result<MemorySink, Fail> {
-    Ok(MemorySink::new(alloc, 4096, 7, plan(alloc, calls)?)?)
+fn sink(rt: &impl Abort, alloc: Global, calls: &[u64]) -> MemorySink {
+    MemorySink::new(alloc, 4096, 7, plan(rt, alloc, calls)).expect(rt, "memory")
 }
 
-fn prepare(alloc: Global, case: &Case) -> Result<Outside, Fail> {
-    Ok(Outside {
-        files: files(alloc, case)?,
-        spawner: spawner(alloc, case)?,
-        out: sink(alloc, case.out_plan)?,
-        err: sink(alloc, case.err_plan)?,
-    })
+fn prepare(rt: &impl Abort, alloc: Global, case: &Case) -> Outside {
+    Outside {
+        files: files(rt, alloc, case),
+        spawner: spawner(rt, alloc, case),
+        out: sink(rt, alloc, case.out_plan),
+        err: sink(rt, alloc, case.err_plan),
+    }
 }
 
-fn arguments(alloc: Global, case: &Case) -> Result<AskArguments, Fail> {
+fn arguments(rt: &impl Abort, alloc: Global, case: &Case) -> AskArguments {
     let mut words = Vec::new(alloc);
     for word in case.words {
-        words.push(String::from_str(alloc, word)?)?;
+        let word = String::from_str(alloc, word).expect(rt, "memory");
+        words.push(word).expect(rt, "memory");
     }
-    Ok(AskArguments::new(case.source, String::from_str(alloc, "f")?, words))
+    let system = String::from_str(alloc, "f").expect(rt, "memory");
+    AskArguments::new(case.source, system, words)
 }
 
 /// What a call comes to.
@@ -363,17 +367,16 @@ fn ends_so(case: &Case, end: &End, outside: &Outside) -> bool {
         && outside.err.taken() == case.err.as_bytes()
 }
 
-fn asks(alloc: Global, case: &Case) -> Result<bool, Fail> {
-    let arguments = arguments(alloc, case)?;
-    let mut outside = prepare(alloc, case)?;
+fn asks(rt: &impl Abort, alloc: Global, case: &Case) -> bool {
+    let arguments = arguments(rt, alloc, case);
+    let mut outside = prepare(rt, alloc, case);
     let end = end(alloc, &arguments, &mut outside);
-    Ok(ends_so(case, &end, &outside))
+    ends_so(case, &end, &outside)
 }
 
 #[test]
-fn each_case_ends_so(rt: HostRuntime) -> Result<(), Fail> {
+fn each_case_ends_so(rt: HostRuntime) {
     for case in &CASES {
-        assert!(rt; asks(rt.alloc(), case)?);
+        assert!(rt; asks(&rt, rt.alloc(), case));
     }
-    Ok(())
 }

@@ -1,5 +1,5 @@
 //! What no clause says: that the calls succeed, and clashes and known words by hand.
-ghost use Rattle.std.specs.Prelude.{◌≡◌, IfOk, length, List, [], ◌∷◌, ◌<◌};
+ghost use Rattle.std.specs.Prelude.{◌≡◌, length, List, [], ◌∷◌, ◌<◌};
 ghost use Rattle.std.specs.List.{All};
 ghost use Rattle.lw_words.specs.Answer.{answer_of, answers_of, IsWhole};
 ghost use Rattle.lw_cache.specs.Caching.{claim_of};
@@ -14,37 +14,35 @@ use rand_core::SeedableRng;
 use rand_core::utils::NextWord;
 use rand_pcg::Lcg128Xsl64;
 use std::alloc::Global;
-use std::test::Fail;
+use std::process::Abort;
 
-fn word(alloc: Global, letters: &[u16]) -> Result<Word, Fail>
-    ensures { IfOk result (λ w. w ≡ letters.now) }
+fn word(rt: &impl Abort, alloc: Global, letters: &[u16]) -> Word
+    ensures { result ≡ letters.now }
 {
-    Ok(Word::from_letters(alloc, letters.to_vec(alloc)?))
+    Word::from_letters(alloc, letters.to_vec(alloc).expect(rt, "memory"))
 }
 
 /// An answer of instance 0 in its run 0.
-fn answer(alloc: Global, letters: &[u16], outs: &[u16]) -> Result<KeptAnswer, Fail>
-    ensures { IfOk result (λ k. IsWhole (answer_of k)) }
+fn answer(rt: &impl Abort, alloc: Global, letters: &[u16], outs: &[u16]) -> KeptAnswer
+    ensures { IsWhole (answer_of result) }
 {
-    if outs.len() != letters.len() {
-        return Err(Fail::from("no answer"));
-    }
-    Ok(KeptAnswer {
+    assert!(rt; outs.len() == letters.len());
+    KeptAnswer {
         instance: 0,
         run: 0,
-        word: word(alloc, letters)?,
-        outs: word(alloc, outs)?,
-    })
+        word: word(rt, alloc, letters),
+        outs: word(rt, alloc, outs),
+    }
 }
 
 /// Letters and outputs of an answer.
 type Said = (&'static [u16], &'static [u16]);
 
 /// Where two answers clash.
-fn clash_of(alloc: Global, first: Said, second: Said) -> Result<Option<usize>, Fail> {
-    let first = answer(alloc, first.0, first.1)?;
-    let second = answer(alloc, second.0, second.1)?;
-    Ok(clash(&first, &second))
+fn clash_of(rt: &impl Abort, alloc: Global, first: Said, second: Said) -> Option<usize> {
+    let first = answer(rt, alloc, first.0, first.1);
+    let second = answer(rt, alloc, second.0, second.1);
+    clash(&first, &second)
 }
 
 /// Two answers, and where they clash.
@@ -63,33 +61,22 @@ static CLASHES: [(Said, Said, Option<usize>); 3] = [
 ];
 
 #[test]
-fn answers_clash_at_the_first_difference(rt: HostRuntime) -> Result<(), Fail> {
+fn answers_clash_at_the_first_difference(rt: HostRuntime) {
     for (first, second, place) in &CLASHES {
-        assert!(rt; clash_of(rt.alloc(), *first, *second)? == *place);
+        assert!(rt; clash_of(&rt, rt.alloc(), *first, *second) == *place);
     }
-    Ok(())
-}
-
-/// A list of two answers.
-fn two(alloc: Global, first: KeptAnswer, second: KeptAnswer) -> Result<Kept, Fail>
-    requires first { IsWhole (answer_of first) }
-    requires second { IsWhole (answer_of second) }
-    ensures { IfOk result (λ kept. All IsWhole (answers_of kept.answers)) }
-{
-    let mut kept = Kept::new(alloc);
-    if kept.push(first).is_err() || kept.push(second).is_err() {
-        return Err(Fail::from("an answer was handed back"));
-    }
-    Ok(kept)
 }
 
 /// Two answers, of which the second clashes with the first.
-fn clashing(alloc: Global) -> Result<Kept, Fail>
-    ensures { IfOk result (λ kept. All IsWhole (answers_of kept.answers)) }
+fn clashing(rt: &impl Abort, alloc: Global) -> Kept
+    ensures { All IsWhole (answers_of result.answers) }
 {
-    let first = answer(alloc, &[0, 1], &[0, 1])?;
-    let second = answer(alloc, &[0, 2, 2], &[1, 0, 0])?;
-    two(alloc, first, second)
+    let mut kept = Kept::new(alloc);
+    let first = answer(rt, alloc, &[0, 1], &[0, 1]);
+    assert!(rt; kept.push(first).is_ok());
+    let second = answer(rt, alloc, &[0, 2, 2], &[1, 0, 0]);
+    assert!(rt; kept.push(second).is_ok());
+    kept
 }
 
 /// Words, and whether they are known by two answers that clash.
@@ -103,119 +90,112 @@ static KNOWN: [(&[u16], bool); 5] = [
 
 /// Whether these words are known, or not, as they say.
 fn are_known(
+    rt: &impl Abort,
     alloc: Global,
     kept: &Kept,
     flags: &[bool],
     words: &[(&[u16], bool)],
-) -> Result<bool, Fail>
+) -> bool
     requires { AreFlags (answers_of kept.now.answers) (length kept.now.answers) flags.now }
 {
     for (letters, is_known) in words {
-        if known(kept, flags, &word(alloc, letters)?) != *is_known {
-            return Ok(false);
+        if known(kept, flags, &word(rt, alloc, letters)) != *is_known {
+            return false;
         }
     }
-    Ok(true)
+    true
 }
 
 /// Whether just the first of two answers that clash is clear, and makes words known.
-fn first_is_clear(alloc: Global) -> Result<bool, Fail> {
-    let kept = clashing(alloc)?;
-    let flags = clear(alloc, &kept)?;
-    Ok(flags.as_slice() == [true, false].as_slice() && are_known(alloc, &kept, &flags, &KNOWN)?)
+fn first_is_clear(rt: &impl Abort, alloc: Global) -> bool {
+    let kept = clashing(rt, alloc);
+    let flags = clear(alloc, &kept).expect(rt, "memory");
+    flags.as_slice() == [true, false].as_slice() && are_known(rt, alloc, &kept, &flags, &KNOWN)
 }
 
 #[test]
-fn an_answer_that_clashes_makes_nothing_known(rt: HostRuntime) -> Result<(), Fail> {
-    assert!(rt; first_is_clear(rt.alloc())?);
-    Ok(())
+fn an_answer_that_clashes_makes_nothing_known(rt: HostRuntime) {
+    assert!(rt; first_is_clear(&rt, rt.alloc()));
 }
 
 /// A cache that keeps one answer of instance 0 in its run 0.
-fn keeps_one(alloc: Global, letters: &[u16], outs: &[u16]) -> Result<Cache, Fail>
+fn keeps_one(rt: &impl Abort, alloc: Global, letters: &[u16], outs: &[u16]) -> Cache
     requires { length outs.now ≡ length letters.now }
-    ensures { IfOk result (λ cache. cache.claims ≡ []) }
+    ensures { result.claims ≡ [] }
 {
     let mut cache = Cache::new(alloc);
-    let kept = cache.keep(word(alloc, letters)?, word(alloc, outs)?, 0, 0);
-    let Ok(()) = kept else {
-        return Err(Fail::from("an answer was not kept"));
-    };
-    Ok(cache)
+    let kept = cache.keep(word(rt, alloc, letters), word(rt, alloc, outs), 0, 0);
+    assert!(rt; kept.is_ok());
+    cache
 }
 
 /// Claims two words, of which one begins with the other, in a cache with one answer.
-fn claims_two(alloc: Global) -> Result<Cache, Fail>
-    ensures { IfOk result (λ cache. cache.claims ≡
-        claim_of 5 (0 ∷ 2 ∷ []) ∷ claim_of 7 (0 ∷ 2 ∷ 2 ∷ []) ∷ []) }
+fn claims_two(rt: &impl Abort, alloc: Global) -> Cache
+    ensures { result.claims ≡
+        claim_of 5 (0 ∷ 2 ∷ []) ∷ claim_of 7 (0 ∷ 2 ∷ 2 ∷ []) ∷ [] }
 {
-    let mut cache = keeps_one(alloc, &[0, 1], &[0, 1])?;
-    cache.reserve(2, 5)?;
-    let (short, long) = (word(alloc, &[0, 2])?, word(alloc, &[0, 2, 2])?);
-    let Known::No = cache.known(&short) else {
-        return Err(Fail::from("the first word is free"));
-    };
+    let mut cache = keeps_one(rt, alloc, &[0, 1], &[0, 1]);
+    cache.reserve(2, 5).expect(rt, "memory");
+    let (short, long) = (word(rt, alloc, &[0, 2]), word(rt, alloc, &[0, 2, 2]));
+    assert!(rt; matches!(cache.known(&short), Known::No));
     cache.claim(&short, 5);
-    let Known::No = cache.known(&long) else {
-        return Err(Fail::from("the second word is free"));
-    };
+    assert!(rt; matches!(cache.known(&long), Known::No));
     cache.claim(&long, 7);
-    Ok(cache)
+    cache
 }
 
 /// The same once the first claim is given up.
-fn gives_one_up(alloc: Global) -> Result<Cache, Fail>
-    ensures { IfOk result (λ cache. cache.claims ≡ claim_of 7 (0 ∷ 2 ∷ 2 ∷ []) ∷ []) }
+fn gives_one_up(rt: &impl Abort, alloc: Global) -> Cache
+    ensures { result.claims ≡ claim_of 7 (0 ∷ 2 ∷ 2 ∷ []) ∷ [] }
 {
-    let mut cache = claims_two(alloc)?;
+    let mut cache = claims_two(rt, alloc);
     cache.release(5);
-    Ok(cache)
+    cache
 }
 
 /// Words, and how they stand.
 type Told = (&'static [u16], Known);
 
 /// Whether words stand so.
-fn tells(alloc: Global, cache: &Cache, told: &[Told]) -> Result<bool, Fail> {
+fn tells(rt: &impl Abort, alloc: Global, cache: &Cache, told: &[Told]) -> bool {
     for (letters, stands) in told {
-        if cache.known(&word(alloc, letters)?) != *stands {
-            return Ok(false);
+        if cache.known(&word(rt, alloc, letters)) != *stands {
+            return false;
         }
     }
-    Ok(true)
+    true
 }
 
 static CLAIMED: [Told; 2] = [(&[0, 2], Known::Pending(5)), (&[0], Known::Yes)];
 
 /// Whether two claims are told.
-fn tells_claims(alloc: Global) -> Result<bool, Fail> {
-    let cache = claims_two(alloc)?;
-    Ok(tells(alloc, &cache, &CLAIMED)? && cache.nodes() == 4)
+fn tells_claims(rt: &impl Abort, alloc: Global) -> bool {
+    let cache = claims_two(rt, alloc);
+    tells(rt, alloc, &cache, &CLAIMED) && cache.nodes() == 4
 }
 
 static GIVEN_UP: [Told; 1] = [(&[0, 2], Known::Pending(7))];
 
 /// Whether the second one is told once the first is given up.
-fn tells_second(alloc: Global) -> Result<bool, Fail> {
-    let cache = gives_one_up(alloc)?;
-    Ok(tells(alloc, &cache, &GIVEN_UP)? && cache.nodes() == 4)
+fn tells_second(rt: &impl Abort, alloc: Global) -> bool {
+    let cache = gives_one_up(rt, alloc);
+    tells(rt, alloc, &cache, &GIVEN_UP) && cache.nodes() == 4
 }
 
 #[test]
-fn claims_are_told_and_given_up(rt: HostRuntime) -> Result<(), Fail> {
-    assert!(rt; tells_claims(rt.alloc())?);
-    assert!(rt; tells_second(rt.alloc())?);
-    Ok(())
+fn claims_are_told_and_given_up(rt: HostRuntime) {
+    assert!(rt; tells_claims(&rt, rt.alloc()));
+    assert!(rt; tells_second(&rt, rt.alloc()));
 }
 
 /// The claim that is left is filled with these outputs; the clash, if there is one.
-fn fills(alloc: Global, outs: Word) -> Result<(Cache, Option<Clash>), Fail>
+fn fills(rt: &impl Abort, alloc: Global, outs: Word) -> (Cache, Option<Clash>)
     requires { length outs ≡ 3 }
 {
-    let mut cache = gives_one_up(alloc)?;
-    let word = word(alloc, &[0, 2, 2])?;
+    let mut cache = gives_one_up(rt, alloc);
+    let word = word(rt, alloc, &[0, 2, 2]);
     let filled = cache.fill(7, word, outs, 0, 1);
-    Ok((cache, filled.err()))
+    (cache, filled.err())
 }
 
 static NOT_FILLED: [Told; 1] = [(&[0, 2], Known::No)];
@@ -226,20 +206,19 @@ fn keeps_two(cache: Cache) -> bool {
 }
 
 /// Whether the claim is filled with an answer that clashes.
-fn fills_with_clash(alloc: Global) -> Result<bool, Fail> {
-    let (cache, clash) = fills(alloc, word(alloc, &[1, 0, 0])?)?;
+fn fills_with_clash(rt: &impl Abort, alloc: Global) -> bool {
+    let (cache, clash) = fills(rt, alloc, word(rt, alloc, &[1, 0, 0]));
     let expected = Clash {
         first: 0,
         second: 1,
         place: 0,
     };
-    Ok(clash == Some(expected) && tells(alloc, &cache, &NOT_FILLED)? && keeps_two(cache))
+    clash == Some(expected) && tells(rt, alloc, &cache, &NOT_FILLED) && keeps_two(cache)
 }
 
 #[test]
-fn a_claim_is_filled_with_a_clash(rt: HostRuntime) -> Result<(), Fail> {
-    assert!(rt; fills_with_clash(rt.alloc())?);
-    Ok(())
+fn a_claim_is_filled_with_a_clash(rt: HostRuntime) {
+    assert!(rt; fills_with_clash(&rt, rt.alloc()));
 }
 
 /// Words, and their outputs where they are known.
@@ -248,40 +227,34 @@ type Read = (&'static [u16], Option<&'static [u16]>);
 static READ: [Read; 3] = [(&[0, 2], Some(&[0, 3])), (&[1], None), (&[], Some(&[]))];
 
 /// Whether a word is read so.
-fn is_read(alloc: Global, cache: &Cache, read: &Read) -> Result<bool, Fail> {
-    match cache.read(&word(alloc, read.0)?)? {
-        Some(outs) => Ok(read.1 == Some(outs.as_slice())),
-        None => Ok(read.1.is_none()),
+fn is_read(rt: &impl Abort, alloc: Global, cache: &Cache, read: &Read) -> bool {
+    match cache.read(&word(rt, alloc, read.0)).expect(rt, "memory") {
+        Some(outs) => read.1 == Some(outs.as_slice()),
+        None => read.1.is_none(),
     }
 }
 
 static FILLED: [Told; 1] = [(&[0, 2, 2], Known::Yes)];
 
 /// Whether words are read so.
-fn are_read(alloc: Global, cache: &Cache, words: &[Read]) -> Result<bool, Fail> {
+fn are_read(rt: &impl Abort, alloc: Global, cache: &Cache, words: &[Read]) -> bool {
     for read in words {
-        if !is_read(alloc, cache, read)? {
-            return Ok(false);
+        if !is_read(rt, alloc, cache, read) {
+            return false;
         }
     }
-    Ok(true)
+    true
 }
 
-/// Whether a cache tells and reads what the claim was filled with.
-fn is_filled(alloc: Global, cache: &Cache) -> Result<bool, Fail> {
-    Ok(tells(alloc, cache, &FILLED)? && are_read(alloc, cache, &READ)?)
-}
-
-/// Whether the claim is filled with an answer that clashes with none.
-fn fills_clear(alloc: Global) -> Result<bool, Fail> {
-    let (cache, clash) = fills(alloc, word(alloc, &[0, 3, 4])?)?;
-    Ok(clash.is_none() && is_filled(alloc, &cache)?)
+/// Whether the claim is filled with an answer that clashes with none, and the cache tells and reads it.
+fn fills_clear(rt: &impl Abort, alloc: Global) -> bool {
+    let (cache, clash) = fills(rt, alloc, word(rt, alloc, &[0, 3, 4]));
+    clash.is_none() && tells(rt, alloc, &cache, &FILLED) && are_read(rt, alloc, &cache, &READ)
 }
 
 #[test]
-fn a_claim_is_filled(rt: HostRuntime) -> Result<(), Fail> {
-    assert!(rt; fills_clear(rt.alloc())?);
-    Ok(())
+fn a_claim_is_filled(rt: HostRuntime) {
+    assert!(rt; fills_clear(&rt, rt.alloc()));
 }
 
 /// A drawn number below `bound`.
@@ -293,84 +266,68 @@ fn draw(numbers: &mut Lcg128Xsl64, bound: u32) -> u32
 }
 
 /// A drawn word of this length over two letters.
-fn drawn(alloc: Global, numbers: &mut Lcg128Xsl64, len: usize) -> Result<Word, Fail>
-    ensures { IfOk result (λ w. length w ≡ len) }
+fn drawn(rt: &impl Abort, alloc: Global, numbers: &mut Lcg128Xsl64, len: usize) -> Word
+    ensures { length result ≡ len }
 {
     let mut letters = Vec::new(alloc);
     for _ in 0..len {
-        letters.push(draw(numbers, 2) as u16)?;
+        letters.push(draw(numbers, 2) as u16).expect(rt, "memory");
     }
-    Ok(Word::from_letters(alloc, letters))
+    Word::from_letters(alloc, letters)
 }
 
 /// Whether a cache and the plain body say the same of a word.
-fn same_known(alloc: Global, cache: &Cache, w: &Word) -> Result<bool, Fail> {
-    let flags = clear(alloc, cache.kept())?;
+fn same_known(rt: &impl Abort, alloc: Global, cache: &Cache, w: &Word) -> bool {
+    let flags = clear(alloc, cache.kept()).expect(rt, "memory");
     let plain = known(cache.kept(), flags.as_slice(), w);
-    Ok(plain == (cache.known(w) == Known::Yes))
+    plain == (cache.known(w) == Known::Yes)
 }
 
 /// Keeps a drawn answer, and tells whether it clashes.
 fn keeps_drawn(
+    rt: &impl Abort,
     alloc: Global,
     numbers: &mut Lcg128Xsl64,
     cache: &mut Cache,
     run: u64,
-) -> Result<bool, Fail>
+) -> bool
     requires { cache.old.claims ≡ [] }
     ensures { cache.new.claims ≡ [] }
 {
     let len = draw(numbers, 5) as usize;
-    let w = drawn(alloc, numbers, len)?;
-    let outs = drawn(alloc, numbers, len)?;
+    let w = drawn(rt, alloc, numbers, len);
+    let outs = drawn(rt, alloc, numbers, len);
     match cache.keep(w, outs, 0, run) {
-        Ok(()) => Ok(false),
-        Err(KeepStop::Clash(_)) => Ok(true),
-        Err(KeepStop::NoMemory) => Err(Fail::from("no memory")),
+        Ok(()) => false,
+        Err(KeepStop::Clash(_)) => true,
+        Err(KeepStop::NoMemory) => rt.panic("no memory"),
     }
 }
 
 /// Whether a cache and the plain body say the same of a drawn word.
-fn same_drawn(alloc: Global, numbers: &mut Lcg128Xsl64, cache: &Cache) -> Result<bool, Fail> {
+fn same_drawn(rt: &impl Abort, alloc: Global, numbers: &mut Lcg128Xsl64, cache: &Cache) -> bool {
     let len = draw(numbers, 4) as usize;
-    same_known(alloc, cache, &drawn(alloc, numbers, len)?)
+    same_known(rt, alloc, cache, &drawn(rt, alloc, numbers, len))
 }
 
-/// Keeps a drawn answer, and compares what is said of a drawn word; whether the answer clashes.
-fn tries_drawn(
-    alloc: Global,
-    numbers: &mut Lcg128Xsl64,
-    cache: &mut Cache,
-    run: u64,
-) -> Result<bool, Fail>
-    requires { cache.old.claims ≡ [] }
-    ensures { cache.new.claims ≡ [] }
-{
-    let clashes = keeps_drawn(alloc, numbers, cache, run)?;
-    if !same_drawn(alloc, numbers, cache)? {
-        return Err(Fail::from("the plain body says otherwise"));
-    }
-    Ok(clashes)
-}
-
-/// How many of so many drawn answers clash.
-fn drawn_clashes(alloc: Global, count: u64) -> Result<u32, Fail> {
+/// Keeps so many drawn answers, and compares what is said of a drawn word after each; how many of the answers clash.
+fn drawn_clashes(rt: &impl Abort, alloc: Global, count: u64) -> u32 {
     let mut numbers = Lcg128Xsl64::seed_from_u64(7);
     let mut cache = Cache::new(alloc);
     let mut clashes = 0u32;
     for run in 0..count {
-        if tries_drawn(alloc, &mut numbers, &mut cache, run)? {
+        if keeps_drawn(rt, alloc, &mut numbers, &mut cache, run) {
             clashes = clashes.saturating_add(1);
         }
+        assert!(rt; same_drawn(rt, alloc, &mut numbers, &cache));
     }
-    Ok(clashes)
+    clashes
 }
 
 #[test]
-fn drawn_answers_beside_the_plain_body(rt: HostRuntime) -> Result<(), Fail> {
-    let clashes = drawn_clashes(rt.alloc(), 24)?;
+fn drawn_answers_beside_the_plain_body(rt: HostRuntime) {
+    let clashes = drawn_clashes(&rt, rt.alloc(), 24);
     assert!(rt; 0 < clashes && clashes < 24);
-    Ok(())
 }
 
 /// Whether a stop is that a system of this instance failed.

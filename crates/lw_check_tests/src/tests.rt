@@ -3,7 +3,6 @@ use lw_check::{check, decision_is_unique};
 use lw_outside::{MemoryFiles, MemorySink};
 use std::alloc::Global;
 use std::process::Abort;
-use std::test::Fail;
 
 const COUNTER: &str =
     "{\"inputs\":[\"t\"],\"outputs\":[\"0\",\"1\"],\"states\":[[[1,\"0\"]],[[2,\"0\"]],[[0,\"1\"]]]}\n";
@@ -15,7 +14,7 @@ const UNREACHED: &str =
     "{\"inputs\":[\"t\"],\"outputs\":[\"0\",\"1\"],\"states\":[[[0,\"0\"]],[[0,\"0\"]]]}\n";
 
 /// A model and the list of an answers file over the names of the counter, which calls fail, and what comes of them.
-#[derive(Drop)]
+#[derive(Clone, Copy)]
 struct Case {
     file_plan: &'static [u64],
     out_plan: &'static [u64],
@@ -41,147 +40,202 @@ const PLAIN: Case = Case {
     err: "",
 };
 
-fn file(alloc: Global, name: &str, parts: &[&str]) -> Result<(String, Vec<u8>), Fail> {
-    let mut text = String::new(alloc);
-    for part in parts {
-        text.push_str(part)?;
-    }
-    Ok((String::from_str(alloc, name)?, text.into_bytes()))
+/// All that a call is handed.
+#[derive(Drop)]
+struct Outside {
+    files: MemoryFiles,
+    out: MemorySink,
+    err: MemorySink,
 }
 
-fn checks(rt: &impl Abort, alloc: Global, case: &Case) -> Result<(), Fail> {
-    let mut files = Vec::new(alloc);
-    files.push(file(alloc, "m", &[case.model])?)?;
+fn plan(rt: &impl Abort, alloc: Global, calls: &[u64]) -> Vec<u64> {
+    Vec::from_slice(alloc, calls).expect(rt, "memory")
+}
+
+fn file(rt: &impl Abort, alloc: Global, name: &str, parts: &[&str]) -> (String, Vec<u8>) {
+    let mut text = String::new(alloc);
+    for part in parts {
+        text.push_str(part).expect(rt, "memory");
+    }
+    (
+        String::from_str(alloc, name).expect(rt, "memory"),
+        text.into_bytes(),
+    )
+}
+
+fn files(rt: &impl Abort, alloc: Global, case: &Case) -> MemoryFiles {
+    let mut held = Vec::new(alloc);
+    held.push(file(rt, alloc, "m", &[case.model]))
+        .expect(rt, "memory");
     let parts = ["{\"answers\":[", case.answers, "],\"format\":1,", NAMES];
-    files.push(file(alloc, "k", &parts)?)?;
-    let file_plan = Vec::from_slice(alloc, case.file_plan)?;
-    let mut files = MemoryFiles::new(alloc, files, file_plan)?;
-    let out_plan = Vec::from_slice(alloc, case.out_plan)?;
-    let mut out = MemorySink::new(alloc, 200, 7, out_plan)?;
-    let err_plan = Vec::from_slice(alloc, case.err_plan)?;
-    let mut err = MemorySink::new(alloc, 200, 7, err_plan)?;
-    let extra = case.extra.min(4);
-    let end = check(alloc, "m", "k", extra, &mut files, &mut out, &mut err);
-    assert_eq!(rt; out.taken(), case.out.as_bytes());
-    assert_eq!(rt; err.taken(), case.err.as_bytes());
-    assert_eq!(rt; end.status, case.status);
-    Ok(())
+    held.push(file(rt, alloc, "k", &parts)).expect(rt, "memory");
+    MemoryFiles::new(alloc, held, plan(rt, alloc, case.file_plan)).expect(rt, "memory")
+}
+
+fn sink(rt: &impl Abort, alloc: Global, calls: &[u64]) -> MemorySink {
+    MemorySink::new(alloc, 200, 7, plan(rt, alloc, calls)).expect(rt, "memory")
+}
+
+fn prepare(rt: &impl Abort, alloc: Global, case: &Case) -> Outside {
+    Outside {
+        files: files(rt, alloc, case),
+        out: sink(rt, alloc, case.out_plan),
+        err: sink(rt, alloc, case.err_plan),
+    }
+}
+
+/// The exit status of a call: the clauses of `check` would weigh down each proof that calls it.
+fn status(alloc: Global, extra: u8, outside: &mut Outside) -> u8 {
+    check(
+        alloc,
+        "m",
+        "k",
+        extra.min(4),
+        &mut outside.files,
+        &mut outside.out,
+        &mut outside.err,
+    )
+    .status
+}
+
+/// Checks what a call wrote to the streams.
+fn check_written(rt: &impl Abort, case: &Case, outside: &Outside) {
+    assert_eq!(rt; outside.out.taken(), case.out.as_bytes());
+    assert_eq!(rt; outside.err.taken(), case.err.as_bytes());
+}
+
+fn checks(rt: &impl Abort, alloc: Global, case: &Case) {
+    let mut outside = prepare(rt, alloc, case);
+    let status = status(alloc, case.extra, &mut outside);
+    check_written(rt, case, &outside);
+    assert!(rt; status == case.status);
 }
 
 const NAMES: &str = "\"inputs\":[\"t\"],\"outputs\":[\"0\",\"1\"]}\n";
 
-#[test]
-fn enough_answers_and_one_too_short(rt: HostRuntime) -> Result<(), Fail> {
-    let alloc = rt.alloc();
-    let mut case = Case {
-        model: COUNTER,
+fn check_all(rt: &impl Abort, alloc: Global, cases: &[Case]) {
+    for case in cases {
+        checks(rt, alloc, case);
+    }
+}
+
+/// The answer that is one letter short, at two extra states.
+const SHORT: Case = Case {
+    extra: 2,
+    status: 1,
+    out: "no: word \"t t t t t t t\" is missing\n",
+    ..PLAIN
+};
+
+static LENGTHS: [Case; 3] = [
+    Case {
         answers: "[\"t t t t t t t\",\"0 0 1 0 0 1 0\"]",
-        extra: 2,
         status: 0,
         out: "yes: states 3, extra 2, answers 1\n",
-        err: "",
-        ..PLAIN
-    };
-    checks(&rt, alloc, &case)?;
-    case.answers = "[\"t t t t t t\",\"0 0 1 0 0 1\"]";
-    case.out = "no: word \"t t t t t t t\" is missing\n";
-    case.status = 1;
-    checks(&rt, alloc, &case)?;
-    case.extra = 1;
-    case.out = "yes: states 3, extra 1, answers 1\n";
-    case.status = 0;
-    checks(&rt, alloc, &case)?;
-    Ok(())
-}
+        ..SHORT
+    },
+    SHORT,
+    PLAIN,
+];
 
 #[test]
-fn models_that_are_not_minimal(rt: HostRuntime) -> Result<(), Fail> {
-    let alloc = rt.alloc();
-    let mut case = Case {
+fn enough_answers_and_one_too_short(rt: HostRuntime) {
+    check_all(&rt, rt.alloc(), &LENGTHS);
+}
+
+static NOT_MINIMAL: [Case; 2] = [
+    Case {
         model: ALIKE,
         answers: "",
-        extra: 1,
         status: 1,
         out: "no: states 0 and 1 are alike\n",
-        err: "",
         ..PLAIN
-    };
-    checks(&rt, alloc, &case)?;
-    case.model = UNREACHED;
-    case.out = "no: state 1 is unreached\n";
-    checks(&rt, alloc, &case)?;
-    decision_is_unique();
-    Ok(())
-}
+    },
+    Case {
+        model: UNREACHED,
+        answers: "",
+        status: 1,
+        out: "no: state 1 is unreached\n",
+        ..PLAIN
+    },
+];
 
 #[test]
-fn answers_that_differ_or_clash(rt: HostRuntime) -> Result<(), Fail> {
-    let alloc = rt.alloc();
-    let mut case = Case {
-        model: COUNTER,
+fn models_that_are_not_minimal(rt: HostRuntime) {
+    check_all(&rt, rt.alloc(), &NOT_MINIMAL);
+    decision_is_unique();
+}
+
+/// Two answers that contradict each other.
+const CLASHING: Case = Case {
+    answers: "[\"t\",\"0\"],[\"t\",\"1\"]",
+    status: 4,
+    out: "",
+    err: "nondeterministic at place 0\ninstance 0 run 0: t / 0\ninstance 0 run 1: t / 1\n",
+    ..PLAIN
+};
+
+static DIFFERING: [Case; 3] = [
+    Case {
         answers: "[\"t t\",\"0 1\"]",
-        extra: 1,
         status: 1,
         out: "no: answer 0 differs at place 1\n",
-        err: "",
         ..PLAIN
-    };
-    checks(&rt, alloc, &case)?;
-    case.answers = "[\"t\",\"0\"],[\"t\",\"1\"]";
-    case.out = "";
-    case.err = "nondeterministic at place 0\ninstance 0 run 0: t / 0\ninstance 0 run 1: t / 1\n";
-    case.status = 4;
-    checks(&rt, alloc, &case)?;
-    case.model = "{\"inputs\":[\"t\"],\"outputs\":[\"0\"],\"states\":[[[0,\"0\"]]]}\n";
-    case.err = "bad file answers: names differ from the model\n";
-    case.status = 3;
-    checks(&rt, alloc, &case)?;
-    Ok(())
-}
+    },
+    CLASHING,
+    Case {
+        model: "{\"inputs\":[\"t\"],\"outputs\":[\"0\"],\"states\":[[[0,\"0\"]]]}\n",
+        status: 3,
+        err: "bad file answers: names differ from the model\n",
+        ..CLASHING
+    },
+];
 
 #[test]
-fn failing_files_and_streams(rt: HostRuntime) -> Result<(), Fail> {
-    let fault = Case {
-        status: 8,
-        out: "",
+fn answers_that_differ_or_clash(rt: HostRuntime) {
+    check_all(&rt, rt.alloc(), &DIFFERING);
+}
+
+const FAULT: Case = Case {
+    status: 8,
+    out: "",
+    ..PLAIN
+};
+
+static FAULTS: [Case; 6] = [
+    Case {
+        file_plan: &[0],
+        err: "file fault: model\n",
+        ..FAULT
+    },
+    Case {
+        file_plan: &[1],
+        err: "file fault: answers\n",
+        ..FAULT
+    },
+    Case {
+        out_plan: &[0],
+        err: "sink fault\n",
+        ..FAULT
+    },
+    Case {
+        out_plan: &[1],
+        out: "yes: st",
+        err: "sink fault\n",
+        ..FAULT
+    },
+    Case {
+        err_plan: &[1],
+        err: "nondete",
+        ..CLASHING
+    },
+    Case {
+        err_plan: &[0],
         ..PLAIN
-    };
-    let cases = [
-        Case {
-            file_plan: &[0],
-            err: "file fault: model\n",
-            ..fault
-        },
-        Case {
-            file_plan: &[1],
-            err: "file fault: answers\n",
-            ..fault
-        },
-        Case {
-            out_plan: &[0],
-            err: "sink fault\n",
-            ..fault
-        },
-        Case {
-            out_plan: &[1],
-            out: "yes: st",
-            err: "sink fault\n",
-            ..fault
-        },
-        Case {
-            answers: "[\"t\",\"0\"],[\"t\",\"1\"]",
-            err_plan: &[1],
-            status: 4,
-            err: "nondete",
-            ..fault
-        },
-        Case {
-            err_plan: &[0],
-            ..PLAIN
-        },
-    ];
-    for case in &cases {
-        checks(&rt, rt.alloc(), case)?;
-    }
-    Ok(())
+    },
+];
+
+#[test]
+fn failing_files_and_streams(rt: HostRuntime) {
+    check_all(&rt, rt.alloc(), &FAULTS);
 }

@@ -1,62 +1,70 @@
 //! What no clause says: that children are started where there is memory, by hand, and learned over.
-ghost use Rattle.std.specs.Prelude.{◌≡◌, ◌<◌, length, IfOk};
+ghost use Rattle.std.specs.Prelude.{◌≡◌, ◌<◌, length};
 
 use lw_children::{Command, start_all};
 use lw_json::Texts;
 use lw_outside::MemorySpawner;
 use lw_words::Names;
 use std::alloc::Global;
-use std::test::Fail;
+use std::process::Abort;
 
 mod learnings;
 
 /// Names, of letters or of outputs.
-fn names(alloc: Global, list: &[&str]) -> Result<Names, Fail> {
+fn names(rt: &impl Abort, alloc: Global, list: &[&str]) -> Names {
     let mut texts = Vec::new(alloc);
     for name in list {
-        texts.push(String::from_str(alloc, name)?)?;
+        let text = String::from_str(alloc, name).expect(rt, "memory");
+        texts.push(text).expect(rt, "memory");
     }
-    match Names::from_list(alloc, &texts) {
-        Ok(names) => Ok(names),
-        Err(_) => Err(Fail::from("names were refused")),
-    }
+    Names::from_list(alloc, &texts).expect(rt, "names")
 }
 
 /// The command `sys`, over the letter `t`, with these outputs or none declared.
-fn command(alloc: Global, outputs: Option<Names>) -> Result<Command, Fail>
-    ensures words { IfOk result (λ c. 0 < length c.words) }
-    ensures outputs { IfOk result (λ c. c.outputs ≡ outputs) }
+fn command(rt: &impl Abort, alloc: Global, outputs: Option<Names>) -> Command
+    ensures words { 0 < length result.words }
+    ensures outputs { result.outputs ≡ outputs }
 {
     let mut words = Vec::new(alloc);
-    words.push(String::from_str(alloc, "sys")?)?;
-    let inputs = names(alloc, &["t"])?;
-    Ok(Command {
+    let program = String::from_str(alloc, "sys").expect(rt, "memory");
+    words.push(program).expect(rt, "memory");
+    Command {
         words: Texts::new(words),
-        inputs,
+        inputs: names(rt, alloc, &["t"]),
         outputs,
-    })
+    }
+}
+
+/// A spawner of two children that say this and then end; the start of this number fails.
+fn speakers(rt: &impl Abort, alloc: Global, text: &[u8], failing: u64) -> MemorySpawner {
+    let mut scripts = Vec::new(alloc);
+    for _ in 0..2 {
+        let script = Vec::from_slice(alloc, text).expect(rt, "memory");
+        scripts.push(script).expect(rt, "memory");
+    }
+    let plan = Vec::from_slice(alloc, &[failing]).expect(rt, "memory");
+    MemorySpawner::scripted(alloc, scripts, 256, plan, Vec::new(alloc)).expect(rt, "memory")
+}
+
+/// Starts two children, and counts those that were started.
+fn start_two(alloc: Global, spawner: &mut MemorySpawner, command: &Command) -> usize
+    requires { 0 < length command.now.words }
+{
+    match start_all(alloc, spawner, command, 2) {
+        Ok(sessions) => sessions.len(),
+        Err(broken) => broken.sessions.len(),
+    }
 }
 
 /// How many of two children are started, where the start of this number fails.
-fn started(alloc: Global, command: &Command, failing: u64) -> Result<usize, Fail>
-    requires { 0 < length command.now.words }
-{
-    let mut scripts = Vec::new(alloc);
-    for _ in 0..2 {
-        scripts.push(Vec::new(alloc))?;
-    }
-    let plan = Vec::from_slice(alloc, &[failing])?;
-    let mut spawner = MemorySpawner::scripted(alloc, scripts, 100, plan, Vec::new(alloc))?;
-    match start_all(alloc, &mut spawner, command, 2) {
-        Ok(sessions) => Ok(sessions.len()),
-        Err(broken) => Ok(broken.sessions.len()),
-    }
+fn started(rt: &impl Abort, alloc: Global, failing: u64) -> usize {
+    let command = command(rt, alloc, None);
+    let mut spawner = speakers(rt, alloc, b"", failing);
+    start_two(alloc, &mut spawner, &command)
 }
 
 #[test]
-fn children_are_started_up_to_a_failure(rt: HostRuntime) -> Result<(), Fail> {
-    let command = command(rt.alloc(), None)?;
-    assert_eq!(rt; started(rt.alloc(), &command, 9)?, 2);
-    assert_eq!(rt; started(rt.alloc(), &command, 1)?, 1);
-    Ok(())
+fn children_are_started_up_to_a_failure(rt: HostRuntime) {
+    assert!(rt; started(&rt, rt.alloc(), 9) == 2);
+    assert!(rt; started(&rt, rt.alloc(), 1) == 1);
 }

@@ -2,7 +2,7 @@
 use lw_compare::{compare, comparison_is_unique};
 use lw_outside::{MemoryFiles, MemorySink};
 use std::alloc::Global;
-use std::test::Fail;
+use std::process::Abort;
 
 mod drawn;
 
@@ -197,28 +197,34 @@ struct Outside {
     err: MemorySink,
 }
 
-fn file(alloc: Global, name: &str, text: &str) -> Result<(String, Vec<u8>), Fail> {
-    let bytes = Vec::from_slice(alloc, text.as_bytes())?;
-    Ok((String::from_str(alloc, name)?, bytes))
+fn file(rt: &impl Abort, alloc: Global, name: &str, text: &str) -> (String, Vec<u8>) {
+    let bytes = Vec::from_slice(alloc, text.as_bytes()).expect(rt, "memory");
+    (String::from_str(alloc, name).expect(rt, "memory"), bytes)
 }
 
-fn files(alloc: Global, case: &Case) -> Result<MemoryFiles, Fail> {
+fn plan(rt: &impl Abort, alloc: Global, calls: &[u64]) -> Vec<u64> {
+    Vec::from_slice(alloc, calls).expect(rt, "memory")
+}
+
+fn files(rt: &impl Abort, alloc: Global, case: &Case) -> MemoryFiles {
     let mut held = Vec::new(alloc);
-    held.push(file(alloc, "m", case.first)?)?;
-    held.push(file(alloc, "n", case.second)?)?;
-    Ok(MemoryFiles::new(alloc, held, Vec::from_slice(alloc, case.file_plan)?)?)
+    held.push(file(rt, alloc, "m", case.first))
+        .expect(rt, "memory");
+    held.push(file(rt, alloc, "n", case.second))
+        .expect(rt, "memory");
+    MemoryFiles::new(alloc, held, plan(rt, alloc, case.file_plan)).expect(rt, "memory")
 }
 
-fn sink(alloc: Global, plan: &[u64]) -> Result<MemorySink, Fail> {
-    Ok(MemorySink::new(alloc, 200, 7, Vec::from_slice(alloc, plan)?)?)
+fn sink(rt: &impl Abort, alloc: Global, calls: &[u64]) -> MemorySink {
+    MemorySink::new(alloc, 200, 7, plan(rt, alloc, calls)).expect(rt, "memory")
 }
 
-fn prepare(alloc: Global, case: &Case) -> Result<Outside, Fail> {
-    Ok(Outside {
-        files: files(alloc, case)?,
-        out: sink(alloc, case.out_plan)?,
-        err: sink(alloc, case.err_plan)?,
-    })
+fn prepare(rt: &impl Abort, alloc: Global, case: &Case) -> Outside {
+    Outside {
+        files: files(rt, alloc, case),
+        out: sink(rt, alloc, case.out_plan),
+        err: sink(rt, alloc, case.err_plan),
+    }
 }
 
 /// The exit status of a call.
@@ -241,24 +247,22 @@ fn ends_so(alloc: Global, case: &Case, outside: &mut Outside) -> bool {
         && outside.err.taken() == case.err.as_bytes()
 }
 
-fn compares(alloc: Global, case: &Case) -> Result<bool, Fail> {
-    let mut outside = prepare(alloc, case)?;
-    Ok(ends_so(alloc, case, &mut outside))
+fn compares(rt: &impl Abort, alloc: Global, case: &Case) -> bool {
+    let mut outside = prepare(rt, alloc, case);
+    ends_so(alloc, case, &mut outside)
 }
 
 #[test]
-fn models_are_compared(rt: HostRuntime) -> Result<(), Fail> {
+fn models_are_compared(rt: HostRuntime) {
     for case in &COMPARED {
-        assert!(rt; compares(rt.alloc(), case)?);
+        assert!(rt; compares(&rt, rt.alloc(), case));
     }
     comparison_is_unique();
-    Ok(())
 }
 
 #[test]
-fn refusals_and_faults(rt: HostRuntime) -> Result<(), Fail> {
+fn refusals_and_faults(rt: HostRuntime) {
     for case in &REFUSED {
-        assert!(rt; compares(rt.alloc(), case)?);
+        assert!(rt; compares(&rt, rt.alloc(), case));
     }
-    Ok(())
 }

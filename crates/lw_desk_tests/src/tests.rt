@@ -10,7 +10,7 @@ use lw_cache::{AskStop, Cache};
 use lw_desk::OutNames;
 use lw_words::SulStop;
 use std::alloc::Global;
-use std::test::Fail;
+use std::process::Abort;
 
 /// Whether the kept answer with this number is of this instance, in this run, with these outputs.
 fn kept_is(cache: &Cache, i: usize, instance: u32, run: u64, outs: &[u16]) -> bool {
@@ -87,19 +87,18 @@ fn is_third_clash(stop: &Option<AskStop>) -> bool {
 }
 
 /// Whether a desk leaves that.
-fn leaves_clash(desk: Trial) -> Result<bool, Fail> {
-    let (cache, names, stop) = desk.finish()?;
+fn leaves_clash(rt: &impl Abort, desk: Trial) -> bool {
+    let (cache, names, stop) = desk.finish(rt);
     let named = !names.is_free() && name_is(&names, 1, "1");
-    Ok(are_both_kept(&cache) && named && is_third_clash(&stop))
+    are_both_kept(&cache) && named && is_third_clash(&stop)
 }
 
 #[test]
-fn a_clash_stops_the_desk(rt: HostRuntime) -> Result<(), Fail> {
+fn a_clash_stops_the_desk(rt: HostRuntime) {
     let alloc = rt.alloc();
-    let mut desk = declared(alloc, &["0", "1"], &[&[0, 0, 0, 0], &[0, 0, 0, 1]], 2)?;
-    assert_eq!(rt; taken(alloc, &mut desk, &CLASH)?, 6);
-    assert!(rt; leaves_clash(desk)?);
-    Ok(())
+    let mut desk = declared(&rt, alloc, &["0", "1"], &[&[0, 0, 0, 0], &[0, 0, 0, 1]], 2);
+    assert!(rt; taken(&rt, alloc, &mut desk, &CLASH) == 6);
+    assert!(rt; leaves_clash(&rt, desk));
 }
 
 static LONGER_FIRST: [&[u16]; 7] = [
@@ -119,11 +118,10 @@ static WANTS_ALL: [Turn; 1] = [Turn {
 }];
 
 #[test]
-fn longer_words_come_first_and_then_smaller_places(rt: HostRuntime) -> Result<(), Fail> {
+fn longer_words_come_first_and_then_smaller_places(rt: HostRuntime) {
     let alloc = rt.alloc();
-    let mut desk = declared(alloc, &["0"], &LONGER_FIRST, 1)?;
-    assert_eq!(rt; taken(alloc, &mut desk, &WANTS_ALL)?, 1);
-    Ok(())
+    let mut desk = declared(&rt, alloc, &["0"], &LONGER_FIRST, 1);
+    assert!(rt; taken(&rt, alloc, &mut desk, &WANTS_ALL) == 1);
 }
 
 static CLAIMED: [Turn; 3] = [
@@ -149,18 +147,17 @@ static CLAIMED: [Turn; 3] = [
 ];
 
 /// Whether a desk leaves this answer first, and was not stopped.
-fn leaves_one(desk: Trial) -> Result<bool, Fail> {
-    let (cache, _, stop) = desk.finish()?;
-    Ok(kept_is(&cache, 0, 0, 5, &[0, 0]) && stop.is_none())
+fn leaves_one(rt: &impl Abort, desk: Trial) -> bool {
+    let (cache, _, stop) = desk.finish(rt);
+    kept_is(&cache, 0, 0, 5, &[0, 0]) && stop.is_none()
 }
 
 #[test]
-fn a_word_that_begins_a_claimed_one_is_not_handed_out(rt: HostRuntime) -> Result<(), Fail> {
+fn a_word_that_begins_a_claimed_one_is_not_handed_out(rt: HostRuntime) {
     let alloc = rt.alloc();
-    let mut desk = declared(alloc, &["0"], &[&[0], &[0, 1], &[]], 2)?;
-    assert_eq!(rt; taken(alloc, &mut desk, &CLAIMED)?, 3);
-    assert!(rt; leaves_one(desk)?);
-    Ok(())
+    let mut desk = declared(&rt, alloc, &["0"], &[&[0], &[0, 1], &[]], 2);
+    assert!(rt; taken(&rt, alloc, &mut desk, &CLAIMED) == 3);
+    assert!(rt; leaves_one(&rt, desk));
 }
 
 static FAILING: [Turn; 3] = [
@@ -193,18 +190,17 @@ fn is_stop_of_first(stop: &Option<AskStop>) -> bool {
 }
 
 /// Whether a desk was stopped by the first actor's system, and leaves no answer.
-fn leaves_none(desk: Trial) -> Result<bool, Fail> {
-    let (cache, _, stop) = desk.finish()?;
-    Ok(cache.kept().len() == 0 && cache.nodes() == 0 && is_stop_of_first(&stop))
+fn leaves_none(rt: &impl Abort, desk: Trial) -> bool {
+    let (cache, _, stop) = desk.finish(rt);
+    cache.kept().len() == 0 && cache.nodes() == 0 && is_stop_of_first(&stop)
 }
 
 #[test]
-fn who_fails_gives_its_places_up(rt: HostRuntime) -> Result<(), Fail> {
+fn who_fails_gives_its_places_up(rt: HostRuntime) {
     let alloc = rt.alloc();
-    let mut desk = declared(alloc, &["0"], &[&[0], &[1], &[2]], 2)?;
-    assert_eq!(rt; taken(alloc, &mut desk, &FAILING)?, 3);
-    assert!(rt; leaves_none(desk)?);
-    Ok(())
+    let mut desk = declared(&rt, alloc, &["0"], &[&[0], &[1], &[2]], 2);
+    assert!(rt; taken(&rt, alloc, &mut desk, &FAILING) == 3);
+    assert!(rt; leaves_none(&rt, desk));
 }
 
 static SHARING: [Turn; 4] = [
@@ -248,20 +244,19 @@ fn are_in_order(names: &OutNames) -> bool {
 }
 
 /// Whether a desk leaves them, and each answer with the shared numbers.
-fn leaves_shared(desk: Trial) -> Result<bool, Fail> {
-    let (cache, names, _) = desk.finish()?;
+fn leaves_shared(rt: &impl Abort, desk: Trial) -> bool {
+    let (cache, names, _) = desk.finish(rt);
     let first = kept_is(&cache, 0, 0, 0, &[0, 1]);
     let second = kept_is(&cache, 1, 1, 0, &[1, 0]);
-    Ok(are_in_order(&names) && first && second)
+    are_in_order(&names) && first && second
 }
 
 #[test]
-fn free_names_are_shared(rt: HostRuntime) -> Result<(), Fail> {
+fn free_names_are_shared(rt: HostRuntime) {
     let alloc = rt.alloc();
-    let mut desk = free(alloc, &[&[0, 0], &[1, 1]], 2)?;
-    assert_eq!(rt; taken(alloc, &mut desk, &SHARING)?, 4);
-    assert!(rt; leaves_shared(desk)?);
-    Ok(())
+    let mut desk = free(&rt, alloc, &[&[0, 0], &[1, 1]], 2);
+    assert!(rt; taken(&rt, alloc, &mut desk, &SHARING) == 4);
+    assert!(rt; leaves_shared(&rt, desk));
 }
 
 static GIVING_BOTH: [Turn; 2] = [
@@ -291,18 +286,17 @@ static GIVING_BOTH: [Turn; 2] = [
 ];
 
 /// Whether a desk leaves both answers and both names, and was not stopped.
-fn leaves_both(desk: Trial) -> Result<bool, Fail> {
-    let (cache, names, stop) = desk.finish()?;
+fn leaves_both(rt: &impl Abort, desk: Trial) -> bool {
+    let (cache, names, stop) = desk.finish(rt);
     let first = kept_is(&cache, 0, 0, 0, &[0, 0]);
     let second = kept_is(&cache, 1, 0, 1, &[1]);
-    Ok(cache.kept().len() == 2 && names.len() == 2 && first && second && stop.is_none())
+    cache.kept().len() == 2 && names.len() == 2 && first && second && stop.is_none()
 }
 
 #[test]
-fn several_answers_in_one_ask(rt: HostRuntime) -> Result<(), Fail> {
+fn several_answers_in_one_ask(rt: HostRuntime) {
     let alloc = rt.alloc();
-    let mut desk = free(alloc, &[&[0, 0], &[1]], 1)?;
-    assert_eq!(rt; taken(alloc, &mut desk, &GIVING_BOTH)?, 2);
-    assert!(rt; leaves_both(desk)?);
-    Ok(())
+    let mut desk = free(&rt, alloc, &[&[0, 0], &[1]], 1);
+    assert!(rt; taken(&rt, alloc, &mut desk, &GIVING_BOTH) == 2);
+    assert!(rt; leaves_both(&rt, desk));
 }

@@ -7,24 +7,26 @@ use lw_outside::{
     Files, FilesStop, MemoryFiles, MemorySink, MemorySource, Sink, Source, WriteStop,
 };
 use std::alloc::Global;
-use std::test::Fail;
+use std::process::Abort;
 
 /// Names and their texts.
-fn named(alloc: Global, list: &[(&str, &str)]) -> Result<Vec<(String, Vec<u8>)>, Fail> {
+fn named(rt: &impl Abort, alloc: Global, list: &[(&str, &str)]) -> Vec<(String, Vec<u8>)> {
     let mut files = Vec::new(alloc);
     for (name, text) in list {
-        let name = String::from_str(alloc, name)?;
-        files.push((name, Vec::from_slice(alloc, text.as_bytes())?))?;
+        let name = String::from_str(alloc, name).expect(rt, "memory");
+        let bytes = Vec::from_slice(alloc, text.as_bytes()).expect(rt, "memory");
+        files.push((name, bytes)).expect(rt, "memory");
     }
-    Ok(files)
+    files
 }
 
 static FILES: [(&str, &str); 3] = [("a", "old"), ("b", "two"), ("a", "new")];
 
 /// Files `a` and `b`, where a later `a` wins, and the calls of the plan fail.
-fn two_files(alloc: Global, plan: &[u64]) -> Result<MemoryFiles, Fail> {
-    let files = named(alloc, &FILES)?;
-    Ok(MemoryFiles::new(alloc, files, plan.to_vec(alloc)?)?)
+fn two_files(rt: &impl Abort, alloc: Global, plan: &[u64]) -> MemoryFiles {
+    let files = named(rt, alloc, &FILES);
+    let plan = plan.to_vec(alloc).expect(rt, "memory");
+    MemoryFiles::new(alloc, files, plan).expect(rt, "memory")
 }
 
 fn reads<F: Files>(files: &mut F, name: &str, text: &str) -> bool {
@@ -76,16 +78,15 @@ static BY_NAME: [Turn; 5] = [
 ];
 
 /// Whether files are found by their names, and the calls are noted.
-fn are_found(alloc: Global) -> Result<bool, Fail> {
-    let mut files = two_files(alloc, &[])?;
+fn are_found(rt: &impl Abort, alloc: Global) -> bool {
+    let mut files = two_files(rt, alloc, &[]);
     let found = all_go(&mut files, &BY_NAME);
-    Ok(found && files.calls().len() == 5 && files.bytes("d").is_none())
+    found && files.calls().len() == 5 && files.bytes("d").is_none()
 }
 
 #[test]
-fn files_by_name(rt: HostRuntime) -> Result<(), Fail> {
-    assert!(rt; are_found(rt.alloc())?);
-    Ok(())
+fn files_by_name(rt: HostRuntime) {
+    assert!(rt; are_found(&rt, rt.alloc()));
 }
 
 static BY_PLAN: [Turn; 4] = [
@@ -96,25 +97,25 @@ static BY_PLAN: [Turn; 4] = [
 ];
 
 /// Whether the calls of a plan fail.
-fn fail_by_plan(alloc: Global) -> Result<bool, Fail> {
-    let mut files = two_files(alloc, &[1, 2])?;
-    Ok(all_go(&mut files, &BY_PLAN))
+fn fail_by_plan(rt: &impl Abort, alloc: Global) -> bool {
+    let mut files = two_files(rt, alloc, &[1, 2]);
+    all_go(&mut files, &BY_PLAN)
 }
 
 #[test]
-fn files_fail_by_their_plan(rt: HostRuntime) -> Result<(), Fail> {
-    assert!(rt; fail_by_plan(rt.alloc())?);
-    Ok(())
+fn files_fail_by_their_plan(rt: HostRuntime) {
+    assert!(rt; fail_by_plan(&rt, rt.alloc()));
 }
 
 /// Files of one letter, so many times each.
-fn long_files(alloc: Global, lengths: &[(&str, usize)]) -> Result<MemoryFiles, Fail> {
+fn long_files(rt: &impl Abort, alloc: Global, lengths: &[(&str, usize)]) -> MemoryFiles {
     let mut files = Vec::new(alloc);
     for (name, length) in lengths {
-        let name = String::from_str(alloc, name)?;
-        files.push((name, vec![in alloc; b'x'; *length]?))?;
+        let name = String::from_str(alloc, name).expect(rt, "memory");
+        let bytes = vec![in alloc; b'x'; *length].expect(rt, "memory");
+        files.push((name, bytes)).expect(rt, "memory");
     }
-    Ok(MemoryFiles::new(alloc, files, Vec::new(alloc))?)
+    MemoryFiles::new(alloc, files, Vec::new(alloc)).expect(rt, "memory")
 }
 
 static LENGTHS: [(&str, usize); 2] = [("long", 16_777_216), ("longer", 16_777_217)];
@@ -126,10 +127,9 @@ fn longer_is_too_long<F: Files>(files: &mut F) -> bool {
 }
 
 #[test]
-fn a_long_file_is_not_read(rt: HostRuntime) -> Result<(), Fail> {
-    let mut files = long_files(rt.alloc(), &LENGTHS)?;
+fn a_long_file_is_not_read(rt: HostRuntime) {
+    let mut files = long_files(&rt, rt.alloc(), &LENGTHS);
     assert!(rt; longer_is_too_long(&mut files));
-    Ok(())
 }
 
 /// Whether a sink takes so many of these bytes, which are not none, or fails where it is to.
@@ -158,15 +158,15 @@ static PUTS: [(&[u8], Option<usize>); 4] = [
 ];
 
 /// Whether a sink with a room of five bytes takes three at a time, but for a call that fails.
-fn sink_goes(alloc: Global) -> Result<bool, Fail> {
-    let mut sink = MemorySink::new(alloc, 5, 3, [1u64].to_vec(alloc)?)?;
-    Ok(takes_all_so(&mut sink, &PUTS) && sink.taken() == b"abcde".as_slice())
+fn sink_goes(rt: &impl Abort, alloc: Global) -> bool {
+    let plan = [1u64].to_vec(alloc).expect(rt, "memory");
+    let mut sink = MemorySink::new(alloc, 5, 3, plan).expect(rt, "memory");
+    takes_all_so(&mut sink, &PUTS) && sink.taken() == b"abcde".as_slice()
 }
 
 #[test]
-fn a_sink_takes_pieces_up_to_its_room(rt: HostRuntime) -> Result<(), Fail> {
-    assert!(rt; sink_goes(rt.alloc())?);
-    Ok(())
+fn a_sink_takes_pieces_up_to_its_room(rt: HostRuntime) {
+    assert!(rt; sink_goes(&rt, rt.alloc()));
 }
 
 /// How many bytes a source gives into a buffer of four, and its first one; None where it fails.
@@ -191,14 +191,14 @@ fn gives_so<S: Source>(source: &mut S, reads: &[Option<(usize, u8)>]) -> bool {
 static READS: [Option<(usize, u8)>; 4] = [Some((3, b'a')), None, Some((2, b'd')), Some((0, 0))];
 
 /// Whether a source of five bytes gives three at a time, but for a call that fails.
-fn source_goes(alloc: Global) -> Result<bool, Fail> {
-    let bytes = b"abcde".to_vec(alloc)?;
-    let mut source = MemorySource::new(bytes, 3, [1u64].to_vec(alloc)?)?;
-    Ok(gives_so(&mut source, &READS))
+fn source_goes(rt: &impl Abort, alloc: Global) -> bool {
+    let bytes = b"abcde".to_vec(alloc).expect(rt, "memory");
+    let plan = [1u64].to_vec(alloc).expect(rt, "memory");
+    let mut source = MemorySource::new(bytes, 3, plan).expect(rt, "memory");
+    gives_so(&mut source, &READS)
 }
 
 #[test]
-fn a_source_gives_pieces_up_to_its_end(rt: HostRuntime) -> Result<(), Fail> {
-    assert!(rt; source_goes(rt.alloc())?);
-    Ok(())
+fn a_source_gives_pieces_up_to_its_end(rt: HostRuntime) {
+    assert!(rt; source_goes(&rt, rt.alloc()));
 }

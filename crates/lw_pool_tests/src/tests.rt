@@ -1,5 +1,5 @@
 //! How a crew shares a batch, and pools: what is asked, two at once, sessions that disagree and one that stops.
-ghost use Rattle.std.specs.Prelude.{◌≡◌, ◌<◌, ◌^◌, IfOk, length};
+ghost use Rattle.std.specs.Prelude.{◌≡◌, ◌<◌, ◌^◌, length};
 ghost use Rattle.std.specs.List.{All};
 ghost use Rattle.lw_words.specs.Word.{IsWord};
 ghost use Rattle.lw_pool.specs.Settling.{HasSettled};
@@ -21,113 +21,116 @@ use lw_cache::{AskStop, Clash, Oracle};
 use lw_pool::{ByCall, Pool, share};
 use lw_words::{Kept, SulStop, Word};
 use std::alloc::Global;
+use std::process::Abort;
 use std::sync::Wait;
-use std::test::Fail;
 use std::thread::Threads;
 
 #[test]
-fn the_end_of_a_batch_is_shared_word_by_word(rt: HostRuntime) -> Result<(), Fail> {
+fn the_end_of_a_batch_is_shared_word_by_word(rt: HostRuntime) {
     assert_eq!(rt; share(1000, 8), 16);
     assert_eq!(rt; share(64, 4), 8);
     assert_eq!(rt; share(9, 4), 1);
     assert_eq!(rt; share(0, 16), 1);
-    Ok(())
 }
 
 /// Settles all words of so many letters; whether that succeeds.
-fn settles_all<R: Threads + Wait + Sync>(
+fn settles_all<R: Abort + Threads + Wait + Sync>(
+    rt: &R,
     pool: &mut Pool<Acting, R>,
     alloc: Global,
     letters: u32,
-) -> Result<bool, Fail>
+) -> bool
     requires { pool.old.inputs ≡ 2 }
-    ensures { IfOk result (λ _. pool.new.inputs ≡ 2) }
+    ensures { pool.new.inputs ≡ 2 }
 {
-    Ok(settle(pool, &all_words(alloc, letters)?)?.is_ok())
+    settle(rt, pool, &all_words(rt, alloc, letters)).is_ok()
 }
 
 /// Settles the empty word; whether that succeeds, and nothing is kept.
-fn keeps_nothing<R: Threads + Wait + Sync>(
+fn keeps_nothing<R: Abort + Threads + Wait + Sync>(
+    rt: &R,
     pool: &mut Pool<Acting, R>,
     alloc: Global,
-) -> Result<bool, Fail>
+) -> bool
     requires { pool.old.inputs ≡ 2 }
-    ensures { IfOk result (λ _. pool.new.inputs ≡ 2) }
+    ensures { pool.new.inputs ≡ 2 }
 {
-    let settled = settles_all(pool, alloc, 0)?;
-    Ok(settled && pool.cache().kept().len() == 0)
+    let settled = settles_all(rt, pool, alloc, 0);
+    settled && pool.cache().kept().len() == 0
 }
 
 /// Settles all words of four letters; whether that succeeds, and the machine's answers are kept, each once.
-fn keeps_all<R: Threads + Wait + Sync>(
+fn keeps_all<R: Abort + Threads + Wait + Sync>(
+    rt: &R,
     pool: &mut Pool<Acting, R>,
     alloc: Global,
-) -> Result<bool, Fail>
+) -> bool
     requires { pool.old.inputs ≡ 2 }
-    ensures { IfOk result (λ _. pool.new.inputs ≡ 2) }
+    ensures { pool.new.inputs ≡ 2 }
 {
-    let m = machine(alloc, &ROWS)?;
-    let settled = settles_all(pool, alloc, 4)?;
-    Ok(settled && are_all_answers(alloc, &m, pool.cache().kept())?)
+    let settled = settles_all(rt, pool, alloc, 4);
+    let m = machine(rt, alloc, &ROWS);
+    settled && are_all_answers(rt, alloc, &m, pool.cache().kept())
 }
 
 /// Settles all words of three letters, and all of four once more; whether that succeeds, and no more is kept.
-fn keeps_no_more<R: Threads + Wait + Sync>(
+fn keeps_no_more<R: Abort + Threads + Wait + Sync>(
+    rt: &R,
     pool: &mut Pool<Acting, R>,
     alloc: Global,
-) -> Result<bool, Fail>
+) -> bool
     requires { pool.old.inputs ≡ 2 }
 {
-    let shorter = settles_all(pool, alloc, 3)?;
-    let again = settles_all(pool, alloc, 4)?;
-    Ok(shorter && again && pool.cache().kept().len() == 16)
+    let shorter = settles_all(rt, pool, alloc, 3);
+    let again = settles_all(rt, pool, alloc, 4);
+    shorter && again && pool.cache().kept().len() == 16
 }
 
 /// Whether a pool asks each word of four letters once, and none that is known.
-fn keeps_each_once<R: Threads + Wait + Sync>(
+fn keeps_each_once<R: Abort + Threads + Wait + Sync>(
+    rt: &R,
     pool: &mut Pool<Acting, R>,
     alloc: Global,
-) -> Result<bool, Fail>
+) -> bool
     requires { pool.old.inputs ≡ 2 }
 {
-    let empty = keeps_nothing(pool, alloc)?;
-    let long = keeps_all(pool, alloc)?;
-    let known = keeps_no_more(pool, alloc)?;
-    Ok(empty && long && known)
+    let empty = keeps_nothing(rt, pool, alloc);
+    let long = keeps_all(rt, pool, alloc);
+    let known = keeps_no_more(rt, pool, alloc);
+    empty && long && known
 }
 
 /// The same of a pool of so many.
-fn asks_each_once<R: Threads + Wait + Sync + Drop>(
+fn asks_each_once<R: Abort + Threads + Wait + Sync + Copy + Drop>(
     rt: R,
     alloc: Global,
     count: usize,
-) -> Result<bool, Fail> {
-    let mut pool = pool_of(rt, alloc, sound_plans(alloc, count)?)?;
-    keeps_each_once(&mut pool, alloc)
+) -> bool {
+    let mut pool = pool_of(rt, alloc, sound_plans(&rt, alloc, count));
+    keeps_each_once(&rt, &mut pool, alloc)
 }
 
 #[test]
-fn each_word_is_asked_once_by_however_many(rt: HostRuntime) -> Result<(), Fail> {
-    let alloc = rt.alloc();
+fn each_word_is_asked_once_by_however_many(rt: HostRuntime) {
     for count in [1usize, 2, 8, 16] {
-        assert!(rt; asks_each_once(rt, alloc, count)?, "{count} sessions");
+        assert!(rt; asks_each_once(rt, rt.alloc(), count), "{count} sessions");
     }
-    Ok(())
 }
 
 /// A word behind one of its prefixes, and the prefix again.
 static PREFIXES: [&[u16]; 3] = [&[0], &[0, 0, 0], &[0]];
 
 /// Settles them twice; whether that succeeds, and one answer is kept.
-fn keeps_longest<R: Threads + Wait + Sync>(
+fn keeps_longest<R: Abort + Threads + Wait + Sync>(
+    rt: &R,
     pool: &mut Pool<Acting, R>,
     alloc: Global,
-) -> Result<bool, Fail>
+) -> bool
     requires { pool.old.inputs ≡ 2 }
 {
-    let first = settles(pool, alloc, &PREFIXES)?;
-    let again = settles(pool, alloc, &PREFIXES)?;
-    Ok(first && again && pool.cache().kept().len() == 1)
+    let first = settles(rt, pool, alloc, &PREFIXES);
+    let again = settles(rt, pool, alloc, &PREFIXES);
+    first && again && pool.cache().kept().len() == 1
 }
 
 /// Whether a pool leaves so many sessions and one answer.
@@ -137,95 +140,83 @@ fn leaves_one<R: Drop>(pool: Pool<Acting, R>, count: usize) -> bool {
 }
 
 /// Whether a pool of so many keeps and leaves one answer to a word and its prefixes.
-fn keeps_one<R: Threads + Wait + Sync + Drop>(
+fn keeps_one<R: Abort + Threads + Wait + Sync + Copy + Drop>(
     rt: R,
     alloc: Global,
     count: usize,
-) -> Result<bool, Fail> {
-    let mut pool = pool_of(rt, alloc, sound_plans(alloc, count)?)?;
-    let settled = keeps_longest(&mut pool, alloc)?;
+) -> bool {
+    let mut pool = pool_of(rt, alloc, sound_plans(&rt, alloc, count));
+    let settled = keeps_longest(&rt, &mut pool, alloc);
     let left = leaves_one(pool, count);
-    Ok(settled && left)
+    settled && left
 }
 
 #[test]
-fn a_prefix_and_a_repeated_word_are_not_asked(rt: HostRuntime) -> Result<(), Fail> {
-    let alloc = rt.alloc();
+fn a_prefix_and_a_repeated_word_are_not_asked(rt: HostRuntime) {
     for count in [1usize, 2, 8] {
-        assert!(rt; keeps_one(rt, alloc, count)?, "{count} sessions");
+        assert!(rt; keeps_one(rt, rt.alloc(), count), "{count} sessions");
     }
-    Ok(())
 }
 
 static TWO_WORDS: [&[u16]; 2] = [&[0], &[1]];
 
-/// Settles two words; whether that succeeds, and both are kept.
-fn keeps_two<R: Threads + Wait + Sync>(
-    pool: &mut Pool<Acting, R>,
-    alloc: Global,
-) -> Result<bool, Fail>
-    requires { pool.old.inputs ≡ 2 }
-{
-    let settled = settles(pool, alloc, &TWO_WORDS)?;
-    Ok(settled && pool.cache().kept().len() == 2)
-}
-
-/// The same of two systems that meet.
-fn asks_two_at_once<R: Threads + Wait + Sync + Drop>(rt: R, alloc: Global) -> Result<bool, Fail> {
-    let mut pool = meeting_pool(rt, alloc, 0)?;
-    keeps_two(&mut pool, alloc)
+/// Settles two words with two systems that meet; whether that succeeds, and both are kept.
+fn asks_two_at_once<R: Abort + Threads + Wait + Sync + Copy + Drop>(rt: R, alloc: Global) -> bool {
+    let mut pool = meeting_pool(rt, alloc, 0);
+    let settled = settles(&rt, &mut pool, alloc, &TWO_WORDS);
+    settled && pool.cache().kept().len() == 2
 }
 
 #[test]
-fn two_words_are_asked_at_once(rt: HostRuntime) -> Result<(), Fail> {
-    assert!(rt; asks_two_at_once(rt, rt.alloc())?);
-    Ok(())
+fn two_words_are_asked_at_once(rt: HostRuntime) {
+    assert!(rt; asks_two_at_once(rt, rt.alloc()));
 }
 
 /// Settles a batch; whether the first two answers clash in their first outputs, and no more than these are kept.
-fn clashes<R: Threads + Wait + Sync>(
+fn clashes<R: Abort + Threads + Wait + Sync>(
+    rt: &R,
     pool: &mut Pool<Acting, R>,
     batch: &[Word],
-) -> Result<bool, Fail>
+) -> bool
     requires { pool.old.inputs ≡ 2 }
-    ensures { IfOk result (λ _. pool.new.inputs ≡ 2) }
+    ensures { pool.new.inputs ≡ 2 }
 {
-    let Err(AskStop::Clash(clash)) = settle(pool, batch)? else {
-        return Ok(false);
+    let Err(AskStop::Clash(clash)) = settle(rt, pool, batch) else {
+        return false;
     };
     let expected = Clash {
         first: 0,
         second: 1,
         place: 0,
     };
-    Ok(clash == expected && pool.cache().kept().len() == 2)
+    clash == expected && pool.cache().kept().len() == 2
 }
 
 static ALIKE: [&[u16]; 2] = [&[0, 0], &[0, 1]];
 
 /// Settles two words twice; whether they clash each time.
-fn stays_clashed<R: Threads + Wait + Sync>(
+fn stays_clashed<R: Abort + Threads + Wait + Sync>(
+    rt: &R,
     pool: &mut Pool<Acting, R>,
     alloc: Global,
-) -> Result<bool, Fail>
+) -> bool
     requires { pool.old.inputs ≡ 2 }
 {
-    let batch = words(alloc, &ALIKE)?;
-    let first = clashes(pool, &batch)?;
-    let again = clashes(pool, &batch)?;
-    Ok(first && again)
+    let batch = words(rt, alloc, &ALIKE);
+    let first = clashes(rt, pool, &batch);
+    let again = clashes(rt, pool, &batch);
+    first && again
 }
 
 /// The same of two systems that disagree.
-fn disagrees<R: Threads + Wait + Sync + Drop>(rt: R, alloc: Global) -> Result<bool, Fail> {
-    let mut pool = meeting_pool(rt, alloc, 1)?;
-    stays_clashed(&mut pool, alloc)
+fn disagrees<R: Abort + Threads + Wait + Sync + Copy + Drop>(rt: R, alloc: Global) -> bool {
+    let mut pool = meeting_pool(rt, alloc, 1);
+    stays_clashed(&rt, &mut pool, alloc)
 }
 
 #[test]
-fn sessions_that_disagree_clash_and_stay_so(rt: HostRuntime) -> Result<(), Fail> {
-    assert!(rt; disagrees(rt, rt.alloc())?);
-    Ok(())
+fn sessions_that_disagree_clash_and_stay_so(rt: HostRuntime) {
+    assert!(rt; disagrees(rt, rt.alloc()));
 }
 
 /// Whether all of them are answers of the first system to words of three letters.
@@ -245,79 +236,77 @@ fn is_stop_of_second(answered: &Result<(), AskStop>) -> bool {
 }
 
 /// A system of the machine that does as it should, and one that refuses this call of its own.
-fn one_refusing(alloc: Global, call: u32) -> Result<Vec<Plan>, Fail> {
-    let mut plans = sound_plans(alloc, 1)?;
-    let mut second = sound(alloc, &ROWS)?;
+fn one_refusing(rt: &impl Abort, alloc: Global, call: u32) -> Vec<Plan> {
+    let mut plans = sound_plans(rt, alloc, 1);
+    let mut second = sound(rt, alloc, &ROWS);
     second.refused = Some(call);
-    plans.push(second)?;
-    Ok(plans)
+    plans.push(second).expect(rt, "memory");
+    plans
 }
 
 /// Settles all words of three letters; whether the second system stops that, and only whole runs of the first are kept.
-fn is_stopped<R: Threads + Wait + Sync>(
+fn is_stopped<R: Abort + Threads + Wait + Sync>(
+    rt: &R,
     pool: &mut Pool<Acting, R>,
     alloc: Global,
-) -> Result<bool, Fail>
+) -> bool
     requires { pool.old.inputs ≡ 2 }
-    ensures { IfOk result (λ _. pool.new.inputs ≡ 2) }
+    ensures { pool.new.inputs ≡ 2 }
 {
-    let answered = settle(pool, &all_words(alloc, 3)?)?;
-    Ok(is_stop_of_second(&answered) && all_of_first(pool.cache().kept()))
+    let answered = settle(rt, pool, &all_words(rt, alloc, 3));
+    is_stop_of_second(&answered) && all_of_first(pool.cache().kept())
 }
 
 /// Settles them twice; whether each time that is so, and no more is kept the second time.
-fn stays_stopped<R: Threads + Wait + Sync>(
+fn stays_stopped<R: Abort + Threads + Wait + Sync>(
+    rt: &R,
     pool: &mut Pool<Acting, R>,
     alloc: Global,
-) -> Result<bool, Fail>
+) -> bool
     requires { pool.old.inputs ≡ 2 }
 {
-    let first = is_stopped(pool, alloc)?;
+    let first = is_stopped(rt, pool, alloc);
     let kept = pool.cache().kept().len();
-    let again = is_stopped(pool, alloc)?;
-    Ok(first && again && kept > 0 && pool.cache().kept().len() == kept)
+    let again = is_stopped(rt, pool, alloc);
+    first && again && kept > 0 && pool.cache().kept().len() == kept
 }
 
 /// The same with a second system that refuses this call of its own.
-fn stops_at<R: Threads + Wait + Sync + Drop>(
+fn stops_at<R: Abort + Threads + Wait + Sync + Copy + Drop>(
     rt: R,
     alloc: Global,
     call: u32,
-) -> Result<bool, Fail> {
-    let mut pool = pool_of(rt, alloc, one_refusing(alloc, call)?)?;
-    stays_stopped(&mut pool, alloc)
+) -> bool {
+    let mut pool = pool_of(rt, alloc, one_refusing(&rt, alloc, call));
+    stays_stopped(&rt, &mut pool, alloc)
 }
 
 #[test]
-fn a_session_that_stops_ends_the_batch(rt: HostRuntime) -> Result<(), Fail> {
-    let alloc = rt.alloc();
+fn a_session_that_stops_ends_the_batch(rt: HostRuntime) {
     for call in 0..4u32 {
-        assert!(rt; stops_at(rt, alloc, call)?);
+        assert!(rt; stops_at(rt, rt.alloc(), call));
     }
-    Ok(())
 }
 
-/// Settles a batch of words over two letters by any oracle; how many answers are kept then, where it was settled.
-fn kept_by<O: Oracle>(oracle: &mut O, batch: &[Word]) -> Result<usize, Fail>
+/// Settles a batch of words over two letters by any oracle; how many answers are kept then.
+fn kept_by<O: Oracle>(rt: &impl Abort, oracle: &mut O, batch: &[Word]) -> usize
     requires can { O.can_settle oracle.old }
     requires inputs { (O.state oracle.old).inputs ≡ 2 }
     ensures can { O.can_settle oracle.new }
-    ensures inputs { IfOk result (λ _. (O.state oracle.new).inputs ≡ 2) }
+    ensures inputs { (O.state oracle.new).inputs ≡ 2 }
 {
-    if batch.len() > 1000 || !batch.iter().all(|w| w.as_slice().iter().all(|x| *x < 2)) {
-        return Err(Fail::from("another batch was meant"));
-    }
-    match oracle.settle(batch) {
-        Ok(()) => Ok(oracle.cache().kept().len()),
-        Err(_) => Err(Fail::from("the batch was refused")),
-    }
+    assert!(rt; batch.len() <= 1000);
+    assert!(rt; batch.iter().all(|w| w.as_slice().iter().all(|x| *x < 2)));
+    assert!(rt; oracle.settle(batch).is_ok());
+    oracle.cache().kept().len()
 }
 
 /// How many answers a pool keeps, asked as an oracle, once and again.
-fn kept_by_pool<R: Threads + Wait + Sync + Drop>(
+fn kept_by_pool<R: Abort + Threads + Wait + Sync + Copy + Drop>(
+    rt: R,
     pool: Pool<Acting, R>,
     batch: &[Word],
-) -> Result<(usize, usize), Fail>
+) -> (usize, usize)
     requires { pool.inputs ≡ 2 }
 {
     let settle = |pool: &mut Pool<Acting, R>, batch: &[Word]|
@@ -326,22 +315,20 @@ fn kept_by_pool<R: Threads + Wait + Sync + Drop>(
         ensures { HasSettled batch.entry.now pool.entry.now pool.exit.now result }
     { pool.settle_all(batch) };
     let mut oracle = ByCall { pool, settle };
-    let first = kept_by(&mut oracle, batch)?;
-    Ok((first, kept_by(&mut oracle, batch)?))
+    let first = kept_by(&rt, &mut oracle, batch);
+    (first, kept_by(&rt, &mut oracle, batch))
 }
 
 /// The same of a pool of three, and all words of three letters.
-fn kept_by_three<R: Threads + Wait + Sync + Drop>(
+fn kept_by_three<R: Abort + Threads + Wait + Sync + Copy + Drop>(
     rt: R,
     alloc: Global,
-) -> Result<(usize, usize), Fail> {
-    let pool = pool_of(rt, alloc, sound_plans(alloc, 3)?)?;
-    let batch = all_words(alloc, 3)?;
-    kept_by_pool(pool, &batch)
+) -> (usize, usize) {
+    let pool = pool_of(rt, alloc, sound_plans(&rt, alloc, 3));
+    kept_by_pool(rt, pool, &all_words(&rt, alloc, 3))
 }
 
 #[test]
-fn a_pool_is_an_oracle(rt: HostRuntime) -> Result<(), Fail> {
-    assert!(rt; kept_by_three(rt, rt.alloc())? == (8, 8));
-    Ok(())
+fn a_pool_is_an_oracle(rt: HostRuntime) {
+    assert!(rt; kept_by_three(rt, rt.alloc()) == (8, 8));
 }

@@ -8,7 +8,7 @@ use lw_report::{
 };
 use lw_words::{Kept, Names, NamesFault, Word, Words};
 use std::alloc::Global;
-use std::test::Fail;
+use std::process::Abort;
 
 mod systems;
 
@@ -19,121 +19,139 @@ const ANSWERS: &str =
 
 const SETUP: &str = "{\"command\":[\"child\"],\"inputs\":[\"t\"]}\n";
 
-fn names(alloc: Global, list: &[&str]) -> Result<Names, Fail> {
+fn names(rt: &impl Abort, alloc: Global, list: &[&str]) -> Names {
     let mut all = Vec::new(alloc);
     for name in list {
-        all.push(String::from_str(alloc, name)?)?;
+        let text = String::from_str(alloc, name).expect(rt, "memory");
+        all.push(text).expect(rt, "memory");
     }
-    Ok(Names::from_list(alloc, &all)?)
+    Names::from_list(alloc, &all).expect(rt, "names")
 }
 
 /// Whether this is the line of the outcome, over the inputs `t` and `u`.
-fn says(alloc: Global, outcome: &Outcome, line: &str) -> Result<bool, Fail> {
-    let inputs = names(alloc, &["t", "u"])?;
-    let text = text(alloc, outcome, &inputs, &inputs, &Kept::new(alloc), 1)?;
-    Ok(text.as_slice() == line.as_bytes())
+fn says(rt: &impl Abort, alloc: Global, outcome: Outcome, line: &str) -> bool {
+    let inputs = names(rt, alloc, &["t", "u"]);
+    let text = text(alloc, &outcome, &inputs, &inputs, &Kept::new(alloc), 1);
+    text.expect(rt, "memory").as_slice() == line.as_bytes()
+}
+
+/// Whether this is the line of a fault in a machine file that is a table.
+fn table_says(rt: &impl Abort, alloc: Global, fault: JsonFault, line: &str) -> bool {
+    let role = Role::Table;
+    says(rt, alloc, Outcome::BadFile { role, fault }, line)
 }
 
 #[test]
-fn faults_in_words(rt: HostRuntime) -> Result<(), Fail> {
+fn faults_in_words(rt: HostRuntime) {
     let alloc = rt.alloc();
-    let table = |fault| Outcome::BadFile {
-        role: Role::Table,
-        fault,
-    };
-    assert!(rt;
-        says(
-            alloc,
-            &table(JsonFault::Shape(Field::Root)),
-            "bad file table: shape of root\n"
-        )?
-    );
+    let root = JsonFault::Shape(Field::Root);
+    assert!(rt; table_says(&rt, alloc, root, "bad file table: shape of root\n"));
     let twice = JsonFault::Inputs(NamesFault::Repeated(0, 2));
-    assert!(rt;
-        says(
-            alloc,
-            &table(twice),
-            "bad file table: inputs: repeated name at 0 and 2\n"
-        )?
-    );
+    let line = "bad file table: inputs: repeated name at 0 and 2\n";
+    assert!(rt; table_says(&rt, alloc, twice, line));
     let target = JsonFault::Mealy(MealyFault::Target(1, 0, 7));
     let line = "bad file table: no such target at state 1, letter 0: 7\n";
-    assert!(rt; says(alloc, &table(target), line)?);
-    Ok(())
+    assert!(rt; table_says(&rt, alloc, target, line));
 }
 
-#[test]
-fn a_crowd_by_its_names(rt: HostRuntime) -> Result<(), Fail> {
-    let alloc = rt.alloc();
+/// The empty word and two longer ones.
+fn crowd(rt: &impl Abort, alloc: Global) -> Words {
     let mut words = Words::new(alloc);
     let mut word = Word::new(alloc);
     for letter in [1, 0] {
-        let _pushed = words.push(word.copy()?).is_ok();
-        word.push(letter)?;
+        let copy = word.copy().expect(rt, "memory");
+        assert!(rt; words.push(copy).is_ok(), "memory");
+        word.push(letter).expect(rt, "memory");
     }
-    let _pushed = words.push(word).is_ok();
+    assert!(rt; words.push(word).is_ok(), "memory");
+    words
+}
+
+#[test]
+fn a_crowd_by_its_names(rt: HostRuntime) {
+    let alloc = rt.alloc();
+    let outcome = Outcome::TooManyStates(crowd(&rt, alloc));
     let lines = "too many states: 3 words are pairwise apart\n\"\"\n\"u\"\n\"u t\"\n";
-    assert!(rt; says(alloc, &Outcome::TooManyStates(words), lines)?);
-    Ok(())
+    assert!(rt; says(&rt, alloc, outcome, lines));
+}
+
+/// No files, of which the calls of the plan fail.
+fn no_files(rt: &impl Abort, alloc: Global, plan: &[u64]) -> MemoryFiles {
+    let plan = Vec::from_slice(alloc, plan).expect(rt, "memory");
+    MemoryFiles::new(alloc, Vec::new(alloc), plan).expect(rt, "memory")
+}
+
+/// Whether a model and answers are written, and a third file is refused.
+fn two_are_written(files: &mut MemoryFiles) -> bool {
+    let model = write_file(files, Role::Model, "m", MACHINE.as_bytes());
+    let answers = write_file(files, Role::Answers, "k", ANSWERS.as_bytes());
+    let refused = write_file(files, Role::Answers, "k2", ANSWERS.as_bytes());
+    model == Ok(()) && answers == Ok(()) && refused == Err(TellStop::File(Role::Answers))
+}
+
+/// What a machine file of this name is refused for, if it is.
+fn machine_stop(alloc: Global, files: &mut MemoryFiles, name: &str) -> Option<ReadStop> {
+    read_machine_file(alloc, files, name).err()
+}
+
+/// What an answers file of this name is refused for, if it is.
+fn answers_stop(alloc: Global, files: &mut MemoryFiles, name: &str) -> Option<ReadStop> {
+    read_answers_file(alloc, files, name).err()
+}
+
+/// What a setup file of this name is refused for, if it is.
+fn setup_stop(alloc: Global, files: &mut MemoryFiles, name: &str) -> Option<ReadStop> {
+    read_setup_file(alloc, files, name).err()
 }
 
 #[test]
-fn files_are_read_and_written(rt: HostRuntime) -> Result<(), Fail> {
+fn files_are_read_and_written(rt: HostRuntime) {
     let alloc = rt.alloc();
-    let mut files = MemoryFiles::new(alloc, Vec::new(alloc), Vec::from_slice(alloc, &[2])?)?;
-    assert_eq!(rt;
-        write_file(&mut files, Role::Model, "m", MACHINE.as_bytes()),
-        Ok(())
-    );
-    assert_eq!(rt;
-        write_file(&mut files, Role::Answers, "k", ANSWERS.as_bytes()),
-        Ok(())
-    );
-    let refused = write_file(&mut files, Role::Answers, "k2", ANSWERS.as_bytes());
-    assert_eq!(rt; refused, Err(TellStop::File(Role::Answers)));
-    assert!(rt; read_machine_file(alloc, &mut files, "m").is_ok());
-    assert!(rt; read_answers_file(alloc, &mut files, "k").is_ok());
-    let other = read_machine_file(alloc, &mut files, "k").err();
-    assert_eq!(rt; other, Some(ReadStop::Bad(JsonFault::Shape(Field::States))));
-    Ok(())
+    let mut files = no_files(&rt, alloc, &[2]);
+    assert!(rt; two_are_written(&mut files));
+    assert!(rt; machine_stop(alloc, &mut files, "m").is_none());
+    assert!(rt; answers_stop(alloc, &mut files, "k").is_none());
+    let states = ReadStop::Bad(JsonFault::Shape(Field::States));
+    assert!(rt; machine_stop(alloc, &mut files, "k") == Some(states));
+}
+
+/// Whether a setup is read just after it was written.
+fn setup_goes(alloc: Global, files: &mut MemoryFiles) -> bool {
+    let before = setup_stop(alloc, files, "s");
+    let written = write_file(files, Role::Setup, "s", SETUP.as_bytes());
+    let after = setup_stop(alloc, files, "s");
+    before == Some(ReadStop::Failed) && written == Ok(()) && after.is_none()
 }
 
 #[test]
-fn a_setup_is_read(rt: HostRuntime) -> Result<(), Fail> {
+fn a_setup_is_read(rt: HostRuntime) {
     let alloc = rt.alloc();
-    let mut files = MemoryFiles::new(alloc, Vec::new(alloc), Vec::new(alloc))?;
-    let stop = read_setup_file(alloc, &mut files, "s").err();
-    assert_eq!(rt; stop, Some(ReadStop::Failed));
-    assert_eq!(rt;
-        write_file(&mut files, Role::Setup, "s", SETUP.as_bytes()),
-        Ok(())
-    );
-    assert!(rt; read_setup_file(alloc, &mut files, "s").is_ok());
-    Ok(())
+    let mut files = no_files(&rt, alloc, &[]);
+    assert!(rt; setup_goes(alloc, &mut files));
 }
 
-#[test]
-fn reports_and_refusals(rt: HostRuntime) -> Result<(), Fail> {
-    let alloc = rt.alloc();
-    let list = names(alloc, &["t"])?;
+/// Whether the fault of a sink is told.
+fn tells_fault(rt: &impl Abort, alloc: Global, sink: &mut MemorySink) -> bool {
+    let list = names(rt, alloc, &["t"]);
     let kept = Kept::new(alloc);
-    let mut sink = MemorySink::new(alloc, 100, 4, Vec::new(alloc))?;
-    let told = put_report(
-        alloc,
-        &Outcome::SinkFault,
-        &list,
-        &list,
-        &kept,
-        1,
-        &mut sink,
-    );
-    assert_eq!(rt; told, Ok(()));
+    put_report(alloc, &Outcome::SinkFault, &list, &list, &kept, 1, sink) == Ok(())
+}
+
+/// The status after a model is refused, which isn't JSON.
+fn refusal(alloc: Global, sink: &mut MemorySink) -> u8 {
     let stop = ReadStop::Bad(JsonFault::NotJson).outcome(Role::Model);
-    let End { status, .. } = refuse(alloc, stop, None, None, kept, None, 1, &mut sink);
-    assert_eq!(rt; status, 3);
+    let End { status, .. } = refuse(alloc, stop, None, None, Kept::new(alloc), None, 1, sink);
+    status
+}
+
+#[test]
+fn reports_and_refusals(rt: HostRuntime) {
+    let alloc = rt.alloc();
+    let mut sink = MemorySink::new(alloc, 100, 4, Vec::new(alloc)).expect(&rt, "memory");
+    assert!(rt; tells_fault(&rt, alloc, &mut sink));
+    assert!(rt; refusal(alloc, &mut sink) == 3);
     assert_eq!(rt;
         sink.taken(),
         "sink fault\nbad file model: not JSON\n".as_bytes()
     );
-    Ok(())
 }

@@ -1,5 +1,4 @@
 //! Blocks that are settled, worked by hand: the words that are asked, in their order, and the discriminators.
-ghost use Rattle.std.specs.Prelude.{IfOk};
 ghost use Rattle.test_oracle.specs.Recording.{state_of};
 ghost use Rattle.test_tree.specs.Trials.{IsReady};
 
@@ -9,10 +8,10 @@ use lw_mealy::Mealy;
 use lw_settle::{Settled, some_block_is_parted};
 use lw_words::Words;
 use std::alloc::Global;
-use std::test::Fail;
+use std::process::Abort;
 use test_oracle::Recording;
 use test_tree::{Trial, closed};
-use trial::{is_refused, settle, split_by};
+use trial::{settle, split_by};
 
 /// The only letter.
 const T: u16 = 0;
@@ -27,13 +26,14 @@ fn has_just(words: &Words, expected: &[&[u16]]) -> bool {
 }
 
 /// The machine that answers these outputs, one after the other, and then begins anew.
-fn cycle(alloc: Global, outputs: [u16; 3]) -> Result<Mealy, Fail> {
+fn cycle(rt: &impl Abort, alloc: Global, outputs: [u16; 3]) -> Mealy {
     let cells = [(1, outputs[0]), (2, outputs[1]), (0, outputs[2])];
     let mut rows = Vec::new(alloc);
     for cell in &cells {
-        rows.push(Vec::from_slice(alloc, &[*cell])?)?;
+        let row = Vec::from_slice(alloc, &[*cell]).expect(rt, "memory");
+        rows.push(row).expect(rt, "memory");
     }
-    Ok(Mealy::new(alloc, 1, 2, rows)?)
+    Mealy::new(alloc, 1, 2, rows).expect(rt, "a machine")
 }
 
 /// A batch by its number, and its words in their order.
@@ -59,34 +59,37 @@ fn has_settled(oracle: &Recording, count: usize, batches: &[Batch]) -> bool {
 }
 
 /// Whether that is left.
-fn is_left(trial: &Trial, left: &Left) -> Result<bool, Fail> {
-    let words = trial.tree.discriminators()?;
+fn is_left(rt: &impl Abort, trial: &Trial, left: &Left) -> bool {
+    let words = trial.tree.discriminators().expect(rt, "memory");
     let are_words = has_just(&words, left.discriminators);
     let has_asked = has_settled(&trial.oracle, left.count, left.batches);
-    Ok(are_words && has_asked && trial.tree.temporary() == left.temporary)
+    are_words && has_asked && trial.tree.temporary() == left.temporary
 }
 
 /// The tree of a cycle, split once by each of these words, over an oracle that refuses the batch with this number.
 fn split_tree(
+    rt: &impl Abort,
     alloc: Global,
     outputs: [u16; 3],
     refused: usize,
     words: &[&[u16]],
-) -> Result<Trial, Fail>
-    ensures { IfOk result (λ trial. IsReady (state_of trial.oracle) trial.tree) }
+) -> Trial
+    ensures { IsReady (state_of result.oracle) result.tree }
 {
-    let mut trial = closed(alloc, cycle(alloc, outputs)?, 8, refused)?;
+    let Ok(mut trial) = closed(alloc, cycle(rt, alloc, outputs), 8, refused) else {
+        rt.panic("a tree isn't closed");
+    };
     for word in words {
-        split_by(alloc, &mut trial.oracle, &mut trial.tree, word)?;
+        split_by(rt, alloc, &mut trial.oracle, &mut trial.tree, word);
     }
-    Ok(trial)
+    trial
 }
 
 /// Whether a settling of a counter's tree is refused with the batch of this number, and this is left.
-fn is_refused_at(alloc: Global, refused: usize, left: &Left) -> Result<bool, Fail> {
-    let mut trial = split_tree(alloc, [0, 0, 1], refused, &[&[T, T, T]])?;
-    let stopped = is_refused(alloc, &mut trial.oracle, &mut trial.tree)?;
-    Ok(stopped && is_left(&trial, left)?)
+fn is_refused_at(rt: &impl Abort, alloc: Global, refused: usize, left: &Left) -> bool {
+    let mut trial = split_tree(rt, alloc, [0, 0, 1], refused, &[&[T, T, T]]);
+    let settling = settle(rt, alloc, &mut trial.oracle, &mut trial.tree);
+    settling.is_err() && is_left(rt, &trial, left)
 }
 
 /// Where the words of a block's states are refused, the tree is as it was.
@@ -98,9 +101,8 @@ static REFUSED_WORDS: Left = Left {
 };
 
 #[test]
-fn the_words_of_a_block_are_refused(rt: HostRuntime) -> Result<(), Fail> {
-    assert!(rt; is_refused_at(rt.alloc(), 5, &REFUSED_WORDS)?);
-    Ok(())
+fn the_words_of_a_block_are_refused(rt: HostRuntime) {
+    assert!(rt; is_refused_at(&rt, rt.alloc(), 5, &REFUSED_WORDS));
 }
 
 /// Where the level after it is refused, the root was replaced.
@@ -112,9 +114,8 @@ static REFUSED_LEVEL: Left = Left {
 };
 
 #[test]
-fn a_level_of_a_settling_is_refused(rt: HostRuntime) -> Result<(), Fail> {
-    assert!(rt; is_refused_at(rt.alloc(), 6, &REFUSED_LEVEL)?);
-    Ok(())
+fn a_level_of_a_settling_is_refused(rt: HostRuntime) {
+    assert!(rt; is_refused_at(&rt, rt.alloc(), 6, &REFUSED_LEVEL));
 }
 
 /// What a settling does, and what is left.
@@ -133,31 +134,33 @@ struct Case {
 }
 
 /// Whether settlings do so, one after another.
-fn settles(alloc: Global, trial: &mut Trial, steps: &[Step]) -> Result<bool, Fail>
+fn settles(rt: &impl Abort, alloc: Global, trial: &mut Trial, steps: &[Step]) -> bool
     requires { IsReady (state_of trial.old.oracle) trial.old.tree }
 {
     for step in steps {
-        let settled = settle(alloc, &mut trial.oracle, &mut trial.tree)?;
-        if settled != step.settled || !is_left(trial, &step.left)? {
-            return Ok(false);
+        let Ok(settled) = settle(rt, alloc, &mut trial.oracle, &mut trial.tree) else {
+            rt.panic("a settling is refused");
+        };
+        if settled != step.settled || !is_left(rt, trial, &step.left) {
+            return false;
         }
     }
-    Ok(true)
+    true
 }
 
 /// Whether a tree that was split goes on as a case says.
-fn goes_on(alloc: Global, trial: &mut Trial, case: &Case) -> Result<bool, Fail>
+fn goes_on(rt: &impl Abort, alloc: Global, trial: &mut Trial, case: &Case) -> bool
     requires { IsReady (state_of trial.old.oracle) trial.old.tree }
 {
-    let begun = is_left(trial, &case.begun)?;
-    let settled = settles(alloc, trial, case.steps)?;
-    Ok(begun && settled && trial.tree.refinements() == case.refinements)
+    let begun = is_left(rt, trial, &case.begun);
+    let settled = settles(rt, alloc, trial, case.steps);
+    begun && settled && trial.tree.refinements() == case.refinements
 }
 
 /// Whether a case goes so.
-fn goes(alloc: Global, case: &Case) -> Result<bool, Fail> {
-    let mut trial = split_tree(alloc, case.outputs, usize::MAX, case.words)?;
-    goes_on(alloc, &mut trial, case)
+fn goes(rt: &impl Abort, alloc: Global, case: &Case) -> bool {
+    let mut trial = split_tree(rt, alloc, case.outputs, usize::MAX, case.words);
+    goes_on(rt, alloc, &mut trial, case)
 }
 
 /// The tree of a counter, split by t t: one block of all three states, which the letter parts.
@@ -231,9 +234,8 @@ static COUNTER: Case = Case {
 };
 
 #[test]
-fn a_letter_parts_by_outputs_and_then_by_targets(rt: HostRuntime) -> Result<(), Fail> {
-    assert!(rt; goes(rt.alloc(), &COUNTER)?);
-    Ok(())
+fn a_letter_parts_by_outputs_and_then_by_targets(rt: HostRuntime) {
+    assert!(rt; goes(&rt, rt.alloc(), &COUNTER));
 }
 
 /// The tree of a machine that answers every second of three letters by 1, split by t and then by t t: below node t are a leaf,
@@ -305,9 +307,8 @@ static NESTED: Case = Case {
 };
 
 #[test]
-fn two_of_three_stay_a_block_and_are_parted_then(rt: HostRuntime) -> Result<(), Fail> {
-    assert!(rt; goes(rt.alloc(), &NESTED)?);
-    Ok(())
+fn two_of_three_stay_a_block_and_are_parted_then(rt: HostRuntime) {
+    assert!(rt; goes(&rt, rt.alloc(), &NESTED));
 }
 
 #[test]

@@ -1,5 +1,5 @@
 //! What no clause says: that the calls succeed, and sessions by hand.
-ghost use Rattle.std.specs.Prelude.{◌≡◌, [], None, IfOk};
+ghost use Rattle.std.specs.Prelude.{◌≡◌, [], None};
 
 mod scripted;
 
@@ -8,79 +8,81 @@ use lw_sul::{Named, NamedAnswer, OutName, Session, Sul, TableSul};
 use lw_words::{Names, RunStop, SulStop, Word};
 use scripted::{Reply, Scripted};
 use std::alloc::Global;
-use std::test::Fail;
+use std::process::Abort;
 
 /// A counter modulo three.
-fn counter(alloc: Global) -> Result<Mealy, Fail> {
+fn counter(rt: &impl Abort, alloc: Global) -> Mealy {
     let mut rows = Vec::new(alloc);
     for (target, output) in [(1u16, 0u16), (2, 0), (0, 1)] {
-        rows.push(Vec::from_slice(alloc, &[(target, output)])?)?;
+        let row = Vec::from_slice(alloc, &[(target, output)]).expect(rt, "memory");
+        rows.push(row).expect(rt, "memory");
     }
-    Ok(Mealy::new(alloc, 1, 2, rows)?)
+    Mealy::new(alloc, 1, 2, rows).expect(rt, "a machine")
 }
 
-fn names(alloc: Global, list: &[&str]) -> Result<Names, Fail> {
+fn names(rt: &impl Abort, alloc: Global, list: &[&str]) -> Names {
     let mut texts = Vec::new(alloc);
     for name in list {
-        texts.push(String::from_str(alloc, name)?)?;
+        let text = String::from_str(alloc, name).expect(rt, "memory");
+        texts.push(text).expect(rt, "memory");
     }
-    match Names::from_list(alloc, &texts) {
-        Ok(names) => Ok(names),
-        Err(_) => Err(Fail::from("names were refused")),
-    }
+    Names::from_list(alloc, &texts).expect(rt, "names")
 }
 
 /// The counter as a system.
-fn table(alloc: Global) -> Result<TableSul, Fail> {
-    let mealy = counter(alloc)?;
-    let names = names(alloc, &["tick", "tock"])?;
-    if names.len() != mealy.outputs() {
-        return Err(Fail::from("another number of names"));
-    }
-    Ok(TableSul::new(mealy, names))
+fn table(rt: &impl Abort, alloc: Global) -> TableSul {
+    let mealy = counter(rt, alloc);
+    let names = names(rt, alloc, &["tick", "tock"]);
+    assert!(rt; names.len() == mealy.outputs());
+    TableSul::new(mealy, names)
 }
 
 fn numbers_of<S: Sul>(sul: &S) -> (u16, u16) {
     (sul.inputs(), sul.outputs())
 }
 
-fn word(alloc: Global, letters: &[u16]) -> Result<Word, Fail>
-    ensures { IfOk result (λ w. w ≡ letters.now) }
+fn word(rt: &impl Abort, alloc: Global, letters: &[u16]) -> Word
+    ensures { result ≡ letters.now }
 {
-    Ok(Word::from_letters(alloc, letters.to_vec(alloc)?))
+    Word::from_letters(alloc, letters.to_vec(alloc).expect(rt, "memory"))
 }
 
 /// What a session answers to these letters.
 fn ask<S: Sul>(
+    rt: &impl Abort,
     alloc: Global,
     session: &mut Session<S>,
     letters: &[u16],
-) -> Result<Result<Word, RunStop>, Fail> {
+) -> Result<Word, RunStop> {
     let inputs = session.inputs();
-    if !letters.iter().all(|x| *x < inputs) {
-        return Err(Fail::from("a letter is out of range"));
-    }
-    Ok(session.ask(&word(alloc, letters)?))
+    assert!(rt; letters.iter().all(|x| *x < inputs));
+    session.ask(&word(rt, alloc, letters))
 }
 
 fn answers<S: Sul>(
+    rt: &impl Abort,
     alloc: Global,
     session: &mut Session<S>,
     letters: &[u16],
     outs: &[u16],
-) -> Result<bool, Fail> {
-    match ask(alloc, session, letters)? {
-        Ok(answer) => Ok(answer.as_slice() == outs),
-        Err(_) => Ok(false),
+) -> bool {
+    match ask(rt, alloc, session, letters) {
+        Ok(answer) => answer.as_slice() == outs,
+        Err(_) => false,
     }
 }
 
 /// Whether a session answers that its system failed.
-fn fails<S: Sul>(alloc: Global, session: &mut Session<S>, letters: &[u16]) -> Result<bool, Fail> {
-    match ask(alloc, session, letters)? {
-        Err(RunStop::Sul(SulStop::Failed)) => Ok(true),
-        _ => Ok(false),
-    }
+fn fails<S: Sul>(
+    rt: &impl Abort,
+    alloc: Global,
+    session: &mut Session<S>,
+    letters: &[u16],
+) -> bool {
+    matches!(
+        ask(rt, alloc, session, letters),
+        Err(RunStop::Sul(SulStop::Failed))
+    )
 }
 
 /// Takes what may go to another thread.
@@ -98,17 +100,17 @@ struct Asked {
 }
 
 /// Whether a session is asked so, one after another.
-fn goes<S: Sul>(alloc: Global, session: &mut Session<S>, list: &[Asked]) -> Result<bool, Fail> {
+fn goes<S: Sul>(rt: &impl Abort, alloc: Global, session: &mut Session<S>, list: &[Asked]) -> bool {
     for asked in list {
         let right = match asked.outs {
-            Some(outs) => answers(alloc, session, asked.letters, outs)?,
-            None => fails(alloc, session, asked.letters)?,
+            Some(outs) => answers(rt, alloc, session, asked.letters, outs),
+            None => fails(rt, alloc, session, asked.letters),
         };
         if !right {
-            return Ok(false);
+            return false;
         }
     }
-    Ok(true)
+    true
 }
 
 /// The numbers of a session over the counter.
@@ -134,34 +136,31 @@ static COUNTED: [Asked; 3] = [
 ];
 
 /// Whether a session over the counter has its numbers, and counts three runs.
-fn counts_runs(alloc: Global) -> Result<bool, Fail> {
-    let mut session = Session::new(alloc, 4, table(alloc)?);
+fn counts_runs(rt: &impl Abort, alloc: Global) -> bool {
+    let mut session = Session::new(alloc, 4, table(rt, alloc));
     let fourth = is_fourth(&session);
-    let counted = goes(alloc, &mut session, &COUNTED)?;
-    Ok(fourth && counted && session.runs() == 3 && session.stopped().is_none())
+    let counted = goes(rt, alloc, &mut session, &COUNTED);
+    fourth && counted && session.runs() == 3 && session.stopped().is_none()
 }
 
 #[test]
-fn a_session_counts_its_runs(rt: HostRuntime) -> Result<(), Fail> {
-    assert!(rt; counts_runs(rt.alloc())?);
-    Ok(())
+fn a_session_counts_its_runs(rt: HostRuntime) {
+    assert!(rt; counts_runs(&rt, rt.alloc()));
 }
 
 /// A system of three names, so many of which came already.
-fn three_names(alloc: Global, script: Vec<Reply>, known: u16) -> Result<Scripted, Fail>
-    ensures { IfOk result (λ s. (s.stop ≡ None) × (s.log.items ≡ [])) }
+fn three_names(rt: &impl Abort, alloc: Global, script: Vec<Reply>, known: u16) -> Scripted
+    ensures { (result.stop ≡ None) × (result.log.items ≡ []) }
 {
-    let names = names(alloc, &["a", "b", "c"])?;
-    if known > names.len() {
-        return Err(Fail::from("more names than three"));
-    }
-    Ok(Scripted::new(alloc, script, names, known)?)
+    let names = names(rt, alloc, &["a", "b", "c"]);
+    assert!(rt; known <= names.len());
+    Scripted::new(alloc, script, names, known).expect(rt, "memory")
 }
 
 /// A session over a script, so many of whose names came already.
-fn over(alloc: Global, replies: &[Reply], known: u16) -> Result<Session<Scripted>, Fail> {
-    let script = replies.to_vec(alloc)?;
-    Ok(Session::new(alloc, 0, three_names(alloc, script, known)?))
+fn over(rt: &impl Abort, alloc: Global, replies: &[Reply], known: u16) -> Session<Scripted> {
+    let script = replies.to_vec(alloc).expect(rt, "memory");
+    Session::new(alloc, 0, three_names(rt, alloc, script, known))
 }
 
 /// Two finished runs and one that stops, and how many calls the system answered and was asked.
@@ -229,10 +228,10 @@ static IN_A_STEP: Stop = Stop {
 };
 
 /// The two finished runs alone are counted, and the system isn't asked again.
-fn keeps_two_runs(alloc: Global, session: &mut Session<Scripted>) -> Result<bool, Fail> {
+fn keeps_two_runs(rt: &impl Abort, alloc: Global, session: &mut Session<Scripted>) -> bool {
     let made = session.sul().made();
-    let again = fails(alloc, session, &[1])?;
-    Ok(again && session.sul().made() == made && session.runs() == 2)
+    let again = fails(rt, alloc, session, &[1]);
+    again && session.sul().made() == made && session.runs() == 2
 }
 
 /// Whether a session's system answered so many calls, and was asked so many.
@@ -241,60 +240,63 @@ fn leaves(session: Session<Scripted>, log: usize, made: usize) -> bool {
 }
 
 /// Whether a session stops so, and keeps its two runs.
-fn stops(alloc: Global, stop: &Stop) -> Result<bool, Fail> {
-    let mut session = over(alloc, stop.replies, 3)?;
-    let gone = goes(alloc, &mut session, stop.asked)?;
-    let kept = keeps_two_runs(alloc, &mut session)?;
-    Ok(gone && kept && leaves(session, stop.log, stop.made))
+fn stops(rt: &impl Abort, alloc: Global, stop: &Stop) -> bool {
+    let mut session = over(rt, alloc, stop.replies, 3);
+    let gone = goes(rt, alloc, &mut session, stop.asked);
+    let kept = keeps_two_runs(rt, alloc, &mut session);
+    gone && kept && leaves(session, stop.log, stop.made)
 }
 
 #[test]
-fn a_stop_in_a_reset_cuts_no_run_off(rt: HostRuntime) -> Result<(), Fail> {
-    assert!(rt; stops(rt.alloc(), &IN_A_RESET)?);
-    Ok(())
+fn a_stop_in_a_reset_cuts_no_run_off(rt: HostRuntime) {
+    assert!(rt; stops(&rt, rt.alloc(), &IN_A_RESET));
 }
 
 #[test]
-fn a_stop_in_a_step_cuts_the_run_off(rt: HostRuntime) -> Result<(), Fail> {
-    assert!(rt; stops(rt.alloc(), &IN_A_STEP)?);
-    Ok(())
+fn a_stop_in_a_step_cuts_the_run_off(rt: HostRuntime) {
+    assert!(rt; stops(&rt, rt.alloc(), &IN_A_STEP));
 }
 
 /// Whether a word of so many letters is answered.
-fn answers_long<S: Sul>(alloc: Global, session: &mut Session<S>, len: usize) -> Result<bool, Fail> {
-    let long = vec![in alloc; 0u16; len]?;
-    match ask(alloc, session, &long)? {
-        Ok(answer) => Ok(answer.len() == len),
-        Err(_) => Ok(false),
+fn answers_long<S: Sul>(
+    rt: &impl Abort,
+    alloc: Global,
+    session: &mut Session<S>,
+    len: usize,
+) -> bool {
+    let long = vec![in alloc; 0u16; len].expect(rt, "memory");
+    match ask(rt, alloc, session, &long) {
+        Ok(answer) => answer.len() == len,
+        Err(_) => false,
     }
 }
 
 /// Whether a counter answers so many runs of three letters.
 fn answers_often<S: Sul>(
+    rt: &impl Abort,
     alloc: Global,
     session: &mut Session<S>,
     times: u32,
-) -> Result<bool, Fail> {
+) -> bool {
     for _ in 0..times {
-        if !answers(alloc, session, &[0, 0, 0], &[0, 0, 1])? {
-            return Ok(false);
+        if !answers(rt, alloc, session, &[0, 0, 0], &[0, 0, 1]) {
+            return false;
         }
     }
-    Ok(true)
+    true
 }
 
 /// Whether a session over the counter answers a word of so many letters and then so many runs, and counts them all.
-fn lasts(alloc: Global, len: usize, times: u32) -> Result<bool, Fail> {
-    let mut session = Session::new(alloc, 0, table(alloc)?);
-    let long = answers_long(alloc, &mut session, len)?;
-    let often = answers_often(alloc, &mut session, times)?;
-    Ok(long && often && session.runs() == u64::from(times).saturating_add(1))
+fn lasts(rt: &impl Abort, alloc: Global, len: usize, times: u32) -> bool {
+    let mut session = Session::new(alloc, 0, table(rt, alloc));
+    let long = answers_long(rt, alloc, &mut session, len);
+    let often = answers_often(rt, alloc, &mut session, times);
+    long && often && session.runs() == u64::from(times).saturating_add(1)
 }
 
 #[test]
-fn long_runs_and_many(rt: HostRuntime) -> Result<(), Fail> {
-    assert!(rt; lasts(rt.alloc(), 70_000, 100_000)?);
-    Ok(())
+fn long_runs_and_many(rt: HostRuntime) {
+    assert!(rt; lasts(&rt, rt.alloc(), 70_000, 100_000));
 }
 
 /// Whether the names of an answer are these.
@@ -313,19 +315,18 @@ fn names_are(answer: &NamedAnswer, list: &[&str]) -> bool {
 
 /// Whether a session answers these outputs to the letters, and these names came up first.
 fn brings<S: Sul>(
+    rt: &impl Abort,
     alloc: Global,
     session: &mut Session<S>,
     letters: &[u16],
     outs: &[u16],
     list: &[&str],
-) -> Result<bool, Fail> {
+) -> bool {
     let inputs = session.inputs();
-    if !letters.iter().all(|x| *x < inputs) {
-        return Err(Fail::from("a letter is out of range"));
-    }
-    match session.ask_named(&word(alloc, letters)?) {
-        Ok(answer) => Ok(answer.outs.as_slice() == outs && names_are(&answer, list)),
-        Err(_) => Ok(false),
+    assert!(rt; letters.iter().all(|x| *x < inputs));
+    match session.ask_named(&word(rt, alloc, letters)) {
+        Ok(answer) => answer.outs.as_slice() == outs && names_are(&answer, list),
+        Err(_) => false,
     }
 }
 
@@ -338,16 +339,17 @@ struct Brought {
 
 /// Whether a session is asked so, one after another.
 fn all_come<S: Sul>(
+    rt: &impl Abort,
     alloc: Global,
     session: &mut Session<S>,
     list: &[Brought],
-) -> Result<bool, Fail> {
+) -> bool {
     for one in list {
-        if !brings(alloc, session, one.letters, one.outs, one.names)? {
-            return Ok(false);
+        if !brings(rt, alloc, session, one.letters, one.outs, one.names) {
+            return false;
         }
     }
-    Ok(true)
+    true
 }
 
 static NAMING: [Reply; 11] = [
@@ -388,19 +390,18 @@ fn has_named<S: Sul>(sul: &S, named: u16) -> bool {
 }
 
 /// Whether all three names come in three runs, and an output without a name isn't answered.
-fn names_come(alloc: Global) -> Result<bool, Fail> {
-    let mut session = over(alloc, &NAMING, 0)?;
+fn names_come(rt: &impl Abort, alloc: Global) -> bool {
+    let mut session = over(rt, alloc, &NAMING, 0);
     let none = has_named(session.sul(), 0);
-    let come = all_come(alloc, &mut session, &NAMED)?;
+    let come = all_come(rt, alloc, &mut session, &NAMED);
     let all = has_named(session.sul(), 3) && session.runs() == 3;
-    let refused = fails(alloc, &mut session, &[0])?;
-    Ok(none && come && all && refused && session.runs() == 3)
+    let refused = fails(rt, alloc, &mut session, &[0]);
+    none && come && all && refused && session.runs() == 3
 }
 
 #[test]
-fn names_come_once_and_in_order(rt: HostRuntime) -> Result<(), Fail> {
-    assert!(rt; names_come(rt.alloc())?);
-    Ok(())
+fn names_come_once_and_in_order(rt: HostRuntime) {
+    assert!(rt; names_come(&rt, rt.alloc()));
 }
 
 /// Whether the name with number 1 is `tock`.
@@ -409,26 +410,22 @@ fn has_tock<S: Sul>(sul: &S) -> bool {
 }
 
 /// Whether a session over the counter brings no name, and its system has its second one.
-fn table_is_named(alloc: Global) -> Result<bool, Fail> {
-    let mut session = Session::new(alloc, 0, table(alloc)?);
-    let none = brings(alloc, &mut session, &[0, 0, 0], &[0, 0, 1], &[])?;
-    Ok(none && has_tock(session.sul()))
+fn table_is_named(rt: &impl Abort, alloc: Global) -> bool {
+    let mut session = Session::new(alloc, 0, table(rt, alloc));
+    let none = brings(rt, alloc, &mut session, &[0, 0, 0], &[0, 0, 1], &[]);
+    none && has_tock(session.sul())
 }
 
 #[test]
-fn a_table_has_its_names(rt: HostRuntime) -> Result<(), Fail> {
-    assert!(rt; table_is_named(rt.alloc())?);
+fn a_table_has_its_names(rt: HostRuntime) {
+    assert!(rt; table_is_named(&rt, rt.alloc()));
     assert!(rt; OutName::new("a b").is_none());
-    Ok(())
 }
 
 #[test]
-fn names_are_put_last(rt: HostRuntime) -> Result<(), Fail> {
-    let mut list = Named::with_room(rt.alloc(), 1)?;
-    match OutName::new("a") {
-        Some(name) => list.push(name)?,
-        None => return Err(Fail::from("a name was refused")),
-    }
-    assert_eq!(rt; (list.len(), Named::new(rt.alloc()).len()), (1, 0));
-    Ok(())
+fn names_are_put_last(rt: HostRuntime) {
+    let mut list = Named::with_room(rt.alloc(), 1).expect(&rt, "memory");
+    let name = OutName::new("a").expect(&rt, "a name");
+    list.push(name).expect(&rt, "memory");
+    assert!(rt; (list.len(), Named::new(rt.alloc()).len()) == (1, 0));
 }

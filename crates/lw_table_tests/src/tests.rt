@@ -6,7 +6,6 @@ use lw_table::{
     machine_gives_cells, new_is_read, one_machine,
 };
 use lw_words::Words;
-use std::test::Fail;
 
 /// Whether a list has just these words, in this order.
 fn are(words: &Words, expected: &[&[u16]]) -> bool {
@@ -24,10 +23,9 @@ static ONE_STATE: [&[u16]; 1] = [&[]];
 static TWO_LETTERS: [&[u16]; 2] = [&[0], &[1]];
 
 #[test]
-fn a_new_table_of_two_letters(rt: HostRuntime) -> Result<(), Fail> {
-    let table = ObservationTable::new(rt.alloc(), 2, 3, 5)?;
+fn a_new_table_of_two_letters(rt: HostRuntime) {
+    let table = ObservationTable::new(rt.alloc(), 2, 3, 5).expect(&rt, "memory");
     assert!(rt; has(&table, &ONE_STATE, &TWO_LETTERS));
-    Ok(())
 }
 
 #[test]

@@ -11,8 +11,8 @@ mod trials;
 mod two_at_once;
 
 use crate::tests::cases::{
-    Case, LEARN, ONE, PLAIN, call, check, check_over, end_of, files_of, no_children, sink, source,
-    texts,
+    Case, LEARN, ONE, PLAIN, World, call, check, check_over, end_of, file_of, files_of, sink,
+    stands,
 };
 use lw_outside::MemoryFiles;
 use lw_report::End;
@@ -21,7 +21,6 @@ use lw_words::Kept;
 use std::alloc::Global;
 use std::process::Abort;
 use std::sync::Wait;
-use std::test::Fail;
 use std::thread::Threads;
 
 const EQUAL_STATES: &str =
@@ -69,15 +68,17 @@ fn is_first_run(kept: &Kept) -> bool {
     one.instance == 0 && one.run == 0 && one.word.len() == 2
 }
 
+/// Whether there is a model, learned by that answer alone.
+fn is_first_learned(end: &End) -> bool {
+    end.model.is_some() && is_first_run(&end.kept)
+}
+
 #[test]
-fn shipped_machines(rt: HostRuntime) -> Result<(), Fail> {
-    let one = end_of(rt, rt.alloc(), &PLAIN)?;
-    assert!(rt; one.model.is_some());
-    assert!(rt; is_first_run(&one.kept));
+fn shipped_machines(rt: HostRuntime) {
+    assert!(rt; is_first_learned(&end_of(&rt, rt.alloc(), &PLAIN)));
     for case in &SHIPPED {
-        check(rt, rt.alloc(), case)?;
+        check(&rt, rt.alloc(), case);
     }
-    Ok(())
 }
 
 /// A call that writes both files.
@@ -155,36 +156,32 @@ fn is_whole(end: &End) -> bool {
 }
 
 #[test]
-fn failing_files_and_streams(rt: HostRuntime) -> Result<(), Fail> {
+fn failing_files_and_streams(rt: HostRuntime) {
     for case in &FAILING {
-        let end = end_of(rt, rt.alloc(), case)?;
-        assert!(rt; is_whole(&end));
+        assert!(rt; is_whole(&end_of(&rt, rt.alloc(), case)), "{}", case.err);
     }
-    Ok(())
 }
 
-/// Whether the text stands under the name.
-fn stands(files: &MemoryFiles, name: &str, text: &str) -> bool {
-    match files.bytes(name) {
-        Some(bytes) => bytes.as_slice() == text.as_bytes(),
-        None => false,
+/// Whether the texts stand under their names.
+fn all_stand(files: &MemoryFiles, written: &[(&str, &str)]) -> bool {
+    let mut all = true;
+    for (name, text) in written {
+        all = all && stands(files, name, text);
     }
+    all
 }
 
 /// Plays a case over the file `m`, whose text is ONE; whether the texts then stand under their names.
 fn leaves<R: Abort + Threads + Wait + Sync + Copy + Drop>(
-    rt: R,
+    rt: &R,
     alloc: Global,
     case: &Case,
     written: &[(&str, &str)],
-) -> Result<bool, Fail> {
-    let mut files = files_of(alloc, ONE, case.file_plan)?;
-    check_over(rt, alloc, case, &mut files)?;
-    let mut all = true;
-    for (name, text) in written {
-        all = all && stands(&files, name, text);
-    }
-    Ok(all)
+) -> bool {
+    let files = files_of(rt, alloc, ONE, case.file_plan);
+    let mut world = World::new(rt, alloc, case.arguments, files);
+    check_over(rt, alloc, case, &mut world);
+    all_stand(&world.files, written)
 }
 
 /// A call that names one file twice: the later write stands.
@@ -202,65 +199,46 @@ static FAILS_LATER: Case = Case {
 };
 
 #[test]
-fn files_that_are_written(rt: HostRuntime) -> Result<(), Fail> {
+fn files_that_are_written(rt: HostRuntime) {
     let alloc = rt.alloc();
-    assert!(rt; leaves(rt, alloc, &WRITES, &[("h", ONE), ("k", ONE_ANSWERS)])?);
-    assert!(rt; leaves(rt, alloc, &WRITES_TWICE, &[("h", ONE_ANSWERS)])?);
-    assert!(rt; leaves(rt, alloc, &FAILS_LATER, &[("h", ONE)])?);
-    Ok(())
+    assert!(rt; leaves(&rt, alloc, &WRITES, &[("h", ONE), ("k", ONE_ANSWERS)]));
+    assert!(rt; leaves(&rt, alloc, &WRITES_TWICE, &[("h", ONE_ANSWERS)]));
+    assert!(rt; leaves(&rt, alloc, &FAILS_LATER, &[("h", ONE)]));
 }
 
 #[test]
-fn no_memory_for_arguments(rt: HostRuntime) -> Result<(), Fail> {
-    let alloc = rt.alloc();
-    let mut err = sink(alloc, 3, &[])?;
-    assert_eq!(rt; without_arguments(alloc, &mut err).status, 5);
-    assert_eq!(rt; err.taken(), "no memory\n".as_bytes());
-    Ok(())
+fn no_memory_for_arguments(rt: HostRuntime) {
+    let mut err = sink(&rt, rt.alloc(), 3, &[]);
+    assert!(rt; without_arguments(rt.alloc(), &mut err).status == 5);
+    assert!(rt; err.taken() == "no memory\n".as_bytes());
 }
 
 /// The file `m` of the text ONE and blanks up to so many bytes.
-fn padded(alloc: Global, bytes: usize) -> Result<MemoryFiles, Fail> {
-    let mut text = Vec::from_slice(alloc, ONE.as_bytes())?;
-    text.resize(bytes, b' ')?;
-    let mut files = Vec::new(alloc);
-    files.push((String::from_str(alloc, "m")?, text))?;
-    Ok(MemoryFiles::new(alloc, files, Vec::new(alloc))?)
+fn padded(rt: &impl Abort, alloc: Global, bytes: usize) -> MemoryFiles {
+    let mut text = Vec::from_slice(alloc, ONE.as_bytes()).expect(rt, "memory");
+    text.resize(bytes, b' ').expect(rt, "memory");
+    file_of(rt, alloc, text, &[])
 }
 
 /// Whether a learning of such a table ends with this status, and says that.
-fn ends_with<R: Threads + Wait + Sync + Drop>(
-    rt: R,
+fn ends_with<R: Abort + Threads + Wait + Sync + Copy + Drop>(
+    rt: &R,
     alloc: Global,
     bytes: usize,
     status: u8,
     said: &str,
-) -> Result<bool, Fail> {
-    let mut files = padded(alloc, bytes)?;
-    let mut input = source(alloc, "", &[])?;
-    let mut out = sink(alloc, 4096, &[])?;
-    let mut err = sink(alloc, 4096, &[])?;
-    let arguments = texts(alloc, &LEARN)?;
-    let end = call(
-        rt,
-        alloc,
-        &arguments,
-        &mut files,
-        &mut no_children(alloc)?,
-        &mut input,
-        &mut out,
-        &mut err,
-    );
-    Ok(end.status == status && err.taken() == said.as_bytes())
+) -> bool {
+    let mut world = World::new(rt, alloc, &LEARN, padded(rt, alloc, bytes));
+    let end = call(rt, alloc, &mut world);
+    end.status == status && world.err.taken() == said.as_bytes()
 }
 
 #[test]
-fn the_longest_file_and_a_longer_one(rt: HostRuntime) -> Result<(), Fail> {
+fn the_longest_file_and_a_longer_one(rt: HostRuntime) {
     let alloc = rt.alloc();
     let learned = "learned: states 1, refinements 0, extra 1, answers 1\n";
-    assert!(rt; ends_with(rt, alloc, 16_777_216, 0, learned)?);
-    assert!(rt; ends_with(rt, alloc, 16_777_217, 3, "file too long: table\n")?);
-    Ok(())
+    assert!(rt; ends_with(&rt, alloc, 16_777_216, 0, learned));
+    assert!(rt; ends_with(&rt, alloc, 16_777_217, 3, "file too long: table\n"));
 }
 
 /// Calls of `check` after a call that wrote both files.
@@ -288,12 +266,11 @@ static CHECKS: [Case; 3] = [
 ];
 
 #[test]
-fn check_of_what_was_learned(rt: HostRuntime) -> Result<(), Fail> {
+fn check_of_what_was_learned(rt: HostRuntime) {
     let alloc = rt.alloc();
-    let mut files = files_of(alloc, ONE, &[])?;
-    check_over(rt, alloc, &WRITES, &mut files)?;
+    let mut world = World::new(&rt, alloc, &LEARN, files_of(&rt, alloc, ONE, &[]));
+    check_over(&rt, alloc, &WRITES, &mut world);
     for case in &CHECKS {
-        check_over(rt, alloc, case, &mut files)?;
+        check_over(&rt, alloc, case, &mut world);
     }
-    Ok(())
 }

@@ -16,7 +16,7 @@ use lw_tree::{
 };
 use lw_words::Words;
 use std::alloc::Global;
-use std::test::Fail;
+use std::process::Abort;
 use test_oracle::Recording;
 
 const A: u16 = 0;
@@ -64,32 +64,34 @@ fn has_rows(tree: &DiscriminationTree, rows: &[&[(u16, u16)]]) -> bool
 }
 
 /// The machine of these rows over one letter.
-fn of_one_letter(alloc: Global, cells: &[(u16, u16)]) -> Result<Mealy, Fail> {
+fn of_one_letter(rt: &impl Abort, alloc: Global, cells: &[(u16, u16)]) -> Mealy {
     let mut rows = Vec::new(alloc);
     for cell in cells {
-        rows.push(Vec::from_slice(alloc, &[*cell])?)?;
+        let row = Vec::from_slice(alloc, &[*cell]).expect(rt, "memory");
+        rows.push(row).expect(rt, "memory");
     }
-    Ok(Mealy::new(alloc, 1, 2, rows)?)
+    Mealy::new(alloc, 1, 2, rows).expect(rt, "a machine")
 }
 
 /// The machine of these rows over two letters.
-fn of_two_letters(alloc: Global, outputs: u16, cells: &[[(u16, u16); 2]]) -> Result<Mealy, Fail>
+fn of_two_letters(rt: &impl Abort, alloc: Global, outputs: u16, cells: &[[(u16, u16); 2]]) -> Mealy
     requires { (1 ≤ outputs) × (outputs ≤ 4096) }
 {
     let mut rows = Vec::new(alloc);
-    for row in cells {
-        rows.push(Vec::from_slice(alloc, row)?)?;
+    for cell in cells {
+        let row = Vec::from_slice(alloc, cell).expect(rt, "memory");
+        rows.push(row).expect(rt, "memory");
     }
-    Ok(Mealy::new(alloc, 2, outputs, rows)?)
+    Mealy::new(alloc, 2, outputs, rows).expect(rt, "a machine")
 }
 
 /// The machine whose every third a is answered 1.
-fn counter(alloc: Global) -> Result<Mealy, Fail> {
-    of_one_letter(alloc, &[(1, 0), (2, 0), (0, 1)])
+fn counter(rt: &impl Abort, alloc: Global) -> Mealy {
+    of_one_letter(rt, alloc, &[(1, 0), (2, 0), (0, 1)])
 }
 
 /// The machine that answers 1 to the last letter of a b a b, each time from its start.
-fn lock(alloc: Global) -> Result<Mealy, Fail> {
+fn lock(rt: &impl Abort, alloc: Global) -> Mealy {
     let rows = [
         [(1, 0), (4, 0)],
         [(4, 0), (2, 0)],
@@ -97,11 +99,11 @@ fn lock(alloc: Global) -> Result<Mealy, Fail> {
         [(4, 0), (0, 1)],
         [(4, 0), (4, 0)],
     ];
-    of_two_letters(alloc, 2, &rows)
+    of_two_letters(rt, alloc, 2, &rows)
 }
 
 /// A machine whose states are told apart by a and then by b, each with outputs of its own and some that both have.
-fn fan(alloc: Global) -> Result<Mealy, Fail> {
+fn fan(rt: &impl Abort, alloc: Global) -> Mealy {
     let rows = [
         [(1, 7), (3, 7)],
         [(2, 8), (0, 7)],
@@ -109,7 +111,7 @@ fn fan(alloc: Global) -> Result<Mealy, Fail> {
         [(1, 9), (4, 7)],
         [(2, 8), (1, 8)],
     ];
-    of_two_letters(alloc, 10, &rows)
+    of_two_letters(rt, alloc, 10, &rows)
 }
 
 /// Which machine is asked.
@@ -120,11 +122,11 @@ enum Asked {
     Lock,
 }
 
-fn machine(alloc: Global, asked: Asked) -> Result<Mealy, Fail> {
+fn machine(rt: &impl Abort, alloc: Global, asked: Asked) -> Mealy {
     match asked {
-        Asked::Counter => counter(alloc),
-        Asked::Fan => fan(alloc),
-        Asked::Lock => lock(alloc),
+        Asked::Counter => counter(rt, alloc),
+        Asked::Fan => fan(rt, alloc),
+        Asked::Lock => lock(rt, alloc),
     }
 }
 
@@ -151,11 +153,11 @@ struct Shown {
 }
 
 /// Whether a tree tells this of itself.
-fn shows(tree: &DiscriminationTree, shown: &Shown) -> Result<bool, Fail> {
-    let words = tree.discriminators()?;
+fn shows(rt: &impl Abort, tree: &DiscriminationTree, shown: &Shown) -> bool {
+    let words = tree.discriminators().expect(rt, "memory");
     let are_words = are(tree.access(), shown.access) && are(&words, shown.discriminators);
     let counts = (tree.temporary(), tree.refinements());
-    Ok(are_words && counts == (shown.temporary, shown.refinements))
+    are_words && counts == (shown.temporary, shown.refinements)
 }
 
 /// A tree of one state.
@@ -186,10 +188,9 @@ fn is_fork(tree: &DiscriminationTree, one: u16, other: u16, node: u32) -> bool {
 }
 
 #[test]
-fn a_new_tree_of_two_letters(rt: HostRuntime) -> Result<(), Fail> {
-    let tree = DiscriminationTree::new(rt.alloc(), 2, 3, 5)?;
-    assert!(rt; shows(&tree, &ONE_STATE)?);
-    Ok(())
+fn a_new_tree_of_two_letters(rt: HostRuntime) {
+    let tree = DiscriminationTree::new(rt.alloc(), 2, 3, 5).expect(&rt, "memory");
+    assert!(rt; shows(&rt, &tree, &ONE_STATE));
 }
 
 #[test]

@@ -1,5 +1,5 @@
 //! Learnings worked by hand, with pools of one to three sessions: what is asked, and what is answered.
-ghost use Rattle.std.specs.Prelude.{◌<◌, ◌^◌, IfOk, length};
+ghost use Rattle.std.specs.Prelude.{◌<◌, ◌^◌, length};
 ghost use Rattle.std.specs.List.{All};
 ghost use Rattle.lw_words.specs.Word.{IsWord};
 
@@ -9,8 +9,8 @@ use lw_rounds::{Kind, LearnStop, Learned, Phase, Step, Unwatched, Watcher};
 use lw_words::{Kept, Word, Words};
 use lw_workers::{LearnedWith, learn_with};
 use std::alloc::Global;
+use std::process::Abort;
 use std::sync::Wait;
-use std::test::Fail;
 use std::thread::Threads;
 
 mod crews;
@@ -121,58 +121,53 @@ fn ends_so(learned: &Result<Learned, LearnStop>, ending: Ending) -> bool {
 }
 
 /// The empty word and the word of this length, where there is to be one.
-fn words_of(alloc: Global, long: usize) -> Result<Words, Fail>
-    ensures letters { IfOk result (λ words. All (IsWord 1) words) }
-    ensures few { IfOk result (λ words. length words < 2 ^ 32) }
+fn words_of(rt: &impl Abort, alloc: Global, long: usize) -> Words
+    ensures letters { All (IsWord 1) result }
+    ensures few { length result < 2 ^ 32 }
 {
     let mut words = Words::new(alloc);
     if long == 0 {
-        return Ok(words);
+        return words;
     }
-    let word = Word::from_letters(alloc, vec![in alloc; 0; long]?);
-    if !word.as_slice().iter().all(|x| *x < 1) {
-        return Err(Fail::from("another letter was meant"));
-    }
-    if words.push(Word::new(alloc)).is_err() {
-        return Err(Fail::from("out of memory"));
-    }
-    if words.push(word).is_err() {
-        return Err(Fail::from("out of memory"));
-    }
-    Ok(words)
+    let letters = vec![in alloc; 0u16; long].expect(rt, "memory");
+    assert!(rt; letters.iter().all(|x| *x < 1));
+    assert!(rt; words.push(Word::new(alloc)).is_ok());
+    assert!(rt; words.push(Word::from_letters(alloc, letters)).is_ok());
+    words
 }
 
 /// What comes of a case: the clauses of `learn_with` would weigh down each proof that calls it.
-fn play<R: Threads + Wait + Sync + Drop>(
+fn play<R: Abort + Threads + Wait + Sync + Copy + Drop>(
     rt: R,
     alloc: Global,
     case: &Case,
     notes: &mut Notes,
-) -> Result<LearnedWith<Refusing, R>, Fail> {
+) -> LearnedWith<Refusing, R> {
     let (extra, most) = (case.extra, case.most);
-    if extra > 4 || most < 1 || most > 1024 {
-        return Err(Fail::from("another limit was meant"));
-    }
-    let words = words_of(alloc, case.first)?;
-    let pool = pool_of(rt, alloc, case.cells, case.sessions, case.refused)?;
-    let named = words.as_slice();
-    Ok(learn_with(pool, alloc, named, case.kind, extra, most, notes))
+    assert!(rt; extra <= 4 && 1 <= most && most <= 1024);
+    let words = words_of(&rt, alloc, case.first);
+    let pool = pool_of(rt, alloc, case.cells, case.sessions, case.refused);
+    learn_with(pool, alloc, words.as_slice(), case.kind, extra, most, notes)
+}
+
+/// Whether a case goes as was worked out.
+fn goes<R: Abort + Threads + Wait + Sync + Copy + Drop>(rt: R, alloc: Global, case: &Case) -> bool {
+    let ended = play(rt, alloc, case, &mut Notes::new(alloc));
+    ends_so(&ended.learned, case.ending) && has_asked(&ended, case.sessions, case.kept)
 }
 
 /// The name of the first case that goes otherwise than was worked out.
-fn first_wrong<R: Threads + Wait + Sync + Drop + Copy>(
+fn first_wrong<R: Abort + Threads + Wait + Sync + Copy + Drop>(
     rt: R,
     alloc: Global,
     cases: &[Case],
-) -> Result<Option<&'static str>, Fail> {
+) -> Option<&'static str> {
     for case in cases {
-        let mut notes = Notes::new(alloc);
-        let ended = play(rt, alloc, case, &mut notes)?;
-        if !ends_so(&ended.learned, case.ending) || !has_asked(&ended, case.sessions, case.kept) {
-            return Ok(Some(case.name));
+        if !goes(rt, alloc, case) {
+            return Some(case.name);
         }
     }
-    Ok(None)
+    None
 }
 
 /// A counter of three with two sessions.
@@ -248,9 +243,8 @@ static CASES: [Case; 9] = [
 ];
 
 #[test]
-fn learnings_go_as_was_worked_out(rt: HostRuntime) -> Result<(), Fail> {
-    assert_eq!(rt; first_wrong(rt, rt.alloc(), &CASES)?, None);
-    Ok(())
+fn learnings_go_as_was_worked_out(rt: HostRuntime) {
+    assert_eq!(rt; first_wrong(rt, rt.alloc(), &CASES), None);
 }
 
 /// The word of three letters tells the first table's machine apart, and the empty word is not asked.
@@ -299,22 +293,21 @@ static STEPS: [Step; 4] = [
 ];
 
 /// Whether the word is asked first, and each step is told.
-fn asks_first<R: Threads + Wait + Sync + Drop>(rt: R, alloc: Global) -> Result<bool, Fail> {
+fn asks_first<R: Abort + Threads + Wait + Sync + Copy + Drop>(rt: R, alloc: Global) -> bool {
     let mut notes = Notes::new(alloc);
-    let ended = play(rt, alloc, &ASKED_FIRST, &mut notes)?;
+    let ended = play(rt, alloc, &ASKED_FIRST, &mut notes);
     let right = ends_so(&ended.learned, ASKED_FIRST.ending);
-    Ok(right && has_asked(&ended, 2, ASKED_FIRST.kept) && notes.are(&STEPS))
+    right && has_asked(&ended, 2, ASKED_FIRST.kept) && notes.are(&STEPS)
 }
 
 #[test]
-fn words_are_asked_first(rt: HostRuntime) -> Result<(), Fail> {
-    assert!(rt; asks_first(rt, rt.alloc())?);
-    Ok(())
+fn words_are_asked_first(rt: HostRuntime) {
+    assert!(rt; asks_first(rt, rt.alloc()));
 }
 
 /// Whether two sessions find the counter, and find it again without asking anything.
-fn find_again<R: Threads + Wait + Sync + Drop>(rt: R, alloc: Global) -> Result<bool, Fail> {
-    let pool = pool_of(rt, alloc, &COUNTER, 2, None)?;
+fn find_again<R: Abort + Threads + Wait + Sync + Copy + Drop>(rt: R, alloc: Global) -> bool {
+    let pool = pool_of(rt, alloc, &COUNTER, 2, None);
     let mut nobody = Unwatched;
     let LearnedWith { learned, pool } = learn_with(
         pool,
@@ -326,14 +319,13 @@ fn find_again<R: Threads + Wait + Sync + Drop>(rt: R, alloc: Global) -> Result<b
         &mut nobody,
     );
     let Ok(_) = learned else {
-        return Ok(false);
+        return false;
     };
     let again = learn_with(pool, alloc, &[], Kind::Table, 2, 4, &mut nobody);
-    Ok(is_found(&again.learned, 3, 1) && has_asked(&again, 2, &[2, 3, 4, 5, 7]))
+    is_found(&again.learned, 3, 1) && has_asked(&again, 2, &[2, 3, 4, 5, 7])
 }
 
 #[test]
-fn a_pool_that_has_learned_learns_again(rt: HostRuntime) -> Result<(), Fail> {
-    assert!(rt; find_again(rt, rt.alloc())?);
-    Ok(())
+fn a_pool_that_has_learned_learns_again(rt: HostRuntime) {
+    assert!(rt; find_again(rt, rt.alloc()));
 }

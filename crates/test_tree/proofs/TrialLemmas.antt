@@ -1,12 +1,14 @@
 -- An oracle and a closed tree, from one call to the next.
-use Rattle.std.proofs.Common.{◌≡◌, ℕ, List, None, sym, ◌∙◌, subst}
+use Rattle.std.proofs.Common.{◌≡◌, ℕ, true, List, None, Result, Ok, Err, is_ok, sym, ◌∙◌, subst}
 use Rattle.std.specs.List.{All}
+use Rattle.std.proofs.lemmas.Bool.{false≢true}
 use Rattle.lw_words.specs.Answer.{answers_of}
 use Rattle.lw_words.specs.Word.{IsWord}
 use Rattle.lw_words.specs.declared.kept.KeptAnswer.{KeptAnswer}
 use Rattle.lw_mealy.specs.Machine.{Rows}
 use Rattle.lw_cache.specs.Cut.{StepsAreRead}
-use Rattle.lw_cache.specs.Settling.{OracleState, Keeps, Leaves}
+use Rattle.lw_cache.specs.declared.stops.AskStop.{AskStop}
+use Rattle.lw_cache.specs.Settling.{OracleState, Keeps, Leaves, asked_stop}
 use Rattle.lw_cache.proofs.SettlingLemmas.{kept_are_answers}
 use Rattle.lw_tree.specs.Grown.{HasGrown}
 use Rattle.lw_tree.specs.Laws.{MachineGivesSteps}
@@ -35,6 +37,11 @@ ready_more o n t leaves ready =
       read = branches_more o.kept leaves.gained n.kept t leaves.at_end ready.read;
       closed = ready.closed;
     }
+
+-- after a call that only asked, and was answered
+pub ready_asked : {X : Type 0} (result : Result X AskStop) (o n : OracleState) (t : TreeState) → Leaves o n (asked_stop result) → is_ok result ≡ true → IsReady o t → IsReady n t
+ready_asked (Ok x) o n t leaves ok ready = ready_more o n t leaves ready
+ready_asked (Err stop) o n t leaves ok ready = absurd (false≢true ok)
 
 -- what is kept is of words over the letters of a machine that has as many
 pub kept_words : (o : OracleState) (a : ℕ) {kept : List KeptAnswer} → a ≡ o.inputs → Keeps o → kept ≡ o.kept → All (λ w. IsWord a w.word) (answers_of kept)

@@ -1,5 +1,5 @@
 //! A machine that is asked, and a tree over it that is closed and split.
-ghost use Rattle.std.specs.Prelude.{◌≡◌, ◌≤◌, IfOk, OnOk, MatchOption};
+ghost use Rattle.std.specs.Prelude.{◌≡◌, ◌≤◌, IfOk, IfSome, OnOk, true};
 ghost use Rattle.lw_words.specs.Word.{IsWord};
 ghost use Rattle.test_tree.specs.Trials.{IsReady};
 ghost use Rattle.test_oracle.specs.Recording.{state_of};
@@ -9,7 +9,6 @@ use lw_mealy::Mealy;
 use lw_tree::{DiscriminationTree, access_leads, machine_gives_steps, new_is_read};
 use lw_words::Word;
 use std::alloc::Global;
-use std::test::Fail;
 use test_oracle::Recording;
 
 /// A machine that is asked, and the tree over it.
@@ -20,7 +19,10 @@ pub struct Trial {
 }
 
 /// A new tree that was closed over a machine.
-pub fn closed(alloc: Global, mealy: Mealy, most: u16, refused: usize) -> Result<Trial, Fail>
+///
+/// # Errors
+/// As the tree's `close`.
+pub fn closed(alloc: Global, mealy: Mealy, most: u16, refused: usize) -> Result<Trial, GrowStop>
     requires some { 1 ≤ most }
     requires few { most ≤ 1024 }
     ensures { IfOk result (λ trial. IsReady (state_of trial.oracle) trial.tree) }
@@ -30,71 +32,67 @@ pub fn closed(alloc: Global, mealy: Mealy, most: u16, refused: usize) -> Result<
     let outputs = mealy.outputs();
     let mut oracle = Recording::refusing(alloc, mealy, refused);
     let mut tree = DiscriminationTree::new(alloc, inputs, outputs, most)?;
-    let closing = tree.close(&mut oracle);
-    let Ok(()) = closing else {
-        return Err(Fail::from("a tree isn't closed"));
-    };
+    tree.close(&mut oracle)?;
     Ok(Trial { oracle, tree })
 }
 
-/// A word over the inputs.
-fn word_over(alloc: Global, inputs: u16, letters: &[u16]) -> Result<Word, Fail>
-    ensures { IfOk result (IsWord inputs) }
+/// A word over the inputs, where these letters are and there is memory.
+fn word_over(alloc: Global, inputs: u16, letters: &[u16]) -> Option<Word>
+    ensures { IfSome result (IsWord inputs) }
 {
     let mut word = Word::new(alloc);
     for letter in letters {
-        if *letter >= inputs {
-            return Err(Fail::from("no letter of the machine"));
+        if *letter >= inputs || word.push(*letter).is_err() {
+            return None;
         }
-        word.push(*letter)?;
     }
-    Ok(word)
+    Some(word)
 }
 
-/// Settles one word.
+/// Settles one word, and answers whether it is one and was settled.
 pub fn ask<O: Oracle>(
     alloc: Global,
     oracle: &mut O,
     tree: &DiscriminationTree,
     letters: &[u16],
-) -> Result<(), Fail>
+) -> bool
     requires can { O.can_settle oracle.old }
     requires ready { IsReady (O.state oracle.old) tree.now }
-    ensures ready { OnOk result (IsReady (O.state oracle.new) tree.now) }
+    ensures ready { result ≡ true → IsReady (O.state oracle.new) tree.now }
     ensures can { O.can_settle oracle.new }
 {
-    let batch = vec![in alloc; word_over(alloc, oracle.inputs(), letters)?]?;
-    let settled = oracle.settle(&batch);
-    let Ok(()) = settled else {
-        return Err(Fail::from("a word was refused"));
+    let Some(word) = word_over(alloc, oracle.inputs(), letters) else {
+        return false;
     };
-    Ok(())
+    let Ok(batch) = vec![in alloc; word] else {
+        return false;
+    };
+    let settled = oracle.settle(&batch);
+    settled.is_ok()
 }
 
-/// Splits a closed tree by the least known word on which its machine differs, where there is one.
+/// Splits a closed tree by the least known word on which its machine differs, and answers whether there is one.
+///
+/// # Errors
+/// What the oracle stopped by before the split, or as the tree's `split`.
 pub fn split_by_known<O: Oracle>(
     alloc: Global,
     oracle: &mut O,
     tree: &mut DiscriminationTree,
-) -> Result<Option<Result<(), GrowStop>>, Fail>
+) -> Result<bool, GrowStop>
     requires can { O.can_settle oracle.old }
     requires ready { IsReady (O.state oracle.old) tree.old }
-    ensures ready { IfOk result (λ found. MatchOption found
-        (IsReady (O.state oracle.new) tree.new)
-        (λ split. OnOk split (IsReady (O.state oracle.new) tree.new))) }
+    ensures ready { OnOk result (IsReady (O.state oracle.new) tree.new) }
     ensures can { O.can_settle oracle.new }
 {
     // The laws of a closed tree say what a cut asks of its access words.
     access_leads();
     machine_gives_steps();
     let model = tree.machine()?;
-    let against = oracle.cache().against(&model)?;
-    let Some(word) = against else {
-        return Ok(None);
+    let Some(word) = oracle.cache().against(&model)? else {
+        return Ok(false);
     };
-    let found = lw_cex::split(oracle, alloc, &model, tree.access(), &word);
-    let Ok(cut) = found else {
-        return Err(Fail::from("the oracle stopped"));
-    };
-    Ok(Some(tree.split(oracle, &cut)))
+    let cut = lw_cex::split(oracle, alloc, &model, tree.access(), &word)?;
+    tree.split(oracle, &cut)?;
+    Ok(true)
 }

@@ -1,14 +1,15 @@
 //! Where a machine differs first: at the shortest word, and of equally long ones at the first by its letters.
-ghost use Rattle.std.specs.Prelude.{◌≡◌, [], true, IfOk, OnOk};
+ghost use Rattle.std.specs.Prelude.{◌≡◌, [], true};
 ghost use Rattle.std.specs.List.{All};
 ghost use Rattle.lw_words.specs.Answer.{answers_of};
 ghost use Rattle.lw_words.specs.Word.{IsWord};
 
+use super::word;
 use lw_cache::Cache;
 use lw_mealy::Mealy;
 use lw_words::Word;
 use std::alloc::Global;
-use std::test::Fail;
+use std::process::Abort;
 
 /// Answers, and the first word on which the machine that answers each letter with its number differs from them, if any.
 struct Case {
@@ -67,14 +68,12 @@ static CASES: [Case; 9] = [
 ];
 
 /// The machine of one state that answers each of two letters with its number.
-fn echo(alloc: Global) -> Result<Mealy, Fail>
-    ensures { IfOk result (λ m. m.inputs ≡ 2) }
+fn echo(rt: &impl Abort, alloc: Global) -> Mealy
+    ensures { result.inputs ≡ 2 }
 {
-    let rows = vec![in alloc; vec![in alloc; (0u16, 0u16), (0, 1)]?]?;
-    match Mealy::new(alloc, 2, 2, rows) {
-        Ok(m) => Ok(m),
-        Err(_) => Err(Fail::from("the machine is one")),
-    }
+    let row = vec![in alloc; (0u16, 0u16), (0, 1)].expect(rt, "memory");
+    let rows = vec![in alloc; row].expect(rt, "memory");
+    Mealy::new(alloc, 2, 2, rows).expect(rt, "a machine")
 }
 
 /// Whether all letters are 0 or 1.
@@ -90,120 +89,117 @@ fn are_of_two(letters: &[u16]) -> bool
 }
 
 /// Keeps an answer over the letters 0 and 1.
-fn keep(cache: &mut Cache, word: Word, outs: Word) -> Result<(), Fail>
+fn keep(rt: &impl Abort, cache: &mut Cache, word: Word, outs: Word)
     requires claims { cache.old.claims ≡ [] }
     requires letters { All (λ k. IsWord 2 k.word) (answers_of cache.old.kept) }
     ensures claims { cache.new.claims ≡ [] }
-    ensures letters { OnOk result (All (λ k. IsWord 2 k.word) (answers_of cache.new.kept)) }
+    ensures letters { All (λ k. IsWord 2 k.word) (answers_of cache.new.kept) }
 {
-    if outs.len() != word.len() || !are_of_two(word.as_slice()) {
-        return Err(Fail::from("no answer over two letters"));
-    }
-    match cache.keep(word, outs, 0, 0) {
-        Ok(()) => Ok(()),
-        Err(_) => Err(Fail::from("an answer was not kept")),
-    }
+    assert!(rt; outs.len() == word.len() && are_of_two(word.as_slice()));
+    assert!(rt; cache.keep(word, outs, 0, 0).is_ok());
 }
 
 /// A cache that keeps these answers.
-fn keeps(alloc: Global, answers: &[(&[u16], &[u16])]) -> Result<Cache, Fail>
-    ensures { IfOk result (λ cache. All (λ k. IsWord 2 k.word) (answers_of cache.kept)) }
+fn keeps(rt: &impl Abort, alloc: Global, answers: &[(&[u16], &[u16])]) -> Cache
+    ensures { All (λ k. IsWord 2 k.word) (answers_of result.kept) }
 {
     let mut cache = Cache::new(alloc);
     for (letters, outs) in answers {
-        let word = Word::from_letters(alloc, letters.to_vec(alloc)?);
-        let outs = Word::from_letters(alloc, outs.to_vec(alloc)?);
-        keep(&mut cache, word, outs)?;
+        keep(
+            rt,
+            &mut cache,
+            word(rt, alloc, letters),
+            word(rt, alloc, outs),
+        );
     }
-    Ok(cache)
+    cache
 }
 
 /// Whether the first word on which the machine differs is this one, or it differs nowhere.
-fn is_first(cache: &Cache, m: &Mealy, word: Option<&[u16]>) -> Result<bool, Fail>
+fn is_first(rt: &impl Abort, cache: &Cache, m: &Mealy, word: Option<&[u16]>) -> bool
     requires inputs { m.now.inputs ≡ 2 }
     requires letters { All (λ k. IsWord 2 k.word) (answers_of cache.now.kept) }
 {
-    match cache.against(m)? {
-        Some(first) => Ok(word == Some(first.as_slice())),
-        None => Ok(word.is_none()),
+    match cache.against(m).expect(rt, "memory") {
+        Some(first) => word == Some(first.as_slice()),
+        None => word.is_none(),
     }
 }
 
 /// Whether the machine differs first as a case says.
-fn goes(alloc: Global, m: &Mealy, case: &Case) -> Result<bool, Fail>
+fn goes(rt: &impl Abort, alloc: Global, m: &Mealy, case: &Case) -> bool
     requires { m.now.inputs ≡ 2 }
 {
-    let cache = keeps(alloc, case.answers)?;
-    is_first(&cache, m, case.first)
+    let cache = keeps(rt, alloc, case.answers);
+    is_first(rt, &cache, m, case.first)
 }
 
 #[test]
-fn the_first_of_several_differences(rt: HostRuntime) -> Result<(), Fail> {
-    let m = echo(rt.alloc())?;
+fn the_first_of_several_differences(rt: HostRuntime) {
+    let m = echo(&rt, rt.alloc());
     for case in &CASES {
-        assert!(rt; goes(rt.alloc(), &m, case)?);
+        assert!(rt; goes(&rt, rt.alloc(), &m, case));
     }
-    Ok(())
 }
 
 /// A word of this length: the first letter, then letter 0, and from a place on letter `last`.
-fn level(alloc: Global, first: u16, len: usize, place: usize, last: u16) -> Result<Word, Fail> {
-    let mut letters = Vec::with_capacity(alloc, len)?;
+fn level(rt: &impl Abort, alloc: Global, first: u16, len: usize, place: usize, last: u16) -> Word {
+    let mut letters = Vec::with_capacity(alloc, len).expect(rt, "memory");
     for i in 0..len {
         let later = if i < place { 0 } else { last };
-        letters.push(if i == 0 { first } else { later })?;
+        let letter = if i == 0 { first } else { later };
+        letters.push(letter).expect(rt, "memory");
     }
-    Ok(Word::from_letters(alloc, letters))
+    Word::from_letters(alloc, letters)
 }
 
 /// Keeps an answer to the word of this length that begins with `first`, from which the machine differs at each letter from a
 /// place on.
 fn keep_level(
+    rt: &impl Abort,
     alloc: Global,
     cache: &mut Cache,
     first: u16,
     len: usize,
     place: usize,
-) -> Result<(), Fail>
+)
     requires claims { cache.old.claims ≡ [] }
     requires letters { All (λ k. IsWord 2 k.word) (answers_of cache.old.kept) }
     ensures claims { cache.new.claims ≡ [] }
-    ensures letters { OnOk result (All (λ k. IsWord 2 k.word) (answers_of cache.new.kept)) }
+    ensures letters { All (λ k. IsWord 2 k.word) (answers_of cache.new.kept) }
 {
-    let word = level(alloc, first, len, len, 0)?;
-    let outs = level(alloc, first, len, place, 1)?;
-    keep(cache, word, outs)
+    let word = level(rt, alloc, first, len, len, 0);
+    let outs = level(rt, alloc, first, len, place, 1);
+    keep(rt, cache, word, outs);
 }
 
 /// A cache with answers to two words of this length, which part at their first letter. The machine differs from both at
 /// each letter from a place on, which isn't the first.
-fn keeps_long(alloc: Global, len: usize, place: usize) -> Result<Cache, Fail>
-    ensures { IfOk result (λ cache. All (λ k. IsWord 2 k.word) (answers_of cache.kept)) }
+fn keeps_long(rt: &impl Abort, alloc: Global, len: usize, place: usize) -> Cache
+    ensures { All (λ k. IsWord 2 k.word) (answers_of result.kept) }
 {
     let mut cache = Cache::new(alloc);
-    keep_level(alloc, &mut cache, 1, len, place)?;
-    keep_level(alloc, &mut cache, 0, len, place)?;
-    Ok(cache)
+    keep_level(rt, alloc, &mut cache, 1, len, place);
+    keep_level(rt, alloc, &mut cache, 0, len, place);
+    cache
 }
 
 /// Whether the first difference is the front of the word that begins with 0, up to a place.
-fn is_front(alloc: Global, cache: &Cache, len: usize, place: usize) -> Result<bool, Fail>
+fn is_front(rt: &impl Abort, alloc: Global, cache: &Cache, len: usize, place: usize) -> bool
     requires { All (λ k. IsWord 2 k.word) (answers_of cache.now.kept) }
 {
-    let front = level(alloc, 0, place.saturating_add(1), len, 0)?;
-    let m = echo(alloc)?;
-    is_first(cache, &m, Some(front.as_slice()))
+    let front = level(rt, alloc, 0, place.saturating_add(1), len, 0);
+    is_first(rt, cache, &echo(rt, alloc), Some(front.as_slice()))
 }
 
 /// Whether the first difference from answers to two words of this length is the front of the later one up to the place.
-fn is_found(alloc: Global, len: usize, place: usize) -> Result<bool, Fail> {
-    let cache = keeps_long(alloc, len, place)?;
-    is_front(alloc, &cache, len, place)
+fn is_found(rt: &impl Abort, alloc: Global, len: usize, place: usize) -> bool {
+    let cache = keeps_long(rt, alloc, len, place);
+    is_front(rt, alloc, &cache, len, place)
 }
 
 #[test]
-fn two_long_answers(rt: HostRuntime) -> Result<(), Fail> {
-    assert!(rt; is_found(rt.alloc(), 5000, 1)?);
-    assert!(rt; is_found(rt.alloc(), 5000, 4999)?);
-    Ok(())
+fn two_long_answers(rt: HostRuntime) {
+    assert!(rt; is_found(&rt, rt.alloc(), 5000, 1));
+    assert!(rt; is_found(&rt, rt.alloc(), 5000, 4999));
 }

@@ -1,10 +1,10 @@
 //! Learnings over children in memory, by hand.
-ghost use Rattle.std.specs.Prelude.{◌≡◌, ◌<◌, ◌≤◌, ◌^◌, length, IfOk, IsTrue};
+ghost use Rattle.std.specs.Prelude.{◌≡◌, ◌<◌, ◌≤◌, ◌^◌, length, IsTrue};
 ghost use Rattle.std.specs.List.{All};
 ghost use Rattle.lw_words.specs.Word.{IsWord};
 ghost use Rattle.lw_children.specs.Crews.{first_naming};
 
-use super::{command, names};
+use super::{command, names, speakers};
 use lw_cache::{AskStop, Cache};
 use lw_children::{Command, CutRun, LearnedChildren, learn_children};
 use lw_desk::OutNames;
@@ -14,42 +14,31 @@ use lw_outside::{MemorySpawner, Spawner};
 use lw_rounds::{Kind, LearnStop, Unwatched};
 use lw_words::{Line, Names, SulStop, Word};
 use std::alloc::Global;
+use std::process::Abort;
 use std::sync::Wait;
-use std::test::Fail;
 use std::thread::Threads;
 
 /// A machine of two states, of which the first says z and the second a.
-fn machine(alloc: Global) -> Result<Machine, Fail> {
+fn machine(rt: &impl Abort, alloc: Global) -> Machine {
     let text = br#"{"inputs":["t"],"outputs":["z","a"],"states":[[[1,"z"]],[[0,"a"]]]}"#;
-    match read_machine(alloc, text) {
-        Ok(machine) => Ok(machine),
-        Err(_) => Err(Fail::from("a machine was refused")),
-    }
+    read_machine(alloc, text).expect(rt, "a machine")
 }
 
 /// A spawner of children that play the machine.
-fn players(alloc: Global) -> Result<MemorySpawner, Fail> {
-    let machine = machine(alloc)?;
-    Ok(MemorySpawner::serving(alloc, machine, 256, Vec::new(alloc), Vec::new(alloc))?)
-}
-
-/// A spawner of two children that say this and then end; the start of this number fails.
-fn speakers(alloc: Global, text: &[u8], failing: u64) -> Result<MemorySpawner, Fail> {
-    let mut scripts = Vec::new(alloc);
-    for _ in 0..2 {
-        scripts.push(Vec::from_slice(alloc, text)?)?;
-    }
-    let plan = Vec::from_slice(alloc, &[failing])?;
-    Ok(MemorySpawner::scripted(alloc, scripts, 256, plan, Vec::new(alloc))?)
+fn players(rt: &impl Abort, alloc: Global) -> MemorySpawner {
+    let machine = machine(rt, alloc);
+    MemorySpawner::serving(alloc, machine, 256, Vec::new(alloc), Vec::new(alloc)).expect(
+        rt, "memory",
+    )
 }
 
 /// The names that a learning begins with.
-fn first_names(alloc: Global, outputs: &Option<Names>) -> Result<OutNames, Fail>
-    ensures { IfOk result (λ n. n ≡ first_naming outputs.now) }
+fn first_names(rt: &impl Abort, alloc: Global, outputs: &Option<Names>) -> OutNames
+    ensures { result ≡ first_naming outputs.now }
 {
     match outputs {
-        Some(names) => Ok(OutNames::declared(alloc, names)?),
-        None => Ok(OutNames::free(alloc)?),
+        Some(names) => OutNames::declared(alloc, names).expect(rt, "memory"),
+        None => OutNames::free(alloc).expect(rt, "memory"),
     }
 }
 
@@ -66,16 +55,19 @@ fn are_words(words: &[Word], inputs: u16) -> bool
     words.iter().all(|w| is_word(w, inputs))
 }
 
-fn words_of(alloc: Global, list: &[&[u16]]) -> Result<Vec<Word>, Fail> {
+fn words_of(rt: &impl Abort, alloc: Global, list: &[&[u16]]) -> Vec<Word> {
     let mut words = Vec::new(alloc);
     for letters in list {
-        words.push(Word::from_letters(alloc, Vec::from_slice(alloc, letters)?))?;
+        let letters = Vec::from_slice(alloc, letters).expect(rt, "memory");
+        words
+            .push(Word::from_letters(alloc, letters))
+            .expect(rt, "memory");
     }
-    Ok(words)
+    words
 }
 
 /// A learning over so many children, with nothing known before, and these words asked first.
-fn learn<P: Spawner, R: Threads + Wait + Sync + Drop>(
+fn learn<P: Spawner, R: Abort + Threads + Wait + Sync + Copy + Drop>(
     rt: R,
     alloc: Global,
     spawner: &mut P,
@@ -83,18 +75,13 @@ fn learn<P: Spawner, R: Threads + Wait + Sync + Drop>(
     words: &[Word],
     workers: u8,
     kind: Kind,
-) -> Result<LearnedChildren, Fail>
+) -> LearnedChildren
     requires words { 0 < length command.now.words }
 {
     let inputs = command.inputs.len();
-    if inputs > 64 || workers == 0 || workers > 16 {
-        return Err(Fail::from("too many letters, or no such number of workers"));
-    }
-    if words.len() > 9 || !are_words(words, inputs) {
-        return Err(Fail::from("no such words"));
-    }
-    let names = first_names(alloc, &command.outputs)?;
-    let cache = Cache::new(alloc);
+    assert!(rt; inputs <= 64 && 0 < workers && workers <= 16);
+    assert!(rt; words.len() <= 9 && are_words(words, inputs));
+    let names = first_names(&rt, alloc, &command.outputs);
     let mut nobody = Unwatched;
     let ended = learn_children(
         rt,
@@ -102,7 +89,7 @@ fn learn<P: Spawner, R: Threads + Wait + Sync + Drop>(
         spawner,
         command,
         names,
-        cache,
+        Cache::new(alloc),
         words,
         workers,
         kind,
@@ -111,7 +98,7 @@ fn learn<P: Spawner, R: Threads + Wait + Sync + Drop>(
         &mut nobody,
     );
     let Unwatched = nobody;
-    Ok(ended)
+    ended
 }
 
 /// Whether these are the names, in this order.
@@ -217,42 +204,45 @@ fn was_sent(spawner: &MemorySpawner, sent: &[u8]) -> bool {
     spawner.retired()[0].sent.get().as_slice().starts_with(sent)
 }
 
-fn finds_over<R: Threads + Wait + Sync + Drop>(
+fn finds_over<R: Abort + Threads + Wait + Sync + Copy + Drop>(
     rt: R,
     alloc: Global,
     spawner: &mut MemorySpawner,
     command: &Command,
     row: &Found,
-) -> Result<bool, Fail>
+) -> bool
     requires { 0 < length command.now.words }
 {
-    let words = words_of(alloc, row.words)?;
-    let ended = learn(rt, alloc, spawner, command, words.as_slice(), 1, row.kind)?;
-    Ok(is_found(&ended, row) && was_sent(spawner, row.sent))
+    let words = words_of(&rt, alloc, row.words);
+    let ended = learn(rt, alloc, spawner, command, words.as_slice(), 1, row.kind);
+    is_found(&ended, row) && was_sent(spawner, row.sent)
 }
 
 /// The command of a row.
-fn command_of(alloc: Global, row: &Found) -> Result<Command, Fail>
-    ensures { IfOk result (λ c. 0 < length c.words) }
+fn command_of(rt: &impl Abort, alloc: Global, row: &Found) -> Command
+    ensures { 0 < length result.words }
 {
     match row.outputs {
-        Some(list) => command(alloc, Some(names(alloc, list)?)),
-        None => command(alloc, None),
+        Some(list) => command(rt, alloc, Some(names(rt, alloc, list))),
+        None => command(rt, alloc, None),
     }
 }
 
-fn finds<R: Threads + Wait + Sync + Drop>(rt: R, alloc: Global, row: &Found) -> Result<bool, Fail> {
-    let command = command_of(alloc, row)?;
-    let mut spawner = players(alloc)?;
+fn finds<R: Abort + Threads + Wait + Sync + Copy + Drop>(
+    rt: R,
+    alloc: Global,
+    row: &Found,
+) -> bool {
+    let command = command_of(&rt, alloc, row);
+    let mut spawner = players(&rt, alloc);
     finds_over(rt, alloc, &mut spawner, &command, row)
 }
 
 #[test]
-fn a_machine_is_found(rt: HostRuntime) -> Result<(), Fail> {
+fn a_machine_is_found(rt: HostRuntime) {
     for row in &FOUND {
-        assert!(rt; finds(rt, rt.alloc(), row)?);
+        assert!(rt; finds(rt, rt.alloc(), row));
     }
-    Ok(())
 }
 
 /// How a learning over speakers ends.
@@ -385,43 +375,45 @@ static ROWS: [Row; 4] = [
     },
 ];
 
+/// Whether a learning has ended as its row says.
+fn has_ended(ended: &LearnedChildren, spawner: &MemorySpawner, row: &Row) -> bool {
+    has_stopped(ended, row.instance, row.ending)
+        && is_cut(&ended.cut, row.instance, &row.cut)
+        && spawner.started().len() == row.starts
+        && spawner.retired().len() == row.links
+}
+
 /// Whether a learning ends as its row says.
-fn ends_over<R: Threads + Wait + Sync + Drop>(
+fn ends_over<R: Abort + Threads + Wait + Sync + Copy + Drop>(
     rt: R,
     alloc: Global,
     spawner: &mut MemorySpawner,
     command: &Command,
     row: &Row,
-) -> Result<bool, Fail>
+) -> bool
     requires { 0 < length command.now.words }
 {
-    let ended = learn(rt, alloc, spawner, command, &[], row.workers, Kind::Table)?;
-    Ok(
-        has_stopped(&ended, row.instance, row.ending)
-            && is_cut(&ended.cut, row.instance, &row.cut)
-            && spawner.started().len() == row.starts
-            && spawner.retired().len() == row.links,
-    )
+    let ended = learn(rt, alloc, spawner, command, &[], row.workers, Kind::Table);
+    has_ended(&ended, spawner, row)
 }
 
 /// The same over the row's children.
-fn ends<R: Threads + Wait + Sync + Drop>(
+fn ends<R: Abort + Threads + Wait + Sync + Copy + Drop>(
     rt: R,
     alloc: Global,
     command: &Command,
     row: &Row,
-) -> Result<bool, Fail>
+) -> bool
     requires { 0 < length command.now.words }
 {
-    let mut spawner = speakers(alloc, row.text, row.failing)?;
+    let mut spawner = speakers(&rt, alloc, row.text, row.failing);
     ends_over(rt, alloc, &mut spawner, command, row)
 }
 
 #[test]
-fn a_childs_end_is_told(rt: HostRuntime) -> Result<(), Fail> {
-    let command = command(rt.alloc(), None)?;
+fn a_childs_end_is_told(rt: HostRuntime) {
+    let command = command(&rt, rt.alloc(), None);
     for row in &ROWS {
-        assert!(rt; ends(rt, rt.alloc(), &command, row)?);
+        assert!(rt; ends(rt, rt.alloc(), &command, row));
     }
-    Ok(())
 }

@@ -4,7 +4,7 @@ use lw_compare::compare_models;
 use lw_json::{Machine, read_machine};
 use lw_report::Comparison;
 use std::alloc::Global;
-use std::test::Fail;
+use std::process::Abort;
 
 /// All such words in shortlex order.
 static WORDS: [&[u32]; 14] = [
@@ -56,23 +56,24 @@ fn plain(first: u32, second: u32) -> Option<&'static [u32]> {
     None
 }
 
+/// The target and the output of each letter of a state.
+fn row(rt: &impl Abort, alloc: Global, first: (u32, u32), second: (u32, u32)) -> String {
+    let (t, u) = (first, second);
+    format!(in alloc; "[[{},\"{}\"],[{},\"{}\"]]", t.0, t.1, u.0, u.1).expect(rt, "memory")
+}
+
 /// The machine of a number, with these names; the letters in their order or turned.
-fn machine(alloc: Global, number: u32, turned: bool) -> Result<Machine, Fail> {
+fn machine(rt: &impl Abort, alloc: Global, number: u32, turned: bool) -> Machine {
     let (a, b) = if turned { (1, 0) } else { (0, 1) };
     let names = if turned {
         "{\"inputs\":[\"b\",\"a\"],\"outputs\":[\"1\",\"0\"],"
     } else {
         "{\"inputs\":[\"a\",\"b\"],\"outputs\":[\"0\",\"1\"],"
     };
-    let (t, u) = (cell(number, 0, a), cell(number, 0, b));
-    let (v, w) = (cell(number, 1, a), cell(number, 1, b));
-    let first = format!(in alloc; "[[{},\"{}\"],[{},\"{}\"]]", t.0, t.1, u.0, u.1)?;
-    let second = format!(in alloc; "[[{},\"{}\"],[{},\"{}\"]]", v.0, v.1, w.0, w.1)?;
-    let text = format!(in alloc; "{names}\"states\":[{first},{second}]}}\n")?;
-    match read_machine(alloc, text.as_bytes()) {
-        Ok(machine) => Ok(machine),
-        Err(_) => Err(Fail::from("no machine was read")),
-    }
+    let first = row(rt, alloc, cell(number, 0, a), cell(number, 0, b));
+    let second = row(rt, alloc, cell(number, 1, a), cell(number, 1, b));
+    let text = format!(in alloc; "{names}\"states\":[{first},{second}]}}\n").expect(rt, "memory");
+    read_machine(alloc, text.as_bytes()).expect(rt, "a machine")
 }
 
 /// Whether names are those of the letters.
@@ -101,19 +102,23 @@ fn is_so(comparison: &Comparison, expected: Option<&[u32]>) -> bool {
     }
 }
 
-fn compares(alloc: Global, first: u32, second: u32) -> Result<bool, Fail> {
-    let one = machine(alloc, first, false)?;
-    let two = machine(alloc, second, true)?;
-    let comparison = compare_models(alloc, &one, &two)?;
-    Ok(is_so(&comparison, plain(first, second)))
+/// What a comparison comes to: the clauses of `compare_models` would weigh down each proof that calls it.
+fn compared(rt: &impl Abort, alloc: Global, one: &Machine, two: &Machine) -> Comparison {
+    compare_models(alloc, one, two).expect(rt, "memory")
+}
+
+fn compares(rt: &impl Abort, alloc: Global, first: u32, second: u32) -> bool {
+    let one = machine(rt, alloc, first, false);
+    let two = machine(rt, alloc, second, true);
+    let comparison = compared(rt, alloc, &one, &two);
+    is_so(&comparison, plain(first, second))
 }
 
 #[test]
-fn the_walk_finds_what_trying_all_words_finds(rt: HostRuntime) -> Result<(), Fail> {
+fn the_walk_finds_what_trying_all_words_finds(rt: HostRuntime) {
     for i in 0..13u32 {
         for j in 0..17u32 {
-            assert!(rt; compares(rt.alloc(), i * 19 % 256, j * 15 % 256)?);
+            assert!(rt; compares(&rt, rt.alloc(), i * 19 % 256, j * 15 % 256));
         }
     }
-    Ok(())
 }

@@ -7,69 +7,62 @@ use crate::tests::turns::{Given, give, word};
 use lw_desk::{Ask, OutNames};
 use lw_words::Word;
 use std::alloc::Global;
-use std::test::Fail;
+use std::process::Abort;
 
 /// The two names that an instance brings, in this order.
 type Pair = [&'static str; 2];
 
 /// A word for each of so many instances: its number, twice.
-fn own_words(alloc: Global, instances: u16) -> Result<Vec<Word>, Fail> {
+fn own_words(rt: &impl Abort, alloc: Global, instances: u16) -> Vec<Word> {
     let mut own = Vec::new(alloc);
     for instance in 0..instances {
-        own.push(word(alloc, &[instance, instance])?)?;
+        own.push(word(rt, alloc, &[instance, instance]))
+            .expect(rt, "memory");
     }
-    Ok(own)
+    own
 }
 
 /// Each instance takes its word.
-fn take_words(alloc: Global, desk: &mut Trial, instances: u16) -> Result<(), Fail> {
+fn take_words(rt: &impl Abort, alloc: Global, desk: &mut Trial, instances: u16) {
     for instance in 0..instances {
         let ask = Ask {
             gives: Vec::new(alloc),
             failed: None,
             wanted: 1,
         };
-        desk.ask(u32::from(instance), ask)?;
+        desk.ask(rt, u32::from(instance), ask);
     }
-    Ok(())
 }
 
 /// An instance answers its word, and brings both names.
-fn give_pair(
-    alloc: Global,
-    desk: &mut Trial,
-    instance: u32,
-    pair: &'static Pair,
-) -> Result<(), Fail> {
+fn give_pair(rt: &impl Abort, alloc: Global, desk: &mut Trial, instance: u32, pair: &'static Pair) {
     let given = Given {
         place: instance,
         outs: &[0, 1],
         run: 0,
         brought: pair,
     };
-    let mut gives = Vec::new(alloc);
-    gives.push(give(alloc, &given)?)?;
     let ask = Ask {
-        gives,
+        gives: vec![in alloc; give(rt, alloc, &given)].expect(rt, "memory"),
         failed: None,
         wanted: 0,
     };
-    desk.ask(instance, ask)?;
-    Ok(())
+    desk.ask(rt, instance, ask);
 }
 
 /// The names that instances bring, one after another.
-fn brought(alloc: Global, pairs: &'static [Pair]) -> Result<OutNames, Fail>
+fn brought(rt: &impl Abort, alloc: Global, pairs: &'static [Pair]) -> OutNames
     requires { length pairs.now ≤ 16 }
 {
     let instances = pairs.len() as u16;
-    let mut desk = Trial::free(alloc, own_words(alloc, instances)?, u32::from(instances))?;
-    take_words(alloc, &mut desk, instances)?;
+    let words = own_words(rt, alloc, instances);
+    let mut desk = Trial::free(rt, alloc, words, u32::from(instances));
+    take_words(rt, alloc, &mut desk, instances);
     for (instance, pair) in pairs.iter().enumerate() {
-        give_pair(alloc, &mut desk, instance as u32, pair)?;
+        give_pair(rt, alloc, &mut desk, instance as u32, pair);
     }
-    let (_, names, _) = desk.finish()?;
-    Ok(names)
+    let (_, names, _) = desk.finish(rt);
+    names
 }
 
 /// Whether these are the names, in their order.
@@ -86,37 +79,34 @@ fn are(names: &OutNames, expected: &[&str]) -> bool {
 }
 
 /// Whether names become these ones when they are sorted, and their numbers these ones.
-fn sort_to(mut names: OutNames, sorted: &[&str], to: &[u16]) -> Result<bool, Fail> {
+fn sort_to(rt: &impl Abort, mut names: OutNames, sorted: &[&str], to: &[u16]) -> bool {
     let mut numbers = [9u16; 20];
-    if !names.is_free() || usize::from(names.len()) > numbers.len() {
-        return Err(Fail::from("other names were meant"));
-    }
+    assert!(rt; names.is_free());
+    assert!(rt; usize::from(names.len()) <= numbers.len());
     names.sort(&mut numbers);
-    Ok(are(&names, sorted) && numbers.starts_with(to))
+    are(&names, sorted) && numbers.starts_with(to)
 }
 
 static FALLING: [Pair; 1] = [["z", "a"]];
 
 #[test]
-fn names_are_sorted(rt: HostRuntime) -> Result<(), Fail> {
-    let names = brought(rt.alloc(), &FALLING)?;
-    assert!(rt; sort_to(names, &["a", "z"], &[1, 0])?);
-    Ok(())
+fn names_are_sorted(rt: HostRuntime) {
+    let names = brought(&rt, rt.alloc(), &FALLING);
+    assert!(rt; sort_to(&rt, names, &["a", "z"], &[1, 0]));
 }
 
 static RISING: [Pair; 1] = [["Ok", "ok"]];
 
 #[test]
-fn sorted_names_stay(rt: HostRuntime) -> Result<(), Fail> {
-    let names = brought(rt.alloc(), &RISING)?;
-    assert!(rt; sort_to(names, &["Ok", "ok"], &[0, 1, 9])?);
-    Ok(())
+fn sorted_names_stay(rt: HostRuntime) {
+    let names = brought(&rt, rt.alloc(), &RISING);
+    assert!(rt; sort_to(&rt, names, &["Ok", "ok"], &[0, 1, 9]));
 }
 
 #[test]
-fn no_name_is_sorted(rt: HostRuntime) -> Result<(), Fail> {
-    assert!(rt; sort_to(OutNames::free(rt.alloc())?, &[], &[9])?);
-    Ok(())
+fn no_name_is_sorted(rt: HostRuntime) {
+    let names = OutNames::free(rt.alloc()).expect(&rt, "memory");
+    assert!(rt; sort_to(&rt, names, &[], &[9]));
 }
 
 static OF_SIXTEEN: [Pair; 16] = [
@@ -145,8 +135,7 @@ static SORTED: [&str; 17] = [
 static NUMBERS: [u16; 17] = [13, 15, 7, 9, 10, 2, 3, 4, 16, 0, 12, 11, 5, 8, 1, 6, 14];
 
 #[test]
-fn names_of_sixteen_instances_are_sorted(rt: HostRuntime) -> Result<(), Fail> {
-    let names = brought(rt.alloc(), &OF_SIXTEEN)?;
-    assert!(rt; sort_to(names, &SORTED, &NUMBERS)?);
-    Ok(())
+fn names_of_sixteen_instances_are_sorted(rt: HostRuntime) {
+    let names = brought(&rt, rt.alloc(), &OF_SIXTEEN);
+    assert!(rt; sort_to(&rt, names, &SORTED, &NUMBERS));
 }

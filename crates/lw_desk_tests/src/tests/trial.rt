@@ -1,5 +1,5 @@
 //! Desks for tests: what an ask needs is tested when it is made.
-ghost use Rattle.std.specs.Prelude.{◌≡◌, ℕ, ◌+◌, ◌≤◌, ◌<◌, ◌||◌, true, false, List, [], ◌++◌, length, map, take, IfOk, IsTrue, is_some};
+ghost use Rattle.std.specs.Prelude.{◌≡◌, ℕ, ◌+◌, ◌≤◌, ◌<◌, ◌||◌, true, false, List, [], ◌++◌, length, map, take, IsTrue, is_some};
 ghost use Rattle.std.specs.List.{All};
 ghost use Rattle.lw_words.specs.Name.{IsName, AllDiffer, number_of};
 ghost use Rattle.lw_sul.specs.Names.{named, with_names};
@@ -15,7 +15,7 @@ use lw_turn::Core;
 use lw_words::{Names, Word};
 use std::alloc::Global;
 use std::marker::Model;
-use std::test::Fail;
+use std::process::Abort;
 
 /// How an actor stands: what it holds, whether it has ended, and the names that its own numbers stand for.
 #[derive(Drop)]
@@ -47,25 +47,25 @@ impl Model for Trial {
     ghost invariant = { λ t. IsTrial t.desk t.words.items t.free (map (λ x. seat_by x.held x.ended x.own.items) t.seats.items) };
 }
 
-fn copies(alloc: Global, names: &[OutName]) -> Result<Vec<OutName>, Fail>
-    ensures { IfOk result (λ v. v.items ≡ names.now) }
+fn copies(rt: &impl Abort, alloc: Global, names: &[OutName]) -> Vec<OutName>
+    ensures { result.items ≡ names.now }
 {
     let mut v = Vec::new(alloc);
     for name in names {
-        v.push(name.copy())?;
+        v.push(name.copy()).expect(rt, "memory");
     }
-    Ok(v)
+    v
 }
 
 /// A list, and names behind it.
-fn joined(alloc: Global, own: &[OutName], names: &Named) -> Result<Vec<OutName>, Fail>
-    ensures { IfOk result (λ v. v.items ≡ own.now ++ names.now) }
+fn joined(rt: &impl Abort, alloc: Global, own: &[OutName], names: &Named) -> Vec<OutName>
+    ensures { result.items ≡ own.now ++ names.now }
 {
-    let mut v = copies(alloc, own)?;
+    let mut v = copies(rt, alloc, own);
     for i in 0..names.len() {
-        v.push(names.get(i).copy())?;
+        v.push(names.get(i).copy()).expect(rt, "memory");
     }
-    Ok(v)
+    v
 }
 
 /// The number of a name, where the list has it.
@@ -141,58 +141,57 @@ fn may_bring(free: bool, own: &[OutName], names: &Named, all: &[OutName], outs: 
 }
 
 /// The places that are given or failed.
-fn settled(alloc: Global, ask: &Ask) -> Result<Vec<u32>, Fail>
-    ensures { IfOk result (λ v. v.items ≡ settled_places ask.now) }
+fn settled(rt: &impl Abort, alloc: Global, ask: &Ask) -> Vec<u32>
+    ensures { result.items ≡ settled_places ask.now }
 {
-    let mut v: Vec<u32> = ask.gives.iter().map(|g| g.place).collect(alloc)?;
-    match &ask.failed {
-        Some(failed) => v.extend_from_slice(failed.places.as_slice())?,
-        None => {}
+    let places = ask.gives.iter().map(|g| g.place).collect(alloc);
+    let mut v: Vec<u32> = places.expect(rt, "memory");
+    if let Some(failed) = &ask.failed {
+        v.extend_from_slice(failed.places.as_slice())
+            .expect(rt, "memory");
     }
-    Ok(v)
+    v
 }
 
 /// An actor's own names after it gave an answer, where it may.
 fn after_give(
+    rt: &impl Abort,
     alloc: Global,
     words: &[Word],
     free: bool,
     own: &[OutName],
     g: &Give,
-) -> Result<Vec<OutName>, Fail>
-    ensures may { IfOk result (λ v. MayBring free own.now g.now.names g.now.outs) }
-    ensures long { IfOk result (λ v. length g.now.outs ≡ length (word_at words.now g.now.place)) }
-    ensures own { IfOk result (λ v. v.items ≡ own.now ++ g.now.names) }
+) -> Vec<OutName>
+    ensures may { MayBring free own.now g.now.names g.now.outs }
+    ensures long { length g.now.outs ≡ length (word_at words.now g.now.place) }
+    ensures own { result.items ≡ own.now ++ g.now.names }
 {
-    let all = joined(alloc, own, &g.names)?;
+    let all = joined(rt, alloc, own, &g.names);
     let Some(word) = words.get(g.place as usize) else {
-        return Err(Fail::from("no such place"));
+        rt.panic("no such place");
     };
-    if word.len() != g.outs.len() {
-        return Err(Fail::from("as many outputs as letters"));
-    }
-    if !may_bring(free, own, &g.names, &all, g.outs.as_slice()) {
-        return Err(Fail::from("these names may not be brought"));
-    }
-    Ok(all)
+    assert!(rt; word.len() == g.outs.len());
+    assert!(rt; may_bring(free, own, &g.names, &all, g.outs.as_slice()));
+    all
 }
 
 /// An actor's own names after it gave answers, where it may.
 fn after_gives(
+    rt: &impl Abort,
     alloc: Global,
     words: &[Word],
     free: bool,
     own: &[OutName],
     gives: &[Give],
-) -> Result<Vec<OutName>, Fail>
-    ensures may { IfOk result (λ v. MayGiveAll words.now free own.now gives.now) }
-    ensures own { IfOk result (λ v. v.items ≡ own.now ++ names_given gives.now) }
+) -> Vec<OutName>
+    ensures may { MayGiveAll words.now free own.now gives.now }
+    ensures own { result.items ≡ own.now ++ names_given gives.now }
 {
-    let mut names = copies(alloc, own)?;
+    let mut names = copies(rt, alloc, own);
     for g in gives {
-        names = after_give(alloc, words, free, &names, g)?;
+        names = after_give(rt, alloc, words, free, &names, g);
     }
-    Ok(names)
+    names
 }
 
 fn same_places(a: &[u32], b: &[u32]) -> bool
@@ -226,34 +225,24 @@ fn either(a: bool, b: bool) -> bool
 
 /// An actor's own names after an ask, where it may make it.
 fn after_ask(
+    rt: &impl Abort,
     alloc: Global,
     words: &[Word],
     free: bool,
     seat: &Standing,
     ask: &Ask,
-) -> Result<Vec<OutName>, Fail>
-    ensures may { IfOk result (λ v. MayMake words.now free
-        (seat_by seat.now.held seat.now.ended seat.now.own.items) ask.now) }
-    ensures own { IfOk result (λ v.
-        v.items ≡ seat.now.own.items ++ names_given ask.now.gives.items) }
+) -> Vec<OutName>
+    ensures may { MayMake words.now free
+        (seat_by seat.now.held seat.now.ended seat.now.own.items) ask.now }
+    ensures own { result.items ≡ seat.now.own.items ++ names_given ask.now.gives.items }
 {
-    let places = settled(alloc, ask)?;
-    if seat.ended {
-        return Err(Fail::from("the actor has ended"));
-    }
-    if !same_places(&places, seat.held.as_slice()) {
-        return Err(Fail::from("it holds other places"));
-    }
-    if ask.wanted > 16 {
-        return Err(Fail::from("it wants too many"));
-    }
-    if !asks_something(&places, ask.wanted) {
-        return Err(Fail::from("it asks nothing"));
-    }
-    if !fails_well(ask) {
-        return Err(Fail::from("it fails nothing, or wants more"));
-    }
-    after_gives(alloc, words, free, &seat.own, &ask.gives)
+    let places = settled(rt, alloc, ask);
+    assert!(rt; !seat.ended);
+    assert!(rt; same_places(&places, seat.held.as_slice()));
+    assert!(rt; ask.wanted <= 16);
+    assert!(rt; asks_something(&places, ask.wanted));
+    assert!(rt; fails_well(ask));
+    after_gives(rt, alloc, words, free, &seat.own, &ask.gives)
 }
 
 /// Whether no actor holds a place.
@@ -266,56 +255,60 @@ fn nothing_held(seats: &[Standing]) -> bool
 impl Trial {
     /// A trial of this batch.
     fn new(
+        rt: &impl Abort,
         alloc: Global,
         names: OutNames,
         own: &[OutName],
         words: Vec<Word>,
         actors: u32,
-    ) -> Result<Trial, Fail>
+    ) -> Trial
         requires alike { (a : ℕ) → own_names names a ≡ own.now }
     {
-        if words.len() > 1000 || actors == 0 || actors > 16 {
-            return Err(Fail::from("too many words or actors"));
-        }
+        assert!(rt; words.len() <= 1000);
+        assert!(rt; actors > 0);
+        assert!(rt; actors <= 16);
         let free = names.is_free();
         let mut seats = Vec::new(alloc);
         for _ in 0..actors {
-            seats.push(Standing {
+            let seat = Standing {
                 held: Places::new(),
                 ended: false,
-                own: copies(alloc, own)?,
-            })?;
+                own: copies(rt, alloc, own),
+            };
+            seats.push(seat).expect(rt, "memory");
         }
         let Ok(desk) = Desk::new(alloc, Cache::new(alloc), names, &words, actors) else {
-            return Err(Fail::from("no memory"));
+            rt.panic("memory");
         };
-        Ok(Trial {
+        Trial {
             desk,
             words,
             free,
             seats,
             alloc,
-        })
+        }
     }
 
     /// With declared names.
     pub fn declared(
+        rt: &impl Abort,
         alloc: Global,
         names: &Names,
         words: Vec<Word>,
         actors: u32,
-    ) -> Result<Trial, Fail> {
-        let shared = OutNames::declared(alloc, names)?;
+    ) -> Trial {
+        let shared = OutNames::declared(alloc, names).expect(rt, "memory");
         let mut own = Vec::new(alloc);
         for n in 0..shared.len() {
-            own.push(shared.name(n))?;
+            own.push(shared.name(n)).expect(rt, "memory");
         }
-        Trial::new(alloc, shared, &own, words, actors)
+        Trial::new(rt, alloc, shared, &own, words, actors)
     }
 
     /// With free names.
-    pub fn free(alloc: Global, words: Vec<Word>, actors: u32) -> Result<Trial, Fail> {
-        Trial::new(alloc, OutNames::free(alloc)?, &[], words, actors)
+    pub fn free(rt: &impl Abort, alloc: Global, words: Vec<Word>, actors: u32) -> Trial {
+        let names = OutNames::free(alloc).expect(rt, "memory");
+        Trial::new(rt, alloc, names, &[], words, actors)
     }
 
     /// What an actor holds.
@@ -327,11 +320,11 @@ impl Trial {
     }
 
     /// An ask, where the actor may make it: whether nothing was left, whether the desk was stopped, and how many are left.
-    pub fn ask(&mut self, actor: u32, ask: Ask) -> Result<(bool, bool, u32), Fail> {
+    pub fn ask(&mut self, rt: &impl Abort, actor: u32, ask: Ask) -> (bool, bool, u32) {
         let Some(seat) = self.seats.get(actor as usize) else {
-            return Err(Fail::from("no such actor"));
+            rt.panic("no such actor");
         };
-        let own = after_ask(self.alloc, &self.words, self.free, seat, &ask)?;
+        let own = after_ask(rt, self.alloc, &self.words, self.free, seat, &ask);
         let failed = ask.failed.is_some();
         let reply = self.desk.on(actor, ask);
         let told = (reply.done, reply.stopped, reply.left);
@@ -340,15 +333,13 @@ impl Trial {
             ended: either(reply.done, failed),
             own,
         };
-        Ok(told)
+        told
     }
 
     /// What the desk leaves, where no actor holds a place.
-    pub fn finish(self) -> Result<(Cache, OutNames, Option<AskStop>), Fail> {
+    pub fn finish(self, rt: &impl Abort) -> (Cache, OutNames, Option<AskStop>) {
         let _ = self.desk.actors();
-        if !nothing_held(&self.seats) {
-            return Err(Fail::from("a place is held"));
-        }
+        assert!(rt; nothing_held(&self.seats));
         let Trial {
             desk,
             words: _,
@@ -356,6 +347,6 @@ impl Trial {
             seats: _,
             alloc: _,
         } = self;
-        Ok(desk.finish())
+        desk.finish()
     }
 }

@@ -5,29 +5,27 @@ use lw_desk::{Ask, Failed, Give, Places};
 use lw_sul::{Named, OutName};
 use lw_words::{Names, RunStop, SulStop, Word};
 use std::alloc::Global;
-use std::test::Fail;
+use std::process::Abort;
 
-pub fn word(alloc: Global, letters: &[u16]) -> Result<Word, Fail> {
-    Ok(Word::from_letters(alloc, letters.to_vec(alloc)?))
+pub fn word(rt: &impl Abort, alloc: Global, letters: &[u16]) -> Word {
+    Word::from_letters(alloc, letters.to_vec(alloc).expect(rt, "memory"))
 }
 
-pub fn words(alloc: Global, list: &[&[u16]]) -> Result<Vec<Word>, Fail> {
+pub fn words(rt: &impl Abort, alloc: Global, list: &[&[u16]]) -> Vec<Word> {
     let mut words = Vec::new(alloc);
     for letters in list {
-        words.push(word(alloc, letters)?)?;
+        words.push(word(rt, alloc, letters)).expect(rt, "memory");
     }
-    Ok(words)
+    words
 }
 
-fn names(alloc: Global, list: &[&str]) -> Result<Names, Fail> {
+fn names(rt: &impl Abort, alloc: Global, list: &[&str]) -> Names {
     let mut texts = Vec::new(alloc);
     for name in list {
-        texts.push(String::from_str(alloc, name)?)?;
+        let text = String::from_str(alloc, name).expect(rt, "memory");
+        texts.push(text).expect(rt, "memory");
     }
-    match Names::from_list(alloc, &texts) {
-        Ok(names) => Ok(names),
-        Err(_) => Err(Fail::from("these are no names")),
-    }
+    Names::from_list(alloc, &texts).expect(rt, "names")
 }
 
 /// An answer that is given to a place, with the names that it brings.
@@ -60,20 +58,18 @@ pub const WANTS: Turn = Turn {
     held: &[],
 };
 
-pub fn give(alloc: Global, given: &Given) -> Result<Give, Fail> {
+pub fn give(rt: &impl Abort, alloc: Global, given: &Given) -> Give {
     let mut names = Named::new(alloc);
     for name in given.brought {
-        let Some(name) = OutName::new(name) else {
-            return Err(Fail::from("this is no name"));
-        };
-        names.push(name)?;
+        let name = OutName::new(name).expect(rt, "a name");
+        names.push(name).expect(rt, "memory");
     }
-    Ok(Give {
+    Give {
         place: given.place,
-        outs: word(alloc, given.outs)?,
+        outs: word(rt, alloc, given.outs),
         names,
         run: given.run,
-    })
+    }
 }
 
 /// What it fails, if anything.
@@ -88,16 +84,16 @@ fn failed(fails: Option<(u32, u32)>) -> Option<Failed> {
     })
 }
 
-fn ask(alloc: Global, turn: &Turn) -> Result<Ask, Fail> {
+fn ask(rt: &impl Abort, alloc: Global, turn: &Turn) -> Ask {
     let mut gives = Vec::new(alloc);
     for given in turn.gives {
-        gives.push(give(alloc, given)?)?;
+        gives.push(give(rt, alloc, given)).expect(rt, "memory");
     }
-    Ok(Ask {
+    Ask {
         gives,
         failed: failed(turn.fails),
         wanted: turn.wanted,
-    })
+    }
 }
 
 fn are_same(places: &[u32], expected: &[u32]) -> bool {
@@ -105,26 +101,28 @@ fn are_same(places: &[u32], expected: &[u32]) -> bool {
 }
 
 /// How many of the turns, from the first on, go as they say.
-pub fn taken(alloc: Global, desk: &mut Trial, turns: &[Turn]) -> Result<usize, Fail> {
+pub fn taken(rt: &impl Abort, alloc: Global, desk: &mut Trial, turns: &[Turn]) -> usize {
     for (i, turn) in turns.iter().enumerate() {
-        let told = desk.ask(turn.actor, ask(alloc, turn)?)?;
+        let told = desk.ask(rt, turn.actor, ask(rt, alloc, turn));
         if told != turn.told || !are_same(desk.held(turn.actor as usize), turn.held) {
-            return Ok(i);
+            return i;
         }
     }
-    Ok(turns.len())
+    turns.len()
 }
 
 /// A desk whose outputs have these names.
 pub fn declared(
+    rt: &impl Abort,
     alloc: Global,
     outputs: &[&str],
     list: &[&[u16]],
     actors: u32,
-) -> Result<Trial, Fail> {
-    Trial::declared(alloc, &names(alloc, outputs)?, words(alloc, list)?, actors)
+) -> Trial {
+    let names = names(rt, alloc, outputs);
+    Trial::declared(rt, alloc, &names, words(rt, alloc, list), actors)
 }
 
-pub fn free(alloc: Global, list: &[&[u16]], actors: u32) -> Result<Trial, Fail> {
-    Trial::free(alloc, words(alloc, list)?, actors)
+pub fn free(rt: &impl Abort, alloc: Global, list: &[&[u16]], actors: u32) -> Trial {
+    Trial::free(rt, alloc, words(rt, alloc, list), actors)
 }

@@ -3,7 +3,7 @@
 use lw_json::{Answers, Field, JsonFault, answers_text, read_answers};
 use lw_words::{Kept, NamesFault};
 use std::alloc::Global;
-use std::test::Fail;
+use std::process::Abort;
 
 /// Answers files, in both formats.
 const FORMAT_1: &str =
@@ -205,29 +205,25 @@ static NO_ANSWERS: [(&str, JsonFault); 46] = [
 ];
 
 /// The first fault of a text, which is no answers file.
-fn fault_of(alloc: Global, text: &str) -> Result<JsonFault, Fail> {
+fn fault_of(rt: &impl Abort, alloc: Global, text: &str) -> JsonFault {
     match read_answers(alloc, text.as_bytes()) {
-        Ok(_) => Err(Fail::from("bytes outside the grammar were taken")),
-        Err(fault) => Ok(fault),
+        Ok(_) => rt.panic("bytes outside the grammar were taken"),
+        Err(fault) => fault,
     }
 }
 
 #[test]
-fn the_first_fault_of_an_answers_file_is_told(rt: HostRuntime) -> Result<(), Fail> {
+fn the_first_fault_of_an_answers_file_is_told(rt: HostRuntime) {
     let alloc = rt.alloc();
     for (text, first) in &NO_ANSWERS {
-        let fault = fault_of(alloc, text)?;
+        let fault = fault_of(&rt, alloc, text);
         assert_eq!(rt; fault, *first, "{text}");
     }
-    Ok(())
 }
 
 /// The answers of a text.
-fn answers_of(alloc: Global, text: &str) -> Result<Answers, Fail> {
-    match read_answers(alloc, text.as_bytes()) {
-        Ok(answers) => Ok(answers),
-        Err(_) => Err(Fail::from("an answers file was refused")),
-    }
+fn answers_of(rt: &impl Abort, alloc: Global, text: &str) -> Answers {
+    read_answers(alloc, text.as_bytes()).expect(rt, "answers")
 }
 
 /// Whether the kept answer with this number is of this instance and run, to this word with these outputs.
@@ -255,37 +251,38 @@ fn are_of_format_2(kept: &Kept) -> bool {
     kept.len() == 2 && first && second
 }
 
-fn is_format_1_read(alloc: Global) -> Result<bool, Fail> {
-    Ok(are_of_format_1(&answers_of(alloc, FORMAT_1)?.kept))
+fn is_format_1_read(rt: &impl Abort, alloc: Global) -> bool {
+    are_of_format_1(&answers_of(rt, alloc, FORMAT_1).kept)
 }
 
-fn is_format_2_read(alloc: Global) -> Result<bool, Fail> {
-    Ok(are_of_format_2(&answers_of(alloc, FORMAT_2)?.kept))
+fn is_format_2_read(rt: &impl Abort, alloc: Global) -> bool {
+    are_of_format_2(&answers_of(rt, alloc, FORMAT_2).kept)
 }
 
 #[test]
-fn answers_are_read_in_both_formats(rt: HostRuntime) -> Result<(), Fail> {
+fn answers_are_read_in_both_formats(rt: HostRuntime) {
     let alloc = rt.alloc();
-    assert!(rt; is_format_1_read(alloc)?);
-    assert!(rt; is_format_2_read(alloc)?);
-    Ok(())
+    assert!(rt; is_format_1_read(&rt, alloc));
+    assert!(rt; is_format_2_read(&rt, alloc));
 }
 
 /// What is written of the answers of a text.
-fn rewritten(alloc: Global, text: &str) -> Result<Vec<u8>, Fail> {
-    let answers = answers_of(alloc, text)?;
-    let written = answers_text(alloc, &answers.inputs, &answers.outputs, &answers.kept)?;
-    Ok(written)
+fn rewritten(rt: &impl Abort, alloc: Global, text: &str) -> Vec<u8> {
+    let answers = answers_of(rt, alloc, text);
+    let written = answers_text(alloc, &answers.inputs, &answers.outputs, &answers.kept);
+    written.expect(rt, "memory")
+}
+
+/// Whether the answers of a text are written so.
+fn is_written_so(rt: &impl Abort, alloc: Global, text: &str, expected: &str) -> bool {
+    rewritten(rt, alloc, text).as_slice() == expected.as_bytes()
 }
 
 #[test]
-fn answers_are_written_in_order_and_read_again(rt: HostRuntime) -> Result<(), Fail> {
+fn answers_are_written_in_order_and_read_again(rt: HostRuntime) {
     let alloc = rt.alloc();
     for (text, expected) in &WRITTEN {
-        let written = rewritten(alloc, text)?;
-        assert_eq!(rt; written.as_slice(), expected.as_bytes());
-        let twice = rewritten(alloc, expected)?;
-        assert_eq!(rt; twice.as_slice(), expected.as_bytes());
+        assert!(rt; is_written_so(&rt, alloc, text, expected), "{text}");
+        assert!(rt; is_written_so(&rt, alloc, expected, expected), "{expected}");
     }
-    Ok(())
 }

@@ -4,7 +4,7 @@ use lw_json::{Field, JsonFault, machine_text, read_machine};
 use lw_mealy::MealyFault;
 use lw_words::NamesFault;
 use std::alloc::Global;
-use std::test::Fail;
+use std::process::Abort;
 
 const ONE: &str = "{\"inputs\":[\"t\"],\"outputs\":[\"0\"],\"states\":[[[0,\"0\"]]]}\n";
 
@@ -216,48 +216,47 @@ static NO_MACHINES: [(&str, JsonFault); 54] = [
 ];
 
 /// What is written of the machine that is read.
-fn rewritten(alloc: Global, bytes: &[u8]) -> Result<Vec<u8>, Fail> {
-    match read_machine(alloc, bytes) {
-        Ok(machine) => Ok(machine_text(alloc, &machine)?),
-        Err(_) => Err(Fail::from("a machine file was refused")),
-    }
+fn rewritten(rt: &impl Abort, alloc: Global, bytes: &[u8]) -> Vec<u8> {
+    let machine = read_machine(alloc, bytes).expect(rt, "a machine");
+    machine_text(alloc, &machine).expect(rt, "memory")
+}
+
+/// Whether the machine of a text is written so.
+fn is_written_so(rt: &impl Abort, alloc: Global, text: &str, expected: &str) -> bool {
+    rewritten(rt, alloc, text.as_bytes()).as_slice() == expected.as_bytes()
 }
 
 #[test]
-fn a_machine_is_read_and_written(rt: HostRuntime) -> Result<(), Fail> {
+fn a_machine_is_read_and_written(rt: HostRuntime) {
     let alloc = rt.alloc();
     for text in &SPELLED {
-        let written = rewritten(alloc, text.as_bytes())?;
-        assert_eq!(rt; written.as_slice(), ONE.as_bytes());
+        assert!(rt; is_written_so(&rt, alloc, text, ONE), "{text}");
     }
-    Ok(())
 }
 
 #[test]
-fn a_written_machine_is_read_as_the_same(rt: HostRuntime) -> Result<(), Fail> {
+fn a_written_machine_is_read_as_the_same(rt: HostRuntime) {
     let alloc = rt.alloc();
-    let written = rewritten(alloc, THREE.as_bytes())?;
-    assert_eq!(rt; written.as_slice(), THREE.as_bytes());
-    let twice = rewritten(alloc, &written)?;
-    assert_eq!(rt; twice.as_slice(), THREE.as_bytes());
-    Ok(())
+    let written = rewritten(&rt, alloc, THREE.as_bytes());
+    assert!(rt; written.as_slice() == THREE.as_bytes());
+    let twice = rewritten(&rt, alloc, &written);
+    assert!(rt; twice.as_slice() == THREE.as_bytes());
 }
 
 /// The first fault of bytes, which are no machine file.
-pub fn fault_of(alloc: Global, bytes: &[u8]) -> Result<JsonFault, Fail> {
+pub fn fault_of(rt: &impl Abort, alloc: Global, bytes: &[u8]) -> JsonFault {
     match read_machine(alloc, bytes) {
-        Ok(_) => Err(Fail::from("bytes outside the grammar were taken")),
-        Err(fault) => Ok(fault),
+        Ok(_) => rt.panic("bytes outside the grammar were taken"),
+        Err(fault) => fault,
     }
 }
 
 #[test]
-fn the_first_fault_of_a_machine_file_is_told(rt: HostRuntime) -> Result<(), Fail> {
+fn the_first_fault_of_a_machine_file_is_told(rt: HostRuntime) {
     let alloc = rt.alloc();
     for (text, first) in &NO_MACHINES {
-        let fault = fault_of(alloc, text.as_bytes())?;
+        let fault = fault_of(&rt, alloc, text.as_bytes());
         assert_eq!(rt; fault, *first, "{text}");
     }
-    assert_eq!(rt; fault_of(alloc, b"\xff{}")?, JsonFault::NotJson);
-    Ok(())
+    assert!(rt; fault_of(&rt, alloc, b"\xff{}") == JsonFault::NotJson);
 }

@@ -3,7 +3,7 @@
 use lw_json::{Field, JsonFault, Setup, Texts, read_setup};
 use lw_words::{Names, NamesFault};
 use std::alloc::Global;
-use std::test::Fail;
+use std::process::Abort;
 
 /// A setup with a table, beside members that are then ignored.
 const TABLE: &str = "{\"table\":\"a b.json\",\"inputs\":7,\"outputs\":null}";
@@ -97,29 +97,25 @@ static NO_SETUPS: [(&str, JsonFault); 23] = [
 ];
 
 /// The first fault of a text, which is no setup file.
-fn fault_of(alloc: Global, text: &str) -> Result<JsonFault, Fail> {
+fn fault_of(rt: &impl Abort, alloc: Global, text: &str) -> JsonFault {
     match read_setup(alloc, text.as_bytes()) {
-        Ok(_) => Err(Fail::from("bytes outside the grammar were taken")),
-        Err(fault) => Ok(fault),
+        Ok(_) => rt.panic("bytes outside the grammar were taken"),
+        Err(fault) => fault,
     }
 }
 
 #[test]
-fn the_first_fault_of_a_setup_file_is_told(rt: HostRuntime) -> Result<(), Fail> {
+fn the_first_fault_of_a_setup_file_is_told(rt: HostRuntime) {
     let alloc = rt.alloc();
     for (text, first) in &NO_SETUPS {
-        let fault = fault_of(alloc, text)?;
+        let fault = fault_of(&rt, alloc, text);
         assert_eq!(rt; fault, *first, "{text}");
     }
-    Ok(())
 }
 
 /// The setup of a text.
-fn setup_of(alloc: Global, text: &str) -> Result<Setup, Fail> {
-    match read_setup(alloc, text.as_bytes()) {
-        Ok(setup) => Ok(setup),
-        Err(_) => Err(Fail::from("a setup file was refused")),
-    }
+fn setup_of(rt: &impl Abort, alloc: Global, text: &str) -> Setup {
+    read_setup(alloc, text.as_bytes()).expect(rt, "a setup")
 }
 
 /// Whether a setup has a table of this name.
@@ -170,23 +166,22 @@ fn has_seconds(setup: &Setup, word: &str, output: &str) -> bool {
     }
 }
 
-fn is_table_read(alloc: Global) -> Result<bool, Fail> {
-    Ok(is_table(&setup_of(alloc, TABLE)?, "a b.json"))
+fn is_table_read(rt: &impl Abort, alloc: Global) -> bool {
+    is_table(&setup_of(rt, alloc, TABLE), "a b.json")
 }
 
-fn is_open_read(alloc: Global) -> Result<bool, Fail> {
-    Ok(is_open(&setup_of(alloc, OPEN)?, 64, 2))
+fn is_open_read(rt: &impl Abort, alloc: Global) -> bool {
+    is_open(&setup_of(rt, alloc, OPEN), 64, 2)
 }
 
-fn is_declared_read(alloc: Global) -> Result<bool, Fail> {
-    Ok(has_seconds(&setup_of(alloc, DECLARED)?, "", "y"))
+fn is_declared_read(rt: &impl Abort, alloc: Global) -> bool {
+    has_seconds(&setup_of(rt, alloc, DECLARED), "", "y")
 }
 
 #[test]
-fn a_setup_is_read(rt: HostRuntime) -> Result<(), Fail> {
+fn a_setup_is_read(rt: HostRuntime) {
     let alloc = rt.alloc();
-    assert!(rt; is_table_read(alloc)?);
-    assert!(rt; is_open_read(alloc)?);
-    assert!(rt; is_declared_read(alloc)?);
-    Ok(())
+    assert!(rt; is_table_read(&rt, alloc));
+    assert!(rt; is_open_read(&rt, alloc));
+    assert!(rt; is_declared_read(&rt, alloc));
 }

@@ -1,16 +1,15 @@
 //! Words that are asked first, drawn words, and the log of a learning: each row is worked by hand.
-ghost use Rattle.std.specs.Prelude.{◌≤◌, IfSome};
+ghost use Rattle.std.specs.Prelude.{◌≤◌, IfSome, IsTrue};
 ghost use Rattle.lw_learn.specs.Arguments.{AreFewDrawn};
 
-use crate::tests::{call, no_children, sink};
+use crate::tests::{Outside, call, check_text, has, named, no_children, push_file, string};
 use lw_learn::{Drawn, LearnArguments, Source};
-use lw_log::{Log, MemoryLog};
+use lw_log::MemoryLog;
 use lw_outside::MemoryFiles;
 use lw_rounds::Kind;
 use std::alloc::Global;
 use std::process::Abort;
 use std::sync::Wait;
-use std::test::Fail;
 use std::thread::Threads;
 
 /// Each second letter is answered by 1.
@@ -36,57 +35,37 @@ struct Row {
     log: &'static [&'static str],
 }
 
-/// Puts a file of this text last, where there is one.
-fn push_file(
-    alloc: Global,
-    files: &mut Vec<(String, Vec<u8>)>,
-    name: &str,
-    text: Option<&str>,
-) -> Result<(), Fail> {
-    if let Some(text) = text {
-        files.push((
-            String::from_str(alloc, name)?,
-            Vec::from_slice(alloc, text.as_bytes())?,
-        ))?;
-    }
-    Ok(())
-}
-
-fn files(alloc: Global, row: &Row) -> Result<MemoryFiles, Fail> {
+fn files(rt: &impl Abort, alloc: Global, row: &Row) -> MemoryFiles {
     let mut files = Vec::new(alloc);
-    push_file(alloc, &mut files, "m", Some(TWO))?;
-    push_file(alloc, &mut files, "w", row.words)?;
-    push_file(alloc, &mut files, "p", row.prior)?;
-    Ok(MemoryFiles::new(alloc, files, Vec::new(alloc))?)
-}
-
-/// The name of a file that is asked for.
-fn named(alloc: Global, name: &str, asked: bool) -> Result<Option<String>, Fail> {
-    if !asked {
-        return Ok(None);
+    push_file(rt, alloc, &mut files, "m", TWO);
+    if let Some(words) = row.words {
+        push_file(rt, alloc, &mut files, "w", words);
     }
-    Ok(Some(String::from_str(alloc, name)?))
+    if let Some(prior) = row.prior {
+        push_file(rt, alloc, &mut files, "p", prior);
+    }
+    MemoryFiles::new(alloc, files, Vec::new(alloc)).expect(rt, "memory")
 }
 
-fn arguments(alloc: Global, row: &Row) -> Result<LearnArguments, Fail>
+fn arguments(rt: &impl Abort, alloc: Global, row: &Row) -> LearnArguments
     requires extra { row.now.extra ≤ 4 }
     requires drawn { IfSome row.now.drawn AreFewDrawn }
 {
-    Ok(LearnArguments::new(
+    LearnArguments::new(
         Source::Table,
-        String::from_str(alloc, "m")?,
+        string(rt, alloc, "m"),
         1,
         row.extra,
         Kind::Table,
         8,
         None,
         None,
-        named(alloc, "p", row.prior.is_some())?,
-        named(alloc, "k", true)?,
-        named(alloc, "w", row.drawn.is_none())?,
+        named(rt, alloc, "p", row.prior.is_some()),
+        named(rt, alloc, "k", true),
+        named(rt, alloc, "w", row.drawn.is_none()),
         row.drawn,
-        named(alloc, "l", row.is_logged)?,
-    ))
+        named(rt, alloc, "l", row.is_logged),
+    )
 }
 
 /// Whether the log has these lines, each put by itself.
@@ -99,55 +78,60 @@ fn has_lines(log: &MemoryLog, lines: &[&str]) -> bool {
             .all(|(line, wanted)| line.as_slice() == wanted.as_bytes())
 }
 
-/// Whether the file `k` has these bytes, or isn't there where there are none.
-fn has_kept(files: &MemoryFiles, text: &str) -> bool {
-    match files.bytes("k") {
-        Some(bytes) => bytes.as_slice() == text.as_bytes(),
-        None => text.is_empty(),
-    }
-}
-
-fn log_of(alloc: Global, row: &Row) -> Log<MemoryLog> {
+fn log_of(alloc: Global, row: &Row) -> MemoryLog {
     match row.fault {
-        Some(number) => Log::new(alloc, MemoryLog::failing_at(alloc, number)),
-        None => Log::new(alloc, MemoryLog::new(alloc)),
+        Some(number) => MemoryLog::failing_at(alloc, number),
+        None => MemoryLog::new(alloc),
     }
 }
 
-/// Checks a call.
-fn check<R: Abort + Threads + Wait + Sync + Copy + Drop>(
+fn prepare(rt: &impl Abort, alloc: Global, row: &Row) -> Outside {
+    let files = files(rt, alloc, row);
+    let children = no_children(rt, alloc);
+    Outside::new(rt, alloc, files, children, log_of(alloc, row))
+}
+
+/// Whether the words that are drawn are few, where there are some.
+fn is_within(drawn: Option<Drawn>) -> bool
+    ensures { IsTrue result → IfSome drawn AreFewDrawn }
+{
+    match drawn {
+        Some(drawn) => drawn.count <= 1_000_000 && drawn.length <= 65_536,
+        None => true,
+    }
+}
+
+/// The exit status of a call.
+fn status<R: Abort + Threads + Wait + Sync + Copy + Drop>(
     rt: R,
     alloc: Global,
     row: &Row,
-) -> Result<(), Fail> {
-    if row.extra > 4
-        || row
-            .drawn
-            .is_some_and(|d| d.count > 1_000_000 || d.length > 65_536)
-    {
-        return Err(Fail::from("the row is out of bounds"));
-    }
-    let arguments = arguments(alloc, row)?;
-    let mut files = files(alloc, row)?;
-    let mut out = sink(alloc)?;
-    let mut err = sink(alloc)?;
-    let mut log = log_of(alloc, row);
-    let end = call(
-        rt,
-        alloc,
-        &arguments,
-        &mut files,
-        &mut no_children(alloc)?,
-        &mut out,
-        &mut err,
-        &mut log,
-    );
-    let lines = log.into_file();
-    assert!(rt; end.status == row.status && has_kept(&files, row.kept));
-    assert!(rt; has_lines(&lines, row.log) && (row.is_logged || lines.name().is_none()));
-    assert_eq!(rt; out.taken(), row.out.as_bytes());
-    assert_eq!(rt; err.taken(), row.err.as_bytes());
-    Ok(())
+    outside: &mut Outside,
+) -> u8 {
+    assert!(rt; row.extra <= 4 && is_within(row.drawn));
+    let arguments = arguments(&rt, alloc, row);
+    call(rt, alloc, &arguments, outside).status
+}
+
+/// Checks what a call came to, besides its log.
+fn check_end(rt: &impl Abort, row: &Row, status: u8, outside: &Outside) {
+    assert!(rt; status == row.status && has(&outside.files, "k", row.kept));
+    check_text(rt, &outside.out, row.out);
+    check_text(rt, &outside.err, row.err);
+}
+
+/// Whether a call logged what its row says.
+fn has_logged(row: &Row, outside: Outside) -> bool {
+    let log = outside.log.into_file();
+    has_lines(&log, row.log) && (row.is_logged || log.name().is_none())
+}
+
+/// Checks a call.
+fn check<R: Abort + Threads + Wait + Sync + Copy + Drop>(rt: R, alloc: Global, row: &Row) {
+    let mut outside = prepare(&rt, alloc, row);
+    let status = status(rt, alloc, row, &mut outside);
+    check_end(&rt, row, status, &outside);
+    assert!(rt; has_logged(row, outside));
 }
 
 const FIVE: &str =
@@ -240,9 +224,8 @@ static ROWS: [Row; 8] = [
 ];
 
 #[test]
-fn words_are_asked_first_and_steps_are_logged(rt: HostRuntime) -> Result<(), Fail> {
+fn words_are_asked_first_and_steps_are_logged(rt: HostRuntime) {
     for row in &ROWS {
-        check(rt, rt.alloc(), row)?;
+        check(rt, rt.alloc(), row);
     }
-    Ok(())
 }

@@ -1,16 +1,15 @@
 //! The answers that are kept at any end, worked by hand: their file at each outcome, and faults of each write.
 ghost use Rattle.std.specs.Prelude.{◌≤◌};
 
-use crate::tests::{call, sink};
+use crate::tests::{Outside, call, check_text, has, links_of, named, push_file, speaker, string};
 use lw_json::read_machine;
 use lw_learn::{LearnArguments, Source};
-use lw_log::{Log, MemoryLog};
+use lw_log::MemoryLog;
 use lw_outside::{MemoryFiles, MemorySpawner};
 use lw_rounds::Kind;
 use std::alloc::Global;
 use std::process::Abort;
 use std::sync::Wait;
-use std::test::Fail;
 use std::thread::Threads;
 
 /// Children with one letter and two outputs.
@@ -49,105 +48,81 @@ struct Row {
     out: &'static str,
 }
 
-fn children(alloc: Global, row: &Row) -> Result<MemorySpawner, Fail> {
-    let mut links = Vec::new(alloc);
-    links.push(Vec::from_slice(alloc, row.link)?)?;
+fn children(rt: &impl Abort, alloc: Global, row: &Row) -> MemorySpawner {
     match row.child {
         Child::Plays => {
-            let Ok(machine) = read_machine(alloc, TWO.as_bytes()) else {
-                return Err(Fail::from("the text is no machine"));
-            };
-            Ok(MemorySpawner::serving(alloc, machine, 4096, Vec::new(alloc), links)?)
+            let machine = read_machine(alloc, TWO.as_bytes()).expect(rt, "a machine");
+            let links = links_of(rt, alloc, row.link);
+            MemorySpawner::serving(alloc, machine, 4096, Vec::new(alloc), links).expect(
+                rt, "memory",
+            )
         }
-        Child::Says(text) => {
-            let mut scripts = Vec::new(alloc);
-            scripts.push(Vec::from_slice(alloc, text.as_bytes())?)?;
-            Ok(MemorySpawner::scripted(alloc, scripts, 4096, Vec::new(alloc), links)?)
-        }
+        Child::Says(text) => speaker(rt, alloc, text, row.link),
     }
 }
 
 /// The setup `s`, and the prior answers `p` where there are some.
-fn files(alloc: Global, row: &Row) -> Result<MemoryFiles, Fail> {
+fn files(rt: &impl Abort, alloc: Global, row: &Row) -> MemoryFiles {
     let mut files = Vec::new(alloc);
-    files.push((
-        String::from_str(alloc, "s")?,
-        Vec::from_slice(alloc, SETUP.as_bytes())?,
-    ))?;
+    push_file(rt, alloc, &mut files, "s", SETUP);
     if let Some(prior) = row.prior {
-        files.push((
-            String::from_str(alloc, "p")?,
-            Vec::from_slice(alloc, prior.as_bytes())?,
-        ))?;
+        push_file(rt, alloc, &mut files, "p", prior);
     }
-    Ok(MemoryFiles::new(alloc, files, Vec::from_slice(alloc, row.files)?)?)
+    let plan = Vec::from_slice(alloc, row.files).expect(rt, "memory");
+    MemoryFiles::new(alloc, files, plan).expect(rt, "memory")
 }
 
-/// The name of a file that is asked for.
-fn named(alloc: Global, name: &str, asked: bool) -> Result<Option<String>, Fail> {
-    if !asked {
-        return Ok(None);
-    }
-    Ok(Some(String::from_str(alloc, name)?))
-}
-
-fn arguments(alloc: Global, row: &Row) -> Result<LearnArguments, Fail>
+fn arguments(rt: &impl Abort, alloc: Global, row: &Row) -> LearnArguments
     requires { (row.now.extra ≤ 4) × (1 ≤ row.now.max_states) × (row.now.max_states ≤ 1024) }
 {
-    Ok(LearnArguments::new(
+    LearnArguments::new(
         Source::Setup,
-        String::from_str(alloc, "s")?,
+        string(rt, alloc, "s"),
         1,
         row.extra,
         Kind::Table,
         row.max_states,
-        named(alloc, "h", row.to_files)?,
-        named(alloc, "a", row.to_files)?,
-        named(alloc, "p", row.prior.is_some())?,
-        named(alloc, "k", true)?,
+        named(rt, alloc, "h", row.to_files),
+        named(rt, alloc, "a", row.to_files),
+        named(rt, alloc, "p", row.prior.is_some()),
+        named(rt, alloc, "k", true),
         None,
         None,
         None,
-    ))
+    )
 }
 
-/// Checks a call.
-fn check<R: Abort + Threads + Wait + Sync + Copy + Drop>(
+fn prepare(rt: &impl Abort, alloc: Global, row: &Row) -> Outside {
+    let files = files(rt, alloc, row);
+    let children = children(rt, alloc, row);
+    Outside::new(rt, alloc, files, children, MemoryLog::new(alloc))
+}
+
+/// The exit status of a call.
+fn status<R: Abort + Threads + Wait + Sync + Copy + Drop>(
     rt: R,
     alloc: Global,
     row: &Row,
-) -> Result<(), Fail> {
-    if row.extra > 4 || row.max_states < 1 || row.max_states > 1024 {
-        return Err(Fail::from("the row is out of bounds"));
-    }
-    let arguments = arguments(alloc, row)?;
-    let mut files = files(alloc, row)?;
-    let mut children = children(alloc, row)?;
-    let mut out = sink(alloc)?;
-    let mut err = sink(alloc)?;
-    let end = call(
-        rt,
-        alloc,
-        &arguments,
-        &mut files,
-        &mut children,
-        &mut out,
-        &mut err,
-        &mut Log::new(alloc, MemoryLog::new(alloc)),
-    );
-    let holds = has(&files, "k", row.kept) && has(&files, "h", row.model);
-    assert!(rt; holds && end.status == row.status);
-    assert_eq!(rt; out.taken(), row.out.as_bytes());
-    assert_eq!(rt; err.taken(), row.err.as_bytes());
-    Ok(())
+    outside: &mut Outside,
+) -> u8 {
+    assert!(rt; row.extra <= 4 && 1 <= row.max_states && row.max_states <= 1024);
+    let arguments = arguments(&rt, alloc, row);
+    call(rt, alloc, &arguments, outside).status
 }
 
-/// Whether a file has these bytes, or isn't there where there are none.
-fn has(files: &MemoryFiles, name: &str, text: &str) -> bool {
-    match files.bytes(name) {
-        Some(bytes) => bytes.as_slice() == text.as_bytes(),
-        None => text.is_empty(),
-    }
+/// Checks what a call came to.
+fn check_end(rt: &impl Abort, row: &Row, status: u8, outside: &Outside) {
+    let holds = has(&outside.files, "k", row.kept) && has(&outside.files, "h", row.model);
+    assert!(rt; holds && status == row.status);
+    check_text(rt, &outside.out, row.out);
+    check_text(rt, &outside.err, row.err);
+}
+
+/// Checks a call.
+fn check<R: Abort + Threads + Wait + Sync + Copy + Drop>(rt: R, alloc: Global, row: &Row) {
+    let mut outside = prepare(&rt, alloc, row);
+    let status = status(rt, alloc, row, &mut outside);
+    check_end(&rt, row, status, &outside);
 }
 
 const LEARNED: Row = Row {
@@ -310,29 +285,24 @@ static FAULTS: [Row; 7] = [
 ];
 
 /// Each row, by what it came to.
-fn check_all<R: Abort + Threads + Wait + Sync + Copy + Drop>(
-    rt: R,
-    alloc: Global,
-    rows: &[Row],
-) -> Result<(), Fail> {
+fn check_all<R: Abort + Threads + Wait + Sync + Copy + Drop>(rt: R, alloc: Global, rows: &[Row]) {
     for row in rows {
-        check(rt, alloc, row)?;
+        check(rt, alloc, row);
     }
-    Ok(())
 }
 
 #[test]
-fn what_is_kept_is_saved_whatever_comes(rt: HostRuntime) -> Result<(), Fail> {
-    check(rt, rt.alloc(), &LEARNED)?;
-    check_all(rt, rt.alloc(), &STOPS)
+fn what_is_kept_is_saved_whatever_comes(rt: HostRuntime) {
+    check(rt, rt.alloc(), &LEARNED);
+    check_all(rt, rt.alloc(), &STOPS);
 }
 
 #[test]
-fn what_was_kept_is_gone_on_with(rt: HostRuntime) -> Result<(), Fail> {
-    check_all(rt, rt.alloc(), &GOES_ON)
+fn what_was_kept_is_gone_on_with(rt: HostRuntime) {
+    check_all(rt, rt.alloc(), &GOES_ON);
 }
 
 #[test]
-fn writes_that_fail(rt: HostRuntime) -> Result<(), Fail> {
-    check_all(rt, rt.alloc(), &FAULTS)
+fn writes_that_fail(rt: HostRuntime) {
+    check_all(rt, rt.alloc(), &FAULTS);
 }

@@ -1,12 +1,12 @@
 //! Asking systems in tests.
-ghost use Rattle.std.specs.Prelude.{◌≡◌, ◌<◌, None, IfOk};
+ghost use Rattle.std.specs.Prelude.{◌≡◌, ◌<◌, None};
 
 use super::scripted::{Script, ScriptedLink};
 use lw_line::LineSul;
 use lw_sul::Sul;
 use lw_words::{Names, SulStop};
 use std::alloc::Global;
-use std::test::Fail;
+use std::process::Abort;
 
 /// How asking ends.
 #[derive(Clone, Copy)]
@@ -21,34 +21,32 @@ pub enum Ending {
     Failed,
 }
 
-pub fn names(alloc: Global, list: &[&str]) -> Result<Names, Fail> {
+pub fn names(rt: &impl Abort, alloc: Global, list: &[&str]) -> Names {
     let mut texts = Vec::new(alloc);
     for name in list {
-        texts.push(String::from_str(alloc, name)?)?;
+        let text = String::from_str(alloc, name).expect(rt, "memory");
+        texts.push(text).expect(rt, "memory");
     }
-    match Names::from_list(alloc, &texts) {
-        Ok(names) => Ok(names),
-        Err(_) => Err(Fail::from("names were refused")),
-    }
+    Names::from_list(alloc, &texts).expect(rt, "names")
 }
 
 /// A system with the letter `t` and the outputs `0` and `1`.
-pub fn declared(alloc: Global, script: Script<'_>) -> Result<LineSul<ScriptedLink>, Fail>
-    ensures { IfOk result (λ s. s.stop ≡ None) }
+pub fn declared(rt: &impl Abort, alloc: Global, script: Script<'_>) -> LineSul<ScriptedLink>
+    ensures { result.stop ≡ None }
 {
-    let inputs = names(alloc, &["t"])?;
-    let outputs = names(alloc, &["0", "1"])?;
-    Ok(LineSul::new(ScriptedLink::new(alloc, script)?, inputs, outputs))
+    let inputs = names(rt, alloc, &["t"]);
+    let outputs = names(rt, alloc, &["0", "1"]);
+    LineSul::new(ScriptedLink::new(rt, alloc, script), inputs, outputs)
 }
 
 /// A system with the letter `t` and free outputs.
-pub fn free(alloc: Global, script: Script<'_>) -> Result<LineSul<ScriptedLink>, Fail>
-    ensures { IfOk result (λ s. s.stop ≡ None) }
+pub fn free(rt: &impl Abort, alloc: Global, script: Script<'_>) -> LineSul<ScriptedLink>
+    ensures { result.stop ≡ None }
 {
-    let inputs = names(alloc, &["t"])?;
-    match LineSul::free(alloc, ScriptedLink::new(alloc, script)?, inputs) {
-        Ok(sul) => Ok(sul),
-        Err(_) => Err(Fail::from("out of memory")),
+    let inputs = names(rt, alloc, &["t"]);
+    match LineSul::free(alloc, ScriptedLink::new(rt, alloc, script), inputs) {
+        Ok(sul) => sul,
+        Err(_) => rt.panic("memory"),
     }
 }
 
@@ -66,10 +64,6 @@ pub fn comes<S: Sul>(sul: &mut S, outs: &[u16]) -> Result<bool, SulStop>
     Ok(true)
 }
 
-fn is_bad(line: &[u8], want: &[u8]) -> bool {
-    line == want
-}
-
 /// Whether asking ended so.
 pub fn ended_so(end: &Result<bool, SulStop>, want: Ending) -> bool {
     match (end, want) {
@@ -77,7 +71,7 @@ pub fn ended_so(end: &Result<bool, SulStop>, want: Ending) -> bool {
         (Ok(false), Ending::Otherwise) => true,
         (Err(SulStop::Failed), Ending::Failed) => true,
         (Err(SulStop::Gone), Ending::Gone) => true,
-        (Err(SulStop::BadLine(line)), Ending::Bad(bytes)) => is_bad(line.as_slice(), bytes),
+        (Err(SulStop::BadLine(line)), Ending::Bad(bytes)) => line.as_slice() == bytes,
         _ => false,
     }
 }
@@ -94,22 +88,24 @@ pub fn ends<S: Sul>(sul: &mut S, outs: &[u16], want: Ending) -> bool
 
 /// The same over this script, with declared outputs.
 pub fn declared_ends(
+    rt: &impl Abort,
     alloc: Global,
     script: Script<'_>,
     outs: &[u16],
     want: Ending,
-) -> Result<bool, Fail> {
-    let mut sul = declared(alloc, script)?;
-    Ok(ends(&mut sul, outs, want))
+) -> bool {
+    let mut sul = declared(rt, alloc, script);
+    ends(&mut sul, outs, want)
 }
 
 /// The same over this script, with free outputs.
 pub fn free_ends(
+    rt: &impl Abort,
     alloc: Global,
     script: Script<'_>,
     outs: &[u16],
     want: Ending,
-) -> Result<bool, Fail> {
-    let mut sul = free(alloc, script)?;
-    Ok(ends(&mut sul, outs, want))
+) -> bool {
+    let mut sul = free(rt, alloc, script);
+    ends(&mut sul, outs, want)
 }

@@ -5,7 +5,7 @@ use super::asking::{Ending, ends, free, free_ends};
 use super::scripted::Script;
 use lw_sul::Sul;
 use std::alloc::Global;
-use std::test::Fail;
+use std::process::Abort;
 
 /// Whether the names of a system are `want`, in this order.
 fn has_names<S: Sul>(sul: &S, want: &[&str]) -> bool {
@@ -38,53 +38,47 @@ fn saying(text: &[u8]) -> Script<'_> {
     }
 }
 
-fn numbers_three(alloc: Global) -> Result<bool, Fail> {
+fn numbers_three(rt: &impl Abort, alloc: Global) -> bool {
     let text = b"ready\nout b\nout a\nout b\nout c\nout a\n";
-    let mut sul = free(alloc, saying(text))?;
-    Ok(names_three(&mut sul))
+    let mut sul = free(rt, alloc, saying(text));
+    names_three(&mut sul)
 }
 
 #[test]
-fn a_name_has_one_number(rt: HostRuntime) -> Result<(), Fail> {
-    assert!(rt; numbers_three(rt.alloc())?);
-    Ok(())
+fn a_name_has_one_number(rt: HostRuntime) {
+    assert!(rt; numbers_three(&rt, rt.alloc()));
 }
 
 #[test]
-fn what_is_no_name_is_a_bad_line(rt: HostRuntime) -> Result<(), Fail> {
+fn what_is_no_name_is_a_bad_line(rt: HostRuntime) {
     let script = saying(b"ready\nout a b\n");
-    assert!(rt; free_ends(rt.alloc(), script, &[0], Ending::Bad(b"out a b"))?);
-    Ok(())
+    assert!(rt; free_ends(&rt, rt.alloc(), script, &[0], Ending::Bad(b"out a b")));
 }
 
 /// A child that is ready and then names so many outputs, each once.
-fn many(alloc: Global, count: u16) -> Result<Vec<u8>, Fail> {
-    let mut text = Vec::from_slice(alloc, b"ready\n")?;
+fn many(rt: &impl Abort, alloc: Global, count: u16) -> Vec<u8> {
+    let mut text = Vec::from_slice(alloc, b"ready\n").expect(rt, "memory");
     for n in 0..count {
-        let line = format!(in alloc; "out {n}\n")?;
-        text.extend_from_slice(line.as_str().as_bytes())?;
+        let line = format!(in alloc; "out {n}\n").expect(rt, "memory");
+        text.extend_from_slice(line.as_str().as_bytes())
+            .expect(rt, "memory");
     }
-    Ok(text)
+    text
 }
 
 /// The numbers below this one.
-fn below(alloc: Global, count: u16) -> Result<Vec<u16>, Fail> {
-    let mut numbers = Vec::new(alloc);
-    for n in 0..count {
-        numbers.push(n)?;
-    }
-    Ok(numbers)
+fn below(rt: &impl Abort, alloc: Global, count: u16) -> Vec<u16> {
+    (0..count).collect(alloc).expect(rt, "memory")
 }
 
-fn names_so_many(alloc: Global, count: u16, want: Ending) -> Result<bool, Fail> {
-    let text = many(alloc, count)?;
-    let outs = below(alloc, count)?;
-    free_ends(alloc, saying(&text), &outs, want)
+fn names_so_many(rt: &impl Abort, alloc: Global, count: u16, want: Ending) -> bool {
+    let text = many(rt, alloc, count);
+    let outs = below(rt, alloc, count);
+    free_ends(rt, alloc, saying(&text), &outs, want)
 }
 
 #[test]
-fn there_are_256_names(rt: HostRuntime) -> Result<(), Fail> {
-    assert!(rt; names_so_many(rt.alloc(), 256, Ending::Answered)?);
-    assert!(rt; names_so_many(rt.alloc(), 257, Ending::Bad(b"out 256"))?);
-    Ok(())
+fn there_are_256_names(rt: HostRuntime) {
+    assert!(rt; names_so_many(&rt, rt.alloc(), 256, Ending::Answered));
+    assert!(rt; names_so_many(&rt, rt.alloc(), 257, Ending::Bad(b"out 256")));
 }

@@ -3,7 +3,7 @@
 use super::asking::{Ending, declared_ends};
 use super::scripted::Script;
 use std::alloc::Global;
-use std::test::Fail;
+use std::process::Abort;
 
 /// What a child says, the outputs that are awaited, and how asking ends.
 struct Row {
@@ -95,31 +95,30 @@ static ROWS: [Row; 16] = [
     },
 ];
 
-fn row_holds(alloc: Global, row: &Row, piece: usize) -> Result<bool, Fail> {
+fn row_holds(rt: &impl Abort, alloc: Global, row: &Row, piece: usize) -> bool {
     let script = Script {
         text: row.says,
         piece,
         fails: None,
     };
-    declared_ends(alloc, script, row.outs, row.want)
+    declared_ends(rt, alloc, script, row.outs, row.want)
 }
 
 /// Whether each row holds where so many bytes come at a time.
-fn rows_hold(alloc: Global, piece: usize) -> Result<bool, Fail> {
+fn rows_hold(rt: &impl Abort, alloc: Global, piece: usize) -> bool {
     for row in &ROWS {
-        if !row_holds(alloc, row, piece)? {
-            return Ok(false);
+        if !row_holds(rt, alloc, row, piece) {
+            return false;
         }
     }
-    Ok(true)
+    true
 }
 
 #[test]
-fn rows_hold_however_the_bytes_come(rt: HostRuntime) -> Result<(), Fail> {
-    assert!(rt; rows_hold(rt.alloc(), 1)?);
-    assert!(rt; rows_hold(rt.alloc(), 7)?);
-    assert!(rt; rows_hold(rt.alloc(), 256)?);
-    Ok(())
+fn rows_hold_however_the_bytes_come(rt: HostRuntime) {
+    assert!(rt; rows_hold(&rt, rt.alloc(), 1));
+    assert!(rt; rows_hold(&rt, rt.alloc(), 7));
+    assert!(rt; rows_hold(&rt, rt.alloc(), 256));
 }
 
 static LONG: [u8; 300] = [b'x'; 300];
@@ -129,36 +128,34 @@ xxxxxxxxxxxxxxxxxxxxxxxxxxxxxxxxxxxxxxxxxxxxxxxxxxxxxxxxxxxxxxxx\
 xxxxxxxxxxxxxxxxxxxxxxxxxxxxxxxxxxxxxxxxxxxxxxxxxxxxxxxxxxxxxxxx\
 xxxxxxxxxxxxxxxxxxxxxxxxxxxxxxxxxxxxxxxxxxxxxxxxxxxxxxxxxxxxxxx\n";
 
-fn answers_badly(alloc: Global, says: &'static [u8], want: &'static [u8]) -> Result<bool, Fail> {
+fn answers_badly(rt: &impl Abort, alloc: Global, says: &'static [u8], want: &'static [u8]) -> bool {
     let script = Script {
         text: says,
         piece: 100,
         fails: None,
     };
-    declared_ends(alloc, script, &[], Ending::Bad(want))
+    declared_ends(rt, alloc, script, &[], Ending::Bad(want))
 }
 
 #[test]
-fn a_line_has_at_most_256_bytes(rt: HostRuntime) -> Result<(), Fail> {
-    assert!(rt; answers_badly(rt.alloc(), &LONG, &LONG[..256])?);
-    assert!(rt; answers_badly(rt.alloc(), LONGEST_LINE, &LONG[..255])?);
-    Ok(())
+fn a_line_has_at_most_256_bytes(rt: HostRuntime) {
+    assert!(rt; answers_badly(&rt, rt.alloc(), &LONG, &LONG[..256]));
+    assert!(rt; answers_badly(&rt, rt.alloc(), LONGEST_LINE, &LONG[..255]));
 }
 
-fn fails_at(alloc: Global, call: u64) -> Result<bool, Fail> {
+fn fails_at(rt: &impl Abort, alloc: Global, call: u64) -> bool {
     let script = Script {
         text: b"ready\nout 0\nout 0\n",
         piece: 6,
         fails: Some(call),
     };
-    declared_ends(alloc, script, &[0, 0], Ending::Failed)
+    declared_ends(rt, alloc, script, &[0, 0], Ending::Failed)
 }
 
 #[test]
-fn each_call_may_fail(rt: HostRuntime) -> Result<(), Fail> {
+fn each_call_may_fail(rt: HostRuntime) {
     for call in 0..6 {
-        assert!(rt; fails_at(rt.alloc(), call)?);
+        assert!(rt; fails_at(&rt, rt.alloc(), call));
     }
-    assert!(rt; !fails_at(rt.alloc(), 6)?);
-    Ok(())
+    assert!(rt; !fails_at(&rt, rt.alloc(), 6));
 }

@@ -9,7 +9,7 @@ use lw_outside::{Link, Spawner};
 use lw_sul::Sul;
 use lw_words::Line;
 use std::alloc::Global;
-use std::test::Fail;
+use std::process::Abort;
 
 /// What a child says to runs, and what is told of the last of them.
 struct Row {
@@ -176,28 +176,36 @@ fn note_if<L: Link>(alloc: Global, sul: &mut LineSul<L>, notes: bool)
     }
 }
 
-fn tells_over<L: Link + Drop>(alloc: Global, link: L, row: &Row) -> Result<bool, Fail>
+/// Whether a system tells what its row says, after the row's runs.
+fn tells_after<L: Link + Drop>(alloc: Global, sul: &mut LineSul<L>, row: &Row) -> bool
+    requires { sul.old.stop ≡ None }
+{
+    note_if(alloc, sul, row.notes);
+    run_all(sul, row.runs);
+    tells(sul, row)
+}
+
+fn tells_over<L: Link + Drop>(rt: &impl Abort, alloc: Global, link: L, row: &Row) -> bool
     requires { IsUntouched (L.transcript link) }
 {
-    let mut sul = LineSul::new(link, names(alloc, &["t", "u"])?, names(alloc, &["0", "1"])?);
-    note_if(alloc, &mut sul, row.notes);
-    run_all(&mut sul, row.runs);
-    Ok(tells(&sul, row))
+    let inputs = names(rt, alloc, &["t", "u"]);
+    let outputs = names(rt, alloc, &["0", "1"]);
+    let mut sul = LineSul::new(link, inputs, outputs);
+    tells_after(alloc, &mut sul, row)
 }
 
-fn tells_of_child<P: Spawner>(alloc: Global, spawner: &mut P, row: &Row) -> Result<bool, Fail> {
-    tells_over(alloc, started(alloc, spawner)?, row)
+fn tells_of_child<P: Spawner>(rt: &impl Abort, alloc: Global, spawner: &mut P, row: &Row) -> bool {
+    tells_over(rt, alloc, started(rt, alloc, spawner), row)
 }
 
-fn row_holds(alloc: Global, row: &Row) -> Result<bool, Fail> {
-    let mut spawner = speaker(alloc, row.says)?;
-    tells_of_child(alloc, &mut spawner, row)
+fn row_holds(rt: &impl Abort, alloc: Global, row: &Row) -> bool {
+    let mut spawner = speaker(rt, alloc, row.says);
+    tells_of_child(rt, alloc, &mut spawner, row)
 }
 
 #[test]
-fn a_run_is_noted(rt: HostRuntime) -> Result<(), Fail> {
+fn a_run_is_noted(rt: HostRuntime) {
     for row in &ROWS {
-        assert!(rt; row_holds(rt.alloc(), row)?);
+        assert!(rt; row_holds(&rt, rt.alloc(), row));
     }
-    Ok(())
 }

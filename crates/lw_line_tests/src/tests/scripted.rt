@@ -3,7 +3,8 @@ ghost use Rattle.std.specs.Prelude.{◌≡◌, ◌≤◌, length, true, false};
 ghost use Rattle.lw_words.specs.Cause.{CountedFault};
 
 use lw_outside::{Failed, Link};
-use std::alloc::{AllocError, Global};
+use std::alloc::Global;
+use std::process::Abort;
 
 /// A call, with how many bytes were sent, or how many were offered to take.
 #[derive(Clone, Copy, Debug, PartialEq, Eq)]
@@ -47,18 +48,18 @@ fn give(text: &[u8], piece: usize, buffer: &mut [u8]) -> usize
 }
 
 impl ScriptedLink {
-    pub fn new(alloc: Global, script: Script<'_>) -> Result<ScriptedLink, AllocError> {
-        Ok(ScriptedLink {
-            text: Vec::from_slice(alloc, script.text)?,
+    pub fn new(rt: &impl Abort, alloc: Global, script: Script<'_>) -> ScriptedLink {
+        ScriptedLink {
+            text: Vec::from_slice(alloc, script.text).expect(rt, "memory"),
             piece: script.piece,
             fails: script.fails,
             given: 0,
             made: 0,
             faults: 0,
             ends: 0,
-            calls: Vec::with_capacity(alloc, 64)?,
-            sent: Vec::with_capacity(alloc, 1024)?,
-        })
+            calls: Vec::with_capacity(alloc, 64).expect(rt, "memory"),
+            sent: Vec::with_capacity(alloc, 1024).expect(rt, "memory"),
+        }
     }
 
     pub fn calls(&self) -> &[Call] {

@@ -3,7 +3,7 @@
 use super::streams::{counter, serves};
 use lw_line::{ServeFault, Served, ServedCause};
 use std::alloc::Global;
-use std::test::Fail;
+use std::process::Abort;
 
 /// What a learner sends, what the child answers, and how serving ends.
 struct Row {
@@ -90,24 +90,23 @@ static ROWS: [Row; 12] = [
     },
 ];
 
-fn row_holds(alloc: Global, row: &Row, piece: usize) -> Result<bool, Fail> {
-    let machine = counter(alloc)?;
-    serves(alloc, &machine, row.input, piece, row.answers, &row.end)
+fn row_holds(rt: &impl Abort, alloc: Global, row: &Row, piece: usize) -> bool {
+    let machine = counter(rt, alloc);
+    serves(rt, alloc, &machine, row.input, piece, row.answers, &row.end)
 }
 
 /// Whether each row holds where so many bytes go at a time.
-fn rows_hold(alloc: Global, piece: usize) -> Result<bool, Fail> {
+fn rows_hold(rt: &impl Abort, alloc: Global, piece: usize) -> bool {
     for row in &ROWS {
-        if !row_holds(alloc, row, piece)? {
-            return Ok(false);
+        if !row_holds(rt, alloc, row, piece) {
+            return false;
         }
     }
-    Ok(true)
+    true
 }
 
 #[test]
-fn rows_hold_however_the_bytes_go(rt: HostRuntime) -> Result<(), Fail> {
-    assert!(rt; rows_hold(rt.alloc(), 1)?);
-    assert!(rt; rows_hold(rt.alloc(), 256)?);
-    Ok(())
+fn rows_hold_however_the_bytes_go(rt: HostRuntime) {
+    assert!(rt; rows_hold(&rt, rt.alloc(), 1));
+    assert!(rt; rows_hold(&rt, rt.alloc(), 256));
 }

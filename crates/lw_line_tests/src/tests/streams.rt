@@ -4,16 +4,13 @@ use lw_line::{ServeFault, Served, serve};
 use lw_outside::{Failed, MemorySink, MemorySource, Sink, Source};
 use std::alloc::Global;
 use std::cell::Cell;
-use std::test::Fail;
+use std::process::Abort;
 
 static COUNTER: &[u8] =
     br#"{"inputs":["t"],"outputs":["0","1"],"states":[[[1,"0"]],[[2,"0"]],[[0,"1"]]]}"#;
 
-pub fn counter(alloc: Global) -> Result<Machine, Fail> {
-    match read_machine(alloc, COUNTER) {
-        Ok(machine) => Ok(machine),
-        Err(_) => Err(Fail::from("a machine was refused")),
-    }
+pub fn counter(rt: &impl Abort, alloc: Global) -> Machine {
+    read_machine(alloc, COUNTER).expect(rt, "a machine")
 }
 
 /// Calls that are to fail.
@@ -24,26 +21,22 @@ struct Plans<'a> {
 }
 
 fn source_of(
+    rt: &impl Abort,
     alloc: Global,
     input: &[u8],
     piece: usize,
     plan: &[u64],
-) -> Result<MemorySource, Fail> {
-    if piece == 0 {
-        return Err(Fail::from("no piece"));
-    }
-    Ok(MemorySource::new(
-        Vec::from_slice(alloc, input)?,
-        piece,
-        Vec::from_slice(alloc, plan)?,
-    )?)
+) -> MemorySource {
+    assert!(rt; piece > 0);
+    let bytes = Vec::from_slice(alloc, input).expect(rt, "memory");
+    let plan = Vec::from_slice(alloc, plan).expect(rt, "memory");
+    MemorySource::new(bytes, piece, plan).expect(rt, "memory")
 }
 
-fn sink_of(alloc: Global, piece: usize, plan: &[u64]) -> Result<MemorySink, Fail> {
-    if piece == 0 {
-        return Err(Fail::from("no piece"));
-    }
-    Ok(MemorySink::new(alloc, 256, piece, Vec::from_slice(alloc, plan)?)?)
+fn sink_of(rt: &impl Abort, alloc: Global, piece: usize, plan: &[u64]) -> MemorySink {
+    assert!(rt; piece > 0);
+    let plan = Vec::from_slice(alloc, plan).expect(rt, "memory");
+    MemorySink::new(alloc, 256, piece, plan).expect(rt, "memory")
 }
 
 fn same_end(end: &Result<Served, ServeFault>, want: &Result<Served, ServeFault>) -> bool {
@@ -68,6 +61,7 @@ fn serves_on(
 
 /// Whether serving the machine answers and ends so, where these calls fail.
 fn serves_with(
+    rt: &impl Abort,
     alloc: Global,
     machine: &Machine,
     input: &[u8],
@@ -75,26 +69,27 @@ fn serves_with(
     piece: usize,
     answers: &[u8],
     want: &Result<Served, ServeFault>,
-) -> Result<bool, Fail> {
-    let mut source = source_of(alloc, input, piece, plans.source)?;
-    let mut sink = sink_of(alloc, piece, plans.sink)?;
-    Ok(serves_on(&mut source, &mut sink, machine, answers, want))
+) -> bool {
+    let mut source = source_of(rt, alloc, input, piece, plans.source);
+    let mut sink = sink_of(rt, alloc, piece, plans.sink);
+    serves_on(&mut source, &mut sink, machine, answers, want)
 }
 
 /// Whether serving the machine answers and ends so.
 pub fn serves(
+    rt: &impl Abort,
     alloc: Global,
     machine: &Machine,
     input: &[u8],
     piece: usize,
     answers: &[u8],
     want: &Result<Served, ServeFault>,
-) -> Result<bool, Fail> {
+) -> bool {
     let plans = Plans {
         source: &[],
         sink: &[],
     };
-    serves_with(alloc, machine, input, plans, piece, answers, want)
+    serves_with(rt, alloc, machine, input, plans, piece, answers, want)
 }
 
 /// Which call fails, what is answered before it, and the fault.
@@ -147,9 +142,10 @@ static FAULTS: [FaultRow; 5] = [
     },
 ];
 
-fn fails_so(alloc: Global, row: &FaultRow) -> Result<bool, Fail> {
-    let machine = counter(alloc)?;
+fn fails_so(rt: &impl Abort, alloc: Global, row: &FaultRow) -> bool {
+    let machine = counter(rt, alloc);
     serves_with(
+        rt,
         alloc,
         &machine,
         b"reset\nin t\n",
@@ -161,11 +157,10 @@ fn fails_so(alloc: Global, row: &FaultRow) -> Result<bool, Fail> {
 }
 
 #[test]
-fn each_read_and_each_write_may_fail(rt: HostRuntime) -> Result<(), Fail> {
+fn each_read_and_each_write_may_fail(rt: HostRuntime) {
     for row in &FAULTS {
-        assert!(rt; fails_so(rt.alloc(), row)?);
+        assert!(rt; fails_so(&rt, rt.alloc(), row));
     }
-    Ok(())
 }
 
 /// A source that gives a line a read, and counts its reads.
@@ -220,9 +215,9 @@ impl Sink for ClockedSink<'_> {
 }
 
 #[test]
-fn an_answer_is_whole_before_the_next_line_is_read(rt: HostRuntime) -> Result<(), Fail> {
+fn an_answer_is_whole_before_the_next_line_is_read(rt: HostRuntime) {
     let alloc = rt.alloc();
-    let machine = counter(alloc)?;
+    let machine = counter(&rt, alloc);
     let reads = Cell::new(0);
     let mut source = ClockedSource {
         reads: &reads,
@@ -231,9 +226,8 @@ fn an_answer_is_whole_before_the_next_line_is_read(rt: HostRuntime) -> Result<()
     };
     let mut sink = ClockedSink {
         reads: &reads,
-        noted: Vec::with_capacity(alloc, 16)?,
+        noted: Vec::with_capacity(alloc, 16).expect(&rt, "memory"),
     };
     assert!(rt; serve(&mut source, &mut sink, &machine).is_ok());
-    assert_eq!(rt; sink.noted.as_slice(), [1u32, 1, 2, 2, 3, 3].as_slice());
-    Ok(())
+    assert!(rt; sink.noted.as_slice() == [1u32, 1, 2, 2, 3, 3].as_slice());
 }

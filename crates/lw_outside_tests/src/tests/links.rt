@@ -4,7 +4,7 @@ ghost use Rattle.std.specs.Prelude.{◌≡◌, ◌+◌, IfOk, OnOk};
 use super::player::ring_of_three;
 use lw_outside::{Link, MemoryLink, MemorySpawner, Spawner, StartStop};
 use std::alloc::Global;
-use std::test::Fail;
+use std::process::Abort;
 
 /// What is asked of a link, and how it is to go.
 enum Turn {
@@ -65,6 +65,7 @@ fn all_go<L: Link>(link: &mut L, turns: &[Turn]) -> bool {
 
 /// Starts a link to the program of this name.
 pub(super) fn starts<P: Spawner>(
+    rt: &impl Abort,
     alloc: Global,
     spawner: &mut P,
     name: &str,
@@ -73,51 +74,53 @@ pub(super) fn starts<P: Spawner>(
     ensures more { OnOk result (P.started spawner.new ≡ P.started spawner.old + 1) }
     ensures retired { P.retired spawner.new ≡ P.retired spawner.old }
 {
-    let mut words = Vec::with_capacity(alloc, 1)?;
-    words.push_reserved(String::from_str(alloc, name)?);
+    let mut words = Vec::with_capacity(alloc, 1).expect(rt, "memory");
+    words.push_reserved(String::from_str(alloc, name).expect(rt, "memory"));
     spawner.start(&words)
 }
 
 /// The one plan of this list.
-fn only(alloc: Global, plan: &[u64]) -> Result<Vec<Vec<u64>>, Fail> {
-    let mut plans = Vec::with_capacity(alloc, 1)?;
-    plans.push_reserved(plan.to_vec(alloc)?);
-    Ok(plans)
+fn only(rt: &impl Abort, alloc: Global, plan: &[u64]) -> Vec<Vec<u64>> {
+    let mut plans = Vec::with_capacity(alloc, 1).expect(rt, "memory");
+    plans.push_reserved(plan.to_vec(alloc).expect(rt, "memory"));
+    plans
 }
 
 /// A link to a child that plays the ring, with this room, of which these calls fail.
-fn served(alloc: Global, room: usize, plan: &[u64]) -> Result<MemoryLink, Fail> {
-    let plans = only(alloc, plan)?;
-    let m = ring_of_three(alloc)?;
-    let mut spawner = MemorySpawner::serving(alloc, m, room, Vec::new(alloc), plans)?;
-    Ok(starts(alloc, &mut spawner, "ring")?)
+fn served(rt: &impl Abort, alloc: Global, room: usize, plan: &[u64]) -> MemoryLink {
+    let plans = only(rt, alloc, plan);
+    let m = ring_of_three(rt, alloc);
+    let served = MemorySpawner::serving(alloc, m, room, Vec::new(alloc), plans);
+    let mut spawner = served.expect(rt, "memory");
+    starts(rt, alloc, &mut spawner, "ring").expect(rt, "a link")
 }
 
 /// The one script of this list.
-fn script(alloc: Global, text: &str) -> Result<Vec<Vec<u8>>, Fail> {
-    let mut scripts = Vec::with_capacity(alloc, 1)?;
-    scripts.push_reserved(Vec::from_slice(alloc, text.as_bytes())?);
-    Ok(scripts)
+fn script(rt: &impl Abort, alloc: Global, text: &str) -> Vec<Vec<u8>> {
+    let mut scripts = Vec::with_capacity(alloc, 1).expect(rt, "memory");
+    scripts.push_reserved(Vec::from_slice(alloc, text.as_bytes()).expect(rt, "memory"));
+    scripts
 }
 
 /// A link to a child that says this text, with this room, of which these calls fail.
-fn scripted(alloc: Global, text: &str, room: usize, plan: &[u64]) -> Result<MemoryLink, Fail> {
-    let plans = only(alloc, plan)?;
-    let scripts = script(alloc, text)?;
-    let mut spawner = MemorySpawner::scripted(alloc, scripts, room, Vec::new(alloc), plans)?;
-    Ok(starts(alloc, &mut spawner, "script")?)
+fn scripted(rt: &impl Abort, alloc: Global, text: &str, room: usize, plan: &[u64]) -> MemoryLink {
+    let plans = only(rt, alloc, plan);
+    let scripts = script(rt, alloc, text);
+    let scripted = MemorySpawner::scripted(alloc, scripts, room, Vec::new(alloc), plans);
+    let mut spawner = scripted.expect(rt, "memory");
+    starts(rt, alloc, &mut spawner, "script").expect(rt, "a link")
 }
 
 /// Whether all turns go as they are to, at a new link to a child that plays the ring.
-fn ring_goes(alloc: Global, room: usize, plan: &[u64], turns: &[Turn]) -> Result<bool, Fail> {
-    let mut link = served(alloc, room, plan)?;
-    Ok(all_go(&mut link, turns))
+fn ring_goes(rt: &impl Abort, alloc: Global, room: usize, plan: &[u64], turns: &[Turn]) -> bool {
+    let mut link = served(rt, alloc, room, plan);
+    all_go(&mut link, turns)
 }
 
 /// Whether all turns go as they are to, at a new link to a child that says `ready` and `out 0`.
-fn script_goes(alloc: Global, room: usize, plan: &[u64], turns: &[Turn]) -> Result<bool, Fail> {
-    let mut link = scripted(alloc, "ready\nout 0\n", room, plan)?;
-    Ok(all_go(&mut link, turns))
+fn script_goes(rt: &impl Abort, alloc: Global, room: usize, plan: &[u64], turns: &[Turn]) -> bool {
+    let mut link = scripted(rt, alloc, "ready\nout 0\n", room, plan);
+    all_go(&mut link, turns)
 }
 
 static LINE_BY_LINE: [Turn; 10] = [
@@ -167,33 +170,28 @@ static LITTLE_ROOM: [Turn; 5] = [
 ];
 
 #[test]
-fn a_served_child_answers_line_by_line(rt: HostRuntime) -> Result<(), Fail> {
-    assert!(rt; ring_goes(rt.alloc(), 100, &[], &LINE_BY_LINE)?);
-    Ok(())
+fn a_served_child_answers_line_by_line(rt: HostRuntime) {
+    assert!(rt; ring_goes(&rt, rt.alloc(), 100, &[], &LINE_BY_LINE));
 }
 
 #[test]
-fn a_served_child_answers_at_once(rt: HostRuntime) -> Result<(), Fail> {
-    assert!(rt; ring_goes(rt.alloc(), 100, &[], &AT_ONCE)?);
-    Ok(())
+fn a_served_child_answers_at_once(rt: HostRuntime) {
+    assert!(rt; ring_goes(&rt, rt.alloc(), 100, &[], &AT_ONCE));
 }
 
 #[test]
-fn a_served_child_waits_for_whole_lines(rt: HostRuntime) -> Result<(), Fail> {
-    assert!(rt; ring_goes(rt.alloc(), 100, &[], &IN_PARTS)?);
-    Ok(())
+fn a_served_child_waits_for_whole_lines(rt: HostRuntime) {
+    assert!(rt; ring_goes(&rt, rt.alloc(), 100, &[], &IN_PARTS));
 }
 
 #[test]
-fn a_bad_line_ends_a_served_child(rt: HostRuntime) -> Result<(), Fail> {
-    assert!(rt; ring_goes(rt.alloc(), 100, &[], &BAD_LINE)?);
-    Ok(())
+fn a_bad_line_ends_a_served_child(rt: HostRuntime) {
+    assert!(rt; ring_goes(&rt, rt.alloc(), 100, &[], &BAD_LINE));
 }
 
 #[test]
-fn a_link_fails_past_its_room(rt: HostRuntime) -> Result<(), Fail> {
-    assert!(rt; ring_goes(rt.alloc(), 10, &[], &LITTLE_ROOM)?);
-    Ok(())
+fn a_link_fails_past_its_room(rt: HostRuntime) {
+    assert!(rt; ring_goes(&rt, rt.alloc(), 10, &[], &LITTLE_ROOM));
 }
 
 static WHATEVER_IS_SENT: [Turn; 5] = [
@@ -219,19 +217,16 @@ static JUST_ENOUGH: [Turn; 4] = [
 ];
 
 #[test]
-fn a_script_is_said_whatever_is_sent(rt: HostRuntime) -> Result<(), Fail> {
-    assert!(rt; script_goes(rt.alloc(), 100, &[], &WHATEVER_IS_SENT)?);
-    Ok(())
+fn a_script_is_said_whatever_is_sent(rt: HostRuntime) {
+    assert!(rt; script_goes(&rt, rt.alloc(), 100, &[], &WHATEVER_IS_SENT));
 }
 
 #[test]
-fn a_link_fails_by_its_plan(rt: HostRuntime) -> Result<(), Fail> {
-    assert!(rt; script_goes(rt.alloc(), 100, &[0, 2], &FIRST_AND_THIRD_FAIL)?);
-    Ok(())
+fn a_link_fails_by_its_plan(rt: HostRuntime) {
+    assert!(rt; script_goes(&rt, rt.alloc(), 100, &[0, 2], &FIRST_AND_THIRD_FAIL));
 }
 
 #[test]
-fn a_full_link_still_tells_its_end(rt: HostRuntime) -> Result<(), Fail> {
-    assert!(rt; script_goes(rt.alloc(), 12, &[], &JUST_ENOUGH)?);
-    Ok(())
+fn a_full_link_still_tells_its_end(rt: HostRuntime) {
+    assert!(rt; script_goes(&rt, rt.alloc(), 12, &[], &JUST_ENOUGH));
 }

@@ -2,12 +2,12 @@
 use lw_json::{Machine, read_machine};
 use lw_outside::{AnswerLine, Player, Reply};
 use std::alloc::Global;
-use std::test::Fail;
+use std::process::Abort;
 
 /// A machine of three states in a ring, of which the last says 1.
-pub(super) fn ring_of_three(alloc: Global) -> Result<Machine, Fail> {
+pub(super) fn ring_of_three(rt: &impl Abort, alloc: Global) -> Machine {
     let text = br#"{"inputs":["t"],"outputs":["0","1"],"states":[[[1,"0"]],[[2,"0"]],[[0,"1"]]]}"#;
-    Ok(read_machine(alloc, text)?)
+    read_machine(alloc, text).expect(rt, "a machine")
 }
 
 static TURNS: [(&str, Reply); 10] = [
@@ -57,19 +57,17 @@ fn refuses(m: &Machine, line: &str) -> bool {
 }
 
 #[test]
-fn a_player_replies_to_lines(rt: HostRuntime) -> Result<(), Fail> {
-    let m = ring_of_three(rt.alloc())?;
+fn a_player_replies_to_lines(rt: HostRuntime) {
+    let m = ring_of_three(&rt, rt.alloc());
     assert!(rt; replies(&m, &TURNS));
-    Ok(())
 }
 
 #[test]
-fn a_player_refuses_other_lines(rt: HostRuntime) -> Result<(), Fail> {
-    let m = ring_of_three(rt.alloc())?;
+fn a_player_refuses_other_lines(rt: HostRuntime) {
+    let m = ring_of_three(&rt, rt.alloc());
     for line in &UNKNOWN {
         assert!(rt; refuses(&m, line), "{line:?}");
     }
-    Ok(())
 }
 
 /// Whether the answer with output 1 is this line.
@@ -78,9 +76,8 @@ fn says_one(m: &Machine, text: &str) -> bool {
 }
 
 #[test]
-fn answers_are_lines(rt: HostRuntime) -> Result<(), Fail> {
-    let m = ring_of_three(rt.alloc())?;
-    assert_eq!(rt; AnswerLine::ready().as_slice(), b"ready\n".as_slice());
+fn answers_are_lines(rt: HostRuntime) {
+    let m = ring_of_three(&rt, rt.alloc());
+    assert!(rt; AnswerLine::ready().as_slice() == b"ready\n".as_slice());
     assert!(rt; says_one(&m, "out 1\n"));
-    Ok(())
 }

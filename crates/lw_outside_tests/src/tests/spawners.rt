@@ -1,32 +1,38 @@
 //! Spawners in memory through their trait, by hand.
-ghost use Rattle.std.specs.Prelude.{◌≡◌, [], IfOk};
+ghost use Rattle.std.specs.Prelude.{◌≡◌, []};
 
 use super::links::{sends, starts, takes};
 use super::player::ring_of_three;
 use lw_outside::{Link, MemorySpawner, Spawner, StartStop, Transcript};
 use std::alloc::Global;
-use std::test::Fail;
+use std::process::Abort;
 
 /// A spawner of links to children that play the ring, of whose starts these fail.
-fn served(alloc: Global, plan: &[u64]) -> Result<MemorySpawner, Fail> {
-    let m = ring_of_three(alloc)?;
-    let plan = plan.to_vec(alloc)?;
-    Ok(MemorySpawner::serving(alloc, m, 100, plan, Vec::new(alloc))?)
+fn served(rt: &impl Abort, alloc: Global, plan: &[u64]) -> MemorySpawner {
+    let m = ring_of_three(rt, alloc);
+    let plan = plan.to_vec(alloc).expect(rt, "memory");
+    MemorySpawner::serving(alloc, m, 100, plan, Vec::new(alloc)).expect(rt, "memory")
 }
 
 /// A spawner of links to two children, of which the first says `a` and the second `b`.
-fn scripted(alloc: Global) -> Result<MemorySpawner, Fail>
-    ensures { IfOk result (λ s. s.retired ≡ []) }
+fn scripted(rt: &impl Abort, alloc: Global) -> MemorySpawner
+    ensures { result.retired ≡ [] }
 {
-    let mut scripts = Vec::new(alloc);
-    scripts.push(Vec::from_slice(alloc, b"a")?)?;
-    scripts.push(Vec::from_slice(alloc, b"b")?)?;
-    Ok(MemorySpawner::scripted(alloc, scripts, 100, Vec::new(alloc), Vec::new(alloc))?)
+    let mut scripts = Vec::with_capacity(alloc, 2).expect(rt, "memory");
+    scripts.push_reserved(Vec::from_slice(alloc, b"a").expect(rt, "memory"));
+    scripts.push_reserved(Vec::from_slice(alloc, b"b").expect(rt, "memory"));
+    let (starts, plans) = (Vec::new(alloc), Vec::new(alloc));
+    MemorySpawner::scripted(alloc, scripts, 100, starts, plans).expect(rt, "memory")
 }
 
 /// What a start is refused for, if it is.
-fn refusal<P: Spawner>(alloc: Global, spawner: &mut P, name: &str) -> Option<StartStop> {
-    starts(alloc, spawner, name).err()
+fn refusal<P: Spawner>(
+    rt: &impl Abort,
+    alloc: Global,
+    spawner: &mut P,
+    name: &str,
+) -> Option<StartStop> {
+    starts(rt, alloc, spawner, name).err()
 }
 
 /// Whether a start is noted at this place, with its name as its one word.
@@ -52,12 +58,13 @@ fn retired(spawner: &MemorySpawner, place: usize, sent: &str, received: &str) ->
 
 /// Whether the starts with these names end so, and are noted in their order.
 fn start_so<P: Spawner>(
+    rt: &impl Abort,
     alloc: Global,
     spawner: &mut P,
     starts: &[(&str, Option<StartStop>)],
 ) -> bool {
     for (name, stop) in starts {
-        if refusal(alloc, spawner, name) != *stop {
+        if refusal(rt, alloc, spawner, name) != *stop {
             return false;
         }
     }
@@ -87,27 +94,25 @@ static THIRD_FAILS: [(&str, Option<StartStop>); 3] = [
 ];
 
 /// Whether the second start fails where that is planned, and is noted.
-fn second_fails(alloc: Global) -> Result<bool, Fail> {
-    let mut spawner = served(alloc, &[1])?;
-    Ok(start_so(alloc, &mut spawner, &SECOND_FAILS) && all_noted(&spawner, &SECOND_FAILS))
+fn second_fails(rt: &impl Abort, alloc: Global) -> bool {
+    let mut spawner = served(rt, alloc, &[1]);
+    start_so(rt, alloc, &mut spawner, &SECOND_FAILS) && all_noted(&spawner, &SECOND_FAILS)
 }
 
 /// Whether the third start of two scripts fails, and is noted.
-fn third_fails(alloc: Global) -> Result<bool, Fail> {
-    let mut spawner = scripted(alloc)?;
-    Ok(start_so(alloc, &mut spawner, &THIRD_FAILS) && all_noted(&spawner, &THIRD_FAILS))
+fn third_fails(rt: &impl Abort, alloc: Global) -> bool {
+    let mut spawner = scripted(rt, alloc);
+    start_so(rt, alloc, &mut spawner, &THIRD_FAILS) && all_noted(&spawner, &THIRD_FAILS)
 }
 
 #[test]
-fn planned_starts_fail(rt: HostRuntime) -> Result<(), Fail> {
-    assert!(rt; second_fails(rt.alloc())?);
-    Ok(())
+fn planned_starts_fail(rt: HostRuntime) {
+    assert!(rt; second_fails(&rt, rt.alloc()));
 }
 
 #[test]
-fn starts_past_the_last_script_fail(rt: HostRuntime) -> Result<(), Fail> {
-    assert!(rt; third_fails(rt.alloc())?);
-    Ok(())
+fn starts_past_the_last_script_fail(rt: HostRuntime) {
+    assert!(rt; third_fails(&rt, rt.alloc()));
 }
 
 /// Whether the first link says `a` and the second, to which a byte is sent, `b`.
@@ -122,30 +127,27 @@ fn say_two<L: Link>(first: &mut L, second: &mut L) -> bool
 }
 
 /// Two links, of which the second is retired first.
-fn use_two<P: Spawner>(alloc: Global, spawner: &mut P) -> Result<bool, Fail>
+fn use_two<P: Spawner>(rt: &impl Abort, alloc: Global, spawner: &mut P) -> bool
     requires { P.retired spawner.old ≡ [] }
 {
-    let mut first = starts(alloc, spawner, "first")?;
-    let mut second = starts(alloc, spawner, "second")?;
+    let mut first = starts(rt, alloc, spawner, "first").expect(rt, "a link");
+    let mut second = starts(rt, alloc, spawner, "second").expect(rt, "a link");
     let said = say_two(&mut first, &mut second);
     spawner.retire(second);
     spawner.retire(first);
-    Ok(said)
+    said
 }
 
 /// Whether two links are kept in the order of their retirement.
-fn two_are_kept(alloc: Global) -> Result<bool, Fail> {
-    let mut spawner = scripted(alloc)?;
-    let said = use_two(alloc, &mut spawner)?;
-    Ok(
-        said && retired(&spawner, 0, "?", "b")
-            && retired(&spawner, 1, "", "a")
-            && spawner.retired().len() == 2,
-    )
+fn two_are_kept(rt: &impl Abort, alloc: Global) -> bool {
+    let mut spawner = scripted(rt, alloc);
+    let said = use_two(rt, alloc, &mut spawner);
+    said && retired(&spawner, 0, "?", "b")
+        && retired(&spawner, 1, "", "a")
+        && spawner.retired().len() == 2
 }
 
 #[test]
-fn links_are_kept_in_the_order_of_their_retirement(rt: HostRuntime) -> Result<(), Fail> {
-    assert!(rt; two_are_kept(rt.alloc())?);
-    Ok(())
+fn links_are_kept_in_the_order_of_their_retirement(rt: HostRuntime) {
+    assert!(rt; two_are_kept(&rt, rt.alloc()));
 }

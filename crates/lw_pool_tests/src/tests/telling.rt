@@ -1,12 +1,12 @@
 //! What a pool tells of itself, and its parts.
 use crate::tests::acting::Acting;
-use crate::tests::crews::pool_of;
-use crate::tests::{settles_all, sound_plans};
+use crate::tests::crews::{pool_of, sound_plans};
+use crate::tests::settles_all;
 use lw_pool::Pool;
 use lw_sul::Session;
 use std::alloc::Global;
+use std::process::Abort;
 use std::sync::Wait;
-use std::test::Fail;
 use std::thread::Threads;
 
 /// How many runs the sessions of a pool have made together.
@@ -25,17 +25,16 @@ fn is_of_three<R>(pool: &Pool<Acting, R>) -> bool {
 }
 
 /// Whether a pool of three tells of itself, and its sessions make four runs for four words.
-fn tells_of_itself<R: Threads + Wait + Sync + Drop>(rt: R, alloc: Global) -> Result<bool, Fail> {
-    let mut pool = pool_of(rt, alloc, sound_plans(alloc, 3)?)?;
+fn tells_of_itself<R: Abort + Threads + Wait + Sync + Copy + Drop>(rt: R, alloc: Global) -> bool {
+    let mut pool = pool_of(rt, alloc, sound_plans(&rt, alloc, 3));
     let told = is_of_three(&pool);
-    let settled = settles_all(&mut pool, alloc, 2)?;
-    Ok(told && settled && runs_of(&pool) == 4)
+    let settled = settles_all(&rt, &mut pool, alloc, 2);
+    told && settled && runs_of(&pool) == 4
 }
 
 #[test]
-fn a_pool_tells_of_itself(rt: HostRuntime) -> Result<(), Fail> {
-    assert!(rt; tells_of_itself(rt, rt.alloc())?);
-    Ok(())
+fn a_pool_tells_of_itself(rt: HostRuntime) {
+    assert!(rt; tells_of_itself(rt, rt.alloc()));
 }
 
 /// Whether sessions stand by their instances.
@@ -55,14 +54,14 @@ fn leaves_parts<R: Drop>(pool: Pool<Acting, R>) -> bool {
 }
 
 /// Whether a pool of two leaves them once it has settled four words.
-fn is_taken_apart<R: Threads + Wait + Sync + Drop>(rt: R, alloc: Global) -> Result<bool, Fail> {
-    let mut pool = pool_of(rt, alloc, sound_plans(alloc, 2)?)?;
-    let settled = settles_all(&mut pool, alloc, 2)?;
-    Ok(settled && leaves_parts(pool))
+fn is_taken_apart<R: Abort + Threads + Wait + Sync + Copy + Drop>(rt: R, alloc: Global) -> bool {
+    let mut pool = pool_of(rt, alloc, sound_plans(&rt, alloc, 2));
+    let settled = settles_all(&rt, &mut pool, alloc, 2);
+    let left = leaves_parts(pool);
+    settled && left
 }
 
 #[test]
-fn a_pool_is_taken_apart(rt: HostRuntime) -> Result<(), Fail> {
-    assert!(rt; is_taken_apart(rt, rt.alloc())?);
-    Ok(())
+fn a_pool_is_taken_apart(rt: HostRuntime) {
+    assert!(rt; is_taken_apart(rt, rt.alloc()));
 }

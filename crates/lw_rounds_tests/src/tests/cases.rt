@@ -1,5 +1,5 @@
 //! A learning that was worked out by hand, and whether it goes so.
-ghost use Rattle.std.specs.Prelude.{◌<◌, ◌≤◌, ◌^◌, IfOk, length};
+ghost use Rattle.std.specs.Prelude.{◌<◌, ◌≤◌, ◌^◌, length};
 ghost use Rattle.std.specs.List.{All};
 ghost use Rattle.lw_words.specs.Answer.{answers_of};
 ghost use Rattle.lw_words.specs.Word.{IsWord};
@@ -9,9 +9,9 @@ ghost use Rattle.lw_cache.specs.Settling.{MayAsk};
 use lw_cache::Oracle;
 use lw_mealy::Mealy;
 use lw_rounds::{Kind, LearnStop, Learned, Learner, Step, Watcher, learn};
-use lw_words::{NoMemory, Word, Words};
+use lw_words::{Word, Words};
 use std::alloc::Global;
-use std::test::Fail;
+use std::process::Abort;
 use test_oracle::Recording;
 
 pub const A: u16 = 0;
@@ -56,8 +56,12 @@ pub struct Case {
     pub lengths: &'static [(usize, &'static [usize])],
     /// The words of the batches with these numbers.
     pub words: &'static [(usize, &'static [&'static [u16]])],
+    /// The numbers of words of all batches; none where they aren't looked at.
+    pub sizes: &'static [usize],
     /// The lengths of a tree's discriminators, none of which is temporary; none where they aren't looked at.
     pub discriminators: &'static [usize],
+    /// The steps that a watcher is told; none where they aren't looked at.
+    pub steps: &'static [Step],
 }
 
 /// A learning of a machine of two outputs with a table.
@@ -73,18 +77,20 @@ pub const PLAIN: Case = Case {
     batches: 0,
     lengths: &[],
     words: &[],
+    sizes: &[],
     discriminators: &[],
+    steps: &[],
 };
 
 /// What was told of a learning.
 #[derive(Drop)]
-pub struct Notes {
+struct Notes {
     steps: Vec<Step>,
     is_whole: bool,
 }
 
 impl Notes {
-    pub fn new(alloc: Global) -> Notes {
+    fn new(alloc: Global) -> Notes {
         Notes {
             steps: Vec::new(alloc),
             is_whole: true,
@@ -92,7 +98,7 @@ impl Notes {
     }
 
     /// Whether just these steps were told.
-    pub fn are(&self, steps: &[Step]) -> bool {
+    fn are(&self, steps: &[Step]) -> bool {
         let mut each = self.steps.iter().zip(steps.iter());
         self.is_whole && self.steps.len() == steps.len() && each.all(|(told, step)| told == step)
     }
@@ -106,59 +112,54 @@ impl Watcher for Notes {
 
 /// What came of a learning.
 #[derive(Drop)]
-pub struct Came {
-    pub oracle: Recording,
-    pub learned: Result<Learned, LearnStop>,
-    pub notes: Notes,
+struct Came {
+    oracle: Recording,
+    learned: Result<Learned, LearnStop>,
+    notes: Notes,
 }
 
 /// The machine of these rows.
-fn machine_of(alloc: Global, outputs: u16, rows: Rows) -> Result<Mealy, Fail> {
+fn machine_of(rt: &impl Abort, alloc: Global, outputs: u16, rows: Rows) -> Mealy {
     let mut copies = Vec::new(alloc);
     for row in rows {
-        copies.push(Vec::from_slice(alloc, row)?)?;
+        let copy = Vec::from_slice(alloc, row).expect(rt, "memory");
+        copies.push(copy).expect(rt, "memory");
     }
     let inputs = rows.first().map_or(0, |row| row.len());
-    let inputs = u16::try_from(inputs)?;
-    if inputs < 1 || inputs > 64 || outputs < 1 || outputs > 4096 {
-        return Err(Fail::from("another machine was meant"));
-    }
-    Ok(Mealy::new(alloc, inputs, outputs, copies)?)
+    let inputs = u16::try_from(inputs).expect(rt, "a number of letters");
+    assert!(rt; 1 <= inputs && inputs <= 64 && 1 <= outputs && outputs <= 4096);
+    Mealy::new(alloc, inputs, outputs, copies).expect(rt, "a machine")
 }
 
 /// The word a a .. of this length, over so many letters.
-fn word_of(alloc: Global, inputs: u16, long: usize) -> Result<Words, Fail>
-    ensures letters { IfOk result (λ words. All (IsWord inputs) words) }
-    ensures few { IfOk result (λ words. length words < 2 ^ 32) }
+fn word_of(rt: &impl Abort, alloc: Global, inputs: u16, long: usize) -> Words
+    ensures letters { All (IsWord inputs) result }
+    ensures few { length result < 2 ^ 32 }
 {
     let mut words = Words::new(alloc);
-    let word = Word::from_letters(alloc, vec![in alloc; A; long]?);
-    if !word.as_slice().iter().all(|x| *x < inputs) {
-        return Err(Fail::from("another letter was meant"));
-    }
-    if words.push(word).is_err() {
-        return Err(Fail::from("out of memory"));
-    }
-    Ok(words)
+    let word = Word::from_letters(alloc, vec![in alloc; A; long].expect(rt, "memory"));
+    assert!(rt; word.as_slice().iter().all(|x| *x < inputs));
+    assert!(rt; words.push(word).is_ok(), "memory");
+    words
 }
 
 /// The oracle of a machine that was asked the word a a .. of this length, if that isn't 0.
-fn oracle_of(alloc: Global, machine: Mealy, length: usize) -> Result<Recording, Fail>
-    ensures letters { IfOk result (λ o. (1 ≤ o.machine.inputs) × (o.machine.inputs ≤ 64)) }
-    ensures signs { IfOk result (λ o. (1 ≤ o.machine.outputs) × (o.machine.outputs ≤ 4096)) }
-    ensures nothing { IfOk result (λ o. NothingClashes (answers_of o.kept)) }
-    ensures may { IfOk result (λ o. MayAsk o.stop) }
+fn oracle_of(rt: &impl Abort, alloc: Global, machine: Mealy, length: usize) -> Recording
+    ensures letters { (1 ≤ result.machine.inputs) × (result.machine.inputs ≤ 64) }
+    ensures signs { (1 ≤ result.machine.outputs) × (result.machine.outputs ≤ 4096) }
+    ensures nothing { NothingClashes (answers_of result.kept) }
+    ensures may { MayAsk result.stop }
 {
     // The machine tells that it is within the limits.
     let inputs = machine.inputs();
     let mut oracle = Recording::new(alloc, machine);
     if length == 0 {
-        return Ok(oracle);
+        return oracle;
     }
-    let words = word_of(alloc, inputs, length)?;
+    let words = word_of(rt, alloc, inputs, length);
     match oracle.settle(words.as_slice()) {
-        Ok(()) => Ok(oracle),
-        Err(_) => Err(Fail::from("the word was refused")),
+        Ok(()) => oracle,
+        Err(_) => rt.panic("the word was refused"),
     }
 }
 
@@ -183,20 +184,18 @@ fn call(
 }
 
 /// What comes of a case.
-pub fn play(alloc: Global, case: &Case) -> Result<Came, Fail> {
+fn play(rt: &impl Abort, alloc: Global, case: &Case) -> Came {
     let (extra, most) = (case.extra, case.most);
-    if extra > 4 || most < 1 || most > 1024 {
-        return Err(Fail::from("another limit was meant"));
-    }
-    let machine = machine_of(alloc, case.outputs, case.rows)?;
-    let mut oracle = oracle_of(alloc, machine, case.known)?;
+    assert!(rt; extra <= 4 && 1 <= most && most <= 1024);
+    let machine = machine_of(rt, alloc, case.outputs, case.rows);
+    let mut oracle = oracle_of(rt, alloc, machine, case.known);
     let mut notes = Notes::new(alloc);
     let learned = call(alloc, &mut oracle, case.kind, extra, most, &mut notes);
-    Ok(Came {
+    Came {
         oracle,
         learned,
         notes,
-    })
+    }
 }
 
 /// Whether words have just these lengths, in this order.
@@ -235,7 +234,7 @@ fn ends_with_stop(stop: &LearnStop, ending: Ending) -> bool {
 }
 
 /// Whether a learning ends as is meant.
-pub fn ends_so(came: &Came, ending: Ending) -> bool {
+fn ends_so(came: &Came, ending: Ending) -> bool {
     match &came.learned {
         Ok(learned) => ends_with_model(learned, ending),
         Err(stop) => ends_with_stop(stop, ending),
@@ -251,7 +250,7 @@ fn asked_long(oracle: &Recording, number: usize, lengths: &[usize]) -> bool {
 }
 
 /// Whether the batches are those of a case.
-pub fn asks_so(oracle: &Recording, case: &Case) -> bool {
+fn asks_so(oracle: &Recording, case: &Case) -> bool {
     let mut lengths = case.lengths.iter();
     let mut words = case.words.iter();
     oracle.batches().len() == case.batches
@@ -259,33 +258,50 @@ pub fn asks_so(oracle: &Recording, case: &Case) -> bool {
         && words.all(|(number, words)| oracle.asked(*number, words))
 }
 
+/// Whether the batches have just these numbers of words, where a case tells them.
+fn sizes_so(oracle: &Recording, sizes: &[usize]) -> bool {
+    let mut each = oracle.batches().iter().zip(sizes.iter());
+    let right = oracle.batches().len() == sizes.len();
+    sizes.is_empty() || (right && each.all(|(batch, size)| batch.len() == *size))
+}
+
 /// Whether a learner is a tree whose discriminators have just these lengths, and none is temporary.
-fn has_discriminators(learner: &Learner, lengths: &[usize]) -> Result<bool, NoMemory> {
+fn has_discriminators(rt: &impl Abort, learner: &Learner, lengths: &[usize]) -> bool {
     match learner {
         Learner::Tree(tree) => {
-            let words = tree.discriminators()?;
-            Ok(tree.temporary() == 0 && are_long(words.as_slice(), lengths))
+            let words = tree.discriminators().expect(rt, "memory");
+            tree.temporary() == 0 && are_long(words.as_slice(), lengths)
         }
-        Learner::Table(_) => Ok(false),
+        Learner::Table(_) => false,
     }
 }
 
 /// Whether the discriminators are those of a case, where it tells them.
-pub fn parts_so(came: &Came, lengths: &[usize]) -> Result<bool, NoMemory> {
+fn parts_so(rt: &impl Abort, came: &Came, lengths: &[usize]) -> bool {
     match &came.learned {
-        Ok(learned) if !lengths.is_empty() => has_discriminators(&learned.learner, lengths),
-        _ => Ok(lengths.is_empty()),
+        Ok(learned) if !lengths.is_empty() => has_discriminators(rt, &learned.learner, lengths),
+        _ => lengths.is_empty(),
     }
 }
 
-/// The name of the first case that goes otherwise than was worked out.
-pub fn first_wrong(alloc: Global, cases: &[Case]) -> Result<Option<&'static str>, Fail> {
+/// Whether what came of a case is what was worked out.
+fn came_so(rt: &impl Abort, came: &Came, case: &Case) -> bool {
+    ends_so(came, case.ending)
+        && asks_so(&came.oracle, case)
+        && sizes_so(&came.oracle, case.sizes)
+        && parts_so(rt, came, case.discriminators)
+        && (case.steps.is_empty() || came.notes.are(case.steps))
+}
+
+/// Whether a case goes as was worked out.
+fn goes_so(rt: &impl Abort, alloc: Global, case: &Case) -> bool {
+    let came = play(rt, alloc, case);
+    came_so(rt, &came, case)
+}
+
+/// Lets each case go as was worked out.
+pub fn all_go(rt: &impl Abort, alloc: Global, cases: &[Case]) {
     for case in cases {
-        let came = play(alloc, case)?;
-        let right = ends_so(&came, case.ending) && asks_so(&came.oracle, case);
-        if !right || !parts_so(&came, case.discriminators)? {
-            return Ok(Some(case.name));
-        }
+        assert!(rt; goes_so(rt, alloc, case), "{}", case.name);
     }
-    Ok(None)
 }

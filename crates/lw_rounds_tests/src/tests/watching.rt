@@ -1,13 +1,11 @@
 //! What a watcher is told of learnings of the counter of three with two extra states.
-use super::cases::{Case, play};
+use super::cases::{Case, all_go};
 use super::{tables, trees};
 use lw_rounds::{Phase, Step};
-use std::alloc::Global;
-use std::test::Fail;
 
 /// The words of one and of two letters close the first table. Of the suite the word of three is new, and tells the machine
 /// apart; that refinement brings the words of four and of five letters; and the last suite those of six and of seven.
-static WITH_A_TABLE: [Step; 4] = [
+const WITH_A_TABLE: &[Step] = &[
     Step {
         round: 0,
         phase: Phase::Table,
@@ -44,7 +42,7 @@ static WITH_A_TABLE: [Step; 4] = [
 
 /// A tree is closed by the word of one letter, and the first suite brings those of two and of three. Two rounds settle a block
 /// each, by words that are known.
-static WITH_A_TREE: [Step; 6] = [
+const WITH_A_TREE: &[Step] = &[
     Step {
         round: 0,
         phase: Phase::Table,
@@ -95,20 +93,18 @@ static WITH_A_TREE: [Step; 6] = [
     },
 ];
 
-static TABLE: Case = tables::COUNTER_OF_THREE;
-
-static TREE: Case = trees::COUNTER_OF_THREE;
-
-/// Whether just these steps of a case are told.
-fn tells(alloc: Global, case: &Case, steps: &[Step]) -> Result<bool, Fail> {
-    let came = play(alloc, case)?;
-    Ok(came.notes.are(steps))
-}
+static CASES: [Case; 2] = [
+    Case {
+        steps: WITH_A_TABLE,
+        ..tables::COUNTER_OF_THREE
+    },
+    Case {
+        steps: WITH_A_TREE,
+        ..trees::COUNTER_OF_THREE
+    },
+];
 
 #[test]
-fn each_step_is_told(rt: HostRuntime) -> Result<(), Fail> {
-    let alloc = rt.alloc();
-    assert!(rt; tells(alloc, &TABLE, &WITH_A_TABLE)?);
-    assert!(rt; tells(alloc, &TREE, &WITH_A_TREE)?);
-    Ok(())
+fn each_step_is_told(rt: HostRuntime) {
+    all_go(&rt, rt.alloc(), &CASES);
 }

@@ -3,23 +3,23 @@
 use lw_mealy::Mealy;
 use lw_words::Word;
 use std::alloc::Global;
-use std::test::Fail;
+use std::process::Abort;
 
 /// All words of at most four letters over two, or fewer over more, in shortlex order.
-pub fn words(alloc: Global, inputs: u16) -> Result<Vec<Word>, Fail> {
+pub fn words(rt: &impl Abort, alloc: Global, inputs: u16) -> Vec<Word> {
     let mut all = Vec::new(alloc);
-    all.push(Word::new(alloc))?;
+    all.push(Word::new(alloc)).expect(rt, "memory");
     for i in 0..15 {
         for x in 0..inputs {
             let Some(shorter) = all.get(i) else {
-                return Ok(all);
+                return all;
             };
-            let mut word = shorter.copy()?;
-            word.push(x)?;
-            all.push(word)?;
+            let mut word = shorter.copy().expect(rt, "memory");
+            word.push(x).expect(rt, "memory");
+            all.push(word).expect(rt, "memory");
         }
     }
-    Ok(all)
+    all
 }
 
 /// A step, where there is one.
@@ -96,15 +96,15 @@ pub fn same(word: &Option<Word>, expected: Option<&Word>) -> bool {
 }
 
 /// The states of a machine in the order of their least words, one of each class of equal ones.
-fn classes(alloc: Global, m: &Mealy, all: &[Word]) -> Result<Vec<u16>, Fail> {
+fn classes(rt: &impl Abort, alloc: Global, m: &Mealy, all: &[Word]) -> Vec<u16> {
     let mut found = Vec::new(alloc);
     for word in all {
         let q = end(m, word);
         if class_of(m, all, found.as_slice(), q).is_none() {
-            found.push(q)?;
+            found.push(q).expect(rt, "memory");
         }
     }
-    Ok(found)
+    found
 }
 
 /// The place of the class of a state.
@@ -120,10 +120,10 @@ fn class_of(m: &Mealy, all: &[Word], found: &[u16], q: u16) -> Option<u16> {
 }
 
 /// Whether `c` has the row of each class in their order.
-pub fn is_canonical(alloc: Global, m: &Mealy, c: &Mealy, all: &[Word]) -> Result<bool, Fail> {
-    let found = classes(alloc, m, all)?;
+pub fn is_canonical(rt: &impl Abort, alloc: Global, m: &Mealy, c: &Mealy, all: &[Word]) -> bool {
+    let found = classes(rt, alloc, m, all);
     if usize::from(c.states()) != found.len() {
-        return Ok(false);
+        return false;
     }
     let mut k = 0u16;
     for p in &found {
@@ -131,25 +131,26 @@ pub fn is_canonical(alloc: Global, m: &Mealy, c: &Mealy, all: &[Word]) -> Result
             let (target, output) = step(m, *p, x);
             let place = class_of(m, all, found.as_slice(), target);
             if place != Some(step(c, k, x).0) || output != step(c, k, x).1 {
-                return Ok(false);
+                return false;
             }
         }
         k = k.wrapping_add(1);
     }
-    Ok(true)
+    true
 }
 
 /// The walk over the pairs of states.
-pub fn separators(alloc: Global, m: &Mealy, all: &[Word]) -> Result<Vec<Word>, Fail> {
+pub fn separators(rt: &impl Abort, alloc: Global, m: &Mealy, all: &[Word]) -> Vec<Word> {
     let mut list: Vec<Word> = Vec::new(alloc);
     for p in 0..m.states() {
         for q in 0..m.states() {
             if p < q && !list.iter().any(|word| differ(m, p, q, word)) {
                 if let Some(word) = separating(m, all, p, q) {
-                    list.push(word.copy()?)?;
+                    let copy = word.copy().expect(rt, "memory");
+                    list.push(copy).expect(rt, "memory");
                 }
             }
         }
     }
-    Ok(list)
+    list
 }

@@ -5,32 +5,32 @@ ghost use Rattle.lw_words.specs.Answer.{answer_of, IsAnswer};
 ghost use Rattle.lw_mealy.specs.Machine.{answer};
 ghost use Rattle.test_tree.specs.Trials.{IsReady};
 
-use lw_cache::Oracle;
+use lw_cache::{GrowStop, Oracle};
 use lw_mealy::Mealy;
 use lw_settle::{Settled, settle_block};
 use lw_tree::DiscriminationTree;
 use lw_words::Kept;
 use std::alloc::Global;
-use std::test::Fail;
+use std::process::Abort;
 use test_tree::{ask, split_by_known};
 
 /// Asks a word, and splits the tree by what is known then.
 pub fn split_by<O: Oracle>(
+    rt: &impl Abort,
     alloc: Global,
     oracle: &mut O,
     tree: &mut DiscriminationTree,
     letters: &[u16],
-) -> Result<(), Fail>
+)
     requires can { O.can_settle oracle.old }
     requires ready { IsReady (O.state oracle.old) tree.old }
-    ensures ready { OnOk result (IsReady (O.state oracle.new) tree.new) }
+    ensures ready { IsReady (O.state oracle.new) tree.new }
     ensures can { O.can_settle oracle.new }
 {
-    ask(alloc, oracle, tree, letters)?;
-    let Some(Ok(())) = split_by_known(alloc, oracle, tree)? else {
-        return Err(Fail::from("a split is refused"));
+    assert!(rt; ask(alloc, oracle, tree, letters));
+    let Ok(true) = split_by_known(alloc, oracle, tree) else {
+        rt.panic("a split is refused");
     };
-    Ok(())
 }
 
 /// Whether a machine gives each kept answer.
@@ -48,40 +48,23 @@ fn gives_all(model: &Mealy, kept: &Kept) -> bool
 }
 
 /// Settles a block of a tree whose machine gives all that is known.
+///
+/// # Errors
+/// As `settle_block`.
 pub fn settle<O: Oracle>(
+    rt: &impl Abort,
     alloc: Global,
     oracle: &mut O,
     tree: &mut DiscriminationTree,
-) -> Result<Settled, Fail>
+) -> Result<Settled, GrowStop>
     requires can { O.can_settle oracle.old }
     requires ready { IsReady (O.state oracle.old) tree.old }
     ensures ready { OnOk result (IsReady (O.state oracle.new) tree.new) }
     ensures can { O.can_settle oracle.new }
 {
-    let model = tree.machine()?;
-    if !gives_all(&model, oracle.cache().kept()) {
-        return Err(Fail::from("the machine is told otherwise"));
-    }
-    let settling = settle_block(oracle, alloc, tree);
-    let Ok(settled) = settling else {
-        return Err(Fail::from("a settling is refused"));
+    let Ok(model) = tree.machine() else {
+        rt.panic("no memory");
     };
-    Ok(settled)
-}
-
-/// Whether settling a block of such a tree is refused.
-pub fn is_refused<O: Oracle>(
-    alloc: Global,
-    oracle: &mut O,
-    tree: &mut DiscriminationTree,
-) -> Result<bool, Fail>
-    requires can { O.can_settle oracle.old }
-    requires ready { IsReady (O.state oracle.old) tree.old }
-{
-    let model = tree.machine()?;
-    if !gives_all(&model, oracle.cache().kept()) {
-        return Err(Fail::from("the machine is told otherwise"));
-    }
-    let settling = settle_block(oracle, alloc, tree);
-    Ok(settling.is_err())
+    assert!(rt; gives_all(&model, oracle.cache().kept()));
+    settle_block(oracle, alloc, tree)
 }

@@ -7,7 +7,7 @@ use lw_cache::{AskStop, GrowStop};
 use lw_mealy::Mealy;
 use lw_table::ObservationTable;
 use std::alloc::Global;
-use std::test::Fail;
+use std::process::Abort;
 use test_oracle::Recording;
 
 const A: u16 = 0;
@@ -23,62 +23,62 @@ struct Trial {
 
 /// A new table that was closed over a machine, or the stop.
 #[tactic(auto, using(lw_table::proofs::NewLemmas::new_is_read))]
-fn closed_over(alloc: Global, mealy: Mealy, most: u16) -> Result<Result<Trial, GrowStop>, Fail>
-    ensures { IfOk result (λ closed. IfOk closed (λ trial. IsClosed trial.table)) }
+fn closed_over(rt: &impl Abort, alloc: Global, mealy: Mealy, most: u16) -> Result<Trial, GrowStop>
+    ensures { IfOk result (λ trial. IsClosed trial.table) }
 {
-    if most == 0 || most > 1024 {
-        return Err(Fail::from("another limit was meant"));
-    }
+    assert!(rt; 1 <= most && most <= 1024);
     let inputs = mealy.inputs();
     let outputs = mealy.outputs();
     let mut oracle = Recording::new(alloc, mealy);
-    let mut table = ObservationTable::new(alloc, inputs, outputs, most)?;
-    if let Err(stop) = table.close(&mut oracle) {
-        return Ok(Err(stop));
-    }
-    Ok(Ok(Trial { oracle, table }))
+    let Ok(mut table) = ObservationTable::new(alloc, inputs, outputs, most) else {
+        rt.panic("no memory");
+    };
+    table.close(&mut oracle)?;
+    Ok(Trial { oracle, table })
 }
 
 /// Such a table where it is closed.
-fn closed(alloc: Global, mealy: Mealy, most: u16) -> Result<Trial, Fail>
-    ensures { IfOk result (λ trial. IsClosed trial.table) }
+fn closed(rt: &impl Abort, alloc: Global, mealy: Mealy, most: u16) -> Trial
+    ensures { IsClosed result.table }
 {
-    match closed_over(alloc, mealy, most)? {
-        Ok(trial) => Ok(trial),
-        Err(_) => Err(Fail::from("a table isn't closed")),
+    match closed_over(rt, alloc, mealy, most) {
+        Ok(trial) => trial,
+        Err(_) => rt.panic("a table isn't closed"),
     }
 }
 
 /// The machine of these rows over one letter.
-fn of_one_letter(alloc: Global, cells: &[(u16, u16)]) -> Result<Mealy, Fail> {
+fn of_one_letter(rt: &impl Abort, alloc: Global, cells: &[(u16, u16)]) -> Mealy {
     let mut rows = Vec::new(alloc);
     for cell in cells {
-        rows.push(Vec::from_slice(alloc, &[*cell])?)?;
+        let row = Vec::from_slice(alloc, &[*cell]).expect(rt, "memory");
+        rows.push(row).expect(rt, "memory");
     }
-    Ok(Mealy::new(alloc, 1, 2, rows)?)
+    Mealy::new(alloc, 1, 2, rows).expect(rt, "a machine")
 }
 
 /// The machine of these rows over two letters.
-fn of_two_letters(alloc: Global, cells: &[[(u16, u16); 2]]) -> Result<Mealy, Fail> {
+fn of_two_letters(rt: &impl Abort, alloc: Global, cells: &[[(u16, u16); 2]]) -> Mealy {
     let mut rows = Vec::new(alloc);
-    for row in cells {
-        rows.push(Vec::from_slice(alloc, row)?)?;
+    for cell in cells {
+        let row = Vec::from_slice(alloc, cell).expect(rt, "memory");
+        rows.push(row).expect(rt, "memory");
     }
-    Ok(Mealy::new(alloc, 2, 2, rows)?)
+    Mealy::new(alloc, 2, 2, rows).expect(rt, "a machine")
 }
 
 /// The machine whose every third a is answered 1.
-fn counter(alloc: Global) -> Result<Mealy, Fail> {
-    of_one_letter(alloc, &[(1, 0), (2, 0), (0, 1)])
+fn counter(rt: &impl Abort, alloc: Global) -> Mealy {
+    of_one_letter(rt, alloc, &[(1, 0), (2, 0), (0, 1)])
 }
 
 /// The machine whose letter b does nothing, and whose every second a is answered 1.
-fn toggle(alloc: Global) -> Result<Mealy, Fail> {
-    of_two_letters(alloc, &[[(1, 0), (0, 0)], [(0, 1), (1, 0)]])
+fn toggle(rt: &impl Abort, alloc: Global) -> Mealy {
+    of_two_letters(rt, alloc, &[[(1, 0), (0, 0)], [(0, 1), (1, 0)]])
 }
 
 /// The machine that answers 1 to the last letter of a b a b, each time from its start.
-fn lock(alloc: Global) -> Result<Mealy, Fail> {
+fn lock(rt: &impl Abort, alloc: Global) -> Mealy {
     let rows = [
         [(1, 0), (4, 0)],
         [(4, 0), (2, 0)],
@@ -86,15 +86,13 @@ fn lock(alloc: Global) -> Result<Mealy, Fail> {
         [(4, 0), (0, 1)],
         [(4, 0), (4, 0)],
     ];
-    of_two_letters(alloc, &rows)
+    of_two_letters(rt, alloc, &rows)
 }
 
 /// The machine that stays where the first letter leads, and answers that letter by 1 from then on.
-fn switch(alloc: Global) -> Result<Mealy, Fail> {
-    of_two_letters(
-        alloc,
-        &[[(1, 0), (2, 0)], [(1, 1), (1, 0)], [(2, 0), (2, 1)]],
-    )
+fn switch(rt: &impl Abort, alloc: Global) -> Mealy {
+    let rows = [[(1, 0), (2, 0)], [(1, 1), (1, 0)], [(2, 0), (2, 1)]];
+    of_two_letters(rt, alloc, &rows)
 }
 
 /// Which machine is asked.
@@ -106,12 +104,12 @@ enum Asked {
     Switch,
 }
 
-fn machine(alloc: Global, asked: Asked) -> Result<Mealy, Fail> {
+fn machine(rt: &impl Abort, alloc: Global, asked: Asked) -> Mealy {
     match asked {
-        Asked::Counter => counter(alloc),
-        Asked::Toggle => toggle(alloc),
-        Asked::Lock => lock(alloc),
-        Asked::Switch => switch(alloc),
+        Asked::Counter => counter(rt, alloc),
+        Asked::Toggle => toggle(rt, alloc),
+        Asked::Lock => lock(rt, alloc),
+        Asked::Switch => switch(rt, alloc),
     }
 }
 
@@ -181,10 +179,10 @@ struct Case {
 }
 
 /// Whether a case goes so.
-fn goes(alloc: Global, case: &Case) -> Result<bool, Fail> {
-    let trial = closed(alloc, machine(alloc, case.asked)?, case.most)?;
-    let model = trial.table.machine()?;
-    Ok(is_left(&trial, &case.left) && has_rows(&model, case.rows))
+fn goes(rt: &impl Abort, alloc: Global, case: &Case) -> bool {
+    let trial = closed(rt, alloc, machine(rt, alloc, case.asked), case.most);
+    let model = trial.table.machine().expect(rt, "memory");
+    is_left(&trial, &case.left) && has_rows(&model, case.rows)
 }
 
 static COUNTER: Case = Case {
@@ -203,9 +201,8 @@ static COUNTER: Case = Case {
 };
 
 #[test]
-fn a_counter_has_one_row_at_first(rt: HostRuntime) -> Result<(), Fail> {
-    assert!(rt; goes(rt.alloc(), &COUNTER)?);
-    Ok(())
+fn a_counter_has_one_row_at_first(rt: HostRuntime) {
+    assert!(rt; goes(&rt, rt.alloc(), &COUNTER));
 }
 
 static TOGGLE: Case = Case {
@@ -230,25 +227,23 @@ static TOGGLE: Case = Case {
 };
 
 #[test]
-fn an_extension_becomes_an_access_word(rt: HostRuntime) -> Result<(), Fail> {
-    assert!(rt; goes(rt.alloc(), &TOGGLE)?);
-    Ok(())
+fn an_extension_becomes_an_access_word(rt: HostRuntime) {
+    assert!(rt; goes(&rt, rt.alloc(), &TOGGLE));
 }
 
 /// Whether no table of a toggle has one state: these are the words of the crowd.
-fn is_crowd(alloc: Global, expected: &[&[u16]]) -> Result<bool, Fail> {
-    match closed_over(alloc, toggle(alloc)?, 1)? {
-        Err(GrowStop::Crowd(words)) => Ok(are(&words, expected)),
-        _ => Ok(false),
+fn is_crowd(rt: &impl Abort, alloc: Global, expected: &[&[u16]]) -> bool {
+    match closed_over(rt, alloc, toggle(rt, alloc), 1) {
+        Err(GrowStop::Crowd(words)) => are(&words, expected),
+        _ => false,
     }
 }
 
 static TWO_ROWS: [&[u16]; 2] = [&[], &[A]];
 
 #[test]
-fn one_access_word_too_many(rt: HostRuntime) -> Result<(), Fail> {
-    assert!(rt; is_crowd(rt.alloc(), &TWO_ROWS)?);
-    Ok(())
+fn one_access_word_too_many(rt: HostRuntime) {
+    assert!(rt; is_crowd(&rt, rt.alloc(), &TWO_ROWS));
 }
 
 static LOCK: Case = Case {
@@ -264,9 +259,8 @@ static LOCK: Case = Case {
 };
 
 #[test]
-fn a_lock_shows_nothing_at_first(rt: HostRuntime) -> Result<(), Fail> {
-    assert!(rt; goes(rt.alloc(), &LOCK)?);
-    Ok(())
+fn a_lock_shows_nothing_at_first(rt: HostRuntime) {
+    assert!(rt; goes(&rt, rt.alloc(), &LOCK));
 }
 
 /// Two rows are open at once: that of a becomes an access word's first, its extensions are asked, and then that of b.
@@ -292,25 +286,26 @@ static SWITCH: Case = Case {
 };
 
 #[test]
-fn the_first_open_row_comes_first(rt: HostRuntime) -> Result<(), Fail> {
-    assert!(rt; goes(rt.alloc(), &SWITCH)?);
-    Ok(())
+fn the_first_open_row_comes_first(rt: HostRuntime) {
+    assert!(rt; goes(&rt, rt.alloc(), &SWITCH));
 }
 
 /// A table whose first closing is refused at its second batch, and that is closed again.
 #[tactic(auto, using(lw_table::proofs::NewLemmas::new_is_read))]
-fn closed_again(alloc: Global, mealy: Mealy) -> Result<Trial, Fail> {
+fn closed_again(rt: &impl Abort, alloc: Global, mealy: Mealy) -> Trial {
     let inputs = mealy.inputs();
     let outputs = mealy.outputs();
     let mut oracle = Recording::refusing(alloc, mealy, 1);
-    let mut table = ObservationTable::new(alloc, inputs, outputs, 2)?;
+    let Ok(mut table) = ObservationTable::new(alloc, inputs, outputs, 2) else {
+        rt.panic("no memory");
+    };
     let Err(GrowStop::Ask(AskStop::NoMemory)) = table.close(&mut oracle) else {
-        return Err(Fail::from("no batch was refused"));
+        rt.panic("no batch was refused");
     };
     let Ok(()) = table.close(&mut oracle) else {
-        return Err(Fail::from("the table isn't closed"));
+        rt.panic("the table isn't closed");
     };
-    Ok(Trial { oracle, table })
+    Trial { oracle, table }
 }
 
 static REFUSED: Left = Left {
@@ -330,8 +325,7 @@ static REFUSED: Left = Left {
 };
 
 #[test]
-fn a_closing_goes_on_after_a_refusal(rt: HostRuntime) -> Result<(), Fail> {
-    let trial = closed_again(rt.alloc(), toggle(rt.alloc())?)?;
+fn a_closing_goes_on_after_a_refusal(rt: HostRuntime) {
+    let trial = closed_again(&rt, rt.alloc(), toggle(&rt, rt.alloc()));
     assert!(rt; is_left(&trial, &REFUSED));
-    Ok(())
 }

@@ -2,7 +2,7 @@
 use crate::tests::cases::{Case, PLAIN, check, texts};
 use lw_top::{ArgumentStop, ask_arguments, compare_arguments};
 use std::alloc::Global;
-use std::test::Fail;
+use std::process::Abort;
 
 const COUNTER: &str =
     "{\"inputs\":[\"t\"],\"outputs\":[\"0\",\"1\"],\"states\":[[[1,\"0\"]],[[2,\"0\"]],[[0,\"1\"]]]}\n";
@@ -58,22 +58,21 @@ static CASES: [Case; 7] = [
 ];
 
 #[test]
-fn commands_that_ask_and_compare(rt: HostRuntime) -> Result<(), Fail> {
+fn commands_that_ask_and_compare(rt: HostRuntime) {
     for case in &CASES {
-        check(rt, rt.alloc(), case)?;
+        check(&rt, rt.alloc(), case);
     }
-    Ok(())
 }
 
 /// Whether the command of these arguments takes them.
-fn is_taken(alloc: Global, arguments: &[&str]) -> Result<bool, Fail> {
-    let arguments = texts(alloc, arguments)?;
+fn is_taken(rt: &impl Abort, alloc: Global, arguments: &[&str]) -> bool {
+    let arguments = texts(rt, alloc, arguments);
     let ask = !matches!(ask_arguments(alloc, &arguments), Err(ArgumentStop::Usage));
     let compare = !matches!(
         compare_arguments(alloc, &arguments),
         Err(ArgumentStop::Usage)
     );
-    Ok(ask || compare)
+    ask || compare
 }
 
 static TAKEN: [&[&str]; 5] = [
@@ -96,12 +95,11 @@ static REFUSED: [&[&str]; 8] = [
 ];
 
 #[test]
-fn arguments_of_ask_and_compare(rt: HostRuntime) -> Result<(), Fail> {
+fn arguments_of_ask_and_compare(rt: HostRuntime) {
     for arguments in &TAKEN {
-        assert!(rt; is_taken(rt.alloc(), arguments)?);
+        assert!(rt; is_taken(&rt, rt.alloc(), arguments));
     }
     for arguments in &REFUSED {
-        assert!(rt; !is_taken(rt.alloc(), arguments)?);
+        assert!(rt; !is_taken(&rt, rt.alloc(), arguments));
     }
-    Ok(())
 }

@@ -5,11 +5,9 @@ use lw_log::{Log, MemoryLog};
 use lw_outside::{MemoryFiles, MemorySink, MemorySource, MemorySpawner};
 use lw_report::End;
 use lw_top::run;
-use lw_words::NoMemory;
 use std::alloc::Global;
 use std::process::Abort;
 use std::sync::Wait;
-use std::test::Fail;
 use std::thread::Threads;
 
 pub const ONE: &str = "{\"inputs\":[\"t\"],\"outputs\":[\"0\"],\"states\":[[[0,\"0\"]]]}\n";
@@ -46,115 +44,167 @@ pub const PLAIN: Case = Case {
     err: "learned: states 1, refinements 0, extra 1, answers 1\n",
 };
 
-pub fn texts(alloc: Global, words: &[&str]) -> Result<Vec<String>, Fail> {
+pub fn texts(rt: &impl Abort, alloc: Global, words: &[&str]) -> Vec<String> {
     let mut all = Vec::new(alloc);
     for word in words {
-        all.push(String::from_str(alloc, word)?)?;
+        let text = String::from_str(alloc, word).expect(rt, "memory");
+        all.push(text).expect(rt, "memory");
     }
-    Ok(all)
+    all
+}
+
+/// The file `m` of these bytes.
+pub fn file_of(rt: &impl Abort, alloc: Global, bytes: Vec<u8>, plan: &[u64]) -> MemoryFiles {
+    let name = String::from_str(alloc, "m").expect(rt, "memory");
+    let mut files = Vec::new(alloc);
+    files.push((name, bytes)).expect(rt, "memory");
+    let plan = Vec::from_slice(alloc, plan).expect(rt, "memory");
+    MemoryFiles::new(alloc, files, plan).expect(rt, "memory")
 }
 
 /// The file `m` of this text.
-pub fn files_of(alloc: Global, text: &str, plan: &[u64]) -> Result<MemoryFiles, Fail> {
-    let mut files = Vec::new(alloc);
-    files.push((
-        String::from_str(alloc, "m")?,
-        Vec::from_slice(alloc, text.as_bytes())?,
-    ))?;
-    Ok(MemoryFiles::new(alloc, files, Vec::from_slice(alloc, plan)?)?)
+pub fn files_of(rt: &impl Abort, alloc: Global, text: &str, plan: &[u64]) -> MemoryFiles {
+    let bytes = Vec::from_slice(alloc, text.as_bytes()).expect(rt, "memory");
+    file_of(rt, alloc, bytes, plan)
+}
+
+/// Whether the text stands under the name.
+pub fn stands(files: &MemoryFiles, name: &str, text: &str) -> bool {
+    match files.bytes(name) {
+        Some(bytes) => bytes.as_slice() == text.as_bytes(),
+        None => false,
+    }
 }
 
 /// A stream that takes so many bytes at once.
-pub fn sink(alloc: Global, piece: usize, plan: &[u64]) -> Result<MemorySink, Fail>
+pub fn sink(rt: &impl Abort, alloc: Global, piece: usize, plan: &[u64]) -> MemorySink
     requires { 0 < piece }
 {
-    let calls = Vec::from_slice(alloc, plan)?;
-    Ok(MemorySink::new(alloc, 4096, piece, calls)?)
+    let calls = Vec::from_slice(alloc, plan).expect(rt, "memory");
+    MemorySink::new(alloc, 4096, piece, calls).expect(rt, "memory")
 }
 
 /// An input of this text.
-pub fn source(alloc: Global, text: &str, plan: &[u64]) -> Result<MemorySource, Fail> {
-    let bytes = Vec::from_slice(alloc, text.as_bytes())?;
-    Ok(MemorySource::new(bytes, 6, Vec::from_slice(alloc, plan)?)?)
+pub fn source(rt: &impl Abort, alloc: Global, text: &str, plan: &[u64]) -> MemorySource {
+    let bytes = Vec::from_slice(alloc, text.as_bytes()).expect(rt, "memory");
+    let calls = Vec::from_slice(alloc, plan).expect(rt, "memory");
+    MemorySource::new(bytes, 6, calls).expect(rt, "memory")
 }
 
 /// A spawner that starts no child.
-pub fn no_children(alloc: Global) -> Result<MemorySpawner, NoMemory> {
-    MemorySpawner::scripted(alloc, Vec::new(alloc), 0, Vec::new(alloc), Vec::new(alloc))
+fn no_children(rt: &impl Abort, alloc: Global) -> MemorySpawner {
+    let (scripts, links) = (Vec::new(alloc), Vec::new(alloc));
+    MemorySpawner::scripted(alloc, scripts, 0, Vec::new(alloc), links).expect(rt, "memory")
 }
 
-/// The top call over forms in memory. What its contract says ends here: a test looks at what came.
-pub fn call<R: Threads + Wait + Sync + Drop>(
-    rt: R,
+/// What a call is over: its arguments, the files, the children and the streams, all in memory.
+#[derive(Drop)]
+pub struct World {
+    pub arguments: Vec<String>,
+    pub files: MemoryFiles,
+    pub children: MemorySpawner,
+    pub input: MemorySource,
+    pub out: MemorySink,
+    pub err: MemorySink,
+}
+
+impl World {
+    /// These arguments and files, with no child, an empty input, and streams that don't fail.
+    pub fn new(rt: &impl Abort, alloc: Global, arguments: &[&str], files: MemoryFiles) -> World {
+        World {
+            arguments: texts(rt, alloc, arguments),
+            files,
+            children: no_children(rt, alloc),
+            input: source(rt, alloc, "", &[]),
+            out: sink(rt, alloc, 4096, &[]),
+            err: sink(rt, alloc, 4096, &[]),
+        }
+    }
+
+    /// Puts the arguments and the streams of a case in place of its own.
+    fn renew(&mut self, rt: &impl Abort, alloc: Global, case: &Case) {
+        assert!(rt; case.piece > 0);
+        self.arguments = texts(rt, alloc, case.arguments);
+        self.input = source(rt, alloc, case.input, case.input_plan);
+        self.out = sink(rt, alloc, case.piece, case.out_plan);
+        self.err = sink(rt, alloc, case.piece, case.err_plan);
+    }
+
+    /// Checks what the streams took.
+    pub fn check_streams(&self, rt: &impl Abort, out: &str, err: &str) {
+        assert_eq!(rt; self.out.taken(), out.as_bytes());
+        assert_eq!(rt; self.err.taken(), err.as_bytes());
+    }
+}
+
+/// The top call over a world. What its contract says ends here: a test looks at what came.
+pub fn call<R: Threads + Wait + Sync + Copy + Drop>(
+    rt: &R,
     alloc: Global,
-    arguments: &[String],
-    files: &mut MemoryFiles,
-    children: &mut MemorySpawner,
-    input: &mut MemorySource,
-    out: &mut MemorySink,
-    err: &mut MemorySink,
+    world: &mut World,
 ) -> End {
     let mut log = Log::new(alloc, MemoryLog::new(alloc));
     run(
-        rt, alloc, arguments, files, children, input, out, err, &mut log,
+        *rt,
+        alloc,
+        &world.arguments,
+        &mut world.files,
+        &mut world.children,
+        &mut world.input,
+        &mut world.out,
+        &mut world.err,
+        &mut log,
     )
 }
 
-/// Plays a case over these files.
-fn play<R: Abort + Threads + Wait + Sync + Copy + Drop>(
-    rt: R,
+/// The end of a call, which has this status and puts these texts to its streams.
+pub fn play<R: Abort + Threads + Wait + Sync + Copy + Drop>(
+    rt: &R,
+    alloc: Global,
+    world: &mut World,
+    status: u8,
+    out: &str,
+    err: &str,
+) -> End {
+    let end = call(rt, alloc, world);
+    assert_eq!(rt; end.status, status);
+    world.check_streams(rt, out, err);
+    end
+}
+
+/// The end of a case over the files of this world.
+fn end_over<R: Abort + Threads + Wait + Sync + Copy + Drop>(
+    rt: &R,
     alloc: Global,
     case: &Case,
-    files: &mut MemoryFiles,
-) -> Result<End, Fail> {
-    assert!(rt; case.piece > 0);
-    let mut input = source(alloc, case.input, case.input_plan)?;
-    let mut out = sink(alloc, case.piece, case.out_plan)?;
-    let mut err = sink(alloc, case.piece, case.err_plan)?;
-    let arguments = texts(alloc, case.arguments)?;
-    let end = call(
-        rt,
-        alloc,
-        &arguments,
-        files,
-        &mut no_children(alloc)?,
-        &mut input,
-        &mut out,
-        &mut err,
-    );
-    assert_eq!(rt; end.status, case.status);
-    assert_eq!(rt; out.taken(), case.out.as_bytes());
-    assert_eq!(rt; err.taken(), case.err.as_bytes());
-    Ok(end)
+    world: &mut World,
+) -> End {
+    world.renew(rt, alloc, case);
+    play(rt, alloc, world, case.status, case.out, case.err)
 }
 
 /// The end of a case over its own file.
 pub fn end_of<R: Abort + Threads + Wait + Sync + Copy + Drop>(
-    rt: R,
+    rt: &R,
     alloc: Global,
     case: &Case,
-) -> Result<End, Fail> {
-    let mut files = files_of(alloc, case.file, case.file_plan)?;
-    play(rt, alloc, case, &mut files)
+) -> End {
+    let files = files_of(rt, alloc, case.file, case.file_plan);
+    let mut world = World::new(rt, alloc, case.arguments, files);
+    end_over(rt, alloc, case, &mut world)
 }
 
-/// Checks a case over these files.
+/// Checks a case over the files of this world.
 pub fn check_over<R: Abort + Threads + Wait + Sync + Copy + Drop>(
-    rt: R,
+    rt: &R,
     alloc: Global,
     case: &Case,
-    files: &mut MemoryFiles,
-) -> Result<(), Fail> {
-    let _end = play(rt, alloc, case, files)?;
-    Ok(())
+    world: &mut World,
+) {
+    let _end = end_over(rt, alloc, case, world);
 }
 
 /// Checks a case over its own file.
-pub fn check<R: Abort + Threads + Wait + Sync + Copy + Drop>(
-    rt: R,
-    alloc: Global,
-    case: &Case,
-) -> Result<(), Fail> {
-    let _end = end_of(rt, alloc, case)?;
-    Ok(())
+pub fn check<R: Abort + Threads + Wait + Sync + Copy + Drop>(rt: &R, alloc: Global, case: &Case) {
+    let _end = end_of(rt, alloc, case);
 }

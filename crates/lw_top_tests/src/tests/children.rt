@@ -1,14 +1,13 @@
 //! Children in memory that are learned, worked by hand: what they say, and faults at each call.
 ghost use Rattle.std.specs.Prelude.{◌<◌};
 
-use crate::tests::cases::{call, files_of, sink, source, texts};
+use crate::tests::cases::{World, call, files_of, play, sink, source, texts};
 use lw_json::read_machine;
-use lw_outside::{MemoryFiles, MemorySink, MemorySpawner};
+use lw_outside::{MemoryFiles, MemorySpawner};
 use lw_report::End;
 use std::alloc::Global;
 use std::process::Abort;
 use std::sync::Wait;
-use std::test::Fail;
 use std::thread::Threads;
 
 /// A child with one letter and two outputs.
@@ -103,23 +102,43 @@ const SAID: Row = Row {
     ..PLAYED
 };
 
-fn spawner(alloc: Global, row: &Row) -> Result<MemorySpawner, Fail> {
-    let starts = Vec::from_slice(alloc, row.starts)?;
+/// The script of one child, which says these bytes.
+fn script_of(rt: &impl Abort, alloc: Global, text: &[u8]) -> Vec<Vec<u8>> {
+    let mut scripts = Vec::new(alloc);
+    let bytes = Vec::from_slice(alloc, text).expect(rt, "memory");
+    scripts.push(bytes).expect(rt, "memory");
+    scripts
+}
+
+/// Children whose starts and whose first link's calls fail by these plans.
+fn spawner(rt: &impl Abort, alloc: Global, row: &Row) -> MemorySpawner {
+    let starts = Vec::from_slice(alloc, row.starts).expect(rt, "memory");
+    let calls = Vec::from_slice(alloc, row.calls).expect(rt, "memory");
     let mut links = Vec::new(alloc);
-    links.push(Vec::from_slice(alloc, row.calls)?)?;
-    match row.children {
+    links.push(calls).expect(rt, "memory");
+    let children = match row.children {
         Children::Play(text) => {
-            let machine = match read_machine(alloc, text.as_bytes()) {
-                Ok(machine) => machine,
-                Err(_) => return Err(Fail::from("the text is no machine")),
-            };
-            Ok(MemorySpawner::serving(alloc, machine, 10_000, starts, links)?)
+            let machine = read_machine(alloc, text.as_bytes()).expect(rt, "a machine");
+            MemorySpawner::serving(alloc, machine, 10_000, starts, links)
         }
         Children::Say(text) => {
-            let mut scripts = Vec::new(alloc);
-            scripts.push(Vec::from_slice(alloc, text.as_bytes())?)?;
-            Ok(MemorySpawner::scripted(alloc, scripts, 10_000, starts, links)?)
+            let scripts = script_of(rt, alloc, text.as_bytes());
+            MemorySpawner::scripted(alloc, scripts, 10_000, starts, links)
         }
+    };
+    children.expect(rt, "memory")
+}
+
+/// The world of a row.
+fn world_of(rt: &impl Abort, alloc: Global, row: &Row) -> World {
+    assert!(rt; row.piece > 0);
+    World {
+        arguments: texts(rt, alloc, row.arguments),
+        files: files_of(rt, alloc, row.setup, row.file_plan),
+        children: spawner(rt, alloc, row),
+        input: source(rt, alloc, "", &[]),
+        out: sink(rt, alloc, row.piece, row.out_plan),
+        err: sink(rt, alloc, row.piece, row.err_plan),
     }
 }
 
@@ -131,35 +150,17 @@ fn has_model(files: &MemoryFiles, text: &str) -> bool {
     }
 }
 
+/// Whether a call left the model file and the retired links of its row.
+fn is_left(world: &World, row: &Row) -> bool {
+    has_model(&world.files, row.model) && world.children.retired().len() == row.retired
+}
+
 /// Checks a call, and gives its end.
-fn check<R: Abort + Threads + Wait + Sync + Copy + Drop>(
-    rt: R,
-    alloc: Global,
-    row: &Row,
-) -> Result<End, Fail> {
-    assert!(rt; row.piece > 0);
-    let mut files = files_of(alloc, row.setup, row.file_plan)?;
-    let mut children = spawner(alloc, row)?;
-    let mut input = source(alloc, "", &[])?;
-    let mut out = sink(alloc, row.piece, row.out_plan)?;
-    let mut err = sink(alloc, row.piece, row.err_plan)?;
-    let arguments = texts(alloc, row.arguments)?;
-    let end = call(
-        rt,
-        alloc,
-        &arguments,
-        &mut files,
-        &mut children,
-        &mut input,
-        &mut out,
-        &mut err,
-    );
-    assert_eq!(rt; end.status, row.status);
-    assert_eq!(rt; out.taken(), row.out.as_bytes());
-    assert_eq!(rt; err.taken(), row.err.as_bytes());
-    assert_eq!(rt; children.retired().len(), row.retired);
-    assert!(rt; has_model(&files, row.model));
-    Ok(end)
+fn check<R: Abort + Threads + Wait + Sync + Copy + Drop>(rt: &R, alloc: Global, row: &Row) -> End {
+    let mut world = world_of(rt, alloc, row);
+    let end = play(rt, alloc, &mut world, row.status, row.out, row.err);
+    assert!(rt; is_left(&world, row), "{}", row.err);
+    end
 }
 
 /// A file, a start, a call of the link or a stream fails.
@@ -254,17 +255,17 @@ const BROKEN: Row = Row {
     ..PLAYED
 };
 
+/// Whether there is a model where the child was learned, and answers are kept where there is a model.
+fn is_whole(end: &End, row: &Row) -> bool {
+    let learned = row.status == 8 && row.retired == 1 || row.status == 0;
+    end.model.is_some() == learned && (end.kept.len() == 0) == end.model.is_none()
+}
+
 #[test]
-fn faults_at_each_place(rt: HostRuntime) -> Result<(), Fail> {
+fn faults_at_each_place(rt: HostRuntime) {
     for row in &FAULTS {
-        let end = check(rt, rt.alloc(), row)?;
-        assert_eq!(rt;
-            end.model.is_some(),
-            row.status == 8 && row.retired == 1 || row.status == 0
-        );
-        assert_eq!(rt; end.kept.len() == 0, end.model.is_none());
+        assert!(rt; is_whole(&check(&rt, rt.alloc(), row), row), "{}", row.err);
     }
-    Ok(())
 }
 
 /// What a child says, and what that comes to.
@@ -359,71 +360,61 @@ const PLAYED_TO_OUT: Row = Row {
     ..SAID
 };
 
+/// Whether there is a model where the call succeeds, and answers are kept but where a system failed.
+fn keeps(end: &End, row: &Row) -> bool {
+    end.model.is_some() == (row.status == 0) && (end.kept.len() == 0) == (row.status == 6)
+}
+
 #[test]
-fn what_children_say(rt: HostRuntime) -> Result<(), Fail> {
+fn what_children_say(rt: HostRuntime) {
     for row in &SAYINGS {
-        let end = check(rt, rt.alloc(), row)?;
-        assert_eq!(rt; end.model.is_some(), row.status == 0);
-        assert_eq!(rt; end.kept.len() == 0, row.status == 6);
+        assert!(rt; keeps(&check(&rt, rt.alloc(), row), row), "{}", row.err);
     }
-    Ok(())
 }
 
 /// So many bytes.
-fn flood(alloc: Global, byte: u8, bytes: usize) -> Result<Vec<u8>, Fail> {
+fn flood(rt: &impl Abort, alloc: Global, byte: u8, bytes: usize) -> Vec<u8> {
     let mut text = Vec::new(alloc);
-    text.resize(bytes, byte)?;
-    Ok(text)
+    text.resize(bytes, byte).expect(rt, "memory");
+    text
 }
 
-/// What `err` takes of a child that sends bytes without an end, or a line of so many.
-fn said_of<R: Threads + Wait + Sync + Drop>(
-    rt: R,
+/// A child that sends these bytes.
+fn flooding(rt: &impl Abort, alloc: Global, script: &[u8]) -> MemorySpawner {
+    let (none, links) = (Vec::new(alloc), Vec::new(alloc));
+    let scripts = script_of(rt, alloc, script);
+    MemorySpawner::scripted(alloc, scripts, 10_000, none, links).expect(rt, "memory")
+}
+
+/// Whether `err` takes this of a child that sends bytes without an end, or a line of so many.
+fn says<R: Abort + Threads + Wait + Sync + Copy + Drop>(
+    rt: &R,
     alloc: Global,
-    script: Vec<u8>,
-) -> Result<(u8, MemorySink), Fail> {
-    let mut scripts = Vec::new(alloc);
-    scripts.push(script)?;
-    let none = Vec::new(alloc);
-    let mut children = MemorySpawner::scripted(alloc, scripts, 10_000, none, Vec::new(alloc))?;
-    let mut files = files_of(alloc, KID, &[])?;
-    let mut input = source(alloc, "", &[])?;
-    let mut out = sink(alloc, 4096, &[])?;
-    let mut err = sink(alloc, 4096, &[])?;
-    let arguments = texts(alloc, &LEARN)?;
-    let end = call(
-        rt,
-        alloc,
-        &arguments,
-        &mut files,
-        &mut children,
-        &mut input,
-        &mut out,
-        &mut err,
-    );
-    Ok((end.status, err))
+    script: &[u8],
+    said: &[u8],
+) -> bool {
+    let mut world = World::new(rt, alloc, &LEARN, files_of(rt, alloc, KID, &[]));
+    world.children = flooding(rt, alloc, script);
+    let end = call(rt, alloc, &mut world);
+    end.status == 6 && world.err.taken() == said
 }
 
 /// The text about a bad line of so many times `x`.
-fn floods(alloc: Global, times: usize) -> Result<Vec<u8>, Fail> {
-    let mut text = Vec::from_slice(alloc, BAD.as_bytes())?;
+fn floods(rt: &impl Abort, alloc: Global, times: usize) -> Vec<u8> {
+    let mut text = Vec::from_slice(alloc, BAD.as_bytes()).expect(rt, "memory");
     for _ in 0..times {
-        text.extend_from_slice("78".as_bytes())?;
+        text.extend_from_slice("78".as_bytes()).expect(rt, "memory");
     }
-    text.push(b'\n')?;
-    Ok(text)
+    text.push(b'\n').expect(rt, "memory");
+    text
 }
 
 #[test]
-fn a_child_that_floods(rt: HostRuntime) -> Result<(), Fail> {
+fn a_child_that_floods(rt: HostRuntime) {
     let alloc = rt.alloc();
-    let (status, err) = said_of(rt, alloc, flood(alloc, b'x', 300)?)?;
-    assert_eq!(rt; status, 6);
-    assert_eq!(rt; err.taken(), floods(alloc, 256)?.as_slice());
-    let mut line = flood(alloc, b'x', 255)?;
-    line.push(b'\n')?;
-    let (status, err) = said_of(rt, alloc, line)?;
-    assert_eq!(rt; status, 6);
-    assert_eq!(rt; err.taken(), floods(alloc, 255)?.as_slice());
-    Ok(())
+    let mut bytes = flood(&rt, alloc, b'x', 300);
+    assert!(rt; says(&rt, alloc, &bytes, &floods(&rt, alloc, 256)));
+    bytes.truncate(255);
+    bytes.push(b'\n').expect(&rt, "memory");
+    assert!(rt; says(&rt, alloc, &bytes, &floods(&rt, alloc, 255)));
 }

@@ -1,9 +1,9 @@
 //! Learnings behind earlier answers, worked by hand.
-use crate::tests::cases::{call, no_children, sink, source, texts};
-use lw_outside::{Files, MemoryFiles, MemorySink};
+use crate::tests::cases::{World, call, play, stands};
+use lw_outside::MemoryFiles;
 use std::alloc::Global;
+use std::process::Abort;
 use std::sync::Wait;
-use std::test::Fail;
 use std::thread::Threads;
 
 const COUNTER: &str =
@@ -90,71 +90,54 @@ static ROWS: [Row; 7] = [
     },
 ];
 
+/// A learning of the counter behind earlier answers.
+const LEARN: [&str; 7] = ["learn", "--table", "m", "--extra", "0", "--prior", "p"];
+
+/// The same, where the answers are written.
+const WRITE: [&str; 9] = [
+    "learn",
+    "--table",
+    "m",
+    "--extra",
+    "0",
+    "--prior",
+    "p",
+    "--answers",
+    "k",
+];
+
 /// The files `m`, the counter, and `p`, the earlier answers.
-fn files(alloc: Global, prior: &str) -> Result<MemoryFiles, Fail> {
+fn files(rt: &impl Abort, alloc: Global, prior: &str) -> MemoryFiles {
     let mut files = Vec::new(alloc);
     for (name, text) in [("m", COUNTER), ("p", prior)] {
-        files.push((
-            String::from_str(alloc, name)?,
-            Vec::from_slice(alloc, text.as_bytes())?,
-        ))?;
+        let name = String::from_str(alloc, name).expect(rt, "memory");
+        let bytes = Vec::from_slice(alloc, text.as_bytes()).expect(rt, "memory");
+        files.push((name, bytes)).expect(rt, "memory");
     }
-    Ok(MemoryFiles::new(alloc, files, Vec::new(alloc))?)
+    MemoryFiles::new(alloc, files, Vec::new(alloc)).expect(rt, "memory")
 }
 
-/// The status of a learning behind earlier answers, and what the streams took.
-fn learned<R: Threads + Wait + Sync + Drop>(
-    rt: R,
-    alloc: Global,
-    files: &mut MemoryFiles,
-    more: &[&str],
-) -> Result<(u8, MemorySink, MemorySink), Fail> {
-    let mut arguments = texts(
-        alloc,
-        &["learn", "--table", "m", "--extra", "0", "--prior", "p"],
-    )?;
-    for argument in more {
-        arguments.push(String::from_str(alloc, argument)?)?;
-    }
-    let mut children = no_children(alloc)?;
-    let mut input = source(alloc, "", &[])?;
-    let mut out = sink(alloc, 4096, &[])?;
-    let mut err = sink(alloc, 4096, &[])?;
-    let end = call(
-        rt,
-        alloc,
-        &arguments,
-        files,
-        &mut children,
-        &mut input,
-        &mut out,
-        &mut err,
-    );
-    Ok((end.status, out, err))
+/// Checks what comes of earlier answers.
+fn check<R: Abort + Threads + Wait + Sync + Copy + Drop>(rt: &R, alloc: Global, row: &Row) {
+    let mut world = World::new(rt, alloc, &LEARN, files(rt, alloc, row.prior));
+    let _end = play(rt, alloc, &mut world, row.status, row.out, row.err);
 }
 
 #[test]
-fn earlier_answers(rt: HostRuntime) -> Result<(), Fail> {
-    let alloc = rt.alloc();
+fn earlier_answers(rt: HostRuntime) {
     for row in &ROWS {
-        let mut files = files(alloc, row.prior)?;
-        let (status, out, err) = learned(rt, alloc, &mut files, &[])?;
-        assert_eq!(rt; status, row.status);
-        assert_eq!(rt; out.taken(), row.out.as_bytes());
-        assert_eq!(rt; err.taken(), row.err.as_bytes());
+        check(&rt, rt.alloc(), row);
     }
-    Ok(())
+}
+
+/// Whether an earlier answer is written before those of the learning.
+fn is_written_first<R: Abort + Threads + Wait + Sync + Copy + Drop>(rt: &R, alloc: Global) -> bool {
+    let mut world = World::new(rt, alloc, &WRITE, files(rt, alloc, TRUE));
+    let end = call(rt, alloc, &mut world);
+    end.status == 0 && stands(&world.files, "k", KEPT)
 }
 
 #[test]
-fn earlier_answers_are_written_first(rt: HostRuntime) -> Result<(), Fail> {
-    let alloc = rt.alloc();
-    let mut files = files(alloc, TRUE)?;
-    let (status, _, _) = learned(rt, alloc, &mut files, &["--answers", "k"])?;
-    assert_eq!(rt; status, 0);
-    let Ok(kept) = files.read("k") else {
-        return Err(Fail::from("the answers weren't written"));
-    };
-    assert_eq!(rt; kept.as_slice(), KEPT.as_bytes());
-    Ok(())
+fn earlier_answers_are_written_first(rt: HostRuntime) {
+    assert!(rt; is_written_first(&rt, rt.alloc()));
 }

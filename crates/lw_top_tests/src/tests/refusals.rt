@@ -4,7 +4,6 @@ use lw_top::check_arguments;
 use std::alloc::Global;
 use std::process::Abort;
 use std::sync::Wait;
-use std::test::Fail;
 use std::thread::Threads;
 
 pub const USAGE: &str =
@@ -67,10 +66,10 @@ static REFUSED: [&[&str]; 34] = [
 
 /// Checks that these arguments are not taken.
 fn check_usage<R: Abort + Threads + Wait + Sync + Copy + Drop>(
-    rt: R,
+    rt: &R,
     alloc: Global,
     arguments: &'static [&'static str],
-) -> Result<(), Fail> {
+) {
     let case = Case {
         arguments,
         status: 2,
@@ -78,30 +77,28 @@ fn check_usage<R: Abort + Threads + Wait + Sync + Copy + Drop>(
         err: USAGE,
         ..PLAIN
     };
-    check(rt, alloc, &case)
+    check(rt, alloc, &case);
 }
 
 #[test]
-fn arguments_that_are_not_taken(rt: HostRuntime) -> Result<(), Fail> {
+fn arguments_that_are_not_taken(rt: HostRuntime) {
     for arguments in &REFUSED {
-        check_usage(rt, rt.alloc(), arguments)?;
+        check_usage(&rt, rt.alloc(), arguments);
     }
-    Ok(())
 }
 
 /// Whether `check` takes the arguments.
-fn is_check(alloc: Global, arguments: &[&str]) -> Result<bool, Fail> {
-    Ok(check_arguments(alloc, &texts(alloc, arguments)?).is_ok())
+fn is_check(rt: &impl Abort, alloc: Global, arguments: &[&str]) -> bool {
+    check_arguments(alloc, &texts(rt, alloc, arguments)).is_ok()
 }
 
 #[test]
-fn arguments_of_check(rt: HostRuntime) -> Result<(), Fail> {
+fn arguments_of_check(rt: HostRuntime) {
     let alloc = rt.alloc();
-    assert!(rt; is_check(alloc, &["check", "m", "k"])?);
-    assert!(rt; is_check(alloc, &["check", "--extra", "0", "m", "k"])?);
-    assert!(rt; !is_check(alloc, &["check", "m"])?);
-    assert!(rt; !is_check(alloc, &["check", "m", "k", "--extra", "5"])?);
-    Ok(())
+    assert!(rt; is_check(&rt, alloc, &["check", "m", "k"]));
+    assert!(rt; is_check(&rt, alloc, &["check", "--extra", "0", "m", "k"]));
+    assert!(rt; !is_check(&rt, alloc, &["check", "m"]));
+    assert!(rt; !is_check(&rt, alloc, &["check", "m", "k", "--extra", "5"]));
 }
 
 /// Texts that are no machine file, with what is said of each.
@@ -148,11 +145,11 @@ static FAULTS: [(&str, &str); 14] = [
 
 /// Checks what is said of a text that is no machine file.
 fn check_fault<R: Abort + Threads + Wait + Sync + Copy + Drop>(
-    rt: R,
+    rt: &R,
     alloc: Global,
     file: &'static str,
     err: &'static str,
-) -> Result<(), Fail> {
+) {
     let case = Case {
         file,
         status: 3,
@@ -160,13 +157,12 @@ fn check_fault<R: Abort + Threads + Wait + Sync + Copy + Drop>(
         err,
         ..PLAIN
     };
-    check(rt, alloc, &case)
+    check(rt, alloc, &case);
 }
 
 #[test]
-fn each_fault_of_a_table(rt: HostRuntime) -> Result<(), Fail> {
+fn each_fault_of_a_table(rt: HostRuntime) {
     for (file, err) in &FAULTS {
-        check_fault(rt, rt.alloc(), file, err)?;
+        check_fault(&rt, rt.alloc(), file, err);
     }
-    Ok(())
 }

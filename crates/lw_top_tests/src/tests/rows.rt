@@ -1,13 +1,12 @@
 //! Machines that are learned, worked by hand: at one worker, at two and at sixteen.
-use crate::tests::cases::{
-    Case, LEARN, PLAIN, call, check, end_of, files_of, no_children, sink, source, texts,
-};
+use crate::tests::cases::{Case, LEARN, PLAIN, World, call, check, end_of, files_of, play};
 use lw_outside::MemorySink;
+use lw_report::End;
 use lw_rounds::Learner;
 use lw_words::Kept;
 use std::alloc::Global;
+use std::process::Abort;
 use std::sync::Wait;
-use std::test::Fail;
 use std::thread::Threads;
 
 const COUNTER: &str =
@@ -84,11 +83,10 @@ static LEARNED: [Case; 8] = [
 ];
 
 #[test]
-fn models_that_are_learned(rt: HostRuntime) -> Result<(), Fail> {
+fn models_that_are_learned(rt: HostRuntime) {
     for case in &LEARNED {
-        check(rt, rt.alloc(), case)?;
+        check(&rt, rt.alloc(), case);
     }
-    Ok(())
 }
 
 /// Whether the kept answers are to words of these numbers of letters, in this order.
@@ -100,13 +98,16 @@ fn are_long(kept: &Kept, letters: &[usize]) -> bool {
     right
 }
 
+/// Whether one refinement found the counter, by a table that asked words of these numbers of letters.
+fn is_by_table(end: &End, letters: &[usize]) -> bool {
+    let by_table = matches!(end.learner, Some(Learner::Table(_)));
+    by_table && end.refinements == 1 && are_long(&end.kept, letters)
+}
+
 #[test]
-fn the_words_that_find_a_counter(rt: HostRuntime) -> Result<(), Fail> {
-    let end = end_of(rt, rt.alloc(), &LEARNED[3])?;
-    assert!(rt; are_long(&end.kept, &[2, 3, 4, 5, 7]));
-    assert_eq!(rt; end.refinements, 1);
-    assert!(rt; matches!(end.learner, Some(Learner::Table(_))));
-    Ok(())
+fn the_words_that_find_a_counter(rt: HostRuntime) {
+    let end = end_of(&rt, rt.alloc(), &LEARNED[3]);
+    assert!(rt; is_by_table(&end, &[2, 3, 4, 5, 7]));
 }
 
 /// The same call with a tree.
@@ -118,111 +119,99 @@ const COUNTER_BY_TREE: Case = Case {
     ..PLAIN
 };
 
+/// Whether one refinement found the counter, by a tree that asked words of these numbers of letters.
+fn is_by_tree(end: &End, letters: &[usize]) -> bool {
+    let by_tree = matches!(end.learner, Some(Learner::Tree(_)));
+    by_tree && end.refinements == 1 && are_long(&end.kept, letters)
+}
+
 #[test]
-fn the_words_that_find_a_counter_by_a_tree(rt: HostRuntime) -> Result<(), Fail> {
-    let end = end_of(rt, rt.alloc(), &COUNTER_BY_TREE)?;
-    assert!(rt; are_long(&end.kept, &[1, 3, 4, 5, 7]));
-    assert_eq!(rt; end.refinements, 1);
-    assert!(rt; matches!(end.learner, Some(Learner::Tree(_))));
-    Ok(())
+fn the_words_that_find_a_counter_by_a_tree(rt: HostRuntime) {
+    let end = end_of(&rt, rt.alloc(), &COUNTER_BY_TREE);
+    assert!(rt; is_by_tree(&end, &[1, 3, 4, 5, 7]));
 }
 
-/// What a call over the file `m` of this text comes to: its status, what `out` and `err` took, and the refinements.
-#[derive(Drop)]
-struct Played {
-    status: u8,
-    refinements: u32,
-    out: MemorySink,
-    err: MemorySink,
+/// Whether three refinements found the lock.
+fn is_lock(end: &End, out: &MemorySink) -> bool {
+    end.status == 0 && end.refinements == 3 && out.taken() == CODE_MODEL.as_bytes()
 }
 
-fn play<R: Threads + Wait + Sync + Drop>(
-    rt: R,
+/// Whether so many workers find the lock.
+fn find_lock<R: Abort + Threads + Wait + Sync + Copy + Drop>(
+    rt: &R,
     alloc: Global,
-    arguments: &[&str],
-    text: &str,
-) -> Result<Played, Fail> {
-    let mut files = files_of(alloc, text, &[])?;
-    let mut input = source(alloc, "", &[])?;
-    let mut out = sink(alloc, 4096, &[])?;
-    let mut err = sink(alloc, 4096, &[])?;
-    let words = texts(alloc, arguments)?;
-    let end = call(
-        rt,
-        alloc,
-        &words,
-        &mut files,
-        &mut no_children(alloc)?,
-        &mut input,
-        &mut out,
-        &mut err,
-    );
-    Ok(Played {
-        status: end.status,
-        refinements: end.refinements,
-        out,
-        err,
-    })
+    workers: &str,
+) -> bool {
+    let arguments = [
+        "learn",
+        "--table",
+        "m",
+        "--extra",
+        "3",
+        "--workers",
+        workers,
+    ];
+    let mut world = World::new(rt, alloc, &arguments, files_of(rt, alloc, CODE, &[]));
+    let end = call(rt, alloc, &mut world);
+    is_lock(&end, &world.out)
 }
 
 #[test]
-fn kept_answers_refine_a_model(rt: HostRuntime) -> Result<(), Fail> {
+fn kept_answers_refine_a_model(rt: HostRuntime) {
     for workers in ["1", "2"] {
-        let arguments = [
-            "learn",
-            "--table",
-            "m",
-            "--extra",
-            "3",
-            "--workers",
-            workers,
-        ];
-        let played = play(rt, rt.alloc(), &arguments, CODE)?;
-        assert_eq!(rt; played.status, 0);
-        assert_eq!(rt; played.refinements, 3);
-        assert_eq!(rt; played.out.taken(), CODE_MODEL.as_bytes());
+        assert!(rt; find_lock(&rt, rt.alloc(), workers), "{workers} workers");
     }
-    Ok(())
+}
+
+/// Puts the names `i00` to `i63` to a text, with a comma between two.
+fn put_names(rt: &impl Abort, alloc: Global, text: &mut String) {
+    for number in 0u16..64 {
+        let name = format!(in alloc; "\"i{number:02}\",").expect(rt, "memory");
+        text.push_str(name.as_str()).expect(rt, "memory");
+    }
+    let _comma = text.pop();
+}
+
+/// Puts 64 cells to a text, with a comma between two.
+fn put_cells(rt: &impl Abort, text: &mut String) {
+    for _ in 0u16..64 {
+        text.push_str("[0,\"0\"],").expect(rt, "memory");
+    }
+    let _comma = text.pop();
 }
 
 /// The inputs `i00` to `i63`, and a cell of one state for each.
-fn wide(alloc: Global) -> Result<String, Fail> {
-    let mut text = String::from_str(alloc, "{\"inputs\":[")?;
-    for number in 0u16..64 {
-        let name = format!(in alloc; "\"i{number:02}\",")?;
-        text.push_str(name.as_str())?;
-    }
-    let _comma = text.pop();
-    text.push_str("],\"outputs\":[\"0\"],\"states\":[[")?;
-    for _ in 0u16..64 {
-        text.push_str("[0,\"0\"],")?;
-    }
-    let _comma = text.pop();
-    text.push_str("]]}\n")?;
-    Ok(text)
+fn wide(rt: &impl Abort, alloc: Global) -> String {
+    let mut text = String::from_str(alloc, "{\"inputs\":[").expect(rt, "memory");
+    put_names(rt, alloc, &mut text);
+    text.push_str("],\"outputs\":[\"0\"],\"states\":[[")
+        .expect(rt, "memory");
+    put_cells(rt, &mut text);
+    text.push_str("]]}\n").expect(rt, "memory");
+    text
+}
+
+/// Checks a learning of a table at so many more states: its status, and what its streams take.
+fn check_at<R: Abort + Threads + Wait + Sync + Copy + Drop>(
+    rt: &R,
+    alloc: Global,
+    table: &str,
+    extra: &str,
+    status: u8,
+    out: &str,
+    err: &str,
+) {
+    let arguments = ["learn", "--table", "m", "--extra", extra];
+    let mut world = World::new(rt, alloc, &arguments, files_of(rt, alloc, table, &[]));
+    let _end = play(rt, alloc, &mut world, status, out, err);
 }
 
 #[test]
-fn the_limit_of_suites(rt: HostRuntime) -> Result<(), Fail> {
-    let text = wide(rt.alloc())?;
-    let over = play(
-        rt,
-        rt.alloc(),
-        &["learn", "--table", "m", "--extra", "3"],
-        text.as_str(),
-    )?;
-    let line = "suite too large: states 1, extra 3, number 17043521\n";
-    assert_eq!(rt; over.status, 7);
-    assert_eq!(rt; over.err.taken(), line.as_bytes());
-    let below = play(
-        rt,
-        rt.alloc(),
-        &["learn", "--table", "m", "--extra", "2"],
-        text.as_str(),
-    )?;
-    let line = "learned: states 1, refinements 0, extra 2, answers 266240\n";
-    assert_eq!(rt; below.status, 0);
-    assert_eq!(rt; below.err.taken(), line.as_bytes());
-    assert_eq!(rt; below.out.taken(), text.as_str().as_bytes());
-    Ok(())
+fn the_limit_of_suites(rt: HostRuntime) {
+    let text = wide(&rt, rt.alloc());
+    let table = text.as_str();
+    let over = "suite too large: states 1, extra 3, number 17043521\n";
+    check_at(&rt, rt.alloc(), table, "3", 7, "", over);
+    let below = "learned: states 1, refinements 0, extra 2, answers 266240\n";
+    check_at(&rt, rt.alloc(), table, "2", 0, table, below);
 }

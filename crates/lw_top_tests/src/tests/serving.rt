@@ -1,10 +1,10 @@
 //! A counter modulo three that is served, worked by hand, and what is asked of other commands.
-use crate::tests::cases::{Case, PLAIN, call, check, files_of, no_children, sink, source, texts};
-use lw_outside::{MemorySink, MemorySource, Source};
+use crate::tests::cases::{Case, PLAIN, World, call, check, files_of, source, texts};
+use lw_outside::{MemorySource, Source};
 use lw_top::serve_arguments;
 use std::alloc::Global;
+use std::process::Abort;
 use std::sync::Wait;
-use std::test::Fail;
 use std::thread::Threads;
 
 const COUNTER: &str =
@@ -77,68 +77,37 @@ static SERVINGS: [Case; 9] = [
 ];
 
 #[test]
-fn a_counter_that_is_served(rt: HostRuntime) -> Result<(), Fail> {
+fn a_counter_that_is_served(rt: HostRuntime) {
     for case in &SERVINGS {
-        check(rt, rt.alloc(), case)?;
+        check(&rt, rt.alloc(), case);
     }
-    Ok(())
 }
 
 /// The model file that `serve` takes the arguments for, if it takes them.
-fn model(alloc: Global, arguments: &[&str]) -> Result<Option<String>, Fail> {
-    match serve_arguments(alloc, &texts(alloc, arguments)?) {
-        Ok(model) => Ok(Some(model)),
-        Err(_) => Ok(None),
-    }
+fn model(rt: &impl Abort, alloc: Global, arguments: &[&str]) -> Option<String> {
+    serve_arguments(alloc, &texts(rt, alloc, arguments)).ok()
 }
 
 /// Whether `serve` takes the arguments for this model file.
-fn names(alloc: Global, arguments: &[&str], name: &str) -> Result<bool, Fail> {
-    match model(alloc, arguments)? {
-        Some(model) => Ok(model.as_str() == name),
-        None => Ok(false),
+fn names(rt: &impl Abort, alloc: Global, arguments: &[&str], name: &str) -> bool {
+    match model(rt, alloc, arguments) {
+        Some(model) => model.as_str() == name,
+        None => false,
     }
 }
 
 #[test]
-fn arguments_of_serve(rt: HostRuntime) -> Result<(), Fail> {
+fn arguments_of_serve(rt: HostRuntime) {
     let alloc = rt.alloc();
-    assert!(rt; names(alloc, &["serve", "c3"], "c3")?);
-    assert!(rt; names(alloc, &["serve", "--", "--c3"], "--c3")?);
-    assert!(rt; model(alloc, &["serve"])?.is_none());
-    assert!(rt; model(alloc, &["serve", "c3", "c3"])?.is_none());
-    assert!(rt; model(alloc, &["serve", "c3", "--extra", "1"])?.is_none());
-    Ok(())
-}
-
-/// The input that a call over the file `m` leaves.
-fn input_after<R: Threads + Wait + Sync + Drop>(
-    rt: R,
-    alloc: Global,
-    arguments: &[&str],
-) -> Result<MemorySource, Fail> {
-    let words = texts(alloc, arguments)?;
-    let mut files = files_of(alloc, COUNTER, &[])?;
-    let mut input = source(alloc, "reset\n", &[])?;
-    let (mut out, mut err): (MemorySink, MemorySink) = (
-        sink(alloc, 4096, &[])?,
-        sink(alloc, 4096, &[])?,
-    );
-    let _end = call(
-        rt,
-        alloc,
-        &words,
-        &mut files,
-        &mut no_children(alloc)?,
-        &mut input,
-        &mut out,
-        &mut err,
-    );
-    Ok(input)
+    assert!(rt; names(&rt, alloc, &["serve", "c3"], "c3"));
+    assert!(rt; names(&rt, alloc, &["serve", "--", "--c3"], "--c3"));
+    assert!(rt; model(&rt, alloc, &["serve"]).is_none());
+    assert!(rt; model(&rt, alloc, &["serve", "c3", "c3"]).is_none());
+    assert!(rt; model(&rt, alloc, &["serve", "c3", "--extra", "1"]).is_none());
 }
 
 /// Whether the input still gives its line.
-fn is_unread(mut input: MemorySource) -> bool {
+fn is_unread(input: &mut MemorySource) -> bool {
     let mut buffer = [0u8; 6];
     match input.read(&mut buffer) {
         Ok(count) => count == 6 && buffer.as_slice() == "reset\n".as_bytes(),
@@ -146,13 +115,24 @@ fn is_unread(mut input: MemorySource) -> bool {
     }
 }
 
+/// Whether a call over the file `m` leaves its input.
+fn leaves_input<R: Abort + Threads + Wait + Sync + Copy + Drop>(
+    rt: &R,
+    alloc: Global,
+    arguments: &[&str],
+) -> bool {
+    let mut world = World::new(rt, alloc, arguments, files_of(rt, alloc, COUNTER, &[]));
+    world.input = source(rt, alloc, "reset\n", &[]);
+    let _end = call(rt, alloc, &mut world);
+    is_unread(&mut world.input)
+}
+
 #[test]
-fn only_serve_asks_for_input(rt: HostRuntime) -> Result<(), Fail> {
+fn only_serve_asks_for_input(rt: HostRuntime) {
     let alloc = rt.alloc();
-    assert!(rt; is_unread(input_after(rt, alloc, &["learn", "--table", "m"])?));
-    assert!(rt; is_unread(input_after(rt, alloc, &["check", "m", "m"])?));
-    assert!(rt; is_unread(input_after(rt, alloc, &["serve", "other"])?));
-    assert!(rt; is_unread(input_after(rt, alloc, &["serve"])?));
-    assert!(rt; !is_unread(input_after(rt, alloc, &["serve", "m"])?));
-    Ok(())
+    assert!(rt; leaves_input(&rt, alloc, &["learn", "--table", "m"]));
+    assert!(rt; leaves_input(&rt, alloc, &["check", "m", "m"]));
+    assert!(rt; leaves_input(&rt, alloc, &["serve", "other"]));
+    assert!(rt; leaves_input(&rt, alloc, &["serve"]));
+    assert!(rt; !leaves_input(&rt, alloc, &["serve", "m"]));
 }

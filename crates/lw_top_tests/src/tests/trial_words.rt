@@ -4,34 +4,32 @@ use lw_rounds::Kind;
 use lw_top::trial_arguments;
 use lw_trial::TrialArguments;
 use std::alloc::Global;
-use std::test::Fail;
+use std::process::Abort;
 
 /// What `trial` takes the arguments for, if it takes them.
-fn taken(alloc: Global, arguments: &[&str]) -> Result<Option<TrialArguments>, Fail> {
-    match trial_arguments(alloc, &texts(alloc, arguments)?) {
-        Ok(taken) => Ok(Some(taken)),
-        Err(_) => Ok(None),
-    }
+fn taken(rt: &impl Abort, alloc: Global, arguments: &[&str]) -> Option<TrialArguments> {
+    trial_arguments(alloc, &texts(rt, alloc, arguments)).ok()
 }
 
 /// Whether the arguments are taken, as these states, inputs, seed and instances.
 fn is_trial(
+    rt: &impl Abort,
     alloc: Global,
     arguments: &[&str],
     sizes: (u16, u16, u8),
     seed: u64,
-) -> Result<bool, Fail> {
-    match taken(alloc, arguments)? {
-        Some(t) => Ok(seed == t.seed() && sizes == (t.states(), t.inputs(), t.workers())),
-        None => Ok(false),
+) -> bool {
+    match taken(rt, alloc, arguments) {
+        Some(t) => seed == t.seed() && sizes == (t.states(), t.inputs(), t.workers()),
+        None => false,
     }
 }
 
 #[test]
-fn arguments_of_trial(rt: HostRuntime) -> Result<(), Fail> {
+fn arguments_of_trial(rt: HostRuntime) {
     let alloc = rt.alloc();
     let least = ["trial", "--seed", "0", "--inputs", "1", "--states", "1"];
-    assert!(rt; is_trial(alloc, &least, (1, 1, 1), 0)?);
+    assert!(rt; is_trial(&rt, alloc, &least, (1, 1, 1), 0));
     let greatest = [
         "trial",
         "--states=1024",
@@ -39,23 +37,22 @@ fn arguments_of_trial(rt: HostRuntime) -> Result<(), Fail> {
         "--seed=18446744073709551615",
         "--workers=16",
     ];
-    assert!(rt; is_trial(alloc, &greatest, (1024, 64, 16), 18446744073709551615)?);
-    Ok(())
+    assert!(rt; is_trial(&rt, alloc, &greatest, (1024, 64, 16), 18446744073709551615));
 }
 
 /// The kind of learner that the arguments name to `trial`, if it takes them.
-fn learner_of(alloc: Global, arguments: &[&str]) -> Result<Option<Kind>, Fail> {
-    match taken(alloc, arguments)? {
-        Some(t) => Ok(Some(t.learner())),
-        None => Ok(None),
+fn learner_of(rt: &impl Abort, alloc: Global, arguments: &[&str]) -> Option<Kind> {
+    match taken(rt, alloc, arguments) {
+        Some(t) => Some(t.learner()),
+        None => None,
     }
 }
 
 #[test]
-fn learners_of_trial(rt: HostRuntime) -> Result<(), Fail> {
+fn learners_of_trial(rt: HostRuntime) {
     let alloc = rt.alloc();
     let plain = ["trial", "--seed=0", "--inputs=1", "--states=1"];
-    assert!(rt; learner_of(alloc, &plain)? == Some(Kind::Table));
+    assert!(rt; learner_of(&rt, alloc, &plain) == Some(Kind::Table));
     let table = [
         "trial",
         "--learner",
@@ -64,7 +61,7 @@ fn learners_of_trial(rt: HostRuntime) -> Result<(), Fail> {
         "--inputs=1",
         "--states=1",
     ];
-    assert!(rt; learner_of(alloc, &table)? == Some(Kind::Table));
+    assert!(rt; learner_of(&rt, alloc, &table) == Some(Kind::Table));
     let tree = [
         "trial",
         "--seed=0",
@@ -72,8 +69,7 @@ fn learners_of_trial(rt: HostRuntime) -> Result<(), Fail> {
         "--states=1",
         "--learner=ttt",
     ];
-    assert!(rt; learner_of(alloc, &tree)? == Some(Kind::Ttt));
-    Ok(())
+    assert!(rt; learner_of(&rt, alloc, &tree) == Some(Kind::Ttt));
 }
 
 /// The arguments of a trial, of which one is missing, out of its range or there twice.
@@ -126,9 +122,8 @@ static REFUSED: [&[&str]; 15] = [
 ];
 
 #[test]
-fn arguments_that_are_no_trial(rt: HostRuntime) -> Result<(), Fail> {
+fn arguments_that_are_no_trial(rt: HostRuntime) {
     for arguments in &REFUSED {
-        assert!(rt; taken(rt.alloc(), arguments)?.is_none());
+        assert!(rt; taken(&rt, rt.alloc(), arguments).is_none());
     }
-    Ok(())
 }

@@ -1,10 +1,10 @@
 //! Trials: small ones worked by hand, and greater ones that many workers make as one does.
-use crate::tests::cases::{Case, PLAIN, call, check, files_of, no_children, sink, source, texts};
+use crate::tests::cases::{Case, PLAIN, World, call, check, files_of};
 use lw_outside::MemorySink;
 use lw_report::End;
 use std::alloc::Global;
+use std::process::Abort;
 use std::sync::Wait;
-use std::test::Fail;
 use std::thread::Threads;
 
 static SMALL: [Case; 3] = [
@@ -31,43 +31,23 @@ static SMALL: [Case; 3] = [
 ];
 
 #[test]
-fn small_trials(rt: HostRuntime) -> Result<(), Fail> {
+fn small_trials(rt: HostRuntime) {
     for case in &SMALL {
-        check(rt, rt.alloc(), case)?;
+        check(&rt, rt.alloc(), case);
     }
-    Ok(())
 }
 
-/// The end of a trial, and what `out` took.
-fn try_out<R: Threads + Wait + Sync + Drop>(
-    rt: R,
-    alloc: Global,
-    arguments: &[&str],
-) -> Result<(End, MemorySink), Fail> {
-    let mut files = files_of(alloc, "", &[])?;
-    let mut input = source(alloc, "", &[])?;
-    let mut out = sink(alloc, 4096, &[])?;
-    let mut err = sink(alloc, 4096, &[])?;
-    let words = texts(alloc, arguments)?;
-    let end = call(
-        rt,
-        alloc,
-        &words,
-        &mut files,
-        &mut no_children(alloc)?,
-        &mut input,
-        &mut out,
-        &mut err,
-    );
-    Ok((end, out))
+/// The world of a trial, over an empty file.
+fn world_of(rt: &impl Abort, alloc: Global, arguments: &[&str]) -> World {
+    World::new(rt, alloc, arguments, files_of(rt, alloc, "", &[]))
 }
 
-/// A trial of two hundred states with so many workers, and what `out` took.
-fn two_hundred<R: Threads + Wait + Sync + Drop>(
-    rt: R,
+/// What a trial of two hundred states with so many workers, which succeeds, leaves.
+fn two_hundred<R: Abort + Threads + Wait + Sync + Copy + Drop>(
+    rt: &R,
     alloc: Global,
     workers: &str,
-) -> Result<(End, MemorySink), Fail> {
+) -> World {
     let arguments = [
         "trial",
         "--states=200",
@@ -76,26 +56,32 @@ fn two_hundred<R: Threads + Wait + Sync + Drop>(
         "--workers",
         workers,
     ];
-    try_out(rt, alloc, &arguments)
+    let mut world = world_of(rt, alloc, &arguments);
+    assert!(rt; call(rt, alloc, &mut world).status == 0);
+    world
 }
 
 #[test]
-fn two_hundred_states_at_any_number_of_workers(rt: HostRuntime) -> Result<(), Fail> {
-    let (end, one) = two_hundred(rt, rt.alloc(), "1")?;
-    assert_eq!(rt; end.status, 0);
+fn two_hundred_states_at_any_number_of_workers(rt: HostRuntime) {
+    let one = two_hundred(&rt, rt.alloc(), "1");
     for workers in ["2", "8"] {
-        let (_end, other) = two_hundred(rt, rt.alloc(), workers)?;
-        assert!(rt; other.taken() == one.taken(), "{workers} workers");
+        let other = two_hundred(&rt, rt.alloc(), workers);
+        assert!(rt; other.out.taken() == one.out.taken(), "{workers} workers");
     }
-    Ok(())
 }
 
-/// What `out` takes of a trial of twenty states and two inputs by seed 1, with this learner.
-fn twenty<R: Threads + Wait + Sync + Drop>(
-    rt: R,
+/// Whether twenty states were learned, and the machine that was found is the one that was drawn.
+fn is_found(out: &MemorySink) -> bool {
+    let begun = "trial: states 20, inputs 2, seed 1\nlearned: states 20, refinements ".as_bytes();
+    out.taken().starts_with(begun) && out.taken().ends_with("\nequal: yes\n".as_bytes())
+}
+
+/// Whether this learner finds a machine of twenty states and two inputs that is drawn by seed 1.
+fn finds<R: Abort + Threads + Wait + Sync + Copy + Drop>(
+    rt: &R,
     alloc: Global,
     learner: &str,
-) -> Result<MemorySink, Fail> {
+) -> bool {
     let arguments = [
         "trial",
         "--states=20",
@@ -104,22 +90,16 @@ fn twenty<R: Threads + Wait + Sync + Drop>(
         "--learner",
         learner,
     ];
-    let (_end, out) = try_out(rt, alloc, &arguments)?;
-    Ok(out)
+    let mut world = world_of(rt, alloc, &arguments);
+    let _end = call(rt, alloc, &mut world);
+    is_found(&world.out)
 }
 
 #[test]
-fn a_machine_is_found_by_either_learner(rt: HostRuntime) -> Result<(), Fail> {
-    let begun = "trial: states 20, inputs 2, seed 1\nlearned: states 20, refinements ".as_bytes();
+fn a_machine_is_found_by_either_learner(rt: HostRuntime) {
     for learner in ["table", "ttt"] {
-        let out = twenty(rt, rt.alloc(), learner)?;
-        assert!(rt; out.taken().starts_with(begun), "{learner}");
-        assert!(rt;
-            out.taken().ends_with("\nequal: yes\n".as_bytes()),
-            "{learner}"
-        );
+        assert!(rt; finds(&rt, rt.alloc(), learner), "{learner}");
     }
-    Ok(())
 }
 
 /// Whether answers of two instances are kept.
@@ -133,8 +113,8 @@ fn has_two_instances(end: &End) -> bool {
     first && later
 }
 
-/// Whether one of a hundred trials with eight workers has answers of two instances.
-fn is_shared<R: Threads + Wait + Sync + Copy + Drop>(rt: R, alloc: Global) -> Result<bool, Fail> {
+/// Whether a trial with eight workers has answers of two instances.
+fn is_shared<R: Abort + Threads + Wait + Sync + Copy + Drop>(rt: &R, alloc: Global) -> bool {
     let arguments = [
         "trial",
         "--states=20",
@@ -142,17 +122,22 @@ fn is_shared<R: Threads + Wait + Sync + Copy + Drop>(rt: R, alloc: Global) -> Re
         "--seed=7",
         "--workers=8",
     ];
+    let mut world = world_of(rt, alloc, &arguments);
+    let end = call(rt, alloc, &mut world);
+    has_two_instances(&end)
+}
+
+/// Whether one of a hundred such trials has.
+fn is_once_shared<R: Abort + Threads + Wait + Sync + Copy + Drop>(rt: &R, alloc: Global) -> bool {
     for _ in 0u8..100 {
-        let (end, _out) = try_out(rt, alloc, &arguments)?;
-        if has_two_instances(&end) {
-            return Ok(true);
+        if is_shared(rt, alloc) {
+            return true;
         }
     }
-    Ok(false)
+    false
 }
 
 #[test]
-fn workers_share_a_trial(rt: HostRuntime) -> Result<(), Fail> {
-    assert!(rt; is_shared(rt, rt.alloc())?);
-    Ok(())
+fn workers_share_a_trial(rt: HostRuntime) {
+    assert!(rt; is_once_shared(&rt, rt.alloc()));
 }

@@ -2,16 +2,17 @@
 ghost use Rattle.std.specs.Prelude.{◌≡◌, ◌<◌, ◌≤◌, length, IfOk};
 ghost use Rattle.std.specs.List.{All};
 
-use crate::tests::cases::{files_of, sink, source, texts};
+use crate::tests::cases::{World, files_of};
 use http_server::Log;
 use lw_log::MemoryLog;
 use lw_outside::{Failed, Link, Spawner, StartFailure, StartStop};
 use lw_top::run;
 use std::alloc::Global;
-use std::sync::Arc;
+use std::process::Abort;
 use std::sync::atomic::{AtomicU32, Ordering};
-use std::test::Fail;
+use std::sync::{Arc, Wait};
 use std::thread;
+use std::thread::Threads;
 
 /// Where two links tell each other that they were sent a letter.
 #[derive(Drop)]
@@ -123,11 +124,12 @@ struct MeetingSpawner {
 }
 
 impl MeetingSpawner {
-    fn new(alloc: Global) -> Result<MeetingSpawner, Fail> {
-        let one = Arc::new(alloc, AtomicU32::new(0))?;
-        let other = Arc::new(alloc, AtomicU32::new(0))?;
-        let (here, there) = (Arc::try_clone(&one)?, Arc::try_clone(&other)?);
-        Ok(MeetingSpawner {
+    fn new(rt: &impl Abort, alloc: Global) -> MeetingSpawner {
+        let one = Arc::new(alloc, AtomicU32::new(0)).expect(rt, "memory");
+        let other = Arc::new(alloc, AtomicU32::new(0)).expect(rt, "memory");
+        let here = Arc::try_clone(&one).expect(rt, "memory");
+        let there = Arc::try_clone(&other).expect(rt, "memory");
+        MeetingSpawner {
             first: Some(Meeting { here, there }),
             second: Some(Meeting {
                 here: other,
@@ -136,7 +138,7 @@ impl MeetingSpawner {
             started: 0,
             faults: 0,
             retired: Log::new(),
-        })
+        }
     }
 }
 
@@ -197,28 +199,32 @@ const LEARNED: &str = "learned: states 1, refinements 0, extra 0, answers 4\n";
 
 const LEARN: [&str; 6] = ["learn", "m", "--workers", "2", "--extra", "0"];
 
-#[test]
-fn two_children_are_asked_at_once(rt: HostRuntime) -> Result<(), Fail> {
-    let alloc = rt.alloc();
-    let mut files = files_of(alloc, SETUP, &[])?;
-    let mut children = MeetingSpawner::new(alloc)?;
-    let mut input = source(alloc, "", &[])?;
-    let mut out = sink(alloc, 4096, &[])?;
-    let mut err = sink(alloc, 4096, &[])?;
-    let arguments = texts(alloc, &LEARN)?;
+/// The status of the top call over a world, with two such children in place of its own.
+fn meet<R: Abort + Threads + Wait + Sync + Copy + Drop>(
+    rt: &R,
+    alloc: Global,
+    world: &mut World,
+) -> u8 {
+    let mut children = MeetingSpawner::new(rt, alloc);
+    let mut log = lw_log::Log::new(alloc, MemoryLog::new(alloc));
     let end = run(
-        rt,
+        *rt,
         alloc,
-        &arguments,
-        &mut files,
+        &world.arguments,
+        &mut world.files,
         &mut children,
-        &mut input,
-        &mut out,
-        &mut err,
-        &mut lw_log::Log::new(alloc, MemoryLog::new(alloc)),
+        &mut world.input,
+        &mut world.out,
+        &mut world.err,
+        &mut log,
     );
-    assert_eq!(rt; end.status, 0);
-    assert_eq!(rt; out.taken(), MODEL.as_bytes());
-    assert_eq!(rt; err.taken(), LEARNED.as_bytes());
-    Ok(())
+    end.status
+}
+
+#[test]
+fn two_children_are_asked_at_once(rt: HostRuntime) {
+    let alloc = rt.alloc();
+    let mut world = World::new(&rt, alloc, &LEARN, files_of(&rt, alloc, SETUP, &[]));
+    assert!(rt; meet(&rt, alloc, &mut world) == 0);
+    world.check_streams(&rt, MODEL, LEARNED);
 }

@@ -4,7 +4,7 @@ use super::splits::{Start, split_as};
 use super::{A, Asked, B, NEVER, Shown, has_leaves, has_rows, is_fork, shows};
 use lw_tree::DiscriminationTree;
 use std::alloc::Global;
-use std::test::Fail;
+use std::process::Abort;
 
 /// The leaf of state 0 is split by a: below the root are nodes 1, 2 and 3, under 7, 8 and 9. Then node 2 is split by b: below it
 /// are nodes 4 and 5, under 7 and 9 again, and node 6 under 8.
@@ -41,14 +41,13 @@ fn has_nodes(tree: &DiscriminationTree) -> bool {
 }
 
 /// Whether the fan's tree, split twice, has these nodes and rows.
-fn finds_children(alloc: Global) -> Result<bool, Fail> {
-    let trial = split_as(alloc, &FAN)?;
+fn finds_children(rt: &impl Abort, alloc: Global) -> bool {
+    let trial = split_as(rt, alloc, &FAN);
     let right = has_nodes(&trial.tree) && has_rows(&trial.tree, &ROWS);
-    Ok(right && shows(&trial.tree, &SPLIT)?)
+    right && shows(rt, &trial.tree, &SPLIT)
 }
 
 #[test]
-fn a_child_is_found_below_its_parent(rt: HostRuntime) -> Result<(), Fail> {
-    assert!(rt; finds_children(rt.alloc())?);
-    Ok(())
+fn a_child_is_found_below_its_parent(rt: HostRuntime) {
+    assert!(rt; finds_children(&rt, rt.alloc()));
 }

@@ -1,5 +1,4 @@
 //! Drawn machines: trees that are split until their machines give all that is known.
-ghost use Rattle.std.specs.Prelude.{OnOk};
 ghost use Rattle.test_tree.specs.Trials.{IsReady};
 
 use super::{NEVER, of_two_letters};
@@ -7,7 +6,7 @@ use lw_cache::Oracle;
 use lw_mealy::Mealy;
 use lw_tree::DiscriminationTree;
 use std::alloc::Global;
-use std::test::Fail;
+use std::process::Abort;
 use test_tree::{ask, closed, split_by_known};
 
 /// The next number of a sequence (the constants of Knuth 1997).
@@ -28,7 +27,7 @@ fn digit(number: u64, seven: bool) -> u16 {
 }
 
 /// A drawn machine of seven states over two letters.
-fn machine(alloc: Global, seed: u64) -> Result<Mealy, Fail> {
+fn machine(rt: &impl Abort, alloc: Global, seed: u64) -> Mealy {
     let mut cells = [[(0u16, 0u16); 2]; 7];
     let mut number = seed;
     for row in cells.iter_mut() {
@@ -39,19 +38,20 @@ fn machine(alloc: Global, seed: u64) -> Result<Mealy, Fail> {
             *cell = (target, digit(number, false));
         }
     }
-    of_two_letters(alloc, 2, &cells)
+    of_two_letters(rt, alloc, 2, &cells)
 }
 
 /// Asks a drawn word of twelve letters.
 fn ask_drawn<O: Oracle>(
+    rt: &impl Abort,
     alloc: Global,
     oracle: &mut O,
     tree: &DiscriminationTree,
     seed: u64,
-) -> Result<(), Fail>
+)
     requires can { O.can_settle oracle.old }
     requires ready { IsReady (O.state oracle.old) tree.now }
-    ensures ready { OnOk result (IsReady (O.state oracle.new) tree.now) }
+    ensures ready { IsReady (O.state oracle.new) tree.now }
     ensures can { O.can_settle oracle.new }
 {
     let mut letters = [0u16; 12];
@@ -60,55 +60,54 @@ fn ask_drawn<O: Oracle>(
         number = next(number);
         *letter = digit(number, false);
     }
-    ask(alloc, oracle, tree, &letters)
+    assert!(rt; ask(alloc, oracle, tree, &letters));
 }
 
 /// Splits until the machine gives all that is known, so many times at most.
 fn split_all<O: Oracle>(
+    rt: &impl Abort,
     alloc: Global,
     oracle: &mut O,
     tree: &mut DiscriminationTree,
     most: usize,
-) -> Result<bool, Fail>
+) -> bool
     requires can { O.can_settle oracle.old }
     requires ready { IsReady (O.state oracle.old) tree.old }
-    ensures ready { OnOk result (IsReady (O.state oracle.new) tree.new) }
+    ensures ready { IsReady (O.state oracle.new) tree.new }
     ensures can { O.can_settle oracle.new }
 {
     for _ in 0..most {
-        match split_by_known(alloc, oracle, tree)? {
-            None => return Ok(true),
-            Some(Ok(())) => {}
-            Some(Err(_)) => return Err(Fail::from("a split is refused")),
+        match split_by_known(alloc, oracle, tree) {
+            Ok(true) => {}
+            Ok(false) => return true,
+            Err(_) => rt.panic("a split is refused"),
         }
     }
-    Ok(false)
+    false
 }
 
 /// Asks drawn words of a drawn machine, and splits after each until its tree gives them all: how many states there are then.
-fn learn(alloc: Global, seed: u64) -> Result<u16, Fail> {
-    let mut trial = closed(alloc, machine(alloc, seed)?, 7, NEVER)?;
+fn learn(rt: &impl Abort, alloc: Global, seed: u64) -> u16 {
+    let Ok(mut trial) = closed(alloc, machine(rt, alloc, seed), 7, NEVER) else {
+        rt.panic("a tree isn't closed");
+    };
     let mut number = seed;
     for _ in 0..4 {
         number = next(number);
-        ask_drawn(alloc, &mut trial.oracle, &trial.tree, number)?;
-        if !split_all(alloc, &mut trial.oracle, &mut trial.tree, 7)? {
-            return Err(Fail::from("more splits than states"));
-        }
+        ask_drawn(rt, alloc, &mut trial.oracle, &trial.tree, number);
+        assert!(rt; split_all(rt, alloc, &mut trial.oracle, &mut trial.tree, 7));
     }
-    Ok(trial.tree.machine()?.states())
+    trial.tree.machine().expect(rt, "memory").states()
 }
 
 #[test]
-fn drawn_machines_are_given(rt: HostRuntime) -> Result<(), Fail> {
-    let alloc = rt.alloc();
+fn drawn_machines_are_given(rt: HostRuntime) {
     let mut greatest = 0;
     for seed in 0..6 {
-        let states = learn(alloc, seed)?;
+        let states = learn(&rt, rt.alloc(), seed);
         if states > greatest {
             greatest = states;
         }
     }
     assert_eq!(rt; greatest, 7);
-    Ok(())
 }

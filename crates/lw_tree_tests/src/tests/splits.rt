@@ -1,5 +1,5 @@
 //! Splits by counterexamples, worked by hand: the words that are asked, in their order, and the machines.
-ghost use Rattle.std.specs.Prelude.{◌≡◌, true, IfOk, OnOk, IfSome};
+ghost use Rattle.std.specs.Prelude.{OnOk};
 ghost use Rattle.lw_tree.specs.Tree.{IsClosed};
 ghost use Rattle.test_oracle.specs.Recording.{state_of};
 ghost use Rattle.test_tree.specs.Trials.{IsReady};
@@ -8,7 +8,7 @@ use super::{A, Asked, B, Batch, NEVER, Shown, are, has_rows, has_settled, machin
 use lw_cache::{AskStop, GrowStop, Oracle};
 use lw_tree::DiscriminationTree;
 use std::alloc::Global;
-use std::test::Fail;
+use std::process::Abort;
 use test_tree::{Trial, ask, closed, split_by_known};
 
 /// How the last split of a tree ends.
@@ -40,63 +40,62 @@ pub(super) struct Case {
 }
 
 /// A closed tree, and a word that was asked.
-fn begun(alloc: Global, start: &Start) -> Result<Trial, Fail>
-    ensures { IfOk result (λ trial. IsReady (state_of trial.oracle) trial.tree) }
+fn begun(rt: &impl Abort, alloc: Global, start: &Start) -> Trial
+    ensures { IsReady (state_of result.oracle) result.tree }
 {
-    if start.most == 0 || start.most > 1024 {
-        return Err(Fail::from("another limit was meant"));
-    }
-    let mealy = machine(alloc, start.asked)?;
-    let mut trial = closed(alloc, mealy, start.most, start.refused)?;
-    ask(alloc, &mut trial.oracle, &trial.tree, start.word)?;
-    Ok(trial)
+    assert!(rt; 1 <= start.most && start.most <= 1024);
+    let mealy = machine(rt, alloc, start.asked);
+    let Ok(mut trial) = closed(alloc, mealy, start.most, start.refused) else {
+        rt.panic("a tree isn't closed");
+    };
+    assert!(rt; ask(alloc, &mut trial.oracle, &trial.tree, start.word));
+    trial
 }
 
 /// Splits a tree so many times, or until that is refused: the stop then.
 fn split_times<O: Oracle>(
+    rt: &impl Abort,
     alloc: Global,
     oracle: &mut O,
     tree: &mut DiscriminationTree,
     times: usize,
-) -> Result<Option<GrowStop>, Fail>
+) -> Result<(), GrowStop>
     requires can { O.can_settle oracle.old }
     requires ready { IsReady (O.state oracle.old) tree.old }
-    ensures ready { IfOk result (λ stop. stop ≡ None → IsReady (O.state oracle.new) tree.new) }
+    ensures ready { OnOk result (IsReady (O.state oracle.new) tree.new) }
     ensures can { O.can_settle oracle.new }
 {
     for _ in 0..times {
-        match split_by_known(alloc, oracle, tree)? {
-            Some(Ok(())) => {}
-            Some(Err(stop)) => return Ok(Some(stop)),
-            None => return Err(Fail::from("no split")),
-        }
+        let is_split = split_by_known(alloc, oracle, tree)?;
+        assert!(rt; is_split);
     }
-    Ok(None)
+    Ok(())
 }
 
 /// Whether splits end so.
-fn is_end(stop: &Option<GrowStop>, end: &End) -> bool {
+fn is_end(split: &Result<(), GrowStop>, end: &End) -> bool {
     match end {
-        End::Split => stop.is_none(),
-        End::Crowd(expected) => match stop {
-            Some(GrowStop::Crowd(words)) => are(words, expected),
+        End::Split => split.is_ok(),
+        End::Crowd(expected) => match split {
+            Err(GrowStop::Crowd(words)) => are(words, expected),
             _ => false,
         },
-        End::Refused => matches!(stop, Some(GrowStop::Ask(AskStop::NoMemory))),
+        End::Refused => matches!(split, Err(GrowStop::Ask(AskStop::NoMemory))),
     }
 }
 
 /// Whether a case is left so.
-fn is_left(trial: &Trial, case: &Case) -> Result<bool, Fail> {
+fn is_left(rt: &impl Abort, trial: &Trial, case: &Case) -> bool {
     let has_asked = has_settled(&trial.oracle, case.count, case.batches);
-    Ok(has_asked && shows(&trial.tree, &case.shown)?)
+    has_asked && shows(rt, &trial.tree, &case.shown)
 }
 
 /// Whether a case goes as it says.
-fn goes(alloc: Global, case: &Case) -> Result<bool, Fail> {
-    let mut trial = begun(alloc, &case.start)?;
-    let stop = split_times(alloc, &mut trial.oracle, &mut trial.tree, case.start.splits)?;
-    Ok(is_end(&stop, &case.end) && is_left(&trial, case)?)
+fn goes(rt: &impl Abort, alloc: Global, case: &Case) -> bool {
+    let mut trial = begun(rt, alloc, &case.start);
+    let times = case.start.splits;
+    let split = split_times(rt, alloc, &mut trial.oracle, &mut trial.tree, times);
+    is_end(&split, &case.end) && is_left(rt, &trial, case)
 }
 
 /// The leaf of state 0 is split by a a, and the transition of the new state makes a third one.
@@ -133,9 +132,8 @@ static COUNTER: Case = Case {
 };
 
 #[test]
-fn a_counter_is_split_once(rt: HostRuntime) -> Result<(), Fail> {
-    assert!(rt; goes(rt.alloc(), &COUNTER)?);
-    Ok(())
+fn a_counter_is_split_once(rt: HostRuntime) {
+    assert!(rt; goes(&rt, rt.alloc(), &COUNTER));
 }
 
 /// The leaf of state 0 is split by b a b: the transition by b, which led there, stands at the root, as those of the new state
@@ -213,9 +211,8 @@ pub(super) static LOCK: Case = Case {
 };
 
 #[test]
-fn a_lock_is_split_twice(rt: HostRuntime) -> Result<(), Fail> {
-    assert!(rt; goes(rt.alloc(), &LOCK)?);
-    Ok(())
+fn a_lock_is_split_twice(rt: HostRuntime) {
+    assert!(rt; goes(&rt, rt.alloc(), &LOCK));
 }
 
 /// There is no room for a second state.
@@ -239,9 +236,8 @@ static NO_SECOND: Case = Case {
 };
 
 #[test]
-fn a_split_is_one_state_too_many(rt: HostRuntime) -> Result<(), Fail> {
-    assert!(rt; goes(rt.alloc(), &NO_SECOND)?);
-    Ok(())
+fn a_split_is_one_state_too_many(rt: HostRuntime) {
+    assert!(rt; goes(&rt, rt.alloc(), &NO_SECOND));
 }
 
 /// There is room for a second state, and then a level wants a third.
@@ -265,9 +261,8 @@ static NO_THIRD: Case = Case {
 };
 
 #[test]
-fn a_level_is_one_state_too_many(rt: HostRuntime) -> Result<(), Fail> {
-    assert!(rt; goes(rt.alloc(), &NO_THIRD)?);
-    Ok(())
+fn a_level_is_one_state_too_many(rt: HostRuntime) {
+    assert!(rt; goes(&rt, rt.alloc(), &NO_THIRD));
 }
 
 /// A split whose first level is refused is one all the same, and closing goes on from there.
@@ -291,20 +286,18 @@ static NO_LEVEL: Case = Case {
 };
 
 #[test]
-fn a_refused_level_is_asked_again(rt: HostRuntime) -> Result<(), Fail> {
-    assert!(rt; goes(rt.alloc(), &NO_LEVEL)?);
-    Ok(())
+fn a_refused_level_is_asked_again(rt: HostRuntime) {
+    assert!(rt; goes(&rt, rt.alloc(), &NO_LEVEL));
 }
 
 /// A tree that was split so.
-pub(super) fn split_as(alloc: Global, start: &Start) -> Result<Trial, Fail>
-    ensures { IfOk result (λ trial. IsReady (state_of trial.oracle) trial.tree) }
+pub(super) fn split_as(rt: &impl Abort, alloc: Global, start: &Start) -> Trial
+    ensures { IsReady (state_of result.oracle) result.tree }
 {
-    let mut trial = begun(alloc, start)?;
-    let None = split_times(alloc, &mut trial.oracle, &mut trial.tree, start.splits)? else {
-        return Err(Fail::from("a split is refused"));
-    };
-    Ok(trial)
+    let mut trial = begun(rt, alloc, start);
+    let split = split_times(rt, alloc, &mut trial.oracle, &mut trial.tree, start.splits);
+    assert!(rt; split.is_ok());
+    trial
 }
 
 /// Whether a tree of three states has one class, whose root is temporary and tells states 1 and 2 apart by a a.
@@ -326,8 +319,7 @@ fn is_one_block(tree: &DiscriminationTree) -> bool {
 static COUNTS: [&[(u16, u16)]; 3] = [&[(1, 0)], &[(2, 0)], &[(0, 1)]];
 
 #[test]
-fn three_states_are_a_block(rt: HostRuntime) -> Result<(), Fail> {
-    let trial = split_as(rt.alloc(), &COUNTER.start)?;
+fn three_states_are_a_block(rt: HostRuntime) {
+    let trial = split_as(&rt, rt.alloc(), &COUNTER.start);
     assert!(rt; is_one_block(&trial.tree) && has_rows(&trial.tree, &COUNTS));
-    Ok(())
 }

@@ -1,32 +1,27 @@
 //! Each call of the turnstile, by hand and in threads.
-ghost use Rattle.std.specs.Prelude.{◌≡◌, ◌+◌, ◌*◌, ◌^◌, ◌<◌, ◌≤◌, ℕ, [], ◌∷◌, All, IfOk, IsSome};
+ghost use Rattle.std.specs.Prelude.{◌≡◌, ◌+◌, ◌*◌, ◌^◌, ◌<◌, ◌≤◌, ℕ, [], ◌∷◌, All, IsSome};
 ghost use Rattle.lw_turn.specs.Views.{first_view, ended_of};
 
 use super::tally::Tally;
 use crate::pass::Pass;
 use crate::shared::Core;
 use crate::turnstile::Turnstile;
-use lw_words::NoMemory;
 use std::alloc::Global;
 use std::process::Abort;
 use std::sync::Wait;
-use std::test::Fail;
 use std::thread;
 use std::thread::{Threads, join};
 
-fn opened(
-    alloc: Global,
-    actors: u32,
-    each: u32,
-) -> Result<(Turnstile<Tally>, Pass<Tally>), NoMemory>
+fn opened(rt: &impl Abort, alloc: Global, actors: u32, each: u32) -> (Turnstile<Tally>, Pass<Tally>)
     requires some { 0 < actors }
     requires few { actors * each < 2 ^ 32 }
-    ensures { IfOk result (λ t. (t.1.turnstile ≡ t.0) ×
-        (t.1.knows ≡ first_view (record { actors = actors; each = each }))) }
+    ensures ours { result.1.turnstile ≡ result.0 }
+    ensures first { result.1.knows ≡ first_view (record { actors = actors; each = each }) }
 {
-    match Turnstile::new(alloc, Tally::new(alloc, actors, each)?) {
-        Ok(made) => Ok(made),
-        Err((_tally, no_memory)) => Err(no_memory),
+    let tally = Tally::new(alloc, actors, each).expect(rt, "memory");
+    match Turnstile::new(alloc, tally) {
+        Ok(made) => made,
+        Err(_) => rt.panic("no memory for a turnstile"),
     }
 }
 
@@ -48,32 +43,30 @@ fn adds<R: Wait>(rt: &R, turnstile: &Turnstile<Tally>, pass: Pass<Tally>, times:
 }
 
 #[test]
-fn each_turn_is_answered_the_sum_before(rt: HostRuntime) -> Result<(), Fail> {
-    let (turnstile, mut first) = opened(rt.alloc(), 2, 8)?;
+fn each_turn_is_answered_the_sum_before(rt: HostRuntime) {
+    let (turnstile, mut first) = opened(&rt, rt.alloc(), 2, 8);
     let mut second = turnstile.split(&mut first);
-    assert_eq!(rt; turnstile.turn(&rt, &mut first, 5), 0);
-    assert_eq!(rt; turnstile.turn(&rt, &mut second, 7), 5);
-    assert_eq!(rt; turnstile.turn(&rt, &mut first, 1), 12);
+    assert!(rt; turnstile.turn(&rt, &mut first, 5) == 0);
+    assert!(rt; turnstile.turn(&rt, &mut second, 7) == 5);
+    assert!(rt; turnstile.turn(&rt, &mut first, 1) == 12);
     turnstile.join(&mut first, second);
     let tally = turnstile.close(first);
-    assert_eq!(rt; tally.count(), 3);
-    assert_eq!(rt; tally.total(), 13);
-    Ok(())
+    assert!(rt; tally.count() == 3);
+    assert!(rt; tally.total() == 13);
 }
 
 #[test]
-fn one_actor_takes_all_turns(rt: HostRuntime) -> Result<(), Fail> {
-    let (turnstile, first) = opened(rt.alloc(), 1, 8)?;
+fn one_actor_takes_all_turns(rt: HostRuntime) {
+    let (turnstile, first) = opened(&rt, rt.alloc(), 1, 8);
     let first = adds(&rt, &turnstile, first, 8);
     let tally = turnstile.close(first);
-    assert_eq!(rt; tally.count(), 8);
-    assert_eq!(rt; tally.total(), 8);
-    Ok(())
+    assert!(rt; tally.count() == 8);
+    assert!(rt; tally.total() == 8);
 }
 
 #[test]
-fn two_threads_leave_sixteen_entries(rt: HostRuntime) -> Result<(), Fail> {
-    let (turnstile, mut first) = opened(rt.alloc(), 2, 8)?;
+fn two_threads_leave_sixteen_entries(rt: HostRuntime) {
+    let (turnstile, mut first) = opened(&rt, rt.alloc(), 2, 8);
     let second = turnstile.split(&mut first);
     let (mut first, second) = join(
         &rt,
@@ -82,9 +75,8 @@ fn two_threads_leave_sixteen_entries(rt: HostRuntime) -> Result<(), Fail> {
     );
     turnstile.join(&mut first, second);
     let tally = turnstile.close(first);
-    assert_eq!(rt; tally.count(), 16);
-    assert_eq!(rt; tally.total(), 16);
-    Ok(())
+    assert!(rt; tally.count() == 16);
+    assert!(rt; tally.total() == 16);
 }
 
 // A pass with the replies that it was given.
@@ -127,30 +119,31 @@ fn all_work<R: Threads + Wait + Sync>(
 
 // The passes 1 to `more`, each with room for its replies.
 fn hire(
+    rt: &impl Abort,
     alloc: Global,
     turnstile: &Turnstile<Tally>,
     first: &mut Pass<Tally>,
     more: u32,
     each: u32,
-) -> Result<Vec<Worker>, NoMemory>
+) -> Vec<Worker>
     requires ours { first.old.turnstile ≡ turnstile.now }
     requires first { (first.old.knows.number ≡ 0) × (first.old.knows.made ≡ 1) }
     requires room { more < first.old.knows.opening.actors }
     requires often { each ≤ first.old.knows.opening.each }
-    ensures ours { IfOk result (λ v. (first.new.turnstile ≡ turnstile.now) ×
-        All (λ w. w.pass.turnstile ≡ turnstile.now) v.items) }
-    ensures fresh { IfOk result (λ v. All (λ w. w.pass.knows.mine ≡ []) v.items) }
-    ensures often { IfOk result (λ v. All (λ w. each ≤ w.pass.knows.opening.each) v.items) }
-    ensures first { IfOk result (λ v. (first.new.knows.mine ≡ first.old.knows.mine) ×
-        (first.new.knows.opening ≡ first.old.knows.opening)) }
+    ensures ours { (first.new.turnstile ≡ turnstile.now) ×
+        All (λ w. w.pass.turnstile ≡ turnstile.now) result.items }
+    ensures fresh { All (λ w. w.pass.knows.mine ≡ []) result.items }
+    ensures often { All (λ w. each ≤ w.pass.knows.opening.each) result.items }
+    ensures first { (first.new.knows.mine ≡ first.old.knows.mine) ×
+        (first.new.knows.opening ≡ first.old.knows.opening) }
 {
     let mut workers = Vec::new(alloc);
     for _ in 0..more {
-        let replies = Vec::with_capacity(alloc, each as usize)?;
+        let replies = Vec::with_capacity(alloc, each as usize).expect(rt, "memory");
         let pass = turnstile.split(first);
-        workers.push(Worker { pass, replies })?;
+        workers.push(Worker { pass, replies }).expect(rt, "memory");
     }
-    Ok(workers)
+    workers
 }
 
 // Whether each reply is below the length and was not seen before.
@@ -194,34 +187,69 @@ fn gather(
     while left > 1 {
         left -= 1;
         let Worker { pass, replies } = take_last(rt, turnstile, &mut workers);
-        assert_eq!(rt; pass.number, left);
+        assert!(rt; pass.number == left);
         assert!(rt; mark(seen, &replies), "each reply is another number");
         turnstile.join(&mut whole, pass);
     }
     whole
 }
 
-#[test]
-fn eight_threads_are_answered_each_number_once(rt: HostRuntime) -> Result<(), Fail> {
-    let alloc = rt.alloc();
-    let (turnstile, mut first) = opened(alloc, 8, 1000)?;
-    let mut workers = hire(alloc, &turnstile, &mut first, 7, 1000)?;
-    let replies = Vec::with_capacity(alloc, 1000)?;
-    workers.push(Worker {
+// The passes 1 to 7 and, last, pass 0, each with room for so many replies.
+fn crew(
+    rt: &impl Abort,
+    alloc: Global,
+    turnstile: &Turnstile<Tally>,
+    mut first: Pass<Tally>,
+    each: u32,
+) -> Vec<Worker>
+    requires ours { first.turnstile ≡ turnstile.now }
+    requires first { (first.knows.number ≡ 0) × (first.knows.made ≡ 1) }
+    requires fresh { first.knows.mine ≡ [] }
+    requires room { 7 < first.knows.opening.actors }
+    requires often { each ≤ first.knows.opening.each }
+    ensures ours { All (λ w. w.pass.turnstile ≡ turnstile.now) result.items }
+    ensures fresh { All (λ w. w.pass.knows.mine ≡ []) result.items }
+    ensures often { All (λ w. each ≤ w.pass.knows.opening.each) result.items }
+{
+    let mut workers = hire(rt, alloc, turnstile, &mut first, 7, each);
+    let replies = Vec::with_capacity(alloc, each as usize).expect(rt, "memory");
+    let last = Worker {
         pass: first,
         replies,
-    })?;
-    all_work(&rt, &turnstile, workers.as_mut_slice(), 1000);
-    let Worker { pass, replies } = take_last(&rt, &turnstile, &mut workers);
+    };
+    workers.push(last).expect(rt, "memory");
+    workers
+}
+
+// Joins the passes of eight workers into pass 0, and marks their replies.
+fn gather_all(
+    rt: &impl Abort,
+    turnstile: &Turnstile<Tally>,
+    mut workers: Vec<Worker>,
+    seen: &mut [bool],
+) -> Pass<Tally>
+    requires ours { All (λ w. w.pass.turnstile ≡ turnstile.now) workers.items }
+    ensures ours { result.turnstile ≡ turnstile.now }
+    ensures first { (result.knows.number ≡ 0) × (result.knows.made ≡ 8) }
+    ensures joined { (n : ℕ) → 0 < n → n < 8 → IsSome (ended_of n result.knows.ended) }
+{
+    let Worker { pass, replies } = take_last(rt, turnstile, &mut workers);
     assert!(rt; pass.number == 0 && pass.made == 8);
-    let mut seen = vec![in alloc; false; 8000]?;
-    assert!(rt; mark(seen.as_mut_slice(), &replies));
-    let first = gather(&rt, &turnstile, pass, workers, seen.as_mut_slice());
+    assert!(rt; mark(seen, &replies));
+    gather(rt, turnstile, pass, workers, seen)
+}
+
+#[test]
+fn eight_threads_are_answered_each_number_once(rt: HostRuntime) {
+    let alloc = rt.alloc();
+    let (turnstile, first) = opened(&rt, alloc, 8, 1000);
+    let mut workers = crew(&rt, alloc, &turnstile, first, 1000);
+    all_work(&rt, &turnstile, workers.as_mut_slice(), 1000);
+    let mut seen = vec![in alloc; false; 8000].expect(&rt, "memory");
+    let first = gather_all(&rt, &turnstile, workers, seen.as_mut_slice());
     assert!(rt; seen.iter().all(|s| *s));
     let tally = turnstile.close(first);
-    assert_eq!(rt; tally.count(), 8000);
-    assert_eq!(rt; tally.total(), 8000);
-    Ok(())
+    assert!(rt; tally.count() == 8000 && tally.total() == 8000);
 }
 
 // Where the core may go to another thread, a pass may, and the turnstile may be shared.
@@ -241,9 +269,8 @@ fn sent<T: Send>(value: T) -> T
 }
 
 #[test]
-fn a_pass_goes_where_its_core_may_go(rt: HostRuntime) -> Result<(), Fail> {
-    let (turnstile, first) = opened(rt.alloc(), 1, 8)?;
+fn a_pass_goes_where_its_core_may_go(rt: HostRuntime) {
+    let (turnstile, first) = opened(&rt, rt.alloc(), 1, 8);
     let first = crosses(&turnstile, first);
-    assert_eq!(rt; turnstile.close(first).count(), 0);
-    Ok(())
+    assert!(rt; turnstile.close(first).count() == 0);
 }

@@ -1,5 +1,5 @@
 //! Pools of tables with one letter and two outputs, for the tests.
-ghost use Rattle.std.specs.Prelude.{◌≡◌, ◌≤◌, [], IfOk, None, Some, length};
+ghost use Rattle.std.specs.Prelude.{◌≡◌, ◌≤◌, [], None, Some, length};
 ghost use Rattle.lw_words.specs.Cause.{CountedFault};
 ghost use Rattle.lw_words.specs.declared.stop.SulStop.TheVariants.{Failed};
 ghost use Rattle.lw_pool.specs.Opening.{AllMayJoin, member_of};
@@ -11,7 +11,7 @@ use lw_pool::Pool;
 use lw_sul::{OutName, Session, Sul, TableSul};
 use lw_words::{Names, SulStop};
 use std::alloc::Global;
-use std::test::Fail;
+use std::process::Abort;
 
 /// A table that refuses its call with this number, counted from 0.
 #[derive(Drop)]
@@ -139,90 +139,91 @@ impl Sul for Refusing {
 }
 
 /// The machine of these rows.
-pub fn machine(alloc: Global, cells: &[(u16, u16)]) -> Result<Mealy, Fail>
-    ensures { IfOk result (λ m. (m.inputs ≡ 1) × (m.outputs ≡ 2)) }
+pub fn machine(rt: &impl Abort, alloc: Global, cells: &[(u16, u16)]) -> Mealy
+    ensures { (result.inputs ≡ 1) × (result.outputs ≡ 2) }
 {
     let mut rows = Vec::new(alloc);
     for cell in cells {
-        rows.push(Vec::from_slice(alloc, &[*cell])?)?;
+        let row = Vec::from_slice(alloc, &[*cell]).expect(rt, "memory");
+        rows.push(row).expect(rt, "memory");
     }
-    Ok(Mealy::new(alloc, 1, 2, rows)?)
+    Mealy::new(alloc, 1, 2, rows).expect(rt, "a machine")
 }
 
-/// The outputs' names.
-pub fn two_names(alloc: Global) -> Result<Names, Fail>
-    ensures { IfOk result (λ names. length names ≡ 2) }
+/// These names.
+pub fn names_of(rt: &impl Abort, alloc: Global, list: &[&str]) -> Names
+    ensures { length result ≡ length list.now }
 {
     let mut texts = Vec::new(alloc);
-    for text in ["0", "1"] {
-        texts.push(String::from_str(alloc, text)?)?;
+    for name in list {
+        let text = String::from_str(alloc, name).expect(rt, "memory");
+        texts.push(text).expect(rt, "memory");
     }
-    let names = Names::from_list(alloc, &texts)?;
-    if names.len() != 2 {
-        return Err(Fail::from("another number of names was meant"));
-    }
-    Ok(names)
+    let names = Names::from_list(alloc, &texts).expect(rt, "names");
+    assert!(rt; usize::from(names.len()) == list.len());
+    names
 }
 
 /// The system of a machine of these rows, that refuses this call.
 fn system(
+    rt: &impl Abort,
     alloc: Global,
     names: &Names,
     cells: &[(u16, u16)],
     refused: Option<u32>,
-) -> Result<Refusing, Fail>
+) -> Refusing
     requires { length names.now ≡ 2 }
-    ensures names { IfOk result (λ s. s.table.names ≡ names.now) }
-    ensures live { IfOk result (λ s. s.stop ≡ None) }
-    ensures numbers { IfOk result (λ s. (s.table.table.inputs ≡ 1) × (s.table.table.outputs ≡ 2)) }
+    ensures names { result.table.names ≡ names.now }
+    ensures live { result.stop ≡ None }
+    ensures numbers { (result.table.table.inputs ≡ 1) × (result.table.table.outputs ≡ 2) }
 {
-    let table = TableSul::new(machine(alloc, cells)?, names.copy()?);
-    Ok(Refusing::new(table, refused))
+    let names = names.copy().expect(rt, "memory");
+    Refusing::new(TableSul::new(machine(rt, alloc, cells), names), refused)
 }
 
 /// So many sessions of such systems.
 fn hired(
+    rt: &impl Abort,
     alloc: Global,
     names: &Names,
     shared: &OutNames,
     cells: &[(u16, u16)],
     sessions: usize,
     refused: Option<u32>,
-) -> Result<Vec<Session<Refusing>>, Fail>
+) -> Vec<Session<Refusing>>
     requires names { length names.now ≡ 2 }
     requires shared { shared.now ≡ record { names = names.now; brought = None } }
-    ensures { IfOk result (λ ss. AllMayJoin (member_of ⟦<Refusing as Sul>⟧.names
+    ensures { AllMayJoin (member_of ⟦<Refusing as Sul>⟧.names
         ⟦<Refusing as Sul>⟧.most ⟦<Refusing as Sul>⟧.stop ⟦<Refusing as Sul>⟧.origin
-        ⟦<Refusing as Sul>⟧.inputs ⟦<Refusing as Sul>⟧.outputs) shared.now 1 2 ss.items) }
+        ⟦<Refusing as Sul>⟧.inputs ⟦<Refusing as Sul>⟧.outputs) shared.now 1 2 result.items }
 {
     let mut hired = Vec::new(alloc);
     for _ in 0..sessions {
-        let instance = u32::try_from(hired.len())?;
-        let system = system(alloc, names, cells, refused)?;
-        hired.push(Session::new(alloc, instance, system))?;
+        let instance = u32::try_from(hired.len()).expect(rt, "few sessions");
+        let system = system(rt, alloc, names, cells, refused);
+        let session = Session::new(alloc, instance, system);
+        hired.push(session).expect(rt, "memory");
     }
-    Ok(hired)
+    hired
 }
 
 /// A pool of so many sessions, each of a machine of these rows that refuses this call.
-pub fn pool_of<R: Drop>(
+pub fn pool_of<R: Abort + Copy + Drop>(
     rt: R,
     alloc: Global,
     cells: &[(u16, u16)],
     sessions: usize,
     refused: Option<u32>,
-) -> Result<Pool<Refusing, R>, Fail>
-    ensures numbers { IfOk result (λ p. (p.inputs ≡ 1) × (p.outputs ≡ 2)) }
-    ensures begun { IfOk result (λ p. (p.kept ≡ []) × (p.stop ≡ None)) }
+) -> Pool<Refusing, R>
+    ensures numbers { (result.inputs ≡ 1) × (result.outputs ≡ 2) }
+    ensures begun { (result.kept ≡ []) × (result.stop ≡ None) }
 {
-    let names = two_names(alloc)?;
-    let shared = OutNames::declared(alloc, &names)?;
-    let sessions = hired(alloc, &names, &shared, cells, sessions, refused)?;
-    if sessions.is_empty() || sessions.len() > 16 {
-        return Err(Fail::from("another number of sessions was meant"));
-    }
+    let names = names_of(&rt, alloc, &["0", "1"]);
+    let shared = OutNames::declared(alloc, &names).expect(&rt, "memory");
+    let sessions = hired(&rt, alloc, &names, &shared, cells, sessions, refused);
+    assert!(rt; !sessions.is_empty() && sessions.len() <= 16);
     match Pool::new(rt, alloc, 1, 2, sessions, shared, Cache::new(alloc)) {
-        Ok(pool) => Ok(pool),
-        Err(_) => Err(Fail::from("there is no memory")),
+        Ok(pool) => pool,
+        Err(_) => rt.panic("there is no memory"),
     }
 }

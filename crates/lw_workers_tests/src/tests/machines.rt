@@ -1,10 +1,10 @@
 //! Learnings of machines, worked by hand, with pools of one to sixteen instances: the model, and what the instances answered.
-ghost use Rattle.std.specs.Prelude.{◌≡◌, ◌≤◌, IfOk, [], length, None};
+ghost use Rattle.std.specs.Prelude.{◌≡◌, ◌≤◌, [], length, None};
 ghost use Rattle.lw_words.specs.Answer.{answers_of};
 ghost use Rattle.lw_cache.specs.Clash.{NothingClashes};
 ghost use Rattle.lw_pool.specs.Opening.{MayBegin};
 
-use crate::tests::crews::{machine, two_names};
+use crate::tests::crews::{machine, names_of};
 use crate::tests::{COUNTER, are_long, is_crowd, is_found};
 use lw_cache::Cache;
 use lw_desk::OutNames;
@@ -13,8 +13,8 @@ use lw_rounds::{Kind, LearnStop, Unwatched};
 use lw_words::Names;
 use lw_workers::{LearnedMachine, learn_machine};
 use std::alloc::Global;
+use std::process::Abort;
 use std::sync::Wait;
-use std::test::Fail;
 use std::thread::Threads;
 
 /// What comes of a machine with a table, where a cache may keep answers: the clauses of `learn_machine` would weigh down each
@@ -57,7 +57,7 @@ pub fn call<R: Threads + Wait + Sync + Drop>(
 }
 
 /// What comes of a machine whose outputs have these names with so many instances.
-fn learned_by<R: Threads + Wait + Sync + Drop>(
+fn learned_by<R: Abort + Threads + Wait + Sync + Copy + Drop>(
     rt: R,
     alloc: Global,
     system: &Mealy,
@@ -65,34 +65,32 @@ fn learned_by<R: Threads + Wait + Sync + Drop>(
     workers: u8,
     extra: u8,
     max_states: u16,
-) -> Result<LearnedMachine, Fail>
+) -> LearnedMachine
     requires named { length names.now ≡ system.now.outputs }
     requires few { extra ≤ 4 }
     requires most { (1 ≤ max_states) × (max_states ≤ 1024) }
 {
-    if workers < 1 || workers > 16 {
-        return Err(Fail::from("another number of instances was meant"));
-    }
-    let shared = OutNames::declared(alloc, names)?;
+    assert!(rt; 1 <= workers && workers <= 16);
+    let shared = OutNames::declared(alloc, names).expect(&rt, "memory");
     let cache = Cache::new(alloc);
-    Ok(call(
+    call(
         rt, alloc, system, names, shared, cache, workers, extra, max_states,
-    ))
+    )
 }
 
 /// What comes of a counter of three.
-fn counter_by<R: Threads + Wait + Sync + Drop>(
+fn counter_by<R: Abort + Threads + Wait + Sync + Copy + Drop>(
     rt: R,
     alloc: Global,
     workers: u8,
     extra: u8,
     max_states: u16,
-) -> Result<LearnedMachine, Fail>
+) -> LearnedMachine
     requires few { extra ≤ 4 }
     requires most { (1 ≤ max_states) × (max_states ≤ 1024) }
 {
-    let names = two_names(alloc)?;
-    let system = machine(alloc, &COUNTER)?;
+    let names = names_of(&rt, alloc, &["0", "1"]);
+    let system = machine(&rt, alloc, &COUNTER);
     learned_by(rt, alloc, &system, &names, workers, extra, max_states)
 }
 
@@ -104,26 +102,22 @@ fn has_found(ended: &LearnedMachine, states: u16, refinements: u32, letters: &[u
 
 /// No suite word of fewer than three letters tells a counter of three from a machine of one state.
 #[test]
-fn a_counter_of_three_is_taken_for_one_state(rt: HostRuntime) -> Result<(), Fail> {
-    let alloc = rt.alloc();
+fn a_counter_of_three_is_taken_for_one_state(rt: HostRuntime) {
     for workers in [1u8, 2, 16] {
-        let ended = counter_by(rt, alloc, workers, 0, 4)?;
+        let ended = counter_by(rt, rt.alloc(), workers, 0, 4);
         assert!(rt; has_found(&ended, 1, 0, &[2]), "{workers} instances");
     }
-    Ok(())
 }
 
 #[test]
-fn two_extra_states_tell_a_counter_of_three(rt: HostRuntime) -> Result<(), Fail> {
-    let alloc = rt.alloc();
+fn two_extra_states_tell_a_counter_of_three(rt: HostRuntime) {
     for workers in [1u8, 2, 16] {
-        let ended = counter_by(rt, alloc, workers, 2, 4)?;
+        let ended = counter_by(rt, rt.alloc(), workers, 2, 4);
         assert!(rt;
             has_found(&ended, 3, 1, &[2, 3, 4, 5, 7]),
             "{workers} instances"
         );
     }
-    Ok(())
 }
 
 /// Whether it ended with a crowd of so many words, by the answers to words of these numbers of letters, in this order.
@@ -132,32 +126,19 @@ fn has_stopped(ended: &LearnedMachine, count: usize, letters: &[usize]) -> bool 
 }
 
 #[test]
-fn two_states_are_too_few_for_a_counter(rt: HostRuntime) -> Result<(), Fail> {
-    let ended = counter_by(rt, rt.alloc(), 2, 2, 2)?;
+fn two_states_are_too_few_for_a_counter(rt: HostRuntime) {
+    let ended = counter_by(rt, rt.alloc(), 2, 2, 2);
     assert!(rt; has_stopped(&ended, 3, &[2, 3, 4]));
-    Ok(())
 }
 
 /// The machine of one state over 64 letters.
-fn of_many_letters(alloc: Global) -> Result<Mealy, Fail>
-    ensures { IfOk result (λ m. m.outputs ≡ 1) }
+fn of_many_letters(rt: &impl Abort, alloc: Global) -> Mealy
+    ensures { result.outputs ≡ 1 }
 {
     let mut rows = Vec::new(alloc);
-    rows.push(vec![in alloc; (0, 0); 64]?)?;
-    Ok(Mealy::new(alloc, 64, 1, rows)?)
-}
-
-/// The name of its output.
-fn one_name(alloc: Global) -> Result<Names, Fail>
-    ensures { IfOk result (λ names. length names ≡ 1) }
-{
-    let mut texts = Vec::new(alloc);
-    texts.push(String::from_str(alloc, "0")?)?;
-    let names = Names::from_list(alloc, &texts)?;
-    if names.len() != 1 {
-        return Err(Fail::from("another number of names was meant"));
-    }
-    Ok(names)
+    let row = vec![in alloc; (0, 0); 64].expect(rt, "memory");
+    rows.push(row).expect(rt, "memory");
+    Mealy::new(alloc, 64, 1, rows).expect(rt, "a machine")
 }
 
 /// Whether it ended with a model of so many states whose suite would have this size.
@@ -169,22 +150,21 @@ fn is_too_large(ended: &LearnedMachine, states: u16, size: u64) -> bool {
 }
 
 /// What comes of it with two instances and three extra states.
-fn many_letters_by<R: Threads + Wait + Sync + Drop>(
+fn many_letters_by<R: Abort + Threads + Wait + Sync + Copy + Drop>(
     rt: R,
     alloc: Global,
-) -> Result<LearnedMachine, Fail> {
-    let names = one_name(alloc)?;
-    let system = of_many_letters(alloc)?;
+) -> LearnedMachine {
+    let names = names_of(&rt, alloc, &["0"]);
+    let system = of_many_letters(&rt, alloc);
     learned_by(rt, alloc, &system, &names, 2, 3, 4)
 }
 
 /// Each word of two letters was asked, and the suite wasn't: 1 + 64 + 64² + 64³ + 64⁴ words are too many.
 #[test]
-fn a_suite_over_many_letters_is_too_large(rt: HostRuntime) -> Result<(), Fail> {
-    let ended = many_letters_by(rt, rt.alloc())?;
+fn a_suite_over_many_letters_is_too_large(rt: HostRuntime) {
+    let ended = many_letters_by(rt, rt.alloc());
     assert!(rt; is_too_large(&ended, 1, 17_043_521));
     assert!(rt; ended.kept.len() == 4096);
-    Ok(())
 }
 
 /// Four states that are their own canonical form.
@@ -196,14 +176,15 @@ static ROWS: [[(u16, u16); 2]; 4] = [
 ];
 
 /// Their machine.
-fn of_four_states(alloc: Global) -> Result<Mealy, Fail>
-    ensures { IfOk result (λ m. m.outputs ≡ 2) }
+fn of_four_states(rt: &impl Abort, alloc: Global) -> Mealy
+    ensures { result.outputs ≡ 2 }
 {
     let mut rows = Vec::new(alloc);
     for row in &ROWS {
-        rows.push(Vec::from_slice(alloc, row)?)?;
+        let row = Vec::from_slice(alloc, row).expect(rt, "memory");
+        rows.push(row).expect(rt, "memory");
     }
-    Ok(Mealy::new(alloc, 2, 2, rows)?)
+    Mealy::new(alloc, 2, 2, rows).expect(rt, "a machine")
 }
 
 /// Whether a model has just these rows.
@@ -221,13 +202,13 @@ fn has_rows(model: &Mealy, rows: &[[(u16, u16); 2]]) -> bool {
 }
 
 /// What comes of the four states with one extra state.
-fn four_states_by<R: Threads + Wait + Sync + Drop>(
+fn four_states_by<R: Abort + Threads + Wait + Sync + Copy + Drop>(
     rt: R,
     alloc: Global,
     workers: u8,
-) -> Result<LearnedMachine, Fail> {
-    let names = two_names(alloc)?;
-    let system = of_four_states(alloc)?;
+) -> LearnedMachine {
+    let names = names_of(&rt, alloc, &["0", "1"]);
+    let system = of_four_states(&rt, alloc);
     learned_by(rt, alloc, &system, &names, workers, 1, 12)
 }
 
@@ -240,11 +221,9 @@ fn has_found_them(ended: &LearnedMachine) -> bool {
 }
 
 #[test]
-fn however_many_instances_find_the_same_model(rt: HostRuntime) -> Result<(), Fail> {
-    let alloc = rt.alloc();
+fn however_many_instances_find_the_same_model(rt: HostRuntime) {
     for workers in [1u8, 2, 8] {
-        let ended = four_states_by(rt, alloc, workers)?;
+        let ended = four_states_by(rt, rt.alloc(), workers);
         assert!(rt; has_found_them(&ended), "{workers} instances");
     }
-    Ok(())
 }

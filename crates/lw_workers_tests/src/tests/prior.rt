@@ -1,10 +1,10 @@
 //! Learnings of a counter of three that begin with an answer that was kept before.
-ghost use Rattle.std.specs.Prelude.{◌≡◌, IfOk, []};
+ghost use Rattle.std.specs.Prelude.{◌≡◌, []};
 ghost use Rattle.lw_words.specs.Answer.{answers_of};
 ghost use Rattle.lw_cache.specs.Clash.{NothingClashes};
 ghost use Rattle.lw_pool.specs.Opening.{MayBegin};
 
-use crate::tests::crews::{machine, two_names};
+use crate::tests::crews::{machine, names_of};
 use crate::tests::machines::call;
 use crate::tests::{COUNTER, are_long, is_found};
 use lw_cache::{AskStop, Cache, Clash};
@@ -14,55 +14,52 @@ use lw_rounds::LearnStop;
 use lw_words::{Kept, Word};
 use lw_workers::LearnedMachine;
 use std::alloc::Global;
+use std::process::Abort;
 use std::sync::Wait;
-use std::test::Fail;
 use std::thread::Threads;
 
-/// A cache that keeps this answer of an earlier call.
+/// This word.
+fn word(rt: &impl Abort, alloc: Global, letters: &[u16]) -> Word
+    ensures { result ≡ letters.now }
+{
+    Word::from_letters(alloc, letters.to_vec(alloc).expect(rt, "memory"))
+}
+
+/// A cache that keeps the answer of these outputs to these letters of an earlier call.
 fn with_prior(
+    rt: &impl Abort,
     alloc: Global,
     system: &Mealy,
     naming: &OutNames,
-    word: Word,
-    outs: Word,
-) -> Result<Cache, Fail>
-    ensures prior { IfOk result (λ c.
-        MayBegin naming.now system.now.inputs system.now.outputs c.kept) }
-    ensures nothing { IfOk result (λ c. NothingClashes (answers_of c.kept)) }
-    ensures claims { IfOk result (λ c. c.claims ≡ []) }
+    letters: &[u16],
+    outs: &[u16],
+) -> Cache
+    ensures prior { MayBegin naming.now system.now.inputs system.now.outputs result.kept }
+    ensures nothing { NothingClashes (answers_of result.kept) }
+    ensures claims { result.claims ≡ [] }
 {
-    let mut cache = Cache::new(alloc);
     let (inputs, outputs) = (system.inputs(), system.outputs());
-    if word.len() != outs.len() || naming.len() != outputs {
-        return Err(Fail::from("another answer was meant"));
-    }
-    let right = word.as_slice().iter().all(|x| *x < inputs);
-    if !right || !outs.as_slice().iter().all(|y| *y < outputs) {
-        return Err(Fail::from("another answer was meant"));
-    }
-    match cache.keep(word, outs, 16, 0) {
-        Ok(()) => Ok(cache),
-        Err(_) => Err(Fail::from("the answer was refused")),
+    assert!(rt; letters.len() == outs.len() && naming.len() == outputs);
+    assert!(rt; letters.iter().all(|x| *x < inputs) && outs.iter().all(|y| *y < outputs));
+    let mut cache = Cache::new(alloc);
+    match cache.keep(word(rt, alloc, letters), word(rt, alloc, outs), 16, 0) {
+        Ok(()) => cache,
+        Err(_) => rt.panic("the answer was refused"),
     }
 }
 
 /// What comes of the counter with one instance and two extra states, where this answer was kept before.
-fn learned_after<R: Threads + Wait + Sync + Drop>(
+fn learned_after<R: Abort + Threads + Wait + Sync + Copy + Drop>(
     rt: R,
     alloc: Global,
-    word: Word,
-    outs: Word,
-) -> Result<LearnedMachine, Fail> {
-    let system = machine(alloc, &COUNTER)?;
-    let names = two_names(alloc)?;
-    let shared = OutNames::declared(alloc, &names)?;
-    let cache = with_prior(alloc, &system, &shared, word, outs)?;
-    Ok(call(rt, alloc, &system, &names, shared, cache, 1, 2, 4))
-}
-
-/// This word.
-fn word(alloc: Global, letters: &[u16]) -> Result<Word, Fail> {
-    Ok(Word::from_letters(alloc, letters.to_vec(alloc)?))
+    letters: &[u16],
+    outs: &[u16],
+) -> LearnedMachine {
+    let system = machine(&rt, alloc, &COUNTER);
+    let names = names_of(&rt, alloc, &["0", "1"]);
+    let shared = OutNames::declared(alloc, &names).expect(&rt, "memory");
+    let cache = with_prior(&rt, alloc, &system, &shared, letters, outs);
+    call(rt, alloc, &system, &names, shared, cache, 1, 2, 4)
 }
 
 /// Whether the first answer is the prior one, and the second that of the first run of the first instance.
@@ -77,14 +74,11 @@ fn begins_with_prior(kept: &Kept) -> bool {
 
 /// The words of two and three letters are known, and not asked again.
 #[test]
-fn a_learning_begins_with_what_was_kept_before(rt: HostRuntime) -> Result<(), Fail> {
-    let alloc = rt.alloc();
-    let outs = word(alloc, &[0, 0, 1])?;
-    let ended = learned_after(rt, alloc, word(alloc, &[0, 0, 0])?, outs)?;
+fn a_learning_begins_with_what_was_kept_before(rt: HostRuntime) {
+    let ended = learned_after(rt, rt.alloc(), &[0, 0, 0], &[0, 0, 1]);
     assert!(rt; is_found(&ended.learned, 3, 1));
     assert!(rt; are_long(&ended.kept, &[3, 4, 5, 7]));
     assert!(rt; begins_with_prior(&ended.kept));
-    Ok(())
 }
 
 /// The clash that a learning stopped with.
@@ -99,9 +93,8 @@ fn clash_of(ended: &LearnedMachine) -> Option<Clash> {
 }
 
 #[test]
-fn an_answer_that_is_not_the_counters_is_told(rt: HostRuntime) -> Result<(), Fail> {
-    let alloc = rt.alloc();
-    let ended = learned_after(rt, alloc, word(alloc, &[0])?, word(alloc, &[1])?)?;
+fn an_answer_that_is_not_the_counters_is_told(rt: HostRuntime) {
+    let ended = learned_after(rt, rt.alloc(), &[0], &[1]);
     let expected = Clash {
         first: 0,
         second: 1,
@@ -109,5 +102,4 @@ fn an_answer_that_is_not_the_counters_is_told(rt: HostRuntime) -> Result<(), Fai
     };
     assert!(rt; clash_of(&ended) == Some(expected));
     assert!(rt; are_long(&ended.kept, &[1, 2]));
-    Ok(())
 }

@@ -3,4 +3,4 @@ use Rattle.test_tree.specs.Trials.{IsReady}
 use Rattle.lw_settle_tests.proofs.tests.split_tree.Given as goal
 
 abbrev pub invariant-loop-word : goal.invariant-loop-word
-invariant-loop-word l = IsReady (state_of l.trial.oracle) l.trial.tree
+invariant-loop-word g l = IsReady (state_of l.trial.oracle) l.trial.tree

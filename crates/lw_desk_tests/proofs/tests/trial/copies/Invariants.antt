@@ -2,4 +2,4 @@ use Rattle.std.proofs.Common.{◌≡◌, take}
 use Rattle.lw_desk_tests.proofs.tests.trial.copies.Given as goal
 
 abbrev pub invariant-loop-name : goal.invariant-loop-name
-invariant-loop-name l = l.v.items ≡ take l.name-index l.names
+invariant-loop-name g l = l.v.items ≡ take l.name-index l.names

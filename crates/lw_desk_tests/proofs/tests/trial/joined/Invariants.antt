@@ -2,4 +2,4 @@ use Rattle.std.proofs.Common.{◌≡◌, ◌++◌, take}
 use Rattle.lw_desk_tests.proofs.tests.trial.joined.Given as goal
 
 abbrev pub invariant-loop-i : goal.invariant-loop-i
-invariant-loop-i l = l.v.items ≡ l.own ++ take l.i l.names
+invariant-loop-i g l = l.v.items ≡ l.own ++ take l.i l.names

@@ -1,19 +1,15 @@
-use Rattle.std.proofs.Common.{ℕ, List, [], None, ap, sym, subst}
-use Rattle.std.proofs.lemmas.List.{get_or_default}
-use Rattle.lw_sul.specs.Names.{name_at}
+use Rattle.std.proofs.Common.{rules, ◌≡◌, None, ap, sym, subst}
 use Rattle.lw_desk.specs.Naming.{Naming}
 use Rattle.lw_desk.specs.Ending.{IsShared}
-use Rattle.lw_pool.proofs.JoinLemmas.{declared_come_up}
+use Rattle.lw_pool.proofs.JoinLemmas.{declared_come_up, declared_shared}
 use Rattle.lw_pool_tests.proofs.tests.crews.pool_of.Goals as goal
 
-all_shared : (names : List (List ℕ)) → IsShared record { names = names; brought = None }
-all_shared names instance y lt = (y, lt, get_or_default names y (name_at names y) [] lt)
-
 pub new-requires-2-clause-shared : goal.new-requires-2-clause-shared
-new-requires-2-clause-shared g c = subst (λ (n : Naming). IsShared n) (sym c.in_ok-shared.ensures) (all_shared _)
-
-pub hired-requires : goal.hired-requires
-hired-requires g c = c.in_ok-shared.ensures
+new-requires-2-clause-shared g c =
+    let is : c.expect-shared.result ≡ record { names = c.names-names.result; brought = None } = search rules in
+    subst (λ (n : Naming). IsShared n) (sym is) (declared_shared _)
 
 pub new-requires-2-clause-come_up : goal.new-requires-2-clause-come_up
-new-requires-2-clause-come_up g c = declared_come_up _ _ (ap (λ (n : Naming). n.brought) c.in_ok-shared.ensures)
+new-requires-2-clause-come_up g c =
+    let is : c.expect-shared.result ≡ record { names = c.names-names.result; brought = None } = search rules in
+    declared_come_up _ _ (ap (λ (n : Naming). n.brought) is)

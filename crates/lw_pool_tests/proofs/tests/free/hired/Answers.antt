@@ -1,4 +1,4 @@
-use Rattle.std.proofs.Common.{◌≡◌, ◌≤◌, ℕ, List, [], ◌∷◌, ◌++◌, length, take, replicate, Some, None, refl, ap, ap₂, sym, ◌∙◌, subst}
+use Rattle.std.proofs.Common.{◌≡◌, ◌≤◌, ℕ, List, [], ◌∷◌, ◌++◌, length, take, replicate, Some, None, rules, refl, ap, ap₂, sym, ◌∙◌, subst}
 use Rattle.lw_sul.specs.SessionState.{SessionState}
 use Rattle.lw_desk.specs.Naming.{Naming, own_names}
 use Rattle.lw_pool.specs.Pool.{Member}
@@ -31,13 +31,14 @@ joins number system none numbers begun = record {
 }
 
 pub returns-clause-join : goal.returns-clause-join
-returns-clause-join c =
-    let first : Hired = hired_at 0 c.in_ok-growing.field-0 in
-    let second : Hired = hired_at 1 c.in_ok-growing-2.field-0 in
-    let one : c.push.new.self.items ≡ [] ++ first ∷ [] = c.in_ok-push.ensures.items ∙ ap₂ (λ (l : List Hired) (s : Hired). l ++ s ∷ []) c.in_ok-sessions.ensures.items c.new.ensures in
-    let two : c.push-2.new.self.items ≡ ([] ++ first ∷ []) ++ second ∷ [] = c.in_ok-push-2.ensures.items ∙ ap₂ (λ (l : List Hired) (s : Hired). l ++ s ∷ []) one c.new-2.ensures in
+returns-clause-join g c =
+    let first : Hired = hired_at 0 c.growing-first.result in
+    let second : Hired = hired_at 1 c.growing-second.result in
+    let none : c.expect-sessions.result.items ≡ [] = search rules in
+    let one : c.push_reserved.new.self.items ≡ [] ++ first ∷ [] = c.push_reserved.ensures.items ∙ ap₂ (λ (l : List Hired) (s : Hired). l ++ s ∷ []) none c.new.ensures in
+    let two : c.push_reserved-2.new.self.items ≡ ([] ++ first ∷ []) ++ second ∷ [] = c.push_reserved-2.ensures.items ∙ ap₂ (λ (l : List Hired) (s : Hired). l ++ s ∷ []) one c.new-2.ensures in
     subst (AllMayJoin member c.args.shared.now 2 4096) (sym two)
     (subst (λ (n : Naming). AllMayJoin member n 2 4096 (([] ++ first ∷ []) ++ second ∷ [])) (sym c.requires)
     (one_more_joins member free 2 4096 ([] ++ first ∷ []) second
-    (one_more_joins member free 2 4096 [] first (none_joins member free 2 4096) (joins 0 c.in_ok-growing.field-0 refl c.in_ok-growing.ensures.numbers c.in_ok-growing.ensures.begun))
-    (joins 1 c.in_ok-growing-2.field-0 refl c.in_ok-growing-2.ensures.numbers c.in_ok-growing-2.ensures.begun)))
+    (one_more_joins member free 2 4096 [] first (none_joins member free 2 4096) (joins 0 c.growing-first.result refl c.growing-first.ensures.numbers c.growing-first.ensures.begun))
+    (joins 1 c.growing-second.result refl c.growing-second.ensures.numbers c.growing-second.ensures.begun)))

@@ -5,6 +5,6 @@ use Rattle.lw_cache.specs.Clash.{NothingClashes}
 use Rattle.lw_rounds_tests.proofs.tests.cases.oracle_of.Goals as goal
 
 -- before the batch nothing was kept
-pub returns-in-Ok-clause-nothing : goal.returns-in-Ok-clause-nothing
-returns-in-Ok-clause-nothing c =
+pub returns-clause-nothing : goal.returns-clause-nothing
+returns-clause-nothing g c =
     c.in-Ok.ensures.settles.unclashed (subst (λ (kept : List KeptAnswer). NothingClashes (answers_of kept)) (sym c.new-oracle.ensures.kept) (λ i j d before within. absurd (omega arith)))

@@ -3,7 +3,7 @@ use Rattle.std.specs.Prelude.{All}
 use Rattle.lw_turn.proofs.tests.calls.hire.Given as goal
 
 abbrev pub invariant-loop : goal.invariant-loop
-invariant-loop l = record {
+invariant-loop g l = record {
   ours : l.first.turnstile ≡ l.turnstile;
   number : l.first.knows.number ≡ 0;
   made : l.first.knows.made ≡ l.counter + 1;

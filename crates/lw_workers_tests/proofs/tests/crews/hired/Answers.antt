@@ -1,4 +1,4 @@
-use Rattle.std.proofs.Common.{ℕ, List, [], ◌∷◌, ◌++◌, length, Some, None, refl, ap, sym, ◌∙◌, subst, arith}
+use Rattle.std.proofs.Common.{ℕ, List, [], ◌∷◌, ◌++◌, length, Some, None, rules, ◌≡◌, refl, ap, sym, ◌∙◌, subst}
 use Rattle.lw_sul.specs.SessionState.{SessionState}
 use Rattle.lw_desk.specs.Naming.{Naming}
 use Rattle.lw_pool.specs.Pool.{Member}
@@ -11,16 +11,18 @@ abbrev member : SessionState Refusing → Member Refusing
 member s = record { session = s; seen = record { instance = s.instance; journal = s.journal; names = s.sul.table.names; most = length s.sul.table.names; stop = s.sul.stop; origin = record { machine = Some s.sul.table.table.rows; link = None; letters = None }; inputs = s.sul.table.table.inputs; outputs = s.sul.table.table.outputs } }
 
 pub loop-init : goal.loop-init
-loop-init c = subst (AllMayJoin member c.args.shared.now 1 2) (sym c.new-hired.ensures.items) (none_joins member c.args.shared.now 1 2)
+loop-init g c = subst (AllMayJoin member c.args.shared.now 1 2) (sym c.new-hired.ensures.items) (none_joins member c.args.shared.now 1 2)
 
 pub loop-preserved : goal.loop-preserved
-loop-preserved c =
-    let a = c.in_ok-system.ensures in
-    let new : SessionState Refusing = record { instance = c.in_ok-instance.instance; sul = c.in_ok-system.system; journal = [] } in
-    subst (AllMayJoin member c.args.shared.now 1 2) (sym (c.in_ok-push.ensures.items ∙ ap (λ (s : SessionState Refusing). c.loop.hired.items ++ s ∷ []) c.new.ensures))
+loop-preserved g c =
+    let a = c.system-system.ensures in
+    let new : SessionState Refusing = record { instance = c.expect-instance.result; sul = c.system-system.result; journal = [] } in
+    let pushed : c.push.new.self.items ≡ c.loop.hired.items ++ new ∷ [] = search rules in
+    let number : c.expect-instance.result ≡ length c.loop.hired.items = search rules in
+    subst (AllMayJoin member c.args.shared.now 1 2) (sym pushed)
     (one_more_joins member c.args.shared.now 1 2 c.loop.hired.items new c.loop.invariant
     (subst (λ (n : Naming). MayJoin n 1 2 (length c.loop.hired.items) (member new).seen) (sym c.requires.shared) (record {
-      instance = omega (arith, c.in_ok-instance.ensures, c.len.ensures);
+      instance = number;
       inputs_is = a.numbers.0;
       outputs_is = a.numbers.1;
       journal = refl;

@@ -7,7 +7,7 @@ use Rattle.lw_desk_tests.proofs.TestTrials.{trial_new}
 use Rattle.lw_desk_tests.proofs.tests.trial.Trial.new.Goals as goal
 
 pub invariant_of-result : goal.invariant_of-result
-invariant_of-result c =
+invariant_of-result g c =
     let own = c.args.own.now in
     let e = c.in-Ok.ensures in
     let seats : List Seat = map (λ x. seat_by x.held x.ended x.own.items) c.loop.seats.items in

@@ -3,4 +3,4 @@ use Rattle.lw_desk_tests.specs.TestTrial.{seat_by}
 use Rattle.lw_desk_tests.proofs.tests.trial.Trial.new.Given as goal
 
 abbrev pub invariant-loop : goal.invariant-loop
-invariant-loop l = map (λ x. seat_by x.held x.ended x.own.items) l.seats.items ≡ replicate l.counter (seat_by [] false l.own)
+invariant-loop g l = map (λ x. seat_by x.held x.ended x.own.items) l.seats.items ≡ replicate l.counter (seat_by [] false l.own)
