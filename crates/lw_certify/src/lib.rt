@@ -9,6 +9,3 @@ mod verdict;
 pub use certificate::certify;
 pub use laws::{sure_is_not_vacuous, sure_is_sure, verdict_is_unique};
 pub use verdict::Verdict;
-
-#[cfg(test)]
-mod tests;

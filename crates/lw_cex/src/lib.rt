@@ -6,6 +6,3 @@ mod search;
 mod splitting;
 
 pub use splitting::split;
-
-#[cfg(test)]
-mod tests;

@@ -6,6 +6,3 @@ pub mod laws;
 mod links;
 
 pub use links::Lists;
-
-#[cfg(test)]
-mod tests;

@@ -5,8 +5,6 @@ mod escaped;
 mod lines;
 mod log;
 mod memory_log;
-#[cfg(test)]
-mod tests;
 
 pub use escaped::bytes_are_told_readably;
 pub use log::{Log, LogState};

@@ -1,4 +1,3 @@
 pub mod RenumberLemmas
 pub mod RowLemmas
 pub mod WordLemmas
-pub mod WorkedMachines

@@ -6,8 +6,3 @@ mod mealy;
 
 pub use fault::MealyFault;
 pub use mealy::Mealy;
-
-#[cfg(test)]
-mod tests;
-#[cfg(test)]
-mod worked;

@@ -8,6 +8,3 @@ mod stops;
 pub use filling::{Prior, fill};
 pub use prior::prior_of;
 pub use stops::PriorStop;
-
-#[cfg(test)]
-mod tests;

@@ -8,4 +8,3 @@ pub mod OccurLemmas
 mod SortLemmas
 mod SuiteLemmas
 pub mod SureLemmas
-mod TestDesks

@@ -1,4 +1,3 @@
 pub mod Laws
 pub mod Renaming
 pub mod Sorting
-pub mod TestNames

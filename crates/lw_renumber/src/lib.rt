@@ -11,6 +11,3 @@ pub use laws::{
     renamed_never_clash,
 };
 pub use sorting::sort_outputs;
-
-#[cfg(test)]
-mod tests;

@@ -4,6 +4,3 @@
 mod command;
 
 pub use command::serve;
-
-#[cfg(test)]
-mod tests;

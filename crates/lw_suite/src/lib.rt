@@ -11,6 +11,3 @@ mod suite;
 pub use laws::{suite_is_of_words, suite_is_unique};
 pub use size::{GREATEST_SUITE, suite_size};
 pub use suite::{CHUNK, Suite, SuiteFault};
-
-#[cfg(test)]
-mod tests;

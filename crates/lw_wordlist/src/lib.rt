@@ -8,6 +8,3 @@ mod words;
 pub use drawing::draw_words;
 pub use lines::read_lines;
 pub use words::{WordStop, read_words};
-
-#[cfg(test)]
-mod tests;

@@ -4,6 +4,3 @@
 mod recording;
 
 pub use recording::Recording;
-
-#[cfg(test)]
-mod tests;

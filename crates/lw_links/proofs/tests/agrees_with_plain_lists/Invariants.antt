@@ -1,8 +1,0 @@
-use Rattle.std.proofs.Common.{◌≡◌, length}
-use Rattle.lw_links.proofs.tests.agrees_with_plain_lists.Given as goal
-
-abbrev pub invariant-loop-round : goal.invariant-loop-round
-invariant-loop-round g l = record {
-  owners : length l.lists.lists ≡ 7;
-  cells : l.lists.cells ≡ 60;
-}

@@ -1,0 +1,2 @@
+mod BroughtNames
+mod TestDesks
