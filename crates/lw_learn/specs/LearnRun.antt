@@ -33,5 +33,5 @@ IsLearnEnd a f g b z o p e d end = EndsUnread a f g b z o p e d end ⊎ EndsRead
 pub record IsLearnRun (a : LearnValues) (f g : FilesState) (b z : SpawnerSeen) (o p e d : SinkState) (s : LogState) (end : End) : Type 0 where
   pub told : SinkState
   pub ends : IsLearnEnd a f g b z o p e told end
-  -- or memory ran out before the log was opened
+  -- or memory ran out, and nothing is said of it
   pub log : SaysLog a.log s told d ⊎ ((end.outcome ≡ NoMemory) × (d ≡ told))
