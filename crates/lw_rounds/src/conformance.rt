@@ -47,6 +47,36 @@ fn settle_words<O: Oracle>(
     Ok(first_difference(cache, hypothesis, words)?)
 }
 
+/// Settles what is left of a suite, chunk by chunk, until the hypothesis differs.
+fn settle_chunks<O: Oracle, W: Watcher>(
+    oracle: &mut O,
+    hypothesis: &Mealy,
+    suite: &mut Suite,
+    chunk: &mut Vec<Word>,
+    account: &mut Account<'_, W>,
+) -> Result<Option<Word>, AskStop>
+    requires can { O.can_settle oracle.old }
+    requires may { MayAsk (O.state oracle.old).stop }
+    requires keeps { Keeps (O.state oracle.old) }
+    requires nothing { NothingClashes (answers_of (O.state oracle.old).kept) }
+    requires inputs { hypothesis.now.inputs ≡ (O.state oracle.old).inputs }
+    requires letters { All (IsWord hypothesis.now.inputs) suite.old }
+    requires gives { Gives hypothesis.now.rows (answers_of (O.state oracle.old).kept) }
+    ensures comes { IfOk result (Comes hypothesis.now.rows (answers_of (O.state oracle.new).kept)
+        suite.old) }
+    ensures leaves { Leaves (O.state oracle.old) (O.state oracle.new) (asked_stop result) }
+    ensures can { O.can_settle oracle.new }
+{
+    while suite.next_chunk(chunk)? {
+        let found = settle_words(oracle, hypothesis, chunk.as_slice())?;
+        account.tell(Phase::Suite, oracle);
+        if let Some(word) = found {
+            return Ok(Some(word));
+        }
+    }
+    Ok(None)
+}
+
 /// Settles a suite, chunk by chunk, until the hypothesis differs.
 pub fn settle_suite<O: Oracle, W: Watcher>(
     oracle: &mut O,
@@ -69,12 +99,5 @@ pub fn settle_suite<O: Oracle, W: Watcher>(
 {
     let mut suite = suite;
     let mut chunk = Vec::new(alloc);
-    while suite.next_chunk(&mut chunk)? {
-        let found = settle_words(oracle, hypothesis, chunk.as_slice())?;
-        account.tell(Phase::Suite, oracle);
-        if let Some(word) = found {
-            return Ok(Some(word));
-        }
-    }
-    Ok(None)
+    settle_chunks(oracle, hypothesis, &mut suite, &mut chunk, account)
 }

@@ -4,13 +4,44 @@ ghost use Rattle.lw_words.specs.Answer.{answers_of};
 ghost use Rattle.lw_cache.specs.Clash.{NothingClashes};
 ghost use Rattle.lw_cache.specs.Settling.{MayAsk, Leaves};
 ghost use Rattle.lw_rounds.specs.Learned.{IsLearned, StopsAs};
+ghost use Rattle.lw_rounds.specs.Learner.{inputs_of, outputs_of, IsRead};
 ghost use Rattle.lw_rounds.specs.Stops.{learn_stop};
+ghost use Rattle.lw_rounds.specs.bodies.Rounds.{IsLearnedFrom, StopsFrom};
 
 use crate::rounds::rounds;
 use crate::watcher::Account;
 use crate::{Kind, LearnStop, Learned, Learner, Phase, Watcher};
 use lw_cache::Oracle;
+use lw_mealy::Mealy;
 use std::alloc::Global;
+
+/// Closes a new learner, and goes through the rounds until a model is sure.
+fn learn_from<O: Oracle, W: Watcher>(
+    oracle: &mut O,
+    alloc: Global,
+    learner: &mut Learner,
+    extra: u8,
+    watcher: &mut W,
+) -> Result<Mealy, LearnStop>
+    requires can { O.can_settle oracle.old }
+    requires may { MayAsk (O.state oracle.old).stop }
+    requires nothing { NothingClashes (answers_of (O.state oracle.old).kept) }
+    requires inputs { inputs_of learner.old ≡ (O.state oracle.old).inputs }
+    requires outputs { outputs_of learner.old ≡ (O.state oracle.old).outputs }
+    requires read { IsRead (answers_of (O.state oracle.old).kept) learner.old }
+    requires few { extra ≤ 4 }
+    ensures learned { IfOk result (λ model. IsLearnedFrom learner.old extra
+        (answers_of (O.state oracle.new).kept) model learner.new) }
+    ensures stops { IfErr result (StopsFrom learner.old extra
+        (answers_of (O.state oracle.new).kept)) }
+    ensures leaves { Leaves (O.state oracle.old) (O.state oracle.new) (learn_stop result) }
+    ensures can { O.can_settle oracle.new }
+{
+    let mut account = Account::new(watcher, oracle);
+    learner.close(oracle)?;
+    account.tell_learner(Phase::Table, learner, oracle);
+    rounds(oracle, alloc, learner, extra, &mut account)
+}
 
 #[tactic(auto, using(lw_cache::proofs::SettlingLemmas::leaves_nothing, crate::proofs::StopLemmas::leaves_learn_own))]
 /// A model of the system behind an oracle, which every machine of at most `extra` states more that gives the kept answers
@@ -52,9 +83,6 @@ pub fn learn<O: Oracle, W: Watcher>(
     // The cache tells that its answers are over the inputs and outputs.
     let _ = oracle.cache();
     let mut learner = Learner::new(alloc, inputs, outputs, kind, max_states)?;
-    let mut account = Account::new(watcher, oracle);
-    learner.close(oracle)?;
-    account.tell_learner(Phase::Table, &learner, oracle);
-    let model = rounds(oracle, alloc, &mut learner, extra, &mut account)?;
+    let model = learn_from(oracle, alloc, &mut learner, extra, watcher)?;
     Ok(Learned { model, learner })
 }

@@ -85,6 +85,45 @@ fn round_by_suite<O: Oracle, W: Watcher>(
 }
 
 #[tactic(auto, using(lw_cache::proofs::SettlingLemmas::leaves_nothing, crate::proofs::StopLemmas::leaves_learn_own))]
+/// The rest of a round, with the machine of the learner.
+fn round_with<O: Oracle, W: Watcher>(
+    oracle: &mut O,
+    alloc: Global,
+    learner: &mut Learner,
+    hypothesis: &Mealy,
+    extra: u8,
+    account: &mut Account<'_, W>,
+) -> Result<Option<Mealy>, LearnStop>
+    requires can { O.can_settle oracle.old }
+    requires ready { IsReady (O.state oracle.old) learner.old }
+    requires few { extra ≤ 4 }
+    requires machine { IsMachineOf learner.old hypothesis.now.rows }
+    requires inputs { hypothesis.now.inputs ≡ inputs_of learner.old }
+    requires outputs { hypothesis.now.outputs ≡ outputs_of learner.old }
+    ensures ready { OnOk result (IsReady (O.state oracle.new) learner.new) }
+    ensures alike { IsAlike learner.old learner.new }
+    ensures goes { IfOk result (λ found. MatchOption found (GoesOn learner.old learner.new)
+        (λ model. IsLearnedFrom learner.old extra (answers_of (O.state oracle.new).kept) model
+        learner.new)) }
+    ensures stops { IfErr result (StopsFrom learner.old extra
+        (answers_of (O.state oracle.new).kept)) }
+    ensures leaves { Leaves (O.state oracle.old) (O.state oracle.new) (learn_stop result) }
+    ensures can { O.can_settle oracle.new }
+{
+    if let Some(word) = oracle.cache().against(hypothesis)? {
+        refine(oracle, alloc, learner, hypothesis, &word, account)?;
+        return Ok(None);
+    }
+    match learner.settle(oracle, alloc)? {
+        Settled::Replaced => {
+            account.tell_learner(Phase::Settling, learner, oracle);
+            Ok(None)
+        }
+        Settled::NoBlock => round_by_suite(oracle, alloc, learner, hypothesis, extra, account),
+    }
+}
+
+#[tactic(auto, using(lw_cache::proofs::SettlingLemmas::leaves_nothing, crate::proofs::StopLemmas::leaves_learn_own))]
 /// One round: None where the learner was refined or settled, else the model.
 fn round<O: Oracle, W: Watcher>(
     oracle: &mut O,
@@ -107,17 +146,7 @@ fn round<O: Oracle, W: Watcher>(
     ensures can { O.can_settle oracle.new }
 {
     let hypothesis = learner.machine()?;
-    if let Some(word) = oracle.cache().against(&hypothesis)? {
-        refine(oracle, alloc, learner, &hypothesis, &word, account)?;
-        return Ok(None);
-    }
-    match learner.settle(oracle, alloc)? {
-        Settled::Replaced => {
-            account.tell_learner(Phase::Settling, learner, oracle);
-            Ok(None)
-        }
-        Settled::NoBlock => round_by_suite(oracle, alloc, learner, &hypothesis, extra, account),
-    }
+    round_with(oracle, alloc, learner, &hypothesis, extra, account)
 }
 
 #[tactic(auto, using(crate::proofs::RoundLemmas::alike_then, crate::proofs::RoundLemmas::learned_alike, crate::proofs::RoundLemmas::stops_alike))]

@@ -3,13 +3,13 @@ use Rattle.std.proofs.Common.{◌≡◌, ℕ, zero, suc, ◌+◌, ◌*◌, ◌^�
 use Rattle.std.proofs.lemmas.List.{get_or_default}
 use Rattle.lw_tree.specs.Tree.{TreeState, no_node, no_place, node_at, place_at, leaf_at, edge_at, IsTree, IsLive, temporaries, is_temporary}
 use Rattle.lw_tree.specs.bodies.Nodes.{tree_of}
-use Rattle.lw_tree.specs.bodies.Steps.{set_place, leaf_below, moved_edge, inner_node, lowered, IsNextSplit, split_tree, placed, IsNextState, with_state}
-use Rattle.lw_tree.specs.bodies.Transitions.{IsTransition, word_of, place_by}
+use Rattle.lw_tree.specs.bodies.Steps.{set_place, with_place, leaf_below, moved_edge, inner_node, lowered, IsNextSplit, split_tree, placed, IsNextState, with_state}
+use Rattle.lw_tree.specs.bodies.Transitions.{IsTransition, word_of, place_by, is_open_by}
 use Rattle.lw_tree.specs.declared.nodes.Node.{Node}
 use Rattle.lw_tree.specs.declared.transitions.Place.{Place}
 use Rattle.lw_tree.specs.declared.transitions.Edge.{Edge}
 use Rattle.lw_tree.proofs.NodeLemmas.{live_within}
-use Rattle.lw_tree.proofs.ShapeLemmas.{shape_of, tree_of_shape, all_places, place_inside, state_shape, state_two}
+use Rattle.lw_tree.proofs.ShapeLemmas.{shape_of, tree_of_shape, all_places, place_inside, placed_shape, state_shape, state_two}
 use Rattle.lw_tree.proofs.LowerLemmas.{at_leaf, same_place, lower_count, lower_shape, split_next, split_two}
 use Rattle.std.proofs.lemmas.List.{length-append}
 
@@ -67,6 +67,11 @@ no_more_temporary nodes i count n lt at is whole =
     let here = at_node nodes i n lt in
     let none : one_if (is_temporary (get_or nodes i n).content) ≡ 0 = ap (λ (m : Node). one_if (is_temporary m.content)) (sym at) ∙ ap one_if is in
     omega (arith, whole, here, none)
+
+-- a tree with an open transition at another node is one
+pub placed_is_tree : (t : TreeState) (edge : Edge) (output n : ℕ) → IsTree t → IsTransition t edge → is_open_by t edge ≡ true → output < t.outputs → IsLive (node_at t.nodes n).content → IsTree (with_place t edge output n)
+placed_is_tree t edge output n g from stands below live =
+    tree_of_shape t (with_place t edge output n) g (placed_shape t edge output n (shape_of t g) from stands below live) g.nodes.two refl refl refl refl (omega arith) g.few g.few_nodes
 
 -- a tree with one state more is one, where it keeps the limits
 pub state_is_tree : (t : TreeState) (edge : Edge) (output : ℕ) (branch : List ℕ) → IsTree t → IsNextState t edge output branch → length t.access < t.most → length t.nodes + 1 < 2 ^ 32 → IsTree (with_state t edge output branch)

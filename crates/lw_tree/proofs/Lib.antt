@@ -23,6 +23,7 @@ mod PlaceLemmas
 mod PlantLemmas
 mod RelinkLemmas
 mod ReplaceLemmas
+mod RoomLemmas
 pub mod ShapeLemmas
 mod SproutLemmas
 pub mod StepLemmas

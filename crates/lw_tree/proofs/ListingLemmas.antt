@@ -1,12 +1,12 @@
 -- Words that are listed one after another.
-use Rattle.std.proofs.Common.{◌≡◌, ⊎_elim, ℕ, ◌+◌, ◌*◌, ◌<◌, ◌≤◌, Bool, List, [], ◌∷◌, ◌++◌, length, Contains, refl, ap₂, sym, subst, arith}
+use Rattle.std.proofs.Common.{◌≡◌, ⊎_elim, ℕ, ◌+◌, ◌*◌, ◌<◌, ◌≤◌, Bool, List, [], ◌∷◌, ◌++◌, length, Contains, refl, ap, ap₂, sym, ◌∙◌, subst, arith, append_assoc}
 use Rattle.std.specs.List.{All}
 use Rattle.std.proofs.Math.Seq.{get_or-append_seam}
 use Rattle.std.proofs.lemmas.Bool.{cases_lt}
 use Rattle.std.proofs.lemmas.List.{length-append}
 use Rattle.std.proofs.lemmas.List.Elements.{All-push, Contains-append_left}
 use Rattle.lw_words.specs.Word.{IsWord}
-use Rattle.lw_tree.specs.Tree.{TreeState, discriminator}
+use Rattle.lw_tree.specs.Tree.{TreeState, IsInner, discriminator}
 use Rattle.lw_tree.specs.bodies.Transitions.{IsTransition, IsAsked, AreAsked, word_of, content_by}
 use Rattle.lw_tree.specs.declared.nodes.Content.{Content}
 use Rattle.lw_tree.specs.declared.nodes.Content.TheVariants.{State, Discriminator, Gone}
@@ -22,6 +22,9 @@ pushed_two was middle now u v one two = (
   subst (λ (l : List (List ℕ)). Contains l u) (sym two) (Contains-append_left middle (v ∷ []) u (pushed_last was middle u one)),
   pushed_last middle now v two,
 )
+
+pub added_two : (was middle now : List (List ℕ)) (u v : List ℕ) → middle ≡ was ++ u ∷ [] → now ≡ middle ++ v ∷ [] → now ≡ was ++ u ∷ v ∷ []
+added_two was middle now u v one two = two ∙ (ap (λ (l : List (List ℕ)). l ++ v ∷ []) one ∙ append_assoc was (u ∷ []) (v ∷ []))
 
 pub all_pushed : (a : ℕ) (was now : List (List ℕ)) (w : List ℕ) → now ≡ was ++ w ∷ [] → IsWord a w → All (IsWord a) was → All (IsWord a) now
 all_pushed a was now w grown is each = subst (All (IsWord a)) (sym grown) (All-push (IsWord a) was w each is)
@@ -46,3 +49,9 @@ pub no_discriminator : (c : Content) → ((word : List ℕ) (temporary : Bool) �
 no_discriminator (State q) other = refl
 no_discriminator (Discriminator word temporary) other = absurd (other word temporary refl)
 no_discriminator Gone other = refl
+
+-- a discriminator is a word, where it is one at an inner node
+pub letters_of : (a : ℕ) (c : Content) → (IsInner c → IsWord a (discriminator c)) → IsWord a (discriminator c)
+letters_of a (State q) words = λ k d lt. absurd (omega (arith, lt))
+letters_of a (Discriminator word temporary) words = words tt
+letters_of a Gone words = λ k d lt. absurd (omega (arith, lt))

@@ -1,5 +1,5 @@
 -- One step of a transition, and the split by a cut.
-use Rattle.std.proofs.Common.{◌≡◌, ◌≢◌, ℕ, ◌+◌, ◌*◌, ◌<◌, Bool, false, List, [], ◌∷◌, ◌++◌, length, drop, get_or, Some, None, Result, Err, IsErrAnd, refl, ap, sym, ◌∙◌, subst}
+use Rattle.std.proofs.Common.{◌≡◌, ◌≢◌, ℕ, ◌+◌, ◌*◌, ◌<◌, Bool, false, List, [], ◌∷◌, ◌++◌, length, drop, get_or, Some, None, Result, Ok, Err, IsErrAnd, refl, ap, sym, ◌∙◌, subst}
 use Rattle.std.specs.List.{All}
 use Rattle.std.proofs.lemmas.List.Elements.{All-map}
 use Rattle.lw_words.specs.Answer.{Answer, AreAnswers, answer_of, answers_of}
@@ -13,7 +13,7 @@ use Rattle.lw_cache.specs.declared.stops.GrowStop.{GrowStop}
 use Rattle.lw_cache.specs.declared.stops.GrowStop.TheVariants.{Ask, Crowd}
 use Rattle.lw_cache.proofs.KnownLemmas.{reads_once}
 use Rattle.lw_cache.proofs.SettlingLemmas.{kept_are_answers, leaves_short}
-use Rattle.lw_tree.specs.Grown.{HasGrown, TellsCrowd}
+use Rattle.lw_tree.specs.Grown.{HasGrown, IsCrowdOf, TellsCrowd}
 use Rattle.lw_tree.specs.Tree.{TreeState, node_at, leaf_at, IsInner, IsTree, IsMachineOf, Tells, Agrees, BranchesAreRead, discriminator, is_inner}
 use Rattle.lw_tree.specs.bodies.Nodes.{IsChild}
 use Rattle.lw_tree.specs.bodies.Steps.{with_place, IsRead, IsOwn, HasStepped, IsNextSplit, split_tree}
@@ -57,6 +57,14 @@ not_inner Gone other = refl
 -- a crowd of a call whose stop is handed on
 pub handed_crowd : {X : Type 0} (ks : List Answer) (t : TreeState) (stop : GrowStop) (result : Result X GrowStop) → TellsCrowd {X = X} ks t (Err stop) → IsErrAnd result (λ e. e ≡ stop) → TellsCrowd {X = X} ks t result
 handed_crowd {X} ks t stop result crowd is = subst (λ (r : Result X GrowStop). TellsCrowd {X = X} ks t r) (sym (handed_stop stop result is)) crowd
+
+abbrev told_stop : {X : Type 0} → GrowStop → Result X GrowStop → GrowStop
+told_stop d (Ok _) = d
+told_stop d (Err stop) = stop
+
+-- a crowd of a stop that is made in place
+pub own_crowd : {X : Type 0} (ks : List Answer) (t : TreeState) (stop : GrowStop) → ((words : List (List ℕ)) → stop ≡ Crowd words → IsCrowdOf ks t words) → TellsCrowd {X = X} ks t (Err stop)
+own_crowd ks t stop is words same = is words (ap (told_stop stop) same)
 
 -- the answers that an oracle keeps, over a tree's numbers
 pub kept_words : (o : OracleState) (a b : ℕ) → a ≡ o.inputs → b ≡ o.outputs → Keeps o → AreAnswers a (answers_of o.kept) × All (λ k. IsWord b k.outs) (answers_of o.kept)

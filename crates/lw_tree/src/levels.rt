@@ -6,25 +6,46 @@ ghost use Rattle.lw_words.specs.Word.{IsWord};
 ghost use Rattle.lw_cache.specs.Known.{IsKnown};
 ghost use Rattle.lw_cache.specs.Settling.{Keeps, MayAsk, Leaves, grown_stop};
 ghost use Rattle.lw_tree.specs.Grown.{HasGrown, KeepsDiscriminators, HasLevelled, HasClosed, TellsCrowd};
-ghost use Rattle.lw_tree.specs.Tree.{IsTree, BranchesAreRead, HasOpen, IsClosed, IsInner, discriminator};
+ghost use Rattle.lw_cache.specs.declared.stops.GrowStop.TheVariants.{Crowd};
+ghost use Rattle.lw_tree.specs.Tree.{IsTree, BranchesAreRead, HasOpen, IsClosed, IsInner, IsLive, discriminator, node_at};
 ghost use Rattle.lw_tree.specs.bodies.Steps.{IsRead, IsOwn, HasStepped};
 ghost use Rattle.lw_tree.specs.Grown.{HasMoved, MovesOn};
-ghost use Rattle.lw_tree.specs.bodies.Transitions.{IsTransition, IsAsked, AreAsked, word_of, content_by, is_open_by};
+ghost use Rattle.lw_tree.specs.bodies.Transitions.{IsTransition, IsAsked, AreAsked, word_of, place_by, content_by, is_open_by};
 
 use crate::DiscriminationTree;
 use crate::nodes::Content;
 use crate::reading::{read_output, read_tail};
-use crate::transitions::Edge;
+use crate::transitions::{Edge, Place};
 use lw_cache::{Cache, GrowStop, Oracle};
 use lw_words::{NoMemory, Word, Words, join};
 
 impl DiscriminationTree {
+    /// The place of a transition.
+    fn place_of(&self, edge: Edge) -> Place
+        requires edge { IsTransition self.now edge }
+        ensures value { result ≡ place_by self.now edge }
+        ensures live { IsLive (node_at self.now.nodes result.node).content }
+        ensures within { result.node < length self.now.nodes }
+    {
+        self.places[edge.number(self.inputs)]
+    }
+
+    /// What stands at the node where a transition is.
+    fn content_of(&self, edge: Edge) -> &Content
+        requires edge { IsTransition self.now edge }
+        ensures value { result.now ≡ content_by self.now edge }
+        ensures letters { IsWord self.now.inputs (discriminator (content_by self.now edge)) }
+        ensures tree { IsTree self.now }
+    {
+        &self.nodes.get(self.place_of(edge).node).content
+    }
+
     /// Whether a transition has no target.
     fn is_open(&self, edge: Edge) -> bool
         requires edge { IsTransition self.now edge }
         ensures { result ≡ is_open_by self.now edge }
     {
-        let place = self.places[edge.number(self.inputs)];
+        let place = self.place_of(edge);
         place.output.is_none() || self.nodes.get(place.node).is_inner()
     }
 
@@ -64,8 +85,7 @@ impl DiscriminationTree {
             return Ok(());
         }
         let word = self.extension(edge)?;
-        let node = self.places[edge.number(self.inputs)].node;
-        if let Content::Discriminator { word: suffix, .. } = &self.nodes.get(node).content {
+        if let Content::Discriminator { word: suffix, .. } = self.content_of(edge) {
             let long = join(&word, suffix)?;
             words.push(word)?;
             words.push(long)?;
@@ -105,6 +125,18 @@ impl DiscriminationTree {
         Ok(words)
     }
 
+    /// The stop where a state for this word would be one too many.
+    pub(crate) fn crowd(&self, word: Word) -> GrowStop
+        ensures words { (words : List (List ℕ)) → result ≡ Crowd words →
+            words ≡ self.now.access ++ word ∷ [] }
+        ensures own { IsOwn result }
+    {
+        match self.with_word(word) {
+            Ok(words) => GrowStop::Crowd(words),
+            Err(stop) => GrowStop::from(stop),
+        }
+    }
+
     /// Moves a transition to the child for its outputs, or to a new state's leaf, where there is no such child.
     fn descend(&mut self, edge: Edge, word: Word, output: u16, branch: Word) -> Result<(), GrowStop>
         requires edge { IsTransition self.old edge }
@@ -120,13 +152,13 @@ impl DiscriminationTree {
             TellsCrowd ks self.new result }
         ensures own { IfErr result IsOwn }
     {
-        let node = self.places[edge.number(self.inputs)].node;
+        let node = self.place_of(edge).node;
         if let Some(child) = self.nodes.child(node, branch.as_slice()) {
             self.place(edge, output, child);
             return Ok(());
         }
         if self.access.len() == usize::from(self.most) {
-            return Err(GrowStop::Crowd(self.with_word(word)?));
+            return Err(self.crowd(word));
         }
         Ok(self.push_state(edge, word, output, branch)?)
     }
@@ -149,8 +181,8 @@ impl DiscriminationTree {
         }
         let word = self.extension(edge)?;
         let output = read_output(cache, &word)?;
-        let node = self.places[edge.number(self.inputs)].node;
-        let Content::Discriminator { word: suffix, .. } = &self.nodes.get(node).content else {
+        let Content::Discriminator { word: suffix, .. } = self.content_of(edge) else {
+            let node = self.place_of(edge).node;
             self.place(edge, output, node);
             return Ok(());
         };

@@ -278,6 +278,29 @@ impl Nodes {
         lower(&mut self.nodes, leaf, word);
     }
 
+    /// Gives the leaf of a state a temporary discriminator, and two leaves below it: that of the state, and that of another one.
+    /// There is room for them.
+    pub(crate) fn split_leaf(
+        &mut self,
+        leaf: u32,
+        word: Word,
+        branch: Word,
+        state: u16,
+        other_branch: Word,
+        other: u16,
+    )
+        requires room { 2 ≤ self.old.room }
+        requires few { length self.old.items + 1 < 2 ^ 32 }
+        requires leaf { IsLive (node_at self.old.items leaf).content }
+        ensures { self.new.items ≡ (slice_set self.old.items leaf
+            (inner_node (node_at self.old.items leaf) word) ++ leaf_below leaf branch state ∷ []) ++
+            leaf_below leaf other_branch other ∷ [] }
+    {
+        self.lower_leaf(leaf, word);
+        self.push_leaf(leaf, branch, state);
+        self.push_leaf(leaf, other_branch, other);
+    }
+
     /// Puts a final node in the place of another one, with these nodes behind all others, and takes away what stands at the
     /// marked ones. There is room for them.
     pub(crate) fn replace(&mut self, root: u32, word: Word, below: &[bool], more: Vec<Node>)

@@ -1,20 +1,36 @@
 //! Splitting a leaf by a cut.
-ghost use Rattle.std.specs.Prelude.{◌≡◌, ◌≢◌, ℕ, ◌+◌, ◌<◌, List, length, IfErr, OnOk, OnErr};
+ghost use Rattle.std.specs.Prelude.{◌≡◌, ◌≢◌, ℕ, ◌+◌, ◌<◌, List, length, IfOk, IfErr, OnOk, OnErr};
 ghost use Rattle.lw_words.specs.Answer.{AreAnswers, answers_of};
 ghost use Rattle.lw_mealy.specs.Machine.{Rows};
 ghost use Rattle.lw_cache.specs.Cut.{IsCut};
 ghost use Rattle.lw_cache.specs.Settling.{MayAsk, Leaves, grown_stop};
 ghost use Rattle.lw_tree.specs.Grown.{cut_word, HasGrown, IsSplit, HasSplit, TellsCrowd};
 ghost use Rattle.lw_tree.specs.Tree.{IsTree, BranchesAreRead, IsClosed, IsMachineOf};
+ghost use Rattle.lw_tree.specs.bodies.Cuts.{edge_of, CanSplit};
 ghost use Rattle.lw_tree.specs.bodies.Steps.{refined_once, IsOwn};
 
 use crate::DiscriminationTree;
 use crate::reading::read_tail;
 use crate::transitions::Edge;
 use lw_cache::{Cache, Cut, GrowStop, Oracle};
-use lw_words::NoMemory;
+use lw_words::{NoMemory, Word};
 
 impl DiscriminationTree {
+    /// The outputs on a cut's suffix: those of the target's access word, and those of the word that leads there by the cut.
+    fn tails(&self, cache: &Cache, cut: &Cut, word: &Word) -> Result<(Word, Word), NoMemory>
+        requires answers { AreAnswers self.now.inputs (answers_of cache.now.kept) }
+        requires cut { (m : Rows) × IsMachineOf self.now m × IsCut (answers_of cache.now.kept)
+            self.now.inputs m self.now.access cut.now }
+        requires word { word.now ≡ cut_word self.now.access cut.now }
+        ensures { IfOk result (λ tails. CanSplit (answers_of cache.now.kept) self.now
+            (edge_of cut.now) cut.now.target cut.now.suffix tails.0 tails.1) }
+    {
+        let target = self.access.get(usize::from(cut.target));
+        let old = read_tail(self.alloc, cache, target, &cut.suffix)?;
+        let new = read_tail(self.alloc, cache, word, &cut.suffix)?;
+        Ok((old, new))
+    }
+
     /// Makes the leaf of a cut's target a temporary node, with a new state beside the target below it.
     fn split_leaf(&mut self, cache: &Cache, cut: &Cut) -> Result<(), GrowStop>
         requires answers { AreAnswers self.old.inputs (answers_of cache.now.kept) }
@@ -36,11 +52,9 @@ impl DiscriminationTree {
             letter: cut.letter,
         };
         let word = self.extension(edge)?;
-        let target = self.access.get(usize::from(cut.target));
-        let old = read_tail(self.alloc, cache, target, &cut.suffix)?;
-        let new = read_tail(self.alloc, cache, &word, &cut.suffix)?;
+        let (old, new) = self.tails(cache, cut, &word)?;
         if self.access.len() == usize::from(self.most) {
-            return Err(GrowStop::Crowd(self.with_word(word)?));
+            return Err(self.crowd(word));
         }
         let suffix = cut.suffix.copy()?;
         Ok(self.push_split(edge, word, cut.target, suffix, old, new)?)

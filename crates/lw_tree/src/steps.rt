@@ -6,8 +6,34 @@ ghost use Rattle.lw_tree.specs.bodies.Steps.{with_place, with_state, split_tree,
 ghost use Rattle.lw_tree.specs.bodies.Transitions.{IsTransition, word_of, place_by, is_open_by};
 
 use crate::DiscriminationTree;
+use crate::linked::Nodes;
 use crate::transitions::{Edge, Place, UNASKED};
 use lw_words::{NoMemory, Word};
+
+/// Makes room for a state more: so many nodes, a leaf, the transition that leads to it, and its own transitions.
+fn make_room(
+    nodes: &mut Nodes,
+    leaves: &mut Vec<u32>,
+    spanning: &mut Vec<Edge>,
+    places: &mut Vec<Place>,
+    more: usize,
+    letters: usize,
+) -> Result<(), NoMemory>
+    ensures nodes { nodes.new.items ≡ nodes.old.items }
+    ensures leaves { leaves.new.items ≡ leaves.old.items }
+    ensures spanning { spanning.new.items ≡ spanning.old.items }
+    ensures places { places.new.items ≡ places.old.items }
+    ensures more { OnOk result (more ≤ nodes.new.room) }
+    ensures leaf { OnOk result (vec_len leaves.new + 1 ≤ vec_capacity leaves.new) }
+    ensures edge { OnOk result (vec_len spanning.new + 1 ≤ vec_capacity spanning.new) }
+    ensures letters { OnOk result (vec_len places.new + letters ≤ vec_capacity places.new) }
+{
+    nodes.reserve(more)?;
+    leaves.reserve(1)?;
+    spanning.reserve(1)?;
+    places.reserve(letters)?;
+    Ok(())
+}
 
 /// Adds the places of a new state's transitions. There is room for them.
 fn push_places(places: &mut Vec<Place>, count: usize)
@@ -56,10 +82,14 @@ impl DiscriminationTree {
         if node >= u32::MAX as usize {
             return Err(NoMemory);
         }
-        self.nodes.reserve(1)?;
-        self.leaves.reserve(1)?;
-        self.spanning.reserve(1)?;
-        self.places.reserve(letters)?;
+        make_room(
+            &mut self.nodes,
+            &mut self.leaves,
+            &mut self.spanning,
+            &mut self.places,
+            1,
+            letters,
+        )?;
         self.access.push(word)?;
         let parent = self.places[number].node;
         let state = self.leaves.len() as u16;
@@ -118,15 +148,18 @@ impl DiscriminationTree {
         if node >= u32::MAX as usize - 1 {
             return Err(NoMemory);
         }
-        self.nodes.reserve(2)?;
-        self.leaves.reserve(1)?;
-        self.spanning.reserve(1)?;
-        self.places.reserve(letters)?;
+        make_room(
+            &mut self.nodes,
+            &mut self.leaves,
+            &mut self.spanning,
+            &mut self.places,
+            2,
+            letters,
+        )?;
         self.access.push(word)?;
         let leaf = self.leaves[state];
-        self.nodes.lower_leaf(leaf, suffix);
-        self.nodes.push_leaf(leaf, old, target);
-        self.nodes.push_leaf(leaf, new, self.leaves.len() as u16);
+        let count = self.leaves.len() as u16;
+        self.nodes.split_leaf(leaf, suffix, old, target, new, count);
         self.leaves[state] = node as u32;
         self.leaves.push_reserved(node as u32 + 1);
         move_edge(

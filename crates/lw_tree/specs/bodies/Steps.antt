@@ -1,5 +1,5 @@
 -- The steps by which a tree grows.
-use Rattle.std.specs.Prelude.{◌≡◌, ◌≢◌, ◌⊎◌, ℕ, zero, suc, ◌+◌, ◌*◌, ◌<◌, ◌≤◌, List, [], ◌∷◌, ◌++◌, length, replicate, slice_set, true, Some}
+use Rattle.std.specs.Prelude.{◌≡◌, ◌≢◌, ℕ, zero, suc, ◌+◌, ◌*◌, ◌<◌, ◌≤◌, List, [], ◌∷◌, ◌++◌, length, replicate, slice_set, true, Some}
 use Rattle.lw_words.specs.Answer.{Answer}
 use Rattle.lw_words.specs.Word.{IsWord}
 use Rattle.lw_cache.specs.Cut.{word_at}
@@ -7,7 +7,7 @@ use Rattle.lw_cache.specs.declared.stops.AskStop.TheVariants.{NoMemory}
 use Rattle.lw_cache.specs.declared.stops.GrowStop.{GrowStop}
 use Rattle.lw_cache.specs.declared.stops.GrowStop.TheVariants.{Ask, Crowd}
 use Rattle.lw_tree.specs.Grown.{HasGrown, KeepsDiscriminators, MovesOn}
-use Rattle.lw_tree.specs.Tree.{TreeState, node_at, place_at, leaf_at, edge_at, no_place, discriminator, is_open, IsLive, IsInner, BranchesAreRead, Tells}
+use Rattle.lw_tree.specs.Tree.{TreeState, node_at, place_at, leaf_at, edge_at, no_place, discriminator, IsLive, IsInner, BranchesAreRead, Tells}
 use Rattle.lw_tree.specs.bodies.Nodes.{IsChild}
 use Rattle.lw_tree.specs.bodies.Transitions.{IsTransition, word_of, place_by, content_by}
 use Rattle.lw_tree.specs.declared.nodes.Node.{Node}

@@ -1,8 +1,12 @@
 use Rattle.std.proofs.Common.{None, rules}
+use Rattle.lw_words.specs.Answer.{answers_of}
 use Rattle.std.specs.Prelude.{⊤}
 use Rattle.lw_cache.proofs.SettlingLemmas.{leaves_then}
+use Rattle.lw_rounds.specs.Learner.{inputs_of, outputs_of, most_of}
+use Rattle.lw_rounds.specs.Stops.{of_growth}
+use Rattle.lw_rounds.specs.bodies.Rounds.{StopsFrom}
 use Rattle.lw_rounds.proofs.StopLemmas.{leaves_learn_grown}
-use Rattle.lw_rounds.proofs.RoundLemmas.{ready_more, is_learned}
+use Rattle.lw_rounds.proofs.RoundLemmas.{growth_as, ready_more, is_learned, told_stops}
 use Rattle.lw_rounds.proofs.rounds.round_by_suite.Goals as goal
 
 pub refine-requires-clause-ready : goal.refine-requires-clause-ready
@@ -27,3 +31,10 @@ returns-in-Sure-clause-goes g c =
     let l = c.args.learner.now in
     is_learned now l c.args.hypothesis.now c.in-Sure.model c.args.extra (ready_more before now l c.in_ok-word.ensures.leaves c.requires.ready) c.requires.settled
     c.requires.machine c.inputs.ensures.complete.machine c.requires.inputs c.requires.outputs (rw c.in-Sure.is at c.in_ok-word.ensures.tested)
+
+pub returns-in_err-refine-in-Differs-clause-stops : goal.returns-in_err-refine-in-Differs-clause-stops
+returns-in_err-refine-in-Differs-clause-stops g c =
+    let l = c.args.learner.now in
+    let ks = answers_of (g.O.Oracle.state c.refine.new.oracle).kept in
+    let stop = c.in_err-refine-in-Differs.field-0.0 in
+    told_stops (StopsFrom l c.args.extra ks) (of_growth stop) c.from_residual-in_err-refine-in-Differs.result (search rules) (growth_as (inputs_of l) (outputs_of l) c.args.extra (most_of l) ks stop c.in_err-refine-in-Differs.ensures.stops)

@@ -1,6 +1,9 @@
 use Rattle.std.proofs.Common.{Option, None, rules}
+use Rattle.lw_words.specs.Answer.{answers_of}
 use Rattle.lw_mealy.specs.Limits.{MealyMachine}
 use Rattle.lw_cache.proofs.SettlingLemmas.{leaves_then}
+use Rattle.lw_rounds.specs.bodies.Rounds.{StopsFrom}
+use Rattle.lw_rounds.proofs.RoundLemmas.{alike_then, stops_alike, told_stops}
 use Rattle.lw_rounds.proofs.StopLemmas.{leaves_learn_handed}
 use Rattle.lw_rounds.proofs.rounds.rounds.Goals as goal
 
@@ -12,3 +15,20 @@ returns-in_err-model-clause-leaves g c =
 pub returns-in-Some-clause-leaves : goal.returns-in-Some-clause-leaves
 returns-in-Some-clause-leaves g c =
     leaves_then (g.O.Oracle.state c.args.oracle.now) (g.O.Oracle.state c.loop-model.oracle) (g.O.Oracle.state c.round.new.oracle) None c.loop-model.invariant.leaves c.in_ok-model.ensures.leaves
+
+pub returns-in_err-model-clause-stops : goal.returns-in_err-model-clause-stops
+returns-in_err-model-clause-stops g c =
+    let l = c.args.learner.now in
+    let ks = answers_of (g.O.Oracle.state c.round.new.oracle).kept in
+    let stop = c.in_err-model.field-0.0 in
+    told_stops (StopsFrom l c.args.extra ks) stop c.from_residual.result (search rules) (stops_alike l c.loop-model.learner c.args.extra ks stop c.loop-model.invariant.alike c.in_err-model.ensures.stops)
+
+pub loop-model-preserved : goal.loop-model-preserved
+loop-model-preserved g c =
+    let i = c.loop-model.invariant in
+    record {
+      ready = c.in_ok-model.ensures.ready;
+      alike = alike_then c.args.learner.now c.loop-model.learner c.round.new.learner i.alike c.round.ensures.alike;
+      leaves = leaves_then (g.O.Oracle.state c.args.oracle.now) (g.O.Oracle.state c.loop-model.oracle) (g.O.Oracle.state c.round.new.oracle) None i.leaves c.in_ok-model.ensures.leaves;
+      can = c.in_ok-model.ensures.can;
+    }

@@ -1,9 +1,9 @@
-use Rattle.std.proofs.Common.{rules, ◌^◌, Bool, Err, None, subst}
+use Rattle.std.proofs.Common.{rules, ◌^◌, Bool, true≢false, Err, None, refl, sym, ◌∙◌, subst}
 use Rattle.lw_words.specs.Answer.{answers_of}
 use Rattle.lw_cache.specs.Settling.{grown_stop}
 use Rattle.lw_cache.proofs.SettlingLemmas.{leaves_nothing, leaves_then}
 use Rattle.lw_tree.specs.Tree.{TreeState, IsTree}
-use Rattle.lw_tree.proofs.CloseLemmas.{not_closed, crowd_too, handed_leaves}
+use Rattle.lw_tree.proofs.CloseLemmas.{has_closed, not_closed, crowd_too, handed_leaves}
 use Rattle.lw_tree.proofs.GrownLemmas.{keeps_same, keeps_and_keeps, not_grown, grown_then}
 use Rattle.lw_tree.proofs.MeasureLemmas.{closer}
 use Rattle.lw_tree.proofs.tree.DiscriminationTree.close.Goals as goal
@@ -57,6 +57,42 @@ loop-preserved g c =
       can = c.in_ok-sift.ensures.can;
     }
 
-pub returns-clause-leaves : goal.returns-clause-leaves
-returns-clause-leaves g c =
-    leaves_then (g.O.Oracle.state c.args.oracle.now) (g.O.Oracle.state c.loop.oracle) (g.O.Oracle.state c.sift.new.oracle) None c.loop.invariant.leaves c.in_ok-sift.ensures.leaves
+pub returns : goal.returns
+returns g c =
+    let l = c.loop in
+    let ks = answers_of (g.O.Oracle.state c.sift.new.oracle).kept in
+    let done = c.in_ok-sift.ensures.levels in
+    let grown = grown_then (answers_of (g.O.Oracle.state l.oracle).kept) ks c.args.self.now l.self c.sift.new.self l.invariant.grown done.grown in
+    record {
+      closes = has_closed ks c.args.self.now c.sift.new.self grown (keeps_and_keeps c.args.self.now l.self c.sift.new.self l.invariant.keeps done.keeps) (done.closed c.if-branch.false);
+      unasked = λ is. let left = c.has_open.ensures.open (search rules) in absurd (true≢false (sym left.2 ∙ is left.0 left.1));
+      leaves = leaves_then (g.O.Oracle.state c.args.oracle.now) (g.O.Oracle.state l.oracle) (g.O.Oracle.state c.sift.new.oracle) None l.invariant.leaves c.in_ok-sift.ensures.leaves;
+      can = c.in_ok-sift.ensures.can;
+    }
+
+pub returns-in_err-sift-clause-unasked : goal.returns-in_err-sift-clause-unasked
+returns-in_err-sift-clause-unasked g c is = let left = c.has_open.ensures.open (search rules) in absurd (true≢false (sym left.2 ∙ is left.0 left.1))
+
+pub returns-then-not-has_open : goal.returns-then-not-has_open
+returns-then-not-has_open g c =
+    let o = g.O.Oracle.state c.args.oracle.now in
+    let u : TreeState = c.args.self.now in
+    let ks = answers_of o.kept in
+    record {
+      closes = has_closed ks u u (not_grown ks u (subst (λ (v : TreeState). IsTree v) c.self.view_is c.self.invariant) c.requires.read) (keeps_same u) (c.has_open.ensures.closed (search rules));
+      unasked = λ is. refl;
+      leaves = leaves_nothing o c.cache.ensures.keeps c.requires.may;
+      can = c.requires.can;
+    }
+
+pub sift-requires : goal.sift-requires
+sift-requires g c =
+    let i = c.loop.invariant in
+    record {
+      can = i.can;
+      may = i.leaves.told;
+      keeps = i.leaves.keeps;
+      inputs = i.grown.inputs ∙ (c.requires.inputs ∙ sym i.leaves.same.inputs);
+      outputs = i.grown.outputs ∙ (c.requires.outputs ∙ sym i.leaves.same.outputs);
+      read = i.grown.read;
+    }

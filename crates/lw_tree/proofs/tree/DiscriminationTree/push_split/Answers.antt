@@ -1,4 +1,4 @@
-use Rattle.std.proofs.Common.{rules, ◌≡◌, ◌+◌, ◌*◌, ◌^◌, ◌<◌, ℕ, List, [], ◌∷◌, ◌++◌, length, replicate, set, sym, ap, subst, arith}
+use Rattle.std.proofs.Common.{rules, ◌≡◌, ◌+◌, ◌*◌, ◌^◌, ◌<◌, ℕ, List, [], ◌∷◌, ◌++◌, length, replicate, set, refl, sym, ◌∙◌, ap, subst, arith}
 use Rattle.std.proofs.lemmas.List.{get_or_default}
 use Rattle.lw_tree.specs.Tree.{TreeState, no_place, node_at, leaf_at, edge_at, no_edge, IsLive, IsTree}
 use Rattle.lw_tree.specs.bodies.Nodes.{tree_of}
@@ -9,6 +9,7 @@ use Rattle.lw_tree.specs.declared.transitions.Place.{Place}
 use Rattle.lw_tree.proofs.FieldLemmas.{split_is_tree, split_value}
 use Rattle.lw_tree.proofs.LowerLemmas.{edge_inside, length-moved_edge}
 use Rattle.lw_tree.proofs.ShapeLemmas.{shape_of, leaf_live, place_inside}
+use Rattle.lw_tree.proofs.RoomLemmas.{same_vectors, on_err}
 use Rattle.lw_tree.proofs.tree.DiscriminationTree.push_split.Goals as goal
 
 pub move_edge-requires : goal.move_edge-requires
@@ -22,8 +23,8 @@ move_edge-requires c some =
     let inside = edge_inside t c.args.target c.args.suffix c.args.old (shape_of t c.self.invariant) next.target next.letters next.some next.old_size (search (rules, some)) in
     search (rules, subst (λ (e : Edge). e.state * t.inputs + e.letter < length t.places) (sym edge) inside)
 
-pub lower_leaf-requires : goal.lower_leaf-requires
-lower_leaf-requires c =
+pub split_leaf-requires-clause-leaf : goal.split_leaf-requires-clause-leaf
+split_leaf-requires-clause-leaf c =
     let s = c.self.inside in
     let t : TreeState = tree_of s.inputs s.outputs s.most s.access s.nodes.items s.leaves.items s.places.items s.spanning.items s.refinements in
     let q : ℕ = c.args.target in
@@ -45,7 +46,7 @@ returns-clause-ok c output following =
     let in_leaves : q < length s.leaves.items = omega (arith, next.target, c.self.invariant.each_leaf) in
     let edge : c.index.result.now ≡ edge_at t.spanning q = search (rules, get_or_default s.spanning.items q c.index.result.now no_edge in_spanning) in
     let leaf : c.index-leaf.result.now ≡ leaf_at t.leaves q = search (rules, get_or_default s.leaves.items q c.index-leaf.result.now 0 in_leaves) in
-    let nodes : c.push_leaf-2.new.self.items ≡ (set t.nodes (leaf_at t.leaves q) (inner_node (node_at t.nodes (leaf_at t.leaves q)) c.args.suffix) ++ leaf_below (leaf_at t.leaves q) c.args.old q ∷ []) ++ leaf_below (leaf_at t.leaves q) c.args.new (length t.leaves) ∷ [] = search (rules, leaf) in
+    let nodes : c.split_leaf.new.self.items ≡ (set t.nodes (leaf_at t.leaves q) (inner_node (node_at t.nodes (leaf_at t.leaves q)) c.args.suffix) ++ leaf_below (leaf_at t.leaves q) c.args.old q ∷ []) ++ leaf_below (leaf_at t.leaves q) c.args.new (length t.leaves) ∷ [] = search (rules, leaf) in
     let leaves : c.push_reserved.new.self.items ≡ set t.leaves q (length t.nodes) ++ (length t.nodes + 1) ∷ [] = search rules in
     let moved : c.move_edge.new.places.items ≡ moved_edge t.inputs t.places (edge_at t.spanning q) q (length t.nodes) = search (rules, edge) in
     let number : c.number-number.result ≡ c.args.edge.state * t.inputs + c.args.edge.letter = c.number-number.ensures in
@@ -54,8 +55,8 @@ returns-clause-ok c output following =
     let found : c.index-2.result.now ≡ place_by (lowered t q c.args.suffix c.args.old) c.args.edge = search (rules, get_or_default c.move_edge.new.places.items c.number-number.result c.index-2.result.now no_place in_places, moved, number) in
     let places : c.push_places.new.places.items ≡ set_place t.inputs (moved_edge t.inputs t.places (edge_at t.spanning q) q (length t.nodes)) c.args.edge (record { output = c.index-2.result.now.output; node = length t.nodes + 1 }) ++ replicate t.inputs no_place = search (rules, moved, number) in
     let spanning : c.push_reserved-2.new.self.items ≡ t.spanning ++ c.args.edge ∷ [] = search rules in
-    subst (λ (u : TreeState). tree_of s.inputs s.outputs s.most c.push.new.self c.push_leaf-2.new.self.items c.push_reserved.new.self.items c.push_places.new.places.items c.push_reserved-2.new.self.items s.refinements ≡ split_tree u c.args.edge output q c.args.suffix c.args.old c.args.new) c.self.view_is
-    (split_value t c.args.edge output q c.args.suffix c.args.old c.args.new c.self.invariant next c.push.new.self c.push_leaf-2.new.self.items c.push_reserved.new.self.items c.push_places.new.places.items c.push_reserved-2.new.self.items c.index-2.result.now.output
+    subst (λ (u : TreeState). tree_of s.inputs s.outputs s.most c.push.new.self c.split_leaf.new.self.items c.push_reserved.new.self.items c.push_places.new.places.items c.push_reserved-2.new.self.items s.refinements ≡ split_tree u c.args.edge output q c.args.suffix c.args.old c.args.new) c.self.view_is
+    (split_value t c.args.edge output q c.args.suffix c.args.old c.args.new c.self.invariant next c.push.new.self c.split_leaf.new.self.items c.push_reserved.new.self.items c.push_places.new.places.items c.push_reserved-2.new.self.items c.index-2.result.now.output
     access nodes leaves places (ap (λ (p : Place). p.output) found) spanning)
 
 pub returns-clause-tree : goal.returns-clause-tree
@@ -71,3 +72,40 @@ returns-clause-tree c =
 
 pub invariant_of-self-2 : goal.invariant_of-self-2
 invariant_of-self-2 c = returns-clause-tree c
+
+pub invariant_of-self : goal.invariant_of-self
+invariant_of-self c =
+    let s = c.self.inside in
+    let t : TreeState = tree_of s.inputs s.outputs s.most s.access s.nodes.items s.leaves.items s.places.items s.spanning.items s.refinements in
+    let r = c.make_room.ensures in
+    subst (λ (v : TreeState). IsTree v) (sym (same_vectors t s.access c.make_room.new.nodes.items c.make_room.new.leaves.items c.make_room.new.places.items c.make_room.new.spanning.items refl r.nodes r.leaves r.places r.spanning)) c.self.invariant
+
+pub returns-in_err-make_room-clause-err : goal.returns-in_err-make_room-clause-err
+returns-in_err-make_room-clause-err c =
+    let s = c.self.inside in
+    let t : TreeState = tree_of s.inputs s.outputs s.most s.access s.nodes.items s.leaves.items s.places.items s.spanning.items s.refinements in
+    let r = c.make_room.ensures in
+    on_err _ c.from_residual.result (same_vectors t s.access c.make_room.new.nodes.items c.make_room.new.leaves.items c.make_room.new.places.items c.make_room.new.spanning.items refl r.nodes r.leaves r.places r.spanning ∙ c.self.view_is)
+
+pub returns-in_err-make_room-clause-tree : goal.returns-in_err-make_room-clause-tree
+returns-in_err-make_room-clause-tree c =
+    let s = c.self.inside in
+    let t : TreeState = tree_of s.inputs s.outputs s.most s.access s.nodes.items s.leaves.items s.places.items s.spanning.items s.refinements in
+    let r = c.make_room.ensures in
+    subst (λ (v : TreeState). IsTree v) (sym (same_vectors t s.access c.make_room.new.nodes.items c.make_room.new.leaves.items c.make_room.new.places.items c.make_room.new.spanning.items refl r.nodes r.leaves r.places r.spanning)) c.self.invariant
+
+pub invariant_of-self-in_err-push : goal.invariant_of-self-in_err-push
+invariant_of-self-in_err-push c =
+    let s = c.self.inside in
+    let t : TreeState = tree_of s.inputs s.outputs s.most s.access s.nodes.items s.leaves.items s.places.items s.spanning.items s.refinements in
+    let r = c.make_room.ensures in
+    let access : c.push.new.self ≡ s.access = search rules in
+    subst (λ (v : TreeState). IsTree v) (sym (same_vectors t c.push.new.self c.make_room.new.nodes.items c.make_room.new.leaves.items c.make_room.new.places.items c.make_room.new.spanning.items access r.nodes r.leaves r.places r.spanning)) c.self.invariant
+
+pub returns-in_err-push-clause-tree : goal.returns-in_err-push-clause-tree
+returns-in_err-push-clause-tree c =
+    let s = c.self.inside in
+    let t : TreeState = tree_of s.inputs s.outputs s.most s.access s.nodes.items s.leaves.items s.places.items s.spanning.items s.refinements in
+    let r = c.make_room.ensures in
+    let access : c.push.new.self ≡ s.access = search rules in
+    subst (λ (v : TreeState). IsTree v) (sym (same_vectors t c.push.new.self c.make_room.new.nodes.items c.make_room.new.leaves.items c.make_room.new.places.items c.make_room.new.spanning.items access r.nodes r.leaves r.places r.spanning)) c.self.invariant

@@ -1,10 +1,11 @@
-use Rattle.std.proofs.Common.{rules, ◌≡◌, ◌+◌, ◌^◌, ◌<◌, [], ◌∷◌, ◌++◌, length, replicate, sym, ap, subst, arith}
+use Rattle.std.proofs.Common.{rules, ◌≡◌, ◌+◌, ◌^◌, ◌<◌, [], ◌∷◌, ◌++◌, length, replicate, refl, sym, ◌∙◌, ap, subst, arith}
 use Rattle.lw_tree.specs.Tree.{TreeState, no_place, IsTree}
 use Rattle.lw_tree.specs.bodies.Nodes.{tree_of}
 use Rattle.lw_tree.specs.bodies.Steps.{set_place, placed, leaf_below, IsNextState, with_state}
 use Rattle.lw_tree.specs.bodies.Transitions.{word_of}
 use Rattle.lw_tree.specs.declared.transitions.Place.{Place}
 use Rattle.lw_tree.proofs.FieldLemmas.{found_place, state_is_tree, state_value}
+use Rattle.lw_tree.proofs.RoomLemmas.{same_vectors, on_err}
 use Rattle.lw_tree.proofs.tree.DiscriminationTree.push_state.Goals as goal
 
 pub returns-clause-ok : goal.returns-clause-ok
@@ -34,3 +35,40 @@ returns-clause-tree c =
 
 pub invariant_of-self-2 : goal.invariant_of-self-2
 invariant_of-self-2 c = returns-clause-tree c
+
+pub invariant_of-self : goal.invariant_of-self
+invariant_of-self c =
+    let s = c.self.inside in
+    let t : TreeState = tree_of s.inputs s.outputs s.most s.access s.nodes.items s.leaves.items s.places.items s.spanning.items s.refinements in
+    let r = c.make_room.ensures in
+    subst (λ (v : TreeState). IsTree v) (sym (same_vectors t s.access c.make_room.new.nodes.items c.make_room.new.leaves.items c.make_room.new.places.items c.make_room.new.spanning.items refl r.nodes r.leaves r.places r.spanning)) c.self.invariant
+
+pub returns-in_err-make_room-clause-err : goal.returns-in_err-make_room-clause-err
+returns-in_err-make_room-clause-err c =
+    let s = c.self.inside in
+    let t : TreeState = tree_of s.inputs s.outputs s.most s.access s.nodes.items s.leaves.items s.places.items s.spanning.items s.refinements in
+    let r = c.make_room.ensures in
+    on_err _ c.from_residual.result (same_vectors t s.access c.make_room.new.nodes.items c.make_room.new.leaves.items c.make_room.new.places.items c.make_room.new.spanning.items refl r.nodes r.leaves r.places r.spanning ∙ c.self.view_is)
+
+pub returns-in_err-make_room-clause-tree : goal.returns-in_err-make_room-clause-tree
+returns-in_err-make_room-clause-tree c =
+    let s = c.self.inside in
+    let t : TreeState = tree_of s.inputs s.outputs s.most s.access s.nodes.items s.leaves.items s.places.items s.spanning.items s.refinements in
+    let r = c.make_room.ensures in
+    subst (λ (v : TreeState). IsTree v) (sym (same_vectors t s.access c.make_room.new.nodes.items c.make_room.new.leaves.items c.make_room.new.places.items c.make_room.new.spanning.items refl r.nodes r.leaves r.places r.spanning)) c.self.invariant
+
+pub invariant_of-self-in_err-push : goal.invariant_of-self-in_err-push
+invariant_of-self-in_err-push c =
+    let s = c.self.inside in
+    let t : TreeState = tree_of s.inputs s.outputs s.most s.access s.nodes.items s.leaves.items s.places.items s.spanning.items s.refinements in
+    let r = c.make_room.ensures in
+    let access : c.push.new.self ≡ s.access = search rules in
+    subst (λ (v : TreeState). IsTree v) (sym (same_vectors t c.push.new.self c.make_room.new.nodes.items c.make_room.new.leaves.items c.make_room.new.places.items c.make_room.new.spanning.items access r.nodes r.leaves r.places r.spanning)) c.self.invariant
+
+pub returns-in_err-push-clause-tree : goal.returns-in_err-push-clause-tree
+returns-in_err-push-clause-tree c =
+    let s = c.self.inside in
+    let t : TreeState = tree_of s.inputs s.outputs s.most s.access s.nodes.items s.leaves.items s.places.items s.spanning.items s.refinements in
+    let r = c.make_room.ensures in
+    let access : c.push.new.self ≡ s.access = search rules in
+    subst (λ (v : TreeState). IsTree v) (sym (same_vectors t c.push.new.self c.make_room.new.nodes.items c.make_room.new.leaves.items c.make_room.new.places.items c.make_room.new.spanning.items access r.nodes r.leaves r.places r.spanning)) c.self.invariant

@@ -2,14 +2,14 @@ use Rattle.std.proofs.Common.{None, length}
 use Rattle.lw_words.specs.Answer.{answers_of}
 use Rattle.lw_cache.specs.Settling.{Leaves}
 use Rattle.lw_rounds.proofs.ConformanceLemmas.{HasSettled}
-use Rattle.lw_rounds.proofs.conformance.settle_suite.Given as goal
+use Rattle.lw_rounds.proofs.conformance.settle_chunks.Given as goal
 
-abbrev pub invariant-loop-chunk : goal.invariant-loop-chunk
-invariant-loop-chunk g l = record {
+abbrev pub invariant-loop-oracle : goal.invariant-loop-oracle
+invariant-loop-oracle g l = record {
   settled : HasSettled l.hypothesis.inputs l.hypothesis.rows (answers_of (g.O.Oracle.state l.oracle).kept) l.fn.suite l.suite;
   leaves : Leaves (g.O.Oracle.state l.initial.oracle) (g.O.Oracle.state l.oracle) None;
   can : g.O.Oracle.can_settle l.oracle;
 }
 
-abbrev pub decreases-loop-chunk : goal.decreases-loop-chunk
-decreases-loop-chunk g l = length l.suite
+abbrev pub decreases-loop-oracle : goal.decreases-loop-oracle
+decreases-loop-oracle g l = length l.suite
