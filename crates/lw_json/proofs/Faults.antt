@@ -21,6 +21,11 @@ pub value_holds : {T E : Type 0} (P Q : T → Type 0) (r : Result T E) → ((x :
 value_holds P Q (Ok x) each h = each x h
 value_holds P Q (Err e) each h = tt
 
+-- what holds of each fault of which P holds
+pub fault_holds : {T E : Type 0} (P Q : E → Type 0) (r : Result T E) → ((e : E) → P e → Q e) → IfErr r P → IfErr r Q
+fault_holds P Q (Ok x) each h = tt
+fault_holds P Q (Err e) each h = each e h
+
 -- a fault that a part told is one of the whole, where each of the part's faults is
 pub told_by : {F : Type 0} (wrap : F → JsonFault) (P : F → Type 0) (Q : JsonFault → Type 0) (told : JsonFault) → Told wrap P told → Q NoMemory → ((fault : F) → P fault → Q (wrap fault)) → Q told
 told_by wrap P Q told h none each = ⊎_elim (λ e. subst Q (sym e) none) (λ w. subst Q (sym w.1) (each w.0 w.2)) h

@@ -4,12 +4,14 @@ ghost use Rattle.std.specs.Prelude.{◌≡◌, IfOk, IfErr, IfSome, IfNone, Some
 ghost use Rattle.std.specs.List.{All};
 ghost use Rattle.serde_json.specs.View.{view};
 ghost use Rattle.lw_words.specs.First.{FailsFirst};
+ghost use Rattle.lw_words.specs.Name.{IsNames};
 ghost use Rattle.lw_json.specs.AnswersFile.{kept_answer, SaysAnswers, SpellsAnswers, IsAnswersFile, SameAnswers};
 ghost use Rattle.lw_json.specs.AnswersFault.{answers_tests, HasWords, SaysAnswersFault, HasAnswersFault};
 ghost use Rattle.lw_json.specs.Each.{each_of};
 ghost use Rattle.lw_json.specs.Fault.{first_failing};
 ghost use Rattle.lw_json.specs.KeptOver.{IsEven};
-ghost use Rattle.lw_json.specs.bodies.AnswersParts.{said_answer, said_answers};
+ghost use Rattle.lw_json.specs.MachineFile.{AreInputs};
+ghost use Rattle.lw_json.specs.bodies.AnswersParts.{said_answer, said_answers, written};
 ghost use Rattle.lw_json.specs.bodies.Told.{Told, IsMisshapen};
 ghost use Rattle.lw_json.specs.declared.answers.Answers.{Answers as Read};
 ghost use Rattle.lw_json.specs.declared.fault.JsonFault.{JsonFault as Fault};
@@ -120,22 +122,42 @@ fn first_uneven(kept: &Kept) -> Option<usize>
     None
 }
 
+/// The answers with the words of their texts, which are of one length in each.
+fn kept_even(
+    alloc: Global,
+    answers: &[SaidAnswer<'_>],
+    inputs: &Names,
+    outputs: &Names,
+) -> Result<Kept, JsonFault>
+    requires inputs { AreInputs inputs.now }
+    requires outputs { IsNames outputs.now }
+    ensures ok { IfOk result
+        (λ kept. each_of (kept_answer inputs.now outputs.now) (map said_answer answers.now)
+        ≡ Some kept.answers) }
+    ensures even { IfOk result (λ kept. All IsEven kept.answers) }
+    ensures err { IfErr result
+        (SaysAnswersFault (written inputs.now outputs.now (map said_answer answers.now))) }
+{
+    let kept = kept_all(alloc, answers, inputs, outputs)?;
+    match first_uneven(&kept) {
+        Some(place) => Err(JsonFault::Lengths(place)),
+        None => Ok(kept),
+    }
+}
+
 /// The answers that are said.
-fn answers_of(alloc: Global, said: Said<'_>) -> Result<Answers, JsonFault>
-    ensures ok { IfOk result (SpellsAnswers (said_answers said.entry)) }
-    ensures err { IfErr result (SaysAnswersFault (said_answers said.entry)) }
+fn answers_of(alloc: Global, said: &Said<'_>) -> Result<Answers, JsonFault>
+    ensures ok { IfOk result (SpellsAnswers (said_answers said.now)) }
+    ensures err { IfErr result (SaysAnswersFault (said_answers said.now)) }
 {
     let inputs = inputs_of(alloc, &said.inputs)?;
     let outputs = outputs_of(alloc, &said.outputs)?;
-    let kept = kept_all(alloc, &said.answers, &inputs, &outputs)?;
-    match first_uneven(&kept) {
-        Some(place) => Err(JsonFault::Lengths(place)),
-        None => Ok(Answers {
-            inputs,
-            outputs,
-            kept,
-        }),
-    }
+    let kept = kept_even(alloc, &said.answers, &inputs, &outputs)?;
+    Ok(Answers {
+        inputs,
+        outputs,
+        kept,
+    })
 }
 
 /// Reads an answers file: an object with `format`, 1 or 2, `inputs` and `outputs`, lists of names, and `answers`,
@@ -147,5 +169,5 @@ pub fn read_answers(alloc: Global, bytes: &[u8]) -> Result<Answers, JsonFault>
 {
     let root = value_of(alloc, bytes)?;
     let said = members_of(alloc, &root)?;
-    answers_of(alloc, said)
+    answers_of(alloc, &said)
 }

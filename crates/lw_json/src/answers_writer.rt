@@ -7,7 +7,7 @@ ghost use Rattle.lw_words.specs.Name.{IsNames};
 ghost use Rattle.lw_json.specs.AnswersText.{answer_cmp, answer_data, list_data, answers_data, IsWrittenOrder, IsAnswersText, IsReadInOrder};
 ghost use Rattle.lw_json.specs.KeptOver.{IsKeptOver, AreKeptOver};
 
-use crate::values::{names_value, put_member};
+use crate::values::{put_member, put_names};
 use crate::word_writer::word_value;
 use lw_words::{Kept, KeptAnswer, Names, NoMemory, shortlex};
 use serde_json::{Map, Value};
@@ -55,10 +55,10 @@ fn answer_value(
     let word = word_value(alloc, inputs, answer.word.as_slice())?;
     let outs = word_value(alloc, outputs, answer.outs.as_slice())?;
     let mut parts = Vec::with_capacity(alloc, 4)?;
-    parts.push(Value::from(answer.instance))?;
-    parts.push(Value::from(answer.run))?;
-    parts.push(word)?;
-    parts.push(outs)?;
+    parts.push_reserved(Value::from(answer.instance));
+    parts.push_reserved(Value::from(answer.run));
+    parts.push_reserved(word);
+    parts.push_reserved(outs);
     Ok(Value::Array(parts))
 }
 
@@ -97,10 +97,8 @@ fn file_value(
     let list = list_value(alloc, answers, inputs, outputs)?;
     put_member(alloc, &mut members, "answers", list)?;
     put_member(alloc, &mut members, "format", Value::from(2_u64))?;
-    let input_list = names_value(alloc, inputs)?;
-    put_member(alloc, &mut members, "inputs", input_list)?;
-    let output_list = names_value(alloc, outputs)?;
-    put_member(alloc, &mut members, "outputs", output_list)?;
+    put_names(alloc, &mut members, "inputs", inputs)?;
+    put_names(alloc, &mut members, "outputs", outputs)?;
     Ok(Value::Object(members))
 }
 

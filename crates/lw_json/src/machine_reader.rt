@@ -1,15 +1,16 @@
 //! Reads machine files: the shapes of the members, then the names, then the rows.
 
-ghost use Rattle.std.specs.Prelude.{◌≡◌, List, ℕ, ◌+◌, ◌≤◌, IfOk, IfErr, Some, map, string_bytes, option_map};
+ghost use Rattle.std.specs.Prelude.{◌≡◌, List, ℕ, ◌+◌, ◌≤◌, IfOk, IfErr, Some, length, map, string_bytes, option_map};
 ghost use Rattle.serde_json.specs.View.{view};
 ghost use Rattle.lw_words.specs.First.{FailsFirst};
+ghost use Rattle.lw_words.specs.Name.{IsNames};
 ghost use Rattle.lw_mealy.specs.Limits.{mealy_of, IsWithinLimits};
 ghost use Rattle.lw_json.specs.Each.{each_of};
 ghost use Rattle.lw_json.specs.Fault.{first_failing};
-ghost use Rattle.lw_json.specs.MachineFile.{cell_of, row_of, rows_at, numbered_cell, numbered_rows, SaysMachine, Spells, IsMachineFile, SameMachine};
+ghost use Rattle.lw_json.specs.MachineFile.{AreInputs, cell_of, row_of, rows_at, numbered_cell, numbered_rows, SaysMachine, Spells, IsMachineFile, SameMachine};
 ghost use Rattle.lw_json.specs.MachineFault.{machine_tests, IsKnown, SaysMachineFault, HasMachineFault};
 ghost use Rattle.lw_json.specs.bodies.Found.{FindsRow, FindsRows, named_row};
-ghost use Rattle.lw_json.specs.bodies.MachineParts.{said_machine, IsFaultOfRows, UnknownAt};
+ghost use Rattle.lw_json.specs.bodies.MachineParts.{said_machine, written, IsFaultOfRows, UnknownAt};
 ghost use Rattle.lw_json.specs.bodies.Told.{Told, IsMisshapen};
 ghost use Rattle.lw_json.specs.declared.fault.JsonFault.{JsonFault as Fault};
 ghost use Rattle.lw_json.specs.declared.machine.Machine.{Machine as Named};
@@ -169,15 +170,35 @@ fn mealy_of(
     }
 }
 
+/// The machine of rows with names for their outputs.
+fn mealy_said(
+    alloc: Global,
+    rows: &[Vec<(u16, &str)>],
+    inputs: &Names,
+    outputs: &Names,
+) -> Result<Mealy, JsonFault>
+    requires inputs { AreInputs inputs.now }
+    requires outputs { IsNames outputs.now }
+    ensures rows { IfOk result
+        (λ m. numbered_rows outputs.now (map (λ w. named_row w.items) rows.now) ≡ Some m.rows) }
+    ensures machine { IfOk result IsWithinLimits }
+    ensures letters { IfOk result (λ m. m.inputs ≡ length inputs.now) }
+    ensures answers { IfOk result (λ m. m.outputs ≡ length outputs.now) }
+    ensures err { IfErr result (SaysMachineFault
+        (written inputs.now outputs.now (map (λ w. named_row w.items) rows.now))) }
+{
+    let rows = numbered(alloc, rows, outputs)?;
+    mealy_of(alloc, inputs.len(), outputs.len(), rows)
+}
+
 /// The machine that is said.
-fn machine_of(alloc: Global, said: Said<'_>) -> Result<Machine, JsonFault>
-    ensures ok { IfOk result (Spells (said_machine said.entry)) }
-    ensures err { IfErr result (SaysMachineFault (said_machine said.entry)) }
+fn machine_of(alloc: Global, said: &Said<'_>) -> Result<Machine, JsonFault>
+    ensures ok { IfOk result (Spells (said_machine said.now)) }
+    ensures err { IfErr result (SaysMachineFault (said_machine said.now)) }
 {
     let inputs = inputs_of(alloc, &said.inputs)?;
     let outputs = outputs_of(alloc, &said.outputs)?;
-    let rows = numbered(alloc, &said.states, &outputs)?;
-    let mealy = mealy_of(alloc, inputs.len(), outputs.len(), rows)?;
+    let mealy = mealy_said(alloc, &said.states, &inputs, &outputs)?;
     Ok(Machine {
         inputs,
         outputs,
@@ -194,5 +215,5 @@ pub fn read_machine(alloc: Global, bytes: &[u8]) -> Result<Machine, JsonFault>
 {
     let root = value_of(alloc, bytes)?;
     let said = members_of(alloc, &root)?;
-    machine_of(alloc, said)
+    machine_of(alloc, &said)
 }

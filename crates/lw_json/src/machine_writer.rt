@@ -10,7 +10,7 @@ ghost use Rattle.lw_json.specs.MachineFile.{IsNamed, IsMachineFile};
 ghost use Rattle.lw_json.specs.MachineText.{texts_data, cell_data, row_data, rows_data, machine_data, written_text};
 
 use crate::Machine;
-use crate::values::{names_value, put_member};
+use crate::values::{put_member, put_names};
 use lw_mealy::Mealy;
 use lw_words::{Names, NoMemory};
 use serde_json::{Map, Value};
@@ -22,8 +22,8 @@ fn cell_value(alloc: Global, cell: (u16, u16), outputs: &Names) -> Result<Value,
     ensures { IfOk result (λ v. view v ≡ cell_data outputs.now cell) }
 {
     let mut pair = Vec::with_capacity(alloc, 2)?;
-    pair.push(Value::from(cell.0))?;
-    pair.push(Value::try_from_str(alloc, outputs.name(cell.1))?)?;
+    pair.push_reserved(Value::from(cell.0));
+    pair.push_reserved(Value::try_from_str(alloc, outputs.name(cell.1))?);
     Ok(Value::Array(pair))
 }
 
@@ -58,18 +58,8 @@ fn machine_value(alloc: Global, m: &Machine) -> Result<Value, NoMemory>
     ensures named { OnOk result (IsNamed m.now) }
 {
     let mut members = Map::new(alloc);
-    put_member(
-        alloc,
-        &mut members,
-        "inputs",
-        names_value(alloc, &m.inputs)?,
-    )?;
-    put_member(
-        alloc,
-        &mut members,
-        "outputs",
-        names_value(alloc, &m.outputs)?,
-    )?;
+    put_names(alloc, &mut members, "inputs", &m.inputs)?;
+    put_names(alloc, &mut members, "outputs", &m.outputs)?;
     let states = rows_value(alloc, &m.mealy, &m.outputs)?;
     put_member(alloc, &mut members, "states", states)?;
     Ok(Value::Object(members))

@@ -35,3 +35,19 @@ pub fn put_member(
     let _replaced = members.insert(String::from_str(alloc, name)?, value)?;
     Ok(())
 }
+
+/// Puts a member that is the list of these names into an object.
+pub fn put_names(
+    alloc: Global,
+    members: &mut Map<String, Value>,
+    name: &str,
+    names: &Names,
+) -> Result<(), NoMemory>
+    ensures value { OnOk result (members_view members.new.entries
+        ≡ put name.now (texts_data names.now) (members_view members.old.entries)) }
+    ensures names { OnOk result (IsNames names.now) }
+{
+    let list = names_value(alloc, names)?;
+    put_member(alloc, members, name, list)?;
+    Ok(())
+}

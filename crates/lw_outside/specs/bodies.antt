@@ -1,3 +1,4 @@
 pub mod Cast
 pub mod Child
+pub mod Link
 pub mod Spawner

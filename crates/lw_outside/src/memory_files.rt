@@ -1,5 +1,5 @@
 //! Files in memory.
-ghost use Rattle.std.specs.Prelude.{◌≡◌, ◌≤◌, ◌∷◌, [], ◌++◌, length, map, true, false, Some, Err, IfOk, OnOk, OnErr, option_map, string_bytes};
+ghost use Rattle.std.specs.Prelude.{◌≡◌, ◌<◌, ◌≤◌, ◌∷◌, [], ◌++◌, length, map, true, false, Some, Err, IfOk, OnOk, OnErr, option_map, string_bytes, vec_capacity, vec_len};
 ghost use Rattle.lw_words.specs.Cause.{CountedFault};
 ghost use Rattle.lw_outside.specs.Files.{Holds, HoldsLong, StaysBeside, file_at, longest_file, noted, read_call, write_call};
 ghost use Rattle.lw_outside.specs.Memory.{EndsRead, NotesCall, files_with, is_planned, read_end};
@@ -10,7 +10,7 @@ use crate::files::LONGEST_FILE;
 use crate::{Files, FilesStop, WriteStop};
 use http_server::Log;
 use lw_words::NoMemory;
-use std::alloc::Global;
+use std::alloc::{AllocError, Global};
 use std::marker::Model;
 
 /// A call on files: the name, whether it writes, and whether it failed.
@@ -83,6 +83,41 @@ fn write_of(name: String, failed: bool) -> FileCall
         writes: true,
         failed,
     }
+}
+
+/// What a read takes memory for before it looks: the name of the call, and a place for the call.
+fn ready_to_read(alloc: Global, name: &str, calls: &mut Vec<FileCall>) -> Result<String, AllocError>
+    ensures calls { calls.new.items ≡ calls.old.items }
+    ensures called { IfOk result (λ called. string_bytes called ≡ name.now) }
+    ensures room { OnOk result (vec_len calls.new < vec_capacity calls.new) }
+{
+    let called = String::from_str(alloc, name)?;
+    calls.reserve(1)?;
+    Ok(called)
+}
+
+/// What a write takes memory for: the name of the call, the file, and a place for each.
+fn ready_to_write(
+    alloc: Global,
+    name: &str,
+    bytes: &[u8],
+    calls: &mut Vec<FileCall>,
+    files: &mut Vec<(String, Vec<u8>)>,
+) -> Result<(String, (String, Vec<u8>)), AllocError>
+    ensures calls { calls.new.items ≡ calls.old.items }
+    ensures files { files.new.items ≡ files.old.items }
+    ensures called { IfOk result (λ made. string_bytes made.0 ≡ name.now) }
+    ensures file { IfOk result (λ made. (string_bytes made.1.0 ≡ name.now) ×
+        (made.1.1.items ≡ bytes.now)) }
+    ensures call_room { OnOk result (vec_len calls.new < vec_capacity calls.new) }
+    ensures file_room { OnOk result (vec_len files.new < vec_capacity files.new) }
+{
+    let called = String::from_str(alloc, name)?;
+    let stored = String::from_str(alloc, name)?;
+    let content = Vec::from_slice(alloc, bytes)?;
+    calls.reserve(1)?;
+    files.reserve(1)?;
+    Ok((called, (stored, content)))
 }
 
 impl MemoryFiles {
@@ -184,8 +219,9 @@ impl Files for MemoryFiles {
             NotesCall self.old (read_call name.now false) self.new }
         ensures unnoted { result ≡ Err ReadRefusal.NoMemory → self.new ≡ self.old }
     {
-        let called = String::from_str(self.alloc, name)?;
-        self.calls.reserve(1)?;
+        let Ok(called) = ready_to_read(self.alloc, name, &mut self.calls) else {
+            return Err(FilesStop::NoMemory);
+        };
         match self.look(name) {
             Ok(bytes) => {
                 self.made = self.made.saturating_add(1);
@@ -234,11 +270,13 @@ impl Files for MemoryFiles {
             NotesCall self.old (write_call name.now true) self.new }
         ensures unnoted { result ≡ Err WriteRefusal.NoMemory → self.new ≡ self.old }
     {
-        let called = String::from_str(self.alloc, name)?;
-        let stored = String::from_str(self.alloc, name)?;
-        let content = Vec::from_slice(self.alloc, bytes)?;
-        self.calls.reserve(1)?;
-        self.files.reserve(1)?;
+        let (called, file) = ready_to_write(
+            self.alloc,
+            name,
+            bytes,
+            &mut self.calls,
+            &mut self.files,
+        )?;
         let failed = self.plan.contains(&self.made);
         self.made = self.made.saturating_add(1);
         self.calls.push_reserved(write_of(called, failed));
@@ -246,7 +284,7 @@ impl Files for MemoryFiles {
             self.faults = self.faults.saturating_add(1);
             return Err(WriteStop::Failed);
         }
-        self.files.push_reserved((stored, content));
+        self.files.push_reserved(file);
         Ok(())
     }
 }

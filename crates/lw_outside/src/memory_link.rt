@@ -4,11 +4,10 @@ ghost use Rattle.lw_words.specs.Cause.{CountedFault};
 ghost use Rattle.lw_outside.specs.Links.{SendsPart, receives, sends};
 ghost use Rattle.lw_outside.specs.Memory.{HasHeard, NotesFault, is_planned, new_link, one_more, waiting};
 ghost use Rattle.lw_outside.specs.bodies.Child.{IsFresh, speaker_of};
+ghost use Rattle.lw_outside.specs.bodies.Link.{HasRoom};
 
 use crate::child::Child;
 use crate::{Bytes, Failed, Link, Transcript};
-use lw_words::NoMemory;
-use std::alloc::Global;
 use std::marker::Model;
 
 /// A link in memory, to a child that plays a machine or to one that says a script. A spawner makes it.
@@ -42,6 +41,14 @@ impl Model for MemoryLink {
         × (l.left ≤ vec_capacity l.received - vec_len l.received) };
 }
 
+/// What a link takes memory for besides its child: its plan, and the room for what is sent and received.
+#[derive(Drop)]
+pub(crate) struct LinkParts {
+    pub(crate) plan: Vec<u64>,
+    pub(crate) sent: Vec<u8>,
+    pub(crate) received: Vec<u8>,
+}
+
 /// Puts bytes last, for which there is room.
 fn push_within(list: &mut Vec<u8>, bytes: &[u8])
     requires { length bytes.now ≤ vec_capacity list.old - vec_len list.old }
@@ -55,30 +62,23 @@ fn push_within(list: &mut Vec<u8>, bytes: &[u8])
 }
 
 impl MemoryLink {
-    /// A link to this child, with room for so many bytes that are sent and received.
-    pub(crate) fn start(
-        alloc: Global,
-        number: usize,
-        child: Child,
-        room: usize,
-        plan: Vec<u64>,
-    ) -> Result<MemoryLink, NoMemory>
-        requires { IsFresh child }
-        ensures { IfOk result (λ l. l ≡ new_link number (speaker_of child) room plan.items) }
+    /// A link to this child, of these parts, with room for so many bytes that are sent and received.
+    pub(crate) fn start(number: usize, child: Child, room: usize, parts: LinkParts) -> MemoryLink
+        requires fresh { IsFresh child }
+        requires room { HasRoom room parts }
+        ensures { result ≡ new_link number (speaker_of child) room parts.plan.items }
     {
-        let sent = Vec::with_capacity(alloc, room)?;
-        let received = Vec::with_capacity(alloc, room)?;
-        Ok(MemoryLink {
+        MemoryLink {
             number,
             child,
-            sent,
-            received,
+            sent: parts.sent,
+            received: parts.received,
             left: room,
-            plan,
+            plan: parts.plan,
             made: 0,
             faults: 0,
             ends: 0,
-        })
+        }
     }
 
     pub(crate) fn number(&self) -> usize

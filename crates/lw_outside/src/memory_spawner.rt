@@ -6,10 +6,12 @@ ghost use Rattle.lw_outside.specs.Links.{IsUntouched, with_start};
 ghost use Rattle.lw_outside.specs.Memory.{AllPlay, EachRecites, HasHeard, is_planned, new_link, new_spawner, next_link, one_more, retired_of, speaker_at, transcript_of};
 ghost use Rattle.lw_outside.specs.bodies.Cast.{cast_of};
 ghost use Rattle.lw_outside.specs.bodies.Child.{IsFresh, speaker_of};
+ghost use Rattle.lw_outside.specs.bodies.Link.{HasRoom};
 ghost use Rattle.lw_outside.specs.declared.links.StartStop.{StartStop as StartRefusal};
 
 use crate::cast::Cast;
 use crate::child::Child;
+use crate::memory_link::LinkParts;
 use crate::{Link, MemoryLink, Spawner, StartFailure, StartStop, Transcript};
 use http_server::Log;
 use lw_json::Machine;
@@ -95,6 +97,30 @@ fn make_room(transcripts: &mut Vec<Transcript>, started: usize) -> Result<usize,
     };
     transcripts.reserve(more - transcripts.len())?;
     Ok(more)
+}
+
+/// What a start takes memory for before its link: its words once more, with a place for them, and the room of `make_room`.
+fn make_ready(
+    alloc: Global,
+    words: &[String],
+    commands: &mut Vec<Vec<String>>,
+    transcripts: &mut Vec<Transcript>,
+    started: usize,
+) -> Result<(Vec<String>, usize), NoMemory>
+    requires { vec_len transcripts.old ≤ started }
+    ensures commands { commands.new.items ≡ commands.old.items }
+    ensures items { transcripts.new.items ≡ transcripts.old.items }
+    ensures words { IfOk result (λ made. map (λ w. string_bytes w) made.0.items ≡
+        map (λ w. string_bytes w) words.now) }
+    ensures room { OnOk result (vec_len commands.new < vec_capacity commands.new) }
+    ensures more { IfOk result (λ made. (made.1 ≡ started + 1) ×
+        (made.1 ≤ vec_capacity transcripts.new)) }
+    ensures capacity { vec_capacity transcripts.old ≤ vec_capacity transcripts.new }
+{
+    let command = copy_words(alloc, words)?;
+    commands.reserve(1)?;
+    let more = make_room(transcripts, started)?;
+    Ok((command, more))
 }
 
 impl MemorySpawner {
@@ -193,14 +219,30 @@ impl MemorySpawner {
         plan_of(self.alloc, &self.links, self.started)
     }
 
+    /// What the next link takes memory for besides its child.
+    fn next_parts(&self) -> Result<LinkParts, NoMemory>
+        ensures plan { IfOk result (λ parts. parts.plan.items ≡
+            slice_index_or self.now.links self.now.started []) }
+        ensures room { IfOk result (HasRoom self.now.room) }
+    {
+        let plan = self.next_plan()?;
+        let sent = Vec::with_capacity(self.alloc, self.room)?;
+        let received = Vec::with_capacity(self.alloc, self.room)?;
+        Ok(LinkParts {
+            plan,
+            sent,
+            received,
+        })
+    }
+
     /// A link to this child, with the room, the number and the plan of the next one.
     fn link_to(&self, child: Child) -> Result<MemoryLink, NoMemory>
         requires { IsFresh child }
         ensures { IfOk result (λ link. link ≡ new_link self.now.started (speaker_of child)
             self.now.room (slice_index_or self.now.links self.now.started [])) }
     {
-        let plan = self.next_plan()?;
-        MemoryLink::start(self.alloc, self.started, child, self.room, plan)
+        let parts = self.next_parts()?;
+        Ok(MemoryLink::start(self.started, child, self.room, parts))
     }
 
     /// The link that is started next. None where the start is to fail.
@@ -289,10 +331,18 @@ impl Spawner for MemorySpawner {
         ensures unnoted { result ≡ Err StartRefusal.NoMemory → self.new ≡ self.old }
     {
         self.keeps_earlier();
-        let command = copy_words(self.alloc, words)?;
-        self.commands.reserve(1)?;
-        let started = make_room(&mut self.transcripts, self.started)?;
-        let next = self.next_link()?;
+        let Ok((command, started)) = make_ready(
+            self.alloc,
+            words,
+            &mut self.commands,
+            &mut self.transcripts,
+            self.started,
+        ) else {
+            return Err(StartStop::NoMemory);
+        };
+        let Ok(next) = self.next_link() else {
+            return Err(StartStop::NoMemory);
+        };
         self.made = self.made.saturating_add(1);
         self.commands.push_reserved(command);
         match next {

@@ -1,7 +1,8 @@
 //! The answers of a file, by the names of a system.
-ghost use Rattle.std.specs.Prelude.{◌≡◌, [], length, map, Contains, IfOk, OnOk, Err, None};
+ghost use Rattle.std.specs.Prelude.{◌≡◌, ◌<◌, [], length, map, Contains, IfOk, OnOk, Err, None};
 ghost use Rattle.std.specs.List.{All};
 ghost use Rattle.lw_words.specs.Answer.{answers_of, IsWhole};
+ghost use Rattle.lw_words.specs.Renumbering.{renumbered_answers};
 ghost use Rattle.lw_desk.specs.Naming.{number_in};
 ghost use Rattle.lw_pool.specs.Opening.{MayBegin};
 ghost use Rattle.lw_prior.specs.Prior.{prior_answers, FitNames, HasFirstClash};
@@ -69,6 +70,16 @@ fn place(alloc: Global, kept: &Kept) -> Result<Prior, NoMemory>
     Ok(Prior { cache, clash })
 }
 
+/// The kept answers of a file, with `to[y]` in the place of each output `y`.
+fn renumbered(answers: Answers, to: &[u16]) -> Kept
+    requires { All (λ k. All (λ y. y < length to.now) k.outs) answers.kept.answers }
+    ensures { result.answers ≡ renumbered_answers to.now answers.kept.answers }
+{
+    let mut kept = answers.kept;
+    kept.renumber(to);
+    kept
+}
+
 /// The answers of a file as those that a learning begins with: of the instance 16, in the runs of their places, and with
 /// each output by the number that its name has among the system's. The letters must be the system's, and each name of an
 /// output among the system's.
@@ -90,8 +101,7 @@ pub fn prior_of(
         ¬ FitNames answers.inputs answers.outputs inputs.now outputs.now }
 {
     let to = fitting(alloc, &answers, inputs, outputs)?;
-    let mut kept = answers.kept;
-    kept.renumber(to.as_slice());
+    let kept = renumbered(answers, to.as_slice());
     let prior = place(alloc, &kept)?;
     Ok(prior)
 }

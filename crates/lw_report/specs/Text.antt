@@ -47,8 +47,11 @@ abbrev pub trial_lines : Tried → List ℕ
 trial_lines t = drawn_line t.states t.inputs t.seed ++ (found_line t.learned t.refinements t.answers ++ equal_line t.equal)
 
 -- the number of words that are pairwise apart, and each of them
+abbrev pub crowd_line : ℕ → List ℕ
+crowd_line count = codes "too many states: " ++ (decimal count ++ codes " words are pairwise apart\n")
+
 abbrev pub crowd_lines : List (List ℕ) → List (List ℕ) → List ℕ
-crowd_lines names words = (codes "too many states: " ++ (decimal (length words) ++ codes " words are pairwise apart\n")) ++ flat_map (word_line names) words
+crowd_lines names words = crowd_line (length words) ++ flat_map (word_line names) words
 
 abbrev pub usage_lines : List ℕ
 usage_lines =
@@ -65,10 +68,16 @@ usage_lines =
 abbrev pub differs_line : ℕ → ℕ → List ℕ
 differs_line answer place = codes "no: answer " ++ (decimal answer ++ (codes " differs at place " ++ (decimal place ++ codes "\n")))
 
+abbrev pub unreached_line : ℕ → List ℕ
+unreached_line state = codes "no: state " ++ (decimal state ++ codes " is unreached\n")
+
+abbrev pub alike_line : (p q : ℕ) → List ℕ
+alike_line p q = codes "no: states " ++ (decimal p ++ (codes " and " ++ (decimal q ++ codes " are alike\n")))
+
 -- why answers don't fix a model
 abbrev pub no_line : List (List ℕ) → Verdict → List ℕ
-no_line inputs (verdict.Unreached state) = codes "no: state " ++ (decimal state ++ codes " is unreached\n")
-no_line inputs (verdict.Alike p q) = codes "no: states " ++ (decimal p ++ (codes " and " ++ (decimal q ++ codes " are alike\n")))
+no_line inputs (verdict.Unreached state) = unreached_line state
+no_line inputs (verdict.Alike p q) = alike_line p q
 no_line inputs (verdict.Differs answer place) = differs_line answer place
 no_line inputs (verdict.Missing word) = codes "no: word \"" ++ (join_by (name_of inputs) (codes " ") word ++ codes "\" is missing\n")
 no_line inputs (verdict.TooLarge size) = codes "no\n"

@@ -4,7 +4,7 @@ ghost use Rattle.std.specs.List.{join_by};
 ghost use Rattle.lw_words.specs.declared.kept.KeptAnswer.{KeptAnswer as Answer};
 ghost use Rattle.lw_report.specs.Outcomes.{HasOwnText};
 ghost use Rattle.lw_report.specs.Reasons.{reason_of, role_name};
-ghost use Rattle.lw_report.specs.Text.{crowd_lines, name_of, learned_line, names_line, names_of, text_of, word_line};
+ghost use Rattle.lw_report.specs.Text.{crowd_line, crowd_lines, name_of, learned_line, names_line, names_of, text_of, word_line};
 
 use crate::comparison::comparison_text;
 use crate::reasons::reason;
@@ -39,11 +39,13 @@ fn put_name(text: &mut String, letter: u16, names: Option<&Names>) -> Result<(),
     ensures { OnOk result (string_bytes text.new ≡ string_bytes text.old ++
         name_of (names_of (option_map (λ n. n.now) names.entry)) letter) }
 {
-    if let Some(names) = names {
-        if letter < names.len() {
-            text.push_str(names.name(letter))?;
-        }
+    let Some(names) = names else {
+        return Ok(());
+    };
+    if letter >= names.len() {
+        return Ok(());
     }
+    text.push_str(names.name(letter))?;
     Ok(())
 }
 
@@ -78,13 +80,20 @@ fn put_word(text: &mut String, word: &[u16], names: Option<&Names>) -> Result<()
     Ok(())
 }
 
+/// The line about a crowd of so many words.
+fn count_text(alloc: Global, count: usize) -> Result<String, NoMemory>
+    ensures { IfOk result (λ text. string_bytes text ≡ crowd_line count) }
+{
+    Ok(format!(in alloc; "too many states: {count} words are pairwise apart\n")?)
+}
+
 /// The words of a crowd, a line each, below their number.
 fn crowd_text(alloc: Global, words: &Words, names: Option<&Names>) -> Result<String, NoMemory>
     ensures { IfOk result (λ text. string_bytes text ≡
         crowd_lines (names_of (option_map (λ n. n.now) names.entry)) words.now) }
 {
     let count = words.len();
-    let mut text = format!(in alloc; "too many states: {count} words are pairwise apart\n")?;
+    let mut text = count_text(alloc, count)?;
     for word in words.as_slice() {
         put_word(&mut text, word.as_slice(), names)?;
     }

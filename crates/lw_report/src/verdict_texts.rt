@@ -1,6 +1,6 @@
 //! The texts about a model and kept answers.
 ghost use Rattle.std.specs.Prelude.{◌≡◌, ◌++◌, length, codes, IfOk, OnOk, Some, option_map, slice_get, string_bytes};
-ghost use Rattle.lw_report.specs.Text.{clash_lines, differs_line, names_of, no_line, run_line, suite_line, yes_line};
+ghost use Rattle.lw_report.specs.Text.{alike_line, clash_lines, differs_line, names_of, no_line, run_line, suite_line, unreached_line, yes_line};
 
 use crate::texts::put_names;
 use lw_cache::Clash;
@@ -38,6 +38,20 @@ fn differs_text(alloc: Global, answer: usize, place: usize) -> Result<String, No
     Ok(format!(in alloc; "no: answer {answer} differs at place {place}\n")?)
 }
 
+/// The line about a state that no answer reaches.
+fn unreached_text(alloc: Global, state: u16) -> Result<String, NoMemory>
+    ensures { IfOk result (λ text. string_bytes text ≡ unreached_line state) }
+{
+    Ok(format!(in alloc; "no: state {state} is unreached\n")?)
+}
+
+/// The line about two states that no answer tells apart.
+fn alike_text(alloc: Global, p: u16, q: u16) -> Result<String, NoMemory>
+    ensures { IfOk result (λ text. string_bytes text ≡ alike_line p q) }
+{
+    Ok(format!(in alloc; "no: states {p} and {q} are alike\n")?)
+}
+
 /// The line about a model that the answers don't fix.
 pub(crate) fn no_text(
     alloc: Global,
@@ -48,8 +62,8 @@ pub(crate) fn no_text(
         no_line (names_of (option_map (λ n. n.now) names.entry)) verdict.now) }
 {
     match verdict {
-        Verdict::Unreached(state) => { Ok(format!(in alloc; "no: state {state} is unreached\n")?) }
-        Verdict::Alike(p, q) => Ok(format!(in alloc; "no: states {p} and {q} are alike\n")?),
+        Verdict::Unreached(state) => unreached_text(alloc, *state),
+        Verdict::Alike(p, q) => alike_text(alloc, *p, *q),
         Verdict::Differs { answer, place } => differs_text(alloc, *answer, *place),
         Verdict::Missing(word) => missing_text(alloc, word, names),
         Verdict::TooLarge(_) | Verdict::Sure => Ok(String::from_str(alloc, "no\n")?),

@@ -10,12 +10,11 @@ use Rattle.lw_json.specs.declared.fault.JsonFault.{JsonFault}
 use Rattle.lw_json.specs.declared.fault.JsonFault.TheVariants.{UnknownOutput, NoMemory}
 use Rattle.lw_json.specs.declared.machine_reader.Said.{Said}
 
+abbrev pub written : List (List ℕ) → List (List ℕ) → List NamedRow → WrittenMachine
+written inputs outputs states = record { inputs = inputs; outputs = outputs; states = states }
+
 abbrev pub said_machine : Said → WrittenMachine
-said_machine s = record {
-  inputs = map (λ t. string_bytes t) s.inputs.items;
-  outputs = map (λ t. string_bytes t) s.outputs.items;
-  states = map (λ w. map (λ c. (c.0, c.1.now)) w.items) s.states.items;
-}
+said_machine s = written (map (λ t. string_bytes t) s.inputs.items) (map (λ t. string_bytes t) s.outputs.items) (map (λ w. map (λ c. (c.0, c.1.now)) w.items) s.states.items)
 
 -- a fault of the rows themselves
 abbrev pub IsFaultOfRows : ℕ → ℕ → Rows → MealyFault → Type 0

@@ -8,10 +8,10 @@ use Rattle.lw_json.proofs.machine_writer.machine_value.Goals as goal
 pub returns-clause-value : goal.returns-clause-value
 returns-clause-value c =
     let m = c.args.m.now in
-    let one : members_view c.put_member.new.members.entries ≡ put (codes "inputs") (texts_data m.inputs) no_members =
-    c.in_ok-put_member.ensures ∙ (ap (λ (d : Data). put (codes "inputs") d (members_view c.new-members.result.entries)) c.in_ok-names_value.ensures.value ∙ ap (λ l. put (codes "inputs") (texts_data m.inputs) (members_view l)) c.new-members.ensures.empty) in
-    let two : members_view c.put_member-2.new.members.entries ≡ put (codes "outputs") (texts_data m.outputs) (put (codes "inputs") (texts_data m.inputs) no_members) =
-    c.in_ok-put_member-2.ensures ∙ (ap (λ (d : Data). put (codes "outputs") d (members_view c.put_member.new.members.entries)) c.in_ok-names_value-2.ensures.value ∙ ap (λ (l : Members). put (codes "outputs") (texts_data m.outputs) l) one) in
-    let three : members_view c.put_member-3.new.members.entries ≡ put (codes "states") (rows_data m.outputs m.mealy.rows) (put (codes "outputs") (texts_data m.outputs) (put (codes "inputs") (texts_data m.inputs) no_members)) =
-    c.in_ok-put_member-3.ensures ∙ (ap (λ (d : Data). put (codes "states") d (members_view c.put_member-2.new.members.entries)) c.in_ok-states.ensures.value ∙ ap (λ (l : Members). put (codes "states") (rows_data m.outputs m.mealy.rows) l) two) in
-    view-Object c.put_member-3.new.members ∙ ap object three
+    let one : members_view c.put_names.new.members.entries ≡ put (codes "inputs") (texts_data m.inputs) no_members =
+    c.in_ok-put_names.ensures.value ∙ ap (λ l. put (codes "inputs") (texts_data m.inputs) (members_view l)) c.new-members.ensures.empty in
+    let two : members_view c.put_names-2.new.members.entries ≡ put (codes "outputs") (texts_data m.outputs) (put (codes "inputs") (texts_data m.inputs) no_members) =
+    c.in_ok-put_names-2.ensures.value ∙ ap (λ (l : Members). put (codes "outputs") (texts_data m.outputs) l) one in
+    let three : members_view c.put_member.new.members.entries ≡ put (codes "states") (rows_data m.outputs m.mealy.rows) (put (codes "outputs") (texts_data m.outputs) (put (codes "inputs") (texts_data m.inputs) no_members)) =
+    c.in_ok-put_member.ensures ∙ (ap (λ (d : Data). put (codes "states") d (members_view c.put_names-2.new.members.entries)) c.in_ok-states.ensures.value ∙ ap (λ (l : Members). put (codes "states") (rows_data m.outputs m.mealy.rows) l) two) in
+    view-Object c.put_member.new.members ∙ ap object three

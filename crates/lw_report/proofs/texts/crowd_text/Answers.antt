@@ -1,9 +1,6 @@
-use Rattle.std.proofs.Common.{◌++◌, ◌∙◌, ℕ, length, codes, ap, sym, append-nil}
-use Rattle.std.specs.Fmt.{decimal}
+use Rattle.std.proofs.Common.{◌∙◌, length, ap, sym, append-nil}
+use Rattle.lw_report.specs.Text.{crowd_line}
 use Rattle.lw_report.proofs.texts.crowd_text.Goals as goal
 
 pub loop-word-init : goal.loop-word-init
-loop-word-init c =
-    c.in_ok-text.ensures.ok
-    ∙ (ap (λ (n : ℕ). codes "too many states: " ++ (decimal n ++ codes " words are pairwise apart\n")) c.len-count.ensures
-    ∙ sym (append-nil (codes "too many states: " ++ (decimal (length c.args.words.now) ++ codes " words are pairwise apart\n"))))
+loop-word-init c = c.in_ok-text.ensures ∙ (ap crowd_line c.len-count.ensures ∙ sym (append-nil (crowd_line (length c.args.words.now))))
