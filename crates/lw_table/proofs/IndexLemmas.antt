@@ -1,9 +1,10 @@
 -- Tables whose rows are kept by class.
-use Rattle.std.proofs.Common.{inr, ◌≡◌, ◌≢◌, ⊎_elim, ℕ, zero, suc, ◌+◌, ◌-◌, ◌<◌, ◌≤◌, List, [], ◌∷◌, ◌++◌, length, map, take, get_or, replicate, Option, Some, None, refl, ap, sym, ◌∙◌, subst, arith, append-nil}
+use Rattle.std.proofs.Common.{inr, ◌≡◌, ◌≢◌, ⊎_elim, ℕ, zero, suc, ◌+◌, ◌-◌, ◌<◌, ◌≤◌, List, [], ◌∷◌, ◌++◌, length, map, take, get_or, replicate, Option, Some, None, false, true≢false, cond, nat_eq, refl, ap, sym, ◌∙◌, subst, arith, append-nil}
 use Rattle.std.specs.List.{All, AllPairs}
 use Rattle.std.specs.Option.{MatchOption}
 use Rattle.std.proofs.Math.ListN.{get_or-append}
 use Rattle.std.proofs.lemmas.Bool.{cases_lt}
+use Rattle.std.proofs.lemmas.Bool.Decides.{Decides-eqb}
 use Rattle.std.proofs.lemmas.List.{length-append, length-map, length-take-le, get_or-map, get_or-take, ext_get_or, get_or-append_right, map-append}
 use Rattle.std.proofs.lemmas.List.Elements.{All-append, All-from_get_or, All-replicate}
 use Rattle.lw_words.specs.Answer.{Answer, AreAnswers}
@@ -13,10 +14,12 @@ use Rattle.lw_table.specs.Table.{TableState, row_at, access_row, IsTable, IsRow,
 use Rattle.lw_table.specs.bodies.Classes.{row_of}
 use Rattle.lw_table.specs.bodies.Filling.{GoesOn, GoOn, HasFilled}
 use Rattle.lw_table.specs.bodies.Growing.{AreFull}
+use Rattle.lw_table.specs.bodies.Numbered.{IsNumberOf, AreNumbered}
 use Rattle.lw_table.specs.bodies.Rows.{IsRowWord, no_cells, class_at, cells_at, table_of, AreIndexed}
 use Rattle.lw_table.specs.declared.rows.Row.{Row}
 use Rattle.lw_table.proofs.FilledLemmas.{filled_is_table, filled_is_read, home_within, homes_in, rows_on, some_row_word}
 use Rattle.lw_table.proofs.FillLemmas.{goes_nowhere}
+use Rattle.lw_table.proofs.NumberedLemmas.{numbered_more}
 use Rattle.lw_table.proofs.StepLemmas.{differ_once, row_stays}
 
 abbrev rows_by : List (List (List ℕ)) → List Row → List (List (List ℕ))
@@ -38,11 +41,11 @@ rows_stay classes more now rows grown within =
     let inside : j < length rows = (let size = length-rows_by now rows in omega (arith, lt, size)) in
     row_is now rows j inside ∙ (row_stays classes more now (class_at rows j) grown (within j no_cells inside) ∙ sym (row_is classes rows j inside)))
 
-module _ (classes : List (List (List ℕ))) (rows : List Row) (homes keys : List ℕ) (ix : AreIndexed classes rows homes keys) where
+module _ (classes : List (List (List ℕ))) (rows : List Row) (homes : List ℕ) (find : ℕ → Option ℕ) (ix : AreIndexed classes rows homes find) where
   count_is : (j : ℕ) → j < length rows → cells_at rows j ≡ length (row_of (rows_by classes rows) j)
   count_is j lt = ix.counts j no_cells lt ∙ ap (λ (l : List (List ℕ)). length l) (sym (row_is classes rows j lt))
 
-  pub more_classes : (more now : List (List (List ℕ))) → now ≡ classes ++ more → AllPairs (λ r s. r ≢ s) now → AreIndexed now rows homes keys
+  pub more_classes : (more now : List (List (List ℕ))) → now ≡ classes ++ more → AllPairs (λ r s. r ≢ s) now → AreIndexed now rows homes find
   more_classes more now grown differ =
       let size : length now ≡ length classes + length more = ap (λ (l : List (List (List ℕ))). length l) grown ∙ length-append classes more in
       record {
@@ -51,7 +54,7 @@ module _ (classes : List (List (List ℕ))) (rows : List Row) (homes keys : List
         differ = differ;
         within = λ j d lt. omega (arith, ix.within j d lt, size);
         counts = λ j d lt. ix.counts j d lt ∙ ap (λ (l : List (List ℕ)). length l) (sym (row_stays classes more now (get_or rows j d).class grown (ix.within j d lt)));
-        keys = ix.keys;
+        states = ix.states;
       }
 
   pub few_cells : (b : ℕ) (suffixes : List (List ℕ)) → All (IsRow b suffixes) (rows_by classes rows) → All (λ r. r.cells ≤ length suffixes) rows
@@ -68,8 +71,8 @@ module _ (classes : List (List (List ℕ))) (rows : List Row) (homes keys : List
   one_class_of i j li lj same = differ_once classes ix.differ (class_at rows i) (class_at rows j) (ix.within i no_cells li) (ix.within j no_cells lj) (sym (row_is classes rows i li) ∙ (same ∙ row_is classes rows j lj))
 
 -- the table after all rows were filled
-module _ (ks : List Answer) (a b most : ℕ) (access suffixes : List (List ℕ)) (classes more now : List (List (List ℕ))) (rows filled : List Row) (homes keys listed : List ℕ) (r : ℕ)
-    (g : IsTable (table_of a b most access suffixes classes rows homes r)) (ix : AreIndexed classes rows homes keys) (grown : now ≡ classes ++ more) (differ : AllPairs (λ r s. r ≢ s) now) (size : length filled ≡ length rows)
+module _ (ks : List Answer) (a b most : ℕ) (access suffixes : List (List ℕ)) (classes more now : List (List (List ℕ))) (rows filled : List Row) (homes : List ℕ) (find found : ℕ → Option ℕ) (r : ℕ)
+    (g : IsTable (table_of a b most access suffixes classes rows homes r)) (ix : AreIndexed classes rows homes find) (grown : now ≡ classes ++ more) (differ : AllPairs (λ r s. r ≢ s) now) (size : length filled ≡ length rows)
     (within : All (λ r. r.class < length now) filled) (counts : All (λ r. r.cells ≡ length (row_of now r.class)) filled) (whole : All (λ r. r.cells ≡ length suffixes) filled)
     (each : (j : ℕ) (w : List ℕ) → j < length rows → IsRowWord a access j w → GoesOn ks suffixes w (row_of classes (class_at rows j)) (row_of now (class_at filled j))) where
   abbrev before : TableState
@@ -90,10 +93,10 @@ module _ (ks : List Answer) (a b most : ℕ) (access suffixes : List (List ℕ))
             (subst (λ (row : List (List ℕ)). GoesOn ks suffixes w row (row_of now (class_at filled j))) (sym (row_is classes rows j there)) (each j w there is));
       }
 
-  pub filled_index : listed ≡ map (class_at filled) homes → AreIndexed now filled homes listed
+  pub filled_index : AreNumbered nat_eq (map (class_at filled) homes) found → AreIndexed now filled homes found
   filled_index is =
       let long : length now ≡ length classes + length more = ap (λ (l : List (List (List ℕ))). length l) grown ∙ length-append classes more in
-      record { some = omega (arith, ix.some, long); first = row_stays classes more now 0 grown ix.some ∙ ix.first; differ = differ; within = within; counts = counts; keys = is }
+      record { some = omega (arith, ix.some, long); first = row_stays classes more now 0 grown ix.some ∙ ix.first; differ = differ; within = within; counts = counts; states = is }
 
   module _ (are : AreAnswers a ks) (below : All (λ k. IsWord b k.outs) ks) where
     abbrev after : TableState
@@ -110,17 +113,6 @@ module _ (ks : List Answer) (a b most : ℕ) (access suffixes : List (List ℕ))
 
     pub homes_are_rows : All (λ home. home < length filled) homes
     homes_are_rows = All-from_get_or (λ home. home < length filled) homes 0 homes_within
-
-    -- the access words' classes differ
-    pub classes_differ : AllPairs (λ p q. p ≢ q) (map (class_at filled) homes)
-    classes_differ i j d lt le same =
-        let count : length (map (class_at filled) homes) ≡ length homes = length-map homes (class_at filled) in
-        let li : i < length homes = omega (arith, lt, le, count) in
-        let lj : j < length homes = omega (arith, le, count) in
-        let one : class_at filled (get_or homes i 0) ≡ class_at filled (get_or homes j 0) =
-        sym (get_or-map (class_at filled) homes i 0 d li) ∙ (same ∙ get_or-map (class_at filled) homes j 0 d lj) in
-        after_is_table.differ i j lt (omega (arith, lj, g.each_home))
-        (row_is now filled (get_or homes i 0) (homes_within i li) ∙ (ap (row_of now) one ∙ sym (row_is now filled (get_or homes j 0) (homes_within j lj))))
 
     pub has_grown : CellsAreRead ks before → HasGrown ks before after
     has_grown read =
@@ -143,8 +135,8 @@ module _ (ks : List Answer) (a b most : ℕ) (access suffixes : List (List ℕ))
         some_word j lt = some_row_word a access j g.inputs.0 (omega (arith, lt, g.rows))
 
 -- rows from one on are replaced by filled ones
-module _ (ks : List Answer) (a : ℕ) (access suffixes : List (List ℕ)) (classes more now : List (List (List ℕ))) (rows filled : List Row) (homes keys : List ℕ) (first : ℕ)
-    (ix : AreIndexed classes rows homes keys) (le : first ≤ length rows) (full : (j : ℕ) → j < first → length (row_of (rows_by classes rows) j) ≡ length suffixes)
+module _ (ks : List Answer) (a : ℕ) (access suffixes : List (List ℕ)) (classes more now : List (List (List ℕ))) (rows filled : List Row) (homes : List ℕ) (find : ℕ → Option ℕ) (first : ℕ)
+    (ix : AreIndexed classes rows homes find) (le : first ≤ length rows) (full : (j : ℕ) → j < first → length (row_of (rows_by classes rows) j) ≡ length suffixes)
     (grown : now ≡ classes ++ more) (all : first + length filled ≡ length rows) (on : GoOn ks a access suffixes classes rows first now filled) where
   abbrev whole_rows : List Row
   whole_rows = take first rows ++ filled
@@ -182,7 +174,7 @@ module _ (ks : List Answer) (a : ℕ) (access suffixes : List (List ℕ)) (class
       (λ j lt. let inside : j < length rows = omega (arith, lt, le) in ix.counts j no_cells inside ∙ ap (λ (l : List (List ℕ)). length l) (sym (stay (class_at rows j) (ix.within j no_cells inside)))) on.counts
 
   pub rows_whole : All (λ r. r.cells ≡ length suffixes) whole_rows
-  rows_whole = of_each (λ r. r.cells ≡ length suffixes) (λ j lt. count_is classes rows homes keys ix j (omega (arith, lt, le)) ∙ full j lt) on.whole
+  rows_whole = of_each (λ r. r.cells ≡ length suffixes) (λ j lt. count_is classes rows homes find ix j (omega (arith, lt, le)) ∙ full j lt) on.whole
 
   pub rows_go_on : (j : ℕ) (w : List ℕ) → j < length rows → IsRowWord a access j w → GoesOn ks suffixes w (row_of classes (class_at rows j)) (row_of now (class_at whole_rows j))
   rows_go_on j w lt is =
@@ -196,83 +188,92 @@ module _ (ks : List Answer) (a : ℕ) (access suffixes : List (List ℕ)) (class
       (on.each (j - first) w (omega (arith, lt, above, all)) (subst (λ (i : ℕ). IsRowWord a access i w) (sym place) is))))
       (cases_lt j first)
 
-  pub keys_stay : ((q : ℕ) → q < length homes → get_or homes q 0 < first) → keys ≡ map (class_at whole_rows) homes
-  keys_stay early =
-      ix.keys
-      ∙ ext_get_or 0 (map (class_at rows) homes) (map (class_at whole_rows) homes) (length-map homes (class_at rows) ∙ sym (length-map homes (class_at whole_rows))) (λ q lt.
+  pub states_stay : ((q : ℕ) → q < length homes → get_or homes q 0 < first) → AreNumbered nat_eq (map (class_at whole_rows) homes) find
+  states_stay early =
+      subst (λ (keys : List ℕ). AreNumbered nat_eq keys find)
+      (ext_get_or 0 (map (class_at rows) homes) (map (class_at whole_rows) homes) (length-map homes (class_at rows) ∙ sym (length-map homes (class_at whole_rows))) (λ q lt.
       let inside : q < length homes = (let s = length-map homes (class_at rows) in omega (arith, lt, s)) in
-      get_or-map (class_at rows) homes q 0 0 inside ∙ (ap (λ (r : Row). r.class) (sym (old_at (get_or homes q 0) (early q inside))) ∙ sym (get_or-map (class_at whole_rows) homes q 0 0 inside)))
+      get_or-map (class_at rows) homes q 0 0 inside ∙ (ap (λ (r : Row). r.class) (sym (old_at (get_or homes q 0) (early q inside))) ∙ sym (get_or-map (class_at whole_rows) homes q 0 0 inside))))
+      ix.states
 
 -- the access word with a row, by the place of its class
-module _ (a b most : ℕ) (access suffixes : List (List ℕ)) (classes : List (List (List ℕ))) (rows : List Row) (homes keys : List ℕ) (r j : ℕ)
-    (g : IsTable (table_of a b most access suffixes classes rows homes r)) (ix : AreIndexed classes rows homes keys) (lt : j < length rows) where
+module _ (a b most : ℕ) (access suffixes : List (List ℕ)) (classes : List (List (List ℕ))) (rows : List Row) (homes : List ℕ) (find : ℕ → Option ℕ) (r j : ℕ)
+    (g : IsTable (table_of a b most access suffixes classes rows homes r)) (ix : AreIndexed classes rows homes find) (lt : j < length rows) where
   abbrev here : TableState
   here = table_of a b most access suffixes classes rows homes r
 
   home_of : (q : ℕ) → q < length access → get_or homes q 0 < length rows
   home_of q le = let s = length-rows_by classes rows in let w = homes_in here g q le in omega (arith, w, s)
 
-  key_is : (q : ℕ) → q < length access → get_or keys q 0 ≡ class_at rows (get_or homes q 0)
-  key_is q le = ap (λ (l : List ℕ). get_or l q 0) ix.keys ∙ get_or-map (class_at rows) homes q 0 0 (omega (arith, le, g.each_home))
+  abbrev class : ℕ
+  class = class_at rows j
 
-  pub row_with_class : (found : Option ℕ) → MatchOption found ((q : ℕ) → q < length keys → get_or keys q 0 ≢ class_at rows j) (λ q. (q < length keys) × (get_or keys q 0 ≡ class_at rows j))
+  abbrev keys : List ℕ
+  keys = map (class_at rows) homes
+
+  key_is : (q d : ℕ) → q < length access → get_or keys q d ≡ class_at rows (get_or homes q 0)
+  key_is q d le = get_or-map (class_at rows) homes q 0 d (omega (arith, le, g.each_home))
+
+  keys_many : length keys ≡ length access
+  keys_many = length-map homes (class_at rows) ∙ g.each_home
+
+  pub row_with_class : (found : Option ℕ) → found ≡ find class
       → MatchOption found ((q : ℕ) → q < length access → row_at here j ≢ access_row here q) (λ q. (q < length access) × (row_at here j ≡ access_row here q))
-  row_with_class None none = λ q le same.
-      none q (let s = keys_many in omega (arith, le, s)) (key_is q le ∙ sym (one_class_of classes rows homes keys ix j (get_or homes q 0) lt (home_of q le) same))
+  row_with_class found is = by found (subst (IsNumberOf nat_eq keys class) (sym is) (ix.states class))
     where
-      keys_many : length keys ≡ length access
-      keys_many = ap (λ (l : List ℕ). length l) ix.keys ∙ (length-map homes (class_at rows) ∙ g.each_home)
-  row_with_class (Some q) some =
-      let many : length keys ≡ length access = ap (λ (l : List ℕ). length l) ix.keys ∙ (length-map homes (class_at rows) ∙ g.each_home) in
-      let le : q < length access = (let at = some.0 in omega (arith, at, many)) in
-      (le, one_row classes rows homes keys ix j (get_or homes q 0) lt (home_of q le) (sym some.1 ∙ key_is q le))
+      by : (o : Option ℕ) → IsNumberOf nat_eq keys class o
+          → MatchOption o ((q : ℕ) → q < length access → row_at here j ≢ access_row here q) (λ q. (q < length access) × (row_at here j ≡ access_row here q))
+      by None none = λ q le same.
+          let one : class ≡ class_at rows (get_or homes q 0) = one_class_of classes rows homes find ix j (get_or homes q 0) lt (home_of q le) same in
+          true≢false (sym ((Decides-eqb (get_or keys q class) class).1 (key_is q class le ∙ sym one)) ∙ none q class (omega (arith, le, keys_many)))
+      by (Some q) some =
+          let le : q < length access = (let at = some.0 in omega (arith, at, keys_many)) in
+          let one : get_or keys q class ≡ class = (Decides-eqb (get_or keys q class) class).0 some.1 in
+          (le, one_row classes rows homes find ix j (get_or homes q 0) lt (home_of q le) (sym one ∙ key_is q class le))
 
 -- the table whose rows from one on were replaced
-module _ (ks : List Answer) (a b most r : ℕ) (access suffixes : List (List ℕ)) (classes more now : List (List (List ℕ))) (rows filled : List Row) (homes keys listed : List ℕ) (first : ℕ)
-    (g : IsTable (table_of a b most access suffixes classes rows homes r)) (ix : AreIndexed classes rows homes keys) (le : first ≤ length rows) (full : (j : ℕ) → j < first → length (row_of (rows_by classes rows) j) ≡ length suffixes)
+module _ (ks : List Answer) (a b most r : ℕ) (access suffixes : List (List ℕ)) (classes more now : List (List (List ℕ))) (rows filled : List Row) (homes : List ℕ) (find found : ℕ → Option ℕ) (first : ℕ)
+    (g : IsTable (table_of a b most access suffixes classes rows homes r)) (ix : AreIndexed classes rows homes find) (le : first ≤ length rows) (full : (j : ℕ) → j < first → length (row_of (rows_by classes rows) j) ≡ length suffixes)
     (grown : now ≡ classes ++ more) (differ : AllPairs (λ r s. r ≢ s) now) (all : first + length filled ≡ length rows) (on : GoOn ks a access suffixes classes rows first now filled) where
   abbrev replaced : List Row
   replaced = take first rows ++ filled
 
   many : length replaced ≡ length rows
-  many = rows_as_many ks a access suffixes classes more now rows filled homes keys first ix le full grown all on
+  many = rows_as_many ks a access suffixes classes more now rows filled homes find first ix le full grown all on
 
   within : All (λ r. r.class < length now) replaced
-  within = rows_within ks a access suffixes classes more now rows filled homes keys first ix le full grown all on
+  within = rows_within ks a access suffixes classes more now rows filled homes find first ix le full grown all on
 
   counts : All (λ r. r.cells ≡ length (row_of now r.class)) replaced
-  counts = rows_counted ks a access suffixes classes more now rows filled homes keys first ix le full grown all on
+  counts = rows_counted ks a access suffixes classes more now rows filled homes find first ix le full grown all on
 
   whole : All (λ r. r.cells ≡ length suffixes) replaced
-  whole = rows_whole ks a access suffixes classes more now rows filled homes keys first ix le full grown all on
+  whole = rows_whole ks a access suffixes classes more now rows filled homes find first ix le full grown all on
 
   each : (j : ℕ) (w : List ℕ) → j < length rows → IsRowWord a access j w → GoesOn ks suffixes w (row_of classes (class_at rows j)) (row_of now (class_at replaced j))
-  each = rows_go_on ks a access suffixes classes more now rows filled homes keys first ix le full grown all on
+  each = rows_go_on ks a access suffixes classes more now rows filled homes find first ix le full grown all on
 
-  pub replaced_index : listed ≡ map (class_at replaced) homes → AreIndexed now replaced homes listed
-  replaced_index is = filled_index ks a b most access suffixes classes more now rows replaced homes keys listed r g ix grown differ many within counts whole each is
+  pub replaced_index : AreNumbered nat_eq (map (class_at replaced) homes) found → AreIndexed now replaced homes found
+  replaced_index is = filled_index ks a b most access suffixes classes more now rows replaced homes find found r g ix grown differ many within counts whole each is
 
-  pub replaced_keys : ((q : ℕ) → q < length homes → get_or homes q 0 < first) → keys ≡ map (class_at replaced) homes
-  replaced_keys early = keys_stay ks a access suffixes classes more now rows filled homes keys first ix le full grown all on early
+  pub replaced_states : ((q : ℕ) → q < length homes → get_or homes q 0 < first) → AreNumbered nat_eq (map (class_at replaced) homes) find
+  replaced_states early = states_stay ks a access suffixes classes more now rows filled homes find first ix le full grown all on early
 
   module _ (are : AreAnswers a ks) (below : All (λ k. IsWord b k.outs) ks) where
     pub replaced_table : IsTable (table_of a b most access suffixes now replaced homes r)
-    replaced_table = after_is_table ks a b most access suffixes classes more now rows replaced homes keys listed r g ix grown differ many within counts whole each are below
+    replaced_table = after_is_table ks a b most access suffixes classes more now rows replaced homes find found r g ix grown differ many within counts whole each are below
 
     pub replaced_full : AreFull (table_of a b most access suffixes now replaced homes r)
-    replaced_full = after_is_full ks a b most access suffixes classes more now rows replaced homes keys listed r g ix grown differ many within counts whole each are below
+    replaced_full = after_is_full ks a b most access suffixes classes more now rows replaced homes find found r g ix grown differ many within counts whole each are below
 
     pub replaced_homes : All (λ home. home < length replaced) homes
-    replaced_homes = homes_are_rows ks a b most access suffixes classes more now rows replaced homes keys listed r g ix grown differ many within counts whole each are below
-
-    pub replaced_differ : AllPairs (λ p q. p ≢ q) (map (class_at replaced) homes)
-    replaced_differ = classes_differ ks a b most access suffixes classes more now rows replaced homes keys listed r g ix grown differ many within counts whole each are below
+    replaced_homes = homes_are_rows ks a b most access suffixes classes more now rows replaced homes find found r g ix grown differ many within counts whole each are below
 
     pub replaced_grown : CellsAreRead ks (table_of a b most access suffixes classes rows homes r) → HasGrown ks (table_of a b most access suffixes classes rows homes r) (table_of a b most access suffixes now replaced homes r)
-    replaced_grown read = has_grown ks a b most access suffixes classes more now rows replaced homes keys listed r g ix grown differ many within counts whole each are below read
+    replaced_grown read = has_grown ks a b most access suffixes classes more now rows replaced homes find found r g ix grown differ many within counts whole each are below read
 
 -- where only classes came, the table is as it was
-module _ (a b most r : ℕ) (access suffixes : List (List ℕ)) (classes more now : List (List (List ℕ))) (rows : List Row) (homes keys : List ℕ) (ix : AreIndexed classes rows homes keys) (grown : now ≡ classes ++ more) where
+module _ (a b most r : ℕ) (access suffixes : List (List ℕ)) (classes more now : List (List (List ℕ))) (rows : List Row) (homes : List ℕ) (find : ℕ → Option ℕ) (ix : AreIndexed classes rows homes find) (grown : now ≡ classes ++ more) where
   pub same_table : table_of a b most access suffixes now rows homes r ≡ table_of a b most access suffixes classes rows homes r
   same_table = ap (λ (cells : List (List (List ℕ))). record (table_of a b most access suffixes classes rows homes r) { cells = cells }) (rows_stay classes more now rows grown ix.within)
 
@@ -281,7 +282,7 @@ empty_rows classes zero = refl
 empty_rows classes (suc n) = ap (λ (l : List (List (List ℕ))). row_of classes 0 ∷ l) (empty_rows classes n)
 
 -- rows without cells at the end
-module _ (classes : List (List (List ℕ))) (rows : List Row) (homes keys : List ℕ) (count j : ℕ) (ix : AreIndexed classes rows homes keys) (early : (q : ℕ) → q < length homes → get_or homes q 0 < length rows) (lt : j < length rows) where
+module _ (classes : List (List (List ℕ))) (rows : List Row) (homes : List ℕ) (find : ℕ → Option ℕ) (count j : ℕ) (ix : AreIndexed classes rows homes find) (early : (q : ℕ) → q < length homes → get_or homes q 0 < length rows) (lt : j < length rows) where
   abbrev longer_rows : List Row
   longer_rows = rows ++ replicate count no_cells
 
@@ -290,17 +291,17 @@ module _ (classes : List (List (List ℕ))) (rows : List Row) (homes keys : List
       map-append (λ (r : Row). row_of classes r.class) rows (replicate count no_cells)
       ∙ ap (λ (l : List (List (List ℕ))). rows_by classes rows ++ l) (empty_rows classes count ∙ ap (replicate count) ix.first)
 
-  pub index_longer : (listed : List ℕ) → listed ≡ keys ++ class_at rows j ∷ [] → AreIndexed classes longer_rows (homes ++ j ∷ []) listed
-  index_longer listed grown =
+  pub index_longer : (now : ℕ → Option ℕ) → ((q : ℕ) → now q ≡ cond (nat_eq (class_at rows j) q) (Some (length homes)) (find q)) → AreIndexed classes longer_rows (homes ++ j ∷ []) now
+  index_longer now is =
       record {
         some = ix.some;
         first = ix.first;
         differ = ix.differ;
         within = All-append (λ r. r.class < length classes) rows (replicate count no_cells) ix.within (All-replicate (λ r. r.class < length classes) count no_cells ix.some);
         counts = All-append (λ r. r.cells ≡ length (row_of classes r.class)) rows (replicate count no_cells) ix.counts (All-replicate (λ r. r.cells ≡ length (row_of classes r.class)) count no_cells (ap (λ (l : List (List ℕ)). length l) (sym ix.first)));
-        keys = grown
-            ∙ (ap (λ (l : List ℕ). l ++ class_at rows j ∷ []) (ix.keys ∙ old_keys)
-            ∙ (ap (λ (c : ℕ). map (class_at longer_rows) homes ++ c ∷ []) (sym (same j lt)) ∙ sym (map-append (class_at longer_rows) homes (j ∷ []))));
+        states = subst (λ (keys : List ℕ). AreNumbered nat_eq keys now) all_keys
+            (numbered_more nat_eq (map (class_at rows) homes) find now (class_at rows j) (class_at rows j) ix.states (λ q. refl)
+            (λ q. is q ∙ ap (λ (n : ℕ). cond (nat_eq (class_at rows j) q) (Some n) (find q)) (sym (length-map homes (class_at rows)))));
       }
     where
       same : (h : ℕ) → h < length rows → class_at longer_rows h ≡ class_at rows h
@@ -311,3 +312,8 @@ module _ (classes : List (List (List ℕ))) (rows : List Row) (homes keys : List
           ext_get_or 0 (map (class_at rows) homes) (map (class_at longer_rows) homes) (length-map homes (class_at rows) ∙ sym (length-map homes (class_at longer_rows))) (λ q le.
           let inside : q < length homes = (let s = length-map homes (class_at rows) in omega (arith, le, s)) in
           get_or-map (class_at rows) homes q 0 0 inside ∙ (sym (same (get_or homes q 0) (early q inside)) ∙ sym (get_or-map (class_at longer_rows) homes q 0 0 inside)))
+
+      all_keys : map (class_at rows) homes ++ class_at rows j ∷ [] ≡ map (class_at longer_rows) (homes ++ j ∷ [])
+      all_keys =
+          ap (λ (l : List ℕ). l ++ class_at rows j ∷ []) old_keys
+          ∙ (ap (λ (c : ℕ). map (class_at longer_rows) homes ++ c ∷ []) (sym (same j lt)) ∙ sym (map-append (class_at longer_rows) homes (j ∷ [])))

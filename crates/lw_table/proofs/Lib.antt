@@ -5,9 +5,9 @@ mod FillLemmas
 mod FilledLemmas
 mod GrownLemmas
 mod IndexLemmas
-mod ListingLemmas
 pub mod MachineLemmas
 pub mod NewLemmas
+mod NumberedLemmas
 mod RefineLemmas
 mod RowLemmas
 mod StepLemmas

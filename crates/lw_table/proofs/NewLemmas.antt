@@ -1,5 +1,5 @@
 -- A new table.
-use Rattle.std.proofs.Common.{◌≡◌, ◌≢◌, ℕ, zero, suc, ◌+◌, ◌<◌, ◌≤◌, inl, List, [], ◌∷◌, ◌++◌, length, map, replicate, get_or, refl, ap, sym, ◌∙◌, subst, arith}
+use Rattle.std.proofs.Common.{◌≡◌, ◌≢◌, ℕ, zero, suc, ◌+◌, ◌<◌, ◌≤◌, inl, List, [], ◌∷◌, ◌++◌, length, map, replicate, get_or, Option, Some, None, cond, nat_eq, refl, ap, sym, ◌∙◌, subst, arith}
 use Rattle.std.specs.List.{range_with_len}
 use Rattle.std.proofs.lemmas.List.{length-map, length-replicate, get_or-replicate, get_or-map, take_all}
 use Rattle.std.proofs.lemmas.List.FromFn.{length-range_with_len, get_or-range_with_len, map-range_with_len_more}
@@ -9,9 +9,11 @@ use Rattle.lw_words.specs.Word.{IsWord}
 use Rattle.lw_cache.specs.Cut.{word_at}
 use Rattle.lw_table.specs.Table.{row_number, IsTable, IsRow, RowIsRead, new_table}
 use Rattle.lw_table.specs.bodies.Classes.{row_of}
+use Rattle.lw_table.specs.bodies.Numbered.{AreNumbered}
 use Rattle.lw_table.specs.bodies.Rows.{no_cells, class_at, table_of, AreIndexed}
 use Rattle.lw_table.specs.declared.rows.Row.{Row}
 use Rattle.lw_table.specs.Laws.{NewIsRead}
+use Rattle.lw_table.proofs.NumberedLemmas.{numbered_none, numbered_more}
 
 -- each row of a new table is without cells
 without_cells : (n j : ℕ) → length (get_or {A = List (List ℕ)} (replicate n []) j []) ≡ 0
@@ -88,16 +90,17 @@ made_new a b most access suffixes classes rows homes e f g h i =
 all_empty : (n j : ℕ) (d : Row) → j < n → get_or (replicate n no_cells) j d ≡ no_cells
 all_empty n j d lt = get_or-replicate {A = Row} n j no_cells d lt
 
-pub new_is_indexed : (classes : List (List (List ℕ))) (rows : List Row) (homes listed : List ℕ) (a : ℕ) → classes ≡ [] ∷ [] → rows ≡ replicate (a + 1) no_cells → homes ≡ 0 ∷ [] → listed ≡ 0 ∷ [] → AreIndexed classes rows homes listed
-new_is_indexed classes rows homes listed a e f g h =
+pub new_is_indexed : (classes : List (List (List ℕ))) (rows : List Row) (homes : List ℕ) (find : ℕ → Option ℕ) (a : ℕ) → classes ≡ [] ∷ [] → rows ≡ replicate (a + 1) no_cells → homes ≡ 0 ∷ [] → ((q : ℕ) → find q ≡ cond (nat_eq 0 q) (Some 0) None) → AreIndexed classes rows homes find
+new_is_indexed classes rows homes find a e f g h =
     let size : length (replicate {A = Row} (a + 1) no_cells) ≡ a + 1 = length-replicate {A = Row} (a + 1) no_cells in
-    subst (λ (l : List (List (List ℕ))). AreIndexed l rows homes listed) (sym e)
-    (subst (λ (l : List Row). AreIndexed ([] ∷ []) l homes listed) (sym f)
+    subst (λ (l : List (List (List ℕ))). AreIndexed l rows homes find) (sym e)
+    (subst (λ (l : List Row). AreIndexed ([] ∷ []) l homes find) (sym f)
     (record {
       some = omega arith;
       first = refl;
       differ = λ i j d lt le. absurd (omega arith);
       within = λ j d lt. subst (λ (r : Row). r.class < 1) (sym (all_empty (a + 1) j d (omega arith))) (omega arith);
       counts = λ j d lt. subst (λ (r : Row). r.cells ≡ length (row_of ([] ∷ []) r.class)) (sym (all_empty (a + 1) j d (omega arith))) refl;
-      keys = h ∙ (ap (λ (k : ℕ). k ∷ []) (sym (ap (λ (r : Row). r.class) (all_empty (a + 1) 0 no_cells (omega arith)))) ∙ ap (map (class_at (replicate (a + 1) no_cells))) (sym g));
+      states = subst (λ (keys : List ℕ). AreNumbered nat_eq keys find) (ap (λ (k : ℕ). k ∷ []) (sym (ap (λ (r : Row). r.class) (all_empty (a + 1) 0 no_cells (omega arith)))) ∙ ap (map (class_at (replicate (a + 1) no_cells))) (sym g))
+          (numbered_more nat_eq [] (λ _. None) find 0 0 (numbered_none nat_eq (λ _. None) (λ q. refl)) (λ q. refl) h);
     }))

@@ -1,26 +1,20 @@
 -- Rows that are made step by step.
-use Rattle.std.proofs.Common.{◌≡◌, ◌≢◌, ⊎_elim, ◌-◌, ℕ, zero, suc, ◌+◌, ◌<◌, ◌≤◌, List, [], ◌∷◌, ◌++◌, length, get_or, set, slice_get, Some, take, drop, true≢false, Bool, true, false, nat_eq, ◌&&◌, if◌then◌else◌, refl, ap, ap₂, sym, ◌∙◌, subst, arith, append_assoc, append-nil}
-use Rattle.std.specs.List.{AllPairs, list_any}
+use Rattle.std.proofs.Common.{◌≡◌, ◌≢◌, ⊎_elim, ◌-◌, ℕ, zero, suc, ◌+◌, ◌<◌, ◌≤◌, List, [], ◌∷◌, ◌++◌, length, get_or, set, take, drop, true≢false, true, false, nat_eq, refl, ap, ap₂, sym, ◌∙◌, subst, arith, append_assoc, append-nil}
+use Rattle.std.specs.List.{All, AllPairs}
 use Rattle.std.proofs.lemmas.List.{length-append, length-set, get_or-append-add, get_or_default, get_or-set_same, get_or-set_other, get_or-take, take-take}
-use Rattle.std.proofs.lemmas.Option.{slice_get_within, get_or_from_slice_get}
 use Rattle.std.proofs.Math.Seq.{drop-append_seam, take-append_seam, get_or-append_seam}
 use Rattle.std.proofs.Math.ListN.{get_or-append}
 use Rattle.std.proofs.lemmas.Bool.{cases_order, and_parts, and_from}
 use Rattle.std.proofs.lemmas.Bool.Decides.{Decides-eqb}
 use Rattle.std.proofs.lemmas.Slice.Eq.{bytes_eq-Decides}
-use Rattle.std.proofs.lemmas.List.Folds.{list_any_at}
 use Rattle.std.proofs.lemmas.List.Quantifiers.{all_pairs_push}
 use Rattle.std.specs.Str.{bytes_eq}
 use Rattle.lw_table.specs.bodies.Classes.{row_of, HasEntered, InSingles}
-use Rattle.lw_table.specs.bodies.Steps.{more_rows, rows_of, TakeEarlier, AreClasses}
+use Rattle.lw_table.specs.bodies.Steps.{step_eq, made, more_rows, rows_of, TakeEarlier, AreClasses}
 use Rattle.lw_table.specs.declared.classes.Step.{Step}
 
 abbrev Rows3 : Type 0
 Rows3 = List (List (List ℕ))
-
--- the row that a step makes
-abbrev made : Rows3 → Step → List (List ℕ)
-made rows step = row_of rows step.class ++ step.outputs.items ∷ []
 
 get_or-append_seam_add : (rows : Rows3) (row : List (List ℕ)) → row_of (rows ++ row ∷ []) (length rows + 0) ≡ row
 get_or-append_seam_add rows row = get_or-append-add rows (row ∷ []) 0 []
@@ -98,10 +92,6 @@ module _ (steps : List Step) (is : AreClasses steps) where
   pub one_class : (p q : ℕ) → p < length (rows_of steps) → q < length (rows_of steps) → row_of (rows_of steps) p ≡ row_of (rows_of steps) q → p ≡ q
   one_class p q lp lq same = differ_once (rows_of steps) is.differ p q lp lq same
 
--- steps are compared by what they are
-abbrev pub step_eq : Step → Step → Bool
-step_eq s t = nat_eq s.class t.class && bytes_eq s.outputs.items t.outputs.items
-
 pub same_step : (s t : Step) → step_eq s t ≡ true → (s.class ≡ t.class) × (s.outputs.items ≡ t.outputs.items)
 same_step s t same =
     let both = and_parts (nat_eq s.class t.class) (bytes_eq s.outputs.items t.outputs.items) same in
@@ -118,8 +108,8 @@ last_cell u v x y same =
     (front, ap (λ (l : List (List ℕ)). get_or l 0 []) rest)
 
 -- a new step makes a new row
-module _ (steps : List Step) (s : Step) (is : AreClasses steps) (within : s.class < length (rows_of steps)) (none : list_any (step_eq s) steps ≡ false) where
-  new_row : (i : ℕ) (d : List (List ℕ)) → i < length (rows_of steps) → get_or (rows_of steps) i d ≢ made (rows_of steps) s
+module _ (steps : List Step) (s : Step) (is : AreClasses steps) (within : s.class < length (rows_of steps)) (none : All (λ t. step_eq t s ≡ false) steps) where
+  pub new_row : All (λ row. row ≢ made (rows_of steps) s) (rows_of steps)
   new_row zero d lt same =
       let r = rows_stay ([] ∷ []) steps in
       let first : get_or (rows_of steps) 0 d ≡ [] = ap (λ (l : Rows3). get_or l 0 d) r.1 in
@@ -135,15 +125,15 @@ module _ (steps : List Step) (s : Step) (is : AreClasses steps) (within : s.clas
       let here : get_or (rows_of steps) (suc i) d ≡ row_of (rows_of steps) t.class ++ t.outputs.items ∷ [] = get_or_default (rows_of steps) (suc i) d [] lt ∙ (ap (row_of (rows_of steps)) (sym place) ∙ r.0) in
       let cells = last_cell (row_of (rows_of steps) s.class) (row_of (rows_of steps) t.class) s.outputs.items t.outputs.items (sym same ∙ here) in
       let one : s.class ≡ t.class = one_class steps is s.class t.class within (omega (arith, r.1, lt)) cells.0 in
-      let found : list_any (step_eq s) steps ≡ true = list_any_at (step_eq s) steps i s inside (is_step s t one cells.1) in
-      absurd (true≢false (sym found ∙ none))
+      absurd (true≢false (sym (is_step t s (sym one) (sym cells.1)) ∙ none i s inside))
 
+module _ (steps : List Step) (s : Step) (is : AreClasses steps) (within : s.class < length (rows_of steps)) (new : All (λ row. row ≢ made (rows_of steps) s) (rows_of steps)) where
   pub one_more : AreClasses (steps ++ s ∷ [])
   one_more =
       let size : length (rows_of steps) ≡ 1 + length steps = length-more_rows ([] ∷ []) steps in
       record {
         earlier = earlier_push 0 steps s is.earlier (omega (arith, size));
-        differ = subst (AllPairs (λ r s. r ≢ s)) (sym (more_rows_push ([] ∷ []) steps s)) (all_pairs_push (λ r s. r ≢ s) (rows_of steps) (made (rows_of steps) s) is.differ new_row);
+        differ = subst (AllPairs (λ r s. r ≢ s)) (sym (more_rows_push ([] ∷ []) steps s)) (all_pairs_push (λ r s. r ≢ s) (rows_of steps) (made (rows_of steps) s) is.differ new);
       }
 
 -- more steps leave the rows that there are
@@ -157,36 +147,30 @@ rows_go_on steps more now grown =
     (r.0, ap rows_of grown ∙ (rows_more ([] ∷ []) steps more ∙ r.1))
 
 -- the row of a class that was made or found by a step
-pub entered : (steps now : List Step) (s t : Step) (number : ℕ) → AreClasses now → s.class < length (rows_of steps) → (more : List Step) → now ≡ steps ++ more → slice_get now number ≡ Some t → step_eq s t ≡ true
+pub entered : (steps now : List Step) (s : Step) (number : ℕ) → AreClasses now → s.class < length (rows_of steps) → (more : List Step) → now ≡ steps ++ more → number < length now → step_eq (get_or now number s) s ≡ true
     → HasEntered (rows_of steps) (rows_of now) s.class s.outputs.items (number + 1)
-entered steps now s t number is within more grown at same =
-    let inside : number < length now = slice_get_within now number t at in
-    let here : get_or now number t ≡ t = get_or_from_slice_get now number t t at in
+entered steps now s number is within more grown inside same =
     let size : length (rows_of now) ≡ 1 + length now = length-more_rows ([] ∷ []) now in
-    let r = row_made ([] ∷ []) 0 now number t refl is.earlier inside in
-    let is_t = same_step s t same in
+    let r = row_made ([] ∷ []) 0 now number s refl is.earlier inside in
+    let is_s = same_step (get_or now number s) s same in
     let stay = rows_go_on steps more now grown in
     let place : 1 + number ≡ number + 1 = omega arith in
     record {
       within = omega (arith, size, inside);
-      row = ap (row_of (rows_of now)) (sym place) ∙ (r.0 ∙ (ap (λ (u : Step). row_of (rows_of now) u.class ++ u.outputs.items ∷ []) here
-          ∙ (ap₂ (λ (q : ℕ) (o : List ℕ). row_of (rows_of now) q ++ o ∷ []) (sym is_t.0) (sym is_t.1)
-          ∙ ap (λ (row : List (List ℕ)). row ++ s.outputs.items ∷ []) (row_stays (rows_of steps) stay.0 (rows_of now) s.class stay.1 within))));
+      row = ap (row_of (rows_of now)) (sym place) ∙ (r.0
+          ∙ (ap₂ (λ (q : ℕ) (o : List ℕ). row_of (rows_of now) q ++ o ∷ []) is_s.0 is_s.1
+          ∙ ap (λ (row : List (List ℕ)). row ++ s.outputs.items ∷ []) (row_stays (rows_of steps) stay.0 (rows_of now) s.class stay.1 within)));
       more = stay.0;
       stay = stay.1;
     }
 
--- the steps once one was inserted
-pub inserted : (steps now : List Step) (s : Step) → AreClasses steps → s.class < length (rows_of steps) → now ≡ (if list_any (step_eq s) steps then steps else steps ++ s ∷ []) → AreClasses now × ((more : List Step) × (now ≡ steps ++ more))
-inserted steps now s is within grown = by (list_any (step_eq s) steps) refl
-  where
-    by : (b : Bool) → list_any (step_eq s) steps ≡ b → AreClasses now × ((more : List Step) × (now ≡ steps ++ more))
-    by true found =
-        let same : now ≡ steps = grown ∙ ap (λ (b : Bool). if b then steps else steps ++ s ∷ []) found in
-        (subst AreClasses (sym same) is, ([], same ∙ sym (append-nil steps)))
-    by false none =
-        let more : now ≡ steps ++ s ∷ [] = grown ∙ ap (λ (b : Bool). if b then steps else steps ++ s ∷ []) none in
-        (subst AreClasses (sym more) (one_more steps s is within none), (s ∷ [], more))
+-- the row of a class that was made last
+pub entered_last : (steps now : List Step) (s : Step) → AreClasses now → s.class < length (rows_of steps) → now ≡ steps ++ s ∷ [] → HasEntered (rows_of steps) (rows_of now) s.class s.outputs.items (length now)
+entered_last steps now s is within grown =
+    let long : length now ≡ length steps + 1 = ap (λ (l : List Step). length l) grown ∙ length-append steps (s ∷ []) in
+    let last : get_or now (length steps) s ≡ s = ap (λ (l : List Step). get_or l (length steps) s) grown ∙ get_or-append_seam steps s [] s in
+    subst (HasEntered (rows_of steps) (rows_of now) s.class s.outputs.items) (sym long)
+    (entered steps now s (length steps) is within (s ∷ []) grown (omega (arith, long)) (is_step (get_or now (length steps) s) s (ap (λ (t : Step). t.class) last) (ap (λ (t : Step). t.outputs.items) last)))
 
 single_is : (outs : List ℕ) → length outs ≡ 1 → outs ≡ get_or outs 0 0 ∷ []
 single_is [] one = absurd (omega arith)
@@ -209,11 +193,11 @@ module _ (steps : List Step) (is : AreClasses steps) (row : List (List ℕ)) (ma
   pub step_within : class - 1 < length steps
   step_within = let size = length-more_rows ([] ∷ []) steps in omega (arith, class_some, size, so.within)
 
-  module _ (t : Step) (at : slice_get steps (class - 1) ≡ Some t) where
+  module _ (t : Step) (at : t ≡ get_or steps (class - 1) t) where
     made_of : (row_of (rows_of steps) class ≡ row_of (rows_of steps) t.class ++ t.outputs.items ∷ []) × (t.class < class)
     made_of =
         let r = class_row steps is class t class_some so.within in
-        let here : get_or steps (class - 1) t ≡ t = get_or_from_slice_get steps (class - 1) t t at in (
+        let here : get_or steps (class - 1) t ≡ t = sym at in (
           subst (λ (u : Step). row_of (rows_of steps) class ≡ row_of (rows_of steps) u.class ++ u.outputs.items ∷ []) here r.0,
           subst (λ (u : Step). u.class < class) here r.1,
         )

@@ -2,6 +2,7 @@
 pub mod Classes
 pub mod Filling
 pub mod Growing
+pub mod Numbered
 pub mod Rows
 pub mod Steps
 pub mod Transitions

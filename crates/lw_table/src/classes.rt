@@ -1,11 +1,12 @@
 //! Rows as numbers, so that two rows are equal exactly where their numbers are.
 ghost use Rattle.std.specs.Prelude.{◌≡◌, ◌≢◌, ℕ, ◌<◌, ◌≤◌, List, [], ◌∷◌, length, slice_index_or, IfOk, OnErr};
-ghost use Rattle.std.specs.List.{AllPairs};
+ghost use Rattle.std.specs.List.{All, AllPairs};
 ghost use Rattle.lw_table.specs.bodies.Classes.{row_of, HasEntered, AreSingles};
+ghost use Rattle.lw_table.specs.bodies.Steps.{made};
 
-use indexmap::IndexSet;
 use lw_words::NoMemory;
 use std::alloc::Global;
+use std::collections::HashMap;
 use std::marker::Model;
 
 /// A row of an earlier class, and the outputs of one cell more.
@@ -19,19 +20,24 @@ pub(crate) struct Step {
 /// Contracts see the row of each class.
 #[derive(Drop)]
 pub(crate) struct Classes {
-    steps: IndexSet<Step>,
+    /// The step to each class but class 0.
+    steps: Vec<Step>,
+    /// The place of each step.
+    places: HashMap<Step, usize>,
     pub(crate) alloc: Global,
 }
 
 impl Model for Classes {
     ghost use Rattle.std.specs.Prelude.{ℕ, List};
-    ghost use Rattle.lw_table.specs.bodies.Steps.{rows_of, AreClasses};
+    ghost use Rattle.std.specs.HashMap.{get};
+    ghost use Rattle.lw_table.specs.bodies.Numbered.{AreNumbered};
+    ghost use Rattle.lw_table.specs.bodies.Steps.{step_eq, rows_of, AreClasses};
 
     ghost Value = { List (List (List ℕ)) };
 
-    ghost view = { λ c. rows_of c.steps.keys };
+    ghost view = { λ c. rows_of c.steps.items };
 
-    ghost invariant = { λ c. AreClasses c.steps.keys };
+    ghost invariant = { λ c. AreClasses c.steps.items × AreNumbered step_eq c.steps.items (get step_eq c.places) };
 }
 
 impl Classes {
@@ -40,7 +46,8 @@ impl Classes {
         ensures { result ≡ [] ∷ [] }
     {
         Classes {
-            steps: IndexSet::new(alloc),
+            steps: Vec::new(alloc),
+            places: HashMap::new(alloc),
             alloc,
         }
     }
@@ -52,10 +59,29 @@ impl Classes {
         ensures differ { AllPairs (λ r s. r ≢ s) self.new }
         ensures err { OnErr result (self.new ≡ self.old) }
     {
-        let (number, _) = self.steps.insert_full(Step { class, outputs })?;
-        // A set's length fits, so the class does.
-        let _ = self.steps.len();
-        Ok(number + 1)
+        let step = Step { class, outputs };
+        if let Some(place) = self.places.get(&step) {
+            return Ok(*place + 1);
+        }
+        self.add(step)
+    }
+
+    /// Makes a class for a row that has none: the row of an earlier class with a cell more.
+    fn add(&mut self, step: Step) -> Result<usize, NoMemory>
+        requires class { step.class < length self.old }
+        requires new { All (λ row. row ≢ made self.old step) self.old }
+        ensures entered { IfOk result (HasEntered self.old self.new step.class step.outputs.items) }
+        ensures differ { AllPairs (λ r s. r ≢ s) self.new }
+        ensures err { OnErr result (self.new ≡ self.old) }
+    {
+        self.steps.reserve(1)?;
+        let key = Step {
+            class: step.class,
+            outputs: step.outputs.to_vec(self.alloc)?,
+        };
+        self.places.insert(key, self.steps.len())?;
+        self.steps.push_reserved(step);
+        Ok(self.steps.len())
     }
 
     /// The outputs of the first cells of a row of so many cells, each of which has one.

@@ -1,5 +1,6 @@
 //! The steps by which a table grows: cells are filled, an access word is added, a suffix is added.
-ghost use Rattle.std.specs.Prelude.{◌≡◌, ◌≢◌, ℕ, ◌+◌, ◌*◌, ◌<◌, ◌≤◌, List, [], ◌++◌, length, map, take, replicate, ◌∷◌, Contains, vec_len, vec_capacity, OnOk, OnErr, IfOk, MatchOption};
+ghost use Rattle.std.specs.Prelude.{◌≡◌, ◌≢◌, ℕ, ◌+◌, ◌*◌, ◌<◌, ◌≤◌, List, [], ◌++◌, length, map, take, replicate, nat_eq, Some, vec_len, vec_capacity, OnOk, OnErr, IfOk, MatchOption};
+ghost use Rattle.std.specs.HashMap.{get, spare, Updates};
 ghost use Rattle.std.specs.List.{All, AllPairs};
 ghost use Rattle.lw_words.specs.Answer.{Answer, answers_of};
 ghost use Rattle.lw_words.specs.Word.{IsWord};
@@ -9,17 +10,17 @@ ghost use Rattle.lw_table.specs.Table.{row_at, home_at, access_row, IsTable, Cel
 ghost use Rattle.lw_table.specs.bodies.Classes.{row_of};
 ghost use Rattle.lw_table.specs.bodies.Filling.{GoOn};
 ghost use Rattle.lw_table.specs.bodies.Growing.{AreFull, AreFullBelow, ChangesCells, HasAdded, with_suffix};
+ghost use Rattle.lw_table.specs.bodies.Numbered.{AreNumbered};
 ghost use Rattle.lw_table.specs.bodies.Rows.{no_cells, class_at};
-ghost use Rattle.indexmap.specs.IndexSet.{spare};
 
 use crate::ObservationTable;
 use crate::classes::Classes;
 use crate::filling::{fill_rows, unfilled};
 use crate::rows::{EMPTY, Row, row_word};
-use indexmap::IndexSet;
 use lw_cache::{AskStop, Oracle};
 use lw_words::{NoMemory, Word, Words};
 use std::alloc::Global;
+use std::collections::HashMap;
 
 /// Asks for the cells that aren't filled, of the rows from one on: these rows, with their cells filled.
 fn answered<O: Oracle>(
@@ -58,17 +59,41 @@ fn answered<O: Oracle>(
     Ok(fill_rows(inputs, access, suffixes, classes, rows, first, cache)?)
 }
 
-/// The classes of the access words' rows, in the order of the access words.
-fn classes_of(alloc: Global, rows: &[Row], homes: &[usize]) -> Result<IndexSet<usize>, NoMemory>
-    requires within { All (λ home. home < length rows.now) homes.now }
-    requires distinct { AllPairs (λ p q. p ≢ q) (map (class_at rows.now) homes.now) }
-    ensures { IfOk result (λ states. states.keys ≡ map (class_at rows.now) homes.now) }
+/// The numbers of the access words, by the classes of their rows.
+fn states_of(
+    alloc: Global,
+    rows: &[Row],
+    homes: &[usize],
+) -> Result<HashMap<usize, usize>, NoMemory>
+    requires { All (λ home. home < length rows.now) homes.now }
+    ensures { IfOk result (λ states. AreNumbered nat_eq (map (class_at rows.now) homes.now)
+        (get nat_eq states)) }
 {
-    let mut states = IndexSet::with_capacity(alloc, homes.len())?;
-    for home in homes {
-        states.insert(rows[*home].class)?;
+    let mut states = HashMap::with_capacity(alloc, homes.len())?;
+    for (state, home) in homes.iter().enumerate() {
+        states.insert(rows[*home].class, state)?;
     }
     Ok(states)
+}
+
+/// Makes room for an access word more: the rows of its extensions, the row that it has, and the class of that.
+fn make_room(
+    rows: &mut Vec<Row>,
+    homes: &mut Vec<usize>,
+    states: &mut HashMap<usize, usize>,
+    letters: usize,
+) -> Result<(), NoMemory>
+    ensures rows { rows.new.items ≡ rows.old.items }
+    ensures homes { homes.new.items ≡ homes.old.items }
+    ensures states { (q : ℕ) → get nat_eq states.new q ≡ get nat_eq states.old q }
+    ensures letters { OnOk result (vec_len rows.new + letters ≤ vec_capacity rows.new) }
+    ensures home { OnOk result (vec_len homes.new + 1 ≤ vec_capacity homes.new) }
+    ensures class { OnOk result (0 < spare states.new) }
+{
+    rows.reserve(letters)?;
+    homes.reserve(1)?;
+    states.reserve(1)?;
+    Ok(())
 }
 
 impl ObservationTable {
@@ -90,7 +115,7 @@ impl ObservationTable {
         let classes = &mut self.classes;
         let old = self.rows.as_slice();
         let rows = answered(oracle, self.inputs, &self.access, suffixes, classes, old, 0)?;
-        self.states = classes_of(self.alloc, &rows, &self.homes)?;
+        self.states = states_of(self.alloc, &rows, &self.homes)?;
         self.rows = rows;
         Ok(())
     }
@@ -139,7 +164,7 @@ impl ObservationTable {
             ((q : ℕ) → q < length self.now.access → row_at self.now row ≢ access_row self.now q)
             (λ q. (q < length self.now.access) × (row_at self.now row ≡ access_row self.now q)) }
     {
-        self.states.get_index_of(&self.rows[row].class)
+        self.states.get(&self.rows[row].class).copied()
     }
 
     /// Makes the word of a row an access word, whose extensions have no cells yet.
@@ -154,14 +179,13 @@ impl ObservationTable {
         ensures table { IsTable self.new }
     {
         let letters = usize::from(self.inputs);
+        let state = self.homes.len();
         let word = row_word(self.alloc, self.inputs, &self.access, row)?;
-        self.rows.reserve(letters)?;
-        self.homes.reserve(1)?;
-        self.states.reserve(1)?;
+        make_room(&mut self.rows, &mut self.homes, &mut self.states, letters)?;
         self.access.push(word)?;
         self.homes.push_reserved(row);
         add_empty(&mut self.rows, letters);
-        add_class(&mut self.states, self.rows[row].class);
+        add_class(&mut self.states, self.rows[row].class, state);
         Ok(())
     }
 
@@ -197,13 +221,12 @@ fn add_empty(rows: &mut Vec<Row>, count: usize)
     }
 }
 
-/// Lists a class that isn't listed. There is room for it.
-fn add_class(states: &mut IndexSet<usize>, class: usize)
+/// Gives a class a state. There is room for it.
+fn add_class(states: &mut HashMap<usize, usize>, class: usize, state: usize)
     requires room { 0 < spare states.old }
-    requires new { ¬ (Contains states.old.keys class) }
-    ensures { states.new.keys ≡ states.old.keys ++ class ∷ [] }
+    ensures { Updates nat_eq states.old states.new class (Some state) }
 {
-    let Ok(_) = states.insert(class) else {
+    let Ok(_) = states.insert(class, state) else {
         unreachable!();
     };
 }

@@ -6,3 +6,4 @@ pub mod Name
 pub mod Renumbering
 pub mod Shortlex
 pub mod Word
+pub mod bodies

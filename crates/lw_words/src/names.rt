@@ -4,10 +4,11 @@ ghost use Rattle.std.specs.Prelude.{◌≡◌, ℕ, ◌<◌, ◌≤◌, ◌↔�
 ghost use Rattle.std.specs.List.{All};
 ghost use Rattle.lw_words.specs.First.{FailsFirst};
 ghost use Rattle.lw_words.specs.Name.{IsName, IsNames, AllDiffer, number_of, HasFault};
+ghost use Rattle.lw_words.specs.bodies.Numbers.{AreNumbers};
 
 use crate::NoMemory;
-use indexmap::IndexSet;
 use std::alloc::{AllocError, AllocFailed, Global};
+use std::collections::HashMap;
 use std::marker::Model;
 
 /// The greatest number of names in a list.
@@ -56,19 +57,22 @@ impl<T: Drop> From<AllocFailed<T>> for NamesFault {
 /// Contracts see the list of their bytes.
 #[derive(Drop)]
 pub struct Names {
-    names: IndexSet<String>,
+    names: Vec<String>,
+    /// The place of each name.
+    numbers: HashMap<String, u16>,
     alloc: Global,
 }
 
 impl Model for Names {
     ghost use Rattle.std.specs.Prelude.{List, ℕ, map, string_bytes};
     ghost use Rattle.lw_words.specs.Name.{IsNames};
+    ghost use Rattle.lw_words.specs.bodies.Numbers.{AreNumbers};
 
     ghost Value = { List (List ℕ) };
 
-    ghost view = { λ n. map (λ s. string_bytes s) n.names.keys };
+    ghost view = { λ n. map (λ s. string_bytes s) n.names.items };
 
-    ghost invariant = { λ n. IsNames (map (λ s. string_bytes s) n.names.keys) };
+    ghost invariant = { λ n. IsNames (map (λ s. string_bytes s) n.names.items) × AreNumbers n.numbers (map (λ s. string_bytes s) n.names.items) };
 }
 
 /// Whether a text is a name: 1 to 64 bytes, each from 0x21 to 0x7E.
@@ -95,22 +99,26 @@ fn first_bad_name(list: &[String]) -> Option<usize>
 }
 
 /// Numbers the names in their order, up to the first that stood before.
-fn numbered(alloc: Global, list: &[String], limit: usize) -> Result<IndexSet<String>, NamesFault>
+fn numbered(
+    alloc: Global,
+    list: &[String],
+    limit: usize,
+) -> Result<HashMap<String, u16>, NamesFault>
+    requires limit { limit ≤ 4096 }
     requires few { length list.now ≤ limit }
     requires each { All IsName (map (λ s. string_bytes s) list.now) }
-    ensures ok { IfOk result (λ names. map (λ s. string_bytes s) names.keys
-        ≡ map (λ s. string_bytes s) list.now) }
+    ensures ok { IfOk result (λ numbers. AreNumbers numbers (map (λ s. string_bytes s) list.now)) }
     ensures differ { OnOk result (AllDiffer (map (λ s. string_bytes s) list.now)) }
     ensures err { IfErr result (HasFault limit (map (λ s. string_bytes s) list.now)) }
 {
-    let mut names = IndexSet::with_capacity(alloc, list.len())?;
+    let mut numbers = HashMap::with_capacity(alloc, list.len())?;
     for (place, name) in list.iter().enumerate() {
-        let (first, is_new) = names.insert_full(String::from_str(alloc, name.as_str())?)?;
-        if !is_new {
-            return Err(NamesFault::Repeated(first, place));
+        let name = String::from_str(alloc, name.as_str())?;
+        if let Some(first) = numbers.insert(name, place as u16)? {
+            return Err(NamesFault::Repeated(usize::from(first), place));
         }
     }
-    Ok(names)
+    Ok(numbers)
 }
 
 impl Names {
@@ -144,8 +152,13 @@ impl Names {
         if let Some(place) = first_bad_name(list) {
             return Err(NamesFault::BadName(place));
         }
-        let names = numbered(alloc, list, limit)?;
-        Ok(Names { names, alloc })
+        let numbers = numbered(alloc, list, limit)?;
+        let names = list.to_vec(alloc)?;
+        Ok(Names {
+            names,
+            numbers,
+            alloc,
+        })
     }
 
     pub fn len(&self) -> u16
@@ -160,10 +173,7 @@ impl Names {
         ensures value { result ≡ number_of name.now self.now }
         ensures inverse { IfSome result (λ n. slice_get self.now n ≡ Some name.now) }
     {
-        match self.names.get_index_of(name) {
-            Some(place) => Some(place as u16),
-            None => None,
-        }
+        self.numbers.get(name).copied()
     }
 
     pub fn name(&self, n: u16) -> &str
@@ -171,18 +181,16 @@ impl Names {
         ensures value { slice_get self.now n ≡ Some result.now }
         ensures inverse { number_of result.now self.now ≡ Some n }
     {
-        let name: &String = &self.names[usize::from(n)];
-        name.as_str()
+        self.names[usize::from(n)].as_str()
     }
 
     pub fn copy(&self) -> Result<Names, NoMemory>
         ensures { IfOk result (λ names. names ≡ self.now) }
     {
-        let names = self.names.clone()?;
-        Ok(Names {
-            names,
-            alloc: self.alloc,
-        })
+        match Names::from_list(self.alloc, &self.names) {
+            Ok(names) => Ok(names),
+            Err(_) => Err(NoMemory),
+        }
     }
 
     /// Whether both are the same names in the same order.

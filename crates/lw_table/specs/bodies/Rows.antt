@@ -1,9 +1,10 @@
 -- The words of rows, and tables whose rows are kept by class.
-use Rattle.std.specs.Prelude.{◌≡◌, ◌≢◌, ◌⊎◌, ℕ, ◌<◌, List, [], ◌∷◌, ◌++◌, length, map, slice_index_or}
+use Rattle.std.specs.Prelude.{◌≡◌, ◌≢◌, ◌⊎◌, ℕ, ◌<◌, nat_eq, List, [], ◌∷◌, ◌++◌, length, map, slice_index_or, Option}
 use Rattle.std.specs.List.{All, AllPairs}
 use Rattle.lw_cache.specs.Cut.{word_at}
 use Rattle.lw_table.specs.Table.{TableState, row_number}
 use Rattle.lw_table.specs.bodies.Classes.{row_of}
+use Rattle.lw_table.specs.bodies.Numbered.{AreNumbered}
 use Rattle.lw_table.specs.declared.rows.Row.{Row}
 
 -- row 0 is of the empty word, each other one of an access word followed by a letter
@@ -32,11 +33,11 @@ table_of inputs outputs most access suffixes classes rows homes refinements = re
   refinements = refinements;
 }
 
--- class 0 has no cells, and no two classes have one row; each row has a class and so many cells; and by each access word's row its class is listed
-pub record AreIndexed (classes : List (List (List ℕ))) (rows : List Row) (homes listed : List ℕ) : Type 0 where
+-- class 0 has no cells, and no two classes have one row; each row has a class and so many cells; and the class of each access word's row is found
+pub record AreIndexed (classes : List (List (List ℕ))) (rows : List Row) (homes : List ℕ) (find : ℕ → Option ℕ) : Type 0 where
   pub some : 0 < length classes
   pub first : row_of classes 0 ≡ []
   pub differ : AllPairs (λ r s. r ≢ s) classes
   pub within : All (λ r. r.class < length classes) rows
   pub counts : All (λ r. r.cells ≡ length (row_of classes r.class)) rows
-  pub keys : listed ≡ map (class_at rows) homes
+  pub states : AreNumbered nat_eq (map (class_at rows) homes) find

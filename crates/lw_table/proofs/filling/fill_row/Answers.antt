@@ -1,12 +1,19 @@
-use Rattle.std.proofs.Common.{◌≡◌, ◌∷◌, [], ap, sym, List, ℕ, length, subst, arith}
+use Rattle.std.proofs.Common.{rules, ◌≡◌, ◌++◌, ◌∷◌, [], ap, sym, List, ℕ, length, subst, arith}
 use Rattle.std.proofs.lemmas.List.{length-append}
 use Rattle.std.proofs.lemmas.Option.{get_or_from_slice_get}
 use Rattle.lw_words.specs.Answer.{answers_of}
 use Rattle.lw_cache.specs.Cut.{word_at}
+use Rattle.lw_cache.specs.Known.{IsKnown}
 use Rattle.lw_table.specs.bodies.Classes.{row_of}
 use Rattle.lw_table.specs.bodies.Filling.{IsCellOf}
 use Rattle.lw_table.proofs.FillLemmas.{goes_further, more_then}
 use Rattle.lw_table.proofs.filling.fill_row.Goals as goal
+
+pub read_cell-requires-clause-known : goal.read_cell-requires-clause-known
+read_cell-requires-clause-known c =
+    let l = c.loop-cell in
+    let at : c.get.result.now ≡ word_at c.args.suffixes.now l.cell = sym (get_or_from_slice_get c.args.suffixes.now l.cell c.get.result.now [] c.get.ensures) in
+    subst (λ (e : List ℕ). IsKnown (answers_of c.args.cache.now.kept) (c.args.word.now ++ e)) (sym at) (c.requires.known l.cell (search rules) (search rules))
 
 pub loop-cell-preserved : goal.loop-cell-preserved
 loop-cell-preserved c =

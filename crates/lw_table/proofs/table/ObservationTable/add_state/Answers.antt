@@ -1,9 +1,11 @@
-use Rattle.std.proofs.Common.{ap, rules, ◌≡◌, ℕ, ◌<◌, length, sym, ◌∙◌, subst}
+use Rattle.std.proofs.Common.{ap, rules, ◌≡◌, ℕ, ◌<◌, List, [], ◌∷◌, length, sym, ◌∙◌, subst}
+use Rattle.std.proofs.lemmas.List.{length-append}
 use Rattle.lw_words.specs.Answer.{answers_of}
 use Rattle.lw_cache.proofs.SettlingLemmas.{leaves_nothing, leaves_grown_own}
 use Rattle.lw_table.specs.Grown.{HasGrown}
 use Rattle.lw_table.specs.Table.{TableState, home_at, IsTable, CellsAreRead}
-use Rattle.lw_table.proofs.AccessLemmas.{access_read, access_grown, homes_before, has_state}
+use Rattle.lw_table.specs.bodies.Growing.{AreFullBelow}
+use Rattle.lw_table.proofs.AccessLemmas.{row_stays_at, access_read, access_grown, homes_before, has_state}
 use Rattle.lw_table.proofs.IndexLemmas.{length-rows_by}
 use Rattle.lw_table.proofs.GrownLemmas.{not_grown, grown_then, crowd_of, tells_crowd}
 use Rattle.lw_table.proofs.table.ObservationTable.add_state.Goals as goal
@@ -51,6 +53,22 @@ fill_new-requires-clause-read g c =
     let added = c.in_ok-add_access.ensures.ok in
     subst (λ (u : TableState). CellsAreRead ks u) (sym added.is) (access_read t added.word c.args.row table added.of_row c.requires.row ks c.requires.read)
 
+pub fill_new-requires-clause-inputs : goal.fill_new-requires-clause-inputs
+fill_new-requires-clause-inputs g c = ap (λ (u : TableState). u.inputs) c.in_ok-add_access.ensures.ok.is ∙ c.requires.inputs
+
+pub fill_new-requires-clause-outputs : goal.fill_new-requires-clause-outputs
+fill_new-requires-clause-outputs g c = ap (λ (u : TableState). u.outputs) c.in_ok-add_access.ensures.ok.is ∙ c.requires.outputs
+
+pub fill_new-requires-clause-full : goal.fill_new-requires-clause-full
+fill_new-requires-clause-full g c =
+    let t : TableState = c.args.self.now in
+    let table : IsTable t = subst (λ (u : TableState). IsTable u) c.self.view_is c.self.invariant.0 in
+    let added = c.in_ok-add_access.ensures.ok in
+    let rows : c.len-first.result ≡ length c.self.inside.rows.items = search rules in
+    let first : c.len-first.result ≡ length t.cells = subst (λ (u : TableState). c.len-first.result ≡ length u.cells) c.self.view_is (rows ∙ sym (length-rows_by c.self.inside.classes c.self.inside.rows.items)) in
+    subst (λ (n : ℕ). AreFullBelow c.add_access.new.self n) (sym first)
+    (subst (λ (u : TableState). AreFullBelow u (length t.cells)) (sym added.is) (λ i lt. ap (λ (r : List (List ℕ)). length r) (row_stays_at t added.word c.args.row table added.of_row c.requires.row i lt) ∙ c.requires.full i lt))
+
 pub fill_new-requires-clause-homes : goal.fill_new-requires-clause-homes
 fill_new-requires-clause-homes g c =
     let t : TableState = c.args.self.now in
@@ -70,18 +88,29 @@ returns-in_err-fill_new-clause-grown g c =
     let one : HasGrown ks t c.add_access.new.self = subst (λ (u : TableState). HasGrown ks t u) (sym added.is) (access_grown t added.word c.args.row table added.of_row c.requires.row ks (subst (λ (u : TableState). IsTable u) added.is c.add_access.ensures.table) c.requires.read) in
     grown_then ks (answers_of (g.O.Oracle.state c.fill_new.new.oracle).kept) t c.add_access.new.self c.fill_new.new.self one c.fill_new.ensures.grown (ap (λ (u : TableState). u.suffixes) c.fill_new.ensures.cells)
 
-pub returns-clause-grown : goal.returns-clause-grown
-returns-clause-grown g c =
+pub returns-in_err-fill_new-clause-suffixes : goal.returns-in_err-fill_new-clause-suffixes
+returns-in_err-fill_new-clause-suffixes g c = ap (λ (u : TableState). u.suffixes) c.fill_new.ensures.cells ∙ ap (λ (u : TableState). u.suffixes) c.in_ok-add_access.ensures.ok.is
+
+pub returns-in_err-fill_new-clause-refinements : goal.returns-in_err-fill_new-clause-refinements
+returns-in_err-fill_new-clause-refinements g c = ap (λ (u : TableState). u.refinements) c.fill_new.ensures.cells ∙ ap (λ (u : TableState). u.refinements) c.in_ok-add_access.ensures.ok.is
+
+pub returns : goal.returns
+returns g c =
     let t : TableState = c.args.self.now in
+    let now = c.fill_new.new.self in
     let ks = answers_of (g.O.Oracle.state c.args.oracle.now).kept in
     let table : IsTable t = subst (λ (u : TableState). IsTable u) c.self.view_is c.self.invariant.0 in
     let added = c.in_ok-add_access.ensures.ok in
+    let cells = c.fill_new.ensures.cells in
     let one : HasGrown ks t c.add_access.new.self = subst (λ (u : TableState). HasGrown ks t u) (sym added.is) (access_grown t added.word c.args.row table added.of_row c.requires.row ks (subst (λ (u : TableState). IsTable u) added.is c.add_access.ensures.table) c.requires.read) in
-    grown_then ks (answers_of (g.O.Oracle.state c.fill_new.new.oracle).kept) t c.add_access.new.self c.fill_new.new.self one c.fill_new.ensures.grown (ap (λ (u : TableState). u.suffixes) c.fill_new.ensures.cells)
-
-pub returns-clause-state : goal.returns-clause-state
-returns-clause-state g c =
-    let t : TableState = c.args.self.now in
-    let table : IsTable t = subst (λ (u : TableState). IsTable u) c.self.view_is c.self.invariant.0 in
-    let added = c.in_ok-add_access.ensures.ok in
-    has_state (answers_of (g.O.Oracle.state c.fill_new.new.oracle).kept) t c.add_access.new.self c.fill_new.new.self added.word c.args.row table added.of_row c.requires.row added.is c.fill_new.ensures.grown
+    record {
+      grown = grown_then ks (answers_of (g.O.Oracle.state c.fill_new.new.oracle).kept) t c.add_access.new.self now one c.fill_new.ensures.grown (ap (λ (u : TableState). u.suffixes) cells);
+      full = c.in_ok-fill_new.ensures.full;
+      one = ap (λ (u : TableState). length u.access) cells ∙ (ap (λ (u : TableState). length u.access) added.is ∙ length-append t.access (added.word ∷ []));
+      state = has_state (answers_of (g.O.Oracle.state c.fill_new.new.oracle).kept) t c.add_access.new.self now added.word c.args.row table added.of_row c.requires.row added.is c.fill_new.ensures.grown;
+      suffixes = ap (λ (u : TableState). u.suffixes) cells ∙ ap (λ (u : TableState). u.suffixes) added.is;
+      refinements = ap (λ (u : TableState). u.refinements) cells ∙ ap (λ (u : TableState). u.refinements) added.is;
+      crowd = λ words told. cc;
+      leaves = c.in_ok-fill_new.ensures.leaves;
+      can = c.in_ok-fill_new.ensures.can;
+    }

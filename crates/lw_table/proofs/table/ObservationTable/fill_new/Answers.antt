@@ -1,4 +1,5 @@
-use Rattle.std.proofs.Common.{◌≡◌, ℕ, ◌+◌, ◌<◌, ◌≤◌, List, ◌++◌, length, take, get_or, ap, sym, ◌∙◌, subst, arith}
+use Rattle.std.proofs.Common.{◌≡◌, ℕ, ◌+◌, ◌<◌, ◌≤◌, List, ◌++◌, length, take, get_or, nat_eq, ap, sym, ◌∙◌, subst, arith}
+use Rattle.std.specs.HashMap.{get}
 use Rattle.std.specs.List.{All}
 use Rattle.lw_words.specs.Answer.{answers_of}
 use Rattle.lw_cache.specs.Settling.{OracleState}
@@ -11,13 +12,13 @@ use Rattle.lw_table.specs.bodies.Rows.{table_of, AreIndexed}
 use Rattle.lw_table.specs.declared.rows.Row.{Row}
 use Rattle.lw_table.proofs.CellLemmas.{cells_more, kept_words}
 use Rattle.lw_table.proofs.GrownLemmas.{not_grown}
-use Rattle.lw_table.proofs.IndexLemmas.{few_cells, more_classes, same_table, replaced_index, replaced_keys, replaced_table, replaced_full, replaced_grown}
+use Rattle.lw_table.proofs.IndexLemmas.{few_cells, more_classes, same_table, replaced_index, replaced_states, replaced_table, replaced_full, replaced_grown}
 use Rattle.lw_table.proofs.table.ObservationTable.fill_new.Goals as goal
 
 pub answered-requires-clause-few : goal.answered-requires-clause-few
 answered-requires-clause-few g c =
     let s = c.self.inside in
-    subst (λ (l : List Row). All (λ r. r.cells ≤ length s.suffixes) l) (sym c.as_slice-old.ensures.value) (few_cells s.classes s.rows.items s.homes.items s.states.keys c.self.invariant.1 s.outputs s.suffixes c.self.invariant.0.shape)
+    subst (λ (l : List Row). All (λ r. r.cells ≤ length s.suffixes) l) (sym c.as_slice-old.ensures.value) (few_cells s.classes s.rows.items s.homes.items (get nat_eq s.states) c.self.invariant.1 s.outputs s.suffixes c.self.invariant.0.shape)
 
 pub invariant_of-self : goal.invariant_of-self
 invariant_of-self g c =
@@ -27,8 +28,8 @@ invariant_of-self g c =
     let ks = answers_of n.kept in
     let more = c.answered.ensures.more in
     let now = c.answered.new.classes in (
-      subst (λ (t : TableState). IsTable t) (sym (same_table s.inputs s.outputs s.most s.refinements s.access s.suffixes s.classes more.0 now s.rows.items s.homes.items s.states.keys c.self.invariant.1 more.1)) c.self.invariant.0,
-      more_classes s.classes s.rows.items s.homes.items s.states.keys c.self.invariant.1 more.0 now more.1 c.answered.ensures.differ,
+      subst (λ (t : TableState). IsTable t) (sym (same_table s.inputs s.outputs s.most s.refinements s.access s.suffixes s.classes more.0 now s.rows.items s.homes.items (get nat_eq s.states) c.self.invariant.1 more.1)) c.self.invariant.0,
+      more_classes s.classes s.rows.items s.homes.items (get nat_eq s.states) c.self.invariant.1 more.0 now more.1 c.answered.ensures.differ,
     )
 
 pub returns-in_err-filled-clause-grown : goal.returns-in_err-filled-clause-grown
@@ -43,7 +44,7 @@ returns-in_err-filled-clause-grown g c =
     let t : TableState = table_of s.inputs s.outputs s.most s.access s.suffixes s.classes s.rows.items s.homes.items s.refinements in
     let read : CellsAreRead ks t = cells_more o.kept leaves.gained n.kept t leaves.at_end (subst (λ (u : TableState). CellsAreRead (answers_of o.kept) u) (sym c.self.view_is) c.requires.read) in
     subst (λ (u : TableState). HasGrown ks u (table_of s.inputs s.outputs s.most s.access s.suffixes now s.rows.items s.homes.items s.refinements)) c.self.view_is
-    (subst (λ (u : TableState). HasGrown ks t u) (sym (same_table s.inputs s.outputs s.most s.refinements s.access s.suffixes s.classes more.0 now s.rows.items s.homes.items s.states.keys c.self.invariant.1 more.1)) (not_grown ks t c.self.invariant.0 read))
+    (subst (λ (u : TableState). HasGrown ks t u) (sym (same_table s.inputs s.outputs s.most s.refinements s.access s.suffixes s.classes more.0 now s.rows.items s.homes.items (get nat_eq s.states) c.self.invariant.1 more.1)) (not_grown ks t c.self.invariant.0 read))
 
 pub invariant_of-self-2 : goal.invariant_of-self-2
 invariant_of-self-2 g c =
@@ -65,8 +66,8 @@ invariant_of-self-2 g c =
     let full = (λ (j : ℕ) (lt : j < c.args.first). subst (λ (t : TableState). length (row_of t.cells j) ≡ length t.suffixes) (sym c.self.view_is) (c.requires.full j lt)) in
     let is : c.replace.new.rows.items ≡ take c.args.first s.rows.items ++ filled = c.replace.ensures ∙ ap (λ (l : List Row). take c.args.first s.rows.items ++ l) c.deref.ensures.value in
     let early : (q : ℕ) → q < length s.homes.items → get_or s.homes.items q 0 < c.args.first = λ q lt. subst (λ (t : TableState). q < length t.access → get_or t.homes q 0 < c.args.first) (sym c.self.view_is) (c.requires.homes q) (omega (arith, lt, c.self.invariant.0.each_home)) in
-    subst (λ (l : List Row). IsTable (table_of s.inputs s.outputs s.most s.access s.suffixes now l s.homes.items s.refinements) × AreIndexed now l s.homes.items s.states.keys) (sym is)
-    (replaced_table ks s.inputs s.outputs s.most s.refinements s.access s.suffixes s.classes more.0 now s.rows.items filled s.homes.items s.states.keys s.states.keys c.args.first c.self.invariant.0 c.self.invariant.1 le full more.1 c.answered.ensures.differ all on words.0 words.1, replaced_index ks s.inputs s.outputs s.most s.refinements s.access s.suffixes s.classes more.0 now s.rows.items filled s.homes.items s.states.keys s.states.keys c.args.first c.self.invariant.0 c.self.invariant.1 le full more.1 c.answered.ensures.differ all on (replaced_keys ks s.inputs s.outputs s.most s.refinements s.access s.suffixes s.classes more.0 now s.rows.items filled s.homes.items s.states.keys s.states.keys c.args.first c.self.invariant.0 c.self.invariant.1 le full more.1 c.answered.ensures.differ all on early))
+    subst (λ (l : List Row). IsTable (table_of s.inputs s.outputs s.most s.access s.suffixes now l s.homes.items s.refinements) × AreIndexed now l s.homes.items (get nat_eq s.states)) (sym is)
+    (replaced_table ks s.inputs s.outputs s.most s.refinements s.access s.suffixes s.classes more.0 now s.rows.items filled s.homes.items (get nat_eq s.states) (get nat_eq s.states) c.args.first c.self.invariant.0 c.self.invariant.1 le full more.1 c.answered.ensures.differ all on words.0 words.1, replaced_index ks s.inputs s.outputs s.most s.refinements s.access s.suffixes s.classes more.0 now s.rows.items filled s.homes.items (get nat_eq s.states) (get nat_eq s.states) c.args.first c.self.invariant.0 c.self.invariant.1 le full more.1 c.answered.ensures.differ all on (replaced_states ks s.inputs s.outputs s.most s.refinements s.access s.suffixes s.classes more.0 now s.rows.items filled s.homes.items (get nat_eq s.states) (get nat_eq s.states) c.args.first c.self.invariant.0 c.self.invariant.1 le full more.1 c.answered.ensures.differ all on early))
 
 pub returns-clause-grown : goal.returns-clause-grown
 returns-clause-grown g c =
@@ -91,7 +92,7 @@ returns-clause-grown g c =
     let read : CellsAreRead ks t = cells_more o.kept leaves.gained n.kept t leaves.at_end (subst (λ (u : TableState). CellsAreRead (answers_of o.kept) u) (sym c.self.view_is) c.requires.read) in
     subst (λ (l : List Row). HasGrown ks c.args.self.now (table_of s.inputs s.outputs s.most s.access s.suffixes now l s.homes.items s.refinements)) (sym is)
     (subst (λ (u : TableState). HasGrown ks u (table_of s.inputs s.outputs s.most s.access s.suffixes now (take c.args.first s.rows.items ++ filled) s.homes.items s.refinements)) c.self.view_is
-    (replaced_grown ks s.inputs s.outputs s.most s.refinements s.access s.suffixes s.classes more.0 now s.rows.items filled s.homes.items s.states.keys s.states.keys c.args.first c.self.invariant.0 c.self.invariant.1 le full more.1 c.answered.ensures.differ all on words.0 words.1 read))
+    (replaced_grown ks s.inputs s.outputs s.most s.refinements s.access s.suffixes s.classes more.0 now s.rows.items filled s.homes.items (get nat_eq s.states) (get nat_eq s.states) c.args.first c.self.invariant.0 c.self.invariant.1 le full more.1 c.answered.ensures.differ all on words.0 words.1 read))
 
 pub returns-clause-full : goal.returns-clause-full
 returns-clause-full g c =
@@ -113,4 +114,4 @@ returns-clause-full g c =
     let full = (λ (j : ℕ) (lt : j < c.args.first). subst (λ (t : TableState). length (row_of t.cells j) ≡ length t.suffixes) (sym c.self.view_is) (c.requires.full j lt)) in
     let is : c.replace.new.rows.items ≡ take c.args.first s.rows.items ++ filled = c.replace.ensures ∙ ap (λ (l : List Row). take c.args.first s.rows.items ++ l) c.deref.ensures.value in
     subst (λ (l : List Row). AreFull (table_of s.inputs s.outputs s.most s.access s.suffixes now l s.homes.items s.refinements)) (sym is)
-    (replaced_full ks s.inputs s.outputs s.most s.refinements s.access s.suffixes s.classes more.0 now s.rows.items filled s.homes.items s.states.keys s.states.keys c.args.first c.self.invariant.0 c.self.invariant.1 le full more.1 c.answered.ensures.differ all on words.0 words.1)
+    (replaced_full ks s.inputs s.outputs s.most s.refinements s.access s.suffixes s.classes more.0 now s.rows.items filled s.homes.items (get nat_eq s.states) (get nat_eq s.states) c.args.first c.self.invariant.0 c.self.invariant.1 le full more.1 c.answered.ensures.differ all on words.0 words.1)

@@ -1,17 +1,13 @@
-use Rattle.std.proofs.Common.{◌∙◌, sym, ap, position, string_bytes}
-use Rattle.std.specs.Str.{bytes_eq}
-use Rattle.lw_words.proofs.Lists.{position-map}
-use Rattle.lw_words.proofs.NumberLemmas.{name_at_number}
+use Rattle.std.proofs.Common.{map, string_bytes, ap, ◌∙◌}
+use Rattle.lw_words.specs.Name.{number_of}
+use Rattle.lw_words.proofs.NumberLemmas.{number_found, number_stands}
 use Rattle.lw_words.proofs.names.Names.number.Goals as goal
 
-pub returns-in-Some-clause-value : goal.returns-in-Some-clause-value
-returns-in-Some-clause-value c =
-    sym c.in-Some.is ∙ (c.get_index_of.ensures.index ∙ (sym (position-map (λ s. string_bytes s) (bytes_eq c.args.name.now) c.self.inside.names.keys) ∙ ap (position (bytes_eq c.args.name.now)) c.self.view_is))
+pub returns-clause-value : goal.returns-clause-value
+returns-clause-value c =
+    c.copied.ensures
+    ∙ (c.get.ensures.value
+    ∙ (number_found c.self.inside.numbers (map (λ s. string_bytes s) c.self.inside.names.items) c.args.name.now c.self.invariant.1 c.self.invariant.0.differ ∙ ap (number_of c.args.name.now) c.self.view_is))
 
-pub returns-in-Some-clause-inverse : goal.returns-in-Some-clause-inverse
-returns-in-Some-clause-inverse c =
-    name_at_number c.args.name.now c.args.self.now c.in-Some.place (sym (returns-in-Some-clause-value c))
-
-pub returns-in-None-clause-value : goal.returns-in-None-clause-value
-returns-in-None-clause-value c =
-    sym c.in-None.is ∙ (c.get_index_of.ensures.index ∙ (sym (position-map (λ s. string_bytes s) (bytes_eq c.args.name.now) c.self.inside.names.keys) ∙ ap (position (bytes_eq c.args.name.now)) c.self.view_is))
+pub returns-clause-inverse : goal.returns-clause-inverse
+returns-clause-inverse c = number_stands c.args.name.now c.args.self.now c.copied.result (returns-clause-value c)
