@@ -1,1 +1,2 @@
+mod TestScripts
 mod WorkedMachines

@@ -6,7 +6,10 @@ mod cex;
 mod links;
 mod mealy;
 mod oracle;
+mod separate;
 mod suite;
+mod sul;
+mod words;
 
 use lw_mealy::Mealy;
 use lw_words::Word;

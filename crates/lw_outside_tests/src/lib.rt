@@ -1,4 +1,5 @@
-//! Tests of `lw_outside` by its public calls alone.
+//! Tests of the crates that deal with the outside, by their public calls alone: JSON, words of texts, earlier answers,
+//! files and links, the log, lines, children, reports, and `serve`.
 #![tactic(auto)]
 
 #[cfg(test)]

@@ -1,8 +1,0 @@
-use Rattle.std.proofs.Common.{◌≡◌, []}
-use Rattle.std.specs.List.{All}
-use Rattle.lw_words.specs.Answer.{answers_of}
-use Rattle.lw_words.specs.Word.{IsWord}
-use Rattle.lw_cache_tests.proofs.tests.against.keeps.Given as goal
-
-abbrev pub invariant-loop-letters : goal.invariant-loop-letters
-invariant-loop-letters g l = (l.cache.claims ≡ []) × All (λ k. IsWord 2 k.word) (answers_of l.cache.kept)

@@ -1,5 +1,0 @@
-use Rattle.std.proofs.Common.{◌≡◌, take}
-use Rattle.lw_desk_tests.proofs.tests.trial.Trial.declared.Given as goal
-
-abbrev pub invariant-loop-n : goal.invariant-loop-n
-invariant-loop-n g l = l.own.items ≡ take l.n l.shared.names

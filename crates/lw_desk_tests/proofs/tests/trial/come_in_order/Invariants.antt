@@ -1,9 +1,0 @@
-use Rattle.std.proofs.Common.{◌≡◌, ◌≤◌, length, take}
-use Rattle.lw_sul.specs.Names.{named, with_names}
-use Rattle.lw_desk_tests.proofs.tests.trial.come_in_order.Given as goal
-
-abbrev pub invariant-loop-y : goal.invariant-loop-y
-invariant-loop-y l = record {
-  names : with_names (take l.own l.all) (named l.all (take l.y-index l.outs)) ≡ take l.seen l.all;
-  within : l.seen ≤ length l.all;
-}

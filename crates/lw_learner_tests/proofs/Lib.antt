@@ -1,0 +1,2 @@
+mod MayLemmas
+mod ReadyLemmas

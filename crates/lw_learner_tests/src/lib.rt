@@ -1,0 +1,5 @@
+//! Tests of the crates that keep answers and learn from them, by their public calls alone: the cache, the table, the tree and its settling, the rounds.
+#![tactic(auto)]
+
+#[cfg(test)]
+mod tests;

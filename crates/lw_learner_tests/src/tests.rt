@@ -1,0 +1,7 @@
+//! A module for each crate that is tested.
+
+mod cache;
+mod rounds;
+mod settle;
+mod table;
+mod tree;

@@ -1,7 +1,0 @@
-use Rattle.std.proofs.Common.{◌≡◌, None}
-use Rattle.lw_line_tests.proofs.tests.noting.run_all.Given as goal
-
-abbrev pub invariant-loop-letters : goal.invariant-loop-letters
-invariant-loop-letters g l =
-    let S = g.S.Sul in
-    S.stop l.sul ≡ None

@@ -1,0 +1,4 @@
+mod BroughtNames
+mod FirstNames
+mod TestDesks
+mod TestTrials

@@ -1,0 +1,2 @@
+pub mod TestNames
+pub mod TestTrial

@@ -1,0 +1,6 @@
+//! A module for each crate that is tested.
+
+mod desk;
+mod pool;
+mod renumber;
+mod workers;

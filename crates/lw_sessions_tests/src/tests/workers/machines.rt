@@ -1,0 +1,229 @@
+//! Learnings of machines, worked by hand, with pools of one to sixteen instances: the model, and what the instances answered.
+ghost use Rattle.std.specs.Prelude.{◌≡◌, ◌≤◌, [], length, None};
+ghost use Rattle.lw_words.specs.Answer.{answers_of};
+ghost use Rattle.lw_cache.specs.Clash.{NothingClashes};
+ghost use Rattle.lw_pool.specs.Opening.{MayBegin};
+
+use crate::tests::workers::crews::{machine, names_of};
+use crate::tests::workers::{COUNTER, are_long, is_crowd, is_found};
+use lw_cache::Cache;
+use lw_desk::OutNames;
+use lw_mealy::Mealy;
+use lw_rounds::{Kind, LearnStop, Unwatched};
+use lw_words::Names;
+use lw_workers::{LearnedMachine, learn_machine};
+use std::alloc::Global;
+use std::process::Abort;
+use std::sync::Wait;
+use std::thread::Threads;
+
+/// What comes of a machine with a table, where a cache may keep answers: the clauses of `learn_machine` would weigh down each
+/// proof that calls it.
+pub fn call<R: Threads + Wait + Sync + Drop>(
+    rt: R,
+    alloc: Global,
+    system: &Mealy,
+    names: &Names,
+    shared: OutNames,
+    cache: Cache,
+    workers: u8,
+    extra: u8,
+    max_states: u16,
+) -> LearnedMachine
+    requires named { length names.now ≡ system.now.outputs }
+    requires shared { shared ≡ record { names = names.now; brought = None } }
+    requires unclaimed { cache.claims ≡ [] }
+    requires nothing { NothingClashes (answers_of cache.kept) }
+    requires prior { MayBegin shared system.now.inputs system.now.outputs cache.kept }
+    requires workers { (1 ≤ workers) × (workers ≤ 16) }
+    requires few { extra ≤ 4 }
+    requires most { (1 ≤ max_states) × (max_states ≤ 1024) }
+{
+    let kind = Kind::Table;
+    learn_machine(
+        rt,
+        alloc,
+        system,
+        names,
+        shared,
+        cache,
+        &[],
+        workers,
+        kind,
+        extra,
+        max_states,
+        &mut Unwatched,
+    )
+}
+
+/// What comes of a machine whose outputs have these names with so many instances.
+fn learned_by<R: Abort + Threads + Wait + Sync + Copy + Drop>(
+    rt: R,
+    alloc: Global,
+    system: &Mealy,
+    names: &Names,
+    workers: u8,
+    extra: u8,
+    max_states: u16,
+) -> LearnedMachine
+    requires named { length names.now ≡ system.now.outputs }
+    requires few { extra ≤ 4 }
+    requires most { (1 ≤ max_states) × (max_states ≤ 1024) }
+{
+    assert!(rt; 1 <= workers && workers <= 16);
+    let shared = OutNames::declared(alloc, names).expect(&rt, "memory");
+    let cache = Cache::new(alloc);
+    call(
+        rt, alloc, system, names, shared, cache, workers, extra, max_states,
+    )
+}
+
+/// What comes of a counter of three.
+fn counter_by<R: Abort + Threads + Wait + Sync + Copy + Drop>(
+    rt: R,
+    alloc: Global,
+    workers: u8,
+    extra: u8,
+    max_states: u16,
+) -> LearnedMachine
+    requires few { extra ≤ 4 }
+    requires most { (1 ≤ max_states) × (max_states ≤ 1024) }
+{
+    let names = names_of(&rt, alloc, &["0", "1"]);
+    let system = machine(&rt, alloc, &COUNTER);
+    learned_by(rt, alloc, &system, &names, workers, extra, max_states)
+}
+
+/// Whether a model of so many states was found with so many refinements, by the answers to words of these numbers of
+/// letters, in this order.
+fn has_found(ended: &LearnedMachine, states: u16, refinements: u32, letters: &[usize]) -> bool {
+    is_found(&ended.learned, states, refinements) && are_long(&ended.kept, letters)
+}
+
+/// No suite word of fewer than three letters tells a counter of three from a machine of one state.
+#[test]
+fn a_counter_of_three_is_taken_for_one_state(rt: HostRuntime) {
+    for workers in [1u8, 2, 16] {
+        let ended = counter_by(rt, rt.alloc(), workers, 0, 4);
+        assert!(rt; has_found(&ended, 1, 0, &[2]), "{workers} instances");
+    }
+}
+
+#[test]
+fn two_extra_states_tell_a_counter_of_three(rt: HostRuntime) {
+    for workers in [1u8, 2, 16] {
+        let ended = counter_by(rt, rt.alloc(), workers, 2, 4);
+        assert!(rt;
+            has_found(&ended, 3, 1, &[2, 3, 4, 5, 7]),
+            "{workers} instances"
+        );
+    }
+}
+
+/// Whether it ended with a crowd of so many words, by the answers to words of these numbers of letters, in this order.
+fn has_stopped(ended: &LearnedMachine, count: usize, letters: &[usize]) -> bool {
+    is_crowd(&ended.learned, count) && are_long(&ended.kept, letters)
+}
+
+#[test]
+fn two_states_are_too_few_for_a_counter(rt: HostRuntime) {
+    let ended = counter_by(rt, rt.alloc(), 2, 2, 2);
+    assert!(rt; has_stopped(&ended, 3, &[2, 3, 4]));
+}
+
+/// The machine of one state over 64 letters.
+fn of_many_letters(rt: &impl Abort, alloc: Global) -> Mealy
+    ensures { result.outputs ≡ 1 }
+{
+    let mut rows = Vec::new(alloc);
+    let row = vec![in alloc; (0, 0); 64].expect(rt, "memory");
+    rows.push(row).expect(rt, "memory");
+    Mealy::new(alloc, 64, 1, rows).expect(rt, "a machine")
+}
+
+/// Whether it ended with a model of so many states whose suite would have this size.
+fn is_too_large(ended: &LearnedMachine, states: u16, size: u64) -> bool {
+    match &ended.learned {
+        Err(LearnStop::TooLarge { model, number }) => model.states() == states && *number == size,
+        _ => false,
+    }
+}
+
+/// What comes of it with two instances and three extra states.
+fn many_letters_by<R: Abort + Threads + Wait + Sync + Copy + Drop>(
+    rt: R,
+    alloc: Global,
+) -> LearnedMachine {
+    let names = names_of(&rt, alloc, &["0"]);
+    let system = of_many_letters(&rt, alloc);
+    learned_by(rt, alloc, &system, &names, 2, 3, 4)
+}
+
+/// Each word of two letters was asked, and the suite wasn't: 1 + 64 + 64² + 64³ + 64⁴ words are too many.
+#[test]
+fn a_suite_over_many_letters_is_too_large(rt: HostRuntime) {
+    let ended = many_letters_by(rt, rt.alloc());
+    assert!(rt; is_too_large(&ended, 1, 17_043_521));
+    assert!(rt; ended.kept.len() == 4096);
+}
+
+/// Four states that are their own canonical form.
+static ROWS: [[(u16, u16); 2]; 4] = [
+    [(1, 1), (2, 0)],
+    [(3, 1), (3, 0)],
+    [(2, 0), (2, 0)],
+    [(3, 0), (1, 0)],
+];
+
+/// Their machine.
+fn of_four_states(rt: &impl Abort, alloc: Global) -> Mealy
+    ensures { result.outputs ≡ 2 }
+{
+    let mut rows = Vec::new(alloc);
+    for row in &ROWS {
+        let row = Vec::from_slice(alloc, row).expect(rt, "memory");
+        rows.push(row).expect(rt, "memory");
+    }
+    Mealy::new(alloc, 2, 2, rows).expect(rt, "a machine")
+}
+
+/// Whether a model has just these rows.
+fn has_rows(model: &Mealy, rows: &[[(u16, u16); 2]]) -> bool {
+    let mut right = model.inputs() == 2 && usize::from(model.states()) == rows.len();
+    for q in 0..model.states() {
+        for x in 0..model.inputs() {
+            let cell = rows
+                .get(usize::from(q))
+                .and_then(|row| row.get(usize::from(x)).copied());
+            right = right && cell == Some(model.step(q, x));
+        }
+    }
+    right
+}
+
+/// What comes of the four states with one extra state.
+fn four_states_by<R: Abort + Threads + Wait + Sync + Copy + Drop>(
+    rt: R,
+    alloc: Global,
+    workers: u8,
+) -> LearnedMachine {
+    let names = names_of(&rt, alloc, &["0", "1"]);
+    let system = of_four_states(&rt, alloc);
+    learned_by(rt, alloc, &system, &names, workers, 1, 12)
+}
+
+/// Whether the four states were found with two refinements.
+fn has_found_them(ended: &LearnedMachine) -> bool {
+    match &ended.learned {
+        Ok(learned) => learned.refinements() == 2 && has_rows(&learned.model, &ROWS),
+        Err(_) => false,
+    }
+}
+
+#[test]
+fn however_many_instances_find_the_same_model(rt: HostRuntime) {
+    for workers in [1u8, 2, 8] {
+        let ended = four_states_by(rt, rt.alloc(), workers);
+        assert!(rt; has_found_them(&ended), "{workers} instances");
+    }
+}

@@ -1,0 +1,105 @@
+//! Learnings of a counter of three that begin with an answer that was kept before.
+ghost use Rattle.std.specs.Prelude.{◌≡◌, []};
+ghost use Rattle.lw_words.specs.Answer.{answers_of};
+ghost use Rattle.lw_cache.specs.Clash.{NothingClashes};
+ghost use Rattle.lw_pool.specs.Opening.{MayBegin};
+
+use crate::tests::workers::crews::{machine, names_of};
+use crate::tests::workers::machines::call;
+use crate::tests::workers::{COUNTER, are_long, is_found};
+use lw_cache::{AskStop, Cache, Clash};
+use lw_desk::OutNames;
+use lw_mealy::Mealy;
+use lw_rounds::LearnStop;
+use lw_words::{Kept, Word};
+use lw_workers::LearnedMachine;
+use std::alloc::Global;
+use std::process::Abort;
+use std::sync::Wait;
+use std::thread::Threads;
+
+/// This word.
+fn word(rt: &impl Abort, alloc: Global, letters: &[u16]) -> Word
+    ensures { result ≡ letters.now }
+{
+    Word::from_letters(alloc, letters.to_vec(alloc).expect(rt, "memory"))
+}
+
+/// A cache that keeps the answer of these outputs to these letters of an earlier call.
+fn with_prior(
+    rt: &impl Abort,
+    alloc: Global,
+    system: &Mealy,
+    naming: &OutNames,
+    letters: &[u16],
+    outs: &[u16],
+) -> Cache
+    ensures prior { MayBegin naming.now system.now.inputs system.now.outputs result.kept }
+    ensures nothing { NothingClashes (answers_of result.kept) }
+    ensures claims { result.claims ≡ [] }
+{
+    let (inputs, outputs) = (system.inputs(), system.outputs());
+    assert!(rt; letters.len() == outs.len() && naming.len() == outputs);
+    assert!(rt; letters.iter().all(|x| *x < inputs) && outs.iter().all(|y| *y < outputs));
+    let mut cache = Cache::new(alloc);
+    match cache.keep(word(rt, alloc, letters), word(rt, alloc, outs), 16, 0) {
+        Ok(()) => cache,
+        Err(_) => rt.panic("the answer was refused"),
+    }
+}
+
+/// What comes of the counter with one instance and two extra states, where this answer was kept before.
+fn learned_after<R: Abort + Threads + Wait + Sync + Copy + Drop>(
+    rt: R,
+    alloc: Global,
+    letters: &[u16],
+    outs: &[u16],
+) -> LearnedMachine {
+    let system = machine(&rt, alloc, &COUNTER);
+    let names = names_of(&rt, alloc, &["0", "1"]);
+    let shared = OutNames::declared(alloc, &names).expect(&rt, "memory");
+    let cache = with_prior(&rt, alloc, &system, &shared, letters, outs);
+    call(rt, alloc, &system, &names, shared, cache, 1, 2, 4)
+}
+
+/// Whether the first answer is the prior one, and the second that of the first run of the first instance.
+fn begins_with_prior(kept: &Kept) -> bool {
+    if kept.len() < 2 {
+        return false;
+    }
+    let (prior, first) = (kept.get(0), kept.get(1));
+    let right = prior.instance == 16 && prior.run == 0 && first.instance == 0 && first.run == 0;
+    right && prior.outs.as_slice() == [0u16, 0, 1].as_slice()
+}
+
+/// The words of two and three letters are known, and not asked again.
+#[test]
+fn a_learning_begins_with_what_was_kept_before(rt: HostRuntime) {
+    let ended = learned_after(rt, rt.alloc(), &[0, 0, 0], &[0, 0, 1]);
+    assert!(rt; is_found(&ended.learned, 3, 1));
+    assert!(rt; are_long(&ended.kept, &[3, 4, 5, 7]));
+    assert!(rt; begins_with_prior(&ended.kept));
+}
+
+/// The clash that a learning stopped with.
+fn clash_of(ended: &LearnedMachine) -> Option<Clash> {
+    match &ended.learned {
+        Err(LearnStop::Ask(stop)) => match stop {
+            AskStop::Clash(clash) => Some(*clash),
+            _ => None,
+        },
+        _ => None,
+    }
+}
+
+#[test]
+fn an_answer_that_is_not_the_counters_is_told(rt: HostRuntime) {
+    let ended = learned_after(rt, rt.alloc(), &[0], &[1]);
+    let expected = Clash {
+        first: 0,
+        second: 1,
+        place: 0,
+    };
+    assert!(rt; clash_of(&ended) == Some(expected));
+    assert!(rt; are_long(&ended.kept, &[1, 2]));
+}

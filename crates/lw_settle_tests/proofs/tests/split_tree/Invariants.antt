@@ -1,6 +1,0 @@
-use Rattle.test_oracle.specs.Recording.{state_of}
-use Rattle.test_tree.specs.Trials.{IsReady}
-use Rattle.lw_settle_tests.proofs.tests.split_tree.Given as goal
-
-abbrev pub invariant-loop-word : goal.invariant-loop-word
-invariant-loop-word g l = IsReady (state_of l.trial.oracle) l.trial.tree

@@ -1,2 +1,0 @@
-mod BroughtNames
-mod TestDesks
