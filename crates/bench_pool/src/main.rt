@@ -16,8 +16,6 @@ use std::time::{Clock, Instant};
 
 mod crews;
 mod paced;
-#[cfg(test)]
-mod tests;
 
 const STATES: u16 = 200;
 

@@ -12,8 +12,6 @@ use std::time::Clock;
 
 mod machines;
 mod measure;
-#[cfg(test)]
-mod tests;
 
 // The numbers of states where times are asked for, and where not.
 const MANY: [u16; 2] = [256, 1024];
