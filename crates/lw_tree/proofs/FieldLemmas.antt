@@ -34,6 +34,9 @@ module _ (t : TreeState) (g : IsTree t) (edge : Edge) (k : ℕ) (p : Place) (fro
   pub found_node : p.node < length t.nodes
   found_node = live_within t.nodes p.node found_live
 
+pub place_node : (t : TreeState) (k : ℕ) (p : Place) → IsTree t → k < length t.places → p ≡ get_or t.places k p → p.node < length t.nodes
+place_node t k p g inside at = live_within t.nodes p.node (subst (λ (q : Place). IsLive (node_at t.nodes q.node).content) (sym (place_read t.places k p inside at)) (all_places t (shape_of t g) k).live)
+
 -- how many temporary nodes there are, node by node
 abbrev one_if : Bool → ℕ
 one_if b = if b then 1 else 0

@@ -220,6 +220,20 @@ sifted_none ks t tree read =
     record { grown = not_grown ks t tree read; keeps = keeps_same t; nodes = λ n live. refl; left = λ k le lt. refl; moved = λ k lt. absurd (omega (arith, lt)) }
 
 -- after all
+-- a transition that has a target stays where it is
+pub sifted_closed : (ks : List Answer) (before : TreeState) (to : ℕ) (now : TreeState) → HasSifted ks before to now → is_open (node_at now.nodes) (place_at now.places to) ≡ false → HasSifted ks before (to + 1) now
+sifted_closed ks before to now sifted closed =
+    record {
+      grown = sifted.grown;
+      keeps = sifted.keeps;
+      nodes = sifted.nodes;
+      left = λ k le lt. sifted.left k (omega (arith, le)) lt;
+      moved = λ k below lt. ⊎_elim
+          (λ (same : k ≡ to). λ is. absurd (true≢false (sym is ∙ (ap (λ (j : ℕ). is_open (node_at now.nodes) (place_at now.places j)) same ∙ closed))))
+          (λ (other : k ≢ to). sifted.moved k (⊎_elim (λ (lt : k < to). lt) (λ (le : to ≤ k). absurd (other (omega (arith, le, below)))) (cases_lt k to)) lt)
+          (cases_eq k to);
+    }
+
 pub sifted_all : (ks : List Answer) (before : TreeState) (to : ℕ) (now : TreeState) → IsTree before → length before.places ≤ to → HasSifted ks before to now → HasMoved before now
 sifted_all ks before to now g past sifted =
     ⊎_elim

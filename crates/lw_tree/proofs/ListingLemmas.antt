@@ -1,12 +1,12 @@
 -- Words that are listed one after another.
-use Rattle.std.proofs.Common.{◌≡◌, ⊎_elim, ℕ, ◌+◌, ◌*◌, ◌<◌, ◌≤◌, Bool, List, [], ◌∷◌, ◌++◌, length, Contains, refl, ap, ap₂, sym, ◌∙◌, subst, arith, append_assoc}
+use Rattle.std.proofs.Common.{◌≡◌, ⊎_elim, ℕ, ◌+◌, ◌*◌, ◌<◌, ◌≤◌, Bool, false, true≢false, List, [], ◌∷◌, ◌++◌, length, Contains, refl, ap, ap₂, sym, ◌∙◌, subst, arith, append_assoc}
 use Rattle.std.specs.List.{All}
 use Rattle.std.proofs.Math.Seq.{get_or-append_seam}
 use Rattle.std.proofs.lemmas.Bool.{cases_lt}
 use Rattle.std.proofs.lemmas.List.{length-append}
 use Rattle.std.proofs.lemmas.List.Elements.{All-push, Contains-append_left}
 use Rattle.lw_words.specs.Word.{IsWord}
-use Rattle.lw_tree.specs.Tree.{TreeState, IsInner, discriminator}
+use Rattle.lw_tree.specs.Tree.{TreeState, IsInner, discriminator, is_open, node_at, place_at}
 use Rattle.lw_tree.specs.bodies.Transitions.{IsTransition, IsAsked, AreAsked, word_of, content_by}
 use Rattle.lw_tree.specs.declared.nodes.Content.{Content}
 use Rattle.lw_tree.specs.declared.nodes.Content.TheVariants.{State, Discriminator, Gone}
@@ -55,3 +55,13 @@ pub letters_of : (a : ℕ) (c : Content) → (IsInner c → IsWord a (discrimina
 letters_of a (State q) words = λ k d lt. absurd (omega (arith, lt))
 letters_of a (Discriminator word temporary) words = words tt
 letters_of a Gone words = λ k d lt. absurd (omega (arith, lt))
+
+-- a transition that has a target is asked nothing
+pub asked_closed : (P : List ℕ → Type 0) (t : TreeState) (to : ℕ) → AreAsked P t 0 to → is_open (node_at t.nodes) (place_at t.places to) ≡ false → AreAsked P t 0 (to + 1)
+asked_closed P t to asked closed other is ge lt stands =
+    ⊎_elim
+    (λ (below : other.state * t.inputs + other.letter < to). asked other is ge below stands)
+    (λ (above : to ≤ other.state * t.inputs + other.letter).
+    let same : other.state * t.inputs + other.letter ≡ to = omega (arith, above, lt) in
+    absurd (true≢false (sym stands ∙ (ap (λ (k : ℕ). is_open (node_at t.nodes) (place_at t.places k)) same ∙ closed))))
+    (cases_lt (other.state * t.inputs + other.letter) to)

@@ -7,7 +7,7 @@ ghost use Rattle.lw_cache.specs.Known.{IsKnown};
 ghost use Rattle.lw_cache.specs.Settling.{Keeps, MayAsk, Leaves, grown_stop};
 ghost use Rattle.lw_tree.specs.Grown.{HasGrown, KeepsDiscriminators, HasLevelled, HasClosed, TellsCrowd};
 ghost use Rattle.lw_cache.specs.declared.stops.GrowStop.TheVariants.{Crowd};
-ghost use Rattle.lw_tree.specs.Tree.{IsTree, BranchesAreRead, HasOpen, IsClosed, IsInner, IsLive, discriminator, node_at};
+ghost use Rattle.lw_tree.specs.Tree.{IsTree, BranchesAreRead, HasOpen, IsClosed, IsInner, IsLive, discriminator, is_open, node_at, place_at};
 ghost use Rattle.lw_tree.specs.bodies.Steps.{IsRead, IsOwn, HasStepped};
 ghost use Rattle.lw_tree.specs.Grown.{HasMoved, MovesOn};
 ghost use Rattle.lw_tree.specs.bodies.Transitions.{IsTransition, IsAsked, AreAsked, word_of, place_by, content_by, is_open_by};
@@ -40,12 +40,12 @@ impl DiscriminationTree {
         &self.nodes.get(self.place_of(edge).node).content
     }
 
-    /// Whether a transition has no target.
-    fn is_open(&self, edge: Edge) -> bool
-        requires edge { IsTransition self.now edge }
-        ensures { result ≡ is_open_by self.now edge }
+    /// Whether the transition with this number has no target.
+    fn is_open(&self, number: usize) -> bool
+        requires number { number < length self.now.places }
+        ensures { result ≡ is_open (node_at self.now.nodes) (place_at self.now.places number) }
     {
-        let place = self.place_of(edge);
+        let place = self.places[number];
         place.output.is_none() || self.nodes.get(place.node).is_inner()
     }
 
@@ -55,7 +55,7 @@ impl DiscriminationTree {
         ensures closed { result ≡ false → IsClosed self.now }
     {
         for number in 0..self.places.len() {
-            if self.is_open(Edge::with_number(self.inputs, number)) {
+            if self.is_open(number) {
                 return true;
             }
         }
@@ -73,7 +73,7 @@ impl DiscriminationTree {
         Ok(word)
     }
 
-    /// Adds the words by which an open transition is asked: its own, and that followed by the discriminator where it stands.
+    /// Adds the words by which a transition is asked: its own, and that followed by the discriminator where it stands.
     fn add_words(&self, words: &mut Words, edge: Edge) -> Result<(), NoMemory>
         requires edge { IsTransition self.now edge }
         ensures more { (more : List (List ℕ)) × (words.new ≡ words.old ++ more) }
@@ -81,9 +81,6 @@ impl DiscriminationTree {
         ensures letters { All (IsWord self.now.inputs) words.old →
             All (IsWord self.now.inputs) words.new }
     {
-        if !self.is_open(edge) {
-            return Ok(());
-        }
         let word = self.extension(edge)?;
         if let Content::Discriminator { word: suffix, .. } = self.content_of(edge) {
             let long = join(&word, suffix)?;
@@ -105,7 +102,9 @@ impl DiscriminationTree {
     {
         let mut words = Words::new(self.alloc);
         for number in 0..self.places.len() {
-            self.add_words(&mut words, Edge::with_number(self.inputs, number))?;
+            if self.is_open(number) {
+                self.add_words(&mut words, Edge::with_number(self.inputs, number))?;
+            }
         }
         if words.len() > u32::MAX as usize {
             return Err(NoMemory);
@@ -163,12 +162,13 @@ impl DiscriminationTree {
         Ok(self.push_state(edge, word, output, branch)?)
     }
 
-    /// Lets a transition that has no target take its output, and one step down from an inner node.
+    /// Lets an open transition take its output, and one step down from an inner node.
     fn advance(&mut self, cache: &Cache, edge: Edge) -> Result<(), GrowStop>
         requires answers { AreAnswers self.old.inputs (answers_of cache.now.kept) }
         requires outs { All (λ k. IsWord self.old.outputs k.outs) (answers_of cache.now.kept) }
         requires read { BranchesAreRead (answers_of cache.now.kept) self.old }
         requires edge { IsTransition self.old edge }
+        requires stands { is_open_by self.old edge ≡ true }
         requires known { IsAsked (IsKnown (answers_of cache.now.kept)) self.old edge }
         ensures stepped { HasStepped (answers_of cache.now.kept) self.old edge self.new }
         ensures moved { OnOk result (MovesOn self.old self.new
@@ -176,9 +176,6 @@ impl DiscriminationTree {
         ensures crowd { TellsCrowd (answers_of cache.now.kept) self.new result }
         ensures own { IfErr result IsOwn }
     {
-        if !self.is_open(edge) {
-            return Ok(());
-        }
         let word = self.extension(edge)?;
         let output = read_output(cache, &word)?;
         let Content::Discriminator { word: suffix, .. } = self.content_of(edge) else {
@@ -204,7 +201,9 @@ impl DiscriminationTree {
         ensures own { IfErr result IsOwn }
     {
         for number in 0..self.places.len() {
-            self.advance(cache, Edge::with_number(self.inputs, number))?;
+            if self.is_open(number) {
+                self.advance(cache, Edge::with_number(self.inputs, number))?;
+            }
         }
         Ok(())
     }

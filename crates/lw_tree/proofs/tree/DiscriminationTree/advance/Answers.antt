@@ -1,4 +1,4 @@
-use Rattle.std.proofs.Common.{rules, ◌≡◌, ◌+◌, ◌*◌, inl, ℕ, List, [], ◌∷◌, ◌++◌, length, true, false, sym, ◌∙◌, ap, ap₂, subst}
+use Rattle.std.proofs.Common.{◌≡◌, ◌+◌, ◌*◌, inl, ℕ, List, [], ◌∷◌, ◌++◌, length, true, false, sym, ◌∙◌, ap, ap₂, subst}
 use Rattle.lw_words.specs.Answer.{answers_of}
 use Rattle.lw_cache.specs.Cut.{word_at}
 use Rattle.lw_cache.specs.Known.{IsKnown}
@@ -12,10 +12,6 @@ use Rattle.lw_tree.specs.declared.transitions.Place.{Place}
 use Rattle.lw_tree.proofs.GrownLemmas.{not_stepped, placed_stepped, placed_moves}
 use Rattle.lw_tree.proofs.StepLemmas.{not_inner}
 use Rattle.lw_tree.proofs.tree.DiscriminationTree.advance.Goals as goal
-
-pub returns-then-not-is_open-clause-stepped : goal.returns-then-not-is_open-clause-stepped
-returns-then-not-is_open-clause-stepped c =
-    not_stepped (answers_of c.args.cache.now.kept) c.args.self.now c.args.edge (subst (λ (v : TreeState). IsTree v) c.self.view_is c.self.invariant) c.requires.read
 
 pub returns-in_err-word-clause-stepped : goal.returns-in_err-word-clause-stepped
 returns-in_err-word-clause-stepped c =
@@ -33,7 +29,7 @@ pub place-requires : goal.place-requires
 place-requires c =
     record {
       edge = c.requires.edge;
-      «open» = search rules;
+      «open» = c.requires.stands;
       output = c.in_ok-output.ensures.below c.args.self.now.outputs c.requires.outs;
       node = c.place_of-node.ensures.live;
     }
@@ -46,7 +42,7 @@ returns-in_default c =
     let n : ℕ = c.place_of-node.result.node in
     let output : ℕ = c.in_ok-output.output in
     let g : IsTree u = c.content_of.ensures.tree in
-    let stands : is_open_by u edge ≡ true = search rules in
+    let stands : is_open_by u edge ≡ true = c.requires.stands in
     let below = c.in_ok-output.ensures.below u.outputs c.requires.outs in
     let live = c.place_of-node.ensures.live in
     let place : n ≡ (place_by u edge).node = ap (λ (p : Place). p.node) c.place_of-node.ensures.value in
@@ -68,7 +64,7 @@ read_tail-requires-clause-known c =
     let ks = answers_of c.args.cache.now.kept in
     let edge = c.args.edge in
     let content : content_by u edge ≡ Discriminator c.in-Discriminator.suffix c.in-Discriminator.temporary = sym c.content_of.ensures.value ∙ c.in-Discriminator.is in
-    let stands : is_open_by u edge ≡ true = search rules in
+    let stands : is_open_by u edge ≡ true = c.requires.stands in
     subst (IsKnown ks) (ap₂ (λ (w : List ℕ) (k : Content). w ++ discriminator k) (sym c.in_ok-word.ensures.value) content) (c.requires.known stands).1
 
 pub descend-requires : goal.descend-requires
