@@ -104,7 +104,7 @@ count_runs runs words i same le = sym (length-map runs (λ (r : Run). r.word)) �
     length_front = omega (arith, length-take i words, le)
 
 module _ (machine : Option Rows) (letters words names names_now : List (List ℕ)) (runs runs_now : List Run) (kept kept_now : List KeptAnswer) (before mid now : Option (List ℕ)) (i : ℕ) (d : List ℕ) (lt : i < length words) (has : HasAsked machine letters (take i words) names runs kept before mid) where
-  none_more : GainsNone names names_now runs runs_now kept kept_now mid now → (length runs_now ≤ length words) × AreRunsOf machine (take (length runs_now) words) names_now runs_now kept_now × TakesAll (answer_lines letters names_now kept_now) before now
+  none_more : GainsNone names names_now runs runs_now kept kept_now mid now → (length runs_now < length words) × AreRunsOf machine (take (length runs_now) words) names_now runs_now kept_now × TakesAll (answer_lines letters names_now kept_now) before now
   none_more gains =
       let count : length runs_now ≡ i = ap (λ (l : List Run). length l) gains.journal ∙ count_runs runs words i has.are.words_are (omega (arith, lt)) in
       let here : AreRunsOf machine (take i words) names_now runs kept =
@@ -139,7 +139,7 @@ module _ (machine : Option Rows) (letters words names names_now : List (List ℕ
   stopped_at (Sul why) gains = let s = none_more gains in record { some = s.0; are = s.1; lines = s.2 }
   stopped_at Sink gains = let s = part_more gains in record { some = s.0; are = s.1; lines = s.2 }
   stopped_at NoMemory gains =
-      ⊎_elim (λ (none : GainsNone names names_now runs runs_now kept kept_now mid now). let s = none_more none in record { some = s.0; are = s.1; lines = inl s.2 })
+      ⊎_elim (λ (none : GainsNone names names_now runs runs_now kept kept_now mid now). let s = none_more none in let few = s.0 in record { some = omega (arith, few); are = s.1; lines = inl s.2 })
       (λ (part : GainsPart machine letters (get_or words i d) names names_now runs runs_now kept kept_now mid now). let s = part_more part in record { some = s.0; are = s.1; lines = inr s.2 }) gains
 
 -- a stop that is handed on

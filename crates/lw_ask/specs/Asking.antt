@@ -53,9 +53,15 @@ TakesLines letters names kept before now (Sul stop) = TakesAll (answer_lines let
 TakesLines letters names kept before now Sink = LacksLast letters names kept before now
 TakesLines letters names kept before now NoMemory = TakesAll (answer_lines letters names kept) before now ⊎ LacksLast letters names kept before now
 
+-- how many of the words were answered, by why no more were: where the system stopped, it left one without an answer
+abbrev pub LeavesWords : (answered all : ℕ) → AskingStop → Type 0
+LeavesWords answered all (Sul stop) = answered < all
+LeavesWords answered all Sink = answered ≤ all
+LeavesWords answered all NoMemory = answered ≤ all
+
 -- the first words were asked, and then no more, for this cause
 pub record HasStopped (machine : Option Rows) (letters words names : List (List ℕ)) (runs : List Run) (kept : List KeptAnswer) (before now : Option (List ℕ)) (stop : AskingStop) : Type 0 where
-  pub some : length runs ≤ length words
+  pub some : LeavesWords (length runs) (length words) stop
   pub are : AreRunsOf machine (take (length runs) words) names runs kept
   pub lines : TakesLines letters names kept before now stop
 
