@@ -258,7 +258,7 @@ fn a_claim_is_filled(rt: HostRuntime) {
 }
 
 /// A drawn number below `bound`.
-fn draw(numbers: &mut Lcg128Xsl64, bound: u32) -> u32
+pub(super) fn draw(numbers: &mut Lcg128Xsl64, bound: u32) -> u32
     requires { 0 < bound }
     ensures { result < bound }
 {

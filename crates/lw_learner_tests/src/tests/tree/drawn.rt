@@ -2,40 +2,23 @@
 ghost use Rattle.test_tree.specs.Trials.{IsReady};
 
 use super::{NEVER, of_two_letters};
+use crate::tests::cache::draw;
 use lw_cache::Oracle;
 use lw_mealy::Mealy;
 use lw_tree::DiscriminationTree;
+use rand_core::SeedableRng;
+use rand_pcg::Lcg128Xsl64;
 use std::alloc::Global;
 use std::process::Abort;
 use test_tree::{ask, closed, split_by_known};
 
-/// The next number of a sequence (the constants of Knuth 1997).
-fn next(number: u64) -> u64 {
-    number
-        .wrapping_mul(6364136223846793005)
-        .wrapping_add(1442695040888963407)
-}
-
-/// A drawn number below 2 or 7.
-fn digit(number: u64, seven: bool) -> u16 {
-    let high = number >> 33;
-    if seven {
-        (high % 7) as u16
-    } else {
-        (high % 2) as u16
-    }
-}
-
 /// A drawn machine of seven states over two letters.
-fn machine(rt: &impl Abort, alloc: Global, seed: u64) -> Mealy {
+fn machine(rt: &impl Abort, alloc: Global, numbers: &mut Lcg128Xsl64) -> Mealy {
     let mut cells = [[(0u16, 0u16); 2]; 7];
-    let mut number = seed;
     for row in cells.iter_mut() {
         for cell in row.iter_mut() {
-            number = next(number);
-            let target = digit(number, true);
-            number = next(number);
-            *cell = (target, digit(number, false));
+            let target = draw(numbers, 7) as u16;
+            *cell = (target, draw(numbers, 2) as u16);
         }
     }
     of_two_letters(rt, alloc, 2, &cells)
@@ -47,7 +30,7 @@ fn ask_drawn<O: Oracle>(
     alloc: Global,
     oracle: &mut O,
     tree: &DiscriminationTree,
-    seed: u64,
+    numbers: &mut Lcg128Xsl64,
 )
     requires can { O.can_settle oracle.old }
     requires ready { IsReady (O.state oracle.old) tree.now }
@@ -55,10 +38,8 @@ fn ask_drawn<O: Oracle>(
     ensures can { O.can_settle oracle.new }
 {
     let mut letters = [0u16; 12];
-    let mut number = seed;
     for letter in letters.iter_mut() {
-        number = next(number);
-        *letter = digit(number, false);
+        *letter = draw(numbers, 2) as u16;
     }
     assert!(rt; ask(alloc, oracle, tree, &letters));
 }
@@ -88,13 +69,12 @@ fn split_all<O: Oracle>(
 
 /// Asks drawn words of a drawn machine, and splits after each until its tree gives them all: how many states there are then.
 fn learn(rt: &impl Abort, alloc: Global, seed: u64) -> u16 {
-    let Ok(mut trial) = closed(alloc, machine(rt, alloc, seed), 7, NEVER) else {
+    let mut numbers = Lcg128Xsl64::seed_from_u64(seed);
+    let Ok(mut trial) = closed(alloc, machine(rt, alloc, &mut numbers), 7, NEVER) else {
         rt.panic("a tree isn't closed");
     };
-    let mut number = seed;
-    for _ in 0..4 {
-        number = next(number);
-        ask_drawn(rt, alloc, &mut trial.oracle, &trial.tree, number);
+    for _ in 0..8 {
+        ask_drawn(rt, alloc, &mut trial.oracle, &trial.tree, &mut numbers);
         assert!(rt; split_all(rt, alloc, &mut trial.oracle, &mut trial.tree, 7));
     }
     trial.tree.machine().expect(rt, "memory").states()
