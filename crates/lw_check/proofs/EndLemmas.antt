@@ -23,7 +23,8 @@ use Rattle.lw_desk.specs.Naming.{Naming}
 use Rattle.lw_check.specs.Ending.{ComesTo, DecidesAs}
 use Rattle.lw_check.specs.Naming.{NamesOutputs, declared_as}
 use Rattle.lw_report.specs.States.{FilesState, SinkState}
-use Rattle.lw_check.specs.Reading.{IsUnread, ReadsPair, TellsFile}
+use Rattle.lw_report.specs.Reading.{TellsFile}
+use Rattle.lw_check.specs.Reading.{IsUnread, ReadsPair}
 use Rattle.lw_check.specs.Telling.{IsTold}
 use Rattle.lw_check.proofs.DecideLemmas.{one_decision}
 

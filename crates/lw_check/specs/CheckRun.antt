@@ -8,7 +8,8 @@ use Rattle.lw_json.specs.declared.machine.Machine.{Machine}
 use Rattle.lw_certify.specs.Sure.{Sure}
 use Rattle.lw_check.specs.Decision.{IsDecision, Pair, pair_of}
 use Rattle.lw_check.specs.Ending.{DecidesAs, EndsRead, EndsUnread}
-use Rattle.lw_check.specs.Reading.{ReadsPair, TellsFile}
+use Rattle.lw_report.specs.Reading.{TellsFile}
+use Rattle.lw_check.specs.Reading.{ReadsPair}
 use Rattle.lw_report.specs.Ends.{IsWithoutLearner}
 use Rattle.lw_report.specs.States.{FilesState, SinkState}
 use Rattle.lw_report.specs.declared.«end».End.{End}
@@ -20,7 +21,8 @@ pub record IsCheckRun (model answers : List ℕ) (extra : ℕ) (f g : FilesState
   pub no_model : end.model ≡ None
   pub no_learner : IsWithoutLearner end
   pub untouched : g.holds ≡ f.holds
-  pub ended : EndsUnread model answers f g extra o p e d end.outcome end.kept.answers end.outputs ⊎ EndsRead model answers f g extra o p e d end.outcome end.kept.answers end.outputs
+  pub ended : EndsUnread model answers f g extra o p e d end.outcome end.kept.answers end.outputs ⊎
+      EndsRead model answers f g extra o p e d end.outcome end.kept.answers end.outputs
   -- where both files are told, the outcome is their one decision, but that memory, a file or a stream may fail
   pub exact :
       (m : Machine) (a : Answers) (decision : Outcome)
@@ -29,4 +31,6 @@ pub record IsCheckRun (model answers : List ℕ) (extra : ℕ) (f g : FilesState
       → IsDecision (pair_of m a) extra decision
       → DecidesAs decision end.outcome
   -- a yes implies that every machine of at most so many states more that gives the answers equals the model
-  pub sure : (states : ℕ) → end.outcome ≡ Yes states → (pair : Pair) × ReadsPair model answers f g pair × Sure pair.mealy.inputs pair.mealy.rows (answers_of pair.kept) extra
+  pub sure : (states : ℕ) → end.outcome ≡ Yes states → (pair : Pair) ×
+      ReadsPair model answers f g pair × Sure pair.mealy.inputs pair.mealy.rows
+      (answers_of pair.kept) extra

@@ -19,7 +19,8 @@ pub record EndsUnread (model answers : List ℕ) (before now : FilesState) (extr
   pub kept_none : kept ≡ []
   pub unnamed : outputs ≡ None
   pub unwritten : out_now ≡ out
-  pub said : ¬ CountedFault err.faults err_now.faults → TakesAll (text_of [] [] [] extra outcome) err.taken err_now.taken
+  pub said : ¬ CountedFault err.faults err_now.faults →
+      TakesAll (text_of [] [] [] extra outcome) err.taken err_now.taken
   pub said_part : TakesSome (text_of [] [] [] extra outcome) err.taken err_now.taken
 
 -- what the pair comes to; or memory ran out, or a stream refused a yes or a no
@@ -38,10 +39,14 @@ pub record EndsRead (model answers : List ℕ) (before now : FilesState) (extra 
   pub named : NamesOutputs pair outcome outputs
   pub comes : ComesTo pair extra out out_now outcome
   pub quiet : IsAnswered outcome → (out_now.faults ≡ out.faults) × (err_now.faults ≡ err.faults)
-  pub written : IsAnswered outcome → TakesAll (text_of pair.inputs pair.outputs pair.kept extra outcome) out.taken out_now.taken × (err_now.taken ≡ err.taken)
+  pub written : IsAnswered outcome → TakesAll
+      (text_of pair.inputs pair.outputs pair.kept extra outcome) out.taken out_now.taken ×
+      (err_now.taken ≡ err.taken)
   pub unwritten : ¬ IsAnswered outcome → outcome ≢ SinkFault → out_now.taken ≡ out.taken
-  pub said : ¬ IsAnswered outcome → ¬ CountedFault err.faults err_now.faults → TakesAll (text_of pair.inputs pair.outputs pair.kept extra outcome) err.taken err_now.taken
-  pub said_part : ¬ IsAnswered outcome → TakesSome (text_of pair.inputs pair.outputs pair.kept extra outcome) err.taken err_now.taken
+  pub said : ¬ IsAnswered outcome → ¬ CountedFault err.faults err_now.faults →
+      TakesAll (text_of pair.inputs pair.outputs pair.kept extra outcome) err.taken err_now.taken
+  pub said_part : ¬ IsAnswered outcome → TakesSome
+      (text_of pair.inputs pair.outputs pair.kept extra outcome) err.taken err_now.taken
 
 -- where files are told, the outcome is their decision, or a fault or memory came between
 abbrev pub DecidesAs : Outcome → Outcome → Type 0

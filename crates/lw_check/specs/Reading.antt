@@ -50,8 +50,3 @@ IsUnread model answers before now (FileFault Model) = CountedFault before.faults
 IsUnread model answers before now (FileFault Answered) = CountedFault before.faults now.faults × (now.calls ≡ answers_read model answers true before) × ReadsModel model before now.reads
 IsUnread model answers before now NoMemory = (now.calls ≡ before.calls) ⊎ ((now.calls ≡ model_read model false before) ⊎ (now.calls ≡ answers_read model answers false before))
 IsUnread model answers before now _ = ⊥
-
--- it is told that the file of this value stands under the name, and it isn't too long
-abbrev pub TellsFile : {V : Type 0} → (List ℕ → V → Type 0) → Option (List File) → List ℕ → V → Type 0
-TellsFile IsFile None name v = ⊥
-TellsFile IsFile (Some fs) name v = (bytes : List ℕ) × (file_at name fs ≡ Some bytes) × (length bytes ≤ longest_file) × IsFile bytes v

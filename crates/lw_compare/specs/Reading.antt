@@ -5,7 +5,7 @@ use Rattle.lw_json.specs.MachineFile.{IsMachineFile}
 use Rattle.lw_json.specs.MachineFault.{HasMachineFault}
 use Rattle.lw_json.specs.declared.machine.Machine.{Machine}
 use Rattle.lw_outside.specs.Files.{Call, File, HoldsLong, file_at, longest_file, noted, read_call}
-use Rattle.lw_report.specs.Reading.{ReadsBadFile, ReadsFile}
+use Rattle.lw_report.specs.Reading.{ReadsBadFile, ReadsFile, TellsBad, TellsFile}
 use Rattle.lw_report.specs.States.{FilesState}
 use Rattle.lw_report.specs.declared.role.Role.TheVariants.{Model, Second}
 use Rattle.lw_report.specs.declared.outcome.Outcome.{Outcome}
@@ -46,10 +46,8 @@ IsUnread one two before now _ = ⊥
 
 -- it is told that the file of this model stands under the name, and it isn't too long
 abbrev pub TellsModel : Option (List File) → List ℕ → Machine → Type 0
-TellsModel None name m = ⊥
-TellsModel (Some fs) name m = (bytes : List ℕ) × (file_at name fs ≡ Some bytes) × (length bytes ≤ longest_file) × IsMachineFile bytes m
+TellsModel holds name m = TellsFile IsMachineFile holds name m
 
 -- it is told that the file of no model stands under the name, or one that is too long
 abbrev pub TellsNoModel : Option (List File) → List ℕ → Type 0
-TellsNoModel None name = ⊥
-TellsNoModel (Some fs) name = (bytes : List ℕ) × (file_at name fs ≡ Some bytes) × ((longest_file < length bytes) ⊎ ((m : Machine) → ¬ IsMachineFile bytes m))
+TellsNoModel holds name = TellsBad IsMachineFile holds name

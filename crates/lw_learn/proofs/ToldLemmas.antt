@@ -23,7 +23,7 @@ use Rattle.lw_json.specs.declared.setup.Setup.{Setup}
 use Rattle.lw_json.specs.declared.setup.Setup.TheVariants as setup
 use Rattle.lw_outside.specs.Files.{File, HoldsLong, file_at, longest_file}
 use Rattle.lw_prior.specs.Prior.{FitNames}
-use Rattle.lw_report.specs.Reading.{ReadsBadFile, ReadsFile}
+use Rattle.lw_report.specs.Reading.{ReadsBadFile, ReadsFile, TellsBad, TellsFile}
 use Rattle.lw_report.specs.States.{FilesState}
 use Rattle.lw_report.specs.declared.outcome.Outcome.{Outcome}
 use Rattle.lw_report.specs.declared.outcome.Outcome.TheVariants.{Learned, Trial, Yes, Served, No, Usage, BadFile, Alphabets, FileTooLong, Nondeterministic, NoMemory, SulFailed, Gone, BadLine, BadAsk, TooManyStates, SuiteTooLarge, FileFault, SourceFault, SinkFault, Compared, Asked, Rechecked, UnknownLetter, Unstarted}
@@ -32,7 +32,7 @@ use Rattle.lw_report.specs.declared.role.Role.TheVariants as role
 use Rattle.lw_learn.specs.Arguments.{LearnValues}
 use Rattle.lw_learn.specs.Asking.{IsWordless, IsWordlessTask, IsWordsFile, ReadsUnknown}
 use Rattle.lw_learn.specs.Tasks.{FitsSystem, ReadsPrior, ReadsSystem, SaysSystem, declared_of, letters_of, or_these, with_outputs}
-use Rattle.lw_learn.specs.Told.{BadIsRefused, IsNoRefusal, TellsBad, TellsFile, TellsNoSystem, TellsPrior, TellsSetup, TellsSystem, TellsTask, TellsWords, ToldIsLearned}
+use Rattle.lw_learn.specs.Told.{BadIsRefused, IsNoRefusal, TellsNoSystem, TellsPrior, TellsSetup, TellsSystem, TellsTask, TellsWords, ToldIsLearned}
 use Rattle.lw_learn.specs.Unread.{IsNext, IsTableNext, IsUnreadAs, IsUnreadBy, ReadsBad}
 use Rattle.lw_learn.proofs.RunLemmas.{counted_to}
 use Rattle.lw_learn.specs.declared.arguments.Source.{Source}

@@ -10,6 +10,7 @@ use Rattle.lw_json.specs.declared.setup.Setup.{Setup}
 use Rattle.lw_json.specs.declared.setup.Setup.TheVariants as setup
 use Rattle.lw_outside.specs.Files.{File, file_at, longest_file}
 use Rattle.lw_children.specs.Spawners.{SpawnerSeen}
+use Rattle.lw_report.specs.Reading.{TellsBad, TellsFile}
 use Rattle.lw_report.specs.States.{FilesState, SinkState}
 use Rattle.lw_report.specs.declared.«end».End.{End}
 use Rattle.lw_report.specs.declared.outcome.Outcome.{Outcome}
@@ -22,16 +23,6 @@ use Rattle.lw_learn.specs.declared.arguments.Source.{Source}
 use Rattle.lw_learn.specs.declared.arguments.Source.TheVariants as source
 use Rattle.lw_learn.specs.declared.task.System.{System}
 use Rattle.lw_learn.specs.declared.task.System.TheVariants.{Table, Children}
-
--- it is told that the file of this value stands under the name, and it isn't too long
-abbrev pub TellsFile : {V : Type 0} → (List ℕ → V → Type 0) → Option (List File) → List ℕ → V → Type 0
-TellsFile IsFile None name v = ⊥
-TellsFile IsFile (Some fs) name v = (bytes : List ℕ) × (file_at name fs ≡ Some bytes) × (length bytes ≤ longest_file) × IsFile bytes v
-
--- it is told that a file that is too long, or of no value, stands under the name
-abbrev pub TellsBad : {V : Type 0} → (List ℕ → V → Type 0) → Option (List File) → List ℕ → Type 0
-TellsBad IsFile None name = ⊥
-TellsBad IsFile (Some fs) name = (bytes : List ℕ) × (file_at name fs ≡ Some bytes) × ((longest_file < length bytes) ⊎ ((v : _) → ¬ IsFile bytes v))
 
 -- the files tell the system that a setup says
 abbrev pub TellsSetup : Setup → Option (List File) → System → Type 0

@@ -1,10 +1,10 @@
 -- What a call of the program read, for a kind of file: a relation between bytes and a value, and one between bytes and their
 -- first fault.
-use Rattle.std.specs.Prelude.{◌≡◌, ◌≢◌, ◌⊎◌, ℕ, ◌≤◌, List, [], ◌∷◌, ◌++◌, length, true, false, Option, Result, Err, IfOk, OnOk}
+use Rattle.std.specs.Prelude.{◌≡◌, ◌≢◌, ◌⊎◌, ℕ, ◌<◌, ◌≤◌, List, [], ◌∷◌, ◌++◌, length, true, false, Option, Some, None, Result, Err, IfOk, OnOk}
 use Rattle.lw_words.specs.Cause.{CountedFault}
 use Rattle.lw_json.specs.declared.fault.JsonFault.{JsonFault}
 use Rattle.lw_json.specs.declared.fault.JsonFault.TheVariants.{NoMemory}
-use Rattle.lw_outside.specs.Files.{File, Holds, HoldsLong, longest_file, noted, read_call}
+use Rattle.lw_outside.specs.Files.{File, Holds, file_at, HoldsLong, longest_file, noted, read_call}
 use Rattle.lw_report.specs.States.{FilesState}
 use Rattle.lw_report.specs.declared.stops.ReadStop.{ReadStop}
 use Rattle.lw_report.specs.declared.stops.ReadStop.TheVariants as stop
@@ -36,8 +36,10 @@ pub record HasRead {V : Type 0} (IsFile : List ℕ → V → Type 0) (HasFirst :
   pub ok_call : OnOk result (now.calls ≡ noted (read_call name false) before.calls)
   pub quiet : OnOk result (now.faults ≡ before.faults)
   -- the file of no value, with its first fault
-  pub bad : (fault : JsonFault) → result ≡ Err (stop.Bad fault) → ReadsBadFile IsFile HasFirst name before.holds before.reads now.reads fault
-  pub bad_call : (fault : JsonFault) → result ≡ Err (stop.Bad fault) → now.calls ≡ noted (read_call name false) before.calls
+  pub bad : (fault : JsonFault) → result ≡ Err (stop.Bad fault) →
+      ReadsBadFile IsFile HasFirst name before.holds before.reads now.reads fault
+  pub bad_call : (fault : JsonFault) → result ≡ Err (stop.Bad fault) →
+      now.calls ≡ noted (read_call name false) before.calls
   -- a file that is too long, and isn't read
   pub long : result ≡ Err stop.TooLong → HoldsLong before.holds name
   pub long_call : result ≡ Err stop.TooLong → now.calls ≡ noted (read_call name false) before.calls
@@ -47,8 +49,20 @@ pub record HasRead {V : Type 0} (IsFile : List ℕ → V → Type 0) (HasFirst :
   pub failed_call : result ≡ Err stop.Failed → now.calls ≡ noted (read_call name true) before.calls
   pub failed_unread : result ≡ Err stop.Failed → now.reads ≡ before.reads
   -- memory that ran out, before the read or behind it
-  pub memory : result ≡ Err stop.NoMemory → (now.calls ≡ before.calls) ⊎ (now.calls ≡ noted (read_call name false) before.calls)
+  pub memory : result ≡ Err stop.NoMemory → (now.calls ≡ before.calls) ⊎
+      (now.calls ≡ noted (read_call name false) before.calls)
   -- and however it ended, at most one read gave bytes, faults were only counted up, and what the files hold stays
-  pub reads : (now.reads ≡ before.reads) ⊎ ((bytes : List ℕ) × WasRead before.holds before.reads now.reads name bytes)
+  pub reads : (now.reads ≡ before.reads) ⊎
+      ((bytes : List ℕ) × WasRead before.holds before.reads now.reads name bytes)
   pub counts : before.faults ≤ now.faults
   pub same : now.holds ≡ before.holds
+
+-- it is told that the file of this value stands under the name, and it isn't too long
+abbrev pub TellsFile : {V : Type 0} → (List ℕ → V → Type 0) → Option (List File) → List ℕ → V → Type 0
+TellsFile IsFile None name v = ⊥
+TellsFile IsFile (Some fs) name v = (bytes : List ℕ) × (file_at name fs ≡ Some bytes) × (length bytes ≤ longest_file) × IsFile bytes v
+
+-- it is told that a file that is too long, or of no value, stands under the name
+abbrev pub TellsBad : {V : Type 0} → (List ℕ → V → Type 0) → Option (List File) → List ℕ → Type 0
+TellsBad IsFile None name = ⊥
+TellsBad IsFile (Some fs) name = (bytes : List ℕ) × (file_at name fs ≡ Some bytes) × ((longest_file < length bytes) ⊎ ((v : _) → ¬ IsFile bytes v))
