@@ -44,7 +44,7 @@ impl Kind {
 
     /// A system of this kind.
     fn system(&self) -> Result<Paced, NoMemory>
-        ensures { IfOk result (λ s. (s.table.table.inputs ≡ 4) × (s.table.table.outputs ≡ 2) ×
+        ensures { IfOk result (λ s. (s.table.machine.inputs ≡ 4) × (s.table.machine.outputs ≡ 2) ×
             (s.table.names ≡ self.now.names)) }
     {
         let table = TableSul::new(self.machine.copy()?, self.names.copy()?);

@@ -44,7 +44,7 @@ pub record AsksStarted (c : Command) (words : List (List ℕ)) (b z : SpawnerSee
   pub outcome : why ≡ came_outcome came
   pub asks : AsksChild c.words c.inputs c.outputs words b z o p kept came
 
--- no child was asked, for this cause, or for want of memory
+-- no child was asked, for this cause, or because memory ran out
 pub record AsksNone (c : Command) (b z : SpawnerSeen) (o p : SinkState) (kept : List KeptAnswer) (why : Outcome) : Type 0 where
   pub stop : StartStop
   pub cause : StartFailure
@@ -65,7 +65,8 @@ AsksSystem (Children c) words b z o p kept why = AsksCommand c words b z o p kep
 pub record HasNoWords (s : System) (texts : List (List ℕ)) (b z : SpawnerSeen) (o p : SinkState) (kept : List KeptAnswer) (why : Outcome) : Type 0 where
   pub stop : WordStop
   pub outcome : why ≡ word_outcome stop
-  pub unknown : (word place : ℕ) → stop ≡ Unknown word place → IsFirstUnknown (letters_of s) texts word place
+  pub unknown : (word place : ℕ) → stop ≡ Unknown word place →
+      IsFirstUnknown (letters_of s) texts word place
   pub nothing : kept ≡ []
   pub unstarted : z ≡ b
   pub unput : p ≡ o
@@ -102,7 +103,8 @@ pub record IsEnd (why : Outcome) (kept : List KeptAnswer) (e d : SinkState) (end
   pub learner : IsWithoutLearner end
   pub kept_is : end.kept.answers ≡ kept
   pub outputs : end.outputs ≡ None
-  pub said : ¬ CountedFault e.faults d.faults → TakesAll (said_text None None kept 0 end.outcome) e.taken d.taken
+  pub said : ¬ CountedFault e.faults d.faults →
+      TakesAll (said_text None None kept 0 end.outcome) e.taken d.taken
   pub part : TakesSome (said_text None None kept 0 end.outcome) e.taken d.taken
 
 -- a call with these arguments found files, a spawner, `out` and `err` as f, b, o and e, left them as g, z, p and d, and came to

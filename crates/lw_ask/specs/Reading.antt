@@ -38,7 +38,8 @@ IsUnread source.Setup name f g outcome = IsRefused IsSetupFile HasSetupFault rol
 
 -- what came of the reading of a table file
 pub record HasReadMachine (name : List ℕ) (f g : FilesState) (result : Result System Outcome) : Type 0 where
-  pub ok : IfOk result (λ s. (m : Machine) × ReadsFile IsMachineFile name f.holds f.reads g.reads m × (s ≡ Table m))
+  pub ok : IfOk result (λ s. (m : Machine) ×
+      ReadsFile IsMachineFile name f.holds f.reads g.reads m × (s ≡ Table m))
   pub made : OnOk result (MadeReads f g [])
   pub quiet : OnOk result (g.faults ≡ f.faults)
   pub err : IfErr result (IsNoTable name f g)

@@ -182,7 +182,7 @@ pub fn ask_words<S: Sul, O: Sink>(
 
 /// What came of asking: the answers that are kept, and why no more words were asked, where that was not the end of them.
 #[derive(Drop)]
-pub(crate) struct Asked {
+pub(crate) struct AskingEnd {
     pub(crate) kept: Kept,
     pub(crate) came: Result<(), AskingStop>,
 }
@@ -194,7 +194,7 @@ pub(crate) fn ask_session<S: Sul, O: Sink>(
     letters: &Names,
     words: &Words,
     out: &mut O,
-) -> Asked
+) -> AskingEnd
     requires instance { session.old.instance ≡ 0 }
     requires fresh { session.old.journal ≡ [] }
     requires live { S.stop session.old.sul ≡ None }
@@ -217,5 +217,5 @@ pub(crate) fn ask_session<S: Sul, O: Sink>(
 {
     let mut kept = Kept::new(alloc);
     let came = ask_words(alloc, session, letters, words, &mut kept, out);
-    Asked { kept, came }
+    AskingEnd { kept, came }
 }

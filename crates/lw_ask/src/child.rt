@@ -11,7 +11,7 @@ ghost use Rattle.lw_children.specs.Spawners.{Starts, spawner_seen};
 ghost use Rattle.lw_ask.specs.Child.{AsksChild, HasNotStarted};
 ghost use Rattle.lw_ask.specs.Ends.{IsBorneOut};
 
-use crate::asking::{Asked, ask_session};
+use crate::asking::{AskingEnd, ask_session};
 use lw_line::LineSul;
 use lw_outside::{Link, Sink, Spawner, StartStop};
 use lw_sul::{Session, Sul};
@@ -100,7 +100,7 @@ pub(crate) fn ask_child<P: Spawner, O: Sink>(
     outputs: Option<Names>,
     words: &Words,
     out: &mut O,
-) -> Result<Asked, StartStop>
+) -> Result<AskingEnd, StartStop>
     requires command { 0 < length command.now }
     requires words { All (IsWord (length letters.now)) words.now }
     ensures ok { IfOk result (λ a. AsksChild (map (λ w. string_bytes w) command.now) letters.now

@@ -14,7 +14,7 @@ ghost use Rattle.lw_ask.specs.Hints.{TakesHint};
 ghost use Rattle.lw_ask.specs.Outcomes.{came_outcome, start_outcome, stop_outcome, word_outcome};
 
 use crate::AskArguments;
-use crate::asking::{Asked, ask_session};
+use crate::asking::{AskingEnd, ask_session};
 use crate::child::ask_child;
 use crate::reading::{Found, find_system};
 use crate::stop::AskingStop;
@@ -101,7 +101,7 @@ fn ask_table<O: Sink>(alloc: Global, machine: Machine, words: &Words, out: &mut 
         mealy,
     } = machine;
     let mut session = Session::new(alloc, 0, TableSul::new(mealy, outputs));
-    let Asked { kept, came } = ask_session(alloc, &mut session, &inputs, words, out);
+    let AskingEnd { kept, came } = ask_session(alloc, &mut session, &inputs, words, out);
     Told {
         kept,
         outcome: came_outcome(came),
@@ -135,7 +135,7 @@ fn ask_command<P: Spawner, O: Sink>(
         outputs,
     } = command;
     match ask_child(alloc, spawner, command.get(), &inputs, outputs, words, out) {
-        Ok(Asked { kept, came }) => Told {
+        Ok(AskingEnd { kept, came }) => Told {
             kept,
             outcome: came_outcome(came),
         },

@@ -115,7 +115,7 @@ impl Cache {
         Ok(Some(outs))
     }
 
-    /// Makes room for so many words with so many letters together. Nothing else changes, also where memory was wanted.
+    /// Makes room for so many words with so many letters together. Nothing else changes, also where memory runs out.
     pub fn reserve(&mut self, words: usize, letters: usize) -> Result<(), NoMemory>
         ensures kept { self.new.kept ≡ self.old.kept }
         ensures claims { self.new.claims ≡ self.old.claims }
@@ -212,7 +212,7 @@ impl Cache {
     ///
     /// # Errors
     /// `Clash` exactly where the answer clashes with a clear one. It is kept all the same, and nothing more is known.
-    /// `NoMemory` where memory was wanted; nothing changed then.
+    /// `NoMemory` where memory ran out; nothing changed then.
     pub fn keep(&mut self, word: Word, outs: Word, instance: u32, run: u64) -> Result<(), KeepStop>
         requires lengths { length outs ≡ length word }
         requires unclaimed { self.old.claims ≡ [] }

@@ -17,7 +17,7 @@ pub struct Clash {
 pub enum KeepStop {
     /// It is kept, and clashes with a clear answer.
     Clash(Clash),
-    /// Memory was wanted; nothing changed.
+    /// Out of memory; nothing changed.
     NoMemory,
 }
 
@@ -50,7 +50,7 @@ pub enum AskStop {
     Sul { instance: u32, stop: SulStop },
     /// Two kept answers clash.
     Clash(Clash),
-    /// Memory was wanted.
+    /// Out of memory.
     NoMemory,
 }
 
@@ -95,7 +95,7 @@ impl From<Clash> for AskStop {
 /// Why a learner stopped.
 #[derive(Drop)]
 pub enum GrowStop {
-    /// An ask stopped, or the learner's own memory was wanted, which is `AskStop::NoMemory`.
+    /// An ask stopped, or the learner itself ran out of memory, which is `AskStop::NoMemory`.
     Ask(AskStop),
     /// These words need more states than there may be.
     Crowd(Words),

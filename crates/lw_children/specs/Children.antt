@@ -78,11 +78,14 @@ pub record IsOfChildren (kind : Kind) (words letters : List (List ℕ)) (outputs
   pub keeps : KeepsChildren letters outputs names prior kept links
   -- where there is a model nothing that went over the links is left out
   pub whole : OnOk learned (LeavesNothing letters outputs names keeps.since links)
-  pub ok : IfOk learned (λ l. IsLearned kind (length letters) (count_of outputs) k most (answers_of kept) l.model l.learner)
+  pub ok : IfOk learned (λ l. IsLearned kind (length letters) (count_of outputs) k most
+      (answers_of kept) l.model l.learner)
   pub stops : IfErr learned (StopsAs (length letters) (count_of outputs) k most (answers_of kept))
   pub causes : IfErr learned (IsCausedBy outputs workers before now links kept)
   -- where nothing outside was wrong and the limits hold for some machine that gives the answers, a model comes, or memory runs out
-  pub reached : (m : Rows) → IsWithin (length letters) k most m → Gives m (answers_of kept) → ¬ CountedFault before.faults now.faults → All (IsSound outputs) links → IsReached (length m) learned
+  pub reached : (m : Rows) → IsWithin (length letters) k most m → Gives m (answers_of kept) →
+      ¬ CountedFault before.faults now.faults → All (IsSound outputs) links →
+      IsReached (length m) learned
 
 -- the same where outputs weren't declared, with the names sorted by bytes in the end: the kept answers and the model have their
 -- new numbers
@@ -107,7 +110,9 @@ pub record IsOfFree (kind : Kind) (words letters : List (List ℕ)) (workers k m
   pub ok : IfOk own (λ l. IsLearned kind (length letters) 4096 k most own_answers l.model l.learner)
   pub stops : IfErr own (StopsAs (length letters) 4096 k most own_answers)
   pub causes : IfErr learned (IsCausedBy None workers before now links kept)
-  pub reached : (m : Rows) → IsWithin (length letters) k most m → Gives m (answers_of kept) → ¬ CountedFault before.faults now.faults → All (IsSound None) links → IsReached (length m) learned
+  pub reached : (m : Rows) → IsWithin (length letters) k most m → Gives m (answers_of kept) →
+      ¬ CountedFault before.faults now.faults → All (IsSound None) links →
+      IsReached (length m) learned
 
 -- a learning over children by a command, whose outputs were declared or not; prior answers come with declared ones alone
 abbrev pub IsOfCommand : Kind → (words letters : List (List ℕ)) → Option (List (List ℕ)) → (workers k most : ℕ) → List KeptAnswer → (before now : SpawnerSeen) → Result Learned LearnStop → List KeptAnswer → List (List ℕ) → Type 0

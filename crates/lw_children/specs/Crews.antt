@@ -84,7 +84,8 @@ AreEarlier retired base = All (λ r. r.number < base) retired
 -- links of sessions that were started one after the other from a number on, after all that are retired
 pub record AreLinked {L : Type 0} (number : L → ℕ) (sessions : List (SessionState (LineState L))) (spawner : SpawnerSeen) : Type 0 where
   pub base : ℕ
-  pub links : (i : ℕ) (d : SessionState (LineState L)) → i < length sessions → number (slice_index_or sessions i d).sul.link ≡ base + i
+  pub links : (i : ℕ) (d : SessionState (LineState L)) → i < length sessions →
+      number (slice_index_or sessions i d).sul.link ≡ base + i
   pub earlier : 0 < length sessions → AreEarlier spawner.retired base
   pub within : base + length sessions ≤ spawner.started
 
@@ -93,7 +94,8 @@ pub record RetiresAll {L : Type 0} (number : L → ℕ) (sessions : List (Sessio
   pub records : List Retired
   pub retired : now.retired ≡ before.retired ++ records
   pub count : length records ≡ length sessions
-  pub each : (i : ℕ) (d : SessionState (LineState L)) (e : Retired) → i < length sessions → BearsOut (line_seen number (slice_index_or sessions i d)) (slice_index_or records i e)
+  pub each : (i : ℕ) (d : SessionState (LineState L)) (e : Retired) → i < length sessions →
+      BearsOut (line_seen number (slice_index_or sessions i d)) (slice_index_or records i e)
   pub started : now.started ≡ before.started
   pub faults : now.faults ≡ before.faults
   pub commands : now.commands ≡ before.commands
@@ -126,7 +128,8 @@ has_number number n (Some l) = number l ≡ n
 -- the same of a link more, which was started after those of the sessions
 pub record AreLinkedWith {L : Type 0} (number : L → ℕ) (sessions : List (SessionState (LineState L))) (loose : Option L) (spawner : SpawnerSeen) : Type 0 where
   pub base : ℕ
-  pub links : (i : ℕ) (d : SessionState (LineState L)) → i < length sessions → number (slice_index_or sessions i d).sul.link ≡ base + i
+  pub links : (i : ℕ) (d : SessionState (LineState L)) → i < length sessions →
+      number (slice_index_or sessions i d).sul.link ≡ base + i
   pub last : has_number number (base + length sessions) loose
   pub earlier : 0 < length sessions + count_link loose → AreEarlier spawner.retired base
   pub within : base + (length sessions + count_link loose) ≤ spawner.started
@@ -177,7 +180,8 @@ pub record HasRetired {L : Type 0} (kind : Kind) (number : L → ℕ) (k most : 
   pub learned : HasLearned pool left (learn_stop result)
   pub members : map (child_member number) later ≡ left.members
   pub retires : RetiresAll number later before now
-  pub ok : IfOk result (λ l. IsLearned kind pool.inputs pool.outputs k most (answers_of left.kept) l.model l.learner)
+  pub ok : IfOk result (λ l. IsLearned kind pool.inputs pool.outputs k most (answers_of left.kept)
+      l.model l.learner)
   pub stops : IfErr result (StopsAs pool.inputs pool.outputs k most (answers_of left.kept))
   pub kept_is : kept ≡ left.kept
   pub naming_is : naming ≡ left.naming

@@ -69,8 +69,11 @@ pub record KeepsChildren (letters : List (List ℕ)) (outputs : Option (List (Li
   pub since : List KeptAnswer
   pub first : kept ≡ prior ++ since
   pub instances : All (λ k. k.instance < length links) since
-  pub numbered : (i : ℕ) → i < length links → run_numbers i since ≡ range_with_len 0 (length (run_numbers i since))
-  pub runs : (i : ℕ) (d : Retired) → i < length links → let link = slice_index_or links i d in KeepsTold letters outputs names i since link link.transcript
+  pub numbered : (i : ℕ) → i < length links →
+      run_numbers i since ≡ range_with_len 0 (length (run_numbers i since))
+  pub runs : (i : ℕ) (d : Retired) → i < length links →
+      let link = slice_index_or links i d in KeepsTold letters outputs names i since link
+      link.transcript
   pub words : AreAnswers (length letters) (answers_of kept)
   pub below : All (λ k. All (λ y. y < length names) k.outs) kept
   pub once : AskedOnce prior kept

@@ -18,12 +18,14 @@ with_starts n words commands = option_map (λ cs. cs ++ replicate n words) comma
 pub record StartsAndRetires (words : List (List ℕ)) (before now : SpawnerSeen) (links : List Retired) : Type 0 where
   pub started : now.started ≡ before.started + length links
   pub retired : now.retired ≡ before.retired ++ links
-  pub numbers : (i : ℕ) (d : Retired) → i < length links → (slice_index_or links i d).number ≡ before.started + i
+  pub numbers : (i : ℕ) (d : Retired) → i < length links →
+      (slice_index_or links i d).number ≡ before.started + i
   pub counts : before.faults ≤ now.faults
   pub starts : ℕ
   pub commands : now.commands ≡ with_starts starts words before.commands
   -- all starts were answered with a link, but perhaps the last one, which failed
-  pub each : (starts ≡ length links) ⊎ ((starts ≡ length links + 1) × CountedFault before.faults now.faults)
+  pub each : (starts ≡ length links) ⊎ ((starts ≡ length links + 1) ×
+      CountedFault before.faults now.faults)
 
 abbrev pub spawner_seen : ℕ → ℕ → List Retired → Option (List (List (List ℕ))) → SpawnerSeen
 spawner_seen faults started retired commands = record { faults = faults; started = started; retired = retired; commands = commands }

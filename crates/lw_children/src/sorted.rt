@@ -127,7 +127,8 @@ pub fn learn_children<P: Spawner, R: Threads + Wait + Sync + Drop, W: Watcher>(
     requires most { (1 ≤ max_states) × (max_states ≤ 1024) }
     ensures asked { OnOk result.learned (AnswersWords words.now result.kept.answers) }
     ensures cut { IfSome result.cut (λ run. IsStopOf run.instance result.learned) }
-    ensures found { IsOfCommand kind command.now.words command.now.inputs command.now.outputs workers
+    ensures found { IsOfCommand kind command.now.words command.now.inputs command.now.outputs
+        workers
         extra max_states cache.kept
         (spawner_seen (P.faults spawner.old) (P.started spawner.old) (P.retired spawner.old)
         (P.commands spawner.old))

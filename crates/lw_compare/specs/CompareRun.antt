@@ -41,7 +41,8 @@ pub record EndsRead (one two : List ℕ) (f g : FilesState) (o p e d : SinkState
   pub quiet : IsAnswered outcome → (p.faults ≡ o.faults) × (d.faults ≡ e.faults)
   pub written : IsAnswered outcome → TakesAll (text outcome) o.taken p.taken × (d.taken ≡ e.taken)
   pub unwritten : ¬ IsAnswered outcome → outcome ≢ SinkFault → p ≡ o
-  pub said : ¬ IsAnswered outcome → ¬ CountedFault e.faults d.faults → TakesAll (text outcome) e.taken d.taken
+  pub said : ¬ IsAnswered outcome → ¬ CountedFault e.faults d.faults →
+      TakesAll (text outcome) e.taken d.taken
   pub said_part : ¬ IsAnswered outcome → TakesSome (text outcome) e.taken d.taken
 
 -- a call with these names of files found files, `out` and `err` as f, o and e, left them as g, p and d, and came to the end

@@ -40,7 +40,8 @@ Agree first second = (w : List ℕ) → IsWord first.mealy.inputs w → AgreeOn 
 pub record IsLeastDifference (first second : Machine) (w : List ℕ) : Type 0 where
   pub word : IsWord first.mealy.inputs w
   pub differs : ¬ AgreeOn first second w
-  pub least : (v : List ℕ) → IsWord first.mealy.inputs v → shortlex_cmp v w ≡ Less → AgreeOn first second v
+  pub least : (v : List ℕ) → IsWord first.mealy.inputs v → shortlex_cmp v w ≡ Less →
+      AgreeOn first second v
 
 -- the names of a list that another one hasn't, in their order
 abbrev pub lacking : List (List ℕ) → List (List ℕ) → List (List ℕ)

@@ -38,7 +38,8 @@ fn put_verdict<O: Sink>(
     kept: &Kept,
     out: &mut O,
 ) -> Result<(), TellStop>
-    ensures ok { OnOk result (TakesAll (text_of inputs.now outputs.now kept.now.answers 0 outcome.now)
+    ensures ok { OnOk result (TakesAll
+        (text_of inputs.now outputs.now kept.now.answers 0 outcome.now)
         (O.taken out.old) (O.taken out.new)) }
     ensures part { TakesSome (text_of inputs.now outputs.now kept.now.answers 0 outcome.now)
         (O.taken out.old) (O.taken out.new) }
@@ -67,7 +68,8 @@ pub(crate) fn tell<O: Sink, E: Sink>(
         CountedFault (O.faults out.old) (O.faults out.new) }
     ensures written { IsAnswered result → TakesAll (said_text None None [] 0 result)
         (O.taken out.old) (O.taken out.new) }
-    ensures part { TakesSome (said_text None None [] 0 outcome) (O.taken out.old) (O.taken out.new) }
+    ensures part { TakesSome (said_text None None [] 0 outcome) (O.taken out.old)
+        (O.taken out.new) }
     ensures unwritten { ¬ IsAnswered result → result ≢ Came.SinkFault →
         O.taken out.new ≡ O.taken out.old }
     ensures uncounted { ¬ IsAnswered result → result ≢ Came.SinkFault →

@@ -125,7 +125,7 @@ abbrev pub without_places : List ℕ → List Claimed → List Claimed
 without_places [] claims = claims
 without_places (place ∷ places) claims = without_places places (without_place place claims)
 
--- an actor's system failed, or its memory was wanted: it gives its places up, and takes no more
+-- an actor's system failed, or memory ran out: it gives its places up, and takes no more
 abbrev pub after_fail : ℕ → Option Failed → DeskState → DeskState
 after_fail actor None s = s
 after_fail actor (Some f) s = record {

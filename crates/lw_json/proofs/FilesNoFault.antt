@@ -52,7 +52,7 @@ module _ (w : WrittenMachine) (m : Machine) (s : Spells w m) where
       let same : rows ≡ m.mealy.rows = Some_inj rows m.mealy.rows (sym is ∙ said_rows) in
       let one : IsFaultOfRows (length w.inputs) (length w.outputs) m.mealy.rows fault = subst (λ (r : Rows). IsFaultOfRows (length w.inputs) (length w.outputs) r fault) same h in
       let two : IsFaultOfRows m.mealy.inputs (length w.outputs) m.mealy.rows fault = subst (λ (a : ℕ). IsFaultOfRows a (length w.outputs) m.mealy.rows fault) (ap length s.inputs ∙ sym s.named.letters) one in
-      rows_none m.mealy fault s.named.table (subst (λ (b : ℕ). IsFaultOfRows m.mealy.inputs b m.mealy.rows fault) (ap length s.outputs ∙ sym s.named.answers) two)
+      rows_none m.mealy fault s.named.complete (subst (λ (b : ℕ). IsFaultOfRows m.mealy.inputs b m.mealy.rows fault) (ap length s.outputs ∙ sym s.named.answers) two)
 
   machine_none : (fault : JsonFault) → SaysMachineFault w fault → fault ≡ NoMemory
   machine_none NotJson h = absurd h

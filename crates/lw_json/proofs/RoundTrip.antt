@@ -70,7 +70,7 @@ module _ (outputs : List (List ℕ)) (differ : AllDiffer outputs) where
 -- the cells of a table are within the limits
 cells : (m : Machine) → IsNamed m → All (All (IsCell m.outputs)) m.mealy.rows
 cells m named =
-    let t = named.table in
+    let t = named.complete in
     let same = named.answers in
     let few = t.few in
     λ k d lt i e l.

@@ -61,7 +61,7 @@ AreInputs names = IsNames names × (length names ≤ 64)
 pub record IsNamed (m : Machine) : Type 0 where
   pub inputs : AreInputs m.inputs
   pub outputs : IsNames m.outputs
-  pub table : IsWithinLimits m.mealy
+  pub complete : IsWithinLimits m.mealy
   pub letters : m.mealy.inputs ≡ length m.inputs
   pub answers : m.mealy.outputs ≡ length m.outputs
 

@@ -94,7 +94,8 @@ fn kept_all(
         (λ kept. each_of (kept_answer inputs.now outputs.now) (map said_answer answers.now)
         ≡ Some kept.answers) }
     ensures err { IfErr result
-        (Told Fault.BadWord (FailsFirst (HasWords inputs.now outputs.now) (map said_answer answers.now))) }
+        (Told Fault.BadWord (FailsFirst (HasWords inputs.now outputs.now)
+        (map said_answer answers.now))) }
 {
     let mut kept = Kept::new(alloc);
     for (place, said) in answers.iter().enumerate() {

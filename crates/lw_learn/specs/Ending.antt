@@ -47,17 +47,23 @@ use Rattle.lw_learn.specs.declared.task.System.TheVariants.{Table, Children}
 pub record EndsUnread (a : LearnValues) (f g : FilesState) (b z : SpawnerSeen) (o p : SinkState) (e d : SinkState) (end : End) : Type 0 where
   pub read : Option System
   pub between : FilesState
-  pub cause : IsUnreadAs a f between read end.kept.answers end.outcome ⊎ IsWordlessTask a f between read end.kept.answers end.outcome
+  pub cause : IsUnreadAs a f between read end.kept.answers end.outcome ⊎
+      IsWordlessTask a f between read end.kept.answers end.outcome
   pub same : between.holds ≡ f.holds
   pub model : end.model ≡ None
   pub learner : IsWithoutLearner end
   -- no names only where nothing is kept
-  pub outputs : (end.outputs ≡ names_read read) ⊎ ((end.outcome ≡ NoMemory) × (end.outputs ≡ None) × (end.kept.answers ≡ []))
-  pub saved : IsSaved a.kept (names_of (option_map letters_of read)) (names_of (option_and_then declared_of read)) end.kept.answers between g end.outcome
+  pub outputs : (end.outputs ≡ names_read read) ⊎
+      ((end.outcome ≡ NoMemory) × (end.outputs ≡ None) × (end.kept.answers ≡ []))
+  pub saved : IsSaved a.kept (names_of (option_map letters_of read))
+      (names_of (option_and_then declared_of read)) end.kept.answers between g end.outcome
   pub unstarted : z ≡ b
   pub unwritten : p ≡ o
-  pub said : ¬ CountedFault e.faults d.faults → TakesAll (said_text (option_map letters_of read) (option_and_then declared_of read) end.kept.answers a.extra end.outcome) e.taken d.taken
-  pub part : TakesSome (said_text (option_map letters_of read) (option_and_then declared_of read) end.kept.answers a.extra end.outcome) e.taken d.taken
+  pub said : ¬ CountedFault e.faults d.faults → TakesAll
+      (said_text (option_map letters_of read) (option_and_then declared_of read) end.kept.answers
+      a.extra end.outcome) e.taken d.taken
+  pub part : TakesSome (said_text (option_map letters_of read) (option_and_then declared_of read)
+      end.kept.answers a.extra end.outcome) e.taken d.taken
 
 -- what a learning answered is what the end says: its model is carried with its learner, and was written out, but that a write
 -- may have failed or memory run out; or the outcome is that of its stop, but that memory may have run out
@@ -77,17 +83,25 @@ pub record IsToldOf (a : LearnValues) (s : System) (naming : Naming) (learned : 
   pub kept_is : end.kept.answers ≡ kept
   pub outputs : end.outputs ≡ end_outputs (declared_of s) kept naming
   -- files and streams: of a model by the outcome, and nothing where there is none
-  pub written : IfSome end.model (WritesModel a kept end.outcome g.holds (o.taken, p.taken) (o.faults, p.faults) (letters_of s) naming.names)
+  pub written : IfSome end.model (WritesModel a kept end.outcome g.holds (o.taken, p.taken)
+      (o.faults, p.faults) (letters_of s) naming.names)
   pub nothing : end.model ≡ None → (p ≡ o) × (g ≡ f)
   pub beside : StaysBesides a.model a.answers None f.holds g.holds
   pub may : MayTell was end.outcome
-  pub said : ¬ CountedFault e.faults d.faults → TakesAll (text_of (letters_of s) naming.names kept a.extra end.outcome) e.taken d.taken
-  pub in_turn : TakesInTurn (line_of (letters_of s) naming.names kept a.extra end.model end.refinements) (text_of (letters_of s) naming.names kept a.extra end.outcome) e.taken d.taken
-  pub quiet : IsLearnedOutcome end.outcome → (g.faults ≡ f.faults) × (p.faults ≡ o.faults) × (d.faults ≡ e.faults)
+  pub said : ¬ CountedFault e.faults d.faults →
+      TakesAll (text_of (letters_of s) naming.names kept a.extra end.outcome) e.taken d.taken
+  pub in_turn : TakesInTurn (line_of (letters_of s) naming.names kept a.extra end.model
+      end.refinements) (text_of (letters_of s) naming.names kept a.extra end.outcome) e.taken
+      d.taken
+  pub quiet : IsLearnedOutcome end.outcome → (g.faults ≡ f.faults) × (p.faults ≡ o.faults) ×
+      (d.faults ≡ e.faults)
   -- a write that failed, of a file that is named or of a stream; or the kept answers' file failed before
-  pub role : (r : Role) → end.outcome ≡ FileFault r → ((r ≡ Model) × (a.model ≢ None)) ⊎ (((r ≡ Answers) × (a.answers ≢ None)) ⊎ (r ≡ Kept))
-  pub file_fault : (r : Role) → end.outcome ≡ FileFault r → r ≢ Kept → CountedFault f.faults g.faults
-  pub sink_fault : end.outcome ≡ SinkFault → CountedFault o.faults p.faults ⊎ CountedFault e.faults d.faults
+  pub role : (r : Role) → end.outcome ≡ FileFault r → ((r ≡ Model) × (a.model ≢ None)) ⊎
+      (((r ≡ Answers) × (a.answers ≢ None)) ⊎ (r ≡ Kept))
+  pub file_fault : (r : Role) → end.outcome ≡ FileFault r → r ≢ Kept →
+      CountedFault f.faults g.faults
+  pub sink_fault : end.outcome ≡ SinkFault → CountedFault o.faults p.faults ⊎
+      CountedFault e.faults d.faults
   pub reads : g.reads ≡ f.reads
   pub writes : MadeWrites a end.outcome f.calls g.calls
   pub counts : (f.faults ≤ g.faults) × (o.faults ≤ p.faults) × (e.faults ≤ d.faults)
@@ -99,7 +113,8 @@ pub record IsEndOf (a : LearnValues) (s : System) (naming : Naming) (learned : R
   pub saved : HasSaved a.kept (letters_of s) naming.names kept f between was
   pub told : IsToldOf a s naming learned kept was between g o p e d end
   -- so it stands in its file where no write of it failed and memory didn't run out, but for a later write under its name
-  pub stands : was ≡ saving.Stand → a.kept ≢ a.model → a.kept ≢ a.answers → KeptStand a.kept g.holds (letters_of s) naming.names kept
+  pub stands : was ≡ saving.Stand → a.kept ≢ a.model → a.kept ≢ a.answers →
+      KeptStand a.kept g.holds (letters_of s) naming.names kept
   pub beside : StaysBesides a.model a.answers a.kept f.holds g.holds
   pub counts : (f.faults ≤ g.faults) × (o.faults ≤ p.faults) × (e.faults ≤ d.faults)
 
@@ -115,8 +130,10 @@ pub record EndsLearned (a : LearnValues) (s : System) (prior : List KeptAnswer) 
   pub learned : Result Found LearnStop
   pub found : IsOfSystem a s prior b z learned end.kept.answers naming.names
   -- the model, and what it is worth
-  pub model : IfSome end.model (HasModel a.learner (length (letters_of s)) (length naming.names) a.extra a.max_states end)
-  pub stops : IfErr learned (StopsBy (length (letters_of s)) (count_of (declared_of s)) a.extra a.max_states (answers_of end.kept.answers))
+  pub model : IfSome end.model (HasModel a.learner (length (letters_of s)) (length naming.names)
+      a.extra a.max_states end)
+  pub stops : IfErr learned (StopsBy (length (letters_of s)) (count_of (declared_of s)) a.extra
+      a.max_states (answers_of end.kept.answers))
   -- where nothing outside was wrong, and a machine of n states that gives the answers is within the limits, a model comes within
   -- n - 1 refinements, or memory runs out
   pub reached :

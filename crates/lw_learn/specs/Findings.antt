@@ -22,10 +22,13 @@ use Rattle.lw_learn.specs.declared.task.System.TheVariants.{Table, Children}
 pub record IsOfInstances (a : LearnValues) (m : Machine) (prior : List KeptAnswer) (learned : Result Learned LearnStop) (kept : List KeptAnswer) (names : List (List ℕ)) : Type 0 where
   pub named : names ≡ m.outputs
   pub keeps : KeepsRuns m.mealy a.workers prior kept
-  pub ok : IfOk learned (λ l. IsLearned a.learner (length m.inputs) (length m.outputs) a.extra a.max_states (answers_of kept) l.model l.learner)
-  pub stops : IfErr learned (StopsAs (length m.inputs) (length m.outputs) a.extra a.max_states (answers_of kept))
+  pub ok : IfOk learned (λ l. IsLearned a.learner (length m.inputs) (length m.outputs) a.extra
+      a.max_states (answers_of kept) l.model l.learner)
+  pub stops : IfErr learned (StopsAs (length m.inputs) (length m.outputs) a.extra a.max_states
+      (answers_of kept))
   pub causes : IfErr learned (IsMachineStop kept)
-  pub reached : (r : Rows) → IsWithin (length m.inputs) a.extra a.max_states r → Gives r (answers_of kept) → IsReached (length r) learned
+  pub reached : (r : Rows) → IsWithin (length m.inputs) a.extra a.max_states r →
+      Gives r (answers_of kept) → IsReached (length r) learned
 
 -- of a system: no child is started for a machine
 abbrev pub IsOfSystem : LearnValues → System → List KeptAnswer → (before now : SpawnerSeen) → Result Learned LearnStop → List KeptAnswer → List (List ℕ) → Type 0

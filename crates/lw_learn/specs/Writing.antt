@@ -46,7 +46,8 @@ pub record WritesFiles (a : LearnValues) (m : Machine) (kept : List KeptAnswer) 
 -- where the files weren't written
 pub record WritesOut (file : Option (List ℕ)) (text : List ℕ) (outcome : Outcome) (taken : Option (List ℕ) × Option (List ℕ)) (faults : ℕ × ℕ) : Type 0 where
   pub told : IsBehindOut outcome → PutsAll file text taken.0 taken.1
-  pub whole : outcome ≡ SinkFault → ¬ CountedFault faults.0 faults.1 → PutsAll file text taken.0 taken.1
+  pub whole : outcome ≡ SinkFault → ¬ CountedFault faults.0 faults.1 →
+      PutsAll file text taken.0 taken.1
   pub part : PutsSome file text taken.0 taken.1
   pub before : IsBeforeOut outcome → taken.1 ≡ taken.0
 

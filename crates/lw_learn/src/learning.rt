@@ -103,7 +103,8 @@ fn learn_command<P: Spawner, R: Threads + Wait + Sync + Drop, W: Watcher>(
     requires letters { All (IsWord (length command.now.inputs)) words.now }
     requires batch { length words.now < 2 ^ 32 }
     ensures found { IsOfCommand arguments.now.learner command.now.words command.now.inputs
-        command.now.outputs arguments.now.workers arguments.now.extra arguments.now.max_states cache.kept
+        command.now.outputs arguments.now.workers arguments.now.extra arguments.now.max_states
+        cache.kept
         (spawner_seen (P.faults spawner.old) (P.started spawner.old) (P.retired spawner.old)
         (P.commands spawner.old))
         (spawner_seen (P.faults spawner.new) (P.started spawner.new) (P.retired spawner.new)
@@ -159,7 +160,8 @@ pub(crate) fn learn_system<P: Spawner, R: Threads + Wait + Sync + Drop, W: Watch
         (spawner_seen (P.faults spawner.new) (P.started spawner.new) (P.retired spawner.new)
         (P.commands spawner.new)) result.learned result.kept.answers result.names.names }
     ensures model { IfOk result.learned (GivesModel arguments.now.learner
-        (length (letters_of system.now)) (length result.names.names) arguments.now.extra arguments.now.max_states
+        (length (letters_of system.now)) (length result.names.names) arguments.now.extra
+        arguments.now.max_states
         result.kept.answers) }
     ensures sizes { IfOk result.learned (λ l.
         (l.model.inputs ≡ length (letters_of system.now)) ×

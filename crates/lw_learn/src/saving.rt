@@ -73,7 +73,8 @@ fn write_kept<F: Files>(files: &mut F, name: &str, bytes: &[u8]) -> Saved
         (F.faults files.old))
         (files_state (F.holds files.new) (F.calls files.new) (F.reads files.new)
         (F.faults files.new)) result }
-    ensures beside { StaysBesides (Some name.now) None None (F.holds files.old) (F.holds files.new) }
+    ensures beside { StaysBesides (Some name.now) None None (F.holds files.old)
+        (F.holds files.new) }
     ensures reads { F.reads files.new ≡ F.reads files.old }
     ensures counts { F.faults files.old ≤ F.faults files.new }
 {
@@ -100,7 +101,8 @@ fn save_as<F: Files>(
         (F.faults files.old))
         (files_state (F.holds files.new) (F.calls files.new) (F.reads files.new)
         (F.faults files.new)) result }
-    ensures beside { StaysBesides (Some name.now) None None (F.holds files.old) (F.holds files.new) }
+    ensures beside { StaysBesides (Some name.now) None None (F.holds files.old)
+        (F.holds files.new) }
     ensures reads { F.reads files.new ≡ F.reads files.old }
     ensures counts { F.faults files.old ≤ F.faults files.new }
 {

@@ -251,7 +251,8 @@ fn write_model<F: Files, O: Sink, E: Sink>(
     ensures refused { result ≡ Err Stop.Sink → CountedFault (O.faults out.old) (O.faults out.new) ⊎
         CountedFault (E.faults err.old) (E.faults err.new) }
     ensures line { OnOk result (TakesAll (text_of machine.now.inputs machine.now.outputs
-        kept.now.answers arguments.now.extra (Came.Learned machine.now.mealy refinements)) (E.taken err.old)
+        kept.now.answers arguments.now.extra (Came.Learned machine.now.mealy refinements))
+        (E.taken err.old)
         (E.taken err.new)) }
     ensures line_part { TakesSome (text_of machine.now.inputs machine.now.outputs kept.now.answers
         arguments.now.extra (Came.Learned machine.now.mealy refinements)) (E.taken err.old)

@@ -26,7 +26,7 @@ impl Model for MemoryLog {
 }
 
 impl MemoryLog {
-    /// Fails at no call but for want of memory.
+    /// Fails at no call but where memory runs out.
     pub fn new(alloc: Global) -> MemoryLog
         ensures { result ≡ record { name = None; lines = []; plan = None } }
     {

@@ -1,3 +1,4 @@
+-- What the contracts of private functions cite, and no public clause.
 pub mod Cast
 pub mod Child
 pub mod Link

@@ -119,7 +119,8 @@ pub trait Spawner {
     /// child's end.
     fn retire(&mut self, link: Self::Link)
         requires started { Self.Link.number link < started self.old }
-        requires once { ¬ Contains (map (λ r. r.number) (retired self.old)) (Self.Link.number link) }
+        requires once { ¬ Contains (map (λ r. r.number) (retired self.old))
+            (Self.Link.number link) }
         ensures retired { retired self.new ≡ retired self.old ++ record {
           number = Self.Link.number link;
           faults = Self.Link.faults link;

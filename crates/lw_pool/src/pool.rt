@@ -268,7 +268,8 @@ impl<S: Sul, R> Pool<S, R> {
     pub fn cache(&self) -> &Cache
         ensures kept { result.now.kept ≡ self.now.kept }
         ensures claims { result.now.claims ≡ [] }
-        ensures keeps { KeepsAnswers self.now.inputs self.now.outputs (origins_of (seen_of self.now))
+        ensures keeps { KeepsAnswers self.now.inputs self.now.outputs
+            (origins_of (seen_of self.now))
             self.now.kept }
         ensures stands { Stands self.now }
     {

@@ -64,15 +64,23 @@ pub record ComesOtherwise (machine : Option Rows) (outputs : List (List ℕ)) (a
   pub within : clash.first < length answers
   pub count : clash.first ≡ length front
   pub are : AreAgain machine outputs (take clash.first answers) names front
-  pub otherwise : IsOtherwise machine outputs (answer_at (answers_of answers) clash.first) names last clash.place
+  pub otherwise : IsOtherwise machine outputs (answer_at (answers_of answers) clash.first) names
+      last clash.place
   pub grown : IsGrown outputs shown
   pub distinct : IsNames shown
   pub outs : List ℕ
   pub below : All (λ y. y < length shown) outs
   pub shown_is : named shown outs ≡ named names last.outs
-  pub kept_is : kept ≡ answers ++ record { instance = 0; run = clash.first; word = last.word; outs = outs } ∷ []
+  pub kept_is : kept ≡ answers ++ record {
+    instance = 0;
+    run = clash.first;
+    word = last.word;
+    outs =
+        outs;
+  } ∷ []
   pub second : clash.second ≡ length answers
-  pub here : ClashAt (answer_at (answers_of answers) clash.first) (record { word = last.word; outs = outs }) clash.place
+  pub here : ClashAt (answer_at (answers_of answers) clash.first)
+      (record { word = last.word; outs = outs }) clash.place
 
 -- the first answers were given again, and then no more words were asked, or the run of the next one's word came out otherwise
 -- and there was no memory to keep it; the answers are kept
@@ -82,7 +90,8 @@ pub record StopsAgain (machine : Option Rows) (outputs : List (List ℕ)) (answe
   pub both : runs ≡ front ++ rest
   pub few : length rest ≤ 1
   pub none : (stop : SulStop) → why ≡ Sul stop → rest ≡ []
-  pub unkept : (run : Run) → rest ≡ run ∷ [] → (place : ℕ) × IsOtherwise machine outputs (answer_at (answers_of answers) (length front)) names run place
+  pub unkept : (run : Run) → rest ≡ run ∷ [] → (place : ℕ) ×
+      IsOtherwise machine outputs (answer_at (answers_of answers) (length front)) names run place
   pub some : length front < length answers
   pub are : AreAgain machine outputs (take (length front) answers) names front
   pub kept_is : kept ≡ answers

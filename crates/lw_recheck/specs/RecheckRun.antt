@@ -45,7 +45,7 @@ pub record RechecksStarted (c : Command) (outputs : List (List ℕ)) (answers : 
   pub shown_are : shown ≡ Some names
   pub asks : RechecksChild c.words c.inputs c.outputs outputs answers b z names kept came
 
--- no child was asked, for this cause, or for want of memory
+-- no child was asked, for this cause, or because memory ran out
 pub record RechecksNone (c : Command) (b z : SpawnerSeen) (shown : Option (List (List ℕ))) (kept : List KeptAnswer) (why : Outcome) : Type 0 where
   pub stop : StartStop
   pub cause : StartFailure

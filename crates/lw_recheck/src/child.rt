@@ -5,7 +5,7 @@ ghost use Rattle.lw_children.specs.Spawners.{spawner_seen};
 ghost use Rattle.lw_ask.specs.Child.{HasNotStarted};
 ghost use Rattle.lw_recheck.specs.Child.{RechecksChild};
 
-use crate::keeping::{Asked, recheck_session};
+use crate::keeping::{RecheckEnd, recheck_session};
 use lw_ask::{link_of, start_line};
 use lw_outside::{Spawner, StartStop};
 use lw_sul::Session;
@@ -21,7 +21,7 @@ pub(crate) fn recheck_child<P: Spawner>(
     declared: Option<Names>,
     outputs: Names,
     kept: Kept,
-) -> Result<Asked, StartStop>
+) -> Result<RecheckEnd, StartStop>
     requires command { 0 < length command.now }
     requires over { AreKeptOver (length letters.now) (length outputs) kept.answers }
     ensures ok { IfOk result (λ a. RechecksChild (map (λ w. string_bytes w) command.now)

@@ -12,7 +12,7 @@ ghost use Rattle.lw_recheck.specs.RecheckRun.{AsksTask, IsRecheckRun, RechecksCo
 
 use crate::RecheckArguments;
 use crate::child::recheck_child;
-use crate::keeping::{Asked, recheck_session};
+use crate::keeping::{RecheckEnd, recheck_session};
 use crate::reading::{Task, read_both};
 use crate::telling::{Told, end_call, end_refused};
 use lw_ask::{child_outcome, start_outcome};
@@ -39,12 +39,12 @@ fn came_outcome(answers: u64, came: Result<Option<Clash>, RunStop>) -> Outcome
 }
 
 /// What came of asking so many answers again.
-fn told_of(answers: u64, asked: Asked) -> Told
+fn told_of(answers: u64, asked: RecheckEnd) -> Told
     ensures kept { result.kept.answers ≡ asked.kept.answers }
     ensures names { result.names ≡ Some asked.names }
     ensures outcome { result.outcome ≡ came_outcome answers asked.came }
 {
-    let Asked { kept, names, came } = asked;
+    let RecheckEnd { kept, names, came } = asked;
     Told {
         kept,
         names: Some(names),

@@ -50,8 +50,8 @@ fn put_text(texts: &mut Vec<String>, text: String) -> Result<(), NoMemory>
     Ok(())
 }
 
-/// Names, and behind them those of a system's outputs that aren't among them. More than a list of names may have are taken
-/// for want of memory.
+/// Names, and behind them those of a system's outputs that aren't among them. More than a list of names may have is told as
+/// out of memory.
 fn joined<S: Sul>(alloc: Global, names: &Names, sul: &S, outs: &[u16]) -> Result<Names, NoMemory>
     requires { All (λ y. y < length (S.names sul.now)) outs.now }
     ensures grown { IfOk result (IsGrown names.now) }
@@ -144,21 +144,28 @@ fn keep_other<S: Sul>(
 /// What came of asking words again: the answers that are kept, with the names of their outputs, and the run that came out
 /// otherwise, if one did, or why no more words were asked.
 #[derive(Drop)]
-pub(crate) struct Asked {
+pub(crate) struct RecheckEnd {
     pub(crate) kept: Kept,
     pub(crate) names: Names,
     pub(crate) came: Result<Option<Clash>, RunStop>,
 }
 
 /// What comes of a run that came out otherwise.
-fn come_otherwise<S: Sul>(alloc: Global, outputs: Names, sul: &S, kept: Kept, other: Other) -> Asked
+fn come_otherwise<S: Sul>(
+    alloc: Global,
+    outputs: Names,
+    sul: &S,
+    kept: Kept,
+    other: Other,
+) -> RecheckEnd
     requires within { other.number < length kept.answers }
     requires below { All (λ y. y < length (S.names sul.now)) other.outs }
     ensures kept { IfOk result.came (λ found. (found ≡ Some (record {
       first = other.number;
       second = length kept.answers;
       place = other.place;
-    })) × IsNames result.names × KeepsOther outputs (S.names sul.now) kept.answers other result.names
+    })) × IsNames result.names ×
+        KeepsOther outputs (S.names sul.now) kept.answers other result.names
         result.kept.answers) }
     ensures same { OnErr result.came (result.kept.answers ≡ kept.answers) }
     ensures memory { IfErr result.came (λ why. why ≡ Stopped.NoMemory) }
@@ -170,12 +177,12 @@ fn come_otherwise<S: Sul>(alloc: Global, outputs: Names, sul: &S, kept: Kept, ot
         place: other.place,
     };
     match keep_other(alloc, &outputs, sul, &mut kept, &other) {
-        Ok(names) => Asked {
+        Ok(names) => RecheckEnd {
             kept,
             names,
             came: Ok(Some(clash)),
         },
-        Err(NoMemory) => Asked {
+        Err(NoMemory) => RecheckEnd {
             kept,
             names: outputs,
             came: Err(RunStop::NoMemory),
@@ -189,7 +196,7 @@ pub(crate) fn recheck_session<S: Sul>(
     session: &mut Session<S>,
     outputs: Names,
     kept: Kept,
-) -> Asked
+) -> RecheckEnd
     requires fresh { session.old.journal ≡ [] }
     requires live { S.stop session.old.sul ≡ None }
     requires over { AreKeptOver (S.inputs session.old.sul) (length outputs) kept.answers }
@@ -206,13 +213,13 @@ pub(crate) fn recheck_session<S: Sul>(
         (S.most session.new.sul ≡ S.most session.old.sul) }
 {
     match ask_answers(session, &outputs, &kept) {
-        Ok(None) => Asked {
+        Ok(None) => RecheckEnd {
             kept,
             names: outputs,
             came: Ok(None),
         },
         Ok(Some(other)) => come_otherwise(alloc, outputs, session.sul(), kept, other),
-        Err(stop) => Asked {
+        Err(stop) => RecheckEnd {
             kept,
             names: outputs,
             came: Err(stop),

@@ -40,9 +40,11 @@ pub record HasModel (kind : Kind) (a b k most : ℕ) (end : End) (h : MealyMachi
   -- that gives them does on every word what the model does
   pub certified : IsCertified a b k (answers_of end.kept.answers) h
   -- so it is the canonical form of each such machine
-  pub canonical : (m : Rows) → IsMachine a m → length m ≤ length h.rows + k → Gives m (answers_of end.kept.answers) → IsCanonical a m h.rows
+  pub canonical : (m : Rows) → IsMachine a m → length m ≤ length h.rows + k →
+      Gives m (answers_of end.kept.answers) → IsCanonical a m h.rows
   -- no machine of fewer states gives the answers
-  pub least : (m : Rows) → IsMachine a m → Gives m (answers_of end.kept.answers) → length h.rows ≤ length m
+  pub least : (m : Rows) → IsMachine a m → Gives m (answers_of end.kept.answers) →
+      length h.rows ≤ length m
   -- the closed learner that it is read off is carried, of the kind that was asked for, and the refinements are those of the
   -- learner, fewer than the states
   pub learner : Learner

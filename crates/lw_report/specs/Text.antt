@@ -46,10 +46,11 @@ equal_line equal = if equal then codes "equal: yes\n" else codes "equal: no\n"
 abbrev pub trial_lines : Tried → List ℕ
 trial_lines t = drawn_line t.states t.inputs t.seed ++ (found_line t.learned t.refinements t.answers ++ equal_line t.equal)
 
--- the number of words that are pairwise apart, and each of them
+-- how many words are pairwise apart
 abbrev pub crowd_line : ℕ → List ℕ
 crowd_line count = codes "too many states: " ++ (decimal count ++ codes " words are pairwise apart\n")
 
+-- and each of them
 abbrev pub crowd_lines : List (List ℕ) → List (List ℕ) → List ℕ
 crowd_lines names words = crowd_line (length words) ++ flat_map (word_line names) words
 

@@ -38,14 +38,14 @@ fn differs_text(alloc: Global, answer: usize, place: usize) -> Result<String, No
     Ok(format!(in alloc; "no: answer {answer} differs at place {place}\n")?)
 }
 
-/// The line about a state that no answer reaches.
+/// The line about a state that no word reaches.
 fn unreached_text(alloc: Global, state: u16) -> Result<String, NoMemory>
     ensures { IfOk result (λ text. string_bytes text ≡ unreached_line state) }
 {
     Ok(format!(in alloc; "no: state {state} is unreached\n")?)
 }
 
-/// The line about two states that no answer tells apart.
+/// The line about two states that no word tells apart.
 fn alike_text(alloc: Global, p: u16, q: u16) -> Result<String, NoMemory>
     ensures { IfOk result (λ text. string_bytes text ≡ alike_line p q) }
 {

@@ -8,7 +8,7 @@ use lw_words::{NoMemory, Words};
 /// Why a learning stopped.
 #[derive(Drop)]
 pub enum LearnStop {
-    /// An ask stopped, or the learning's own memory was wanted, which is `AskStop::NoMemory`.
+    /// An ask stopped, or the learning itself ran out of memory, which is `AskStop::NoMemory`.
     Ask(AskStop),
     /// These words need more states than there may be.
     Crowd(Words),

@@ -37,7 +37,7 @@ fn reach(m: &Mealy, s: &mut Search, i: usize, x: u16) -> Result<(), NoMemory>
     requires so_far { Searched m.now s.old i x }
     requires found { i < length s.old.words.items }
     requires letter { x < m.now.inputs }
-    requires table { IsWithinLimits m.now }
+    requires complete { IsWithinLimits m.now }
     ensures so_far { OnOk result (Searched m.now s.new i (x + 1)) }
     ensures found { OnOk result (i < length s.new.words.items) }
 {

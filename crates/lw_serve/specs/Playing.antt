@@ -25,6 +25,9 @@ pub record IsPlayed (m : Machine) (i j : SourceState) (o p : SinkState) (outcome
   pub plays : PlaysTo m i.left outcome o.taken p.taken
   pub source : outcome ≡ SourceFault → CountedFault i.faults j.faults × GoesOn m i.left j.left
   pub sink : outcome ≡ SinkFault → CountedFault o.faults p.faults
-  pub ended : (served : Done) → outcome ≡ Served served → served.cause ≡ EndOfInput → CountedFault i.ends j.ends
-  pub limit : (served : Done) → outcome ≡ Served served → served.cause ≡ Limit → served.lines ≡ 4294967295
-  pub quiet : (served : Done) → outcome ≡ Served served → (j.faults ≡ i.faults) × (p.faults ≡ o.faults)
+  pub ended : (served : Done) → outcome ≡ Served served → served.cause ≡ EndOfInput →
+      CountedFault i.ends j.ends
+  pub limit : (served : Done) → outcome ≡ Served served → served.cause ≡ Limit →
+      served.lines ≡ 4294967295
+  pub quiet : (served : Done) → outcome ≡ Served served → (j.faults ≡ i.faults) ×
+      (p.faults ≡ o.faults)

@@ -43,14 +43,19 @@ pub record IsServeRun (model : List ℕ) (f g : FilesState) (i j : SourceState) 
   pub untouched : g.holds ≡ f.holds
   pub ended : EndsUnread i j o p end.outcome ⊎ EndsPlayed model f g i j o p end.outcome
   -- the text goes to `err`, whole where that counts no fault
-  pub said : ¬ CountedFault e.faults d.faults → TakesAll (said_text None None [] 0 end.outcome) e.taken d.taken
+  pub said : ¬ CountedFault e.faults d.faults →
+      TakesAll (said_text None None [] 0 end.outcome) e.taken d.taken
   pub said_part : TakesSome (said_text None None [] 0 end.outcome) e.taken d.taken
   -- what each refusal of the file comes from
-  pub bad_file : (role : Role) (fault : JsonFault) → end.outcome ≡ BadFile role fault → (role ≡ Model) × ReadsBadFile IsMachineFile HasMachineFault model f.holds f.reads g.reads fault
+  pub bad_file : (role : Role) (fault : JsonFault) → end.outcome ≡ BadFile role fault →
+      (role ≡ Model) × ReadsBadFile IsMachineFile HasMachineFault model f.holds f.reads g.reads
+      fault
   pub bad_file_told : TellsNoMachine f.holds model → IsUnread end.outcome
-  pub too_long : (role : Role) → end.outcome ≡ FileTooLong role → (role ≡ Model) × HoldsLong f.holds model × (g.reads ≡ f.reads)
+  pub too_long : (role : Role) → end.outcome ≡ FileTooLong role → (role ≡ Model) ×
+      HoldsLong f.holds model × (g.reads ≡ f.reads)
   pub too_long_told : TellsLong f.holds model → IsUngiven end.outcome
-  pub file_fault : (role : Role) → end.outcome ≡ FileFault role → (role ≡ Model) × CountedFault f.faults g.faults × (g.reads ≡ f.reads)
+  pub file_fault : (role : Role) → end.outcome ≡ FileFault role → (role ≡ Model) ×
+      CountedFault f.faults g.faults × (g.reads ≡ f.reads)
   pub file_fault_told : TellsFailed model f.calls g.calls → end.outcome ≡ FileFault Model
   -- where a machine's file is told and nothing outside counted a fault, the machine is played to the end or to a bad line, or
   -- memory runs out

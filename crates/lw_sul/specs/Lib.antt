@@ -1,5 +1,5 @@
 pub mod Names
 pub mod SessionState
 pub mod Runs
-pub mod TableState
+pub mod TableSulState
 pub mod Told

@@ -2,7 +2,7 @@
 use Rattle.std.specs.Prelude.{ℕ, List}
 use Rattle.lw_mealy.specs.Limits.{MealyMachine}
 
-pub record TableState : Type 0 where
-  pub table : MealyMachine
+pub record TableSulState : Type 0 where
+  pub machine : MealyMachine
   pub state : ℕ
   pub names : List (List ℕ)

@@ -177,7 +177,8 @@ impl<S: Sul> Session<S> {
         ensures told { IsJournal (S.runs self.new.sul) self.new.journal (S.stop self.new.sul)
             (S.cut self.new.sul) }
 
-        ensures unfinished { (stop : Stop) → result ≡ Err (RunStop.Sul stop) → S.stop self.old.sul ≡ None →
+        ensures unfinished { (stop : Stop) → result ≡ Err (RunStop.Sul stop) →
+            S.stop self.old.sul ≡ None →
             CutOff w.now (S.runs self.old.sul) (S.runs self.new.sul) (S.cut self.new.sul) }
 
         ensures counts { S.faults self.old.sul ≤ S.faults self.new.sul }

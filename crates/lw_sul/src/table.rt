@@ -18,11 +18,11 @@ pub struct TableSul {
 
 impl Model for TableSul {
     ghost use Rattle.std.specs.Prelude.{◌≡◌, ◌<◌, length};
-    ghost use Rattle.lw_sul.specs.TableState.{TableState};
+    ghost use Rattle.lw_sul.specs.TableSulState.{TableSulState};
 
-    ghost Value = { TableState };
+    ghost Value = { TableSulState };
 
-    ghost view = { λ s. record { table = s.mealy; state = s.state; names = s.names } };
+    ghost view = { λ s. record { machine = s.mealy; state = s.state; names = s.names } };
 
     ghost invariant = { λ s. (s.state < length s.mealy.rows) × (length s.names ≡ s.mealy.outputs) };
 }
@@ -31,7 +31,7 @@ impl TableSul {
     /// The system of a machine, with a name for each output. Takes no memory.
     pub fn new(mealy: Mealy, names: Names) -> TableSul
         requires { length names ≡ mealy.outputs }
-        ensures table { result.table ≡ mealy }
+        ensures machine { result.machine ≡ mealy }
         ensures state { result.state ≡ 0 }
         ensures names { result.names ≡ names }
     {
@@ -45,7 +45,7 @@ impl TableSul {
 
     /// The machine.
     pub fn machine(&self) -> &Mealy
-        ensures { result.now ≡ self.now.table }
+        ensures { result.now ≡ self.now.machine }
     {
         &self.mealy
     }
@@ -54,11 +54,11 @@ impl TableSul {
 impl Sul for TableSul {
     ghost use Rattle.std.specs.Prelude.{length, true, false, Some, None};
 
-    ghost inputs = { λ s. s.table.inputs };
+    ghost inputs = { λ s. s.machine.inputs };
 
-    ghost outputs = { λ s. s.table.outputs };
+    ghost outputs = { λ s. s.machine.outputs };
 
-    ghost origin = { λ s. record { machine = Some s.table.rows; link = None; letters = None } };
+    ghost origin = { λ s. record { machine = Some s.machine.rows; link = None; letters = None } };
 
     ghost state = { λ s. s.state };
 

@@ -38,7 +38,8 @@ pub(crate) fn add_cells(
 fn read_cell(alloc: Global, cache: &Cache, word: &Word, suffix: &Word) -> Result<Vec<u16>, NoMemory>
     requires answers { (a : ℕ) × AreAnswers a (answers_of cache.now.kept) }
     requires known { IsKnown (answers_of cache.now.kept) (word.now ++ suffix.now) }
-    ensures { IfOk result (λ cell. IsCellOf (answers_of cache.now.kept) word.now suffix.now cell.items) }
+    ensures { IfOk result (λ cell.
+        IsCellOf (answers_of cache.now.kept) word.now suffix.now cell.items) }
 {
     let asked = join(word, suffix)?;
     let found = cache.read(&asked)?;
@@ -64,9 +65,11 @@ fn fill_row(
     ensures more { (more : List (List (List ℕ))) × (classes.new ≡ classes.old ++ more) }
     ensures differ { AllPairs (λ r s. r ≢ s) classes.new }
     ensures class { IfOk result (λ filled. filled.class < length classes.new) }
-    ensures cells { IfOk result (λ filled. filled.cells ≡ length (row_of classes.new filled.class)) }
+    ensures cells { IfOk result (λ filled.
+        filled.cells ≡ length (row_of classes.new filled.class)) }
     ensures whole { IfOk result (λ filled. filled.cells ≡ length suffixes.now) }
-    ensures goes_on { IfOk result (λ filled. GoesOn (answers_of cache.now.kept) suffixes.now word.now
+    ensures goes_on { IfOk result (λ filled.
+        GoesOn (answers_of cache.now.kept) suffixes.now word.now
         (row_of classes.old row.class) (row_of classes.new filled.class)) }
 {
     let mut class = row.class;

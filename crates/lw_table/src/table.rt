@@ -75,7 +75,8 @@ fn single_letters(alloc: Global, inputs: u16) -> Result<Words, NoMemory>
 /// The access words and the suffixes of a new table.
 fn first_words(alloc: Global, inputs: u16) -> Result<(Words, Words), NoMemory>
     ensures access { IfOk result (λ words. words.0 ≡ [] ∷ []) }
-    ensures suffixes { IfOk result (λ words. words.1 ≡ map (λ x. x ∷ []) (range_with_len 0 inputs)) }
+    ensures suffixes { IfOk result (λ words.
+        words.1 ≡ map (λ x. x ∷ []) (range_with_len 0 inputs)) }
 {
     let access = the_empty_word(alloc)?;
     let suffixes = single_letters(alloc, inputs)?;
@@ -94,7 +95,8 @@ fn first_rows(alloc: Global, inputs: u16) -> Result<(Vec<Row>, Vec<usize>), NoMe
 
 /// The number of the one access word of a new table, by the class of its row.
 fn first_states(alloc: Global) -> Result<HashMap<usize, usize>, NoMemory>
-    ensures { IfOk result (λ states. (q : ℕ) → get nat_eq states q ≡ cond (nat_eq 0 q) (Some 0) None) }
+    ensures { IfOk result (λ states. (q : ℕ) →
+        get nat_eq states q ≡ cond (nat_eq 0 q) (Some 0) None) }
 {
     let mut states = HashMap::new(alloc);
     states.insert(0, 0)?;

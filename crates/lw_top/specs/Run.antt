@@ -23,5 +23,6 @@ pub record IsRefused (f g : FilesState) (o p : SinkState) (e d : SinkState) (end
   pub learner : IsWithoutLearner end
   pub kept : end.kept.answers ≡ []
   pub outputs : end.outputs ≡ None
-  pub said : ¬ CountedFault e.faults d.faults → TakesAll (said_text None None [] 0 end.outcome) e.taken d.taken
+  pub said : ¬ CountedFault e.faults d.faults →
+      TakesAll (said_text None None [] 0 end.outcome) e.taken d.taken
   pub part : TakesSome (said_text None None [] 0 end.outcome) e.taken d.taken

@@ -13,7 +13,7 @@ ghost use Rattle.lw_compare.specs.CompareRun.{IsCompareRun};
 ghost use Rattle.lw_outside.specs.declared.links.StartFailure.{StartFailure as Cause};
 ghost use Rattle.lw_recheck.specs.RecheckRun.{IsRecheckRun};
 
-use crate::check_words::CheckArguments;
+use crate::arguments::check::CheckArguments;
 use crate::file_pair::FilePair;
 use lw_ask::{AskArguments, ask};
 use lw_check::check;

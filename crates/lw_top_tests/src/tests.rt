@@ -6,7 +6,7 @@ mod prior;
 mod refusals;
 mod rows;
 mod serving;
-mod trial_words;
+mod trial_arguments;
 mod trials;
 mod two_at_once;
 

@@ -62,7 +62,8 @@ fn find_child(nodes: &[Node], links: &[Link], parent: u32, outputs: &[u16]) -> O
     requires linked { AreLinked nodes.now links.now }
     requires parent { parent < length nodes.now }
     ensures { MatchOption result
-        ((n : ℕ) → IsChild (node_at nodes.now) parent n → (node_at nodes.now n).branch ≢ outputs.now)
+        ((n : ℕ) → IsChild (node_at nodes.now) parent n →
+        (node_at nodes.now n).branch ≢ outputs.now)
         (λ n. IsChild (node_at nodes.now) parent n × ((node_at nodes.now n).branch ≡ outputs.now)) }
 {
     let mut cursor = links[parent as usize].first;

@@ -40,7 +40,8 @@ impl DiscriminationTree {
             self.old.inputs m self.old.access cut.now }
         ensures was { IsTree self.old }
         ensures grown { HasGrown (answers_of cache.now.kept) self.old self.new }
-        ensures split { OnOk result (IsSplit (cut_word self.old.access cut.now) cut.now.suffix self.old
+        ensures split { OnOk result (IsSplit (cut_word self.old.access cut.now) cut.now.suffix
+            self.old
             self.new) }
         ensures refinements { self.new.refinements ≡ self.old.refinements }
         ensures err { OnErr result (self.new ≡ self.old) }

@@ -67,7 +67,8 @@ pub record IsTrialRun (v : TrialValues) (o p : SinkState) (e d : SinkState) (end
   -- the model of the machine that was drawn, with one extra state and at most 1,024 states
   pub model : IfSome end.model (HasModel v.learner v.inputs 2 1 1024 end)
   -- no output has another number since: the model is the canonical form of the carried learner's machine
-  pub read_off : IfSome end.model (λ h. (l : Learner) × (end.learner ≡ Some l) × IsReadOff v.learner v.inputs 2 1024 (answers_of end.kept.answers) h.rows l)
+  pub read_off : IfSome end.model (λ h. (l : Learner) × (end.learner ≡ Some l) ×
+      IsReadOff v.learner v.inputs 2 1024 (answers_of end.kept.answers) h.rows l)
   pub without : end.model ≡ None → IsWithoutLearner end
   pub told : (t : Tried) → end.outcome ≡ Trial t → IsTried v end t
   pub quiet : IsTrial end.outcome → (p.faults ≡ o.faults) × (d.faults ≡ e.faults)
@@ -84,12 +85,18 @@ pub record IsTrialRun (v : TrialValues) (o p : SinkState) (e d : SinkState) (end
       → IsReachedTrial v.states end.outcome
   -- a trial's text stands whole on `out`, and nothing on `err`; of any other outcome but a fault of a stream nothing is put to
   -- `out`, and its text goes to `err`, whole where that counts no fault
-  pub written : IsTrial end.outcome → TakesAll (said_text None None end.kept.answers 1 end.outcome) o.taken p.taken × (d.taken ≡ e.taken)
-  pub part : p.taken ≢ o.taken → (t : Tried) × IsTried v end t × TakesSome (said_text None None end.kept.answers 1 (Trial t)) o.taken p.taken
+  pub written : IsTrial end.outcome → TakesAll (said_text None None end.kept.answers 1 end.outcome)
+      o.taken p.taken × (d.taken ≡ e.taken)
+  pub part : p.taken ≢ o.taken → (t : Tried) × IsTried v end t ×
+      TakesSome (said_text None None end.kept.answers 1 (Trial t)) o.taken p.taken
   pub unwritten : ¬ IsTrial end.outcome → end.outcome ≢ SinkFault → p.taken ≡ o.taken
-  pub said : ¬ IsTrial end.outcome → ¬ CountedFault e.faults d.faults → TakesAll (said_text None None end.kept.answers 1 end.outcome) e.taken d.taken
-  pub said_part : ¬ IsTrial end.outcome → TakesSome (said_text None None end.kept.answers 1 end.outcome) e.taken d.taken
+  pub said : ¬ IsTrial end.outcome → ¬ CountedFault e.faults d.faults →
+      TakesAll (said_text None None end.kept.answers 1 end.outcome) e.taken d.taken
+  pub said_part : ¬ IsTrial end.outcome →
+      TakesSome (said_text None None end.kept.answers 1 end.outcome) e.taken d.taken
   -- what each refusal comes from
   pub kinds : IsTrialOutcome end.outcome
-  pub sink_fault : end.outcome ≡ SinkFault → CountedFault o.faults p.faults × ((h : MealyMachine) × (end.model ≡ Some h))
-  pub suite : (states number : ℕ) → end.outcome ≡ SuiteTooLarge states number → HasLargeSuite v.inputs 2 1 1024 (answers_of end.kept.answers) states number
+  pub sink_fault : end.outcome ≡ SinkFault → CountedFault o.faults p.faults ×
+      ((h : MealyMachine) × (end.model ≡ Some h))
+  pub suite : (states number : ℕ) → end.outcome ≡ SuiteTooLarge states number →
+      HasLargeSuite v.inputs 2 1 1024 (answers_of end.kept.answers) states number

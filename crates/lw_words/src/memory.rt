@@ -2,7 +2,7 @@
 use std::alloc::{AllocError, AllocFailed};
 use std::fmt;
 
-/// Memory was wanted and not there.
+/// Out of memory.
 #[derive(Clone, Copy, Debug, PartialEq, Eq)]
 pub struct NoMemory;
 

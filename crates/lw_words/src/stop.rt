@@ -32,7 +32,7 @@ impl SulStop {
 pub enum RunStop {
     /// The system stopped.
     Sul(SulStop),
-    /// Memory was wanted before the run began.
+    /// Out of memory before the run began.
     NoMemory,
 }
 

@@ -7,32 +7,32 @@ use Rattle.lw_words.specs.declared.kept.KeptAnswer.{KeptAnswer}
 use Rattle.lw_mealy.specs.Limits.{MealyMachine}
 use Rattle.lw_mealy.specs.Origin.{Origin}
 use Rattle.lw_sul.specs.SessionState.{SessionState}
-use Rattle.lw_sul.specs.TableState.{TableState}
+use Rattle.lw_sul.specs.TableSulState.{TableSulState}
 use Rattle.lw_desk.specs.Naming.{Naming}
 use Rattle.lw_pool.specs.Pool.{Seen, Member, PoolState, origins_of}
 use Rattle.lw_pool.specs.Opening.{MayJoin, AllMayJoin}
 use Rattle.lw_workers.specs.bodies.Instances.{AreInstances, IsPoolOf, instance_of}
 
 -- a session of a table, and what the table tells
-abbrev pub member : SessionState TableState → Member TableState
-member s = record { session = s; seen = record { instance = s.instance; journal = s.journal; names = s.sul.names; most = length s.sul.names; stop = None; origin = record { machine = Some s.sul.table.rows; link = None; letters = None }; inputs = s.sul.table.inputs; outputs = s.sul.table.outputs } }
+abbrev pub member : SessionState TableSulState → Member TableSulState
+member s = record { session = s; seen = record { instance = s.instance; journal = s.journal; names = s.sul.names; most = length s.sul.names; stop = None; origin = record { machine = Some s.sul.machine.rows; link = None; letters = None }; inputs = s.sul.machine.inputs; outputs = s.sul.machine.outputs } }
 
 -- a session that was made of a table in its first state
-made : (t : MealyMachine) (names : List (List ℕ)) (number : ℕ) (s : SessionState TableState) (table : TableState) (n : ℕ) → s ≡ record { instance = n; sul = table; journal = [] } → n ≡ number → table.table ≡ t → table.state ≡ 0 → table.names ≡ names → s ≡ instance_of t names number
+made : (t : MealyMachine) (names : List (List ℕ)) (number : ℕ) (s : SessionState TableSulState) (table : TableSulState) (n : ℕ) → s ≡ record { instance = n; sul = table; journal = [] } → n ≡ number → table.machine ≡ t → table.state ≡ 0 → table.names ≡ names → s ≡ instance_of t names number
 made t names number s table n same n_is table_is state_is names_is =
     same
-    ∙ (ap (λ (k : ℕ). let x : SessionState TableState = record { instance = k; sul = table; journal = [] } in x) n_is
-    ∙ ap (λ (u : TableState). let x : SessionState TableState = record { instance = number; sul = u; journal = [] } in x) begun)
+    ∙ (ap (λ (k : ℕ). let x : SessionState TableSulState = record { instance = k; sul = table; journal = [] } in x) n_is
+    ∙ ap (λ (u : TableSulState). let x : SessionState TableSulState = record { instance = number; sul = u; journal = [] } in x) begun)
   where
-    begun : table ≡ record { table = t; state = 0; names = names }
+    begun : table ≡ record { machine = t; state = 0; names = names }
     begun =
-        ap (λ (m : MealyMachine). let u : TableState = record { table = m; state = table.state; names = table.names } in u) table_is
-        ∙ (ap (λ (q : ℕ). let u : TableState = record { table = t; state = q; names = table.names } in u) state_is
-        ∙ ap (λ (l : List (List ℕ)). let u : TableState = record { table = t; state = 0; names = l } in u) names_is)
+        ap (λ (m : MealyMachine). let u : TableSulState = record { machine = m; state = table.state; names = table.names } in u) table_is
+        ∙ (ap (λ (q : ℕ). let u : TableSulState = record { machine = t; state = q; names = table.names } in u) state_is
+        ∙ ap (λ (l : List (List ℕ)). let u : TableSulState = record { machine = t; state = 0; names = l } in u) names_is)
 
-pub one_more_instance : (t : MealyMachine) (names : List (List ℕ)) (number : ℕ) (sessions now : List (SessionState TableState)) (s : SessionState TableState) (table : TableState) (n : ℕ) → AreInstances t names sessions → length sessions ≡ number → now ≡ sessions ++ s ∷ [] → s ≡ record { instance = n; sul = table; journal = [] } → n ≡ number → table.table ≡ t → table.state ≡ 0 → table.names ≡ names → AreInstances t names now × (length now ≡ number + 1)
+pub one_more_instance : (t : MealyMachine) (names : List (List ℕ)) (number : ℕ) (sessions now : List (SessionState TableSulState)) (s : SessionState TableSulState) (table : TableSulState) (n : ℕ) → AreInstances t names sessions → length sessions ≡ number → now ≡ sessions ++ s ∷ [] → s ≡ record { instance = n; sul = table; journal = [] } → n ≡ number → table.machine ≡ t → table.state ≡ 0 → table.names ≡ names → AreInstances t names now × (length now ≡ number + 1)
 one_more_instance t names number sessions now s table n are count pushed same n_is table_is state_is names_is =
-    (subst (AreInstances t names) (sym pushed) more, omega (arith, count, ap (λ (l : List (SessionState TableState)). length l) pushed, length_push sessions s))
+    (subst (AreInstances t names) (sym pushed) more, omega (arith, count, ap (λ (l : List (SessionState TableSulState)). length l) pushed, length_push sessions s))
   where
     more : AreInstances t names (sessions ++ s ∷ [])
     more i d lt =
@@ -44,10 +44,10 @@ one_more_instance t names number sessions now s table n are count pushed same n_
         (cases_lt i (length sessions))
 
 -- instances of a machine may make a pool over the names of its outputs
-pub instances_join : (t : MealyMachine) (names : List (List ℕ)) (naming : Naming) (inputs outputs : ℕ) (sessions : List (SessionState TableState)) → length names ≡ t.outputs → naming ≡ record { names = names; brought = None } → inputs ≡ t.inputs → outputs ≡ t.outputs → AreInstances t names sessions → AllMayJoin member naming inputs outputs sessions
+pub instances_join : (t : MealyMachine) (names : List (List ℕ)) (naming : Naming) (inputs outputs : ℕ) (sessions : List (SessionState TableSulState)) → length names ≡ t.outputs → naming ≡ record { names = names; brought = None } → inputs ≡ t.inputs → outputs ≡ t.outputs → AreInstances t names sessions → AllMayJoin member naming inputs outputs sessions
 instances_join t names naming inputs outputs sessions named same inputs_is outputs_is are i d lt =
     subst (λ (n : Naming). MayJoin n inputs outputs i (member (get_or sessions i d)).seen) (sym same)
-    (subst (λ (s : SessionState TableState). MayJoin (record { names = names; brought = None }) inputs outputs i (member s).seen) (sym (are i d lt)) (record {
+    (subst (λ (s : SessionState TableSulState). MayJoin (record { names = names; brought = None }) inputs outputs i (member s).seen) (sym (are i d lt)) (record {
       instance = refl;
       inputs_is = sym inputs_is;
       outputs_is = sym outputs_is;
@@ -58,7 +58,7 @@ instances_join t names naming inputs outputs sessions named same inputs_is outpu
     }))
 
 -- and that pool is one of the machine's instances
-pub pool_begun : (t : MealyMachine) (names : List (List ℕ)) (workers : ℕ) (naming : Naming) (prior : List KeptAnswer) (sessions : List (SessionState TableState)) (p : PoolState TableState) → AreInstances t names sessions → length sessions ≡ workers → p.members ≡ map member sessions → p.inputs ≡ t.inputs → p.outputs ≡ t.outputs → p.naming ≡ naming → p.prior ≡ prior → p.kept ≡ prior → p.stop ≡ None → IsPoolOf t workers naming prior p
+pub pool_begun : (t : MealyMachine) (names : List (List ℕ)) (workers : ℕ) (naming : Naming) (prior : List KeptAnswer) (sessions : List (SessionState TableSulState)) (p : PoolState TableSulState) → AreInstances t names sessions → length sessions ≡ workers → p.members ≡ map member sessions → p.inputs ≡ t.inputs → p.outputs ≡ t.outputs → p.naming ≡ naming → p.prior ≡ prior → p.kept ≡ prior → p.stop ≡ None → IsPoolOf t workers naming prior p
 pool_begun t names workers naming prior sessions p are count members inputs outputs naming_is prior_is kept stop = record {
   inputs = inputs;
   outputs = outputs;
@@ -66,13 +66,13 @@ pool_begun t names workers naming prior sessions p are count members inputs outp
   prior_is = prior_is;
   kept = kept;
   stop = stop;
-  sessions = ap (λ (ms : List (Member TableState)). length (seens ms)) members ∙ (length-map (map member sessions) (λ (m : Member TableState). m.seen) ∙ (length-map sessions member ∙ count));
-  machines = subst (λ (ms : List (Member TableState)). All (λ o. o.machine ≡ Some t.rows) (origins_of (seens ms))) (sym members)
+  sessions = ap (λ (ms : List (Member TableSulState)). length (seens ms)) members ∙ (length-map (map member sessions) (λ (m : Member TableSulState). m.seen) ∙ (length-map sessions member ∙ count));
+  machines = subst (λ (ms : List (Member TableSulState)). All (λ o. o.machine ≡ Some t.rows) (origins_of (seens ms))) (sym members)
       (All-map (λ (o : Origin). o.machine ≡ Some t.rows) (λ (s : Seen). s.origin) (seens (map member sessions))
-      (All-map (λ (s : Seen). s.origin.machine ≡ Some t.rows) (λ (m : Member TableState). m.seen) (map member sessions)
-      (All-map (λ (m : Member TableState). m.seen.origin.machine ≡ Some t.rows) member sessions
-      (λ i d lt. ap (λ (s : SessionState TableState). Some s.sul.table.rows) (are i d lt)))));
+      (All-map (λ (s : Seen). s.origin.machine ≡ Some t.rows) (λ (m : Member TableSulState). m.seen) (map member sessions)
+      (All-map (λ (m : Member TableSulState). m.seen.origin.machine ≡ Some t.rows) member sessions
+      (λ i d lt. ap (λ (s : SessionState TableSulState). Some s.sul.machine.rows) (are i d lt)))));
 }
   where
-    seens : List (Member TableState) → List Seen
+    seens : List (Member TableSulState) → List Seen
     seens ms = map (λ m. m.seen) ms

@@ -7,7 +7,7 @@ use std::process::Abort;
 const COUNTER: &str =
     "{\"inputs\":[\"t\"],\"outputs\":[\"0\",\"1\"],\"states\":[[[1,\"0\"]],[[2,\"0\"]],[[0,\"1\"]]]}\n";
 
-/// What stands in the file `c3`, the file that is named, the input, which calls fail, and what comes of them.
+/// What stands in the file `counter`, the file that is named, the input, which calls fail, and what comes of them.
 #[derive(Clone, Copy)]
 struct Case {
     held: &'static str,
@@ -24,7 +24,7 @@ struct Case {
 /// A child that is asked for two letters, and to end.
 const PLAIN: Case = Case {
     held: COUNTER,
-    named: "c3",
+    named: "counter",
     input: "reset\nin t\nin t\nquit\n",
     input_plan: &[],
     out_plan: &[],
@@ -109,7 +109,7 @@ struct Outside {
 }
 
 fn files(rt: &impl Abort, alloc: Global, case: &Case) -> MemoryFiles {
-    let name = String::from_str(alloc, "c3").expect(rt, "memory");
+    let name = String::from_str(alloc, "counter").expect(rt, "memory");
     let bytes = Vec::from_slice(alloc, case.held.as_bytes()).expect(rt, "memory");
     let mut held = Vec::new(alloc);
     held.push((name, bytes)).expect(rt, "memory");

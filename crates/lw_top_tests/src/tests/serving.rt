@@ -99,11 +99,11 @@ fn names(rt: &impl Abort, alloc: Global, arguments: &[&str], name: &str) -> bool
 #[test]
 fn arguments_of_serve(rt: HostRuntime) {
     let alloc = rt.alloc();
-    assert!(rt; names(&rt, alloc, &["serve", "c3"], "c3"));
-    assert!(rt; names(&rt, alloc, &["serve", "--", "--c3"], "--c3"));
+    assert!(rt; names(&rt, alloc, &["serve", "counter"], "counter"));
+    assert!(rt; names(&rt, alloc, &["serve", "--", "--counter"], "--counter"));
     assert!(rt; model(&rt, alloc, &["serve"]).is_none());
-    assert!(rt; model(&rt, alloc, &["serve", "c3", "c3"]).is_none());
-    assert!(rt; model(&rt, alloc, &["serve", "c3", "--extra", "1"]).is_none());
+    assert!(rt; model(&rt, alloc, &["serve", "counter", "counter"]).is_none());
+    assert!(rt; model(&rt, alloc, &["serve", "counter", "--extra", "1"]).is_none());
 }
 
 /// Whether the input still gives its line.

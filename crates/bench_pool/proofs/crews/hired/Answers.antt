@@ -9,7 +9,7 @@ use Rattle.lw_pool.proofs.JoinLemmas.{none_joins, one_more_joins}
 use Rattle.bench_pool.proofs.crews.hired.Goals as goal
 
 abbrev member : SessionState Paced → Member Paced
-member s = record { session = s; seen = record { instance = s.instance; journal = s.journal; names = s.sul.table.names; most = length s.sul.table.names; stop = None; origin = record { machine = Some s.sul.table.table.rows; link = None; letters = None }; inputs = s.sul.table.table.inputs; outputs = s.sul.table.table.outputs } }
+member s = record { session = s; seen = record { instance = s.instance; journal = s.journal; names = s.sul.table.names; most = length s.sul.table.names; stop = None; origin = record { machine = Some s.sul.table.machine.rows; link = None; letters = None }; inputs = s.sul.table.machine.inputs; outputs = s.sul.table.machine.outputs } }
 
 pub loop-instance-init : goal.loop-instance-init
 loop-instance-init c = record {

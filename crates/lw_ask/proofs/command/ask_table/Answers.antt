@@ -2,7 +2,7 @@ use Rattle.std.proofs.Common.{◌≡◌, ◌∙◌, Some, None, ap, refl}
 use Rattle.lw_mealy.specs.Limits.{MealyMachine}
 use Rattle.lw_report.specs.States.{sink_state}
 use Rattle.lw_sul.specs.SessionState.{SessionState}
-use Rattle.lw_sul.specs.TableState.{TableState}
+use Rattle.lw_sul.specs.TableSulState.{TableSulState}
 use Rattle.lw_ask.proofs.ChildLemmas.{as_many_names, never_stopped, put_as}
 use Rattle.lw_ask.proofs.command.ask_table.Goals as goal
 
@@ -16,13 +16,13 @@ returns-clause-asks g c =
     let s = c.new-session.result in
     let t = c.ask_session-kept.new.session in
     let asked = c.ask_session-kept.ensures in
-    let is : Some s.sul.table.rows ≡ Some m.mealy.rows = ap (λ (x : SessionState TableState). Some x.sul.table.rows) c.new-session.ensures ∙ ap (λ (x : MealyMachine). Some x.rows) c.new.ensures.table in
-    let are : t.sul.names ≡ m.outputs = as_many_names s.sul.names t.sul.names asked.grown asked.same.4 ∙ (ap (λ (x : SessionState TableState). x.sul.names) c.new-session.ensures ∙ c.new.ensures.names) in
+    let is : Some s.sul.machine.rows ≡ Some m.mealy.rows = ap (λ (x : SessionState TableSulState). Some x.sul.machine.rows) c.new-session.ensures ∙ ap (λ (x : MealyMachine). Some x.rows) c.new.ensures.machine in
+    let are : t.sul.names ≡ m.outputs = as_many_names s.sul.names t.sul.names asked.grown asked.same.4 ∙ (ap (λ (x : SessionState TableSulState). x.sul.names) c.new-session.ensures ∙ c.new.ensures.names) in
     let came = c.ask_session-kept.result.came in
     record {
       came = came;
       outcome = c.came_outcome.ensures;
       runs = t.journal;
-      put = put_as (Some s.sul.table.rows) (Some m.mealy.rows) m.inputs c.args.words.now t.sul.names m.outputs t.journal c.ask_session-kept.result.kept.answers o p came is are asked.put;
+      put = put_as (Some s.sul.machine.rows) (Some m.mealy.rows) m.inputs c.args.words.now t.sul.names m.outputs t.journal c.ask_session-kept.result.kept.answers o p came is are asked.put;
       sound = never_stopped came None refl asked.stopped;
     }

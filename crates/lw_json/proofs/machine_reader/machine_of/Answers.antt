@@ -44,7 +44,7 @@ returns-clause-ok c =
       named = record {
         inputs = c.in_ok-inputs.ensures.names;
         outputs = c.in_ok-outputs.ensures.names;
-        table = c.in_ok-mealy.ensures.machine;
+        complete = c.in_ok-mealy.ensures.machine;
         letters = c.in_ok-mealy.ensures.letters;
         answers = c.in_ok-mealy.ensures.answers;
       };

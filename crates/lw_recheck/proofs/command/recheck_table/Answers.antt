@@ -2,7 +2,7 @@ use Rattle.std.proofs.Common.{◌≡◌, ◌∙◌, ℕ, List, Some, None, ap, r
 use Rattle.lw_words.specs.declared.kept.KeptAnswer.{KeptAnswer}
 use Rattle.lw_mealy.specs.Limits.{MealyMachine}
 use Rattle.lw_sul.specs.SessionState.{SessionState}
-use Rattle.lw_sul.specs.TableState.{TableState}
+use Rattle.lw_sul.specs.TableSulState.{TableSulState}
 use Rattle.lw_ask.proofs.ChildLemmas.{as_many_names}
 use Rattle.lw_recheck.specs.Again.{HasRechecked}
 use Rattle.lw_recheck.specs.Outcomes.{came_outcome}
@@ -16,9 +16,9 @@ returns c =
     let t = c.recheck_session-asked.new.session in
     let asked = c.recheck_session-asked.ensures in
     let result = c.recheck_session-asked.result in
-    let is : Some s.sul.table.rows ≡ Some m.mealy.rows = ap (λ (x : SessionState TableState). Some x.sul.table.rows) c.new-session.ensures ∙ ap (λ (x : MealyMachine). Some x.rows) c.new.ensures.table in
-    let are : t.sul.names ≡ m.outputs = as_many_names s.sul.names t.sul.names asked.grown asked.same.3 ∙ (ap (λ (x : SessionState TableState). x.sul.names) c.new-session.ensures ∙ c.new.ensures.names) in
-    let has = rechecked_as (Some s.sul.table.rows) (Some m.mealy.rows) c.args.outputs c.args.kept.answers t.sul.names m.outputs t.journal result.names result.kept.answers result.came is are asked.has in
+    let is : Some s.sul.machine.rows ≡ Some m.mealy.rows = ap (λ (x : SessionState TableSulState). Some x.sul.machine.rows) c.new-session.ensures ∙ ap (λ (x : MealyMachine). Some x.rows) c.new.ensures.machine in
+    let are : t.sul.names ≡ m.outputs = as_many_names s.sul.names t.sul.names asked.grown asked.same.3 ∙ (ap (λ (x : SessionState TableSulState). x.sul.names) c.new-session.ensures ∙ c.new.ensures.names) in
+    let has = rechecked_as (Some s.sul.machine.rows) (Some m.mealy.rows) c.args.outputs c.args.kept.answers t.sul.names m.outputs t.journal result.names result.kept.answers result.came is are asked.has in
     record {
       came = result.came;
       outcome = c.told_of.ensures.outcome ∙ ap (λ (n : ℕ). came_outcome n result.came) c.len-count.ensures;

@@ -105,11 +105,11 @@ impl Acting {
 impl Sul for Acting {
     ghost use Rattle.std.specs.Prelude.{length, Some, None};
 
-    ghost inputs = { λ s. s.table.table.inputs };
+    ghost inputs = { λ s. s.table.machine.inputs };
 
-    ghost outputs = { λ s. s.table.table.outputs };
+    ghost outputs = { λ s. s.table.machine.outputs };
 
-    ghost origin = { λ s. record { machine = Some s.table.table.rows; link = None; letters = None } };
+    ghost origin = { λ s. record { machine = Some s.table.machine.rows; link = None; letters = None } };
 
     ghost state = { λ s. s.table.state };
 

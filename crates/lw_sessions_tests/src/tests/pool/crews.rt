@@ -74,7 +74,7 @@ impl Plan {
     fn acting(self, rt: &impl Abort, names: &Names) -> Acting
         ensures names { result.table.names ≡ names.now }
         ensures live { result.stop ≡ None }
-        ensures numbers { (result.table.table.inputs ≡ 2) × (result.table.table.outputs ≡ 2) ×
+        ensures numbers { (result.table.machine.inputs ≡ 2) × (result.table.machine.outputs ≡ 2) ×
             (length names.now ≡ 2) }
     {
         let Plan {

@@ -16,7 +16,7 @@ use std::thread::Threads;
 
 /// A system with these outputs to its two letters, and these names of them.
 fn growing(rt: &impl Abort, alloc: Global, outs: [u16; 2], list: &[&str]) -> Growing
-    ensures numbers { (result.table.table.inputs ≡ 2) × (length result.table.names ≤ 256) }
+    ensures numbers { (result.table.machine.inputs ≡ 2) × (length result.table.names ≤ 256) }
     ensures begun { (result.stop ≡ None) × (result.known ≡ 0) }
 {
     let machine = machine(rt, alloc, &[[(0, outs[0]), (0, outs[1])]]);

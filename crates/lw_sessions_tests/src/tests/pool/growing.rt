@@ -67,7 +67,7 @@ impl Growing {
 impl Sul for Growing {
     ghost use Rattle.std.specs.Prelude.{length, take, None};
 
-    ghost inputs = { λ s. s.table.table.inputs };
+    ghost inputs = { λ s. s.table.machine.inputs };
 
     ghost outputs = { λ _. 4096 };
 

@@ -72,11 +72,11 @@ impl Refusing {
 impl Sul for Refusing {
     ghost use Rattle.std.specs.Prelude.{length, Some, None};
 
-    ghost inputs = { λ s. s.table.table.inputs };
+    ghost inputs = { λ s. s.table.machine.inputs };
 
-    ghost outputs = { λ s. s.table.table.outputs };
+    ghost outputs = { λ s. s.table.machine.outputs };
 
-    ghost origin = { λ s. record { machine = Some s.table.table.rows; link = None; letters = None } };
+    ghost origin = { λ s. record { machine = Some s.table.machine.rows; link = None; letters = None } };
 
     ghost state = { λ s. s.table.state };
 
@@ -175,7 +175,7 @@ fn system(
     requires { length names.now ≡ 2 }
     ensures names { result.table.names ≡ names.now }
     ensures live { result.stop ≡ None }
-    ensures numbers { (result.table.table.inputs ≡ 1) × (result.table.table.outputs ≡ 2) }
+    ensures numbers { (result.table.machine.inputs ≡ 1) × (result.table.machine.outputs ≡ 2) }
 {
     let names = names.copy().expect(rt, "memory");
     Refusing::new(TableSul::new(machine(rt, alloc, cells), names), refused)

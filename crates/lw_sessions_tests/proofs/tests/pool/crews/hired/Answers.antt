@@ -8,7 +8,7 @@ use Rattle.lw_pool.proofs.JoinLemmas.{none_joins, one_more_joins}
 use Rattle.lw_sessions_tests.proofs.tests.pool.crews.hired.Goals as goal
 
 abbrev member : SessionState Acting → Member Acting
-member s = record { session = s; seen = record { instance = s.instance; journal = s.journal; names = s.sul.table.names; most = length s.sul.table.names; stop = s.sul.stop; origin = record { machine = Some s.sul.table.table.rows; link = None; letters = None }; inputs = s.sul.table.table.inputs; outputs = s.sul.table.table.outputs } }
+member s = record { session = s; seen = record { instance = s.instance; journal = s.journal; names = s.sul.table.names; most = length s.sul.table.names; stop = s.sul.stop; origin = record { machine = Some s.sul.table.machine.rows; link = None; letters = None }; inputs = s.sul.table.machine.inputs; outputs = s.sul.table.machine.outputs } }
 
 pub loop-plan-init : goal.loop-plan-init
 loop-plan-init g c = subst (AllMayJoin member c.args.shared.now 2 2) (sym c.new-sessions.ensures.items) (none_joins member c.args.shared.now 2 2)

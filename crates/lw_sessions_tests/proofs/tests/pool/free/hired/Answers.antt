@@ -11,7 +11,7 @@ abbrev Hired : Type 0
 Hired = SessionState Growing
 
 abbrev member : Hired → Member Growing
-member s = record { session = s; seen = record { instance = s.instance; journal = s.journal; names = take s.sul.known s.sul.table.names; most = length s.sul.table.names; stop = s.sul.stop; origin = record { machine = None; link = None; letters = None }; inputs = s.sul.table.table.inputs; outputs = 4096 } }
+member s = record { session = s; seen = record { instance = s.instance; journal = s.journal; names = take s.sul.known s.sul.table.names; most = length s.sul.table.names; stop = s.sul.stop; origin = record { machine = None; link = None; letters = None }; inputs = s.sul.table.machine.inputs; outputs = 4096 } }
 
 abbrev free : Naming
 free = record { names = []; brought = Some (replicate 16 []) }
@@ -19,7 +19,7 @@ free = record { names = []; brought = Some (replicate 16 []) }
 abbrev hired_at : ℕ → Growing → Hired
 hired_at number system = record { instance = number; sul = system; journal = [] }
 
-joins : (number : ℕ) (system : Growing) → own_names free number ≡ [] → (system.table.table.inputs ≡ 2) × (length system.table.names ≤ 256) → (system.stop ≡ None) × (system.known ≡ 0) → MayJoin free 2 4096 number (member (hired_at number system)).seen
+joins : (number : ℕ) (system : Growing) → own_names free number ≡ [] → (system.table.machine.inputs ≡ 2) × (length system.table.names ≤ 256) → (system.stop ≡ None) × (system.known ≡ 0) → MayJoin free 2 4096 number (member (hired_at number system)).seen
 joins number system none numbers begun = record {
   instance = refl;
   inputs_is = numbers.0;

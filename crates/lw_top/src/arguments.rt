@@ -1,0 +1,8 @@
+//! The arguments of each command, as its command line has them.
+pub(crate) mod ask;
+pub(crate) mod check;
+pub(crate) mod compare;
+pub(crate) mod learn;
+pub(crate) mod recheck;
+pub(crate) mod serve;
+pub(crate) mod trial;
