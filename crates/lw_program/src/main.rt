@@ -13,7 +13,7 @@ use lw_top::{run, without_arguments};
 use std::alloc::Global;
 use std::io::ErrorKind;
 use std::process::ExitCode;
-use std::{env, io};
+use std::{env, fs, io};
 
 /// The arguments of the command line after the program's own name; none where they aren't text.
 fn arguments(rt: &HostRuntime) -> io::Result<Vec<String>> {
@@ -28,8 +28,16 @@ fn arguments(rt: &HostRuntime) -> io::Result<Vec<String>> {
     Ok(arguments)
 }
 
+/// The root folder, opened: it can be neither read nor written as a file is.
+fn root_folder<R: fs::Files>(files: &R) -> Option<R::File> {
+    fs::open(files, "/").ok()
+}
+
 fn main(rt: HostRuntime) -> ExitCode {
     let alloc: Global = rt.alloc();
+    // What is opened takes the least number that is free. Where standard streams are closed the folder takes theirs, so that no
+    // file and no pipe does, and they fail as closed ones do.
+    let _streams = (root_folder(&rt), root_folder(&rt), root_folder(&rt));
     let mut out = Stream::new(rt.stdout());
     let mut err = Stream::new(rt.stderr());
     let end = match arguments(&rt) {
