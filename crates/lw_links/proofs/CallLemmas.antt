@@ -181,6 +181,30 @@ module _ (ends : List Ends) (places : List Place) (v : ListsByOwner) (is : seen 
             (λ p ne. get_or-set_other ends o p _ no_ends ne)
             lists_without)))
 
+  -- the way from the first cell of an owner's list is that list
+  module _ (o : ℕ) (exists : o < length v.lists) (a : Ends) (at : a ≡ get_or ends o a) (S : List Place) (same_places : S ≡ places) where
+    first_is : a ≡ ends_at ends o
+    first_is = let lt : o < length ends = rw owners exists in at ∙ get_or_default ends o a no_ends lt
+
+    pub list_is : way_in S a.first ≡ list_in ends places o
+    list_is =
+        let lt : o < length ends = rw owners exists in
+        ap (λ q. way_in q a.first) same_places ∙ (ap (λ (e : Ends). way_in places e.first) first_is
+        ∙ sym (get_or-map (λ (e : Ends). way_in places e.first) ends o no_ends [] lt))
+
+    pub list_way : Spells (λ x. (place_at S x).next) a.first (way_in S a.first)
+    list_way = subst (λ xs. Spells (λ x. (place_at S x).next) a.first xs) (sym list_is)
+        (subst (λ q. Spells (λ x. (place_at q x).next) a.first (list_in ends places o)) (sym same_places)
+        (subst (λ (s : Option ℕ). Spells (λ x. (place_at places x).next) s (list_in ends places o))
+        (sym (ap (λ (e : Ends). e.first) (first_is ∙ k.ends_are o)))
+        (chain_spells (place_at places) o None (list_in ends places o) (k.chain o))))
+
+    pub list_exist : (x : ℕ) → has x (way_in S a.first) ≡ true → x < length S
+    list_exist x h = subst (λ (q : List Place). x < length q) (sym same_places) (k.in_range o x (subst (λ xs. has x xs ≡ true) list_is h))
+
+    pub list_of_is : way_in S a.first ≡ list_of v o
+    list_of_is = list_is ∙ ap (λ (w : ListsByOwner). list_of w o) is
+
   -- what `move_all` asks of the vectors, and what it makes
   module _ (o t : ℕ) (two : o ≢ t) (o_exists : o < length v.lists) (t_exists : t < length v.lists)
       (a b : Ends) (a_at : a ≡ get_or ends o a) (b_at : b ≡ get_or ends t b) (S : List Place) (same_places : S ≡ places) where
@@ -190,19 +214,11 @@ module _ (ends : List Ends) (places : List Place) (v : ListsByOwner) (is : seen 
     b_is : b ≡ ends_at ends t
     b_is = let lt : t < length ends = rw owners t_exists in b_at ∙ get_or_default ends t b no_ends lt
 
-    -- the way from the first cell of an owner's list is that list
     way_is : way_in S a.first ≡ list_in ends places o
-    way_is =
-        let lt : o < length ends = rw owners o_exists in
-        ap (λ q. way_in q a.first) same_places ∙ (ap (λ (e : Ends). way_in places e.first) a_is
-        ∙ sym (get_or-map (λ (e : Ends). way_in places e.first) ends o no_ends [] lt))
+    way_is = list_is o o_exists a a_at S same_places
 
     pub move_way : Spells (λ x. (place_at S x).next) a.first (way_in S a.first)
-    move_way = subst (λ xs. Spells (λ x. (place_at S x).next) a.first xs) (sym way_is)
-        (subst (λ q. Spells (λ x. (place_at q x).next) a.first (list_in ends places o)) (sym same_places)
-        (subst (λ (s : Option ℕ). Spells (λ x. (place_at places x).next) s (list_in ends places o))
-        (sym (ap (λ (e : Ends). e.first) (a_is ∙ k.ends_are o)))
-        (chain_spells (place_at places) o None (list_in ends places o) (k.chain o))))
+    move_way = list_way o o_exists a a_at S same_places
 
     pub move_previous : (n : ℕ) → n ≡ length places → IfSome b.last (λ x. x < n)
     move_previous n len = rw (len, b_is) (last_below ends places k t)

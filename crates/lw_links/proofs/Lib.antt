@@ -4,3 +4,4 @@ pub mod LinkLemmas
 pub mod KeepLemmas
 pub mod WayLemmas
 pub mod CallLemmas
+pub mod OwnerLemmas

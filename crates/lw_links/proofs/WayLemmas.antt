@@ -1,5 +1,5 @@
 -- The way by `next`: one step on it, and what it spells.
-use Rattle.std.proofs.Common.{◌≡◌, ◌≢◌, ℕ, ◌<◌, ◌≤◌, Bool, true, false, cond, ◌||◌, List, [], ◌∷◌, length, set, Some, None, Option, refl, sym, ◌∙◌, ap, subst, inl, inr, arith, zero, suc}
+use Rattle.std.proofs.Common.{◌≡◌, ◌≢◌, ℕ, ◌<◌, ◌≤◌, Bool, true, false, cond, ◌||◌, List, [], ◌∷◌, ◌++◌, length, set, Some, None, Option, refl, sym, ◌∙◌, ap, subst, inl, inr, arith, zero, suc, append_assoc}
 use Rattle.std.specs.Option.{option_and_then}
 use Rattle.std.proofs.lemmas.Bool.{cases_eq, eq-eqb, ne_eqb, cond-true, cond-false}
 use Rattle.std.proofs.lemmas.List.{get_or-set_same, get_or-set_other}
@@ -123,3 +123,29 @@ module _ (old now : List Place) (owner c : ℕ) (start cursor : Option ℕ) (at 
 
   pub shorter_way : length (way_in old (place_at (given_now now owner c) c).next) < length (way_in old cursor)
   shorter_way = rw at (way_shorter old now owner c start len at_cell)
+
+-- on the way by `next`: what was gone over, followed by what is left, is the whole way
+pub record IsSpelling (places : List Place) (start at : Option ℕ) (cells : List ℕ) : Type 0 where
+  pub way : Spells (λ x. (place_at places x).next) at (way_in places at)
+  pub exist : (x : ℕ) → has x (way_in places at) ≡ true → x < length places
+  pub whole : cells ++ way_in places at ≡ way_in places start
+
+module _ (places : List Place) (c : ℕ) (start at : Option ℕ) (cells : List ℕ) (is : at ≡ Some c) (w : IsSpelling places start at cells) where
+  spelled : IsStep (place_at places) (length places) c
+  spelled = step_on (place_at places) (length places) c (subst (λ s. Spells (λ x. (place_at places x).next) s (way_in places s)) is w.way)
+
+  left_is : way_in places at ≡ c ∷ way_in places (place_at places c).next
+  left_is = ap (way_in places) is ∙ spelled.whole
+
+  pub spelled_exists : c < length places
+  spelled_exists = w.exist c (subst (λ xs. has c xs ≡ true) (sym left_is) (has_here c (way_in places (place_at places c).next)))
+
+  pub spelled_more : (now : List ℕ) → now ≡ cells ++ c ∷ [] → IsSpelling places start (place_at places c).next now
+  spelled_more now grown = subst (IsSpelling places start (place_at places c).next) (sym grown) (record {
+    way = spelled.rest;
+    exist = λ x h. w.exist x (subst (λ xs. has x xs ≡ true) (sym left_is) (has_behind x c _ h));
+    whole = append_assoc cells (c ∷ []) (way_in places (place_at places c).next) ∙ (ap (λ xs. cells ++ xs) (sym left_is) ∙ w.whole);
+  })
+
+  pub spelled_shorter : length (way_in places (place_at places c).next) < length (way_in places at)
+  spelled_shorter = rw left_is (omega arith)

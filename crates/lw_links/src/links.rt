@@ -1,7 +1,7 @@
 //! Many lists over one set of cells, as doubly linked places in flat vectors.
-ghost use Rattle.std.specs.Prelude.{◌≡◌, ◌≢◌, ℕ, ◌+◌, ◌<◌, ◌≤◌, List, ◌++◌, length, replicate, IsSome, IfOk, IfSome, OnOk, OnErr, vec_len, None, true};
+ghost use Rattle.std.specs.Prelude.{◌≡◌, ◌≢◌, ℕ, ◌+◌, ◌<◌, ◌≤◌, List, ◌++◌, length, replicate, IsSome, IfOk, IfSome, OnOk, OnErr, vec_len, Some, None, true, ◌==◌, if◌then◌else◌, option_map};
 ghost use Rattle.std.specs.Vec.{vec_capacity};
-ghost use Rattle.lw_links.specs.Owners.{empty_lists, grown, pushed, unlinked, moved, owner_of, first_of, next_of, HasEachOnce, Spells, has};
+ghost use Rattle.lw_links.specs.Owners.{empty_lists, grown, pushed, unlinked, moved, owner_of, first_of, next_of, list_of, HasEachOnce, Spells, has};
 ghost use Rattle.lw_links.specs.Chains.{place_at, joined, ends_without, way_in, given};
 
 use lw_words::NoMemory;
@@ -120,7 +120,9 @@ impl Lists {
         requires owner_exists { owner < length self.old.lists }
         requires cell_exists { cell < self.old.cells }
         requires in_no_list { owner_of self.old cell ≡ None }
-        ensures { self.new ≡ pushed self.old owner cell }
+        ensures value { self.new ≡ pushed self.old owner cell }
+        ensures owners { (k : ℕ) → owner_of self.new k ≡
+            (if k == cell then Some owner else owner_of self.old k) }
     {
         let ends = self.ends[owner as usize];
         self.places[cell as usize] = Place {
@@ -137,7 +139,9 @@ impl Lists {
     /// Takes a cell out of the list that it is in. Takes constant time.
     pub fn unlink(&mut self, cell: u32)
         requires { IsSome (owner_of self.old cell) }
-        ensures { self.new ≡ unlinked self.old cell }
+        ensures value { self.new ≡ unlinked self.old cell }
+        ensures owners { (k : ℕ) → owner_of self.new k ≡
+            (if k == cell then None else owner_of self.old k) }
     {
         let place = self.places[cell as usize];
         let owner = place.owner.unwrap();
@@ -154,7 +158,9 @@ impl Lists {
         requires from_exists { from < length self.old.lists }
         requires to_exists { to < length self.old.lists }
         requires apart { from ≢ to }
-        ensures { self.new ≡ moved self.old from to }
+        ensures value { self.new ≡ moved self.old from to }
+        ensures owners { (k : ℕ) → owner_of self.new k ≡
+            option_map (λ o. if o == from then to else o) (owner_of self.old k) }
     {
         let moved = self.ends[from as usize];
         let kept = self.ends[to as usize];
@@ -192,6 +198,17 @@ impl Lists {
         self.places[cell as usize].next
     }
 
+    /// The owner's list, from its first cell to its last.
+    ///
+    /// # Errors
+    /// Only where memory runs out.
+    pub fn list(&self, alloc: Global, owner: u32) -> Result<Vec<u32>, NoMemory>
+        requires { owner < length self.now.lists }
+        ensures { IfOk result (λ l. l.items ≡ list_of self.now owner) }
+    {
+        spell(alloc, &self.places, self.ends[owner as usize].first)
+    }
+
     /// Each cell stands at most once in all lists together, and is one of the cells that there are.
     /// Does nothing: a caller's proof learns it.
     pub fn has_each_once(&self)
@@ -214,6 +231,23 @@ fn join(places: &mut [Place], previous: Option<u32>, next: Option<u32>)
     if let Some(cell) = next {
         places[cell as usize].previous = previous;
     }
+}
+
+/// The cells from `first` on by `next`, in the order of the way.
+fn spell(alloc: Global, places: &[Place], first: Option<u32>) -> Result<Vec<u32>, NoMemory>
+    requires way_ends { Spells (λ cell. (place_at places.now cell).next) first
+        (way_in places.now first) }
+    requires cells_exist { (cell : ℕ) → has cell (way_in places.now first) ≡ true →
+        cell < length places.now }
+    ensures { IfOk result (λ l. l.items ≡ way_in places.now first) }
+{
+    let mut cells = Vec::new(alloc);
+    let mut at = first;
+    while let Some(cell) = at {
+        cells.push(cell)?;
+        at = places[cell as usize].next;
+    }
+    Ok(cells)
 }
 
 /// Makes an owner that of the cells from `first` on by `next`.

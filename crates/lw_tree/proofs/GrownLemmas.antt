@@ -219,21 +219,25 @@ pub sifted_none : (ks : List Answer) (t : TreeState) → IsTree t → BranchesAr
 sifted_none ks t tree read =
     record { grown = not_grown ks t tree read; keeps = keeps_same t; nodes = λ n live. refl; left = λ k le lt. refl; moved = λ k lt. absurd (omega (arith, lt)) }
 
--- after all
--- a transition that has a target stays where it is
-pub sifted_closed : (ks : List Answer) (before : TreeState) (to : ℕ) (now : TreeState) → HasSifted ks before to now → is_open (node_at now.nodes) (place_at now.places to) ≡ false → HasSifted ks before (to + 1) now
-sifted_closed ks before to now sifted closed =
+-- a transition that has not taken its step is as open as before
+pub still_open : (ks : List Answer) (before : TreeState) (to : ℕ) (now : TreeState) (k : ℕ) → IsTree before → HasSifted ks before to now → to ≤ k → k < length before.places → is_open (node_at now.nodes) (place_at now.places k) ≡ is_open (node_at before.nodes) (place_at before.places k)
+still_open ks before to now k g sifted le lt = same_open before now k (all_places before (shape_of before g) k).live sifted.nodes (sifted.left k le lt)
+
+-- transitions that have a target stay where they are
+pub sifted_past : (ks : List Answer) (before : TreeState) (to upto : ℕ) (now : TreeState) → IsTree before → HasSifted ks before to now → to ≤ upto → ((k : ℕ) → to ≤ k → k < upto → is_open (node_at before.nodes) (place_at before.places k) ≡ false) → HasSifted ks before upto now
+sifted_past ks before to upto now g sifted le closed =
     record {
       grown = sifted.grown;
       keeps = sifted.keeps;
       nodes = sifted.nodes;
-      left = λ k le lt. sifted.left k (omega (arith, le)) lt;
+      left = λ k ge lt. sifted.left k (omega (arith, ge, le)) lt;
       moved = λ k below lt. ⊎_elim
-          (λ (same : k ≡ to). λ is. absurd (true≢false (sym is ∙ (ap (λ (j : ℕ). is_open (node_at now.nodes) (place_at now.places j)) same ∙ closed))))
-          (λ (other : k ≢ to). sifted.moved k (⊎_elim (λ (lt : k < to). lt) (λ (le : to ≤ k). absurd (other (omega (arith, le, below)))) (cases_lt k to)) lt)
-          (cases_eq k to);
+          (λ (done : k < to). sifted.moved k done lt)
+          (λ (past : to ≤ k). λ is. absurd (true≢false (sym is ∙ (still_open ks before to now k g sifted past lt ∙ closed k past below))))
+          (cases_lt k to);
     }
 
+-- after all
 pub sifted_all : (ks : List Answer) (before : TreeState) (to : ℕ) (now : TreeState) → IsTree before → length before.places ≤ to → HasSifted ks before to now → HasMoved before now
 sifted_all ks before to now g past sifted =
     ⊎_elim

@@ -1,4 +1,7 @@
 mod AboveLemmas
+mod ArrivalLemmas
+mod LevelLemmas
+mod ListedLemmas
 pub mod BranchLemmas
 pub mod ClassLemmas
 mod ClearedLemmas

@@ -56,12 +56,10 @@ letters_of a (State q) words = λ k d lt. absurd (omega (arith, lt))
 letters_of a (Discriminator word temporary) words = words tt
 letters_of a Gone words = λ k d lt. absurd (omega (arith, lt))
 
--- a transition that has a target is asked nothing
-pub asked_closed : (P : List ℕ → Type 0) (t : TreeState) (to : ℕ) → AreAsked P t 0 to → is_open (node_at t.nodes) (place_at t.places to) ≡ false → AreAsked P t 0 (to + 1)
-asked_closed P t to asked closed other is ge lt stands =
+-- transitions that have a target are asked nothing
+pub asked_past : (P : List ℕ → Type 0) (t : TreeState) (to upto : ℕ) → AreAsked P t 0 to → ((k : ℕ) → to ≤ k → k < upto → is_open (node_at t.nodes) (place_at t.places k) ≡ false) → AreAsked P t 0 upto
+asked_past P t to upto asked closed other from ge lt stands =
     ⊎_elim
-    (λ (below : other.state * t.inputs + other.letter < to). asked other is ge below stands)
-    (λ (above : to ≤ other.state * t.inputs + other.letter).
-    let same : other.state * t.inputs + other.letter ≡ to = omega (arith, above, lt) in
-    absurd (true≢false (sym stands ∙ (ap (λ (k : ℕ). is_open (node_at t.nodes) (place_at t.places k)) same ∙ closed))))
+    (λ (below : other.state * t.inputs + other.letter < to). asked other from ge below stands)
+    (λ (above : to ≤ other.state * t.inputs + other.letter). absurd (true≢false (sym stands ∙ closed (other.state * t.inputs + other.letter) above lt)))
     (cases_lt (other.state * t.inputs + other.letter) to)

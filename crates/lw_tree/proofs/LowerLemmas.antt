@@ -155,7 +155,7 @@ module _ (t : TreeState) (q : ℕ) (suffix branch : List ℕ) (g : IsShaped t) (
   leaf_written = written t.leaves q new 0 (omega (arith, target, g.each_leaf))
 
   -- a node that is neither of the two is as it was
-  node_stays : (n : ℕ) → n ≢ new → n ≢ leaf → now n ≡ node n
+  pub node_stays : (n : ℕ) → n ≢ new → n ≢ leaf → now n ≡ node n
   node_stays n other also = leaf_update.others n other ∙ inner_update.others n also
 
   lower_leaves : AreLeaves (length after.access) now (leaf_at after.leaves)

@@ -1,4 +1,5 @@
 -- What the contracts of private functions cite, and no public clause.
+pub mod Arrivals
 pub mod Cuts
 pub mod Nodes
 pub mod Sprouts

@@ -8,6 +8,7 @@ ghost use Rattle.lw_cache.specs.Settling.{Keeps, MayAsk, Leaves, grown_stop};
 ghost use Rattle.lw_tree.specs.Grown.{HasGrown, KeepsDiscriminators, HasLevelled, HasClosed, TellsCrowd};
 ghost use Rattle.lw_cache.specs.declared.stops.GrowStop.TheVariants.{Crowd};
 ghost use Rattle.lw_tree.specs.Tree.{IsTree, BranchesAreRead, HasOpen, IsClosed, IsInner, IsLive, discriminator, is_open, node_at, place_at};
+ghost use Rattle.lw_tree.specs.bodies.Arrivals.{AreOpen};
 ghost use Rattle.lw_tree.specs.bodies.Steps.{IsRead, IsOwn, HasStepped};
 ghost use Rattle.lw_tree.specs.Grown.{HasMoved, MovesOn};
 ghost use Rattle.lw_tree.specs.bodies.Transitions.{IsTransition, IsAsked, AreAsked, word_of, place_by, content_by, is_open_by};
@@ -40,26 +41,20 @@ impl DiscriminationTree {
         &self.nodes.get(self.place_of(edge).node).content
     }
 
-    /// Whether the transition with this number has no target.
-    fn is_open(&self, number: usize) -> bool
-        requires number { number < length self.now.places }
-        ensures { result ≡ is_open (node_at self.now.nodes) (place_at self.now.places number) }
-    {
-        let place = self.places[number];
-        place.output.is_none() || self.nodes.get(place.node).is_inner()
-    }
-
     /// Whether some transition has no target.
     fn has_open(&self) -> bool
         ensures open { result ≡ true → HasOpen self.now }
         ensures closed { result ≡ false → IsClosed self.now }
     {
-        for number in 0..self.places.len() {
-            if self.is_open(number) {
-                return true;
-            }
-        }
-        false
+        self.arrivals.has_open()
+    }
+
+    /// The transitions that have no target, by state and then by letter.
+    fn open_numbers(&self) -> Result<Vec<u32>, NoMemory>
+        ensures numbers { IfOk result (λ numbers. AreOpen self.now numbers.items) }
+        ensures tree { IsTree self.now }
+    {
+        self.arrivals.open_numbers(self.alloc)
     }
 
     /// The access word of a state, followed by a letter.
@@ -93,18 +88,17 @@ impl DiscriminationTree {
     }
 
     /// The words by which the open transitions are asked, by state and then by letter.
-    fn open_words(&self) -> Result<Words, NoMemory>
+    fn open_words(&self, numbers: &[u32]) -> Result<Words, NoMemory>
+        requires numbers { AreOpen self.now numbers.now }
         ensures asked { IfOk result (λ words. AreAsked (Contains words) self.now 0
             (length self.now.places)) }
         ensures letters { IfOk result (All (IsWord self.now.inputs)) }
         ensures small { IfOk result (λ words. length words < 2 ^ 32) }
-        ensures tree { IsTree self.now }
     {
         let mut words = Words::new(self.alloc);
-        for number in 0..self.places.len() {
-            if self.is_open(number) {
-                self.add_words(&mut words, Edge::with_number(self.inputs, number))?;
-            }
+        for number in numbers {
+            let edge = Edge::with_number(self.inputs, *number as usize);
+            self.add_words(&mut words, edge)?;
         }
         if words.len() > u32::MAX as usize {
             return Err(NoMemory);
@@ -188,7 +182,8 @@ impl DiscriminationTree {
     }
 
     /// Lets all transitions that have no target take their step.
-    fn advance_all(&mut self, cache: &Cache) -> Result<(), GrowStop>
+    fn advance_all(&mut self, cache: &Cache, numbers: &[u32]) -> Result<(), GrowStop>
+        requires numbers { AreOpen self.old numbers.now }
         requires answers { AreAnswers self.old.inputs (answers_of cache.now.kept) }
         requires outs { All (λ k. IsWord self.old.outputs k.outs) (answers_of cache.now.kept) }
         requires read { BranchesAreRead (answers_of cache.now.kept) self.old }
@@ -200,10 +195,10 @@ impl DiscriminationTree {
         ensures crowd { TellsCrowd (answers_of cache.now.kept) self.new result }
         ensures own { IfErr result IsOwn }
     {
-        for number in 0..self.places.len() {
-            if self.is_open(number) {
-                self.advance(cache, Edge::with_number(self.inputs, number))?;
-            }
+        // The tree tells that it is one.
+        let _ = &self.access;
+        for number in numbers {
+            self.advance(cache, Edge::with_number(self.inputs, *number as usize))?;
         }
         Ok(())
     }
@@ -221,9 +216,10 @@ impl DiscriminationTree {
         ensures leaves { Leaves (O.state oracle.old) (O.state oracle.new) (grown_stop result) }
         ensures can { O.can_settle oracle.new }
     {
-        let batch = self.open_words()?;
+        let numbers = self.open_numbers()?;
+        let batch = self.open_words(&numbers)?;
         oracle.settle(batch.as_slice())?;
-        self.advance_all(oracle.cache())?;
+        self.advance_all(oracle.cache(), &numbers)?;
         Ok(self.has_open())
     }
 

@@ -1,6 +1,7 @@
 //! The spanning tree and the discrimination tree of a learner: which word reaches a state, and which state a word reaches.
 #![tactic(auto)]
 
+mod arrivals;
 mod blocks;
 mod laws;
 mod levels;

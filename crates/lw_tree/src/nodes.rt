@@ -1,6 +1,6 @@
 //! The nodes of a discrimination tree.
 ghost use Rattle.std.specs.Prelude.{◌≡◌};
-ghost use Rattle.lw_tree.specs.Tree.{is_inner, is_temporary};
+ghost use Rattle.lw_tree.specs.Tree.{is_temporary};
 
 use lw_words::Word;
 
@@ -24,16 +24,6 @@ pub struct Node {
 }
 
 impl Node {
-    /// Whether it has a discriminator.
-    pub(crate) fn is_inner(&self) -> bool
-        ensures { result ≡ is_inner self.now.content }
-    {
-        match &self.content {
-            Content::Discriminator { .. } => true,
-            _ => false,
-        }
-    }
-
     /// Whether it has a discriminator that a settling has yet to replace.
     pub(crate) fn is_temporary(&self) -> bool
         ensures { result ≡ is_temporary self.now.content }

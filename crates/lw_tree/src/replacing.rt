@@ -6,6 +6,7 @@ ghost use Rattle.lw_tree.specs.Tree.{BranchesAreRead, place_at};
 ghost use Rattle.lw_tree.specs.bodies.Sprouts.{lifted_place, edge_number, AreEdgePlaces};
 
 use crate::DiscriminationTree;
+use crate::arrivals::Arrivals;
 use crate::sprouts::lift;
 use crate::transitions::{Edge, Place};
 use lw_cache::Cache;
@@ -75,10 +76,13 @@ impl DiscriminationTree {
         let sprout = self.sprout(cache, root, &word, &below)?;
         let mut places = lifted_places(self.alloc, &self.places, root, &below)?;
         place_edges(&mut places, self.inputs, &self.spanning, &sprout.leaves);
+        let mut arrivals = Arrivals::new(self.alloc, self.most, self.inputs)?;
         self.nodes.reserve(sprout.nodes.len())?;
         self.nodes.replace(root, word, &below, sprout.nodes);
+        arrivals.fill(&self.nodes, &places);
         self.leaves = sprout.leaves;
         self.places = places;
+        self.arrivals = arrivals;
         Ok(())
     }
 }

@@ -55,10 +55,12 @@ impl DiscriminationTree {
         ensures value { self.new ≡ with_place self.old edge output node }
         ensures tree { IsTree self.new }
     {
-        self.places[edge.number(self.inputs)] = Place {
+        let number = edge.number(self.inputs);
+        self.places[number] = Place {
             output: Some(output),
             node,
         };
+        self.arrivals.arrive(number, &self.nodes.get(node).content);
     }
 
     /// Adds the state that a transition leads to, as a leaf below the inner node where it stands.
@@ -100,6 +102,8 @@ impl DiscriminationTree {
             output: Some(output),
             node: node as u32,
         };
+        let first = self.places.len();
+        self.arrivals.push_state(number, state, first, letters);
         push_places(&mut self.places, letters);
         Ok(())
     }
@@ -162,18 +166,21 @@ impl DiscriminationTree {
         self.nodes.split_leaf(leaf, suffix, old, target, new, count);
         self.leaves[state] = node as u32;
         self.leaves.push_reserved(node as u32 + 1);
-        move_edge(
-            &mut self.places,
-            self.inputs,
-            self.spanning[state],
-            state,
-            node as u32,
-        );
+        let reached = self.spanning[state];
+        move_edge(&mut self.places, self.inputs, reached, state, node as u32);
         self.places[number] = Place {
             output: self.places[number].output,
             node: node as u32 + 1,
         };
         self.spanning.push_reserved(edge);
+        self.arrivals.push_split(
+            target,
+            reached.number(self.inputs),
+            number,
+            count,
+            self.places.len(),
+            letters,
+        );
         push_places(&mut self.places, letters);
         Ok(())
     }

@@ -1,7 +1,9 @@
 //! The tree.
 ghost use Rattle.std.specs.Prelude.{◌≡◌, ℕ, ◌<◌, ◌≤◌, List, [], ◌∷◌, length, IfOk};
 ghost use Rattle.lw_tree.specs.Tree.{discriminators, temporaries, IsTree, new_tree};
+ghost use Rattle.lw_tree.specs.bodies.Arrivals.{AreNewArrivals};
 
+use crate::arrivals::Arrivals;
 use crate::linked::Nodes;
 use crate::nodes::Content;
 use crate::transitions::{Edge, Place, UNASKED};
@@ -25,6 +27,8 @@ pub struct DiscriminationTree {
     pub(crate) leaves: Vec<u32>,
     /// The place of each transition, by state and then by letter.
     pub(crate) places: Vec<Place>,
+    /// The transitions by their targets: those that have none are found without a look at the others.
+    pub(crate) arrivals: Arrivals,
     /// How each state but 0 was reached.
     pub(crate) spanning: Vec<Edge>,
     pub(crate) refinements: u32,
@@ -32,7 +36,8 @@ pub struct DiscriminationTree {
 }
 
 impl Model for DiscriminationTree {
-    ghost use Rattle.lw_tree.specs.Tree.{TreeState, IsTree};
+    ghost use Rattle.lw_tree.specs.Tree.{TreeState};
+    ghost use Rattle.lw_tree.specs.bodies.Arrivals.{IsListedTree};
     ghost use Rattle.lw_tree.specs.bodies.Nodes.{tree_of};
 
     ghost Value = { TreeState };
@@ -40,8 +45,8 @@ impl Model for DiscriminationTree {
     ghost view = { λ t. tree_of t.inputs t.outputs t.most t.access t.nodes.items t.leaves.items
         t.places.items t.spanning.items t.refinements };
 
-    ghost invariant = { λ t. IsTree (tree_of t.inputs t.outputs t.most t.access t.nodes.items
-        t.leaves.items t.places.items t.spanning.items t.refinements) };
+    ghost invariant = { λ t. IsListedTree (tree_of t.inputs t.outputs t.most t.access
+        t.nodes.items t.leaves.items t.places.items t.spanning.items t.refinements) t.arrivals };
 }
 
 /// The list of the empty word alone.
@@ -51,6 +56,16 @@ fn the_empty_word(alloc: Global) -> Result<Words, NoMemory>
     let mut words = Words::new(alloc);
     words.push(Word::new(alloc))?;
     Ok(words)
+}
+
+/// Lists for so many states, with the transitions of one, which have no target.
+fn new_arrivals(alloc: Global, states: u16, letters: u16) -> Result<Arrivals, NoMemory>
+    requires some { 1 ≤ states }
+    ensures { IfOk result (λ a. AreNewArrivals a states letters) }
+{
+    let mut arrivals = Arrivals::new(alloc, states, letters)?;
+    arrivals.add(0, usize::from(letters));
+    Ok(arrivals)
 }
 
 impl DiscriminationTree {
@@ -75,6 +90,7 @@ impl DiscriminationTree {
             nodes: Nodes::of_root(alloc)?,
             leaves: vec![in alloc; 0; 1]?,
             places: vec![in alloc; UNASKED; usize::from(inputs)]?,
+            arrivals: new_arrivals(alloc, max_states, inputs)?,
             spanning: vec![in alloc; Edge {
                 state: 0,
                 letter: 0

@@ -1,6 +1,9 @@
-use Rattle.std.proofs.Common.{length, arith}
+use Rattle.std.proofs.Common.{◌≡◌, length, arith, sym, subst, ◌==◌, if◌then◌else◌, option_map}
 use Rattle.std.proofs.lemmas.List.{take_at}
 use Rattle.lw_links.proofs.CallLemmas.{move_way, move_previous, move_next, move_made}
+use Rattle.lw_links.specs.Owners.{ListsByOwner, owner_of}
+use Rattle.lw_links.proofs.KeepLemmas.{read_each_once}
+use Rattle.lw_links.proofs.OwnerLemmas.{move_owner}
 use Rattle.lw_links.proofs.links.Lists.move_all.Goals as goal
 
 pub give-requires-clause-way_ends : goal.give-requires-clause-way_ends
@@ -27,9 +30,19 @@ invariant_of-self c =
     c.give.new.places _ c.join.new.places c.or.result c.or-2.result
     (take_at c.join.new.places _ c.self.inside.places.len (omega arith)) (omega arith) c.give.ensures c.join.ensures c.or.ensures c.or-2.ensures).invariant
 
-pub returns : goal.returns
-returns c =
+pub returns-clause-value : goal.returns-clause-value
+returns-clause-value c =
     (move_made c.self.inside.ends.items c.self.inside.places.items c.args.self.now c.self.view_is c.self.invariant c.args.from c.args.to c.requires.apart c.requires.from_exists c.requires.to_exists
     c.index-moved.result.now c.index-kept.result.now c.index-moved.ensures c.index-kept.ensures c.as_mut_slice-places.result.now c.as_mut_slice-places.ensures.value
     c.give.new.places _ c.join.new.places c.or.result c.or-2.result
     (take_at c.join.new.places _ c.self.inside.places.len (omega arith)) (omega arith) c.give.ensures c.join.ensures c.or.ensures c.or-2.ensures).view
+
+pub returns-clause-owners : goal.returns-clause-owners
+returns-clause-owners c k =
+    let now =
+    (move_made c.self.inside.ends.items c.self.inside.places.items c.args.self.now c.self.view_is c.self.invariant c.args.from c.args.to c.requires.apart c.requires.from_exists c.requires.to_exists
+    c.index-moved.result.now c.index-kept.result.now c.index-moved.ensures c.index-kept.ensures c.as_mut_slice-places.result.now c.as_mut_slice-places.ensures.value
+    c.give.new.places _ c.join.new.places c.or.result c.or-2.result
+    (take_at c.join.new.places _ c.self.inside.places.len (omega arith)) (omega arith) c.give.ensures c.join.ensures c.or.ensures c.or-2.ensures) in
+    subst (λ (w : ListsByOwner). owner_of w k ≡ option_map (λ o. if o == c.args.from then c.args.to else o) (owner_of c.args.self.now k)) (sym now.view)
+    (move_owner c.args.self.now c.args.from c.args.to (read_each_once _ _ _ c.self.view_is c.self.invariant) (read_each_once _ _ _ now.view now.invariant) c.requires.apart c.requires.from_exists c.requires.to_exists k)

@@ -15,15 +15,15 @@ use Rattle.lw_tree.proofs.tree.DiscriminationTree.advance.Goals as goal
 
 pub returns-in_err-word-clause-stepped : goal.returns-in_err-word-clause-stepped
 returns-in_err-word-clause-stepped c =
-    not_stepped (answers_of c.args.cache.now.kept) c.args.self.now c.args.edge (subst (λ (v : TreeState). IsTree v) c.self.view_is c.self.invariant) c.requires.read
+    not_stepped (answers_of c.args.cache.now.kept) c.args.self.now c.args.edge (subst (λ (v : TreeState). IsTree v) c.self.view_is c.self.invariant.tree) c.requires.read
 
 pub returns-in_err-output-clause-stepped : goal.returns-in_err-output-clause-stepped
 returns-in_err-output-clause-stepped c =
-    not_stepped (answers_of c.args.cache.now.kept) c.args.self.now c.args.edge (subst (λ (v : TreeState). IsTree v) c.self.view_is c.self.invariant) c.requires.read
+    not_stepped (answers_of c.args.cache.now.kept) c.args.self.now c.args.edge (subst (λ (v : TreeState). IsTree v) c.self.view_is c.self.invariant.tree) c.requires.read
 
 pub returns-in_err-branch-clause-stepped : goal.returns-in_err-branch-clause-stepped
 returns-in_err-branch-clause-stepped c =
-    not_stepped (answers_of c.args.cache.now.kept) c.args.self.now c.args.edge (subst (λ (v : TreeState). IsTree v) c.self.view_is c.self.invariant) c.requires.read
+    not_stepped (answers_of c.args.cache.now.kept) c.args.self.now c.args.edge (subst (λ (v : TreeState). IsTree v) c.self.view_is c.self.invariant.tree) c.requires.read
 
 pub place-requires : goal.place-requires
 place-requires c =

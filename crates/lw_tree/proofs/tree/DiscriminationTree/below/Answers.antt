@@ -9,7 +9,7 @@ use Rattle.lw_tree.proofs.tree.DiscriminationTree.below.Goals as goal
 pub loop-number-preserved : goal.loop-number-preserved
 loop-number-preserved c =
     let u : TreeState = c.args.self.now in
-    let g : IsTree u = subst (λ (v : TreeState). IsTree v) c.self.view_is c.self.invariant in
+    let g : IsTree u = subst (λ (v : TreeState). IsTree v) c.self.view_is c.self.invariant.tree in
     let l = c.loop-number in
     let marks = l.below.items in
     let mark = c.is_next_below-is_below.result in

@@ -13,7 +13,7 @@ loop-init g c =
     let o = g.O.Oracle.state c.args.oracle.now in
     let u : TreeState = c.args.self.now in
     record {
-      grown = not_grown (answers_of o.kept) u (subst (λ (v : TreeState). IsTree v) c.self.view_is c.self.invariant) c.requires.read;
+      grown = not_grown (answers_of o.kept) u (subst (λ (v : TreeState). IsTree v) c.self.view_is c.self.invariant.tree) c.requires.read;
       keeps = keeps_same u;
       leaves = leaves_nothing o c.cache.ensures.keeps c.requires.may;
       can = c.requires.can;
@@ -79,7 +79,7 @@ returns-then-not-has_open g c =
     let u : TreeState = c.args.self.now in
     let ks = answers_of o.kept in
     record {
-      closes = has_closed ks u u (not_grown ks u (subst (λ (v : TreeState). IsTree v) c.self.view_is c.self.invariant) c.requires.read) (keeps_same u) (c.has_open.ensures.closed (search rules));
+      closes = has_closed ks u u (not_grown ks u (subst (λ (v : TreeState). IsTree v) c.self.view_is c.self.invariant.tree) c.requires.read) (keeps_same u) (c.has_open.ensures.closed (search rules));
       unasked = λ is. refl;
       leaves = leaves_nothing o c.cache.ensures.keeps c.requires.may;
       can = c.requires.can;

@@ -14,7 +14,7 @@ get-requires c =
 pub returns : goal.returns
 returns c =
     let u : TreeState = c.args.self.now in
-    let g : IsTree u = subst (λ (v : TreeState). IsTree v) c.self.view_is c.self.invariant in
+    let g : IsTree u = subst (λ (v : TreeState). IsTree v) c.self.view_is c.self.invariant.tree in
     let node : c.get.result.now ≡ node_at u.nodes c.place_of.result.node = subst (λ (v : TreeState). c.get.result.now ≡ node_at v.nodes c.place_of.result.node) c.self.view_is c.get.ensures in
     record {
       value = ap (λ (m : Node). m.content) node ∙ ap (λ (p : Place). (node_at u.nodes p.node).content) c.place_of.ensures.value;

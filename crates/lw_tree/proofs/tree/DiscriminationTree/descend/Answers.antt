@@ -28,7 +28,7 @@ pub place-requires : goal.place-requires
 place-requires c =
     let u : TreeState = c.args.self.now in
     let edge = c.args.edge in
-    let g : IsTree u = subst (λ (v : TreeState). IsTree v) c.self.view_is c.self.invariant in
+    let g : IsTree u = subst (λ (v : TreeState). IsTree v) c.self.view_is c.self.invariant.tree in
     let n : ℕ = c.in-Some.child in
     let here : IsChild (node_at c.self.inside.nodes.items) c.place_of-node.result.node n × ((node_at c.self.inside.nodes.items n).branch ≡ c.args.branch) = search (rules, c.in-Some.ensures) in
     let is = child_at _ u edge c.place_of-node.result c.args.branch c.self.view_is c.place_of-node.ensures.value n here in
@@ -43,7 +43,7 @@ pub returns-in-Some : goal.returns-in-Some
 returns-in-Some c =
     let u : TreeState = c.args.self.now in
     let edge = c.args.edge in
-    let g : IsTree u = subst (λ (v : TreeState). IsTree v) c.self.view_is c.self.invariant in
+    let g : IsTree u = subst (λ (v : TreeState). IsTree v) c.self.view_is c.self.invariant.tree in
     let n : ℕ = c.in-Some.child in
     let here : IsChild (node_at c.self.inside.nodes.items) c.place_of-node.result.node n × ((node_at c.self.inside.nodes.items n).branch ≡ c.args.branch) = search (rules, c.in-Some.ensures) in
     let is = child_at _ u edge c.place_of-node.result c.args.branch c.self.view_is c.place_of-node.ensures.value n here in
@@ -61,7 +61,7 @@ pub returns-then-len-from : goal.returns-then-len-from
 returns-then-len-from c =
     let u : TreeState = c.args.self.now in
     let edge = c.args.edge in
-    let g : IsTree u = subst (λ (v : TreeState). IsTree v) c.self.view_is c.self.invariant in
+    let g : IsTree u = subst (λ (v : TreeState). IsTree v) c.self.view_is c.self.invariant.tree in
     let outputs : c.as_slice.result.now ≡ c.args.branch = search rules in
     let here : (n : ℕ) → IsChild (node_at c.self.inside.nodes.items) c.place_of-node.result.node n → (node_at c.self.inside.nodes.items n).branch ≢ c.args.branch = subst (λ (b : List ℕ). (n : ℕ) → IsChild (node_at c.self.inside.nodes.items) c.place_of-node.result.node n → (node_at c.self.inside.nodes.items n).branch ≢ b) outputs c.in_default.ensures in
     let next : IsNextState u edge c.args.output c.args.branch = record { from = c.requires.edge; inner = c.requires.inner; below = c.requires.output; size = c.requires.size; new = no_child_at _ u edge c.place_of-node.result c.args.branch c.self.view_is c.place_of-node.ensures.value here } in
@@ -84,13 +84,13 @@ push_state-requires-clause-next c =
 
 pub returns-in_err-push_state-clause-stepped : goal.returns-in_err-push_state-clause-stepped
 returns-in_err-push_state-clause-stepped c ks read =
-    subst (HasStepped ks c.args.self.now c.args.edge) (sym c.in_err-push_state.ensures.err) (not_stepped ks c.args.self.now c.args.edge (subst (λ (v : TreeState). IsTree v) c.self.view_is c.self.invariant) read.branches)
+    subst (HasStepped ks c.args.self.now c.args.edge) (sym c.in_err-push_state.ensures.err) (not_stepped ks c.args.self.now c.args.edge (subst (λ (v : TreeState). IsTree v) c.self.view_is c.self.invariant.tree) read.branches)
 
 pub returns : goal.returns
 returns c =
     let u : TreeState = c.args.self.now in
     let edge = c.args.edge in
-    let g : IsTree u = subst (λ (v : TreeState). IsTree v) c.self.view_is c.self.invariant in
+    let g : IsTree u = subst (λ (v : TreeState). IsTree v) c.self.view_is c.self.invariant.tree in
     let outputs : c.as_slice.result.now ≡ c.args.branch = search rules in
     let here : (n : ℕ) → IsChild (node_at c.self.inside.nodes.items) c.place_of-node.result.node n → (node_at c.self.inside.nodes.items n).branch ≢ c.args.branch = subst (λ (b : List ℕ). (n : ℕ) → IsChild (node_at c.self.inside.nodes.items) c.place_of-node.result.node n → (node_at c.self.inside.nodes.items n).branch ≢ b) outputs c.in_default.ensures in
     let next : IsNextState u edge c.args.output c.args.branch = record { from = c.requires.edge; inner = c.requires.inner; below = c.requires.output; size = c.requires.size; new = no_child_at _ u edge c.place_of-node.result c.args.branch c.self.view_is c.place_of-node.ensures.value here } in

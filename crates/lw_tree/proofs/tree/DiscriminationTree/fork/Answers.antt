@@ -10,7 +10,7 @@ pub loop-here-preserved-then-here-there : goal.loop-here-preserved-then-here-the
 loop-here-preserved-then-here-there c =
     let s = c.self.inside in
     let node : ℕ → Node = node_at s.nodes.items in
-    let g : AreBranched s.inputs node = joined s.inputs node c.self.invariant.nodes in
+    let g : AreBranched s.inputs node = joined s.inputs node c.self.invariant.tree.nodes in
     let l = c.loop-here in
     let other_live : IsLive (node c.args.other).content = subst (λ (u : TreeState). IsLive (node_at u.nodes c.args.other).content) (sym c.self.view_is) c.requires.other in
     let live : IsLive (node c.args.one).content = subst (λ (u : TreeState). IsLive (node_at u.nodes c.args.one).content) (sym c.self.view_is) c.requires.one in
@@ -21,7 +21,7 @@ pub loop-here-preserved : goal.loop-here-preserved
 loop-here-preserved c =
     let s = c.self.inside in
     let node : ℕ → Node = node_at s.nodes.items in
-    let g : AreBranched s.inputs node = joined s.inputs node c.self.invariant.nodes in
+    let g : AreBranched s.inputs node = joined s.inputs node c.self.invariant.tree.nodes in
     let l = c.loop-here in
     let live : IsLive (node c.args.one).content = subst (λ (u : TreeState). IsLive (node_at u.nodes c.args.one).content) (sym c.self.view_is) c.requires.one in
     let other_live : IsLive (node c.args.other).content = subst (λ (u : TreeState). IsLive (node_at u.nodes c.args.other).content) (sym c.self.view_is) c.requires.other in

@@ -27,7 +27,7 @@ machine_of-requires c =
     let done : l.state ≡ length s.access = search rules in
     let t : TreeState = tree_of s.inputs s.outputs s.most s.access s.nodes.items s.leaves.items s.places.items s.spanning.items s.refinements in
     let all : AreStates t (length t.access) rows = subst (λ (n : ℕ). AreStates t n rows) done (subst (λ (v : TreeState). AreStates v l.state rows) (sym c.self.view_is) l.invariant) in
-    within_limits t rows c.self.invariant all
+    within_limits t rows c.self.invariant.tree all
 
 pub returns : goal.returns
 returns c =
@@ -36,7 +36,7 @@ returns c =
     let rows = map (λ r. r.items) l.rows.items in
     let done : l.state ≡ length s.access = search rules in
     let u : TreeState = c.args.self.now in
-    let g : IsTree u = subst (λ (v : TreeState). IsTree v) c.self.view_is c.self.invariant in
+    let g : IsTree u = subst (λ (v : TreeState). IsTree v) c.self.view_is c.self.invariant.tree in
     let count : l.state ≡ length u.access = done ∙ ap (λ (v : TreeState). length v.access) c.self.view_is in
     let all : AreStates u (length u.access) rows = subst (λ (n : ℕ). AreStates u n rows) count l.invariant in
     let made = mealy_of s.inputs s.outputs rows in

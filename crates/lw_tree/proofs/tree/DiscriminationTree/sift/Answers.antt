@@ -15,22 +15,32 @@ use Rattle.lw_tree.proofs.CloseLemmas.{stopped_level, not_levelled}
 use Rattle.lw_tree.proofs.StepLemmas.{kept_words, leaves_after}
 use Rattle.lw_tree.proofs.tree.DiscriminationTree.sift.Goals as goal
 
+pub returns-in_err-numbers-clause-levels : goal.returns-in_err-numbers-clause-levels
+returns-in_err-numbers-clause-levels g c =
+    let ks = answers_of (g.O.Oracle.state c.args.oracle.now).kept in
+    stopped_level ks c.args.self.now NoMemory c.from_residual.result c.open_numbers.ensures.tree c.requires.read (search rules)
+
+pub returns-in_err-numbers-clause-leaves : goal.returns-in_err-numbers-clause-leaves
+returns-in_err-numbers-clause-leaves g c =
+    let state = g.O.Oracle.state c.args.oracle.now in
+    leaves_grown_own state state c.from_residual.result (leaves_nothing state c.requires.keeps c.requires.may) (search rules)
+
 pub returns-in_err-batch-clause-levels : goal.returns-in_err-batch-clause-levels
 returns-in_err-batch-clause-levels g c =
     let ks = answers_of (g.O.Oracle.state c.args.oracle.now).kept in
-    stopped_level ks c.args.self.now NoMemory c.from_residual.result c.open_words.ensures.tree c.requires.read (search rules)
+    stopped_level ks c.args.self.now NoMemory c.from_residual-in_err-batch.result c.open_numbers.ensures.tree c.requires.read (search rules)
 
 pub returns-in_err-batch-clause-leaves : goal.returns-in_err-batch-clause-leaves
 returns-in_err-batch-clause-leaves g c =
     let state = g.O.Oracle.state c.args.oracle.now in
-    leaves_grown_own state state c.from_residual.result (leaves_nothing state c.requires.keeps c.requires.may) (search rules)
+    leaves_grown_own state state c.from_residual-in_err-batch.result (leaves_nothing state c.requires.keeps c.requires.may) (search rules)
 
 pub returns-in_err-settle-clause-levels : goal.returns-in_err-settle-clause-levels
 returns-in_err-settle-clause-levels g c =
     let o = g.O.Oracle.state c.args.oracle.now in
     let n = g.O.Oracle.state c.settle.new.self in
     let settles = c.in_err-settle.ensures.settles in
-    stopped_level (answers_of n.kept) c.args.self.now c.in_err-settle.field-0.0 c.from_residual-in_err-settle.result c.open_words.ensures.tree
+    stopped_level (answers_of n.kept) c.args.self.now c.in_err-settle.field-0.0 c.from_residual-in_err-settle.result c.open_numbers.ensures.tree
     (branches_more o.kept settles.gains.gained n.kept c.args.self.now settles.gains.at_end c.requires.read) (search rules)
 
 pub advance_all-requires-clause-answers : goal.advance_all-requires-clause-answers

@@ -14,19 +14,19 @@ use Rattle.lw_tree.proofs.tree.DiscriminationTree.split_leaf.Goals as goal
 
 pub returns-in_err-word-clause-grown : goal.returns-in_err-word-clause-grown
 returns-in_err-word-clause-grown c =
-    not_grown (answers_of c.args.cache.now.kept) c.args.self.now (subst (λ (v : TreeState). IsTree v) c.self.view_is c.self.invariant) c.requires.read
+    not_grown (answers_of c.args.cache.now.kept) c.args.self.now (subst (λ (v : TreeState). IsTree v) c.self.view_is c.self.invariant.tree) c.requires.read
 
 pub returns-in_err-old-clause-grown : goal.returns-in_err-old-clause-grown
 returns-in_err-old-clause-grown c =
-    not_grown (answers_of c.args.cache.now.kept) c.args.self.now (subst (λ (v : TreeState). IsTree v) c.self.view_is c.self.invariant) c.requires.read
+    not_grown (answers_of c.args.cache.now.kept) c.args.self.now (subst (λ (v : TreeState). IsTree v) c.self.view_is c.self.invariant.tree) c.requires.read
 
 pub returns-then-len-from-clause-grown : goal.returns-then-len-from-clause-grown
 returns-then-len-from-clause-grown c =
-    not_grown (answers_of c.args.cache.now.kept) c.args.self.now (subst (λ (v : TreeState). IsTree v) c.self.view_is c.self.invariant) c.requires.read
+    not_grown (answers_of c.args.cache.now.kept) c.args.self.now (subst (λ (v : TreeState). IsTree v) c.self.view_is c.self.invariant.tree) c.requires.read
 
 pub returns-in_err-suffix-clause-grown : goal.returns-in_err-suffix-clause-grown
 returns-in_err-suffix-clause-grown c =
-    not_grown (answers_of c.args.cache.now.kept) c.args.self.now (subst (λ (v : TreeState). IsTree v) c.self.view_is c.self.invariant) c.requires.read
+    not_grown (answers_of c.args.cache.now.kept) c.args.self.now (subst (λ (v : TreeState). IsTree v) c.self.view_is c.self.invariant.tree) c.requires.read
 
 pub returns-then-len-from-clause-crowd : goal.returns-then-len-from-clause-crowd
 returns-then-len-from-clause-crowd c =
@@ -35,7 +35,7 @@ returns-then-len-from-clause-crowd c =
     let ks = answers_of c.args.cache.now.kept in
     let edge : Edge = edge_of cut in
     let can = c.in_ok-old.ensures in
-    let g : IsTree u = subst (λ (v : TreeState). IsTree v) c.self.view_is c.self.invariant in
+    let g : IsTree u = subst (λ (v : TreeState). IsTree v) c.self.view_is c.self.invariant.tree in
     let many : length u.access ≡ u.most = subst (λ (v : TreeState). length v.access ≡ v.most) c.self.view_is (search rules) in
     let apart = split_crowd ks u edge can.output cut.target cut.suffix c.in_ok-old.old c.in_ok-old.new (shape_of u g) can.next c.requires.read can.old_told can.new_told in
     own_crowd ks u c.crowd.result (λ words is. crowd_of ks u edge words can.next.from many apart (c.crowd.ensures.words words is ∙ ap (λ (w : List ℕ). u.access ++ w ∷ []) c.in_ok-word.ensures.value))
@@ -52,7 +52,7 @@ push_split-requires-clause-next c =
 pub returns-in_err-push_split-clause-grown : goal.returns-in_err-push_split-clause-grown
 returns-in_err-push_split-clause-grown c =
     let ks = answers_of c.args.cache.now.kept in
-    subst (HasGrown ks c.args.self.now) (sym c.in_err-push_split.ensures.err) (not_grown ks c.args.self.now (subst (λ (v : TreeState). IsTree v) c.self.view_is c.self.invariant) c.requires.read)
+    subst (HasGrown ks c.args.self.now) (sym c.in_err-push_split.ensures.err) (not_grown ks c.args.self.now (subst (λ (v : TreeState). IsTree v) c.self.view_is c.self.invariant.tree) c.requires.read)
 
 pub returns : goal.returns
 returns c =
@@ -61,7 +61,7 @@ returns c =
     let ks = answers_of c.args.cache.now.kept in
     let edge : Edge = edge_of cut in
     let can = c.in_ok-old.ensures in
-    let g : IsTree u = subst (λ (v : TreeState). IsTree v) c.self.view_is c.self.invariant in
+    let g : IsTree u = subst (λ (v : TreeState). IsTree v) c.self.view_is c.self.invariant.tree in
     let made : c.push_split.new.self ≡ split_tree u edge can.output cut.target cut.suffix c.in_ok-old.old c.in_ok-old.new =
     subst (λ (e : List ℕ). IsNextSplit u edge can.output cut.target e c.in_ok-old.old c.in_ok-old.new → c.push_split.new.self ≡ split_tree u edge can.output cut.target e c.in_ok-old.old c.in_ok-old.new) c.in_ok-suffix.ensures (c.in_ok-push_split.ensures.ok can.output) can.next in
     let tree = subst (λ (v : TreeState). IsTree v) made c.in_ok-push_split.ensures.tree in

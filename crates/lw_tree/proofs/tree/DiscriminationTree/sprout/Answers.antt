@@ -13,7 +13,7 @@ part-requires-clause-can c =
     let r = c.args.root in
     let word = c.args.word.now in
     let marks = c.args.below.now in
-    let g : IsTree u = subst (λ (v : TreeState). IsTree v) c.self.view_is c.self.invariant in
+    let g : IsTree u = subst (λ (v : TreeState). IsTree v) c.self.view_is c.self.invariant.tree in
     let base : List Node = replaced_root u.nodes r word marks in
     let clear = replaced_clears u.nodes r word marks (block_inside ks u r word c.requires.may) in
     subst (λ (l : List ℕ). CanPart ks u.access l r word) (sym c.in_ok-lifted_leaves.ensures) (root_can ks u r word marks base g c.requires.may c.requires.marks c.requires.each clear)
@@ -25,7 +25,7 @@ grow-requires-clause-sprout c =
     let r = c.args.root in
     let word = c.args.word.now in
     let marks = c.args.below.now in
-    let g : IsTree u = subst (λ (v : TreeState). IsTree v) c.self.view_is c.self.invariant in
+    let g : IsTree u = subst (λ (v : TreeState). IsTree v) c.self.view_is c.self.invariant.tree in
     let base : List Node = replaced_root u.nodes r word marks in
     let clear = replaced_clears u.nodes r word marks (block_inside ks u r word c.requires.may) in
     let long : length base ≡ length u.nodes = replaced_long u.nodes r word marks in
@@ -39,7 +39,7 @@ returns-clause-grown c base long clear =
     let r = c.args.root in
     let word = c.args.word.now in
     let marks = c.args.below.now in
-    let g : IsTree u = subst (λ (v : TreeState). IsTree v) c.self.view_is c.self.invariant in
+    let g : IsTree u = subst (λ (v : TreeState). IsTree v) c.self.view_is c.self.invariant.tree in
     let none : c.new.result.items ≡ [] = c.new.ensures.items in
     let opened = base_open ks u r word marks base g c.requires.may c.requires.marks c.requires.each clear c.requires.read long c.new.result.items c.in_ok-lifted_leaves.field-0.items none c.in_ok-lifted_leaves.ensures in
     c.in_ok-grow.ensures.grown base long (c.in_ok-part.ensures.grown base (length u.nodes) long opened)

@@ -8,6 +8,6 @@ overflow_add-count c =
     let nodes = c.as_slice-node-items.result.now in
     let more = one_more_temporary nodes l.node-index l.count c.node-item.result c.loop-node-test.true c.node-item.is (sym c.is_temporary.ensures ∙ c.if-is_temporary.true) l.invariant in
     let few = few_temporaries nodes in
-    let all : length nodes < 2 ^ 32 = search (rules, c.self.invariant.few_nodes, c.as_slice-node-items.ensures) in
+    let all : length nodes < 2 ^ 32 = search (rules, c.self.invariant.tree.few_nodes, c.as_slice-node-items.ensures) in
     let fits : l.count + 1 < 2 ^ 32 = omega (arith, more, few, all) in
     search (rules, fits)
