@@ -2,9 +2,9 @@
 use Rattle.std.specs.Prelude.{◌≡◌, ◌⊎◌, ℕ, ◌≤◌, List, []}
 use Rattle.lw_words.specs.Cause.{CountedFault}
 use Rattle.lw_json.specs.SetupFile.{HasSetupFault, IsSetupFile}
-use Rattle.lw_outside.specs.Files.{File}
+use Rattle.lw_outside.specs.Files.{File, FilesState}
 use Rattle.lw_report.specs.SetupHint.{TellsHint}
-use Rattle.lw_report.specs.States.{FilesState, SinkState}
+use Rattle.lw_outside.specs.Streams.{SinkState}
 use Rattle.lw_report.specs.Writing.{TakesAll, TakesSome}
 use Rattle.lw_report.specs.declared.outcome.Outcome.{Outcome}
 use Rattle.lw_report.specs.declared.role.Role.TheVariants as role

@@ -1,7 +1,6 @@
 //! The files that say what is asked: a setup, or a table.
 ghost use Rattle.std.specs.Prelude.{ℕ, ◌≡◌, ◌≤◌, List, length, IfOk};
 ghost use Rattle.lw_json.specs.SetupFile.{IsSetupFile};
-ghost use Rattle.lw_report.specs.States.{files_state};
 ghost use Rattle.lw_learn.specs.Tasks.{HasWords, letters_of};
 ghost use Rattle.lw_learn.specs.declared.arguments.Source.{Source as Kind};
 ghost use Rattle.lw_ask.specs.Reading.{HasReadMachine, HasReadSystem};
@@ -25,10 +24,8 @@ pub(crate) struct Found {
 /// Reads a table file.
 fn read_table<F: Files>(alloc: Global, name: &str, files: &mut F) -> Result<System, Outcome>
     ensures read { HasReadMachine name.now
-        (files_state (F.holds files.old) (F.calls files.old) (F.reads files.old)
-        (F.faults files.old))
-        (files_state (F.holds files.new) (F.calls files.new) (F.reads files.new)
-        (F.faults files.new)) result }
+        (F.state files.old)
+        (F.state files.new) result }
     ensures letters { IfOk result (λ s. length (letters_of s) ≤ 64) }
     ensures words { IfOk result HasWords }
 {
@@ -42,10 +39,8 @@ fn read_table<F: Files>(alloc: Global, name: &str, files: &mut F) -> Result<Syst
 fn read_said<F: Files>(alloc: Global, setup: Setup, files: &mut F) -> Result<System, Outcome>
     requires file { (bytes : List ℕ) × IsSetupFile bytes setup }
     ensures read { HasReadSaid setup
-        (files_state (F.holds files.old) (F.calls files.old) (F.reads files.old)
-        (F.faults files.old))
-        (files_state (F.holds files.new) (F.calls files.new) (F.reads files.new)
-        (F.faults files.new)) result }
+        (F.state files.old)
+        (F.state files.new) result }
     ensures letters { IfOk result (λ s. length (letters_of s) ≤ 64) }
     ensures words { IfOk result HasWords }
 {
@@ -66,10 +61,8 @@ fn read_said<F: Files>(alloc: Global, setup: Setup, files: &mut F) -> Result<Sys
 /// Finds the system that a setup file says.
 fn find_setup<F: Files>(alloc: Global, name: &str, files: &mut F) -> Found
     ensures found { HasFound Kind.Setup name.now
-        (files_state (F.holds files.old) (F.calls files.old) (F.reads files.old)
-        (F.faults files.old))
-        (files_state (F.holds files.new) (F.calls files.new) (F.reads files.new)
-        (F.faults files.new))
+        (F.state files.old)
+        (F.state files.new)
         result.system result.hint.items }
     ensures letters { IfOk result.system (λ s. length (letters_of s) ≤ 64) }
     ensures words { IfOk result.system HasWords }
@@ -94,10 +87,8 @@ pub(crate) fn find_system<F: Files>(
     files: &mut F,
 ) -> Found
     ensures found { HasFound source name.now
-        (files_state (F.holds files.old) (F.calls files.old) (F.reads files.old)
-        (F.faults files.old))
-        (files_state (F.holds files.new) (F.calls files.new) (F.reads files.new)
-        (F.faults files.new))
+        (F.state files.old)
+        (F.state files.new)
         result.system result.hint.items }
     ensures letters { IfOk result.system (λ s. length (letters_of s) ≤ 64) }
     ensures words { IfOk result.system HasWords }
@@ -119,10 +110,8 @@ pub fn read_system<F: Files>(
     files: &mut F,
 ) -> Result<System, Outcome>
     ensures read { HasReadSystem source name.now
-        (files_state (F.holds files.old) (F.calls files.old) (F.reads files.old)
-        (F.faults files.old))
-        (files_state (F.holds files.new) (F.calls files.new) (F.reads files.new)
-        (F.faults files.new)) result }
+        (F.state files.old)
+        (F.state files.new) result }
     ensures letters { IfOk result (λ s. length (letters_of s) ≤ 64) }
     ensures words { IfOk result HasWords }
 {

@@ -11,7 +11,8 @@ use Rattle.lw_check.specs.Ending.{DecidesAs, EndsRead, EndsUnread}
 use Rattle.lw_report.specs.Reading.{TellsFile}
 use Rattle.lw_check.specs.Reading.{ReadsPair}
 use Rattle.lw_report.specs.Ends.{IsWithoutLearner}
-use Rattle.lw_report.specs.States.{FilesState, SinkState}
+use Rattle.lw_outside.specs.Files.{FilesState}
+use Rattle.lw_outside.specs.Streams.{SinkState}
 use Rattle.lw_report.specs.declared.«end».End.{End}
 use Rattle.lw_report.specs.declared.outcome.Outcome.{Outcome}
 use Rattle.lw_report.specs.declared.outcome.Outcome.TheVariants.{Yes}

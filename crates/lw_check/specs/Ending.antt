@@ -6,7 +6,8 @@ use Rattle.lw_desk.specs.Naming.{Naming}
 use Rattle.lw_check.specs.Naming.{NamesOutputs}
 use Rattle.lw_check.specs.Decision.{IsAnswered, IsDecision, Pair}
 use Rattle.lw_check.specs.Reading.{IsUnread, ReadsPair}
-use Rattle.lw_report.specs.States.{FilesState, SinkState}
+use Rattle.lw_outside.specs.Files.{FilesState}
+use Rattle.lw_outside.specs.Streams.{SinkState}
 use Rattle.lw_report.specs.Text.{text_of}
 use Rattle.lw_report.specs.Writing.{TakesAll, TakesSome}
 use Rattle.lw_report.specs.declared.outcome.Outcome.{Outcome}

@@ -13,7 +13,6 @@ ghost use Rattle.lw_children.specs.Children.{IsOfChildren};
 ghost use Rattle.lw_children.specs.Crews.{AreLinkedWith, HasRetired, IsChildrenPool, RetiresWith, first_naming};
 ghost use Rattle.lw_children.specs.Cuts.{IsStopOf};
 ghost use Rattle.lw_children.specs.Keeping.{count_of};
-ghost use Rattle.lw_children.specs.Spawners.{spawner_seen};
 ghost use Rattle.lw_children.specs.bodies.Ends.{broken_stop};
 
 use crate::cut::cut_off;
@@ -78,20 +77,17 @@ fn give_up<P: Spawner>(
     cache: Cache,
 ) -> LearnedChildren
     requires few { length broken.sessions.items < 16 }
-    requires linked { AreLinkedWith P.Link.number broken.sessions.items broken.unmade.link
-        (spawner_seen (P.faults spawner.old) (P.started spawner.old) (P.retired spawner.old)
-        (P.commands spawner.old)) }
+    requires linked { AreLinkedWith P.Link.state broken.sessions.items broken.unmade.link
+        (P.state spawner.old) }
     ensures learned { result.learned ≡ Err (broken_stop broken.unmade.refusal
         (length broken.sessions.items)) }
     ensures kept { result.kept.answers ≡ cache.kept }
     ensures names { result.names ≡ names }
     ensures cut { result.cut ≡ None }
-    ensures retires { RetiresWith P.Link.number P.Link.faults P.Link.ends P.Link.transcript
+    ensures retires { RetiresWith P.Link.state
         broken.sessions.items broken.unmade.link
-        (spawner_seen (P.faults spawner.old) (P.started spawner.old) (P.retired spawner.old)
-        (P.commands spawner.old))
-        (spawner_seen (P.faults spawner.new) (P.started spawner.new) (P.retired spawner.new)
-        (P.commands spawner.new)) }
+        (P.state spawner.old)
+        (P.state spawner.new) }
 {
     let Broken { sessions, unmade } = broken;
     let learned = Err(stop_of(unmade.refusal, sessions.len()));
@@ -123,16 +119,13 @@ fn learn_and_retire<P: Spawner, R: Threads + Wait + Sync + Drop, W: Watcher>(
     requires named_few { length words.now < 2 ^ 32 }
     requires few { extra ≤ 4 }
     requires most { (1 ≤ max_states) × (max_states ≤ 1024) }
-    requires children { IsChildrenPool P.Link.number
-        (spawner_seen (P.faults spawner.old) (P.started spawner.old) (P.retired spawner.old)
-        (P.commands spawner.old)) pool }
+    requires children { IsChildrenPool P.Link.state
+        (P.state spawner.old) pool }
     ensures asked { OnOk result.learned (AnswersWords words.now result.kept.answers) }
     ensures cut { IfSome result.cut (λ run. IsStopOf run.instance result.learned) }
-    ensures ended { HasRetired kind P.Link.number extra max_states pool
-        (spawner_seen (P.faults spawner.old) (P.started spawner.old) (P.retired spawner.old)
-        (P.commands spawner.old))
-        (spawner_seen (P.faults spawner.new) (P.started spawner.new) (P.retired spawner.new)
-        (P.commands spawner.new)) result.learned result.kept.answers result.names }
+    ensures ended { HasRetired kind P.Link.state extra max_states pool
+        (P.state spawner.old)
+        (P.state spawner.new) result.learned result.kept.answers result.names }
 {
     let LearnedWith { learned, pool } = learn_with(
         pool, alloc, words, kind, extra, max_states, watcher,
@@ -178,10 +171,8 @@ pub(crate) fn learn_over<P: Spawner, R: Threads + Wait + Sync + Drop, W: Watcher
     requires most { (1 ≤ max_states) × (max_states ≤ 1024) }
     ensures found { IsOfChildren kind command.now.words command.now.inputs command.now.outputs
         workers extra max_states cache.kept
-        (spawner_seen (P.faults spawner.old) (P.started spawner.old) (P.retired spawner.old)
-        (P.commands spawner.old))
-        (spawner_seen (P.faults spawner.new) (P.started spawner.new) (P.retired spawner.new)
-        (P.commands spawner.new)) result.learned result.kept.answers result.names.names }
+        (P.state spawner.old)
+        (P.state spawner.new) result.learned result.kept.answers result.names.names }
     ensures sharing { declared_by result.names.names result.names.brought ≡
         declared_by names.names names.brought }
     ensures come_up { FreeComeUp result.kept.answers result.names }

@@ -10,7 +10,6 @@ ghost use Rattle.lw_children.specs.Children.{IsOfCommand, IsOfFree};
 ghost use Rattle.lw_children.specs.Crews.{first_naming};
 ghost use Rattle.lw_children.specs.Cuts.{IsStopOf};
 ghost use Rattle.lw_children.specs.Keeping.{count_of};
-ghost use Rattle.lw_children.specs.Spawners.{spawner_seen};
 
 use crate::learning::learn_over;
 use crate::{Command, LearnedChildren};
@@ -63,10 +62,8 @@ fn learn_free<P: Spawner, R: Threads + Wait + Sync + Drop, W: Watcher>(
     ensures asked { OnOk result.learned (AnswersWords words.now result.kept.answers) }
     ensures cut { IfSome result.cut (λ run. IsStopOf run.instance result.learned) }
     ensures found { IsOfFree kind command.now.words command.now.inputs workers extra max_states
-        (spawner_seen (P.faults spawner.old) (P.started spawner.old) (P.retired spawner.old)
-        (P.commands spawner.old))
-        (spawner_seen (P.faults spawner.new) (P.started spawner.new) (P.retired spawner.new)
-        (P.commands spawner.new)) result.learned result.kept.answers result.names.names }
+        (P.state spawner.old)
+        (P.state spawner.new) result.learned result.kept.answers result.names.names }
 {
     let mut to = match new_numbers(alloc) {
         Ok(to) => to,
@@ -130,10 +127,8 @@ pub fn learn_children<P: Spawner, R: Threads + Wait + Sync + Drop, W: Watcher>(
     ensures found { IsOfCommand kind command.now.words command.now.inputs command.now.outputs
         workers
         extra max_states cache.kept
-        (spawner_seen (P.faults spawner.old) (P.started spawner.old) (P.retired spawner.old)
-        (P.commands spawner.old))
-        (spawner_seen (P.faults spawner.new) (P.started spawner.new) (P.retired spawner.new)
-        (P.commands spawner.new)) result.learned result.kept.answers result.names.names }
+        (P.state spawner.old)
+        (P.state spawner.new) result.learned result.kept.answers result.names.names }
 {
     match command.outputs {
         Some(_) => learn_over(

@@ -3,7 +3,8 @@ use Rattle.std.specs.Prelude.{◌≡◌, ◌≢◌, ◌⊎◌, ℕ, List, [], No
 use Rattle.lw_words.specs.Cause.{CountedFault}
 use Rattle.lw_json.specs.declared.machine.Machine.{Machine}
 use Rattle.lw_report.specs.Ends.{IsWithoutLearner}
-use Rattle.lw_report.specs.States.{FilesState, SinkState}
+use Rattle.lw_outside.specs.Files.{FilesState}
+use Rattle.lw_outside.specs.Streams.{SinkState}
 use Rattle.lw_report.specs.Writing.{TakesAll, TakesSome, said_text}
 use Rattle.lw_report.specs.declared.«end».End.{End}
 use Rattle.lw_report.specs.declared.comparison.Comparison.{Comparison}

@@ -6,9 +6,8 @@ use Rattle.lw_words.specs.declared.kept.KeptAnswer.{KeptAnswer}
 use Rattle.lw_wordlist.specs.Drawn.{drawn_words}
 use Rattle.lw_wordlist.specs.Lines.{lines_in}
 use Rattle.lw_wordlist.specs.Words.{IsFirstUnknown, words_of}
-use Rattle.lw_outside.specs.Files.{File, HoldsLong, read_call}
+use Rattle.lw_outside.specs.Files.{File, HoldsLong, read_call, FilesState}
 use Rattle.lw_report.specs.Reading.{ReadsFile, WasRead}
-use Rattle.lw_report.specs.States.{FilesState}
 use Rattle.lw_report.specs.declared.outcome.Outcome.{Outcome}
 use Rattle.lw_report.specs.declared.outcome.Outcome.TheVariants.{FileFault, FileTooLong, NoMemory, UnknownLetter}
 use Rattle.lw_report.specs.declared.role.Role.TheVariants.{Words}

@@ -8,8 +8,8 @@ use Rattle.lw_cache.specs.Clash.{NothingClashes}
 use Rattle.lw_desk.specs.Naming.{Naming}
 use Rattle.lw_mealy.specs.Gives.{Gives}
 use Rattle.lw_mealy.specs.Machine.{Rows}
-use Rattle.lw_outside.specs.Files.{File}
-use Rattle.lw_outside.specs.Links.{Retired}
+use Rattle.lw_outside.specs.Files.{File, FilesState}
+use Rattle.lw_outside.specs.Links.{LinkState, SpawnerState}
 use Rattle.lw_rounds.specs.Learner.{refinements_of}
 use Rattle.lw_rounds.specs.declared.learned.Learned.{Learned as Found}
 use Rattle.lw_rounds.specs.declared.stops.LearnStop.{LearnStop}
@@ -17,11 +17,10 @@ use Rattle.lw_workers.specs.Asking.{AnswersWords}
 use Rattle.lw_workers.specs.Machines.{IsWithin}
 use Rattle.lw_children.specs.Children.{IsSound}
 use Rattle.lw_children.specs.Keeping.{count_of}
-use Rattle.lw_children.specs.Spawners.{SpawnerSeen}
+use Rattle.lw_outside.specs.Streams.{SinkState}
 use Rattle.lw_report.specs.Ends.{IsWithoutLearner}
 use Rattle.lw_report.specs.Learnings.{HasModel, learn_outcome}
 use Rattle.lw_report.specs.Outcomes.{StandsOrWants}
-use Rattle.lw_report.specs.States.{FilesState, SinkState}
 use Rattle.lw_report.specs.Text.{names_of, text_of}
 use Rattle.lw_report.specs.Writing.{TakesAll, TakesSome, said_text}
 use Rattle.lw_report.specs.declared.«end».End.{End}
@@ -44,7 +43,7 @@ use Rattle.lw_learn.specs.declared.task.System.TheVariants.{Table, Children}
 
 -- no learning began: no child is started, nothing is written but prior answers, where they clash or words that are to be asked
 -- could not be read, which are what is kept, and the outcome's text goes to `err`
-pub record EndsUnread (a : LearnValues) (f g : FilesState) (b z : SpawnerSeen) (o p : SinkState) (e d : SinkState) (end : End) : Type 0 where
+pub record EndsUnread (a : LearnValues) (f g : FilesState) (b z : SpawnerState) (o p : SinkState) (e d : SinkState) (end : End) : Type 0 where
   pub read : Option System
   pub between : FilesState
   pub cause : IsUnreadAs a f between read end.kept.answers end.outcome ⊎
@@ -119,12 +118,12 @@ pub record IsEndOf (a : LearnValues) (s : System) (naming : Naming) (learned : R
   pub counts : (f.faults ≤ g.faults) × (o.faults ≤ p.faults) × (e.faults ≤ d.faults)
 
 -- no start failed, and nothing is wrong with a link that was retired
-abbrev pub IsSoundSystem : System → SpawnerSeen → SpawnerSeen → Type 0
+abbrev pub IsSoundSystem : System → SpawnerState → SpawnerState → Type 0
 IsSoundSystem (Table m) before now = Unit {0}
-IsSoundSystem (Children c) before now = (¬ CountedFault before.faults now.faults) × ((links : List Retired) → now.retired ≡ before.retired ++ links → All (IsSound c.outputs) links)
+IsSoundSystem (Children c) before now = (¬ CountedFault before.faults now.faults) × ((links : List LinkState) → now.retired ≡ before.retired ++ links → All (IsSound c.outputs) links)
 
 -- a system was learned behind prior answers
-pub record EndsLearned (a : LearnValues) (s : System) (prior : List KeptAnswer) (f g : FilesState) (b z : SpawnerSeen) (o p : SinkState) (e d : SinkState) (end : End) : Type 0 where
+pub record EndsLearned (a : LearnValues) (s : System) (prior : List KeptAnswer) (f g : FilesState) (b z : SpawnerState) (o p : SinkState) (e d : SinkState) (end : End) : Type 0 where
   -- what was learned, the kept answers, the children, and why there is no model where there is none
   pub naming : Naming
   pub learned : Result Found LearnStop
@@ -147,7 +146,7 @@ pub record EndsLearned (a : LearnValues) (s : System) (prior : List KeptAnswer) 
 
 -- the files say a system, prior answers and words that are asked first, and the system was learned; where there is a model each
 -- of the words was answered
-pub record EndsRead (a : LearnValues) (f g : FilesState) (b z : SpawnerSeen) (o p : SinkState) (e d : SinkState) (end : End) : Type 0 where
+pub record EndsRead (a : LearnValues) (f g : FilesState) (b z : SpawnerState) (o p : SinkState) (e d : SinkState) (end : End) : Type 0 where
   pub system : System
   pub prior : List KeptAnswer
   pub words : List (List ℕ)

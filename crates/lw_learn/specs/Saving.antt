@@ -3,8 +3,7 @@ use Rattle.std.specs.Prelude.{◌≡◌, ℕ, ◌≤◌, List, [], ◌∷◌, tr
 use Rattle.lw_words.specs.Cause.{CountedFault}
 use Rattle.lw_words.specs.declared.kept.KeptAnswer.{KeptAnswer}
 use Rattle.lw_json.specs.AnswersText.{IsAnswersText}
-use Rattle.lw_outside.specs.Files.{File, Holds, noted, write_call}
-use Rattle.lw_report.specs.States.{FilesState}
+use Rattle.lw_outside.specs.Files.{File, Holds, noted, write_call, FilesState}
 use Rattle.lw_report.specs.declared.outcome.Outcome.{Outcome}
 use Rattle.lw_report.specs.declared.outcome.Outcome.TheVariants.{FileFault, NoMemory}
 use Rattle.lw_report.specs.declared.role.Role.TheVariants.{Kept}

@@ -12,10 +12,9 @@ use Rattle.lw_json.specs.SetupFile.{HasSetupFault, IsSetupFile}
 use Rattle.lw_json.specs.declared.answers.Answers.{Answers}
 use Rattle.lw_json.specs.declared.fault.JsonFault.{JsonFault}
 use Rattle.lw_json.specs.declared.setup.Setup.TheVariants as setup
-use Rattle.lw_outside.specs.Files.{Call, File, HoldsLong, read_call}
+use Rattle.lw_outside.specs.Files.{Call, File, HoldsLong, read_call, FilesState}
 use Rattle.lw_prior.specs.FirstClash.{IsFirstClash}
 use Rattle.lw_report.specs.Reading.{ReadsBadFile, ReadsFile}
-use Rattle.lw_report.specs.States.{FilesState}
 use Rattle.lw_report.specs.declared.outcome.Outcome.{Outcome}
 use Rattle.lw_report.specs.declared.outcome.Outcome.TheVariants.{Alphabets, BadFile, FileFault, FileTooLong, NoMemory, Nondeterministic}
 use Rattle.lw_report.specs.declared.role.Role.{Role}

@@ -2,7 +2,6 @@
 ghost use Rattle.std.specs.Prelude.{◌≡◌, ℕ, ◌<◌, ◌≤◌, ◌^◌, List, ◌++◌, length, Some, IfErr, IfOk, OnOk};
 ghost use Rattle.std.specs.List.{All};
 ghost use Rattle.lw_words.specs.Word.{IsWord};
-ghost use Rattle.lw_report.specs.States.{files_state};
 ghost use Rattle.lw_learn.specs.Asking.{AreDrawn, IsWordsFile};
 ghost use Rattle.lw_learn.specs.bodies.Ready.{IsReady};
 ghost use Rattle.lw_learn.specs.bodies.Stages.{HasNamed, HasNamedWords, HasWorded, IsWordedStage, SaysNoWords};
@@ -42,10 +41,8 @@ fn read_named<F: Files>(
     files: &mut F,
 ) -> Result<Words, Outcome>
     ensures { HasNamed name.now inputs.now
-        (files_state (F.holds files.old) (F.calls files.old) (F.reads files.old)
-        (F.faults files.old))
-        (files_state (F.holds files.new) (F.calls files.new) (F.reads files.new)
-        (F.faults files.new))
+        (F.state files.old)
+        (F.state files.new)
         result }
 {
     let bytes = match files.read(name) {
@@ -63,10 +60,8 @@ fn named_words<F: Files>(
     files: &mut F,
 ) -> Result<Words, Outcome>
     ensures { HasNamedWords arguments.now.words inputs.now
-        (files_state (F.holds files.old) (F.calls files.old) (F.reads files.old)
-        (F.faults files.old))
-        (files_state (F.holds files.new) (F.calls files.new) (F.reads files.new)
-        (F.faults files.new))
+        (F.state files.old)
+        (F.state files.new)
         result }
 {
     match arguments.words() {
@@ -134,10 +129,8 @@ fn words_to_ask<F: Files>(
     files: &mut F,
 ) -> Result<Words, Outcome>
     ensures { HasWorded arguments.now inputs.now
-        (files_state (F.holds files.old) (F.calls files.old) (F.reads files.old)
-        (F.faults files.old))
-        (files_state (F.holds files.new) (F.calls files.new) (F.reads files.new)
-        (F.faults files.new))
+        (F.state files.old)
+        (F.state files.new)
         result }
 {
     let named = named_words(alloc, arguments, inputs, files)?;
@@ -179,10 +172,8 @@ pub(crate) fn read_worded<F: Files, L: LogFile>(
     log: &mut Log<L>,
 ) -> Result<WordedTask, Unread>
     ensures { IsWordedStage arguments.now
-        (files_state (F.holds files.old) (F.calls files.old) (F.reads files.old)
-        (F.faults files.old))
-        (files_state (F.holds files.new) (F.calls files.new) (F.reads files.new)
-        (F.faults files.new)) result }
+        (F.state files.old)
+        (F.state files.new) result }
 {
     let task = read_task(alloc, arguments, files, log)?;
     match words_to_ask(alloc, arguments, task.system.inputs(), files) {

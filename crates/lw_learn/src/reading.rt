@@ -1,7 +1,6 @@
 //! The files that say what is to be learned: a setup or a table, and prior answers.
 ghost use Rattle.std.specs.Prelude.{◌≡◌, ℕ, ◌≤◌, List, [], length, None, Some, Ok, Err, IfOk, IfErr};
 ghost use Rattle.lw_report.specs.Reading.{HasRead};
-ghost use Rattle.lw_report.specs.States.{files_state};
 ghost use Rattle.lw_words.specs.Answer.{answers_of};
 ghost use Rattle.lw_cache.specs.Clash.{NothingClashes};
 ghost use Rattle.lw_json.specs.SetupFile.{HasSetupFault, IsSetupFile};
@@ -94,10 +93,8 @@ fn read_hinted<F: Files, L: LogFile>(
     log: &mut Log<L>,
 ) -> Result<Setup, ReadStop>
     ensures { HasRead IsSetupFile HasSetupFault name.now
-        (files_state (F.holds files.old) (F.calls files.old) (F.reads files.old)
-        (F.faults files.old))
-        (files_state (F.holds files.new) (F.calls files.new) (F.reads files.new)
-        (F.faults files.new))
+        (F.state files.old)
+        (F.state files.new)
         result }
 {
     let SetupFile { setup, hint } = match read_setup_with(alloc, files, name) {
@@ -119,15 +116,11 @@ fn read_setup<F: Files, L: LogFile>(
 ) -> Result<System, Unread>
     requires setup { arguments.now.source ≡ Kind.Setup }
     ensures { IsStage arguments.now
-        (files_state (F.holds files.old) (F.calls files.old) (F.reads files.old)
-        (F.faults files.old))
-        (files_state (F.holds files.new) (F.calls files.new) (F.reads files.new)
-        (F.faults files.new))
+        (F.state files.old)
+        (F.state files.new)
         (SaysWhole arguments.now
-        (files_state (F.holds files.old) (F.calls files.old) (F.reads files.old)
-        (F.faults files.old))
-        (files_state (F.holds files.new) (F.calls files.new) (F.reads files.new)
-        (F.faults files.new))) result }
+        (F.state files.old)
+        (F.state files.new)) result }
 {
     match read_hinted(alloc, files, arguments.system(), log) {
         Ok(Setup::Table(name)) => {
@@ -157,15 +150,11 @@ fn read_system<F: Files, L: LogFile>(
     log: &mut Log<L>,
 ) -> Result<System, Unread>
     ensures { IsStage arguments.now
-        (files_state (F.holds files.old) (F.calls files.old) (F.reads files.old)
-        (F.faults files.old))
-        (files_state (F.holds files.new) (F.calls files.new) (F.reads files.new)
-        (F.faults files.new))
+        (F.state files.old)
+        (F.state files.new)
         (SaysWhole arguments.now
-        (files_state (F.holds files.old) (F.calls files.old) (F.reads files.old)
-        (F.faults files.old))
-        (files_state (F.holds files.new) (F.calls files.new) (F.reads files.new)
-        (F.faults files.new))) result }
+        (F.state files.old)
+        (F.state files.new)) result }
 {
     match arguments.source() {
         Source::Setup => read_setup(alloc, arguments, files, log),
@@ -331,10 +320,8 @@ fn read_prior<F: Files>(
     requires letters { length (letters_of system) ≤ 64 }
     requires words { HasWords system }
     ensures { HasPrior name.now system
-        (files_state (F.holds files.old) (F.calls files.old) (F.reads files.old)
-        (F.faults files.old))
-        (files_state (F.holds files.new) (F.calls files.new) (F.reads files.new)
-        (F.faults files.new)) result }
+        (F.state files.old)
+        (F.state files.new) result }
 {
     match read_answers_file(alloc, files, name) {
         Ok(answers) => with_answers(alloc, system, answers),
@@ -351,15 +338,11 @@ pub(crate) fn read_task<F: Files, L: LogFile>(
     log: &mut Log<L>,
 ) -> Result<Task, Unread>
     ensures { IsStage arguments.now
-        (files_state (F.holds files.old) (F.calls files.old) (F.reads files.old)
-        (F.faults files.old))
-        (files_state (F.holds files.new) (F.calls files.new) (F.reads files.new)
-        (F.faults files.new))
+        (F.state files.old)
+        (F.state files.new)
         (SaysReady arguments.now
-        (files_state (F.holds files.old) (F.calls files.old) (F.reads files.old)
-        (F.faults files.old))
-        (files_state (F.holds files.new) (F.calls files.new) (F.reads files.new)
-        (F.faults files.new))) result }
+        (F.state files.old)
+        (F.state files.new)) result }
 {
     let system = read_system(alloc, arguments, files, log)?;
     match arguments.prior() {

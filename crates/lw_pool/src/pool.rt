@@ -202,11 +202,11 @@ impl<S: Sul + Drop, R: Drop> Pool<S, R> {
         requires shared { IsShared names }
         requires come_up { FreeComeUp cache.kept names }
         requires join { AllMayJoin
-            (member_of S.names S.most S.stop S.origin S.inputs S.outputs)
+            (member_of S.state)
             names inputs outputs sessions.items }
         requires prior { MayBegin names inputs outputs cache.kept }
         ensures members { IfOk result (λ p. p.members ≡
-            map (member_of S.names S.most S.stop S.origin S.inputs S.outputs) sessions.items) }
+            map (member_of S.state) sessions.items) }
         ensures begun { IfOk result (λ p. (p.naming ≡ names) × (p.prior ≡ cache.kept) ×
             (p.kept ≡ cache.kept) × (p.stop ≡ None) × (p.refused ≡ false)) }
         ensures numbers { IfOk result (λ p.
@@ -313,7 +313,7 @@ impl<S: Sul, R> Pool<S, R> {
     pub fn session(&self, instance: usize) -> &Session<S>
         requires { instance < length self.now.members }
         ensures member { (d : _) →
-            member_of S.names S.most S.stop S.origin S.inputs S.outputs result.now ≡
+            member_of S.state result.now ≡
             slice_index_or self.now.members instance d }
         ensures stands { Stands self.now }
     {
@@ -324,7 +324,7 @@ impl<S: Sul, R> Pool<S, R> {
 impl<S: Sul + Drop, R: Drop> Pool<S, R> {
     /// The sessions by instance, the names, and all that is known. Takes no memory.
     pub fn into_parts(self) -> (Vec<Session<S>>, OutNames, Cache)
-        ensures sessions { map (member_of S.names S.most S.stop S.origin S.inputs S.outputs)
+        ensures sessions { map (member_of S.state)
             result.0.items ≡ self.members }
         ensures names { result.1 ≡ self.naming }
         ensures cache { (result.2.kept ≡ self.kept) × (result.2.claims ≡ []) }

@@ -3,9 +3,8 @@ use Rattle.std.specs.Prelude.{◌≡◌, ◌⊎◌, ℕ, ◌≤◌, List, [], Op
 use Rattle.lw_json.specs.AnswersFault.{HasAnswersFault}
 use Rattle.lw_json.specs.AnswersFile.{IsAnswersFile}
 use Rattle.lw_json.specs.declared.answers.Answers.{Answers}
-use Rattle.lw_outside.specs.Files.{File}
+use Rattle.lw_outside.specs.Files.{File, FilesState}
 use Rattle.lw_report.specs.Reading.{ReadsFile}
-use Rattle.lw_report.specs.States.{FilesState}
 use Rattle.lw_report.specs.declared.outcome.Outcome.{Outcome}
 use Rattle.lw_report.specs.declared.outcome.Outcome.TheVariants.{Alphabets}
 use Rattle.lw_report.specs.declared.role.Role.TheVariants as role

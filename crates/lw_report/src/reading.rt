@@ -10,7 +10,6 @@ ghost use Rattle.lw_json.specs.SetupFile.{HasSetupFault, IsSetupFile};
 ghost use Rattle.lw_report.specs.Member.{hint_of};
 ghost use Rattle.lw_report.specs.Reading.{HasRead};
 ghost use Rattle.lw_report.specs.SetupHint.{TellsHint, setup_in};
-ghost use Rattle.lw_report.specs.States.{files_state};
 ghost use Rattle.lw_report.specs.declared.stops.ReadStop.{ReadStop as Stop};
 
 use crate::ReadStop;
@@ -27,10 +26,8 @@ pub fn read_machine_file<F: Files>(
     name: &str,
 ) -> Result<Machine, ReadStop>
     ensures { HasRead IsMachineFile HasMachineFault name.now
-        (files_state (F.holds files.old) (F.calls files.old) (F.reads files.old)
-        (F.faults files.old))
-        (files_state (F.holds files.new) (F.calls files.new) (F.reads files.new)
-        (F.faults files.new))
+        (F.state files.old)
+        (F.state files.new)
         result }
 {
     let bytes = match files.read(name) {
@@ -50,10 +47,8 @@ pub fn read_answers_file<F: Files>(
     name: &str,
 ) -> Result<Answers, ReadStop>
     ensures { HasRead IsAnswersFile HasAnswersFault name.now
-        (files_state (F.holds files.old) (F.calls files.old) (F.reads files.old)
-        (F.faults files.old))
-        (files_state (F.holds files.new) (F.calls files.new) (F.reads files.new)
-        (F.faults files.new))
+        (F.state files.old)
+        (F.state files.new)
         result }
 {
     let bytes = match files.read(name) {
@@ -95,13 +90,11 @@ pub fn read_setup_with<F: Files>(
     name: &str,
 ) -> Result<SetupFile, ReadStop>
     ensures read { HasRead IsSetupFile HasSetupFault name.now
-        (files_state (F.holds files.old) (F.calls files.old) (F.reads files.old)
-        (F.faults files.old))
-        (files_state (F.holds files.new) (F.calls files.new) (F.reads files.new)
-        (F.faults files.new))
+        (F.state files.old)
+        (F.state files.new)
         (setup_in result) }
     ensures hint { IfOk result (λ file.
-        TellsHint name.now (F.reads files.old) (F.reads files.new) file.hint.items) }
+        TellsHint name.now (F.state files.old).reads (F.state files.new).reads file.hint.items) }
 {
     let bytes = match files.read(name) {
         Ok(bytes) => bytes,
@@ -120,10 +113,8 @@ pub fn read_setup_file<F: Files>(
     name: &str,
 ) -> Result<Setup, ReadStop>
     ensures { HasRead IsSetupFile HasSetupFault name.now
-        (files_state (F.holds files.old) (F.calls files.old) (F.reads files.old)
-        (F.faults files.old))
-        (files_state (F.holds files.new) (F.calls files.new) (F.reads files.new)
-        (F.faults files.new))
+        (F.state files.old)
+        (F.state files.new)
         result }
 {
     match read_setup_with(alloc, files, name) {

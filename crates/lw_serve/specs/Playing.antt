@@ -6,7 +6,7 @@ use Rattle.lw_line.specs.Serving.{GoesOn, Plays}
 use Rattle.lw_line.specs.declared.serving.Served.{Served as Done}
 use Rattle.lw_line.specs.declared.serving.ServedCause.TheVariants.{EndOfInput, Limit}
 use Rattle.lw_line.specs.declared.serving.ServeFault.TheVariants as fault
-use Rattle.lw_report.specs.States.{SinkState, SourceState}
+use Rattle.lw_outside.specs.Streams.{SinkState, SourceState}
 use Rattle.lw_report.specs.declared.outcome.Outcome.{Outcome}
 use Rattle.lw_report.specs.declared.outcome.Outcome.TheVariants.{Served, NoMemory, BadAsk, SourceFault, SinkFault}
 

@@ -1,6 +1,7 @@
 -- Calls of `compare` for whose arguments there was no memory.
 use Rattle.std.proofs.Common.{◌≡◌, List, ℕ, inl, inr, refl, sym, subst}
-use Rattle.lw_report.specs.States.{FilesState, SinkState}
+use Rattle.lw_outside.specs.Files.{FilesState}
+use Rattle.lw_outside.specs.Streams.{SinkState}
 use Rattle.lw_report.specs.declared.«end».End.{End}
 use Rattle.lw_report.specs.declared.outcome.Outcome.TheVariants.{NoMemory}
 use Rattle.lw_compare.specs.CompareRun.{IsCompareRun}

@@ -2,10 +2,11 @@
 use Rattle.std.proofs.Common.{◌≡◌, ◌⊎◌, List, ℕ, [], Option, Some, None, IfSome, inl, inr, refl, sym, ◌∙◌, subst, append-nil}
 use Rattle.lw_words.specs.declared.kept.KeptAnswer.{KeptAnswer}
 use Rattle.lw_outside.specs.declared.links.StartFailure.{StartFailure}
-use Rattle.lw_children.specs.Spawners.{SpawnerSeen}
+use Rattle.lw_outside.specs.Links.{SpawnerState}
+use Rattle.lw_outside.specs.Files.{FilesState}
+use Rattle.lw_outside.specs.Streams.{SinkState}
 use Rattle.lw_log.specs.declared.log.LogState.{LogState}
 use Rattle.lw_report.specs.Writing.{TakesAll, TakesSome, said_text}
-use Rattle.lw_report.specs.States.{FilesState, SinkState}
 use Rattle.lw_report.specs.declared.«end».End.{End}
 use Rattle.lw_report.specs.declared.outcome.Outcome.{Outcome}
 use Rattle.lw_report.specs.declared.outcome.Outcome.TheVariants.{NoMemory, Unstarted, Usage}
@@ -20,7 +21,7 @@ use Rattle.lw_top.specs.declared.values.ArgumentStop.{ArgumentStop}
 use Rattle.lw_top.specs.declared.values.ArgumentStop.TheVariants as stop
 
 -- the end of a call that touched nothing, which is out of memory, is one that `learn` may come to
-pub wanted_run : (a : LearnValues) (f : FilesState) (b : SpawnerSeen) (o e d : SinkState) (s : LogState) (end : End) → end.outcome ≡ NoMemory → IsRefused f f o o e d end → IsLearnRun a f f b b o o e d s end
+pub wanted_run : (a : LearnValues) (f : FilesState) (b : SpawnerState) (o e d : SinkState) (s : LogState) (end : End) → end.outcome ≡ NoMemory → IsRefused f f o o e d end → IsLearnRun a f f b b o o e d s end
 wanted_run a f b o e d s end out r =
     let said : (oc : Outcome) → oc ≡ NoMemory → TakesAll (said_text None None [] 0 oc) e.taken d.taken → TakesAll (said_text None None end.kept.answers a.extra oc) e.taken d.taken = λ oc is t.
     subst (λ (x : Outcome). TakesAll (said_text None None end.kept.answers a.extra x) e.taken d.taken) (sym is) (subst (λ (x : Outcome). TakesAll (said_text None None [] 0 x) e.taken d.taken) is t) in

@@ -1,9 +1,7 @@
 //! The commands with the values of their arguments: each says all that its contract says in one record.
 ghost use Rattle.std.specs.Prelude.{◌≡◌, ◌≤◌};
 ghost use Rattle.lw_report.specs.Outcomes.{status_of};
-ghost use Rattle.lw_report.specs.States.{files_state, sink_state, source_state};
 ghost use Rattle.lw_report.specs.declared.outcome.Outcome.{Outcome as Came};
-ghost use Rattle.lw_children.specs.Spawners.{spawner_seen};
 ghost use Rattle.lw_learn.specs.LearnRun.{IsLearnRun};
 ghost use Rattle.lw_check.specs.CheckRun.{IsCheckRun};
 ghost use Rattle.lw_trial.specs.TrialRun.{IsTrialRun};
@@ -49,21 +47,17 @@ pub(crate) fn run_learn<
 ) -> End
     ensures status { result.status ≡ status_of result.outcome }
     ensures taken { ¬ (result.outcome ≡ Came.Usage) }
-    ensures counts { (F.faults files.old ≤ F.faults files.new) ×
-        (O.faults out.old ≤ O.faults out.new) × (E.faults err.old ≤ E.faults err.new) }
+    ensures counts { ((F.state files.old).faults ≤ (F.state files.new).faults) ×
+        ((O.state out.old).faults ≤ (O.state out.new).faults) × ((E.state err.old).faults ≤ (E.state err.new).faults) }
     ensures all { IsLearnRun values.now
-        (files_state (F.holds files.old) (F.calls files.old) (F.reads files.old)
-        (F.faults files.old))
-        (files_state (F.holds files.new) (F.calls files.new) (F.reads files.new)
-        (F.faults files.new))
-        (spawner_seen (P.faults spawner.old) (P.started spawner.old) (P.retired spawner.old)
-        (P.commands spawner.old))
-        (spawner_seen (P.faults spawner.new) (P.started spawner.new) (P.retired spawner.new)
-        (P.commands spawner.new))
-        (sink_state (O.taken out.old) (O.faults out.old))
-        (sink_state (O.taken out.new) (O.faults out.new))
-        (sink_state (E.taken err.old) (E.faults err.old))
-        (sink_state (E.taken err.new) (E.faults err.new)) log.new.state result }
+        (F.state files.old)
+        (F.state files.new)
+        (P.state spawner.old)
+        (P.state spawner.new)
+        (O.state out.old)
+        (O.state out.new)
+        (E.state err.old)
+        (E.state err.new) log.new.state result }
 {
     learn(rt, alloc, values, files, spawner, out, err, log)
 }
@@ -78,17 +72,15 @@ pub(crate) fn run_check<F: Files, O: Sink, E: Sink>(
 ) -> End
     ensures status { result.status ≡ status_of result.outcome }
     ensures taken { ¬ (result.outcome ≡ Came.Usage) }
-    ensures counts { (F.faults files.old ≤ F.faults files.new) ×
-        (O.faults out.old ≤ O.faults out.new) × (E.faults err.old ≤ E.faults err.new) }
+    ensures counts { ((F.state files.old).faults ≤ (F.state files.new).faults) ×
+        ((O.state out.old).faults ≤ (O.state out.new).faults) × ((E.state err.old).faults ≤ (E.state err.new).faults) }
     ensures all { IsCheckRun values.now.model values.now.answers values.now.extra
-        (files_state (F.holds files.old) (F.calls files.old) (F.reads files.old)
-        (F.faults files.old))
-        (files_state (F.holds files.new) (F.calls files.new) (F.reads files.new)
-        (F.faults files.new))
-        (sink_state (O.taken out.old) (O.faults out.old))
-        (sink_state (O.taken out.new) (O.faults out.new))
-        (sink_state (E.taken err.old) (E.faults err.old))
-        (sink_state (E.taken err.new) (E.faults err.new)) result }
+        (F.state files.old)
+        (F.state files.new)
+        (O.state out.old)
+        (O.state out.new)
+        (E.state err.old)
+        (E.state err.new) result }
 {
     let (model, answers) = (values.model(), values.answers());
     check(alloc, model, answers, values.extra(), files, out, err)
@@ -104,13 +96,13 @@ pub(crate) fn run_trial<R: Threads + Wait + Sync + Drop, O: Sink, E: Sink>(
 ) -> End
     ensures status { result.status ≡ status_of result.outcome }
     ensures taken { ¬ (result.outcome ≡ Came.Usage) }
-    ensures counts { (O.faults out.old ≤ O.faults out.new) ×
-        (E.faults err.old ≤ E.faults err.new) }
+    ensures counts { ((O.state out.old).faults ≤ (O.state out.new).faults) ×
+        ((E.state err.old).faults ≤ (E.state err.new).faults) }
     ensures all { IsTrialRun values.now
-        (sink_state (O.taken out.old) (O.faults out.old))
-        (sink_state (O.taken out.new) (O.faults out.new))
-        (sink_state (E.taken err.old) (E.faults err.old))
-        (sink_state (E.taken err.new) (E.faults err.new)) result }
+        (O.state out.old)
+        (O.state out.new)
+        (E.state err.old)
+        (E.state err.new) result }
 {
     trial(rt, alloc, values, out, err)
 }
@@ -126,20 +118,18 @@ pub(crate) fn run_serve<F: Files, I: Source, O: Sink, E: Sink>(
 ) -> End
     ensures status { result.status ≡ status_of result.outcome }
     ensures taken { ¬ (result.outcome ≡ Came.Usage) }
-    ensures counts { (F.faults files.old ≤ F.faults files.new) ×
-        (I.faults input.old ≤ I.faults input.new) × (I.ends input.old ≤ I.ends input.new) ×
-        (O.faults out.old ≤ O.faults out.new) × (E.faults err.old ≤ E.faults err.new) }
+    ensures counts { ((F.state files.old).faults ≤ (F.state files.new).faults) ×
+        ((I.state input.old).faults ≤ (I.state input.new).faults) × ((I.state input.old).ends ≤ (I.state input.new).ends) ×
+        ((O.state out.old).faults ≤ (O.state out.new).faults) × ((E.state err.old).faults ≤ (E.state err.new).faults) }
     ensures all { IsServeRun model.now
-        (files_state (F.holds files.old) (F.calls files.old) (F.reads files.old)
-        (F.faults files.old))
-        (files_state (F.holds files.new) (F.calls files.new) (F.reads files.new)
-        (F.faults files.new))
-        (source_state (I.left input.old) (I.faults input.old) (I.ends input.old))
-        (source_state (I.left input.new) (I.faults input.new) (I.ends input.new))
-        (sink_state (O.taken out.old) (O.faults out.old))
-        (sink_state (O.taken out.new) (O.faults out.new))
-        (sink_state (E.taken err.old) (E.faults err.old))
-        (sink_state (E.taken err.new) (E.faults err.new)) result }
+        (F.state files.old)
+        (F.state files.new)
+        (I.state input.old)
+        (I.state input.new)
+        (O.state out.old)
+        (O.state out.new)
+        (E.state err.old)
+        (E.state err.new) result }
 {
     serve(alloc, model, files, input, out, err)
 }
@@ -155,23 +145,19 @@ pub(crate) fn run_ask<F: Files, P: Spawner, O: Sink, E: Sink>(
 ) -> End
     ensures status { result.status ≡ status_of result.outcome }
     ensures taken { ¬ (result.outcome ≡ Came.Usage) }
-    ensures counts { (F.faults files.old ≤ F.faults files.new) ×
-        (O.faults out.old ≤ O.faults out.new) × (E.faults err.old ≤ E.faults err.new) }
+    ensures counts { ((F.state files.old).faults ≤ (F.state files.new).faults) ×
+        ((O.state out.old).faults ≤ (O.state out.new).faults) × ((E.state err.old).faults ≤ (E.state err.new).faults) }
     ensures why { (cause : Cause) → result.outcome ≡ Came.Unstarted cause →
-        cause ≡ P.cause spawner.new }
+        cause ≡ (P.state spawner.new).cause }
     ensures all { IsAskRun values.now
-        (files_state (F.holds files.old) (F.calls files.old) (F.reads files.old)
-        (F.faults files.old))
-        (files_state (F.holds files.new) (F.calls files.new) (F.reads files.new)
-        (F.faults files.new))
-        (spawner_seen (P.faults spawner.old) (P.started spawner.old) (P.retired spawner.old)
-        (P.commands spawner.old))
-        (spawner_seen (P.faults spawner.new) (P.started spawner.new) (P.retired spawner.new)
-        (P.commands spawner.new))
-        (sink_state (O.taken out.old) (O.faults out.old))
-        (sink_state (O.taken out.new) (O.faults out.new))
-        (sink_state (E.taken err.old) (E.faults err.old))
-        (sink_state (E.taken err.new) (E.faults err.new)) result }
+        (F.state files.old)
+        (F.state files.new)
+        (P.state spawner.old)
+        (P.state spawner.new)
+        (O.state out.old)
+        (O.state out.new)
+        (E.state err.old)
+        (E.state err.new) result }
 {
     ask(alloc, values, files, spawner, out, err)
 }
@@ -186,17 +172,15 @@ pub(crate) fn run_compare<F: Files, O: Sink, E: Sink>(
 ) -> End
     ensures status { result.status ≡ status_of result.outcome }
     ensures taken { ¬ (result.outcome ≡ Came.Usage) }
-    ensures counts { (F.faults files.old ≤ F.faults files.new) ×
-        (O.faults out.old ≤ O.faults out.new) × (E.faults err.old ≤ E.faults err.new) }
+    ensures counts { ((F.state files.old).faults ≤ (F.state files.new).faults) ×
+        ((O.state out.old).faults ≤ (O.state out.new).faults) × ((E.state err.old).faults ≤ (E.state err.new).faults) }
     ensures all { IsCompareRun pair.now.first pair.now.second
-        (files_state (F.holds files.old) (F.calls files.old) (F.reads files.old)
-        (F.faults files.old))
-        (files_state (F.holds files.new) (F.calls files.new) (F.reads files.new)
-        (F.faults files.new))
-        (sink_state (O.taken out.old) (O.faults out.old))
-        (sink_state (O.taken out.new) (O.faults out.new))
-        (sink_state (E.taken err.old) (E.faults err.old))
-        (sink_state (E.taken err.new) (E.faults err.new)) result }
+        (F.state files.old)
+        (F.state files.new)
+        (O.state out.old)
+        (O.state out.new)
+        (E.state err.old)
+        (E.state err.new) result }
 {
     compare(alloc, pair.first(), pair.second(), files, out, err)
 }
@@ -212,23 +196,19 @@ pub(crate) fn run_recheck<F: Files, P: Spawner, O: Sink, E: Sink>(
 ) -> End
     ensures status { result.status ≡ status_of result.outcome }
     ensures taken { ¬ (result.outcome ≡ Came.Usage) }
-    ensures counts { (F.faults files.old ≤ F.faults files.new) ×
-        (O.faults out.old ≤ O.faults out.new) × (E.faults err.old ≤ E.faults err.new) }
+    ensures counts { ((F.state files.old).faults ≤ (F.state files.new).faults) ×
+        ((O.state out.old).faults ≤ (O.state out.new).faults) × ((E.state err.old).faults ≤ (E.state err.new).faults) }
     ensures why { (cause : Cause) → result.outcome ≡ Came.Unstarted cause →
-        cause ≡ P.cause spawner.new }
+        cause ≡ (P.state spawner.new).cause }
     ensures all { IsRecheckRun values.now
-        (files_state (F.holds files.old) (F.calls files.old) (F.reads files.old)
-        (F.faults files.old))
-        (files_state (F.holds files.new) (F.calls files.new) (F.reads files.new)
-        (F.faults files.new))
-        (spawner_seen (P.faults spawner.old) (P.started spawner.old) (P.retired spawner.old)
-        (P.commands spawner.old))
-        (spawner_seen (P.faults spawner.new) (P.started spawner.new) (P.retired spawner.new)
-        (P.commands spawner.new))
-        (sink_state (O.taken out.old) (O.faults out.old))
-        (sink_state (O.taken out.new) (O.faults out.new))
-        (sink_state (E.taken err.old) (E.faults err.old))
-        (sink_state (E.taken err.new) (E.faults err.new)) result }
+        (F.state files.old)
+        (F.state files.new)
+        (P.state spawner.old)
+        (P.state spawner.new)
+        (O.state out.old)
+        (O.state out.new)
+        (E.state err.old)
+        (E.state err.new) result }
 {
     recheck(alloc, values, files, spawner, out, err)
 }

@@ -4,9 +4,7 @@ ghost use Rattle.lw_words.specs.Cause.{CountedFault};
 ghost use Rattle.lw_report.specs.Outcomes.{status_of};
 ghost use Rattle.lw_report.specs.Writing.{TakesAll, TakesSome, said_text};
 ghost use Rattle.lw_report.specs.declared.outcome.Outcome.{Outcome as Came};
-ghost use Rattle.lw_children.specs.Spawners.{spawner_seen};
 ghost use Rattle.lw_learn.specs.LearnRun.{IsLearnRun};
-ghost use Rattle.lw_report.specs.States.{files_state, sink_state, source_state};
 ghost use Rattle.lw_check.specs.CheckRun.{IsCheckRun};
 ghost use Rattle.lw_trial.specs.TrialRun.{IsTrialRun};
 ghost use Rattle.lw_serve.specs.ServeRun.{IsServeRun};
@@ -48,11 +46,11 @@ fn refuse_arguments<E: Sink>(alloc: Global, stop: ArgumentStop, err: &mut E) -> 
     ensures learner { IsWithoutLearner result }
     ensures kept { result.kept.answers ≡ [] }
     ensures outputs { result.outputs ≡ None }
-    ensures said { ¬ CountedFault (E.faults err.old) (E.faults err.new) →
-        TakesAll (said_text None None [] 0 result.outcome) (E.taken err.old) (E.taken err.new) }
-    ensures part { TakesSome (said_text None None [] 0 result.outcome) (E.taken err.old)
-        (E.taken err.new) }
-    ensures counts { E.faults err.old ≤ E.faults err.new }
+    ensures said { ¬ CountedFault (E.state err.old).faults (E.state err.new).faults →
+        TakesAll (said_text None None [] 0 result.outcome) (E.state err.old).taken (E.state err.new).taken }
+    ensures part { TakesSome (said_text None None [] 0 result.outcome) (E.state err.old).taken
+        (E.state err.new).taken }
+    ensures counts { (E.state err.old).faults ≤ (E.state err.new).faults }
 {
     refuse(
         alloc,
@@ -74,11 +72,11 @@ pub fn without_arguments<E: Sink>(alloc: Global, err: &mut E) -> End
     ensures learner { IsWithoutLearner result }
     ensures kept { result.kept.answers ≡ [] }
     ensures outputs { result.outputs ≡ None }
-    ensures said { ¬ CountedFault (E.faults err.old) (E.faults err.new) →
-        TakesAll (said_text None None [] 0 Came.NoMemory) (E.taken err.old) (E.taken err.new) }
-    ensures part { TakesSome (said_text None None [] 0 Came.NoMemory) (E.taken err.old)
-        (E.taken err.new) }
-    ensures counts { E.faults err.old ≤ E.faults err.new }
+    ensures said { ¬ CountedFault (E.state err.old).faults (E.state err.new).faults →
+        TakesAll (said_text None None [] 0 Came.NoMemory) (E.state err.old).taken (E.state err.new).taken }
+    ensures part { TakesSome (said_text None None [] 0 Came.NoMemory) (E.state err.old).taken
+        (E.state err.new).taken }
+    ensures counts { (E.state err.old).faults ≤ (E.state err.new).faults }
 {
     refuse_arguments(alloc, ArgumentStop::NoMemory, err)
 }
@@ -108,128 +106,104 @@ pub fn run<
     ensures status { result.status ≡ status_of result.outcome }
 
     // No count of faults falls, nor that of the input's ends.
-    ensures counts { (F.faults files.old ≤ F.faults files.new) ×
-        (I.faults input.old ≤ I.faults input.new) × (I.ends input.old ≤ I.ends input.new) ×
-        (O.faults out.old ≤ O.faults out.new) × (E.faults err.old ≤ E.faults err.new) }
+    ensures counts { ((F.state files.old).faults ≤ (F.state files.new).faults) ×
+        ((I.state input.old).faults ≤ (I.state input.new).faults) × ((I.state input.old).ends ≤ (I.state input.new).ends) ×
+        ((O.state out.old).faults ≤ (O.state out.new).faults) × ((E.state err.old).faults ≤ (E.state err.new).faults) }
 
     // The arguments: the usage exactly where no command takes them, but that memory may run out.
     ensures usage { result.outcome ≡ Came.Usage → IsNoCall (texts arguments.now) }
     ensures refused { IsNoCall (texts arguments.now) →
         ((result.outcome ≡ Came.Usage) ⊎ (result.outcome ≡ Came.NoMemory)) ×
         IsRefused
-        (files_state (F.holds files.old) (F.calls files.old) (F.reads files.old)
-        (F.faults files.old))
-        (files_state (F.holds files.new) (F.calls files.new) (F.reads files.new)
-        (F.faults files.new))
-        (sink_state (O.taken out.old) (O.faults out.old))
-        (sink_state (O.taken out.new) (O.faults out.new))
-        (sink_state (E.taken err.old) (E.faults err.old))
-        (sink_state (E.taken err.new) (E.faults err.new)) result }
+        (F.state files.old)
+        (F.state files.new)
+        (O.state out.old)
+        (O.state out.new)
+        (E.state err.old)
+        (E.state err.new) result }
 
     // `learn`, where it takes the arguments: all that its contract says.
     ensures learn { IfSome (learn_values (texts arguments.now)) (λ values. IsLearnRun values
-        (files_state (F.holds files.old) (F.calls files.old) (F.reads files.old)
-        (F.faults files.old))
-        (files_state (F.holds files.new) (F.calls files.new) (F.reads files.new)
-        (F.faults files.new))
-        (spawner_seen (P.faults spawner.old) (P.started spawner.old) (P.retired spawner.old)
-        (P.commands spawner.old))
-        (spawner_seen (P.faults spawner.new) (P.started spawner.new) (P.retired spawner.new)
-        (P.commands spawner.new))
-        (sink_state (O.taken out.old) (O.faults out.old))
-        (sink_state (O.taken out.new) (O.faults out.new))
-        (sink_state (E.taken err.old) (E.faults err.old))
-        (sink_state (E.taken err.new) (E.faults err.new)) log.new.state result) }
+        (F.state files.old)
+        (F.state files.new)
+        (P.state spawner.old)
+        (P.state spawner.new)
+        (O.state out.old)
+        (O.state out.new)
+        (E.state err.old)
+        (E.state err.new) log.new.state result) }
 
     // Nothing but `learn`, `ask` and `recheck` starts a child.
     ensures unstarted { learn_values (texts arguments.now) ≡ None →
         ask_values (texts arguments.now) ≡ None →
         recheck_values (texts arguments.now) ≡ None →
-        spawner_seen (P.faults spawner.new) (P.started spawner.new) (P.retired spawner.new)
-        (P.commands spawner.new) ≡
-        spawner_seen (P.faults spawner.old) (P.started spawner.old) (P.retired spawner.old)
-        (P.commands spawner.old) }
+        P.state spawner.new ≡
+        P.state spawner.old }
 
     // `check`, where it takes the arguments: all that its contract says.
     ensures check { IfSome (check_values (texts arguments.now)) (λ values. IsCheckRun
         values.model values.answers values.extra
-        (files_state (F.holds files.old) (F.calls files.old) (F.reads files.old)
-        (F.faults files.old))
-        (files_state (F.holds files.new) (F.calls files.new) (F.reads files.new)
-        (F.faults files.new))
-        (sink_state (O.taken out.old) (O.faults out.old))
-        (sink_state (O.taken out.new) (O.faults out.new))
-        (sink_state (E.taken err.old) (E.faults err.old))
-        (sink_state (E.taken err.new) (E.faults err.new)) result) }
+        (F.state files.old)
+        (F.state files.new)
+        (O.state out.old)
+        (O.state out.new)
+        (E.state err.old)
+        (E.state err.new) result) }
 
     // `trial`, where it takes the arguments: all that its contract says, and no file is touched.
     ensures trial { IfSome (trial_values (texts arguments.now)) (λ values. IsTrialRun values
-        (sink_state (O.taken out.old) (O.faults out.old))
-        (sink_state (O.taken out.new) (O.faults out.new))
-        (sink_state (E.taken err.old) (E.faults err.old))
-        (sink_state (E.taken err.new) (E.faults err.new)) result) }
+        (O.state out.old)
+        (O.state out.new)
+        (E.state err.old)
+        (E.state err.new) result) }
     ensures untouched { IfSome (trial_values (texts arguments.now)) (λ _.
-        files_state (F.holds files.new) (F.calls files.new) (F.reads files.new)
-        (F.faults files.new) ≡
-        files_state (F.holds files.old) (F.calls files.old) (F.reads files.old)
-        (F.faults files.old)) }
+        F.state files.new ≡
+        F.state files.old) }
 
     // `serve`, where it takes the arguments: all that its contract says. Nothing else asks for input.
     ensures serve { IfSome (serve_values (texts arguments.now)) (λ model. IsServeRun model
-        (files_state (F.holds files.old) (F.calls files.old) (F.reads files.old)
-        (F.faults files.old))
-        (files_state (F.holds files.new) (F.calls files.new) (F.reads files.new)
-        (F.faults files.new))
-        (source_state (I.left input.old) (I.faults input.old) (I.ends input.old))
-        (source_state (I.left input.new) (I.faults input.new) (I.ends input.new))
-        (sink_state (O.taken out.old) (O.faults out.old))
-        (sink_state (O.taken out.new) (O.faults out.new))
-        (sink_state (E.taken err.old) (E.faults err.old))
-        (sink_state (E.taken err.new) (E.faults err.new)) result) }
+        (F.state files.old)
+        (F.state files.new)
+        (I.state input.old)
+        (I.state input.new)
+        (O.state out.old)
+        (O.state out.new)
+        (E.state err.old)
+        (E.state err.new) result) }
     // `ask`, `compare` and `recheck` likewise; why `ask` and `recheck` started no child is what the spawner tells.
     ensures ask { IfSome (ask_values (texts arguments.now)) (λ values. IsAskRun values
-        (files_state (F.holds files.old) (F.calls files.old) (F.reads files.old)
-        (F.faults files.old))
-        (files_state (F.holds files.new) (F.calls files.new) (F.reads files.new)
-        (F.faults files.new))
-        (spawner_seen (P.faults spawner.old) (P.started spawner.old) (P.retired spawner.old)
-        (P.commands spawner.old))
-        (spawner_seen (P.faults spawner.new) (P.started spawner.new) (P.retired spawner.new)
-        (P.commands spawner.new))
-        (sink_state (O.taken out.old) (O.faults out.old))
-        (sink_state (O.taken out.new) (O.faults out.new))
-        (sink_state (E.taken err.old) (E.faults err.old))
-        (sink_state (E.taken err.new) (E.faults err.new)) result) }
+        (F.state files.old)
+        (F.state files.new)
+        (P.state spawner.old)
+        (P.state spawner.new)
+        (O.state out.old)
+        (O.state out.new)
+        (E.state err.old)
+        (E.state err.new) result) }
     ensures ask_why { IfSome (ask_values (texts arguments.now)) (λ _. (cause : Cause) →
-        result.outcome ≡ Came.Unstarted cause → cause ≡ P.cause spawner.new) }
+        result.outcome ≡ Came.Unstarted cause → cause ≡ (P.state spawner.new).cause) }
     ensures compare { IfSome (compare_values (texts arguments.now)) (λ pair. IsCompareRun
         pair.first pair.second
-        (files_state (F.holds files.old) (F.calls files.old) (F.reads files.old)
-        (F.faults files.old))
-        (files_state (F.holds files.new) (F.calls files.new) (F.reads files.new)
-        (F.faults files.new))
-        (sink_state (O.taken out.old) (O.faults out.old))
-        (sink_state (O.taken out.new) (O.faults out.new))
-        (sink_state (E.taken err.old) (E.faults err.old))
-        (sink_state (E.taken err.new) (E.faults err.new)) result) }
+        (F.state files.old)
+        (F.state files.new)
+        (O.state out.old)
+        (O.state out.new)
+        (E.state err.old)
+        (E.state err.new) result) }
     ensures recheck { IfSome (recheck_values (texts arguments.now)) (λ values. IsRecheckRun values
-        (files_state (F.holds files.old) (F.calls files.old) (F.reads files.old)
-        (F.faults files.old))
-        (files_state (F.holds files.new) (F.calls files.new) (F.reads files.new)
-        (F.faults files.new))
-        (spawner_seen (P.faults spawner.old) (P.started spawner.old) (P.retired spawner.old)
-        (P.commands spawner.old))
-        (spawner_seen (P.faults spawner.new) (P.started spawner.new) (P.retired spawner.new)
-        (P.commands spawner.new))
-        (sink_state (O.taken out.old) (O.faults out.old))
-        (sink_state (O.taken out.new) (O.faults out.new))
-        (sink_state (E.taken err.old) (E.faults err.old))
-        (sink_state (E.taken err.new) (E.faults err.new)) result) }
+        (F.state files.old)
+        (F.state files.new)
+        (P.state spawner.old)
+        (P.state spawner.new)
+        (O.state out.old)
+        (O.state out.new)
+        (E.state err.old)
+        (E.state err.new) result) }
     ensures recheck_why { IfSome (recheck_values (texts arguments.now)) (λ _. (cause : Cause) →
-        result.outcome ≡ Came.Unstarted cause → cause ≡ P.cause spawner.new) }
+        result.outcome ≡ Came.Unstarted cause → cause ≡ (P.state spawner.new).cause) }
     ensures unasked { serve_values (texts arguments.now) ≡ None →
-        source_state (I.left input.new) (I.faults input.new) (I.ends input.new) ≡
-        source_state (I.left input.old) (I.faults input.old) (I.ends input.old) }
+        I.state input.new ≡
+        I.state input.old }
 {
     let call = match read_call(alloc, arguments) {
         Ok(call) => call,

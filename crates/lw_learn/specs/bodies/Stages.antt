@@ -8,13 +8,12 @@ use Rattle.lw_words.specs.declared.kept.KeptAnswer.{KeptAnswer}
 use Rattle.lw_json.specs.AnswersFault.{HasAnswersFault}
 use Rattle.lw_json.specs.AnswersFile.{IsAnswersFile}
 use Rattle.lw_json.specs.declared.answers.Answers.{Answers}
-use Rattle.lw_outside.specs.Files.{File}
+use Rattle.lw_outside.specs.Files.{File, FilesState}
 use Rattle.lw_wordlist.specs.Lines.{lines_in}
 use Rattle.lw_wordlist.specs.Words.{IsFirstUnknown}
 use Rattle.lw_prior.specs.FirstClash.{IsFirstClash}
 use Rattle.lw_prior.specs.Prior.{prior_answers}
 use Rattle.lw_report.specs.Reading.{ReadsFile}
-use Rattle.lw_report.specs.States.{FilesState}
 use Rattle.lw_report.specs.declared.outcome.Outcome.{Outcome}
 use Rattle.lw_report.specs.declared.outcome.Outcome.TheVariants.{Alphabets, NoMemory, Nondeterministic, UnknownLetter}
 use Rattle.lw_report.specs.declared.role.Role.TheVariants.{Prior}

@@ -8,7 +8,7 @@ use Rattle.lw_line.specs.declared.serving.ServedCause.TheVariants.{EndOfInput, L
 use Rattle.lw_line.specs.declared.serving.ServeFault.{ServeFault}
 use Rattle.lw_line.specs.declared.serving.ServeFault.TheVariants.{SourceFault, SinkFault}
 use Rattle.lw_report.specs.Outcomes.{StandsOrWants}
-use Rattle.lw_report.specs.States.{SinkState, SourceState}
+use Rattle.lw_outside.specs.Streams.{SinkState, SourceState}
 use Rattle.lw_report.specs.declared.outcome.Outcome.{Outcome}
 use Rattle.lw_serve.specs.Outcomes.{served_outcome}
 

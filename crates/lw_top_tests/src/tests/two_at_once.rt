@@ -78,13 +78,12 @@ fn put_front(text: &[u8], buffer: &mut [u8]) -> usize
 impl Link for MeetingLink {
     ghost use Rattle.std.specs.Prelude.{None};
 
-    ghost number = { λ l. l.number };
-
-    ghost faults = { λ l. l.faults };
-
-    ghost ends = { λ l. l.ends };
-
-    ghost transcript = { λ _. None };
+    ghost state = { λ l. record {
+      number = l.number;
+      faults = l.faults;
+      ends = l.ends;
+      transcript = None;
+    } };
 
     fn send(&mut self, bytes: &[u8]) -> Result<(), Failed> {
         if bytes == b"reset\n".as_slice() {
@@ -147,22 +146,20 @@ impl Spawner for MeetingSpawner {
 
     ghost use Rattle.std.specs.Prelude.{None, map};
 
-    ghost faults = { λ s. s.faults };
-
-    ghost started = { λ s. s.started };
-
-    ghost retired = { λ s. map (λ r. record {
+    ghost state = { λ s. record {
+      faults = s.faults;
+      started = s.started;
+      retired = map (λ r. record {
       number = r.0.number;
       faults = r.0.faults;
       ends = r.0.ends;
       transcript = None;
-    }) s.retired.items };
-
-    ghost commands = { λ _. None };
+    }) s.retired.items;
+      commands = None;
+      cause = Unknown;
+    } };
 
     ghost use Rattle.lw_outside.specs.declared.links.StartFailure.TheVariants.{Unknown};
-
-    ghost cause = { λ _. Unknown };
 
     fn failure(&self) -> StartFailure {
         StartFailure::Unknown

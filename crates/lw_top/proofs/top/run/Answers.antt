@@ -1,9 +1,7 @@
 use Rattle.std.proofs.Common.{◌≡◌, ◌∙◌, Err, List, ℕ, string_bytes, sym, ap, refl, subst}
-use Rattle.lw_children.specs.Spawners.{spawner_seen}
 use Rattle.lw_outside.specs.declared.links.StartFailure.{StartFailure}
 use Rattle.lw_report.specs.declared.outcome.Outcome.TheVariants.{Unstarted}
 use Rattle.lw_learn.specs.LearnRun.{IsLearnRun}
-use Rattle.lw_report.specs.States.{files_state, sink_state, source_state}
 use Rattle.lw_ask.specs.AskRun.{IsAskRun}
 use Rattle.lw_check.specs.CheckRun.{IsCheckRun}
 use Rattle.lw_compare.specs.CompareRun.{IsCompareRun}
@@ -35,15 +33,15 @@ returns-in-Learn-clause-learn g c =
     let F = g.F.Files in
     let O = g.O.Sink in
     let E = g.E.Sink in
-    let f = files_state (F.holds c.args.files.now) (F.calls c.args.files.now) (F.reads c.args.files.now) (F.faults c.args.files.now) in
-    let h = files_state (F.holds c.run_learn.new.files) (F.calls c.run_learn.new.files) (F.reads c.run_learn.new.files) (F.faults c.run_learn.new.files) in
-    let o = sink_state (O.taken c.args.out.now) (O.faults c.args.out.now) in
-    let p = sink_state (O.taken c.run_learn.new.out) (O.faults c.run_learn.new.out) in
-    let e = sink_state (E.taken c.args.err.now) (E.faults c.args.err.now) in
-    let d = sink_state (E.taken c.run_learn.new.err) (E.faults c.run_learn.new.err) in
+    let f = F.state c.args.files.now in
+    let h = F.state c.run_learn.new.files in
+    let o = O.state c.args.out.now in
+    let p = O.state c.run_learn.new.out in
+    let e = E.state c.args.err.now in
+    let d = E.state c.run_learn.new.err in
     let P = g.P.Spawner in
-    let b = spawner_seen (P.faults c.args.spawner.now) (P.started c.args.spawner.now) (P.retired c.args.spawner.now) (P.commands c.args.spawner.now) in
-    let z = spawner_seen (P.faults c.run_learn.new.spawner) (P.started c.run_learn.new.spawner) (P.retired c.run_learn.new.spawner) (P.commands c.run_learn.new.spawner) in
+    let b = P.state c.args.spawner.now in
+    let z = P.state c.run_learn.new.spawner in
     let words = texts c.args.arguments.now in
     let is = subst (IsCall words) c.in-Learn.is c.in-Ok.ensures.ok in
     at_value (learn_values words) c.in-Learn.values (λ a. IsLearnRun a f h b z o p e d c.run_learn.new.log.state c.run_learn.result) is.0 c.run_learn.ensures.all
@@ -59,12 +57,12 @@ returns-in-Check-clause-check g c =
     let F = g.F.Files in
     let O = g.O.Sink in
     let E = g.E.Sink in
-    let f = files_state (F.holds c.args.files.now) (F.calls c.args.files.now) (F.reads c.args.files.now) (F.faults c.args.files.now) in
-    let h = files_state (F.holds c.run_check.new.files) (F.calls c.run_check.new.files) (F.reads c.run_check.new.files) (F.faults c.run_check.new.files) in
-    let o = sink_state (O.taken c.args.out.now) (O.faults c.args.out.now) in
-    let p = sink_state (O.taken c.run_check.new.out) (O.faults c.run_check.new.out) in
-    let e = sink_state (E.taken c.args.err.now) (E.faults c.args.err.now) in
-    let d = sink_state (E.taken c.run_check.new.err) (E.faults c.run_check.new.err) in
+    let f = F.state c.args.files.now in
+    let h = F.state c.run_check.new.files in
+    let o = O.state c.args.out.now in
+    let p = O.state c.run_check.new.out in
+    let e = E.state c.args.err.now in
+    let d = E.state c.run_check.new.err in
     let words = texts c.args.arguments.now in
     let is = subst (IsCall words) c.in-Check.is c.in-Ok.ensures.ok in
     at_value (check_values words) c.in-Check.values (λ a. IsCheckRun a.model a.answers a.extra f h o p e d c.run_check.result) is.1 c.run_check.ensures.all
@@ -74,10 +72,10 @@ returns-in-Err-clause-learn g c =
     let F = g.F.Files in
     let O = g.O.Sink in
     let E = g.E.Sink in
-    let f = files_state (F.holds c.args.files.now) (F.calls c.args.files.now) (F.reads c.args.files.now) (F.faults c.args.files.now) in
-    let o = sink_state (O.taken c.args.out.now) (O.faults c.args.out.now) in
-    let e = sink_state (E.taken c.args.err.now) (E.faults c.args.err.now) in
-    let d = sink_state (E.taken c.refuse_arguments.new.err) (E.faults c.refuse_arguments.new.err) in
+    let f = F.state c.args.files.now in
+    let o = O.state c.args.out.now in
+    let e = E.state c.args.err.now in
+    let d = E.state c.refuse_arguments.new.err in
     let end = c.refuse_arguments.result in
     let outcome = c.refuse_arguments.ensures.outcome in
     let refused : IsRefused f f o o e d end = record {
@@ -91,7 +89,7 @@ returns-in-Err-clause-learn g c =
       part = c.refuse_arguments.ensures.part;
     } in
     let P = g.P.Spawner in
-    let b = spawner_seen (P.faults c.args.spawner.now) (P.started c.args.spawner.now) (P.retired c.args.spawner.now) (P.commands c.args.spawner.now) in
+    let b = P.state c.args.spawner.now in
     by_value (learn_values (texts c.args.arguments.now)) (λ a. IsLearnRun a f f b b o o e d c.log_refused.new.log.state end) (λ a is.
     wanted_run a f b o e d c.log_refused.new.log.state end (not_usage c.in-Err.stop end.outcome outcome (λ u.
     none_is_some a (sym (c.in-Err.ensures.refused (ap (λ (s : ArgumentStop). Err s) u)).0 ∙ is))) refused)
@@ -101,10 +99,10 @@ returns-in-Err-clause-check g c =
     let F = g.F.Files in
     let O = g.O.Sink in
     let E = g.E.Sink in
-    let f = files_state (F.holds c.args.files.now) (F.calls c.args.files.now) (F.reads c.args.files.now) (F.faults c.args.files.now) in
-    let o = sink_state (O.taken c.args.out.now) (O.faults c.args.out.now) in
-    let e = sink_state (E.taken c.args.err.now) (E.faults c.args.err.now) in
-    let d = sink_state (E.taken c.refuse_arguments.new.err) (E.faults c.refuse_arguments.new.err) in
+    let f = F.state c.args.files.now in
+    let o = O.state c.args.out.now in
+    let e = E.state c.args.err.now in
+    let d = E.state c.refuse_arguments.new.err in
     let end = c.refuse_arguments.result in
     let outcome = c.refuse_arguments.ensures.outcome in
     let refused : IsRefused f f o o e d end = record {
@@ -125,10 +123,10 @@ pub returns-in-Trial-clause-trial : goal.returns-in-Trial-clause-trial
 returns-in-Trial-clause-trial g c =
     let O = g.O.Sink in
     let E = g.E.Sink in
-    let o = sink_state (O.taken c.args.out.now) (O.faults c.args.out.now) in
-    let p = sink_state (O.taken c.run_trial.new.out) (O.faults c.run_trial.new.out) in
-    let e = sink_state (E.taken c.args.err.now) (E.faults c.args.err.now) in
-    let d = sink_state (E.taken c.run_trial.new.err) (E.faults c.run_trial.new.err) in
+    let o = O.state c.args.out.now in
+    let p = O.state c.run_trial.new.out in
+    let e = E.state c.args.err.now in
+    let d = E.state c.run_trial.new.err in
     let words = texts c.args.arguments.now in
     let is = subst (IsCall words) c.in-Trial.is c.in-Ok.ensures.ok in
     at_value (trial_values words) c.in-Trial.values (λ v. IsTrialRun v o p e d c.run_trial.result) is.2 c.run_trial.ensures.all
@@ -138,10 +136,10 @@ returns-in-Err-clause-trial g c =
     let F = g.F.Files in
     let O = g.O.Sink in
     let E = g.E.Sink in
-    let f = files_state (F.holds c.args.files.now) (F.calls c.args.files.now) (F.reads c.args.files.now) (F.faults c.args.files.now) in
-    let o = sink_state (O.taken c.args.out.now) (O.faults c.args.out.now) in
-    let e = sink_state (E.taken c.args.err.now) (E.faults c.args.err.now) in
-    let d = sink_state (E.taken c.refuse_arguments.new.err) (E.faults c.refuse_arguments.new.err) in
+    let f = F.state c.args.files.now in
+    let o = O.state c.args.out.now in
+    let e = E.state c.args.err.now in
+    let d = E.state c.refuse_arguments.new.err in
     let end = c.refuse_arguments.result in
     let outcome = c.refuse_arguments.ensures.outcome in
     let refused : IsRefused f f o o e d end = record {
@@ -167,14 +165,14 @@ returns-in-Serve-clause-serve g c =
     let I = g.I.Source in
     let O = g.O.Sink in
     let E = g.E.Sink in
-    let f = files_state (F.holds c.args.files.now) (F.calls c.args.files.now) (F.reads c.args.files.now) (F.faults c.args.files.now) in
-    let h = files_state (F.holds c.run_serve.new.files) (F.calls c.run_serve.new.files) (F.reads c.run_serve.new.files) (F.faults c.run_serve.new.files) in
-    let i = source_state (I.left c.args.input.now) (I.faults c.args.input.now) (I.ends c.args.input.now) in
-    let j = source_state (I.left c.run_serve.new.input) (I.faults c.run_serve.new.input) (I.ends c.run_serve.new.input) in
-    let o = sink_state (O.taken c.args.out.now) (O.faults c.args.out.now) in
-    let p = sink_state (O.taken c.run_serve.new.out) (O.faults c.run_serve.new.out) in
-    let e = sink_state (E.taken c.args.err.now) (E.faults c.args.err.now) in
-    let d = sink_state (E.taken c.run_serve.new.err) (E.faults c.run_serve.new.err) in
+    let f = F.state c.args.files.now in
+    let h = F.state c.run_serve.new.files in
+    let i = I.state c.args.input.now in
+    let j = I.state c.run_serve.new.input in
+    let o = O.state c.args.out.now in
+    let p = O.state c.run_serve.new.out in
+    let e = E.state c.args.err.now in
+    let d = E.state c.run_serve.new.err in
     let words = texts c.args.arguments.now in
     let is = subst (IsCall words) c.in-Serve.is c.in-Ok.ensures.ok in
     let Ran : List ℕ → Type 0 = λ m. IsServeRun m f h i j o p e d c.run_serve.result in
@@ -186,11 +184,11 @@ returns-in-Err-clause-serve g c =
     let I = g.I.Source in
     let O = g.O.Sink in
     let E = g.E.Sink in
-    let f = files_state (F.holds c.args.files.now) (F.calls c.args.files.now) (F.reads c.args.files.now) (F.faults c.args.files.now) in
-    let i = source_state (I.left c.args.input.now) (I.faults c.args.input.now) (I.ends c.args.input.now) in
-    let o = sink_state (O.taken c.args.out.now) (O.faults c.args.out.now) in
-    let e = sink_state (E.taken c.args.err.now) (E.faults c.args.err.now) in
-    let d = sink_state (E.taken c.refuse_arguments.new.err) (E.faults c.refuse_arguments.new.err) in
+    let f = F.state c.args.files.now in
+    let i = I.state c.args.input.now in
+    let o = O.state c.args.out.now in
+    let e = E.state c.args.err.now in
+    let d = E.state c.refuse_arguments.new.err in
     let end = c.refuse_arguments.result in
     let outcome = c.refuse_arguments.ensures.outcome in
     let refused : IsRefused f f o o e d end = record {
@@ -212,15 +210,15 @@ returns-in-Ask-clause-ask g c =
     let F = g.F.Files in
     let O = g.O.Sink in
     let E = g.E.Sink in
-    let f = files_state (F.holds c.args.files.now) (F.calls c.args.files.now) (F.reads c.args.files.now) (F.faults c.args.files.now) in
-    let h = files_state (F.holds c.run_ask.new.files) (F.calls c.run_ask.new.files) (F.reads c.run_ask.new.files) (F.faults c.run_ask.new.files) in
-    let o = sink_state (O.taken c.args.out.now) (O.faults c.args.out.now) in
-    let p = sink_state (O.taken c.run_ask.new.out) (O.faults c.run_ask.new.out) in
-    let e = sink_state (E.taken c.args.err.now) (E.faults c.args.err.now) in
-    let d = sink_state (E.taken c.run_ask.new.err) (E.faults c.run_ask.new.err) in
+    let f = F.state c.args.files.now in
+    let h = F.state c.run_ask.new.files in
+    let o = O.state c.args.out.now in
+    let p = O.state c.run_ask.new.out in
+    let e = E.state c.args.err.now in
+    let d = E.state c.run_ask.new.err in
     let P = g.P.Spawner in
-    let b = spawner_seen (P.faults c.args.spawner.now) (P.started c.args.spawner.now) (P.retired c.args.spawner.now) (P.commands c.args.spawner.now) in
-    let z = spawner_seen (P.faults c.run_ask.new.spawner) (P.started c.run_ask.new.spawner) (P.retired c.run_ask.new.spawner) (P.commands c.run_ask.new.spawner) in
+    let b = P.state c.args.spawner.now in
+    let z = P.state c.run_ask.new.spawner in
     let words = texts c.args.arguments.now in
     let is = subst (IsCall words) c.in-Ask.is c.in-Ok.ensures.ok in
     at_value (ask_values words) c.in-Ask.values (λ v. IsAskRun v f h b z o p e d c.run_ask.result) is.4 c.run_ask.ensures.all
@@ -230,12 +228,12 @@ returns-in-Err-clause-ask g c =
     let F = g.F.Files in
     let O = g.O.Sink in
     let E = g.E.Sink in
-    let f = files_state (F.holds c.args.files.now) (F.calls c.args.files.now) (F.reads c.args.files.now) (F.faults c.args.files.now) in
-    let o = sink_state (O.taken c.args.out.now) (O.faults c.args.out.now) in
-    let e = sink_state (E.taken c.args.err.now) (E.faults c.args.err.now) in
-    let d = sink_state (E.taken c.refuse_arguments.new.err) (E.faults c.refuse_arguments.new.err) in
+    let f = F.state c.args.files.now in
+    let o = O.state c.args.out.now in
+    let e = E.state c.args.err.now in
+    let d = E.state c.refuse_arguments.new.err in
     let P = g.P.Spawner in
-    let b = spawner_seen (P.faults c.args.spawner.now) (P.started c.args.spawner.now) (P.retired c.args.spawner.now) (P.commands c.args.spawner.now) in
+    let b = P.state c.args.spawner.now in
     let end = c.refuse_arguments.result in
     let outcome = c.refuse_arguments.ensures.outcome in
     let refused : IsRefused f f o o e d end = record {
@@ -263,12 +261,12 @@ returns-in-Compare-clause-compare g c =
     let F = g.F.Files in
     let O = g.O.Sink in
     let E = g.E.Sink in
-    let f = files_state (F.holds c.args.files.now) (F.calls c.args.files.now) (F.reads c.args.files.now) (F.faults c.args.files.now) in
-    let h = files_state (F.holds c.run_compare.new.files) (F.calls c.run_compare.new.files) (F.reads c.run_compare.new.files) (F.faults c.run_compare.new.files) in
-    let o = sink_state (O.taken c.args.out.now) (O.faults c.args.out.now) in
-    let p = sink_state (O.taken c.run_compare.new.out) (O.faults c.run_compare.new.out) in
-    let e = sink_state (E.taken c.args.err.now) (E.faults c.args.err.now) in
-    let d = sink_state (E.taken c.run_compare.new.err) (E.faults c.run_compare.new.err) in
+    let f = F.state c.args.files.now in
+    let h = F.state c.run_compare.new.files in
+    let o = O.state c.args.out.now in
+    let p = O.state c.run_compare.new.out in
+    let e = E.state c.args.err.now in
+    let d = E.state c.run_compare.new.err in
     let words = texts c.args.arguments.now in
     let is = subst (IsCall words) c.in-Compare.is c.in-Ok.ensures.ok in
     at_value (compare_values words) c.in-Compare.pair (λ v. IsCompareRun v.first v.second f h o p e d c.run_compare.result) is.5 c.run_compare.ensures.all
@@ -278,10 +276,10 @@ returns-in-Err-clause-compare g c =
     let F = g.F.Files in
     let O = g.O.Sink in
     let E = g.E.Sink in
-    let f = files_state (F.holds c.args.files.now) (F.calls c.args.files.now) (F.reads c.args.files.now) (F.faults c.args.files.now) in
-    let o = sink_state (O.taken c.args.out.now) (O.faults c.args.out.now) in
-    let e = sink_state (E.taken c.args.err.now) (E.faults c.args.err.now) in
-    let d = sink_state (E.taken c.refuse_arguments.new.err) (E.faults c.refuse_arguments.new.err) in
+    let f = F.state c.args.files.now in
+    let o = O.state c.args.out.now in
+    let e = E.state c.args.err.now in
+    let d = E.state c.refuse_arguments.new.err in
     let end = c.refuse_arguments.result in
     let outcome = c.refuse_arguments.ensures.outcome in
     let refused : IsRefused f f o o e d end = record {
@@ -303,15 +301,15 @@ returns-in-Recheck-clause-recheck g c =
     let F = g.F.Files in
     let O = g.O.Sink in
     let E = g.E.Sink in
-    let f = files_state (F.holds c.args.files.now) (F.calls c.args.files.now) (F.reads c.args.files.now) (F.faults c.args.files.now) in
-    let h = files_state (F.holds c.run_recheck.new.files) (F.calls c.run_recheck.new.files) (F.reads c.run_recheck.new.files) (F.faults c.run_recheck.new.files) in
-    let o = sink_state (O.taken c.args.out.now) (O.faults c.args.out.now) in
-    let p = sink_state (O.taken c.run_recheck.new.out) (O.faults c.run_recheck.new.out) in
-    let e = sink_state (E.taken c.args.err.now) (E.faults c.args.err.now) in
-    let d = sink_state (E.taken c.run_recheck.new.err) (E.faults c.run_recheck.new.err) in
+    let f = F.state c.args.files.now in
+    let h = F.state c.run_recheck.new.files in
+    let o = O.state c.args.out.now in
+    let p = O.state c.run_recheck.new.out in
+    let e = E.state c.args.err.now in
+    let d = E.state c.run_recheck.new.err in
     let P = g.P.Spawner in
-    let b = spawner_seen (P.faults c.args.spawner.now) (P.started c.args.spawner.now) (P.retired c.args.spawner.now) (P.commands c.args.spawner.now) in
-    let z = spawner_seen (P.faults c.run_recheck.new.spawner) (P.started c.run_recheck.new.spawner) (P.retired c.run_recheck.new.spawner) (P.commands c.run_recheck.new.spawner) in
+    let b = P.state c.args.spawner.now in
+    let z = P.state c.run_recheck.new.spawner in
     let words = texts c.args.arguments.now in
     let is = subst (IsCall words) c.in-Recheck.is c.in-Ok.ensures.ok in
     at_value (recheck_values words) c.in-Recheck.values (λ v. IsRecheckRun v f h b z o p e d c.run_recheck.result) is.6 c.run_recheck.ensures.all
@@ -321,12 +319,12 @@ returns-in-Err-clause-recheck g c =
     let F = g.F.Files in
     let O = g.O.Sink in
     let E = g.E.Sink in
-    let f = files_state (F.holds c.args.files.now) (F.calls c.args.files.now) (F.reads c.args.files.now) (F.faults c.args.files.now) in
-    let o = sink_state (O.taken c.args.out.now) (O.faults c.args.out.now) in
-    let e = sink_state (E.taken c.args.err.now) (E.faults c.args.err.now) in
-    let d = sink_state (E.taken c.refuse_arguments.new.err) (E.faults c.refuse_arguments.new.err) in
+    let f = F.state c.args.files.now in
+    let o = O.state c.args.out.now in
+    let e = E.state c.args.err.now in
+    let d = E.state c.refuse_arguments.new.err in
     let P = g.P.Spawner in
-    let b = spawner_seen (P.faults c.args.spawner.now) (P.started c.args.spawner.now) (P.retired c.args.spawner.now) (P.commands c.args.spawner.now) in
+    let b = P.state c.args.spawner.now in
     let end = c.refuse_arguments.result in
     let outcome = c.refuse_arguments.ensures.outcome in
     let refused : IsRefused f f o o e d end = record {
@@ -353,20 +351,20 @@ pub returns-in-Ask-clause-ask_why : goal.returns-in-Ask-clause-ask_why
 returns-in-Ask-clause-ask_why g c =
     let words = texts c.args.arguments.now in
     let is = subst (IsCall words) c.in-Ask.is c.in-Ok.ensures.ok in
-    at_value (ask_values words) c.in-Ask.values (λ _. (cause : StartFailure) → c.run_ask.result.outcome ≡ Unstarted cause → cause ≡ g.P.Spawner.cause c.run_ask.new.spawner) is.4 c.run_ask.ensures.why
+    at_value (ask_values words) c.in-Ask.values (λ _. (cause : StartFailure) → c.run_ask.result.outcome ≡ Unstarted cause → cause ≡ (g.P.Spawner.state c.run_ask.new.spawner).cause) is.4 c.run_ask.ensures.why
 
 pub returns-in-Err-clause-ask_why : goal.returns-in-Err-clause-ask_why
 returns-in-Err-clause-ask_why g c =
-    by_value (ask_values (texts c.args.arguments.now)) (λ _. (cause : StartFailure) → c.refuse_arguments.result.outcome ≡ Unstarted cause → cause ≡ g.P.Spawner.cause c.args.spawner.now)
+    by_value (ask_values (texts c.args.arguments.now)) (λ _. (cause : StartFailure) → c.refuse_arguments.result.outcome ≡ Unstarted cause → cause ≡ (g.P.Spawner.state c.args.spawner.now).cause)
     (λ v is cause came. absurd (never_unstarted c.in-Err.stop c.refuse_arguments.result.outcome cause c.refuse_arguments.ensures.outcome came))
 
 pub returns-in-Recheck-clause-recheck_why : goal.returns-in-Recheck-clause-recheck_why
 returns-in-Recheck-clause-recheck_why g c =
     let words = texts c.args.arguments.now in
     let is = subst (IsCall words) c.in-Recheck.is c.in-Ok.ensures.ok in
-    at_value (recheck_values words) c.in-Recheck.values (λ _. (cause : StartFailure) → c.run_recheck.result.outcome ≡ Unstarted cause → cause ≡ g.P.Spawner.cause c.run_recheck.new.spawner) is.6 c.run_recheck.ensures.why
+    at_value (recheck_values words) c.in-Recheck.values (λ _. (cause : StartFailure) → c.run_recheck.result.outcome ≡ Unstarted cause → cause ≡ (g.P.Spawner.state c.run_recheck.new.spawner).cause) is.6 c.run_recheck.ensures.why
 
 pub returns-in-Err-clause-recheck_why : goal.returns-in-Err-clause-recheck_why
 returns-in-Err-clause-recheck_why g c =
-    by_value (recheck_values (texts c.args.arguments.now)) (λ _. (cause : StartFailure) → c.refuse_arguments.result.outcome ≡ Unstarted cause → cause ≡ g.P.Spawner.cause c.args.spawner.now)
+    by_value (recheck_values (texts c.args.arguments.now)) (λ _. (cause : StartFailure) → c.refuse_arguments.result.outcome ≡ Unstarted cause → cause ≡ (g.P.Spawner.state c.args.spawner.now).cause)
     (λ v is cause came. absurd (never_unstarted c.in-Err.stop c.refuse_arguments.result.outcome cause c.refuse_arguments.ensures.outcome came))
