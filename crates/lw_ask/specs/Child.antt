@@ -39,14 +39,14 @@ pub record SpellsWhole (letters names : List (List ℕ)) (runs : List Run) (t : 
   pub runs_are : spelled letters names t ≡ runs
 
 -- a child was started, asked the words, and retired; the answers are the runs that went over its link
-pub record AsksChild (command letters : List (List ℕ)) (outputs : Option (List (List ℕ))) (words : List (List ℕ)) (before now : SpawnerState) (o p : SinkState) (kept : List KeptAnswer) (came : Result (Unit {0}) AskingStop) : Type 0 where
+pub record AsksChild (command letters : List (List ℕ)) (outputs : Option (List (List ℕ))) (words : List (List ℕ)) (before now : SpawnerState) (out_before out_now : SinkState) (kept : List KeptAnswer) (came : Result (Unit {0}) AskingStop) : Type 0 where
   pub link : LinkState
   pub spawner : StartsAndRetires command before now (link ∷ [])
   pub quiet : now.faults ≡ before.faults
   pub names : List (List ℕ)
   pub declared : IfSome outputs (λ ns. names ≡ ns)
   pub runs : List Run
-  pub put : HasPut None letters words names runs kept o p came
+  pub put : HasPut None letters words names runs kept out_before out_now came
   pub spells : IfTold (SpellsRuns letters outputs names runs link) link.transcript
   -- where all words were answered nothing is left out
   pub whole : OnOk came (IfTold (SpellsWhole letters names runs) link.transcript)

@@ -34,8 +34,10 @@ fn ask_one<S: Sul>(
         k ≡ kept_run (length session.old.journal) (run_of word.now k.outs)) }
     ensures journal { IfOk result (λ k.
         session.new.journal ≡ session.old.journal ++ run_of word.now k.outs ∷ []) }
-    ensures below { IfOk result (λ k. All (λ y. y < length (S.state session.new.sul).names) k.outs) }
-    ensures given { IfOk result (λ k. Answers (S.state session.old.sul).origin.machine word.now k.outs) }
+    ensures below { IfOk result (λ k. All (λ y. y < length (S.state session.new.sul).names)
+        k.outs) }
+    ensures given { IfOk result (λ k. Answers (S.state session.old.sul).origin.machine word.now
+        k.outs) }
     ensures live { OnOk result ((S.state session.new.sul).stop ≡ None) }
     ensures left { OnErr result (session.new.journal ≡ session.old.journal) }
     ensures stopped { (why : Reason) → result ≡ Err (Stop.Sul why) →
@@ -83,8 +85,10 @@ fn put_line<S: Sul, O: Sink>(
     ensures part { TakesSome (line_said letters.now (S.state sul.now).names answer.now)
         (O.state out.old).taken (O.state out.new).taken }
     ensures own { (why : Reason) → ¬ (result ≡ Err (Stop.Sul why)) }
-    ensures failed { result ≡ Err Stop.Sink → CountedFault (O.state out.old).faults (O.state out.new).faults }
-    ensures quiet { ¬ (result ≡ Err Stop.Sink) → (O.state out.new).faults ≡ (O.state out.old).faults }
+    ensures failed { result ≡ Err Stop.Sink → CountedFault (O.state out.old).faults
+        (O.state out.new).faults }
+    ensures quiet { ¬ (result ≡ Err Stop.Sink) → (O.state out.new).faults ≡
+        (O.state out.old).faults }
     ensures counts { (O.state out.old).faults ≤ (O.state out.new).faults }
 {
     let line = answer_line(
@@ -110,19 +114,21 @@ fn ask_word<S: Sul, O: Sink>(
     requires instance { session.old.instance ≡ 0 }
     requires letters { IsWord (length letters.now) word.now }
     requires inputs { (S.state session.old.sul).inputs ≡ length letters.now }
-    ensures ok { OnOk result (GainsLine (S.state session.old.sul).origin.machine letters.now word.now
-        (S.state session.old.sul).names (S.state session.new.sul).names session.old.journal
-        session.new.journal kept.old.answers kept.new.answers (O.state out.old).taken
-        (O.state out.new).taken) }
+    ensures ok { OnOk result (GainsLine (S.state session.old.sul).origin.machine letters.now
+        word.now (S.state session.old.sul).names (S.state session.new.sul).names
+        session.old.journal session.new.journal kept.old.answers kept.new.answers
+        (O.state out.old).taken (O.state out.new).taken) }
     ensures live { OnOk result ((S.state session.new.sul).stop ≡ None) }
-    ensures err { IfErr result (StopsOne (S.state session.old.sul).origin.machine letters.now word.now
-        (S.state session.old.sul).names (S.state session.new.sul).names session.old.journal
-        session.new.journal kept.old.answers kept.new.answers (O.state out.old).taken
-        (O.state out.new).taken) }
+    ensures err { IfErr result (StopsOne (S.state session.old.sul).origin.machine letters.now
+        word.now (S.state session.old.sul).names (S.state session.new.sul).names
+        session.old.journal session.new.journal kept.old.answers kept.new.answers
+        (O.state out.old).taken (O.state out.new).taken) }
     ensures stopped { (why : Reason) → result ≡ Err (Stop.Sul why) →
         (S.state session.new.sul).stop ≡ Some why }
-    ensures failed { result ≡ Err Stop.Sink → CountedFault (O.state out.old).faults (O.state out.new).faults }
-    ensures quiet { ¬ (result ≡ Err Stop.Sink) → (O.state out.new).faults ≡ (O.state out.old).faults }
+    ensures failed { result ≡ Err Stop.Sink → CountedFault (O.state out.old).faults
+        (O.state out.new).faults }
+    ensures quiet { ¬ (result ≡ Err Stop.Sink) → (O.state out.new).faults ≡
+        (O.state out.old).faults }
     ensures grown { IsGrown (S.state session.old.sul).names (S.state session.new.sul).names }
     ensures counts { (O.state out.old).faults ≤ (O.state out.new).faults }
     ensures instance { session.new.instance ≡ session.old.instance }
@@ -149,17 +155,19 @@ pub fn ask_words<S: Sul, O: Sink>(
     requires live { (S.state session.old.sul).stop ≡ None }
     requires letters { All (IsWord (length letters.now)) words.now }
     requires inputs { (S.state session.old.sul).inputs ≡ length letters.now }
-    ensures ok { OnOk result (HasAsked (S.state session.old.sul).origin.machine letters.now words.now
-        (S.state session.new.sul).names session.new.journal kept.new.answers (O.state out.old).taken
-        (O.state out.new).taken) }
+    ensures ok { OnOk result (HasAsked (S.state session.old.sul).origin.machine letters.now
+        words.now (S.state session.new.sul).names session.new.journal kept.new.answers
+        (O.state out.old).taken (O.state out.new).taken) }
     ensures live { OnOk result ((S.state session.new.sul).stop ≡ None) }
     ensures err { IfErr result (HasStopped (S.state session.old.sul).origin.machine letters.now
         words.now (S.state session.new.sul).names session.new.journal kept.new.answers
         (O.state out.old).taken (O.state out.new).taken) }
     ensures stopped { (why : Reason) → result ≡ Err (Stop.Sul why) →
         (S.state session.new.sul).stop ≡ Some why }
-    ensures failed { result ≡ Err Stop.Sink → CountedFault (O.state out.old).faults (O.state out.new).faults }
-    ensures quiet { ¬ (result ≡ Err Stop.Sink) → (O.state out.new).faults ≡ (O.state out.old).faults }
+    ensures failed { result ≡ Err Stop.Sink → CountedFault (O.state out.old).faults
+        (O.state out.new).faults }
+    ensures quiet { ¬ (result ≡ Err Stop.Sink) → (O.state out.new).faults ≡
+        (O.state out.old).faults }
     ensures grown { IsGrown (S.state session.old.sul).names (S.state session.new.sul).names }
     ensures counts { (O.state out.old).faults ≤ (O.state out.new).faults }
     ensures instance { session.new.instance ≡ session.old.instance }
@@ -192,8 +200,7 @@ pub(crate) fn ask_session<S: Sul, O: Sink>(
     requires letters { All (IsWord (length letters.now)) words.now }
     requires inputs { (S.state session.old.sul).inputs ≡ length letters.now }
     ensures put { HasPut (S.state session.old.sul).origin.machine letters.now words.now
-        (S.state session.new.sul).names session.new.journal result.kept.answers
-        (O.state out.old)
+        (S.state session.new.sul).names session.new.journal result.kept.answers (O.state out.old)
         (O.state out.new) result.came }
     ensures live { OnOk result.came ((S.state session.new.sul).stop ≡ None) }
     ensures stopped { (why : Reason) → result.came ≡ Err (Stop.Sul why) →

@@ -26,7 +26,8 @@ fn line_over<L: Link>(
 ) -> Result<LineSul<L>, L>
     requires { IsUntouched (L.state link).transcript }
     ensures ok { IfOk result (λ s. s ≡ new_line link letters outputs) }
-    ensures fresh { IfOk result (λ s. NoRuns (told_runs s.letters s.names (L.state s.link).transcript)) }
+    ensures fresh { IfOk result
+        (λ s. NoRuns (told_runs s.letters s.names (L.state s.link).transcript)) }
     ensures back { IfErr result (λ l. l ≡ link) }
 {
     match outputs {
@@ -48,17 +49,16 @@ pub fn start_line<P: Spawner>(
 ) -> Result<LineSul<P::Link>, StartStop>
     requires words { 0 < length words.now }
     ensures ok { IfOk result (λ s. s ≡ new_line s.link letters outputs) }
-    ensures fresh { IfOk result (λ s. NoRuns (told_runs s.letters s.names
-        (P.Link.state s.link).transcript)) }
-    ensures number { IfOk result (λ s. (P.Link.state s.link).number ≡ (P.state spawner.old).started) }
-    ensures one { OnOk result (Starts (map (λ w. string_bytes w) words.now)
-        (P.state spawner.old)
+    ensures fresh { IfOk result
+        (λ s. NoRuns (told_runs s.letters s.names (P.Link.state s.link).transcript)) }
+    ensures number { IfOk result (λ s. (P.Link.state s.link).number ≡
+        (P.state spawner.old).started) }
+    ensures one { OnOk result (Starts (map (λ w. string_bytes w) words.now) (P.state spawner.old)
         (P.state spawner.new) 1) }
     ensures earlier { OnOk result (All (λ r. r.number < (P.state spawner.old).started)
         (P.state spawner.old).retired) }
     ensures err { IfErr result (HasNotStarted (map (λ w. string_bytes w) words.now)
-        (P.state spawner.old)
-        (P.state spawner.new)) }
+        (P.state spawner.old) (P.state spawner.new)) }
 {
     let link = match spawner.start(words) {
         Ok(link) => link,
@@ -77,8 +77,7 @@ pub fn start_line<P: Spawner>(
 pub fn link_of<L: Link + Drop>(session: Session<LineSul<L>>) -> L
     ensures link { result ≡ session.sul.link }
     ensures bears { IsBorneOut session.sul.letters session.sul.names session.sul.most
-        session.sul.outputs session.sul.stop session.sul.cut session.journal
-        (L.state result) }
+        session.sul.outputs session.sul.stop session.sul.cut session.journal (L.state result) }
 {
     // for the proof alone: what the system's runs are, and that its names are few
     let _runs = session.runs();
@@ -99,14 +98,10 @@ pub(crate) fn ask_child<P: Spawner, O: Sink>(
     requires command { 0 < length command.now }
     requires words { All (IsWord (length letters.now)) words.now }
     ensures ok { IfOk result (λ a. AsksChild (map (λ w. string_bytes w) command.now) letters.now
-        outputs words.now
-        (P.state spawner.old)
-        (P.state spawner.new)
-        (O.state out.old)
+        outputs words.now (P.state spawner.old) (P.state spawner.new) (O.state out.old)
         (O.state out.new) a.kept.answers a.came) }
     ensures err { IfErr result (HasNotStarted (map (λ w. string_bytes w) command.now)
-        (P.state spawner.old)
-        (P.state spawner.new)) }
+        (P.state spawner.old) (P.state spawner.new)) }
     ensures unput { OnErr result (((O.state out.new).taken ≡ (O.state out.old).taken) ×
         ((O.state out.new).faults ≡ (O.state out.old).faults)) }
     ensures counts { (O.state out.old).faults ≤ (O.state out.new).faults }

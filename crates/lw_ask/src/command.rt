@@ -88,9 +88,8 @@ struct Told {
 /// Asks a machine.
 fn ask_table<O: Sink>(alloc: Global, machine: Machine, words: &Words, out: &mut O) -> Told
     requires { All (IsWord (length machine.inputs)) words.now }
-    ensures asks { AsksMachine machine words.now
-        (O.state out.old)
-        (O.state out.new) result.kept.answers result.outcome }
+    ensures asks { AsksMachine machine words.now (O.state out.old) (O.state out.new)
+        result.kept.answers result.outcome }
     ensures counts { (O.state out.old).faults ≤ (O.state out.new).faults }
 {
     let Machine {
@@ -116,11 +115,8 @@ fn ask_command<P: Spawner, O: Sink>(
 ) -> Told
     requires command { 0 < length command.words }
     requires words { All (IsWord (length command.inputs)) words.now }
-    ensures asks { AsksCommand command words.now
-        (P.state spawner.old)
-        (P.state spawner.new)
-        (O.state out.old)
-        (O.state out.new) result.kept.answers result.outcome }
+    ensures asks { AsksCommand command words.now (P.state spawner.old) (P.state spawner.new)
+        (O.state out.old) (O.state out.new) result.kept.answers result.outcome }
     ensures why { (cause : Cause) → result.outcome ≡ Came.Unstarted cause →
         cause ≡ (P.state spawner.new).cause }
     ensures counts { (O.state out.old).faults ≤ (O.state out.new).faults }
@@ -152,11 +148,8 @@ fn ask_system<P: Spawner, O: Sink>(
 ) -> Told
     requires command { HasWords system }
     requires words { All (IsWord (length (letters_of system))) words.now }
-    ensures asks { AsksSystem system words.now
-        (P.state spawner.old)
-        (P.state spawner.new)
-        (O.state out.old)
-        (O.state out.new) result.kept.answers result.outcome }
+    ensures asks { AsksSystem system words.now (P.state spawner.old) (P.state spawner.new)
+        (O.state out.old) (O.state out.new) result.kept.answers result.outcome }
     ensures why { (cause : Cause) → result.outcome ≡ Came.Unstarted cause →
         cause ≡ (P.state spawner.new).cause }
     ensures counts { (O.state out.old).faults ≤ (O.state out.new).faults }
@@ -169,9 +162,7 @@ fn ask_system<P: Spawner, O: Sink>(
 
 /// Puts a hint to a stream that may refuse it.
 fn put_hint<E: Sink>(hint: &[u8], err: &mut E)
-    ensures { TakesHint hint.now
-        (E.state err.old)
-        (E.state err.new) }
+    ensures { TakesHint hint.now (E.state err.old) (E.state err.new) }
 {
     if hint.is_empty() {
         return;
@@ -182,9 +173,8 @@ fn put_hint<E: Sink>(hint: &[u8], err: &mut E)
 /// Ends a call: puts the outcome's text to `err`.
 fn end_call<E: Sink>(alloc: Global, told: Told, err: &mut E) -> End
     ensures status { result.status ≡ status_of result.outcome }
-    ensures ended { IsEnd told.outcome told.kept.answers
-        (E.state err.old)
-        (E.state err.new) result }
+    ensures ended { IsEnd told.outcome told.kept.answers (E.state err.old) (E.state err.new)
+        result }
     ensures counts { (E.state err.old).faults ≤ (E.state err.new).faults }
 {
     let Told { kept, outcome } = told;
@@ -200,11 +190,9 @@ fn ask_texts<P: Spawner, O: Sink>(
     out: &mut O,
 ) -> Told
     requires command { HasWords system }
-    ensures asks { AsksTexts system (map (λ s. string_bytes s) texts.now)
-        (P.state spawner.old)
-        (P.state spawner.new)
-        (O.state out.old)
-        (O.state out.new) result.kept.answers result.outcome }
+    ensures asks { AsksTexts system (map (λ s. string_bytes s) texts.now) (P.state spawner.old)
+        (P.state spawner.new) (O.state out.old) (O.state out.new) result.kept.answers
+        result.outcome }
     ensures why { (cause : Cause) → result.outcome ≡ Came.Unstarted cause →
         cause ≡ (P.state spawner.new).cause }
     ensures counts { (O.state out.old).faults ≤ (O.state out.new).faults }
@@ -231,21 +219,16 @@ pub fn ask<F: Files, P: Spawner, O: Sink, E: Sink>(
     err: &mut E,
 ) -> End
     ensures status { result.status ≡ status_of result.outcome }
-    ensures ran { IsAskRun arguments.now
-        (F.state files.old)
-        (F.state files.new)
-        (P.state spawner.old)
-        (P.state spawner.new)
-        (O.state out.old)
-        (O.state out.new)
-        (E.state err.old)
-        (E.state err.new) result }
+    ensures ran { IsAskRun arguments.now (F.state files.old) (F.state files.new)
+        (P.state spawner.old) (P.state spawner.new) (O.state out.old) (O.state out.new)
+        (E.state err.old) (E.state err.new) result }
     // Why no child was started is what the spawner tells.
     ensures why { (cause : Cause) → result.outcome ≡ Came.Unstarted cause →
         cause ≡ (P.state spawner.new).cause }
     // No count of faults falls.
     ensures counts { ((F.state files.old).faults ≤ (F.state files.new).faults) ×
-        ((O.state out.old).faults ≤ (O.state out.new).faults) × ((E.state err.old).faults ≤ (E.state err.new).faults) }
+        ((O.state out.old).faults ≤ (O.state out.new).faults) ×
+        ((E.state err.old).faults ≤ (E.state err.new).faults) }
 {
     let Found { system, hint } = find_system(alloc, arguments.source(), arguments.system(), files);
     put_hint(hint.as_slice(), err);

@@ -23,9 +23,7 @@ pub(crate) struct Found {
 
 /// Reads a table file.
 fn read_table<F: Files>(alloc: Global, name: &str, files: &mut F) -> Result<System, Outcome>
-    ensures read { HasReadMachine name.now
-        (F.state files.old)
-        (F.state files.new) result }
+    ensures read { HasReadMachine name.now (F.state files.old) (F.state files.new) result }
     ensures letters { IfOk result (λ s. length (letters_of s) ≤ 64) }
     ensures words { IfOk result HasWords }
 {
@@ -38,9 +36,7 @@ fn read_table<F: Files>(alloc: Global, name: &str, files: &mut F) -> Result<Syst
 /// The system that a setup says. The table file that it names is read, if it names one.
 fn read_said<F: Files>(alloc: Global, setup: Setup, files: &mut F) -> Result<System, Outcome>
     requires file { (bytes : List ℕ) × IsSetupFile bytes setup }
-    ensures read { HasReadSaid setup
-        (F.state files.old)
-        (F.state files.new) result }
+    ensures read { HasReadSaid setup (F.state files.old) (F.state files.new) result }
     ensures letters { IfOk result (λ s. length (letters_of s) ≤ 64) }
     ensures words { IfOk result HasWords }
 {
@@ -60,9 +56,7 @@ fn read_said<F: Files>(alloc: Global, setup: Setup, files: &mut F) -> Result<Sys
 
 /// Finds the system that a setup file says.
 fn find_setup<F: Files>(alloc: Global, name: &str, files: &mut F) -> Found
-    ensures found { HasFound Kind.Setup name.now
-        (F.state files.old)
-        (F.state files.new)
+    ensures found { HasFound Kind.Setup name.now (F.state files.old) (F.state files.new)
         result.system result.hint.items }
     ensures letters { IfOk result.system (λ s. length (letters_of s) ≤ 64) }
     ensures words { IfOk result.system HasWords }
@@ -86,10 +80,8 @@ pub(crate) fn find_system<F: Files>(
     name: &str,
     files: &mut F,
 ) -> Found
-    ensures found { HasFound source name.now
-        (F.state files.old)
-        (F.state files.new)
-        result.system result.hint.items }
+    ensures found { HasFound source name.now (F.state files.old) (F.state files.new) result.system
+        result.hint.items }
     ensures letters { IfOk result.system (λ s. length (letters_of s) ≤ 64) }
     ensures words { IfOk result.system HasWords }
 {
@@ -109,9 +101,7 @@ pub fn read_system<F: Files>(
     name: &str,
     files: &mut F,
 ) -> Result<System, Outcome>
-    ensures read { HasReadSystem source name.now
-        (F.state files.old)
-        (F.state files.new) result }
+    ensures read { HasReadSystem source name.now (F.state files.old) (F.state files.new) result }
     ensures letters { IfOk result (λ s. length (letters_of s) ≤ 64) }
     ensures words { IfOk result HasWords }
 {

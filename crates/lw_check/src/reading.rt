@@ -22,12 +22,9 @@ pub(crate) fn read_pair<F: Files>(
     model: &str,
     answers: &str,
 ) -> Result<Read, Outcome>
-    ensures ok { IfOk result (λ read. ReadsPair model.now answers.now
-        (F.state files.old)
-        (F.state files.new)
-        (pair_of read.machine read.answers)) }
-    ensures err { IfErr result (IsUnread model.now answers.now
-        (F.state files.old)
+    ensures ok { IfOk result (λ read. ReadsPair model.now answers.now (F.state files.old)
+        (F.state files.new) (pair_of read.machine read.answers)) }
+    ensures err { IfErr result (IsUnread model.now answers.now (F.state files.old)
         (F.state files.new)) }
     ensures counts { (F.state files.old).faults ≤ (F.state files.new).faults }
     ensures same { (F.state files.new).holds ≡ (F.state files.old).holds }

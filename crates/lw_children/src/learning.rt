@@ -84,10 +84,8 @@ fn give_up<P: Spawner>(
     ensures kept { result.kept.answers ≡ cache.kept }
     ensures names { result.names ≡ names }
     ensures cut { result.cut ≡ None }
-    ensures retires { RetiresWith P.Link.state
-        broken.sessions.items broken.unmade.link
-        (P.state spawner.old)
-        (P.state spawner.new) }
+    ensures retires { RetiresWith P.Link.state broken.sessions.items broken.unmade.link
+        (P.state spawner.old) (P.state spawner.new) }
 {
     let Broken { sessions, unmade } = broken;
     let learned = Err(stop_of(unmade.refusal, sessions.len()));
@@ -119,12 +117,10 @@ fn learn_and_retire<P: Spawner, R: Threads + Wait + Sync + Drop, W: Watcher>(
     requires named_few { length words.now < 2 ^ 32 }
     requires few { extra ≤ 4 }
     requires most { (1 ≤ max_states) × (max_states ≤ 1024) }
-    requires children { IsChildrenPool P.Link.state
-        (P.state spawner.old) pool }
+    requires children { IsChildrenPool P.Link.state (P.state spawner.old) pool }
     ensures asked { OnOk result.learned (AnswersWords words.now result.kept.answers) }
     ensures cut { IfSome result.cut (λ run. IsStopOf run.instance result.learned) }
-    ensures ended { HasRetired kind P.Link.state extra max_states pool
-        (P.state spawner.old)
+    ensures ended { HasRetired kind P.Link.state extra max_states pool (P.state spawner.old)
         (P.state spawner.new) result.learned result.kept.answers result.names }
 {
     let LearnedWith { learned, pool } = learn_with(
@@ -170,9 +166,8 @@ pub(crate) fn learn_over<P: Spawner, R: Threads + Wait + Sync + Drop, W: Watcher
     requires few { extra ≤ 4 }
     requires most { (1 ≤ max_states) × (max_states ≤ 1024) }
     ensures found { IsOfChildren kind command.now.words command.now.inputs command.now.outputs
-        workers extra max_states cache.kept
-        (P.state spawner.old)
-        (P.state spawner.new) result.learned result.kept.answers result.names.names }
+        workers extra max_states cache.kept (P.state spawner.old) (P.state spawner.new)
+        result.learned result.kept.answers result.names.names }
     ensures sharing { declared_by result.names.names result.names.brought ≡
         declared_by names.names names.brought }
     ensures come_up { FreeComeUp result.kept.answers result.names }

@@ -9,8 +9,7 @@ use lw_sul::{Session, Sul};
 /// The link of a session that is at its end.
 fn link_of<L: Link + Drop>(session: Session<LineSul<L>>) -> L
     ensures link { result ≡ session.sul.link }
-    ensures bears { BearsOut (line_seen L.state session)
-        (L.state result) }
+    ensures bears { BearsOut (line_seen L.state session) (L.state result) }
 {
     // for the proof alone: what the system's runs are, and that its names are few
     let _runs = session.runs();
@@ -20,11 +19,8 @@ fn link_of<L: Link + Drop>(session: Session<LineSul<L>>) -> L
 
 /// Retires the links of sessions, in their order. May wait for the children's ends.
 pub fn retire_all<P: Spawner>(spawner: &mut P, sessions: Vec<Session<LineSul<P::Link>>>)
-    requires linked { AreLinked P.Link.state sessions.items
-        (P.state spawner.old) }
-    ensures { RetiresAll P.Link.state sessions.items
-        (P.state spawner.old)
-        (P.state spawner.new) }
+    requires linked { AreLinked P.Link.state sessions.items (P.state spawner.old) }
+    ensures { RetiresAll P.Link.state sessions.items (P.state spawner.old) (P.state spawner.new) }
 {
     for session in sessions {
         let link = link_of(session);
@@ -38,11 +34,8 @@ pub fn retire_with<P: Spawner>(
     sessions: Vec<Session<LineSul<P::Link>>>,
     loose: Option<P::Link>,
 )
-    requires linked { AreLinkedWith P.Link.state sessions.items loose
-        (P.state spawner.old) }
-    ensures { RetiresWith P.Link.state sessions.items
-        loose
-        (P.state spawner.old)
+    requires linked { AreLinkedWith P.Link.state sessions.items loose (P.state spawner.old) }
+    ensures { RetiresWith P.Link.state sessions.items loose (P.state spawner.old)
         (P.state spawner.new) }
 {
     retire_all(spawner, sessions);

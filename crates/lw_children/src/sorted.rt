@@ -62,8 +62,8 @@ fn learn_free<P: Spawner, R: Threads + Wait + Sync + Drop, W: Watcher>(
     ensures asked { OnOk result.learned (AnswersWords words.now result.kept.answers) }
     ensures cut { IfSome result.cut (λ run. IsStopOf run.instance result.learned) }
     ensures found { IsOfFree kind command.now.words command.now.inputs workers extra max_states
-        (P.state spawner.old)
-        (P.state spawner.new) result.learned result.kept.answers result.names.names }
+        (P.state spawner.old) (P.state spawner.new) result.learned result.kept.answers
+        result.names.names }
 {
     let mut to = match new_numbers(alloc) {
         Ok(to) => to,
@@ -125,10 +125,8 @@ pub fn learn_children<P: Spawner, R: Threads + Wait + Sync + Drop, W: Watcher>(
     ensures asked { OnOk result.learned (AnswersWords words.now result.kept.answers) }
     ensures cut { IfSome result.cut (λ run. IsStopOf run.instance result.learned) }
     ensures found { IsOfCommand kind command.now.words command.now.inputs command.now.outputs
-        workers
-        extra max_states cache.kept
-        (P.state spawner.old)
-        (P.state spawner.new) result.learned result.kept.answers result.names.names }
+        workers extra max_states cache.kept (P.state spawner.old) (P.state spawner.new)
+        result.learned result.kept.answers result.names.names }
 {
     match command.outputs {
         Some(_) => learn_over(

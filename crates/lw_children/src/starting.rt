@@ -110,18 +110,19 @@ fn start_one<P: Spawner>(
     instance: u32,
 ) -> Result<Session<LineSul<P::Link>>, Unmade<P::Link>>
     requires words { 0 < length command.now.words }
-    ensures made { IfOk result (λ s.
-        (s ≡ new_session instance s.sul.link command.now.inputs command.now.outputs) ×
+    ensures made { IfOk result
+        (λ s. (s ≡ new_session instance s.sul.link command.now.inputs command.now.outputs) ×
         ((P.Link.state s.sul.link).number ≡ (P.state spawner.old).started)) }
-    ensures unmade { IfErr result (λ u. IsLoose P.Link.state (P.state spawner.old).started u.link) }
-    ensures earlier { OnOk result (AreEarlier (P.state spawner.old).retired (P.state spawner.old).started) }
-    ensures earlier_too { IfErr result (λ u. IfSome u.link (λ l.
-        AreEarlier (P.state spawner.old).retired (P.state spawner.old).started)) }
-    ensures one { OnOk result (Starts command.now.words
-        (P.state spawner.old)
+    ensures unmade { IfErr result (λ u. IsLoose P.Link.state (P.state spawner.old).started
+        u.link) }
+    ensures earlier { OnOk result (AreEarlier (P.state spawner.old).retired
+        (P.state spawner.old).started) }
+    ensures earlier_too { IfErr result
+        (λ u. IfSome u.link (λ l. AreEarlier (P.state spawner.old).retired
+        (P.state spawner.old).started)) }
+    ensures one { OnOk result (Starts command.now.words (P.state spawner.old)
         (P.state spawner.new) 1) }
-    ensures none { IfErr result (λ u. StartsSome command.now.words
-        (P.state spawner.old)
+    ensures none { IfErr result (λ u. StartsSome command.now.words (P.state spawner.old)
         (P.state spawner.new) (count_link u.link)) }
     ensures failed { IfErr result (λ u. u.refusal ≡ Why.Failed → (u.link ≡ None) ×
         CountedFault (P.state spawner.old).faults (P.state spawner.new).faults) }
@@ -158,17 +159,15 @@ pub fn start_all<P: Spawner>(
 ) -> Result<Vec<Session<LineSul<P::Link>>>, Broken<P::Link>>
     requires words { 0 < length command.now.words }
     ensures count { IfOk result (λ sessions. length sessions.items ≡ workers) }
-    ensures made { IfOk result (λ sessions. HasBegun P.Link.state command.now.inputs command.now.outputs
-        (P.state spawner.old) sessions.items None) }
-    ensures all { OnOk result (Starts command.now.words
-        (P.state spawner.old)
+    ensures made { IfOk result (λ sessions. HasBegun P.Link.state command.now.inputs
+        command.now.outputs (P.state spawner.old) sessions.items None) }
+    ensures all { OnOk result (Starts command.now.words (P.state spawner.old)
         (P.state spawner.new) workers) }
     ensures few { IfErr result (λ b. length b.sessions.items + count_link b.unmade.link ≤ workers ×
         (length b.sessions.items < workers)) }
-    ensures broken { IfErr result (λ b. HasBegun P.Link.state command.now.inputs command.now.outputs
-        (P.state spawner.old) b.sessions.items b.unmade.link) }
-    ensures some { IfErr result (λ b. StartsSome command.now.words
-        (P.state spawner.old)
+    ensures broken { IfErr result (λ b. HasBegun P.Link.state command.now.inputs
+        command.now.outputs (P.state spawner.old) b.sessions.items b.unmade.link) }
+    ensures some { IfErr result (λ b. StartsSome command.now.words (P.state spawner.old)
         (P.state spawner.new) (length b.sessions.items + count_link b.unmade.link)) }
     ensures failed { IfErr result (λ b. b.unmade.refusal ≡ Why.Failed → (b.unmade.link ≡ None) ×
         CountedFault (P.state spawner.old).faults (P.state spawner.new).faults) }

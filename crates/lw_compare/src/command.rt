@@ -41,22 +41,23 @@ fn finish<O: Sink, E: Sink>(
     ensures learner { IsWithoutLearner result }
     ensures kept { result.kept.answers ≡ [] }
     ensures outputs { result.outputs ≡ None }
-    ensures comes { ComesTo first.now second.now
-        (O.state out.old)
-        (O.state out.new) result.outcome }
-    ensures written { IsAnswered result.outcome → TakesAll (text result.outcome)
-        (O.state out.old).taken (O.state out.new).taken × ((E.state err.new).taken ≡ (E.state err.old).taken) }
-    ensures said { ¬ IsAnswered result.outcome →
-        ¬ CountedFault (E.state err.old).faults (E.state err.new).faults →
-        TakesAll (text result.outcome) (E.state err.old).taken (E.state err.new).taken }
-    ensures said_part { ¬ IsAnswered result.outcome → TakesSome (text result.outcome)
-        (E.state err.old).taken (E.state err.new).taken }
+    ensures comes { ComesTo first.now second.now (O.state out.old) (O.state out.new)
+        result.outcome }
+    ensures written { IsAnswered result.outcome →
+        TakesAll (text result.outcome) (O.state out.old).taken (O.state out.new).taken ×
+        ((E.state err.new).taken ≡ (E.state err.old).taken) }
+    ensures said { ¬ IsAnswered result.outcome → ¬ CountedFault (E.state err.old).faults
+        (E.state err.new).faults → TakesAll (text result.outcome) (E.state err.old).taken
+        (E.state err.new).taken }
+    ensures said_part { ¬ IsAnswered result.outcome →
+        TakesSome (text result.outcome) (E.state err.old).taken (E.state err.new).taken }
     ensures unwritten { ¬ IsAnswered result.outcome → result.outcome ≢ Came.SinkFault →
-        O.state out.new ≡
-        O.state out.old }
-    ensures quiet { IsAnswered result.outcome → ((O.state out.new).faults ≡ (O.state out.old).faults) ×
+        O.state out.new ≡ O.state out.old }
+    ensures quiet { IsAnswered result.outcome →
+        ((O.state out.new).faults ≡ (O.state out.old).faults) ×
         ((E.state err.new).faults ≡ (E.state err.old).faults) }
-    ensures counts { ((O.state out.old).faults ≤ (O.state out.new).faults) × ((E.state err.old).faults ≤ (E.state err.new).faults) }
+    ensures counts { ((O.state out.old).faults ≤ (O.state out.new).faults) ×
+        ((E.state err.old).faults ≤ (E.state err.new).faults) }
 {
     let decision = decide(alloc, first, second);
     let outcome = tell(alloc, decision, first, out, err);
@@ -75,15 +76,11 @@ pub fn compare<F: Files, O: Sink, E: Sink>(
     err: &mut E,
 ) -> End
     ensures status { result.status ≡ status_of result.outcome }
-    ensures ran { IsCompareRun first.now second.now
-        (F.state files.old)
-        (F.state files.new)
-        (O.state out.old)
-        (O.state out.new)
-        (E.state err.old)
-        (E.state err.new) result }
+    ensures ran { IsCompareRun first.now second.now (F.state files.old) (F.state files.new)
+        (O.state out.old) (O.state out.new) (E.state err.old) (E.state err.new) result }
     ensures counts { ((F.state files.old).faults ≤ (F.state files.new).faults) ×
-        ((O.state out.old).faults ≤ (O.state out.new).faults) × ((E.state err.old).faults ≤ (E.state err.new).faults) }
+        ((O.state out.old).faults ≤ (O.state out.new).faults) ×
+        ((E.state err.old).faults ≤ (E.state err.new).faults) }
 {
     match read_models(alloc, files, first, second) {
         Ok(models) => finish(alloc, &models.first, &models.second, out, err),

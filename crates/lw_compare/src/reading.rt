@@ -22,12 +22,9 @@ pub(crate) fn read_models<F: Files>(
     first: &str,
     second: &str,
 ) -> Result<Models, Outcome>
-    ensures ok { IfOk result (λ models. ReadsModels first.now second.now
-        (F.state files.old)
-        (F.state files.new)
-        models.first models.second) }
-    ensures err { IfErr result (IsStopped first.now second.now
-        (F.state files.old)
+    ensures ok { IfOk result (λ models. ReadsModels first.now second.now (F.state files.old)
+        (F.state files.new) models.first models.second) }
+    ensures err { IfErr result (IsStopped first.now second.now (F.state files.old)
         (F.state files.new)) }
     ensures counts { (F.state files.old).faults ≤ (F.state files.new).faults }
     ensures same { (F.state files.new).holds ≡ (F.state files.old).holds }

@@ -38,14 +38,17 @@ fn put_verdict<O: Sink>(
     kept: &Kept,
     out: &mut O,
 ) -> Result<(), TellStop>
-    ensures ok { OnOk result (TakesAll
-        (text_of inputs.now outputs.now kept.now.answers 0 outcome.now)
+    ensures ok { OnOk result
+        (TakesAll (text_of inputs.now outputs.now kept.now.answers 0 outcome.now)
         (O.state out.old).taken (O.state out.new).taken) }
     ensures part { TakesSome (text_of inputs.now outputs.now kept.now.answers 0 outcome.now)
         (O.state out.old).taken (O.state out.new).taken }
-    ensures memory { result ≡ Err Stop.NoMemory → (O.state out.new).taken ≡ (O.state out.old).taken }
-    ensures calm { result ≡ Err Stop.NoMemory → (O.state out.new).faults ≡ (O.state out.old).faults }
-    ensures failed { result ≡ Err Stop.Sink → CountedFault (O.state out.old).faults (O.state out.new).faults }
+    ensures memory { result ≡ Err Stop.NoMemory → (O.state out.new).taken ≡
+        (O.state out.old).taken }
+    ensures calm { result ≡ Err Stop.NoMemory → (O.state out.new).faults ≡
+        (O.state out.old).faults }
+    ensures failed { result ≡ Err Stop.Sink → CountedFault (O.state out.old).faults
+        (O.state out.new).faults }
     ensures no_file { (role : Part) → ¬ (result ≡ Err (Stop.File role)) }
     ensures quiet { OnOk result ((O.state out.new).faults ≡ (O.state out.old).faults) }
     ensures counts { (O.state out.old).faults ≤ (O.state out.new).faults }
@@ -70,18 +73,20 @@ pub(crate) fn tell<O: Sink, E: Sink>(
         (O.state out.old).taken (O.state out.new).taken }
     ensures part { TakesSome (said_text None None [] 0 outcome) (O.state out.old).taken
         (O.state out.new).taken }
-    ensures unwritten { ¬ IsAnswered result → result ≢ Came.SinkFault →
-        (O.state out.new).taken ≡ (O.state out.old).taken }
-    ensures uncounted { ¬ IsAnswered result → result ≢ Came.SinkFault →
-        (O.state out.new).faults ≡ (O.state out.old).faults }
+    ensures unwritten { ¬ IsAnswered result → result ≢ Came.SinkFault → (O.state out.new).taken ≡
+        (O.state out.old).taken }
+    ensures uncounted { ¬ IsAnswered result → result ≢ Came.SinkFault → (O.state out.new).faults ≡
+        (O.state out.old).faults }
     ensures quiet { IsAnswered result → ((O.state out.new).faults ≡ (O.state out.old).faults) ×
         ((E.state err.new).faults ≡ (E.state err.old).faults) }
-    ensures said { ¬ IsAnswered result → ¬ CountedFault (E.state err.old).faults (E.state err.new).faults →
-        TakesAll (said_text None None [] 0 result) (E.state err.old).taken (E.state err.new).taken }
+    ensures said { ¬ IsAnswered result → ¬ CountedFault (E.state err.old).faults
+        (E.state err.new).faults → TakesAll (said_text None None [] 0 result)
+        (E.state err.old).taken (E.state err.new).taken }
     ensures said_part { ¬ IsAnswered result → TakesSome (said_text None None [] 0 result)
         (E.state err.old).taken (E.state err.new).taken }
     ensures silent { IsAnswered result → (E.state err.new).taken ≡ (E.state err.old).taken }
-    ensures counts { ((O.state out.old).faults ≤ (O.state out.new).faults) × ((E.state err.old).faults ≤ (E.state err.new).faults) }
+    ensures counts { ((O.state out.old).faults ≤ (O.state out.new).faults) ×
+        ((E.state err.old).faults ≤ (E.state err.new).faults) }
 {
     let kept = Kept::new(alloc);
     if !is_answered(&outcome) {

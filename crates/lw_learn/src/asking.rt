@@ -40,10 +40,7 @@ fn read_named<F: Files>(
     inputs: &Names,
     files: &mut F,
 ) -> Result<Words, Outcome>
-    ensures { HasNamed name.now inputs.now
-        (F.state files.old)
-        (F.state files.new)
-        result }
+    ensures { HasNamed name.now inputs.now (F.state files.old) (F.state files.new) result }
 {
     let bytes = match files.read(name) {
         Ok(bytes) => bytes,
@@ -59,9 +56,7 @@ fn named_words<F: Files>(
     inputs: &Names,
     files: &mut F,
 ) -> Result<Words, Outcome>
-    ensures { HasNamedWords arguments.now.words inputs.now
-        (F.state files.old)
-        (F.state files.new)
+    ensures { HasNamedWords arguments.now.words inputs.now (F.state files.old) (F.state files.new)
         result }
 {
     match arguments.words() {
@@ -128,10 +123,7 @@ fn words_to_ask<F: Files>(
     inputs: &Names,
     files: &mut F,
 ) -> Result<Words, Outcome>
-    ensures { HasWorded arguments.now inputs.now
-        (F.state files.old)
-        (F.state files.new)
-        result }
+    ensures { HasWorded arguments.now inputs.now (F.state files.old) (F.state files.new) result }
 {
     let named = named_words(alloc, arguments, inputs, files)?;
     match with_drawn(alloc, arguments, inputs, named) {
@@ -171,9 +163,7 @@ pub(crate) fn read_worded<F: Files, L: LogFile>(
     files: &mut F,
     log: &mut Log<L>,
 ) -> Result<WordedTask, Unread>
-    ensures { IsWordedStage arguments.now
-        (F.state files.old)
-        (F.state files.new) result }
+    ensures { IsWordedStage arguments.now (F.state files.old) (F.state files.new) result }
 {
     let task = read_task(alloc, arguments, files, log)?;
     match words_to_ask(alloc, arguments, task.system.inputs(), files) {

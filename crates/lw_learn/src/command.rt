@@ -40,14 +40,8 @@ fn learn_read<R: Threads + Wait + Sync + Drop, F: Files, P: Spawner, O: Sink, E:
     requires batch { length worded.words < 2 ^ 32 }
     ensures status { result.status ≡ status_of result.outcome }
     ensures learned { EndsLearned arguments.now worded.task.system worded.task.cache.kept
-        (F.state files.old)
-        (F.state files.new)
-        (P.state spawner.old)
-        (P.state spawner.new)
-        (O.state out.old)
-        (O.state out.new)
-        (E.state err.old)
-        (E.state err.new) result }
+        (F.state files.old) (F.state files.new) (P.state spawner.old) (P.state spawner.new)
+        (O.state out.old) (O.state out.new) (E.state err.old) (E.state err.new) result }
     ensures answered { result.model ≢ None → AnswersWords worded.words result.kept.answers }
 {
     let WordedTask { task, words } = worded;
@@ -92,17 +86,12 @@ fn learn_logged<
     log: &mut Log<L>,
 ) -> End
     ensures status { result.status ≡ status_of result.outcome }
-    ensures ends { IsLearnEnd arguments.now
-        (F.state files.old)
-        (F.state files.new)
-        (P.state spawner.old)
-        (P.state spawner.new)
-        (O.state out.old)
-        (O.state out.new)
-        (E.state err.old)
-        (E.state err.new) result }
+    ensures ends { IsLearnEnd arguments.now (F.state files.old) (F.state files.new)
+        (P.state spawner.old) (P.state spawner.new) (O.state out.old) (O.state out.new)
+        (E.state err.old) (E.state err.new) result }
     ensures counts { ((F.state files.old).faults ≤ (F.state files.new).faults) ×
-        ((O.state out.old).faults ≤ (O.state out.new).faults) × ((E.state err.old).faults ≤ (E.state err.new).faults) }
+        ((O.state out.old).faults ≤ (O.state out.new).faults) ×
+        ((E.state err.old).faults ≤ (E.state err.new).faults) }
 {
     match read_worded(alloc, arguments, files, log) {
         Ok(worded) => learn_read(rt, alloc, arguments, worded, files, spawner, out, err, log),
@@ -134,18 +123,13 @@ pub fn learn<R: Threads + Wait + Sync + Drop, F: Files, P: Spawner, O: Sink, E: 
     log: &mut Log<L>,
 ) -> End
     ensures status { result.status ≡ status_of result.outcome }
-    ensures run { IsLearnRun arguments.now
-        (F.state files.old)
-        (F.state files.new)
-        (P.state spawner.old)
-        (P.state spawner.new)
-        (O.state out.old)
-        (O.state out.new)
-        (E.state err.old)
-        (E.state err.new) log.new.state result }
+    ensures run { IsLearnRun arguments.now (F.state files.old) (F.state files.new)
+        (P.state spawner.old) (P.state spawner.new) (O.state out.old) (O.state out.new)
+        (E.state err.old) (E.state err.new) log.new.state result }
     // No count of faults falls.
     ensures counts { ((F.state files.old).faults ≤ (F.state files.new).faults) ×
-        ((O.state out.old).faults ≤ (O.state out.new).faults) × ((E.state err.old).faults ≤ (E.state err.new).faults) }
+        ((O.state out.old).faults ≤ (O.state out.new).faults) ×
+        ((E.state err.old).faults ≤ (E.state err.new).faults) }
 {
     if let Some(name) = arguments.log() {
         log.open(name);

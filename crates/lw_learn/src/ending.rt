@@ -58,18 +58,19 @@ fn write_out<F: Files, O: Sink, E: Sink>(
     ensures files { WritesFiles arguments.now machine kept.answers result.outcome
         (F.state files.new).holds ((F.state files.old).calls, (F.state files.new).calls) }
     ensures out { WritesOut arguments.now.model (written_text machine) result.outcome
-        ((O.state out.old).taken, (O.state out.new).taken) ((O.state out.old).faults, (O.state out.new).faults) }
-    ensures beside { StaysBesides arguments.now.model arguments.now.answers None (F.state files.old).holds
-        (F.state files.new).holds }
+        ((O.state out.old).taken, (O.state out.new).taken)
+        ((O.state out.old).faults, (O.state out.new).faults) }
+    ensures beside { StaysBesides arguments.now.model arguments.now.answers None
+        (F.state files.old).holds (F.state files.new).holds }
     ensures role { (role : Part) → result.outcome ≡ Came.FileFault role →
         ((role ≡ ModelRole) × (arguments.now.model ≢ None)) ⊎
         (((role ≡ AnswersRole) × (arguments.now.answers ≢ None)) ⊎ (role ≡ KeptRole)) }
     ensures failed { (role : Part) → result.outcome ≡ Came.FileFault role → role ≢ KeptRole →
         CountedFault (F.state files.old).faults (F.state files.new).faults }
     ensures may { MayTell saved result.outcome }
-    ensures refused { result.outcome ≡ Came.SinkFault →
-        CountedFault (O.state out.old).faults (O.state out.new).faults ⊎
-        CountedFault (E.state err.old).faults (E.state err.new).faults }
+    ensures refused { result.outcome ≡ Came.SinkFault → CountedFault (O.state out.old).faults
+        (O.state out.new).faults ⊎ CountedFault (E.state err.old).faults
+        (E.state err.new).faults }
     ensures said { ¬ CountedFault (E.state err.old).faults (E.state err.new).faults →
         TakesAll (text_of machine.inputs machine.outputs kept.answers arguments.now.extra
         result.outcome) (E.state err.old).taken (E.state err.new).taken }
@@ -78,10 +79,13 @@ fn write_out<F: Files, O: Sink, E: Sink>(
         (text_of machine.inputs machine.outputs kept.answers arguments.now.extra result.outcome)
         (E.state err.old).taken (E.state err.new).taken }
     ensures reads { (F.state files.new).reads ≡ (F.state files.old).reads }
-    ensures quiet { IsLearnedOutcome result.outcome → ((F.state files.new).faults ≡ (F.state files.old).faults) ×
-        ((O.state out.new).faults ≡ (O.state out.old).faults) × ((E.state err.new).faults ≡ (E.state err.old).faults) }
+    ensures quiet { IsLearnedOutcome result.outcome →
+        ((F.state files.new).faults ≡ (F.state files.old).faults) ×
+        ((O.state out.new).faults ≡ (O.state out.old).faults) ×
+        ((E.state err.new).faults ≡ (E.state err.old).faults) }
     ensures counts { ((F.state files.old).faults ≤ (F.state files.new).faults) ×
-        ((O.state out.old).faults ≤ (O.state out.new).faults) × ((E.state err.old).faults ≤ (E.state err.new).faults) }
+        ((O.state out.old).faults ≤ (O.state out.new).faults) ×
+        ((E.state err.old).faults ≤ (E.state err.new).faults) }
 {
     let refinements = learner.refinements();
     let outcome = tell_model(
@@ -149,7 +153,8 @@ fn leave_model<E: Sink>(
     ensures kept { result.kept ≡ kept }
     ensures outputs { result.outputs ≡ outputs }
     ensures said { ¬ CountedFault (E.state err.old).faults (E.state err.new).faults →
-        TakesAll (text_of [] [] [] 0 Came.NoMemory) (E.state err.old).taken (E.state err.new).taken }
+        TakesAll (text_of [] [] [] 0 Came.NoMemory) (E.state err.old).taken
+        (E.state err.new).taken }
     ensures part { TakesSome (text_of [] [] [] 0 Came.NoMemory) (E.state err.old).taken
         (E.state err.new).taken }
     ensures counts { (E.state err.old).faults ≤ (E.state err.new).faults }
@@ -178,12 +183,8 @@ fn end_model<F: Files, O: Sink, E: Sink>(
         kept.answers }
     ensures status { result.status ≡ status_of result.outcome }
     ensures told { IsToldOf arguments.now system.now names (Ok learned) kept.answers saved
-        (F.state files.old)
-        (F.state files.new)
-        (O.state out.old)
-        (O.state out.new)
-        (E.state err.old)
-        (E.state err.new) result }
+        (F.state files.old) (F.state files.new) (O.state out.old) (O.state out.new)
+        (E.state err.old) (E.state err.new) result }
 {
     let Learned { model, learner } = learned;
     let read = named(system, &names, model, alloc);
@@ -281,14 +282,9 @@ pub(crate) fn finish<F: Files, O: Sink, E: Sink>(
     requires over { AreKeptOver (length (letters_of system.now)) (length found.names.names)
         found.kept.answers }
     ensures status { result.status ≡ status_of result.outcome }
-    ensures told { IsEndOf arguments.now system.now found.names found.learned
-        found.kept.answers
-        (F.state files.old)
-        (F.state files.new)
-        (O.state out.old)
-        (O.state out.new)
-        (E.state err.old)
-        (E.state err.new) result }
+    ensures told { IsEndOf arguments.now system.now found.names found.learned found.kept.answers
+        (F.state files.old) (F.state files.new) (O.state out.old) (O.state out.new)
+        (E.state err.old) (E.state err.new) result }
 {
     let Found {
         learned,

@@ -109,9 +109,7 @@ pub(crate) fn log_unread<L: LogFile>(end: &End, text: Result<String, NoMemory>, 
 
 /// Says on `err` that a log that is named isn't open, so that it isn't whole.
 pub(crate) fn say_log<L: LogFile, E: Sink>(arguments: &LearnArguments, log: &Log<L>, err: &mut E)
-    ensures { SaysLog arguments.now.log log.now.state
-        (E.state err.old)
-        (E.state err.new) }
+    ensures { SaysLog arguments.now.log log.now.state (E.state err.old) (E.state err.new) }
 {
     if arguments.log().is_none() {
         return;

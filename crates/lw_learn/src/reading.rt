@@ -92,9 +92,7 @@ fn read_hinted<F: Files, L: LogFile>(
     name: &str,
     log: &mut Log<L>,
 ) -> Result<Setup, ReadStop>
-    ensures { HasRead IsSetupFile HasSetupFault name.now
-        (F.state files.old)
-        (F.state files.new)
+    ensures { HasRead IsSetupFile HasSetupFault name.now (F.state files.old) (F.state files.new)
         result }
 {
     let SetupFile { setup, hint } = match read_setup_with(alloc, files, name) {
@@ -115,12 +113,8 @@ fn read_setup<F: Files, L: LogFile>(
     log: &mut Log<L>,
 ) -> Result<System, Unread>
     requires setup { arguments.now.source ≡ Kind.Setup }
-    ensures { IsStage arguments.now
-        (F.state files.old)
-        (F.state files.new)
-        (SaysWhole arguments.now
-        (F.state files.old)
-        (F.state files.new)) result }
+    ensures { IsStage arguments.now (F.state files.old) (F.state files.new)
+        (SaysWhole arguments.now (F.state files.old) (F.state files.new)) result }
 {
     match read_hinted(alloc, files, arguments.system(), log) {
         Ok(Setup::Table(name)) => {
@@ -149,12 +143,8 @@ fn read_system<F: Files, L: LogFile>(
     files: &mut F,
     log: &mut Log<L>,
 ) -> Result<System, Unread>
-    ensures { IsStage arguments.now
-        (F.state files.old)
-        (F.state files.new)
-        (SaysWhole arguments.now
-        (F.state files.old)
-        (F.state files.new)) result }
+    ensures { IsStage arguments.now (F.state files.old) (F.state files.new)
+        (SaysWhole arguments.now (F.state files.old) (F.state files.new)) result }
 {
     match arguments.source() {
         Source::Setup => read_setup(alloc, arguments, files, log),
@@ -319,9 +309,7 @@ fn read_prior<F: Files>(
 ) -> Result<Task, Unread>
     requires letters { length (letters_of system) ≤ 64 }
     requires words { HasWords system }
-    ensures { HasPrior name.now system
-        (F.state files.old)
-        (F.state files.new) result }
+    ensures { HasPrior name.now system (F.state files.old) (F.state files.new) result }
 {
     match read_answers_file(alloc, files, name) {
         Ok(answers) => with_answers(alloc, system, answers),
@@ -337,12 +325,8 @@ pub(crate) fn read_task<F: Files, L: LogFile>(
     files: &mut F,
     log: &mut Log<L>,
 ) -> Result<Task, Unread>
-    ensures { IsStage arguments.now
-        (F.state files.old)
-        (F.state files.new)
-        (SaysReady arguments.now
-        (F.state files.old)
-        (F.state files.new)) result }
+    ensures { IsStage arguments.now (F.state files.old) (F.state files.new)
+        (SaysReady arguments.now (F.state files.old) (F.state files.new)) result }
 {
     let system = read_system(alloc, arguments, files, log)?;
     match arguments.prior() {

@@ -73,7 +73,8 @@ fn end_bare<E: Sink>(
         ((result.outcome ≡ Came.NoMemory) × (result.outputs ≡ None)) }
     ensures said { ¬ CountedFault (E.state err.old).faults (E.state err.new).faults →
         TakesAll (said_text (option_map letters_of system) (option_and_then declared_of system)
-        result.kept.answers extra result.outcome) (E.state err.old).taken (E.state err.new).taken }
+        result.kept.answers extra result.outcome) (E.state err.old).taken
+        (E.state err.new).taken }
     ensures part { TakesSome (said_text (option_map letters_of system)
         (option_and_then declared_of system) result.kept.answers extra result.outcome)
         (E.state err.old).taken (E.state err.new).taken }
@@ -101,8 +102,7 @@ fn save_read<F: Files>(
     requires over { AreKeptOver (length (names_said (option_map letters_of system.now)))
         (length names.now.names) kept.now.answers }
     ensures { HasSaved arguments.now.kept (names_said (option_map letters_of system.now))
-        (names_said (option_and_then declared_of system.now)) kept.now.answers
-        (F.state files.old)
+        (names_said (option_and_then declared_of system.now)) kept.now.answers (F.state files.old)
         (F.state files.new) result }
 {
     let Some(system) = system else {
@@ -133,8 +133,7 @@ fn end_kept<F: Files, E: Sink>(
     ensures kept { result.kept.answers ≡ kept.answers }
     ensures outputs { result.outputs ≡ names_read system }
     ensures saved { IsSaved arguments.now.kept (names_said (option_map letters_of system))
-        (names_said (option_and_then declared_of system)) kept.answers
-        (F.state files.old)
+        (names_said (option_and_then declared_of system)) kept.answers (F.state files.old)
         (F.state files.new) result.outcome }
     ensures said { ¬ CountedFault (E.state err.old).faults (E.state err.new).faults →
         TakesAll (said_text (option_map letters_of system) (option_and_then declared_of system)
@@ -179,8 +178,7 @@ pub(crate) fn end_unread<F: Files, E: Sink>(
         ((result.outcome ≡ Came.NoMemory) × (result.outputs ≡ None) ×
         (result.kept.answers ≡ [])) }
     ensures saved { IsSaved arguments.now.kept (names_said (option_map letters_of unread.system))
-        (names_said (option_and_then declared_of unread.system)) unread.kept
-        (F.state files.old)
+        (names_said (option_and_then declared_of unread.system)) unread.kept (F.state files.old)
         (F.state files.new) result.outcome }
     ensures said { ¬ CountedFault (E.state err.old).faults (E.state err.new).faults →
         TakesAll (said_text (option_map letters_of unread.system)

@@ -67,9 +67,8 @@ fn kept_text(
 
 /// Writes the file of the kept answers.
 fn write_kept<F: Files>(files: &mut F, name: &str, bytes: &[u8]) -> Saved
-    ensures written { IsWritten name.now bytes.now
-        (F.state files.old)
-        (F.state files.new) result }
+    ensures written { IsWritten name.now bytes.now (F.state files.old) (F.state files.new)
+        result }
     ensures beside { StaysBesides (Some name.now) None None (F.state files.old).holds
         (F.state files.new).holds }
     ensures reads { (F.state files.new).reads ≡ (F.state files.old).reads }
@@ -94,8 +93,7 @@ fn save_as<F: Files>(
     requires few { length inputs.now ≤ 64 }
     requires over { AreKeptOver (length inputs.now) (length names.now.names) kept.now.answers }
     ensures written { IsTextWritten name.now inputs.now names.now.names kept.now.answers
-        (F.state files.old)
-        (F.state files.new) result }
+        (F.state files.old) (F.state files.new) result }
     ensures beside { StaysBesides (Some name.now) None None (F.state files.old).holds
         (F.state files.new).holds }
     ensures reads { (F.state files.new).reads ≡ (F.state files.old).reads }
@@ -119,8 +117,7 @@ pub(crate) fn save_kept<F: Files>(
     requires few { length inputs.now ≤ 64 }
     requires over { AreKeptOver (length inputs.now) (length names.now.names) kept.now.answers }
     ensures { HasSaved arguments.now.kept inputs.now names.now.names kept.now.answers
-        (F.state files.old)
-        (F.state files.new) result }
+        (F.state files.old) (F.state files.new) result }
 {
     let Some(name) = arguments.kept() else {
         return Saved::Stand;

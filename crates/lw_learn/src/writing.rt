@@ -77,20 +77,20 @@ fn write_named<F: Files>(
     name: Option<&str>,
     bytes: &[u8],
 ) -> Result<(), TellStop>
-    ensures told { OnOk result (Stands (option_map (λ n. n.now) name.entry) (F.state files.new).holds
-        bytes.now) }
-    ensures beside { StaysBesides (option_map (λ n. n.now) name.entry) None None (F.state files.old).holds
-        (F.state files.new).holds }
+    ensures told { OnOk result (Stands (option_map (λ n. n.now) name.entry)
+        (F.state files.new).holds bytes.now) }
+    ensures beside { StaysBesides (option_map (λ n. n.now) name.entry) None None
+        (F.state files.old).holds (F.state files.new).holds }
     ensures ok { OnOk result ((F.state files.new).calls ≡
         gained (write_of (option_map (λ n. n.now) name.entry) false) (F.state files.old).calls) }
     ensures role { (other : Part) → result ≡ Err (Stop.File other) → other ≡ role }
     ensures named { result ≡ Err (Stop.File role) → name.entry ≢ None }
-    ensures failed { result ≡ Err (Stop.File role) →
-        CountedFault (F.state files.old).faults (F.state files.new).faults }
-    ensures failed_call { result ≡ Err (Stop.File role) →
-        (F.state files.new).calls ≡
+    ensures failed { result ≡ Err (Stop.File role) → CountedFault (F.state files.old).faults
+        (F.state files.new).faults }
+    ensures failed_call { result ≡ Err (Stop.File role) → (F.state files.new).calls ≡
         gained (write_of (option_map (λ n. n.now) name.entry) true) (F.state files.old).calls }
-    ensures memory { result ≡ Err Stop.NoMemory → (F.state files.new).calls ≡ (F.state files.old).calls }
+    ensures memory { result ≡ Err Stop.NoMemory → (F.state files.new).calls ≡
+        (F.state files.old).calls }
     ensures no_sink { ¬ (result ≡ Err Stop.Sink) }
     ensures reads { (F.state files.new).reads ≡ (F.state files.old).reads }
     ensures quiet { OnOk result ((F.state files.new).faults ≡ (F.state files.old).faults) }
@@ -112,25 +112,26 @@ fn write_files<F: Files>(
         Stands arguments.now.model (F.state files.new).holds texts.now.model.items) }
     ensures answers { OnOk result (Stands arguments.now.answers (F.state files.new).holds
         texts.now.answers.items) }
-    ensures model_before { result ≡ Err (Stop.File AnswersRole) →
-        arguments.now.model ≢ arguments.now.answers →
-        Stands arguments.now.model (F.state files.new).holds texts.now.model.items }
-    ensures beside { StaysBesides arguments.now.model arguments.now.answers None (F.state files.old).holds
-        (F.state files.new).holds }
-    ensures ok { OnOk result ((F.state files.new).calls ≡
-        gained (all_writes arguments.now) (F.state files.old).calls) }
+    ensures model_before { result ≡ Err (Stop.File AnswersRole) → arguments.now.model ≢
+        arguments.now.answers → Stands arguments.now.model (F.state files.new).holds
+        texts.now.model.items }
+    ensures beside { StaysBesides arguments.now.model arguments.now.answers None
+        (F.state files.old).holds (F.state files.new).holds }
+    ensures ok { OnOk result ((F.state files.new).calls ≡ gained (all_writes arguments.now)
+        (F.state files.old).calls) }
     ensures role { (role : Part) → result ≡ Err (Stop.File role) →
         ((role ≡ ModelRole) × (arguments.now.model ≢ None)) ⊎
         ((role ≡ AnswersRole) × (arguments.now.answers ≢ None)) }
     ensures failed { (role : Part) → result ≡ Err (Stop.File role) →
         CountedFault (F.state files.old).faults (F.state files.new).faults }
-    ensures model_call { result ≡ Err (Stop.File ModelRole) →
-        (F.state files.new).calls ≡ gained (write_of arguments.now.model true) (F.state files.old).calls }
-    ensures answers_call { result ≡ Err (Stop.File AnswersRole) →
-        (F.state files.new).calls ≡ gained (write_of arguments.now.model false ++
-        write_of arguments.now.answers true) (F.state files.old).calls }
-    ensures memory { result ≡ Err Stop.NoMemory → (n : ℕ) ×
-        ((F.state files.new).calls ≡ gained (take n (all_writes arguments.now)) (F.state files.old).calls) }
+    ensures model_call { result ≡ Err (Stop.File ModelRole) → (F.state files.new).calls ≡
+        gained (write_of arguments.now.model true) (F.state files.old).calls }
+    ensures answers_call { result ≡ Err (Stop.File AnswersRole) → (F.state files.new).calls ≡
+        gained (write_of arguments.now.model false ++ write_of arguments.now.answers true)
+        (F.state files.old).calls }
+    ensures memory { result ≡ Err Stop.NoMemory →
+        (n : ℕ) × ((F.state files.new).calls ≡ gained (take n (all_writes arguments.now))
+        (F.state files.old).calls) }
     ensures no_sink { ¬ (result ≡ Err Stop.Sink) }
     ensures reads { (F.state files.new).reads ≡ (F.state files.old).reads }
     ensures quiet { OnOk result ((F.state files.new).faults ≡ (F.state files.old).faults) }
@@ -147,7 +148,8 @@ fn put_model<O: Sink>(out: &mut O, file: Option<&str>, bytes: &[u8]) -> Result<(
     ensures part { PutsSome (option_map (λ n. n.now) file.entry) bytes.now (O.state out.old).taken
         (O.state out.new).taken }
     ensures quiet { OnOk result ((O.state out.new).faults ≡ (O.state out.old).faults) }
-    ensures failed { OnErr result (CountedFault (O.state out.old).faults (O.state out.new).faults) }
+    ensures failed { OnErr result (CountedFault (O.state out.old).faults
+        (O.state out.new).faults) }
     ensures counts { (O.state out.old).faults ≤ (O.state out.new).faults }
 {
     match file {
@@ -162,11 +164,12 @@ fn put_line<E: Sink>(saved: Saved, line: &[u8], err: &mut E) -> Result<(), TellS
     ensures ok { OnOk result (TakesAll line.now (E.state err.old).taken (E.state err.new).taken) }
     ensures stood { OnOk result (saved ≡ Was.Stand) }
     ensures part { TakesSome line.now (E.state err.old).taken (E.state err.new).taken }
-    ensures unsaid { OnErr result (¬ CountedFault (E.state err.old).faults (E.state err.new).faults →
-        (E.state err.new).taken ≡ (E.state err.old).taken) }
+    ensures unsaid { OnErr result (¬ CountedFault (E.state err.old).faults
+        (E.state err.new).faults → (E.state err.new).taken ≡ (E.state err.old).taken) }
     ensures stops { IfErr result (λ stop. (stop ≡ Stop.Sink) ⊎ (stop ≡ Stop.File KeptRole)) }
     ensures kept { result ≡ Err (Stop.File KeptRole) → saved ≡ Was.Failed }
-    ensures refused { result ≡ Err Stop.Sink → CountedFault (E.state err.old).faults (E.state err.new).faults }
+    ensures refused { result ≡ Err Stop.Sink → CountedFault (E.state err.old).faults
+        (E.state err.new).faults }
     ensures quiet { OnOk result ((E.state err.new).faults ≡ (E.state err.old).faults) }
     ensures counts { (E.state err.old).faults ≤ (E.state err.new).faults }
 {
@@ -194,22 +197,28 @@ fn put_streams<O: Sink, E: Sink>(
         (O.state out.old).taken (O.state out.new).taken) }
     ensures part { PutsSome arguments.now.model texts.now.model.items (O.state out.old).taken
         (O.state out.new).taken }
-    ensures whole { OnErr result (¬ CountedFault (O.state out.old).faults (O.state out.new).faults →
-        PutsAll arguments.now.model texts.now.model.items (O.state out.old).taken (O.state out.new).taken) }
-    ensures line { OnOk result (TakesAll texts.now.line.items (E.state err.old).taken (E.state err.new).taken) }
-    ensures line_part { TakesSome texts.now.line.items (E.state err.old).taken (E.state err.new).taken }
-    ensures unsaid { OnErr result (¬ CountedFault (E.state err.old).faults (E.state err.new).faults →
-        (E.state err.new).taken ≡ (E.state err.old).taken) }
+    ensures whole { OnErr result (¬ CountedFault (O.state out.old).faults
+        (O.state out.new).faults → PutsAll arguments.now.model texts.now.model.items
+        (O.state out.old).taken (O.state out.new).taken) }
+    ensures line { OnOk result (TakesAll texts.now.line.items (E.state err.old).taken
+        (E.state err.new).taken) }
+    ensures line_part { TakesSome texts.now.line.items (E.state err.old).taken
+        (E.state err.new).taken }
+    ensures unsaid { OnErr result (¬ CountedFault (E.state err.old).faults
+        (E.state err.new).faults → (E.state err.new).taken ≡ (E.state err.old).taken) }
     ensures stood { OnOk result (saved ≡ Was.Stand) }
-    ensures behind { result ≡ Err (Stop.File KeptRole) → PutsAll arguments.now.model
-        texts.now.model.items (O.state out.old).taken (O.state out.new).taken }
+    ensures behind { result ≡ Err (Stop.File KeptRole) →
+        PutsAll arguments.now.model texts.now.model.items (O.state out.old).taken
+        (O.state out.new).taken }
     ensures kept { result ≡ Err (Stop.File KeptRole) → saved ≡ Was.Failed }
-    ensures refused { result ≡ Err Stop.Sink → CountedFault (O.state out.old).faults (O.state out.new).faults ⊎
-        CountedFault (E.state err.old).faults (E.state err.new).faults }
+    ensures refused { result ≡ Err Stop.Sink → CountedFault (O.state out.old).faults
+        (O.state out.new).faults ⊎ CountedFault (E.state err.old).faults
+        (E.state err.new).faults }
     ensures stops { IfErr result (λ stop. (stop ≡ Stop.Sink) ⊎ (stop ≡ Stop.File KeptRole)) }
     ensures quiet { OnOk result (((O.state out.new).faults ≡ (O.state out.old).faults) ×
         ((E.state err.new).faults ≡ (E.state err.old).faults)) }
-    ensures counts { ((O.state out.old).faults ≤ (O.state out.new).faults) × ((E.state err.old).faults ≤ (E.state err.new).faults) }
+    ensures counts { ((O.state out.old).faults ≤ (O.state out.new).faults) ×
+        ((E.state err.old).faults ≤ (E.state err.new).faults) }
 {
     put_model(out, arguments.model(), &texts.model)?;
     put_line(saved, &texts.line, err)
@@ -236,10 +245,11 @@ fn write_model<F: Files, O: Sink, E: Sink>(
         (told_outcome machine.now.mealy refinements result) (F.state files.new).holds
         ((F.state files.old).calls, (F.state files.new).calls) }
     ensures out { WritesOut arguments.now.model (written_text machine.now)
-        (told_outcome machine.now.mealy refinements result) ((O.state out.old).taken, (O.state out.new).taken)
+        (told_outcome machine.now.mealy refinements result)
+        ((O.state out.old).taken, (O.state out.new).taken)
         ((O.state out.old).faults, (O.state out.new).faults) }
-    ensures beside { StaysBesides arguments.now.model arguments.now.answers None (F.state files.old).holds
-        (F.state files.new).holds }
+    ensures beside { StaysBesides arguments.now.model arguments.now.answers None
+        (F.state files.old).holds (F.state files.new).holds }
     ensures role { (role : Part) → result ≡ Err (Stop.File role) →
         ((role ≡ ModelRole) × (arguments.now.model ≢ None)) ⊎
         (((role ≡ AnswersRole) × (arguments.now.answers ≢ None)) ⊎ (role ≡ KeptRole)) }
@@ -248,22 +258,25 @@ fn write_model<F: Files, O: Sink, E: Sink>(
     ensures stood { OnOk result (saved ≡ Was.Stand) }
     ensures unsaved { result ≡ Err (Stop.File KeptRole) → saved ≡ Was.Failed }
     ensures wants { saved ≡ Was.NoMemory → result ≡ Err Stop.NoMemory }
-    ensures refused { result ≡ Err Stop.Sink → CountedFault (O.state out.old).faults (O.state out.new).faults ⊎
-        CountedFault (E.state err.old).faults (E.state err.new).faults }
-    ensures line { OnOk result (TakesAll (text_of machine.now.inputs machine.now.outputs
-        kept.now.answers arguments.now.extra (Came.Learned machine.now.mealy refinements))
-        (E.state err.old).taken
+    ensures refused { result ≡ Err Stop.Sink → CountedFault (O.state out.old).faults
+        (O.state out.new).faults ⊎ CountedFault (E.state err.old).faults
+        (E.state err.new).faults }
+    ensures line { OnOk result
+        (TakesAll (text_of machine.now.inputs machine.now.outputs kept.now.answers
+        arguments.now.extra (Came.Learned machine.now.mealy refinements)) (E.state err.old).taken
         (E.state err.new).taken) }
     ensures line_part { TakesSome (text_of machine.now.inputs machine.now.outputs kept.now.answers
         arguments.now.extra (Came.Learned machine.now.mealy refinements)) (E.state err.old).taken
         (E.state err.new).taken }
-    ensures unsaid { OnErr result (¬ CountedFault (E.state err.old).faults (E.state err.new).faults →
-        (E.state err.new).taken ≡ (E.state err.old).taken) }
+    ensures unsaid { OnErr result (¬ CountedFault (E.state err.old).faults
+        (E.state err.new).faults → (E.state err.new).taken ≡ (E.state err.old).taken) }
     ensures reads { (F.state files.new).reads ≡ (F.state files.old).reads }
     ensures quiet { OnOk result (((F.state files.new).faults ≡ (F.state files.old).faults) ×
-        ((O.state out.new).faults ≡ (O.state out.old).faults) × ((E.state err.new).faults ≡ (E.state err.old).faults)) }
+        ((O.state out.new).faults ≡ (O.state out.old).faults) ×
+        ((E.state err.new).faults ≡ (E.state err.old).faults)) }
     ensures counts { ((F.state files.old).faults ≤ (F.state files.new).faults) ×
-        ((O.state out.old).faults ≤ (O.state out.new).faults) × ((E.state err.old).faults ≤ (E.state err.new).faults) }
+        ((O.state out.old).faults ≤ (O.state out.new).faults) ×
+        ((E.state err.old).faults ≤ (E.state err.new).faults) }
 {
     saved.memory()?;
     let outcome = Outcome::Learned {
@@ -294,29 +307,34 @@ pub(crate) fn tell_model<F: Files, O: Sink, E: Sink>(
     ensures files { WritesFiles arguments.now machine.now kept.now.answers result
         (F.state files.new).holds ((F.state files.old).calls, (F.state files.new).calls) }
     ensures out { WritesOut arguments.now.model (written_text machine.now) result
-        ((O.state out.old).taken, (O.state out.new).taken) ((O.state out.old).faults, (O.state out.new).faults) }
-    ensures beside { StaysBesides arguments.now.model arguments.now.answers None (F.state files.old).holds
-        (F.state files.new).holds }
+        ((O.state out.old).taken, (O.state out.new).taken)
+        ((O.state out.old).faults, (O.state out.new).faults) }
+    ensures beside { StaysBesides arguments.now.model arguments.now.answers None
+        (F.state files.old).holds (F.state files.new).holds }
     ensures role { (role : Part) → result ≡ Came.FileFault role →
         ((role ≡ ModelRole) × (arguments.now.model ≢ None)) ⊎
         (((role ≡ AnswersRole) × (arguments.now.answers ≢ None)) ⊎ (role ≡ KeptRole)) }
     ensures failed { (role : Part) → result ≡ Came.FileFault role → role ≢ KeptRole →
         CountedFault (F.state files.old).faults (F.state files.new).faults }
     ensures may { MayTell saved result }
-    ensures refused { result ≡ Came.SinkFault → CountedFault (O.state out.old).faults (O.state out.new).faults ⊎
-        CountedFault (E.state err.old).faults (E.state err.new).faults }
+    ensures refused { result ≡ Came.SinkFault → CountedFault (O.state out.old).faults
+        (O.state out.new).faults ⊎ CountedFault (E.state err.old).faults
+        (E.state err.new).faults }
     ensures said { ¬ CountedFault (E.state err.old).faults (E.state err.new).faults →
         TakesAll (text_of machine.now.inputs machine.now.outputs kept.now.answers
         arguments.now.extra result) (E.state err.old).taken (E.state err.new).taken }
     ensures part { TakesInTurn (text_of machine.now.inputs machine.now.outputs kept.now.answers
         arguments.now.extra (Came.Learned machine.now.mealy refinements))
-        (text_of machine.now.inputs machine.now.outputs kept.now.answers arguments.now.extra result)
-        (E.state err.old).taken (E.state err.new).taken }
+        (text_of machine.now.inputs machine.now.outputs kept.now.answers arguments.now.extra
+        result) (E.state err.old).taken (E.state err.new).taken }
     ensures reads { (F.state files.new).reads ≡ (F.state files.old).reads }
-    ensures quiet { IsLearnedOutcome result → ((F.state files.new).faults ≡ (F.state files.old).faults) ×
-        ((O.state out.new).faults ≡ (O.state out.old).faults) × ((E.state err.new).faults ≡ (E.state err.old).faults) }
+    ensures quiet { IsLearnedOutcome result →
+        ((F.state files.new).faults ≡ (F.state files.old).faults) ×
+        ((O.state out.new).faults ≡ (O.state out.old).faults) ×
+        ((E.state err.new).faults ≡ (E.state err.old).faults) }
     ensures counts { ((F.state files.old).faults ≤ (F.state files.new).faults) ×
-        ((O.state out.old).faults ≤ (O.state out.new).faults) × ((E.state err.old).faults ≤ (E.state err.new).faults) }
+        ((O.state out.old).faults ≤ (O.state out.new).faults) ×
+        ((E.state err.old).faults ≤ (E.state err.new).faults) }
 {
     match write_model(
         alloc,

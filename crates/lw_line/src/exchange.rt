@@ -30,14 +30,16 @@ fn without_return(received: &[u8]) -> &[u8]
 
 /// The next line as it was received, without its line feed.
 fn receive<L: Link>(link: &mut L, inbox: &mut Inbox) -> Result<Line, SulStop>
-    ensures line { IfOk result (λ raw. HasLine inbox.old inbox.new raw (L.state link.old).transcript
-        (L.state link.new).transcript) }
+    ensures line { IfOk result (λ raw. HasLine inbox.old inbox.new raw
+        (L.state link.old).transcript (L.state link.new).transcript) }
     ensures err { IfErr result (λ stop. EndsOpen inbox.old stop (L.state link.old).transcript
         (L.state link.new).transcript) }
-    ensures failed { result ≡ Err Stop.Failed →
-        CountedFault (L.state link.old).faults (L.state link.new).faults }
-    ensures gone { result ≡ Err Stop.Gone → CountedFault (L.state link.old).ends (L.state link.new).ends }
-    ensures counts { ((L.state link.old).faults ≤ (L.state link.new).faults) × ((L.state link.old).ends ≤ (L.state link.new).ends) }
+    ensures failed { result ≡ Err Stop.Failed → CountedFault (L.state link.old).faults
+        (L.state link.new).faults }
+    ensures gone { result ≡ Err Stop.Gone → CountedFault (L.state link.old).ends
+        (L.state link.new).ends }
+    ensures counts { ((L.state link.old).faults ≤ (L.state link.new).faults) ×
+        ((L.state link.old).ends ≤ (L.state link.new).ends) }
     ensures same { (L.state link.new).number ≡ (L.state link.old).number }
 {
     loop {
@@ -62,10 +64,12 @@ fn exchange<L: Link>(link: &mut L, inbox: &mut Inbox, line: &[u8]) -> Result<Lin
         (L.state link.old).transcript (L.state link.new).transcript) }
     ensures err { IfErr result (λ stop. IsRefusal (λ _. ⊥) line.now inbox.old inbox.new stop
         (L.state link.old).transcript (L.state link.new).transcript) }
-    ensures failed { result ≡ Err Stop.Failed →
-        CountedFault (L.state link.old).faults (L.state link.new).faults }
-    ensures gone { result ≡ Err Stop.Gone → CountedFault (L.state link.old).ends (L.state link.new).ends }
-    ensures counts { ((L.state link.old).faults ≤ (L.state link.new).faults) × ((L.state link.old).ends ≤ (L.state link.new).ends) }
+    ensures failed { result ≡ Err Stop.Failed → CountedFault (L.state link.old).faults
+        (L.state link.new).faults }
+    ensures gone { result ≡ Err Stop.Gone → CountedFault (L.state link.old).ends
+        (L.state link.new).ends }
+    ensures counts { ((L.state link.old).faults ≤ (L.state link.new).faults) ×
+        ((L.state link.old).ends ≤ (L.state link.new).ends) }
     ensures same { (L.state link.new).number ≡ (L.state link.old).number }
 {
     if link.send(line).is_err() {
@@ -80,12 +84,14 @@ pub(crate) fn start<L: Link>(link: &mut L, inbox: &mut Inbox) -> Result<(), SulS
     ensures ready { OnOk result (IsAnswered (ended reset_line) inbox.old inbox.new ready_line
         (L.state link.old).transcript (L.state link.new).transcript) }
     ensures err { IfErr result (λ stop. IsRefusal (λ answer. ¬ IsFormed reset_line answer)
-        (ended reset_line) inbox.old inbox.new stop
-        (L.state link.old).transcript (L.state link.new).transcript) }
-    ensures failed { result ≡ Err Stop.Failed →
-        CountedFault (L.state link.old).faults (L.state link.new).faults }
-    ensures gone { result ≡ Err Stop.Gone → CountedFault (L.state link.old).ends (L.state link.new).ends }
-    ensures counts { ((L.state link.old).faults ≤ (L.state link.new).faults) × ((L.state link.old).ends ≤ (L.state link.new).ends) }
+        (ended reset_line) inbox.old inbox.new stop (L.state link.old).transcript
+        (L.state link.new).transcript) }
+    ensures failed { result ≡ Err Stop.Failed → CountedFault (L.state link.old).faults
+        (L.state link.new).faults }
+    ensures gone { result ≡ Err Stop.Gone → CountedFault (L.state link.old).ends
+        (L.state link.new).ends }
+    ensures counts { ((L.state link.old).faults ≤ (L.state link.new).faults) ×
+        ((L.state link.old).ends ≤ (L.state link.new).ends) }
     ensures same { (L.state link.new).number ≡ (L.state link.old).number }
 {
     let answer = exchange(link, inbox, b"reset\n")?;
@@ -119,23 +125,24 @@ pub(crate) fn ask<L: Link>(
     outputs: &mut OutputNames,
 ) -> Result<u16, SulStop>
     requires { length letter.now ≤ 64 }
-    ensures output { IfOk result (λ y. (answer : List ℕ) ×
-        IsAnswered (ended (in_line letter.now)) inbox.old inbox.new answer
-        (L.state link.old).transcript (L.state link.new).transcript ×
+    ensures output { IfOk result (λ y. (answer : List ℕ) × IsAnswered (ended (in_line letter.now))
+        inbox.old inbox.new answer (L.state link.old).transcript (L.state link.new).transcript ×
         (number_behind (codes "out ") outputs.new.names answer ≡ Some y)) }
     ensures brings { IfOk result (λ y. Brings outputs.old.names outputs.new.names y ×
         (y < outputs.old.range)) }
     ensures differ { OnOk result (AllDiffer outputs.new.names) }
     ensures err { IfErr result (λ stop. IsRefusal (NamesNone outputs.old.names outputs.old.most)
-        (ended (in_line letter.now)) inbox.old inbox.new stop
-        (L.state link.old).transcript (L.state link.new).transcript) }
+        (ended (in_line letter.now)) inbox.old inbox.new stop (L.state link.old).transcript
+        (L.state link.new).transcript) }
     ensures kept { OnErr result (outputs.new ≡ outputs.old) }
-    ensures failed { result ≡ Err Stop.Failed →
-        CountedFault (L.state link.old).faults (L.state link.new).faults }
-    ensures gone { result ≡ Err Stop.Gone → CountedFault (L.state link.old).ends (L.state link.new).ends }
-    ensures counts { ((L.state link.old).faults ≤ (L.state link.new).faults) × ((L.state link.old).ends ≤ (L.state link.new).ends) }
-    ensures same { ((L.state link.new).number ≡ (L.state link.old).number) × (outputs.new.most ≡ outputs.old.most) ×
-        (outputs.new.range ≡ outputs.old.range) }
+    ensures failed { result ≡ Err Stop.Failed → CountedFault (L.state link.old).faults
+        (L.state link.new).faults }
+    ensures gone { result ≡ Err Stop.Gone → CountedFault (L.state link.old).ends
+        (L.state link.new).ends }
+    ensures counts { ((L.state link.old).faults ≤ (L.state link.new).faults) ×
+        ((L.state link.old).ends ≤ (L.state link.new).ends) }
+    ensures same { ((L.state link.new).number ≡ (L.state link.old).number) ×
+        (outputs.new.most ≡ outputs.old.most) × (outputs.new.range ≡ outputs.old.range) }
 {
     let line = SentLine::naming(b"in ", letter.as_bytes());
     let answer = exchange(link, inbox, line.as_slice())?;

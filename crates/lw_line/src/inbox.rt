@@ -88,11 +88,14 @@ impl Inbox {
         requires { length self.old < 256 }
         ensures took { IfOk result (λ n. (more : List ℕ) × (length more ≡ n) ×
             (self.new ≡ self.old ++ more) ×
-            ((L.state link.new).transcript ≡ option_map (receives more) (L.state link.old).transcript)) }
+            ((L.state link.new).transcript ≡ option_map (receives more)
+            (L.state link.old).transcript)) }
         ensures kept { OnErr result ((self.new ≡ self.old) ×
             ((L.state link.new).transcript ≡ (L.state link.old).transcript)) }
-        ensures end { IfOk result (λ n. n ≡ 0 → CountedFault (L.state link.old).ends (L.state link.new).ends) }
-        ensures failed { OnErr result (CountedFault (L.state link.old).faults (L.state link.new).faults) }
+        ensures end { IfOk result (λ n. n ≡ 0 → CountedFault (L.state link.old).ends
+            (L.state link.new).ends) }
+        ensures failed { OnErr result (CountedFault (L.state link.old).faults
+            (L.state link.new).faults) }
         ensures counts { ((L.state link.old).faults ≤ (L.state link.new).faults) ×
             ((L.state link.old).ends ≤ (L.state link.new).ends) }
         ensures same { (L.state link.new).number ≡ (L.state link.old).number }
@@ -106,13 +109,14 @@ impl Inbox {
     pub fn read_from<I: Source>(&mut self, source: &mut I) -> Result<usize, Failed>
         requires { length self.old < 256 }
         ensures gave { IfOk result (λ n. (more : List ℕ) × (length more ≡ n) ×
-            (self.new ≡ self.old ++ more) ×
-            Gave more (I.state source.old).left (I.state source.new).left) }
+            (self.new ≡ self.old ++ more) × Gave more (I.state source.old).left
+            (I.state source.new).left) }
         ensures kept { OnErr result ((self.new ≡ self.old) ×
             ((I.state source.new).left ≡ (I.state source.old).left)) }
         ensures end { IfOk result (λ n. n ≡ 0 → IsSpent (I.state source.old).left ×
             CountedFault (I.state source.old).ends (I.state source.new).ends) }
-        ensures failed { OnErr result (CountedFault (I.state source.old).faults (I.state source.new).faults) }
+        ensures failed { OnErr result (CountedFault (I.state source.old).faults
+            (I.state source.new).faults) }
         ensures quiet { OnOk result ((I.state source.new).faults ≡ (I.state source.old).faults) }
         ensures counts { ((I.state source.old).faults ≤ (I.state source.new).faults) ×
             ((I.state source.old).ends ≤ (I.state source.new).ends) }

@@ -66,10 +66,12 @@ enum Turn {
 fn next_line<I: Source>(source: &mut I, inbox: &mut Inbox) -> Result<Next, Failed>
     ensures comes { IfOk result (λ next. Comes inbox.old inbox.new next (I.state source.old).left
         (I.state source.new).left) }
-    ensures err { OnErr result ((bytes : List ℕ) ×
-        IsOpenRead inbox.old bytes (I.state source.old).left (I.state source.new).left) }
-    ensures end { result ≡ Ok Upcoming.End → CountedFault (I.state source.old).ends (I.state source.new).ends }
-    ensures failed { OnErr result (CountedFault (I.state source.old).faults (I.state source.new).faults) }
+    ensures err { OnErr result ((bytes : List ℕ) × IsOpenRead inbox.old bytes
+        (I.state source.old).left (I.state source.new).left) }
+    ensures end { result ≡ Ok Upcoming.End → CountedFault (I.state source.old).ends
+        (I.state source.new).ends }
+    ensures failed { OnErr result (CountedFault (I.state source.old).faults
+        (I.state source.new).faults) }
     ensures quiet { OnOk result ((I.state source.new).faults ≡ (I.state source.old).faults) }
     ensures counts { ((I.state source.old).faults ≤ (I.state source.new).faults) ×
         ((I.state source.old).ends ≤ (I.state source.new).ends) }
@@ -93,9 +95,12 @@ fn next_line<I: Source>(source: &mut I, inbox: &mut Inbox) -> Result<Next, Faile
 
 /// Puts all the bytes.
 fn put_all<O: Sink>(sink: &mut O, bytes: &[u8]) -> Result<(), Failed>
-    ensures ok { OnOk result (TakesAll bytes.now (O.state sink.old).taken (O.state sink.new).taken) }
-    ensures err { OnErr result (TakesSome bytes.now (O.state sink.old).taken (O.state sink.new).taken) }
-    ensures failed { OnErr result (CountedFault (O.state sink.old).faults (O.state sink.new).faults) }
+    ensures ok { OnOk result (TakesAll bytes.now (O.state sink.old).taken
+        (O.state sink.new).taken) }
+    ensures err { OnErr result (TakesSome bytes.now (O.state sink.old).taken
+        (O.state sink.new).taken) }
+    ensures failed { OnErr result (CountedFault (O.state sink.old).faults
+        (O.state sink.new).faults) }
     ensures quiet { OnOk result ((O.state sink.new).faults ≡ (O.state sink.old).faults) }
     ensures counts { (O.state sink.old).faults ≤ (O.state sink.new).faults }
 {
@@ -117,8 +122,8 @@ fn answer<O: Sink>(
     requires { child.old < length m.now.mealy.rows }
     ensures replies { Replies m.now number child.old raw.now child.new (O.state sink.old).taken
         (O.state sink.new).taken result }
-    ensures failed { result ≡ Err Fault.SinkFault →
-        CountedFault (O.state sink.old).faults (O.state sink.new).faults }
+    ensures failed { result ≡ Err Fault.SinkFault → CountedFault (O.state sink.old).faults
+        (O.state sink.new).faults }
     ensures quiet { OnOk result ((O.state sink.new).faults ≡ (O.state sink.old).faults) }
     ensures counts { (O.state sink.old).faults ≤ (O.state sink.new).faults }
     ensures state { child.new < length m.now.mealy.rows }
@@ -145,17 +150,20 @@ fn serve_line<I: Source, O: Sink>(
     number: u32,
 ) -> Result<Turn, ServeFault>
     requires { child.old < length m.now.mealy.rows }
-    ensures turns { Turns m.now number child.old inbox.old child.new inbox.new (I.state source.old).left
-        (I.state source.new).left (O.state sink.old).taken (O.state sink.new).taken result }
-    ensures source { result ≡ Err Fault.SourceFault →
-        CountedFault (I.state source.old).faults (I.state source.new).faults }
-    ensures sink { result ≡ Err Fault.SinkFault →
-        CountedFault (O.state sink.old).faults (O.state sink.new).faults }
-    ensures end { result ≡ Ok Done.Ended → CountedFault (I.state source.old).ends (I.state source.new).ends }
+    ensures turns { Turns m.now number child.old inbox.old child.new inbox.new
+        (I.state source.old).left (I.state source.new).left (O.state sink.old).taken
+        (O.state sink.new).taken result }
+    ensures source { result ≡ Err Fault.SourceFault → CountedFault (I.state source.old).faults
+        (I.state source.new).faults }
+    ensures sink { result ≡ Err Fault.SinkFault → CountedFault (O.state sink.old).faults
+        (O.state sink.new).faults }
+    ensures end { result ≡ Ok Done.Ended → CountedFault (I.state source.old).ends
+        (I.state source.new).ends }
     ensures quiet { OnOk result (((I.state source.new).faults ≡ (I.state source.old).faults) ×
         ((O.state sink.new).faults ≡ (O.state sink.old).faults)) }
     ensures counts { ((I.state source.old).faults ≤ (I.state source.new).faults) ×
-        ((I.state source.old).ends ≤ (I.state source.new).ends) × ((O.state sink.old).faults ≤ (O.state sink.new).faults) }
+        ((I.state source.old).ends ≤ (I.state source.new).ends) ×
+        ((O.state sink.old).faults ≤ (O.state sink.new).faults) }
     ensures state { child.new < length m.now.mealy.rows }
 {
     match next_line(source, inbox) {
@@ -173,19 +181,21 @@ pub fn serve<I: Source, O: Sink>(
     sink: &mut O,
     m: &Machine,
 ) -> Result<Served, ServeFault>
-    ensures plays { Plays m.now (I.state source.old).left result (O.state sink.old).taken (O.state sink.new).taken }
-    ensures source { result ≡ Err Fault.SourceFault →
-        CountedFault (I.state source.old).faults (I.state source.new).faults ×
-        GoesOn m.now (I.state source.old).left (I.state source.new).left }
-    ensures sink { result ≡ Err Fault.SinkFault →
-        CountedFault (O.state sink.old).faults (O.state sink.new).faults }
+    ensures plays { Plays m.now (I.state source.old).left result (O.state sink.old).taken
+        (O.state sink.new).taken }
+    ensures source { result ≡ Err Fault.SourceFault → CountedFault (I.state source.old).faults
+        (I.state source.new).faults × GoesOn m.now (I.state source.old).left
+        (I.state source.new).left }
+    ensures sink { result ≡ Err Fault.SinkFault → CountedFault (O.state sink.old).faults
+        (O.state sink.new).faults }
     ensures end { IfOk result (λ s. s.cause ≡ Cause.EndOfInput →
         CountedFault (I.state source.old).ends (I.state source.new).ends) }
     ensures limit { IfOk result (λ s. s.cause ≡ Cause.Limit → s.lines ≡ 4294967295) }
     ensures quiet { OnOk result (((I.state source.new).faults ≡ (I.state source.old).faults) ×
         ((O.state sink.new).faults ≡ (O.state sink.old).faults)) }
     ensures counts { ((I.state source.old).faults ≤ (I.state source.new).faults) ×
-        ((I.state source.old).ends ≤ (I.state source.new).ends) × ((O.state sink.old).faults ≤ (O.state sink.new).faults) }
+        ((I.state source.old).ends ≤ (I.state source.new).ends) ×
+        ((O.state sink.old).faults ≤ (O.state sink.new).faults) }
 {
     // for the proof alone: names are short, and there is an initial state
     let _ = m.inputs.len();

@@ -59,7 +59,8 @@ impl<L: Link> LineSul<L> {
           stop = None;
           cut = false;
         } }
-        ensures fresh { NoRuns (told_runs result.letters result.names (L.state result.link).transcript) }
+        ensures fresh { NoRuns (told_runs result.letters result.names
+            (L.state result.link).transcript) }
     {
         LineSul {
             link,
@@ -86,8 +87,8 @@ impl<L: Link> LineSul<L> {
           stop = None;
           cut = false;
         }) }
-        ensures fresh { IfOk result (λ s. NoRuns (told_runs s.letters s.names
-            (L.state s.link).transcript)) }
+        ensures fresh { IfOk result
+            (λ s. NoRuns (told_runs s.letters s.names (L.state s.link).transcript)) }
         ensures back { IfErr result (λ e. e.0 ≡ link) }
     {
         match OutputNames::free(alloc) {
@@ -143,7 +144,8 @@ impl<L: Link> LineSul<L> {
     /// The link. Its counts and what went over it bear out the system's stop, and whether that was in a step.
     pub fn into_link(self) -> L
         ensures link { result ≡ self.link }
-        ensures counted { IsCounted (L.state self.link).faults (L.state self.link).ends self.stop }
+        ensures counted { IsCounted (L.state self.link).faults (L.state self.link).ends
+            self.stop }
         ensures told { IsTranscriptOf self.letters self.names self.most (L.state self.link).faults
             self.stop self.cut (L.state self.link).transcript }
         ensures naming { IsNaming self.names self.most self.outputs }

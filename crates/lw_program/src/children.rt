@@ -186,11 +186,11 @@ impl<R: Files + Processes<Started = SystemProcess> + AllocGlobal> Spawner for Re
       faults = s.faults;
       started = s.started;
       retired = map (λ r. record {
-      number = r.0.number;
-      faults = r.0.faults;
-      ends = r.0.ends;
-      transcript = None;
-    }) s.retired.items;
+        number = r.0.number;
+        faults = r.0.faults;
+        ends = r.0.ends;
+        transcript = None;
+      }) s.retired.items;
       commands = None;
       cause = s.cause;
     } };

@@ -26,7 +26,8 @@ pub(crate) struct Other {
 fn same_name<S: Sul>(outputs: &Names, sul: &S, known: u16, given: u16) -> bool
     requires known { known < length outputs.now }
     requires given { given < length (S.state sul.now).names }
-    ensures { IsTrue result ↔ (name_at outputs.now known ≡ name_at (S.state sul.now).names given) }
+    ensures { IsTrue result ↔ (name_at outputs.now known ≡ name_at (S.state sul.now).names
+        given) }
 {
     outputs.name(known).as_bytes() == sul.name(given).as_slice()
 }
@@ -52,9 +53,9 @@ fn first_difference<S: Sul>(outputs: &Names, sul: &S, known: &[u16], given: &[u1
 /// Asks a word.
 fn run_again<S: Sul>(session: &mut Session<S>, word: &Word) -> Result<Word, RunStop>
     requires { IsWord (S.state session.old.sul).inputs word.now }
-    ensures gains { IfOk result (λ outs. GainsRun (S.state session.old.sul).origin.machine word.now outs
-        (S.state session.old.sul).names (S.state session.new.sul).names session.old.journal
-        session.new.journal) }
+    ensures gains { IfOk result (λ outs. GainsRun (S.state session.old.sul).origin.machine
+        word.now outs (S.state session.old.sul).names (S.state session.new.sul).names
+        session.old.journal session.new.journal) }
     ensures live { OnOk result ((S.state session.new.sul).stop ≡ None) }
     ensures left { OnErr result (session.new.journal ≡ session.old.journal) }
     ensures stopped { (why : Reason) → result ≡ Err (Stopped.Sul why) →
@@ -77,8 +78,8 @@ fn ask_again<S: Sul>(
     requires outs { All (λ y. y < length outputs.now) answer.now.outs }
     requires even { IsEven answer.now }
     ensures ok { IfOk result (GainsOne (S.state session.old.sul).origin.machine outputs.now number
-        answer.now (S.state session.old.sul).names (S.state session.new.sul).names session.old.journal
-        session.new.journal) }
+        answer.now (S.state session.old.sul).names (S.state session.new.sul).names
+        session.old.journal session.new.journal) }
     ensures live { OnOk result ((S.state session.new.sul).stop ≡ None) }
     ensures left { OnErr result (session.new.journal ≡ session.old.journal) }
     ensures stopped { (why : Reason) → result ≡ Err (Stopped.Sul why) →

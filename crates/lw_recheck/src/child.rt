@@ -24,12 +24,10 @@ pub(crate) fn recheck_child<P: Spawner>(
     requires command { 0 < length command.now }
     requires over { AreKeptOver (length letters.now) (length outputs) kept.answers }
     ensures ok { IfOk result (λ a. RechecksChild (map (λ w. string_bytes w) command.now)
-        letters.now declared outputs kept.answers
-        (P.state spawner.old)
-        (P.state spawner.new) a.names a.kept.answers a.came) }
+        letters.now declared outputs kept.answers (P.state spawner.old) (P.state spawner.new)
+        a.names a.kept.answers a.came) }
     ensures err { IfErr result (HasNotStarted (map (λ w. string_bytes w) command.now)
-        (P.state spawner.old)
-        (P.state spawner.new)) }
+        (P.state spawner.old) (P.state spawner.new)) }
 {
     let Ok(names) = letters.copy() else {
         return Err(StartStop::NoMemory);

@@ -72,8 +72,7 @@ fn recheck_command<P: Spawner>(
 ) -> Told
     requires command { 0 < length command.words }
     requires over { AreKeptOver (length command.inputs) (length outputs) kept.answers }
-    ensures asks { RechecksCommand command outputs kept.answers
-        (P.state spawner.old)
+    ensures asks { RechecksCommand command outputs kept.answers (P.state spawner.old)
         (P.state spawner.new) result.names result.kept.answers result.outcome }
     ensures why { (cause : Cause) → result.outcome ≡ Came.Unstarted cause →
         cause ≡ (P.state spawner.new).cause }
@@ -112,8 +111,7 @@ fn recheck_system<P: Spawner>(
 ) -> Told
     requires command { HasWords system }
     requires over { AreKeptOver (length (letters_of system)) (length outputs) kept.answers }
-    ensures asks { RechecksSystem system outputs kept.answers
-        (P.state spawner.old)
+    ensures asks { RechecksSystem system outputs kept.answers (P.state spawner.old)
         (P.state spawner.new) result.names result.kept.answers result.outcome }
     ensures why { (cause : Cause) → result.outcome ≡ Came.Unstarted cause →
         cause ≡ (P.state spawner.new).cause }
@@ -135,16 +133,12 @@ fn recheck_task<P: Spawner, O: Sink, E: Sink>(
     requires command { HasWords task.system }
     requires fits { FitsSystem task.answers task.system }
     ensures status { result.status ≡ status_of result.outcome }
-    ensures asks { AsksTask task.system task.answers
-        (P.state spawner.old)
-        (P.state spawner.new)
-        (O.state out.old)
-        (O.state out.new)
-        (E.state err.old)
-        (E.state err.new) result }
+    ensures asks { AsksTask task.system task.answers (P.state spawner.old) (P.state spawner.new)
+        (O.state out.old) (O.state out.new) (E.state err.old) (E.state err.new) result }
     ensures why { (cause : Cause) → result.outcome ≡ Came.Unstarted cause →
         cause ≡ (P.state spawner.new).cause }
-    ensures counts { ((O.state out.old).faults ≤ (O.state out.new).faults) × ((E.state err.old).faults ≤ (E.state err.new).faults) }
+    ensures counts { ((O.state out.old).faults ≤ (O.state out.new).faults) ×
+        ((E.state err.old).faults ≤ (E.state err.new).faults) }
 {
     let Task { system, answers } = task;
     let Answers {
@@ -169,21 +163,16 @@ pub fn recheck<F: Files, P: Spawner, O: Sink, E: Sink>(
     err: &mut E,
 ) -> End
     ensures status { result.status ≡ status_of result.outcome }
-    ensures ran { IsRecheckRun arguments.now
-        (F.state files.old)
-        (F.state files.new)
-        (P.state spawner.old)
-        (P.state spawner.new)
-        (O.state out.old)
-        (O.state out.new)
-        (E.state err.old)
-        (E.state err.new) result }
+    ensures ran { IsRecheckRun arguments.now (F.state files.old) (F.state files.new)
+        (P.state spawner.old) (P.state spawner.new) (O.state out.old) (O.state out.new)
+        (E.state err.old) (E.state err.new) result }
     // Why no child was started is what the spawner tells.
     ensures why { (cause : Cause) → result.outcome ≡ Came.Unstarted cause →
         cause ≡ (P.state spawner.new).cause }
     // No count of faults falls.
     ensures counts { ((F.state files.old).faults ≤ (F.state files.new).faults) ×
-        ((O.state out.old).faults ≤ (O.state out.new).faults) × ((E.state err.old).faults ≤ (E.state err.new).faults) }
+        ((O.state out.old).faults ≤ (O.state out.new).faults) ×
+        ((E.state err.old).faults ≤ (E.state err.new).faults) }
 {
     match read_both(alloc, arguments.setup(), arguments.answers(), files) {
         Ok(task) => recheck_task(alloc, task, spawner, out, err),

@@ -86,7 +86,8 @@ fn number_among(names: &Names, name: &OutName) -> Result<u16, NoMemory>
 fn renamed<S: Sul>(alloc: Global, names: &Names, sul: &S, outs: &[u16]) -> Result<Word, NoMemory>
     requires { All (λ y. y < length (S.state sul.now).names) outs.now }
     ensures below { IfOk result (All (λ y. y < length names.now)) }
-    ensures named { IfOk result (λ w. named names.now w ≡ named (S.state sul.now).names outs.now) }
+    ensures named { IfOk result (λ w. named names.now w ≡ named (S.state sul.now).names
+        outs.now) }
 {
     let mut word = Word::new(alloc);
     for y in outs {

@@ -70,9 +70,8 @@ pub(crate) fn read_both<F: Files>(
     answers: &str,
     files: &mut F,
 ) -> Result<Task, Outcome>
-    ensures read { HasReadBoth setup.now answers.now
-        (F.state files.old)
-        (F.state files.new) result }
+    ensures read { HasReadBoth setup.now answers.now (F.state files.old) (F.state files.new)
+        result }
     ensures letters { IfOk result (λ t. length (letters_of t.system) ≤ 64) }
     ensures words { IfOk result (λ t. HasWords t.system) }
 {

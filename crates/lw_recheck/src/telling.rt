@@ -26,10 +26,14 @@ fn put_same<O: Sink>(
 ) -> Result<(), TellStop>
     ensures ok { OnOk result (TakesAll (rechecked_line answers) (O.state out.old).taken
         (O.state out.new).taken) }
-    ensures part { TakesSome (rechecked_line answers) (O.state out.old).taken (O.state out.new).taken }
-    ensures memory { result ≡ Err Stop.NoMemory → (O.state out.new).taken ≡ (O.state out.old).taken }
-    ensures calm { result ≡ Err Stop.NoMemory → (O.state out.new).faults ≡ (O.state out.old).faults }
-    ensures failed { result ≡ Err Stop.Sink → CountedFault (O.state out.old).faults (O.state out.new).faults }
+    ensures part { TakesSome (rechecked_line answers) (O.state out.old).taken
+        (O.state out.new).taken }
+    ensures memory { result ≡ Err Stop.NoMemory → (O.state out.new).taken ≡
+        (O.state out.old).taken }
+    ensures calm { result ≡ Err Stop.NoMemory → (O.state out.new).faults ≡
+        (O.state out.old).faults }
+    ensures failed { result ≡ Err Stop.Sink → CountedFault (O.state out.old).faults
+        (O.state out.new).faults }
     ensures no_file { (role : Part) → ¬ (result ≡ Err (Stop.File role)) }
     ensures quiet { OnOk result ((O.state out.new).faults ≡ (O.state out.old).faults) }
     ensures counts { (O.state out.old).faults ≤ (O.state out.new).faults }
@@ -52,12 +56,10 @@ fn end_same<O: Sink, E: Sink>(
     ensures status { result.status ≡ status_of result.outcome }
     ensures bare { IsBare kept.answers result }
     ensures started { (cause : Cause) → ¬ (result.outcome ≡ Came.Unstarted cause) }
-    ensures same { EndsSame answers kept.answers
-        (O.state out.old)
-        (O.state out.new)
-        (E.state err.old)
-        (E.state err.new) result }
-    ensures counts { ((O.state out.old).faults ≤ (O.state out.new).faults) × ((E.state err.old).faults ≤ (E.state err.new).faults) }
+    ensures same { EndsSame answers kept.answers (O.state out.old) (O.state out.new)
+        (E.state err.old) (E.state err.new) result }
+    ensures counts { ((O.state out.old).faults ≤ (O.state out.new).faults) ×
+        ((E.state err.old).faults ≤ (E.state err.new).faults) }
 {
     match put_same(alloc, answers, inputs, &kept, out) {
         Ok(()) => End::new(Outcome::Rechecked { answers }, kept, None),
@@ -78,10 +80,8 @@ pub(crate) fn end_refused<E: Sink>(
     ensures bare { IsBare kept.answers result }
     ensures unstarted { (cause : Cause) → result.outcome ≡ Came.Unstarted cause →
         outcome ≡ Came.Unstarted cause }
-    ensures told { (out : SinkState) →
-        IsTold (option_map (λ n. n.now) inputs.entry) (option_map (λ n. n.now) outputs.entry)
-        outcome kept.answers out out
-        (E.state err.old)
+    ensures told { (out : SinkState) → IsTold (option_map (λ n. n.now) inputs.entry)
+        (option_map (λ n. n.now) outputs.entry) outcome kept.answers out out (E.state err.old)
         (E.state err.new) result }
     ensures counts { (E.state err.old).faults ≤ (E.state err.new).faults }
 {
@@ -109,11 +109,9 @@ pub(crate) fn end_call<O: Sink, E: Sink>(
     ensures unstarted { (cause : Cause) → result.outcome ≡ Came.Unstarted cause →
         told.outcome ≡ Came.Unstarted cause }
     ensures ended { IsEnd (Some inputs.now) told.names told.outcome told.kept.answers
-        (O.state out.old)
-        (O.state out.new)
-        (E.state err.old)
-        (E.state err.new) result }
-    ensures counts { ((O.state out.old).faults ≤ (O.state out.new).faults) × ((E.state err.old).faults ≤ (E.state err.new).faults) }
+        (O.state out.old) (O.state out.new) (E.state err.old) (E.state err.new) result }
+    ensures counts { ((O.state out.old).faults ≤ (O.state out.new).faults) ×
+        ((E.state err.old).faults ≤ (E.state err.new).faults) }
 {
     let Told {
         kept,

@@ -25,10 +25,8 @@ pub fn read_machine_file<F: Files>(
     files: &mut F,
     name: &str,
 ) -> Result<Machine, ReadStop>
-    ensures { HasRead IsMachineFile HasMachineFault name.now
-        (F.state files.old)
-        (F.state files.new)
-        result }
+    ensures { HasRead IsMachineFile HasMachineFault name.now (F.state files.old)
+        (F.state files.new) result }
 {
     let bytes = match files.read(name) {
         Ok(bytes) => bytes,
@@ -46,10 +44,8 @@ pub fn read_answers_file<F: Files>(
     files: &mut F,
     name: &str,
 ) -> Result<Answers, ReadStop>
-    ensures { HasRead IsAnswersFile HasAnswersFault name.now
-        (F.state files.old)
-        (F.state files.new)
-        result }
+    ensures { HasRead IsAnswersFile HasAnswersFault name.now (F.state files.old)
+        (F.state files.new) result }
 {
     let bytes = match files.read(name) {
         Ok(bytes) => bytes,
@@ -89,12 +85,10 @@ pub fn read_setup_with<F: Files>(
     files: &mut F,
     name: &str,
 ) -> Result<SetupFile, ReadStop>
-    ensures read { HasRead IsSetupFile HasSetupFault name.now
-        (F.state files.old)
-        (F.state files.new)
-        (setup_in result) }
-    ensures hint { IfOk result (λ file.
-        TellsHint name.now (F.state files.old).reads (F.state files.new).reads file.hint.items) }
+    ensures read { HasRead IsSetupFile HasSetupFault name.now (F.state files.old)
+        (F.state files.new) (setup_in result) }
+    ensures hint { IfOk result (λ file. TellsHint name.now (F.state files.old).reads
+        (F.state files.new).reads file.hint.items) }
 {
     let bytes = match files.read(name) {
         Ok(bytes) => bytes,
@@ -112,9 +106,7 @@ pub fn read_setup_file<F: Files>(
     files: &mut F,
     name: &str,
 ) -> Result<Setup, ReadStop>
-    ensures { HasRead IsSetupFile HasSetupFault name.now
-        (F.state files.old)
-        (F.state files.new)
+    ensures { HasRead IsSetupFile HasSetupFault name.now (F.state files.old) (F.state files.new)
         result }
 {
     match read_setup_with(alloc, files, name) {

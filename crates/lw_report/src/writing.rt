@@ -22,7 +22,8 @@ fn put_from<K: Sink>(sink: &mut K, bytes: &[u8], done: usize) -> Result<usize, F
         option_map (λ t. t ++ take n (drop done bytes.now)) (K.state sink.old).taken) }
     ensures left { OnErr result ((K.state sink.new).taken ≡ (K.state sink.old).taken) }
     ensures quiet { OnOk result ((K.state sink.new).faults ≡ (K.state sink.old).faults) }
-    ensures failed { OnErr result (CountedFault (K.state sink.old).faults (K.state sink.new).faults) }
+    ensures failed { OnErr result (CountedFault (K.state sink.old).faults
+        (K.state sink.new).faults) }
     ensures counts { (K.state sink.old).faults ≤ (K.state sink.new).faults }
 {
     sink.put(&bytes[done..])
@@ -31,10 +32,12 @@ fn put_from<K: Sink>(sink: &mut K, bytes: &[u8], done: usize) -> Result<usize, F
 /// Puts all the bytes into a sink, piece by piece.
 #[tactic(auto, using(crate::proofs::SinkLemmas::sink_steps))]
 pub fn put_all<K: Sink>(sink: &mut K, bytes: &[u8]) -> Result<(), Failed>
-    ensures ok { OnOk result (TakesAll bytes.now (K.state sink.old).taken (K.state sink.new).taken) }
+    ensures ok { OnOk result (TakesAll bytes.now (K.state sink.old).taken
+        (K.state sink.new).taken) }
     ensures part { TakesSome bytes.now (K.state sink.old).taken (K.state sink.new).taken }
     ensures quiet { OnOk result ((K.state sink.new).faults ≡ (K.state sink.old).faults) }
-    ensures failed { OnErr result (CountedFault (K.state sink.old).faults (K.state sink.new).faults) }
+    ensures failed { OnErr result (CountedFault (K.state sink.old).faults
+        (K.state sink.new).faults) }
     ensures counts { (K.state sink.old).faults ≤ (K.state sink.new).faults }
 {
     let mut done = 0;
@@ -101,12 +104,15 @@ pub fn put_report<K: Sink>(
     extra: u8,
     sink: &mut K,
 ) -> Result<(), TellStop>
-    ensures ok { OnOk result (TakesAll (text_of inputs.now outputs.now kept.now.answers extra
-        outcome.now) (K.state sink.old).taken (K.state sink.new).taken) }
+    ensures ok { OnOk result
+        (TakesAll (text_of inputs.now outputs.now kept.now.answers extra outcome.now)
+        (K.state sink.old).taken (K.state sink.new).taken) }
     ensures part { TakesSome (text_of inputs.now outputs.now kept.now.answers extra outcome.now)
         (K.state sink.old).taken (K.state sink.new).taken }
-    ensures memory { result ≡ Err Stop.NoMemory → (K.state sink.new).taken ≡ (K.state sink.old).taken }
-    ensures failed { result ≡ Err Stop.Sink → CountedFault (K.state sink.old).faults (K.state sink.new).faults }
+    ensures memory { result ≡ Err Stop.NoMemory → (K.state sink.new).taken ≡
+        (K.state sink.old).taken }
+    ensures failed { result ≡ Err Stop.Sink → CountedFault (K.state sink.old).faults
+        (K.state sink.new).faults }
     ensures no_file { (role : Part) → ¬ (result ≡ Err (Stop.File role)) }
     ensures quiet { OnOk result ((K.state sink.new).faults ≡ (K.state sink.old).faults) }
     ensures counts { (K.state sink.old).faults ≤ (K.state sink.new).faults }
@@ -125,14 +131,15 @@ pub fn write_file<F: Files>(
 ) -> Result<(), TellStop>
     ensures told { OnOk result (Holds (F.state files.new).holds name.now bytes.now) }
     ensures beside { StaysBeside name.now (F.state files.old).holds (F.state files.new).holds }
-    ensures ok { OnOk result ((F.state files.new).calls ≡
-        noted (write_call name.now false) (F.state files.old).calls) }
+    ensures ok { OnOk result ((F.state files.new).calls ≡ noted (write_call name.now false)
+        (F.state files.old).calls) }
     ensures role { (other : Part) → result ≡ Err (Stop.File other) → other ≡ role }
-    ensures failed { result ≡ Err (Stop.File role) →
-        CountedFault (F.state files.old).faults (F.state files.new).faults }
-    ensures failed_call { result ≡ Err (Stop.File role) →
-        (F.state files.new).calls ≡ noted (write_call name.now true) (F.state files.old).calls }
-    ensures memory { result ≡ Err Stop.NoMemory → (F.state files.new).calls ≡ (F.state files.old).calls }
+    ensures failed { result ≡ Err (Stop.File role) → CountedFault (F.state files.old).faults
+        (F.state files.new).faults }
+    ensures failed_call { result ≡ Err (Stop.File role) → (F.state files.new).calls ≡
+        noted (write_call name.now true) (F.state files.old).calls }
+    ensures memory { result ≡ Err Stop.NoMemory → (F.state files.new).calls ≡
+        (F.state files.old).calls }
     ensures no_sink { ¬ (result ≡ Err Stop.Sink) }
     ensures reads { (F.state files.new).reads ≡ (F.state files.old).reads }
     ensures quiet { OnOk result ((F.state files.new).faults ≡ (F.state files.old).faults) }

@@ -38,7 +38,8 @@ fn refuse_model<E: Sink>(alloc: Global, stop: ReadStop, err: &mut E) -> End
     ensures kept { result.kept.answers ≡ [] }
     ensures outputs { result.outputs ≡ None }
     ensures said { ¬ CountedFault (E.state err.old).faults (E.state err.new).faults →
-        TakesAll (said_text None None [] 0 result.outcome) (E.state err.old).taken (E.state err.new).taken }
+        TakesAll (said_text None None [] 0 result.outcome) (E.state err.old).taken
+        (E.state err.new).taken }
     ensures part { TakesSome (said_text None None [] 0 result.outcome) (E.state err.old).taken
         (E.state err.new).taken }
     ensures counts { (E.state err.old).faults ≤ (E.state err.new).faults }
@@ -68,18 +69,17 @@ fn play<I: Source, O: Sink, E: Sink>(
     ensures learner { IsWithoutLearner result }
     ensures kept { result.kept.answers ≡ [] }
     ensures outputs { result.outputs ≡ None }
-    ensures served { HasServed machine.now
-        (I.state input.old)
-        (I.state input.new)
-        (O.state out.old)
-        (O.state out.new) result.outcome }
+    ensures served { HasServed machine.now (I.state input.old) (I.state input.new)
+        (O.state out.old) (O.state out.new) result.outcome }
     ensures said { ¬ CountedFault (E.state err.old).faults (E.state err.new).faults →
-        TakesAll (said_text None None [] 0 result.outcome) (E.state err.old).taken (E.state err.new).taken }
+        TakesAll (said_text None None [] 0 result.outcome) (E.state err.old).taken
+        (E.state err.new).taken }
     ensures part { TakesSome (said_text None None [] 0 result.outcome) (E.state err.old).taken
         (E.state err.new).taken }
     ensures counts { ((I.state input.old).faults ≤ (I.state input.new).faults) ×
         ((I.state input.old).ends ≤ (I.state input.new).ends) ×
-        ((O.state out.old).faults ≤ (O.state out.new).faults) × ((E.state err.old).faults ≤ (E.state err.new).faults) }
+        ((O.state out.old).faults ≤ (O.state out.new).faults) ×
+        ((E.state err.old).faults ≤ (E.state err.new).faults) }
 {
     let served = lw_line::serve(input, out, machine);
     refuse(
@@ -105,18 +105,14 @@ pub fn serve<F: Files, I: Source, O: Sink, E: Sink>(
     err: &mut E,
 ) -> End
     ensures status { result.status ≡ status_of result.outcome }
-    ensures ran { IsServeRun model.now
-        (F.state files.old)
-        (F.state files.new)
-        (I.state input.old)
-        (I.state input.new)
-        (O.state out.old)
-        (O.state out.new)
-        (E.state err.old)
+    ensures ran { IsServeRun model.now (F.state files.old) (F.state files.new) (I.state input.old)
+        (I.state input.new) (O.state out.old) (O.state out.new) (E.state err.old)
         (E.state err.new) result }
     ensures counts { ((F.state files.old).faults ≤ (F.state files.new).faults) ×
-        ((I.state input.old).faults ≤ (I.state input.new).faults) × ((I.state input.old).ends ≤ (I.state input.new).ends) ×
-        ((O.state out.old).faults ≤ (O.state out.new).faults) × ((E.state err.old).faults ≤ (E.state err.new).faults) }
+        ((I.state input.old).faults ≤ (I.state input.new).faults) ×
+        ((I.state input.old).ends ≤ (I.state input.new).ends) ×
+        ((O.state out.old).faults ≤ (O.state out.new).faults) ×
+        ((E.state err.old).faults ≤ (E.state err.new).faults) }
 {
     match read_machine_file(alloc, files, model) {
         Ok(machine) => play(alloc, &machine, input, out, err),

@@ -61,7 +61,8 @@ fn make_room<S: Sul>(alloc: Global, w: &Word, sul: &S) -> Result<Buffers, NoMemo
     ensures outs { IfOk result (λ b. (b.outs.items ≡ []) ×
         (length w.now ≤ vec_capacity b.outs)) }
     ensures names { IfOk result (λ b. (b.names.items ≡ []) ×
-        (min (length w.now) ((S.state sul.now).most - length (S.state sul.now).names) ≤ vec_capacity b.names)) }
+        (min (length w.now) ((S.state sul.now).most - length (S.state sul.now).names) ≤
+        vec_capacity b.names)) }
 {
     let known = sul.named();
     let free = usize::from(sul.most() - known);
@@ -100,22 +101,26 @@ fn perform<S: Sul>(
     requires letters { IsWord (S.state sul.old).inputs w.now }
     requires empty { (outs.old.items ≡ []) × (names.old.items ≡ []) }
     requires room { length w.now ≤ vec_capacity outs.old }
-    requires names_room { min (length w.now) ((S.state sul.old).most - length (S.state sul.old).names) ≤
-        vec_capacity names.old }
+    requires names_room { min (length w.now)
+        ((S.state sul.old).most - length (S.state sul.old).names) ≤ vec_capacity names.old }
     ensures length { OnOk result (length outs.new.items ≡ length w.now) }
     ensures outputs { OnOk result (All (λ y. y < (S.state sul.old).outputs) outs.new.items) }
-    ensures answers { OnOk result (Answers (S.state sul.old).origin.machine w.now outs.new.items) }
-    ensures runs { OnOk result ((S.state sul.new).runs ≡ option_map (λ rs. rs ++
-        run_of w.now outs.new.items ∷ []) (S.state sul.old).runs) }
-    ensures names { OnOk result ((S.state sul.new).names ≡ (S.state sul.old).names ++ names.new.items) }
-    ensures brought { OnOk result ((S.state sul.new).names ≡
-        with_names (S.state sul.old).names (named (S.state sul.new).names outs.new.items)) }
+    ensures answers { OnOk result (Answers (S.state sul.old).origin.machine w.now
+        outs.new.items) }
+    ensures runs { OnOk result ((S.state sul.new).runs ≡
+        option_map (λ rs. rs ++ run_of w.now outs.new.items ∷ []) (S.state sul.old).runs) }
+    ensures names { OnOk result ((S.state sul.new).names ≡ (S.state sul.old).names ++
+        names.new.items) }
+    ensures brought { OnOk result ((S.state sul.new).names ≡ with_names (S.state sul.old).names
+        (named (S.state sul.new).names outs.new.items)) }
     ensures numbers { OnOk result (All (λ y. y < length (S.state sul.new).names) outs.new.items) }
     ensures grown { IsGrown (S.state sul.old).names (S.state sul.new).names }
     ensures live { OnOk result ((S.state sul.new).stop ≡ None) }
     ensures err { IfErr result (λ e. (S.state sul.new).stop ≡ Some e) }
-    ensures cut { OnErr result (CutOff w.now (S.state sul.old).runs (S.state sul.new).runs (S.state sul.new).cut) }
-    ensures failed { result ≡ Err Stop.Failed → CountedFault (S.state sul.old).faults (S.state sul.new).faults }
+    ensures cut { OnErr result (CutOff w.now (S.state sul.old).runs (S.state sul.new).runs
+        (S.state sul.new).cut) }
+    ensures failed { result ≡ Err Stop.Failed → CountedFault (S.state sul.old).faults
+        (S.state sul.new).faults }
     ensures counts { (S.state sul.old).faults ≤ (S.state sul.new).faults }
     ensures same { IsSameSul (S.state sul.old) (S.state sul.new) }
 {
@@ -170,16 +175,16 @@ impl<S: Sul> Session<S> {
         ensures again { (stop : Stop) → (S.state self.old.sul).stop ≡ Some stop →
             (result ≡ Err (RunStop.Sul stop)) × (self.new ≡ self.old) }
         ensures memory { result ≡ Err RunStop.NoMemory → self.new ≡ self.old }
-        ensures failed { result ≡ Err (RunStop.Sul Stop.Failed) → (S.state self.old.sul).stop ≡ None →
-            CountedFault (S.state self.old.sul).faults (S.state self.new.sul).faults }
+        ensures failed { result ≡ Err (RunStop.Sul Stop.Failed) → (S.state self.old.sul).stop ≡
+            None → CountedFault (S.state self.old.sul).faults (S.state self.new.sul).faults }
 
         // Told runs are the journal, and an unfinished run exactly where this call or an earlier one was stopped in a step.
-        ensures told { IsJournal (S.state self.new.sul).runs self.new.journal (S.state self.new.sul).stop
-            (S.state self.new.sul).cut }
+        ensures told { IsJournal (S.state self.new.sul).runs self.new.journal
+            (S.state self.new.sul).stop (S.state self.new.sul).cut }
 
         ensures unfinished { (stop : Stop) → result ≡ Err (RunStop.Sul stop) →
-            (S.state self.old.sul).stop ≡ None →
-            CutOff w.now (S.state self.old.sul).runs (S.state self.new.sul).runs (S.state self.new.sul).cut }
+            (S.state self.old.sul).stop ≡ None → CutOff w.now (S.state self.old.sul).runs
+            (S.state self.new.sul).runs (S.state self.new.sul).cut }
 
         ensures counts { (S.state self.old.sul).faults ≤ (S.state self.new.sul).faults }
         ensures instance { self.new.instance ≡ self.old.instance }
@@ -197,12 +202,14 @@ impl<S: Sul> Session<S> {
 
         // An answer is the run that the journal gains, and the machine's where that is told.
         ensures length { IfOk result (λ a. length a.outs ≡ length w.now) }
-        ensures outputs { IfOk result (λ a. All (λ y. y < (S.state self.old.sul).outputs) a.outs) }
+        ensures outputs { IfOk result (λ a. All (λ y. y < (S.state self.old.sul).outputs)
+            a.outs) }
         ensures gains { IfOk result (λ a. self.new.journal ≡ self.old.journal ++
             run_of w.now a.outs ∷ []) }
         ensures runs { IfOk result (λ a. (S.state self.new.sul).runs ≡
             option_map (λ rs. rs ++ run_of w.now a.outs ∷ []) (S.state self.old.sul).runs) }
-        ensures answers { IfOk result (λ a. Answers (S.state self.old.sul).origin.machine w.now a.outs) }
+        ensures answers { IfOk result (λ a. Answers (S.state self.old.sul).origin.machine w.now
+            a.outs) }
         ensures live { OnOk result ((S.state self.new.sul).stop ≡ None) }
 
         // A stop is the system's, of this call or of the one that stopped it.
@@ -212,26 +219,28 @@ impl<S: Sul> Session<S> {
         ensures again { (stop : Stop) → (S.state self.old.sul).stop ≡ Some stop →
             (result ≡ Err (RunStop.Sul stop)) × (self.new ≡ self.old) }
         ensures memory { result ≡ Err RunStop.NoMemory → self.new ≡ self.old }
-        ensures failed { result ≡ Err (RunStop.Sul Stop.Failed) → (S.state self.old.sul).stop ≡ None →
-            CountedFault (S.state self.old.sul).faults (S.state self.new.sul).faults }
+        ensures failed { result ≡ Err (RunStop.Sul Stop.Failed) → (S.state self.old.sul).stop ≡
+            None → CountedFault (S.state self.old.sul).faults (S.state self.new.sul).faults }
 
         // Told runs are the journal, and an unfinished run exactly where a call was stopped in a step.
-        ensures told { IsJournal (S.state self.new.sul).runs self.new.journal (S.state self.new.sul).stop
-            (S.state self.new.sul).cut }
+        ensures told { IsJournal (S.state self.new.sul).runs self.new.journal
+            (S.state self.new.sul).stop (S.state self.new.sul).cut }
 
         ensures unfinished { (stop : Stop) → result ≡ Err (RunStop.Sul stop) →
-            (S.state self.old.sul).stop ≡ None →
-            CutOff w.now (S.state self.old.sul).runs (S.state self.new.sul).runs (S.state self.new.sul).cut }
+            (S.state self.old.sul).stop ≡ None → CutOff w.now (S.state self.old.sul).runs
+            (S.state self.new.sul).runs (S.state self.new.sul).cut }
 
         ensures counts { (S.state self.old.sul).faults ≤ (S.state self.new.sul).faults }
         ensures instance { self.new.instance ≡ self.old.instance }
         ensures same { IsSameSul (S.state self.old.sul) (S.state self.new.sul) }
 
         // The names of an answer are those that the system's list gained, in the order in which they came up.
-        ensures names { IfOk result (λ a. (S.state self.new.sul).names ≡ (S.state self.old.sul).names ++ a.names) }
+        ensures names { IfOk result (λ a. (S.state self.new.sul).names ≡
+            (S.state self.old.sul).names ++ a.names) }
         ensures brought { IfOk result (λ a. (S.state self.new.sul).names ≡
             with_names (S.state self.old.sul).names (named (S.state self.new.sul).names a.outs)) }
-        ensures numbers { IfOk result (λ a. All (λ y. y < length (S.state self.new.sul).names) a.outs) }
+        ensures numbers { IfOk result (λ a. All (λ y. y < length (S.state self.new.sul).names)
+            a.outs) }
         ensures lawful { AreNamed (S.state self.new.sul).most (S.state self.new.sul).names }
         ensures grown { IsGrown (S.state self.old.sul).names (S.state self.new.sul).names }
     {
@@ -282,8 +291,8 @@ impl<S: Sul> Session<S> {
     /// exactly where the session stopped in a step.
     pub fn runs(&self) -> u64
         ensures count { result ≡ length self.now.journal }
-        ensures told { IsJournal (S.state self.now.sul).runs self.now.journal (S.state self.now.sul).stop
-            (S.state self.now.sul).cut }
+        ensures told { IsJournal (S.state self.now.sul).runs self.now.journal
+            (S.state self.now.sul).stop (S.state self.now.sul).cut }
     {
         self.runs
     }

@@ -15,14 +15,14 @@ use Rattle.lw_ask.specs.Arguments.{AskValues}
 use Rattle.lw_ask.specs.AskRun.{IsAskRun}
 use Rattle.lw_ask.specs.Hints.{IsUnreadWith}
 use Rattle.lw_ask.proofs.HintLemmas.{no_hint}
-use Rattle.lw_top.specs.Run.{IsRefused}
+use Rattle.lw_top.specs.Run.{TellsOutcome}
 
 nothing_read : (kind : Source) (name : List ℕ) (f : FilesState) → IsUnreadWith kind name f f [] NoMemory
 nothing_read Setup name f = inl (some_made f f (made_none f), refl)
 nothing_read Table name f = (some_made f f (made_none f), refl)
 
 -- the end of a call that touched nothing, which is out of memory, is one that `ask` may come to
-pub wanted_ask : (a : AskValues) (f : FilesState) (b : SpawnerState) (o e d : SinkState) (end : End) → end.outcome ≡ NoMemory → IsRefused f f o o e d end → IsAskRun a f f b b o o e d end
+pub wanted_ask : (a : AskValues) (f : FilesState) (b : SpawnerState) (o e d : SinkState) (end : End) → end.outcome ≡ NoMemory → TellsOutcome e d end → IsAskRun a f f b b o o e d end
 wanted_ask a f b o e d end out r = record {
   why = NoMemory;
   kept = [];

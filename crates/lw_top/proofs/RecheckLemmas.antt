@@ -13,10 +13,10 @@ use Rattle.lw_recheck.specs.Arguments.{RecheckValues}
 use Rattle.lw_recheck.specs.RecheckRun.{IsRecheckRun}
 use Rattle.lw_top.specs.CommandLine.{is_command, is_faultless, texts}
 use Rattle.lw_top.specs.RecheckCommand.{recheck_app, recheck_values, values_in}
-use Rattle.lw_top.specs.Run.{IsRefused}
+use Rattle.lw_top.specs.Run.{TellsOutcome}
 
 -- the end of a call that touched nothing, which is out of memory, is one that `recheck` may come to
-pub wanted_recheck : (a : RecheckValues) (f : FilesState) (b : SpawnerState) (o e d : SinkState) (end : End) → end.outcome ≡ NoMemory → IsRefused f f o o e d end → IsRecheckRun a f f b b o o e d end
+pub wanted_recheck : (a : RecheckValues) (f : FilesState) (b : SpawnerState) (o e d : SinkState) (end : End) → end.outcome ≡ NoMemory → TellsOutcome e d end → IsRecheckRun a f f b b o o e d end
 wanted_recheck a f b o e d end out r = record {
   came = inr (record {
     why = NoMemory;

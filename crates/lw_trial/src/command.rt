@@ -87,12 +87,10 @@ fn report<O: Sink, E: Sink>(
     requires reached { suite_size arguments.now.states arguments.now.inputs 1 ≤ greatest_suite →
         refinements_of learned.learner < arguments.now.states }
     ensures status { result.status ≡ status_of result.outcome }
-    ensures ran { IsTrialRun arguments.now
-        (O.state out.old)
-        (O.state out.new)
-        (E.state err.old)
+    ensures ran { IsTrialRun arguments.now (O.state out.old) (O.state out.new) (E.state err.old)
         (E.state err.new) result }
-    ensures counts { ((O.state out.old).faults ≤ (O.state out.new).faults) × ((E.state err.old).faults ≤ (E.state err.new).faults) }
+    ensures counts { ((O.state out.old).faults ≤ (O.state out.new).faults) ×
+        ((E.state err.old).faults ≤ (E.state err.new).faults) }
 {
     match tell(
         alloc,
@@ -126,12 +124,10 @@ fn learn<R: Threads + Wait + Sync + Drop, O: Sink, E: Sink>(
     requires outputs { drawn.now.outputs ≡ drawn_outputs }
     requires named { named ≡ drawn_naming }
     ensures status { result.status ≡ status_of result.outcome }
-    ensures ran { IsTrialRun arguments.now
-        (O.state out.old)
-        (O.state out.new)
-        (E.state err.old)
+    ensures ran { IsTrialRun arguments.now (O.state out.old) (O.state out.new) (E.state err.old)
         (E.state err.new) result }
-    ensures counts { ((O.state out.old).faults ≤ (O.state out.new).faults) × ((E.state err.old).faults ≤ (E.state err.new).faults) }
+    ensures counts { ((O.state out.old).faults ≤ (O.state out.new).faults) ×
+        ((E.state err.old).faults ≤ (E.state err.new).faults) }
 {
     let LearnedMachine {
         learned,
@@ -171,12 +167,10 @@ pub fn trial<R: Threads + Wait + Sync + Drop, O: Sink, E: Sink>(
     err: &mut E,
 ) -> End
     ensures status { result.status ≡ status_of result.outcome }
-    ensures ran { IsTrialRun arguments.now
-        (O.state out.old)
-        (O.state out.new)
-        (E.state err.old)
+    ensures ran { IsTrialRun arguments.now (O.state out.old) (O.state out.new) (E.state err.old)
         (E.state err.new) result }
-    ensures counts { ((O.state out.old).faults ≤ (O.state out.new).faults) × ((E.state err.old).faults ≤ (E.state err.new).faults) }
+    ensures counts { ((O.state out.old).faults ≤ (O.state out.new).faults) ×
+        ((E.state err.old).faults ≤ (E.state err.new).faults) }
 {
     match draw(alloc, arguments) {
         Ok((drawn, named)) => learn(rt, alloc, arguments, &drawn, named, out, err),

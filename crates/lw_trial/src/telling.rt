@@ -50,10 +50,13 @@ fn put_trial<O: Sink>(
     kept: &Kept,
     out: &mut O,
 ) -> Result<(), TellStop>
-    ensures ok { OnOk result (TakesAll (trial_lines tried) (O.state out.old).taken (O.state out.new).taken) }
+    ensures ok { OnOk result (TakesAll (trial_lines tried) (O.state out.old).taken
+        (O.state out.new).taken) }
     ensures part { TakesSome (trial_lines tried) (O.state out.old).taken (O.state out.new).taken }
-    ensures memory { result ≡ Err Stop.NoMemory → (O.state out.new).taken ≡ (O.state out.old).taken }
-    ensures failed { result ≡ Err Stop.Sink → CountedFault (O.state out.old).faults (O.state out.new).faults }
+    ensures memory { result ≡ Err Stop.NoMemory → (O.state out.new).taken ≡
+        (O.state out.old).taken }
+    ensures failed { result ≡ Err Stop.Sink → CountedFault (O.state out.old).faults
+        (O.state out.new).faults }
     ensures no_file { (role : Part) → ¬ (result ≡ Err (Stop.File role)) }
     ensures quiet { OnOk result ((O.state out.new).faults ≡ (O.state out.old).faults) }
     ensures counts { (O.state out.old).faults ≤ (O.state out.new).faults }
@@ -74,14 +77,16 @@ pub(crate) fn tell<O: Sink>(
     requires alphabets { learned.now.model.inputs ≡ machine.now.inputs }
     ensures told { IfOk result (IsToldOf arguments.now machine.now learned.now.model
         (refinements_of learned.now.learner) (length kept.now.answers)) }
-    ensures ok { IfOk result (λ tried.
-        TakesAll (trial_lines tried) (O.state out.old).taken (O.state out.new).taken) }
+    ensures ok { IfOk result (λ tried. TakesAll (trial_lines tried) (O.state out.old).taken
+        (O.state out.new).taken) }
     ensures part { (O.state out.new).taken ≢ (O.state out.old).taken → (tried : Told) ×
-        IsToldOf arguments.now machine.now learned.now.model
-        (refinements_of learned.now.learner) (length kept.now.answers) tried ×
-        TakesSome (trial_lines tried) (O.state out.old).taken (O.state out.new).taken }
-    ensures memory { result ≡ Err Stop.NoMemory → (O.state out.new).taken ≡ (O.state out.old).taken }
-    ensures failed { result ≡ Err Stop.Sink → CountedFault (O.state out.old).faults (O.state out.new).faults }
+        IsToldOf arguments.now machine.now learned.now.model (refinements_of learned.now.learner)
+        (length kept.now.answers) tried × TakesSome (trial_lines tried) (O.state out.old).taken
+        (O.state out.new).taken }
+    ensures memory { result ≡ Err Stop.NoMemory → (O.state out.new).taken ≡
+        (O.state out.old).taken }
+    ensures failed { result ≡ Err Stop.Sink → CountedFault (O.state out.old).faults
+        (O.state out.new).faults }
     ensures no_file { (role : Part) → ¬ (result ≡ Err (Stop.File role)) }
     ensures quiet { OnOk result ((O.state out.new).faults ≡ (O.state out.old).faults) }
     ensures counts { (O.state out.old).faults ≤ (O.state out.new).faults }

@@ -150,11 +150,11 @@ impl Spawner for MeetingSpawner {
       faults = s.faults;
       started = s.started;
       retired = map (λ r. record {
-      number = r.0.number;
-      faults = r.0.faults;
-      ends = r.0.ends;
-      transcript = None;
-    }) s.retired.items;
+        number = r.0.number;
+        faults = r.0.faults;
+        ends = r.0.ends;
+        transcript = None;
+      }) s.retired.items;
       commands = None;
       cause = Unknown;
     } };

@@ -71,7 +71,8 @@ pub(super) fn starts<P: Spawner>(
     name: &str,
 ) -> Result<P::Link, StartStop>
     ensures number { IfOk result (λ l. (P.Link.state l).number ≡ (P.state spawner.old).started) }
-    ensures more { OnOk result ((P.state spawner.new).started ≡ (P.state spawner.old).started + 1) }
+    ensures more { OnOk result ((P.state spawner.new).started ≡ (P.state spawner.old).started +
+        1) }
     ensures retired { (P.state spawner.new).retired ≡ (P.state spawner.old).retired }
 {
     let mut words = Vec::with_capacity(alloc, 1).expect(rt, "memory");
