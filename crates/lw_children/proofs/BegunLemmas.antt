@@ -3,7 +3,7 @@ use Rattle.std.proofs.Common.{◌≡◌, ⊎_elim, ℕ, zero, suc, ◌+◌, ◌<
 use Rattle.std.proofs.lemmas.Bool.{cases_lt}
 use Rattle.std.proofs.lemmas.List.{get_or_append_left, length_push, get_or_push}
 use Rattle.lw_sul.specs.SessionState.{SessionState}
-use Rattle.lw_outside.specs.Links.{LinkState, Transcript, SpawnerState}
+use Rattle.lw_outside.specs.Links.{LinkState, SpawnerState}
 use Rattle.lw_line.specs.LineState.{LineState}
 use Rattle.lw_children.specs.Spawners.{Starts}
 use Rattle.lw_children.specs.Crews.{AreEarlier, HasBegun, IsLoose, new_session}
