@@ -26,10 +26,10 @@ pub record EndsUnread (model answers : List ℕ) (before now : FilesState) (extr
 
 -- what the pair comes to; or memory ran out, or a stream refused a yes or a no
 abbrev pub ComesTo : Pair → ℕ → SinkState → SinkState → Outcome → Type 0
-ComesTo out_now extra out out_now outcome =
-    IsDecision out_now extra outcome
+ComesTo pair extra out out_now outcome =
+    IsDecision pair extra outcome
     ⊎ ((outcome ≡ NoMemory)
-    ⊎ ((outcome ≡ SinkFault) × CountedFault out.faults out_now.faults × ((decision : Outcome) × IsAnswered decision × IsDecision out_now extra decision × TakesSome (text_of out_now.inputs out_now.outputs out_now.kept extra decision) out.taken out_now.taken)))
+    ⊎ ((outcome ≡ SinkFault) × CountedFault out.faults out_now.faults × ((decision : Outcome) × IsAnswered decision × IsDecision pair extra decision × TakesSome (text_of pair.inputs pair.outputs pair.kept extra decision) out.taken out_now.taken)))
 
 -- a pair was read: its answers are kept, and its outputs are named; a yes or a no is put to `out`, without a fault, and nothing to `err`; of any other
 -- outcome but a fault of a stream nothing is put to `out`, and its text goes to `err`, whole where that counts no fault

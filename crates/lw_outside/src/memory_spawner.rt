@@ -333,7 +333,8 @@ impl Spawner for MemorySpawner {
         requires started { link.number < self.old.started }
         requires once { ¬ Contains (map (λ r. r.number) (map told_link self.old.retired))
             link.number }
-        ensures every { SpawnerRetire (told_link link) (told_spawner self.old) (told_spawner self.new) }
+        ensures every { SpawnerRetire (told_link link) (told_spawner self.old)
+            (told_spawner self.new) }
 
         // The link is kept whole, and nothing else changes.
         ensures done { self.new ≡ record self.old { retired = self.old.retired ++ link ∷ [] } }

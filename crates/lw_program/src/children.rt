@@ -1,6 +1,6 @@
 //! Child programs as the top call knows them: what starts them, and the links to them, over a pipe each way. They count their
 //! faults, and a link its ends. What goes over them, and what was started, is told to no contract.
-ghost use Rattle.std.specs.Prelude.{◌≡◌, ◌<◌, ◌≤◌, [], length, IfOk};
+ghost use Rattle.std.specs.Prelude.{◌≡◌, ◌<◌, ◌≤◌, [], length, map, None, IfOk};
 ghost use Rattle.std.specs.List.{All};
 
 use http_server::Log;

@@ -1,5 +1,5 @@
 //! Two children that wait for each other: a call that puts every word to one of them fails.
-ghost use Rattle.std.specs.Prelude.{◌≡◌, ◌<◌, ◌≤◌, length, IfOk};
+ghost use Rattle.std.specs.Prelude.{◌≡◌, ◌<◌, ◌≤◌, length, map, None, IfOk};
 ghost use Rattle.std.specs.List.{All};
 
 use crate::tests::cases::{World, files_of};
@@ -141,10 +141,25 @@ impl MeetingSpawner {
     }
 }
 
+impl MeetingSpawner {
+    /// For the proof alone: each link that was retired was started before.
+    fn keeps_earlier(&self)
+        ensures { All (λ r. r.number < self.now.started) (map (λ r. record {
+          number = r.0.number;
+          faults = r.0.faults;
+          ends = r.0.ends;
+          transcript = None;
+        }) self.now.retired.items) }
+    {
+        let _ = &self.started;
+    }
+}
+
 impl Spawner for MeetingSpawner {
     type Link = MeetingLink;
 
     ghost use Rattle.std.specs.Prelude.{None, map};
+    ghost use Rattle.lw_outside.specs.declared.links.StartFailure.TheVariants.{Unknown};
 
     ghost state = { λ s. record {
       faults = s.faults;
@@ -159,13 +174,12 @@ impl Spawner for MeetingSpawner {
       cause = Unknown;
     } };
 
-    ghost use Rattle.lw_outside.specs.declared.links.StartFailure.TheVariants.{Unknown};
-
     fn failure(&self) -> StartFailure {
         StartFailure::Unknown
     }
 
     fn start(&mut self, _words: &[String]) -> Result<MeetingLink, StartStop> {
+        self.keeps_earlier();
         let Some(started) = self.started.checked_add(1) else {
             return Err(StartStop::NoMemory);
         };
