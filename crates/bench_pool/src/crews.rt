@@ -94,9 +94,8 @@ fn hired(
 ) -> Result<Vec<Session<Paced>>, NoMemory>
     requires { shared.now ≡ record { names = kind.now.names; brought = None } }
     ensures count { IfOk result (λ ss. length ss.items ≡ count) }
-    ensures join { IfOk result (λ ss. AllMayJoin (member_of ⟦<Paced as Sul>⟧.names
-        ⟦<Paced as Sul>⟧.most ⟦<Paced as Sul>⟧.stop ⟦<Paced as Sul>⟧.origin
-        ⟦<Paced as Sul>⟧.inputs ⟦<Paced as Sul>⟧.outputs) shared.now 4 2 ss.items) }
+    ensures join { IfOk result (λ ss. AllMayJoin (member_of ⟦<Paced as Sul>⟧.state) shared.now 4 2
+        ss.items) }
 {
     let mut sessions = Vec::new(alloc);
     for instance in 0..count {

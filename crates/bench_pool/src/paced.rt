@@ -38,27 +38,19 @@ pub fn spun(noise: u64, turns: u64) -> u64 {
 impl Sul for Paced {
     ghost use Rattle.std.specs.Prelude.{length, true, false, Some, None};
 
-    ghost inputs = { λ s. s.table.machine.inputs };
-
-    ghost outputs = { λ s. s.table.machine.outputs };
-
-    ghost origin = { λ s. record { machine = Some s.table.machine.rows; link = None; letters = None } };
-
-    ghost state = { λ s. s.table.state };
-
-    ghost started = { λ _. true };
-
-    ghost faults = { λ _. 0 };
-
-    ghost stop = { λ _. None };
-
-    ghost cut = { λ _. false };
-
-    ghost runs = { λ _. None };
-
-    ghost names = { λ s. s.table.names };
-
-    ghost most = { λ s. length s.table.names };
+    ghost state = { λ s. record {
+      inputs = s.table.machine.inputs;
+      outputs = s.table.machine.outputs;
+      origin = record { machine = Some s.table.machine.rows; link = None; letters = None };
+      place = s.table.state;
+      started = true;
+      faults = 0;
+      stop = None;
+      cut = false;
+      runs = None;
+      names = s.table.names;
+      most = length s.table.names;
+    } };
 
     fn inputs(&self) -> u16 {
         self.table.inputs()

@@ -11,17 +11,17 @@ use Rattle.lw_mealy.specs.Origin.{Origin}
 use Rattle.lw_sul.specs.Names.{AreNamed, IsGrown}
 use Rattle.lw_sul.specs.SessionState.{IsJournal}
 use Rattle.lw_sul.specs.declared.runs.Run.{Run}
-use Rattle.lw_outside.specs.Links.{Retired, Transcript, with_start}
+use Rattle.lw_outside.specs.Links.{LinkState, Transcript, with_start, SpawnerState}
 use Rattle.lw_outside.specs.declared.links.StartStop.{StartStop}
 use Rattle.lw_outside.specs.declared.links.StartStop.TheVariants as start
 use Rattle.lw_line.specs.Causes.{EndsWithin, IsCounted, IsCovered, IsSpelled, IsTranscriptOf}
 use Rattle.lw_line.specs.LineState.{AreFree, AreToldIfFree, IsNaming, told_runs}
 use Rattle.lw_line.specs.Transcripts.{BreaksIn, SpellsAll, spelled}
-use Rattle.lw_report.specs.States.{SinkState}
+use Rattle.lw_outside.specs.Streams.{SinkState}
 use Rattle.lw_children.specs.Children.{HasRefused, IfTold, IsStopped}
 use Rattle.lw_children.specs.Keeping.{AreFinished, AreOwn, IsBroken, count_of, most_of}
 use Rattle.lw_children.specs.Crews.{first_names}
-use Rattle.lw_children.specs.Spawners.{SpawnerSeen, Starts, StartsAndRetires, with_starts}
+use Rattle.lw_children.specs.Spawners.{Starts, StartsAndRetires, with_starts}
 use Rattle.lw_ask.specs.Asking.{HasPut}
 use Rattle.lw_ask.specs.Child.{AsksChild, HasNotStarted, SpellsRuns, SpellsWhole}
 use Rattle.lw_ask.specs.Ends.{IsBorneOut}
@@ -53,7 +53,7 @@ pub names_declared : (outputs : Option (List (List ℕ))) (names : List (List �
 names_declared None names grown naming = tt
 names_declared (Some declared) names grown naming = none_came declared names grown naming
 
-module _ (letters : List (List ℕ)) (outputs : Option (List (List ℕ))) (names : List (List ℕ)) (r : Retired) where
+module _ (letters : List (List ℕ)) (outputs : Option (List (List ℕ))) (names : List (List ℕ)) (r : LinkState) where
   broken : (t : Transcript) (stop : SulStop) → IsCounted r.faults r.ends (Some stop) → IsSpelled names (most_of outputs) t (Some stop) → IsBroken names (most_of outputs) r t
   broken t sul.Failed counted spelled = inl counted
   broken t sul.Gone counted spelled = inr (inl counted)
@@ -87,10 +87,10 @@ module _ (letters : List (List ℕ)) (outputs : Option (List (List ℕ))) (names
   stopped_by (sul.BadLine line) cut owns counted is = line_told r.transcript line cut owns is
 
 -- a child that was started by itself, and retired
-pub started_one : (words : List (List ℕ)) (b m z : SpawnerSeen) (link : Retired) → Starts words b m 1 → link.number ≡ b.started → z.started ≡ m.started → z.retired ≡ m.retired ++ link ∷ [] → z.faults ≡ m.faults → z.commands ≡ m.commands → StartsAndRetires words b z (link ∷ [])
+pub started_one : (words : List (List ℕ)) (b m z : SpawnerState) (link : LinkState) → Starts words b m 1 → link.number ≡ b.started → z.started ≡ m.started → z.retired ≡ m.retired ++ link ∷ [] → z.faults ≡ m.faults → z.commands ≡ m.commands → StartsAndRetires words b z (link ∷ [])
 started_one words b m z link starts number started retired faults commands = record {
   started = started ∙ starts.started;
-  retired = retired ∙ ap (λ (l : List Retired). l ++ link ∷ []) starts.retired;
+  retired = retired ∙ ap (λ (l : List LinkState). l ++ link ∷ []) starts.retired;
   numbers = numbers;
   counts = omega (arith, faults, starts.faults);
   starts = 1;
@@ -98,11 +98,11 @@ started_one words b m z link starts number started retired faults commands = rec
   each = inl refl;
 }
   where
-    numbers : (i : ℕ) (d : Retired) → i < 1 → (get_or (link ∷ []) i d).number ≡ b.started + i
+    numbers : (i : ℕ) (d : LinkState) → i < 1 → (get_or (link ∷ []) i d).number ≡ b.started + i
     numbers i d lt = let first : i ≡ 0 = omega (arith, lt) in subst (λ (k : ℕ). (get_or (link ∷ []) k d).number ≡ b.started + k) (sym first) (number ∙ omega arith)
 
 -- what came of asking a child, by what is told of its link
-module _ (command letters : List (List ℕ)) (outputs : Option (List (List ℕ))) (words : List (List ℕ)) (b z : SpawnerSeen) (o p : SinkState) (kept : List KeptAnswer) (came : Result (Unit {0}) AskingStop) (link : Retired) (names : List (List ℕ)) (runs : List Run) (stop : Option SulStop) (cut : Bool) where
+module _ (command letters : List (List ℕ)) (outputs : Option (List (List ℕ))) (words : List (List ℕ)) (b z : SpawnerState) (o p : SinkState) (kept : List KeptAnswer) (came : Result (Unit {0}) AskingStop) (link : LinkState) (names : List (List ℕ)) (runs : List Run) (stop : Option SulStop) (cut : Bool) where
   pub asked_child : StartsAndRetires command b z (link ∷ []) → z.faults ≡ b.faults → HasPut None letters words names runs kept o p came → IsGrown (first_names outputs) names → IsBorneOut letters names (most_of outputs) (count_of outputs) stop cut runs link → OnOk came (stop ≡ None) → ((why : SulStop) → came ≡ Err (Sul why) → stop ≡ Some why) → AsksChild command letters outputs words b z o p kept came
   asked_child spawner quiet put grown bears live stopped =
       let owns = names_own outputs names link.transcript grown bears.named bears.naming bears.told_names in
@@ -131,7 +131,7 @@ no_more_commands : (words : List (List ℕ)) (before now : Option (List (List (L
 no_more_commands words None now same = same
 no_more_commands words (Some cs) now same = same ∙ ap (λ (l : List (List (List ℕ))). Some l) (sym (append-nil cs))
 
-pub not_started : (words : List (List ℕ)) (b z : SpawnerSeen) (stop : StartStop) → z.started ≡ b.started → z.retired ≡ b.retired → b.faults ≤ z.faults → (stop ≡ start.Failed → CountedFault b.faults z.faults × (z.commands ≡ with_start words b.commands)) → (stop ≡ start.NoMemory → z.commands ≡ b.commands) → HasNotStarted words b z stop
+pub not_started : (words : List (List ℕ)) (b z : SpawnerState) (stop : StartStop) → z.started ≡ b.started → z.retired ≡ b.retired → b.faults ≤ z.faults → (stop ≡ start.Failed → CountedFault b.faults z.faults × (z.commands ≡ with_start words b.commands)) → (stop ≡ start.NoMemory → z.commands ≡ b.commands) → HasNotStarted words b z stop
 not_started words b z start.Failed started retired counts failed memory =
     let why = failed refl in
     record {
@@ -164,11 +164,11 @@ not_started words b z start.NoMemory started retired counts failed memory = reco
 }
 
 -- nothing was done
-pub nothing_started : (words : List (List ℕ)) (b : SpawnerSeen) → HasNotStarted words b b start.NoMemory
+pub nothing_started : (words : List (List ℕ)) (b : SpawnerState) → HasNotStarted words b b start.NoMemory
 nothing_started words b = not_started words b b start.NoMemory refl refl (omega arith) (λ e. let wrong : start.NoMemory ≡ start.Failed = e in absurd (cc)) (λ _. refl)
 
 -- a link for whose system there was no memory
-pub link_given_up : (words : List (List ℕ)) (b m z : SpawnerSeen) (link : Retired) → Starts words b m 1 → link.number ≡ b.started → z.started ≡ m.started → z.retired ≡ m.retired ++ link ∷ [] → z.faults ≡ m.faults → z.commands ≡ m.commands → HasNotStarted words b z start.NoMemory
+pub link_given_up : (words : List (List ℕ)) (b m z : SpawnerState) (link : LinkState) → Starts words b m 1 → link.number ≡ b.started → z.started ≡ m.started → z.retired ≡ m.retired ++ link ∷ [] → z.faults ≡ m.faults → z.commands ≡ m.commands → HasNotStarted words b z start.NoMemory
 link_given_up words b m z link starts number started retired faults commands = record {
   links = link ∷ [];
   spawner = started_one words b m z link starts number started retired faults commands;
@@ -177,9 +177,9 @@ link_given_up words b m z link starts number started retired faults commands = r
 }
 
 -- a link that was started after all that are retired is none of these
-pub is_unretired : (retired : List Retired) (base n : ℕ) → n ≡ base → All (λ r. r.number < base) retired → ¬ Contains (map (λ r. r.number) retired) n
+pub is_unretired : (retired : List LinkState) (base n : ℕ) → n ≡ base → All (λ r. r.number < base) retired → ¬ Contains (map (λ r. r.number) retired) n
 is_unretired retired base n same earlier c =
-    let all : All (λ k. k < base) (map (λ (r : Retired). r.number) retired) = All-map (λ k. k < base) (λ (r : Retired). r.number) retired earlier in
+    let all : All (λ k. k < base) (map (λ (r : LinkState). r.number) retired) = All-map (λ k. k < base) (λ (r : LinkState). r.number) retired earlier in
     absurd (omega (arith, all c.0 n c.1, c.2, same))
 
 -- what a session's system keeps of its origin
@@ -193,7 +193,7 @@ same_link a b ls ms o p first second same =
     let whole = sym first ∙ (same ∙ second) in
     (ap (λ (x : Origin). some_of a x.link) whole, ap (λ (x : Origin). some_of ls x.letters) whole)
 
-pub bears_as : (l l' n : List (List ℕ)) (m m' o o' : ℕ) (stop : Option SulStop) (cut : Bool) (runs : List Run) (r : Retired) → l ≡ l' → m ≡ m' → o ≡ o' → IsBorneOut l n m o stop cut runs r → IsBorneOut l' n m' o' stop cut runs r
+pub bears_as : (l l' n : List (List ℕ)) (m m' o o' : ℕ) (stop : Option SulStop) (cut : Bool) (runs : List Run) (r : LinkState) → l ≡ l' → m ≡ m' → o ≡ o' → IsBorneOut l n m o stop cut runs r → IsBorneOut l' n m' o' stop cut runs r
 bears_as l l' n m m' o o' stop cut runs r ls ms os bears =
     subst (λ (x : ℕ). IsBorneOut l' n m' x stop cut runs r) os (subst (λ (x : ℕ). IsBorneOut l' n x o stop cut runs r) ms (subst (λ (x : List (List ℕ)). IsBorneOut x n m o stop cut runs r) ls bears))
 

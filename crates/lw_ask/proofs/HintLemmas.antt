@@ -1,6 +1,6 @@
 -- A hint that is put to a stream.
 use Rattle.std.proofs.Common.{[], refl, arith}
-use Rattle.lw_report.specs.States.{SinkState}
+use Rattle.lw_outside.specs.Streams.{SinkState}
 use Rattle.lw_ask.specs.Hints.{TakesHint}
 use Rattle.lw_ask.proofs.LineLemmas.{takes_none}
 

@@ -7,10 +7,9 @@ use Rattle.lw_json.specs.declared.fault.JsonFault.{JsonFault}
 use Rattle.lw_json.specs.declared.machine.Machine.{Machine}
 use Rattle.lw_json.specs.declared.setup.Setup.{Setup}
 use Rattle.lw_json.specs.declared.setup.Setup.TheVariants as setup
-use Rattle.lw_outside.specs.Files.{File}
+use Rattle.lw_outside.specs.Files.{File, FilesState}
 use Rattle.lw_report.specs.Reading.{HasRead, ReadsFile, WasRead}
 use Rattle.lw_report.specs.SetupHint.{TellsHint}
-use Rattle.lw_report.specs.States.{FilesState}
 use Rattle.lw_report.specs.Stops.{read_outcome}
 use Rattle.lw_report.specs.declared.outcome.Outcome.{Outcome}
 use Rattle.lw_report.specs.declared.role.Role.TheVariants as role

@@ -1,8 +1,9 @@
 -- What a call of `ask` did, from what its parts did.
 use Rattle.std.proofs.Common.{◌≡◌, ℕ, List, [], Result, Ok, Err, inl, inr, subst}
 use Rattle.lw_words.specs.declared.kept.KeptAnswer.{KeptAnswer}
-use Rattle.lw_children.specs.Spawners.{SpawnerSeen}
-use Rattle.lw_report.specs.States.{FilesState, SinkState}
+use Rattle.lw_outside.specs.Links.{SpawnerState}
+use Rattle.lw_outside.specs.Files.{FilesState}
+use Rattle.lw_outside.specs.Streams.{SinkState}
 use Rattle.lw_report.specs.declared.«end».End.{End}
 use Rattle.lw_report.specs.declared.outcome.Outcome.{Outcome}
 use Rattle.lw_learn.specs.declared.task.System.{System}
@@ -11,7 +12,7 @@ use Rattle.lw_ask.specs.AskRun.{AsksTexts, IsAskRun, IsEnd}
 use Rattle.lw_ask.specs.Hints.{TakesHint}
 use Rattle.lw_ask.specs.bodies.Found.{HasFound}
 
-module _ (a : AskValues) (f g : FilesState) (b z : SpawnerSeen) (o p e m d : SinkState) (end : End) (r : Result System Outcome) (hint : List ℕ) (has : HasFound a.source a.system f g r hint) (hinted : TakesHint hint e m) where
+module _ (a : AskValues) (f g : FilesState) (b z : SpawnerState) (o p e m d : SinkState) (end : End) (r : Result System Outcome) (hint : List ℕ) (has : HasFound a.source a.system f g r hint) (hinted : TakesHint hint e m) where
   -- a system was read
   pub asked_run : (s : System) → r ≡ Ok s → (kept : List KeptAnswer) (why : Outcome) → AsksTexts s a.words b z o p kept why → IsEnd why kept m d end → IsAskRun a f g b z o p e d end
   asked_run s is kept why asks ended = by (subst (λ (x : Result System Outcome). HasFound a.source a.system f g x hint) is has)

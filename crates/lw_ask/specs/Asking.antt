@@ -6,8 +6,7 @@ use Rattle.lw_words.specs.declared.kept.KeptAnswer.{KeptAnswer}
 use Rattle.lw_mealy.specs.Machine.{Rows}
 use Rattle.lw_sul.specs.Told.{Answers}
 use Rattle.lw_sul.specs.declared.runs.Run.{Run}
-use Rattle.lw_outside.specs.Streams.{TakesAll, TakesSome}
-use Rattle.lw_report.specs.States.{SinkState}
+use Rattle.lw_outside.specs.Streams.{TakesAll, TakesSome, SinkState}
 use Rattle.lw_ask.specs.Lines.{answer_line, answer_lines}
 use Rattle.lw_ask.specs.declared.stop.AskingStop.{AskingStop}
 use Rattle.lw_ask.specs.declared.stop.AskingStop.TheVariants.{Sul, Sink, NoMemory}
@@ -65,9 +64,9 @@ pub record HasStopped (machine : Option Rows) (letters words names : List (List 
   pub are : AreRunsOf machine (take (length runs) words) names runs kept
   pub lines : TakesLines letters names kept before now stop
 
--- words were asked, all of them or up to where it stopped, over `out`, which was o and is p
-pub record HasPut (machine : Option Rows) (letters words names : List (List ℕ)) (runs : List Run) (kept : List KeptAnswer) (o p : SinkState) (came : Result (Unit {0}) AskingStop) : Type 0 where
-  pub all : OnOk came (HasAsked machine letters words names runs kept o.taken p.taken)
-  pub some : IfErr came (HasStopped machine letters words names runs kept o.taken p.taken)
-  pub refused : came ≡ Err Sink → CountedFault o.faults p.faults
-  pub quiet : ¬ (came ≡ Err Sink) → p.faults ≡ o.faults
+-- words were asked, all of them or up to where it stopped, over `out`
+pub record HasPut (machine : Option Rows) (letters words names : List (List ℕ)) (runs : List Run) (kept : List KeptAnswer) (out_before out_now : SinkState) (came : Result (Unit {0}) AskingStop) : Type 0 where
+  pub all : OnOk came (HasAsked machine letters words names runs kept out_before.taken out_now.taken)
+  pub some : IfErr came (HasStopped machine letters words names runs kept out_before.taken out_now.taken)
+  pub refused : came ≡ Err Sink → CountedFault out_before.faults out_now.faults
+  pub quiet : ¬ (came ≡ Err Sink) → out_now.faults ≡ out_before.faults

@@ -3,30 +3,30 @@ use Rattle.std.specs.Prelude.{◌≡◌, ◌⊎◌, ℕ, ◌≤◌, List, [], �
 use Rattle.lw_words.specs.Cause.{CountedFault}
 use Rattle.lw_words.specs.declared.kept.KeptAnswer.{KeptAnswer}
 use Rattle.lw_words.specs.declared.stop.SulStop.{SulStop}
-use Rattle.lw_outside.specs.Links.{Retired, Transcript}
+use Rattle.lw_outside.specs.Links.{LinkState, Transcript, SpawnerState}
 use Rattle.lw_outside.specs.declared.links.StartStop.{StartStop}
 use Rattle.lw_outside.specs.declared.links.StartStop.TheVariants as start
 use Rattle.lw_line.specs.Transcripts.{BreaksIn, IsProper, SpellsAll, spelled}
 use Rattle.lw_sul.specs.declared.runs.Run.{Run}
-use Rattle.lw_report.specs.States.{SinkState}
+use Rattle.lw_outside.specs.Streams.{SinkState}
 use Rattle.lw_children.specs.Children.{IfTold, IsStopped}
 use Rattle.lw_children.specs.Keeping.{AreFinished, AreOwn, IsBroken, most_of}
-use Rattle.lw_children.specs.Spawners.{SpawnerSeen, StartsAndRetires}
+use Rattle.lw_children.specs.Spawners.{StartsAndRetires}
 use Rattle.lw_ask.specs.Asking.{HasPut}
 use Rattle.lw_ask.specs.declared.stop.AskingStop.{AskingStop}
 use Rattle.lw_ask.specs.declared.stop.AskingStop.TheVariants.{Sul}
 
 -- no child was asked: none was started, since a start failed or memory ran out; or memory ran out once one was, which was
 -- retired
-pub record HasNotStarted (words : List (List ℕ)) (before now : SpawnerSeen) (stop : StartStop) : Type 0 where
-  pub links : List Retired
+pub record HasNotStarted (words : List (List ℕ)) (before now : SpawnerState) (stop : StartStop) : Type 0 where
+  pub links : List LinkState
   pub spawner : StartsAndRetires words before now links
   pub few : length links ≤ 1
   pub failed : stop ≡ start.Failed → (links ≡ []) × CountedFault before.faults now.faults
 
 -- the transcript of a link spells these runs by the names of their outputs: all that was sent is lines of them; or the link
 -- broke, in a reset, or in a step, which cut the last one off
-pub record SpellsRuns (letters : List (List ℕ)) (outputs : Option (List (List ℕ))) (names : List (List ℕ)) (runs : List Run) (link : Retired) (t : Transcript) : Type 0 where
+pub record SpellsRuns (letters : List (List ℕ)) (outputs : Option (List (List ℕ))) (names : List (List ℕ)) (runs : List Run) (link : LinkState) (t : Transcript) : Type 0 where
   pub proper : IsProper letters link.faults t
   pub owns : AreOwn outputs names t
   pub ends :
@@ -39,14 +39,14 @@ pub record SpellsWhole (letters names : List (List ℕ)) (runs : List Run) (t : 
   pub runs_are : spelled letters names t ≡ runs
 
 -- a child was started, asked the words, and retired; the answers are the runs that went over its link
-pub record AsksChild (command letters : List (List ℕ)) (outputs : Option (List (List ℕ))) (words : List (List ℕ)) (before now : SpawnerSeen) (o p : SinkState) (kept : List KeptAnswer) (came : Result (Unit {0}) AskingStop) : Type 0 where
-  pub link : Retired
+pub record AsksChild (command letters : List (List ℕ)) (outputs : Option (List (List ℕ))) (words : List (List ℕ)) (before now : SpawnerState) (out_before out_now : SinkState) (kept : List KeptAnswer) (came : Result (Unit {0}) AskingStop) : Type 0 where
+  pub link : LinkState
   pub spawner : StartsAndRetires command before now (link ∷ [])
   pub quiet : now.faults ≡ before.faults
   pub names : List (List ℕ)
   pub declared : IfSome outputs (λ ns. names ≡ ns)
   pub runs : List Run
-  pub put : HasPut None letters words names runs kept o p came
+  pub put : HasPut None letters words names runs kept out_before out_now came
   pub spells : IfTold (SpellsRuns letters outputs names runs link) link.transcript
   -- where all words were answered nothing is left out
   pub whole : OnOk came (IfTold (SpellsWhole letters names runs) link.transcript)

@@ -2,9 +2,9 @@
 use Rattle.std.specs.Prelude.{◌≡◌, ◌⊎◌, ℕ, ◌≤◌, List, []}
 use Rattle.lw_words.specs.Cause.{CountedFault}
 use Rattle.lw_json.specs.SetupFile.{HasSetupFault, IsSetupFile}
-use Rattle.lw_outside.specs.Files.{File}
+use Rattle.lw_outside.specs.Files.{File, FilesState}
 use Rattle.lw_report.specs.SetupHint.{TellsHint}
-use Rattle.lw_report.specs.States.{FilesState, SinkState}
+use Rattle.lw_outside.specs.Streams.{SinkState}
 use Rattle.lw_report.specs.Writing.{TakesAll, TakesSome}
 use Rattle.lw_report.specs.declared.outcome.Outcome.{Outcome}
 use Rattle.lw_report.specs.declared.role.Role.TheVariants as role
@@ -20,14 +20,14 @@ HasHint source.Setup name before after hint = TellsHint name before after hint
 
 -- why a file of this kind says no system, and the hint at it: at a setup that was refused there is none
 abbrev pub IsUnreadWith : Source → List ℕ → FilesState → FilesState → (hint : List ℕ) → Outcome → Type 0
-IsUnreadWith source.Table name f g hint outcome = IsNoTable name f g outcome × (hint ≡ [])
-IsUnreadWith source.Setup name f g hint outcome =
-    (IsRefused IsSetupFile HasSetupFault role.Setup name f g outcome × (hint ≡ []))
-    ⊎ (NamesNoTable name f g outcome × TellsHint name f.reads g.reads hint)
+IsUnreadWith source.Table name files_before files_now hint outcome = IsNoTable name files_before files_now outcome × (hint ≡ [])
+IsUnreadWith source.Setup name files_before files_now hint outcome =
+    (IsRefused IsSetupFile HasSetupFault role.Setup name files_before files_now outcome × (hint ≡ []))
+    ⊎ (NamesNoTable name files_before files_now outcome × TellsHint name files_before.reads files_now.reads hint)
 
--- a hint was put to a stream, which was e and is d: whole where no fault was counted; where there is none, nothing was put
-pub record TakesHint (hint : List ℕ) (e d : SinkState) : Type 0 where
-  pub whole : ¬ CountedFault e.faults d.faults → TakesAll hint e.taken d.taken
-  pub part : TakesSome hint e.taken d.taken
-  pub none : hint ≡ [] → d ≡ e
-  pub counts : e.faults ≤ d.faults
+-- a hint was put to a stream: whole where no fault was counted; where there is none, nothing was put
+pub record TakesHint (hint : List ℕ) (err_before err_now : SinkState) : Type 0 where
+  pub whole : ¬ CountedFault err_before.faults err_now.faults → TakesAll hint err_before.taken err_now.taken
+  pub part : TakesSome hint err_before.taken err_now.taken
+  pub none : hint ≡ [] → err_now ≡ err_before
+  pub counts : err_before.faults ≤ err_now.faults

@@ -7,8 +7,8 @@ ghost use Rattle.lw_words.specs.declared.stop.SulStop.{SulStop as Reason};
 ghost use Rattle.lw_outside.specs.Streams.{TakesAll, TakesSome};
 ghost use Rattle.lw_sul.specs.Names.{IsGrown};
 ghost use Rattle.lw_sul.specs.SessionState.{run_of};
+ghost use Rattle.lw_sul.specs.System.{IsSameSul};
 ghost use Rattle.lw_sul.specs.Told.{Answers};
-ghost use Rattle.lw_report.specs.States.{sink_state};
 ghost use Rattle.lw_ask.specs.Asking.{HasAsked, HasPut, HasStopped, kept_run};
 ghost use Rattle.lw_ask.specs.Lines.{answer_line as line_said};
 ghost use Rattle.lw_ask.specs.bodies.Step.{GainsLine, StopsOne};
@@ -29,26 +29,25 @@ fn ask_one<S: Sul>(
     kept: &mut Kept,
 ) -> Result<KeptAnswer, AskingStop>
     requires instance { session.old.instance ≡ 0 }
-    requires letters { IsWord (S.inputs session.old.sul) word.now }
+    requires letters { IsWord (S.state session.old.sul).inputs word.now }
     ensures answer { IfOk result (λ k.
         k ≡ kept_run (length session.old.journal) (run_of word.now k.outs)) }
     ensures journal { IfOk result (λ k.
         session.new.journal ≡ session.old.journal ++ run_of word.now k.outs ∷ []) }
-    ensures below { IfOk result (λ k. All (λ y. y < length (S.names session.new.sul)) k.outs) }
-    ensures given { IfOk result (λ k. Answers (S.origin session.old.sul).machine word.now k.outs) }
-    ensures live { OnOk result (S.stop session.new.sul ≡ None) }
+    ensures below { IfOk result (λ k. All (λ y. y < length (S.state session.new.sul).names)
+        k.outs) }
+    ensures given { IfOk result (λ k. Answers (S.state session.old.sul).origin.machine word.now
+        k.outs) }
+    ensures live { OnOk result ((S.state session.new.sul).stop ≡ None) }
     ensures left { OnErr result (session.new.journal ≡ session.old.journal) }
     ensures stopped { (why : Reason) → result ≡ Err (Stop.Sul why) →
-        S.stop session.new.sul ≡ Some why }
+        (S.state session.new.sul).stop ≡ Some why }
     ensures unput { ¬ (result ≡ Err Stop.Sink) }
-    ensures grown { IsGrown (S.names session.old.sul) (S.names session.new.sul) }
+    ensures grown { IsGrown (S.state session.old.sul).names (S.state session.new.sul).names }
     ensures kept { kept.new.answers ≡ kept.old.answers }
     ensures room { OnOk result (1 ≤ kept.new.room) }
-    ensures same { (session.new.instance ≡ session.old.instance) ×
-        (S.origin session.new.sul ≡ S.origin session.old.sul) ×
-        (S.inputs session.new.sul ≡ S.inputs session.old.sul) ×
-        (S.outputs session.new.sul ≡ S.outputs session.old.sul) ×
-        (S.most session.new.sul ≡ S.most session.old.sul) }
+    ensures instance { session.new.instance ≡ session.old.instance }
+    ensures same { IsSameSul (S.state session.old.sul) (S.state session.new.sul) }
 {
     let asked = word.copy()?;
     kept.reserve(1)?;
@@ -80,15 +79,17 @@ fn put_line<S: Sul, O: Sink>(
     out: &mut O,
 ) -> Result<(), AskingStop>
     requires letters { IsWord (length letters.now) answer.now.word }
-    requires outputs { All (λ y. y < length (S.names sul.now)) answer.now.outs }
-    ensures ok { OnOk result (TakesAll (line_said letters.now (S.names sul.now) answer.now)
-        (O.taken out.old) (O.taken out.new)) }
-    ensures part { TakesSome (line_said letters.now (S.names sul.now) answer.now)
-        (O.taken out.old) (O.taken out.new) }
+    requires outputs { All (λ y. y < length (S.state sul.now).names) answer.now.outs }
+    ensures ok { OnOk result (TakesAll (line_said letters.now (S.state sul.now).names answer.now)
+        (O.state out.old).taken (O.state out.new).taken) }
+    ensures part { TakesSome (line_said letters.now (S.state sul.now).names answer.now)
+        (O.state out.old).taken (O.state out.new).taken }
     ensures own { (why : Reason) → ¬ (result ≡ Err (Stop.Sul why)) }
-    ensures failed { result ≡ Err Stop.Sink → CountedFault (O.faults out.old) (O.faults out.new) }
-    ensures quiet { ¬ (result ≡ Err Stop.Sink) → O.faults out.new ≡ O.faults out.old }
-    ensures counts { O.faults out.old ≤ O.faults out.new }
+    ensures failed { result ≡ Err Stop.Sink → CountedFault (O.state out.old).faults
+        (O.state out.new).faults }
+    ensures quiet { ¬ (result ≡ Err Stop.Sink) → (O.state out.new).faults ≡
+        (O.state out.old).faults }
+    ensures counts { (O.state out.old).faults ≤ (O.state out.new).faults }
 {
     let line = answer_line(
         alloc,
@@ -112,27 +113,26 @@ fn ask_word<S: Sul, O: Sink>(
 ) -> Result<(), AskingStop>
     requires instance { session.old.instance ≡ 0 }
     requires letters { IsWord (length letters.now) word.now }
-    requires inputs { S.inputs session.old.sul ≡ length letters.now }
-    ensures ok { OnOk result (GainsLine (S.origin session.old.sul).machine letters.now word.now
-        (S.names session.old.sul) (S.names session.new.sul) session.old.journal
-        session.new.journal kept.old.answers kept.new.answers (O.taken out.old)
-        (O.taken out.new)) }
-    ensures live { OnOk result (S.stop session.new.sul ≡ None) }
-    ensures err { IfErr result (StopsOne (S.origin session.old.sul).machine letters.now word.now
-        (S.names session.old.sul) (S.names session.new.sul) session.old.journal
-        session.new.journal kept.old.answers kept.new.answers (O.taken out.old)
-        (O.taken out.new)) }
+    requires inputs { (S.state session.old.sul).inputs ≡ length letters.now }
+    ensures ok { OnOk result (GainsLine (S.state session.old.sul).origin.machine letters.now
+        word.now (S.state session.old.sul).names (S.state session.new.sul).names
+        session.old.journal session.new.journal kept.old.answers kept.new.answers
+        (O.state out.old).taken (O.state out.new).taken) }
+    ensures live { OnOk result ((S.state session.new.sul).stop ≡ None) }
+    ensures err { IfErr result (StopsOne (S.state session.old.sul).origin.machine letters.now
+        word.now (S.state session.old.sul).names (S.state session.new.sul).names
+        session.old.journal session.new.journal kept.old.answers kept.new.answers
+        (O.state out.old).taken (O.state out.new).taken) }
     ensures stopped { (why : Reason) → result ≡ Err (Stop.Sul why) →
-        S.stop session.new.sul ≡ Some why }
-    ensures failed { result ≡ Err Stop.Sink → CountedFault (O.faults out.old) (O.faults out.new) }
-    ensures quiet { ¬ (result ≡ Err Stop.Sink) → O.faults out.new ≡ O.faults out.old }
-    ensures grown { IsGrown (S.names session.old.sul) (S.names session.new.sul) }
-    ensures counts { O.faults out.old ≤ O.faults out.new }
-    ensures same { (session.new.instance ≡ session.old.instance) ×
-        (S.origin session.new.sul ≡ S.origin session.old.sul) ×
-        (S.inputs session.new.sul ≡ S.inputs session.old.sul) ×
-        (S.outputs session.new.sul ≡ S.outputs session.old.sul) ×
-        (S.most session.new.sul ≡ S.most session.old.sul) }
+        (S.state session.new.sul).stop ≡ Some why }
+    ensures failed { result ≡ Err Stop.Sink → CountedFault (O.state out.old).faults
+        (O.state out.new).faults }
+    ensures quiet { ¬ (result ≡ Err Stop.Sink) → (O.state out.new).faults ≡
+        (O.state out.old).faults }
+    ensures grown { IsGrown (S.state session.old.sul).names (S.state session.new.sul).names }
+    ensures counts { (O.state out.old).faults ≤ (O.state out.new).faults }
+    ensures instance { session.new.instance ≡ session.old.instance }
+    ensures same { IsSameSul (S.state session.old.sul) (S.state session.new.sul) }
 {
     let answer = ask_one(session, word, kept)?;
     let told = put_line(alloc, letters, session.sul(), &answer, out);
@@ -152,27 +152,26 @@ pub fn ask_words<S: Sul, O: Sink>(
 ) -> Result<(), AskingStop>
     requires instance { session.old.instance ≡ 0 }
     requires fresh { (session.old.journal ≡ []) × (kept.old.answers ≡ []) }
-    requires live { S.stop session.old.sul ≡ None }
+    requires live { (S.state session.old.sul).stop ≡ None }
     requires letters { All (IsWord (length letters.now)) words.now }
-    requires inputs { S.inputs session.old.sul ≡ length letters.now }
-    ensures ok { OnOk result (HasAsked (S.origin session.old.sul).machine letters.now words.now
-        (S.names session.new.sul) session.new.journal kept.new.answers (O.taken out.old)
-        (O.taken out.new)) }
-    ensures live { OnOk result (S.stop session.new.sul ≡ None) }
-    ensures err { IfErr result (HasStopped (S.origin session.old.sul).machine letters.now
-        words.now (S.names session.new.sul) session.new.journal kept.new.answers
-        (O.taken out.old) (O.taken out.new)) }
+    requires inputs { (S.state session.old.sul).inputs ≡ length letters.now }
+    ensures ok { OnOk result (HasAsked (S.state session.old.sul).origin.machine letters.now
+        words.now (S.state session.new.sul).names session.new.journal kept.new.answers
+        (O.state out.old).taken (O.state out.new).taken) }
+    ensures live { OnOk result ((S.state session.new.sul).stop ≡ None) }
+    ensures err { IfErr result (HasStopped (S.state session.old.sul).origin.machine letters.now
+        words.now (S.state session.new.sul).names session.new.journal kept.new.answers
+        (O.state out.old).taken (O.state out.new).taken) }
     ensures stopped { (why : Reason) → result ≡ Err (Stop.Sul why) →
-        S.stop session.new.sul ≡ Some why }
-    ensures failed { result ≡ Err Stop.Sink → CountedFault (O.faults out.old) (O.faults out.new) }
-    ensures quiet { ¬ (result ≡ Err Stop.Sink) → O.faults out.new ≡ O.faults out.old }
-    ensures grown { IsGrown (S.names session.old.sul) (S.names session.new.sul) }
-    ensures counts { O.faults out.old ≤ O.faults out.new }
-    ensures same { (session.new.instance ≡ session.old.instance) ×
-        (S.origin session.new.sul ≡ S.origin session.old.sul) ×
-        (S.inputs session.new.sul ≡ S.inputs session.old.sul) ×
-        (S.outputs session.new.sul ≡ S.outputs session.old.sul) ×
-        (S.most session.new.sul ≡ S.most session.old.sul) }
+        (S.state session.new.sul).stop ≡ Some why }
+    ensures failed { result ≡ Err Stop.Sink → CountedFault (O.state out.old).faults
+        (O.state out.new).faults }
+    ensures quiet { ¬ (result ≡ Err Stop.Sink) → (O.state out.new).faults ≡
+        (O.state out.old).faults }
+    ensures grown { IsGrown (S.state session.old.sul).names (S.state session.new.sul).names }
+    ensures counts { (O.state out.old).faults ≤ (O.state out.new).faults }
+    ensures instance { session.new.instance ≡ session.old.instance }
+    ensures same { IsSameSul (S.state session.old.sul) (S.state session.new.sul) }
 {
     for word in words.as_slice() {
         ask_word(alloc, session, letters, word, kept, out)?;
@@ -197,23 +196,19 @@ pub(crate) fn ask_session<S: Sul, O: Sink>(
 ) -> AskingEnd
     requires instance { session.old.instance ≡ 0 }
     requires fresh { session.old.journal ≡ [] }
-    requires live { S.stop session.old.sul ≡ None }
+    requires live { (S.state session.old.sul).stop ≡ None }
     requires letters { All (IsWord (length letters.now)) words.now }
-    requires inputs { S.inputs session.old.sul ≡ length letters.now }
-    ensures put { HasPut (S.origin session.old.sul).machine letters.now words.now
-        (S.names session.new.sul) session.new.journal result.kept.answers
-        (sink_state (O.taken out.old) (O.faults out.old))
-        (sink_state (O.taken out.new) (O.faults out.new)) result.came }
-    ensures live { OnOk result.came (S.stop session.new.sul ≡ None) }
+    requires inputs { (S.state session.old.sul).inputs ≡ length letters.now }
+    ensures put { HasPut (S.state session.old.sul).origin.machine letters.now words.now
+        (S.state session.new.sul).names session.new.journal result.kept.answers (O.state out.old)
+        (O.state out.new) result.came }
+    ensures live { OnOk result.came ((S.state session.new.sul).stop ≡ None) }
     ensures stopped { (why : Reason) → result.came ≡ Err (Stop.Sul why) →
-        S.stop session.new.sul ≡ Some why }
-    ensures grown { IsGrown (S.names session.old.sul) (S.names session.new.sul) }
-    ensures counts { O.faults out.old ≤ O.faults out.new }
-    ensures same { (session.new.instance ≡ session.old.instance) ×
-        (S.origin session.new.sul ≡ S.origin session.old.sul) ×
-        (S.inputs session.new.sul ≡ S.inputs session.old.sul) ×
-        (S.outputs session.new.sul ≡ S.outputs session.old.sul) ×
-        (S.most session.new.sul ≡ S.most session.old.sul) }
+        (S.state session.new.sul).stop ≡ Some why }
+    ensures grown { IsGrown (S.state session.old.sul).names (S.state session.new.sul).names }
+    ensures counts { (O.state out.old).faults ≤ (O.state out.new).faults }
+    ensures instance { session.new.instance ≡ session.old.instance }
+    ensures same { IsSameSul (S.state session.old.sul) (S.state session.new.sul) }
 {
     let mut kept = Kept::new(alloc);
     let came = ask_words(alloc, session, letters, words, &mut kept, out);

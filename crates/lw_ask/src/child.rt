@@ -5,9 +5,8 @@ ghost use Rattle.lw_words.specs.Word.{IsWord};
 ghost use Rattle.lw_outside.specs.Links.{IsUntouched};
 ghost use Rattle.lw_sul.specs.SessionState.{NoRuns};
 ghost use Rattle.lw_line.specs.LineState.{told_runs};
-ghost use Rattle.lw_report.specs.States.{sink_state};
-ghost use Rattle.lw_children.specs.Crews.{new_line, retired_of};
-ghost use Rattle.lw_children.specs.Spawners.{Starts, spawner_seen};
+ghost use Rattle.lw_children.specs.Crews.{new_line};
+ghost use Rattle.lw_children.specs.Spawners.{Starts};
 ghost use Rattle.lw_ask.specs.Child.{AsksChild, HasNotStarted};
 ghost use Rattle.lw_ask.specs.Ends.{IsBorneOut};
 
@@ -25,9 +24,10 @@ fn line_over<L: Link>(
     letters: Names,
     outputs: Option<Names>,
 ) -> Result<LineSul<L>, L>
-    requires { IsUntouched (L.transcript link) }
+    requires { IsUntouched (L.state link).transcript }
     ensures ok { IfOk result (λ s. s ≡ new_line link letters outputs) }
-    ensures fresh { IfOk result (λ s. NoRuns (told_runs s.letters s.names (L.transcript s.link))) }
+    ensures fresh { IfOk result
+        (λ s. NoRuns (told_runs s.letters s.names (L.state s.link).transcript)) }
     ensures back { IfErr result (λ l. l ≡ link) }
 {
     match outputs {
@@ -49,21 +49,16 @@ pub fn start_line<P: Spawner>(
 ) -> Result<LineSul<P::Link>, StartStop>
     requires words { 0 < length words.now }
     ensures ok { IfOk result (λ s. s ≡ new_line s.link letters outputs) }
-    ensures fresh { IfOk result (λ s. NoRuns (told_runs s.letters s.names
-        (P.Link.transcript s.link))) }
-    ensures number { IfOk result (λ s. P.Link.number s.link ≡ P.started spawner.old) }
-    ensures one { OnOk result (Starts (map (λ w. string_bytes w) words.now)
-        (spawner_seen (P.faults spawner.old) (P.started spawner.old) (P.retired spawner.old)
-        (P.commands spawner.old))
-        (spawner_seen (P.faults spawner.new) (P.started spawner.new) (P.retired spawner.new)
-        (P.commands spawner.new)) 1) }
-    ensures earlier { OnOk result (All (λ r. r.number < P.started spawner.old)
-        (P.retired spawner.old)) }
+    ensures fresh { IfOk result
+        (λ s. NoRuns (told_runs s.letters s.names (P.Link.state s.link).transcript)) }
+    ensures number { IfOk result (λ s. (P.Link.state s.link).number ≡
+        (P.state spawner.old).started) }
+    ensures one { OnOk result (Starts (map (λ w. string_bytes w) words.now) (P.state spawner.old)
+        (P.state spawner.new) 1) }
+    ensures earlier { OnOk result (All (λ r. r.number < (P.state spawner.old).started)
+        (P.state spawner.old).retired) }
     ensures err { IfErr result (HasNotStarted (map (λ w. string_bytes w) words.now)
-        (spawner_seen (P.faults spawner.old) (P.started spawner.old) (P.retired spawner.old)
-        (P.commands spawner.old))
-        (spawner_seen (P.faults spawner.new) (P.started spawner.new) (P.retired spawner.new)
-        (P.commands spawner.new))) }
+        (P.state spawner.old) (P.state spawner.new)) }
 {
     let link = match spawner.start(words) {
         Ok(link) => link,
@@ -82,8 +77,7 @@ pub fn start_line<P: Spawner>(
 pub fn link_of<L: Link + Drop>(session: Session<LineSul<L>>) -> L
     ensures link { result ≡ session.sul.link }
     ensures bears { IsBorneOut session.sul.letters session.sul.names session.sul.most
-        session.sul.outputs session.sul.stop session.sul.cut session.journal
-        (retired_of L.number L.faults L.ends L.transcript result) }
+        session.sul.outputs session.sul.stop session.sul.cut session.journal (L.state result) }
 {
     // for the proof alone: what the system's runs are, and that its names are few
     let _runs = session.runs();
@@ -104,21 +98,13 @@ pub(crate) fn ask_child<P: Spawner, O: Sink>(
     requires command { 0 < length command.now }
     requires words { All (IsWord (length letters.now)) words.now }
     ensures ok { IfOk result (λ a. AsksChild (map (λ w. string_bytes w) command.now) letters.now
-        outputs words.now
-        (spawner_seen (P.faults spawner.old) (P.started spawner.old) (P.retired spawner.old)
-        (P.commands spawner.old))
-        (spawner_seen (P.faults spawner.new) (P.started spawner.new) (P.retired spawner.new)
-        (P.commands spawner.new))
-        (sink_state (O.taken out.old) (O.faults out.old))
-        (sink_state (O.taken out.new) (O.faults out.new)) a.kept.answers a.came) }
+        outputs words.now (P.state spawner.old) (P.state spawner.new) (O.state out.old)
+        (O.state out.new) a.kept.answers a.came) }
     ensures err { IfErr result (HasNotStarted (map (λ w. string_bytes w) command.now)
-        (spawner_seen (P.faults spawner.old) (P.started spawner.old) (P.retired spawner.old)
-        (P.commands spawner.old))
-        (spawner_seen (P.faults spawner.new) (P.started spawner.new) (P.retired spawner.new)
-        (P.commands spawner.new))) }
-    ensures unput { OnErr result ((O.taken out.new ≡ O.taken out.old) ×
-        (O.faults out.new ≡ O.faults out.old)) }
-    ensures counts { O.faults out.old ≤ O.faults out.new }
+        (P.state spawner.old) (P.state spawner.new)) }
+    ensures unput { OnErr result (((O.state out.new).taken ≡ (O.state out.old).taken) ×
+        ((O.state out.new).faults ≡ (O.state out.old).faults)) }
+    ensures counts { (O.state out.old).faults ≤ (O.state out.new).faults }
 {
     let Ok(names) = letters.copy() else {
         return Err(StartStop::NoMemory);

@@ -3,9 +3,7 @@ ghost use Rattle.std.specs.Prelude.{◌≡◌, ◌<◌, ◌≤◌, length, map, 
 ghost use Rattle.std.specs.List.{All};
 ghost use Rattle.lw_words.specs.Word.{IsWord};
 ghost use Rattle.lw_outside.specs.declared.links.StartFailure.{StartFailure as Cause};
-ghost use Rattle.lw_children.specs.Spawners.{spawner_seen};
 ghost use Rattle.lw_report.specs.Outcomes.{status_of};
-ghost use Rattle.lw_report.specs.States.{files_state, sink_state};
 ghost use Rattle.lw_report.specs.declared.outcome.Outcome.{Outcome as Came};
 ghost use Rattle.lw_learn.specs.Tasks.{HasWords, letters_of};
 ghost use Rattle.lw_report.specs.Learnings.{system_outcome};
@@ -72,7 +70,7 @@ fn word_outcome(stop: WordStop) -> Outcome
 
 /// What a start that gave no child comes to.
 pub fn start_outcome<P: Spawner>(spawner: &P, stop: StartStop) -> Outcome
-    ensures { result ≡ start_outcome (P.cause spawner.now) stop }
+    ensures { result ≡ start_outcome (P.state spawner.now).cause stop }
 {
     match stop {
         StartStop::Failed => Outcome::Unstarted(spawner.failure()),
@@ -90,10 +88,9 @@ struct Told {
 /// Asks a machine.
 fn ask_table<O: Sink>(alloc: Global, machine: Machine, words: &Words, out: &mut O) -> Told
     requires { All (IsWord (length machine.inputs)) words.now }
-    ensures asks { AsksMachine machine words.now
-        (sink_state (O.taken out.old) (O.faults out.old))
-        (sink_state (O.taken out.new) (O.faults out.new)) result.kept.answers result.outcome }
-    ensures counts { O.faults out.old ≤ O.faults out.new }
+    ensures asks { AsksMachine machine words.now (O.state out.old) (O.state out.new)
+        result.kept.answers result.outcome }
+    ensures counts { (O.state out.old).faults ≤ (O.state out.new).faults }
 {
     let Machine {
         inputs,
@@ -118,16 +115,11 @@ fn ask_command<P: Spawner, O: Sink>(
 ) -> Told
     requires command { 0 < length command.words }
     requires words { All (IsWord (length command.inputs)) words.now }
-    ensures asks { AsksCommand command words.now
-        (spawner_seen (P.faults spawner.old) (P.started spawner.old) (P.retired spawner.old)
-        (P.commands spawner.old))
-        (spawner_seen (P.faults spawner.new) (P.started spawner.new) (P.retired spawner.new)
-        (P.commands spawner.new))
-        (sink_state (O.taken out.old) (O.faults out.old))
-        (sink_state (O.taken out.new) (O.faults out.new)) result.kept.answers result.outcome }
+    ensures asks { AsksCommand command words.now (P.state spawner.old) (P.state spawner.new)
+        (O.state out.old) (O.state out.new) result.kept.answers result.outcome }
     ensures why { (cause : Cause) → result.outcome ≡ Came.Unstarted cause →
-        cause ≡ P.cause spawner.new }
-    ensures counts { O.faults out.old ≤ O.faults out.new }
+        cause ≡ (P.state spawner.new).cause }
+    ensures counts { (O.state out.old).faults ≤ (O.state out.new).faults }
 {
     let Command {
         words: command,
@@ -156,16 +148,11 @@ fn ask_system<P: Spawner, O: Sink>(
 ) -> Told
     requires command { HasWords system }
     requires words { All (IsWord (length (letters_of system))) words.now }
-    ensures asks { AsksSystem system words.now
-        (spawner_seen (P.faults spawner.old) (P.started spawner.old) (P.retired spawner.old)
-        (P.commands spawner.old))
-        (spawner_seen (P.faults spawner.new) (P.started spawner.new) (P.retired spawner.new)
-        (P.commands spawner.new))
-        (sink_state (O.taken out.old) (O.faults out.old))
-        (sink_state (O.taken out.new) (O.faults out.new)) result.kept.answers result.outcome }
+    ensures asks { AsksSystem system words.now (P.state spawner.old) (P.state spawner.new)
+        (O.state out.old) (O.state out.new) result.kept.answers result.outcome }
     ensures why { (cause : Cause) → result.outcome ≡ Came.Unstarted cause →
-        cause ≡ P.cause spawner.new }
-    ensures counts { O.faults out.old ≤ O.faults out.new }
+        cause ≡ (P.state spawner.new).cause }
+    ensures counts { (O.state out.old).faults ≤ (O.state out.new).faults }
 {
     match system {
         System::Table(machine) => ask_table(alloc, machine, words, out),
@@ -175,9 +162,7 @@ fn ask_system<P: Spawner, O: Sink>(
 
 /// Puts a hint to a stream that may refuse it.
 fn put_hint<E: Sink>(hint: &[u8], err: &mut E)
-    ensures { TakesHint hint.now
-        (sink_state (E.taken err.old) (E.faults err.old))
-        (sink_state (E.taken err.new) (E.faults err.new)) }
+    ensures { TakesHint hint.now (E.state err.old) (E.state err.new) }
 {
     if hint.is_empty() {
         return;
@@ -188,10 +173,9 @@ fn put_hint<E: Sink>(hint: &[u8], err: &mut E)
 /// Ends a call: puts the outcome's text to `err`.
 fn end_call<E: Sink>(alloc: Global, told: Told, err: &mut E) -> End
     ensures status { result.status ≡ status_of result.outcome }
-    ensures ended { IsEnd told.outcome told.kept.answers
-        (sink_state (E.taken err.old) (E.faults err.old))
-        (sink_state (E.taken err.new) (E.faults err.new)) result }
-    ensures counts { E.faults err.old ≤ E.faults err.new }
+    ensures ended { IsEnd told.outcome told.kept.answers (E.state err.old) (E.state err.new)
+        result }
+    ensures counts { (E.state err.old).faults ≤ (E.state err.new).faults }
 {
     let Told { kept, outcome } = told;
     refuse(alloc, outcome, None, None, kept, None, 0, err)
@@ -206,16 +190,12 @@ fn ask_texts<P: Spawner, O: Sink>(
     out: &mut O,
 ) -> Told
     requires command { HasWords system }
-    ensures asks { AsksTexts system (map (λ s. string_bytes s) texts.now)
-        (spawner_seen (P.faults spawner.old) (P.started spawner.old) (P.retired spawner.old)
-        (P.commands spawner.old))
-        (spawner_seen (P.faults spawner.new) (P.started spawner.new) (P.retired spawner.new)
-        (P.commands spawner.new))
-        (sink_state (O.taken out.old) (O.faults out.old))
-        (sink_state (O.taken out.new) (O.faults out.new)) result.kept.answers result.outcome }
+    ensures asks { AsksTexts system (map (λ s. string_bytes s) texts.now) (P.state spawner.old)
+        (P.state spawner.new) (O.state out.old) (O.state out.new) result.kept.answers
+        result.outcome }
     ensures why { (cause : Cause) → result.outcome ≡ Came.Unstarted cause →
-        cause ≡ P.cause spawner.new }
-    ensures counts { O.faults out.old ≤ O.faults out.new }
+        cause ≡ (P.state spawner.new).cause }
+    ensures counts { (O.state out.old).faults ≤ (O.state out.new).faults }
 {
     match read_words(alloc, system.inputs(), texts) {
         Ok(words) => ask_system(alloc, system, &words, spawner, out),
@@ -239,25 +219,16 @@ pub fn ask<F: Files, P: Spawner, O: Sink, E: Sink>(
     err: &mut E,
 ) -> End
     ensures status { result.status ≡ status_of result.outcome }
-    ensures ran { IsAskRun arguments.now
-        (files_state (F.holds files.old) (F.calls files.old) (F.reads files.old)
-        (F.faults files.old))
-        (files_state (F.holds files.new) (F.calls files.new) (F.reads files.new)
-        (F.faults files.new))
-        (spawner_seen (P.faults spawner.old) (P.started spawner.old) (P.retired spawner.old)
-        (P.commands spawner.old))
-        (spawner_seen (P.faults spawner.new) (P.started spawner.new) (P.retired spawner.new)
-        (P.commands spawner.new))
-        (sink_state (O.taken out.old) (O.faults out.old))
-        (sink_state (O.taken out.new) (O.faults out.new))
-        (sink_state (E.taken err.old) (E.faults err.old))
-        (sink_state (E.taken err.new) (E.faults err.new)) result }
+    ensures ran { IsAskRun arguments.now (F.state files.old) (F.state files.new)
+        (P.state spawner.old) (P.state spawner.new) (O.state out.old) (O.state out.new)
+        (E.state err.old) (E.state err.new) result }
     // Why no child was started is what the spawner tells.
     ensures why { (cause : Cause) → result.outcome ≡ Came.Unstarted cause →
-        cause ≡ P.cause spawner.new }
+        cause ≡ (P.state spawner.new).cause }
     // No count of faults falls.
-    ensures counts { (F.faults files.old ≤ F.faults files.new) ×
-        (O.faults out.old ≤ O.faults out.new) × (E.faults err.old ≤ E.faults err.new) }
+    ensures counts { ((F.state files.old).faults ≤ (F.state files.new).faults) ×
+        ((O.state out.old).faults ≤ (O.state out.new).faults) ×
+        ((E.state err.old).faults ≤ (E.state err.new).faults) }
 {
     let Found { system, hint } = find_system(alloc, arguments.source(), arguments.system(), files);
     put_hint(hint.as_slice(), err);

@@ -37,8 +37,9 @@ fn put_word(line: &mut Vec<u8>, word: &[u16], letters: &Names) -> Result<(), NoM
 
 /// Appends the name of an output.
 fn put_output<S: Sul>(line: &mut Vec<u8>, output: u16, sul: &S) -> Result<(), NoMemory>
-    requires { output < length (S.names sul.now) }
-    ensures { OnOk result (line.new.items ≡ line.old.items ++ name_at (S.names sul.now) output) }
+    requires { output < length (S.state sul.now).names }
+    ensures { OnOk result (line.new.items ≡ line.old.items ++ name_at (S.state sul.now).names
+        output) }
 {
     line.extend_from_slice(sul.name(output).as_slice())?;
     Ok(())
@@ -46,9 +47,9 @@ fn put_output<S: Sul>(line: &mut Vec<u8>, output: u16, sul: &S) -> Result<(), No
 
 /// Appends the names of outputs, joined by one blank.
 fn put_outputs<S: Sul>(line: &mut Vec<u8>, outs: &[u16], sul: &S) -> Result<(), NoMemory>
-    requires { All (λ y. y < length (S.names sul.now)) outs.now }
-    ensures { OnOk result (line.new.items ≡
-        line.old.items ++ join_by (name_at (S.names sul.now)) (codes " ") outs.now) }
+    requires { All (λ y. y < length (S.state sul.now).names) outs.now }
+    ensures { OnOk result (line.new.items ≡ line.old.items ++
+        join_by (name_at (S.state sul.now).names) (codes " ") outs.now) }
 {
     let Some((first, rest)) = outs.split_first() else {
         return Ok(());
@@ -70,9 +71,9 @@ pub(crate) fn answer_line<S: Sul>(
     outs: &[u16],
 ) -> Result<Vec<u8>, NoMemory>
     requires letters { IsWord (length letters.now) word.now }
-    requires outputs { All (λ y. y < length (S.names sul.now)) outs.now }
-    ensures { IfOk result (λ line. line.items ≡
-        line_of letters.now (S.names sul.now) word.now outs.now) }
+    requires outputs { All (λ y. y < length (S.state sul.now).names) outs.now }
+    ensures { IfOk result (λ line. line.items ≡ line_of letters.now (S.state sul.now).names
+        word.now outs.now) }
 {
     let mut line = Vec::new(alloc);
     put_word(&mut line, word, letters)?;

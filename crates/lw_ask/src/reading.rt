@@ -1,7 +1,6 @@
 //! The files that say what is asked: a setup, or a table.
 ghost use Rattle.std.specs.Prelude.{ℕ, ◌≡◌, ◌≤◌, List, length, IfOk};
 ghost use Rattle.lw_json.specs.SetupFile.{IsSetupFile};
-ghost use Rattle.lw_report.specs.States.{files_state};
 ghost use Rattle.lw_learn.specs.Tasks.{HasWords, letters_of};
 ghost use Rattle.lw_learn.specs.declared.arguments.Source.{Source as Kind};
 ghost use Rattle.lw_ask.specs.Reading.{HasReadMachine, HasReadSystem};
@@ -24,11 +23,7 @@ pub(crate) struct Found {
 
 /// Reads a table file.
 fn read_table<F: Files>(alloc: Global, name: &str, files: &mut F) -> Result<System, Outcome>
-    ensures read { HasReadMachine name.now
-        (files_state (F.holds files.old) (F.calls files.old) (F.reads files.old)
-        (F.faults files.old))
-        (files_state (F.holds files.new) (F.calls files.new) (F.reads files.new)
-        (F.faults files.new)) result }
+    ensures read { HasReadMachine name.now (F.state files.old) (F.state files.new) result }
     ensures letters { IfOk result (λ s. length (letters_of s) ≤ 64) }
     ensures words { IfOk result HasWords }
 {
@@ -41,11 +36,7 @@ fn read_table<F: Files>(alloc: Global, name: &str, files: &mut F) -> Result<Syst
 /// The system that a setup says. The table file that it names is read, if it names one.
 fn read_said<F: Files>(alloc: Global, setup: Setup, files: &mut F) -> Result<System, Outcome>
     requires file { (bytes : List ℕ) × IsSetupFile bytes setup }
-    ensures read { HasReadSaid setup
-        (files_state (F.holds files.old) (F.calls files.old) (F.reads files.old)
-        (F.faults files.old))
-        (files_state (F.holds files.new) (F.calls files.new) (F.reads files.new)
-        (F.faults files.new)) result }
+    ensures read { HasReadSaid setup (F.state files.old) (F.state files.new) result }
     ensures letters { IfOk result (λ s. length (letters_of s) ≤ 64) }
     ensures words { IfOk result HasWords }
 {
@@ -65,11 +56,7 @@ fn read_said<F: Files>(alloc: Global, setup: Setup, files: &mut F) -> Result<Sys
 
 /// Finds the system that a setup file says.
 fn find_setup<F: Files>(alloc: Global, name: &str, files: &mut F) -> Found
-    ensures found { HasFound Kind.Setup name.now
-        (files_state (F.holds files.old) (F.calls files.old) (F.reads files.old)
-        (F.faults files.old))
-        (files_state (F.holds files.new) (F.calls files.new) (F.reads files.new)
-        (F.faults files.new))
+    ensures found { HasFound Kind.Setup name.now (F.state files.old) (F.state files.new)
         result.system result.hint.items }
     ensures letters { IfOk result.system (λ s. length (letters_of s) ≤ 64) }
     ensures words { IfOk result.system HasWords }
@@ -93,12 +80,8 @@ pub(crate) fn find_system<F: Files>(
     name: &str,
     files: &mut F,
 ) -> Found
-    ensures found { HasFound source name.now
-        (files_state (F.holds files.old) (F.calls files.old) (F.reads files.old)
-        (F.faults files.old))
-        (files_state (F.holds files.new) (F.calls files.new) (F.reads files.new)
-        (F.faults files.new))
-        result.system result.hint.items }
+    ensures found { HasFound source name.now (F.state files.old) (F.state files.new) result.system
+        result.hint.items }
     ensures letters { IfOk result.system (λ s. length (letters_of s) ≤ 64) }
     ensures words { IfOk result.system HasWords }
 {
@@ -118,11 +101,7 @@ pub fn read_system<F: Files>(
     name: &str,
     files: &mut F,
 ) -> Result<System, Outcome>
-    ensures read { HasReadSystem source name.now
-        (files_state (F.holds files.old) (F.calls files.old) (F.reads files.old)
-        (F.faults files.old))
-        (files_state (F.holds files.new) (F.calls files.new) (F.reads files.new)
-        (F.faults files.new)) result }
+    ensures read { HasReadSystem source name.now (F.state files.old) (F.state files.new) result }
     ensures letters { IfOk result (λ s. length (letters_of s) ≤ 64) }
     ensures words { IfOk result HasWords }
 {

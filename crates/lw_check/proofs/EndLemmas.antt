@@ -9,7 +9,7 @@ use Rattle.lw_json.specs.declared.answers.Answers.{Answers}
 use Rattle.lw_json.specs.declared.machine.Machine.{Machine}
 use Rattle.lw_json.proofs.OneValue.{one_value}
 use Rattle.lw_json.proofs.OneAnswers.{one_answers}
-use Rattle.lw_outside.specs.Files.{File, Holds, HoldsLong, file_at}
+use Rattle.lw_outside.specs.Files.{File, Holds, HoldsLong, file_at, FilesState}
 use Rattle.lw_certify.specs.Sure.{Sure}
 use Rattle.lw_certify.proofs.SureLemmas.{sure_is_sure}
 use Rattle.lw_report.specs.Outcomes.{HasOwnText, StandsOrWants}
@@ -22,7 +22,7 @@ use Rattle.lw_check.specs.Decision.{IsAnswered, IsDecision, Pair, pair_of}
 use Rattle.lw_desk.specs.Naming.{Naming}
 use Rattle.lw_check.specs.Ending.{ComesTo, DecidesAs}
 use Rattle.lw_check.specs.Naming.{NamesOutputs, declared_as}
-use Rattle.lw_report.specs.States.{FilesState, SinkState}
+use Rattle.lw_outside.specs.Streams.{SinkState}
 use Rattle.lw_report.specs.Reading.{TellsFile}
 use Rattle.lw_check.specs.Reading.{IsUnread, ReadsPair}
 use Rattle.lw_check.specs.Telling.{IsTold}

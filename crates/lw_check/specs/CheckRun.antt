@@ -11,26 +11,27 @@ use Rattle.lw_check.specs.Ending.{DecidesAs, EndsRead, EndsUnread}
 use Rattle.lw_report.specs.Reading.{TellsFile}
 use Rattle.lw_check.specs.Reading.{ReadsPair}
 use Rattle.lw_report.specs.Ends.{IsWithoutLearner}
-use Rattle.lw_report.specs.States.{FilesState, SinkState}
+use Rattle.lw_outside.specs.Files.{FilesState}
+use Rattle.lw_outside.specs.Streams.{SinkState}
 use Rattle.lw_report.specs.declared.«end».End.{End}
 use Rattle.lw_report.specs.declared.outcome.Outcome.{Outcome}
 use Rattle.lw_report.specs.declared.outcome.Outcome.TheVariants.{Yes}
 
--- a call with these arguments found files, `out` and `err` as f, o and e, left them as g, p and d, and came to the end
-pub record IsCheckRun (model answers : List ℕ) (extra : ℕ) (f g : FilesState) (o p : SinkState) (e d : SinkState) (end : End) : Type 0 where
+-- a call with these arguments changed files, `out` and `err` so, and came to the end
+pub record IsCheckRun (model answers : List ℕ) (extra : ℕ) (files_before files_now : FilesState) (out_before out_now : SinkState) (err_before err_now : SinkState) (end : End) : Type 0 where
   pub no_model : end.model ≡ None
   pub no_learner : IsWithoutLearner end
-  pub untouched : g.holds ≡ f.holds
-  pub ended : EndsUnread model answers f g extra o p e d end.outcome end.kept.answers end.outputs ⊎
-      EndsRead model answers f g extra o p e d end.outcome end.kept.answers end.outputs
+  pub untouched : files_now.holds ≡ files_before.holds
+  pub ended : EndsUnread model answers files_before files_now extra out_before out_now err_before err_now end.outcome end.kept.answers end.outputs ⊎
+      EndsRead model answers files_before files_now extra out_before out_now err_before err_now end.outcome end.kept.answers end.outputs
   -- where both files are told, the outcome is their one decision, but that memory, a file or a stream may fail
   pub exact :
       (m : Machine) (a : Answers) (decision : Outcome)
-      → TellsFile IsMachineFile f.holds model m
-      → TellsFile IsAnswersFile f.holds answers a
+      → TellsFile IsMachineFile files_before.holds model m
+      → TellsFile IsAnswersFile files_before.holds answers a
       → IsDecision (pair_of m a) extra decision
       → DecidesAs decision end.outcome
   -- a yes implies that every machine of at most so many states more that gives the answers equals the model
   pub sure : (states : ℕ) → end.outcome ≡ Yes states → (pair : Pair) ×
-      ReadsPair model answers f g pair × Sure pair.mealy.inputs pair.mealy.rows
+      ReadsPair model answers files_before files_now pair × Sure pair.mealy.inputs pair.mealy.rows
       (answers_of pair.kept) extra

@@ -6,7 +6,8 @@ use Rattle.lw_desk.specs.Naming.{Naming}
 use Rattle.lw_check.specs.Naming.{NamesOutputs}
 use Rattle.lw_check.specs.Decision.{IsAnswered, IsDecision, Pair}
 use Rattle.lw_check.specs.Reading.{IsUnread, ReadsPair}
-use Rattle.lw_report.specs.States.{FilesState, SinkState}
+use Rattle.lw_outside.specs.Files.{FilesState}
+use Rattle.lw_outside.specs.Streams.{SinkState}
 use Rattle.lw_report.specs.Text.{text_of}
 use Rattle.lw_report.specs.Writing.{TakesAll, TakesSome}
 use Rattle.lw_report.specs.declared.outcome.Outcome.{Outcome}
@@ -25,10 +26,10 @@ pub record EndsUnread (model answers : List ℕ) (before now : FilesState) (extr
 
 -- what the pair comes to; or memory ran out, or a stream refused a yes or a no
 abbrev pub ComesTo : Pair → ℕ → SinkState → SinkState → Outcome → Type 0
-ComesTo p extra out out_now outcome =
-    IsDecision p extra outcome
+ComesTo pair extra out out_now outcome =
+    IsDecision pair extra outcome
     ⊎ ((outcome ≡ NoMemory)
-    ⊎ ((outcome ≡ SinkFault) × CountedFault out.faults out_now.faults × ((decision : Outcome) × IsAnswered decision × IsDecision p extra decision × TakesSome (text_of p.inputs p.outputs p.kept extra decision) out.taken out_now.taken)))
+    ⊎ ((outcome ≡ SinkFault) × CountedFault out.faults out_now.faults × ((decision : Outcome) × IsAnswered decision × IsDecision pair extra decision × TakesSome (text_of pair.inputs pair.outputs pair.kept extra decision) out.taken out_now.taken)))
 
 -- a pair was read: its answers are kept, and its outputs are named; a yes or a no is put to `out`, without a fault, and nothing to `err`; of any other
 -- outcome but a fault of a stream nothing is put to `out`, and its text goes to `err`, whole where that counts no fault

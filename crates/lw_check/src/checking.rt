@@ -9,8 +9,8 @@ ghost use Rattle.lw_words.specs.Cause.{CountedFault};
 ghost use Rattle.lw_report.specs.Text.{text_of};
 ghost use Rattle.lw_report.specs.Writing.{TakesAll, TakesSome};
 ghost use Rattle.lw_check.specs.Naming.{NamesOutputs};
+ghost use Rattle.lw_check.specs.CheckRun.{IsCheckRun};
 ghost use Rattle.lw_check.specs.Ending.{ComesTo, DecidesAs, EndsRead, EndsUnread};
-ghost use Rattle.lw_report.specs.States.{files_state, sink_state};
 ghost use Rattle.lw_report.specs.Reading.{TellsFile};
 ghost use Rattle.lw_check.specs.Reading.{ReadsPair};
 ghost use Rattle.lw_mealy.specs.Limits.{IsWithinLimits};
@@ -45,25 +45,26 @@ fn finish<O: Sink, E: Sink>(
     ensures kept { result.kept.answers ≡ answers.kept.answers }
     ensures outputs { NamesOutputs (pair_of machine answers) result.outcome result.outputs }
     ensures complete { IsWithinLimits machine.mealy }
-    ensures comes { ComesTo (pair_of machine answers) extra
-        (sink_state (O.taken out.old) (O.faults out.old))
-        (sink_state (O.taken out.new) (O.faults out.new))
+    ensures comes { ComesTo (pair_of machine answers) extra (O.state out.old) (O.state out.new)
         result.outcome }
     ensures written { IsAnswered result.outcome →
-        TakesAll (text_of machine.inputs machine.outputs answers.kept.answers extra result.outcome)
-        (O.taken out.old) (O.taken out.new) × (E.taken err.new ≡ E.taken err.old) }
-    ensures said { ¬ IsAnswered result.outcome →
-        ¬ CountedFault (E.faults err.old) (E.faults err.new) →
-        TakesAll (text_of machine.inputs machine.outputs answers.kept.answers extra result.outcome)
-        (E.taken err.old) (E.taken err.new) }
-    ensures said_part { ¬ IsAnswered result.outcome → TakesSome (text_of machine.inputs
-        machine.outputs answers.kept.answers extra result.outcome)
-        (E.taken err.old) (E.taken err.new) }
+        TakesAll (text_of machine.inputs machine.outputs answers.kept.answers extra
+        result.outcome) (O.state out.old).taken (O.state out.new).taken ×
+        ((E.state err.new).taken ≡ (E.state err.old).taken) }
+    ensures said { ¬ IsAnswered result.outcome → ¬ CountedFault (E.state err.old).faults
+        (E.state err.new).faults →
+        TakesAll (text_of machine.inputs machine.outputs answers.kept.answers extra
+        result.outcome) (E.state err.old).taken (E.state err.new).taken }
+    ensures said_part { ¬ IsAnswered result.outcome →
+        TakesSome (text_of machine.inputs machine.outputs answers.kept.answers extra
+        result.outcome) (E.state err.old).taken (E.state err.new).taken }
     ensures unwritten { ¬ IsAnswered result.outcome → result.outcome ≢ Came.SinkFault →
-        O.taken out.new ≡ O.taken out.old }
-    ensures quiet { IsAnswered result.outcome → (O.faults out.new ≡ O.faults out.old) ×
-        (E.faults err.new ≡ E.faults err.old) }
-    ensures counts { (O.faults out.old ≤ O.faults out.new) × (E.faults err.old ≤ E.faults err.new) }
+        (O.state out.new).taken ≡ (O.state out.old).taken }
+    ensures quiet { IsAnswered result.outcome →
+        ((O.state out.new).faults ≡ (O.state out.old).faults) ×
+        ((E.state err.new).faults ≡ (E.state err.old).faults) }
+    ensures counts { ((O.state out.old).faults ≤ (O.state out.new).faults) ×
+        ((E.state err.old).faults ≤ (E.state err.new).faults) }
 {
     let _states = machine.mealy.states();
     let Decided {
@@ -88,42 +89,11 @@ pub fn check<F: Files, O: Sink, E: Sink>(
 ) -> End
     requires few { extra ≤ 4 }
     ensures status { result.status ≡ status_of result.outcome }
-    ensures model { result.model ≡ None }
-    ensures learner { IsWithoutLearner result }
-    ensures untouched { F.holds files.new ≡ F.holds files.old }
-    ensures ended { EndsUnread model.now answers.now
-        (files_state (F.holds files.old) (F.calls files.old) (F.reads files.old)
-        (F.faults files.old))
-        (files_state (F.holds files.new) (F.calls files.new) (F.reads files.new)
-        (F.faults files.new))
-        extra (sink_state (O.taken out.old) (O.faults out.old))
-        (sink_state (O.taken out.new) (O.faults out.new))
-        (sink_state (E.taken err.old) (E.faults err.old))
-        (sink_state (E.taken err.new) (E.faults err.new))
-        result.outcome result.kept.answers result.outputs ⊎
-        EndsRead model.now answers.now
-        (files_state (F.holds files.old) (F.calls files.old) (F.reads files.old)
-        (F.faults files.old))
-        (files_state (F.holds files.new) (F.calls files.new) (F.reads files.new)
-        (F.faults files.new))
-        extra (sink_state (O.taken out.old) (O.faults out.old))
-        (sink_state (O.taken out.new) (O.faults out.new))
-        (sink_state (E.taken err.old) (E.faults err.old))
-        (sink_state (E.taken err.new) (E.faults err.new))
-        result.outcome result.kept.answers result.outputs }
-    ensures exact { (m : Model) (a : Given) (decision : Came) →
-        TellsFile IsMachineFile (F.holds files.old) model.now m →
-        TellsFile IsAnswersFile (F.holds files.old) answers.now a →
-        IsDecision (pair_of m a) extra decision → DecidesAs decision result.outcome }
-    ensures sure { (states : ℕ) → result.outcome ≡ Came.Yes states → (p : Pair) ×
-        ReadsPair model.now answers.now
-        (files_state (F.holds files.old) (F.calls files.old) (F.reads files.old)
-        (F.faults files.old))
-        (files_state (F.holds files.new) (F.calls files.new) (F.reads files.new)
-        (F.faults files.new)) p ×
-        Sure p.mealy.inputs p.mealy.rows (answers_of p.kept) extra }
-    ensures counts { (F.faults files.old ≤ F.faults files.new) ×
-        (O.faults out.old ≤ O.faults out.new) × (E.faults err.old ≤ E.faults err.new) }
+    ensures ran { IsCheckRun model.now answers.now extra (F.state files.old) (F.state files.new)
+        (O.state out.old) (O.state out.new) (E.state err.old) (E.state err.new) result }
+    ensures counts { ((F.state files.old).faults ≤ (F.state files.new).faults) ×
+        ((O.state out.old).faults ≤ (O.state out.new).faults) ×
+        ((E.state err.old).faults ≤ (E.state err.new).faults) }
 {
     let Read { machine, answers } = match read_pair(alloc, files, model, answers) {
         Ok(read) => read,

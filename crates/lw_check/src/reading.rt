@@ -2,7 +2,6 @@
 ghost use Rattle.std.specs.Prelude.{◌≡◌, ◌≤◌, IfOk, IfErr};
 ghost use Rattle.lw_check.specs.Decision.{pair_of};
 ghost use Rattle.lw_check.specs.Reading.{IsUnread, ReadsPair};
-ghost use Rattle.lw_report.specs.States.{files_state};
 
 use lw_json::{Answers, Machine};
 use lw_outside::Files;
@@ -23,19 +22,12 @@ pub(crate) fn read_pair<F: Files>(
     model: &str,
     answers: &str,
 ) -> Result<Read, Outcome>
-    ensures ok { IfOk result (λ read. ReadsPair model.now answers.now
-        (files_state (F.holds files.old) (F.calls files.old) (F.reads files.old)
-        (F.faults files.old))
-        (files_state (F.holds files.new) (F.calls files.new) (F.reads files.new)
-        (F.faults files.new))
-        (pair_of read.machine read.answers)) }
-    ensures err { IfErr result (IsUnread model.now answers.now
-        (files_state (F.holds files.old) (F.calls files.old) (F.reads files.old)
-        (F.faults files.old))
-        (files_state (F.holds files.new) (F.calls files.new) (F.reads files.new)
-        (F.faults files.new))) }
-    ensures counts { F.faults files.old ≤ F.faults files.new }
-    ensures same { F.holds files.new ≡ F.holds files.old }
+    ensures ok { IfOk result (λ read. ReadsPair model.now answers.now (F.state files.old)
+        (F.state files.new) (pair_of read.machine read.answers)) }
+    ensures err { IfErr result (IsUnread model.now answers.now (F.state files.old)
+        (F.state files.new)) }
+    ensures counts { (F.state files.old).faults ≤ (F.state files.new).faults }
+    ensures same { (F.state files.new).holds ≡ (F.state files.old).holds }
 {
     let machine = match read_machine_file(alloc, files, model) {
         Ok(machine) => machine,

@@ -36,23 +36,27 @@ pub(crate) fn tell<O: Sink, E: Sink>(
 ) -> Outcome
     ensures outcome { IsTold outcome result }
     ensures refused { result ≡ Came.SinkFault → ¬ (outcome ≡ Came.SinkFault) →
-        CountedFault (O.faults out.old) (O.faults out.new) }
-    ensures written { IsAnswered result → TakesAll (text_of machine.now.inputs machine.now.outputs
-        kept.now.answers extra result) (O.taken out.old) (O.taken out.new) }
-    ensures part { TakesSome (text_of machine.now.inputs machine.now.outputs
-        kept.now.answers extra outcome) (O.taken out.old) (O.taken out.new) }
-    ensures unwritten { ¬ IsAnswered result → result ≢ Came.SinkFault →
-        O.taken out.new ≡ O.taken out.old }
-    ensures quiet { IsAnswered result → (O.faults out.new ≡ O.faults out.old) ×
-        (E.faults err.new ≡ E.faults err.old) }
-    ensures left { ¬ IsAnswered outcome → O.taken out.new ≡ O.taken out.old }
-    ensures said { ¬ IsAnswered result → ¬ CountedFault (E.faults err.old) (E.faults err.new) →
+        CountedFault (O.state out.old).faults (O.state out.new).faults }
+    ensures written { IsAnswered result →
         TakesAll (text_of machine.now.inputs machine.now.outputs kept.now.answers extra result)
-        (E.taken err.old) (E.taken err.new) }
-    ensures said_part { ¬ IsAnswered result → TakesSome (text_of machine.now.inputs
-        machine.now.outputs kept.now.answers extra result) (E.taken err.old) (E.taken err.new) }
-    ensures silent { IsAnswered result → E.taken err.new ≡ E.taken err.old }
-    ensures counts { (O.faults out.old ≤ O.faults out.new) × (E.faults err.old ≤ E.faults err.new) }
+        (O.state out.old).taken (O.state out.new).taken }
+    ensures part { TakesSome (text_of machine.now.inputs machine.now.outputs kept.now.answers
+        extra outcome) (O.state out.old).taken (O.state out.new).taken }
+    ensures unwritten { ¬ IsAnswered result → result ≢ Came.SinkFault → (O.state out.new).taken ≡
+        (O.state out.old).taken }
+    ensures quiet { IsAnswered result → ((O.state out.new).faults ≡ (O.state out.old).faults) ×
+        ((E.state err.new).faults ≡ (E.state err.old).faults) }
+    ensures left { ¬ IsAnswered outcome → (O.state out.new).taken ≡ (O.state out.old).taken }
+    ensures said { ¬ IsAnswered result → ¬ CountedFault (E.state err.old).faults
+        (E.state err.new).faults →
+        TakesAll (text_of machine.now.inputs machine.now.outputs kept.now.answers extra result)
+        (E.state err.old).taken (E.state err.new).taken }
+    ensures said_part { ¬ IsAnswered result →
+        TakesSome (text_of machine.now.inputs machine.now.outputs kept.now.answers extra result)
+        (E.state err.old).taken (E.state err.new).taken }
+    ensures silent { IsAnswered result → (E.state err.new).taken ≡ (E.state err.old).taken }
+    ensures counts { ((O.state out.old).faults ≤ (O.state out.new).faults) ×
+        ((E.state err.old).faults ≤ (E.state err.new).faults) }
 {
     let (inputs, outputs) = (&machine.inputs, &machine.outputs);
     if !is_answered(&outcome) {

@@ -8,7 +8,7 @@ use Rattle.lw_renumber.specs.Sorting.{renamed_learned}
 use Rattle.lw_workers.specs.Asking.{AnswersWords}
 use Rattle.lw_workers.proofs.AskingLemmas.{answered_by_words}
 use Rattle.lw_children.specs.Cuts.{IsStopOf}
-use Rattle.lw_children.specs.declared.cut.CutRun.{CutRun}
+use Rattle.lw_workers.specs.declared.outcome.CutRun.{CutRun}
 
 words_stay : (to : List ℕ) (ks : List KeptAnswer) → map (λ k. k.word) ks ≡ map (λ k. k.word) (renumbered_answers to ks)
 words_stay to [] = refl

@@ -1,5 +1,5 @@
 -- Names of outputs that weren't declared: each came up in a kept answer.
-use Rattle.std.proofs.Common.{◌≡◌, ℕ, List, true, Option, Some, None, is_some, ap, sym, ◌∙◌, subst₂}
+use Rattle.std.proofs.Common.{◌≡◌, ℕ, List, Option, Some, None, is_some, ap, sym, ◌∙◌, subst₂}
 use Rattle.std.proofs.lemmas.Bool.{true≢false}
 use Rattle.lw_words.specs.declared.kept.KeptAnswer.{KeptAnswer}
 use Rattle.lw_desk.specs.Ending.{ComeUp, FreeComeUp}

@@ -14,7 +14,7 @@ use Rattle.lw_mealy.specs.Gives.{Gives}
 use Rattle.lw_mealy.specs.Machine.{Rows}
 use Rattle.lw_mealy.specs.Origin.{Origin}
 use Rattle.lw_sul.specs.SessionState.{SessionState, IsJournal}
-use Rattle.lw_outside.specs.Links.{Retired, Transcript, IsUntouched}
+use Rattle.lw_outside.specs.Links.{LinkState, Transcript, IsUntouched, SpawnerState}
 use Rattle.lw_cache.specs.declared.stops.AskStop.{AskStop}
 use Rattle.lw_cache.specs.declared.stops.AskStop.TheVariants as ask
 use Rattle.lw_cache.specs.Settling.{LeavesStop}
@@ -35,8 +35,8 @@ use Rattle.lw_children.specs.Children.{IsCausedBy, IsOfChildren, IsSound, IsStop
 use Rattle.lw_line.specs.Causes.{IsTranscriptOf}
 use Rattle.lw_children.specs.Keeping.{KeepsChildren, count_of, most_of}
 use Rattle.lw_line.specs.LineState.{AreFree, AreToldIfFree, IsNaming, LineState, told_runs}
-use Rattle.lw_children.specs.Spawners.{SpawnerSeen, Starts, StartsAndRetires, StartsSome}
-use Rattle.lw_children.specs.Crews.{AreLinkedWith, AreLinked, AreNew, BearsOut, FitsOutputs, HasBegun, HasRetired, IsChildSeen, IsChildrenPool, IsLoose, RetiresAll, RetiresWith, child_member, count_link, first_names, first_naming, has_number, line_seen, loose_records, new_session, retired_of}
+use Rattle.lw_children.specs.Spawners.{Starts, StartsAndRetires, StartsSome}
+use Rattle.lw_children.specs.Crews.{AreLinkedWith, AreLinked, AreNew, BearsOut, FitsOutputs, HasBegun, HasRetired, IsChildSeen, IsChildrenPool, IsLoose, RetiresAll, RetiresWith, child_member, count_link, first_names, first_naming, has_number, line_seen, loose_records, new_session}
 use Rattle.lw_children.specs.bodies.Ends.{AreChildEnds, IsChildEnd, broken_stop}
 use Rattle.lw_children.specs.declared.starting.Refusal.{Refusal}
 use Rattle.lw_children.specs.declared.starting.Refusal.TheVariants.{Failed, NoMemory}
@@ -47,12 +47,12 @@ use Rattle.lw_children.proofs.RunLemmas.{numbered_up, whole_link}
 use Rattle.lw_children.proofs.StartLemmas.{quietly_some}
 
 -- a link that isn't there
-abbrev no_link : Retired
+abbrev no_link : LinkState
 no_link = record { number = 0; faults = 0; ends = 0; transcript = None }
 
 -- the records of children at the end of a learning, whose links were started and retired so
-module _ (letters : List (List ℕ)) (outputs : Option (List (List ℕ))) (names : List (List ℕ)) (since : List KeptAnswer) (base : ℕ) (links : List Retired) (ends : AreChildEnds letters outputs names since base links) where
-  pub numbers_rise : (i : ℕ) (d : Retired) → i < length links → (get_or links i d).number ≡ base + i
+module _ (letters : List (List ℕ)) (outputs : Option (List (List ℕ))) (names : List (List ℕ)) (since : List KeptAnswer) (base : ℕ) (links : List LinkState) (ends : AreChildEnds letters outputs names since base links) where
+  pub numbers_rise : (i : ℕ) (d : LinkState) → i < length links → (get_or links i d).number ≡ base + i
   numbers_rise i d lt = let e = ends i d lt in number_is letters outputs (base + i) e.seen (get_or links i d) e.is_seen e.bears
 
   abbrev pub keeps_children : (prior kept : List KeptAnswer) → kept ≡ prior ++ since → All (λ k. k.instance < length links) since → AreAnswers (length letters) (answers_of kept) → All (λ k. All (λ y. y < length names) k.outs) kept → AskedOnce prior kept → KeepsChildren letters outputs names prior kept links
@@ -68,10 +68,10 @@ module _ (letters : List (List ℕ)) (outputs : Option (List (List ℕ))) (names
   }
 
 -- starts by the words, and then the retiring of all that they gave
-started_retired : (words : List (List ℕ)) (before mid now : SpawnerSeen) (n : ℕ) (links : List Retired) → StartsSome words before mid n → now.started ≡ mid.started → now.retired ≡ mid.retired ++ links → now.faults ≡ mid.faults → now.commands ≡ mid.commands → length links ≡ n → ((i : ℕ) (d : Retired) → i < length links → (get_or links i d).number ≡ before.started + i) → StartsAndRetires words before now links
+started_retired : (words : List (List ℕ)) (before mid now : SpawnerState) (n : ℕ) (links : List LinkState) → StartsSome words before mid n → now.started ≡ mid.started → now.retired ≡ mid.retired ++ links → now.faults ≡ mid.faults → now.commands ≡ mid.commands → length links ≡ n → ((i : ℕ) (d : LinkState) → i < length links → (get_or links i d).number ≡ before.started + i) → StartsAndRetires words before now links
 started_retired words before mid now n links some started retired faults commands count numbers = record {
   started = omega (arith, started, some.started, count);
-  retired = retired ∙ ap (λ (l : List Retired). l ++ links) some.retired;
+  retired = retired ∙ ap (λ (l : List LinkState). l ++ links) some.retired;
   numbers = numbers;
   counts = omega (arith, some.counts, faults);
   starts = some.starts;
@@ -118,58 +118,58 @@ untouched_runs : (letters names : List (List ℕ)) (told : Option Transcript) �
 untouched_runs letters names None is = tt
 untouched_runs letters names (Some t) is = subst (λ (x : Transcript). IsJournal (told_runs letters names (Some x)) [] None false) (sym is) refl
 
-module _ {L : Type 0} (number faults ends : L → ℕ) (transcript : L → Option Transcript) (letters : List (List ℕ)) (outputs : Option (List (List ℕ))) (names : List (List ℕ)) (before : SpawnerSeen) where
-  fresh_seen : (i : ℕ) (s : SessionState (LineState L)) → s ≡ new_session i s.sul.link letters outputs → number s.sul.link ≡ before.started + i → IsChildSeen letters outputs (before.started + i) (line_seen number s)
+module _ {L : Type 0} (state : L → LinkState) (letters : List (List ℕ)) (outputs : Option (List (List ℕ))) (names : List (List ℕ)) (before : SpawnerState) where
+  fresh_seen : (i : ℕ) (s : SessionState (LineState L)) → s ≡ new_session i s.sul.link letters outputs → (state s.sul.link).number ≡ before.started + i → IsChildSeen letters outputs (before.started + i) (line_seen state s)
   fresh_seen i s made linked =
-      subst (λ (x : SessionState (LineState L)). IsChildSeen letters outputs (before.started + i) (line_seen number x)) (sym made)
+      subst (λ (x : SessionState (LineState L)). IsChildSeen letters outputs (before.started + i) (line_seen state x)) (sym made)
       (record { origin = ap (λ (n : ℕ). let o : Origin = record { machine = None; link = Some n; letters = Some letters } in o) linked; fits = fits_declared outputs })
 
-  fresh_end : (i : ℕ) (s : SessionState (LineState L)) (r : Retired) → s ≡ new_session i s.sul.link letters outputs → number s.sul.link ≡ before.started + i → BearsOut (line_seen number s) r → IsChildEnd letters outputs names [] before.started i r
+  fresh_end : (i : ℕ) (s : SessionState (LineState L)) (r : LinkState) → s ≡ new_session i s.sul.link letters outputs → (state s.sul.link).number ≡ before.started + i → BearsOut (line_seen state s) r → IsChildEnd letters outputs names [] before.started i r
   fresh_end i s r made linked bears = record {
-    seen = line_seen number s;
+    seen = line_seen state s;
     is_seen = fresh_seen i s made linked;
     bears = bears;
     kept = ap (λ (x : SessionState (LineState L)). journal_runs x.sul.names 0 x.journal) (sym made);
   }
 
-  loose_end : (i : ℕ) (l : L) → number l ≡ before.started + i → IsUntouched (transcript l) → IsChildEnd letters outputs names [] before.started i (retired_of number faults ends transcript l)
+  loose_end : (i : ℕ) (l : L) → (state l).number ≡ before.started + i → IsUntouched (state l).transcript → IsChildEnd letters outputs names [] before.started i (state l)
   loose_end i l linked is = record {
-    seen = line_seen number (new_session i l letters outputs);
+    seen = line_seen state (new_session i l letters outputs);
     is_seen = fresh_seen i (new_session i l letters outputs) refl linked;
     bears = record {
       letters = letters;
       origin = refl;
       counted = tt;
-      told = untouched_is letters (first_names outputs) (most_of outputs) (faults l) (transcript l) is;
+      told = untouched_is letters (first_names outputs) (most_of outputs) (state l).faults (state l).transcript is;
       few = few_first outputs;
       naming = named_first outputs;
       differ = differ_first outputs;
-      told_names = told_first outputs (transcript l);
+      told_names = told_first outputs (state l).transcript;
       cut = false;
-      journal = untouched_runs letters (first_names outputs) (transcript l) is;
+      journal = untouched_runs letters (first_names outputs) (state l).transcript is;
     };
     kept = refl;
   }
 
   -- sessions that were made, and a link more, once all are retired
-  pub fresh_ends : (sessions : List (SessionState (LineState L))) (loose : Option L) (records : List Retired) → HasBegun number faults ends transcript letters outputs before sessions loose → length records ≡ length sessions
-      → ((i : ℕ) (d : SessionState (LineState L)) (e : Retired) → i < length sessions → BearsOut (line_seen number (get_or sessions i d)) (get_or records i e))
-      → AreChildEnds letters outputs names [] before.started (records ++ loose_records number faults ends transcript loose)
+  pub fresh_ends : (sessions : List (SessionState (LineState L))) (loose : Option L) (records : List LinkState) → HasBegun state letters outputs before sessions loose → length records ≡ length sessions
+      → ((i : ℕ) (d : SessionState (LineState L)) (e : LinkState) → i < length sessions → BearsOut (line_seen state (get_or sessions i d)) (get_or records i e))
+      → AreChildEnds letters outputs names [] before.started (records ++ loose_records state loose)
   fresh_ends sessions loose records begun count each i d lt =
       ⊎_elim
       (λ (lt' : i < length records).
       let within : i < length sessions = omega (arith, lt', count) in
       let s = seat_of sessions i within in
       let made = begun.new i s within in
-      subst (IsChildEnd letters outputs names [] before.started i) (sym (get_or_append_left records (loose_records number faults ends transcript loose) d i lt'))
+      subst (IsChildEnd letters outputs names [] before.started i) (sym (get_or_append_left records (loose_records state loose) d i lt'))
       (fresh_end i (get_or sessions i s) (get_or records i d) made.0 made.1 (each i s d within)))
       (λ (le : length records ≤ i). last loose begun.loose_is le lt)
       (cases_lt i (length records))
     where
-      last : (loose : Option L) → IsLoose number faults ends transcript (before.started + length sessions) loose → length records ≤ i → i < length (records ++ loose_records number faults ends transcript loose) → IsChildEnd letters outputs names [] before.started i (get_or (records ++ loose_records number faults ends transcript loose) i d)
-      last None is le lt = absurd (omega (arith, le, lt, ap (λ (l : List Retired). length l) (append-nil records)))
+      last : (loose : Option L) → IsLoose state (before.started + length sessions) loose → length records ≤ i → i < length (records ++ loose_records state loose) → IsChildEnd letters outputs names [] before.started i (get_or (records ++ loose_records state loose) i d)
+      last None is le lt = absurd (omega (arith, le, lt, ap (λ (l : List LinkState). length l) (append-nil records)))
       last (Some l) is le lt =
-          let r = retired_of number faults ends transcript l in
+          let r = state l in
           let here : length records ≡ i = omega (arith, le, lt, length-append records (r ∷ [])) in
           let none : i - length records ≡ 0 = omega (arith, here) in
           subst (IsChildEnd letters outputs names [] before.started i)
@@ -180,7 +180,7 @@ prior_words : (naming : Naming) (inputs count : ℕ) (prior : List KeptAnswer) �
 prior_words naming inputs count prior may = All-map (IsAnswer inputs) answer_of prior may.answers
 
 -- a learning that never began
-module _ (kind : Kind) (words letters : List (List ℕ)) (outputs : Option (List (List ℕ))) (workers k most : ℕ) (prior : List KeptAnswer) (before now : SpawnerSeen) (naming : Naming) (may : MayBegin naming (length letters) (count_of outputs) prior) (links : List Retired) (spawner : StartsAndRetires words before now links) (few : length links ≤ workers) (ends : AreChildEnds letters outputs naming.names [] before.started links) where
+module _ (kind : Kind) (words letters : List (List ℕ)) (outputs : Option (List (List ℕ))) (workers k most : ℕ) (prior : List KeptAnswer) (before now : SpawnerState) (naming : Naming) (may : MayBegin naming (length letters) (count_of outputs) prior) (links : List LinkState) (spawner : StartsAndRetires words before now links) (few : length links ≤ workers) (ends : AreChildEnds letters outputs naming.names [] before.started links) where
   -- nothing was kept but the prior answers
   kept_prior : KeepsChildren letters outputs naming.names prior prior links
   kept_prior =
@@ -227,43 +227,43 @@ module _ (kind : Kind) (words letters : List (List ℕ)) (outputs : Option (List
       })))
 
 -- the links of sessions that were made, and one more, may be retired
-pub begun_linked : {L : Type 0} (number faults ends : L → ℕ) (transcript : L → Option Transcript) (letters : List (List ℕ)) (outputs : Option (List (List ℕ))) (words : List (List ℕ)) (before mid : SpawnerSeen) (sessions : List (SessionState (LineState L))) (loose : Option L) → HasBegun number faults ends transcript letters outputs before sessions loose → StartsSome words before mid (length sessions + count_link loose) → AreLinkedWith number sessions loose mid
-begun_linked number faults ends transcript letters outputs words before mid sessions loose begun some = record {
+pub begun_linked : {L : Type 0} (state : L → LinkState) (letters : List (List ℕ)) (outputs : Option (List (List ℕ))) (words : List (List ℕ)) (before mid : SpawnerState) (sessions : List (SessionState (LineState L))) (loose : Option L) → HasBegun state letters outputs before sessions loose → StartsSome words before mid (length sessions + count_link loose) → AreLinkedWith state sessions loose mid
+begun_linked state letters outputs words before mid sessions loose begun some = record {
   base = before.started;
   links = λ i d lt. (begun.new i d lt).1;
   last = last loose begun.loose_is;
-  earlier = λ lt. subst (λ (rs : List Retired). All (λ r. r.number < before.started) rs) (sym some.retired) (begun.earlier lt);
+  earlier = λ lt. subst (λ (rs : List LinkState). All (λ r. r.number < before.started) rs) (sym some.retired) (begun.earlier lt);
   within = omega (arith, some.started);
 }
   where
-    last : (loose : Option _) → IsLoose number faults ends transcript (before.started + length sessions) loose → has_number number (before.started + length sessions) loose
+    last : (loose : Option _) → IsLoose state (before.started + length sessions) loose → has_number state (before.started + length sessions) loose
     last None is = tt
     last (Some l) is = is.0
 
 -- a learning that was given up before it began
-pub given_up : {L : Type 0} (kind : Kind) (number faults ends : L → ℕ) (transcript : L → Option Transcript) (words letters : List (List ℕ)) (outputs : Option (List (List ℕ))) (workers k most : ℕ) (prior : List KeptAnswer) (before mid now : SpawnerSeen) (naming : Naming) (sessions : List (SessionState (LineState L))) (loose : Option L) (refusal : Refusal)
-    → MayBegin naming (length letters) (count_of outputs) prior → HasBegun number faults ends transcript letters outputs before sessions loose → StartsSome words before mid (length sessions + count_link loose)
-    → RetiresWith number faults ends transcript sessions loose mid now → length sessions + count_link loose ≤ workers → length sessions < workers → (refusal ≡ Failed → (loose ≡ None) × CountedFault before.faults mid.faults)
+pub given_up : {L : Type 0} (kind : Kind) (state : L → LinkState) (words letters : List (List ℕ)) (outputs : Option (List (List ℕ))) (workers k most : ℕ) (prior : List KeptAnswer) (before mid now : SpawnerState) (naming : Naming) (sessions : List (SessionState (LineState L))) (loose : Option L) (refusal : Refusal)
+    → MayBegin naming (length letters) (count_of outputs) prior → HasBegun state letters outputs before sessions loose → StartsSome words before mid (length sessions + count_link loose)
+    → RetiresWith state sessions loose mid now → length sessions + count_link loose ≤ workers → length sessions < workers → (refusal ≡ Failed → (loose ≡ None) × CountedFault before.faults mid.faults)
     → (learned : Result Learned LearnStop) (kept : List KeptAnswer) (names : List (List ℕ)) → learned ≡ Err (broken_stop refusal (length sessions)) → kept ≡ prior → names ≡ naming.names → IsOfChildren kind words letters outputs workers k most prior before now learned kept names
-given_up kind number faults ends transcript words letters outputs workers k most prior before mid now naming sessions loose refusal may begun some retires few less failed learned kept names is kept_is names_are =
+given_up kind state words letters outputs workers k most prior before mid now naming sessions loose refusal may begun some retires few less failed learned kept names is kept_is names_are =
     by refusal failed is
   where
-    links : List Retired
-    links = retires.first.records ++ loose_records number faults ends transcript loose
+    links : List LinkState
+    links = retires.first.records ++ loose_records state loose
 
-    loose_count : (loose : Option _) → length (loose_records number faults ends transcript loose) ≡ count_link loose
+    loose_count : (loose : Option _) → length (loose_records state loose) ≡ count_link loose
     loose_count None = refl
     loose_count (Some l) = refl
 
     count : length links ≡ length sessions + count_link loose
-    count = length-append retires.first.records (loose_records number faults ends transcript loose) ∙ omega (arith, retires.first.count, loose_count loose)
+    count = length-append retires.first.records (loose_records state loose) ∙ omega (arith, retires.first.count, loose_count loose)
 
     ended : AreChildEnds letters outputs naming.names [] before.started links
-    ended = fresh_ends number faults ends transcript letters outputs naming.names before sessions loose retires.first.records begun retires.first.count retires.first.each
+    ended = fresh_ends state letters outputs naming.names before sessions loose retires.first.records begun retires.first.count retires.first.each
 
     spawner : StartsAndRetires words before now links
     spawner = started_retired words before mid now (length sessions + count_link loose) links some (retires.started ∙ retires.first.started)
-        (retires.retired ∙ (ap (λ (l : List Retired). l ++ loose_records number faults ends transcript loose) retires.first.retired ∙ append_assoc mid.retired retires.first.records (loose_records number faults ends transcript loose)))
+        (retires.retired ∙ (ap (λ (l : List LinkState). l ++ loose_records state loose) retires.first.retired ∙ append_assoc mid.retired retires.first.records (loose_records state loose)))
         (retires.faults_same ∙ retires.first.faults) (retires.commands ∙ retires.first.commands) count (numbers_rise letters outputs naming.names [] before.started links ended)
 
     by : (refusal : Refusal) → (refusal ≡ Failed → (loose ≡ None) × CountedFault before.faults mid.faults) → learned ≡ Err (broken_stop refusal (length sessions)) → IsOfChildren kind words letters outputs workers k most prior before now learned kept names
@@ -273,13 +273,13 @@ given_up kind number faults ends transcript words letters outputs workers k most
         (omega (arith, count, ap (λ (o : Option _). count_link o) f.0)) (subst (λ (n : ℕ). CountedFault before.faults n) (sym (retires.faults_same ∙ retires.first.faults)) f.1)
     by NoMemory failed is = out_of_memory kind words letters outputs workers k most prior before now naming may links spawner (omega (arith, count, few)) ended learned kept names is kept_is names_are
 
-module _ {L : Type 0} (number faults ends : L → ℕ) (transcript : L → Option Transcript) (words letters : List (List ℕ)) (outputs : Option (List (List ℕ))) (workers : ℕ) (before mid : SpawnerSeen) (sessions : List (SessionState (LineState L))) (begun : HasBegun number faults ends transcript letters outputs before sessions None) (starts : Starts words before mid workers) (count : length sessions ≡ workers) where
+module _ {L : Type 0} (state : L → LinkState) (words letters : List (List ℕ)) (outputs : Option (List (List ℕ))) (workers : ℕ) (before mid : SpawnerState) (sessions : List (SessionState (LineState L))) (begun : HasBegun state letters outputs before sessions None) (starts : Starts words before mid workers) (count : length sessions ≡ workers) where
   earlier_all : 0 < length sessions → All (λ r. r.number < before.started) mid.retired
-  earlier_all lt = subst (λ (rs : List Retired). All (λ r. r.number < before.started) rs) (sym starts.retired) (begun.earlier (omega (arith, lt)))
+  earlier_all lt = subst (λ (rs : List LinkState). All (λ r. r.number < before.started) rs) (sym starts.retired) (begun.earlier (omega (arith, lt)))
 
   -- the links of sessions that were all made may be retired
-  pub all_linked : (now : List (SessionState (LineState L))) → now ≡ sessions → AreLinked number now mid
-  all_linked now same = subst (λ (l : List (SessionState (LineState L))). AreLinked number l mid) (sym same) (record {
+  pub all_linked : (now : List (SessionState (LineState L))) → now ≡ sessions → AreLinked state now mid
+  all_linked now same = subst (λ (l : List (SessionState (LineState L))). AreLinked state l mid) (sym same) (record {
     base = before.started;
     links = λ i d lt. (begun.new i d lt).1;
     earlier = earlier_all;
@@ -287,7 +287,7 @@ module _ {L : Type 0} (number faults ends : L → ℕ) (transcript : L → Optio
   })
 
   -- and they are those of a pool of children
-  pub begun_pool : (pool : PoolState (LineState L)) → pool.members ≡ map (child_member number) sessions → pool.naming ≡ first_naming outputs → IsChildrenPool number mid pool
+  pub begun_pool : (pool : PoolState (LineState L)) → pool.members ≡ map (child_member state) sessions → pool.naming ≡ first_naming outputs → IsChildrenPool state mid pool
   begun_pool pool members naming_is = record {
     letters = letters;
     outputs_declared = outputs;
@@ -301,46 +301,46 @@ module _ {L : Type 0} (number faults ends : L → ℕ) (transcript : L → Optio
   }
 
   -- a learning for which there was no memory once all were made
-  pub refused_pool : (kind : Kind) (k most : ℕ) (prior : List KeptAnswer) (now : SpawnerSeen) (naming : Naming) (left : List (SessionState (LineState L))) → MayBegin naming (length letters) (count_of outputs) prior → left ≡ sessions → RetiresAll number left mid now
+  pub refused_pool : (kind : Kind) (k most : ℕ) (prior : List KeptAnswer) (now : SpawnerState) (naming : Naming) (left : List (SessionState (LineState L))) → MayBegin naming (length letters) (count_of outputs) prior → left ≡ sessions → RetiresAll state left mid now
       → (learned : Result Learned LearnStop) (kept : List KeptAnswer) (names : List (List ℕ)) → learned ≡ Err (learn.Ask ask.NoMemory) → kept ≡ prior → names ≡ naming.names → IsOfChildren kind words letters outputs workers k most prior before now learned kept names
   refused_pool kind k most prior now naming left may same retires' learned kept names is kept_is names_are =
       out_of_memory kind words letters outputs workers k most prior before now naming may links spawner (omega (arith, counted)) ended learned kept names is kept_is names_are
     where
-      retires : RetiresAll number sessions mid now
-      retires = subst (λ (l : List (SessionState (LineState L))). RetiresAll number l mid now) same retires'
+      retires : RetiresAll state sessions mid now
+      retires = subst (λ (l : List (SessionState (LineState L))). RetiresAll state l mid now) same retires'
 
-      links : List Retired
+      links : List LinkState
       links = retires.records ++ []
 
       counted : length links ≡ workers
-      counted = ap (λ (l : List Retired). length l) (append-nil retires.records) ∙ (retires.count ∙ count)
+      counted = ap (λ (l : List LinkState). length l) (append-nil retires.records) ∙ (retires.count ∙ count)
 
       ended : AreChildEnds letters outputs naming.names [] before.started links
-      ended = fresh_ends number faults ends transcript letters outputs naming.names before sessions None retires.records begun retires.count retires.each
+      ended = fresh_ends state letters outputs naming.names before sessions None retires.records begun retires.count retires.each
 
       spawner : StartsAndRetires words before now links
       spawner = started_retired words before mid now workers links (quietly_some words before mid workers starts) retires.started
-          (retires.retired ∙ ap (λ (l : List Retired). mid.retired ++ l) (sym (append-nil retires.records)))
+          (retires.retired ∙ ap (λ (l : List LinkState). mid.retired ++ l) (sym (append-nil retires.records)))
           retires.faults retires.commands counted (numbers_rise letters outputs naming.names [] before.started links ended)
 
 -- a learning over a pool of children that were all started
-module _ {L : Type 0} (kind : Kind) (number : L → ℕ) (words letters : List (List ℕ)) (outputs : Option (List (List ℕ))) (workers k most : ℕ) (prior : List KeptAnswer) (before mid now : SpawnerSeen) (sessions : List (SessionState (LineState L))) (new : AreNew number letters outputs before.started sessions) (starts : Starts words before mid workers) (count : length sessions ≡ workers)
-    (pool : PoolState (LineState L)) (members : map (child_member number) sessions ≡ pool.members) (naming_is : pool.naming ≡ first_naming outputs) (prior_is : pool.prior ≡ prior) (inputs_is : pool.inputs ≡ length letters) (outputs_is : pool.outputs ≡ count_of outputs) (unrefused : pool.refused ≡ false)
-    (learned : Result Learned LearnStop) (kept : List KeptAnswer) (naming : Naming) (ended : HasRetired kind number k most pool mid now learned kept naming) where
+module _ {L : Type 0} (kind : Kind) (state : L → LinkState) (words letters : List (List ℕ)) (outputs : Option (List (List ℕ))) (workers k most : ℕ) (prior : List KeptAnswer) (before mid now : SpawnerState) (sessions : List (SessionState (LineState L))) (new : AreNew state letters outputs before.started sessions) (starts : Starts words before mid workers) (count : length sessions ≡ workers)
+    (pool : PoolState (LineState L)) (members : map (child_member state) sessions ≡ pool.members) (naming_is : pool.naming ≡ first_naming outputs) (prior_is : pool.prior ≡ prior) (inputs_is : pool.inputs ≡ length letters) (outputs_is : pool.outputs ≡ count_of outputs) (unrefused : pool.refused ≡ false)
+    (learned : Result Learned LearnStop) (kept : List KeptAnswer) (naming : Naming) (ended : HasRetired kind state k most pool mid now learned kept naming) where
   abbrev left : PoolState (LineState L)
   left = ended.left
 
   abbrev later : List (SessionState (LineState L))
   later = ended.later
 
-  abbrev links : List Retired
+  abbrev links : List LinkState
   links = ended.retires.records
 
-  seen_all : (length later ≡ length sessions) × ((i : ℕ) (d : SessionState (LineState L)) → i < length later → IsChildSeen letters outputs (before.started + i) (line_seen number (get_or later i d)))
-  seen_all = children_seen number letters outputs before.started sessions later pool left (learn_stop learned) new members naming_is ended.learned ended.members
+  seen_all : (length later ≡ length sessions) × ((i : ℕ) (d : SessionState (LineState L)) → i < length later → IsChildSeen letters outputs (before.started + i) (line_seen state (get_or later i d)))
+  seen_all = children_seen state letters outputs before.started sessions later pool left (learn_stop learned) new members naming_is ended.learned ended.members
 
   many : length (seen_of left) ≡ length links
-  many = as_many number later left ended.members ∙ sym ended.retires.count
+  many = as_many state later left ended.members ∙ sym ended.retires.count
 
   all_links : length links ≡ workers
   all_links = ended.retires.count ∙ (seen_all.0 ∙ count)
@@ -352,9 +352,9 @@ module _ {L : Type 0} (kind : Kind) (number : L → ℕ) (words letters : List (
   ends_are i d lt =
       let within : i < length later = omega (arith, lt, ended.retires.count) in
       let s = seat_of later i within in
-      let there = seen_there number later left ended.members i s within in
+      let there = seen_there state later left ended.members i s within in
       record {
-        seen = line_seen number (get_or later i s);
+        seen = line_seen state (get_or later i s);
         is_seen = seen_all.1 i s within;
         bears = ended.retires.each i s d within;
         kept = subst (λ (x : Seen). kept_runs left.naming.names i since ≡ journal_runs x.names 0 x.journal) there (ended.learned.stands.stands.runs i (omega (arith, lt, many)));
@@ -366,8 +366,8 @@ module _ {L : Type 0} (kind : Kind) (number : L → ℕ) (words letters : List (
       let within : i < length later = omega (arith, lt, ended.retires.count) in
       let inside : i < length (seen_of left) = omega (arith, lt, many) in
       let s = seat_of later i within in
-      let there = seen_there number later left ended.members i s within in
-      whole_link letters outputs (before.started + i) (line_seen number (get_or later i s)) (get_or links i d) (seen_all.1 i s within) (ended.retires.each i s d within) left.naming.names i since
+      let there = seen_there state later left ended.members i s within in
+      whole_link letters outputs (before.started + i) (line_seen state (get_or later i s)) (get_or links i d) (seen_all.1 i s within) (ended.retires.each i s d within) left.naming.names i since
       (ap (λ (x : Seen). x.stop) (sym there) ∙ (ended.learned.stands.unrefused never).1 i inside)
       (subst (λ (x : Seen). kept_runs left.naming.names i since ≡ journal_runs x.names 0 x.journal) there (ended.learned.stands.stands.runs i inside))
 
@@ -376,15 +376,15 @@ module _ {L : Type 0} (kind : Kind) (number : L → ℕ) (words letters : List (
   whole_learned (Err stop) never = tt
 
   -- a session that stopped is that of a link whose record says why
-  stopped_there : (i : ℕ) (stop : SulStop) → (i < length (seen_of left)) × ((seen_at (seen_of left) i).stop ≡ Some stop) → (i < length links) × ((d : Retired) → IsStopped outputs stop (get_or links i d))
+  stopped_there : (i : ℕ) (stop : SulStop) → (i < length (seen_of left)) × ((seen_at (seen_of left) i).stop ≡ Some stop) → (i < length links) × ((d : LinkState) → IsStopped outputs stop (get_or links i d))
   stopped_there i stop why =
       let lt : i < length links = omega (arith, why.0, many) in (
         lt,
         λ d.
             let within : i < length later = omega (arith, lt, ended.retires.count) in
             let s = seat_of later i within in
-            stopped_link letters outputs (before.started + i) (line_seen number (get_or later i s)) (get_or links i d) (seen_all.1 i s within) (ended.retires.each i s d within) stop
-            (ap (λ (x : Seen). x.stop) (sym (seen_there number later left ended.members i s within)) ∙ why.1),
+            stopped_link letters outputs (before.started + i) (line_seen state (get_or later i s)) (get_or links i d) (seen_all.1 i s within) (ended.retires.each i s d within) stop
+            (ap (λ (x : Seen). x.stop) (sym (seen_there state later left ended.members i s within)) ∙ why.1),
       )
 
   caused : (r : Result Learned LearnStop) → LeavesStop (learn_stop r) left.stop → IfErr r (IsCausedBy outputs workers before now links left.kept)
@@ -446,12 +446,12 @@ module _ {L : Type 0} (kind : Kind) (number : L → ℕ) (words letters : List (
       (subst (λ (n : Naming). IsOfChildren kind words letters outputs workers k most prior before now learned left.kept n.names) (sym ended.naming_is) (of_left least none large))
 
 -- the links of the sessions of a pool may be retired once a learning over it has ended
-pub later_linked : {L : Type 0} (number : L → ℕ) (spawner : SpawnerSeen) (pool left : PoolState (LineState L)) (later : List (SessionState (LineState L))) (stop : Option AskStop) → IsChildrenPool number spawner pool → HasLearned pool left stop → map (child_member number) later ≡ left.members → AreLinked number later spawner
-later_linked number spawner pool left later stop is learned are =
-    let seen = children_seen number is.letters is.outputs_declared is.base is.sessions later pool left stop is.new is.members is.naming learned are in
+pub later_linked : {L : Type 0} (state : L → LinkState) (spawner : SpawnerState) (pool left : PoolState (LineState L)) (later : List (SessionState (LineState L))) (stop : Option AskStop) → IsChildrenPool state spawner pool → HasLearned pool left stop → map (child_member state) later ≡ left.members → AreLinked state later spawner
+later_linked state spawner pool left later stop is learned are =
+    let seen = children_seen state is.letters is.outputs_declared is.base is.sessions later pool left stop is.new is.members is.naming learned are in
     record {
       base = is.base;
-      links = λ i d lt. some_number (number (get_or later i d).sul.link) (is.base + i) (ap (λ (o : Origin). o.link) (seen.1 i d lt).origin);
+      links = λ i d lt. some_number (state (get_or later i d).sul.link).number (is.base + i) (ap (λ (o : Origin). o.link) (seen.1 i d lt).origin);
       earlier = λ lt. is.earlier (omega (arith, lt, seen.0));
       within = omega (arith, is.within, seen.0);
     }

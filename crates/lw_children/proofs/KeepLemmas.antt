@@ -7,7 +7,7 @@ use Rattle.lw_words.specs.declared.stop.SulStop.TheVariants.{Failed, BadLine, Go
 use Rattle.lw_mealy.specs.Origin.{Origin}
 use Rattle.lw_sul.specs.SessionState.{IsJournal}
 use Rattle.lw_sul.specs.declared.runs.Run.{Run}
-use Rattle.lw_outside.specs.Links.{Retired, Transcript}
+use Rattle.lw_outside.specs.Links.{LinkState, Transcript}
 use Rattle.lw_desk.specs.Ending.{kept_runs}
 use Rattle.lw_pool.specs.Pool.{Seen, journal_runs}
 use Rattle.lw_line.specs.Causes.{EndsWithin, IsCounted, IsCovered, IsRefused, IsSpelled, IsTranscriptOf}
@@ -35,7 +35,7 @@ own_names_are None names most count (Some t) fits few naming differ are =
     let free : AreFree most count = (most_is None names most count fits naming, fits.0) in (omega (arith, few, fits.1), differ free, are free)
 own_names_are (Some declared) names most count (Some t) fits few naming differ are = fits.0
 
-module _ (letters : List (List ℕ)) (outputs : Option (List (List ℕ))) (names : List (List ℕ)) (i : ℕ) (since : List KeptAnswer) (r : Retired) (own : List (List ℕ)) (most : ℕ) (most_is : most ≡ most_of outputs) where
+module _ (letters : List (List ℕ)) (outputs : Option (List (List ℕ))) (names : List (List ℕ)) (i : ℕ) (since : List KeptAnswer) (r : LinkState) (own : List (List ℕ)) (most : ℕ) (most_is : most ≡ most_of outputs) where
   broken : (t : Transcript) (stop : SulStop) → IsCounted r.faults r.ends (Some stop) → IsSpelled own most t (Some stop) → IsBroken own (most_of outputs) r t
   broken t Failed counted spelled = inl counted
   broken t Gone counted spelled = inr (inl counted)
@@ -72,7 +72,7 @@ module _ (letters : List (List ℕ)) (outputs : Option (List (List ℕ))) (names
       by (Some t) owns is = (own, owns, subst (λ (n : ℕ). IsRefused own n t line) most_is is.1)
 
 -- a record that bears out what is seen of a child's session
-module _ (letters : List (List ℕ)) (outputs : Option (List (List ℕ))) (n : ℕ) (s : Seen) (r : Retired) (seen : IsChildSeen letters outputs n s) (bears : BearsOut s r) where
+module _ (letters : List (List ℕ)) (outputs : Option (List (List ℕ))) (n : ℕ) (s : Seen) (r : LinkState) (seen : IsChildSeen letters outputs n s) (bears : BearsOut s r) where
   origins : (o : Origin) → o ≡ s.origin → o ≡ record { machine = None; link = Some r.number; letters = Some bears.letters }
   origins o same = same ∙ bears.origin
 
@@ -101,7 +101,7 @@ module _ (letters : List (List ℕ)) (outputs : Option (List (List ℕ))) (n : �
       stopped_told letters outputs [] 0 [] r s.names s.most most_so r.transcript stop bears.cut own (subst (IsCounted r.faults r.ends) is bears.counted) (subst (λ (o : Option SulStop). IsTranscriptOf letters s.names s.most r.faults o bears.cut r.transcript) is told) refl
 
 -- a child whose link is sound did not stop
-pub sound_goes_on : (outputs : Option (List (List ℕ))) (r : Retired) (stop : SulStop) → IsSound outputs r → ¬ IsStopped outputs stop r
+pub sound_goes_on : (outputs : Option (List (List ℕ))) (r : LinkState) (stop : SulStop) → IsSound outputs r → ¬ IsStopped outputs stop r
 sound_goes_on outputs r Failed sound why = sound.faults why
 sound_goes_on outputs r Gone sound why = sound.ends why.0
 sound_goes_on outputs r (BadLine line) sound why = sound.good line (subst (IfTold (HasRefused outputs line)) sound.told why)

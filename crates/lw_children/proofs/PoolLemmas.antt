@@ -15,6 +15,7 @@ use Rattle.lw_pool.specs.Pool.{Seen, Member, PoolState, nobody, origins_of, seen
 use Rattle.lw_pool.specs.Sharing.{declared_by}
 use Rattle.lw_pool.proofs.JoinLemmas.{declared_shared}
 use Rattle.lw_workers.specs.Leaving.{HasLearned}
+use Rattle.lw_outside.specs.Links.{LinkState}
 use Rattle.lw_children.specs.Keeping.{count_of, most_of}
 use Rattle.lw_line.specs.LineState.{LineState}
 use Rattle.lw_children.specs.Crews.{AreNew, FitsOutputs, IsChildSeen, child_member, first_names, first_naming, line_seen, new_session}
@@ -56,15 +57,15 @@ fits_outputs outputs naming names most count m same fits = by outputs naming.nam
         some_names ns (Some l) = l
     by (Some ns) shared (Some b) same fits = absurd (false≢true (ap is_some same))
 
-module _ {L : Type 0} (number : L → ℕ) where
+module _ {L : Type 0} (state : L → LinkState) where
   abbrev seens : List (Member (LineState L)) → List Seen
   seens ms = map (λ m. m.seen) ms
 
-  pub children_join : (letters : List (List ℕ)) (outputs : Option (List (List ℕ))) (base : ℕ) (naming : Naming) (inputs count : ℕ) (sessions : List (SessionState (LineState L))) → AreNew number letters outputs base sessions → naming ≡ first_naming outputs → inputs ≡ length letters → count ≡ count_of outputs → AllMayJoin (child_member number) naming inputs count sessions
+  pub children_join : (letters : List (List ℕ)) (outputs : Option (List (List ℕ))) (base : ℕ) (naming : Naming) (inputs count : ℕ) (sessions : List (SessionState (LineState L))) → AreNew state letters outputs base sessions → naming ≡ first_naming outputs → inputs ≡ length letters → count ≡ count_of outputs → AllMayJoin (child_member state) naming inputs count sessions
   children_join letters outputs base naming inputs count sessions new naming_is inputs_is count_is i d lt =
       let s = get_or sessions i d in
-      subst (λ (x : SessionState (LineState L)). MayJoin naming inputs count i ((child_member number) x).seen) (sym (new i d lt).0)
-      (subst (λ (n : Naming). MayJoin n inputs count i ((child_member number) (new_session i s.sul.link letters outputs)).seen) (sym naming_is) (record {
+      subst (λ (x : SessionState (LineState L)). MayJoin naming inputs count i ((child_member state) x).seen) (sym (new i d lt).0)
+      (subst (λ (n : Naming). MayJoin n inputs count i ((child_member state) (new_session i s.sul.link letters outputs)).seen) (sym naming_is) (record {
         instance = refl;
         inputs_is = sym inputs_is;
         outputs_is = sym count_is;
@@ -74,28 +75,28 @@ module _ {L : Type 0} (number : L → ℕ) where
         names = own_first outputs i;
       }))
 
-  pub seen_there : (sessions : List (SessionState (LineState L))) (p : PoolState (LineState L)) → map (child_member number) sessions ≡ p.members → (i : ℕ) (d : SessionState (LineState L)) → i < length sessions → seen_at (seen_of p) i ≡ line_seen number (get_or sessions i d)
+  pub seen_there : (sessions : List (SessionState (LineState L))) (p : PoolState (LineState L)) → map (child_member state) sessions ≡ p.members → (i : ℕ) (d : SessionState (LineState L)) → i < length sessions → seen_at (seen_of p) i ≡ line_seen state (get_or sessions i d)
   seen_there sessions p are i d lt =
       ap (λ (ms : List (Member (LineState L))). seen_at (seens ms) i) (sym are)
-      ∙ (get_or-map (λ (m : Member (LineState L)). m.seen) (map (child_member number) sessions) i ((child_member number) d) nobody (rw (length-map sessions (child_member number)) lt)
-      ∙ ap (λ (m : Member (LineState L)). m.seen) (get_or-map (child_member number) sessions i d ((child_member number) d) lt))
+      ∙ (get_or-map (λ (m : Member (LineState L)). m.seen) (map (child_member state) sessions) i ((child_member state) d) nobody (rw (length-map sessions (child_member state)) lt)
+      ∙ ap (λ (m : Member (LineState L)). m.seen) (get_or-map (child_member state) sessions i d ((child_member state) d) lt))
 
   origin_there : (seen : List Seen) (i : ℕ) (o : Origin) → i < length seen → get_or (origins_of seen) i o ≡ (seen_at seen i).origin
   origin_there seen i o lt = get_or-map (λ (s : Seen). s.origin) seen i nobody o lt
 
-  pub as_many : (sessions : List (SessionState (LineState L))) (p : PoolState (LineState L)) → map (child_member number) sessions ≡ p.members → length (seen_of p) ≡ length sessions
-  as_many sessions p are = ap (λ (ms : List (Member (LineState L))). length (seens ms)) (sym are) ∙ (length-map (map (child_member number) sessions) (λ (m : Member (LineState L)). m.seen) ∙ length-map sessions (child_member number))
+  pub as_many : (sessions : List (SessionState (LineState L))) (p : PoolState (LineState L)) → map (child_member state) sessions ≡ p.members → length (seen_of p) ≡ length sessions
+  as_many sessions p are = ap (λ (ms : List (Member (LineState L))). length (seens ms)) (sym are) ∙ (length-map (map (child_member state) sessions) (λ (m : Member (LineState L)). m.seen) ∙ length-map sessions (child_member state))
 
   -- what is seen of the sessions of children once a learning over them has ended
   pub children_seen : (letters : List (List ℕ)) (outputs : Option (List (List ℕ))) (base : ℕ) (sessions later : List (SessionState (LineState L))) (before now : PoolState (LineState L)) (stop : Option AskStop)
-      → AreNew number letters outputs base sessions → map (child_member number) sessions ≡ before.members → before.naming ≡ first_naming outputs → HasLearned before now stop → map (child_member number) later ≡ now.members
-      → (length later ≡ length sessions) × ((i : ℕ) (d : SessionState (LineState L)) → i < length later → IsChildSeen letters outputs (base + i) (line_seen number (get_or later i d)))
+      → AreNew state letters outputs base sessions → map (child_member state) sessions ≡ before.members → before.naming ≡ first_naming outputs → HasLearned before now stop → map (child_member state) later ≡ now.members
+      → (length later ≡ length sessions) × ((i : ℕ) (d : SessionState (LineState L)) → i < length later → IsChildSeen letters outputs (base + i) (line_seen state (get_or later i d)))
   children_seen letters outputs base sessions later before now stop new was naming_is learned are = (count, each)
     where
       count : length later ≡ length sessions
       count = sym (as_many later now are) ∙ (learned.sessions ∙ as_many sessions before was)
 
-      each : (i : ℕ) (d : SessionState (LineState L)) → i < length later → IsChildSeen letters outputs (base + i) (line_seen number (get_or later i d))
+      each : (i : ℕ) (d : SessionState (LineState L)) → i < length later → IsChildSeen letters outputs (base + i) (line_seen state (get_or later i d))
       each i d lt =
           let there = seen_there later now are i d lt in
           let first : i < length sessions = omega (arith, lt, count) in
@@ -107,7 +108,7 @@ module _ {L : Type 0} (number : L → ℕ) where
           ∙ (ap (λ (os : List Origin). get_or os i nobody.origin) learned.leaves.same.origins
           ∙ (origin_there (seen_of before) i nobody.origin within'
           ∙ (ap (λ (s : Seen). s.origin) (seen_there sessions before was i d first)
-          ∙ (ap (λ (s : SessionState (LineState L)). let o : Origin = record { machine = None; link = Some (number (get_or sessions i d).sul.link); letters = Some s.sul.letters } in o) made.0
+          ∙ (ap (λ (s : SessionState (LineState L)). let o : Origin = record { machine = None; link = Some (state (get_or sessions i d).sul.link).number; letters = Some s.sul.letters } in o) made.0
           ∙ ap (λ (n : ℕ). let o : Origin = record { machine = None; link = Some n; letters = Some letters } in o) made.1)))) in
           let member = learned.stands.members i within in
           let fits = fits_outputs outputs now.naming _ _ _ _ (learned.leaves.same.names ∙ ap (λ (n : Naming). declared_by n.names n.brought) naming_is) member.fits in

@@ -7,7 +7,7 @@ use Rattle.lw_words.specs.declared.stop.SulStop.{SulStop}
 use Rattle.lw_sul.specs.Names.{named}
 use Rattle.lw_sul.specs.SessionState.{IsJournal}
 use Rattle.lw_sul.specs.declared.runs.Run.{Run}
-use Rattle.lw_outside.specs.Links.{Retired, Transcript}
+use Rattle.lw_outside.specs.Links.{LinkState, Transcript}
 use Rattle.lw_desk.specs.Ending.{NamedRun, kept_runs}
 use Rattle.lw_pool.specs.Pool.{Seen, journal_runs}
 use Rattle.lw_line.specs.Causes.{IsTranscriptOf}
@@ -49,7 +49,7 @@ whole_told letters outputs names i since own most faults (Some t) runs cut owns 
 }
 
 -- nothing is left out of the transcript of a session that did not stop
-pub whole_link : (letters : List (List ℕ)) (outputs : Option (List (List ℕ))) (n : ℕ) (s : Seen) (r : Retired) (seen : IsChildSeen letters outputs n s) (bears : BearsOut s r) (names : List (List ℕ)) (i : ℕ) (since : List KeptAnswer) → s.stop ≡ None → kept_runs names i since ≡ journal_runs s.names 0 s.journal → IfTold (KeepsWhole letters outputs names i since) r.transcript
+pub whole_link : (letters : List (List ℕ)) (outputs : Option (List (List ℕ))) (n : ℕ) (s : Seen) (r : LinkState) (seen : IsChildSeen letters outputs n s) (bears : BearsOut s r) (names : List (List ℕ)) (i : ℕ) (since : List KeptAnswer) → s.stop ≡ None → kept_runs names i since ≡ journal_runs s.names 0 s.journal → IfTold (KeepsWhole letters outputs names i since) r.transcript
 whole_link letters outputs n s r seen bears names i since goes kept =
     whole_told letters outputs names i since s.names s.most r.faults r.transcript s.journal bears.cut (own letters outputs n s r seen bears)
     (subst (λ (o : Option SulStop). IsTranscriptOf letters s.names s.most r.faults o bears.cut r.transcript) goes (told letters outputs n s r seen bears))

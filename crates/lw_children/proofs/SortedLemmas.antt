@@ -15,7 +15,7 @@ use Rattle.lw_cache.specs.FirstClash.{ClashesFirst}
 use Rattle.lw_cache.specs.Known.{IsKnown}
 use Rattle.lw_cache.specs.declared.stops.AskStop.TheVariants as ask
 use Rattle.lw_cache.specs.declared.stops.Clash.{Clash}
-use Rattle.lw_outside.specs.Links.{Retired, Transcript}
+use Rattle.lw_outside.specs.Links.{LinkState, Transcript, SpawnerState}
 use Rattle.lw_desk.specs.Naming.{AreSorted, Naming}
 use Rattle.lw_desk.specs.Ending.{CameFirst, ComeUp, NamedRun, kept_runs}
 use Rattle.lw_pool.specs.Opening.{MayBegin}
@@ -34,7 +34,6 @@ use Rattle.lw_workers.specs.Machines.{IsReached, IsWithin, run_numbers}
 use Rattle.lw_children.specs.Children.{IfTold, IsCausedBy, IsOfChildren, IsOfCommand, IsOfFree, LeavesNothing}
 use Rattle.lw_children.specs.Crews.{first_naming}
 use Rattle.lw_children.specs.Keeping.{KeepsChildren, KeepsTold, KeepsWhole}
-use Rattle.lw_children.specs.Spawners.{SpawnerSeen}
 use Rattle.lw_children.proofs.StartLemmas.{none_starts}
 
 abbrev first_of : {X : Type 0} → X → List X → X
@@ -69,7 +68,7 @@ numbers_stay to i (k ∷ kept) = by (k.instance == i) (numbers_stay to i kept)
     by false rest = rest
 
 -- a transcript tells as much of kept answers that give the same runs
-told_stays : (letters : List (List ℕ)) (outputs : Option (List (List ℕ))) (before now : List (List ℕ)) (i : ℕ) (kept more : List KeptAnswer) (link : Retired) (told : Option Transcript) → kept_runs now i more ≡ kept_runs before i kept → KeepsTold letters outputs before i kept link told → KeepsTold letters outputs now i more link told
+told_stays : (letters : List (List ℕ)) (outputs : Option (List (List ℕ))) (before now : List (List ℕ)) (i : ℕ) (kept more : List KeptAnswer) (link : LinkState) (told : Option Transcript) → kept_runs now i more ≡ kept_runs before i kept → KeepsTold letters outputs before i kept link told → KeepsTold letters outputs now i more link told
 told_stays letters outputs before now i kept more link None same is = tt
 told_stays letters outputs before now i kept more link (Some t) same is = record {
   proper = is.proper;
@@ -165,18 +164,18 @@ module _ (f g : ℕ → ℕ) (r : Renames f g) (a : ℕ) (to : List ℕ) (was : 
             (first_clash_stays f g r a (answers_of (take c.second was)) (answer_at (answers_of was) c.second) c (front_are c.second) whole came.came);
       }
 
-  cause_stays : (workers : ℕ) (before later : SpawnerSeen) (links : List Retired) (stop : LearnStop) → IsCausedBy None workers before later links was stop → IsCausedBy None workers before later links now stop
+  cause_stays : (workers : ℕ) (before later : SpawnerState) (links : List LinkState) (stop : LearnStop) → IsCausedBy None workers before later links was stop → IsCausedBy None workers before later links now stop
   cause_stays workers before later links (learn.Ask (ask.Sul i s)) why = why
   cause_stays workers before later links (learn.Ask (ask.Clash c)) why = first_stays c why
   cause_stays workers before later links (learn.Ask ask.NoMemory) why = tt
   cause_stays workers before later links (learn.Crowd words) why = tt
   cause_stays workers before later links (learn.TooLarge model number) why = tt
 
-  pub causes_stay : (workers : ℕ) (before later : SpawnerSeen) (links : List Retired) (outputs : ℕ) (own : Result Learned LearnStop) → IfErr own (IsCausedBy None workers before later links was) → IfErr (renamed_learned outputs f own) (IsCausedBy None workers before later links now)
+  pub causes_stay : (workers : ℕ) (before later : SpawnerState) (links : List LinkState) (outputs : ℕ) (own : Result Learned LearnStop) → IfErr own (IsCausedBy None workers before later links was) → IfErr (renamed_learned outputs f own) (IsCausedBy None workers before later links now)
   causes_stay workers before later links outputs (Ok l) why = tt
   causes_stay workers before later links outputs (Err stop) why = cause_stays workers before later links stop why
 
-  abbrev keeps_sorted : (letters own_names names : List (List ℕ)) (links : List Retired) → KeepsChildren letters None own_names [] was links → AreAnswers (length letters) (answers_of now) → All (λ k. IsWord (length names) k.outs) now → outs_named names now ≡ outs_named own_names was → KeepsChildren letters None names [] now links
+  abbrev keeps_sorted : (letters own_names names : List (List ℕ)) (links : List LinkState) → KeepsChildren letters None own_names [] was links → AreAnswers (length letters) (answers_of now) → All (λ k. IsWord (length names) k.outs) now → outs_named names now ≡ outs_named own_names was → KeepsChildren letters None names [] now links
   keeps_sorted letters own_names names links keeps words below named = record {
     since = now;
     first = refl;
@@ -213,7 +212,7 @@ within_stays g a k most m is =
     }
 
 -- a learning over children whose outputs weren't declared, and its names sorted
-module _ (kind : Kind) (words letters : List (List ℕ)) (workers k most : ℕ) (before now : SpawnerSeen) (own learned : Result Learned LearnStop) (was : List KeptAnswer) (own_names names : List (List ℕ)) (to : List ℕ) (of : IsOfChildren kind words letters None workers k most [] before now own was own_names) (sorted : AreSorted names) where
+module _ (kind : Kind) (words letters : List (List ℕ)) (workers k most : ℕ) (before now : SpawnerState) (own learned : Result Learned LearnStop) (was : List KeptAnswer) (own_names names : List (List ℕ)) (to : List ℕ) (of : IsOfChildren kind words letters None workers k most [] before now own was own_names) (sorted : AreSorted names) where
   whole_sorted : outs_named names (renumbered_answers to was) ≡ outs_named own_names was → LeavesNothing letters None own_names of.keeps.since of.links → LeavesNothing letters None names (renumbered_answers to was) of.links
   whole_sorted named whole i d lt =
       whole_stays letters None own_names names i of.keeps.since (renumbered_answers to was) (get_or of.links i d).transcript
@@ -283,7 +282,7 @@ none_sorted = record {
 }
 
 -- no child was started: there was no memory
-none_free : (kind : Kind) (words letters : List (List ℕ)) (workers k most : ℕ) (before : SpawnerSeen) → IsOfFree kind words letters workers k most before before (Err (learn.Ask ask.NoMemory)) [] []
+none_free : (kind : Kind) (words letters : List (List ℕ)) (workers k most : ℕ) (before : SpawnerState) → IsOfFree kind words letters workers k most before before (Err (learn.Ask ask.NoMemory)) [] []
 none_free kind words letters workers k most before = record {
   links = [];
   spawner = record {
@@ -323,7 +322,7 @@ none_free kind words letters workers k most before = record {
   reached = λ m within gives quiet sound. refl;
 }
 
-pub not_begun : (kind : Kind) (words letters : List (List ℕ)) (workers k most : ℕ) (before : SpawnerSeen) (learned : Result Learned LearnStop) (kept : List KeptAnswer) (naming : Naming) → learned ≡ Err (learn.Ask ask.NoMemory) → kept ≡ [] → naming ≡ first_naming None → IsOfFree kind words letters workers k most before before learned kept naming.names
+pub not_begun : (kind : Kind) (words letters : List (List ℕ)) (workers k most : ℕ) (before : SpawnerState) (learned : Result Learned LearnStop) (kept : List KeptAnswer) (naming : Naming) → learned ≡ Err (learn.Ask ask.NoMemory) → kept ≡ [] → naming ≡ first_naming None → IsOfFree kind words letters workers k most before before learned kept naming.names
 not_begun kind words letters workers k most before learned kept naming is none names_are =
     subst (λ (r : Result Learned LearnStop). IsOfFree kind words letters workers k most before before r kept naming.names) (sym is)
     (subst (λ (ks : List KeptAnswer). IsOfFree kind words letters workers k most before before (Err (learn.Ask ask.NoMemory)) ks naming.names) (sym none)
@@ -342,7 +341,7 @@ pub none_clashes : (prior : List KeptAnswer) → prior ≡ [] → NothingClashes
 none_clashes prior none = subst (λ (ks : List KeptAnswer). NothingClashes (answers_of ks)) (sym none) (λ i j d lt within. absurd (omega (arith, within)))
 
 -- a learning over children by a command, by whether its outputs were declared
-module _ (kind : Kind) (words letters : List (List ℕ)) (outputs : Option (List (List ℕ))) (workers k most : ℕ) (prior : List KeptAnswer) (before now : SpawnerSeen) (learned : Result Learned LearnStop) (kept : List KeptAnswer) where
+module _ (kind : Kind) (words letters : List (List ℕ)) (outputs : Option (List (List ℕ))) (workers k most : ℕ) (prior : List KeptAnswer) (before now : SpawnerState) (learned : Result Learned LearnStop) (kept : List KeptAnswer) where
   abbrev some_names : List (List ℕ) → Option (List (List ℕ)) → List (List ℕ)
   some_names d None = d
   some_names d (Some ns) = ns
@@ -363,5 +362,5 @@ module _ (kind : Kind) (words letters : List (List ℕ)) (outputs : Option (List
   of_free names none empty of = subst (λ (o : Option (List (List ℕ))). IsOfCommand kind words letters o workers k most prior before now learned kept names) (sym none) (empty, of)
 
 -- a learning that began with nothing kept, over outputs that weren't declared
-pub without_outputs : (kind : Kind) (words letters : List (List ℕ)) (outputs : Option (List (List ℕ))) (workers k most : ℕ) (prior : List KeptAnswer) (before now : SpawnerSeen) (learned : Result Learned LearnStop) (kept : List KeptAnswer) (names : List (List ℕ)) → outputs ≡ None → prior ≡ [] → IsOfChildren kind words letters outputs workers k most prior before now learned kept names → IsOfChildren kind words letters None workers k most [] before now learned kept names
+pub without_outputs : (kind : Kind) (words letters : List (List ℕ)) (outputs : Option (List (List ℕ))) (workers k most : ℕ) (prior : List KeptAnswer) (before now : SpawnerState) (learned : Result Learned LearnStop) (kept : List KeptAnswer) (names : List (List ℕ)) → outputs ≡ None → prior ≡ [] → IsOfChildren kind words letters outputs workers k most prior before now learned kept names → IsOfChildren kind words letters None workers k most [] before now learned kept names
 without_outputs kind words letters outputs workers k most prior before now learned kept names none empty of = subst₂ (λ (o : Option (List (List ℕ))) (ks : List KeptAnswer). IsOfChildren kind words letters o workers k most ks before now learned kept names) none empty of

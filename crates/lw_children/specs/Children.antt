@@ -8,7 +8,7 @@ use Rattle.lw_words.specs.declared.stop.SulStop.{SulStop}
 use Rattle.lw_words.specs.declared.stop.SulStop.TheVariants.{Failed, BadLine, Gone}
 use Rattle.lw_mealy.specs.Gives.{Gives}
 use Rattle.lw_mealy.specs.Machine.{Rows}
-use Rattle.lw_outside.specs.Links.{Retired, Transcript}
+use Rattle.lw_outside.specs.Links.{LinkState, Transcript, SpawnerState}
 use Rattle.lw_cache.specs.declared.stops.AskStop.TheVariants as ask
 use Rattle.lw_desk.specs.Ending.{CameFirst, ComeUp}
 use Rattle.lw_desk.specs.Naming.{AreSorted}
@@ -21,7 +21,7 @@ use Rattle.lw_rounds.specs.declared.stops.LearnStop.TheVariants as learn
 use Rattle.lw_workers.specs.Machines.{IsReached, IsWithin}
 use Rattle.lw_line.specs.Causes.{EndsWithin, IsRefused}
 use Rattle.lw_children.specs.Keeping.{AreOwn, KeepsChildren, KeepsWhole, count_of, most_of}
-use Rattle.lw_children.specs.Spawners.{SpawnerSeen, StartsAndRetires}
+use Rattle.lw_children.specs.Spawners.{StartsAndRetires}
 
 -- where the transcript of a link is told, it is such a one
 abbrev pub IfTold : (Transcript → Type 0) → Option Transcript → Type 0
@@ -33,19 +33,19 @@ abbrev pub HasRefused : Option (List (List ℕ)) → List ℕ → Transcript →
 HasRefused outputs line t = (own : List (List ℕ)) × AreOwn outputs own t × IsRefused own (most_of outputs) t line
 
 -- why the child of an instance stopped, by the record of its link
-abbrev pub IsStopped : Option (List (List ℕ)) → SulStop → Retired → Type 0
+abbrev pub IsStopped : Option (List (List ℕ)) → SulStop → LinkState → Type 0
 IsStopped outputs Failed link = CountedFault 0 link.faults
 IsStopped outputs Gone link = CountedFault 0 link.ends × IfTold EndsWithin link.transcript
 IsStopped outputs (BadLine line) link = IfTold (HasRefused outputs line) link.transcript
 
 -- the one whose link is not there could not be started; of the others the record says why
-abbrev pub IsChildStop : Option (List (List ℕ)) → SpawnerSeen → SpawnerSeen → List Retired → ℕ → SulStop → Type 0
+abbrev pub IsChildStop : Option (List (List ℕ)) → SpawnerState → SpawnerState → List LinkState → ℕ → SulStop → Type 0
 IsChildStop outputs before now links i stop =
     ((stop ≡ Failed) × (length links ≡ i) × CountedFault before.faults now.faults)
-    ⊎ ((i < length links) × ((d : Retired) → IsStopped outputs stop (slice_index_or links i d)))
+    ⊎ ((i < length links) × ((d : LinkState) → IsStopped outputs stop (slice_index_or links i d)))
 
 -- what bears out why a learning over children stopped
-abbrev pub IsCausedBy : Option (List (List ℕ)) → ℕ → SpawnerSeen → SpawnerSeen → List Retired → List KeptAnswer → LearnStop → Type 0
+abbrev pub IsCausedBy : Option (List (List ℕ)) → ℕ → SpawnerState → SpawnerState → List LinkState → List KeptAnswer → LearnStop → Type 0
 IsCausedBy outputs workers before now links kept (learn.Ask (ask.Sul i stop)) = (i < workers) × IsChildStop outputs before now links i stop
 IsCausedBy outputs workers before now links kept (learn.Ask (ask.Clash clash)) = CameFirst kept clash
 IsCausedBy outputs workers before now links kept (learn.Ask ask.NoMemory) = Unit {0}
@@ -53,7 +53,7 @@ IsCausedBy outputs workers before now links kept (learn.Crowd words) = Unit {0}
 IsCausedBy outputs workers before now links kept (learn.TooLarge model number) = Unit {0}
 
 -- nothing is wrong with a link: it neither failed nor ended, its transcript is told, and nothing in it is refused
-pub record IsSound (outputs : Option (List (List ℕ))) (link : Retired) : Type 0 where
+pub record IsSound (outputs : Option (List (List ℕ))) (link : LinkState) : Type 0 where
   pub faults : ¬ CountedFault 0 link.faults
   pub ends : ¬ CountedFault 0 link.ends
   pub transcript : Transcript
@@ -61,14 +61,14 @@ pub record IsSound (outputs : Option (List (List ℕ))) (link : Retired) : Type 
   pub good : (line : List ℕ) → ¬ HasRefused outputs line transcript
 
 -- nothing is left out of what the transcripts of these links tell
-abbrev pub LeavesNothing : (letters : List (List ℕ)) (outputs : Option (List (List ℕ))) (names : List (List ℕ)) (since : List KeptAnswer) → List Retired → Type 0
-LeavesNothing letters outputs names since links = (i : ℕ) (d : Retired) → i < length links → IfTold (KeepsWhole letters outputs names i since) (slice_index_or links i d).transcript
+abbrev pub LeavesNothing : (letters : List (List ℕ)) (outputs : Option (List (List ℕ))) (names : List (List ℕ)) (since : List KeptAnswer) → List LinkState → Type 0
+LeavesNothing letters outputs names since links = (i : ℕ) (d : LinkState) → i < length links → IfTold (KeepsWhole letters outputs names i since) (slice_index_or links i d).transcript
 
 -- a learning over children with letters and perhaps outputs of these names, that began with prior answers; the names are those of
 -- the kept answers' outputs
-pub record IsOfChildren (kind : Kind) (words letters : List (List ℕ)) (outputs : Option (List (List ℕ))) (workers k most : ℕ) (prior : List KeptAnswer) (before now : SpawnerSeen) (learned : Result Learned LearnStop) (kept : List KeptAnswer) (names : List (List ℕ)) : Type 0 where
+pub record IsOfChildren (kind : Kind) (words letters : List (List ℕ)) (outputs : Option (List (List ℕ))) (workers k most : ℕ) (prior : List KeptAnswer) (before now : SpawnerState) (learned : Result Learned LearnStop) (kept : List KeptAnswer) (names : List (List ℕ)) : Type 0 where
   -- the children: started in order, and all retired in that order
-  pub links : List Retired
+  pub links : List LinkState
   pub spawner : StartsAndRetires words before now links
   pub few : length links ≤ workers
   pub all : OnOk learned (length links ≡ workers)
@@ -89,8 +89,8 @@ pub record IsOfChildren (kind : Kind) (words letters : List (List ℕ)) (outputs
 
 -- the same where outputs weren't declared, with the names sorted by bytes in the end: the kept answers and the model have their
 -- new numbers
-pub record IsOfFree (kind : Kind) (words letters : List (List ℕ)) (workers k most : ℕ) (before now : SpawnerSeen) (learned : Result Learned LearnStop) (kept : List KeptAnswer) (names : List (List ℕ)) : Type 0 where
-  pub links : List Retired
+pub record IsOfFree (kind : Kind) (words letters : List (List ℕ)) (workers k most : ℕ) (before now : SpawnerState) (learned : Result Learned LearnStop) (kept : List KeptAnswer) (names : List (List ℕ)) : Type 0 where
+  pub links : List LinkState
   pub spawner : StartsAndRetires words before now links
   pub few : length links ≤ workers
   pub all : OnOk learned (length links ≡ workers)
@@ -115,6 +115,6 @@ pub record IsOfFree (kind : Kind) (words letters : List (List ℕ)) (workers k m
       IsReached (length m) learned
 
 -- a learning over children by a command, whose outputs were declared or not; prior answers come with declared ones alone
-abbrev pub IsOfCommand : Kind → (words letters : List (List ℕ)) → Option (List (List ℕ)) → (workers k most : ℕ) → List KeptAnswer → (before now : SpawnerSeen) → Result Learned LearnStop → List KeptAnswer → List (List ℕ) → Type 0
+abbrev pub IsOfCommand : Kind → (words letters : List (List ℕ)) → Option (List (List ℕ)) → (workers k most : ℕ) → List KeptAnswer → (before now : SpawnerState) → Result Learned LearnStop → List KeptAnswer → List (List ℕ) → Type 0
 IsOfCommand kind words letters None workers k most prior before now learned kept names = (prior ≡ []) × IsOfFree kind words letters workers k most before now learned kept names
 IsOfCommand kind words letters (Some outputs) workers k most prior before now learned kept names = (names ≡ outputs) × IsOfChildren kind words letters (Some outputs) workers k most prior before now learned kept names

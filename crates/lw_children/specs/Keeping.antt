@@ -6,7 +6,7 @@ use Rattle.lw_words.specs.Cause.{CountedFault}
 use Rattle.lw_words.specs.Name.{AllDiffer}
 use Rattle.lw_words.specs.declared.kept.KeptAnswer.{KeptAnswer}
 use Rattle.lw_sul.specs.declared.runs.Run.{Run}
-use Rattle.lw_outside.specs.Links.{Retired, Transcript}
+use Rattle.lw_outside.specs.Links.{LinkState, Transcript}
 use Rattle.lw_desk.specs.Ending.{kept_runs}
 use Rattle.lw_pool.specs.Pool.{AskedOnce, journal_runs}
 use Rattle.lw_line.specs.Causes.{IsRefused, IsToldName}
@@ -29,7 +29,7 @@ AreOwn None own t = (length own ≤ 256) × AllDiffer own × All (IsToldName t) 
 AreOwn (Some names) own t = own ≡ names
 
 -- the record of a link says why it was of no more use: it failed, it ended, or what came last over it was refused
-abbrev pub IsBroken : (own : List (List ℕ)) (most : ℕ) → Retired → Transcript → Type 0
+abbrev pub IsBroken : (own : List (List ℕ)) (most : ℕ) → LinkState → Transcript → Type 0
 IsBroken own most link t = CountedFault 0 link.faults ⊎ CountedFault 0 link.ends ⊎ ((line : List ℕ) × IsRefused own most t line)
 
 -- the finished ones of some runs: all of them, or, where a step cut the last one off, all before that
@@ -40,7 +40,7 @@ AreFinished true runs finished = (r : Run) × (runs ≡ finished ++ r ∷ [])
 -- the kept answers of an instance are the runs that the transcript of its link spells, by the names of their outputs and
 -- numbered from 0: all of them, where all that was sent is lines of these runs, or where the link broke in a reset; where it
 -- broke in a step, all but the last one, which that cut off
-pub record KeepsTranscript (letters : List (List ℕ)) (outputs : Option (List (List ℕ))) (names : List (List ℕ)) (instance : ℕ) (since : List KeptAnswer) (link : Retired) (t : Transcript) : Type 0 where
+pub record KeepsTranscript (letters : List (List ℕ)) (outputs : Option (List (List ℕ))) (names : List (List ℕ)) (instance : ℕ) (since : List KeptAnswer) (link : LinkState) (t : Transcript) : Type 0 where
   pub proper : IsProper letters link.faults t
   -- the names of the child's outputs, in the order in which they came where they weren't declared
   pub own : List (List ℕ)
@@ -51,7 +51,7 @@ pub record KeepsTranscript (letters : List (List ℕ)) (outputs : Option (List (
       (SpellsAll letters own t × (spelled letters own t ≡ runs))
       ⊎ (IsBroken own (most_of outputs) link t × ((cut : Bool) × BreaksIn letters own link.faults cut t × AreFinished cut (spelled letters own t) runs))
 
-abbrev pub KeepsTold : List (List ℕ) → Option (List (List ℕ)) → List (List ℕ) → ℕ → List KeptAnswer → Retired → Option Transcript → Type 0
+abbrev pub KeepsTold : List (List ℕ) → Option (List (List ℕ)) → List (List ℕ) → ℕ → List KeptAnswer → LinkState → Option Transcript → Type 0
 KeepsTold letters outputs names instance since link None = Unit {0}
 KeepsTold letters outputs names instance since link (Some t) = KeepsTranscript letters outputs names instance since link t
 
@@ -65,13 +65,13 @@ pub record KeepsWhole (letters : List (List ℕ)) (outputs : Option (List (List 
 
 -- the kept answers are the prior ones and then, for each link, the runs of its transcript, where that is told; the runs of each
 -- instance are 0, 1, 2 and so on, told or not; the word of none was known when it was asked
-pub record KeepsChildren (letters : List (List ℕ)) (outputs : Option (List (List ℕ))) (names : List (List ℕ)) (prior kept : List KeptAnswer) (links : List Retired) : Type 0 where
+pub record KeepsChildren (letters : List (List ℕ)) (outputs : Option (List (List ℕ))) (names : List (List ℕ)) (prior kept : List KeptAnswer) (links : List LinkState) : Type 0 where
   pub since : List KeptAnswer
   pub first : kept ≡ prior ++ since
   pub instances : All (λ k. k.instance < length links) since
   pub numbered : (i : ℕ) → i < length links →
       run_numbers i since ≡ range_with_len 0 (length (run_numbers i since))
-  pub runs : (i : ℕ) (d : Retired) → i < length links →
+  pub runs : (i : ℕ) (d : LinkState) → i < length links →
       let link = slice_index_or links i d in KeepsTold letters outputs names i since link
       link.transcript
   pub words : AreAnswers (length letters) (answers_of kept)

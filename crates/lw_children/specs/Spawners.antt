@@ -1,24 +1,17 @@
 -- What contracts see of a spawner, and what a call leaves of it.
 use Rattle.std.specs.Prelude.{◌≡◌, ◌⊎◌, ℕ, ◌+◌, ◌<◌, ◌≤◌, List, ◌++◌, length, slice_index_or, replicate, Option, option_map}
 use Rattle.lw_words.specs.Cause.{CountedFault}
-use Rattle.lw_outside.specs.Links.{Retired}
-
--- how often its starts failed, how many links it started, those that it retired, and the words of its starts, where told
-pub record SpawnerSeen : Type 0 where
-  pub faults : ℕ
-  pub started : ℕ
-  pub retired : List Retired
-  pub commands : Option (List (List (List ℕ)))
+use Rattle.lw_outside.specs.Links.{LinkState, SpawnerState}
 
 -- told commands of starts, and the same one so many times
 abbrev pub with_starts : ℕ → List (List ℕ) → Option (List (List (List ℕ))) → Option (List (List (List ℕ)))
 with_starts n words commands = option_map (λ cs. cs ++ replicate n words) commands
 
 -- a call started these links by the words, one after the other, and retired them all, in the order of their starting
-pub record StartsAndRetires (words : List (List ℕ)) (before now : SpawnerSeen) (links : List Retired) : Type 0 where
+pub record StartsAndRetires (words : List (List ℕ)) (before now : SpawnerState) (links : List LinkState) : Type 0 where
   pub started : now.started ≡ before.started + length links
   pub retired : now.retired ≡ before.retired ++ links
-  pub numbers : (i : ℕ) (d : Retired) → i < length links →
+  pub numbers : (i : ℕ) (d : LinkState) → i < length links →
       (slice_index_or links i d).number ≡ before.started + i
   pub counts : before.faults ≤ now.faults
   pub starts : ℕ
@@ -27,18 +20,15 @@ pub record StartsAndRetires (words : List (List ℕ)) (before now : SpawnerSeen)
   pub each : (starts ≡ length links) ⊎ ((starts ≡ length links + 1) ×
       CountedFault before.faults now.faults)
 
-abbrev pub spawner_seen : ℕ → ℕ → List Retired → Option (List (List (List ℕ))) → SpawnerSeen
-spawner_seen faults started retired commands = record { faults = faults; started = started; retired = retired; commands = commands }
-
 -- so many links were started by the words, no start failed, and none was retired
-pub record Starts (words : List (List ℕ)) (before now : SpawnerSeen) (links : ℕ) : Type 0 where
+pub record Starts (words : List (List ℕ)) (before now : SpawnerState) (links : ℕ) : Type 0 where
   pub started : now.started ≡ before.started + links
   pub retired : now.retired ≡ before.retired
   pub faults : now.faults ≡ before.faults
   pub commands : now.commands ≡ with_starts links words before.commands
 
 -- and then perhaps one that failed
-pub record StartsSome (words : List (List ℕ)) (before now : SpawnerSeen) (links : ℕ) : Type 0 where
+pub record StartsSome (words : List (List ℕ)) (before now : SpawnerState) (links : ℕ) : Type 0 where
   pub started : now.started ≡ before.started + links
   pub retired : now.retired ≡ before.retired
   pub counts : before.faults ≤ now.faults

@@ -7,21 +7,8 @@ use lw_line::LineSul;
 use lw_outside::Link;
 use lw_rounds::{LearnStop, Learned};
 use lw_sul::Session;
-use lw_words::Line;
+use lw_workers::CutRun;
 use std::alloc::Global;
-
-/// The run in which a child stopped, for a log that a person reads.
-#[derive(Drop)]
-pub struct CutRun {
-    /// The number of the child's session.
-    pub instance: u32,
-    /// The letters that it was sent since its last reset, the last of them perhaps in vain.
-    pub asked: Vec<u16>,
-    /// The line that it answered last.
-    pub received: Option<Line>,
-    /// The bytes behind that line.
-    pub rest: Line,
-}
 
 /// The session whose system ended a learning.
 fn stopped_instance(learned: &Result<Learned, LearnStop>) -> Option<u32>

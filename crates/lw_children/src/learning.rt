@@ -13,37 +13,26 @@ ghost use Rattle.lw_children.specs.Children.{IsOfChildren};
 ghost use Rattle.lw_children.specs.Crews.{AreLinkedWith, HasRetired, IsChildrenPool, RetiresWith, first_naming};
 ghost use Rattle.lw_children.specs.Cuts.{IsStopOf};
 ghost use Rattle.lw_children.specs.Keeping.{count_of};
-ghost use Rattle.lw_children.specs.Spawners.{spawner_seen};
 ghost use Rattle.lw_children.specs.bodies.Ends.{broken_stop};
 
 use crate::cut::cut_off;
-use crate::{Broken, Command, CutRun, Refusal, retire_all, retire_with, start_all};
+use crate::{Broken, Command, Refusal, retire_all, retire_with, start_all};
 use lw_cache::{AskStop, Cache};
 use lw_desk::OutNames;
 use lw_line::LineSul;
 use lw_outside::Spawner;
 use lw_pool::Pool;
 use lw_rounds::{
-    Kind, LearnStop, Learned, Watcher, model_is_least, too_large_for_all, too_many_is_none,
+    LearnStop, Settings, Watcher, model_is_least, too_large_for_all, too_many_is_none,
 };
-use lw_words::{Kept, Names, NoMemory, SulStop, Word};
-use lw_workers::{LearnedWith, learn_with};
+use lw_words::{Names, NoMemory, SulStop, Word};
+use lw_workers::{LearnedWith, LearningOutcome, Start, learn_with};
 use std::alloc::Global;
 use std::sync::Wait;
 use std::thread::Threads;
 
 /// The greatest number of outputs where their names come as they are met.
 const FREE_OUTPUTS: u16 = 4096;
-
-/// What came of a learning over children, their answers behind the prior ones, and the names of the answers' outputs.
-#[derive(Drop)]
-pub struct LearnedChildren {
-    pub learned: Result<Learned, LearnStop>,
-    pub kept: Kept,
-    pub names: OutNames,
-    /// The run in which a child stopped, where that ended the learning. None too where memory ran out for it.
-    pub cut: Option<CutRun>,
-}
 
 /// Why a learning stops where this many sessions were made and then no more.
 fn stop_of(refusal: Refusal, made: usize) -> LearnStop
@@ -76,27 +65,22 @@ fn give_up<P: Spawner>(
     broken: Broken<P::Link>,
     names: OutNames,
     cache: Cache,
-) -> LearnedChildren
+) -> LearningOutcome
     requires few { length broken.sessions.items < 16 }
-    requires linked { AreLinkedWith P.Link.number broken.sessions.items broken.unmade.link
-        (spawner_seen (P.faults spawner.old) (P.started spawner.old) (P.retired spawner.old)
-        (P.commands spawner.old)) }
+    requires linked { AreLinkedWith P.Link.state broken.sessions.items broken.unmade.link
+        (P.state spawner.old) }
     ensures learned { result.learned ≡ Err (broken_stop broken.unmade.refusal
         (length broken.sessions.items)) }
     ensures kept { result.kept.answers ≡ cache.kept }
     ensures names { result.names ≡ names }
     ensures cut { result.cut ≡ None }
-    ensures retires { RetiresWith P.Link.number P.Link.faults P.Link.ends P.Link.transcript
-        broken.sessions.items broken.unmade.link
-        (spawner_seen (P.faults spawner.old) (P.started spawner.old) (P.retired spawner.old)
-        (P.commands spawner.old))
-        (spawner_seen (P.faults spawner.new) (P.started spawner.new) (P.retired spawner.new)
-        (P.commands spawner.new)) }
+    ensures retires { RetiresWith P.Link.state broken.sessions.items broken.unmade.link
+        (P.state spawner.old) (P.state spawner.new) }
 {
     let Broken { sessions, unmade } = broken;
     let learned = Err(stop_of(unmade.refusal, sessions.len()));
     retire_with(spawner, sessions, unmade.link);
-    LearnedChildren {
+    LearningOutcome {
         learned,
         kept: cache.into_kept(),
         names,
@@ -110,37 +94,27 @@ fn learn_and_retire<P: Spawner, R: Threads + Wait + Sync + Drop, W: Watcher>(
     alloc: Global,
     pool: Pool<LineSul<P::Link>, R>,
     words: &[Word],
-    kind: Kind,
-    extra: u8,
-    max_states: u16,
+    settings: Settings,
     watcher: &mut W,
-) -> LearnedChildren
+) -> LearningOutcome
     requires may { MayAsk pool.stop }
     requires nothing { NothingClashes (answers_of pool.kept) }
     requires letters { (1 ≤ pool.inputs) × (pool.inputs ≤ 64) }
     requires signs { (1 ≤ pool.outputs) × (pool.outputs ≤ 4096) }
     requires named_letters { All (IsWord pool.inputs) words.now }
     requires named_few { length words.now < 2 ^ 32 }
-    requires few { extra ≤ 4 }
-    requires most { (1 ≤ max_states) × (max_states ≤ 1024) }
-    requires children { IsChildrenPool P.Link.number
-        (spawner_seen (P.faults spawner.old) (P.started spawner.old) (P.retired spawner.old)
-        (P.commands spawner.old)) pool }
+    requires children { IsChildrenPool P.Link.state (P.state spawner.old) pool }
     ensures asked { OnOk result.learned (AnswersWords words.now result.kept.answers) }
     ensures cut { IfSome result.cut (λ run. IsStopOf run.instance result.learned) }
-    ensures ended { HasRetired kind P.Link.number extra max_states pool
-        (spawner_seen (P.faults spawner.old) (P.started spawner.old) (P.retired spawner.old)
-        (P.commands spawner.old))
-        (spawner_seen (P.faults spawner.new) (P.started spawner.new) (P.retired spawner.new)
-        (P.commands spawner.new)) result.learned result.kept.answers result.names }
+    ensures ended { HasRetired settings.kind P.Link.state settings.extra settings.max_states
+        pool (P.state spawner.old) (P.state spawner.new) result.learned result.kept.answers
+        result.names }
 {
-    let LearnedWith { learned, pool } = learn_with(
-        pool, alloc, words, kind, extra, max_states, watcher,
-    );
+    let LearnedWith { learned, pool } = learn_with(pool, alloc, words, settings, watcher);
     let (sessions, names, cache) = pool.into_parts();
     let cut = cut_off(alloc, &sessions, &learned);
     retire_all(spawner, sessions);
-    LearnedChildren {
+    LearningOutcome {
         learned,
         kept: cache.into_kept(),
         names,
@@ -155,55 +129,48 @@ pub(crate) fn learn_over<P: Spawner, R: Threads + Wait + Sync + Drop, W: Watcher
     alloc: Global,
     spawner: &mut P,
     command: &Command,
-    names: OutNames,
-    cache: Cache,
-    words: &[Word],
-    workers: u8,
-    kind: Kind,
-    extra: u8,
-    max_states: u16,
+    start: Start,
+    settings: Settings,
     watcher: &mut W,
-) -> LearnedChildren
+) -> LearningOutcome
     requires words { 0 < length command.now.words }
     requires letters { length command.now.inputs ≤ 64 }
-    requires named { names ≡ first_naming command.now.outputs }
-    requires unclaimed { cache.claims ≡ [] }
-    requires nothing { NothingClashes (answers_of cache.kept) }
-    requires prior { MayBegin names (length command.now.inputs) (count_of command.now.outputs)
-        cache.kept }
-    requires workers { (1 ≤ workers) × (workers ≤ 16) }
-    requires named_letters { All (IsWord (length command.now.inputs)) words.now }
-    requires named_few { length words.now < 2 ^ 32 }
-    requires few { extra ≤ 4 }
-    requires most { (1 ≤ max_states) × (max_states ≤ 1024) }
-    ensures found { IsOfChildren kind command.now.words command.now.inputs command.now.outputs
-        workers extra max_states cache.kept
-        (spawner_seen (P.faults spawner.old) (P.started spawner.old) (P.retired spawner.old)
-        (P.commands spawner.old))
-        (spawner_seen (P.faults spawner.new) (P.started spawner.new) (P.retired spawner.new)
-        (P.commands spawner.new)) result.learned result.kept.answers result.names.names }
+    requires named { start.names ≡ first_naming command.now.outputs }
+    requires unclaimed { start.cache.claims ≡ [] }
+    requires nothing { NothingClashes (answers_of start.cache.kept) }
+    requires prior { MayBegin start.names (length command.now.inputs) (count_of command.now.outputs)
+        start.cache.kept }
+    requires named_letters { All (IsWord (length command.now.inputs)) start.words }
+    requires named_few { length start.words < 2 ^ 32 }
+    ensures found { IsOfChildren settings.kind command.now.words command.now.inputs
+        command.now.outputs settings.workers settings.extra settings.max_states start.cache.kept
+        (P.state spawner.old) (P.state spawner.new) result.learned result.kept.answers
+        result.names.names }
     ensures sharing { declared_by result.names.names result.names.brought ≡
-        declared_by names.names names.brought }
+        declared_by start.names.names start.names.brought }
     ensures come_up { FreeComeUp result.kept.answers result.names }
-    ensures asked { OnOk result.learned (AnswersWords words.now result.kept.answers) }
+    ensures asked { OnOk result.learned (AnswersWords start.words result.kept.answers) }
     ensures cut { IfSome result.cut (λ run. IsStopOf run.instance result.learned) }
 {
     model_is_least();
     too_many_is_none();
     too_large_for_all();
-    let sessions = match start_all(alloc, spawner, command, workers) {
+    let Start {
+        names,
+        cache,
+        words,
+    } = start;
+    let sessions = match start_all(alloc, spawner, command, settings.workers) {
         Ok(sessions) => sessions,
         Err(broken) => return give_up(spawner, broken, names, cache),
     };
     let inputs = command.inputs.len() as u16;
     let outputs = count_outputs(&command.outputs);
     match Pool::new(rt, alloc, inputs, outputs, sessions, names, cache) {
-        Ok(pool) => learn_and_retire(
-            spawner, alloc, pool, words, kind, extra, max_states, watcher,
-        ),
+        Ok(pool) => learn_and_retire(spawner, alloc, pool, words.as_slice(), settings, watcher),
         Err((sessions, names, cache, NoMemory)) => {
             retire_all(spawner, sessions);
-            LearnedChildren {
+            LearningOutcome {
                 learned: Err(LearnStop::from(NoMemory)),
                 kept: cache.into_kept(),
                 names,

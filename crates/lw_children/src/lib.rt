@@ -10,8 +10,6 @@ mod sorted;
 mod starting;
 
 pub use command::Command;
-pub use cut::CutRun;
-pub use learning::LearnedChildren;
 pub use retiring::{retire_all, retire_with};
 pub use sorted::learn_children;
 pub use starting::{Broken, Refusal, Unmade, start_all};

@@ -1,7 +1,6 @@
 //! The retiring of the links of sessions.
 ghost use Rattle.std.specs.Prelude.{◌≡◌};
-ghost use Rattle.lw_children.specs.Spawners.{spawner_seen};
-ghost use Rattle.lw_children.specs.Crews.{AreLinked, AreLinkedWith, BearsOut, RetiresAll, RetiresWith, line_seen, retired_of};
+ghost use Rattle.lw_children.specs.Crews.{AreLinked, AreLinkedWith, BearsOut, RetiresAll, RetiresWith, line_seen};
 
 use lw_line::LineSul;
 use lw_outside::{Link, Spawner};
@@ -10,8 +9,7 @@ use lw_sul::{Session, Sul};
 /// The link of a session that is at its end.
 fn link_of<L: Link + Drop>(session: Session<LineSul<L>>) -> L
     ensures link { result ≡ session.sul.link }
-    ensures bears { BearsOut (line_seen L.number session)
-        (retired_of L.number L.faults L.ends L.transcript result) }
+    ensures bears { BearsOut (line_seen L.state session) (L.state result) }
 {
     // for the proof alone: what the system's runs are, and that its names are few
     let _runs = session.runs();
@@ -21,14 +19,8 @@ fn link_of<L: Link + Drop>(session: Session<LineSul<L>>) -> L
 
 /// Retires the links of sessions, in their order. May wait for the children's ends.
 pub fn retire_all<P: Spawner>(spawner: &mut P, sessions: Vec<Session<LineSul<P::Link>>>)
-    requires linked { AreLinked P.Link.number sessions.items
-        (spawner_seen (P.faults spawner.old) (P.started spawner.old) (P.retired spawner.old)
-        (P.commands spawner.old)) }
-    ensures { RetiresAll P.Link.number sessions.items
-        (spawner_seen (P.faults spawner.old) (P.started spawner.old) (P.retired spawner.old)
-        (P.commands spawner.old))
-        (spawner_seen (P.faults spawner.new) (P.started spawner.new) (P.retired spawner.new)
-        (P.commands spawner.new)) }
+    requires linked { AreLinked P.Link.state sessions.items (P.state spawner.old) }
+    ensures { RetiresAll P.Link.state sessions.items (P.state spawner.old) (P.state spawner.new) }
 {
     for session in sessions {
         let link = link_of(session);
@@ -42,15 +34,9 @@ pub fn retire_with<P: Spawner>(
     sessions: Vec<Session<LineSul<P::Link>>>,
     loose: Option<P::Link>,
 )
-    requires linked { AreLinkedWith P.Link.number sessions.items loose
-        (spawner_seen (P.faults spawner.old) (P.started spawner.old) (P.retired spawner.old)
-        (P.commands spawner.old)) }
-    ensures { RetiresWith P.Link.number P.Link.faults P.Link.ends P.Link.transcript sessions.items
-        loose
-        (spawner_seen (P.faults spawner.old) (P.started spawner.old) (P.retired spawner.old)
-        (P.commands spawner.old))
-        (spawner_seen (P.faults spawner.new) (P.started spawner.new) (P.retired spawner.new)
-        (P.commands spawner.new)) }
+    requires linked { AreLinkedWith P.Link.state sessions.items loose (P.state spawner.old) }
+    ensures { RetiresWith P.Link.state sessions.items loose (P.state spawner.old)
+        (P.state spawner.new) }
 {
     retire_all(spawner, sessions);
     if let Some(link) = loose {

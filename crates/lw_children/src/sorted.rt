@@ -10,16 +10,14 @@ ghost use Rattle.lw_children.specs.Children.{IsOfCommand, IsOfFree};
 ghost use Rattle.lw_children.specs.Crews.{first_naming};
 ghost use Rattle.lw_children.specs.Cuts.{IsStopOf};
 ghost use Rattle.lw_children.specs.Keeping.{count_of};
-ghost use Rattle.lw_children.specs.Spawners.{spawner_seen};
 
+use crate::Command;
 use crate::learning::learn_over;
-use crate::{Command, LearnedChildren};
-use lw_cache::Cache;
-use lw_desk::OutNames;
 use lw_outside::Spawner;
 use lw_renumber::sort_outputs;
-use lw_rounds::{Kind, LearnStop, Watcher};
-use lw_words::{NoMemory, Word};
+use lw_rounds::{LearnStop, Settings, Watcher};
+use lw_words::NoMemory;
+use lw_workers::{LearningOutcome, Start};
 use std::alloc::Global;
 use std::sync::Wait;
 use std::thread::Threads;
@@ -40,54 +38,42 @@ fn learn_free<P: Spawner, R: Threads + Wait + Sync + Drop, W: Watcher>(
     alloc: Global,
     spawner: &mut P,
     command: &Command,
-    names: OutNames,
-    cache: Cache,
-    words: &[Word],
-    workers: u8,
-    kind: Kind,
-    extra: u8,
-    max_states: u16,
+    start: Start,
+    settings: Settings,
     watcher: &mut W,
-) -> LearnedChildren
+) -> LearningOutcome
     requires words { 0 < length command.now.words }
     requires letters { length command.now.inputs ≤ 64 }
     requires free { command.now.outputs ≡ None }
-    requires named { names ≡ first_naming None }
-    requires unclaimed { cache.claims ≡ [] }
-    requires none { cache.kept ≡ [] }
-    requires workers { (1 ≤ workers) × (workers ≤ 16) }
-    requires named_letters { All (IsWord (length command.now.inputs)) words.now }
-    requires named_few { length words.now < 2 ^ 32 }
-    requires few { extra ≤ 4 }
-    requires most { (1 ≤ max_states) × (max_states ≤ 1024) }
-    ensures asked { OnOk result.learned (AnswersWords words.now result.kept.answers) }
+    requires named { start.names ≡ first_naming None }
+    requires unclaimed { start.cache.claims ≡ [] }
+    requires none { start.cache.kept ≡ [] }
+    requires named_letters { All (IsWord (length command.now.inputs)) start.words }
+    requires named_few { length start.words < 2 ^ 32 }
+    ensures asked { OnOk result.learned (AnswersWords start.words result.kept.answers) }
     ensures cut { IfSome result.cut (λ run. IsStopOf run.instance result.learned) }
-    ensures found { IsOfFree kind command.now.words command.now.inputs workers extra max_states
-        (spawner_seen (P.faults spawner.old) (P.started spawner.old) (P.retired spawner.old)
-        (P.commands spawner.old))
-        (spawner_seen (P.faults spawner.new) (P.started spawner.new) (P.retired spawner.new)
-        (P.commands spawner.new)) result.learned result.kept.answers result.names.names }
+    ensures found { IsOfFree settings.kind command.now.words command.now.inputs
+        settings.workers settings.extra settings.max_states (P.state spawner.old)
+        (P.state spawner.new) result.learned result.kept.answers result.names.names }
 {
     let mut to = match new_numbers(alloc) {
         Ok(to) => to,
-        Err(NoMemory) => return LearnedChildren {
+        Err(NoMemory) => return LearningOutcome {
             learned: Err(LearnStop::from(NoMemory)),
-            kept: cache.into_kept(),
-            names,
+            kept: start.cache.into_kept(),
+            names: start.names,
             cut: None,
         },
     };
-    let LearnedChildren {
+    let LearningOutcome {
         mut learned,
         mut kept,
         mut names,
         cut,
-    } = learn_over(
-        rt, alloc, spawner, command, names, cache, words, workers, kind, extra, max_states, watcher,
-    );
+    } = learn_over(rt, alloc, spawner, command, start, settings, watcher);
     let _few = names.len();
     sort_outputs(&mut names, &mut to, &mut learned, &mut kept);
-    LearnedChildren {
+    LearningOutcome {
         learned,
         kept,
         names,
@@ -103,46 +89,29 @@ pub fn learn_children<P: Spawner, R: Threads + Wait + Sync + Drop, W: Watcher>(
     alloc: Global,
     spawner: &mut P,
     command: &Command,
-    names: OutNames,
-    cache: Cache,
-    words: &[Word],
-    workers: u8,
-    kind: Kind,
-    extra: u8,
-    max_states: u16,
+    start: Start,
+    settings: Settings,
     watcher: &mut W,
-) -> LearnedChildren
+) -> LearningOutcome
     requires words { 0 < length command.now.words }
     requires letters { length command.now.inputs ≤ 64 }
-    requires named { names ≡ first_naming command.now.outputs }
-    requires unclaimed { cache.claims ≡ [] }
-    requires nothing { NothingClashes (answers_of cache.kept) }
-    requires prior { MayBegin names (length command.now.inputs) (count_of command.now.outputs)
-        cache.kept }
-    requires free { command.now.outputs ≡ None → cache.kept ≡ [] }
-    requires workers { (1 ≤ workers) × (workers ≤ 16) }
-    requires named_letters { All (IsWord (length command.now.inputs)) words.now }
-    requires named_few { length words.now < 2 ^ 32 }
-    requires few { extra ≤ 4 }
-    requires most { (1 ≤ max_states) × (max_states ≤ 1024) }
-    ensures asked { OnOk result.learned (AnswersWords words.now result.kept.answers) }
+    requires named { start.names ≡ first_naming command.now.outputs }
+    requires unclaimed { start.cache.claims ≡ [] }
+    requires nothing { NothingClashes (answers_of start.cache.kept) }
+    requires prior { MayBegin start.names (length command.now.inputs) (count_of command.now.outputs)
+        start.cache.kept }
+    requires free { command.now.outputs ≡ None → start.cache.kept ≡ [] }
+    requires named_letters { All (IsWord (length command.now.inputs)) start.words }
+    requires named_few { length start.words < 2 ^ 32 }
+    ensures asked { OnOk result.learned (AnswersWords start.words result.kept.answers) }
     ensures cut { IfSome result.cut (λ run. IsStopOf run.instance result.learned) }
-    ensures found { IsOfCommand kind command.now.words command.now.inputs command.now.outputs
-        workers
-        extra max_states cache.kept
-        (spawner_seen (P.faults spawner.old) (P.started spawner.old) (P.retired spawner.old)
-        (P.commands spawner.old))
-        (spawner_seen (P.faults spawner.new) (P.started spawner.new) (P.retired spawner.new)
-        (P.commands spawner.new)) result.learned result.kept.answers result.names.names }
+    ensures found { IsOfCommand settings.kind command.now.words command.now.inputs
+        command.now.outputs settings.workers settings.extra settings.max_states start.cache.kept
+        (P.state spawner.old) (P.state spawner.new) result.learned result.kept.answers
+        result.names.names }
 {
     match command.outputs {
-        Some(_) => learn_over(
-            rt, alloc, spawner, command, names, cache, words, workers, kind, extra, max_states,
-            watcher,
-        ),
-        None => learn_free(
-            rt, alloc, spawner, command, names, cache, words, workers, kind, extra, max_states,
-            watcher,
-        ),
+        Some(_) => learn_over(rt, alloc, spawner, command, start, settings, watcher),
+        None => learn_free(rt, alloc, spawner, command, start, settings, watcher),
     }
 }

@@ -3,7 +3,7 @@ ghost use Rattle.std.specs.Prelude.{◌≡◌, ℕ, ◌+◌, ◌<◌, ◌≤◌,
 ghost use Rattle.std.specs.List.{All};
 ghost use Rattle.lw_words.specs.Cause.{CountedFault};
 ghost use Rattle.lw_outside.specs.Links.{IsUntouched, with_start};
-ghost use Rattle.lw_children.specs.Spawners.{Starts, StartsSome, spawner_seen};
+ghost use Rattle.lw_children.specs.Spawners.{Starts, StartsSome};
 ghost use Rattle.lw_children.specs.Crews.{AreEarlier, HasBegun, IsLoose, count_link, new_line, new_session};
 ghost use Rattle.lw_children.specs.bodies.Refusals.{refusal_by};
 ghost use Rattle.lw_children.specs.declared.starting.Refusal.{Refusal as Why};
@@ -89,7 +89,7 @@ fn line_over<L: Link>(
     inputs: Names,
     outputs: Option<Names>,
 ) -> Result<LineSul<L>, L>
-    requires { IsUntouched (L.transcript link) }
+    requires { IsUntouched (L.state link).transcript }
     ensures ok { IfOk result (λ s. s ≡ new_line link inputs outputs) }
     ensures back { IfErr result (λ l. l ≡ link) }
 {
@@ -110,26 +110,22 @@ fn start_one<P: Spawner>(
     instance: u32,
 ) -> Result<Session<LineSul<P::Link>>, Unmade<P::Link>>
     requires words { 0 < length command.now.words }
-    ensures made { IfOk result (λ s.
-        (s ≡ new_session instance s.sul.link command.now.inputs command.now.outputs) ×
-        (P.Link.number s.sul.link ≡ P.started spawner.old)) }
-    ensures unmade { IfErr result (λ u. IsLoose P.Link.number P.Link.faults P.Link.ends
-        P.Link.transcript (P.started spawner.old) u.link) }
-    ensures earlier { OnOk result (AreEarlier (P.retired spawner.old) (P.started spawner.old)) }
-    ensures earlier_too { IfErr result (λ u. IfSome u.link (λ l.
-        AreEarlier (P.retired spawner.old) (P.started spawner.old))) }
-    ensures one { OnOk result (Starts command.now.words
-        (spawner_seen (P.faults spawner.old) (P.started spawner.old) (P.retired spawner.old)
-        (P.commands spawner.old))
-        (spawner_seen (P.faults spawner.new) (P.started spawner.new) (P.retired spawner.new)
-        (P.commands spawner.new)) 1) }
-    ensures none { IfErr result (λ u. StartsSome command.now.words
-        (spawner_seen (P.faults spawner.old) (P.started spawner.old) (P.retired spawner.old)
-        (P.commands spawner.old))
-        (spawner_seen (P.faults spawner.new) (P.started spawner.new) (P.retired spawner.new)
-        (P.commands spawner.new)) (count_link u.link)) }
+    ensures made { IfOk result
+        (λ s. (s ≡ new_session instance s.sul.link command.now.inputs command.now.outputs) ×
+        ((P.Link.state s.sul.link).number ≡ (P.state spawner.old).started)) }
+    ensures unmade { IfErr result (λ u. IsLoose P.Link.state (P.state spawner.old).started
+        u.link) }
+    ensures earlier { OnOk result (AreEarlier (P.state spawner.old).retired
+        (P.state spawner.old).started) }
+    ensures earlier_too { IfErr result
+        (λ u. IfSome u.link (λ l. AreEarlier (P.state spawner.old).retired
+        (P.state spawner.old).started)) }
+    ensures one { OnOk result (Starts command.now.words (P.state spawner.old)
+        (P.state spawner.new) 1) }
+    ensures none { IfErr result (λ u. StartsSome command.now.words (P.state spawner.old)
+        (P.state spawner.new) (count_link u.link)) }
     ensures failed { IfErr result (λ u. u.refusal ≡ Why.Failed → (u.link ≡ None) ×
-        CountedFault (P.faults spawner.old) (P.faults spawner.new)) }
+        CountedFault (P.state spawner.old).faults (P.state spawner.new).faults) }
 {
     let (inputs, outputs) = match (command.inputs.copy(), copy_declared(&command.outputs)) {
         (Ok(inputs), Ok(outputs)) => (inputs, outputs),
@@ -163,28 +159,18 @@ pub fn start_all<P: Spawner>(
 ) -> Result<Vec<Session<LineSul<P::Link>>>, Broken<P::Link>>
     requires words { 0 < length command.now.words }
     ensures count { IfOk result (λ sessions. length sessions.items ≡ workers) }
-    ensures made { IfOk result (λ sessions. HasBegun P.Link.number P.Link.faults P.Link.ends
-        P.Link.transcript command.now.inputs command.now.outputs
-        (spawner_seen (P.faults spawner.old) (P.started spawner.old) (P.retired spawner.old)
-        (P.commands spawner.old)) sessions.items None) }
-    ensures all { OnOk result (Starts command.now.words
-        (spawner_seen (P.faults spawner.old) (P.started spawner.old) (P.retired spawner.old)
-        (P.commands spawner.old))
-        (spawner_seen (P.faults spawner.new) (P.started spawner.new) (P.retired spawner.new)
-        (P.commands spawner.new)) workers) }
+    ensures made { IfOk result (λ sessions. HasBegun P.Link.state command.now.inputs
+        command.now.outputs (P.state spawner.old) sessions.items None) }
+    ensures all { OnOk result (Starts command.now.words (P.state spawner.old)
+        (P.state spawner.new) workers) }
     ensures few { IfErr result (λ b. length b.sessions.items + count_link b.unmade.link ≤ workers ×
         (length b.sessions.items < workers)) }
-    ensures broken { IfErr result (λ b. HasBegun P.Link.number P.Link.faults P.Link.ends
-        P.Link.transcript command.now.inputs command.now.outputs
-        (spawner_seen (P.faults spawner.old) (P.started spawner.old) (P.retired spawner.old)
-        (P.commands spawner.old)) b.sessions.items b.unmade.link) }
-    ensures some { IfErr result (λ b. StartsSome command.now.words
-        (spawner_seen (P.faults spawner.old) (P.started spawner.old) (P.retired spawner.old)
-        (P.commands spawner.old))
-        (spawner_seen (P.faults spawner.new) (P.started spawner.new) (P.retired spawner.new)
-        (P.commands spawner.new)) (length b.sessions.items + count_link b.unmade.link)) }
+    ensures broken { IfErr result (λ b. HasBegun P.Link.state command.now.inputs
+        command.now.outputs (P.state spawner.old) b.sessions.items b.unmade.link) }
+    ensures some { IfErr result (λ b. StartsSome command.now.words (P.state spawner.old)
+        (P.state spawner.new) (length b.sessions.items + count_link b.unmade.link)) }
     ensures failed { IfErr result (λ b. b.unmade.refusal ≡ Why.Failed → (b.unmade.link ≡ None) ×
-        CountedFault (P.faults spawner.old) (P.faults spawner.new)) }
+        CountedFault (P.state spawner.old).faults (P.state spawner.new).faults) }
 {
     let mut sessions = match Vec::with_capacity(alloc, usize::from(workers)) {
         Ok(sessions) => sessions,

@@ -5,7 +5,7 @@ use Rattle.lw_json.specs.MachineFault.{HasMachineFault}
 use Rattle.lw_json.specs.MachineFile.{IsMachineFile}
 use Rattle.lw_json.specs.declared.machine.Machine.{Machine}
 use Rattle.lw_json.specs.declared.fault.JsonFault.{JsonFault}
-use Rattle.lw_outside.specs.Files.{File, Holds, HoldsLong, file_at, longest_file}
+use Rattle.lw_outside.specs.Files.{File, Holds, HoldsLong, file_at, longest_file, FilesState}
 use Rattle.lw_report.specs.Outcomes.{HasOwnText, StandsOrWants}
 use Rattle.lw_report.specs.Reading.{ReadsFile, ReadsBadFile}
 use Rattle.lw_report.specs.Stops.{read_outcome}
@@ -16,10 +16,9 @@ use Rattle.lw_report.specs.declared.outcome.Outcome.{Outcome}
 use Rattle.lw_report.specs.declared.outcome.Outcome.TheVariants.{BadFile, FileFault, FileTooLong, NoMemory}
 use Rattle.lw_report.specs.declared.role.Role.{Role}
 use Rattle.lw_report.specs.declared.role.Role.TheVariants.{Model, Second}
-use Rattle.lw_report.specs.States.{FilesState, files_state}
 use Rattle.lw_compare.specs.Outcomes.{ComesAs, IsRefused, IsUntroubled}
 use Rattle.lw_compare.specs.Reading.{IsUnread, ReadsFirst, ReadsModels, TellsModel, TellsNoModel, first_read, second_read}
-use Rattle.lw_compare.specs.bodies.Unread.{HasStopped, IsStopped}
+use Rattle.lw_compare.specs.bodies.Unread.{HasStopped, IsStopped, with_first}
 
 -- bytes that are told and those that were read are the same
 same_bytes : (held : Option (List ℕ)) (b c : List ℕ) → held ≡ Some b → held ≡ Some c → b ≡ c
@@ -85,7 +84,7 @@ module _ (one two : List ℕ) (f g : FilesState) where
 
   module _ (middle : List File) (m : Machine) (file : ReadsFile IsMachineFile one f.holds f.reads middle m) where
     abbrev h : FilesState
-    h = files_state f.holds (first_read one false f) middle f.faults
+    h = with_first one middle f
 
     same_reads : g.reads ≡ middle → ReadsFirst one f g.reads
     same_reads same = (m, subst (λ (r : List File). ReadsFile IsMachineFile one f.holds f.reads r m) (sym same) file)
@@ -99,15 +98,15 @@ module _ (one two : List ℕ) (f g : FilesState) where
   -- what holds of each stop, and of out of memory in place of a bad file's text, holds of the outcome
   by_stopped : (P : Outcome → Type 0) (was outcome : Outcome) → IsStopped one two f g was → StandsOrWants was outcome
       → ((s : ReadStop) → HasStopped one f g s → P (read_outcome Model s))
-      → ((s : ReadStop) (middle : List File) (m : Machine) → ReadsFile IsMachineFile one f.holds f.reads middle m → HasStopped two (files_state f.holds (first_read one false f) middle f.faults) g s → P (read_outcome Second s))
+      → ((s : ReadStop) (middle : List File) (m : Machine) → ReadsFile IsMachineFile one f.holds f.reads middle m → HasStopped two (with_first one middle f) g s → P (read_outcome Second s))
       → ((s : ReadStop) (fault : JsonFault) → s ≡ stop.Bad fault → HasStopped one f g s → P NoMemory)
-      → ((s : ReadStop) (fault : JsonFault) (middle : List File) (m : Machine) → s ≡ stop.Bad fault → ReadsFile IsMachineFile one f.holds f.reads middle m → HasStopped two (files_state f.holds (first_read one false f) middle f.faults) g s → P NoMemory)
+      → ((s : ReadStop) (fault : JsonFault) (middle : List File) (m : Machine) → s ≡ stop.Bad fault → ReadsFile IsMachineFile one f.holds f.reads middle m → HasStopped two (with_first one middle f) g s → P NoMemory)
       → P outcome
   by_stopped P was outcome is stands first second first_bad second_bad =
       ⊎_elim
       (λ (t : (s : ReadStop) × HasStopped one f g s × (was ≡ read_outcome Model s)).
       by_stop P Model t.0 outcome (subst (λ (o : Outcome). StandsOrWants o outcome) t.2 stands) (first t.0 t.1) (λ fault bad. first_bad t.0 fault bad t.1))
-      (λ (t : (s : ReadStop) × (middle : List File) × (m : Machine) × ReadsFile IsMachineFile one f.holds f.reads middle m × HasStopped two (files_state f.holds (first_read one false f) middle f.faults) g s × (was ≡ read_outcome Second s)).
+      (λ (t : (s : ReadStop) × (middle : List File) × (m : Machine) × ReadsFile IsMachineFile one f.holds f.reads middle m × HasStopped two (with_first one middle f) g s × (was ≡ read_outcome Second s)).
       by_stop P Second t.0 outcome (subst (λ (o : Outcome). StandsOrWants o outcome) t.5 stands) (second t.0 t.1 t.2 t.3 t.4) (λ fault bad. second_bad t.0 fault t.1 t.2 bad t.3 t.4))
       is
 

@@ -6,7 +6,8 @@ use Rattle.lw_json.specs.declared.machine.Machine.{Machine}
 use Rattle.lw_json.proofs.OneValue.{one_value}
 use Rattle.lw_report.specs.Ends.{IsWithoutLearner}
 use Rattle.lw_report.specs.Outcomes.{StandsOrWants}
-use Rattle.lw_report.specs.States.{FilesState, SinkState}
+use Rattle.lw_outside.specs.Files.{FilesState}
+use Rattle.lw_outside.specs.Streams.{SinkState}
 use Rattle.lw_report.specs.Writing.{TakesAll, TakesSome}
 use Rattle.lw_report.specs.declared.«end».End.{End}
 use Rattle.lw_report.specs.declared.comparison.Comparison.{Comparison}

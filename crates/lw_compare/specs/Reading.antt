@@ -4,9 +4,8 @@ use Rattle.lw_words.specs.Cause.{CountedFault}
 use Rattle.lw_json.specs.MachineFile.{IsMachineFile}
 use Rattle.lw_json.specs.MachineFault.{HasMachineFault}
 use Rattle.lw_json.specs.declared.machine.Machine.{Machine}
-use Rattle.lw_outside.specs.Files.{Call, File, HoldsLong, file_at, longest_file, noted, read_call}
+use Rattle.lw_outside.specs.Files.{Call, File, HoldsLong, file_at, longest_file, noted, read_call, FilesState}
 use Rattle.lw_report.specs.Reading.{ReadsBadFile, ReadsFile, TellsBad, TellsFile}
-use Rattle.lw_report.specs.States.{FilesState}
 use Rattle.lw_report.specs.declared.role.Role.TheVariants.{Model, Second}
 use Rattle.lw_report.specs.declared.outcome.Outcome.{Outcome}
 use Rattle.lw_report.specs.declared.outcome.Outcome.TheVariants.{BadFile, FileTooLong, FileFault, NoMemory}

@@ -3,7 +3,6 @@ ghost use Rattle.std.specs.Prelude.{◌≡◌, ◌≢◌, ◌≤◌, [], None};
 ghost use Rattle.lw_words.specs.Cause.{CountedFault};
 ghost use Rattle.lw_report.specs.Ends.{IsWithoutLearner};
 ghost use Rattle.lw_report.specs.Outcomes.{status_of};
-ghost use Rattle.lw_report.specs.States.{files_state, sink_state};
 ghost use Rattle.lw_report.specs.Writing.{TakesAll, TakesSome};
 ghost use Rattle.lw_report.specs.declared.outcome.Outcome.{Outcome as Came};
 ghost use Rattle.lw_compare.specs.CompareRun.{ComesTo, IsCompareRun, text};
@@ -42,22 +41,23 @@ fn finish<O: Sink, E: Sink>(
     ensures learner { IsWithoutLearner result }
     ensures kept { result.kept.answers ≡ [] }
     ensures outputs { result.outputs ≡ None }
-    ensures comes { ComesTo first.now second.now
-        (sink_state (O.taken out.old) (O.faults out.old))
-        (sink_state (O.taken out.new) (O.faults out.new)) result.outcome }
-    ensures written { IsAnswered result.outcome → TakesAll (text result.outcome)
-        (O.taken out.old) (O.taken out.new) × (E.taken err.new ≡ E.taken err.old) }
-    ensures said { ¬ IsAnswered result.outcome →
-        ¬ CountedFault (E.faults err.old) (E.faults err.new) →
-        TakesAll (text result.outcome) (E.taken err.old) (E.taken err.new) }
-    ensures said_part { ¬ IsAnswered result.outcome → TakesSome (text result.outcome)
-        (E.taken err.old) (E.taken err.new) }
+    ensures comes { ComesTo first.now second.now (O.state out.old) (O.state out.new)
+        result.outcome }
+    ensures written { IsAnswered result.outcome →
+        TakesAll (text result.outcome) (O.state out.old).taken (O.state out.new).taken ×
+        ((E.state err.new).taken ≡ (E.state err.old).taken) }
+    ensures said { ¬ IsAnswered result.outcome → ¬ CountedFault (E.state err.old).faults
+        (E.state err.new).faults → TakesAll (text result.outcome) (E.state err.old).taken
+        (E.state err.new).taken }
+    ensures said_part { ¬ IsAnswered result.outcome →
+        TakesSome (text result.outcome) (E.state err.old).taken (E.state err.new).taken }
     ensures unwritten { ¬ IsAnswered result.outcome → result.outcome ≢ Came.SinkFault →
-        sink_state (O.taken out.new) (O.faults out.new) ≡
-        sink_state (O.taken out.old) (O.faults out.old) }
-    ensures quiet { IsAnswered result.outcome → (O.faults out.new ≡ O.faults out.old) ×
-        (E.faults err.new ≡ E.faults err.old) }
-    ensures counts { (O.faults out.old ≤ O.faults out.new) × (E.faults err.old ≤ E.faults err.new) }
+        O.state out.new ≡ O.state out.old }
+    ensures quiet { IsAnswered result.outcome →
+        ((O.state out.new).faults ≡ (O.state out.old).faults) ×
+        ((E.state err.new).faults ≡ (E.state err.old).faults) }
+    ensures counts { ((O.state out.old).faults ≤ (O.state out.new).faults) ×
+        ((E.state err.old).faults ≤ (E.state err.new).faults) }
 {
     let decision = decide(alloc, first, second);
     let outcome = tell(alloc, decision, first, out, err);
@@ -76,17 +76,11 @@ pub fn compare<F: Files, O: Sink, E: Sink>(
     err: &mut E,
 ) -> End
     ensures status { result.status ≡ status_of result.outcome }
-    ensures ran { IsCompareRun first.now second.now
-        (files_state (F.holds files.old) (F.calls files.old) (F.reads files.old)
-        (F.faults files.old))
-        (files_state (F.holds files.new) (F.calls files.new) (F.reads files.new)
-        (F.faults files.new))
-        (sink_state (O.taken out.old) (O.faults out.old))
-        (sink_state (O.taken out.new) (O.faults out.new))
-        (sink_state (E.taken err.old) (E.faults err.old))
-        (sink_state (E.taken err.new) (E.faults err.new)) result }
-    ensures counts { (F.faults files.old ≤ F.faults files.new) ×
-        (O.faults out.old ≤ O.faults out.new) × (E.faults err.old ≤ E.faults err.new) }
+    ensures ran { IsCompareRun first.now second.now (F.state files.old) (F.state files.new)
+        (O.state out.old) (O.state out.new) (E.state err.old) (E.state err.new) result }
+    ensures counts { ((F.state files.old).faults ≤ (F.state files.new).faults) ×
+        ((O.state out.old).faults ≤ (O.state out.new).faults) ×
+        ((E.state err.old).faults ≤ (E.state err.new).faults) }
 {
     match read_models(alloc, files, first, second) {
         Ok(models) => finish(alloc, &models.first, &models.second, out, err),

@@ -2,7 +2,6 @@
 ghost use Rattle.std.specs.Prelude.{◌≡◌, ◌≤◌, IfOk, IfErr};
 ghost use Rattle.lw_compare.specs.Reading.{ReadsModels};
 ghost use Rattle.lw_compare.specs.bodies.Unread.{IsStopped};
-ghost use Rattle.lw_report.specs.States.{files_state};
 
 use lw_json::Machine;
 use lw_outside::Files;
@@ -23,19 +22,12 @@ pub(crate) fn read_models<F: Files>(
     first: &str,
     second: &str,
 ) -> Result<Models, Outcome>
-    ensures ok { IfOk result (λ models. ReadsModels first.now second.now
-        (files_state (F.holds files.old) (F.calls files.old) (F.reads files.old)
-        (F.faults files.old))
-        (files_state (F.holds files.new) (F.calls files.new) (F.reads files.new)
-        (F.faults files.new))
-        models.first models.second) }
-    ensures err { IfErr result (IsStopped first.now second.now
-        (files_state (F.holds files.old) (F.calls files.old) (F.reads files.old)
-        (F.faults files.old))
-        (files_state (F.holds files.new) (F.calls files.new) (F.reads files.new)
-        (F.faults files.new))) }
-    ensures counts { F.faults files.old ≤ F.faults files.new }
-    ensures same { F.holds files.new ≡ F.holds files.old }
+    ensures ok { IfOk result (λ models. ReadsModels first.now second.now (F.state files.old)
+        (F.state files.new) models.first models.second) }
+    ensures err { IfErr result (IsStopped first.now second.now (F.state files.old)
+        (F.state files.new)) }
+    ensures counts { (F.state files.old).faults ≤ (F.state files.new).faults }
+    ensures same { (F.state files.new).holds ≡ (F.state files.old).holds }
 {
     let one = match read_machine_file(alloc, files, first) {
         Ok(machine) => machine,

@@ -38,17 +38,20 @@ fn put_verdict<O: Sink>(
     kept: &Kept,
     out: &mut O,
 ) -> Result<(), TellStop>
-    ensures ok { OnOk result (TakesAll
-        (text_of inputs.now outputs.now kept.now.answers 0 outcome.now)
-        (O.taken out.old) (O.taken out.new)) }
+    ensures ok { OnOk result
+        (TakesAll (text_of inputs.now outputs.now kept.now.answers 0 outcome.now)
+        (O.state out.old).taken (O.state out.new).taken) }
     ensures part { TakesSome (text_of inputs.now outputs.now kept.now.answers 0 outcome.now)
-        (O.taken out.old) (O.taken out.new) }
-    ensures memory { result ≡ Err Stop.NoMemory → O.taken out.new ≡ O.taken out.old }
-    ensures calm { result ≡ Err Stop.NoMemory → O.faults out.new ≡ O.faults out.old }
-    ensures failed { result ≡ Err Stop.Sink → CountedFault (O.faults out.old) (O.faults out.new) }
+        (O.state out.old).taken (O.state out.new).taken }
+    ensures memory { result ≡ Err Stop.NoMemory → (O.state out.new).taken ≡
+        (O.state out.old).taken }
+    ensures calm { result ≡ Err Stop.NoMemory → (O.state out.new).faults ≡
+        (O.state out.old).faults }
+    ensures failed { result ≡ Err Stop.Sink → CountedFault (O.state out.old).faults
+        (O.state out.new).faults }
     ensures no_file { (role : Part) → ¬ (result ≡ Err (Stop.File role)) }
-    ensures quiet { OnOk result (O.faults out.new ≡ O.faults out.old) }
-    ensures counts { O.faults out.old ≤ O.faults out.new }
+    ensures quiet { OnOk result ((O.state out.new).faults ≡ (O.state out.old).faults) }
+    ensures counts { (O.state out.old).faults ≤ (O.state out.new).faults }
 {
     let text = text(alloc, outcome, inputs, outputs, kept, 0)?;
     put_all(out, &text)?;
@@ -65,23 +68,25 @@ pub(crate) fn tell<O: Sink, E: Sink>(
 ) -> Outcome
     ensures outcome { IsTold outcome result }
     ensures refused { result ≡ Came.SinkFault → ¬ (outcome ≡ Came.SinkFault) →
-        CountedFault (O.faults out.old) (O.faults out.new) }
+        CountedFault (O.state out.old).faults (O.state out.new).faults }
     ensures written { IsAnswered result → TakesAll (said_text None None [] 0 result)
-        (O.taken out.old) (O.taken out.new) }
-    ensures part { TakesSome (said_text None None [] 0 outcome) (O.taken out.old)
-        (O.taken out.new) }
-    ensures unwritten { ¬ IsAnswered result → result ≢ Came.SinkFault →
-        O.taken out.new ≡ O.taken out.old }
-    ensures uncounted { ¬ IsAnswered result → result ≢ Came.SinkFault →
-        O.faults out.new ≡ O.faults out.old }
-    ensures quiet { IsAnswered result → (O.faults out.new ≡ O.faults out.old) ×
-        (E.faults err.new ≡ E.faults err.old) }
-    ensures said { ¬ IsAnswered result → ¬ CountedFault (E.faults err.old) (E.faults err.new) →
-        TakesAll (said_text None None [] 0 result) (E.taken err.old) (E.taken err.new) }
+        (O.state out.old).taken (O.state out.new).taken }
+    ensures part { TakesSome (said_text None None [] 0 outcome) (O.state out.old).taken
+        (O.state out.new).taken }
+    ensures unwritten { ¬ IsAnswered result → result ≢ Came.SinkFault → (O.state out.new).taken ≡
+        (O.state out.old).taken }
+    ensures uncounted { ¬ IsAnswered result → result ≢ Came.SinkFault → (O.state out.new).faults ≡
+        (O.state out.old).faults }
+    ensures quiet { IsAnswered result → ((O.state out.new).faults ≡ (O.state out.old).faults) ×
+        ((E.state err.new).faults ≡ (E.state err.old).faults) }
+    ensures said { ¬ IsAnswered result → ¬ CountedFault (E.state err.old).faults
+        (E.state err.new).faults → TakesAll (said_text None None [] 0 result)
+        (E.state err.old).taken (E.state err.new).taken }
     ensures said_part { ¬ IsAnswered result → TakesSome (said_text None None [] 0 result)
-        (E.taken err.old) (E.taken err.new) }
-    ensures silent { IsAnswered result → E.taken err.new ≡ E.taken err.old }
-    ensures counts { (O.faults out.old ≤ O.faults out.new) × (E.faults err.old ≤ E.faults err.new) }
+        (E.state err.old).taken (E.state err.new).taken }
+    ensures silent { IsAnswered result → (E.state err.new).taken ≡ (E.state err.old).taken }
+    ensures counts { ((O.state out.old).faults ≤ (O.state out.new).faults) ×
+        ((E.state err.old).faults ≤ (E.state err.new).faults) }
 {
     let kept = Kept::new(alloc);
     if !is_answered(&outcome) {

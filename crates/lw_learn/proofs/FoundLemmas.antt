@@ -8,7 +8,7 @@ use Rattle.lw_words.specs.Word.{IsWord}
 use Rattle.lw_words.specs.declared.kept.KeptAnswer.{KeptAnswer}
 use Rattle.lw_json.specs.KeptOver.{AreKeptOver}
 use Rattle.lw_json.specs.declared.machine.Machine.{Machine}
-use Rattle.lw_outside.specs.Links.{Retired}
+use Rattle.lw_outside.specs.Links.{LinkState, SpawnerState}
 use Rattle.lw_pool.specs.Pool.{ArePrior}
 use Rattle.lw_renumber.specs.Sorting.{HasSorted, StillStops}
 use Rattle.lw_rounds.specs.Learned.{IsLearned, StopsAs}
@@ -18,7 +18,6 @@ use Rattle.lw_rounds.specs.declared.stops.LearnStop.{LearnStop}
 use Rattle.lw_rounds.specs.declared.stops.LearnStop.TheVariants as learn
 use Rattle.lw_children.specs.Children.{IsOfChildren, IsOfCommand}
 use Rattle.lw_children.specs.Keeping.{KeepsChildren, count_of}
-use Rattle.lw_children.specs.Spawners.{SpawnerSeen}
 use Rattle.lw_report.proofs.LearningLemmas.{has_large_sorted, has_large_suite, has_model, has_model_sorted, sorted_settled}
 use Rattle.lw_learn.specs.Arguments.{LearnValues}
 use Rattle.lw_learn.specs.Findings.{IsOfInstances, StopsBy}
@@ -85,7 +84,7 @@ module _ (a : LearnValues) (m : Machine) (prior : List KeptAnswer) (learned : Re
       (few_instances a.workers prior is.keeps.since kept is.keeps.first are is.keeps.instances_are few)
 
 -- of children whose outputs were declared
-module _ (kind : Kind) (words letters outputs : List (List ℕ)) (workers k most : ℕ) (prior : List KeptAnswer) (before now : SpawnerSeen) (learned : Result Learned LearnStop) (kept : List KeptAnswer) (names : List (List ℕ)) (named : names ≡ outputs) (is : IsOfChildren kind words letters (Some outputs) workers k most prior before now learned kept names) where
+module _ (kind : Kind) (words letters outputs : List (List ℕ)) (workers k most : ℕ) (prior : List KeptAnswer) (before now : SpawnerState) (learned : Result Learned LearnStop) (kept : List KeptAnswer) (names : List (List ℕ)) (named : names ≡ outputs) (is : IsOfChildren kind words letters (Some outputs) workers k most prior before now learned kept names) where
   declared_gives : IfOk learned (GivesModel kind (length letters) (length names) k most kept)
   declared_gives =
       subst (λ (ns : List (List ℕ)). IfOk learned (GivesModel kind (length letters) (length ns) k most kept)) (sym named)
@@ -120,12 +119,12 @@ module _ (kind : Kind) (letters : List (List ℕ)) (k most : ℕ) (kept : List K
   free_stops own (Ok l) kept_are same is = tt
   free_stops own (Err stop) kept_are same is = still_stops same.f stop kept_are (same.stopped (length letters) 4096 k most are is)
 
-keeps_over : (letters : List (List ℕ)) (outputs : Option (List (List ℕ))) (names : List (List ℕ)) (prior kept : List KeptAnswer) (links : List Retired) (workers : ℕ) → KeepsChildren letters outputs names prior kept links → ArePrior prior → length links ≤ workers → workers ≤ 16 → AreKeptOver (length letters) (length names) kept
+keeps_over : (letters : List (List ℕ)) (outputs : Option (List (List ℕ))) (names : List (List ℕ)) (prior kept : List KeptAnswer) (links : List LinkState) (workers : ℕ) → KeepsChildren letters outputs names prior kept links → ArePrior prior → length links ≤ workers → workers ≤ 16 → AreKeptOver (length letters) (length names) kept
 keeps_over letters outputs names prior kept links workers keeps are few small =
     over_of (length letters) (length names) kept keeps.words keeps.below (few_instances (length links) prior keeps.since kept keeps.first are keeps.instances (omega (arith, few, small)))
 
 -- of children by a command
-module _ (kind : Kind) (words letters : List (List ℕ)) (workers k most : ℕ) (prior : List KeptAnswer) (before now : SpawnerSeen) (learned : Result Learned LearnStop) (kept : List KeptAnswer) (names : List (List ℕ)) where
+module _ (kind : Kind) (words letters : List (List ℕ)) (workers k most : ℕ) (prior : List KeptAnswer) (before now : SpawnerState) (learned : Result Learned LearnStop) (kept : List KeptAnswer) (names : List (List ℕ)) where
   pub command_gives : (outputs : Option (List (List ℕ))) → IsOfCommand kind words letters outputs workers k most prior before now learned kept names → IfOk learned (GivesModel kind (length letters) (length names) k most kept)
   command_gives None is = let free = is.1 in free_gives kind letters k most kept names free.own_names free.new_numbers free.own_answers free.answers free.own learned free.same free.ok
   command_gives (Some outputs) is = declared_gives kind words letters outputs workers k most prior before now learned kept names is.0 is.1

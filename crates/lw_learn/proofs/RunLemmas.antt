@@ -19,14 +19,13 @@ use Rattle.lw_rounds.specs.declared.learner.Learner.{Learner}
 use Rattle.lw_rounds.specs.declared.stops.LearnStop.{LearnStop}
 use Rattle.lw_rounds.specs.declared.stops.LearnStop.TheVariants as learn
 use Rattle.lw_workers.specs.Machines.{IsReached, IsWithin}
-use Rattle.lw_outside.specs.Files.{File}
-use Rattle.lw_outside.specs.Links.{Retired}
+use Rattle.lw_outside.specs.Files.{File, FilesState}
+use Rattle.lw_outside.specs.Links.{LinkState, SpawnerState}
 use Rattle.lw_children.specs.Children.{IsOfCommand, IsSound}
-use Rattle.lw_children.specs.Spawners.{SpawnerSeen}
+use Rattle.lw_outside.specs.Streams.{SinkState}
 use Rattle.lw_report.specs.Ends.{IsWithoutLearner}
 use Rattle.lw_report.specs.Learnings.{HasModel, learn_outcome}
 use Rattle.lw_report.specs.Outcomes.{StandsOrWants}
-use Rattle.lw_report.specs.States.{FilesState, SinkState}
 use Rattle.lw_report.specs.Text.{names_of, text_of}
 use Rattle.lw_report.specs.Writing.{TakesAll, TakesSome, said_text}
 use Rattle.lw_report.specs.declared.«end».End.{End}
@@ -183,12 +182,12 @@ reached_stop n (learn.Ask ask.NoMemory) is = tt
 reached_stop n (learn.Crowd words) is = absurd is
 reached_stop n (learn.TooLarge model number) is = absurd is
 
-reached_command : (kind : Kind) (words letters : List (List ℕ)) (outputs : Option (List (List ℕ))) (workers k most : ℕ) (prior : List KeptAnswer) (b z : SpawnerSeen) (learned : Result Found LearnStop) (kept : List KeptAnswer) (names : List (List ℕ)) (r : Rows) → IsOfCommand kind words letters outputs workers k most prior b z learned kept names
-    → (¬ CountedFault b.faults z.faults) → ((links : List Retired) → z.retired ≡ b.retired ++ links → All (IsSound outputs) links) → IsWithin (length letters) k most r → Gives r (answers_of kept) → IsReached (length r) learned
+reached_command : (kind : Kind) (words letters : List (List ℕ)) (outputs : Option (List (List ℕ))) (workers k most : ℕ) (prior : List KeptAnswer) (b z : SpawnerState) (learned : Result Found LearnStop) (kept : List KeptAnswer) (names : List (List ℕ)) (r : Rows) → IsOfCommand kind words letters outputs workers k most prior b z learned kept names
+    → (¬ CountedFault b.faults z.faults) → ((links : List LinkState) → z.retired ≡ b.retired ++ links → All (IsSound outputs) links) → IsWithin (length letters) k most r → Gives r (answers_of kept) → IsReached (length r) learned
 reached_command kind words letters None workers k most prior b z learned kept names r is quiet sound within gives = let free = is.1 in free.reached r within gives quiet (sound free.links free.spawner.retired)
 reached_command kind words letters (Some outputs) workers k most prior b z learned kept names r is quiet sound within gives = is.1.reached r within gives quiet (sound is.1.links is.1.spawner.retired)
 
-reached_system : (a : LearnValues) (s : System) (prior : List KeptAnswer) (b z : SpawnerSeen) (learned : Result Found LearnStop) (kept : List KeptAnswer) (names : List (List ℕ)) (r : Rows) → IsOfSystem a s prior b z learned kept names → IsSoundSystem s b z → IsWithin (length (letters_of s)) a.extra a.max_states r → Gives r (answers_of kept) → IsReached (length r) learned
+reached_system : (a : LearnValues) (s : System) (prior : List KeptAnswer) (b z : SpawnerState) (learned : Result Found LearnStop) (kept : List KeptAnswer) (names : List (List ℕ)) (r : Rows) → IsOfSystem a s prior b z learned kept names → IsSoundSystem s b z → IsWithin (length (letters_of s)) a.extra a.max_states r → Gives r (answers_of kept) → IsReached (length r) learned
 reached_system a (Table m) prior b z learned kept names r found sound within gives = found.1.reached r within gives
 reached_system a (Children c) prior b z learned kept names r found sound within gives = reached_command a.learner c.words c.inputs c.outputs a.workers a.extra a.max_states prior b z learned kept names r found sound.0 sound.1 within gives
 
@@ -241,7 +240,7 @@ end_of a s naming learned kept was f m g o p e d end saved told = record {
 }
 
 -- so a call comes to a model, or runs out of memory
-pub reached_end : (a : LearnValues) (s : System) (prior : List KeptAnswer) (naming : Naming) (learned : Result Found LearnStop) (kept : List KeptAnswer) (f g : FilesState) (b z : SpawnerSeen) (o p e d : SinkState) (end : End) → IsOfSystem a s prior b z learned kept naming.names → IsEndOf a s naming learned kept f g o p e d end
+pub reached_end : (a : LearnValues) (s : System) (prior : List KeptAnswer) (naming : Naming) (learned : Result Found LearnStop) (kept : List KeptAnswer) (f g : FilesState) (b z : SpawnerState) (o p e d : SinkState) (end : End) → IsOfSystem a s prior b z learned kept naming.names → IsEndOf a s naming learned kept f g o p e d end
     → (r : Rows) → NothingFailed (f.faults, g.faults) (o.faults, p.faults) (e.faults, d.faults) → IsSoundSystem s b z → IsWithin (length (letters_of s)) a.extra a.max_states r → Gives r (answers_of end.kept.answers) → IsReachedOutcome (length r) end.outcome
 reached_end a s prior naming learned kept f g b z o p e d end found whole r none sound within gives =
     by learned (reached_system a s prior b z learned kept naming.names r found sound within (subst (λ (ks : List KeptAnswer). Gives r (answers_of ks)) whole.told.kept_is gives)) whole.told.carries
@@ -375,7 +374,7 @@ told_left a s naming l kept was f o e d end few sizes wants model learner refine
     text = sym (ap (λ (x : Outcome). text_of (letters_of s) naming.names kept a.extra x) wants)
 
 -- what was found of a system, and told
-pub ends_learned : (a : LearnValues) (s : System) (prior : List KeptAnswer) (naming : Naming) (learned : Result Found LearnStop) (kept : List KeptAnswer) (f g : FilesState) (b z : SpawnerSeen) (o p e d : SinkState) (end : End) → IsOfSystem a s prior b z learned kept naming.names → IfOk learned (GivesModel a.learner (length (letters_of s)) (length naming.names) a.extra a.max_states kept)
+pub ends_learned : (a : LearnValues) (s : System) (prior : List KeptAnswer) (naming : Naming) (learned : Result Found LearnStop) (kept : List KeptAnswer) (f g : FilesState) (b z : SpawnerState) (o p e d : SinkState) (end : End) → IsOfSystem a s prior b z learned kept naming.names → IfOk learned (GivesModel a.learner (length (letters_of s)) (length naming.names) a.extra a.max_states kept)
     → IfErr learned (StopsBy (length (letters_of s)) (count_of (declared_of s)) a.extra a.max_states (answers_of kept)) → IsEndOf a s naming learned kept f g o p e d end → EndsLearned a s prior f g b z o p e d end
 ends_learned a s prior naming learned kept f g b z o p e d end found gives stops whole = record {
   naming = naming;
@@ -399,7 +398,7 @@ task_ready a f m r t is stage = by (subst (λ (x : Result WordedTask UnreadState
     by : IsWordedStage a f m (Ok t) → SaysWorded a f m t
     by x = x.ok
 
-pub ends_read : (a : LearnValues) (f m g : FilesState) (b z : SpawnerSeen) (o p e d : SinkState) (end : End) (r : Result WordedTask UnreadState) (t : WordedTask) → r ≡ Ok t → IsWordedStage a f m r → EndsLearned a t.task.system t.task.cache.kept m g b z o p e d end → (end.model ≢ None → AnswersWords t.words end.kept.answers) → EndsRead a f g b z o p e d end
+pub ends_read : (a : LearnValues) (f m g : FilesState) (b z : SpawnerState) (o p e d : SinkState) (end : End) (r : Result WordedTask UnreadState) (t : WordedTask) → r ≡ Ok t → IsWordedStage a f m r → EndsLearned a t.task.system t.task.cache.kept m g b z o p e d end → (end.model ≢ None → AnswersWords t.words end.kept.answers) → EndsRead a f g b z o p e d end
 ends_read a f m g b z o p e d end r t is stage learned answered = by (subst (λ (x : Result WordedTask UnreadState). IsWordedStage a f m x) is stage)
   where
     by : IsWordedStage a f m (Ok t) → EndsRead a f g b z o p e d end
@@ -450,7 +449,7 @@ wordless_as a f g read kept why outcome by told = record {
   told = ⊎_elim (λ (same : outcome ≡ why). subst (λ (x : Outcome). (x ≡ by.why) ⊎ (x ≡ NoMemory)) (sym same) by.told) (λ (wants : outcome ≡ NoMemory). inr wants) told;
 }
 
-pub ends_unread : (a : LearnValues) (f m g : FilesState) (b : SpawnerSeen) (o e d : SinkState) (end : End) (r : Result WordedTask UnreadState) (u : UnreadState) → r ≡ Err u → IsWordedStage a f m r → HasSaid u a.extra a.kept m g e d end → EndsUnread a f g b b o o e d end
+pub ends_unread : (a : LearnValues) (f m g : FilesState) (b : SpawnerState) (o e d : SinkState) (end : End) (r : Result WordedTask UnreadState) (u : UnreadState) → r ≡ Err u → IsWordedStage a f m r → HasSaid u a.extra a.kept m g e d end → EndsUnread a f g b b o o e d end
 ends_unread a f m g b o e d end r u is stage h = by (subst (λ (x : Result WordedTask UnreadState). IsWordedStage a f m x) is stage)
   where
     same : u.kept ≡ end.kept.answers

@@ -6,9 +6,8 @@ use Rattle.lw_words.specs.declared.kept.KeptAnswer.{KeptAnswer}
 use Rattle.lw_wordlist.specs.Drawn.{drawn_words}
 use Rattle.lw_wordlist.specs.Lines.{lines_in}
 use Rattle.lw_wordlist.specs.Words.{IsFirstUnknown, words_of}
-use Rattle.lw_outside.specs.Files.{File, HoldsLong, read_call}
+use Rattle.lw_outside.specs.Files.{File, HoldsLong, read_call, FilesState}
 use Rattle.lw_report.specs.Reading.{ReadsFile, WasRead}
-use Rattle.lw_report.specs.States.{FilesState}
 use Rattle.lw_report.specs.declared.outcome.Outcome.{Outcome}
 use Rattle.lw_report.specs.declared.outcome.Outcome.TheVariants.{FileFault, FileTooLong, NoMemory, UnknownLetter}
 use Rattle.lw_report.specs.declared.role.Role.TheVariants.{Words}
@@ -47,23 +46,23 @@ pub record ReadsUnknown (name : List ℕ) (letters : List (List ℕ)) (holds : O
   pub first : IsFirstUnknown letters (lines_in (utf8_lossy bytes)) line place
 
 -- why there are no words to ask, by the outcome: the file that is named for them, files being f and then g, or memory ran out
-abbrev pub IsWordless : Option (List ℕ) → (letters : List (List ℕ)) → (f g : FilesState) → Outcome → Type 0
-IsWordless file letters f g (FileFault role) = (role ≡ Words) × ((name : List ℕ) × (file ≡ Some name) × CountedFault f.faults g.faults × (g.reads ≡ f.reads) × MadeReads f g (read_call name true ∷ []))
-IsWordless file letters f g (FileTooLong role) = (role ≡ Words) × ((name : List ℕ) × (file ≡ Some name) × HoldsLong f.holds name × (g.reads ≡ f.reads) × MadeReads f g (read_call name false ∷ []))
-IsWordless file letters f g (UnknownLetter line place) = (name : List ℕ) × (file ≡ Some name) × ReadsUnknown name letters f.holds f.reads g.reads line place × MadeReads f g []
-IsWordless file letters f g NoMemory = MadeSomeReads f g
-IsWordless file letters f g _ = ⊥
+abbrev pub IsWordless : Option (List ℕ) → (letters : List (List ℕ)) → (files_before files_now : FilesState) → Outcome → Type 0
+IsWordless file letters files_before files_now (FileFault role) = (role ≡ Words) × ((name : List ℕ) × (file ≡ Some name) × CountedFault files_before.faults files_now.faults × (files_now.reads ≡ files_before.reads) × MadeReads files_before files_now (read_call name true ∷ []))
+IsWordless file letters files_before files_now (FileTooLong role) = (role ≡ Words) × ((name : List ℕ) × (file ≡ Some name) × HoldsLong files_before.holds name × (files_now.reads ≡ files_before.reads) × MadeReads files_before files_now (read_call name false ∷ []))
+IsWordless file letters files_before files_now (UnknownLetter line place) = (name : List ℕ) × (file ≡ Some name) × ReadsUnknown name letters files_before.holds files_before.reads files_now.reads line place × MadeReads files_before files_now []
+IsWordless file letters files_before files_now NoMemory = MadeSomeReads files_before files_now
+IsWordless file letters files_before files_now _ = ⊥
 
 -- no learning began though the files said what is to be learned, for there are no words to ask, as the outcome says, or memory
 -- ran out in place of that; the prior answers are kept
-pub record IsWordlessTask (a : LearnValues) (f g : FilesState) (read : Option System) (kept : List KeptAnswer) (outcome : Outcome) : Type 0 where
+pub record IsWordlessTask (a : LearnValues) (files_before files_now : FilesState) (read : Option System) (kept : List KeptAnswer) (outcome : Outcome) : Type 0 where
   pub system : System
   pub between : FilesState
   pub read_is : read ≡ Some system
-  pub task : ReadsTask a f.holds f.reads between.reads system kept
-  pub made : MadeReads f between []
-  pub quiet : between.faults ≡ f.faults
-  pub same : between.holds ≡ f.holds
+  pub task : ReadsTask a files_before.holds files_before.reads between.reads system kept
+  pub made : MadeReads files_before between []
+  pub quiet : between.faults ≡ files_before.faults
+  pub same : between.holds ≡ files_before.holds
   pub why : Outcome
-  pub because : IsWordless a.words (letters_of system) between g why
+  pub because : IsWordless a.words (letters_of system) between files_now why
   pub told : (outcome ≡ why) ⊎ (outcome ≡ NoMemory)

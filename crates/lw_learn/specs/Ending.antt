@@ -8,8 +8,8 @@ use Rattle.lw_cache.specs.Clash.{NothingClashes}
 use Rattle.lw_desk.specs.Naming.{Naming}
 use Rattle.lw_mealy.specs.Gives.{Gives}
 use Rattle.lw_mealy.specs.Machine.{Rows}
-use Rattle.lw_outside.specs.Files.{File}
-use Rattle.lw_outside.specs.Links.{Retired}
+use Rattle.lw_outside.specs.Files.{File, FilesState}
+use Rattle.lw_outside.specs.Links.{LinkState, SpawnerState}
 use Rattle.lw_rounds.specs.Learner.{refinements_of}
 use Rattle.lw_rounds.specs.declared.learned.Learned.{Learned as Found}
 use Rattle.lw_rounds.specs.declared.stops.LearnStop.{LearnStop}
@@ -17,11 +17,10 @@ use Rattle.lw_workers.specs.Asking.{AnswersWords}
 use Rattle.lw_workers.specs.Machines.{IsWithin}
 use Rattle.lw_children.specs.Children.{IsSound}
 use Rattle.lw_children.specs.Keeping.{count_of}
-use Rattle.lw_children.specs.Spawners.{SpawnerSeen}
+use Rattle.lw_outside.specs.Streams.{SinkState}
 use Rattle.lw_report.specs.Ends.{IsWithoutLearner}
 use Rattle.lw_report.specs.Learnings.{HasModel, learn_outcome}
 use Rattle.lw_report.specs.Outcomes.{StandsOrWants}
-use Rattle.lw_report.specs.States.{FilesState, SinkState}
 use Rattle.lw_report.specs.Text.{names_of, text_of}
 use Rattle.lw_report.specs.Writing.{TakesAll, TakesSome, said_text}
 use Rattle.lw_report.specs.declared.«end».End.{End}
@@ -44,26 +43,26 @@ use Rattle.lw_learn.specs.declared.task.System.TheVariants.{Table, Children}
 
 -- no learning began: no child is started, nothing is written but prior answers, where they clash or words that are to be asked
 -- could not be read, which are what is kept, and the outcome's text goes to `err`
-pub record EndsUnread (a : LearnValues) (f g : FilesState) (b z : SpawnerSeen) (o p : SinkState) (e d : SinkState) (end : End) : Type 0 where
+pub record EndsUnread (a : LearnValues) (files_before files_now : FilesState) (spawner_before spawner_now : SpawnerState) (out_before out_now : SinkState) (err_before err_now : SinkState) (end : End) : Type 0 where
   pub read : Option System
   pub between : FilesState
-  pub cause : IsUnreadAs a f between read end.kept.answers end.outcome ⊎
-      IsWordlessTask a f between read end.kept.answers end.outcome
-  pub same : between.holds ≡ f.holds
+  pub cause : IsUnreadAs a files_before between read end.kept.answers end.outcome ⊎
+      IsWordlessTask a files_before between read end.kept.answers end.outcome
+  pub same : between.holds ≡ files_before.holds
   pub model : end.model ≡ None
   pub learner : IsWithoutLearner end
   -- no names only where nothing is kept
   pub outputs : (end.outputs ≡ names_read read) ⊎
       ((end.outcome ≡ NoMemory) × (end.outputs ≡ None) × (end.kept.answers ≡ []))
   pub saved : IsSaved a.kept (names_of (option_map letters_of read))
-      (names_of (option_and_then declared_of read)) end.kept.answers between g end.outcome
-  pub unstarted : z ≡ b
-  pub unwritten : p ≡ o
-  pub said : ¬ CountedFault e.faults d.faults → TakesAll
+      (names_of (option_and_then declared_of read)) end.kept.answers between files_now end.outcome
+  pub unstarted : spawner_now ≡ spawner_before
+  pub unwritten : out_now ≡ out_before
+  pub said : ¬ CountedFault err_before.faults err_now.faults → TakesAll
       (said_text (option_map letters_of read) (option_and_then declared_of read) end.kept.answers
-      a.extra end.outcome) e.taken d.taken
+      a.extra end.outcome) err_before.taken err_now.taken
   pub part : TakesSome (said_text (option_map letters_of read) (option_and_then declared_of read)
-      end.kept.answers a.extra end.outcome) e.taken d.taken
+      end.kept.answers a.extra end.outcome) err_before.taken err_now.taken
 
 -- what a learning answered is what the end says: its model is carried with its learner, and was written out, but that a write
 -- may have failed or memory run out; or the outcome is that of its stop, but that memory may have run out
@@ -78,57 +77,57 @@ end_outputs None [] naming = None
 end_outputs None (k ∷ ks) naming = Some naming
 
 -- once the kept answers were saved, what was learned of a system is written out, or why nothing was is said
-pub record IsToldOf (a : LearnValues) (s : System) (naming : Naming) (learned : Result Found LearnStop) (kept : List KeptAnswer) (was : Saved) (f g : FilesState) (o p : SinkState) (e d : SinkState) (end : End) : Type 0 where
+pub record IsToldOf (a : LearnValues) (s : System) (naming : Naming) (learned : Result Found LearnStop) (kept : List KeptAnswer) (was : Saved) (files_before files_now : FilesState) (out_before out_now : SinkState) (err_before err_now : SinkState) (end : End) : Type 0 where
   pub carries : Carries learned end
   pub kept_is : end.kept.answers ≡ kept
   pub outputs : end.outputs ≡ end_outputs (declared_of s) kept naming
   -- files and streams: of a model by the outcome, and nothing where there is none
-  pub written : IfSome end.model (WritesModel a kept end.outcome g.holds (o.taken, p.taken)
-      (o.faults, p.faults) (letters_of s) naming.names)
-  pub nothing : end.model ≡ None → (p ≡ o) × (g ≡ f)
-  pub beside : StaysBesides a.model a.answers None f.holds g.holds
+  pub written : IfSome end.model (WritesModel a kept end.outcome files_now.holds (out_before.taken, out_now.taken)
+      (out_before.faults, out_now.faults) (letters_of s) naming.names)
+  pub nothing : end.model ≡ None → (out_now ≡ out_before) × (files_now ≡ files_before)
+  pub beside : StaysBesides a.model a.answers None files_before.holds files_now.holds
   pub may : MayTell was end.outcome
-  pub said : ¬ CountedFault e.faults d.faults →
-      TakesAll (text_of (letters_of s) naming.names kept a.extra end.outcome) e.taken d.taken
+  pub said : ¬ CountedFault err_before.faults err_now.faults →
+      TakesAll (text_of (letters_of s) naming.names kept a.extra end.outcome) err_before.taken err_now.taken
   pub in_turn : TakesInTurn (line_of (letters_of s) naming.names kept a.extra end.model
-      end.refinements) (text_of (letters_of s) naming.names kept a.extra end.outcome) e.taken
-      d.taken
-  pub quiet : IsLearnedOutcome end.outcome → (g.faults ≡ f.faults) × (p.faults ≡ o.faults) ×
-      (d.faults ≡ e.faults)
+      end.refinements) (text_of (letters_of s) naming.names kept a.extra end.outcome) err_before.taken
+      err_now.taken
+  pub quiet : IsLearnedOutcome end.outcome → (files_now.faults ≡ files_before.faults) × (out_now.faults ≡ out_before.faults) ×
+      (err_now.faults ≡ err_before.faults)
   -- a write that failed, of a file that is named or of a stream; or the kept answers' file failed before
   pub role : (r : Role) → end.outcome ≡ FileFault r → ((r ≡ Model) × (a.model ≢ None)) ⊎
       (((r ≡ Answers) × (a.answers ≢ None)) ⊎ (r ≡ Kept))
   pub file_fault : (r : Role) → end.outcome ≡ FileFault r → r ≢ Kept →
-      CountedFault f.faults g.faults
-  pub sink_fault : end.outcome ≡ SinkFault → CountedFault o.faults p.faults ⊎
-      CountedFault e.faults d.faults
-  pub reads : g.reads ≡ f.reads
-  pub writes : MadeWrites a end.outcome f.calls g.calls
-  pub counts : (f.faults ≤ g.faults) × (o.faults ≤ p.faults) × (e.faults ≤ d.faults)
+      CountedFault files_before.faults files_now.faults
+  pub sink_fault : end.outcome ≡ SinkFault → CountedFault out_before.faults out_now.faults ⊎
+      CountedFault err_before.faults err_now.faults
+  pub reads : files_now.reads ≡ files_before.reads
+  pub writes : MadeWrites a end.outcome files_before.calls files_now.calls
+  pub counts : (files_before.faults ≤ files_now.faults) × (out_before.faults ≤ out_now.faults) × (err_before.faults ≤ err_now.faults)
 
 -- whatever a learning came to, what it kept is saved first; then the rest is told
-pub record IsEndOf (a : LearnValues) (s : System) (naming : Naming) (learned : Result Found LearnStop) (kept : List KeptAnswer) (f g : FilesState) (o p : SinkState) (e d : SinkState) (end : End) : Type 0 where
+pub record IsEndOf (a : LearnValues) (s : System) (naming : Naming) (learned : Result Found LearnStop) (kept : List KeptAnswer) (files_before files_now : FilesState) (out_before out_now : SinkState) (err_before err_now : SinkState) (end : End) : Type 0 where
   pub between : FilesState
   pub was : Saved
-  pub saved : HasSaved a.kept (letters_of s) naming.names kept f between was
-  pub told : IsToldOf a s naming learned kept was between g o p e d end
+  pub saved : HasSaved a.kept (letters_of s) naming.names kept files_before between was
+  pub told : IsToldOf a s naming learned kept was between files_now out_before out_now err_before err_now end
   -- so it stands in its file where no write of it failed and memory didn't run out, but for a later write under its name
   pub stands : was ≡ saving.Stand → a.kept ≢ a.model → a.kept ≢ a.answers →
-      KeptStand a.kept g.holds (letters_of s) naming.names kept
-  pub beside : StaysBesides a.model a.answers a.kept f.holds g.holds
-  pub counts : (f.faults ≤ g.faults) × (o.faults ≤ p.faults) × (e.faults ≤ d.faults)
+      KeptStand a.kept files_now.holds (letters_of s) naming.names kept
+  pub beside : StaysBesides a.model a.answers a.kept files_before.holds files_now.holds
+  pub counts : (files_before.faults ≤ files_now.faults) × (out_before.faults ≤ out_now.faults) × (err_before.faults ≤ err_now.faults)
 
 -- no start failed, and nothing is wrong with a link that was retired
-abbrev pub IsSoundSystem : System → SpawnerSeen → SpawnerSeen → Type 0
+abbrev pub IsSoundSystem : System → SpawnerState → SpawnerState → Type 0
 IsSoundSystem (Table m) before now = Unit {0}
-IsSoundSystem (Children c) before now = (¬ CountedFault before.faults now.faults) × ((links : List Retired) → now.retired ≡ before.retired ++ links → All (IsSound c.outputs) links)
+IsSoundSystem (Children c) before now = (¬ CountedFault before.faults now.faults) × ((links : List LinkState) → now.retired ≡ before.retired ++ links → All (IsSound c.outputs) links)
 
 -- a system was learned behind prior answers
-pub record EndsLearned (a : LearnValues) (s : System) (prior : List KeptAnswer) (f g : FilesState) (b z : SpawnerSeen) (o p : SinkState) (e d : SinkState) (end : End) : Type 0 where
+pub record EndsLearned (a : LearnValues) (s : System) (prior : List KeptAnswer) (files_before files_now : FilesState) (spawner_before spawner_now : SpawnerState) (out_before out_now : SinkState) (err_before err_now : SinkState) (end : End) : Type 0 where
   -- what was learned, the kept answers, the children, and why there is no model where there is none
   pub naming : Naming
   pub learned : Result Found LearnStop
-  pub found : IsOfSystem a s prior b z learned end.kept.answers naming.names
+  pub found : IsOfSystem a s prior spawner_before spawner_now learned end.kept.answers naming.names
   -- the model, and what it is worth
   pub model : IfSome end.model (HasModel a.learner (length (letters_of s)) (length naming.names)
       a.extra a.max_states end)
@@ -138,27 +137,27 @@ pub record EndsLearned (a : LearnValues) (s : System) (prior : List KeptAnswer) 
   -- n - 1 refinements, or memory runs out
   pub reached :
       (r : Rows)
-      → NothingFailed (f.faults, g.faults) (o.faults, p.faults) (e.faults, d.faults)
-      → IsSoundSystem s b z
+      → NothingFailed (files_before.faults, files_now.faults) (out_before.faults, out_now.faults) (err_before.faults, err_now.faults)
+      → IsSoundSystem s spawner_before spawner_now
       → IsWithin (length (letters_of s)) a.extra a.max_states r
       → Gives r (answers_of end.kept.answers)
       → IsReachedOutcome (length r) end.outcome
-  pub told : IsEndOf a s naming learned end.kept.answers f g o p e d end
+  pub told : IsEndOf a s naming learned end.kept.answers files_before files_now out_before out_now err_before err_now end
 
 -- the files say a system, prior answers and words that are asked first, and the system was learned; where there is a model each
 -- of the words was answered
-pub record EndsRead (a : LearnValues) (f g : FilesState) (b z : SpawnerSeen) (o p : SinkState) (e d : SinkState) (end : End) : Type 0 where
+pub record EndsRead (a : LearnValues) (files_before files_now : FilesState) (spawner_before spawner_now : SpawnerState) (out_before out_now : SinkState) (err_before err_now : SinkState) (end : End) : Type 0 where
   pub system : System
   pub prior : List KeptAnswer
   pub words : List (List ℕ)
   pub between : List File
   pub middle : FilesState
-  pub task : ReadsTask a f.holds f.reads between system prior
-  pub asked : SaysWords a (letters_of system) f.holds between middle.reads words
-  pub made : MadeReads f middle []
-  pub quiet : middle.faults ≡ f.faults
-  pub same : middle.holds ≡ f.holds
+  pub task : ReadsTask a files_before.holds files_before.reads between system prior
+  pub asked : SaysWords a (letters_of system) files_before.holds between middle.reads words
+  pub made : MadeReads files_before middle []
+  pub quiet : middle.faults ≡ files_before.faults
+  pub same : middle.holds ≡ files_before.holds
   -- of two prior answers that clash nothing is learned
   pub unclashed : NothingClashes (answers_of prior)
-  pub learned : EndsLearned a system prior middle g b z o p e d end
+  pub learned : EndsLearned a system prior middle files_now spawner_before spawner_now out_before out_now err_before err_now end
   pub answered : end.model ≢ None → AnswersWords words end.kept.answers

@@ -11,7 +11,7 @@ use Rattle.lw_rounds.specs.declared.stops.LearnStop.{LearnStop}
 use Rattle.lw_rounds.specs.declared.stops.LearnStop.TheVariants as learn
 use Rattle.lw_workers.specs.Machines.{IsMachineStop, IsReached, IsWithin, KeepsRuns}
 use Rattle.lw_children.specs.Children.{IsOfCommand}
-use Rattle.lw_children.specs.Spawners.{SpawnerSeen}
+use Rattle.lw_outside.specs.Links.{SpawnerState}
 use Rattle.lw_report.specs.Learnings.{HasLargeSuite}
 use Rattle.lw_learn.specs.Arguments.{LearnValues}
 use Rattle.lw_learn.specs.declared.task.System.{System}
@@ -31,7 +31,7 @@ pub record IsOfInstances (a : LearnValues) (m : Machine) (prior : List KeptAnswe
       Gives r (answers_of kept) → IsReached (length r) learned
 
 -- of a system: no child is started for a machine
-abbrev pub IsOfSystem : LearnValues → System → List KeptAnswer → (before now : SpawnerSeen) → Result Learned LearnStop → List KeptAnswer → List (List ℕ) → Type 0
+abbrev pub IsOfSystem : LearnValues → System → List KeptAnswer → (before now : SpawnerState) → Result Learned LearnStop → List KeptAnswer → List (List ℕ) → Type 0
 IsOfSystem a (Table m) prior before now learned kept names = (now ≡ before) × IsOfInstances a m prior learned kept names
 IsOfSystem a (Children c) prior before now learned kept names = IsOfCommand a.learner c.words c.inputs c.outputs a.workers a.extra a.max_states prior before now learned kept names
 

@@ -3,8 +3,7 @@ use Rattle.std.specs.Prelude.{◌≡◌, ℕ, ◌≤◌, List, [], ◌∷◌, tr
 use Rattle.lw_words.specs.Cause.{CountedFault}
 use Rattle.lw_words.specs.declared.kept.KeptAnswer.{KeptAnswer}
 use Rattle.lw_json.specs.AnswersText.{IsAnswersText}
-use Rattle.lw_outside.specs.Files.{File, Holds, noted, write_call}
-use Rattle.lw_report.specs.States.{FilesState}
+use Rattle.lw_outside.specs.Files.{File, Holds, noted, write_call, FilesState}
 use Rattle.lw_report.specs.declared.outcome.Outcome.{Outcome}
 use Rattle.lw_report.specs.declared.outcome.Outcome.TheVariants.{FileFault, NoMemory}
 use Rattle.lw_report.specs.declared.role.Role.TheVariants.{Kept}
@@ -14,29 +13,29 @@ use Rattle.lw_learn.specs.declared.saving.Saved.{Saved}
 use Rattle.lw_learn.specs.declared.saving.Saved.TheVariants as saving
 
 -- files were f and are g: the bytes were written under the name, or that failed, or memory ran out before it
-abbrev pub IsWritten : List ℕ → (bytes : List ℕ) → (f g : FilesState) → Saved → Type 0
-IsWritten name bytes f g saving.Stand = Holds g.holds name bytes × (g.calls ≡ noted (write_call name false) f.calls) × (g.faults ≡ f.faults)
-IsWritten name bytes f g saving.Failed = (g.calls ≡ noted (write_call name true) f.calls) × CountedFault f.faults g.faults
-IsWritten name bytes f g saving.NoMemory = g.calls ≡ f.calls
+abbrev pub IsWritten : List ℕ → (bytes : List ℕ) → (files_before files_now : FilesState) → Saved → Type 0
+IsWritten name bytes files_before files_now saving.Stand = Holds files_now.holds name bytes × (files_now.calls ≡ noted (write_call name false) files_before.calls) × (files_now.faults ≡ files_before.faults)
+IsWritten name bytes files_before files_now saving.Failed = (files_now.calls ≡ noted (write_call name true) files_before.calls) × CountedFault files_before.faults files_now.faults
+IsWritten name bytes files_before files_now saving.NoMemory = files_now.calls ≡ files_before.calls
 
 -- so was a text of kept answers, where one could be made
-abbrev pub IsTextWritten : List ℕ → (inputs outputs : List (List ℕ)) → List KeptAnswer → (f g : FilesState) → Saved → Type 0
-IsTextWritten name inputs outputs kept f g saving.Stand = (text : List ℕ) × IsAnswersText inputs outputs kept text × IsWritten name text f g saving.Stand
-IsTextWritten name inputs outputs kept f g saving.Failed = IsWritten name [] f g saving.Failed
-IsTextWritten name inputs outputs kept f g saving.NoMemory = IsWritten name [] f g saving.NoMemory
+abbrev pub IsTextWritten : List ℕ → (inputs outputs : List (List ℕ)) → List KeptAnswer → (files_before files_now : FilesState) → Saved → Type 0
+IsTextWritten name inputs outputs kept files_before files_now saving.Stand = (text : List ℕ) × IsAnswersText inputs outputs kept text × IsWritten name text files_before files_now saving.Stand
+IsTextWritten name inputs outputs kept files_before files_now saving.Failed = IsWritten name [] files_before files_now saving.Failed
+IsTextWritten name inputs outputs kept files_before files_now saving.NoMemory = IsWritten name [] files_before files_now saving.NoMemory
 
 -- where a file is named and something is kept; else nothing is done
-abbrev pub IsKeptWritten : Option (List ℕ) → (inputs outputs : List (List ℕ)) → List KeptAnswer → (f g : FilesState) → Saved → Type 0
-IsKeptWritten None inputs outputs kept f g was = (g ≡ f) × (was ≡ saving.Stand)
-IsKeptWritten (Some name) inputs outputs [] f g was = (g ≡ f) × (was ≡ saving.Stand)
-IsKeptWritten (Some name) inputs outputs (k ∷ ks) f g was = IsTextWritten name inputs outputs (k ∷ ks) f g was
+abbrev pub IsKeptWritten : Option (List ℕ) → (inputs outputs : List (List ℕ)) → List KeptAnswer → (files_before files_now : FilesState) → Saved → Type 0
+IsKeptWritten None inputs outputs kept files_before files_now was = (files_now ≡ files_before) × (was ≡ saving.Stand)
+IsKeptWritten (Some name) inputs outputs [] files_before files_now was = (files_now ≡ files_before) × (was ≡ saving.Stand)
+IsKeptWritten (Some name) inputs outputs (k ∷ ks) files_before files_now was = IsTextWritten name inputs outputs (k ∷ ks) files_before files_now was
 
 -- what saving did: no other file changed, and none was read
-pub record HasSaved (file : Option (List ℕ)) (inputs outputs : List (List ℕ)) (kept : List KeptAnswer) (f g : FilesState) (was : Saved) : Type 0 where
-  pub written : IsKeptWritten file inputs outputs kept f g was
-  pub beside : StaysBesides file None None f.holds g.holds
-  pub reads : g.reads ≡ f.reads
-  pub counts : f.faults ≤ g.faults
+pub record HasSaved (file : Option (List ℕ)) (inputs outputs : List (List ℕ)) (kept : List KeptAnswer) (files_before files_now : FilesState) (was : Saved) : Type 0 where
+  pub written : IsKeptWritten file inputs outputs kept files_before files_now was
+  pub beside : StaysBesides file None None files_before.holds files_now.holds
+  pub reads : files_now.reads ≡ files_before.reads
+  pub counts : files_before.faults ≤ files_now.faults
 
 -- a text of what is kept stands in the file, where one is named and something is kept
 abbrev pub KeptStand : Option (List ℕ) → Option (List File) → (inputs outputs : List (List ℕ)) → List KeptAnswer → Type 0
@@ -45,9 +44,9 @@ KeptStand (Some name) holds inputs outputs [] = Unit {0}
 KeptStand (Some name) holds inputs outputs (k ∷ ks) = (text : List ℕ) × IsAnswersText inputs outputs (k ∷ ks) text × Holds holds name text
 
 -- saving had some end, and memory that ran out for it is the outcome
-pub record IsSaved (file : Option (List ℕ)) (inputs outputs : List (List ℕ)) (kept : List KeptAnswer) (f g : FilesState) (outcome : Outcome) : Type 0 where
+pub record IsSaved (file : Option (List ℕ)) (inputs outputs : List (List ℕ)) (kept : List KeptAnswer) (files_before files_now : FilesState) (outcome : Outcome) : Type 0 where
   pub was : Saved
-  pub saved : HasSaved file inputs outputs kept f g was
+  pub saved : HasSaved file inputs outputs kept files_before files_now was
   pub wants : was ≡ saving.NoMemory → outcome ≡ NoMemory
 
 -- the outcome of a call without a model: memory that ran out is told, and a file that failed is not

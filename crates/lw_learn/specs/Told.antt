@@ -8,10 +8,10 @@ use Rattle.lw_json.specs.declared.answers.Answers.{Answers}
 use Rattle.lw_json.specs.declared.machine.Machine.{Machine}
 use Rattle.lw_json.specs.declared.setup.Setup.{Setup}
 use Rattle.lw_json.specs.declared.setup.Setup.TheVariants as setup
-use Rattle.lw_outside.specs.Files.{File, file_at, longest_file}
-use Rattle.lw_children.specs.Spawners.{SpawnerSeen}
+use Rattle.lw_outside.specs.Files.{File, file_at, longest_file, FilesState}
+use Rattle.lw_outside.specs.Links.{SpawnerState}
+use Rattle.lw_outside.specs.Streams.{SinkState}
 use Rattle.lw_report.specs.Reading.{TellsBad, TellsFile}
-use Rattle.lw_report.specs.States.{FilesState, SinkState}
 use Rattle.lw_report.specs.declared.«end».End.{End}
 use Rattle.lw_report.specs.declared.outcome.Outcome.{Outcome}
 use Rattle.lw_report.specs.declared.outcome.Outcome.TheVariants.{NoMemory, Nondeterministic}
@@ -63,11 +63,11 @@ IsNoRefusal _ = ⊥
 -- where the files tell a system, fitting prior answers and words over its letters, and count no fault, the system is learned, but
 -- that two prior answers may clash or memory run out
 abbrev pub ToldIsLearned : Type 0
-ToldIsLearned = (a : LearnValues) (f g : FilesState) (b z : SpawnerSeen) (o p e d : SinkState) (end : End) (s : System)
-    → TellsTask a f.holds s → ¬ CountedFault f.faults g.faults
-    → EndsUnread a f g b z o p e d end → IsNoRefusal end.outcome
+ToldIsLearned = (a : LearnValues) (files_before files_now : FilesState) (spawner_before spawner_now : SpawnerState) (out_before out_now err_before err_now : SinkState) (end : End) (s : System)
+    → TellsTask a files_before.holds s → ¬ CountedFault files_before.faults files_now.faults
+    → EndsUnread a files_before files_now spawner_before spawner_now out_before out_now err_before err_now end → IsNoRefusal end.outcome
 
 -- where the file of the system is told to be of none, none is learned
 abbrev pub BadIsRefused : Type 0
-BadIsRefused = (a : LearnValues) (f g : FilesState) (b z : SpawnerSeen) (o p e d : SinkState) (end : End)
-    → TellsNoSystem a.source a.system f.holds → EndsRead a f g b z o p e d end → ⊥
+BadIsRefused = (a : LearnValues) (files_before files_now : FilesState) (spawner_before spawner_now : SpawnerState) (out_before out_now err_before err_now : SinkState) (end : End)
+    → TellsNoSystem a.source a.system files_before.holds → EndsRead a files_before files_now spawner_before spawner_now out_before out_now err_before err_now end → ⊥

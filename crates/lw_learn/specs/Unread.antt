@@ -12,10 +12,9 @@ use Rattle.lw_json.specs.SetupFile.{HasSetupFault, IsSetupFile}
 use Rattle.lw_json.specs.declared.answers.Answers.{Answers}
 use Rattle.lw_json.specs.declared.fault.JsonFault.{JsonFault}
 use Rattle.lw_json.specs.declared.setup.Setup.TheVariants as setup
-use Rattle.lw_outside.specs.Files.{Call, File, HoldsLong, read_call}
+use Rattle.lw_outside.specs.Files.{Call, File, HoldsLong, read_call, FilesState}
 use Rattle.lw_prior.specs.FirstClash.{IsFirstClash}
 use Rattle.lw_report.specs.Reading.{ReadsBadFile, ReadsFile}
-use Rattle.lw_report.specs.States.{FilesState}
 use Rattle.lw_report.specs.declared.outcome.Outcome.{Outcome}
 use Rattle.lw_report.specs.declared.outcome.Outcome.TheVariants.{Alphabets, BadFile, FileFault, FileTooLong, NoMemory, Nondeterministic}
 use Rattle.lw_report.specs.declared.role.Role.{Role}
@@ -56,49 +55,49 @@ ReadsBad role.Kept name holds before after fault = ⊥
 
 -- reads that gave bytes, one after the other, and then these calls
 abbrev pub MadeReads : FilesState → FilesState → List Call → Type 0
-MadeReads f g last = (more : List File) × (g.reads ≡ f.reads ++ more) × (g.calls ≡ gained (map (λ r. read_call r.0 false) more ++ last) f.calls)
+MadeReads files_before files_now last = (more : List File) × (files_now.reads ≡ files_before.reads ++ more) × (files_now.calls ≡ gained (map (λ r. read_call r.0 false) more ++ last) files_before.calls)
 
 -- reads of which none failed, some of which gave bytes
 abbrev pub MadeSomeReads : FilesState → FilesState → Type 0
-MadeSomeReads f g = ((more : List File) × (g.reads ≡ f.reads ++ more)) × ((names : List (List ℕ)) × (g.calls ≡ gained (map (λ n. read_call n false) names) f.calls))
+MadeSomeReads files_before files_now = ((more : List File) × (files_now.reads ≡ files_before.reads ++ more)) × ((names : List (List ℕ)) × (files_now.calls ≡ gained (map (λ n. read_call n false) names) files_before.calls))
 
 -- why the file in a role wasn't read
 abbrev pub IsRefused : {V : Type 0} → (List ℕ → V → Type 0) → (List ℕ → JsonFault → Type 0) → Role → List ℕ → FilesState → FilesState → Outcome → Type 0
-IsRefused IsFile HasFirst role name f g (BadFile r fault) = (r ≡ role) × ReadsBadFile IsFile HasFirst name f.holds f.reads g.reads fault × MadeReads f g []
-IsRefused IsFile HasFirst role name f g (FileTooLong r) = (r ≡ role) × HoldsLong f.holds name × (g.reads ≡ f.reads) × MadeReads f g (read_call name false ∷ [])
-IsRefused IsFile HasFirst role name f g (FileFault r) = (r ≡ role) × CountedFault f.faults g.faults × (g.reads ≡ f.reads) × MadeReads f g (read_call name true ∷ [])
-IsRefused IsFile HasFirst role name f g NoMemory = MadeSomeReads f g
-IsRefused IsFile HasFirst role name f g _ = ⊥
+IsRefused IsFile HasFirst role name files_before files_now (BadFile r fault) = (r ≡ role) × ReadsBadFile IsFile HasFirst name files_before.holds files_before.reads files_now.reads fault × MadeReads files_before files_now []
+IsRefused IsFile HasFirst role name files_before files_now (FileTooLong r) = (r ≡ role) × HoldsLong files_before.holds name × (files_now.reads ≡ files_before.reads) × MadeReads files_before files_now (read_call name false ∷ [])
+IsRefused IsFile HasFirst role name files_before files_now (FileFault r) = (r ≡ role) × CountedFault files_before.faults files_now.faults × (files_now.reads ≡ files_before.reads) × MadeReads files_before files_now (read_call name true ∷ [])
+IsRefused IsFile HasFirst role name files_before files_now NoMemory = MadeSomeReads files_before files_now
+IsRefused IsFile HasFirst role name files_before files_now _ = ⊥
 
 -- why no learning began, by the outcome: what it read, whether it read a system, and what it kept
 abbrev pub IsUnreadBy : LearnValues → FilesState → FilesState → Option System → List KeptAnswer → Outcome → Type 0
-IsUnreadBy a f g read kept (BadFile r fault) =
-    (now : List File) × (name : List ℕ) × IsNext a f.holds f.reads now r name read × ReadsBad r name f.holds now g.reads fault × MadeReads f g [] × (kept ≡ [])
-IsUnreadBy a f g read kept (FileTooLong r) = (name : List ℕ) × IsNext a f.holds f.reads g.reads r name read × HoldsLong f.holds name × MadeReads f g (read_call name false ∷ []) × (kept ≡ [])
-IsUnreadBy a f g read kept (FileFault r) =
-    (name : List ℕ) × IsNext a f.holds f.reads g.reads r name read × CountedFault f.faults g.faults × MadeReads f g (read_call name true ∷ []) × (kept ≡ [])
-IsUnreadBy a f g read kept (Alphabets r) =
+IsUnreadBy a files_before files_now read kept (BadFile r fault) =
+    (now : List File) × (name : List ℕ) × IsNext a files_before.holds files_before.reads now r name read × ReadsBad r name files_before.holds now files_now.reads fault × MadeReads files_before files_now [] × (kept ≡ [])
+IsUnreadBy a files_before files_now read kept (FileTooLong r) = (name : List ℕ) × IsNext a files_before.holds files_before.reads files_now.reads r name read × HoldsLong files_before.holds name × MadeReads files_before files_now (read_call name false ∷ []) × (kept ≡ [])
+IsUnreadBy a files_before files_now read kept (FileFault r) =
+    (name : List ℕ) × IsNext a files_before.holds files_before.reads files_now.reads r name read × CountedFault files_before.faults files_now.faults × MadeReads files_before files_now (read_call name true ∷ []) × (kept ≡ [])
+IsUnreadBy a files_before files_now read kept (Alphabets r) =
     (r ≡ role.Prior)
     × ((now : List File)
     × (name : List ℕ)
     × (s : System)
     × (p : Answers)
-    × IsNext a f.holds f.reads now role.Prior name read
+    × IsNext a files_before.holds files_before.reads now role.Prior name read
     × (read ≡ Some s)
-    × ReadsFile IsAnswersFile name f.holds now g.reads p
+    × ReadsFile IsAnswersFile name files_before.holds now files_now.reads p
     × (¬ FitsSystem p s))
-    × MadeReads f g []
+    × MadeReads files_before files_now []
     × (kept ≡ [])
-IsUnreadBy a f g read kept (Nondeterministic clash) =
-    (s : System) × (read ≡ Some s) × ReadsTask a f.holds f.reads g.reads s kept × IsFirstClash (answers_of kept) clash × MadeReads f g []
-IsUnreadBy a f g read kept NoMemory = MadeSomeReads f g × (kept ≡ []) × (read ≡ None)
-IsUnreadBy a f g read kept _ = ⊥
+IsUnreadBy a files_before files_now read kept (Nondeterministic clash) =
+    (s : System) × (read ≡ Some s) × ReadsTask a files_before.holds files_before.reads files_now.reads s kept × IsFirstClash (answers_of kept) clash × MadeReads files_before files_now []
+IsUnreadBy a files_before files_now read kept NoMemory = MadeSomeReads files_before files_now × (kept ≡ []) × (read ≡ None)
+IsUnreadBy a files_before files_now read kept _ = ⊥
 
 -- the same; or memory ran out in place of that, and the same is kept
 abbrev pub IsUnreadAs : LearnValues → FilesState → FilesState → Option System → List KeptAnswer → Outcome → Type 0
-IsUnreadAs a f g read kept outcome =
-    IsUnreadBy a f g read kept outcome
-    ⊎ ((outcome ≡ NoMemory) × ((why : Outcome) × IsUnreadBy a f g read kept why))
+IsUnreadAs a files_before files_now read kept outcome =
+    IsUnreadBy a files_before files_now read kept outcome
+    ⊎ ((outcome ≡ NoMemory) × ((why : Outcome) × IsUnreadBy a files_before files_now read kept why))
 
 -- the declared names of a system that was read
 abbrev pub names_read : Option System → Option Naming

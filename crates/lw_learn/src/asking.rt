@@ -2,7 +2,6 @@
 ghost use Rattle.std.specs.Prelude.{◌≡◌, ℕ, ◌<◌, ◌≤◌, ◌^◌, List, ◌++◌, length, Some, IfErr, IfOk, OnOk};
 ghost use Rattle.std.specs.List.{All};
 ghost use Rattle.lw_words.specs.Word.{IsWord};
-ghost use Rattle.lw_report.specs.States.{files_state};
 ghost use Rattle.lw_learn.specs.Asking.{AreDrawn, IsWordsFile};
 ghost use Rattle.lw_learn.specs.bodies.Ready.{IsReady};
 ghost use Rattle.lw_learn.specs.bodies.Stages.{HasNamed, HasNamedWords, HasWorded, IsWordedStage, SaysNoWords};
@@ -41,12 +40,7 @@ fn read_named<F: Files>(
     inputs: &Names,
     files: &mut F,
 ) -> Result<Words, Outcome>
-    ensures { HasNamed name.now inputs.now
-        (files_state (F.holds files.old) (F.calls files.old) (F.reads files.old)
-        (F.faults files.old))
-        (files_state (F.holds files.new) (F.calls files.new) (F.reads files.new)
-        (F.faults files.new))
-        result }
+    ensures { HasNamed name.now inputs.now (F.state files.old) (F.state files.new) result }
 {
     let bytes = match files.read(name) {
         Ok(bytes) => bytes,
@@ -62,11 +56,7 @@ fn named_words<F: Files>(
     inputs: &Names,
     files: &mut F,
 ) -> Result<Words, Outcome>
-    ensures { HasNamedWords arguments.now.words inputs.now
-        (files_state (F.holds files.old) (F.calls files.old) (F.reads files.old)
-        (F.faults files.old))
-        (files_state (F.holds files.new) (F.calls files.new) (F.reads files.new)
-        (F.faults files.new))
+    ensures { HasNamedWords arguments.now.words inputs.now (F.state files.old) (F.state files.new)
         result }
 {
     match arguments.words() {
@@ -133,12 +123,7 @@ fn words_to_ask<F: Files>(
     inputs: &Names,
     files: &mut F,
 ) -> Result<Words, Outcome>
-    ensures { HasWorded arguments.now inputs.now
-        (files_state (F.holds files.old) (F.calls files.old) (F.reads files.old)
-        (F.faults files.old))
-        (files_state (F.holds files.new) (F.calls files.new) (F.reads files.new)
-        (F.faults files.new))
-        result }
+    ensures { HasWorded arguments.now inputs.now (F.state files.old) (F.state files.new) result }
 {
     let named = named_words(alloc, arguments, inputs, files)?;
     match with_drawn(alloc, arguments, inputs, named) {
@@ -178,11 +163,7 @@ pub(crate) fn read_worded<F: Files, L: LogFile>(
     files: &mut F,
     log: &mut Log<L>,
 ) -> Result<WordedTask, Unread>
-    ensures { IsWordedStage arguments.now
-        (files_state (F.holds files.old) (F.calls files.old) (F.reads files.old)
-        (F.faults files.old))
-        (files_state (F.holds files.new) (F.calls files.new) (F.reads files.new)
-        (F.faults files.new)) result }
+    ensures { IsWordedStage arguments.now (F.state files.old) (F.state files.new) result }
 {
     let task = read_task(alloc, arguments, files, log)?;
     match words_to_ask(alloc, arguments, task.system.inputs(), files) {

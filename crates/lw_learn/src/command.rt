@@ -3,9 +3,7 @@ ghost use Rattle.std.specs.Prelude.{◌≡◌, ◌≢◌, ◌<◌, ◌≤◌, �
 ghost use Rattle.std.specs.List.{All};
 ghost use Rattle.lw_words.specs.Word.{IsWord};
 ghost use Rattle.lw_workers.specs.Asking.{AnswersWords};
-ghost use Rattle.lw_children.specs.Spawners.{spawner_seen};
 ghost use Rattle.lw_report.specs.Outcomes.{status_of};
-ghost use Rattle.lw_report.specs.States.{files_state, sink_state};
 ghost use Rattle.lw_learn.specs.Ending.{EndsLearned};
 ghost use Rattle.lw_learn.specs.LearnRun.{IsLearnEnd, IsLearnRun};
 ghost use Rattle.lw_learn.specs.Tasks.{letters_of};
@@ -42,18 +40,8 @@ fn learn_read<R: Threads + Wait + Sync + Drop, F: Files, P: Spawner, O: Sink, E:
     requires batch { length worded.words < 2 ^ 32 }
     ensures status { result.status ≡ status_of result.outcome }
     ensures learned { EndsLearned arguments.now worded.task.system worded.task.cache.kept
-        (files_state (F.holds files.old) (F.calls files.old) (F.reads files.old)
-        (F.faults files.old))
-        (files_state (F.holds files.new) (F.calls files.new) (F.reads files.new)
-        (F.faults files.new))
-        (spawner_seen (P.faults spawner.old) (P.started spawner.old) (P.retired spawner.old)
-        (P.commands spawner.old))
-        (spawner_seen (P.faults spawner.new) (P.started spawner.new) (P.retired spawner.new)
-        (P.commands spawner.new))
-        (sink_state (O.taken out.old) (O.faults out.old))
-        (sink_state (O.taken out.new) (O.faults out.new))
-        (sink_state (E.taken err.old) (E.faults err.old))
-        (sink_state (E.taken err.new) (E.faults err.new)) result }
+        (F.state files.old) (F.state files.new) (P.state spawner.old) (P.state spawner.new)
+        (O.state out.old) (O.state out.new) (E.state err.old) (E.state err.new) result }
     ensures answered { result.model ≢ None → AnswersWords worded.words result.kept.answers }
 {
     let WordedTask { task, words } = worded;
@@ -98,21 +86,12 @@ fn learn_logged<
     log: &mut Log<L>,
 ) -> End
     ensures status { result.status ≡ status_of result.outcome }
-    ensures ends { IsLearnEnd arguments.now
-        (files_state (F.holds files.old) (F.calls files.old) (F.reads files.old)
-        (F.faults files.old))
-        (files_state (F.holds files.new) (F.calls files.new) (F.reads files.new)
-        (F.faults files.new))
-        (spawner_seen (P.faults spawner.old) (P.started spawner.old) (P.retired spawner.old)
-        (P.commands spawner.old))
-        (spawner_seen (P.faults spawner.new) (P.started spawner.new) (P.retired spawner.new)
-        (P.commands spawner.new))
-        (sink_state (O.taken out.old) (O.faults out.old))
-        (sink_state (O.taken out.new) (O.faults out.new))
-        (sink_state (E.taken err.old) (E.faults err.old))
-        (sink_state (E.taken err.new) (E.faults err.new)) result }
-    ensures counts { (F.faults files.old ≤ F.faults files.new) ×
-        (O.faults out.old ≤ O.faults out.new) × (E.faults err.old ≤ E.faults err.new) }
+    ensures ends { IsLearnEnd arguments.now (F.state files.old) (F.state files.new)
+        (P.state spawner.old) (P.state spawner.new) (O.state out.old) (O.state out.new)
+        (E.state err.old) (E.state err.new) result }
+    ensures counts { ((F.state files.old).faults ≤ (F.state files.new).faults) ×
+        ((O.state out.old).faults ≤ (O.state out.new).faults) ×
+        ((E.state err.old).faults ≤ (E.state err.new).faults) }
 {
     match read_worded(alloc, arguments, files, log) {
         Ok(worded) => learn_read(rt, alloc, arguments, worded, files, spawner, out, err, log),
@@ -144,22 +123,13 @@ pub fn learn<R: Threads + Wait + Sync + Drop, F: Files, P: Spawner, O: Sink, E: 
     log: &mut Log<L>,
 ) -> End
     ensures status { result.status ≡ status_of result.outcome }
-    ensures run { IsLearnRun arguments.now
-        (files_state (F.holds files.old) (F.calls files.old) (F.reads files.old)
-        (F.faults files.old))
-        (files_state (F.holds files.new) (F.calls files.new) (F.reads files.new)
-        (F.faults files.new))
-        (spawner_seen (P.faults spawner.old) (P.started spawner.old) (P.retired spawner.old)
-        (P.commands spawner.old))
-        (spawner_seen (P.faults spawner.new) (P.started spawner.new) (P.retired spawner.new)
-        (P.commands spawner.new))
-        (sink_state (O.taken out.old) (O.faults out.old))
-        (sink_state (O.taken out.new) (O.faults out.new))
-        (sink_state (E.taken err.old) (E.faults err.old))
-        (sink_state (E.taken err.new) (E.faults err.new)) log.new.state result }
+    ensures run { IsLearnRun arguments.now (F.state files.old) (F.state files.new)
+        (P.state spawner.old) (P.state spawner.new) (O.state out.old) (O.state out.new)
+        (E.state err.old) (E.state err.new) log.new.state result }
     // No count of faults falls.
-    ensures counts { (F.faults files.old ≤ F.faults files.new) ×
-        (O.faults out.old ≤ O.faults out.new) × (E.faults err.old ≤ E.faults err.new) }
+    ensures counts { ((F.state files.old).faults ≤ (F.state files.new).faults) ×
+        ((O.state out.old).faults ≤ (O.state out.new).faults) ×
+        ((E.state err.old).faults ≤ (E.state err.new).faults) }
 {
     if let Some(name) = arguments.log() {
         log.open(name);

@@ -7,7 +7,6 @@ ghost use Rattle.lw_rounds.specs.Learner.{refinements_of};
 ghost use Rattle.lw_report.specs.Ends.{IsWithoutLearner};
 ghost use Rattle.lw_report.specs.Learnings.{learn_outcome as outcome_of};
 ghost use Rattle.lw_report.specs.Outcomes.{StandsOrWants, status_of};
-ghost use Rattle.lw_report.specs.States.{files_state, sink_state};
 ghost use Rattle.lw_report.specs.Text.{names_of as names_said, text_of};
 ghost use Rattle.lw_report.specs.Writing.{TakesAll, TakesSome};
 ghost use Rattle.lw_report.specs.declared.outcome.Outcome.{Outcome as Came};
@@ -57,32 +56,36 @@ fn write_out<F: Files, O: Sink, E: Sink>(
     ensures kept { result.kept ≡ kept }
     ensures outputs { result.outputs ≡ outputs }
     ensures files { WritesFiles arguments.now machine kept.answers result.outcome
-        (F.holds files.new) (F.calls files.old, F.calls files.new) }
+        (F.state files.new).holds ((F.state files.old).calls, (F.state files.new).calls) }
     ensures out { WritesOut arguments.now.model (written_text machine) result.outcome
-        (O.taken out.old, O.taken out.new) (O.faults out.old, O.faults out.new) }
-    ensures beside { StaysBesides arguments.now.model arguments.now.answers None (F.holds files.old)
-        (F.holds files.new) }
+        ((O.state out.old).taken, (O.state out.new).taken)
+        ((O.state out.old).faults, (O.state out.new).faults) }
+    ensures beside { StaysBesides arguments.now.model arguments.now.answers None
+        (F.state files.old).holds (F.state files.new).holds }
     ensures role { (role : Part) → result.outcome ≡ Came.FileFault role →
         ((role ≡ ModelRole) × (arguments.now.model ≢ None)) ⊎
         (((role ≡ AnswersRole) × (arguments.now.answers ≢ None)) ⊎ (role ≡ KeptRole)) }
     ensures failed { (role : Part) → result.outcome ≡ Came.FileFault role → role ≢ KeptRole →
-        CountedFault (F.faults files.old) (F.faults files.new) }
+        CountedFault (F.state files.old).faults (F.state files.new).faults }
     ensures may { MayTell saved result.outcome }
-    ensures refused { result.outcome ≡ Came.SinkFault →
-        CountedFault (O.faults out.old) (O.faults out.new) ⊎
-        CountedFault (E.faults err.old) (E.faults err.new) }
-    ensures said { ¬ CountedFault (E.faults err.old) (E.faults err.new) →
+    ensures refused { result.outcome ≡ Came.SinkFault → CountedFault (O.state out.old).faults
+        (O.state out.new).faults ⊎ CountedFault (E.state err.old).faults
+        (E.state err.new).faults }
+    ensures said { ¬ CountedFault (E.state err.old).faults (E.state err.new).faults →
         TakesAll (text_of machine.inputs machine.outputs kept.answers arguments.now.extra
-        result.outcome) (E.taken err.old) (E.taken err.new) }
+        result.outcome) (E.state err.old).taken (E.state err.new).taken }
     ensures part { TakesInTurn (text_of machine.inputs machine.outputs kept.answers
         arguments.now.extra (Came.Learned machine.mealy (refinements_of learner)))
         (text_of machine.inputs machine.outputs kept.answers arguments.now.extra result.outcome)
-        (E.taken err.old) (E.taken err.new) }
-    ensures reads { F.reads files.new ≡ F.reads files.old }
-    ensures quiet { IsLearnedOutcome result.outcome → (F.faults files.new ≡ F.faults files.old) ×
-        (O.faults out.new ≡ O.faults out.old) × (E.faults err.new ≡ E.faults err.old) }
-    ensures counts { (F.faults files.old ≤ F.faults files.new) ×
-        (O.faults out.old ≤ O.faults out.new) × (E.faults err.old ≤ E.faults err.new) }
+        (E.state err.old).taken (E.state err.new).taken }
+    ensures reads { (F.state files.new).reads ≡ (F.state files.old).reads }
+    ensures quiet { IsLearnedOutcome result.outcome →
+        ((F.state files.new).faults ≡ (F.state files.old).faults) ×
+        ((O.state out.new).faults ≡ (O.state out.old).faults) ×
+        ((E.state err.new).faults ≡ (E.state err.old).faults) }
+    ensures counts { ((F.state files.old).faults ≤ (F.state files.new).faults) ×
+        ((O.state out.old).faults ≤ (O.state out.new).faults) ×
+        ((E.state err.old).faults ≤ (E.state err.new).faults) }
 {
     let refinements = learner.refinements();
     let outcome = tell_model(
@@ -149,11 +152,12 @@ fn leave_model<E: Sink>(
     ensures refinements { result.refinements ≡ refinements_of learned.learner }
     ensures kept { result.kept ≡ kept }
     ensures outputs { result.outputs ≡ outputs }
-    ensures said { ¬ CountedFault (E.faults err.old) (E.faults err.new) →
-        TakesAll (text_of [] [] [] 0 Came.NoMemory) (E.taken err.old) (E.taken err.new) }
-    ensures part { TakesSome (text_of [] [] [] 0 Came.NoMemory) (E.taken err.old)
-        (E.taken err.new) }
-    ensures counts { E.faults err.old ≤ E.faults err.new }
+    ensures said { ¬ CountedFault (E.state err.old).faults (E.state err.new).faults →
+        TakesAll (text_of [] [] [] 0 Came.NoMemory) (E.state err.old).taken
+        (E.state err.new).taken }
+    ensures part { TakesSome (text_of [] [] [] 0 Came.NoMemory) (E.state err.old).taken
+        (E.state err.new).taken }
+    ensures counts { (E.state err.old).faults ≤ (E.state err.new).faults }
 {
     let outcome = say(alloc, Outcome::NoMemory, None, None, &kept, extra, err);
     End::with_model(outcome, learned, kept, outputs)
@@ -179,14 +183,8 @@ fn end_model<F: Files, O: Sink, E: Sink>(
         kept.answers }
     ensures status { result.status ≡ status_of result.outcome }
     ensures told { IsToldOf arguments.now system.now names (Ok learned) kept.answers saved
-        (files_state (F.holds files.old) (F.calls files.old) (F.reads files.old)
-        (F.faults files.old))
-        (files_state (F.holds files.new) (F.calls files.new) (F.reads files.new)
-        (F.faults files.new))
-        (sink_state (O.taken out.old) (O.faults out.old))
-        (sink_state (O.taken out.new) (O.faults out.new))
-        (sink_state (E.taken err.old) (E.faults err.old))
-        (sink_state (E.taken err.new) (E.faults err.new)) result }
+        (F.state files.old) (F.state files.new) (O.state out.old) (O.state out.new)
+        (E.state err.old) (E.state err.new) result }
 {
     let Learned { model, learner } = learned;
     let read = named(system, &names, model, alloc);
@@ -230,12 +228,12 @@ fn end_stop<E: Sink>(
     ensures learner { IsWithoutLearner result }
     ensures kept { result.kept ≡ kept }
     ensures outputs { result.outputs ≡ end_outputs (declared_of system.now) kept.answers names }
-    ensures said { ¬ CountedFault (E.faults err.old) (E.faults err.new) →
+    ensures said { ¬ CountedFault (E.state err.old).faults (E.state err.new).faults →
         TakesAll (text_of (letters_of system.now) names.names kept.answers extra result.outcome)
-        (E.taken err.old) (E.taken err.new) }
+        (E.state err.old).taken (E.state err.new).taken }
     ensures part { TakesSome (text_of (letters_of system.now) names.names kept.answers extra
-        result.outcome) (E.taken err.old) (E.taken err.new) }
-    ensures counts { E.faults err.old ≤ E.faults err.new }
+        result.outcome) (E.state err.old).taken (E.state err.new).taken }
+    ensures counts { (E.state err.old).faults ≤ (E.state err.new).faults }
 {
     let texts = text_names(alloc, &names);
     let outputs = outputs_of(system, &kept, names);
@@ -284,16 +282,9 @@ pub(crate) fn finish<F: Files, O: Sink, E: Sink>(
     requires over { AreKeptOver (length (letters_of system.now)) (length found.names.names)
         found.kept.answers }
     ensures status { result.status ≡ status_of result.outcome }
-    ensures told { IsEndOf arguments.now system.now found.names found.learned
-        found.kept.answers
-        (files_state (F.holds files.old) (F.calls files.old) (F.reads files.old)
-        (F.faults files.old))
-        (files_state (F.holds files.new) (F.calls files.new) (F.reads files.new)
-        (F.faults files.new))
-        (sink_state (O.taken out.old) (O.faults out.old))
-        (sink_state (O.taken out.new) (O.faults out.new))
-        (sink_state (E.taken err.old) (E.faults err.old))
-        (sink_state (E.taken err.new) (E.faults err.new)) result }
+    ensures told { IsEndOf arguments.now system.now found.names found.learned found.kept.answers
+        (F.state files.old) (F.state files.new) (O.state out.old) (O.state out.new)
+        (E.state err.old) (E.state err.new) result }
 {
     let Found {
         learned,

@@ -8,7 +8,6 @@ ghost use Rattle.lw_json.specs.KeptOver.{AreKeptOver};
 ghost use Rattle.lw_pool.specs.Opening.{MayBegin};
 ghost use Rattle.lw_workers.specs.Asking.{AnswersWords};
 ghost use Rattle.lw_children.specs.Keeping.{count_of};
-ghost use Rattle.lw_children.specs.Spawners.{spawner_seen};
 ghost use Rattle.lw_children.specs.Children.{IsOfCommand};
 ghost use Rattle.lw_learn.specs.Findings.{IsOfInstances, IsOfSystem, StopsBy};
 ghost use Rattle.lw_learn.specs.declared.task.System.TheVariants as Of;
@@ -104,11 +103,8 @@ fn learn_command<P: Spawner, R: Threads + Wait + Sync + Drop, W: Watcher>(
     requires batch { length words.now < 2 ^ 32 }
     ensures found { IsOfCommand arguments.now.learner command.now.words command.now.inputs
         command.now.outputs arguments.now.workers arguments.now.extra arguments.now.max_states
-        cache.kept
-        (spawner_seen (P.faults spawner.old) (P.started spawner.old) (P.retired spawner.old)
-        (P.commands spawner.old))
-        (spawner_seen (P.faults spawner.new) (P.started spawner.new) (P.retired spawner.new)
-        (P.commands spawner.new)) result.learned result.kept.answers result.names.names }
+        cache.kept (P.state spawner.old) (P.state spawner.new) result.learned result.kept.answers
+        result.names.names }
     ensures asked { OnOk result.learned (AnswersWords words.now result.kept.answers) }
     ensures few { arguments.now.workers ≤ 16 }
 {
@@ -154,14 +150,11 @@ pub(crate) fn learn_system<P: Spawner, R: Threads + Wait + Sync + Drop, W: Watch
     requires ready { IsReady system.now names cache }
     requires letters { All (IsWord (length (letters_of system.now))) words.now }
     requires batch { length words.now < 2 ^ 32 }
-    ensures found { IsOfSystem arguments.now system.now cache.kept
-        (spawner_seen (P.faults spawner.old) (P.started spawner.old) (P.retired spawner.old)
-        (P.commands spawner.old))
-        (spawner_seen (P.faults spawner.new) (P.started spawner.new) (P.retired spawner.new)
-        (P.commands spawner.new)) result.learned result.kept.answers result.names.names }
-    ensures model { IfOk result.learned (GivesModel arguments.now.learner
-        (length (letters_of system.now)) (length result.names.names) arguments.now.extra
-        arguments.now.max_states
+    ensures found { IsOfSystem arguments.now system.now cache.kept (P.state spawner.old)
+        (P.state spawner.new) result.learned result.kept.answers result.names.names }
+    ensures model { IfOk result.learned
+        (GivesModel arguments.now.learner (length (letters_of system.now))
+        (length result.names.names) arguments.now.extra arguments.now.max_states
         result.kept.answers) }
     ensures sizes { IfOk result.learned (λ l.
         (l.model.inputs ≡ length (letters_of system.now)) ×

@@ -1,6 +1,5 @@
 //! What a log gets beside the steps of a learning: what stopped it midway, and the text of the outcome.
 ghost use Rattle.std.specs.Prelude.{codes};
-ghost use Rattle.lw_report.specs.States.{sink_state};
 ghost use Rattle.lw_learn.specs.LearnRun.{SaysLog};
 
 use crate::LearnArguments;
@@ -110,9 +109,7 @@ pub(crate) fn log_unread<L: LogFile>(end: &End, text: Result<String, NoMemory>, 
 
 /// Says on `err` that a log that is named isn't open, so that it isn't whole.
 pub(crate) fn say_log<L: LogFile, E: Sink>(arguments: &LearnArguments, log: &Log<L>, err: &mut E)
-    ensures { SaysLog arguments.now.log log.now.state
-        (sink_state (E.taken err.old) (E.faults err.old))
-        (sink_state (E.taken err.new) (E.faults err.new)) }
+    ensures { SaysLog arguments.now.log log.now.state (E.state err.old) (E.state err.new) }
 {
     if arguments.log().is_none() {
         return;

@@ -1,7 +1,6 @@
 //! The files that say what is to be learned: a setup or a table, and prior answers.
 ghost use Rattle.std.specs.Prelude.{◌≡◌, ℕ, ◌≤◌, List, [], length, None, Some, Ok, Err, IfOk, IfErr};
 ghost use Rattle.lw_report.specs.Reading.{HasRead};
-ghost use Rattle.lw_report.specs.States.{files_state};
 ghost use Rattle.lw_words.specs.Answer.{answers_of};
 ghost use Rattle.lw_cache.specs.Clash.{NothingClashes};
 ghost use Rattle.lw_json.specs.SetupFile.{HasSetupFault, IsSetupFile};
@@ -93,11 +92,7 @@ fn read_hinted<F: Files, L: LogFile>(
     name: &str,
     log: &mut Log<L>,
 ) -> Result<Setup, ReadStop>
-    ensures { HasRead IsSetupFile HasSetupFault name.now
-        (files_state (F.holds files.old) (F.calls files.old) (F.reads files.old)
-        (F.faults files.old))
-        (files_state (F.holds files.new) (F.calls files.new) (F.reads files.new)
-        (F.faults files.new))
+    ensures { HasRead IsSetupFile HasSetupFault name.now (F.state files.old) (F.state files.new)
         result }
 {
     let SetupFile { setup, hint } = match read_setup_with(alloc, files, name) {
@@ -118,16 +113,8 @@ fn read_setup<F: Files, L: LogFile>(
     log: &mut Log<L>,
 ) -> Result<System, Unread>
     requires setup { arguments.now.source ≡ Kind.Setup }
-    ensures { IsStage arguments.now
-        (files_state (F.holds files.old) (F.calls files.old) (F.reads files.old)
-        (F.faults files.old))
-        (files_state (F.holds files.new) (F.calls files.new) (F.reads files.new)
-        (F.faults files.new))
-        (SaysWhole arguments.now
-        (files_state (F.holds files.old) (F.calls files.old) (F.reads files.old)
-        (F.faults files.old))
-        (files_state (F.holds files.new) (F.calls files.new) (F.reads files.new)
-        (F.faults files.new))) result }
+    ensures { IsStage arguments.now (F.state files.old) (F.state files.new)
+        (SaysWhole arguments.now (F.state files.old) (F.state files.new)) result }
 {
     match read_hinted(alloc, files, arguments.system(), log) {
         Ok(Setup::Table(name)) => {
@@ -156,16 +143,8 @@ fn read_system<F: Files, L: LogFile>(
     files: &mut F,
     log: &mut Log<L>,
 ) -> Result<System, Unread>
-    ensures { IsStage arguments.now
-        (files_state (F.holds files.old) (F.calls files.old) (F.reads files.old)
-        (F.faults files.old))
-        (files_state (F.holds files.new) (F.calls files.new) (F.reads files.new)
-        (F.faults files.new))
-        (SaysWhole arguments.now
-        (files_state (F.holds files.old) (F.calls files.old) (F.reads files.old)
-        (F.faults files.old))
-        (files_state (F.holds files.new) (F.calls files.new) (F.reads files.new)
-        (F.faults files.new))) result }
+    ensures { IsStage arguments.now (F.state files.old) (F.state files.new)
+        (SaysWhole arguments.now (F.state files.old) (F.state files.new)) result }
 {
     match arguments.source() {
         Source::Setup => read_setup(alloc, arguments, files, log),
@@ -330,11 +309,7 @@ fn read_prior<F: Files>(
 ) -> Result<Task, Unread>
     requires letters { length (letters_of system) ≤ 64 }
     requires words { HasWords system }
-    ensures { HasPrior name.now system
-        (files_state (F.holds files.old) (F.calls files.old) (F.reads files.old)
-        (F.faults files.old))
-        (files_state (F.holds files.new) (F.calls files.new) (F.reads files.new)
-        (F.faults files.new)) result }
+    ensures { HasPrior name.now system (F.state files.old) (F.state files.new) result }
 {
     match read_answers_file(alloc, files, name) {
         Ok(answers) => with_answers(alloc, system, answers),
@@ -350,16 +325,8 @@ pub(crate) fn read_task<F: Files, L: LogFile>(
     files: &mut F,
     log: &mut Log<L>,
 ) -> Result<Task, Unread>
-    ensures { IsStage arguments.now
-        (files_state (F.holds files.old) (F.calls files.old) (F.reads files.old)
-        (F.faults files.old))
-        (files_state (F.holds files.new) (F.calls files.new) (F.reads files.new)
-        (F.faults files.new))
-        (SaysReady arguments.now
-        (files_state (F.holds files.old) (F.calls files.old) (F.reads files.old)
-        (F.faults files.old))
-        (files_state (F.holds files.new) (F.calls files.new) (F.reads files.new)
-        (F.faults files.new))) result }
+    ensures { IsStage arguments.now (F.state files.old) (F.state files.new)
+        (SaysReady arguments.now (F.state files.old) (F.state files.new)) result }
 {
     let system = read_system(alloc, arguments, files, log)?;
     match arguments.prior() {

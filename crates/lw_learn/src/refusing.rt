@@ -4,7 +4,6 @@ ghost use Rattle.lw_words.specs.Cause.{CountedFault};
 ghost use Rattle.lw_json.specs.KeptOver.{AreKeptOver};
 ghost use Rattle.lw_report.specs.Ends.{IsWithoutLearner};
 ghost use Rattle.lw_report.specs.Outcomes.{status_of};
-ghost use Rattle.lw_report.specs.States.{files_state};
 ghost use Rattle.lw_report.specs.Text.{names_of as names_said};
 ghost use Rattle.lw_report.specs.Writing.{TakesAll, TakesSome, said_text};
 ghost use Rattle.lw_report.specs.declared.outcome.Outcome.{Outcome as Came};
@@ -72,13 +71,14 @@ fn end_bare<E: Sink>(
     ensures kept { result.kept.answers ≡ [] }
     ensures outputs { (result.outputs ≡ names_read system) ⊎
         ((result.outcome ≡ Came.NoMemory) × (result.outputs ≡ None)) }
-    ensures said { ¬ CountedFault (E.faults err.old) (E.faults err.new) →
+    ensures said { ¬ CountedFault (E.state err.old).faults (E.state err.new).faults →
         TakesAll (said_text (option_map letters_of system) (option_and_then declared_of system)
-        result.kept.answers extra result.outcome) (E.taken err.old) (E.taken err.new) }
+        result.kept.answers extra result.outcome) (E.state err.old).taken
+        (E.state err.new).taken }
     ensures part { TakesSome (said_text (option_map letters_of system)
         (option_and_then declared_of system) result.kept.answers extra result.outcome)
-        (E.taken err.old) (E.taken err.new) }
-    ensures counts { E.faults err.old ≤ E.faults err.new }
+        (E.state err.old).taken (E.state err.new).taken }
+    ensures counts { (E.state err.old).faults ≤ (E.state err.new).faults }
 {
     let Ok(outputs) = read_names(alloc, &system) else {
         return refuse(alloc, Outcome::NoMemory, None, None, kept, None, extra, err);
@@ -102,11 +102,8 @@ fn save_read<F: Files>(
     requires over { AreKeptOver (length (names_said (option_map letters_of system.now)))
         (length names.now.names) kept.now.answers }
     ensures { HasSaved arguments.now.kept (names_said (option_map letters_of system.now))
-        (names_said (option_and_then declared_of system.now)) kept.now.answers
-        (files_state (F.holds files.old) (F.calls files.old) (F.reads files.old)
-        (F.faults files.old))
-        (files_state (F.holds files.new) (F.calls files.new) (F.reads files.new)
-        (F.faults files.new)) result }
+        (names_said (option_and_then declared_of system.now)) kept.now.answers (F.state files.old)
+        (F.state files.new) result }
 {
     let Some(system) = system else {
         unreachable!();
@@ -136,19 +133,16 @@ fn end_kept<F: Files, E: Sink>(
     ensures kept { result.kept.answers ≡ kept.answers }
     ensures outputs { result.outputs ≡ names_read system }
     ensures saved { IsSaved arguments.now.kept (names_said (option_map letters_of system))
-        (names_said (option_and_then declared_of system)) kept.answers
-        (files_state (F.holds files.old) (F.calls files.old) (F.reads files.old)
-        (F.faults files.old))
-        (files_state (F.holds files.new) (F.calls files.new) (F.reads files.new)
-        (F.faults files.new)) result.outcome }
-    ensures said { ¬ CountedFault (E.faults err.old) (E.faults err.new) →
+        (names_said (option_and_then declared_of system)) kept.answers (F.state files.old)
+        (F.state files.new) result.outcome }
+    ensures said { ¬ CountedFault (E.state err.old).faults (E.state err.new).faults →
         TakesAll (said_text (option_map letters_of system) (option_and_then declared_of system)
-        result.kept.answers arguments.now.extra result.outcome) (E.taken err.old)
-        (E.taken err.new) }
+        result.kept.answers arguments.now.extra result.outcome) (E.state err.old).taken
+        (E.state err.new).taken }
     ensures part { TakesSome (said_text (option_map letters_of system)
         (option_and_then declared_of system) result.kept.answers arguments.now.extra
-        result.outcome) (E.taken err.old) (E.taken err.new) }
-    ensures counts { E.faults err.old ≤ E.faults err.new }
+        result.outcome) (E.state err.old).taken (E.state err.new).taken }
+    ensures counts { (E.state err.old).faults ≤ (E.state err.new).faults }
 {
     let saved = save_read(alloc, arguments, &system, &names, &kept, files);
     let outcome = saved.outcome(outcome);
@@ -184,19 +178,16 @@ pub(crate) fn end_unread<F: Files, E: Sink>(
         ((result.outcome ≡ Came.NoMemory) × (result.outputs ≡ None) ×
         (result.kept.answers ≡ [])) }
     ensures saved { IsSaved arguments.now.kept (names_said (option_map letters_of unread.system))
-        (names_said (option_and_then declared_of unread.system)) unread.kept
-        (files_state (F.holds files.old) (F.calls files.old) (F.reads files.old)
-        (F.faults files.old))
-        (files_state (F.holds files.new) (F.calls files.new) (F.reads files.new)
-        (F.faults files.new)) result.outcome }
-    ensures said { ¬ CountedFault (E.faults err.old) (E.faults err.new) →
+        (names_said (option_and_then declared_of unread.system)) unread.kept (F.state files.old)
+        (F.state files.new) result.outcome }
+    ensures said { ¬ CountedFault (E.state err.old).faults (E.state err.new).faults →
         TakesAll (said_text (option_map letters_of unread.system)
         (option_and_then declared_of unread.system) result.kept.answers arguments.now.extra
-        result.outcome) (E.taken err.old) (E.taken err.new) }
+        result.outcome) (E.state err.old).taken (E.state err.new).taken }
     ensures part { TakesSome (said_text (option_map letters_of unread.system)
         (option_and_then declared_of unread.system) result.kept.answers arguments.now.extra
-        result.outcome) (E.taken err.old) (E.taken err.new) }
-    ensures counts { E.faults err.old ≤ E.faults err.new }
+        result.outcome) (E.state err.old).taken (E.state err.new).taken }
+    ensures counts { (E.state err.old).faults ≤ (E.state err.new).faults }
 {
     let Unread {
         outcome,

@@ -2,7 +2,6 @@
 ghost use Rattle.std.specs.Prelude.{◌≡◌, ◌≤◌, length, None, Some, IfOk, OnOk, OnErr};
 ghost use Rattle.lw_json.specs.AnswersText.{IsAnswersText};
 ghost use Rattle.lw_json.specs.KeptOver.{AreKeptOver};
-ghost use Rattle.lw_report.specs.States.{files_state};
 ghost use Rattle.lw_learn.specs.Saving.{HasSaved, IsTextWritten, IsWritten, saved_outcome};
 ghost use Rattle.lw_learn.specs.Writing.{StaysBesides};
 ghost use Rattle.lw_learn.specs.declared.saving.Saved.TheVariants as Was;
@@ -68,15 +67,12 @@ fn kept_text(
 
 /// Writes the file of the kept answers.
 fn write_kept<F: Files>(files: &mut F, name: &str, bytes: &[u8]) -> Saved
-    ensures written { IsWritten name.now bytes.now
-        (files_state (F.holds files.old) (F.calls files.old) (F.reads files.old)
-        (F.faults files.old))
-        (files_state (F.holds files.new) (F.calls files.new) (F.reads files.new)
-        (F.faults files.new)) result }
-    ensures beside { StaysBesides (Some name.now) None None (F.holds files.old)
-        (F.holds files.new) }
-    ensures reads { F.reads files.new ≡ F.reads files.old }
-    ensures counts { F.faults files.old ≤ F.faults files.new }
+    ensures written { IsWritten name.now bytes.now (F.state files.old) (F.state files.new)
+        result }
+    ensures beside { StaysBesides (Some name.now) None None (F.state files.old).holds
+        (F.state files.new).holds }
+    ensures reads { (F.state files.new).reads ≡ (F.state files.old).reads }
+    ensures counts { (F.state files.old).faults ≤ (F.state files.new).faults }
 {
     match files.write(name, bytes) {
         Ok(()) => Saved::Stand,
@@ -97,14 +93,11 @@ fn save_as<F: Files>(
     requires few { length inputs.now ≤ 64 }
     requires over { AreKeptOver (length inputs.now) (length names.now.names) kept.now.answers }
     ensures written { IsTextWritten name.now inputs.now names.now.names kept.now.answers
-        (files_state (F.holds files.old) (F.calls files.old) (F.reads files.old)
-        (F.faults files.old))
-        (files_state (F.holds files.new) (F.calls files.new) (F.reads files.new)
-        (F.faults files.new)) result }
-    ensures beside { StaysBesides (Some name.now) None None (F.holds files.old)
-        (F.holds files.new) }
-    ensures reads { F.reads files.new ≡ F.reads files.old }
-    ensures counts { F.faults files.old ≤ F.faults files.new }
+        (F.state files.old) (F.state files.new) result }
+    ensures beside { StaysBesides (Some name.now) None None (F.state files.old).holds
+        (F.state files.new).holds }
+    ensures reads { (F.state files.new).reads ≡ (F.state files.old).reads }
+    ensures counts { (F.state files.old).faults ≤ (F.state files.new).faults }
 {
     match kept_text(alloc, inputs, names, kept) {
         Ok(text) => write_kept(files, name, &text),
@@ -124,10 +117,7 @@ pub(crate) fn save_kept<F: Files>(
     requires few { length inputs.now ≤ 64 }
     requires over { AreKeptOver (length inputs.now) (length names.now.names) kept.now.answers }
     ensures { HasSaved arguments.now.kept inputs.now names.now.names kept.now.answers
-        (files_state (F.holds files.old) (F.calls files.old) (F.reads files.old)
-        (F.faults files.old))
-        (files_state (F.holds files.new) (F.calls files.new) (F.reads files.new)
-        (F.faults files.new)) result }
+        (F.state files.old) (F.state files.new) result }
 {
     let Some(name) = arguments.kept() else {
         return Saved::Stand;

@@ -77,24 +77,24 @@ fn write_named<F: Files>(
     name: Option<&str>,
     bytes: &[u8],
 ) -> Result<(), TellStop>
-    ensures told { OnOk result (Stands (option_map (λ n. n.now) name.entry) (F.holds files.new)
-        bytes.now) }
-    ensures beside { StaysBesides (option_map (λ n. n.now) name.entry) None None (F.holds files.old)
-        (F.holds files.new) }
-    ensures ok { OnOk result (F.calls files.new ≡
-        gained (write_of (option_map (λ n. n.now) name.entry) false) (F.calls files.old)) }
+    ensures told { OnOk result (Stands (option_map (λ n. n.now) name.entry)
+        (F.state files.new).holds bytes.now) }
+    ensures beside { StaysBesides (option_map (λ n. n.now) name.entry) None None
+        (F.state files.old).holds (F.state files.new).holds }
+    ensures ok { OnOk result ((F.state files.new).calls ≡
+        gained (write_of (option_map (λ n. n.now) name.entry) false) (F.state files.old).calls) }
     ensures role { (other : Part) → result ≡ Err (Stop.File other) → other ≡ role }
     ensures named { result ≡ Err (Stop.File role) → name.entry ≢ None }
-    ensures failed { result ≡ Err (Stop.File role) →
-        CountedFault (F.faults files.old) (F.faults files.new) }
-    ensures failed_call { result ≡ Err (Stop.File role) →
-        F.calls files.new ≡
-        gained (write_of (option_map (λ n. n.now) name.entry) true) (F.calls files.old) }
-    ensures memory { result ≡ Err Stop.NoMemory → F.calls files.new ≡ F.calls files.old }
+    ensures failed { result ≡ Err (Stop.File role) → CountedFault (F.state files.old).faults
+        (F.state files.new).faults }
+    ensures failed_call { result ≡ Err (Stop.File role) → (F.state files.new).calls ≡
+        gained (write_of (option_map (λ n. n.now) name.entry) true) (F.state files.old).calls }
+    ensures memory { result ≡ Err Stop.NoMemory → (F.state files.new).calls ≡
+        (F.state files.old).calls }
     ensures no_sink { ¬ (result ≡ Err Stop.Sink) }
-    ensures reads { F.reads files.new ≡ F.reads files.old }
-    ensures quiet { OnOk result (F.faults files.new ≡ F.faults files.old) }
-    ensures counts { F.faults files.old ≤ F.faults files.new }
+    ensures reads { (F.state files.new).reads ≡ (F.state files.old).reads }
+    ensures quiet { OnOk result ((F.state files.new).faults ≡ (F.state files.old).faults) }
+    ensures counts { (F.state files.old).faults ≤ (F.state files.new).faults }
 {
     match name {
         Some(name) => write_file(files, role, name, bytes),
@@ -109,32 +109,33 @@ fn write_files<F: Files>(
     texts: &Texts,
 ) -> Result<(), TellStop>
     ensures model { OnOk result (arguments.now.model ≢ arguments.now.answers →
-        Stands arguments.now.model (F.holds files.new) texts.now.model.items) }
-    ensures answers { OnOk result (Stands arguments.now.answers (F.holds files.new)
+        Stands arguments.now.model (F.state files.new).holds texts.now.model.items) }
+    ensures answers { OnOk result (Stands arguments.now.answers (F.state files.new).holds
         texts.now.answers.items) }
-    ensures model_before { result ≡ Err (Stop.File AnswersRole) →
-        arguments.now.model ≢ arguments.now.answers →
-        Stands arguments.now.model (F.holds files.new) texts.now.model.items }
-    ensures beside { StaysBesides arguments.now.model arguments.now.answers None (F.holds files.old)
-        (F.holds files.new) }
-    ensures ok { OnOk result (F.calls files.new ≡
-        gained (all_writes arguments.now) (F.calls files.old)) }
+    ensures model_before { result ≡ Err (Stop.File AnswersRole) → arguments.now.model ≢
+        arguments.now.answers → Stands arguments.now.model (F.state files.new).holds
+        texts.now.model.items }
+    ensures beside { StaysBesides arguments.now.model arguments.now.answers None
+        (F.state files.old).holds (F.state files.new).holds }
+    ensures ok { OnOk result ((F.state files.new).calls ≡ gained (all_writes arguments.now)
+        (F.state files.old).calls) }
     ensures role { (role : Part) → result ≡ Err (Stop.File role) →
         ((role ≡ ModelRole) × (arguments.now.model ≢ None)) ⊎
         ((role ≡ AnswersRole) × (arguments.now.answers ≢ None)) }
     ensures failed { (role : Part) → result ≡ Err (Stop.File role) →
-        CountedFault (F.faults files.old) (F.faults files.new) }
-    ensures model_call { result ≡ Err (Stop.File ModelRole) →
-        F.calls files.new ≡ gained (write_of arguments.now.model true) (F.calls files.old) }
-    ensures answers_call { result ≡ Err (Stop.File AnswersRole) →
-        F.calls files.new ≡ gained (write_of arguments.now.model false ++
-        write_of arguments.now.answers true) (F.calls files.old) }
-    ensures memory { result ≡ Err Stop.NoMemory → (n : ℕ) ×
-        (F.calls files.new ≡ gained (take n (all_writes arguments.now)) (F.calls files.old)) }
+        CountedFault (F.state files.old).faults (F.state files.new).faults }
+    ensures model_call { result ≡ Err (Stop.File ModelRole) → (F.state files.new).calls ≡
+        gained (write_of arguments.now.model true) (F.state files.old).calls }
+    ensures answers_call { result ≡ Err (Stop.File AnswersRole) → (F.state files.new).calls ≡
+        gained (write_of arguments.now.model false ++ write_of arguments.now.answers true)
+        (F.state files.old).calls }
+    ensures memory { result ≡ Err Stop.NoMemory →
+        (n : ℕ) × ((F.state files.new).calls ≡ gained (take n (all_writes arguments.now))
+        (F.state files.old).calls) }
     ensures no_sink { ¬ (result ≡ Err Stop.Sink) }
-    ensures reads { F.reads files.new ≡ F.reads files.old }
-    ensures quiet { OnOk result (F.faults files.new ≡ F.faults files.old) }
-    ensures counts { F.faults files.old ≤ F.faults files.new }
+    ensures reads { (F.state files.new).reads ≡ (F.state files.old).reads }
+    ensures quiet { OnOk result ((F.state files.new).faults ≡ (F.state files.old).faults) }
+    ensures counts { (F.state files.old).faults ≤ (F.state files.new).faults }
 {
     write_named(files, Role::Model, arguments.model(), &texts.model)?;
     write_named(files, Role::Answers, arguments.answers(), &texts.answers)
@@ -143,12 +144,13 @@ fn write_files<F: Files>(
 /// Puts the model's text to `out`, where no file is named for it.
 fn put_model<O: Sink>(out: &mut O, file: Option<&str>, bytes: &[u8]) -> Result<(), Failed>
     ensures ok { OnOk result (PutsAll (option_map (λ n. n.now) file.entry) bytes.now
-        (O.taken out.old) (O.taken out.new)) }
-    ensures part { PutsSome (option_map (λ n. n.now) file.entry) bytes.now (O.taken out.old)
-        (O.taken out.new) }
-    ensures quiet { OnOk result (O.faults out.new ≡ O.faults out.old) }
-    ensures failed { OnErr result (CountedFault (O.faults out.old) (O.faults out.new)) }
-    ensures counts { O.faults out.old ≤ O.faults out.new }
+        (O.state out.old).taken (O.state out.new).taken) }
+    ensures part { PutsSome (option_map (λ n. n.now) file.entry) bytes.now (O.state out.old).taken
+        (O.state out.new).taken }
+    ensures quiet { OnOk result ((O.state out.new).faults ≡ (O.state out.old).faults) }
+    ensures failed { OnErr result (CountedFault (O.state out.old).faults
+        (O.state out.new).faults) }
+    ensures counts { (O.state out.old).faults ≤ (O.state out.new).faults }
 {
     match file {
         Some(_) => Ok(()),
@@ -159,16 +161,17 @@ fn put_model<O: Sink>(out: &mut O, file: Option<&str>, bytes: &[u8]) -> Result<(
 /// Puts the line about a model to `err`, where the kept answers' file didn't fail.
 fn put_line<E: Sink>(saved: Saved, line: &[u8], err: &mut E) -> Result<(), TellStop>
     requires memory { ¬ (saved ≡ Was.NoMemory) }
-    ensures ok { OnOk result (TakesAll line.now (E.taken err.old) (E.taken err.new)) }
+    ensures ok { OnOk result (TakesAll line.now (E.state err.old).taken (E.state err.new).taken) }
     ensures stood { OnOk result (saved ≡ Was.Stand) }
-    ensures part { TakesSome line.now (E.taken err.old) (E.taken err.new) }
-    ensures unsaid { OnErr result (¬ CountedFault (E.faults err.old) (E.faults err.new) →
-        E.taken err.new ≡ E.taken err.old) }
+    ensures part { TakesSome line.now (E.state err.old).taken (E.state err.new).taken }
+    ensures unsaid { OnErr result (¬ CountedFault (E.state err.old).faults
+        (E.state err.new).faults → (E.state err.new).taken ≡ (E.state err.old).taken) }
     ensures stops { IfErr result (λ stop. (stop ≡ Stop.Sink) ⊎ (stop ≡ Stop.File KeptRole)) }
     ensures kept { result ≡ Err (Stop.File KeptRole) → saved ≡ Was.Failed }
-    ensures refused { result ≡ Err Stop.Sink → CountedFault (E.faults err.old) (E.faults err.new) }
-    ensures quiet { OnOk result (E.faults err.new ≡ E.faults err.old) }
-    ensures counts { E.faults err.old ≤ E.faults err.new }
+    ensures refused { result ≡ Err Stop.Sink → CountedFault (E.state err.old).faults
+        (E.state err.new).faults }
+    ensures quiet { OnOk result ((E.state err.new).faults ≡ (E.state err.old).faults) }
+    ensures counts { (E.state err.old).faults ≤ (E.state err.new).faults }
 {
     match saved {
         Saved::Stand => {
@@ -191,25 +194,31 @@ fn put_streams<O: Sink, E: Sink>(
 ) -> Result<(), TellStop>
     requires memory { ¬ (saved ≡ Was.NoMemory) }
     ensures written { OnOk result (PutsAll arguments.now.model texts.now.model.items
-        (O.taken out.old) (O.taken out.new)) }
-    ensures part { PutsSome arguments.now.model texts.now.model.items (O.taken out.old)
-        (O.taken out.new) }
-    ensures whole { OnErr result (¬ CountedFault (O.faults out.old) (O.faults out.new) →
-        PutsAll arguments.now.model texts.now.model.items (O.taken out.old) (O.taken out.new)) }
-    ensures line { OnOk result (TakesAll texts.now.line.items (E.taken err.old) (E.taken err.new)) }
-    ensures line_part { TakesSome texts.now.line.items (E.taken err.old) (E.taken err.new) }
-    ensures unsaid { OnErr result (¬ CountedFault (E.faults err.old) (E.faults err.new) →
-        E.taken err.new ≡ E.taken err.old) }
+        (O.state out.old).taken (O.state out.new).taken) }
+    ensures part { PutsSome arguments.now.model texts.now.model.items (O.state out.old).taken
+        (O.state out.new).taken }
+    ensures whole { OnErr result (¬ CountedFault (O.state out.old).faults
+        (O.state out.new).faults → PutsAll arguments.now.model texts.now.model.items
+        (O.state out.old).taken (O.state out.new).taken) }
+    ensures line { OnOk result (TakesAll texts.now.line.items (E.state err.old).taken
+        (E.state err.new).taken) }
+    ensures line_part { TakesSome texts.now.line.items (E.state err.old).taken
+        (E.state err.new).taken }
+    ensures unsaid { OnErr result (¬ CountedFault (E.state err.old).faults
+        (E.state err.new).faults → (E.state err.new).taken ≡ (E.state err.old).taken) }
     ensures stood { OnOk result (saved ≡ Was.Stand) }
-    ensures behind { result ≡ Err (Stop.File KeptRole) → PutsAll arguments.now.model
-        texts.now.model.items (O.taken out.old) (O.taken out.new) }
+    ensures behind { result ≡ Err (Stop.File KeptRole) →
+        PutsAll arguments.now.model texts.now.model.items (O.state out.old).taken
+        (O.state out.new).taken }
     ensures kept { result ≡ Err (Stop.File KeptRole) → saved ≡ Was.Failed }
-    ensures refused { result ≡ Err Stop.Sink → CountedFault (O.faults out.old) (O.faults out.new) ⊎
-        CountedFault (E.faults err.old) (E.faults err.new) }
+    ensures refused { result ≡ Err Stop.Sink → CountedFault (O.state out.old).faults
+        (O.state out.new).faults ⊎ CountedFault (E.state err.old).faults
+        (E.state err.new).faults }
     ensures stops { IfErr result (λ stop. (stop ≡ Stop.Sink) ⊎ (stop ≡ Stop.File KeptRole)) }
-    ensures quiet { OnOk result ((O.faults out.new ≡ O.faults out.old) ×
-        (E.faults err.new ≡ E.faults err.old)) }
-    ensures counts { (O.faults out.old ≤ O.faults out.new) × (E.faults err.old ≤ E.faults err.new) }
+    ensures quiet { OnOk result (((O.state out.new).faults ≡ (O.state out.old).faults) ×
+        ((E.state err.new).faults ≡ (E.state err.old).faults)) }
+    ensures counts { ((O.state out.old).faults ≤ (O.state out.new).faults) ×
+        ((E.state err.old).faults ≤ (E.state err.new).faults) }
 {
     put_model(out, arguments.model(), &texts.model)?;
     put_line(saved, &texts.line, err)
@@ -233,37 +242,41 @@ fn write_model<F: Files, O: Sink, E: Sink>(
         kept.now.answers }
     ensures ok { IfOk result (λ o. o ≡ Came.Learned machine.now.mealy refinements) }
     ensures files { WritesFiles arguments.now machine.now kept.now.answers
-        (told_outcome machine.now.mealy refinements result) (F.holds files.new)
-        (F.calls files.old, F.calls files.new) }
+        (told_outcome machine.now.mealy refinements result) (F.state files.new).holds
+        ((F.state files.old).calls, (F.state files.new).calls) }
     ensures out { WritesOut arguments.now.model (written_text machine.now)
-        (told_outcome machine.now.mealy refinements result) (O.taken out.old, O.taken out.new)
-        (O.faults out.old, O.faults out.new) }
-    ensures beside { StaysBesides arguments.now.model arguments.now.answers None (F.holds files.old)
-        (F.holds files.new) }
+        (told_outcome machine.now.mealy refinements result)
+        ((O.state out.old).taken, (O.state out.new).taken)
+        ((O.state out.old).faults, (O.state out.new).faults) }
+    ensures beside { StaysBesides arguments.now.model arguments.now.answers None
+        (F.state files.old).holds (F.state files.new).holds }
     ensures role { (role : Part) → result ≡ Err (Stop.File role) →
         ((role ≡ ModelRole) × (arguments.now.model ≢ None)) ⊎
         (((role ≡ AnswersRole) × (arguments.now.answers ≢ None)) ⊎ (role ≡ KeptRole)) }
     ensures failed { (role : Part) → result ≡ Err (Stop.File role) → role ≢ KeptRole →
-        CountedFault (F.faults files.old) (F.faults files.new) }
+        CountedFault (F.state files.old).faults (F.state files.new).faults }
     ensures stood { OnOk result (saved ≡ Was.Stand) }
     ensures unsaved { result ≡ Err (Stop.File KeptRole) → saved ≡ Was.Failed }
     ensures wants { saved ≡ Was.NoMemory → result ≡ Err Stop.NoMemory }
-    ensures refused { result ≡ Err Stop.Sink → CountedFault (O.faults out.old) (O.faults out.new) ⊎
-        CountedFault (E.faults err.old) (E.faults err.new) }
-    ensures line { OnOk result (TakesAll (text_of machine.now.inputs machine.now.outputs
-        kept.now.answers arguments.now.extra (Came.Learned machine.now.mealy refinements))
-        (E.taken err.old)
-        (E.taken err.new)) }
+    ensures refused { result ≡ Err Stop.Sink → CountedFault (O.state out.old).faults
+        (O.state out.new).faults ⊎ CountedFault (E.state err.old).faults
+        (E.state err.new).faults }
+    ensures line { OnOk result
+        (TakesAll (text_of machine.now.inputs machine.now.outputs kept.now.answers
+        arguments.now.extra (Came.Learned machine.now.mealy refinements)) (E.state err.old).taken
+        (E.state err.new).taken) }
     ensures line_part { TakesSome (text_of machine.now.inputs machine.now.outputs kept.now.answers
-        arguments.now.extra (Came.Learned machine.now.mealy refinements)) (E.taken err.old)
-        (E.taken err.new) }
-    ensures unsaid { OnErr result (¬ CountedFault (E.faults err.old) (E.faults err.new) →
-        E.taken err.new ≡ E.taken err.old) }
-    ensures reads { F.reads files.new ≡ F.reads files.old }
-    ensures quiet { OnOk result ((F.faults files.new ≡ F.faults files.old) ×
-        (O.faults out.new ≡ O.faults out.old) × (E.faults err.new ≡ E.faults err.old)) }
-    ensures counts { (F.faults files.old ≤ F.faults files.new) ×
-        (O.faults out.old ≤ O.faults out.new) × (E.faults err.old ≤ E.faults err.new) }
+        arguments.now.extra (Came.Learned machine.now.mealy refinements)) (E.state err.old).taken
+        (E.state err.new).taken }
+    ensures unsaid { OnErr result (¬ CountedFault (E.state err.old).faults
+        (E.state err.new).faults → (E.state err.new).taken ≡ (E.state err.old).taken) }
+    ensures reads { (F.state files.new).reads ≡ (F.state files.old).reads }
+    ensures quiet { OnOk result (((F.state files.new).faults ≡ (F.state files.old).faults) ×
+        ((O.state out.new).faults ≡ (O.state out.old).faults) ×
+        ((E.state err.new).faults ≡ (E.state err.old).faults)) }
+    ensures counts { ((F.state files.old).faults ≤ (F.state files.new).faults) ×
+        ((O.state out.old).faults ≤ (O.state out.new).faults) ×
+        ((E.state err.old).faults ≤ (E.state err.new).faults) }
 {
     saved.memory()?;
     let outcome = Outcome::Learned {
@@ -292,31 +305,36 @@ pub(crate) fn tell_model<F: Files, O: Sink, E: Sink>(
         kept.now.answers }
     ensures outcome { IsTold machine.now.mealy refinements result }
     ensures files { WritesFiles arguments.now machine.now kept.now.answers result
-        (F.holds files.new) (F.calls files.old, F.calls files.new) }
+        (F.state files.new).holds ((F.state files.old).calls, (F.state files.new).calls) }
     ensures out { WritesOut arguments.now.model (written_text machine.now) result
-        (O.taken out.old, O.taken out.new) (O.faults out.old, O.faults out.new) }
-    ensures beside { StaysBesides arguments.now.model arguments.now.answers None (F.holds files.old)
-        (F.holds files.new) }
+        ((O.state out.old).taken, (O.state out.new).taken)
+        ((O.state out.old).faults, (O.state out.new).faults) }
+    ensures beside { StaysBesides arguments.now.model arguments.now.answers None
+        (F.state files.old).holds (F.state files.new).holds }
     ensures role { (role : Part) → result ≡ Came.FileFault role →
         ((role ≡ ModelRole) × (arguments.now.model ≢ None)) ⊎
         (((role ≡ AnswersRole) × (arguments.now.answers ≢ None)) ⊎ (role ≡ KeptRole)) }
     ensures failed { (role : Part) → result ≡ Came.FileFault role → role ≢ KeptRole →
-        CountedFault (F.faults files.old) (F.faults files.new) }
+        CountedFault (F.state files.old).faults (F.state files.new).faults }
     ensures may { MayTell saved result }
-    ensures refused { result ≡ Came.SinkFault → CountedFault (O.faults out.old) (O.faults out.new) ⊎
-        CountedFault (E.faults err.old) (E.faults err.new) }
-    ensures said { ¬ CountedFault (E.faults err.old) (E.faults err.new) →
+    ensures refused { result ≡ Came.SinkFault → CountedFault (O.state out.old).faults
+        (O.state out.new).faults ⊎ CountedFault (E.state err.old).faults
+        (E.state err.new).faults }
+    ensures said { ¬ CountedFault (E.state err.old).faults (E.state err.new).faults →
         TakesAll (text_of machine.now.inputs machine.now.outputs kept.now.answers
-        arguments.now.extra result) (E.taken err.old) (E.taken err.new) }
+        arguments.now.extra result) (E.state err.old).taken (E.state err.new).taken }
     ensures part { TakesInTurn (text_of machine.now.inputs machine.now.outputs kept.now.answers
         arguments.now.extra (Came.Learned machine.now.mealy refinements))
-        (text_of machine.now.inputs machine.now.outputs kept.now.answers arguments.now.extra result)
-        (E.taken err.old) (E.taken err.new) }
-    ensures reads { F.reads files.new ≡ F.reads files.old }
-    ensures quiet { IsLearnedOutcome result → (F.faults files.new ≡ F.faults files.old) ×
-        (O.faults out.new ≡ O.faults out.old) × (E.faults err.new ≡ E.faults err.old) }
-    ensures counts { (F.faults files.old ≤ F.faults files.new) ×
-        (O.faults out.old ≤ O.faults out.new) × (E.faults err.old ≤ E.faults err.new) }
+        (text_of machine.now.inputs machine.now.outputs kept.now.answers arguments.now.extra
+        result) (E.state err.old).taken (E.state err.new).taken }
+    ensures reads { (F.state files.new).reads ≡ (F.state files.old).reads }
+    ensures quiet { IsLearnedOutcome result →
+        ((F.state files.new).faults ≡ (F.state files.old).faults) ×
+        ((O.state out.new).faults ≡ (O.state out.old).faults) ×
+        ((E.state err.new).faults ≡ (E.state err.old).faults) }
+    ensures counts { ((F.state files.old).faults ≤ (F.state files.new).faults) ×
+        ((O.state out.old).faults ≤ (O.state out.new).faults) ×
+        ((E.state err.old).faults ≤ (E.state err.new).faults) }
 {
     match write_model(
         alloc,

@@ -30,15 +30,17 @@ fn without_return(received: &[u8]) -> &[u8]
 
 /// The next line as it was received, without its line feed.
 fn receive<L: Link>(link: &mut L, inbox: &mut Inbox) -> Result<Line, SulStop>
-    ensures line { IfOk result (λ raw. HasLine inbox.old inbox.new raw (L.transcript link.old)
-        (L.transcript link.new)) }
-    ensures err { IfErr result (λ stop. EndsOpen inbox.old stop (L.transcript link.old)
-        (L.transcript link.new)) }
-    ensures failed { result ≡ Err Stop.Failed →
-        CountedFault (L.faults link.old) (L.faults link.new) }
-    ensures gone { result ≡ Err Stop.Gone → CountedFault (L.ends link.old) (L.ends link.new) }
-    ensures counts { (L.faults link.old ≤ L.faults link.new) × (L.ends link.old ≤ L.ends link.new) }
-    ensures same { L.number link.new ≡ L.number link.old }
+    ensures line { IfOk result (λ raw. HasLine inbox.old inbox.new raw
+        (L.state link.old).transcript (L.state link.new).transcript) }
+    ensures err { IfErr result (λ stop. EndsOpen inbox.old stop (L.state link.old).transcript
+        (L.state link.new).transcript) }
+    ensures failed { result ≡ Err Stop.Failed → CountedFault (L.state link.old).faults
+        (L.state link.new).faults }
+    ensures gone { result ≡ Err Stop.Gone → CountedFault (L.state link.old).ends
+        (L.state link.new).ends }
+    ensures counts { ((L.state link.old).faults ≤ (L.state link.new).faults) ×
+        ((L.state link.old).ends ≤ (L.state link.new).ends) }
+    ensures same { (L.state link.new).number ≡ (L.state link.old).number }
 {
     loop {
         if let Some(line) = inbox.take_line() {
@@ -59,14 +61,16 @@ fn receive<L: Link>(link: &mut L, inbox: &mut Inbox) -> Result<Line, SulStop>
 fn exchange<L: Link>(link: &mut L, inbox: &mut Inbox, line: &[u8]) -> Result<Line, SulStop>
     requires { 0 < length line.now }
     ensures answer { IfOk result (λ answer. IsAnswered line.now inbox.old inbox.new answer
-        (L.transcript link.old) (L.transcript link.new)) }
+        (L.state link.old).transcript (L.state link.new).transcript) }
     ensures err { IfErr result (λ stop. IsRefusal (λ _. ⊥) line.now inbox.old inbox.new stop
-        (L.transcript link.old) (L.transcript link.new)) }
-    ensures failed { result ≡ Err Stop.Failed →
-        CountedFault (L.faults link.old) (L.faults link.new) }
-    ensures gone { result ≡ Err Stop.Gone → CountedFault (L.ends link.old) (L.ends link.new) }
-    ensures counts { (L.faults link.old ≤ L.faults link.new) × (L.ends link.old ≤ L.ends link.new) }
-    ensures same { L.number link.new ≡ L.number link.old }
+        (L.state link.old).transcript (L.state link.new).transcript) }
+    ensures failed { result ≡ Err Stop.Failed → CountedFault (L.state link.old).faults
+        (L.state link.new).faults }
+    ensures gone { result ≡ Err Stop.Gone → CountedFault (L.state link.old).ends
+        (L.state link.new).ends }
+    ensures counts { ((L.state link.old).faults ≤ (L.state link.new).faults) ×
+        ((L.state link.old).ends ≤ (L.state link.new).ends) }
+    ensures same { (L.state link.new).number ≡ (L.state link.old).number }
 {
     if link.send(line).is_err() {
         return Err(SulStop::Failed);
@@ -78,15 +82,17 @@ fn exchange<L: Link>(link: &mut L, inbox: &mut Inbox, line: &[u8]) -> Result<Lin
 /// Asks a child to go back to its initial state.
 pub(crate) fn start<L: Link>(link: &mut L, inbox: &mut Inbox) -> Result<(), SulStop>
     ensures ready { OnOk result (IsAnswered (ended reset_line) inbox.old inbox.new ready_line
-        (L.transcript link.old) (L.transcript link.new)) }
+        (L.state link.old).transcript (L.state link.new).transcript) }
     ensures err { IfErr result (λ stop. IsRefusal (λ answer. ¬ IsFormed reset_line answer)
-        (ended reset_line) inbox.old inbox.new stop
-        (L.transcript link.old) (L.transcript link.new)) }
-    ensures failed { result ≡ Err Stop.Failed →
-        CountedFault (L.faults link.old) (L.faults link.new) }
-    ensures gone { result ≡ Err Stop.Gone → CountedFault (L.ends link.old) (L.ends link.new) }
-    ensures counts { (L.faults link.old ≤ L.faults link.new) × (L.ends link.old ≤ L.ends link.new) }
-    ensures same { L.number link.new ≡ L.number link.old }
+        (ended reset_line) inbox.old inbox.new stop (L.state link.old).transcript
+        (L.state link.new).transcript) }
+    ensures failed { result ≡ Err Stop.Failed → CountedFault (L.state link.old).faults
+        (L.state link.new).faults }
+    ensures gone { result ≡ Err Stop.Gone → CountedFault (L.state link.old).ends
+        (L.state link.new).ends }
+    ensures counts { ((L.state link.old).faults ≤ (L.state link.new).faults) ×
+        ((L.state link.old).ends ≤ (L.state link.new).ends) }
+    ensures same { (L.state link.new).number ≡ (L.state link.old).number }
 {
     let answer = exchange(link, inbox, b"reset\n")?;
     if answer.as_slice() == b"ready".as_slice() {
@@ -119,23 +125,24 @@ pub(crate) fn ask<L: Link>(
     outputs: &mut OutputNames,
 ) -> Result<u16, SulStop>
     requires { length letter.now ≤ 64 }
-    ensures output { IfOk result (λ y. (answer : List ℕ) ×
-        IsAnswered (ended (in_line letter.now)) inbox.old inbox.new answer
-        (L.transcript link.old) (L.transcript link.new) ×
+    ensures output { IfOk result (λ y. (answer : List ℕ) × IsAnswered (ended (in_line letter.now))
+        inbox.old inbox.new answer (L.state link.old).transcript (L.state link.new).transcript ×
         (number_behind (codes "out ") outputs.new.names answer ≡ Some y)) }
     ensures brings { IfOk result (λ y. Brings outputs.old.names outputs.new.names y ×
         (y < outputs.old.range)) }
     ensures differ { OnOk result (AllDiffer outputs.new.names) }
     ensures err { IfErr result (λ stop. IsRefusal (NamesNone outputs.old.names outputs.old.most)
-        (ended (in_line letter.now)) inbox.old inbox.new stop
-        (L.transcript link.old) (L.transcript link.new)) }
+        (ended (in_line letter.now)) inbox.old inbox.new stop (L.state link.old).transcript
+        (L.state link.new).transcript) }
     ensures kept { OnErr result (outputs.new ≡ outputs.old) }
-    ensures failed { result ≡ Err Stop.Failed →
-        CountedFault (L.faults link.old) (L.faults link.new) }
-    ensures gone { result ≡ Err Stop.Gone → CountedFault (L.ends link.old) (L.ends link.new) }
-    ensures counts { (L.faults link.old ≤ L.faults link.new) × (L.ends link.old ≤ L.ends link.new) }
-    ensures same { (L.number link.new ≡ L.number link.old) × (outputs.new.most ≡ outputs.old.most) ×
-        (outputs.new.range ≡ outputs.old.range) }
+    ensures failed { result ≡ Err Stop.Failed → CountedFault (L.state link.old).faults
+        (L.state link.new).faults }
+    ensures gone { result ≡ Err Stop.Gone → CountedFault (L.state link.old).ends
+        (L.state link.new).ends }
+    ensures counts { ((L.state link.old).faults ≤ (L.state link.new).faults) ×
+        ((L.state link.old).ends ≤ (L.state link.new).ends) }
+    ensures same { ((L.state link.new).number ≡ (L.state link.old).number) ×
+        (outputs.new.most ≡ outputs.old.most) × (outputs.new.range ≡ outputs.old.range) }
 {
     let line = SentLine::naming(b"in ", letter.as_bytes());
     let answer = exchange(link, inbox, line.as_slice())?;

@@ -88,14 +88,17 @@ impl Inbox {
         requires { length self.old < 256 }
         ensures took { IfOk result (λ n. (more : List ℕ) × (length more ≡ n) ×
             (self.new ≡ self.old ++ more) ×
-            (L.transcript link.new ≡ option_map (receives more) (L.transcript link.old))) }
+            ((L.state link.new).transcript ≡ option_map (receives more)
+            (L.state link.old).transcript)) }
         ensures kept { OnErr result ((self.new ≡ self.old) ×
-            (L.transcript link.new ≡ L.transcript link.old)) }
-        ensures end { IfOk result (λ n. n ≡ 0 → CountedFault (L.ends link.old) (L.ends link.new)) }
-        ensures failed { OnErr result (CountedFault (L.faults link.old) (L.faults link.new)) }
-        ensures counts { (L.faults link.old ≤ L.faults link.new) ×
-            (L.ends link.old ≤ L.ends link.new) }
-        ensures same { L.number link.new ≡ L.number link.old }
+            ((L.state link.new).transcript ≡ (L.state link.old).transcript)) }
+        ensures end { IfOk result (λ n. n ≡ 0 → CountedFault (L.state link.old).ends
+            (L.state link.new).ends) }
+        ensures failed { OnErr result (CountedFault (L.state link.old).faults
+            (L.state link.new).faults) }
+        ensures counts { ((L.state link.old).faults ≤ (L.state link.new).faults) ×
+            ((L.state link.old).ends ≤ (L.state link.new).ends) }
+        ensures same { (L.state link.new).number ≡ (L.state link.old).number }
     {
         let count = link.take(&mut self.bytes[self.held..])?;
         self.held += count;
@@ -106,16 +109,17 @@ impl Inbox {
     pub fn read_from<I: Source>(&mut self, source: &mut I) -> Result<usize, Failed>
         requires { length self.old < 256 }
         ensures gave { IfOk result (λ n. (more : List ℕ) × (length more ≡ n) ×
-            (self.new ≡ self.old ++ more) ×
-            Gave more (I.left source.old) (I.left source.new)) }
+            (self.new ≡ self.old ++ more) × Gave more (I.state source.old).left
+            (I.state source.new).left) }
         ensures kept { OnErr result ((self.new ≡ self.old) ×
-            (I.left source.new ≡ I.left source.old)) }
-        ensures end { IfOk result (λ n. n ≡ 0 → IsSpent (I.left source.old) ×
-            CountedFault (I.ends source.old) (I.ends source.new)) }
-        ensures failed { OnErr result (CountedFault (I.faults source.old) (I.faults source.new)) }
-        ensures quiet { OnOk result (I.faults source.new ≡ I.faults source.old) }
-        ensures counts { (I.faults source.old ≤ I.faults source.new) ×
-            (I.ends source.old ≤ I.ends source.new) }
+            ((I.state source.new).left ≡ (I.state source.old).left)) }
+        ensures end { IfOk result (λ n. n ≡ 0 → IsSpent (I.state source.old).left ×
+            CountedFault (I.state source.old).ends (I.state source.new).ends) }
+        ensures failed { OnErr result (CountedFault (I.state source.old).faults
+            (I.state source.new).faults) }
+        ensures quiet { OnOk result ((I.state source.new).faults ≡ (I.state source.old).faults) }
+        ensures counts { ((I.state source.old).faults ≤ (I.state source.new).faults) ×
+            ((I.state source.old).ends ≤ (I.state source.new).ends) }
     {
         let count = source.read(&mut self.bytes[self.held..])?;
         self.held += count;

@@ -64,15 +64,17 @@ enum Turn {
 
 /// Reads up to the next line feed.
 fn next_line<I: Source>(source: &mut I, inbox: &mut Inbox) -> Result<Next, Failed>
-    ensures comes { IfOk result (λ next. Comes inbox.old inbox.new next (I.left source.old)
-        (I.left source.new)) }
-    ensures err { OnErr result ((bytes : List ℕ) ×
-        IsOpenRead inbox.old bytes (I.left source.old) (I.left source.new)) }
-    ensures end { result ≡ Ok Upcoming.End → CountedFault (I.ends source.old) (I.ends source.new) }
-    ensures failed { OnErr result (CountedFault (I.faults source.old) (I.faults source.new)) }
-    ensures quiet { OnOk result (I.faults source.new ≡ I.faults source.old) }
-    ensures counts { (I.faults source.old ≤ I.faults source.new) ×
-        (I.ends source.old ≤ I.ends source.new) }
+    ensures comes { IfOk result (λ next. Comes inbox.old inbox.new next (I.state source.old).left
+        (I.state source.new).left) }
+    ensures err { OnErr result ((bytes : List ℕ) × IsOpenRead inbox.old bytes
+        (I.state source.old).left (I.state source.new).left) }
+    ensures end { result ≡ Ok Upcoming.End → CountedFault (I.state source.old).ends
+        (I.state source.new).ends }
+    ensures failed { OnErr result (CountedFault (I.state source.old).faults
+        (I.state source.new).faults) }
+    ensures quiet { OnOk result ((I.state source.new).faults ≡ (I.state source.old).faults) }
+    ensures counts { ((I.state source.old).faults ≤ (I.state source.new).faults) ×
+        ((I.state source.old).ends ≤ (I.state source.new).ends) }
 {
     loop {
         if let Some(line) = inbox.take_line() {
@@ -93,11 +95,14 @@ fn next_line<I: Source>(source: &mut I, inbox: &mut Inbox) -> Result<Next, Faile
 
 /// Puts all the bytes.
 fn put_all<O: Sink>(sink: &mut O, bytes: &[u8]) -> Result<(), Failed>
-    ensures ok { OnOk result (TakesAll bytes.now (O.taken sink.old) (O.taken sink.new)) }
-    ensures err { OnErr result (TakesSome bytes.now (O.taken sink.old) (O.taken sink.new)) }
-    ensures failed { OnErr result (CountedFault (O.faults sink.old) (O.faults sink.new)) }
-    ensures quiet { OnOk result (O.faults sink.new ≡ O.faults sink.old) }
-    ensures counts { O.faults sink.old ≤ O.faults sink.new }
+    ensures ok { OnOk result (TakesAll bytes.now (O.state sink.old).taken
+        (O.state sink.new).taken) }
+    ensures err { OnErr result (TakesSome bytes.now (O.state sink.old).taken
+        (O.state sink.new).taken) }
+    ensures failed { OnErr result (CountedFault (O.state sink.old).faults
+        (O.state sink.new).faults) }
+    ensures quiet { OnOk result ((O.state sink.new).faults ≡ (O.state sink.old).faults) }
+    ensures counts { (O.state sink.old).faults ≤ (O.state sink.new).faults }
 {
     let mut put = 0;
     while put < bytes.len() {
@@ -115,12 +120,12 @@ fn answer<O: Sink>(
     number: u32,
 ) -> Result<Turn, ServeFault>
     requires { child.old < length m.now.mealy.rows }
-    ensures replies { Replies m.now number child.old raw.now child.new (O.taken sink.old)
-        (O.taken sink.new) result }
-    ensures failed { result ≡ Err Fault.SinkFault →
-        CountedFault (O.faults sink.old) (O.faults sink.new) }
-    ensures quiet { OnOk result (O.faults sink.new ≡ O.faults sink.old) }
-    ensures counts { O.faults sink.old ≤ O.faults sink.new }
+    ensures replies { Replies m.now number child.old raw.now child.new (O.state sink.old).taken
+        (O.state sink.new).taken result }
+    ensures failed { result ≡ Err Fault.SinkFault → CountedFault (O.state sink.old).faults
+        (O.state sink.new).faults }
+    ensures quiet { OnOk result ((O.state sink.new).faults ≡ (O.state sink.old).faults) }
+    ensures counts { (O.state sink.old).faults ≤ (O.state sink.new).faults }
     ensures state { child.new < length m.now.mealy.rows }
 {
     let line = match child.reply(m, raw) {
@@ -145,17 +150,20 @@ fn serve_line<I: Source, O: Sink>(
     number: u32,
 ) -> Result<Turn, ServeFault>
     requires { child.old < length m.now.mealy.rows }
-    ensures turns { Turns m.now number child.old inbox.old child.new inbox.new (I.left source.old)
-        (I.left source.new) (O.taken sink.old) (O.taken sink.new) result }
-    ensures source { result ≡ Err Fault.SourceFault →
-        CountedFault (I.faults source.old) (I.faults source.new) }
-    ensures sink { result ≡ Err Fault.SinkFault →
-        CountedFault (O.faults sink.old) (O.faults sink.new) }
-    ensures end { result ≡ Ok Done.Ended → CountedFault (I.ends source.old) (I.ends source.new) }
-    ensures quiet { OnOk result ((I.faults source.new ≡ I.faults source.old) ×
-        (O.faults sink.new ≡ O.faults sink.old)) }
-    ensures counts { (I.faults source.old ≤ I.faults source.new) ×
-        (I.ends source.old ≤ I.ends source.new) × (O.faults sink.old ≤ O.faults sink.new) }
+    ensures turns { Turns m.now number child.old inbox.old child.new inbox.new
+        (I.state source.old).left (I.state source.new).left (O.state sink.old).taken
+        (O.state sink.new).taken result }
+    ensures source { result ≡ Err Fault.SourceFault → CountedFault (I.state source.old).faults
+        (I.state source.new).faults }
+    ensures sink { result ≡ Err Fault.SinkFault → CountedFault (O.state sink.old).faults
+        (O.state sink.new).faults }
+    ensures end { result ≡ Ok Done.Ended → CountedFault (I.state source.old).ends
+        (I.state source.new).ends }
+    ensures quiet { OnOk result (((I.state source.new).faults ≡ (I.state source.old).faults) ×
+        ((O.state sink.new).faults ≡ (O.state sink.old).faults)) }
+    ensures counts { ((I.state source.old).faults ≤ (I.state source.new).faults) ×
+        ((I.state source.old).ends ≤ (I.state source.new).ends) ×
+        ((O.state sink.old).faults ≤ (O.state sink.new).faults) }
     ensures state { child.new < length m.now.mealy.rows }
 {
     match next_line(source, inbox) {
@@ -173,19 +181,21 @@ pub fn serve<I: Source, O: Sink>(
     sink: &mut O,
     m: &Machine,
 ) -> Result<Served, ServeFault>
-    ensures plays { Plays m.now (I.left source.old) result (O.taken sink.old) (O.taken sink.new) }
-    ensures source { result ≡ Err Fault.SourceFault →
-        CountedFault (I.faults source.old) (I.faults source.new) ×
-        GoesOn m.now (I.left source.old) (I.left source.new) }
-    ensures sink { result ≡ Err Fault.SinkFault →
-        CountedFault (O.faults sink.old) (O.faults sink.new) }
+    ensures plays { Plays m.now (I.state source.old).left result (O.state sink.old).taken
+        (O.state sink.new).taken }
+    ensures source { result ≡ Err Fault.SourceFault → CountedFault (I.state source.old).faults
+        (I.state source.new).faults × GoesOn m.now (I.state source.old).left
+        (I.state source.new).left }
+    ensures sink { result ≡ Err Fault.SinkFault → CountedFault (O.state sink.old).faults
+        (O.state sink.new).faults }
     ensures end { IfOk result (λ s. s.cause ≡ Cause.EndOfInput →
-        CountedFault (I.ends source.old) (I.ends source.new)) }
+        CountedFault (I.state source.old).ends (I.state source.new).ends) }
     ensures limit { IfOk result (λ s. s.cause ≡ Cause.Limit → s.lines ≡ 4294967295) }
-    ensures quiet { OnOk result ((I.faults source.new ≡ I.faults source.old) ×
-        (O.faults sink.new ≡ O.faults sink.old)) }
-    ensures counts { (I.faults source.old ≤ I.faults source.new) ×
-        (I.ends source.old ≤ I.ends source.new) × (O.faults sink.old ≤ O.faults sink.new) }
+    ensures quiet { OnOk result (((I.state source.new).faults ≡ (I.state source.old).faults) ×
+        ((O.state sink.new).faults ≡ (O.state sink.old).faults)) }
+    ensures counts { ((I.state source.old).faults ≤ (I.state source.new).faults) ×
+        ((I.state source.old).ends ≤ (I.state source.new).ends) ×
+        ((O.state sink.old).faults ≤ (O.state sink.new).faults) }
 {
     // for the proof alone: names are short, and there is an initial state
     let _ = m.inputs.len();

@@ -40,15 +40,15 @@ impl<L: Link> Model for LineSul<L> {
 
     ghost view = { λ s. record { link = s.link; letters = s.letters; names = s.outputs.names; most = s.outputs.most; outputs = s.outputs.range; started = s.started; stop = s.stop; cut = s.cut } };
 
-    ghost invariant = { λ s. Stands s.letters s.outputs.names s.outputs.most (L.faults s.link) (L.ends s.link) s.started s.inbox s.stop s.cut (L.transcript s.link)
-        × AreToldIfFree s.outputs.names s.outputs.most s.outputs.range (L.transcript s.link)
+    ghost invariant = { λ s. Stands s.letters s.outputs.names s.outputs.most (L.state s.link).faults (L.state s.link).ends s.started s.inbox s.stop s.cut (L.state s.link).transcript
+        × AreToldIfFree s.outputs.names s.outputs.most s.outputs.range (L.state s.link).transcript
         × IfSome s.note (IsWord (length s.letters)) };
 }
 
 impl<L: Link> LineSul<L> {
     /// The system behind a link, whose outputs have these names. Takes no memory.
     pub fn new(link: L, inputs: Names, outputs: Names) -> LineSul<L>
-        requires { IsUntouched (L.transcript link) }
+        requires { IsUntouched (L.state link).transcript }
         ensures value { result ≡ record {
           link = link;
           letters = inputs;
@@ -59,7 +59,8 @@ impl<L: Link> LineSul<L> {
           stop = None;
           cut = false;
         } }
-        ensures fresh { NoRuns (told_runs result.letters result.names (L.transcript result.link)) }
+        ensures fresh { NoRuns (told_runs result.letters result.names
+            (L.state result.link).transcript) }
     {
         LineSul {
             link,
@@ -75,7 +76,7 @@ impl<L: Link> LineSul<L> {
 
     /// The system behind a link, whose outputs get their numbers as they come: at most 256. Takes the room for their names.
     pub fn free(alloc: Global, link: L, inputs: Names) -> Result<LineSul<L>, (L, NoMemory)>
-        requires { IsUntouched (L.transcript link) }
+        requires { IsUntouched (L.state link).transcript }
         ensures ok { IfOk result (λ s. s ≡ record {
           link = link;
           letters = inputs;
@@ -86,8 +87,8 @@ impl<L: Link> LineSul<L> {
           stop = None;
           cut = false;
         }) }
-        ensures fresh { IfOk result (λ s. NoRuns (told_runs s.letters s.names
-            (L.transcript s.link))) }
+        ensures fresh { IfOk result
+            (λ s. NoRuns (told_runs s.letters s.names (L.state s.link).transcript)) }
         ensures back { IfErr result (λ e. e.0 ≡ link) }
     {
         match OutputNames::free(alloc) {
@@ -143,12 +144,13 @@ impl<L: Link> LineSul<L> {
     /// The link. Its counts and what went over it bear out the system's stop, and whether that was in a step.
     pub fn into_link(self) -> L
         ensures link { result ≡ self.link }
-        ensures counted { IsCounted (L.faults self.link) (L.ends self.link) self.stop }
-        ensures told { IsTranscriptOf self.letters self.names self.most (L.faults self.link)
-            self.stop self.cut (L.transcript self.link) }
+        ensures counted { IsCounted (L.state self.link).faults (L.state self.link).ends
+            self.stop }
+        ensures told { IsTranscriptOf self.letters self.names self.most (L.state self.link).faults
+            self.stop self.cut (L.state self.link).transcript }
         ensures naming { IsNaming self.names self.most self.outputs }
         ensures told_names { AreToldIfFree self.names self.most self.outputs
-            (L.transcript self.link) }
+            (L.state self.link).transcript }
     {
         self.outputs.tells_naming();
         let LineSul {
@@ -169,27 +171,19 @@ impl<L: Link> Sul for LineSul<L> {
     ghost use Rattle.std.specs.Prelude.{length, None, Some};
     ghost use Rattle.lw_line.specs.LineState.{told_runs};
 
-    ghost inputs = { λ s. length s.letters };
-
-    ghost outputs = { λ s. s.outputs };
-
-    ghost origin = { λ s. record { machine = None; link = Some (L.number s.link); letters = Some s.letters } };
-
-    ghost state = { λ _. 0 };
-
-    ghost started = { λ s. s.started };
-
-    ghost faults = { λ s. L.faults s.link };
-
-    ghost stop = { λ s. s.stop };
-
-    ghost cut = { λ s. s.cut };
-
-    ghost runs = { λ s. told_runs s.letters s.names (L.transcript s.link) };
-
-    ghost names = { λ s. s.names };
-
-    ghost most = { λ s. s.most };
+    ghost state = { λ s. record {
+      inputs = length s.letters;
+      outputs = s.outputs;
+      origin = record { machine = None; link = Some (L.state s.link).number; letters = Some s.letters };
+      place = 0;
+      started = s.started;
+      faults = (L.state s.link).faults;
+      stop = s.stop;
+      cut = s.cut;
+      runs = told_runs s.letters s.names (L.state s.link).transcript;
+      names = s.names;
+      most = s.most;
+    } };
 
     fn inputs(&self) -> u16 {
         self.letters.len()

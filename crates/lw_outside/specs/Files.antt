@@ -1,6 +1,11 @@
 -- Files by name, the calls on them, and the bytes that the reads gave.
-use Rattle.std.specs.Prelude.{◌≡◌, ◌≢◌, ℕ, ◌<◌, List, [], ◌∷◌, ◌++◌, length, Bool, false, true, Option, Some, None, option_map, if◌then◌else◌}
+use Rattle.std.specs.Prelude.{◌≡◌, ◌≢◌, ℕ, ◌<◌, ◌≤◌, List, [], ◌∷◌, ◌++◌, length, Bool, false, true, Option, Some, None, Result, Err, IfOk, OnOk, OnErr, option_map, if◌then◌else◌, ⊤}
 use Rattle.std.specs.Str.{bytes_eq}
+use Rattle.lw_words.specs.Cause.{CountedFault}
+use Rattle.lw_outside.specs.declared.files.FilesStop.{FilesStop}
+use Rattle.lw_outside.specs.declared.files.FilesStop.TheVariants as unread
+use Rattle.lw_outside.specs.declared.files.WriteStop.{WriteStop}
+use Rattle.lw_outside.specs.declared.files.WriteStop.TheVariants as unwritten
 
 -- a name and the bytes that stand under it
 abbrev pub File : Type 0
@@ -50,3 +55,39 @@ write_call name failed = record { name = name; writes = true; failed = failed }
 -- told calls, and one more
 abbrev pub noted : Call → Option (List Call) → Option (List Call)
 noted call calls = option_map (λ cs. cs ++ call ∷ []) calls
+
+-- what contracts see of files: what they hold, and the calls that were answered other than out of memory, where that is told;
+-- the names of the reads that gave bytes, with the bytes, in their order; and how often a call failed
+pub record FilesState : Type 0 where
+  pub holds : Option (List File)
+  pub calls : Option (List Call)
+  pub reads : List File
+  pub faults : ℕ
+
+-- what a read of a file does, by its answer, of which `items` are the bytes
+pub record FilesRead {X : Type 0} (items : X → List ℕ) (name : List ℕ) (before now : FilesState) (result : Result X FilesStop) : Type 0 where
+  pub told : IfOk result (λ x. Holds before.holds name (items x))
+  pub given : IfOk result (λ x. now.reads ≡ before.reads ++ (name, items x) ∷ [])
+  pub short : IfOk result (λ x. length (items x) ≤ longest_file)
+  pub ok : OnOk result (now.calls ≡ noted (read_call name false) before.calls)
+  pub long : result ≡ Err unread.TooLong → HoldsLong before.holds name
+  pub long_call : result ≡ Err unread.TooLong → now.calls ≡ noted (read_call name false) before.calls
+  pub failed : result ≡ Err unread.Failed → CountedFault before.faults now.faults
+  pub failed_call : result ≡ Err unread.Failed → now.calls ≡ noted (read_call name true) before.calls
+  pub memory : result ≡ Err unread.NoMemory → now.calls ≡ before.calls
+  pub withheld : OnErr result (now.reads ≡ before.reads)
+  pub quiet : OnOk result (now.faults ≡ before.faults)
+  pub counts : before.faults ≤ now.faults
+  pub same : now.holds ≡ before.holds
+
+-- what a write of these bytes under a name does; where it is refused, anything may stand there
+pub record FilesWrite (name bytes : List ℕ) (before now : FilesState) (result : Result ⊤ WriteStop) : Type 0 where
+  pub told : OnOk result (Holds now.holds name bytes)
+  pub beside : StaysBeside name before.holds now.holds
+  pub ok : OnOk result (now.calls ≡ noted (write_call name false) before.calls)
+  pub failed : result ≡ Err unwritten.Failed → CountedFault before.faults now.faults
+  pub failed_call : result ≡ Err unwritten.Failed → now.calls ≡ noted (write_call name true) before.calls
+  pub memory : result ≡ Err unwritten.NoMemory → now.calls ≡ before.calls
+  pub reads : now.reads ≡ before.reads
+  pub quiet : OnOk result (now.faults ≡ before.faults)
+  pub counts : before.faults ≤ now.faults

@@ -1,11 +1,13 @@
 -- Files, streams, links and spawners in memory, as contracts see them: what they hold, the plan of the calls that are to fail, and how many
 -- calls were made. With an empty plan no call fails but for what the object holds.
-use Rattle.std.specs.Prelude.{◌≡◌, ℕ, ◌+◌, ◌-◌, ◌^◌, List, [], ◌∷◌, ◌++◌, length, drop, min, nat_eq, nat_lt, slice_get, slice_index_or, option_map, Bool, Option, Some, None, Result, Ok, Err, if◌then◌else◌}
+use Rattle.std.specs.Prelude.{◌≡◌, ℕ, ◌+◌, ◌-◌, ◌^◌, List, [], ◌∷◌, ◌++◌, length, drop, map, min, nat_eq, nat_lt, slice_get, slice_index_or, option_map, Bool, Option, Some, None, Result, Ok, Err, if◌then◌else◌}
 use Rattle.std.specs.List.{list_any}
 use Rattle.lw_json.specs.declared.machine.Machine.{Machine}
-use Rattle.lw_outside.specs.Links.{Retired, Transcript}
+use Rattle.lw_outside.specs.Links.{LinkState, SpawnerState, Transcript}
 use Rattle.lw_outside.specs.Played.{ended_lines, played}
-use Rattle.lw_outside.specs.Files.{File, Call, file_at, longest_file}
+use Rattle.lw_outside.specs.Files.{File, Call, FilesState, file_at, longest_file}
+use Rattle.lw_outside.specs.Streams.{SinkState, SourceState}
+use Rattle.lw_outside.specs.declared.links.StartFailure.TheVariants.{Unknown}
 use Rattle.lw_outside.specs.declared.files.FilesStop.{FilesStop}
 use Rattle.lw_outside.specs.declared.files.FilesStop.TheVariants.{Failed, TooLong, NoMemory}
 
@@ -18,7 +20,7 @@ abbrev pub one_more : ℕ → ℕ
 one_more count = min (count + 1) (2 ^ 64 - 1)
 
 -- what files hold, the calls on them, the reads that gave bytes, and how often they failed
-pub record FilesState : Type 0 where
+pub record MemoryFilesState : Type 0 where
   pub holds : List File
   pub calls : List Call
   pub reads : List File
@@ -27,7 +29,7 @@ pub record FilesState : Type 0 where
   pub faults : ℕ
 
 -- these files, before any call
-abbrev pub files_with : List File → List ℕ → FilesState
+abbrev pub files_with : List File → List ℕ → MemoryFilesState
 files_with holds plan = record { holds = holds; calls = []; reads = []; plan = plan; made = 0; faults = 0 }
 
 -- how a read ends where there is memory
@@ -41,7 +43,7 @@ found_end None = Fails
 found_end (Some bytes) = if nat_lt longest_file (length bytes) then IsLong else Gives bytes
 
 -- a read fails where that is planned or there is no such file
-abbrev pub read_end : FilesState → List ℕ → ReadEnd
+abbrev pub read_end : MemoryFilesState → List ℕ → ReadEnd
 read_end s name = if is_planned s.plan s.made then Fails else found_end (file_at name s.holds)
 
 -- a read was answered as it ends, or there was no memory
@@ -52,14 +54,14 @@ EndsRead items end (Err TooLong) = end ≡ IsLong
 EndsRead items end (Err NoMemory) = Unit {0}
 
 -- a call was made and noted; what the files hold is another matter
-pub record NotesCall (before : FilesState) (call : Call) (after : FilesState) : Type 0 where
+pub record NotesCall (before : MemoryFilesState) (call : Call) (after : MemoryFilesState) : Type 0 where
   pub calls : after.calls ≡ before.calls ++ call ∷ []
   pub plan : after.plan ≡ before.plan
   pub made : after.made ≡ one_more before.made
   pub faults : after.faults ≡ (if call.failed then one_more before.faults else before.faults)
 
 -- the bytes that a sink took, how many more it has room for, how many it takes at a time, and how often it failed
-pub record SinkState : Type 0 where
+pub record MemorySinkState : Type 0 where
   pub taken : List ℕ
   pub room : ℕ
   pub piece : ℕ
@@ -68,7 +70,7 @@ pub record SinkState : Type 0 where
   pub faults : ℕ
 
 -- the bytes that a source has left, how many it gives at a time, how often it failed and how often it told its end
-pub record SourceState : Type 0 where
+pub record MemorySourceState : Type 0 where
   pub left : List ℕ
   pub piece : ℕ
   pub plan : List ℕ
@@ -88,7 +90,7 @@ said (Recites bytes) sent = bytes
 
 -- a link's number, what stands at its other end, what went over it, for how many more bytes it has room, and how often it failed
 -- and told its end
-pub record LinkState : Type 0 where
+pub record MemoryLinkState : Type 0 where
   pub number : ℕ
   pub speaker : Speaker
   pub sent : List ℕ
@@ -99,23 +101,23 @@ pub record LinkState : Type 0 where
   pub faults : ℕ
   pub ends : ℕ
 
-abbrev pub transcript_of : LinkState → Transcript
+abbrev pub transcript_of : MemoryLinkState → Transcript
 transcript_of l = record { sent = l.sent; received = l.received }
 
 -- what was said and is not yet received
-abbrev pub waiting : LinkState → List ℕ
+abbrev pub waiting : MemoryLinkState → List ℕ
 waiting l = drop (length l.received) (said l.speaker l.sent)
 
 -- what was received is a front of what was said
-abbrev pub HasHeard : LinkState → Type 0
+abbrev pub HasHeard : MemoryLinkState → Type 0
 HasHeard l = said l.speaker l.sent ≡ l.received ++ waiting l
 
 -- a link that was just started
-abbrev pub new_link : ℕ → Speaker → ℕ → List ℕ → LinkState
+abbrev pub new_link : ℕ → Speaker → ℕ → List ℕ → MemoryLinkState
 new_link number speaker room plan = record { number = number; speaker = speaker; sent = []; received = []; room = room; plan = plan; made = 0; faults = 0; ends = 0 }
 
 -- a call on a link was made and failed, or did not
-abbrev pub NotesFault : LinkState → LinkState → Type 0
+abbrev pub NotesFault : MemoryLinkState → MemoryLinkState → Type 0
 NotesFault before after = after ≡ record before { made = one_more before.made; faults = one_more before.faults }
 
 -- what stands at the other ends of a spawner's links: children that all play the machine, or the i-th link's says the i-th bytes
@@ -129,7 +131,7 @@ speaker_at (EachRecites scripts) i = option_map (λ bytes. Recites bytes) (slice
 
 -- what stands at the other ends of the links, the room of each and the plan of the i-th, the plan of the starts with how many
 -- were asked for, the links that were started, the words of the starts, the links that were retired, and how often it failed
-pub record SpawnerState : Type 0 where
+pub record MemorySpawnerState : Type 0 where
   pub speakers : Speakers
   pub room : ℕ
   pub links : List (List ℕ)
@@ -137,17 +139,30 @@ pub record SpawnerState : Type 0 where
   pub made : ℕ
   pub started : ℕ
   pub commands : List (List (List ℕ))
-  pub retired : List LinkState
+  pub retired : List MemoryLinkState
   pub faults : ℕ
 
 -- a spawner that was asked for nothing
-abbrev pub new_spawner : Speakers → ℕ → List ℕ → List (List ℕ) → SpawnerState
+abbrev pub new_spawner : Speakers → ℕ → List ℕ → List (List ℕ) → MemorySpawnerState
 new_spawner speakers room plan links = record { speakers = speakers; room = room; links = links; plan = plan; made = 0; started = 0; commands = []; retired = []; faults = 0 }
 
 -- the link that is started next, if none fails: a start fails where that is planned or nothing stands at the other end
-abbrev pub next_link : SpawnerState → Option LinkState
+abbrev pub next_link : MemorySpawnerState → Option MemoryLinkState
 next_link s = if is_planned s.plan s.made then None else option_map (λ speaker. new_link s.started speaker s.room (slice_index_or s.links s.started [])) (speaker_at s.speakers s.started)
 
--- a link at its end, as every spawner tells it
-abbrev pub retired_of : LinkState → Retired
-retired_of l = record { number = l.number; faults = l.faults; ends = l.ends; transcript = Some (transcript_of l) }
+-- each as every form of it tells it
+abbrev pub told_files : MemoryFilesState → FilesState
+told_files f = record { holds = Some f.holds; calls = Some f.calls; reads = f.reads; faults = f.faults }
+
+abbrev pub told_sink : MemorySinkState → SinkState
+told_sink s = record { taken = Some s.taken; faults = s.faults }
+
+abbrev pub told_source : MemorySourceState → SourceState
+told_source s = record { left = Some s.left; faults = s.faults; ends = s.ends }
+
+abbrev pub told_link : MemoryLinkState → LinkState
+told_link l = record { number = l.number; faults = l.faults; ends = l.ends; transcript = Some (transcript_of l) }
+
+-- its starts fail by their plan, for no cause of a system's
+abbrev pub told_spawner : MemorySpawnerState → SpawnerState
+told_spawner s = record { faults = s.faults; started = s.started; retired = map told_link s.retired; commands = Some s.commands; cause = Unknown }

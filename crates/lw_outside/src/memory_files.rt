@@ -1,8 +1,8 @@
 //! Files in memory.
 ghost use Rattle.std.specs.Prelude.{◌≡◌, ◌<◌, ◌≤◌, ◌∷◌, [], ◌++◌, length, map, true, false, Some, Err, IfOk, OnOk, OnErr, option_map, string_bytes, vec_capacity, vec_len};
 ghost use Rattle.lw_words.specs.Cause.{CountedFault};
-ghost use Rattle.lw_outside.specs.Files.{Holds, HoldsLong, StaysBeside, file_at, longest_file, noted, read_call, write_call};
-ghost use Rattle.lw_outside.specs.Memory.{EndsRead, NotesCall, files_with, is_planned, read_end};
+ghost use Rattle.lw_outside.specs.Files.{Holds, HoldsLong, StaysBeside, file_at, longest_file, noted, read_call, write_call, FilesRead, FilesWrite};
+ghost use Rattle.lw_outside.specs.Memory.{EndsRead, NotesCall, files_with, is_planned, read_end, told_files};
 ghost use Rattle.lw_outside.specs.declared.files.FilesStop.{FilesStop as ReadRefusal};
 ghost use Rattle.lw_outside.specs.declared.files.WriteStop.{WriteStop as WriteRefusal};
 
@@ -37,9 +37,9 @@ pub struct MemoryFiles {
 
 impl Model for MemoryFiles {
     ghost use Rattle.std.specs.Prelude.{map, string_bytes};
-    ghost use Rattle.lw_outside.specs.Memory.{FilesState};
+    ghost use Rattle.lw_outside.specs.Memory.{MemoryFilesState};
 
-    ghost Value = { FilesState };
+    ghost Value = { MemoryFilesState };
 
     ghost view = { λ m. record {
       holds = map (λ f. (string_bytes f.0, f.1.items)) m.files.items;
@@ -178,37 +178,13 @@ impl MemoryFiles {
 }
 
 impl Files for MemoryFiles {
-    ghost use Rattle.std.specs.Prelude.{Some};
+    ghost use Rattle.lw_outside.specs.Memory.{told_files};
 
-    ghost holds = { λ m. Some m.holds };
-
-    ghost calls = { λ m. Some m.calls };
-
-    ghost reads = { λ m. m.reads };
-
-    ghost faults = { λ m. m.faults };
+    ghost state = { told_files };
 
     fn read(&mut self, name: &str) -> Result<Vec<u8>, FilesStop>
-        // What every form of files says of a read.
-        ensures told { IfOk result (λ bytes. Holds (Some self.old.holds) name.now bytes.items) }
-        ensures given { IfOk result (λ bytes. self.new.reads ≡ self.old.reads ++
-            (name.now, bytes.items) ∷ []) }
-        ensures short { IfOk result (λ bytes. length bytes.items ≤ longest_file) }
-        ensures ok { OnOk result (Some self.new.calls ≡
-            noted (read_call name.now false) (Some self.old.calls)) }
-        ensures long { result ≡ Err ReadRefusal.TooLong → HoldsLong (Some self.old.holds) name.now }
-        ensures long_call { result ≡ Err ReadRefusal.TooLong → Some self.new.calls ≡
-            noted (read_call name.now false) (Some self.old.calls) }
-        ensures failed { result ≡ Err ReadRefusal.Failed →
-            CountedFault self.old.faults self.new.faults }
-        ensures failed_call { result ≡ Err ReadRefusal.Failed → Some self.new.calls ≡
-            noted (read_call name.now true) (Some self.old.calls) }
-        ensures memory { result ≡ Err ReadRefusal.NoMemory → Some self.new.calls ≡
-            Some self.old.calls }
-        ensures withheld { OnErr result (self.new.reads ≡ self.old.reads) }
-        ensures quiet { OnOk result (self.new.faults ≡ self.old.faults) }
-        ensures counts { self.old.faults ≤ self.new.faults }
-        ensures same { Some self.new.holds ≡ Some self.old.holds }
+        ensures every { FilesRead (λ bytes. bytes.items) name.now (told_files self.old)
+            (told_files self.new) result }
 
         // By the plan and the files, and nothing else.
         ensures exact { EndsRead (λ v. v.items) (read_end self.old name.now) result }
@@ -245,20 +221,8 @@ impl Files for MemoryFiles {
     }
 
     fn write(&mut self, name: &str, bytes: &[u8]) -> Result<(), WriteStop>
-        // What every form of files says of a write.
-        ensures told { OnOk result (Holds (Some self.new.holds) name.now bytes.now) }
-        ensures beside { StaysBeside name.now (Some self.old.holds) (Some self.new.holds) }
-        ensures ok { OnOk result (Some self.new.calls ≡
-            noted (write_call name.now false) (Some self.old.calls)) }
-        ensures failed { result ≡ Err WriteRefusal.Failed →
-            CountedFault self.old.faults self.new.faults }
-        ensures failed_call { result ≡ Err WriteRefusal.Failed → Some self.new.calls ≡
-            noted (write_call name.now true) (Some self.old.calls) }
-        ensures memory { result ≡ Err WriteRefusal.NoMemory → Some self.new.calls ≡
-            Some self.old.calls }
-        ensures reads { self.new.reads ≡ self.old.reads }
-        ensures quiet { OnOk result (self.new.faults ≡ self.old.faults) }
-        ensures counts { self.old.faults ≤ self.new.faults }
+        ensures every { FilesWrite name.now bytes.now (told_files self.old) (told_files self.new)
+            result }
 
         // By the plan, and nothing else.
         ensures planned { result ≡ Err WriteRefusal.Failed →

@@ -1,8 +1,8 @@
 //! A link in memory.
 ghost use Rattle.std.specs.Prelude.{◌≡◌, ◌≢◌, ◌<◌, ◌≤◌, ◌+◌, ◌-◌, ◌⊎◌, [], ◌++◌, length, take, true, false, min, Some, IfOk, OnOk, OnErr, option_map, vec_capacity, vec_len};
 ghost use Rattle.lw_words.specs.Cause.{CountedFault};
-ghost use Rattle.lw_outside.specs.Links.{SendsPart, receives, sends};
-ghost use Rattle.lw_outside.specs.Memory.{HasHeard, NotesFault, is_planned, new_link, one_more, waiting};
+ghost use Rattle.lw_outside.specs.Links.{SendsPart, receives, sends, LinkSend, LinkTake};
+ghost use Rattle.lw_outside.specs.Memory.{HasHeard, NotesFault, is_planned, new_link, one_more, waiting, told_link};
 ghost use Rattle.lw_outside.specs.bodies.Child.{IsFresh, speaker_of};
 ghost use Rattle.lw_outside.specs.bodies.Link.{HasRoom};
 
@@ -28,9 +28,9 @@ pub struct MemoryLink {
 
 impl Model for MemoryLink {
     ghost use Rattle.std.specs.Prelude.{◌≤◌, ◌-◌, vec_capacity, vec_len};
-    ghost use Rattle.lw_outside.specs.Memory.{LinkState};
+    ghost use Rattle.lw_outside.specs.Memory.{MemoryLinkState};
 
-    ghost Value = { LinkState };
+    ghost Value = { MemoryLinkState };
 
     ghost use Rattle.lw_outside.specs.bodies.Child.{HasSaid, speaker_of};
 
@@ -117,28 +117,13 @@ impl MemoryLink {
 }
 
 impl Link for MemoryLink {
-    ghost use Rattle.std.specs.Prelude.{Some};
-    ghost use Rattle.lw_outside.specs.Memory.{transcript_of};
+    ghost use Rattle.lw_outside.specs.Memory.{told_link};
 
-    ghost number = { λ l. l.number };
-
-    ghost faults = { λ l. l.faults };
-
-    ghost ends = { λ l. l.ends };
-
-    ghost transcript = { λ l. Some (transcript_of l) };
+    ghost state = { told_link };
 
     fn send(&mut self, bytes: &[u8]) -> Result<(), Failed>
         requires { 0 < length bytes.now }
-        // What every link says of a send.
-        ensures sent { OnOk result (Some (transcript_of self.new) ≡
-            option_map (sends bytes.now) (Some (transcript_of self.old))) }
-        ensures part { OnErr result (SendsPart bytes.now (Some (transcript_of self.old))
-            (Some (transcript_of self.new))) }
-        ensures failed { OnErr result (CountedFault self.old.faults self.new.faults) }
-        ensures quiet { OnOk result (self.new.faults ≡ self.old.faults) }
-        ensures counts { self.old.faults ≤ self.new.faults }
-        ensures same { (self.new.number ≡ self.old.number) × (self.new.ends ≡ self.old.ends) }
+        ensures every { LinkSend bytes.now (told_link self.old) (told_link self.new) result }
 
         // By the plan and the room, and nothing else.
         ensures refused { OnErr result ((is_planned self.old.plan self.old.made ≡ true) ⊎
@@ -169,18 +154,7 @@ impl Link for MemoryLink {
 
     fn take(&mut self, buffer: &mut [u8]) -> Result<usize, Failed>
         requires { 0 < length buffer.old }
-        // What every link says of a take.
-        ensures bound { IfOk result (λ n. n ≤ length buffer.new) }
-        ensures took { IfOk result (λ n. Some (transcript_of self.new) ≡
-            option_map (receives (take n buffer.new)) (Some (transcript_of self.old))) }
-        ensures end { IfOk result (λ n. n ≡ 0 → CountedFault self.old.ends self.new.ends) }
-        ensures more { IfOk result (λ n. n ≢ 0 → self.new.ends ≡ self.old.ends) }
-        ensures failed { OnErr result (CountedFault self.old.faults self.new.faults) }
-        ensures kept { OnErr result ((Some (transcript_of self.new) ≡
-            Some (transcript_of self.old)) × (self.new.ends ≡ self.old.ends)) }
-        ensures quiet { OnOk result (self.new.faults ≡ self.old.faults) }
-        ensures counts { (self.old.faults ≤ self.new.faults) × (self.old.ends ≤ self.new.ends) }
-        ensures same { self.new.number ≡ self.old.number }
+        ensures every { LinkTake buffer.new (told_link self.old) (told_link self.new) result }
 
         // By the plan, by what is waiting and by the room, and nothing else.
         ensures refused { OnErr result ((is_planned self.old.plan self.old.made ≡ true) ⊎

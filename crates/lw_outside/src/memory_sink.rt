@@ -1,8 +1,8 @@
 //! A stream in memory that takes bytes.
 ghost use Rattle.std.specs.Prelude.{◌≡◌, ◌<◌, ◌≤◌, ◌-◌, ◌⊎◌, [], length, take, true, false, min, Some, IfOk, OnOk, OnErr};
 ghost use Rattle.lw_words.specs.Cause.{CountedFault};
-ghost use Rattle.lw_outside.specs.Streams.{taken_more};
-ghost use Rattle.lw_outside.specs.Memory.{is_planned, one_more};
+ghost use Rattle.lw_outside.specs.Streams.{taken_more, SinkPut};
+ghost use Rattle.lw_outside.specs.Memory.{is_planned, one_more, told_sink};
 
 use crate::{Failed, Sink};
 use lw_words::NoMemory;
@@ -24,9 +24,9 @@ pub struct MemorySink {
 
 impl Model for MemorySink {
     ghost use Rattle.std.specs.Prelude.{◌≤◌, ◌-◌, vec_capacity, vec_len};
-    ghost use Rattle.lw_outside.specs.Memory.{SinkState};
+    ghost use Rattle.lw_outside.specs.Memory.{MemorySinkState};
 
-    ghost Value = { SinkState };
+    ghost Value = { MemorySinkState };
 
     ghost view = { λ s. record { taken = s.taken.items; room = s.left; piece = s.piece; plan = s.plan.items; made = s.made; faults = s.faults } };
 
@@ -71,22 +71,13 @@ impl MemorySink {
 }
 
 impl Sink for MemorySink {
-    ghost use Rattle.std.specs.Prelude.{Some};
+    ghost use Rattle.lw_outside.specs.Memory.{told_sink};
 
-    ghost taken = { λ s. Some s.taken };
-
-    ghost faults = { λ s. s.faults };
+    ghost state = { told_sink };
 
     fn put(&mut self, bytes: &[u8]) -> Result<usize, Failed>
         requires { 0 < length bytes.now }
-        // What every sink says.
-        ensures some { IfOk result (λ n. (1 ≤ n) × (n ≤ length bytes.now)) }
-        ensures took { IfOk result (λ n. Some self.new.taken ≡
-            taken_more n bytes.now (Some self.old.taken)) }
-        ensures left { OnErr result (Some self.new.taken ≡ Some self.old.taken) }
-        ensures failed { OnErr result (CountedFault self.old.faults self.new.faults) }
-        ensures quiet { OnOk result (self.new.faults ≡ self.old.faults) }
-        ensures counts { self.old.faults ≤ self.new.faults }
+        ensures every { SinkPut bytes.now (told_sink self.old) (told_sink self.new) result }
 
         // By the plan, the piece and the room, and nothing else.
         ensures refused { OnErr result ((is_planned self.old.plan self.old.made ≡ true) ⊎

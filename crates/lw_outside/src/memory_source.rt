@@ -1,8 +1,8 @@
 //! A stream in memory that gives bytes.
 ghost use Rattle.std.specs.Prelude.{◌≡◌, ◌≢◌, ◌<◌, ◌≤◌, ◌+◌, ◌-◌, ◌++◌, length, take, drop, true, false, min, Some, IfOk, OnOk, OnErr};
 ghost use Rattle.lw_words.specs.Cause.{CountedFault};
-ghost use Rattle.lw_outside.specs.Streams.{Gave, IsSpent};
-ghost use Rattle.lw_outside.specs.Memory.{is_planned, one_more};
+ghost use Rattle.lw_outside.specs.Streams.{Gave, IsSpent, SourceRead};
+ghost use Rattle.lw_outside.specs.Memory.{is_planned, one_more, told_source};
 
 use crate::{Failed, Source};
 use lw_words::NoMemory;
@@ -24,9 +24,9 @@ pub struct MemorySource {
 
 impl Model for MemorySource {
     ghost use Rattle.std.specs.Prelude.{◌≤◌, drop, length};
-    ghost use Rattle.lw_outside.specs.Memory.{SourceState};
+    ghost use Rattle.lw_outside.specs.Memory.{MemorySourceState};
 
-    ghost Value = { SourceState };
+    ghost Value = { MemorySourceState };
 
     ghost view = { λ s. record { left = drop s.given s.bytes.items; piece = s.piece; plan = s.plan.items; made = s.made; faults = s.faults; ends = s.ends } };
 
@@ -73,28 +73,14 @@ impl MemorySource {
 }
 
 impl Source for MemorySource {
-    ghost use Rattle.std.specs.Prelude.{Some};
+    ghost use Rattle.lw_outside.specs.Memory.{told_source};
 
-    ghost left = { λ s. Some s.left };
-
-    ghost faults = { λ s. s.faults };
-
-    ghost ends = { λ s. s.ends };
+    ghost state = { told_source };
 
     fn read(&mut self, buffer: &mut [u8]) -> Result<usize, Failed>
         requires { 0 < length buffer.old }
-        // What every source says.
-        ensures bound { IfOk result (λ n. n ≤ length buffer.new) }
-        ensures gave { IfOk result (λ n. Gave (take n buffer.new) (Some self.old.left)
-            (Some self.new.left)) }
-        ensures end { IfOk result (λ n. n ≡ 0 → IsSpent (Some self.old.left) ×
-            CountedFault self.old.ends self.new.ends) }
-        ensures more { IfOk result (λ n. n ≢ 0 → self.new.ends ≡ self.old.ends) }
-        ensures failed { OnErr result (CountedFault self.old.faults self.new.faults) }
-        ensures kept { OnErr result ((Some self.new.left ≡ Some self.old.left) ×
-            (self.new.ends ≡ self.old.ends)) }
-        ensures quiet { OnOk result (self.new.faults ≡ self.old.faults) }
-        ensures counts { (self.old.faults ≤ self.new.faults) × (self.old.ends ≤ self.new.ends) }
+        ensures every { SourceRead buffer.new (told_source self.old) (told_source self.new)
+            result }
 
         // By the plan and the piece, and nothing else.
         ensures planned { OnErr result (is_planned self.old.plan self.old.made ≡ true) }

@@ -2,8 +2,8 @@
 ghost use Rattle.std.specs.Prelude.{◌≡◌, ◌<◌, ◌≤◌, ◌+◌, [], ◌∷◌, ◌++◌, length, map, slice_index_or, true, false, Contains, Some, None, Err, IfOk, IfSome, OnOk, OnErr, option_map, string_bytes, vec_capacity, vec_len};
 ghost use Rattle.std.specs.List.{All};
 ghost use Rattle.lw_words.specs.Cause.{CountedFault};
-ghost use Rattle.lw_outside.specs.Links.{IsUntouched, with_start};
-ghost use Rattle.lw_outside.specs.Memory.{AllPlay, EachRecites, HasHeard, is_planned, new_link, new_spawner, next_link, one_more, retired_of, speaker_at, transcript_of};
+ghost use Rattle.lw_outside.specs.Links.{IsUntouched, with_start, SpawnerStart, SpawnerRetire};
+ghost use Rattle.lw_outside.specs.Memory.{AllPlay, EachRecites, HasHeard, is_planned, new_link, new_spawner, next_link, one_more, told_link, speaker_at, transcript_of, told_spawner};
 ghost use Rattle.lw_outside.specs.bodies.Cast.{cast_of};
 ghost use Rattle.lw_outside.specs.bodies.Child.{IsFresh, speaker_of};
 ghost use Rattle.lw_outside.specs.bodies.Link.{HasRoom};
@@ -39,9 +39,9 @@ pub struct MemorySpawner {
 
 impl Model for MemorySpawner {
     ghost use Rattle.std.specs.Prelude.{map, string_bytes, vec_capacity};
-    ghost use Rattle.lw_outside.specs.Memory.{SpawnerState};
+    ghost use Rattle.lw_outside.specs.Memory.{MemorySpawnerState};
 
-    ghost Value = { SpawnerState };
+    ghost Value = { MemorySpawnerState };
 
     ghost use Rattle.lw_outside.specs.bodies.Cast.{cast_of};
     ghost use Rattle.lw_outside.specs.bodies.Spawner.{KeepsRetired};
@@ -262,7 +262,7 @@ impl MemorySpawner {
 impl MemorySpawner {
     /// For the proof alone: each link that was retired was started before.
     fn keeps_earlier(&self)
-        ensures { All (λ r. r.number < self.now.started) (map retired_of self.now.retired) }
+        ensures { All (λ r. r.number < self.now.started) (map told_link self.now.retired) }
     {
         let _ = &self.started;
     }
@@ -271,20 +271,9 @@ impl MemorySpawner {
 impl Spawner for MemorySpawner {
     type Link = MemoryLink;
 
-    ghost use Rattle.std.specs.Prelude.{Some, map};
-    ghost use Rattle.lw_outside.specs.Memory.{retired_of};
+    ghost use Rattle.lw_outside.specs.Memory.{told_spawner};
 
-    ghost faults = { λ s. s.faults };
-
-    ghost started = { λ s. s.started };
-
-    ghost retired = { λ s. map retired_of s.retired };
-
-    ghost commands = { λ s. Some s.commands };
-
-    ghost use Rattle.lw_outside.specs.declared.links.StartFailure.TheVariants.{Unknown};
-
-    ghost cause = { λ _. Unknown };
+    ghost state = { told_spawner };
 
     /// Its starts fail by their plan, for no cause of a system's.
     fn failure(&self) -> StartFailure {
@@ -293,25 +282,8 @@ impl Spawner for MemorySpawner {
 
     fn start(&mut self, words: &[String]) -> Result<MemoryLink, StartStop>
         requires { 0 < length words.now }
-        // What every spawner says of a start.
-        ensures number { IfOk result (λ l. l.number ≡ self.old.started) }
-        ensures unused { IfOk result (λ l. (l.faults ≡ 0) × (l.ends ≡ 0) ×
-            IsUntouched (Some (transcript_of l))) }
-        ensures one_more { OnOk result (self.new.started ≡ self.old.started + 1) }
-        ensures none { OnErr result (self.new.started ≡ self.old.started) }
-        ensures ok { OnOk result (Some self.new.commands ≡
-            with_start (map (λ w. string_bytes w) words.now) (Some self.old.commands)) }
-        ensures failed { result ≡ Err StartRefusal.Failed →
-            CountedFault self.old.faults self.new.faults }
-        ensures failed_start { result ≡ Err StartRefusal.Failed → Some self.new.commands ≡
-            with_start (map (λ w. string_bytes w) words.now) (Some self.old.commands) }
-        ensures memory { result ≡ Err StartRefusal.NoMemory →
-            Some self.new.commands ≡ Some self.old.commands }
-        ensures quiet { OnOk result (self.new.faults ≡ self.old.faults) }
-        ensures counts { self.old.faults ≤ self.new.faults }
-        ensures retired { map retired_of self.new.retired ≡ map retired_of self.old.retired }
-        ensures earlier { All (λ r. r.number < self.old.started)
-            (map retired_of self.old.retired) }
+        ensures every { SpawnerStart told_link (map (λ w. string_bytes w) words.now)
+            (told_spawner self.old) (told_spawner self.new) result }
 
         // By the plan and what stands at the other end, and nothing else.
         ensures exact { IfOk result (λ l. Some l ≡ next_link self.old) }
@@ -359,18 +331,10 @@ impl Spawner for MemorySpawner {
 
     fn retire(&mut self, link: MemoryLink)
         requires started { link.number < self.old.started }
-        requires once { ¬ Contains (map (λ r. r.number) (map retired_of self.old.retired))
+        requires once { ¬ Contains (map (λ r. r.number) (map told_link self.old.retired))
             link.number }
-        ensures retired { map retired_of self.new.retired ≡ map retired_of self.old.retired ++
-            record {
-              number = link.number;
-              faults = link.faults;
-              ends = link.ends;
-              transcript = Some (transcript_of link);
-            } ∷ [] }
-        ensures started { self.new.started ≡ self.old.started }
-        ensures faults { self.new.faults ≡ self.old.faults }
-        ensures commands { Some self.new.commands ≡ Some self.old.commands }
+        ensures every { SpawnerRetire (told_link link) (told_spawner self.old)
+            (told_spawner self.new) }
 
         // The link is kept whole, and nothing else changes.
         ensures done { self.new ≡ record self.old { retired = self.old.retired ++ link ∷ [] } }

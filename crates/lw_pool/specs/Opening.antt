@@ -1,20 +1,19 @@
 -- Which sessions may make a pool.
-use Rattle.std.specs.Prelude.{◌≡◌, ℕ, ◌<◌, List, [], length, slice_index_or, Option, None}
+use Rattle.std.specs.Prelude.{◌≡◌, ℕ, ◌<◌, List, [], length, slice_index_or, None}
 use Rattle.std.specs.List.{All}
 use Rattle.lw_words.specs.Answer.{answer_of, IsAnswer}
 use Rattle.lw_words.specs.declared.kept.KeptAnswer.{KeptAnswer}
-use Rattle.lw_words.specs.declared.stop.SulStop.{SulStop}
-use Rattle.lw_mealy.specs.Origin.{Origin}
 use Rattle.lw_sul.specs.SessionState.{SessionState}
+use Rattle.lw_sul.specs.System.{SulState}
 use Rattle.lw_desk.specs.Naming.{Naming, own_names}
 use Rattle.lw_pool.specs.Fitting.{Fits}
 use Rattle.lw_pool.specs.Pool.{Seen, Member, ArePrior}
 
 -- a session, and beside it what its system tells, by what a system tells of itself
-abbrev pub member_of : {S : Type 0} → (S → List (List ℕ)) → (S → ℕ) → (S → Option SulStop) → (S → Origin) → (S → ℕ) → (S → ℕ) → SessionState S → Member S
-member_of names most stop origin inputs outputs s = record {
+abbrev pub member_of : {S : Type 0} → (S → SulState) → SessionState S → Member S
+member_of state s = let sul = state s.sul in record {
   session = s;
-  seen = record { instance = s.instance; journal = s.journal; names = names s.sul; most = most s.sul; stop = stop s.sul; origin = origin s.sul; inputs = inputs s.sul; outputs = outputs s.sul };
+  seen = record { instance = s.instance; journal = s.journal; names = sul.names; most = sul.most; stop = sul.stop; origin = sul.origin; inputs = sul.inputs; outputs = sul.outputs };
 }
 
 -- a session that may be this one of a pool: its journal is empty, it has not stopped, and its outputs have the pool's names

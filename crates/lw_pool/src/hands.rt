@@ -66,8 +66,8 @@ pub(crate) fn hands_of<S: Sul + Drop>(
     alloc: Global,
     sessions: Vec<Session<S>>,
 ) -> Result<Vec<Hand<S>>, Vec<Session<S>>>
-    ensures hands { IfOk result (λ hs. map (λ h. h.worker) hs.items ≡
-        map (member_of S.names S.most S.stop S.origin S.inputs S.outputs) sessions.items) }
+    ensures hands { IfOk result (λ hs. map (λ h. h.worker) hs.items ≡ map (member_of S.state)
+        sessions.items) }
     ensures back { IfErr result (λ back. back ≡ sessions) }
 {
     let Ok(mut hands) = Vec::with_capacity(alloc, sessions.len()) else {
@@ -89,8 +89,7 @@ pub(crate) fn sessions_of<S: Sul + Drop>(
     room: Vec<Session<S>>,
 ) -> Vec<Session<S>>
     requires { HasRoom room hands }
-    ensures { map (member_of S.names S.most S.stop S.origin S.inputs S.outputs) result.items ≡
-        map (λ h. h.worker) hands.items }
+    ensures { map (member_of S.state) result.items ≡ map (λ h. h.worker) hands.items }
 {
     let mut sessions = room;
     for hand in hands {

@@ -201,12 +201,9 @@ impl<S: Sul + Drop, R: Drop> Pool<S, R> {
         requires lists { HasLists names.brought (length sessions.items) }
         requires shared { IsShared names }
         requires come_up { FreeComeUp cache.kept names }
-        requires join { AllMayJoin
-            (member_of S.names S.most S.stop S.origin S.inputs S.outputs)
-            names inputs outputs sessions.items }
+        requires join { AllMayJoin (member_of S.state) names inputs outputs sessions.items }
         requires prior { MayBegin names inputs outputs cache.kept }
-        ensures members { IfOk result (λ p. p.members ≡
-            map (member_of S.names S.most S.stop S.origin S.inputs S.outputs) sessions.items) }
+        ensures members { IfOk result (λ p. p.members ≡ map (member_of S.state) sessions.items) }
         ensures begun { IfOk result (λ p. (p.naming ≡ names) × (p.prior ≡ cache.kept) ×
             (p.kept ≡ cache.kept) × (p.stop ≡ None) × (p.refused ≡ false)) }
         ensures numbers { IfOk result (λ p.
@@ -312,9 +309,8 @@ impl<S: Sul, R> Pool<S, R> {
     /// The session of an instance.
     pub fn session(&self, instance: usize) -> &Session<S>
         requires { instance < length self.now.members }
-        ensures member { (d : _) →
-            member_of S.names S.most S.stop S.origin S.inputs S.outputs result.now ≡
-            slice_index_or self.now.members instance d }
+        ensures member { (d : _) → member_of S.state result.now ≡ slice_index_or self.now.members
+            instance d }
         ensures stands { Stands self.now }
     {
         &self.hands[instance].worker.session
@@ -324,8 +320,7 @@ impl<S: Sul, R> Pool<S, R> {
 impl<S: Sul + Drop, R: Drop> Pool<S, R> {
     /// The sessions by instance, the names, and all that is known. Takes no memory.
     pub fn into_parts(self) -> (Vec<Session<S>>, OutNames, Cache)
-        ensures sessions { map (member_of S.names S.most S.stop S.origin S.inputs S.outputs)
-            result.0.items ≡ self.members }
+        ensures sessions { map (member_of S.state) result.0.items ≡ self.members }
         ensures names { result.1 ≡ self.naming }
         ensures cache { (result.2.kept ≡ self.kept) × (result.2.claims ≡ []) }
         ensures stands { Stands self }

@@ -22,7 +22,7 @@ impl<S: Sul> Model for Worker<S> {
 
     ghost Value = { Member S };
 
-    ghost view = { λ w. record { session = w.session; seen = record { instance = w.session.instance; journal = w.session.journal; names = S.names w.session.sul; most = S.most w.session.sul; stop = S.stop w.session.sul; origin = S.origin w.session.sul; inputs = S.inputs w.session.sul; outputs = S.outputs w.session.sul } } };
+    ghost view = { λ w. record { session = w.session; seen = record { instance = w.session.instance; journal = w.session.journal; names = (S.state w.session.sul).names; most = (S.state w.session.sul).most; stop = (S.state w.session.sul).stop; origin = (S.state w.session.sul).origin; inputs = (S.state w.session.sul).inputs; outputs = (S.state w.session.sul).outputs } } };
 }
 
 impl<S: Sul> Worker<S> {

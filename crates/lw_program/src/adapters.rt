@@ -41,13 +41,12 @@ fn read_file<R: fs::Files + AllocGlobal>(rt: &R, name: &str) -> io::Result<Vec<u
 impl<R: fs::Files + AllocGlobal> Files for RealFiles<R> {
     ghost use Rattle.std.specs.Prelude.{None, map, string_bytes};
 
-    ghost holds = { λ _. None };
-
-    ghost calls = { λ _. None };
-
-    ghost reads = { λ f. map (λ r. (string_bytes r.0, r.1.items)) f.reads.items };
-
-    ghost faults = { λ f. f.faults };
+    ghost state = { λ f. record {
+      holds = None;
+      calls = None;
+      reads = map (λ r. (string_bytes r.0, r.1.items)) f.reads.items;
+      faults = f.faults;
+    } };
 
     fn read(&mut self, name: &str) -> Result<Vec<u8>, FilesStop> {
         let called = String::from_str(self.rt.alloc(), name)?;
@@ -97,9 +96,10 @@ impl<W> Stream<W> {
 impl<W: Write> Sink for Stream<W> {
     ghost use Rattle.std.specs.Prelude.{None};
 
-    ghost taken = { λ _. None };
-
-    ghost faults = { λ s. s.faults };
+    ghost state = { λ s. record {
+      taken = None;
+      faults = s.faults;
+    } };
 
     fn put(&mut self, bytes: &[u8]) -> Result<usize, Failed> {
         match self.stream.write(bytes) {
@@ -138,11 +138,11 @@ impl<S> Input<S> {
 impl<S: Read> Source for Input<S> {
     ghost use Rattle.std.specs.Prelude.{None};
 
-    ghost left = { λ _. None };
-
-    ghost faults = { λ s. s.faults };
-
-    ghost ends = { λ s. s.ends };
+    ghost state = { λ s. record {
+      left = None;
+      faults = s.faults;
+      ends = s.ends;
+    } };
 
     fn read(&mut self, buffer: &mut [u8]) -> Result<usize, Failed> {
         match self.stream.read(buffer) {

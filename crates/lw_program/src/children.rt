@@ -1,6 +1,6 @@
 //! Child programs as the top call knows them: what starts them, and the links to them, over a pipe each way. They count their
 //! faults, and a link its ends. What goes over them, and what was started, is told to no contract.
-ghost use Rattle.std.specs.Prelude.{◌≡◌, ◌<◌, ◌≤◌, [], length, IfOk};
+ghost use Rattle.std.specs.Prelude.{◌≡◌, ◌<◌, ◌≤◌, [], length, map, None, IfOk};
 ghost use Rattle.std.specs.List.{All};
 
 use http_server::Log;
@@ -37,13 +37,12 @@ fn read_some<S: Read>(stream: &mut S, buffer: &mut [u8]) -> io::Result<usize>
 impl Link for RealLink {
     ghost use Rattle.std.specs.Prelude.{None};
 
-    ghost number = { λ l. l.number };
-
-    ghost faults = { λ l. l.faults };
-
-    ghost ends = { λ l. l.ends };
-
-    ghost transcript = { λ _. None };
+    ghost state = { λ l. record {
+      number = l.number;
+      faults = l.faults;
+      ends = l.ends;
+      transcript = None;
+    } };
 
     /// Fails where the child has closed its input or ended; no signal comes of it, since the runtime has the program ignore that
     /// one from its start.
@@ -99,6 +98,20 @@ impl<R> RealSpawner<R> {
             cause: StartFailure::Unknown,
             retired: Log::new(),
         }
+    }
+}
+
+impl<R> RealSpawner<R> {
+    /// For the proof alone: each link that was retired was started before.
+    fn keeps_earlier(&self)
+        ensures { All (λ r. r.number < self.now.started) (map (λ r. record {
+          number = r.0.number;
+          faults = r.0.faults;
+          ends = r.0.ends;
+          transcript = None;
+        }) self.now.retired.items) }
+    {
+        let _ = &self.started;
     }
 }
 
@@ -169,20 +182,18 @@ impl<R: Files + Processes<Started = SystemProcess> + AllocGlobal> Spawner for Re
 
     ghost use Rattle.std.specs.Prelude.{None, map};
 
-    ghost faults = { λ s. s.faults };
-
-    ghost started = { λ s. s.started };
-
-    ghost retired = { λ s. map (λ r. record {
-      number = r.0.number;
-      faults = r.0.faults;
-      ends = r.0.ends;
-      transcript = None;
-    }) s.retired.items };
-
-    ghost commands = { λ _. None };
-
-    ghost cause = { λ s. s.cause };
+    ghost state = { λ s. record {
+      faults = s.faults;
+      started = s.started;
+      retired = map (λ r. record {
+        number = r.0.number;
+        faults = r.0.faults;
+        ends = r.0.ends;
+        transcript = None;
+      }) s.retired.items;
+      commands = None;
+      cause = s.cause;
+    } };
 
     fn failure(&self) -> StartFailure {
         self.cause
@@ -191,6 +202,7 @@ impl<R: Files + Processes<Started = SystemProcess> + AllocGlobal> Spawner for Re
     /// A first word without a slash is looked for in the folders of the path. What isn't there, may not be run, is a folder or no
     /// program that the system knows is `Failed`.
     fn start(&mut self, words: &[String]) -> Result<RealLink, StartStop> {
+        self.keeps_earlier();
         let Some(started) = self.started.checked_add(1) else {
             return Err(StartStop::NoMemory);
         };

@@ -6,7 +6,7 @@ use Rattle.lw_words.specs.declared.stop.RunStop.TheVariants.{Sul}
 use Rattle.lw_words.specs.declared.stop.SulStop.{SulStop}
 use Rattle.lw_cache.specs.declared.stops.Clash.{Clash}
 use Rattle.lw_mealy.specs.Machine.{Rows}
-use Rattle.lw_outside.specs.Links.{Retired}
+use Rattle.lw_outside.specs.Links.{LinkState, SpawnerState}
 use Rattle.lw_line.specs.Causes.{IsCounted, IsTranscriptOf}
 use Rattle.lw_line.specs.LineState.{told_runs}
 use Rattle.lw_sul.specs.Names.{IsGrown}
@@ -15,7 +15,7 @@ use Rattle.lw_sul.specs.declared.runs.Run.{Run}
 use Rattle.lw_children.specs.Children.{IfTold}
 use Rattle.lw_children.specs.Crews.{first_names}
 use Rattle.lw_children.specs.Keeping.{count_of, most_of}
-use Rattle.lw_children.specs.Spawners.{SpawnerSeen, StartsAndRetires}
+use Rattle.lw_children.specs.Spawners.{StartsAndRetires}
 use Rattle.lw_ask.specs.Child.{SpellsWhole}
 use Rattle.lw_ask.specs.Ends.{IsBorneOut}
 use Rattle.lw_ask.proofs.ChildLemmas.{names_declared, names_own, spells_told, stopped_by, whole_told}
@@ -23,7 +23,7 @@ use Rattle.lw_recheck.specs.Again.{HasRechecked}
 use Rattle.lw_recheck.specs.Child.{RechecksChild}
 
 -- what came of asking a child again, by what is told of its link
-module _ (command letters : List (List ℕ)) (declared : Option (List (List ℕ))) (outputs : List (List ℕ)) (answers : List KeptAnswer) (b z : SpawnerSeen) (shown : List (List ℕ)) (kept : List KeptAnswer) (came : Result (Option Clash) RunStop) (link : Retired) (names : List (List ℕ)) (runs : List Run) (stop : Option SulStop) (cut : Bool) where
+module _ (command letters : List (List ℕ)) (declared : Option (List (List ℕ))) (outputs : List (List ℕ)) (answers : List KeptAnswer) (b z : SpawnerState) (shown : List (List ℕ)) (kept : List KeptAnswer) (came : Result (Option Clash) RunStop) (link : LinkState) (names : List (List ℕ)) (runs : List Run) (stop : Option SulStop) (cut : Bool) where
   pub rechecked_child : StartsAndRetires command b z (link ∷ []) → z.faults ≡ b.faults → HasRechecked None outputs answers names runs shown kept came → IsGrown (first_names declared) names → IsBorneOut letters names (most_of declared) (count_of declared) stop cut runs link → OnOk came (stop ≡ None) → ((why : SulStop) → came ≡ Err (Sul why) → stop ≡ Some why) → RechecksChild command letters declared outputs answers b z shown kept came
   rechecked_child spawner quiet has grown bears live stopped =
       let owns = names_own declared names link.transcript grown bears.named bears.naming bears.told_names in

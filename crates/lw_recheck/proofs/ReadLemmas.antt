@@ -5,9 +5,8 @@ use Rattle.std.proofs.lemmas.List.Elements.{All-contains_itself}
 use Rattle.lw_json.specs.AnswersFault.{HasAnswersFault}
 use Rattle.lw_json.specs.AnswersFile.{IsAnswersFile}
 use Rattle.lw_json.specs.declared.answers.Answers.{Answers}
-use Rattle.lw_outside.specs.Files.{File}
+use Rattle.lw_outside.specs.Files.{File, FilesState}
 use Rattle.lw_report.specs.Reading.{HasRead, ReadsFile}
-use Rattle.lw_report.specs.States.{FilesState}
 use Rattle.lw_report.specs.Stops.{read_outcome}
 use Rattle.lw_report.specs.declared.outcome.Outcome.{Outcome}
 use Rattle.lw_report.specs.declared.outcome.Outcome.TheVariants.{Alphabets}

@@ -1,8 +1,9 @@
 -- What a call of `recheck` did, from what its parts did.
 use Rattle.std.proofs.Common.{◌≡◌, ⊎_elim, [], Result, Ok, Err, ◌⊎◌, inl, inr, subst}
 use Rattle.lw_outside.specs.declared.links.StartFailure.{StartFailure}
-use Rattle.lw_children.specs.Spawners.{SpawnerSeen}
-use Rattle.lw_report.specs.States.{FilesState, SinkState}
+use Rattle.lw_outside.specs.Links.{SpawnerState}
+use Rattle.lw_outside.specs.Files.{FilesState}
+use Rattle.lw_outside.specs.Streams.{SinkState}
 use Rattle.lw_report.specs.declared.«end».End.{End}
 use Rattle.lw_report.specs.declared.outcome.Outcome.{Outcome}
 use Rattle.lw_report.specs.declared.outcome.Outcome.TheVariants.{Alphabets, Unstarted}
@@ -16,7 +17,7 @@ use Rattle.lw_recheck.specs.RecheckRun.{AsksTask, IsRecheckRun}
 use Rattle.lw_recheck.specs.declared.reading.Task.{Task}
 use Rattle.std.proofs.Common.{None}
 
-module _ (a : RecheckValues) (f g : FilesState) (b z : SpawnerSeen) (o p e d : SinkState) (end : End) (r : Result Task Outcome) (has : HasReadBoth a.setup a.answers f g r) where
+module _ (a : RecheckValues) (f g : FilesState) (b z : SpawnerState) (o p e d : SinkState) (end : End) (r : Result Task Outcome) (has : HasReadBoth a.setup a.answers f g r) where
   -- both files were read
   pub asked_run : (t : Task) → r ≡ Ok t → AsksTask t.system t.answers b z o p e d end → IsRecheckRun a f g b z o p e d end
   asked_run t is asks = by (subst (λ (x : Result Task Outcome). HasReadBoth a.setup a.answers f g x) is has)

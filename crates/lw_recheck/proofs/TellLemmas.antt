@@ -3,7 +3,7 @@ use Rattle.std.proofs.Common.{◌≡◌, ⊎_elim, ℕ, List, Option, None, Resu
 use Rattle.lw_words.specs.Cause.{CountedFault}
 use Rattle.lw_words.specs.declared.kept.KeptAnswer.{KeptAnswer}
 use Rattle.lw_report.specs.Outcomes.{HasOwnText, StandsOrWants}
-use Rattle.lw_report.specs.States.{SinkState, sink_state}
+use Rattle.lw_outside.specs.Streams.{SinkState}
 use Rattle.lw_report.specs.Stops.{tell_outcome}
 use Rattle.lw_report.specs.Text.{rechecked_line}
 use Rattle.lw_report.specs.Writing.{TakesSome, said_text}
@@ -30,7 +30,7 @@ module _ (answers : ℕ) (kept : List KeptAnswer) (o p e d : SinkState) (end : E
       let out = stands NoMemory end.outcome (λ own. own) came in
       inr (inl (record {
         outcome = out;
-        unput = ap₂ (λ (t : Option (List ℕ)) (n : ℕ). sink_state t n) (memory is) (calm is);
+        unput = ap₂ (λ (t : Option (List ℕ)) (n : ℕ). let s : SinkState = record { taken = t; faults = n } in s) (memory is) (calm is);
         said = subst (λ (x : Outcome). IsSaid (said_text None None kept 0 x) e d) out said;
       }))
 

@@ -5,16 +5,16 @@ use Rattle.lw_words.specs.declared.stop.RunStop.{RunStop}
 use Rattle.lw_words.specs.declared.stop.RunStop.TheVariants.{Sul}
 use Rattle.lw_words.specs.declared.stop.SulStop.{SulStop}
 use Rattle.lw_cache.specs.declared.stops.Clash.{Clash}
-use Rattle.lw_outside.specs.Links.{Retired}
+use Rattle.lw_outside.specs.Links.{LinkState, SpawnerState}
 use Rattle.lw_sul.specs.declared.runs.Run.{Run}
 use Rattle.lw_children.specs.Children.{IfTold, IsStopped}
-use Rattle.lw_children.specs.Spawners.{SpawnerSeen, StartsAndRetires}
+use Rattle.lw_children.specs.Spawners.{StartsAndRetires}
 use Rattle.lw_ask.specs.Child.{SpellsRuns, SpellsWhole}
 use Rattle.lw_recheck.specs.Again.{HasRechecked}
 
 -- a child was started, asked the words of answers again, and retired; the runs are those that went over its link
-pub record RechecksChild (command letters : List (List ℕ)) (declared : Option (List (List ℕ))) (outputs : List (List ℕ)) (answers : List KeptAnswer) (before now : SpawnerSeen) (shown : List (List ℕ)) (kept : List KeptAnswer) (came : Result (Option Clash) RunStop) : Type 0 where
-  pub link : Retired
+pub record RechecksChild (command letters : List (List ℕ)) (declared : Option (List (List ℕ))) (outputs : List (List ℕ)) (answers : List KeptAnswer) (before now : SpawnerState) (shown : List (List ℕ)) (kept : List KeptAnswer) (came : Result (Option Clash) RunStop) : Type 0 where
+  pub link : LinkState
   pub spawner : StartsAndRetires command before now (link ∷ [])
   pub quiet : now.faults ≡ before.faults
   pub names : List (List ℕ)

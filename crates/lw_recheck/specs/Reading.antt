@@ -3,9 +3,8 @@ use Rattle.std.specs.Prelude.{◌≡◌, ◌⊎◌, ℕ, ◌≤◌, List, [], Op
 use Rattle.lw_json.specs.AnswersFault.{HasAnswersFault}
 use Rattle.lw_json.specs.AnswersFile.{IsAnswersFile}
 use Rattle.lw_json.specs.declared.answers.Answers.{Answers}
-use Rattle.lw_outside.specs.Files.{File}
+use Rattle.lw_outside.specs.Files.{File, FilesState}
 use Rattle.lw_report.specs.Reading.{ReadsFile}
-use Rattle.lw_report.specs.States.{FilesState}
 use Rattle.lw_report.specs.declared.outcome.Outcome.{Outcome}
 use Rattle.lw_report.specs.declared.outcome.Outcome.TheVariants.{Alphabets}
 use Rattle.lw_report.specs.declared.role.Role.TheVariants as role
@@ -17,34 +16,34 @@ use Rattle.lw_ask.specs.Reading.{IsUnread as IsNoSystem}
 use Rattle.lw_recheck.specs.declared.reading.Task.{Task}
 
 -- the files say a system, by reads of which none failed, before which they were f and after which they are m
-pub record IsBehind (setup : List ℕ) (f m : FilesState) (system : System) : Type 0 where
-  pub reads : ReadsSystem source.Setup setup f.holds f.reads m.reads system
-  pub made : MadeReads f m []
-  pub quiet : m.faults ≡ f.faults
-  pub same : m.holds ≡ f.holds
+pub record IsBehind (setup : List ℕ) (files_before m : FilesState) (system : System) : Type 0 where
+  pub reads : ReadsSystem source.Setup setup files_before.holds files_before.reads m.reads system
+  pub made : MadeReads files_before m []
+  pub quiet : m.faults ≡ files_before.faults
+  pub same : m.holds ≡ files_before.holds
 
 -- a system was read, and then the answers file refused
-pub record HasNoAnswers (setup answers : List ℕ) (f g : FilesState) (outcome : Outcome) : Type 0 where
+pub record HasNoAnswers (setup answers : List ℕ) (files_before files_now : FilesState) (outcome : Outcome) : Type 0 where
   pub between : FilesState
   pub system : System
-  pub behind : IsBehind setup f between system
-  pub refused : IsRefused IsAnswersFile HasAnswersFault role.Prior answers between g outcome
+  pub behind : IsBehind setup files_before between system
+  pub refused : IsRefused IsAnswersFile HasAnswersFault role.Prior answers between files_now outcome
 
 -- both were read, and the names of the answers aren't the system's
-pub record HasOtherNames (setup answers : List ℕ) (f g : FilesState) (outcome : Outcome) : Type 0 where
+pub record HasOtherNames (setup answers : List ℕ) (files_before files_now : FilesState) (outcome : Outcome) : Type 0 where
   pub between : FilesState
   pub system : System
-  pub behind : IsBehind setup f between system
+  pub behind : IsBehind setup files_before between system
   pub read : Answers
-  pub file : ReadsFile IsAnswersFile answers between.holds between.reads g.reads read
-  pub made : MadeReads between g []
-  pub quiet : g.faults ≡ between.faults
+  pub file : ReadsFile IsAnswersFile answers between.holds between.reads files_now.reads read
+  pub made : MadeReads between files_now []
+  pub quiet : files_now.faults ≡ between.faults
   pub unfit : ¬ FitsSystem read system
   pub alphabets : outcome ≡ Alphabets role.Prior
 
 -- why nothing is asked
 abbrev pub IsUnread : (setup answers : List ℕ) → FilesState → FilesState → Outcome → Type 0
-IsUnread setup answers f g outcome = IsNoSystem source.Setup setup f g outcome ⊎ (HasNoAnswers setup answers f g outcome ⊎ HasOtherNames setup answers f g outcome)
+IsUnread setup answers files_before files_now outcome = IsNoSystem source.Setup setup files_before files_now outcome ⊎ (HasNoAnswers setup answers files_before files_now outcome ⊎ HasOtherNames setup answers files_before files_now outcome)
 
 -- the bytes that were read say a system and answers over its names
 pub record ReadsBoth (setup answers : List ℕ) (holds : Option (List File)) (before after : List File) (system : System) (read : Answers) : Type 0 where
@@ -54,10 +53,10 @@ pub record ReadsBoth (setup answers : List ℕ) (holds : Option (List File)) (be
   pub fits : FitsSystem read system
 
 -- what came of the reading
-pub record HasReadBoth (setup answers : List ℕ) (f g : FilesState) (result : Result Task Outcome) : Type 0 where
-  pub ok : IfOk result (λ t. ReadsBoth setup answers f.holds f.reads g.reads t.system t.answers)
-  pub made : OnOk result (MadeReads f g [])
-  pub quiet : OnOk result (g.faults ≡ f.faults)
-  pub err : IfErr result (IsUnread setup answers f g)
-  pub same : g.holds ≡ f.holds
-  pub counts : f.faults ≤ g.faults
+pub record HasReadBoth (setup answers : List ℕ) (files_before files_now : FilesState) (result : Result Task Outcome) : Type 0 where
+  pub ok : IfOk result (λ t. ReadsBoth setup answers files_before.holds files_before.reads files_now.reads t.system t.answers)
+  pub made : OnOk result (MadeReads files_before files_now [])
+  pub quiet : OnOk result (files_now.faults ≡ files_before.faults)
+  pub err : IfErr result (IsUnread setup answers files_before files_now)
+  pub same : files_now.holds ≡ files_before.holds
+  pub counts : files_before.faults ≤ files_now.faults

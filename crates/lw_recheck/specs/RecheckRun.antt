@@ -10,9 +10,10 @@ use Rattle.lw_json.specs.declared.machine.Machine.{Machine}
 use Rattle.lw_outside.specs.declared.links.StartFailure.{StartFailure}
 use Rattle.lw_outside.specs.declared.links.StartStop.{StartStop}
 use Rattle.lw_sul.specs.declared.runs.Run.{Run}
-use Rattle.lw_children.specs.Spawners.{SpawnerSeen}
+use Rattle.lw_outside.specs.Links.{SpawnerState}
+use Rattle.lw_outside.specs.Files.{FilesState}
+use Rattle.lw_outside.specs.Streams.{SinkState}
 use Rattle.lw_children.specs.declared.command.Command.{Command}
-use Rattle.lw_report.specs.States.{FilesState, SinkState}
 use Rattle.lw_report.specs.declared.«end».End.{End}
 use Rattle.lw_report.specs.declared.outcome.Outcome.{Outcome}
 use Rattle.lw_learn.specs.Unread.{MadeReads}
@@ -38,58 +39,57 @@ pub record RechecksMachine (m : Machine) (outputs : List (List ℕ)) (answers : 
   pub sound : (stop : SulStop) → ¬ (came ≡ Err (Sul stop))
 
 -- a child was asked
-pub record RechecksStarted (c : Command) (outputs : List (List ℕ)) (answers : List KeptAnswer) (b z : SpawnerSeen) (shown : Option (List (List ℕ))) (kept : List KeptAnswer) (why : Outcome) : Type 0 where
+pub record RechecksStarted (c : Command) (outputs : List (List ℕ)) (answers : List KeptAnswer) (spawner_before spawner_now : SpawnerState) (shown : Option (List (List ℕ))) (kept : List KeptAnswer) (why : Outcome) : Type 0 where
   pub came : Result (Option Clash) RunStop
   pub outcome : why ≡ came_outcome (length answers) came
   pub names : List (List ℕ)
   pub shown_are : shown ≡ Some names
-  pub asks : RechecksChild c.words c.inputs c.outputs outputs answers b z names kept came
+  pub asks : RechecksChild c.words c.inputs c.outputs outputs answers spawner_before spawner_now names kept came
 
 -- no child was asked, for this cause, or because memory ran out
-pub record RechecksNone (c : Command) (b z : SpawnerSeen) (shown : Option (List (List ℕ))) (kept : List KeptAnswer) (why : Outcome) : Type 0 where
+pub record RechecksNone (c : Command) (spawner_before spawner_now : SpawnerState) (shown : Option (List (List ℕ))) (kept : List KeptAnswer) (why : Outcome) : Type 0 where
   pub stop : StartStop
   pub cause : StartFailure
   pub outcome : why ≡ start_outcome cause stop
-  pub spawner : HasNotStarted c.words b z stop
+  pub spawner : HasNotStarted c.words spawner_before spawner_now stop
   pub unnamed : shown ≡ None
   pub nothing : kept ≡ []
 
-abbrev pub RechecksCommand : Command → (outputs : List (List ℕ)) → (answers : List KeptAnswer) → (b z : SpawnerSeen) → Option (List (List ℕ)) → List KeptAnswer → Outcome → Type 0
-RechecksCommand c outputs answers b z shown kept why = RechecksStarted c outputs answers b z shown kept why ⊎ RechecksNone c b z shown kept why
+abbrev pub RechecksCommand : Command → (outputs : List (List ℕ)) → (answers : List KeptAnswer) → (spawner_before spawner_now : SpawnerState) → Option (List (List ℕ)) → List KeptAnswer → Outcome → Type 0
+RechecksCommand c outputs answers spawner_before spawner_now shown kept why = RechecksStarted c outputs answers spawner_before spawner_now shown kept why ⊎ RechecksNone c spawner_before spawner_now shown kept why
 
--- a system was asked the words of answers again, over a spawner that was b and is z; these answers are kept, by the names that
+-- a system was asked the words of answers again; these answers are kept, by the names that
 -- are shown
-abbrev pub RechecksSystem : System → (outputs : List (List ℕ)) → (answers : List KeptAnswer) → (b z : SpawnerSeen) → Option (List (List ℕ)) → List KeptAnswer → Outcome → Type 0
-RechecksSystem (Table m) outputs answers b z shown kept why = (z ≡ b) × RechecksMachine m outputs answers shown kept why
-RechecksSystem (Children c) outputs answers b z shown kept why = RechecksCommand c outputs answers b z shown kept why
+abbrev pub RechecksSystem : System → (outputs : List (List ℕ)) → (answers : List KeptAnswer) → (spawner_before spawner_now : SpawnerState) → Option (List (List ℕ)) → List KeptAnswer → Outcome → Type 0
+RechecksSystem (Table m) outputs answers spawner_before spawner_now shown kept why = (spawner_now ≡ spawner_before) × RechecksMachine m outputs answers shown kept why
+RechecksSystem (Children c) outputs answers spawner_before spawner_now shown kept why = RechecksCommand c outputs answers spawner_before spawner_now shown kept why
 
 -- a system was asked the words of answers again, and the call ended so
-pub record AsksTask (system : System) (answers : Answers) (b z : SpawnerSeen) (o p e d : SinkState) (end : End) : Type 0 where
+pub record AsksTask (system : System) (answers : Answers) (spawner_before spawner_now : SpawnerState) (out_before out_now err_before err_now : SinkState) (end : End) : Type 0 where
   pub shown : Option (List (List ℕ))
   pub kept : List KeptAnswer
   pub why : Outcome
-  pub asks : RechecksSystem system answers.outputs answers.kept.answers b z shown kept why
-  pub ended : IsEnd (Some answers.inputs) shown why kept o p e d end
+  pub asks : RechecksSystem system answers.outputs answers.kept.answers spawner_before spawner_now shown kept why
+  pub ended : IsEnd (Some answers.inputs) shown why kept out_before out_now err_before err_now end
 
 -- the files say a system and answers over its names, by reads of which none failed, and the system was asked
-pub record HasAsked (a : RecheckValues) (f g : FilesState) (b z : SpawnerSeen) (o p e d : SinkState) (end : End) : Type 0 where
+pub record HasAsked (a : RecheckValues) (files_before files_now : FilesState) (spawner_before spawner_now : SpawnerState) (out_before out_now err_before err_now : SinkState) (end : End) : Type 0 where
   pub system : System
   pub answers : Answers
-  pub reads : ReadsBoth a.setup a.answers f.holds f.reads g.reads system answers
-  pub made : MadeReads f g []
-  pub quiet : g.faults ≡ f.faults
-  pub asks : AsksTask system answers b z o p e d end
+  pub reads : ReadsBoth a.setup a.answers files_before.holds files_before.reads files_now.reads system answers
+  pub made : MadeReads files_before files_now []
+  pub quiet : files_now.faults ≡ files_before.faults
+  pub asks : AsksTask system answers spawner_before spawner_now out_before out_now err_before err_now end
 
 -- the files say none: nothing is asked
-pub record HasNone (a : RecheckValues) (f g : FilesState) (b z : SpawnerSeen) (o p e d : SinkState) (end : End) : Type 0 where
+pub record HasNone (a : RecheckValues) (files_before files_now : FilesState) (spawner_before spawner_now : SpawnerState) (out_before out_now err_before err_now : SinkState) (end : End) : Type 0 where
   pub why : Outcome
-  pub cause : IsUnread a.setup a.answers f g why
-  pub unstarted : z ≡ b
+  pub cause : IsUnread a.setup a.answers files_before files_now why
+  pub unstarted : spawner_now ≡ spawner_before
   pub bare : IsBare [] end
-  pub told : IsTold None None why [] o p e d end
+  pub told : IsTold None None why [] out_before out_now err_before err_now end
 
--- a call with these arguments found files, a spawner, `out` and `err` as f, b, o and e, left them as g, z, p and d, and came to
--- the end
-pub record IsRecheckRun (a : RecheckValues) (f g : FilesState) (b z : SpawnerSeen) (o p e d : SinkState) (end : End) : Type 0 where
-  pub came : HasAsked a f g b z o p e d end ⊎ HasNone a f g b z o p e d end
-  pub holds : g.holds ≡ f.holds
+-- a call with these arguments changed files, a spawner, `out` and `err` so, and came to the end
+pub record IsRecheckRun (a : RecheckValues) (files_before files_now : FilesState) (spawner_before spawner_now : SpawnerState) (out_before out_now err_before err_now : SinkState) (end : End) : Type 0 where
+  pub came : HasAsked a files_before files_now spawner_before spawner_now out_before out_now err_before err_now end ⊎ HasNone a files_before files_now spawner_before spawner_now out_before out_now err_before err_now end
+  pub holds : files_now.holds ≡ files_before.holds

@@ -6,6 +6,7 @@ ghost use Rattle.lw_words.specs.declared.stop.RunStop.{RunStop as Stopped};
 ghost use Rattle.lw_words.specs.declared.stop.SulStop.{SulStop as Reason};
 ghost use Rattle.lw_json.specs.KeptOver.{AreKeptOver, IsEven};
 ghost use Rattle.lw_sul.specs.Names.{IsGrown, name_at, named};
+ghost use Rattle.lw_sul.specs.System.{IsSameSul};
 ghost use Rattle.lw_recheck.specs.Again.{DiffersAt};
 ghost use Rattle.lw_recheck.specs.bodies.Step.{GainsOne, GainsRun, HasFound};
 
@@ -24,8 +25,9 @@ pub(crate) struct Other {
 /// Whether an output of an answer and one of a system have the same name.
 fn same_name<S: Sul>(outputs: &Names, sul: &S, known: u16, given: u16) -> bool
     requires known { known < length outputs.now }
-    requires given { given < length (S.names sul.now) }
-    ensures { IsTrue result ↔ (name_at outputs.now known ≡ name_at (S.names sul.now) given) }
+    requires given { given < length (S.state sul.now).names }
+    ensures { IsTrue result ↔ (name_at outputs.now known ≡ name_at (S.state sul.now).names
+        given) }
 {
     outputs.name(known).as_bytes() == sul.name(given).as_slice()
 }
@@ -33,12 +35,12 @@ fn same_name<S: Sul>(outputs: &Names, sul: &S, known: u16, given: u16) -> bool
 /// The first place at which the outputs of an answer and those of a system differ, by their names.
 fn first_difference<S: Sul>(outputs: &Names, sul: &S, known: &[u16], given: &[u16]) -> Option<usize>
     requires known { All (λ y. y < length outputs.now) known.now }
-    requires given { All (λ y. y < length (S.names sul.now)) given.now }
+    requires given { All (λ y. y < length (S.state sul.now).names) given.now }
     requires even { length given.now ≡ length known.now }
-    ensures none { IfNone result (named (S.names sul.now) given.now ≡
+    ensures none { IfNone result (named (S.state sul.now).names given.now ≡
         named outputs.now known.now) }
     ensures some { IfSome result (DiffersAt (named outputs.now known.now)
-        (named (S.names sul.now) given.now)) }
+        (named (S.state sul.now).names given.now)) }
 {
     for place in 0..known.len() {
         if !same_name(outputs, sul, known[place], given[place]) {
@@ -50,19 +52,16 @@ fn first_difference<S: Sul>(outputs: &Names, sul: &S, known: &[u16], given: &[u1
 
 /// Asks a word.
 fn run_again<S: Sul>(session: &mut Session<S>, word: &Word) -> Result<Word, RunStop>
-    requires { IsWord (S.inputs session.old.sul) word.now }
-    ensures gains { IfOk result (λ outs. GainsRun (S.origin session.old.sul).machine word.now outs
-        (S.names session.old.sul) (S.names session.new.sul) session.old.journal
-        session.new.journal) }
-    ensures live { OnOk result (S.stop session.new.sul ≡ None) }
+    requires { IsWord (S.state session.old.sul).inputs word.now }
+    ensures gains { IfOk result (λ outs. GainsRun (S.state session.old.sul).origin.machine
+        word.now outs (S.state session.old.sul).names (S.state session.new.sul).names
+        session.old.journal session.new.journal) }
+    ensures live { OnOk result ((S.state session.new.sul).stop ≡ None) }
     ensures left { OnErr result (session.new.journal ≡ session.old.journal) }
     ensures stopped { (why : Reason) → result ≡ Err (Stopped.Sul why) →
-        S.stop session.new.sul ≡ Some why }
-    ensures grown { IsGrown (S.names session.old.sul) (S.names session.new.sul) }
-    ensures same { (S.origin session.new.sul ≡ S.origin session.old.sul) ×
-        (S.inputs session.new.sul ≡ S.inputs session.old.sul) ×
-        (S.outputs session.new.sul ≡ S.outputs session.old.sul) ×
-        (S.most session.new.sul ≡ S.most session.old.sul) }
+        (S.state session.new.sul).stop ≡ Some why }
+    ensures grown { IsGrown (S.state session.old.sul).names (S.state session.new.sul).names }
+    ensures same { IsSameSul (S.state session.old.sul) (S.state session.new.sul) }
 {
     let NamedAnswer { outs, names: _ } = session.ask_named(word)?;
     Ok(outs)
@@ -75,21 +74,18 @@ fn ask_again<S: Sul>(
     number: usize,
     answer: &KeptAnswer,
 ) -> Result<Option<Other>, RunStop>
-    requires word { IsWord (S.inputs session.old.sul) answer.now.word }
+    requires word { IsWord (S.state session.old.sul).inputs answer.now.word }
     requires outs { All (λ y. y < length outputs.now) answer.now.outs }
     requires even { IsEven answer.now }
-    ensures ok { IfOk result (GainsOne (S.origin session.old.sul).machine outputs.now number
-        answer.now (S.names session.old.sul) (S.names session.new.sul) session.old.journal
-        session.new.journal) }
-    ensures live { OnOk result (S.stop session.new.sul ≡ None) }
+    ensures ok { IfOk result (GainsOne (S.state session.old.sul).origin.machine outputs.now number
+        answer.now (S.state session.old.sul).names (S.state session.new.sul).names
+        session.old.journal session.new.journal) }
+    ensures live { OnOk result ((S.state session.new.sul).stop ≡ None) }
     ensures left { OnErr result (session.new.journal ≡ session.old.journal) }
     ensures stopped { (why : Reason) → result ≡ Err (Stopped.Sul why) →
-        S.stop session.new.sul ≡ Some why }
-    ensures grown { IsGrown (S.names session.old.sul) (S.names session.new.sul) }
-    ensures same { (S.origin session.new.sul ≡ S.origin session.old.sul) ×
-        (S.inputs session.new.sul ≡ S.inputs session.old.sul) ×
-        (S.outputs session.new.sul ≡ S.outputs session.old.sul) ×
-        (S.most session.new.sul ≡ S.most session.old.sul) }
+        (S.state session.new.sul).stop ≡ Some why }
+    ensures grown { IsGrown (S.state session.old.sul).names (S.state session.new.sul).names }
+    ensures same { IsSameSul (S.state session.old.sul) (S.state session.new.sul) }
 {
     let outs = run_again(session, &answer.word)?;
     let found = first_difference(
@@ -116,19 +112,16 @@ pub(crate) fn ask_answers<S: Sul>(
     kept: &Kept,
 ) -> Result<Option<Other>, RunStop>
     requires fresh { session.old.journal ≡ [] }
-    requires live { S.stop session.old.sul ≡ None }
-    requires over { AreKeptOver (S.inputs session.old.sul) (length outputs.now)
+    requires live { (S.state session.old.sul).stop ≡ None }
+    requires over { AreKeptOver (S.state session.old.sul).inputs (length outputs.now)
         kept.now.answers }
-    ensures found { HasFound (S.origin session.old.sul).machine outputs.now kept.now.answers
-        (S.names session.new.sul) session.new.journal result }
-    ensures live { OnOk result (S.stop session.new.sul ≡ None) }
+    ensures found { HasFound (S.state session.old.sul).origin.machine outputs.now kept.now.answers
+        (S.state session.new.sul).names session.new.journal result }
+    ensures live { OnOk result ((S.state session.new.sul).stop ≡ None) }
     ensures stopped { (why : Reason) → result ≡ Err (Stopped.Sul why) →
-        S.stop session.new.sul ≡ Some why }
-    ensures grown { IsGrown (S.names session.old.sul) (S.names session.new.sul) }
-    ensures same { (S.origin session.new.sul ≡ S.origin session.old.sul) ×
-        (S.inputs session.new.sul ≡ S.inputs session.old.sul) ×
-        (S.outputs session.new.sul ≡ S.outputs session.old.sul) ×
-        (S.most session.new.sul ≡ S.most session.old.sul) }
+        (S.state session.new.sul).stop ≡ Some why }
+    ensures grown { IsGrown (S.state session.old.sul).names (S.state session.new.sul).names }
+    ensures same { IsSameSul (S.state session.old.sul) (S.state session.new.sul) }
 {
     for number in 0..kept.len() {
         let found = ask_again(session, outputs, number, kept.get(number))?;

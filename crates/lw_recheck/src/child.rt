@@ -1,7 +1,6 @@
 //! A child that is started, asked the words of answers again, and retired.
 ghost use Rattle.std.specs.Prelude.{◌≡◌, ◌<◌, length, map, IfErr, IfOk, string_bytes};
 ghost use Rattle.lw_json.specs.KeptOver.{AreKeptOver};
-ghost use Rattle.lw_children.specs.Spawners.{spawner_seen};
 ghost use Rattle.lw_ask.specs.Child.{HasNotStarted};
 ghost use Rattle.lw_recheck.specs.Child.{RechecksChild};
 
@@ -25,16 +24,10 @@ pub(crate) fn recheck_child<P: Spawner>(
     requires command { 0 < length command.now }
     requires over { AreKeptOver (length letters.now) (length outputs) kept.answers }
     ensures ok { IfOk result (λ a. RechecksChild (map (λ w. string_bytes w) command.now)
-        letters.now declared outputs kept.answers
-        (spawner_seen (P.faults spawner.old) (P.started spawner.old) (P.retired spawner.old)
-        (P.commands spawner.old))
-        (spawner_seen (P.faults spawner.new) (P.started spawner.new) (P.retired spawner.new)
-        (P.commands spawner.new)) a.names a.kept.answers a.came) }
+        letters.now declared outputs kept.answers (P.state spawner.old) (P.state spawner.new)
+        a.names a.kept.answers a.came) }
     ensures err { IfErr result (HasNotStarted (map (λ w. string_bytes w) command.now)
-        (spawner_seen (P.faults spawner.old) (P.started spawner.old) (P.retired spawner.old)
-        (P.commands spawner.old))
-        (spawner_seen (P.faults spawner.new) (P.started spawner.new) (P.retired spawner.new)
-        (P.commands spawner.new))) }
+        (P.state spawner.old) (P.state spawner.new)) }
 {
     let Ok(names) = letters.copy() else {
         return Err(StartStop::NoMemory);

@@ -2,9 +2,7 @@
 ghost use Rattle.std.specs.Prelude.{◌≡◌, ◌<◌, ◌≤◌, length};
 ghost use Rattle.lw_outside.specs.declared.links.StartFailure.{StartFailure as Cause};
 ghost use Rattle.lw_json.specs.KeptOver.{AreKeptOver};
-ghost use Rattle.lw_children.specs.Spawners.{spawner_seen};
 ghost use Rattle.lw_report.specs.Outcomes.{status_of};
-ghost use Rattle.lw_report.specs.States.{files_state, sink_state};
 ghost use Rattle.lw_report.specs.declared.outcome.Outcome.{Outcome as Came};
 ghost use Rattle.lw_learn.specs.Tasks.{FitsSystem, HasWords, letters_of};
 ghost use Rattle.lw_recheck.specs.Outcomes.{came_outcome};
@@ -74,13 +72,10 @@ fn recheck_command<P: Spawner>(
 ) -> Told
     requires command { 0 < length command.words }
     requires over { AreKeptOver (length command.inputs) (length outputs) kept.answers }
-    ensures asks { RechecksCommand command outputs kept.answers
-        (spawner_seen (P.faults spawner.old) (P.started spawner.old) (P.retired spawner.old)
-        (P.commands spawner.old))
-        (spawner_seen (P.faults spawner.new) (P.started spawner.new) (P.retired spawner.new)
-        (P.commands spawner.new)) result.names result.kept.answers result.outcome }
+    ensures asks { RechecksCommand command outputs kept.answers (P.state spawner.old)
+        (P.state spawner.new) result.names result.kept.answers result.outcome }
     ensures why { (cause : Cause) → result.outcome ≡ Came.Unstarted cause →
-        cause ≡ P.cause spawner.new }
+        cause ≡ (P.state spawner.new).cause }
 {
     let count = kept.len() as u64;
     let Command {
@@ -116,13 +111,10 @@ fn recheck_system<P: Spawner>(
 ) -> Told
     requires command { HasWords system }
     requires over { AreKeptOver (length (letters_of system)) (length outputs) kept.answers }
-    ensures asks { RechecksSystem system outputs kept.answers
-        (spawner_seen (P.faults spawner.old) (P.started spawner.old) (P.retired spawner.old)
-        (P.commands spawner.old))
-        (spawner_seen (P.faults spawner.new) (P.started spawner.new) (P.retired spawner.new)
-        (P.commands spawner.new)) result.names result.kept.answers result.outcome }
+    ensures asks { RechecksSystem system outputs kept.answers (P.state spawner.old)
+        (P.state spawner.new) result.names result.kept.answers result.outcome }
     ensures why { (cause : Cause) → result.outcome ≡ Came.Unstarted cause →
-        cause ≡ P.cause spawner.new }
+        cause ≡ (P.state spawner.new).cause }
 {
     match system {
         System::Table(machine) => recheck_table(alloc, machine, outputs, kept),
@@ -141,18 +133,12 @@ fn recheck_task<P: Spawner, O: Sink, E: Sink>(
     requires command { HasWords task.system }
     requires fits { FitsSystem task.answers task.system }
     ensures status { result.status ≡ status_of result.outcome }
-    ensures asks { AsksTask task.system task.answers
-        (spawner_seen (P.faults spawner.old) (P.started spawner.old) (P.retired spawner.old)
-        (P.commands spawner.old))
-        (spawner_seen (P.faults spawner.new) (P.started spawner.new) (P.retired spawner.new)
-        (P.commands spawner.new))
-        (sink_state (O.taken out.old) (O.faults out.old))
-        (sink_state (O.taken out.new) (O.faults out.new))
-        (sink_state (E.taken err.old) (E.faults err.old))
-        (sink_state (E.taken err.new) (E.faults err.new)) result }
+    ensures asks { AsksTask task.system task.answers (P.state spawner.old) (P.state spawner.new)
+        (O.state out.old) (O.state out.new) (E.state err.old) (E.state err.new) result }
     ensures why { (cause : Cause) → result.outcome ≡ Came.Unstarted cause →
-        cause ≡ P.cause spawner.new }
-    ensures counts { (O.faults out.old ≤ O.faults out.new) × (E.faults err.old ≤ E.faults err.new) }
+        cause ≡ (P.state spawner.new).cause }
+    ensures counts { ((O.state out.old).faults ≤ (O.state out.new).faults) ×
+        ((E.state err.old).faults ≤ (E.state err.new).faults) }
 {
     let Task { system, answers } = task;
     let Answers {
@@ -177,25 +163,16 @@ pub fn recheck<F: Files, P: Spawner, O: Sink, E: Sink>(
     err: &mut E,
 ) -> End
     ensures status { result.status ≡ status_of result.outcome }
-    ensures ran { IsRecheckRun arguments.now
-        (files_state (F.holds files.old) (F.calls files.old) (F.reads files.old)
-        (F.faults files.old))
-        (files_state (F.holds files.new) (F.calls files.new) (F.reads files.new)
-        (F.faults files.new))
-        (spawner_seen (P.faults spawner.old) (P.started spawner.old) (P.retired spawner.old)
-        (P.commands spawner.old))
-        (spawner_seen (P.faults spawner.new) (P.started spawner.new) (P.retired spawner.new)
-        (P.commands spawner.new))
-        (sink_state (O.taken out.old) (O.faults out.old))
-        (sink_state (O.taken out.new) (O.faults out.new))
-        (sink_state (E.taken err.old) (E.faults err.old))
-        (sink_state (E.taken err.new) (E.faults err.new)) result }
+    ensures ran { IsRecheckRun arguments.now (F.state files.old) (F.state files.new)
+        (P.state spawner.old) (P.state spawner.new) (O.state out.old) (O.state out.new)
+        (E.state err.old) (E.state err.new) result }
     // Why no child was started is what the spawner tells.
     ensures why { (cause : Cause) → result.outcome ≡ Came.Unstarted cause →
-        cause ≡ P.cause spawner.new }
+        cause ≡ (P.state spawner.new).cause }
     // No count of faults falls.
-    ensures counts { (F.faults files.old ≤ F.faults files.new) ×
-        (O.faults out.old ≤ O.faults out.new) × (E.faults err.old ≤ E.faults err.new) }
+    ensures counts { ((F.state files.old).faults ≤ (F.state files.new).faults) ×
+        ((O.state out.old).faults ≤ (O.state out.new).faults) ×
+        ((E.state err.old).faults ≤ (E.state err.new).faults) }
 {
     match read_both(alloc, arguments.setup(), arguments.answers(), files) {
         Ok(task) => recheck_task(alloc, task, spawner, out, err),

@@ -7,6 +7,7 @@ ghost use Rattle.lw_words.specs.declared.stop.RunStop.{RunStop as Stopped};
 ghost use Rattle.lw_words.specs.declared.stop.SulStop.{SulStop as Reason};
 ghost use Rattle.lw_json.specs.KeptOver.{AreKeptOver};
 ghost use Rattle.lw_sul.specs.Names.{IsGrown, name_at, named};
+ghost use Rattle.lw_sul.specs.System.{IsSameSul};
 ghost use Rattle.lw_recheck.specs.Again.{HasRechecked};
 ghost use Rattle.lw_recheck.specs.bodies.Step.{KeepsOther};
 
@@ -53,7 +54,7 @@ fn put_text(texts: &mut Vec<String>, text: String) -> Result<(), NoMemory>
 /// Names, and behind them those of a system's outputs that aren't among them. More than a list of names may have is told as
 /// out of memory.
 fn joined<S: Sul>(alloc: Global, names: &Names, sul: &S, outs: &[u16]) -> Result<Names, NoMemory>
-    requires { All (λ y. y < length (S.names sul.now)) outs.now }
+    requires { All (λ y. y < length (S.state sul.now).names) outs.now }
     ensures grown { IfOk result (IsGrown names.now) }
     ensures names { IfOk result IsNames }
 {
@@ -83,9 +84,10 @@ fn number_among(names: &Names, name: &OutName) -> Result<u16, NoMemory>
 
 /// A system's outputs by the numbers that their names have among others.
 fn renamed<S: Sul>(alloc: Global, names: &Names, sul: &S, outs: &[u16]) -> Result<Word, NoMemory>
-    requires { All (λ y. y < length (S.names sul.now)) outs.now }
+    requires { All (λ y. y < length (S.state sul.now).names) outs.now }
     ensures below { IfOk result (All (λ y. y < length names.now)) }
-    ensures named { IfOk result (λ w. named names.now w ≡ named (S.names sul.now) outs.now) }
+    ensures named { IfOk result (λ w. named names.now w ≡ named (S.state sul.now).names
+        outs.now) }
 {
     let mut word = Word::new(alloc);
     for y in outs {
@@ -122,8 +124,8 @@ fn keep_other<S: Sul>(
     other: &Other,
 ) -> Result<Names, NoMemory>
     requires within { other.now.number < length kept.old.answers }
-    requires below { All (λ y. y < length (S.names sul.now)) other.now.outs }
-    ensures ok { IfOk result (λ shown. KeepsOther outputs.now (S.names sul.now)
+    requires below { All (λ y. y < length (S.state sul.now).names) other.now.outs }
+    ensures ok { IfOk result (λ shown. KeepsOther outputs.now (S.state sul.now).names
         kept.old.answers other.now shown kept.new.answers) }
     ensures names { IfOk result IsNames }
     ensures err { OnErr result (kept.new.answers ≡ kept.old.answers) }
@@ -159,13 +161,13 @@ fn come_otherwise<S: Sul>(
     other: Other,
 ) -> RecheckEnd
     requires within { other.number < length kept.answers }
-    requires below { All (λ y. y < length (S.names sul.now)) other.outs }
+    requires below { All (λ y. y < length (S.state sul.now).names) other.outs }
     ensures kept { IfOk result.came (λ found. (found ≡ Some (record {
       first = other.number;
       second = length kept.answers;
       place = other.place;
     })) × IsNames result.names ×
-        KeepsOther outputs (S.names sul.now) kept.answers other result.names
+        KeepsOther outputs (S.state sul.now).names kept.answers other result.names
         result.kept.answers) }
     ensures same { OnErr result.came (result.kept.answers ≡ kept.answers) }
     ensures memory { IfErr result.came (λ why. why ≡ Stopped.NoMemory) }
@@ -198,19 +200,16 @@ pub(crate) fn recheck_session<S: Sul>(
     kept: Kept,
 ) -> RecheckEnd
     requires fresh { session.old.journal ≡ [] }
-    requires live { S.stop session.old.sul ≡ None }
-    requires over { AreKeptOver (S.inputs session.old.sul) (length outputs) kept.answers }
-    ensures has { HasRechecked (S.origin session.old.sul).machine outputs kept.answers
-        (S.names session.new.sul) session.new.journal result.names result.kept.answers
+    requires live { (S.state session.old.sul).stop ≡ None }
+    requires over { AreKeptOver (S.state session.old.sul).inputs (length outputs) kept.answers }
+    ensures has { HasRechecked (S.state session.old.sul).origin.machine outputs kept.answers
+        (S.state session.new.sul).names session.new.journal result.names result.kept.answers
         result.came }
-    ensures live { OnOk result.came (S.stop session.new.sul ≡ None) }
+    ensures live { OnOk result.came ((S.state session.new.sul).stop ≡ None) }
     ensures stopped { (why : Reason) → result.came ≡ Err (Stopped.Sul why) →
-        S.stop session.new.sul ≡ Some why }
-    ensures grown { IsGrown (S.names session.old.sul) (S.names session.new.sul) }
-    ensures same { (S.origin session.new.sul ≡ S.origin session.old.sul) ×
-        (S.inputs session.new.sul ≡ S.inputs session.old.sul) ×
-        (S.outputs session.new.sul ≡ S.outputs session.old.sul) ×
-        (S.most session.new.sul ≡ S.most session.old.sul) }
+        (S.state session.new.sul).stop ≡ Some why }
+    ensures grown { IsGrown (S.state session.old.sul).names (S.state session.new.sul).names }
+    ensures same { IsSameSul (S.state session.old.sul) (S.state session.new.sul) }
 {
     match ask_answers(session, &outputs, &kept) {
         Ok(None) => RecheckEnd {

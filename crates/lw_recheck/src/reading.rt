@@ -1,7 +1,6 @@
 //! The files that say what is asked again: a setup, and answers.
 ghost use Rattle.std.specs.Prelude.{◌≡◌, ◌≤◌, true, false, length, Contains, IfErr, IfOk};
 ghost use Rattle.std.specs.List.{All};
-ghost use Rattle.lw_report.specs.States.{files_state};
 ghost use Rattle.lw_report.specs.declared.outcome.Outcome.{Outcome as Came};
 ghost use Rattle.lw_report.specs.declared.role.Role.{Role as Part};
 ghost use Rattle.lw_learn.specs.Tasks.{FitsSystem, HasWords, letters_of};
@@ -71,11 +70,8 @@ pub(crate) fn read_both<F: Files>(
     answers: &str,
     files: &mut F,
 ) -> Result<Task, Outcome>
-    ensures read { HasReadBoth setup.now answers.now
-        (files_state (F.holds files.old) (F.calls files.old) (F.reads files.old)
-        (F.faults files.old))
-        (files_state (F.holds files.new) (F.calls files.new) (F.reads files.new)
-        (F.faults files.new)) result }
+    ensures read { HasReadBoth setup.now answers.now (F.state files.old) (F.state files.new)
+        result }
     ensures letters { IfOk result (λ t. length (letters_of t.system) ≤ 64) }
     ensures words { IfOk result (λ t. HasWords t.system) }
 {

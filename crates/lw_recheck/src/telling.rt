@@ -2,8 +2,8 @@
 ghost use Rattle.std.specs.Prelude.{◌≡◌, ◌≤◌, ℕ, List, None, Some, Err, Option, OnOk, option_map};
 ghost use Rattle.lw_words.specs.Cause.{CountedFault};
 ghost use Rattle.lw_outside.specs.declared.links.StartFailure.{StartFailure as Cause};
+ghost use Rattle.lw_outside.specs.Streams.{SinkState};
 ghost use Rattle.lw_report.specs.Outcomes.{status_of};
-ghost use Rattle.lw_report.specs.States.{sink_state};
 ghost use Rattle.lw_report.specs.Text.{rechecked_line};
 ghost use Rattle.lw_report.specs.Writing.{TakesAll, TakesSome};
 ghost use Rattle.lw_report.specs.declared.outcome.Outcome.{Outcome as Came};
@@ -24,15 +24,19 @@ fn put_same<O: Sink>(
     kept: &Kept,
     out: &mut O,
 ) -> Result<(), TellStop>
-    ensures ok { OnOk result (TakesAll (rechecked_line answers) (O.taken out.old)
-        (O.taken out.new)) }
-    ensures part { TakesSome (rechecked_line answers) (O.taken out.old) (O.taken out.new) }
-    ensures memory { result ≡ Err Stop.NoMemory → O.taken out.new ≡ O.taken out.old }
-    ensures calm { result ≡ Err Stop.NoMemory → O.faults out.new ≡ O.faults out.old }
-    ensures failed { result ≡ Err Stop.Sink → CountedFault (O.faults out.old) (O.faults out.new) }
+    ensures ok { OnOk result (TakesAll (rechecked_line answers) (O.state out.old).taken
+        (O.state out.new).taken) }
+    ensures part { TakesSome (rechecked_line answers) (O.state out.old).taken
+        (O.state out.new).taken }
+    ensures memory { result ≡ Err Stop.NoMemory → (O.state out.new).taken ≡
+        (O.state out.old).taken }
+    ensures calm { result ≡ Err Stop.NoMemory → (O.state out.new).faults ≡
+        (O.state out.old).faults }
+    ensures failed { result ≡ Err Stop.Sink → CountedFault (O.state out.old).faults
+        (O.state out.new).faults }
     ensures no_file { (role : Part) → ¬ (result ≡ Err (Stop.File role)) }
-    ensures quiet { OnOk result (O.faults out.new ≡ O.faults out.old) }
-    ensures counts { O.faults out.old ≤ O.faults out.new }
+    ensures quiet { OnOk result ((O.state out.new).faults ≡ (O.state out.old).faults) }
+    ensures counts { (O.state out.old).faults ≤ (O.state out.new).faults }
 {
     let outcome = Outcome::Rechecked { answers };
     let text = text(alloc, &outcome, inputs, inputs, kept, 0)?;
@@ -52,12 +56,10 @@ fn end_same<O: Sink, E: Sink>(
     ensures status { result.status ≡ status_of result.outcome }
     ensures bare { IsBare kept.answers result }
     ensures started { (cause : Cause) → ¬ (result.outcome ≡ Came.Unstarted cause) }
-    ensures same { EndsSame answers kept.answers
-        (sink_state (O.taken out.old) (O.faults out.old))
-        (sink_state (O.taken out.new) (O.faults out.new))
-        (sink_state (E.taken err.old) (E.faults err.old))
-        (sink_state (E.taken err.new) (E.faults err.new)) result }
-    ensures counts { (O.faults out.old ≤ O.faults out.new) × (E.faults err.old ≤ E.faults err.new) }
+    ensures same { EndsSame answers kept.answers (O.state out.old) (O.state out.new)
+        (E.state err.old) (E.state err.new) result }
+    ensures counts { ((O.state out.old).faults ≤ (O.state out.new).faults) ×
+        ((E.state err.old).faults ≤ (E.state err.new).faults) }
 {
     match put_same(alloc, answers, inputs, &kept, out) {
         Ok(()) => End::new(Outcome::Rechecked { answers }, kept, None),
@@ -78,12 +80,10 @@ pub(crate) fn end_refused<E: Sink>(
     ensures bare { IsBare kept.answers result }
     ensures unstarted { (cause : Cause) → result.outcome ≡ Came.Unstarted cause →
         outcome ≡ Came.Unstarted cause }
-    ensures told { (taken : Option (List ℕ)) (faults : ℕ) →
-        IsTold (option_map (λ n. n.now) inputs.entry) (option_map (λ n. n.now) outputs.entry)
-        outcome kept.answers (sink_state taken faults) (sink_state taken faults)
-        (sink_state (E.taken err.old) (E.faults err.old))
-        (sink_state (E.taken err.new) (E.faults err.new)) result }
-    ensures counts { E.faults err.old ≤ E.faults err.new }
+    ensures told { (out : SinkState) → IsTold (option_map (λ n. n.now) inputs.entry)
+        (option_map (λ n. n.now) outputs.entry) outcome kept.answers out out (E.state err.old)
+        (E.state err.new) result }
+    ensures counts { (E.state err.old).faults ≤ (E.state err.new).faults }
 {
     refuse(alloc, outcome, inputs, outputs, kept, None, 0, err)
 }
@@ -109,11 +109,9 @@ pub(crate) fn end_call<O: Sink, E: Sink>(
     ensures unstarted { (cause : Cause) → result.outcome ≡ Came.Unstarted cause →
         told.outcome ≡ Came.Unstarted cause }
     ensures ended { IsEnd (Some inputs.now) told.names told.outcome told.kept.answers
-        (sink_state (O.taken out.old) (O.faults out.old))
-        (sink_state (O.taken out.new) (O.faults out.new))
-        (sink_state (E.taken err.old) (E.faults err.old))
-        (sink_state (E.taken err.new) (E.faults err.new)) result }
-    ensures counts { (O.faults out.old ≤ O.faults out.new) × (E.faults err.old ≤ E.faults err.new) }
+        (O.state out.old) (O.state out.new) (E.state err.old) (E.state err.new) result }
+    ensures counts { ((O.state out.old).faults ≤ (O.state out.new).faults) ×
+        ((E.state err.old).faults ≤ (E.state err.new).faults) }
 {
     let Told {
         kept,

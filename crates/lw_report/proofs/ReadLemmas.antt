@@ -12,9 +12,8 @@ use Rattle.lw_json.specs.declared.machine.Machine.{Machine}
 use Rattle.lw_json.specs.declared.setup.Setup.{Setup}
 use Rattle.lw_json.specs.declared.fault.JsonFault.{JsonFault}
 use Rattle.lw_json.specs.declared.fault.JsonFault.TheVariants.{NotJson, Shape, Inputs, Outputs, UnknownOutput, Mealy, BadWord, Lengths, NoMemory}
-use Rattle.lw_outside.specs.Files.{noted, read_call}
+use Rattle.lw_outside.specs.Files.{noted, read_call, FilesState}
 use Rattle.lw_report.specs.Reading.{HasRead, WasRead}
-use Rattle.lw_report.specs.States.{FilesState}
 use Rattle.lw_report.specs.Stops.{read_stop}
 use Rattle.lw_report.specs.declared.stops.ReadStop.{ReadStop}
 use Rattle.lw_report.specs.declared.stops.ReadStop.TheVariants.{Bad, Failed, TooLong, NoMemory as NoMemoryToRead}

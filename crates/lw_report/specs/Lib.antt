@@ -5,7 +5,6 @@ pub mod Outcomes
 pub mod Reading
 pub mod Reasons
 pub mod SetupHint
-pub mod States
 pub mod Stops
 pub mod Text
 pub mod Writing

@@ -4,8 +4,7 @@ use Rattle.std.specs.Prelude.{◌≡◌, ◌≢◌, ◌⊎◌, ℕ, ◌<◌, ◌
 use Rattle.lw_words.specs.Cause.{CountedFault}
 use Rattle.lw_json.specs.declared.fault.JsonFault.{JsonFault}
 use Rattle.lw_json.specs.declared.fault.JsonFault.TheVariants.{NoMemory}
-use Rattle.lw_outside.specs.Files.{File, Holds, file_at, HoldsLong, longest_file, noted, read_call}
-use Rattle.lw_report.specs.States.{FilesState}
+use Rattle.lw_outside.specs.Files.{File, Holds, file_at, HoldsLong, longest_file, noted, read_call, FilesState}
 use Rattle.lw_report.specs.declared.stops.ReadStop.{ReadStop}
 use Rattle.lw_report.specs.declared.stops.ReadStop.TheVariants as stop
 

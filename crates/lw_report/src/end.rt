@@ -96,14 +96,14 @@ pub fn refuse<E: Sink>(
     ensures learner { IsWithoutLearner result }
     ensures kept { result.kept ≡ kept }
     ensures named { result.outputs ≡ named }
-    ensures said { ¬ CountedFault (E.faults err.old) (E.faults err.new) →
+    ensures said { ¬ CountedFault (E.state err.old).faults (E.state err.new).faults →
         TakesAll (said_text (option_map (λ n. n.now) inputs.entry)
         (option_map (λ n. n.now) outputs.entry) kept.answers extra result.outcome)
-        (E.taken err.old) (E.taken err.new) }
+        (E.state err.old).taken (E.state err.new).taken }
     ensures part { TakesSome (said_text (option_map (λ n. n.now) inputs.entry)
         (option_map (λ n. n.now) outputs.entry) kept.answers extra result.outcome)
-        (E.taken err.old) (E.taken err.new) }
-    ensures counts { E.faults err.old ≤ E.faults err.new }
+        (E.state err.old).taken (E.state err.new).taken }
+    ensures counts { (E.state err.old).faults ≤ (E.state err.new).faults }
 {
     let outcome = say(alloc, outcome, inputs, outputs, &kept, extra, err);
     End::new(outcome, kept, named)

@@ -10,7 +10,6 @@ ghost use Rattle.lw_json.specs.SetupFile.{HasSetupFault, IsSetupFile};
 ghost use Rattle.lw_report.specs.Member.{hint_of};
 ghost use Rattle.lw_report.specs.Reading.{HasRead};
 ghost use Rattle.lw_report.specs.SetupHint.{TellsHint, setup_in};
-ghost use Rattle.lw_report.specs.States.{files_state};
 ghost use Rattle.lw_report.specs.declared.stops.ReadStop.{ReadStop as Stop};
 
 use crate::ReadStop;
@@ -26,12 +25,8 @@ pub fn read_machine_file<F: Files>(
     files: &mut F,
     name: &str,
 ) -> Result<Machine, ReadStop>
-    ensures { HasRead IsMachineFile HasMachineFault name.now
-        (files_state (F.holds files.old) (F.calls files.old) (F.reads files.old)
-        (F.faults files.old))
-        (files_state (F.holds files.new) (F.calls files.new) (F.reads files.new)
-        (F.faults files.new))
-        result }
+    ensures { HasRead IsMachineFile HasMachineFault name.now (F.state files.old)
+        (F.state files.new) result }
 {
     let bytes = match files.read(name) {
         Ok(bytes) => bytes,
@@ -49,12 +44,8 @@ pub fn read_answers_file<F: Files>(
     files: &mut F,
     name: &str,
 ) -> Result<Answers, ReadStop>
-    ensures { HasRead IsAnswersFile HasAnswersFault name.now
-        (files_state (F.holds files.old) (F.calls files.old) (F.reads files.old)
-        (F.faults files.old))
-        (files_state (F.holds files.new) (F.calls files.new) (F.reads files.new)
-        (F.faults files.new))
-        result }
+    ensures { HasRead IsAnswersFile HasAnswersFault name.now (F.state files.old)
+        (F.state files.new) result }
 {
     let bytes = match files.read(name) {
         Ok(bytes) => bytes,
@@ -94,14 +85,10 @@ pub fn read_setup_with<F: Files>(
     files: &mut F,
     name: &str,
 ) -> Result<SetupFile, ReadStop>
-    ensures read { HasRead IsSetupFile HasSetupFault name.now
-        (files_state (F.holds files.old) (F.calls files.old) (F.reads files.old)
-        (F.faults files.old))
-        (files_state (F.holds files.new) (F.calls files.new) (F.reads files.new)
-        (F.faults files.new))
-        (setup_in result) }
-    ensures hint { IfOk result (λ file.
-        TellsHint name.now (F.reads files.old) (F.reads files.new) file.hint.items) }
+    ensures read { HasRead IsSetupFile HasSetupFault name.now (F.state files.old)
+        (F.state files.new) (setup_in result) }
+    ensures hint { IfOk result (λ file. TellsHint name.now (F.state files.old).reads
+        (F.state files.new).reads file.hint.items) }
 {
     let bytes = match files.read(name) {
         Ok(bytes) => bytes,
@@ -119,11 +106,7 @@ pub fn read_setup_file<F: Files>(
     files: &mut F,
     name: &str,
 ) -> Result<Setup, ReadStop>
-    ensures { HasRead IsSetupFile HasSetupFault name.now
-        (files_state (F.holds files.old) (F.calls files.old) (F.reads files.old)
-        (F.faults files.old))
-        (files_state (F.holds files.new) (F.calls files.new) (F.reads files.new)
-        (F.faults files.new))
+    ensures { HasRead IsSetupFile HasSetupFault name.now (F.state files.old) (F.state files.new)
         result }
 {
     match read_setup_with(alloc, files, name) {

@@ -18,12 +18,13 @@ use std::alloc::Global;
 fn put_from<K: Sink>(sink: &mut K, bytes: &[u8], done: usize) -> Result<usize, Failed>
     requires { done < length bytes.now }
     ensures some { IfOk result (λ n. (1 ≤ n) × (done + n ≤ length bytes.now)) }
-    ensures took { IfOk result (λ n. K.taken sink.new ≡
-        option_map (λ t. t ++ take n (drop done bytes.now)) (K.taken sink.old)) }
-    ensures left { OnErr result (K.taken sink.new ≡ K.taken sink.old) }
-    ensures quiet { OnOk result (K.faults sink.new ≡ K.faults sink.old) }
-    ensures failed { OnErr result (CountedFault (K.faults sink.old) (K.faults sink.new)) }
-    ensures counts { K.faults sink.old ≤ K.faults sink.new }
+    ensures took { IfOk result (λ n. (K.state sink.new).taken ≡
+        option_map (λ t. t ++ take n (drop done bytes.now)) (K.state sink.old).taken) }
+    ensures left { OnErr result ((K.state sink.new).taken ≡ (K.state sink.old).taken) }
+    ensures quiet { OnOk result ((K.state sink.new).faults ≡ (K.state sink.old).faults) }
+    ensures failed { OnErr result (CountedFault (K.state sink.old).faults
+        (K.state sink.new).faults) }
+    ensures counts { (K.state sink.old).faults ≤ (K.state sink.new).faults }
 {
     sink.put(&bytes[done..])
 }
@@ -31,11 +32,13 @@ fn put_from<K: Sink>(sink: &mut K, bytes: &[u8], done: usize) -> Result<usize, F
 /// Puts all the bytes into a sink, piece by piece.
 #[tactic(auto, using(crate::proofs::SinkLemmas::sink_steps))]
 pub fn put_all<K: Sink>(sink: &mut K, bytes: &[u8]) -> Result<(), Failed>
-    ensures ok { OnOk result (TakesAll bytes.now (K.taken sink.old) (K.taken sink.new)) }
-    ensures part { TakesSome bytes.now (K.taken sink.old) (K.taken sink.new) }
-    ensures quiet { OnOk result (K.faults sink.new ≡ K.faults sink.old) }
-    ensures failed { OnErr result (CountedFault (K.faults sink.old) (K.faults sink.new)) }
-    ensures counts { K.faults sink.old ≤ K.faults sink.new }
+    ensures ok { OnOk result (TakesAll bytes.now (K.state sink.old).taken
+        (K.state sink.new).taken) }
+    ensures part { TakesSome bytes.now (K.state sink.old).taken (K.state sink.new).taken }
+    ensures quiet { OnOk result ((K.state sink.new).faults ≡ (K.state sink.old).faults) }
+    ensures failed { OnErr result (CountedFault (K.state sink.old).faults
+        (K.state sink.new).faults) }
+    ensures counts { (K.state sink.old).faults ≤ (K.state sink.new).faults }
 {
     let mut done = 0;
     while done < bytes.len() {
@@ -46,10 +49,10 @@ pub fn put_all<K: Sink>(sink: &mut K, bytes: &[u8]) -> Result<(), Failed>
 
 /// Puts a text to a stream that may refuse it.
 fn put_text<K: Sink>(sink: &mut K, text: &str)
-    ensures whole { ¬ CountedFault (K.faults sink.old) (K.faults sink.new) →
-        TakesAll text.now (K.taken sink.old) (K.taken sink.new) }
-    ensures part { TakesSome text.now (K.taken sink.old) (K.taken sink.new) }
-    ensures counts { K.faults sink.old ≤ K.faults sink.new }
+    ensures whole { ¬ CountedFault (K.state sink.old).faults (K.state sink.new).faults →
+        TakesAll text.now (K.state sink.old).taken (K.state sink.new).taken }
+    ensures part { TakesSome text.now (K.state sink.old).taken (K.state sink.new).taken }
+    ensures counts { (K.state sink.old).faults ≤ (K.state sink.new).faults }
 {
     let _refused = put_all(sink, text.as_bytes()).is_err();
 }
@@ -66,14 +69,14 @@ pub fn say<E: Sink>(
     err: &mut E,
 ) -> Outcome
     ensures outcome { StandsOrWants outcome result }
-    ensures said { ¬ CountedFault (E.faults err.old) (E.faults err.new) →
+    ensures said { ¬ CountedFault (E.state err.old).faults (E.state err.new).faults →
         TakesAll (said_text (option_map (λ n. n.now) inputs.entry)
         (option_map (λ n. n.now) outputs.entry) kept.now.answers extra result)
-        (E.taken err.old) (E.taken err.new) }
+        (E.state err.old).taken (E.state err.new).taken }
     ensures part { TakesSome (said_text (option_map (λ n. n.now) inputs.entry)
         (option_map (λ n. n.now) outputs.entry) kept.now.answers extra result)
-        (E.taken err.old) (E.taken err.new) }
-    ensures counts { E.faults err.old ≤ E.faults err.new }
+        (E.state err.old).taken (E.state err.new).taken }
+    ensures counts { (E.state err.old).faults ≤ (E.state err.new).faults }
 {
     if let Some(text) = fixed_text(&outcome) {
         put_text(err, text);
@@ -101,15 +104,18 @@ pub fn put_report<K: Sink>(
     extra: u8,
     sink: &mut K,
 ) -> Result<(), TellStop>
-    ensures ok { OnOk result (TakesAll (text_of inputs.now outputs.now kept.now.answers extra
-        outcome.now) (K.taken sink.old) (K.taken sink.new)) }
+    ensures ok { OnOk result
+        (TakesAll (text_of inputs.now outputs.now kept.now.answers extra outcome.now)
+        (K.state sink.old).taken (K.state sink.new).taken) }
     ensures part { TakesSome (text_of inputs.now outputs.now kept.now.answers extra outcome.now)
-        (K.taken sink.old) (K.taken sink.new) }
-    ensures memory { result ≡ Err Stop.NoMemory → K.taken sink.new ≡ K.taken sink.old }
-    ensures failed { result ≡ Err Stop.Sink → CountedFault (K.faults sink.old) (K.faults sink.new) }
+        (K.state sink.old).taken (K.state sink.new).taken }
+    ensures memory { result ≡ Err Stop.NoMemory → (K.state sink.new).taken ≡
+        (K.state sink.old).taken }
+    ensures failed { result ≡ Err Stop.Sink → CountedFault (K.state sink.old).faults
+        (K.state sink.new).faults }
     ensures no_file { (role : Part) → ¬ (result ≡ Err (Stop.File role)) }
-    ensures quiet { OnOk result (K.faults sink.new ≡ K.faults sink.old) }
-    ensures counts { K.faults sink.old ≤ K.faults sink.new }
+    ensures quiet { OnOk result ((K.state sink.new).faults ≡ (K.state sink.old).faults) }
+    ensures counts { (K.state sink.old).faults ≤ (K.state sink.new).faults }
 {
     let text = text(alloc, outcome, inputs, outputs, kept, extra)?;
     put_all(sink, &text)?;
@@ -123,20 +129,21 @@ pub fn write_file<F: Files>(
     name: &str,
     bytes: &[u8],
 ) -> Result<(), TellStop>
-    ensures told { OnOk result (Holds (F.holds files.new) name.now bytes.now) }
-    ensures beside { StaysBeside name.now (F.holds files.old) (F.holds files.new) }
-    ensures ok { OnOk result (F.calls files.new ≡
-        noted (write_call name.now false) (F.calls files.old)) }
+    ensures told { OnOk result (Holds (F.state files.new).holds name.now bytes.now) }
+    ensures beside { StaysBeside name.now (F.state files.old).holds (F.state files.new).holds }
+    ensures ok { OnOk result ((F.state files.new).calls ≡ noted (write_call name.now false)
+        (F.state files.old).calls) }
     ensures role { (other : Part) → result ≡ Err (Stop.File other) → other ≡ role }
-    ensures failed { result ≡ Err (Stop.File role) →
-        CountedFault (F.faults files.old) (F.faults files.new) }
-    ensures failed_call { result ≡ Err (Stop.File role) →
-        F.calls files.new ≡ noted (write_call name.now true) (F.calls files.old) }
-    ensures memory { result ≡ Err Stop.NoMemory → F.calls files.new ≡ F.calls files.old }
+    ensures failed { result ≡ Err (Stop.File role) → CountedFault (F.state files.old).faults
+        (F.state files.new).faults }
+    ensures failed_call { result ≡ Err (Stop.File role) → (F.state files.new).calls ≡
+        noted (write_call name.now true) (F.state files.old).calls }
+    ensures memory { result ≡ Err Stop.NoMemory → (F.state files.new).calls ≡
+        (F.state files.old).calls }
     ensures no_sink { ¬ (result ≡ Err Stop.Sink) }
-    ensures reads { F.reads files.new ≡ F.reads files.old }
-    ensures quiet { OnOk result (F.faults files.new ≡ F.faults files.old) }
-    ensures counts { F.faults files.old ≤ F.faults files.new }
+    ensures reads { (F.state files.new).reads ≡ (F.state files.old).reads }
+    ensures quiet { OnOk result ((F.state files.new).faults ≡ (F.state files.old).faults) }
+    ensures counts { (F.state files.old).faults ≤ (F.state files.new).faults }
 {
     match files.write(name, bytes) {
         Ok(()) => Ok(()),

@@ -3,20 +3,22 @@ use Rattle.std.proofs.Common.{◌≡◌, ℕ, ◌<◌, ◌≤◌, List, length, 
 use Rattle.lw_words.specs.Answer.{Answer, AreAnswers, answers_of}
 use Rattle.lw_mealy.specs.Gives.{Gives}
 use Rattle.lw_mealy.specs.Limits.{MealyMachine}
-use Rattle.lw_mealy.specs.Machine.{IsMachine}
+use Rattle.lw_mealy.specs.Machine.{IsMachine, Rows}
 use Rattle.lw_cache.specs.Clash.{NothingClashes}
 use Rattle.lw_cache.specs.Settling.{OracleState, Leaves, grown_stop}
 use Rattle.lw_cache.specs.declared.stops.GrowStop.{GrowStop}
 use Rattle.lw_cache.specs.declared.stops.GrowStop.TheVariants as grow
 use Rattle.lw_cache.proofs.SettlingLemmas.{kept_are_answers}
 use Rattle.lw_separate.specs.Canonical.{IsCanonical}
+use Rattle.lw_suite.specs.Size.{suite_size}
 use Rattle.lw_rounds.specs.Learned.{IsCertified, IsLearned, StopsAs}
 use Rattle.lw_rounds.specs.Learner.{kind_of, inputs_of, outputs_of, most_of, access_of, refinements_of, HasNoTemporary, IsLearner, IsMachineOf}
 use Rattle.lw_rounds.specs.Stops.{of_growth}
 use Rattle.lw_rounds.specs.declared.learner.Kind.{Kind}
 use Rattle.lw_rounds.specs.declared.learner.Learner.{Learner}
 use Rattle.lw_rounds.specs.declared.stops.LearnStop.{LearnStop}
-use Rattle.lw_rounds.specs.bodies.Rounds.{IsSureOf, IsNew, IsReady, IsAlike, Grows, GoesOn, IsLearnedFrom, StopsFrom, StopsGrowth, finals_of}
+use Rattle.lw_rounds.specs.declared.stops.LearnStop.TheVariants as learn
+use Rattle.lw_rounds.specs.bodies.Rounds.{IsSureOf, IsNew, IsReady, IsAlike, Grows, GoesOn, IsLearnedFrom, StopsFrom, StopsGrowth, StopsTest, finals_of}
 use Rattle.lw_rounds.proofs.CanonicalLemmas.{equal_gives, as_many}
 use Rattle.lw_rounds.proofs.LearnerLemmas.{access_is_crowd, few_finals, few_refinements, few_states, read_more, states_are}
 
@@ -115,6 +117,32 @@ more_finals l m is most finals longer = let few = few_states m is in let less = 
 pub refined_goes : {X : Type 0} (ks : List Answer) (l m : Learner) (result : Result X GrowStop) → Grows ks l m result → OnOk result (length (access_of l) < length (access_of m)) → OnOk result (GoesOn l m)
 refined_goes ks l m (Ok x) grows more = more_states l m grows.learner grows.alike.most grows.finals more
 refined_goes ks l m (Err stop) grows more = tt
+
+-- a test of a learner's machine stops, said of the numbers of the learner
+pub tested_stops : (h : MealyMachine) (l : Learner) (k : ℕ) (ks : List Answer) (stop : LearnStop) → h.inputs ≡ inputs_of l → h.outputs ≡ outputs_of l → length h.rows ≤ most_of l → StopsTest h.inputs h.outputs k (length h.rows) ks stop → StopsFrom l k ks stop
+tested_stops h l k ks (learn.Ask stop) inputs outputs few is = tt
+tested_stops h l k ks (learn.Crowd words) inputs outputs few is = elim is [ ]
+tested_stops h l k ks (learn.TooLarge model number) inputs outputs few is =
+    record {
+      inputs = is.inputs ∙ inputs;
+      outputs = is.outputs ∙ outputs;
+      complete = is.complete;
+      few = let least = is.few in omega (arith, least, few);
+      canonical = subst (λ (a : ℕ). IsCanonical a model.rows model.rows) inputs is.canonical;
+      gives = is.gives;
+      words = is.words;
+      crowd = is.crowd;
+      each = is.each;
+      size = subst (λ (a : ℕ). number ≡ suite_size (length model.rows) a k) inputs is.size;
+      large = is.large;
+    }
+
+pub few_tested : (l : Learner) (m : Rows) → IsLearner l → IsMachineOf l m → length m ≤ most_of l
+few_tested l m is of = let few = few_states l is in let each = states_are l m of in omega (arith, few, each)
+
+-- a new learner, of numbers that are these
+pub new_as : (kind : Kind) (a b x y most : ℕ) (l : Learner) → a ≡ x → b ≡ y → IsNew kind a b most l → IsNew kind x y most l
+new_as kind a b x y most l inputs outputs new = subst₂ (λ (c d : ℕ). IsNew kind c d most l) inputs outputs new
 
 pub told_stops : {X : Type 0} (P : LearnStop → Type 0) (stop : LearnStop) (result : Result X LearnStop) → IsErrAnd result (λ e. e ≡ stop) → P stop → IfErr result P
 told_stops {X = X} P stop (Ok _) is holds = elim is [ ]

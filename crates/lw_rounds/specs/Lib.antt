@@ -1,5 +1,6 @@
 pub mod Laws
 pub mod Learned
 pub mod Learner
+pub mod Settings
 pub mod Stops
 pub mod bodies

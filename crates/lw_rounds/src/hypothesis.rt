@@ -18,7 +18,7 @@ ghost use Rattle.lw_rounds.specs.bodies.Rounds.{IsTested, StopsTest, of_fault};
 
 use crate::conformance::settle_suite;
 use crate::watcher::Account;
-use crate::{LearnStop, Learner, Watcher};
+use crate::{LearnStop, Learner, Settings, Watcher};
 use lw_cache::{AskStop, Cache, Oracle};
 use lw_certify::{Verdict, certify};
 use lw_mealy::Mealy;
@@ -37,18 +37,23 @@ pub enum Tested {
 }
 
 /// A model that the kept answers suffice for, once `certify` has said so.
-fn certified(alloc: Global, model: Mealy, cache: &Cache, extra: u8) -> Result<Mealy, NoMemory>
-    requires few { extra ≤ 4 }
+fn certified(
+    alloc: Global,
+    model: Mealy,
+    cache: &Cache,
+    settings: Settings,
+) -> Result<Mealy, NoMemory>
     requires letters { All (λ k. IsWord model.inputs k.word) (answers_of cache.now.kept) }
     requires canonical { IsCanonical model.inputs model.rows model.rows }
-    requires sure { IsVerdict model.inputs model.rows (answers_of cache.now.kept) extra Came.Sure }
+    requires sure { IsVerdict model.inputs model.rows (answers_of cache.now.kept) settings.extra
+        Came.Sure }
     ensures value { IfOk result (λ m. m ≡ model) }
-    ensures certified { IfOk result (IsCertified model.inputs model.outputs extra
+    ensures certified { IfOk result (IsCertified model.inputs model.outputs settings.extra
         (answers_of cache.now.kept)) }
 {
     // The model tells that it is within the limits.
     let _ = model.inputs();
-    let verdict = certify(alloc, &model, cache, extra)?;
+    let verdict = certify(alloc, &model, cache, settings.extra)?;
     match verdict {
         Verdict::Sure => Ok(model),
         _ => unreachable!(),
@@ -62,7 +67,7 @@ fn settle_and_certify<O: Oracle, W: Watcher>(
     hypothesis: &Mealy,
     model: Mealy,
     suite: Suite,
-    extra: u8,
+    settings: Settings,
     account: &mut Account<'_, W>,
 ) -> Result<Tested, LearnStop>
     requires can { O.can_settle oracle.old }
@@ -70,24 +75,24 @@ fn settle_and_certify<O: Oracle, W: Watcher>(
     requires keeps { Keeps (O.state oracle.old) }
     requires nothing { NothingClashes (answers_of (O.state oracle.old).kept) }
     requires inputs { hypothesis.now.inputs ≡ (O.state oracle.old).inputs }
-    requires few { extra ≤ 4 }
     requires gives { Gives hypothesis.now.rows (answers_of (O.state oracle.old).kept) }
     requires alphabets { (model.inputs ≡ hypothesis.now.inputs) ×
         (model.outputs ≡ hypothesis.now.outputs) }
     requires canonical { IsCanonical hypothesis.now.inputs hypothesis.now.rows model.rows }
-    requires suite { IsSuite model.inputs model.rows extra suite }
-    requires size { suite_size (length model.rows) model.inputs extra ≤ greatest_suite }
-    ensures tested { IfOk result (IsTested hypothesis.now extra
+    requires suite { IsSuite model.inputs model.rows settings.extra suite }
+    requires size { suite_size (length model.rows) model.inputs settings.extra ≤
+        greatest_suite }
+    ensures tested { IfOk result (IsTested hypothesis.now settings.extra
         (answers_of (O.state oracle.new).kept)) }
-    ensures stops { IfErr result (StopsTest hypothesis.now.inputs hypothesis.now.outputs extra
-        (length hypothesis.now.rows) (answers_of (O.state oracle.new).kept)) }
+    ensures stops { IfErr result (StopsTest hypothesis.now.inputs hypothesis.now.outputs
+        settings.extra (length hypothesis.now.rows) (answers_of (O.state oracle.new).kept)) }
     ensures leaves { Leaves (O.state oracle.old) (O.state oracle.new) (learn_stop result) }
     ensures can { O.can_settle oracle.new }
 {
     let found = settle_suite(oracle, alloc, hypothesis, suite, account)?;
     match found {
         Some(word) => Ok(Tested::Differs(word)),
-        None => Ok(Tested::Sure(certified(alloc, model, oracle.cache(), extra)?)),
+        None => Ok(Tested::Sure(certified(alloc, model, oracle.cache(), settings)?)),
     }
 }
 
@@ -109,7 +114,7 @@ pub fn test_by_suite<O: Oracle, W: Watcher>(
     alloc: Global,
     learner: &Learner,
     hypothesis: &Mealy,
-    extra: u8,
+    settings: Settings,
     account: &mut Account<'_, W>,
 ) -> Result<Tested, LearnStop>
     requires can { O.can_settle oracle.old }
@@ -117,15 +122,14 @@ pub fn test_by_suite<O: Oracle, W: Watcher>(
     requires keeps { Keeps (O.state oracle.old) }
     requires nothing { NothingClashes (answers_of (O.state oracle.old).kept) }
     requires inputs { hypothesis.now.inputs ≡ (O.state oracle.old).inputs }
-    requires few { extra ≤ 4 }
     requires gives { Gives hypothesis.now.rows (answers_of (O.state oracle.old).kept) }
     requires machine { IsMachineOf learner.now hypothesis.now.rows }
     requires read { IsRead (answers_of (O.state oracle.old).kept) learner.now }
     requires settled { HasNoTemporary learner.now }
-    ensures tested { IfOk result (IsTested hypothesis.now extra
+    ensures tested { IfOk result (IsTested hypothesis.now settings.extra
         (answers_of (O.state oracle.new).kept)) }
-    ensures stops { IfErr result (StopsTest hypothesis.now.inputs hypothesis.now.outputs extra
-        (length hypothesis.now.rows) (answers_of (O.state oracle.new).kept)) }
+    ensures stops { IfErr result (StopsTest hypothesis.now.inputs hypothesis.now.outputs
+        settings.extra (length hypothesis.now.rows) (answers_of (O.state oracle.new).kept)) }
     ensures leaves { Leaves (O.state oracle.old) (O.state oracle.new) (learn_stop result) }
     ensures can { O.can_settle oracle.new }
 {
@@ -133,8 +137,8 @@ pub fn test_by_suite<O: Oracle, W: Watcher>(
     let _ = learner.access();
     let _ = hypothesis.inputs();
     let model = canonical(alloc, hypothesis)?;
-    match Suite::new(alloc, &model, extra) {
-        Ok(suite) => settle_and_certify(oracle, alloc, hypothesis, model, suite, extra, account),
+    match Suite::new(alloc, &model, settings.extra) {
+        Ok(suite) => settle_and_certify(oracle, alloc, hypothesis, model, suite, settings, account),
         Err(fault) => Err(without_suite(model, fault)),
     }
 }

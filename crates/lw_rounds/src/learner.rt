@@ -9,6 +9,7 @@ ghost use Rattle.lw_settle.specs.declared.settling.Settled.TheVariants.{NoBlock}
 ghost use Rattle.lw_rounds.specs.Learner.{inputs_of, outputs_of, access_of, refinements_of, IsLearner, IsRead, IsClosed, IsMachineOf};
 ghost use Rattle.lw_rounds.specs.bodies.Rounds.{IsNew, Grows, SettlesBlock};
 
+use crate::Settings;
 use lw_cache::{Cut, GrowStop, Oracle};
 use lw_mealy::Mealy;
 use lw_settle::{Settled, settle_block};
@@ -34,20 +35,20 @@ pub enum Learner {
 }
 
 impl Learner {
-    /// The learner of a kind, before anything was asked.
+    /// The learner of these settings, before anything was asked.
     pub(crate) fn new(
         alloc: Global,
         inputs: u16,
         outputs: u16,
-        kind: Kind,
-        max_states: u16,
+        settings: Settings,
     ) -> Result<Learner, NoMemory>
         requires inputs { (1 ≤ inputs) × (inputs ≤ 64) }
         requires outputs { (1 ≤ outputs) × (outputs ≤ 4096) }
-        requires most { (1 ≤ max_states) × (max_states ≤ 1024) }
-        ensures { IfOk result (IsNew kind inputs outputs max_states) }
+        ensures { IfOk result (IsNew settings.kind inputs outputs
+            settings.max_states) }
     {
-        Ok(match kind {
+        let max_states = settings.max_states;
+        Ok(match settings.kind {
             Kind::Table => {
                 Learner::Table(ObservationTable::new(alloc, inputs, outputs, max_states)?)
             }

@@ -10,7 +10,7 @@ ghost use Rattle.lw_rounds.specs.bodies.Rounds.{IsLearnedFrom, StopsFrom};
 
 use crate::rounds::rounds;
 use crate::watcher::Account;
-use crate::{Kind, LearnStop, Learned, Learner, Phase, Watcher};
+use crate::{LearnStop, Learned, Learner, Phase, Settings, Watcher};
 use lw_cache::Oracle;
 use lw_mealy::Mealy;
 use std::alloc::Global;
@@ -20,7 +20,7 @@ fn learn_from<O: Oracle, W: Watcher>(
     oracle: &mut O,
     alloc: Global,
     learner: &mut Learner,
-    extra: u8,
+    settings: Settings,
     watcher: &mut W,
 ) -> Result<Mealy, LearnStop>
     requires can { O.can_settle oracle.old }
@@ -29,10 +29,9 @@ fn learn_from<O: Oracle, W: Watcher>(
     requires inputs { inputs_of learner.old ≡ (O.state oracle.old).inputs }
     requires outputs { outputs_of learner.old ≡ (O.state oracle.old).outputs }
     requires read { IsRead (answers_of (O.state oracle.old).kept) learner.old }
-    requires few { extra ≤ 4 }
-    ensures learned { IfOk result (λ model. IsLearnedFrom learner.old extra
+    ensures learned { IfOk result (λ model. IsLearnedFrom learner.old settings.extra
         (answers_of (O.state oracle.new).kept) model learner.new) }
-    ensures stops { IfErr result (StopsFrom learner.old extra
+    ensures stops { IfErr result (StopsFrom learner.old settings.extra
         (answers_of (O.state oracle.new).kept)) }
     ensures leaves { Leaves (O.state oracle.old) (O.state oracle.new) (learn_stop result) }
     ensures can { O.can_settle oracle.new }
@@ -40,49 +39,44 @@ fn learn_from<O: Oracle, W: Watcher>(
     let mut account = Account::new(watcher, oracle);
     learner.close(oracle)?;
     account.tell_learner(Phase::Table, learner, oracle);
-    rounds(oracle, alloc, learner, extra, &mut account)
+    rounds(oracle, alloc, learner, settings, &mut account)
 }
 
 #[tactic(auto, using(lw_cache::proofs::SettlingLemmas::leaves_nothing, crate::proofs::StopLemmas::leaves_learn_own))]
-/// A model of the system behind an oracle, which every machine of at most `extra` states more that gives the kept answers
-/// equals: a learner of this kind is closed and its machine tested, until nothing known and no word of its suite tells it
+/// A model of the system behind an oracle, which every machine of at most the extra states more that gives the kept answers
+/// equals: a learner of the kind is closed and its machine tested, until nothing known and no word of its suite tells it
 /// apart (Angluin 1987, or Isberner, Howar and Steffen 2014, with the suite of Vasilevskii 1973 and Chow 1978).
 ///
 /// The watcher is told of the first closing, of each chunk of a suite, of each refinement with the closing that it makes, and of
 /// each settling that replaced a block.
 ///
 /// # Errors
-/// What the oracle stopped by, or out of memory; a crowd of `max_states + 1` words; or the canonical model whose suite would
+/// What the oracle stopped by, or out of memory; a crowd of one word more than there may be states; or the canonical model whose suite would
 /// be too large.
 pub fn learn<O: Oracle, W: Watcher>(
     oracle: &mut O,
     alloc: Global,
-    inputs: u16,
-    outputs: u16,
-    kind: Kind,
-    extra: u8,
-    max_states: u16,
+    settings: Settings,
     watcher: &mut W,
 ) -> Result<Learned, LearnStop>
     requires can { O.can_settle oracle.old }
     requires may { MayAsk (O.state oracle.old).stop }
     requires nothing { NothingClashes (answers_of (O.state oracle.old).kept) }
-    requires inputs { inputs ≡ (O.state oracle.old).inputs }
-    requires outputs { outputs ≡ (O.state oracle.old).outputs }
-    requires letters { (1 ≤ inputs) × (inputs ≤ 64) }
-    requires signs { (1 ≤ outputs) × (outputs ≤ 4096) }
-    requires few { extra ≤ 4 }
-    requires most { (1 ≤ max_states) × (max_states ≤ 1024) }
-    ensures learned { IfOk result (λ l. IsLearned kind inputs outputs extra max_states
+    requires letters { (1 ≤ (O.state oracle.old).inputs) × ((O.state oracle.old).inputs ≤ 64) }
+    requires signs { (1 ≤ (O.state oracle.old).outputs) × ((O.state oracle.old).outputs ≤ 4096) }
+    ensures learned { IfOk result (λ l. IsLearned settings.kind (O.state oracle.old).inputs
+        (O.state oracle.old).outputs settings.extra settings.max_states
         (answers_of (O.state oracle.new).kept) l.model l.learner) }
-    ensures stops { IfErr result (StopsAs inputs outputs extra max_states
+    ensures stops { IfErr result (StopsAs (O.state oracle.old).inputs
+        (O.state oracle.old).outputs settings.extra settings.max_states
         (answers_of (O.state oracle.new).kept)) }
     ensures leaves { Leaves (O.state oracle.old) (O.state oracle.new) (learn_stop result) }
     ensures can { O.can_settle oracle.new }
 {
     // The cache tells that its answers are over the inputs and outputs.
     let _ = oracle.cache();
-    let mut learner = Learner::new(alloc, inputs, outputs, kind, max_states)?;
-    let model = learn_from(oracle, alloc, &mut learner, extra, watcher)?;
+    let (inputs, outputs) = (oracle.inputs(), oracle.outputs());
+    let mut learner = Learner::new(alloc, inputs, outputs, settings)?;
+    let model = learn_from(oracle, alloc, &mut learner, settings, watcher)?;
     Ok(Learned { model, learner })
 }

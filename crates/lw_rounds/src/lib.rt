@@ -9,6 +9,7 @@ mod learned;
 mod learner;
 mod learning;
 mod rounds;
+mod settings;
 mod stops;
 mod watcher;
 
@@ -18,5 +19,6 @@ pub use laws::{
 pub use learned::Learned;
 pub use learner::{Kind, Learner};
 pub use learning::learn;
+pub use settings::Settings;
 pub use stops::LearnStop;
 pub use watcher::{Phase, Step, Unwatched, Watcher};

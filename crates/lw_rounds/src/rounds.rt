@@ -1,5 +1,5 @@
 //! The rounds: the machine of a learner is tested, and a difference refines the learner.
-ghost use Rattle.std.specs.Prelude.{◌≡◌, ◌≤◌, IfOk, IfErr, OnOk, MatchOption};
+ghost use Rattle.std.specs.Prelude.{◌≡◌, IfOk, IfErr, OnOk, MatchOption};
 ghost use Rattle.lw_words.specs.Answer.{answers_of};
 ghost use Rattle.lw_mealy.specs.Gives.{Gives};
 ghost use Rattle.lw_cache.specs.Against.{Differs};
@@ -10,7 +10,7 @@ ghost use Rattle.lw_rounds.specs.bodies.Rounds.{IsReady, IsAlike, GoesOn, IsLear
 
 use crate::hypothesis::{Tested, test_by_suite};
 use crate::watcher::Account;
-use crate::{LearnStop, Learner, Phase, Watcher};
+use crate::{LearnStop, Learner, Phase, Settings, Watcher};
 use lw_cache::{GrowStop, Oracle};
 use lw_cex::split;
 use lw_mealy::Mealy;
@@ -52,12 +52,11 @@ fn round_by_suite<O: Oracle, W: Watcher>(
     alloc: Global,
     learner: &mut Learner,
     hypothesis: &Mealy,
-    extra: u8,
+    settings: Settings,
     account: &mut Account<'_, W>,
 ) -> Result<Option<Mealy>, LearnStop>
     requires can { O.can_settle oracle.old }
     requires ready { IsReady (O.state oracle.old) learner.old }
-    requires few { extra ≤ 4 }
     requires machine { IsMachineOf learner.old hypothesis.now.rows }
     requires inputs { hypothesis.now.inputs ≡ inputs_of learner.old }
     requires outputs { hypothesis.now.outputs ≡ outputs_of learner.old }
@@ -66,16 +65,16 @@ fn round_by_suite<O: Oracle, W: Watcher>(
     ensures ready { OnOk result (IsReady (O.state oracle.new) learner.new) }
     ensures alike { IsAlike learner.old learner.new }
     ensures goes { IfOk result (λ found. MatchOption found (GoesOn learner.old learner.new)
-        (λ model. IsLearnedFrom learner.old extra (answers_of (O.state oracle.new).kept) model
-        learner.new)) }
-    ensures stops { IfErr result (StopsFrom learner.old extra
+        (λ model. IsLearnedFrom learner.old settings.extra
+        (answers_of (O.state oracle.new).kept) model learner.new)) }
+    ensures stops { IfErr result (StopsFrom learner.old settings.extra
         (answers_of (O.state oracle.new).kept)) }
     ensures leaves { Leaves (O.state oracle.old) (O.state oracle.new) (learn_stop result) }
     ensures can { O.can_settle oracle.new }
 {
     // The hypothesis tells that it is a machine.
     let _ = hypothesis.inputs();
-    match test_by_suite(oracle, alloc, learner, hypothesis, extra, account)? {
+    match test_by_suite(oracle, alloc, learner, hypothesis, settings, account)? {
         Tested::Differs(word) => {
             refine(oracle, alloc, learner, hypothesis, &word, account)?;
             Ok(None)
@@ -91,21 +90,20 @@ fn round_with<O: Oracle, W: Watcher>(
     alloc: Global,
     learner: &mut Learner,
     hypothesis: &Mealy,
-    extra: u8,
+    settings: Settings,
     account: &mut Account<'_, W>,
 ) -> Result<Option<Mealy>, LearnStop>
     requires can { O.can_settle oracle.old }
     requires ready { IsReady (O.state oracle.old) learner.old }
-    requires few { extra ≤ 4 }
     requires machine { IsMachineOf learner.old hypothesis.now.rows }
     requires inputs { hypothesis.now.inputs ≡ inputs_of learner.old }
     requires outputs { hypothesis.now.outputs ≡ outputs_of learner.old }
     ensures ready { OnOk result (IsReady (O.state oracle.new) learner.new) }
     ensures alike { IsAlike learner.old learner.new }
     ensures goes { IfOk result (λ found. MatchOption found (GoesOn learner.old learner.new)
-        (λ model. IsLearnedFrom learner.old extra (answers_of (O.state oracle.new).kept) model
-        learner.new)) }
-    ensures stops { IfErr result (StopsFrom learner.old extra
+        (λ model. IsLearnedFrom learner.old settings.extra
+        (answers_of (O.state oracle.new).kept) model learner.new)) }
+    ensures stops { IfErr result (StopsFrom learner.old settings.extra
         (answers_of (O.state oracle.new).kept)) }
     ensures leaves { Leaves (O.state oracle.old) (O.state oracle.new) (learn_stop result) }
     ensures can { O.can_settle oracle.new }
@@ -119,7 +117,7 @@ fn round_with<O: Oracle, W: Watcher>(
             account.tell_learner(Phase::Settling, learner, oracle);
             Ok(None)
         }
-        Settled::NoBlock => round_by_suite(oracle, alloc, learner, hypothesis, extra, account),
+        Settled::NoBlock => round_by_suite(oracle, alloc, learner, hypothesis, settings, account),
     }
 }
 
@@ -129,24 +127,23 @@ fn round<O: Oracle, W: Watcher>(
     oracle: &mut O,
     alloc: Global,
     learner: &mut Learner,
-    extra: u8,
+    settings: Settings,
     account: &mut Account<'_, W>,
 ) -> Result<Option<Mealy>, LearnStop>
     requires can { O.can_settle oracle.old }
     requires ready { IsReady (O.state oracle.old) learner.old }
-    requires few { extra ≤ 4 }
     ensures ready { OnOk result (IsReady (O.state oracle.new) learner.new) }
     ensures alike { IsAlike learner.old learner.new }
     ensures goes { IfOk result (λ found. MatchOption found (GoesOn learner.old learner.new)
-        (λ model. IsLearnedFrom learner.old extra (answers_of (O.state oracle.new).kept) model
-        learner.new)) }
-    ensures stops { IfErr result (StopsFrom learner.old extra
+        (λ model. IsLearnedFrom learner.old settings.extra
+        (answers_of (O.state oracle.new).kept) model learner.new)) }
+    ensures stops { IfErr result (StopsFrom learner.old settings.extra
         (answers_of (O.state oracle.new).kept)) }
     ensures leaves { Leaves (O.state oracle.old) (O.state oracle.new) (learn_stop result) }
     ensures can { O.can_settle oracle.new }
 {
     let hypothesis = learner.machine()?;
-    round_with(oracle, alloc, learner, &hypothesis, extra, account)
+    round_with(oracle, alloc, learner, &hypothesis, settings, account)
 }
 
 #[tactic(auto, using(crate::proofs::RoundLemmas::alike_then, crate::proofs::RoundLemmas::learned_alike, crate::proofs::RoundLemmas::stops_alike))]
@@ -156,22 +153,21 @@ pub fn rounds<O: Oracle, W: Watcher>(
     oracle: &mut O,
     alloc: Global,
     learner: &mut Learner,
-    extra: u8,
+    settings: Settings,
     account: &mut Account<'_, W>,
 ) -> Result<Mealy, LearnStop>
     requires can { O.can_settle oracle.old }
     requires ready { IsReady (O.state oracle.old) learner.old }
-    requires few { extra ≤ 4 }
-    ensures learned { IfOk result (λ model. IsLearnedFrom learner.old extra
+    ensures learned { IfOk result (λ model. IsLearnedFrom learner.old settings.extra
         (answers_of (O.state oracle.new).kept) model learner.new) }
-    ensures stops { IfErr result (StopsFrom learner.old extra
+    ensures stops { IfErr result (StopsFrom learner.old settings.extra
         (answers_of (O.state oracle.new).kept)) }
     ensures leaves { Leaves (O.state oracle.old) (O.state oracle.new) (learn_stop result) }
     ensures can { O.can_settle oracle.new }
 {
     loop {
         account.begin_round();
-        if let Some(model) = round(oracle, alloc, learner, extra, account)? {
+        if let Some(model) = round(oracle, alloc, learner, settings, account)? {
             return Ok(model);
         }
     }

@@ -7,7 +7,7 @@ use Rattle.lw_line.specs.declared.serving.ServeFault.{ServeFault}
 use Rattle.lw_line.specs.declared.serving.ServeFault.TheVariants as fault
 use Rattle.lw_outside.specs.Files.{read_call}
 use Rattle.lw_report.specs.Outcomes.{HasOwnText, StandsOrWants}
-use Rattle.lw_report.specs.States.{SinkState, SourceState}
+use Rattle.lw_outside.specs.Streams.{SinkState, SourceState}
 use Rattle.lw_report.specs.declared.outcome.Outcome.{Outcome}
 use Rattle.lw_report.specs.declared.outcome.Outcome.TheVariants.{Served, BadFile, FileTooLong, NoMemory, BadAsk, FileFault, SourceFault, SinkFault}
 use Rattle.lw_serve.specs.Calls.{read_of}

@@ -3,11 +3,11 @@ use Rattle.std.proofs.Common.{◌≡◌, ◌⊎◌, inl, inr, ℕ, List, [], fal
 use Rattle.lw_words.specs.Cause.{CountedFault}
 use Rattle.lw_json.specs.MachineFile.{IsMachineFile}
 use Rattle.lw_json.specs.declared.machine.Machine.{Machine}
-use Rattle.lw_outside.specs.Files.{Call, noted, read_call}
+use Rattle.lw_outside.specs.Files.{Call, noted, read_call, FilesState}
 use Rattle.lw_report.specs.Ends.{IsWithoutLearner}
 use Rattle.lw_report.specs.Outcomes.{StandsOrWants}
 use Rattle.lw_report.specs.Reading.{ReadsFile, WasRead}
-use Rattle.lw_report.specs.States.{FilesState, SinkState, SourceState}
+use Rattle.lw_outside.specs.Streams.{SinkState, SourceState}
 use Rattle.lw_report.specs.Stops.{read_outcome}
 use Rattle.lw_report.specs.Writing.{TakesAll, TakesSome, said_text}
 use Rattle.lw_report.specs.declared.«end».End.{End}

@@ -4,10 +4,9 @@ use Rattle.lw_words.specs.Cause.{CountedFault}
 use Rattle.lw_json.specs.MachineFile.{IsMachineFile}
 use Rattle.lw_json.specs.MachineFault.{HasMachineFault}
 use Rattle.lw_json.specs.declared.fault.JsonFault.{JsonFault}
-use Rattle.lw_outside.specs.Files.{HoldsLong, noted, read_call}
+use Rattle.lw_outside.specs.Files.{HoldsLong, noted, read_call, FilesState}
 use Rattle.lw_report.specs.Outcomes.{HasOwnText, StandsOrWants}
 use Rattle.lw_report.specs.Reading.{ReadsBadFile}
-use Rattle.lw_report.specs.States.{FilesState}
 use Rattle.lw_report.specs.Stops.{read_outcome}
 use Rattle.lw_report.specs.declared.outcome.Outcome.{Outcome}
 use Rattle.lw_report.specs.declared.outcome.Outcome.TheVariants.{BadFile, FileTooLong, NoMemory, FileFault}

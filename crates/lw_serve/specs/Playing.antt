@@ -6,7 +6,7 @@ use Rattle.lw_line.specs.Serving.{GoesOn, Plays}
 use Rattle.lw_line.specs.declared.serving.Served.{Served as Done}
 use Rattle.lw_line.specs.declared.serving.ServedCause.TheVariants.{EndOfInput, Limit}
 use Rattle.lw_line.specs.declared.serving.ServeFault.TheVariants as fault
-use Rattle.lw_report.specs.States.{SinkState, SourceState}
+use Rattle.lw_outside.specs.Streams.{SinkState, SourceState}
 use Rattle.lw_report.specs.declared.outcome.Outcome.{Outcome}
 use Rattle.lw_report.specs.declared.outcome.Outcome.TheVariants.{Served, NoMemory, BadAsk, SourceFault, SinkFault}
 
@@ -20,14 +20,14 @@ PlaysTo m input SourceFault before now = Plays m input (Err fault.SourceFault) b
 PlaysTo m input SinkFault before now = Plays m input (Err fault.SinkFault) before now
 PlaysTo m input _ before now = ⊥
 
--- a machine was played over an input and `out`, which were i and o and are j and p, and this is what it came to
-pub record IsPlayed (m : Machine) (i j : SourceState) (o p : SinkState) (outcome : Outcome) : Type 0 where
-  pub plays : PlaysTo m i.left outcome o.taken p.taken
-  pub source : outcome ≡ SourceFault → CountedFault i.faults j.faults × GoesOn m i.left j.left
-  pub sink : outcome ≡ SinkFault → CountedFault o.faults p.faults
+-- a machine was played over an input and `out`, and this is what it came to
+pub record IsPlayed (m : Machine) (input_before input_now : SourceState) (out_before out_now : SinkState) (outcome : Outcome) : Type 0 where
+  pub plays : PlaysTo m input_before.left outcome out_before.taken out_now.taken
+  pub source : outcome ≡ SourceFault → CountedFault input_before.faults input_now.faults × GoesOn m input_before.left input_now.left
+  pub sink : outcome ≡ SinkFault → CountedFault out_before.faults out_now.faults
   pub ended : (served : Done) → outcome ≡ Served served → served.cause ≡ EndOfInput →
-      CountedFault i.ends j.ends
+      CountedFault input_before.ends input_now.ends
   pub limit : (served : Done) → outcome ≡ Served served → served.cause ≡ Limit →
       served.lines ≡ 4294967295
-  pub quiet : (served : Done) → outcome ≡ Served served → (j.faults ≡ i.faults) ×
-      (p.faults ≡ o.faults)
+  pub quiet : (served : Done) → outcome ≡ Served served → (input_now.faults ≡ input_before.faults) ×
+      (out_now.faults ≡ out_before.faults)

@@ -3,7 +3,6 @@ ghost use Rattle.std.specs.Prelude.{◌≡◌, ◌≤◌, [], None};
 ghost use Rattle.lw_words.specs.Cause.{CountedFault};
 ghost use Rattle.lw_report.specs.Ends.{IsWithoutLearner};
 ghost use Rattle.lw_report.specs.Outcomes.{StandsOrWants, status_of};
-ghost use Rattle.lw_report.specs.States.{files_state, sink_state, source_state};
 ghost use Rattle.lw_report.specs.Stops.{read_outcome};
 ghost use Rattle.lw_report.specs.Writing.{TakesAll, TakesSome, said_text};
 ghost use Rattle.lw_report.specs.declared.role.Role.TheVariants.{Model as ModelRole};
@@ -38,11 +37,12 @@ fn refuse_model<E: Sink>(alloc: Global, stop: ReadStop, err: &mut E) -> End
     ensures learner { IsWithoutLearner result }
     ensures kept { result.kept.answers ≡ [] }
     ensures outputs { result.outputs ≡ None }
-    ensures said { ¬ CountedFault (E.faults err.old) (E.faults err.new) →
-        TakesAll (said_text None None [] 0 result.outcome) (E.taken err.old) (E.taken err.new) }
-    ensures part { TakesSome (said_text None None [] 0 result.outcome) (E.taken err.old)
-        (E.taken err.new) }
-    ensures counts { E.faults err.old ≤ E.faults err.new }
+    ensures said { ¬ CountedFault (E.state err.old).faults (E.state err.new).faults →
+        TakesAll (said_text None None [] 0 result.outcome) (E.state err.old).taken
+        (E.state err.new).taken }
+    ensures part { TakesSome (said_text None None [] 0 result.outcome) (E.state err.old).taken
+        (E.state err.new).taken }
+    ensures counts { (E.state err.old).faults ≤ (E.state err.new).faults }
 {
     refuse(
         alloc,
@@ -69,18 +69,17 @@ fn play<I: Source, O: Sink, E: Sink>(
     ensures learner { IsWithoutLearner result }
     ensures kept { result.kept.answers ≡ [] }
     ensures outputs { result.outputs ≡ None }
-    ensures served { HasServed machine.now
-        (source_state (I.left input.old) (I.faults input.old) (I.ends input.old))
-        (source_state (I.left input.new) (I.faults input.new) (I.ends input.new))
-        (sink_state (O.taken out.old) (O.faults out.old))
-        (sink_state (O.taken out.new) (O.faults out.new)) result.outcome }
-    ensures said { ¬ CountedFault (E.faults err.old) (E.faults err.new) →
-        TakesAll (said_text None None [] 0 result.outcome) (E.taken err.old) (E.taken err.new) }
-    ensures part { TakesSome (said_text None None [] 0 result.outcome) (E.taken err.old)
-        (E.taken err.new) }
-    ensures counts { (I.faults input.old ≤ I.faults input.new) ×
-        (I.ends input.old ≤ I.ends input.new) ×
-        (O.faults out.old ≤ O.faults out.new) × (E.faults err.old ≤ E.faults err.new) }
+    ensures served { HasServed machine.now (I.state input.old) (I.state input.new)
+        (O.state out.old) (O.state out.new) result.outcome }
+    ensures said { ¬ CountedFault (E.state err.old).faults (E.state err.new).faults →
+        TakesAll (said_text None None [] 0 result.outcome) (E.state err.old).taken
+        (E.state err.new).taken }
+    ensures part { TakesSome (said_text None None [] 0 result.outcome) (E.state err.old).taken
+        (E.state err.new).taken }
+    ensures counts { ((I.state input.old).faults ≤ (I.state input.new).faults) ×
+        ((I.state input.old).ends ≤ (I.state input.new).ends) ×
+        ((O.state out.old).faults ≤ (O.state out.new).faults) ×
+        ((E.state err.old).faults ≤ (E.state err.new).faults) }
 {
     let served = lw_line::serve(input, out, machine);
     refuse(
@@ -106,20 +105,14 @@ pub fn serve<F: Files, I: Source, O: Sink, E: Sink>(
     err: &mut E,
 ) -> End
     ensures status { result.status ≡ status_of result.outcome }
-    ensures ran { IsServeRun model.now
-        (files_state (F.holds files.old) (F.calls files.old) (F.reads files.old)
-        (F.faults files.old))
-        (files_state (F.holds files.new) (F.calls files.new) (F.reads files.new)
-        (F.faults files.new))
-        (source_state (I.left input.old) (I.faults input.old) (I.ends input.old))
-        (source_state (I.left input.new) (I.faults input.new) (I.ends input.new))
-        (sink_state (O.taken out.old) (O.faults out.old))
-        (sink_state (O.taken out.new) (O.faults out.new))
-        (sink_state (E.taken err.old) (E.faults err.old))
-        (sink_state (E.taken err.new) (E.faults err.new)) result }
-    ensures counts { (F.faults files.old ≤ F.faults files.new) ×
-        (I.faults input.old ≤ I.faults input.new) × (I.ends input.old ≤ I.ends input.new) ×
-        (O.faults out.old ≤ O.faults out.new) × (E.faults err.old ≤ E.faults err.new) }
+    ensures ran { IsServeRun model.now (F.state files.old) (F.state files.new) (I.state input.old)
+        (I.state input.new) (O.state out.old) (O.state out.new) (E.state err.old)
+        (E.state err.new) result }
+    ensures counts { ((F.state files.old).faults ≤ (F.state files.new).faults) ×
+        ((I.state input.old).faults ≤ (I.state input.new).faults) ×
+        ((I.state input.old).ends ≤ (I.state input.new).ends) ×
+        ((O.state out.old).faults ≤ (O.state out.new).faults) ×
+        ((E.state err.old).faults ≤ (E.state err.new).faults) }
 {
     match read_machine_file(alloc, files, model) {
         Ok(machine) => play(alloc, &machine, input, out, err),

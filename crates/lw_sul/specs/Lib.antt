@@ -3,3 +3,4 @@ pub mod SessionState
 pub mod Runs
 pub mod TableSulState
 pub mod Told
+pub mod System

@@ -6,6 +6,7 @@ ghost use Rattle.lw_words.specs.declared.stop.SulStop.{SulStop as Stop};
 ghost use Rattle.std.specs.Prelude.{Err};
 ghost use Rattle.lw_sul.specs.SessionState.{SessionState, run_of, NoRuns, CutOff, IsJournal};
 ghost use Rattle.lw_words.specs.Cause.{CountedFault};
+ghost use Rattle.lw_sul.specs.System.{IsSameSul};
 ghost use Rattle.lw_sul.specs.Told.{Answers};
 ghost use Rattle.lw_sul.specs.Names.{AreNamed, IsGrown, named, with_names};
 
@@ -36,10 +37,10 @@ impl<S: Sul> Model for Session<S> {
 
     ghost view = { λ s. record { instance = s.instance; sul = s.sul; journal = runs_of_pairs s.journal.items } };
 
-    ghost invariant = { λ s. (s.stopped ≡ S.stop s.sul)
-        × IsJournal (S.runs s.sul) (runs_of_pairs s.journal.items) s.stopped (S.cut s.sul)
+    ghost invariant = { λ s. (s.stopped ≡ (S.state s.sul).stop)
+        × IsJournal (S.state s.sul).runs (runs_of_pairs s.journal.items) s.stopped (S.state s.sul).cut
         × (s.runs ≡ length (runs_of_pairs s.journal.items))
-        × AreNamed (S.most s.sul) (S.names s.sul) };
+        × AreNamed (S.state s.sul).most (S.state s.sul).names };
 }
 
 /// What a run answered: the outputs in the system's numbers, and the names that came up first in it.
@@ -60,7 +61,8 @@ fn make_room<S: Sul>(alloc: Global, w: &Word, sul: &S) -> Result<Buffers, NoMemo
     ensures outs { IfOk result (λ b. (b.outs.items ≡ []) ×
         (length w.now ≤ vec_capacity b.outs)) }
     ensures names { IfOk result (λ b. (b.names.items ≡ []) ×
-        (min (length w.now) (S.most sul.now - length (S.names sul.now)) ≤ vec_capacity b.names)) }
+        (min (length w.now) ((S.state sul.now).most - length (S.state sul.now).names) ≤
+        vec_capacity b.names)) }
 {
     let known = sul.named();
     let free = usize::from(sul.most() - known);
@@ -73,12 +75,12 @@ fn make_room<S: Sul>(alloc: Global, w: &Word, sul: &S) -> Result<Buffers, NoMemo
 /// Puts the name of an output last where it came up in the last step, before which so many outputs had names.
 #[tactic(auto, using(crate::proofs::NameLemmas::note_steps))]
 fn note<S: Sul>(sul: &S, known: u16, y: u16, names: &mut Vec<OutName>)
-    requires one { (length (S.names sul.now) ≡ known) ⊎
-        ((length (S.names sul.now) ≡ known + 1) × (y ≡ known)) }
-    requires room { known < S.most sul.now → vec_len names.old < vec_capacity names.old }
-    ensures names { names.new.items ≡ names.old.items ++ drop known (S.names sul.now) }
+    requires one { (length (S.state sul.now).names ≡ known) ⊎
+        ((length (S.state sul.now).names ≡ known + 1) × (y ≡ known)) }
+    requires room { known < (S.state sul.now).most → vec_len names.old < vec_capacity names.old }
+    ensures names { names.new.items ≡ names.old.items ++ drop known (S.state sul.now).names }
     ensures room { vec_capacity names.new ≡ vec_capacity names.old }
-    ensures lawful { AreNamed (S.most sul.now) (S.names sul.now) }
+    ensures lawful { AreNamed (S.state sul.now).most (S.state sul.now).names }
 {
     if sul.named() == known {
         return;
@@ -95,29 +97,32 @@ fn perform<S: Sul>(
     outs: &mut Vec<u16>,
     names: &mut Vec<OutName>,
 ) -> Result<(), SulStop>
-    requires live { S.stop sul.old ≡ None }
-    requires letters { IsWord (S.inputs sul.old) w.now }
+    requires live { (S.state sul.old).stop ≡ None }
+    requires letters { IsWord (S.state sul.old).inputs w.now }
     requires empty { (outs.old.items ≡ []) × (names.old.items ≡ []) }
     requires room { length w.now ≤ vec_capacity outs.old }
-    requires names_room { min (length w.now) (S.most sul.old - length (S.names sul.old)) ≤
-        vec_capacity names.old }
+    requires names_room { min (length w.now)
+        ((S.state sul.old).most - length (S.state sul.old).names) ≤ vec_capacity names.old }
     ensures length { OnOk result (length outs.new.items ≡ length w.now) }
-    ensures outputs { OnOk result (All (λ y. y < S.outputs sul.old) outs.new.items) }
-    ensures answers { OnOk result (Answers (S.origin sul.old).machine w.now outs.new.items) }
-    ensures runs { OnOk result (S.runs sul.new ≡ option_map (λ rs. rs ++
-        run_of w.now outs.new.items ∷ []) (S.runs sul.old)) }
-    ensures names { OnOk result (S.names sul.new ≡ S.names sul.old ++ names.new.items) }
-    ensures brought { OnOk result (S.names sul.new ≡
-        with_names (S.names sul.old) (named (S.names sul.new) outs.new.items)) }
-    ensures numbers { OnOk result (All (λ y. y < length (S.names sul.new)) outs.new.items) }
-    ensures grown { IsGrown (S.names sul.old) (S.names sul.new) }
-    ensures live { OnOk result (S.stop sul.new ≡ None) }
-    ensures err { IfErr result (λ e. S.stop sul.new ≡ Some e) }
-    ensures cut { OnErr result (CutOff w.now (S.runs sul.old) (S.runs sul.new) (S.cut sul.new)) }
-    ensures failed { result ≡ Err Stop.Failed → CountedFault (S.faults sul.old) (S.faults sul.new) }
-    ensures counts { S.faults sul.old ≤ S.faults sul.new }
-    ensures same { (S.origin sul.new ≡ S.origin sul.old) × (S.inputs sul.new ≡ S.inputs sul.old) ×
-        (S.outputs sul.new ≡ S.outputs sul.old) × (S.most sul.new ≡ S.most sul.old) }
+    ensures outputs { OnOk result (All (λ y. y < (S.state sul.old).outputs) outs.new.items) }
+    ensures answers { OnOk result (Answers (S.state sul.old).origin.machine w.now
+        outs.new.items) }
+    ensures runs { OnOk result ((S.state sul.new).runs ≡
+        option_map (λ rs. rs ++ run_of w.now outs.new.items ∷ []) (S.state sul.old).runs) }
+    ensures names { OnOk result ((S.state sul.new).names ≡ (S.state sul.old).names ++
+        names.new.items) }
+    ensures brought { OnOk result ((S.state sul.new).names ≡ with_names (S.state sul.old).names
+        (named (S.state sul.new).names outs.new.items)) }
+    ensures numbers { OnOk result (All (λ y. y < length (S.state sul.new).names) outs.new.items) }
+    ensures grown { IsGrown (S.state sul.old).names (S.state sul.new).names }
+    ensures live { OnOk result ((S.state sul.new).stop ≡ None) }
+    ensures err { IfErr result (λ e. (S.state sul.new).stop ≡ Some e) }
+    ensures cut { OnErr result (CutOff w.now (S.state sul.old).runs (S.state sul.new).runs
+        (S.state sul.new).cut) }
+    ensures failed { result ≡ Err Stop.Failed → CountedFault (S.state sul.old).faults
+        (S.state sul.new).faults }
+    ensures counts { (S.state sul.old).faults ≤ (S.state sul.new).faults }
+    ensures same { IsSameSul (S.state sul.old) (S.state sul.new) }
 {
     sul.reset()?;
     for x in w.as_slice() {
@@ -132,8 +137,8 @@ fn perform<S: Sul>(
 impl<S: Sul> Session<S> {
     /// A session with an empty journal. Takes no memory.
     pub fn new(alloc: Global, instance: u32, sul: S) -> Session<S>
-        requires live { S.stop sul ≡ None }
-        requires fresh { NoRuns (S.runs sul) }
+        requires live { (S.state sul).stop ≡ None }
+        requires fresh { NoRuns (S.state sul).runs }
         ensures { result ≡ record { instance = instance; sul = sul; journal = [] } }
     {
         let _named = sul.named();
@@ -151,41 +156,39 @@ impl<S: Sul> Session<S> {
     /// After a stop every later call answers the same stop and touches nothing. Where the number of runs can't be
     /// counted any further, it answers that there is no memory.
     pub fn ask(&mut self, w: &Word) -> Result<Word, RunStop>
-        requires letters { IsWord (S.inputs self.old.sul) w.now }
+        requires letters { IsWord (S.state self.old.sul).inputs w.now }
 
         // An answer is the run that the journal gains, and the machine's where that is told.
         ensures length { IfOk result (λ o. length o ≡ length w.now) }
-        ensures outputs { IfOk result (All (λ y. y < S.outputs self.old.sul)) }
+        ensures outputs { IfOk result (All (λ y. y < (S.state self.old.sul).outputs)) }
         ensures gains { IfOk result (λ o. self.new.journal ≡ self.old.journal ++
             run_of w.now o ∷ []) }
-        ensures runs { IfOk result (λ o. S.runs self.new.sul ≡
-            option_map (λ rs. rs ++ run_of w.now o ∷ []) (S.runs self.old.sul)) }
-        ensures answers { IfOk result (Answers (S.origin self.old.sul).machine w.now) }
-        ensures live { OnOk result (S.stop self.new.sul ≡ None) }
+        ensures runs { IfOk result (λ o. (S.state self.new.sul).runs ≡
+            option_map (λ rs. rs ++ run_of w.now o ∷ []) (S.state self.old.sul).runs) }
+        ensures answers { IfOk result (Answers (S.state self.old.sul).origin.machine w.now) }
+        ensures live { OnOk result ((S.state self.new.sul).stop ≡ None) }
 
         // A stop is the system's, of this call or of the one that stopped it.
         ensures stopped { IfErr result (λ e. (stop : Stop) → e ≡ RunStop.Sul stop →
-            S.stop self.new.sul ≡ Some stop) }
+            (S.state self.new.sul).stop ≡ Some stop) }
         ensures kept { OnErr result (self.new.journal ≡ self.old.journal) }
-        ensures again { (stop : Stop) → S.stop self.old.sul ≡ Some stop →
+        ensures again { (stop : Stop) → (S.state self.old.sul).stop ≡ Some stop →
             (result ≡ Err (RunStop.Sul stop)) × (self.new ≡ self.old) }
         ensures memory { result ≡ Err RunStop.NoMemory → self.new ≡ self.old }
-        ensures failed { result ≡ Err (RunStop.Sul Stop.Failed) → S.stop self.old.sul ≡ None →
-            CountedFault (S.faults self.old.sul) (S.faults self.new.sul) }
+        ensures failed { result ≡ Err (RunStop.Sul Stop.Failed) → (S.state self.old.sul).stop ≡
+            None → CountedFault (S.state self.old.sul).faults (S.state self.new.sul).faults }
 
         // Told runs are the journal, and an unfinished run exactly where this call or an earlier one was stopped in a step.
-        ensures told { IsJournal (S.runs self.new.sul) self.new.journal (S.stop self.new.sul)
-            (S.cut self.new.sul) }
+        ensures told { IsJournal (S.state self.new.sul).runs self.new.journal
+            (S.state self.new.sul).stop (S.state self.new.sul).cut }
 
         ensures unfinished { (stop : Stop) → result ≡ Err (RunStop.Sul stop) →
-            S.stop self.old.sul ≡ None →
-            CutOff w.now (S.runs self.old.sul) (S.runs self.new.sul) (S.cut self.new.sul) }
+            (S.state self.old.sul).stop ≡ None → CutOff w.now (S.state self.old.sul).runs
+            (S.state self.new.sul).runs (S.state self.new.sul).cut }
 
-        ensures counts { S.faults self.old.sul ≤ S.faults self.new.sul }
+        ensures counts { (S.state self.old.sul).faults ≤ (S.state self.new.sul).faults }
         ensures instance { self.new.instance ≡ self.old.instance }
-        ensures same { (S.origin self.new.sul ≡ S.origin self.old.sul) ×
-            (S.inputs self.new.sul ≡ S.inputs self.old.sul) ×
-            (S.outputs self.new.sul ≡ S.outputs self.old.sul) }
+        ensures same { IsSameSul (S.state self.old.sul) (S.state self.new.sul) }
     {
         match self.ask_named(w) {
             Ok(NamedAnswer { outs, names: _ }) => Ok(outs),
@@ -195,50 +198,51 @@ impl<S: Sul> Session<S> {
 
     /// What `ask` does, and the names that came up first in the run. Its memory has room for those too.
     pub fn ask_named(&mut self, w: &Word) -> Result<NamedAnswer, RunStop>
-        requires letters { IsWord (S.inputs self.old.sul) w.now }
+        requires letters { IsWord (S.state self.old.sul).inputs w.now }
 
         // An answer is the run that the journal gains, and the machine's where that is told.
         ensures length { IfOk result (λ a. length a.outs ≡ length w.now) }
-        ensures outputs { IfOk result (λ a. All (λ y. y < S.outputs self.old.sul) a.outs) }
+        ensures outputs { IfOk result (λ a. All (λ y. y < (S.state self.old.sul).outputs)
+            a.outs) }
         ensures gains { IfOk result (λ a. self.new.journal ≡ self.old.journal ++
             run_of w.now a.outs ∷ []) }
-        ensures runs { IfOk result (λ a. S.runs self.new.sul ≡
-            option_map (λ rs. rs ++ run_of w.now a.outs ∷ []) (S.runs self.old.sul)) }
-        ensures answers { IfOk result (λ a. Answers (S.origin self.old.sul).machine w.now a.outs) }
-        ensures live { OnOk result (S.stop self.new.sul ≡ None) }
+        ensures runs { IfOk result (λ a. (S.state self.new.sul).runs ≡
+            option_map (λ rs. rs ++ run_of w.now a.outs ∷ []) (S.state self.old.sul).runs) }
+        ensures answers { IfOk result (λ a. Answers (S.state self.old.sul).origin.machine w.now
+            a.outs) }
+        ensures live { OnOk result ((S.state self.new.sul).stop ≡ None) }
 
         // A stop is the system's, of this call or of the one that stopped it.
         ensures stopped { IfErr result (λ e. (stop : Stop) → e ≡ RunStop.Sul stop →
-            S.stop self.new.sul ≡ Some stop) }
+            (S.state self.new.sul).stop ≡ Some stop) }
         ensures kept { OnErr result (self.new.journal ≡ self.old.journal) }
-        ensures again { (stop : Stop) → S.stop self.old.sul ≡ Some stop →
+        ensures again { (stop : Stop) → (S.state self.old.sul).stop ≡ Some stop →
             (result ≡ Err (RunStop.Sul stop)) × (self.new ≡ self.old) }
         ensures memory { result ≡ Err RunStop.NoMemory → self.new ≡ self.old }
-        ensures failed { result ≡ Err (RunStop.Sul Stop.Failed) → S.stop self.old.sul ≡ None →
-            CountedFault (S.faults self.old.sul) (S.faults self.new.sul) }
+        ensures failed { result ≡ Err (RunStop.Sul Stop.Failed) → (S.state self.old.sul).stop ≡
+            None → CountedFault (S.state self.old.sul).faults (S.state self.new.sul).faults }
 
         // Told runs are the journal, and an unfinished run exactly where a call was stopped in a step.
-        ensures told { IsJournal (S.runs self.new.sul) self.new.journal (S.stop self.new.sul)
-            (S.cut self.new.sul) }
+        ensures told { IsJournal (S.state self.new.sul).runs self.new.journal
+            (S.state self.new.sul).stop (S.state self.new.sul).cut }
 
         ensures unfinished { (stop : Stop) → result ≡ Err (RunStop.Sul stop) →
-            S.stop self.old.sul ≡ None →
-            CutOff w.now (S.runs self.old.sul) (S.runs self.new.sul) (S.cut self.new.sul) }
+            (S.state self.old.sul).stop ≡ None → CutOff w.now (S.state self.old.sul).runs
+            (S.state self.new.sul).runs (S.state self.new.sul).cut }
 
-        ensures counts { S.faults self.old.sul ≤ S.faults self.new.sul }
+        ensures counts { (S.state self.old.sul).faults ≤ (S.state self.new.sul).faults }
         ensures instance { self.new.instance ≡ self.old.instance }
-        ensures same { (S.origin self.new.sul ≡ S.origin self.old.sul) ×
-            (S.inputs self.new.sul ≡ S.inputs self.old.sul) ×
-            (S.outputs self.new.sul ≡ S.outputs self.old.sul) }
+        ensures same { IsSameSul (S.state self.old.sul) (S.state self.new.sul) }
 
         // The names of an answer are those that the system's list gained, in the order in which they came up.
-        ensures names { IfOk result (λ a. S.names self.new.sul ≡ S.names self.old.sul ++ a.names) }
-        ensures brought { IfOk result (λ a. S.names self.new.sul ≡
-            with_names (S.names self.old.sul) (named (S.names self.new.sul) a.outs)) }
-        ensures numbers { IfOk result (λ a. All (λ y. y < length (S.names self.new.sul)) a.outs) }
-        ensures lawful { AreNamed (S.most self.new.sul) (S.names self.new.sul) }
-        ensures grown { IsGrown (S.names self.old.sul) (S.names self.new.sul) }
-        ensures most { S.most self.new.sul ≡ S.most self.old.sul }
+        ensures names { IfOk result (λ a. (S.state self.new.sul).names ≡
+            (S.state self.old.sul).names ++ a.names) }
+        ensures brought { IfOk result (λ a. (S.state self.new.sul).names ≡
+            with_names (S.state self.old.sul).names (named (S.state self.new.sul).names a.outs)) }
+        ensures numbers { IfOk result (λ a. All (λ y. y < length (S.state self.new.sul).names)
+            a.outs) }
+        ensures lawful { AreNamed (S.state self.new.sul).most (S.state self.new.sul).names }
+        ensures grown { IsGrown (S.state self.old.sul).names (S.state self.new.sul).names }
     {
         if let Some(stop) = &self.stopped {
             return Err(RunStop::Sul(stop.copy()));
@@ -271,14 +275,14 @@ impl<S: Sul> Session<S> {
 
     /// The number of the system's inputs.
     pub fn inputs(&self) -> u16
-        ensures { result ≡ S.inputs self.now.sul }
+        ensures { result ≡ (S.state self.now.sul).inputs }
     {
         self.sul.inputs()
     }
 
     /// The number of the system's outputs.
     pub fn outputs(&self) -> u16
-        ensures { result ≡ S.outputs self.now.sul }
+        ensures { result ≡ (S.state self.now.sul).outputs }
     {
         self.sul.outputs()
     }
@@ -287,15 +291,15 @@ impl<S: Sul> Session<S> {
     /// exactly where the session stopped in a step.
     pub fn runs(&self) -> u64
         ensures count { result ≡ length self.now.journal }
-        ensures told { IsJournal (S.runs self.now.sul) self.now.journal (S.stop self.now.sul)
-            (S.cut self.now.sul) }
+        ensures told { IsJournal (S.state self.now.sul).runs self.now.journal
+            (S.state self.now.sul).stop (S.state self.now.sul).cut }
     {
         self.runs
     }
 
     /// Why the system stopped, or None where it didn't. Takes no memory.
     pub fn stopped(&self) -> Option<SulStop>
-        ensures { result ≡ S.stop self.now.sul }
+        ensures { result ≡ (S.state self.now.sul).stop }
     {
         match &self.stopped {
             Some(stop) => Some(stop.copy()),

@@ -52,29 +52,9 @@ impl TableSul {
 }
 
 impl Sul for TableSul {
-    ghost use Rattle.std.specs.Prelude.{length, true, false, Some, None};
+    ghost use Rattle.lw_sul.specs.TableSulState.{told_table};
 
-    ghost inputs = { λ s. s.machine.inputs };
-
-    ghost outputs = { λ s. s.machine.outputs };
-
-    ghost origin = { λ s. record { machine = Some s.machine.rows; link = None; letters = None } };
-
-    ghost state = { λ s. s.state };
-
-    ghost started = { λ _. true };
-
-    ghost faults = { λ _. 0 };
-
-    ghost stop = { λ _. None };
-
-    ghost cut = { λ _. false };
-
-    ghost runs = { λ _. None };
-
-    ghost names = { λ s. s.names };
-
-    ghost most = { λ s. length s.names };
+    ghost state = { told_table };
 
     fn inputs(&self) -> u16 {
         self.mealy.inputs()

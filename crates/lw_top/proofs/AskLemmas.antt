@@ -1,7 +1,8 @@
 -- Calls of `ask` for whose arguments there was no memory.
 use Rattle.std.proofs.Common.{◌≡◌, List, ℕ, [], inl, inr, refl, sym, subst}
-use Rattle.lw_children.specs.Spawners.{SpawnerSeen}
-use Rattle.lw_report.specs.States.{FilesState, SinkState}
+use Rattle.lw_outside.specs.Links.{SpawnerState}
+use Rattle.lw_outside.specs.Files.{FilesState}
+use Rattle.lw_outside.specs.Streams.{SinkState}
 use Rattle.lw_report.specs.Text.{text_of}
 use Rattle.lw_report.specs.Writing.{TakesAll, TakesSome, said_text}
 use Rattle.lw_report.specs.declared.«end».End.{End}
@@ -14,14 +15,14 @@ use Rattle.lw_ask.specs.Arguments.{AskValues}
 use Rattle.lw_ask.specs.AskRun.{IsAskRun}
 use Rattle.lw_ask.specs.Hints.{IsUnreadWith}
 use Rattle.lw_ask.proofs.HintLemmas.{no_hint}
-use Rattle.lw_top.specs.Run.{IsRefused}
+use Rattle.lw_top.specs.Run.{TellsOutcome}
 
 nothing_read : (kind : Source) (name : List ℕ) (f : FilesState) → IsUnreadWith kind name f f [] NoMemory
 nothing_read Setup name f = inl (some_made f f (made_none f), refl)
 nothing_read Table name f = (some_made f f (made_none f), refl)
 
 -- the end of a call that touched nothing, which is out of memory, is one that `ask` may come to
-pub wanted_ask : (a : AskValues) (f : FilesState) (b : SpawnerSeen) (o e d : SinkState) (end : End) → end.outcome ≡ NoMemory → IsRefused f f o o e d end → IsAskRun a f f b b o o e d end
+pub wanted_ask : (a : AskValues) (f : FilesState) (b : SpawnerState) (o e d : SinkState) (end : End) → end.outcome ≡ NoMemory → TellsOutcome e d end → IsAskRun a f f b b o o e d end
 wanted_ask a f b o e d end out r = record {
   why = NoMemory;
   kept = [];

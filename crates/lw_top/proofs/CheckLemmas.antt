@@ -1,6 +1,7 @@
 -- Calls of `check`, and those for whose arguments there was no memory.
 use Rattle.std.proofs.Common.{◌≡◌, ◌∙◌, ◌⊎◌, ⊎_elim, ℕ, List, [], inl, inr, refl, sym, subst}
-use Rattle.lw_report.specs.States.{FilesState, SinkState}
+use Rattle.lw_outside.specs.Files.{FilesState}
+use Rattle.lw_outside.specs.Streams.{SinkState}
 use Rattle.lw_report.specs.Text.{text_of}
 use Rattle.lw_report.specs.Writing.{TakesAll, TakesSome}
 use Rattle.lw_report.specs.declared.«end».End.{End}
@@ -10,10 +11,10 @@ use Rattle.lw_check.specs.CheckRun.{IsCheckRun}
 use Rattle.lw_check.specs.Decision.{IsDecision}
 use Rattle.lw_check.specs.Ending.{EndsRead, EndsUnread}
 use Rattle.lw_check.specs.Reading.{IsUnread}
-use Rattle.lw_top.specs.Run.{IsRefused}
+use Rattle.lw_top.specs.Run.{TellsOutcome}
 
 -- the end of a call that touched nothing, which is out of memory, is one that `check` may come to
-pub wanted_check : (model answers : List ℕ) (extra : ℕ) (f : FilesState) (o e d : SinkState) (end : End) → end.outcome ≡ NoMemory → IsRefused f f o o e d end → IsCheckRun model answers extra f f o o e d end
+pub wanted_check : (model answers : List ℕ) (extra : ℕ) (f : FilesState) (o e d : SinkState) (end : End) → end.outcome ≡ NoMemory → TellsOutcome e d end → IsCheckRun model answers extra f f o o e d end
 wanted_check model answers extra f o e d end out r =
     let said : (oc : Outcome) → oc ≡ NoMemory → TakesAll (text_of [] [] [] 0 oc) e.taken d.taken → TakesAll (text_of [] [] [] extra oc) e.taken d.taken = λ oc is t.
     subst (λ (x : Outcome). TakesAll (text_of [] [] [] extra x) e.taken d.taken) (sym is) (subst (λ (x : Outcome). TakesAll (text_of [] [] [] 0 x) e.taken d.taken) is t) in

@@ -3,8 +3,9 @@ use Rattle.std.specs.Prelude.{codes}
 use Rattle.std.proofs.Common.{◌≡◌, ◌∙◌, ◌&&◌, List, ℕ, [], Bool, true, false, Option, Some, None, Result, Ok, Err, IfOk, if◌then◌else◌, ap, inl, inr, refl, sym, ◌<◌, ◌∷◌, String, Global, string_bytes, bytes_eq, get_or, length, arith}
 use Rattle.clap.specs.Faults.{fault_of}
 use Rattle.clap.specs.Words.{Row, matches_of}
-use Rattle.lw_children.specs.Spawners.{SpawnerSeen}
-use Rattle.lw_report.specs.States.{FilesState, SinkState}
+use Rattle.lw_outside.specs.Links.{SpawnerState}
+use Rattle.lw_outside.specs.Files.{FilesState}
+use Rattle.lw_outside.specs.Streams.{SinkState}
 use Rattle.lw_report.specs.declared.«end».End.{End}
 use Rattle.lw_report.specs.declared.outcome.Outcome.TheVariants.{NoMemory}
 use Rattle.lw_learn.proofs.ReadLemmas.{made_none, some_made}
@@ -12,10 +13,10 @@ use Rattle.lw_recheck.specs.Arguments.{RecheckValues}
 use Rattle.lw_recheck.specs.RecheckRun.{IsRecheckRun}
 use Rattle.lw_top.specs.CommandLine.{is_command, is_faultless, texts}
 use Rattle.lw_top.specs.RecheckCommand.{recheck_app, recheck_values, values_in}
-use Rattle.lw_top.specs.Run.{IsRefused}
+use Rattle.lw_top.specs.Run.{TellsOutcome}
 
 -- the end of a call that touched nothing, which is out of memory, is one that `recheck` may come to
-pub wanted_recheck : (a : RecheckValues) (f : FilesState) (b : SpawnerSeen) (o e d : SinkState) (end : End) → end.outcome ≡ NoMemory → IsRefused f f o o e d end → IsRecheckRun a f f b b o o e d end
+pub wanted_recheck : (a : RecheckValues) (f : FilesState) (b : SpawnerState) (o e d : SinkState) (end : End) → end.outcome ≡ NoMemory → TellsOutcome e d end → IsRecheckRun a f f b b o o e d end
 wanted_recheck a f b o e d end out r = record {
   came = inr (record {
     why = NoMemory;

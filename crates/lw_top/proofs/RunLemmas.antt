@@ -1,11 +1,14 @@
 -- Calls for whose arguments there was no memory.
-use Rattle.std.proofs.Common.{◌≡◌, ◌⊎◌, List, ℕ, [], Option, Some, None, IfSome, inl, inr, refl, sym, ◌∙◌, subst, append-nil}
+use Rattle.std.proofs.Common.{◌≡◌, ◌⊎◌, List, ℕ, [], ◌∷◌, Bool, true, false, codes, Option, Some, None, IfSome, option_map, inl, inr, refl, sym, ap, ◌∙◌, subst, append-nil}
+use Rattle.std.specs.Prelude.{if◌then◌else◌}
+use Rattle.std.specs.Str.{bytes_eq}
 use Rattle.lw_words.specs.declared.kept.KeptAnswer.{KeptAnswer}
 use Rattle.lw_outside.specs.declared.links.StartFailure.{StartFailure}
-use Rattle.lw_children.specs.Spawners.{SpawnerSeen}
+use Rattle.lw_outside.specs.Links.{SpawnerState}
+use Rattle.lw_outside.specs.Files.{FilesState}
+use Rattle.lw_outside.specs.Streams.{SinkState, SourceState}
 use Rattle.lw_log.specs.declared.log.LogState.{LogState}
 use Rattle.lw_report.specs.Writing.{TakesAll, TakesSome, said_text}
-use Rattle.lw_report.specs.States.{FilesState, SinkState}
 use Rattle.lw_report.specs.declared.«end».End.{End}
 use Rattle.lw_report.specs.declared.outcome.Outcome.{Outcome}
 use Rattle.lw_report.specs.declared.outcome.Outcome.TheVariants.{NoMemory, Unstarted, Usage}
@@ -15,12 +18,28 @@ use Rattle.lw_learn.specs.Unread.{IsUnreadBy}
 use Rattle.lw_learn.proofs.ReadLemmas.{made_none, some_made}
 use Rattle.lw_learn.proofs.RunLemmas.{none_saved}
 use Rattle.lw_report.specs.Text.{names_of}
-use Rattle.lw_top.specs.Run.{IsRefused, argument_outcome}
+use Rattle.lw_top.specs.Call.{CallValues, Learn, Check, Trial, Serve, Ask, Compare, Recheck, call_of}
+use Rattle.lw_top.specs.AskCommand.{ask_values}
+use Rattle.lw_top.specs.CheckCommand.{check_values}
+use Rattle.lw_top.specs.CommandLine.{is_command}
+use Rattle.lw_top.specs.CompareCommand.{compare_values}
+use Rattle.lw_top.specs.LearnCommand.{learn_values}
+use Rattle.lw_top.specs.RecheckCommand.{recheck_values}
+use Rattle.lw_top.specs.ServeCommand.{serve_values}
+use Rattle.lw_top.specs.TrialCommand.{trial_values}
+use Rattle.lw_top.specs.Run.{Runs, TellsOutcome, argument_outcome}
+use Rattle.lw_top.specs.World.{world}
+use Rattle.lw_top.proofs.AskLemmas.{wanted_ask}
+use Rattle.lw_top.proofs.CheckLemmas.{wanted_check}
+use Rattle.lw_top.proofs.CompareLemmas.{wanted_compare}
+use Rattle.lw_top.proofs.RecheckLemmas.{wanted_recheck}
+use Rattle.lw_top.proofs.ServeLemmas.{wanted_serve}
+use Rattle.lw_top.proofs.TrialLemmas.{wanted_trial}
 use Rattle.lw_top.specs.declared.values.ArgumentStop.{ArgumentStop}
 use Rattle.lw_top.specs.declared.values.ArgumentStop.TheVariants as stop
 
 -- the end of a call that touched nothing, which is out of memory, is one that `learn` may come to
-pub wanted_run : (a : LearnValues) (f : FilesState) (b : SpawnerSeen) (o e d : SinkState) (s : LogState) (end : End) → end.outcome ≡ NoMemory → IsRefused f f o o e d end → IsLearnRun a f f b b o o e d s end
+pub wanted_run : (a : LearnValues) (f : FilesState) (b : SpawnerState) (o e d : SinkState) (s : LogState) (end : End) → end.outcome ≡ NoMemory → TellsOutcome e d end → IsLearnRun a f f b b o o e d s end
 wanted_run a f b o e d s end out r =
     let said : (oc : Outcome) → oc ≡ NoMemory → TakesAll (said_text None None [] 0 oc) e.taken d.taken → TakesAll (said_text None None end.kept.answers a.extra oc) e.taken d.taken = λ oc is t.
     subst (λ (x : Outcome). TakesAll (said_text None None end.kept.answers a.extra x) e.taken d.taken) (sym is) (subst (λ (x : Outcome). TakesAll (said_text None None [] 0 x) e.taken d.taken) is t) in
@@ -58,23 +77,44 @@ pub not_usage : (s : ArgumentStop) (outcome : Outcome) → outcome ≡ argument_
 not_usage stop.Usage outcome is other = absurd (other refl)
 not_usage stop.NoMemory outcome is other = is
 
--- arguments that weren't taken start nothing
-pub never_unstarted : (s : ArgumentStop) (outcome : Outcome) (cause : StartFailure) → outcome ≡ argument_outcome s → outcome ≡ Unstarted cause → ⊥
-never_unstarted stop.Usage outcome cause is came = let wrong : Usage ≡ Unstarted cause = sym is ∙ came in absurd (cc)
-never_unstarted stop.NoMemory outcome cause is came = let wrong : NoMemory ≡ Unstarted cause = sym is ∙ came in absurd (cc)
+no_cause : {spawner : SpawnerState} {outcome : Outcome} (cause : StartFailure) → outcome ≡ NoMemory → outcome ≡ Unstarted cause → cause ≡ spawner.cause
+no_cause cause out came = let wrong : NoMemory ≡ Unstarted cause = sym out ∙ came in absurd (cc)
 
--- a value that may be there
-pub by_value : {V : Type 0} (v : Option V) (Is : V → Type 0) → ((a : V) → v ≡ Some a → Is a) → IfSome v Is
-by_value None Is each = tt
-by_value (Some a) Is each = each a refl
+same_call : (a b : CallValues) → ◌≡◌ {A = Option CallValues} (Some a) (Some b) → a ≡ b
+same_call a b e = cc
 
-pub none_is_some : {V : Type 0} (a : V) → ◌≡◌ {A = Option V} None (Some a) → ⊥
-none_is_some a e = cc
+-- of another command than `learn`
+abbrev pub IsOther : CallValues → Type 0
+IsOther (Learn a) = ⊥
+IsOther _ = Unit {0}
 
--- what holds of the value that is there
-pub at_value : {V : Type 0} (v : Option V) (a : V) (Is : V → Type 0) → v ≡ Some a → Is a → IfSome v Is
-at_value v a Is e is = subst (λ (o : Option _). IfSome o Is) (sym e) is
+-- then the first argument doesn't name `learn`
+pub names_other : (words : List (List ℕ)) (call : CallValues) → call_of words ≡ Some call → IsOther call → is_command (codes "learn") words ≡ false
+names_other [] call is other = refl
+names_other (w ∷ ws) call is other = by (bytes_eq w (codes "learn")) refl
+  where
+    not_learn : (v : Option LearnValues) → option_map Learn v ≡ Some call → ⊥
+    not_learn None e = let wrong : ◌≡◌ {A = Option CallValues} None (Some call) = e in absurd (cc)
+    not_learn (Some a) e = let same : Learn a ≡ call = same_call (Learn a) call e in subst IsOther (sym same) other
 
--- no value is there
-pub at_none : {V : Type 0} (v : Option V) (Is : V → Type 0) → v ≡ None → IfSome v Is
-at_none v Is e = subst (λ (o : Option _). IfSome o Is) (sym e) tt
+    by : (b : Bool) → bytes_eq w (codes "learn") ≡ b → bytes_eq w (codes "learn") ≡ false
+    by false e = e
+    by true e = absurd (not_learn (learn_values (w ∷ ws)) (sym (ap (λ (t : Bool). if t then option_map Learn (learn_values (w ∷ ws)) else if bytes_eq w (codes "check") then option_map Check (check_values (w ∷ ws)) else if bytes_eq w (codes "trial") then option_map Trial (trial_values (w ∷ ws)) else if bytes_eq w (codes "serve") then option_map Serve (serve_values (w ∷ ws)) else if bytes_eq w (codes "ask") then option_map Ask (ask_values (w ∷ ws)) else if bytes_eq w (codes "compare") then option_map Compare (compare_values (w ∷ ws)) else if bytes_eq w (codes "recheck") then option_map Recheck (recheck_values (w ∷ ws)) else None) e) ∙ is))
+
+-- where memory ran out while the arguments were read, the call came to an end that each command may come to
+module _ (f : FilesState) (b : SpawnerState) (i : SourceState) (o e d : SinkState) (l s : LogState) (end : End) (ended : TellsOutcome e d end) where
+  pub wanted : (call : Option CallValues) → end.outcome ≡ NoMemory → ((c : CallValues) → call ≡ Some c → IsOther c → s ≡ l) → Runs call (world f b i o e l) (world f b i o d s) end
+  wanted None out same = record { outcome = inr out; files = refl; spawner = refl; input = refl; out = refl; ended = ended }
+  wanted (Some (Learn a)) out same = record { ran = wanted_run a f b o e d s end out ended; input = refl }
+  wanted (Some (Check a)) out same = record { ran = wanted_check a.model a.answers a.extra f o e d end out ended; spawner = refl; input = refl; log = same (Check a) refl tt }
+  wanted (Some (Trial a)) out same = record { ran = wanted_trial a f o e d end out ended; files = refl; spawner = refl; input = refl; log = same (Trial a) refl tt }
+  wanted (Some (Serve m)) out same = record { ran = wanted_serve m f i o e d end out ended; spawner = refl; log = same (Serve m) refl tt }
+  wanted (Some (Ask a)) out same = record { ran = wanted_ask a f b o e d end out ended; cause = λ cause came. no_cause cause out came; input = refl; log = same (Ask a) refl tt }
+  wanted (Some (Compare p)) out same = record { ran = wanted_compare p.first p.second f o e d end out ended; spawner = refl; input = refl; log = same (Compare p) refl tt }
+  wanted (Some (Recheck a)) out same = record { ran = wanted_recheck a f b o e d end out ended; cause = λ cause came. no_cause cause out came; input = refl; log = same (Recheck a) refl tt }
+
+  -- by why the arguments weren't taken
+  pub refused : (reason : ArgumentStop) (call : Option CallValues) → end.outcome ≡ argument_outcome reason → (reason ≡ stop.Usage → call ≡ None) → ((c : CallValues) → call ≡ Some c → IsOther c → s ≡ l)
+      → Runs call (world f b i o e l) (world f b i o d s) end
+  refused stop.Usage call is none same = subst (λ (c : Option CallValues). Runs c (world f b i o e l) (world f b i o d s) end) (sym (none refl)) (record { outcome = inl is; files = refl; spawner = refl; input = refl; out = refl; ended = ended })
+  refused stop.NoMemory call is none same = wanted call is same

@@ -1,6 +1,7 @@
 -- Calls of `serve`, and those for whose arguments there was no memory.
 use Rattle.std.proofs.Common.{◌≡◌, ◌⊎◌, ⊎_elim, ℕ, List, inl, refl, subst}
-use Rattle.lw_report.specs.States.{FilesState, SinkState, SourceState}
+use Rattle.lw_outside.specs.Files.{FilesState}
+use Rattle.lw_outside.specs.Streams.{SinkState, SourceState}
 use Rattle.lw_report.specs.declared.«end».End.{End}
 use Rattle.lw_report.specs.declared.outcome.Outcome.{Outcome}
 use Rattle.lw_report.specs.declared.outcome.Outcome.TheVariants.{NoMemory, Usage}
@@ -10,7 +11,7 @@ use Rattle.lw_serve.specs.Playing.{PlaysTo}
 use Rattle.lw_serve.specs.ServeRun.{EndsPlayed, EndsUnread, IsServeRun}
 use Rattle.lw_serve.proofs.RunLemmas.{unread_run}
 use Rattle.lw_serve.proofs.UnreadLemmas.{HasStopped}
-use Rattle.lw_top.specs.Run.{IsRefused}
+use Rattle.lw_top.specs.Run.{TellsOutcome}
 
 no_memory_stops : (model : List ℕ) (f : FilesState) → HasStopped model f f stop.NoMemory
 no_memory_stops model f = record {
@@ -21,7 +22,7 @@ no_memory_stops model f = record {
 }
 
 -- the end of a call that touched nothing, which is out of memory, is one that `serve` may come to
-pub wanted_serve : (model : List ℕ) (f : FilesState) (i : SourceState) (o e d : SinkState) (end : End) → end.outcome ≡ NoMemory → IsRefused f f o o e d end → IsServeRun model f f i i o o e d end
+pub wanted_serve : (model : List ℕ) (f : FilesState) (i : SourceState) (o e d : SinkState) (end : End) → end.outcome ≡ NoMemory → TellsOutcome e d end → IsServeRun model f f i i o o e d end
 wanted_serve model f i o e d end out r =
     unread_run model f f i o e d end stop.NoMemory (no_memory_stops model f) refl (inl refl) (inl out)
     (record { model = r.model; learner = r.learner; kept = r.kept; outputs = r.outputs; said = r.said; part = r.part })

@@ -10,14 +10,15 @@ use Rattle.lw_workers.specs.Machines.{KeepsRuns}
 use Rattle.lw_rounds.specs.Learned.{IsReadOff}
 use Rattle.lw_rounds.specs.declared.learner.Learner.{Learner}
 use Rattle.lw_report.specs.Learnings.{HasModel}
-use Rattle.lw_report.specs.States.{FilesState, SinkState}
+use Rattle.lw_outside.specs.Files.{FilesState}
+use Rattle.lw_outside.specs.Streams.{SinkState}
 use Rattle.lw_report.specs.Writing.{TakesAll, TakesSome, said_text}
 use Rattle.lw_report.specs.declared.«end».End.{End}
 use Rattle.lw_report.specs.declared.outcome.Outcome.{Outcome}
 use Rattle.lw_report.specs.declared.outcome.Outcome.TheVariants.{NoMemory, SinkFault, SuiteTooLarge, Trial}
 use Rattle.lw_trial.specs.Arguments.{TrialValues}
 use Rattle.lw_trial.specs.TrialRun.{IsReachedTrial, IsTrial, IsTrialOutcome, IsTrialRun, drawn_machine, drawn_naming}
-use Rattle.lw_top.specs.Run.{IsRefused}
+use Rattle.lw_top.specs.Run.{TellsOutcome}
 
 -- no answers are runs of any machine
 keeps_nothing : (t : MealyMachine) (n : ℕ) → KeepsRuns t n [] []
@@ -33,7 +34,7 @@ keeps_nothing t n = record {
 }
 
 -- the end of a call that touched nothing, which is out of memory, is one that `trial` may come to
-pub wanted_trial : (v : TrialValues) (f : FilesState) (o e d : SinkState) (end : End) → end.outcome ≡ NoMemory → IsRefused f f o o e d end → IsTrialRun v o o e d end
+pub wanted_trial : (v : TrialValues) (f : FilesState) (o e d : SinkState) (end : End) → end.outcome ≡ NoMemory → TellsOutcome e d end → IsTrialRun v o o e d end
 wanted_trial v f o e d end out r =
     let said : (oc : Outcome) → oc ≡ NoMemory → TakesAll (said_text None None [] 0 oc) e.taken d.taken → TakesAll (said_text None None end.kept.answers 1 oc) e.taken d.taken = λ oc is t.
     subst (λ (x : Outcome). TakesAll (said_text None None end.kept.answers 1 x) e.taken d.taken) (sym is) (subst (λ (x : Outcome). TakesAll (said_text None None [] 0 x) e.taken d.taken) is t) in

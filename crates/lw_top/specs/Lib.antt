@@ -10,3 +10,4 @@ pub mod RecheckCommand
 pub mod Run
 pub mod ServeCommand
 pub mod TrialCommand
+pub mod World

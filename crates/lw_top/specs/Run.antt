@@ -1,12 +1,29 @@
--- What a call of the program did whose arguments no command takes, or for which there was no memory to read them.
-use Rattle.std.specs.Prelude.{◌≡◌, [], None}
+-- What a call of the program did, by the call that its arguments make.
+use Rattle.std.specs.Prelude.{◌≡◌, ◌⊎◌, ℕ, List, [], Bool, false, codes, Option, Some, None}
 use Rattle.lw_words.specs.Cause.{CountedFault}
+use Rattle.lw_outside.specs.declared.links.StartFailure.{StartFailure}
 use Rattle.lw_report.specs.Ends.{IsWithoutLearner}
-use Rattle.lw_report.specs.States.{FilesState, SinkState}
+use Rattle.lw_report.specs.Outcomes.{status_of}
 use Rattle.lw_report.specs.Writing.{TakesAll, TakesSome, said_text}
 use Rattle.lw_report.specs.declared.«end».End.{End}
 use Rattle.lw_report.specs.declared.outcome.Outcome.{Outcome}
-use Rattle.lw_report.specs.declared.outcome.Outcome.TheVariants.{NoMemory, Usage}
+use Rattle.lw_report.specs.declared.outcome.Outcome.TheVariants.{NoMemory, Unstarted, Usage}
+use Rattle.lw_outside.specs.Streams.{SinkState}
+use Rattle.lw_ask.specs.Arguments.{AskValues}
+use Rattle.lw_ask.specs.AskRun.{IsAskRun}
+use Rattle.lw_check.specs.CheckRun.{IsCheckRun}
+use Rattle.lw_compare.specs.CompareRun.{IsCompareRun}
+use Rattle.lw_learn.specs.Arguments.{LearnValues}
+use Rattle.lw_learn.specs.LearnRun.{IsLearnRun}
+use Rattle.lw_recheck.specs.Arguments.{RecheckValues}
+use Rattle.lw_recheck.specs.RecheckRun.{IsRecheckRun}
+use Rattle.lw_serve.specs.ServeRun.{IsServeRun}
+use Rattle.lw_trial.specs.Arguments.{TrialValues}
+use Rattle.lw_trial.specs.TrialRun.{IsTrialRun}
+use Rattle.lw_top.specs.Call.{CallValues, Learn, Check, Trial, Serve, Ask, Compare, Recheck, call_of}
+use Rattle.lw_top.specs.CheckCommand.{CheckValues}
+use Rattle.lw_top.specs.FilePairs.{PairValues}
+use Rattle.lw_top.specs.World.{World, CountsOn}
 use Rattle.lw_top.specs.declared.values.ArgumentStop.{ArgumentStop}
 use Rattle.lw_top.specs.declared.values.ArgumentStop.TheVariants as stop
 
@@ -15,14 +32,91 @@ abbrev pub argument_outcome : ArgumentStop → Outcome
 argument_outcome stop.Usage = Usage
 argument_outcome stop.NoMemory = NoMemory
 
--- files, `out` and `err` were f, o and e, and are g, p and d: nothing was read, written or put but the outcome's text to `err`
-pub record IsRefused (f g : FilesState) (o p : SinkState) (e d : SinkState) (end : End) : Type 0 where
-  pub files : g ≡ f
-  pub out : p ≡ o
+-- an end with nothing but its outcome, whose text was put to `err`
+pub record TellsOutcome (before now : SinkState) (end : End) : Type 0 where
   pub model : end.model ≡ None
   pub learner : IsWithoutLearner end
   pub kept : end.kept.answers ≡ []
   pub outputs : end.outputs ≡ None
-  pub said : ¬ CountedFault e.faults d.faults →
-      TakesAll (said_text None None [] 0 end.outcome) e.taken d.taken
-  pub part : TakesSome (said_text None None [] 0 end.outcome) e.taken d.taken
+  pub said : ¬ CountedFault before.faults now.faults →
+      TakesAll (said_text None None [] 0 end.outcome) before.taken now.taken
+  pub part : TakesSome (said_text None None [] 0 end.outcome) before.taken now.taken
+
+-- arguments were not taken: nothing was read, started, asked for, written or put but the outcome's text to `err`
+pub record IsRefused (before now : World) (end : End) : Type 0 where
+  pub outcome : (end.outcome ≡ Usage) ⊎ (end.outcome ≡ NoMemory)
+  pub files : now.files ≡ before.files
+  pub spawner : now.spawner ≡ before.spawner
+  pub input : now.input ≡ before.input
+  pub out : now.out ≡ before.out
+  pub ended : TellsOutcome before.err now.err end
+
+-- why no child was started, where that is the outcome, is what the spawner tells
+abbrev pub TellsCause : World → Outcome → Type 0
+TellsCause now outcome = (cause : StartFailure) → outcome ≡ Unstarted cause → cause ≡ now.spawner.cause
+
+-- what each command did, and what it didn't touch
+pub record RunsLearn (arguments : LearnValues) (before now : World) (end : End) : Type 0 where
+  pub ran : IsLearnRun arguments before.files now.files before.spawner now.spawner
+      before.out now.out before.err now.err now.log end
+  pub input : now.input ≡ before.input
+
+pub record RunsCheck (arguments : CheckValues) (before now : World) (end : End) : Type 0 where
+  pub ran : IsCheckRun arguments.model arguments.answers arguments.extra before.files now.files
+      before.out now.out before.err now.err end
+  pub spawner : now.spawner ≡ before.spawner
+  pub input : now.input ≡ before.input
+  pub log : now.log ≡ before.log
+
+pub record RunsTrial (arguments : TrialValues) (before now : World) (end : End) : Type 0 where
+  pub ran : IsTrialRun arguments before.out now.out before.err now.err end
+  pub files : now.files ≡ before.files
+  pub spawner : now.spawner ≡ before.spawner
+  pub input : now.input ≡ before.input
+  pub log : now.log ≡ before.log
+
+pub record RunsServe (model : List ℕ) (before now : World) (end : End) : Type 0 where
+  pub ran : IsServeRun model before.files now.files before.input now.input before.out now.out
+      before.err now.err end
+  pub spawner : now.spawner ≡ before.spawner
+  pub log : now.log ≡ before.log
+
+pub record RunsAsk (arguments : AskValues) (before now : World) (end : End) : Type 0 where
+  pub ran : IsAskRun arguments before.files now.files before.spawner now.spawner
+      before.out now.out before.err now.err end
+  pub cause : TellsCause now end.outcome
+  pub input : now.input ≡ before.input
+  pub log : now.log ≡ before.log
+
+pub record RunsCompare (models : PairValues) (before now : World) (end : End) : Type 0 where
+  pub ran : IsCompareRun models.first models.second before.files now.files before.out now.out
+      before.err now.err end
+  pub spawner : now.spawner ≡ before.spawner
+  pub input : now.input ≡ before.input
+  pub log : now.log ≡ before.log
+
+pub record RunsRecheck (arguments : RecheckValues) (before now : World) (end : End) : Type 0 where
+  pub ran : IsRecheckRun arguments before.files now.files before.spawner now.spawner
+      before.out now.out before.err now.err end
+  pub cause : TellsCause now end.outcome
+  pub input : now.input ≡ before.input
+  pub log : now.log ≡ before.log
+
+-- by the call that the arguments make
+abbrev pub Runs : Option CallValues → World → World → End → Type 0
+Runs None before now end = IsRefused before now end
+Runs (Some (Learn arguments)) before now end = RunsLearn arguments before now end
+Runs (Some (Check arguments)) before now end = RunsCheck arguments before now end
+Runs (Some (Trial arguments)) before now end = RunsTrial arguments before now end
+Runs (Some (Serve model)) before now end = RunsServe model before now end
+Runs (Some (Ask arguments)) before now end = RunsAsk arguments before now end
+Runs (Some (Compare models)) before now end = RunsCompare models before now end
+Runs (Some (Recheck arguments)) before now end = RunsRecheck arguments before now end
+
+-- a call of the program with these arguments
+pub record IsRun (words : List (List ℕ)) (before now : World) (end : End) : Type 0 where
+  pub status : end.status ≡ status_of end.outcome
+  pub ran : Runs (call_of words) before now end
+  -- the usage exactly where no command takes the arguments, but that memory may run out
+  pub usage : end.outcome ≡ Usage → call_of words ≡ None
+  pub counts : CountsOn before now

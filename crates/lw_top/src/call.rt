@@ -1,6 +1,6 @@
 //! Which command takes the arguments.
-ghost use Rattle.std.specs.Prelude.{◌≡◌, Err, IfOk};
-ghost use Rattle.lw_top.specs.Call.{IsCall, IsNoCall};
+ghost use Rattle.std.specs.Prelude.{◌≡◌, Err, IfOk, None, Some};
+ghost use Rattle.lw_top.specs.Call.{call_of, values_of};
 ghost use Rattle.lw_top.specs.CommandLine.{texts};
 ghost use Rattle.lw_top.specs.declared.values.ArgumentStop.{ArgumentStop as Stop};
 
@@ -35,8 +35,8 @@ pub(crate) enum Call {
 
 /// The command that takes the arguments.
 pub(crate) fn read_call(alloc: Global, arguments: &[String]) -> Result<Call, ArgumentStop>
-    ensures ok { IfOk result (IsCall (texts arguments.now)) }
-    ensures refused { result ≡ Err Stop.Usage → IsNoCall (texts arguments.now) }
+    ensures ok { IfOk result (λ call. call_of (texts arguments.now) ≡ Some (values_of call)) }
+    ensures refused { result ≡ Err Stop.Usage → call_of (texts arguments.now) ≡ None }
 {
     let Some(command) = arguments.first() else {
         return Err(ArgumentStop::Usage);

@@ -3,7 +3,6 @@
 
 mod arguments;
 mod call;
-mod commands;
 mod file_pair;
 mod options;
 mod refused;

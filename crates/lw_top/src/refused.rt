@@ -1,4 +1,6 @@
 //! What a log gets of arguments of `learn` that aren't taken: which option's value is out of its range.
+ghost use Rattle.std.specs.Prelude.{◌≡◌, codes, false};
+ghost use Rattle.lw_top.specs.CommandLine.{is_command, texts};
 
 use crate::ArgumentStop;
 use lw_log::Log;
@@ -106,7 +108,9 @@ pub(crate) fn log_refused<L: LogFile>(
     arguments: &[String],
     stop: ArgumentStop,
     log: &mut Log<L>,
-) {
+)
+    ensures { is_command (codes "learn") (texts arguments.now) ≡ false → log.new ≡ log.old }
+{
     match arguments.first() {
         Some(command) if command.as_str() == "learn" => {}
         _ => return,

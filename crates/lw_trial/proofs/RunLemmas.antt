@@ -24,7 +24,7 @@ use Rattle.lw_workers.proofs.MachineLemmas.{own_stop}
 use Rattle.lw_report.specs.Ends.{IsWithoutLearner}
 use Rattle.lw_report.specs.Learnings.{HasModel, HasLargeSuite, learn_outcome}
 use Rattle.lw_report.specs.Outcomes.{HasOwnText, StandsOrWants}
-use Rattle.lw_report.specs.States.{SinkState}
+use Rattle.lw_outside.specs.Streams.{SinkState}
 use Rattle.lw_report.specs.Stops.{tell_outcome}
 use Rattle.lw_report.specs.Text.{trial_lines}
 use Rattle.lw_report.specs.Writing.{TakesAll, TakesSome, said_text}

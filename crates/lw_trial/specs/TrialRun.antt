@@ -11,7 +11,7 @@ use Rattle.lw_rounds.specs.declared.learner.Learner.{Learner}
 use Rattle.lw_workers.specs.Machines.{KeepsRuns}
 use Rattle.lw_report.specs.Ends.{IsWithoutLearner}
 use Rattle.lw_report.specs.Learnings.{HasModel, HasLargeSuite}
-use Rattle.lw_report.specs.States.{SinkState}
+use Rattle.lw_outside.specs.Streams.{SinkState}
 use Rattle.lw_report.specs.Writing.{TakesAll, TakesSome, said_text}
 use Rattle.lw_report.specs.declared.«end».End.{End}
 use Rattle.lw_report.specs.declared.outcome.Outcome.{Outcome}
@@ -62,8 +62,8 @@ abbrev pub IsTrial : Outcome → Type 0
 IsTrial (Trial t) = Unit {0}
 IsTrial _ = ⊥
 
--- a call with these arguments found `out` and `err` as o and e, left them as p and d, and came to the end
-pub record IsTrialRun (v : TrialValues) (o p : SinkState) (e d : SinkState) (end : End) : Type 0 where
+-- a call with these arguments changed `out` and `err` so, and came to the end
+pub record IsTrialRun (v : TrialValues) (out_before out_now : SinkState) (err_before err_now : SinkState) (end : End) : Type 0 where
   -- the model of the machine that was drawn, with one extra state and at most 1,024 states
   pub model : IfSome end.model (HasModel v.learner v.inputs 2 1 1024 end)
   -- no output has another number since: the model is the canonical form of the carried learner's machine
@@ -71,7 +71,7 @@ pub record IsTrialRun (v : TrialValues) (o p : SinkState) (e d : SinkState) (end
       IsReadOff v.learner v.inputs 2 1024 (answers_of end.kept.answers) h.rows l)
   pub without : end.model ≡ None → IsWithoutLearner end
   pub told : (t : Tried) → end.outcome ≡ Trial t → IsTried v end t
-  pub quiet : IsTrial end.outcome → (p.faults ≡ o.faults) × (d.faults ≡ e.faults)
+  pub quiet : IsTrial end.outcome → (out_now.faults ≡ out_before.faults) × (err_now.faults ≡ err_before.faults)
   -- the kept answers are runs of the instances of that machine
   pub kept : KeepsRuns (drawn_machine v) v.workers [] end.kept.answers
   -- the outputs are those of the machine that was drawn; there are none only where memory ran out before anything was kept
@@ -80,23 +80,23 @@ pub record IsTrialRun (v : TrialValues) (o p : SinkState) (e d : SinkState) (end
   -- where its suite is not too large and no stream counted a fault, a trial is told, or memory runs out
   pub reached :
       suite_size v.states v.inputs 1 ≤ greatest_suite
-      → ¬ CountedFault o.faults p.faults
-      → ¬ CountedFault e.faults d.faults
+      → ¬ CountedFault out_before.faults out_now.faults
+      → ¬ CountedFault err_before.faults err_now.faults
       → IsReachedTrial v.states end.outcome
   -- a trial's text stands whole on `out`, and nothing on `err`; of any other outcome but a fault of a stream nothing is put to
   -- `out`, and its text goes to `err`, whole where that counts no fault
   pub written : IsTrial end.outcome → TakesAll (said_text None None end.kept.answers 1 end.outcome)
-      o.taken p.taken × (d.taken ≡ e.taken)
-  pub part : p.taken ≢ o.taken → (t : Tried) × IsTried v end t ×
-      TakesSome (said_text None None end.kept.answers 1 (Trial t)) o.taken p.taken
-  pub unwritten : ¬ IsTrial end.outcome → end.outcome ≢ SinkFault → p.taken ≡ o.taken
-  pub said : ¬ IsTrial end.outcome → ¬ CountedFault e.faults d.faults →
-      TakesAll (said_text None None end.kept.answers 1 end.outcome) e.taken d.taken
+      out_before.taken out_now.taken × (err_now.taken ≡ err_before.taken)
+  pub part : out_now.taken ≢ out_before.taken → (t : Tried) × IsTried v end t ×
+      TakesSome (said_text None None end.kept.answers 1 (Trial t)) out_before.taken out_now.taken
+  pub unwritten : ¬ IsTrial end.outcome → end.outcome ≢ SinkFault → out_now.taken ≡ out_before.taken
+  pub said : ¬ IsTrial end.outcome → ¬ CountedFault err_before.faults err_now.faults →
+      TakesAll (said_text None None end.kept.answers 1 end.outcome) err_before.taken err_now.taken
   pub said_part : ¬ IsTrial end.outcome →
-      TakesSome (said_text None None end.kept.answers 1 end.outcome) e.taken d.taken
+      TakesSome (said_text None None end.kept.answers 1 end.outcome) err_before.taken err_now.taken
   -- what each refusal comes from
   pub kinds : IsTrialOutcome end.outcome
-  pub sink_fault : end.outcome ≡ SinkFault → CountedFault o.faults p.faults ×
+  pub sink_fault : end.outcome ≡ SinkFault → CountedFault out_before.faults out_now.faults ×
       ((h : MealyMachine) × (end.model ≡ Some h))
   pub suite : (states number : ℕ) → end.outcome ≡ SuiteTooLarge states number →
       HasLargeSuite v.inputs 2 1 1024 (answers_of end.kept.answers) states number

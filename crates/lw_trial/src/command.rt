@@ -7,7 +7,6 @@ ghost use Rattle.lw_rounds.specs.Learner.{refinements_of};
 ghost use Rattle.lw_suite.specs.Size.{suite_size, greatest_suite};
 ghost use Rattle.lw_workers.specs.Machines.{KeepsRuns};
 ghost use Rattle.lw_report.specs.Outcomes.{status_of};
-ghost use Rattle.lw_report.specs.States.{sink_state};
 ghost use Rattle.lw_trial.specs.TrialRun.{IsTrialRun, drawn_machine, drawn_naming, drawn_outputs};
 
 use crate::telling::tell;
@@ -88,12 +87,10 @@ fn report<O: Sink, E: Sink>(
     requires reached { suite_size arguments.now.states arguments.now.inputs 1 ≤ greatest_suite →
         refinements_of learned.learner < arguments.now.states }
     ensures status { result.status ≡ status_of result.outcome }
-    ensures ran { IsTrialRun arguments.now
-        (sink_state (O.taken out.old) (O.faults out.old))
-        (sink_state (O.taken out.new) (O.faults out.new))
-        (sink_state (E.taken err.old) (E.faults err.old))
-        (sink_state (E.taken err.new) (E.faults err.new)) result }
-    ensures counts { (O.faults out.old ≤ O.faults out.new) × (E.faults err.old ≤ E.faults err.new) }
+    ensures ran { IsTrialRun arguments.now (O.state out.old) (O.state out.new) (E.state err.old)
+        (E.state err.new) result }
+    ensures counts { ((O.state out.old).faults ≤ (O.state out.new).faults) ×
+        ((E.state err.old).faults ≤ (E.state err.new).faults) }
 {
     match tell(
         alloc,
@@ -127,12 +124,10 @@ fn learn<R: Threads + Wait + Sync + Drop, O: Sink, E: Sink>(
     requires outputs { drawn.now.outputs ≡ drawn_outputs }
     requires named { named ≡ drawn_naming }
     ensures status { result.status ≡ status_of result.outcome }
-    ensures ran { IsTrialRun arguments.now
-        (sink_state (O.taken out.old) (O.faults out.old))
-        (sink_state (O.taken out.new) (O.faults out.new))
-        (sink_state (E.taken err.old) (E.faults err.old))
-        (sink_state (E.taken err.new) (E.faults err.new)) result }
-    ensures counts { (O.faults out.old ≤ O.faults out.new) × (E.faults err.old ≤ E.faults err.new) }
+    ensures ran { IsTrialRun arguments.now (O.state out.old) (O.state out.new) (E.state err.old)
+        (E.state err.new) result }
+    ensures counts { ((O.state out.old).faults ≤ (O.state out.new).faults) ×
+        ((E.state err.old).faults ≤ (E.state err.new).faults) }
 {
     let LearnedMachine {
         learned,
@@ -172,12 +167,10 @@ pub fn trial<R: Threads + Wait + Sync + Drop, O: Sink, E: Sink>(
     err: &mut E,
 ) -> End
     ensures status { result.status ≡ status_of result.outcome }
-    ensures ran { IsTrialRun arguments.now
-        (sink_state (O.taken out.old) (O.faults out.old))
-        (sink_state (O.taken out.new) (O.faults out.new))
-        (sink_state (E.taken err.old) (E.faults err.old))
-        (sink_state (E.taken err.new) (E.faults err.new)) result }
-    ensures counts { (O.faults out.old ≤ O.faults out.new) × (E.faults err.old ≤ E.faults err.new) }
+    ensures ran { IsTrialRun arguments.now (O.state out.old) (O.state out.new) (E.state err.old)
+        (E.state err.new) result }
+    ensures counts { ((O.state out.old).faults ≤ (O.state out.new).faults) ×
+        ((E.state err.old).faults ≤ (E.state err.new).faults) }
 {
     match draw(alloc, arguments) {
         Ok((drawn, named)) => learn(rt, alloc, arguments, &drawn, named, out, err),

@@ -50,13 +50,16 @@ fn put_trial<O: Sink>(
     kept: &Kept,
     out: &mut O,
 ) -> Result<(), TellStop>
-    ensures ok { OnOk result (TakesAll (trial_lines tried) (O.taken out.old) (O.taken out.new)) }
-    ensures part { TakesSome (trial_lines tried) (O.taken out.old) (O.taken out.new) }
-    ensures memory { result ≡ Err Stop.NoMemory → O.taken out.new ≡ O.taken out.old }
-    ensures failed { result ≡ Err Stop.Sink → CountedFault (O.faults out.old) (O.faults out.new) }
+    ensures ok { OnOk result (TakesAll (trial_lines tried) (O.state out.old).taken
+        (O.state out.new).taken) }
+    ensures part { TakesSome (trial_lines tried) (O.state out.old).taken (O.state out.new).taken }
+    ensures memory { result ≡ Err Stop.NoMemory → (O.state out.new).taken ≡
+        (O.state out.old).taken }
+    ensures failed { result ≡ Err Stop.Sink → CountedFault (O.state out.old).faults
+        (O.state out.new).faults }
     ensures no_file { (role : Part) → ¬ (result ≡ Err (Stop.File role)) }
-    ensures quiet { OnOk result (O.faults out.new ≡ O.faults out.old) }
-    ensures counts { O.faults out.old ≤ O.faults out.new }
+    ensures quiet { OnOk result ((O.state out.new).faults ≡ (O.state out.old).faults) }
+    ensures counts { (O.state out.old).faults ≤ (O.state out.new).faults }
 {
     put_report(alloc, &Outcome::Trial(tried), names, names, kept, 1, out)
 }
@@ -74,17 +77,19 @@ pub(crate) fn tell<O: Sink>(
     requires alphabets { learned.now.model.inputs ≡ machine.now.inputs }
     ensures told { IfOk result (IsToldOf arguments.now machine.now learned.now.model
         (refinements_of learned.now.learner) (length kept.now.answers)) }
-    ensures ok { IfOk result (λ tried.
-        TakesAll (trial_lines tried) (O.taken out.old) (O.taken out.new)) }
-    ensures part { O.taken out.new ≢ O.taken out.old → (tried : Told) ×
-        IsToldOf arguments.now machine.now learned.now.model
-        (refinements_of learned.now.learner) (length kept.now.answers) tried ×
-        TakesSome (trial_lines tried) (O.taken out.old) (O.taken out.new) }
-    ensures memory { result ≡ Err Stop.NoMemory → O.taken out.new ≡ O.taken out.old }
-    ensures failed { result ≡ Err Stop.Sink → CountedFault (O.faults out.old) (O.faults out.new) }
+    ensures ok { IfOk result (λ tried. TakesAll (trial_lines tried) (O.state out.old).taken
+        (O.state out.new).taken) }
+    ensures part { (O.state out.new).taken ≢ (O.state out.old).taken → (tried : Told) ×
+        IsToldOf arguments.now machine.now learned.now.model (refinements_of learned.now.learner)
+        (length kept.now.answers) tried × TakesSome (trial_lines tried) (O.state out.old).taken
+        (O.state out.new).taken }
+    ensures memory { result ≡ Err Stop.NoMemory → (O.state out.new).taken ≡
+        (O.state out.old).taken }
+    ensures failed { result ≡ Err Stop.Sink → CountedFault (O.state out.old).faults
+        (O.state out.new).faults }
     ensures no_file { (role : Part) → ¬ (result ≡ Err (Stop.File role)) }
-    ensures quiet { OnOk result (O.faults out.new ≡ O.faults out.old) }
-    ensures counts { O.faults out.old ≤ O.faults out.new }
+    ensures quiet { OnOk result ((O.state out.new).faults ≡ (O.state out.old).faults) }
+    ensures counts { (O.state out.old).faults ≤ (O.state out.new).faults }
 {
     let tried = tried(alloc, arguments, machine, learned, kept.len())?;
     put_trial(alloc, tried, names, kept, out)?;

@@ -10,7 +10,7 @@ ghost use Rattle.lw_rounds.specs.Stops.{learn_stop};
 ghost use Rattle.lw_workers.specs.Asking.{AnswersWords};
 
 use lw_cache::{AskStop, Oracle};
-use lw_rounds::{Kind, LearnStop, Learned, Phase, Step, Watcher, learn};
+use lw_rounds::{LearnStop, Learned, Phase, Settings, Step, Watcher, learn};
 use lw_words::Word;
 use std::alloc::Global;
 
@@ -56,9 +56,7 @@ pub fn learn_after<O: Oracle, W: Watcher>(
     oracle: &mut O,
     alloc: Global,
     words: &[Word],
-    kind: Kind,
-    extra: u8,
-    max_states: u16,
+    settings: Settings,
     watcher: &mut W,
 ) -> Result<Learned, LearnStop>
     requires can { O.can_settle oracle.old }
@@ -68,20 +66,16 @@ pub fn learn_after<O: Oracle, W: Watcher>(
     requires signs { (1 ≤ (O.state oracle.old).outputs) × ((O.state oracle.old).outputs ≤ 4096) }
     requires named_letters { All (IsWord (O.state oracle.old).inputs) words.now }
     requires named_few { length words.now < 2 ^ 32 }
-    requires few { extra ≤ 4 }
-    requires most { (1 ≤ max_states) × (max_states ≤ 1024) }
     ensures asked { OnOk result (AnswersWords words.now (O.state oracle.new).kept) }
-    ensures learned { IfOk result (λ l. IsLearned kind (O.state oracle.old).inputs
-        (O.state oracle.old).outputs extra max_states (answers_of (O.state oracle.new).kept)
-        l.model l.learner) }
+    ensures learned { IfOk result (λ l. IsLearned settings.kind (O.state oracle.old).inputs
+        (O.state oracle.old).outputs settings.extra settings.max_states
+        (answers_of (O.state oracle.new).kept) l.model l.learner) }
     ensures stops { IfErr result (StopsAs (O.state oracle.old).inputs
-        (O.state oracle.old).outputs extra max_states (answers_of (O.state oracle.new).kept)) }
+        (O.state oracle.old).outputs settings.extra settings.max_states
+        (answers_of (O.state oracle.new).kept)) }
     ensures leaves { Leaves (O.state oracle.old) (O.state oracle.new) (learn_stop result) }
     ensures can { O.can_settle oracle.new }
 {
-    let (inputs, outputs) = (oracle.inputs(), oracle.outputs());
     settle_named(oracle, words, watcher)?;
-    learn(
-        oracle, alloc, inputs, outputs, kind, extra, max_states, watcher,
-    )
+    learn(oracle, alloc, settings, watcher)
 }

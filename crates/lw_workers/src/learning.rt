@@ -13,7 +13,7 @@ ghost use Rattle.lw_workers.specs.Leaving.{HasLearned};
 
 use crate::asking::learn_after;
 use lw_pool::{ByCall, Pool};
-use lw_rounds::{Kind, LearnStop, Learned, Watcher};
+use lw_rounds::{LearnStop, Learned, Settings, Watcher};
 use lw_sul::Sul;
 use lw_words::Word;
 use std::alloc::Global;
@@ -34,9 +34,7 @@ pub fn learn_with<S: Sul + Send, R: Threads + Wait + Sync, W: Watcher>(
     pool: Pool<S, R>,
     alloc: Global,
     words: &[Word],
-    kind: Kind,
-    extra: u8,
-    max_states: u16,
+    settings: Settings,
     watcher: &mut W,
 ) -> LearnedWith<S, R>
     requires may { MayAsk pool.stop }
@@ -45,13 +43,12 @@ pub fn learn_with<S: Sul + Send, R: Threads + Wait + Sync, W: Watcher>(
     requires signs { (1 ≤ pool.outputs) × (pool.outputs ≤ 4096) }
     requires named_letters { All (IsWord pool.inputs) words.now }
     requires named_few { length words.now < 2 ^ 32 }
-    requires few { extra ≤ 4 }
-    requires most { (1 ≤ max_states) × (max_states ≤ 1024) }
     ensures asked { OnOk result.learned (AnswersWords words.now result.pool.kept) }
-    ensures learned { IfOk result.learned (λ l. IsLearned kind pool.inputs pool.outputs extra
-        max_states (answers_of result.pool.kept) l.model l.learner) }
-    ensures stops { IfErr result.learned (StopsAs pool.inputs pool.outputs extra max_states
-        (answers_of result.pool.kept)) }
+    ensures learned { IfOk result.learned (λ l. IsLearned settings.kind pool.inputs
+        pool.outputs settings.extra settings.max_states (answers_of result.pool.kept) l.model
+        l.learner) }
+    ensures stops { IfErr result.learned (StopsAs pool.inputs pool.outputs settings.extra
+        settings.max_states (answers_of result.pool.kept)) }
     ensures leaves { HasLearned pool result.pool (learn_stop result.learned) }
 {
     // for the proof alone, here and below: the pool stands
@@ -62,7 +59,7 @@ pub fn learn_with<S: Sul + Send, R: Threads + Wait + Sync, W: Watcher>(
         ensures { HasSettled batch.entry.now pool.entry.now pool.exit.now result }
     { pool.settle_all(batch) };
     let mut oracle = ByCall { pool, settle };
-    let learned = learn_after(&mut oracle, alloc, words, kind, extra, max_states, watcher);
+    let learned = learn_after(&mut oracle, alloc, words, settings, watcher);
     let ByCall { pool, settle: _ } = oracle;
     let _ = pool.cache();
     LearnedWith { learned, pool }

@@ -4,6 +4,8 @@
 mod asking;
 mod learning;
 mod machine;
+mod outcome;
 
 pub use learning::{LearnedWith, learn_with};
-pub use machine::{LearnedMachine, learn_machine};
+pub use machine::learn_machine;
+pub use outcome::{CutRun, LearningOutcome, Start};

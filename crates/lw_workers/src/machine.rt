@@ -1,5 +1,5 @@
 //! The learning of a machine that stands in for a system, over instances of it.
-ghost use Rattle.std.specs.Prelude.{◌≡◌, ◌<◌, ◌≤◌, ◌^◌, IfOk, IfErr, OnOk, [], length, None};
+ghost use Rattle.std.specs.Prelude.{◌≡◌, ◌<◌, ◌^◌, IfOk, IfErr, OnOk, [], length, None};
 ghost use Rattle.std.specs.List.{All};
 ghost use Rattle.lw_words.specs.Answer.{answers_of};
 ghost use Rattle.lw_words.specs.Word.{IsWord};
@@ -12,27 +12,19 @@ ghost use Rattle.lw_workers.specs.Asking.{AnswersWords};
 ghost use Rattle.lw_workers.specs.Machines.{IsMachineStop, KeepsRuns, IsReached, IsWithin};
 ghost use Rattle.lw_workers.specs.bodies.Instances.{AreInstances, IsPoolOf};
 
-use crate::{LearnedWith, learn_with};
+use crate::{LearnedWith, LearningOutcome, Start, learn_with};
 use lw_cache::Cache;
 use lw_desk::OutNames;
 use lw_mealy::Mealy;
 use lw_pool::Pool;
 use lw_rounds::{
-    Kind, LearnStop, Learned, Watcher, model_is_least, too_large_for_all, too_many_is_none,
+    LearnStop, Settings, Watcher, model_is_least, too_large_for_all, too_many_is_none,
 };
 use lw_sul::{Session, TableSul};
-use lw_words::{Kept, Names, NoMemory, Word};
+use lw_words::{Names, NoMemory};
 use std::alloc::Global;
 use std::sync::Wait;
 use std::thread::Threads;
-
-/// What came of a learning of a machine, the answers that were kept, and the names of its outputs.
-#[derive(Drop)]
-pub struct LearnedMachine {
-    pub learned: Result<Learned, LearnStop>,
-    pub kept: Kept,
-    pub names: OutNames,
-}
 
 /// Sessions of so many instances of a machine, in their order.
 fn instances(
@@ -62,18 +54,17 @@ fn pool_of<R: Drop>(
     names: &Names,
     shared: OutNames,
     cache: Cache,
-    workers: u8,
+    settings: Settings,
 ) -> Result<Pool<TableSul, R>, (OutNames, Cache)>
     requires named { length names.now ≡ system.now.outputs }
     requires shared { shared ≡ record { names = names.now; brought = None } }
     requires unclaimed { cache.claims ≡ [] }
     requires prior { MayBegin shared system.now.inputs system.now.outputs cache.kept }
-    requires workers { (1 ≤ workers) × (workers ≤ 16) }
-    ensures pool { IfOk result (IsPoolOf system.now workers shared cache.kept) }
+    ensures pool { IfOk result (IsPoolOf system.now settings.workers shared cache.kept) }
     ensures back { IfErr result (λ e. (e.0 ≡ shared) × (e.1 ≡ cache)) }
 {
     let (inputs, outputs) = (system.inputs(), system.outputs());
-    let Ok(sessions) = instances(alloc, system, names, workers) else {
+    let Ok(sessions) = instances(alloc, system, names, settings.workers) else {
         return Err((shared, cache));
     };
     match Pool::new(rt, alloc, inputs, outputs, sessions, shared, cache) {
@@ -93,58 +84,63 @@ pub fn learn_machine<R: Threads + Wait + Sync + Drop, W: Watcher>(
     alloc: Global,
     system: &Mealy,
     names: &Names,
-    shared: OutNames,
-    cache: Cache,
-    words: &[Word],
-    workers: u8,
-    kind: Kind,
-    extra: u8,
-    max_states: u16,
+    start: Start,
+    settings: Settings,
     watcher: &mut W,
-) -> LearnedMachine
+) -> LearningOutcome
     requires named { length names.now ≡ system.now.outputs }
-    requires shared { shared ≡ record { names = names.now; brought = None } }
-    requires unclaimed { cache.claims ≡ [] }
-    requires nothing { NothingClashes (answers_of cache.kept) }
-    requires prior { MayBegin shared system.now.inputs system.now.outputs cache.kept }
-    requires workers { (1 ≤ workers) × (workers ≤ 16) }
-    requires named_letters { All (IsWord system.now.inputs) words.now }
-    requires named_few { length words.now < 2 ^ 32 }
-    requires few { extra ≤ 4 }
-    requires most { (1 ≤ max_states) × (max_states ≤ 1024) }
-    ensures asked { OnOk result.learned (AnswersWords words.now result.kept.answers) }
-    ensures learned { IfOk result.learned (λ l. IsLearned kind system.now.inputs system.now.outputs
-        extra max_states (answers_of result.kept.answers) l.model l.learner) }
-    ensures stops { IfErr result.learned (StopsAs system.now.inputs system.now.outputs extra
-        max_states (answers_of result.kept.answers)) }
+    requires shared { start.names ≡ record { names = names.now; brought = None } }
+    requires unclaimed { start.cache.claims ≡ [] }
+    requires nothing { NothingClashes (answers_of start.cache.kept) }
+    requires prior { MayBegin start.names system.now.inputs system.now.outputs start.cache.kept }
+    requires named_letters { All (IsWord system.now.inputs) start.words }
+    requires named_few { length start.words < 2 ^ 32 }
+    ensures asked { OnOk result.learned (AnswersWords start.words result.kept.answers) }
+    ensures learned { IfOk result.learned (λ l. IsLearned settings.kind system.now.inputs
+        system.now.outputs settings.extra settings.max_states (answers_of result.kept.answers)
+        l.model l.learner) }
+    ensures stops { IfErr result.learned (StopsAs system.now.inputs system.now.outputs
+        settings.extra settings.max_states (answers_of result.kept.answers)) }
     ensures caused { IfErr result.learned (IsMachineStop result.kept.answers) }
-    ensures reached { (m : Rows) → IsWithin system.now.inputs extra max_states m →
+    ensures reached { (m : Rows) → IsWithin system.now.inputs settings.extra settings.max_states m →
         Gives m (answers_of result.kept.answers) → IsReached (length m) result.learned }
-    ensures kept { KeepsRuns system.now workers cache.kept result.kept.answers }
-    ensures names { result.names ≡ shared }
+    ensures kept { KeepsRuns system.now settings.workers start.cache.kept result.kept.answers }
+    ensures names { result.names ≡ start.names }
+    ensures cut { result.cut ≡ None }
 {
     model_is_least();
     too_many_is_none();
     too_large_for_all();
     // for the proof alone: the machine is within the limits
     let _ = system.inputs();
-    let pool = match pool_of(rt, alloc, system, names, shared, cache, workers) {
+    let Start {
+        names: shared,
+        cache,
+        words,
+    } = start;
+    let pool = match pool_of(rt, alloc, system, names, shared, cache, settings) {
         Ok(pool) => pool,
         Err((unused, prior)) => {
-            return LearnedMachine {
+            return LearningOutcome {
                 learned: Err(LearnStop::from(NoMemory)),
                 kept: prior.into_kept(),
                 names: unused,
+                cut: None,
             };
         }
     };
     let LearnedWith { learned, pool } = learn_with(
-        pool, alloc, words, kind, extra, max_states, watcher,
+        pool,
+        alloc,
+        words.as_slice(),
+        settings,
+        watcher,
     );
     let (_, left, cache) = pool.into_parts();
-    LearnedMachine {
+    LearningOutcome {
         learned,
         kept: cache.into_kept(),
         names: left,
+        cut: None,
     }
 }

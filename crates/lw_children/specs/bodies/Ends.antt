@@ -4,7 +4,7 @@ use Rattle.lw_words.specs.declared.kept.KeptAnswer.{KeptAnswer}
 use Rattle.lw_words.specs.declared.stop.SulStop.TheVariants as sul
 use Rattle.lw_cache.specs.declared.stops.AskStop.TheVariants as ask
 use Rattle.lw_desk.specs.Ending.{kept_runs}
-use Rattle.lw_outside.specs.Links.{Retired}
+use Rattle.lw_outside.specs.Links.{LinkState}
 use Rattle.lw_pool.specs.Pool.{Seen, journal_runs}
 use Rattle.lw_rounds.specs.declared.stops.LearnStop.{LearnStop}
 use Rattle.lw_rounds.specs.declared.stops.LearnStop.TheVariants as learn
@@ -13,14 +13,14 @@ use Rattle.lw_children.specs.declared.starting.Refusal.{Refusal}
 use Rattle.lw_children.specs.declared.starting.Refusal.TheVariants.{Failed, NoMemory}
 
 -- what was seen of the session of a child, which the record of its link bears out, and the kept answers of its instance
-pub record IsChildEnd (letters : List (List ℕ)) (outputs : Option (List (List ℕ))) (names : List (List ℕ)) (since : List KeptAnswer) (base i : ℕ) (link : Retired) : Type 0 where
+pub record IsChildEnd (letters : List (List ℕ)) (outputs : Option (List (List ℕ))) (names : List (List ℕ)) (since : List KeptAnswer) (base i : ℕ) (link : LinkState) : Type 0 where
   pub seen : Seen
   pub is_seen : IsChildSeen letters outputs (base + i) seen
   pub bears : BearsOut seen link
   pub kept : kept_runs names i since ≡ journal_runs seen.names 0 seen.journal
 
-abbrev pub AreChildEnds : (letters : List (List ℕ)) (outputs : Option (List (List ℕ))) (names : List (List ℕ)) (since : List KeptAnswer) (base : ℕ) → List Retired → Type 0
-AreChildEnds letters outputs names since base links = (i : ℕ) (d : Retired) → i < length links → IsChildEnd letters outputs names since base i (slice_index_or links i d)
+abbrev pub AreChildEnds : (letters : List (List ℕ)) (outputs : Option (List (List ℕ))) (names : List (List ℕ)) (since : List KeptAnswer) (base : ℕ) → List LinkState → Type 0
+AreChildEnds letters outputs names since base links = (i : ℕ) (d : LinkState) → i < length links → IsChildEnd letters outputs names since base i (slice_index_or links i d)
 
 -- why a learning stopped before it began, where so many sessions were made
 abbrev pub broken_stop : Refusal → ℕ → LearnStop

@@ -8,13 +8,12 @@ use Rattle.lw_words.specs.declared.kept.KeptAnswer.{KeptAnswer}
 use Rattle.lw_json.specs.AnswersFault.{HasAnswersFault}
 use Rattle.lw_json.specs.AnswersFile.{IsAnswersFile}
 use Rattle.lw_json.specs.declared.answers.Answers.{Answers}
-use Rattle.lw_outside.specs.Files.{File}
+use Rattle.lw_outside.specs.Files.{File, FilesState}
 use Rattle.lw_wordlist.specs.Lines.{lines_in}
 use Rattle.lw_wordlist.specs.Words.{IsFirstUnknown}
 use Rattle.lw_prior.specs.FirstClash.{IsFirstClash}
 use Rattle.lw_prior.specs.Prior.{prior_answers}
 use Rattle.lw_report.specs.Reading.{ReadsFile}
-use Rattle.lw_report.specs.States.{FilesState}
 use Rattle.lw_report.specs.declared.outcome.Outcome.{Outcome}
 use Rattle.lw_report.specs.declared.outcome.Outcome.TheVariants.{Alphabets, NoMemory, Nondeterministic, UnknownLetter}
 use Rattle.lw_report.specs.declared.role.Role.TheVariants.{Prior}
@@ -30,23 +29,23 @@ use Rattle.lw_learn.specs.declared.task.WordedTask.{WordedTask}
 
 -- files were f and are g: what was to be read says the result, by reads that all gave bytes and counted no fault; or else it is
 -- why nothing can be learned
-pub record IsStage {T : Type 0} (a : LearnValues) (f g : FilesState) (Says : T → Type 0) (result : Result T UnreadState) : Type 0 where
+pub record IsStage {T : Type 0} (a : LearnValues) (files_before files_now : FilesState) (Says : T → Type 0) (result : Result T UnreadState) : Type 0 where
   pub ok : IfOk result Says
-  pub made : OnOk result (MadeReads f g [])
-  pub quiet : OnOk result (g.faults ≡ f.faults)
-  pub err : IfErr result (λ u. IsUnreadBy a f g u.system u.kept u.outcome)
-  pub same : g.holds ≡ f.holds
-  pub counts : f.faults ≤ g.faults
+  pub made : OnOk result (MadeReads files_before files_now [])
+  pub quiet : OnOk result (files_now.faults ≡ files_before.faults)
+  pub err : IfErr result (λ u. IsUnreadBy a files_before files_now u.system u.kept u.outcome)
+  pub same : files_now.holds ≡ files_before.holds
+  pub counts : files_before.faults ≤ files_now.faults
 
 -- the files say this system, which has few letters and words to start a child
-pub record SaysWhole (a : LearnValues) (f g : FilesState) (s : System) : Type 0 where
-  pub says : ReadsSystem a.source a.system f.holds f.reads g.reads s
+pub record SaysWhole (a : LearnValues) (files_before files_now : FilesState) (s : System) : Type 0 where
+  pub says : ReadsSystem a.source a.system files_before.holds files_before.reads files_now.reads s
   pub letters : length (letters_of s) ≤ 64
   pub words : HasWords s
 
 -- the files say this task, which is ready to be begun
-pub record SaysReady (a : LearnValues) (f g : FilesState) (t : Task) : Type 0 where
-  pub says : ReadsTask a f.holds f.reads g.reads t.system t.cache.kept
+pub record SaysReady (a : LearnValues) (files_before files_now : FilesState) (t : Task) : Type 0 where
+  pub says : ReadsTask a files_before.holds files_before.reads files_now.reads t.system t.cache.kept
   pub ready : IsReady t.system t.names t.cache
 
 -- two prior answers of a system clash, the first that do; or memory ran out
@@ -74,47 +73,47 @@ IsBack _ s read = read ≡ Some s
 
 -- why the file of prior answers came to no task
 abbrev pub IsPriorRefused : List ℕ → System → FilesState → FilesState → Option System → List KeptAnswer → Outcome → Type 0
-IsPriorRefused name s f g read kept outcome =
-    (IsRefused IsAnswersFile HasAnswersFault Prior name f g outcome × IsBack outcome s read × (kept ≡ []))
-    ⊎ ((p : Answers) × ReadsFile IsAnswersFile name f.holds f.reads g.reads p × MadeReads f g [] × IsUnfit s p read kept outcome)
+IsPriorRefused name s files_before files_now read kept outcome =
+    (IsRefused IsAnswersFile HasAnswersFault Prior name files_before files_now outcome × IsBack outcome s read × (kept ≡ []))
+    ⊎ ((p : Answers) × ReadsFile IsAnswersFile name files_before.holds files_before.reads files_now.reads p × MadeReads files_before files_now [] × IsUnfit s p read kept outcome)
 
 -- what came of reading prior answers of a system
-pub record HasPrior (name : List ℕ) (s : System) (f g : FilesState) (result : Result Task UnreadState) : Type 0 where
-  pub ok : IfOk result (λ t. (p : Answers) × ReadsFile IsAnswersFile name f.holds f.reads g.reads p × IsTaskWith s p t)
-  pub made : OnOk result (MadeReads f g [])
-  pub quiet : OnOk result (g.faults ≡ f.faults)
-  pub err : IfErr result (λ u. IsPriorRefused name s f g u.system u.kept u.outcome)
-  pub same : g.holds ≡ f.holds
-  pub counts : f.faults ≤ g.faults
+pub record HasPrior (name : List ℕ) (s : System) (files_before files_now : FilesState) (result : Result Task UnreadState) : Type 0 where
+  pub ok : IfOk result (λ t. (p : Answers) × ReadsFile IsAnswersFile name files_before.holds files_before.reads files_now.reads p × IsTaskWith s p t)
+  pub made : OnOk result (MadeReads files_before files_now [])
+  pub quiet : OnOk result (files_now.faults ≡ files_before.faults)
+  pub err : IfErr result (λ u. IsPriorRefused name s files_before files_now u.system u.kept u.outcome)
+  pub same : files_now.holds ≡ files_before.holds
+  pub counts : files_before.faults ≤ files_now.faults
 
 -- the files say what is to be learned and the words that are asked first, which are over its letters
-pub record SaysWorded (a : LearnValues) (f g : FilesState) (t : WordedTask) : Type 0 where
+pub record SaysWorded (a : LearnValues) (files_before files_now : FilesState) (t : WordedTask) : Type 0 where
   pub between : List File
-  pub task : ReadsTask a f.holds f.reads between t.task.system t.task.cache.kept
-  pub says : SaysWords a (letters_of t.task.system) f.holds between g.reads t.words
+  pub task : ReadsTask a files_before.holds files_before.reads between t.task.system t.task.cache.kept
+  pub says : SaysWords a (letters_of t.task.system) files_before.holds between files_now.reads t.words
   pub ready : IsReady t.task.system t.task.names t.task.cache
   pub letters : All (IsWord (length (letters_of t.task.system))) t.words
   pub few : length t.words < 2 ^ 32
 
 -- what reading them came to
-pub record IsWordedStage (a : LearnValues) (f g : FilesState) (result : Result WordedTask UnreadState) : Type 0 where
-  pub ok : IfOk result (SaysWorded a f g)
-  pub made : OnOk result (MadeReads f g [])
-  pub quiet : OnOk result (g.faults ≡ f.faults)
-  pub err : IfErr result (λ u. IsUnreadBy a f g u.system u.kept u.outcome ⊎ IsWordlessTask a f g u.system u.kept u.outcome)
-  pub same : g.holds ≡ f.holds
-  pub counts : f.faults ≤ g.faults
+pub record IsWordedStage (a : LearnValues) (files_before files_now : FilesState) (result : Result WordedTask UnreadState) : Type 0 where
+  pub ok : IfOk result (SaysWorded a files_before files_now)
+  pub made : OnOk result (MadeReads files_before files_now [])
+  pub quiet : OnOk result (files_now.faults ≡ files_before.faults)
+  pub err : IfErr result (λ u. IsUnreadBy a files_before files_now u.system u.kept u.outcome ⊎ IsWordlessTask a files_before files_now u.system u.kept u.outcome)
+  pub same : files_now.holds ≡ files_before.holds
+  pub counts : files_before.faults ≤ files_now.faults
 
 -- what came of reading the words that are asked first
-pub record HasWorded (a : LearnValues) (letters : List (List ℕ)) (f g : FilesState) (result : Result (List (List ℕ)) Outcome) : Type 0 where
-  pub ok : IfOk result (SaysWords a letters f.holds f.reads g.reads)
+pub record HasWorded (a : LearnValues) (letters : List (List ℕ)) (files_before files_now : FilesState) (result : Result (List (List ℕ)) Outcome) : Type 0 where
+  pub ok : IfOk result (SaysWords a letters files_before.holds files_before.reads files_now.reads)
   pub words : IfOk result (All (IsWord (length letters)))
   pub few : IfOk result (λ w. length w < 2 ^ 32)
-  pub made : OnOk result (MadeReads f g [])
-  pub quiet : OnOk result (g.faults ≡ f.faults)
-  pub err : IfErr result (IsWordless a.words letters f g)
-  pub same : g.holds ≡ f.holds
-  pub counts : f.faults ≤ g.faults
+  pub made : OnOk result (MadeReads files_before files_now [])
+  pub quiet : OnOk result (files_now.faults ≡ files_before.faults)
+  pub err : IfErr result (IsWordless a.words letters files_before files_now)
+  pub same : files_now.holds ≡ files_before.holds
+  pub counts : files_before.faults ≤ files_now.faults
 
 -- why bytes say no words, by the outcome: the first name that is no letter's, or memory ran out
 abbrev pub SaysNoWords : (letters : List (List ℕ)) → List ℕ → Outcome → Type 0
@@ -123,14 +122,14 @@ SaysNoWords letters bytes NoMemory = Unit {0}
 SaysNoWords letters bytes _ = ⊥
 
 -- what came of reading a file of words
-pub record HasNamedWords (file : Option (List ℕ)) (letters : List (List ℕ)) (f g : FilesState) (result : Result (List (List ℕ)) Outcome) : Type 0 where
-  pub ok : IfOk result (ReadsWords file letters f.holds f.reads g.reads)
+pub record HasNamedWords (file : Option (List ℕ)) (letters : List (List ℕ)) (files_before files_now : FilesState) (result : Result (List (List ℕ)) Outcome) : Type 0 where
+  pub ok : IfOk result (ReadsWords file letters files_before.holds files_before.reads files_now.reads)
   pub words : IfOk result (All (IsWord (length letters)))
-  pub made : OnOk result (MadeReads f g [])
-  pub quiet : OnOk result (g.faults ≡ f.faults)
-  pub err : IfErr result (IsWordless file letters f g)
-  pub same : g.holds ≡ f.holds
-  pub counts : f.faults ≤ g.faults
+  pub made : OnOk result (MadeReads files_before files_now [])
+  pub quiet : OnOk result (files_now.faults ≡ files_before.faults)
+  pub err : IfErr result (IsWordless file letters files_before files_now)
+  pub same : files_now.holds ≡ files_before.holds
+  pub counts : files_before.faults ≤ files_now.faults
 
-abbrev pub HasNamed : List ℕ → (letters : List (List ℕ)) → (f g : FilesState) → Result (List (List ℕ)) Outcome → Type 0
-HasNamed name letters f g result = HasNamedWords (Some name) letters f g result
+abbrev pub HasNamed : List ℕ → (letters : List (List ℕ)) → (files_before files_now : FilesState) → Result (List (List ℕ)) Outcome → Type 0
+HasNamed name letters files_before files_now result = HasNamedWords (Some name) letters files_before files_now result

@@ -8,17 +8,17 @@ use Rattle.lw_line.specs.declared.serving.ServedCause.TheVariants.{EndOfInput, L
 use Rattle.lw_line.specs.declared.serving.ServeFault.{ServeFault}
 use Rattle.lw_line.specs.declared.serving.ServeFault.TheVariants.{SourceFault, SinkFault}
 use Rattle.lw_report.specs.Outcomes.{StandsOrWants}
-use Rattle.lw_report.specs.States.{SinkState, SourceState}
+use Rattle.lw_outside.specs.Streams.{SinkState, SourceState}
 use Rattle.lw_report.specs.declared.outcome.Outcome.{Outcome}
 use Rattle.lw_serve.specs.Outcomes.{served_outcome}
 
 -- serving came to this, by its contract, and the call to the outcome
-pub record HasServed (m : Machine) (i j : SourceState) (o p : SinkState) (outcome : Outcome) : Type 0 where
+pub record HasServed (m : Machine) (input_before input_now : SourceState) (out_before out_now : SinkState) (outcome : Outcome) : Type 0 where
   pub served : Result Served ServeFault
   pub comes : StandsOrWants (served_outcome served) outcome
-  pub plays : Plays m i.left served o.taken p.taken
-  pub source : served ≡ Err SourceFault → CountedFault i.faults j.faults × GoesOn m i.left j.left
-  pub sink : served ≡ Err SinkFault → CountedFault o.faults p.faults
-  pub ended : (s : Served) → served ≡ Ok s → s.cause ≡ EndOfInput → CountedFault i.ends j.ends
+  pub plays : Plays m input_before.left served out_before.taken out_now.taken
+  pub source : served ≡ Err SourceFault → CountedFault input_before.faults input_now.faults × GoesOn m input_before.left input_now.left
+  pub sink : served ≡ Err SinkFault → CountedFault out_before.faults out_now.faults
+  pub ended : (s : Served) → served ≡ Ok s → s.cause ≡ EndOfInput → CountedFault input_before.ends input_now.ends
   pub limit : (s : Served) → served ≡ Ok s → s.cause ≡ Limit → s.lines ≡ 4294967295
-  pub quiet : (s : Served) → served ≡ Ok s → (j.faults ≡ i.faults) × (p.faults ≡ o.faults)
+  pub quiet : (s : Served) → served ≡ Ok s → (input_now.faults ≡ input_before.faults) × (out_now.faults ≡ out_before.faults)

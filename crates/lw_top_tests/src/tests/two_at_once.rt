@@ -1,5 +1,5 @@
 //! Two children that wait for each other: a call that puts every word to one of them fails.
-ghost use Rattle.std.specs.Prelude.{◌≡◌, ◌<◌, ◌≤◌, length, IfOk};
+ghost use Rattle.std.specs.Prelude.{◌≡◌, ◌<◌, ◌≤◌, length, map, None, IfOk};
 ghost use Rattle.std.specs.List.{All};
 
 use crate::tests::cases::{World, files_of};
@@ -78,13 +78,12 @@ fn put_front(text: &[u8], buffer: &mut [u8]) -> usize
 impl Link for MeetingLink {
     ghost use Rattle.std.specs.Prelude.{None};
 
-    ghost number = { λ l. l.number };
-
-    ghost faults = { λ l. l.faults };
-
-    ghost ends = { λ l. l.ends };
-
-    ghost transcript = { λ _. None };
+    ghost state = { λ l. record {
+      number = l.number;
+      faults = l.faults;
+      ends = l.ends;
+      transcript = None;
+    } };
 
     fn send(&mut self, bytes: &[u8]) -> Result<(), Failed> {
         if bytes == b"reset\n".as_slice() {
@@ -142,33 +141,45 @@ impl MeetingSpawner {
     }
 }
 
+impl MeetingSpawner {
+    /// For the proof alone: each link that was retired was started before.
+    fn keeps_earlier(&self)
+        ensures { All (λ r. r.number < self.now.started) (map (λ r. record {
+          number = r.0.number;
+          faults = r.0.faults;
+          ends = r.0.ends;
+          transcript = None;
+        }) self.now.retired.items) }
+    {
+        let _ = &self.started;
+    }
+}
+
 impl Spawner for MeetingSpawner {
     type Link = MeetingLink;
 
     ghost use Rattle.std.specs.Prelude.{None, map};
-
-    ghost faults = { λ s. s.faults };
-
-    ghost started = { λ s. s.started };
-
-    ghost retired = { λ s. map (λ r. record {
-      number = r.0.number;
-      faults = r.0.faults;
-      ends = r.0.ends;
-      transcript = None;
-    }) s.retired.items };
-
-    ghost commands = { λ _. None };
-
     ghost use Rattle.lw_outside.specs.declared.links.StartFailure.TheVariants.{Unknown};
 
-    ghost cause = { λ _. Unknown };
+    ghost state = { λ s. record {
+      faults = s.faults;
+      started = s.started;
+      retired = map (λ r. record {
+        number = r.0.number;
+        faults = r.0.faults;
+        ends = r.0.ends;
+        transcript = None;
+      }) s.retired.items;
+      commands = None;
+      cause = Unknown;
+    } };
 
     fn failure(&self) -> StartFailure {
         StartFailure::Unknown
     }
 
     fn start(&mut self, _words: &[String]) -> Result<MeetingLink, StartStop> {
+        self.keeps_earlier();
         let Some(started) = self.started.checked_add(1) else {
             return Err(StartStop::NoMemory);
         };

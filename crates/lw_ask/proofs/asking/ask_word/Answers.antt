@@ -13,12 +13,12 @@ returns-clause-ok g c =
     let k = c.in_ok-answer.answer in
     let was = c.in_ok-answer.ensures in
     let session = c.ask_one.new.session in
-    let before = O.taken c.args.out.now in
-    let now = O.taken c.put_line-told.new.out in
+    let before = (O.state c.args.out.now).taken in
+    let now = (O.state c.put_line-told.new.out).taken in
     let told = c.put_line-told.result in
-    one_line (S.origin c.args.session.now.sul).machine letters c.args.word.now (S.names c.args.session.now.sul) (S.names session.sul) c.args.session.now.journal session.journal c.args.kept.now.answers c.keep.new.kept.answers before now k was.answer was.journal
+    one_line (S.state c.args.session.now.sul).origin.machine letters c.args.word.now (S.state c.args.session.now.sul).names (S.state session.sul).names c.args.session.now.journal session.journal c.args.kept.now.answers c.keep.new.kept.answers before now k was.answer was.journal
     (c.keep.ensures ∙ ap (λ (ks : List KeptAnswer). ks ++ k ∷ []) was.kept) was.below was.given was.grown told
-    (subst (λ (n : List (List ℕ)). OnOk told (TakesAll (answer_line letters n k) before now)) (ap S.names c.sul.ensures) c.put_line-told.ensures.ok)
+    (subst (λ (n : List (List ℕ)). OnOk told (TakesAll (answer_line letters n k) before now)) (ap (λ x. (S.state x).names) c.sul.ensures) c.put_line-told.ensures.ok)
 
 pub returns-clause-err : goal.returns-clause-err
 returns-clause-err g c =
@@ -28,9 +28,9 @@ returns-clause-err g c =
     let k = c.in_ok-answer.answer in
     let was = c.in_ok-answer.ensures in
     let session = c.ask_one.new.session in
-    let before = O.taken c.args.out.now in
-    let now = O.taken c.put_line-told.new.out in
+    let before = (O.state c.args.out.now).taken in
+    let now = (O.state c.put_line-told.new.out).taken in
     let told = c.put_line-told.result in
-    one_stop (S.origin c.args.session.now.sul).machine letters c.args.word.now (S.names c.args.session.now.sul) (S.names session.sul) c.args.session.now.journal session.journal c.args.kept.now.answers c.keep.new.kept.answers before now k was.answer was.journal
+    one_stop (S.state c.args.session.now.sul).origin.machine letters c.args.word.now (S.state c.args.session.now.sul).names (S.state session.sul).names c.args.session.now.journal session.journal c.args.kept.now.answers c.keep.new.kept.answers before now k was.answer was.journal
     (c.keep.ensures ∙ ap (λ (ks : List KeptAnswer). ks ++ k ∷ []) was.kept) was.below was.given was.grown told
-    (subst (λ (n : List (List ℕ)). TakesSome (answer_line letters n k) before now) (ap S.names c.sul.ensures) c.put_line-told.ensures.part) c.put_line-told.ensures.own
+    (subst (λ (n : List (List ℕ)). TakesSome (answer_line letters n k) before now) (ap (λ x. (S.state x).names) c.sul.ensures) c.put_line-told.ensures.part) c.put_line-told.ensures.own

@@ -10,13 +10,13 @@ invariant-loop-word g l =
     record {
       items : l.word-items ≡ l.words;
       instance : l.session.instance ≡ 0;
-      live : S.stop l.session.sul ≡ None;
-      inputs : S.inputs l.session.sul ≡ length l.letters;
-      origin : S.origin l.session.sul ≡ S.origin l.fn.session.sul;
-      inputs_stay : S.inputs l.session.sul ≡ S.inputs l.fn.session.sul;
-      outputs : S.outputs l.session.sul ≡ S.outputs l.fn.session.sul;
-      most : S.most l.session.sul ≡ S.most l.fn.session.sul;
-      asked : HasAsked (S.origin l.fn.session.sul).machine l.letters (take l.word-index l.word-items) (S.names l.session.sul) l.session.journal l.kept.answers (O.taken l.fn.out) (O.taken l.out);
-      grown : IsGrown (S.names l.fn.session.sul) (S.names l.session.sul);
-      quiet : O.faults l.out ≡ O.faults l.fn.out;
+      live : (S.state l.session.sul).stop ≡ None;
+      inputs : (S.state l.session.sul).inputs ≡ length l.letters;
+      origin : (S.state l.session.sul).origin ≡ (S.state l.fn.session.sul).origin;
+      inputs_stay : (S.state l.session.sul).inputs ≡ (S.state l.fn.session.sul).inputs;
+      outputs : (S.state l.session.sul).outputs ≡ (S.state l.fn.session.sul).outputs;
+      most : (S.state l.session.sul).most ≡ (S.state l.fn.session.sul).most;
+      asked : HasAsked (S.state l.fn.session.sul).origin.machine l.letters (take l.word-index l.word-items) (S.state l.session.sul).names l.session.journal l.kept.answers (O.state l.fn.out).taken (O.state l.out).taken;
+      grown : IsGrown (S.state l.fn.session.sul).names (S.state l.session.sul).names;
+      quiet : (O.state l.out).faults ≡ (O.state l.fn.out).faults;
     }

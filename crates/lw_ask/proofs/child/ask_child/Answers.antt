@@ -1,13 +1,11 @@
 use Rattle.std.proofs.Common.{◌≡◌, ◌∙◌, ◌<◌, ℕ, List, arith, map, string_bytes, ap, subst, sym, refl}
 use Rattle.std.specs.List.{All}
-use Rattle.lw_outside.specs.Links.{Retired}
-use Rattle.lw_report.specs.States.{sink_state}
+use Rattle.lw_outside.specs.Links.{LinkState}
 use Rattle.lw_sul.specs.Names.{IsGrown}
 use Rattle.lw_sul.specs.SessionState.{SessionState}
 use Rattle.lw_line.specs.LineState.{LineState}
-use Rattle.lw_children.specs.Crews.{first_names, retired_of}
+use Rattle.lw_children.specs.Crews.{first_names}
 use Rattle.lw_children.specs.Keeping.{count_of, most_of}
-use Rattle.lw_children.specs.Spawners.{spawner_seen}
 use Rattle.lw_ask.proofs.ChildLemmas.{asked_child, bears_as, is_unretired, nothing_started, same_link, started_one}
 use Rattle.lw_ask.proofs.child.ask_child.Goals as goal
 
@@ -15,7 +13,7 @@ pub returns-in_default-clause-err : goal.returns-in_default-clause-err
 returns-in_default-clause-err g c =
     let P = g.P.Spawner in
     let before = c.args.spawner.now in
-    nothing_started (map (λ w. string_bytes w) c.args.command.now) (spawner_seen (P.faults before) (P.started before) (P.retired before) (P.commands before))
+    nothing_started (map (λ w. string_bytes w) c.args.command.now) (P.state before)
 
 pub retire-requires-clause-started : goal.retire-requires-clause-started
 retire-requires-clause-started g c =
@@ -23,9 +21,9 @@ retire-requires-clause-started g c =
     let L = g.P.Link.Link in
     let s = c.new-session.result in
     let t = c.ask_session-asked.new.session in
-    let stays : L.number t.sul.link ≡ L.number s.sul.link = (same_link (L.number t.sul.link) (L.number s.sul.link) t.sul.letters s.sul.letters _ _ refl refl c.ask_session-asked.ensures.same.1).0 in
-    let number : L.number c.link_of.result ≡ P.started c.args.spawner.now =
-    ap L.number c.link_of.ensures.link ∙ (stays ∙ (ap (λ (x : SessionState (LineState g.row.P-Link.Denot)). L.number x.sul.link) c.new-session.ensures ∙ c.in-Ok-start_line.ensures.number)) in
+    let stays : (L.state t.sul.link).number ≡ (L.state s.sul.link).number = (same_link (L.state t.sul.link).number (L.state s.sul.link).number t.sul.letters s.sul.letters _ _ refl refl c.ask_session-asked.ensures.same.origin).0 in
+    let number : (L.state c.link_of.result).number ≡ (P.state c.args.spawner.now).started =
+    ap (λ x. (L.state x).number) c.link_of.ensures.link ∙ (stays ∙ (ap (λ (x : SessionState (LineState g.row.P-Link.Denot)). (L.state x.sul.link).number) c.new-session.ensures ∙ c.in-Ok-start_line.ensures.number)) in
     omega (arith, number, c.in-Ok-start_line.ensures.one.started)
 
 pub retire-requires-clause-once : goal.retire-requires-clause-once
@@ -35,12 +33,12 @@ retire-requires-clause-once g c =
     let before = c.args.spawner.now in
     let s = c.new-session.result in
     let t = c.ask_session-asked.new.session in
-    let stays : L.number t.sul.link ≡ L.number s.sul.link = (same_link (L.number t.sul.link) (L.number s.sul.link) t.sul.letters s.sul.letters _ _ refl refl c.ask_session-asked.ensures.same.1).0 in
-    let number : L.number c.link_of.result ≡ P.started before =
-    ap L.number c.link_of.ensures.link ∙ (stays ∙ (ap (λ (x : SessionState (LineState g.row.P-Link.Denot)). L.number x.sul.link) c.new-session.ensures ∙ c.in-Ok-start_line.ensures.number)) in
+    let stays : (L.state t.sul.link).number ≡ (L.state s.sul.link).number = (same_link (L.state t.sul.link).number (L.state s.sul.link).number t.sul.letters s.sul.letters _ _ refl refl c.ask_session-asked.ensures.same.origin).0 in
+    let number : (L.state c.link_of.result).number ≡ (P.state before).started =
+    ap (λ x. (L.state x).number) c.link_of.ensures.link ∙ (stays ∙ (ap (λ (x : SessionState (LineState g.row.P-Link.Denot)). (L.state x.sul.link).number) c.new-session.ensures ∙ c.in-Ok-start_line.ensures.number)) in
     let started = c.in-Ok-start_line.ensures in
-    let earlier : All (λ r. r.number < P.started before) (P.retired c.start_line.new.spawner) = subst (λ (rs : List Retired). All (λ r. r.number < P.started before) rs) (sym started.one.retired) started.earlier in
-    is_unretired (P.retired c.start_line.new.spawner) (P.started before) (L.number c.link_of.result) number earlier
+    let earlier : All (λ r. r.number < (P.state before).started) (P.state c.start_line.new.spawner).retired = subst (λ (rs : List LinkState). All (λ r. r.number < (P.state before).started) rs) (sym started.one.retired) started.earlier in
+    is_unretired (P.state c.start_line.new.spawner).retired (P.state before).started (L.state c.link_of.result).number number earlier
 
 pub returns-clause-ok : goal.returns-clause-ok
 returns-clause-ok g c =
@@ -53,27 +51,27 @@ returns-clause-ok g c =
     let command = map (λ w. string_bytes w) c.args.command.now in
     let letters = c.args.letters.now in
     let outputs = c.args.outputs in
-    let b = spawner_seen (P.faults before) (P.started before) (P.retired before) (P.commands before) in
-    let m = spawner_seen (P.faults mid) (P.started mid) (P.retired mid) (P.commands mid) in
-    let z = spawner_seen (P.faults now) (P.started now) (P.retired now) (P.commands now) in
-    let o = sink_state (O.taken c.args.out.now) (O.faults c.args.out.now) in
+    let b = P.state before in
+    let m = P.state mid in
+    let z = P.state now in
+    let o = O.state c.args.out.now in
     let after = c.ask_session-asked.new.out in
-    let p = sink_state (O.taken after) (O.faults after) in
+    let p = O.state after in
     let line = c.in-Ok-start_line.line in
     let s = c.new-session.result in
     let t = c.ask_session-asked.new.session in
     let asked = c.ask_session-asked.ensures in
-    let same = same_link (L.number t.sul.link) (L.number s.sul.link) t.sul.letters s.sul.letters _ _ refl refl asked.same.1 in
+    let same = same_link (L.state t.sul.link).number (L.state s.sul.link).number t.sul.letters s.sul.letters _ _ refl refl asked.same.origin in
     let made : s.sul ≡ line = ap (λ (x : SessionState (LineState g.row.P-Link.Denot)). x.sul) c.new-session.ensures in
     let started = c.in-Ok-start_line.ensures in
     let new = made ∙ started.ok in
-    let number : L.number c.link_of.result ≡ P.started before = ap L.number c.link_of.ensures.link ∙ (same.0 ∙ (ap (λ (x : LineState g.row.P-Link.Denot). L.number x.link) made ∙ started.number)) in
-    let link = retired_of L.number L.faults L.ends L.transcript c.link_of.result in
+    let number : (L.state c.link_of.result).number ≡ (P.state before).started = ap (λ x. (L.state x).number) c.link_of.ensures.link ∙ (same.0 ∙ (ap (λ (x : LineState g.row.P-Link.Denot). (L.state x.link).number) made ∙ started.number)) in
+    let link = L.state c.link_of.result in
     let ended = c.retire.ensures in
     let spawner = started_one command b m z link started.one number ended.started ended.retired ended.faults ended.commands in
     let is_letters : t.sul.letters ≡ letters = same.1 ∙ (ap (λ (x : LineState g.row.P-Link.Denot). x.letters) new ∙ c.in-Ok.ensures) in
-    let is_most : t.sul.most ≡ most_of outputs = asked.same.4 ∙ ap (λ (x : LineState g.row.P-Link.Denot). x.most) new in
-    let is_count : t.sul.outputs ≡ count_of outputs = asked.same.3 ∙ ap (λ (x : LineState g.row.P-Link.Denot). x.outputs) new in
+    let is_most : t.sul.most ≡ most_of outputs = asked.same.most ∙ ap (λ (x : LineState g.row.P-Link.Denot). x.most) new in
+    let is_count : t.sul.outputs ≡ count_of outputs = asked.same.outputs ∙ ap (λ (x : LineState g.row.P-Link.Denot). x.outputs) new in
     let bears = bears_as t.sul.letters letters t.sul.names t.sul.most (most_of outputs) t.sul.outputs (count_of outputs) t.sul.stop t.sul.cut t.journal link is_letters is_most is_count c.link_of.ensures.bears in
     let grown : IsGrown (first_names outputs) t.sul.names = subst (λ (n : List (List ℕ)). IsGrown n t.sul.names) (ap (λ (x : LineState g.row.P-Link.Denot). x.names) new) asked.grown in
     asked_child command letters outputs c.args.words.now b z o p c.ask_session-asked.result.kept.answers c.ask_session-asked.result.came link t.sul.names t.journal t.sul.stop t.sul.cut spawner (ended.faults ∙ started.one.faults) asked.put grown bears asked.live asked.stopped

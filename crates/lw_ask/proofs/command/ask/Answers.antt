@@ -1,6 +1,4 @@
 use Rattle.std.proofs.Common.{List, ℕ, refl, subst, subst₂}
-use Rattle.lw_children.specs.Spawners.{spawner_seen}
-use Rattle.lw_report.specs.States.{files_state, sink_state}
 use Rattle.lw_learn.specs.declared.arguments.Source.{Source}
 use Rattle.lw_ask.specs.AskRun.{AsksTexts}
 use Rattle.lw_ask.specs.Hints.{TakesHint}
@@ -17,17 +15,17 @@ returns-in-Ok-clause-ran g c =
     let a = c.args.arguments.now in
     let files = c.args.files.now in
     let read = c.find_system-system.new.files in
-    let f = files_state (F.holds files) (F.calls files) (F.reads files) (F.faults files) in
-    let m = files_state (F.holds read) (F.calls read) (F.reads read) (F.faults read) in
+    let f = F.state files in
+    let m = F.state read in
     let before = c.args.spawner.now in
     let now = c.ask_texts-told.new.spawner in
-    let b = spawner_seen (P.faults before) (P.started before) (P.retired before) (P.commands before) in
-    let z = spawner_seen (P.faults now) (P.started now) (P.retired now) (P.commands now) in
-    let o = sink_state (O.taken c.args.out.now) (O.faults c.args.out.now) in
-    let p = sink_state (O.taken c.ask_texts-told.new.out) (O.faults c.ask_texts-told.new.out) in
-    let e = sink_state (E.taken c.args.err.now) (E.faults c.args.err.now) in
-    let hinted = sink_state (E.taken c.put_hint.new.err) (E.faults c.put_hint.new.err) in
-    let d = sink_state (E.taken c.end_call.new.err) (E.faults c.end_call.new.err) in
+    let b = P.state before in
+    let z = P.state now in
+    let o = O.state c.args.out.now in
+    let p = O.state c.ask_texts-told.new.out in
+    let e = E.state c.args.err.now in
+    let hinted = E.state c.put_hint.new.err in
+    let d = E.state c.end_call.new.err in
     let found = c.find_system-system.result in
     let put = subst (λ (h : List ℕ). TakesHint h e hinted) c.as_slice.ensures.value c.put_hint.ensures in
     let told = c.ask_texts-told.result in
@@ -44,14 +42,14 @@ returns-clause-ran g c =
     let a = c.args.arguments.now in
     let files = c.args.files.now in
     let read = c.find_system-system.new.files in
-    let f = files_state (F.holds files) (F.calls files) (F.reads files) (F.faults files) in
-    let m = files_state (F.holds read) (F.calls read) (F.reads read) (F.faults read) in
+    let f = F.state files in
+    let m = F.state read in
     let before = c.args.spawner.now in
-    let b = spawner_seen (P.faults before) (P.started before) (P.retired before) (P.commands before) in
-    let o = sink_state (O.taken c.args.out.now) (O.faults c.args.out.now) in
-    let e = sink_state (E.taken c.args.err.now) (E.faults c.args.err.now) in
-    let hinted = sink_state (E.taken c.put_hint.new.err) (E.faults c.put_hint.new.err) in
-    let d = sink_state (E.taken c.end_call-in-Err.new.err) (E.faults c.end_call-in-Err.new.err) in
+    let b = P.state before in
+    let o = O.state c.args.out.now in
+    let e = E.state c.args.err.now in
+    let hinted = E.state c.put_hint.new.err in
+    let d = E.state c.end_call-in-Err.new.err in
     let found = c.find_system-system.result in
     let put = subst (λ (h : List ℕ). TakesHint h e hinted) c.as_slice.ensures.value c.put_hint.ensures in
     let has = subst₂ (λ (k : Source) (n : List ℕ). HasFound k n f m found.system found.hint.items) c.source.ensures c.system.ensures c.find_system-system.ensures.found in

@@ -1,6 +1,5 @@
 use Rattle.std.proofs.Common.{◌≡◌, ◌∙◌, Some, None, ap, refl}
 use Rattle.lw_mealy.specs.Limits.{MealyMachine}
-use Rattle.lw_report.specs.States.{sink_state}
 use Rattle.lw_sul.specs.SessionState.{SessionState}
 use Rattle.lw_sul.specs.TableSulState.{TableSulState}
 use Rattle.lw_ask.proofs.ChildLemmas.{as_many_names, never_stopped, put_as}
@@ -9,15 +8,15 @@ use Rattle.lw_ask.proofs.command.ask_table.Goals as goal
 pub returns-clause-asks : goal.returns-clause-asks
 returns-clause-asks g c =
     let O = g.O.Sink in
-    let o = sink_state (O.taken c.args.out.now) (O.faults c.args.out.now) in
+    let o = O.state c.args.out.now in
     let after = c.ask_session-kept.new.out in
-    let p = sink_state (O.taken after) (O.faults after) in
+    let p = O.state after in
     let m = c.args.machine in
     let s = c.new-session.result in
     let t = c.ask_session-kept.new.session in
     let asked = c.ask_session-kept.ensures in
     let is : Some s.sul.machine.rows ≡ Some m.mealy.rows = ap (λ (x : SessionState TableSulState). Some x.sul.machine.rows) c.new-session.ensures ∙ ap (λ (x : MealyMachine). Some x.rows) c.new.ensures.machine in
-    let are : t.sul.names ≡ m.outputs = as_many_names s.sul.names t.sul.names asked.grown asked.same.4 ∙ (ap (λ (x : SessionState TableSulState). x.sul.names) c.new-session.ensures ∙ c.new.ensures.names) in
+    let are : t.sul.names ≡ m.outputs = as_many_names s.sul.names t.sul.names asked.grown asked.same.most ∙ (ap (λ (x : SessionState TableSulState). x.sul.names) c.new-session.ensures ∙ c.new.ensures.names) in
     let came = c.ask_session-kept.result.came in
     record {
       came = came;

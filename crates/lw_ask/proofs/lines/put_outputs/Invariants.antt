@@ -4,4 +4,4 @@ use Rattle.lw_sul.specs.Names.{name_at}
 use Rattle.lw_ask.proofs.lines.put_outputs.Given as goal
 
 abbrev pub invariant-loop-output : goal.invariant-loop-output
-invariant-loop-output g l = l.line.items ≡ l.initial.line.items ++ flat_map (λ y. codes " " ++ name_at (g.S.Sul.names l.sul) y) (take l.output-index l.rest)
+invariant-loop-output g l = l.line.items ≡ l.initial.line.items ++ flat_map (λ y. codes " " ++ name_at (g.S.Sul.state l.sul).names y) (take l.output-index l.rest)

@@ -2,7 +2,6 @@ use Rattle.std.proofs.Common.{◌≡◌, ◌∙◌, List, ℕ, ap, subst, sym}
 use Rattle.lw_json.specs.declared.setup.Setup.{Setup}
 use Rattle.lw_json.specs.declared.setup.Setup.TheVariants as setup
 use Rattle.lw_json.specs.SetupFile.{IsSetupFile}
-use Rattle.lw_report.specs.States.{files_state}
 use Rattle.lw_ask.specs.bodies.Found.{HasReadSaid}
 use Rattle.lw_ask.proofs.ReadSteps.{table_said}
 use Rattle.lw_ask.proofs.SetupLemmas.{has_words}
@@ -11,9 +10,9 @@ use Rattle.lw_ask.proofs.reading.read_said.Goals as goal
 pub returns-in-Table-clause-read : goal.returns-in-Table-clause-read
 returns-in-Table-clause-read g c =
     let F = g.F.Files in
-    let f = files_state (F.holds c.args.files.now) (F.calls c.args.files.now) (F.reads c.args.files.now) (F.faults c.args.files.now) in
+    let f = F.state c.args.files.now in
     let end = c.read_table.new.files in
-    let g' = files_state (F.holds end) (F.calls end) (F.reads end) (F.faults end) in
+    let g' = F.state end in
     let table = c.as_str.result.now in
     let called : table ≡ c.in-Table.table = c.as_str.ensures.value ∙ c.get.ensures in
     subst (λ (v : Setup). HasReadSaid v f g' c.read_table.result) (ap (λ (n : List ℕ). setup.Table n) called ∙ sym c.in-Table.is)

@@ -120,27 +120,19 @@ impl Sul for Scripted {
     ghost use Rattle.std.specs.Prelude.{length, take, Some, None};
     ghost use Rattle.lw_base_tests.specs.TestScript.{runs_of};
 
-    ghost inputs = { λ _. 2 };
-
-    ghost outputs = { λ _. 3 };
-
-    ghost origin = { λ _. record { machine = None; link = None; letters = None } };
-
-    ghost state = { λ _. 0 };
-
-    ghost started = { λ s. s.started };
-
-    ghost faults = { λ s. s.faults };
-
-    ghost stop = { λ s. s.stop };
-
-    ghost cut = { λ s. s.cut };
-
-    ghost runs = { λ s. Some (runs_of s.log.items) };
-
-    ghost names = { λ s. take s.known s.names };
-
-    ghost most = { λ s. length s.names };
+    ghost state = { λ s. record {
+      inputs = 2;
+      outputs = 3;
+      origin = record { machine = None; link = None; letters = None };
+      place = 0;
+      started = s.started;
+      faults = s.faults;
+      stop = s.stop;
+      cut = s.cut;
+      runs = Some (runs_of s.log.items);
+      names = take s.known s.names;
+      most = length s.names;
+    } };
 
     fn inputs(&self) -> u16 {
         2

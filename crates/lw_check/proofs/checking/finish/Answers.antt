@@ -1,5 +1,4 @@
 use Rattle.lw_check.specs.Decision.{pair_of}
-use Rattle.lw_report.specs.States.{sink_state}
 use Rattle.lw_check.proofs.EndLemmas.{comes_to, still_named}
 use Rattle.lw_check.proofs.checking.finish.Goals as goal
 
@@ -7,7 +6,7 @@ pub returns-clause-comes : goal.returns-clause-comes
 returns-clause-comes g c =
     let O = g.O.Sink in
     rw c.new.ensures.outcome
-    (comes_to (pair_of c.args.machine c.args.answers) c.args.extra (sink_state (O.taken c.args.out.now) (O.faults c.args.out.now)) (sink_state (O.taken c.tell-outcome.new.out) (O.faults c.tell-outcome.new.out)) c.decide-decision.result.outcome c.tell-outcome.result c.decide-decision.ensures.decided c.tell-outcome.ensures.outcome c.tell-outcome.ensures.refused c.tell-outcome.ensures.part)
+    (comes_to (pair_of c.args.machine c.args.answers) c.args.extra (O.state c.args.out.now) (O.state c.tell-outcome.new.out) c.decide-decision.result.outcome c.tell-outcome.result c.decide-decision.ensures.decided c.tell-outcome.ensures.outcome c.tell-outcome.ensures.refused c.tell-outcome.ensures.part)
 
 pub returns-clause-said_part : goal.returns-clause-said_part
 returns-clause-said_part g c = rw c.new.ensures.outcome c.tell-outcome.ensures.said_part

@@ -4,7 +4,6 @@ use Rattle.lw_json.specs.AnswersFault.{HasAnswersFault}
 use Rattle.lw_json.specs.MachineFile.{IsMachineFile}
 use Rattle.lw_outside.specs.Files.{File, HoldsLong, noted, read_call}
 use Rattle.lw_report.specs.Reading.{ReadsFile, ReadsBadFile}
-use Rattle.lw_report.specs.States.{files_state}
 use Rattle.lw_words.specs.Cause.{CountedFault}
 use Rattle.lw_report.specs.declared.stops.ReadStop.{ReadStop}
 use Rattle.lw_check.proofs.ReadLemmas.{unread_answers, unread_model}
@@ -16,9 +15,9 @@ returns-in-Ok-read_answers_file-clause-ok g c =
     record {
       machine = c.in-Ok.machine;
       read_answers = c.in-Ok-read_answers_file.answers;
-      middle = F.reads c.read_machine_file.new.files;
+      middle = (F.state c.read_machine_file.new.files).reads;
       model_file = c.in-Ok.ensures.ok;
-      answers_file = subst (λ (h : Option (List File)). ReadsFile IsAnswersFile c.args.answers.now h (F.reads c.read_machine_file.new.files) (F.reads c.read_answers_file.new.files) c.in-Ok-read_answers_file.answers) c.in-Ok.ensures.same c.in-Ok-read_answers_file.ensures.ok;
+      answers_file = subst (λ (h : Option (List File)). ReadsFile IsAnswersFile c.args.answers.now h (F.state c.read_machine_file.new.files).reads (F.state c.read_answers_file.new.files).reads c.in-Ok-read_answers_file.answers) c.in-Ok.ensures.same c.in-Ok-read_answers_file.ensures.ok;
       pair = refl;
       calls = c.in-Ok-read_answers_file.ensures.ok_call ∙ ap (noted (read_call c.args.answers.now false)) c.in-Ok.ensures.ok_call;
       quiet = c.in-Ok-read_answers_file.ensures.quiet ∙ c.in-Ok.ensures.quiet;
@@ -32,15 +31,15 @@ returns-in-Err-read_answers_file-clause-err g c =
     let first = c.in-Ok.ensures in
     let model = c.args.model.now in
     let answers = c.args.answers.now in
-    let middle = F.reads c.read_machine_file.new.files in
-    let end = F.reads c.read_answers_file.new.files in
-    let before = files_state (F.holds c.args.files.now) (F.calls c.args.files.now) (F.reads c.args.files.now) (F.faults c.args.files.now) in
-    let calls = F.calls c.read_answers_file.new.files in
-    let model_file : end ≡ middle → ReadsFile IsMachineFile model (F.holds c.args.files.now) (F.reads c.args.files.now) end c.in-Ok.machine = λ same. subst (λ (r : List File). ReadsFile IsMachineFile model (F.holds c.args.files.now) (F.reads c.args.files.now) r c.in-Ok.machine) (sym same) first.ok in
+    let middle = (F.state c.read_machine_file.new.files).reads in
+    let end = (F.state c.read_answers_file.new.files).reads in
+    let before = F.state c.args.files.now in
+    let calls = (F.state c.read_answers_file.new.files).calls in
+    let model_file : end ≡ middle → ReadsFile IsMachineFile model (F.state c.args.files.now).holds (F.state c.args.files.now).reads end c.in-Ok.machine = λ same. subst (λ (r : List File). ReadsFile IsMachineFile model (F.state c.args.files.now).holds (F.state c.args.files.now).reads r c.in-Ok.machine) (sym same) first.ok in
     let then = ap (noted (read_call answers false)) first.ok_call in
     let failing = ap (noted (read_call answers true)) first.ok_call in
     rw c.outcome-in-Err-read_answers_file.ensures
-    (unread_answers model answers (files_state (F.holds c.args.files.now) (F.calls c.args.files.now) (F.reads c.args.files.now) (F.faults c.args.files.now)) (files_state (F.holds c.read_answers_file.new.files) (F.calls c.read_answers_file.new.files) (F.reads c.read_answers_file.new.files) (F.faults c.read_answers_file.new.files)) middle c.in-Ok.machine first.ok c.in-Err-read_answers_file.stop
+    (unread_answers model answers (F.state c.args.files.now) (F.state c.read_answers_file.new.files) middle c.in-Ok.machine first.ok c.in-Err-read_answers_file.stop
     (λ fault kind. (
       subst (λ (h : Option (List File)). ReadsBadFile IsAnswersFile HasAnswersFault answers h middle end fault) first.same (told.bad fault (is ∙ ap (λ (s : ReadStop). Err s) kind)),
       told.bad_call fault (is ∙ ap (λ (s : ReadStop). Err s) kind) ∙ then,
@@ -51,13 +50,13 @@ returns-in-Err-read_answers_file-clause-err g c =
       (c.in-Ok.machine, model_file (told.long_unread (is ∙ ap (λ (s : ReadStop). Err s) kind))),
     ))
     (λ kind. (
-      subst (λ (n : ℕ). CountedFault n (F.faults c.read_answers_file.new.files)) first.quiet (told.failed (is ∙ ap (λ (s : ReadStop). Err s) kind)),
+      subst (λ (n : ℕ). CountedFault n (F.state c.read_answers_file.new.files).faults) first.quiet (told.failed (is ∙ ap (λ (s : ReadStop). Err s) kind)),
       told.failed_call (is ∙ ap (λ (s : ReadStop). Err s) kind) ∙ failing,
       (c.in-Ok.machine, model_file (told.failed_unread (is ∙ ap (λ (s : ReadStop). Err s) kind))),
     ))
     (λ kind. ⊎_elim
-    (λ (none : calls ≡ F.calls c.read_machine_file.new.files). inl (none ∙ first.ok_call))
-    (λ (one : calls ≡ noted (read_call answers false) (F.calls c.read_machine_file.new.files)). inr (one ∙ then))
+    (λ (none : calls ≡ (F.state c.read_machine_file.new.files).calls). inl (none ∙ first.ok_call))
+    (λ (one : calls ≡ noted (read_call answers false) (F.state c.read_machine_file.new.files).calls). inr (one ∙ then))
     (told.memory (is ∙ ap (λ (s : ReadStop). Err s) kind))))
 
 pub returns-in-Err-clause-err : goal.returns-in-Err-clause-err
@@ -66,7 +65,7 @@ returns-in-Err-clause-err g c =
     let told = c.read_machine_file.ensures in
     let is = c.in-Err.is in
     rw c.outcome.ensures
-    (unread_model c.args.model.now c.args.answers.now (files_state (F.holds c.args.files.now) (F.calls c.args.files.now) (F.reads c.args.files.now) (F.faults c.args.files.now)) (files_state (F.holds c.read_machine_file.new.files) (F.calls c.read_machine_file.new.files) (F.reads c.read_machine_file.new.files) (F.faults c.read_machine_file.new.files)) c.in-Err.stop
+    (unread_model c.args.model.now c.args.answers.now (F.state c.args.files.now) (F.state c.read_machine_file.new.files) c.in-Err.stop
     (λ fault kind. let e = is ∙ ap (λ (s : ReadStop). Err s) kind in (told.bad fault e, told.bad_call fault e))
     (λ kind. let e = is ∙ ap (λ (s : ReadStop). Err s) kind in (told.long e, told.long_call e, told.long_unread e))
     (λ kind. let e = is ∙ ap (λ (s : ReadStop). Err s) kind in (told.failed e, told.failed_call e, told.failed_unread e))

@@ -1,13 +1,12 @@
 use Rattle.std.proofs.Common.{◌∙◌}
 use Rattle.lw_rounds.specs.Stops.{learn_stop}
-use Rattle.lw_children.specs.Spawners.{spawner_seen}
 use Rattle.lw_children.proofs.AskedLemmas.{asked_kept}
 use Rattle.lw_children.proofs.EndLemmas.{later_linked}
 use Rattle.lw_children.proofs.learning.learn_and_retire.Goals as goal
 
 pub retire_all-requires-clause-linked : goal.retire_all-requires-clause-linked
 retire_all-requires-clause-linked g c κs within =
-    later_linked g.P.Link.Link.number (spawner_seen (g.P.Spawner.faults c.args.spawner.now) (g.P.Spawner.started c.args.spawner.now) (g.P.Spawner.retired c.args.spawner.now) (g.P.Spawner.commands c.args.spawner.now)) c.args.pool c.learn_with-learned.result.pool c.into_parts-sessions.result.0.items (learn_stop c.learn_with-learned.result.learned) c.requires.children c.learn_with-learned.ensures.leaves c.into_parts-sessions.ensures.sessions
+    later_linked g.P.Link.Link.state (g.P.Spawner.state c.args.spawner.now) c.args.pool c.learn_with-learned.result.pool c.into_parts-sessions.result.0.items (learn_stop c.learn_with-learned.result.learned) c.requires.children c.learn_with-learned.ensures.leaves c.into_parts-sessions.ensures.sessions
 
 pub returns-clause-asked : goal.returns-clause-asked
 returns-clause-asked g c =

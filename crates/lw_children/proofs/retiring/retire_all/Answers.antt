@@ -2,8 +2,7 @@ use Rattle.std.proofs.Common.{ℕ, ◌<◌, List, [], ◌∷◌, ◌++◌, map, 
 use Rattle.std.specs.Vec.Iter.{into_iter_items}
 use Rattle.lw_sul.specs.SessionState.{SessionState}
 use Rattle.lw_line.specs.LineState.{LineState}
-use Rattle.lw_children.specs.Spawners.{spawner_seen}
-use Rattle.lw_children.specs.Crews.{RetiresAll, retired_of}
+use Rattle.lw_children.specs.Crews.{RetiresAll}
 use Rattle.lw_children.proofs.RetireLemmas.{all_done, none_retired, was_started, not_retired, one_more_retired}
 use Rattle.lw_children.proofs.retiring.retire_all.Goals as goal
 
@@ -12,32 +11,32 @@ loop-session-init g c = record {
   can = tt;
   ends = tt;
   rest = sym c.into_iter-session-iterator.ensures.into_iter_gives.0;
-  retires = none_retired g.P.Link.Link.number (spawner_seen (g.P.Spawner.faults c.args.spawner.now) (g.P.Spawner.started c.args.spawner.now) (g.P.Spawner.retired c.args.spawner.now) (g.P.Spawner.commands c.args.spawner.now));
+  retires = none_retired g.P.Link.Link.state (g.P.Spawner.state c.args.spawner.now);
 }
 
 pub retire-requires-clause-started : goal.retire-requires-clause-started
 retire-requires-clause-started g c =
-    subst (λ (n : ℕ). n < g.P.Spawner.started c.loop-session.spawner) (ap g.P.Link.Link.number (sym c.link_of-link.ensures.link))
-    (was_started g.P.Link.Link.number c.args.sessions.items c.loop-session.yielded (into_iter_items c.next.new.self) c.in-Some.session (spawner_seen (g.P.Spawner.faults c.args.spawner.now) (g.P.Spawner.started c.args.spawner.now) (g.P.Spawner.retired c.args.spawner.now) (g.P.Spawner.commands c.args.spawner.now)) (spawner_seen (g.P.Spawner.faults c.loop-session.spawner) (g.P.Spawner.started c.loop-session.spawner) (g.P.Spawner.retired c.loop-session.spawner) (g.P.Spawner.commands c.loop-session.spawner)) c.requires.linked c.loop-session.invariant.retires (c.loop-session.invariant.rest ∙ ap (λ (l : List (SessionState (LineState g.row.P-Link.Denot))). c.loop-session.yielded ++ l) c.in-Some.ensures.steps.0))
+    subst (λ (n : ℕ). n < (g.P.Spawner.state c.loop-session.spawner).started) (ap (λ x. (g.P.Link.Link.state x).number) (sym c.link_of-link.ensures.link))
+    (was_started g.P.Link.Link.state c.args.sessions.items c.loop-session.yielded (into_iter_items c.next.new.self) c.in-Some.session (g.P.Spawner.state c.args.spawner.now) (g.P.Spawner.state c.loop-session.spawner) c.requires.linked c.loop-session.invariant.retires (c.loop-session.invariant.rest ∙ ap (λ (l : List (SessionState (LineState g.row.P-Link.Denot))). c.loop-session.yielded ++ l) c.in-Some.ensures.steps.0))
 
 pub retire-requires-clause-once : goal.retire-requires-clause-once
 retire-requires-clause-once g c =
-    subst (λ (n : ℕ). ¬ Contains (map (λ r. r.number) (g.P.Spawner.retired c.loop-session.spawner)) n) (ap g.P.Link.Link.number (sym c.link_of-link.ensures.link))
-    (not_retired g.P.Link.Link.number c.args.sessions.items c.loop-session.yielded (into_iter_items c.next.new.self) c.in-Some.session (spawner_seen (g.P.Spawner.faults c.args.spawner.now) (g.P.Spawner.started c.args.spawner.now) (g.P.Spawner.retired c.args.spawner.now) (g.P.Spawner.commands c.args.spawner.now)) (spawner_seen (g.P.Spawner.faults c.loop-session.spawner) (g.P.Spawner.started c.loop-session.spawner) (g.P.Spawner.retired c.loop-session.spawner) (g.P.Spawner.commands c.loop-session.spawner)) c.requires.linked c.loop-session.invariant.retires (c.loop-session.invariant.rest ∙ ap (λ (l : List (SessionState (LineState g.row.P-Link.Denot))). c.loop-session.yielded ++ l) c.in-Some.ensures.steps.0))
+    subst (λ (n : ℕ). ¬ Contains (map (λ r. r.number) (g.P.Spawner.state c.loop-session.spawner).retired) n) (ap (λ x. (g.P.Link.Link.state x).number) (sym c.link_of-link.ensures.link))
+    (not_retired g.P.Link.Link.state c.args.sessions.items c.loop-session.yielded (into_iter_items c.next.new.self) c.in-Some.session (g.P.Spawner.state c.args.spawner.now) (g.P.Spawner.state c.loop-session.spawner) c.requires.linked c.loop-session.invariant.retires (c.loop-session.invariant.rest ∙ ap (λ (l : List (SessionState (LineState g.row.P-Link.Denot))). c.loop-session.yielded ++ l) c.in-Some.ensures.steps.0))
 
 pub loop-session-preserved : goal.loop-session-preserved
 loop-session-preserved g c = record {
   can = tt;
   ends = tt;
   rest = c.loop-session.invariant.rest ∙ (ap (λ (l : List (SessionState (LineState g.row.P-Link.Denot))). c.loop-session.yielded ++ l) c.in-Some.ensures.steps.0 ∙ sym (append_assoc c.loop-session.yielded (c.in-Some.session ∷ []) (into_iter_items c.next.new.self)));
-  retires = one_more_retired g.P.Link.Link.number c.args.sessions.items c.loop-session.yielded (into_iter_items c.next.new.self) c.in-Some.session (spawner_seen (g.P.Spawner.faults c.args.spawner.now) (g.P.Spawner.started c.args.spawner.now) (g.P.Spawner.retired c.args.spawner.now) (g.P.Spawner.commands c.args.spawner.now)) (spawner_seen (g.P.Spawner.faults c.loop-session.spawner) (g.P.Spawner.started c.loop-session.spawner) (g.P.Spawner.retired c.loop-session.spawner) (g.P.Spawner.commands c.loop-session.spawner)) c.requires.linked c.loop-session.invariant.retires (c.loop-session.invariant.rest ∙ ap (λ (l : List (SessionState (LineState g.row.P-Link.Denot))). c.loop-session.yielded ++ l) c.in-Some.ensures.steps.0)
-      (retired_of g.P.Link.Link.number g.P.Link.Link.faults g.P.Link.Link.ends g.P.Link.Link.transcript c.link_of-link.result) (spawner_seen (g.P.Spawner.faults c.retire.new.self) (g.P.Spawner.started c.retire.new.self) (g.P.Spawner.retired c.retire.new.self) (g.P.Spawner.commands c.retire.new.self))
+  retires = one_more_retired g.P.Link.Link.state c.args.sessions.items c.loop-session.yielded (into_iter_items c.next.new.self) c.in-Some.session (g.P.Spawner.state c.args.spawner.now) (g.P.Spawner.state c.loop-session.spawner) c.requires.linked c.loop-session.invariant.retires (c.loop-session.invariant.rest ∙ ap (λ (l : List (SessionState (LineState g.row.P-Link.Denot))). c.loop-session.yielded ++ l) c.in-Some.ensures.steps.0)
+      (g.P.Link.Link.state c.link_of-link.result) (g.P.Spawner.state c.retire.new.self)
       c.link_of-link.ensures.bears c.retire.ensures.retired c.retire.ensures.started c.retire.ensures.faults c.retire.ensures.commands;
 }
 
 pub returns : goal.returns
 returns g c =
     let it = c.loop-session.session-iterator in
-    subst (λ (l : List (SessionState (LineState g.row.P-Link.Denot))). RetiresAll g.P.Link.Link.number l (spawner_seen (g.P.Spawner.faults c.args.spawner.now) (g.P.Spawner.started c.args.spawner.now) (g.P.Spawner.retired c.args.spawner.now) (g.P.Spawner.commands c.args.spawner.now)) (spawner_seen (g.P.Spawner.faults c.loop-session.spawner) (g.P.Spawner.started c.loop-session.spawner) (g.P.Spawner.retired c.loop-session.spawner) (g.P.Spawner.commands c.loop-session.spawner)))
+    subst (λ (l : List (SessionState (LineState g.row.P-Link.Denot))). RetiresAll g.P.Link.Link.state l (g.P.Spawner.state c.args.spawner.now) (g.P.Spawner.state c.loop-session.spawner))
     (all_done c.args.sessions.items c.loop-session.yielded (into_iter_items it) c.loop-session.invariant.rest (sym it.rest.ok.0 ∙ c.in-None.ensures.steps.0))
     c.loop-session.invariant.retires

@@ -1,6 +1,5 @@
 use Rattle.std.proofs.Common.{◌≡◌, ◌++◌}
 use Rattle.std.specs.Vec.Iter.{into_iter_items}
-use Rattle.lw_children.specs.Spawners.{spawner_seen}
 use Rattle.lw_children.specs.Crews.{RetiresAll}
 use Rattle.lw_children.proofs.retiring.retire_all.Given as goal
 
@@ -9,7 +8,7 @@ invariant-loop-session g l = record {
   can : (goal.iterator-loop-session g).can_next l.session-iterator;
   ends : (goal.iterator-loop-session g).is_finite l.session-iterator;
   rest : l.fn.sessions.items ≡ l.yielded ++ into_iter_items l.session-iterator;
-  retires : RetiresAll g.P.Link.Link.number l.yielded
-      (spawner_seen (g.P.Spawner.faults l.fn.spawner) (g.P.Spawner.started l.fn.spawner) (g.P.Spawner.retired l.fn.spawner) (g.P.Spawner.commands l.fn.spawner))
-      (spawner_seen (g.P.Spawner.faults l.spawner) (g.P.Spawner.started l.spawner) (g.P.Spawner.retired l.spawner) (g.P.Spawner.commands l.spawner));
+  retires : RetiresAll g.P.Link.Link.state l.yielded
+      (g.P.Spawner.state l.fn.spawner)
+      (g.P.Spawner.state l.spawner);
 }

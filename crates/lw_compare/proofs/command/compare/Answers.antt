@@ -1,6 +1,5 @@
 use Rattle.std.proofs.Common.{◌≡◌, ◌∙◌, List, [], None, ap, subst}
 use Rattle.lw_words.specs.declared.kept.KeptAnswer.{KeptAnswer}
-use Rattle.lw_report.specs.States.{files_state, sink_state}
 use Rattle.lw_report.specs.Writing.{TakesAll, TakesSome, said_text}
 use Rattle.lw_compare.proofs.RunLemmas.{read_run, unread_run}
 use Rattle.lw_compare.proofs.command.compare.Goals as goal
@@ -10,12 +9,12 @@ returns-in-Ok-clause-ran g c =
     let F = g.F.Files in
     let O = g.O.Sink in
     let E = g.E.Sink in
-    let f = files_state (F.holds c.args.files.now) (F.calls c.args.files.now) (F.reads c.args.files.now) (F.faults c.args.files.now) in
-    let now = files_state (F.holds c.read_models.new.files) (F.calls c.read_models.new.files) (F.reads c.read_models.new.files) (F.faults c.read_models.new.files) in
-    let o = sink_state (O.taken c.args.out.now) (O.faults c.args.out.now) in
-    let e = sink_state (E.taken c.args.err.now) (E.faults c.args.err.now) in
-    let p = sink_state (O.taken c.finish.new.out) (O.faults c.finish.new.out) in
-    let d = sink_state (E.taken c.finish.new.err) (E.faults c.finish.new.err) in
+    let f = F.state c.args.files.now in
+    let now = F.state c.read_models.new.files in
+    let o = O.state c.args.out.now in
+    let e = E.state c.args.err.now in
+    let p = O.state c.finish.new.out in
+    let d = E.state c.finish.new.err in
     let told = c.finish.ensures in
     read_run c.args.first.now c.args.second.now f now o p e d c.finish.result
     (record {
@@ -37,14 +36,14 @@ returns-in-Err-clause-ran g c =
     let F = g.F.Files in
     let O = g.O.Sink in
     let E = g.E.Sink in
-    let f = files_state (F.holds c.args.files.now) (F.calls c.args.files.now) (F.reads c.args.files.now) (F.faults c.args.files.now) in
-    let now = files_state (F.holds c.read_models.new.files) (F.calls c.read_models.new.files) (F.reads c.read_models.new.files) (F.faults c.read_models.new.files) in
-    let o = sink_state (O.taken c.args.out.now) (O.faults c.args.out.now) in
-    let e = sink_state (E.taken c.args.err.now) (E.faults c.args.err.now) in
-    let d = sink_state (E.taken c.refuse.new.err) (E.faults c.refuse.new.err) in
+    let f = F.state c.args.files.now in
+    let now = F.state c.read_models.new.files in
+    let o = O.state c.args.out.now in
+    let e = E.state c.args.err.now in
+    let d = E.state c.refuse.new.err in
     let told = c.refuse.ensures in
-    let said = subst (λ (kept : List KeptAnswer). TakesAll (said_text None None kept 0 c.refuse.result.outcome) (E.taken c.args.err.now) (E.taken c.refuse.new.err)) c.new.ensures in
-    let part = subst (λ (kept : List KeptAnswer). TakesSome (said_text None None kept 0 c.refuse.result.outcome) (E.taken c.args.err.now) (E.taken c.refuse.new.err)) c.new.ensures in
+    let said = subst (λ (kept : List KeptAnswer). TakesAll (said_text None None kept 0 c.refuse.result.outcome) (E.state c.args.err.now).taken (E.state c.refuse.new.err).taken) c.new.ensures in
+    let part = subst (λ (kept : List KeptAnswer). TakesSome (said_text None None kept 0 c.refuse.result.outcome) (E.state c.args.err.now).taken (E.state c.refuse.new.err).taken) c.new.ensures in
     unread_run c.args.first.now c.args.second.now f now o e d c.refuse.result c.in-Err.outcome c.in-Err.ensures.err told.outcome c.read_models.ensures.same
     (record { model = told.model; learner = told.learner; kept = ap (λ k. k.answers) told.kept ∙ c.new.ensures; outputs = told.named })
     (λ quiet. said (told.said quiet)) (part told.part)

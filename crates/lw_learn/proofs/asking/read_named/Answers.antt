@@ -1,6 +1,5 @@
 use Rattle.std.proofs.Common.{◌≡◌, Err, ap, subst, sym, ◌∙◌, ◌++◌, ◌∷◌, [], ◌≤◌, length, List, ℕ}
 use Rattle.lw_outside.specs.Files.{Holds, longest_file}
-use Rattle.lw_report.specs.States.{files_state}
 use Rattle.lw_report.specs.Stops.{read_outcome}
 use Rattle.lw_report.specs.declared.role.Role.TheVariants.{Words}
 use Rattle.lw_learn.proofs.WordLemmas.{named_read, named_unread, not_read_at}
@@ -13,8 +12,8 @@ returns-in-Err g c =
     let letters = c.args.inputs.now in
     let before = c.args.files.now in
     let now = c.read.new.self in
-    let f = files_state (F.holds before) (F.calls before) (F.reads before) (F.faults before) in
-    let h = files_state (F.holds now) (F.calls now) (F.reads now) (F.faults now) in
+    let f = F.state before in
+    let h = F.state now in
     let read = c.in-Err.ensures in
     let is = c.outcome.ensures ∙ ap (read_outcome Words) c.from.ensures in
     named_unread name letters f h c.outcome.result
@@ -26,10 +25,10 @@ returns g c =
     let F = g.F.Files in
     let before = c.args.files.now in
     let now = c.read.new.self in
-    let f = files_state (F.holds before) (F.calls before) (F.reads before) (F.faults before) in
-    let h = files_state (F.holds now) (F.calls now) (F.reads now) (F.faults now) in
+    let f = F.state before in
+    let h = F.state now in
     let read = c.in-Ok.ensures in
     let words = c.words_in.ensures in
     named_read c.args.name.now c.args.inputs.now f h c.deref.result.now c.words_in.result
-    (record { given = subst (λ (bytes : List ℕ). F.reads now ≡ F.reads before ++ (c.args.name.now, bytes) ∷ []) (sym c.deref.ensures.value) read.given; short = subst (λ (bytes : List ℕ). length bytes ≤ longest_file) (sym c.deref.ensures.value) read.short; held = subst (λ (bytes : List ℕ). Holds (F.holds before) c.args.name.now bytes) (sym c.deref.ensures.value) read.told })
+    (record { given = subst (λ (bytes : List ℕ). (F.state now).reads ≡ (F.state before).reads ++ (c.args.name.now, bytes) ∷ []) (sym c.deref.ensures.value) read.given; short = subst (λ (bytes : List ℕ). length bytes ≤ longest_file) (sym c.deref.ensures.value) read.short; held = subst (λ (bytes : List ℕ). Holds (F.state before).holds c.args.name.now bytes) (sym c.deref.ensures.value) read.told })
     read.ok read.quiet read.same read.counts words.ok words.words words.err

@@ -1,9 +1,8 @@
 use Rattle.std.proofs.Common.{inl}
-use Rattle.lw_report.specs.States.{sink_state}
 use Rattle.lw_learn.proofs.command.learn.Goals as goal
 
 pub returns-clause-run : goal.returns-clause-run
 returns-clause-run g c =
     let E = g.E.Sink in
     let told = c.learn_logged-end.new.err in
-    record { told = sink_state (E.taken told) (E.faults told); ends = c.learn_logged-end.ensures.ends; log = inl c.say_log.ensures }
+    record { told = E.state told; ends = c.learn_logged-end.ensures.ends; log = inl c.say_log.ensures }

@@ -1,6 +1,5 @@
 use Rattle.std.proofs.Common.{◌∙◌, Some, ap}
 use Rattle.lw_mealy.specs.Limits.{MealyMachine}
-use Rattle.lw_report.specs.States.{files_state, sink_state}
 use Rattle.lw_learn.proofs.RunLemmas.{told_left, told_written}
 use Rattle.lw_learn.proofs.ending.end_model.Goals as goal
 
@@ -11,12 +10,12 @@ returns-in-Ok-clause-told g c =
     let E = g.E.Sink in
     let before = c.args.files.now in
     let files = c.write_out.new.files in
-    let f = files_state (F.holds before) (F.calls before) (F.reads before) (F.faults before) in
-    let h = files_state (F.holds files) (F.calls files) (F.reads files) (F.faults files) in
-    let o = sink_state (O.taken c.args.out.now) (O.faults c.args.out.now) in
-    let p = sink_state (O.taken c.write_out.new.out) (O.faults c.write_out.new.out) in
-    let e = sink_state (E.taken c.args.err.now) (E.faults c.args.err.now) in
-    let d = sink_state (E.taken c.write_out.new.err) (E.faults c.write_out.new.err) in
+    let f = F.state before in
+    let h = F.state files in
+    let o = O.state c.args.out.now in
+    let p = O.state c.write_out.new.out in
+    let e = E.state c.args.err.now in
+    let d = E.state c.write_out.new.err in
     let is = c.in-Ok.ensures in
     let w = c.write_out.ensures in
     told_written c.args.arguments.now c.args.system.now c.args.names c.args.learned c.in-Ok.machine c.args.kept.answers c.args.saved f h o p e d c.write_out.result is.inputs is.outputs is.mealy
@@ -47,10 +46,10 @@ returns-in-Err-clause-told g c =
     let O = g.O.Sink in
     let E = g.E.Sink in
     let before = c.args.files.now in
-    let f = files_state (F.holds before) (F.calls before) (F.reads before) (F.faults before) in
-    let o = sink_state (O.taken c.args.out.now) (O.faults c.args.out.now) in
-    let e = sink_state (E.taken c.args.err.now) (E.faults c.args.err.now) in
-    let d = sink_state (E.taken c.leave_model.new.err) (E.faults c.leave_model.new.err) in
+    let f = F.state before in
+    let o = O.state c.args.out.now in
+    let e = E.state c.args.err.now in
+    let d = E.state c.leave_model.new.err in
     let w = c.leave_model.ensures in
     told_left c.args.arguments.now c.args.system.now c.args.names c.args.learned c.args.kept.answers c.args.saved f o e d c.leave_model.result c.requires.few c.requires.sizes w.outcome
     (w.model ∙ ap (λ (m : MealyMachine). Some m) c.in-Err.ensures.back)

@@ -27,11 +27,11 @@ returns-in-Ok-clause-said g c none =
     let kept = c.args.kept.answers in
     let names = names_said (option_map (λ n. n.now) c.as_ref.result) in
     let same = text_same c.inputs.result.now (letters_of c.args.system.now) names c.args.names.names kept kept c.args.extra c.refuse.result.outcome c.inputs.ensures (ap names_said c.as_ref.ensures.value ∙ c.in-Ok.ensures) refl in
-    subst (λ (t : List ℕ). TakesAll t (g.E.Sink.taken c.args.err.now) (g.E.Sink.taken c.refuse.new.err)) same (c.refuse.ensures.said none)
+    subst (λ (t : List ℕ). TakesAll t (g.E.Sink.state c.args.err.now).taken (g.E.Sink.state c.refuse.new.err).taken) same (c.refuse.ensures.said none)
 
 pub returns-in-Ok-clause-part : goal.returns-in-Ok-clause-part
 returns-in-Ok-clause-part g c =
     let kept = c.args.kept.answers in
     let names = names_said (option_map (λ n. n.now) c.as_ref.result) in
     let same = text_same c.inputs.result.now (letters_of c.args.system.now) names c.args.names.names kept kept c.args.extra c.refuse.result.outcome c.inputs.ensures (ap names_said c.as_ref.ensures.value ∙ c.in-Ok.ensures) refl in
-    subst (λ (t : List ℕ). TakesSome t (g.E.Sink.taken c.args.err.now) (g.E.Sink.taken c.refuse.new.err)) same c.refuse.ensures.part
+    subst (λ (t : List ℕ). TakesSome t (g.E.Sink.state c.args.err.now).taken (g.E.Sink.state c.refuse.new.err).taken) same c.refuse.ensures.part

@@ -2,7 +2,6 @@ use Rattle.std.proofs.Common.{List, Result, ℕ, ap, subst, sym}
 use Rattle.lw_words.specs.Cause.{CountedFault}
 use Rattle.lw_rounds.specs.declared.learned.Learned.{Learned}
 use Rattle.lw_rounds.specs.declared.stops.LearnStop.{LearnStop}
-use Rattle.lw_report.specs.States.{files_state, sink_state}
 use Rattle.lw_report.specs.Text.{text_of}
 use Rattle.lw_report.specs.Writing.{TakesAll, TakesSome}
 use Rattle.lw_learn.specs.Ending.{IsToldOf}
@@ -23,13 +22,13 @@ returns-in-Ok-clause-told g c =
     let before = c.args.files.now in
     let between = c.save_kept-saved.new.files in
     let after = c.end_model.new.files in
-    let f = files_state (F.holds before) (F.calls before) (F.reads before) (F.faults before) in
-    let m = files_state (F.holds between) (F.calls between) (F.reads between) (F.faults between) in
-    let h = files_state (F.holds after) (F.calls after) (F.reads after) (F.faults after) in
-    let o = sink_state (O.taken c.args.out.now) (O.faults c.args.out.now) in
-    let p = sink_state (O.taken c.end_model.new.out) (O.faults c.end_model.new.out) in
-    let e = sink_state (E.taken c.args.err.now) (E.faults c.args.err.now) in
-    let d = sink_state (E.taken c.end_model.new.err) (E.faults c.end_model.new.err) in
+    let f = F.state before in
+    let m = F.state between in
+    let h = F.state after in
+    let o = O.state c.args.out.now in
+    let p = O.state c.end_model.new.out in
+    let e = E.state c.args.err.now in
+    let d = E.state c.end_model.new.err in
     let was = c.save_kept-saved.result in
     let saved = subst (λ (l : List (List ℕ)). HasSaved a.kept l naming.names kept f m was) c.inputs.ensures c.save_kept-saved.ensures in
     end_of a s naming c.args.found.learned kept was f m h o p e d c.end_model.result saved
@@ -46,11 +45,11 @@ returns-in-Err-clause-told g c =
     let kept = c.args.found.kept.answers in
     let before = c.args.files.now in
     let between = c.save_kept-saved.new.files in
-    let f = files_state (F.holds before) (F.calls before) (F.reads before) (F.faults before) in
-    let m = files_state (F.holds between) (F.calls between) (F.reads between) (F.faults between) in
-    let o = sink_state (O.taken c.args.out.now) (O.faults c.args.out.now) in
-    let e = sink_state (E.taken c.args.err.now) (E.faults c.args.err.now) in
-    let d = sink_state (E.taken c.end_stop.new.err) (E.faults c.end_stop.new.err) in
+    let f = F.state before in
+    let m = F.state between in
+    let o = O.state c.args.out.now in
+    let e = E.state c.args.err.now in
+    let d = E.state c.end_stop.new.err in
     let w = c.end_stop.ensures in
     let end = c.end_stop.result in
     let was = c.save_kept-saved.result in

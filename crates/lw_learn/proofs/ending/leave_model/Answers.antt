@@ -7,6 +7,6 @@ use Rattle.lw_learn.proofs.ending.leave_model.Goals as goal
 
 pub returns-clause-part : goal.returns-clause-part
 returns-clause-part g c =
-    let taken = g.E.Sink.taken in
+    let taken = λ x. (g.E.Sink.state x).taken in
     let memory = wanted c.say-outcome.result c.say-outcome.ensures.outcome in
     subst (λ (o : Outcome). TakesSome (text_of [] [] c.args.kept.answers c.args.extra o) (taken c.args.err.now) (taken c.say-outcome.new.err)) memory c.say-outcome.ensures.part

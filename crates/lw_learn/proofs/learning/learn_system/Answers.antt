@@ -2,7 +2,6 @@ use Rattle.std.proofs.Common.{◌≡◌, length, IfOk, IfErr, sym, subst}
 use Rattle.lw_words.specs.Answer.{answers_of}
 use Rattle.lw_json.specs.KeptOver.{AreKeptOver}
 use Rattle.lw_children.specs.Keeping.{count_of}
-use Rattle.lw_children.specs.Spawners.{spawner_seen}
 use Rattle.lw_learn.specs.Findings.{StopsBy}
 use Rattle.lw_learn.specs.Tasks.{declared_of, letters_of}
 use Rattle.lw_learn.specs.bodies.Ready.{GivesModel}
@@ -29,19 +28,19 @@ returns-in-Table-clause-over g c =
 pub returns-in-Children-clause-model : goal.returns-in-Children-clause-model
 returns-in-Children-clause-model g c =
     let m = c.in-Children.command in
-    subst (λ (s : System). IfOk c.learn_command.result.learned (GivesModel c.args.arguments.now.learner (length (letters_of s)) (length c.learn_command.result.names.names) c.args.arguments.now.extra c.args.arguments.now.max_states c.learn_command.result.kept.answers)) (sym c.in-Children.is) (command_gives c.args.arguments.now.learner m.words m.inputs c.args.arguments.now.workers c.args.arguments.now.extra c.args.arguments.now.max_states c.args.cache.kept (spawner_seen (g.P.Spawner.faults c.args.spawner.now) (g.P.Spawner.started c.args.spawner.now) (g.P.Spawner.retired c.args.spawner.now) (g.P.Spawner.commands c.args.spawner.now)) (spawner_seen (g.P.Spawner.faults c.learn_command.new.spawner) (g.P.Spawner.started c.learn_command.new.spawner) (g.P.Spawner.retired c.learn_command.new.spawner) (g.P.Spawner.commands c.learn_command.new.spawner)) c.learn_command.result.learned c.learn_command.result.kept.answers c.learn_command.result.names.names m.outputs c.learn_command.ensures.found)
+    subst (λ (s : System). IfOk c.learn_command.result.learned (GivesModel c.args.arguments.now.learner (length (letters_of s)) (length c.learn_command.result.names.names) c.args.arguments.now.extra c.args.arguments.now.max_states c.learn_command.result.kept.answers)) (sym c.in-Children.is) (command_gives c.args.arguments.now.learner m.words m.inputs c.args.arguments.now.workers c.args.arguments.now.extra c.args.arguments.now.max_states c.args.cache.kept (g.P.Spawner.state c.args.spawner.now) (g.P.Spawner.state c.learn_command.new.spawner) c.learn_command.result.learned c.learn_command.result.kept.answers c.learn_command.result.names.names m.outputs c.learn_command.ensures.found)
 
 pub returns-in-Children-clause-sizes : goal.returns-in-Children-clause-sizes
 returns-in-Children-clause-sizes g c =
     let m = c.in-Children.command in
-    subst (λ (s : System). IfOk c.learn_command.result.learned (λ l. (l.model.inputs ≡ length (letters_of s)) × (l.model.outputs ≡ length c.learn_command.result.names.names))) (sym c.in-Children.is) (command_sizes c.args.arguments.now.learner m.words m.inputs c.args.arguments.now.workers c.args.arguments.now.extra c.args.arguments.now.max_states c.args.cache.kept (spawner_seen (g.P.Spawner.faults c.args.spawner.now) (g.P.Spawner.started c.args.spawner.now) (g.P.Spawner.retired c.args.spawner.now) (g.P.Spawner.commands c.args.spawner.now)) (spawner_seen (g.P.Spawner.faults c.learn_command.new.spawner) (g.P.Spawner.started c.learn_command.new.spawner) (g.P.Spawner.retired c.learn_command.new.spawner) (g.P.Spawner.commands c.learn_command.new.spawner)) c.learn_command.result.learned c.learn_command.result.kept.answers c.learn_command.result.names.names m.outputs c.learn_command.ensures.found)
+    subst (λ (s : System). IfOk c.learn_command.result.learned (λ l. (l.model.inputs ≡ length (letters_of s)) × (l.model.outputs ≡ length c.learn_command.result.names.names))) (sym c.in-Children.is) (command_sizes c.args.arguments.now.learner m.words m.inputs c.args.arguments.now.workers c.args.arguments.now.extra c.args.arguments.now.max_states c.args.cache.kept (g.P.Spawner.state c.args.spawner.now) (g.P.Spawner.state c.learn_command.new.spawner) c.learn_command.result.learned c.learn_command.result.kept.answers c.learn_command.result.names.names m.outputs c.learn_command.ensures.found)
 
 pub returns-in-Children-clause-stops : goal.returns-in-Children-clause-stops
 returns-in-Children-clause-stops g c =
     let m = c.in-Children.command in
-    subst (λ (s : System). IfErr c.learn_command.result.learned (StopsBy (length (letters_of s)) (count_of (declared_of s)) c.args.arguments.now.extra c.args.arguments.now.max_states (answers_of c.learn_command.result.kept.answers))) (sym c.in-Children.is) (command_stops c.args.arguments.now.learner m.words m.inputs c.args.arguments.now.workers c.args.arguments.now.extra c.args.arguments.now.max_states c.args.cache.kept (spawner_seen (g.P.Spawner.faults c.args.spawner.now) (g.P.Spawner.started c.args.spawner.now) (g.P.Spawner.retired c.args.spawner.now) (g.P.Spawner.commands c.args.spawner.now)) (spawner_seen (g.P.Spawner.faults c.learn_command.new.spawner) (g.P.Spawner.started c.learn_command.new.spawner) (g.P.Spawner.retired c.learn_command.new.spawner) (g.P.Spawner.commands c.learn_command.new.spawner)) c.learn_command.result.learned c.learn_command.result.kept.answers c.learn_command.result.names.names m.outputs c.learn_command.ensures.found)
+    subst (λ (s : System). IfErr c.learn_command.result.learned (StopsBy (length (letters_of s)) (count_of (declared_of s)) c.args.arguments.now.extra c.args.arguments.now.max_states (answers_of c.learn_command.result.kept.answers))) (sym c.in-Children.is) (command_stops c.args.arguments.now.learner m.words m.inputs c.args.arguments.now.workers c.args.arguments.now.extra c.args.arguments.now.max_states c.args.cache.kept (g.P.Spawner.state c.args.spawner.now) (g.P.Spawner.state c.learn_command.new.spawner) c.learn_command.result.learned c.learn_command.result.kept.answers c.learn_command.result.names.names m.outputs c.learn_command.ensures.found)
 
 pub returns-in-Children-clause-over : goal.returns-in-Children-clause-over
 returns-in-Children-clause-over g c =
     let m = c.in-Children.command in
-    subst (λ (s : System). AreKeptOver (length (letters_of s)) (length c.learn_command.result.names.names) c.learn_command.result.kept.answers) (sym c.in-Children.is) (command_over c.args.arguments.now.learner m.words m.inputs c.args.arguments.now.workers c.args.arguments.now.extra c.args.arguments.now.max_states c.args.cache.kept (spawner_seen (g.P.Spawner.faults c.args.spawner.now) (g.P.Spawner.started c.args.spawner.now) (g.P.Spawner.retired c.args.spawner.now) (g.P.Spawner.commands c.args.spawner.now)) (spawner_seen (g.P.Spawner.faults c.learn_command.new.spawner) (g.P.Spawner.started c.learn_command.new.spawner) (g.P.Spawner.retired c.learn_command.new.spawner) (g.P.Spawner.commands c.learn_command.new.spawner)) c.learn_command.result.learned c.learn_command.result.kept.answers c.learn_command.result.names.names m.outputs c.learn_command.ensures.found c.requires.ready.may.prior_is c.learn_command.ensures.few)
+    subst (λ (s : System). AreKeptOver (length (letters_of s)) (length c.learn_command.result.names.names) c.learn_command.result.kept.answers) (sym c.in-Children.is) (command_over c.args.arguments.now.learner m.words m.inputs c.args.arguments.now.workers c.args.arguments.now.extra c.args.arguments.now.max_states c.args.cache.kept (g.P.Spawner.state c.args.spawner.now) (g.P.Spawner.state c.learn_command.new.spawner) c.learn_command.result.learned c.learn_command.result.kept.answers c.learn_command.result.names.names m.outputs c.learn_command.ensures.found c.requires.ready.may.prior_is c.learn_command.ensures.few)

@@ -14,7 +14,7 @@ returns-in_default-clause-part g c =
     let u = c.args in
     let end = c.refuse.result in
     let same = text_memory [] (names_said (option_map letters_of u.system)) [] (names_said (option_and_then declared_of u.system)) u.kept.answers end.kept.answers c.args.extra c.args.extra end.outcome (wanted end.outcome c.refuse.ensures.outcome) in
-    subst (λ (t : List ℕ). TakesSome t (g.E.Sink.taken c.args.err.now) (g.E.Sink.taken c.refuse.new.err)) same c.refuse.ensures.part
+    subst (λ (t : List ℕ). TakesSome t (g.E.Sink.state c.args.err.now).taken (g.E.Sink.state c.refuse.new.err).taken) same c.refuse.ensures.part
 
 pub returns-clause-outcome : goal.returns-clause-outcome
 returns-clause-outcome g c = wanted_or c.args.outcome c.refuse-2.result.outcome c.refuse-2.ensures.outcome
@@ -25,7 +25,7 @@ returns-clause-said g c none =
     let end = c.refuse-2.result in
     let same = text_same (names_said (option_map (λ n. n.now) c.letters_read-inputs.result)) (names_said (option_map letters_of u.system)) (names_said (option_map (λ n. n.now) c.outputs_read-names.result)) (names_said (option_and_then declared_of u.system)) u.kept.answers end.kept.answers c.args.extra end.outcome
     (ap names_said c.letters_read-inputs.ensures) (ap names_said c.outputs_read-names.ensures) (ap (λ k. k.answers) (sym c.refuse-2.ensures.kept)) in
-    subst (λ (t : List ℕ). TakesAll t (g.E.Sink.taken c.args.err.now) (g.E.Sink.taken c.refuse-2.new.err)) same (c.refuse-2.ensures.said none)
+    subst (λ (t : List ℕ). TakesAll t (g.E.Sink.state c.args.err.now).taken (g.E.Sink.state c.refuse-2.new.err).taken) same (c.refuse-2.ensures.said none)
 
 pub returns-clause-part : goal.returns-clause-part
 returns-clause-part g c =
@@ -33,4 +33,4 @@ returns-clause-part g c =
     let end = c.refuse-2.result in
     let same = text_same (names_said (option_map (λ n. n.now) c.letters_read-inputs.result)) (names_said (option_map letters_of u.system)) (names_said (option_map (λ n. n.now) c.outputs_read-names.result)) (names_said (option_and_then declared_of u.system)) u.kept.answers end.kept.answers c.args.extra end.outcome
     (ap names_said c.letters_read-inputs.ensures) (ap names_said c.outputs_read-names.ensures) (ap (λ k. k.answers) (sym c.refuse-2.ensures.kept)) in
-    subst (λ (t : List ℕ). TakesSome t (g.E.Sink.taken c.args.err.now) (g.E.Sink.taken c.refuse-2.new.err)) same c.refuse-2.ensures.part
+    subst (λ (t : List ℕ). TakesSome t (g.E.Sink.state c.args.err.now).taken (g.E.Sink.state c.refuse-2.new.err).taken) same c.refuse-2.ensures.part

@@ -29,7 +29,7 @@ returns-clause-said g c none =
     let same = text_same (names_said (option_map (λ n. n.now) c.letters_read-inputs.result)) (names_said (option_map letters_of u.system)) (names_said (option_map (λ n. n.now) c.outputs_read-outputs.result)) (names_said (option_and_then declared_of u.system)) u.kept.answers end.kept.answers c.extra-extra.result end.outcome
     (ap names_said c.letters_read-inputs.ensures) (ap names_said c.outputs_read-outputs.ensures) (ap (λ k. k.answers) (sym c.refuse.ensures.kept)) in
     let extra = ap (λ (x : ℕ). text_of (names_said (option_map letters_of u.system)) (names_said (option_and_then declared_of u.system)) end.kept.answers x end.outcome) c.extra-extra.ensures.value in
-    subst (λ (t : List ℕ). TakesAll t (g.E.Sink.taken c.args.err.now) (g.E.Sink.taken c.refuse.new.err)) (same ∙ extra) (c.refuse.ensures.said none)
+    subst (λ (t : List ℕ). TakesAll t (g.E.Sink.state c.args.err.now).taken (g.E.Sink.state c.refuse.new.err).taken) (same ∙ extra) (c.refuse.ensures.said none)
 
 pub returns-clause-part : goal.returns-clause-part
 returns-clause-part g c =
@@ -38,4 +38,4 @@ returns-clause-part g c =
     let same = text_same (names_said (option_map (λ n. n.now) c.letters_read-inputs.result)) (names_said (option_map letters_of u.system)) (names_said (option_map (λ n. n.now) c.outputs_read-outputs.result)) (names_said (option_and_then declared_of u.system)) u.kept.answers end.kept.answers c.extra-extra.result end.outcome
     (ap names_said c.letters_read-inputs.ensures) (ap names_said c.outputs_read-outputs.ensures) (ap (λ k. k.answers) (sym c.refuse.ensures.kept)) in
     let extra = ap (λ (x : ℕ). text_of (names_said (option_map letters_of u.system)) (names_said (option_and_then declared_of u.system)) end.kept.answers x end.outcome) c.extra-extra.ensures.value in
-    subst (λ (t : List ℕ). TakesSome t (g.E.Sink.taken c.args.err.now) (g.E.Sink.taken c.refuse.new.err)) (same ∙ extra) c.refuse.ensures.part
+    subst (λ (t : List ℕ). TakesSome t (g.E.Sink.state c.args.err.now).taken (g.E.Sink.state c.refuse.new.err).taken) (same ∙ extra) c.refuse.ensures.part

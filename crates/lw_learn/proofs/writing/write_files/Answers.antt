@@ -9,8 +9,8 @@ pub returns-clause-model : goal.returns-clause-model
 returns-clause-model g c =
     let F = g.F.Files in
     let a = c.args.arguments.now in
-    let before = F.holds c.write_named.new.files in
-    let now = F.holds c.write_named-2.new.files in
+    let before = (F.state c.write_named.new.files).holds in
+    let now = (F.state c.write_named-2.new.files).holds in
     let bytes = c.args.texts.now.model.items in
     let stands : Stands a.model before bytes =
     subst (λ (b : List ℕ). Stands a.model before b) c.deref.ensures.value (subst (λ (m : Option (List ℕ)). Stands m before c.deref.result.now) c.model.ensures c.in_ok-write_named.ensures.told) in
@@ -22,8 +22,8 @@ returns-clause-memory g c is =
     let F = g.F.Files in
     let a = c.args.arguments.now in
     let front = write_of a.model false in
-    let first : F.calls c.write_named.new.files ≡ gained front (F.calls c.args.files.now) =
-    subst (λ (m : Option (List ℕ)). F.calls c.write_named.new.files ≡ gained (write_of m false) (F.calls c.args.files.now)) c.model.ensures c.in_ok-write_named.ensures.ok in (
+    let first : (F.state c.write_named.new.files).calls ≡ gained front (F.state c.args.files.now).calls =
+    subst (λ (m : Option (List ℕ)). (F.state c.write_named.new.files).calls ≡ gained (write_of m false) (F.state c.args.files.now).calls) c.model.ensures c.in_ok-write_named.ensures.ok in (
       length front,
-      c.write_named-2.ensures.memory is ∙ (first ∙ ap (λ (l : List Call). gained l (F.calls c.args.files.now)) (sym (take_front front (write_of a.answers false)))),
+      c.write_named-2.ensures.memory is ∙ (first ∙ ap (λ (l : List Call). gained l (F.state c.args.files.now).calls) (sym (take_front front (write_of a.answers false)))),
     )

@@ -16,16 +16,16 @@ use Rattle.lw_learn.proofs.writing.write_model.Goals as goal
 
 pub returns-in_err-texts-clause-out : goal.returns-in_err-texts-clause-out
 returns-in_err-texts-clause-out g c =
-    let taken = g.O.Sink.taken c.args.out.now in
-    let faults : ℕ × ℕ = (g.O.Sink.faults c.args.out.now, g.O.Sink.faults c.args.out.now) in
+    let taken = (g.O.Sink.state c.args.out.now).taken in
+    let faults : ℕ × ℕ = ((g.O.Sink.state c.args.out.now).faults, (g.O.Sink.state c.args.out.now).faults) in
     let is = told_err c.args.machine.now.mealy c.args.refinements c.from_residual-in_err-texts.result NoMemory c.from_residual-in_err-texts.ensures.1 in
     subst (λ (o : Outcome). WritesOut c.args.arguments.now.model (written_text c.args.machine.now) o (taken, taken) faults) (sym is)
     (out_before c.args.arguments.now.model (written_text c.args.machine.now) taken faults NoMemory (λ e. let wrong : NoMemory ≡ Sink = e in cc) (λ e. let wrong : NoMemory ≡ File Kept = e in cc))
 
 pub returns-in_err-write_files-clause-out : goal.returns-in_err-write_files-clause-out
 returns-in_err-write_files-clause-out g c =
-    let taken = g.O.Sink.taken c.args.out.now in
-    let faults : ℕ × ℕ = (g.O.Sink.faults c.args.out.now, g.O.Sink.faults c.args.out.now) in
+    let taken = (g.O.Sink.state c.args.out.now).taken in
+    let faults : ℕ × ℕ = ((g.O.Sink.state c.args.out.now).faults, (g.O.Sink.state c.args.out.now).faults) in
     let stop = c.in_err-write_files.field-0.0 in
     let is = told_err c.args.machine.now.mealy c.args.refinements c.from_residual-in_err-write_files.result stop c.from_residual-in_err-write_files.ensures.1 in
     subst (λ (o : Outcome). WritesOut c.args.arguments.now.model (written_text c.args.machine.now) o (taken, taken) faults) (sym is)
@@ -38,8 +38,8 @@ returns-in_err-put_streams-clause-files g c =
     let a = c.args.arguments.now in
     let m = c.args.machine.now in
     let kept = c.args.kept.now.answers in
-    let holds = F.holds c.write_files.new.files in
-    let calls : Option (List Call) × Option (List Call) = (F.calls c.args.files.now, F.calls c.write_files.new.files) in
+    let holds = (F.state c.write_files.new.files).holds in
+    let calls : Option (List Call) × Option (List Call) = ((F.state c.args.files.now).calls, (F.state c.write_files.new.files).calls) in
     let stop = c.in_err-put_streams.field-0.0 in
     let is = told_err m.mealy c.args.refinements c.from_residual-in_err-put_streams.result stop c.from_residual-in_err-put_streams.ensures.1 in
     subst (λ (o : Outcome). WritesFiles a m kept o holds calls) (sym is)
@@ -52,8 +52,8 @@ returns-in_err-put_streams-clause-out g c =
     let O = g.O.Sink in
     let a = c.args.arguments.now in
     let m = c.args.machine.now in
-    let taken : Option (List ℕ) × Option (List ℕ) = (O.taken c.args.out.now, O.taken c.put_streams.new.out) in
-    let faults : ℕ × ℕ = (O.faults c.args.out.now, O.faults c.put_streams.new.out) in
+    let taken : Option (List ℕ) × Option (List ℕ) = ((O.state c.args.out.now).taken, (O.state c.put_streams.new.out).taken) in
+    let faults : ℕ × ℕ = ((O.state c.args.out.now).faults, (O.state c.put_streams.new.out).faults) in
     let stop = c.in_err-put_streams.field-0.0 in
     let w = c.in_err-put_streams.ensures in
     let is = told_err m.mealy c.args.refinements c.from_residual-in_err-put_streams.result stop c.from_residual-in_err-put_streams.ensures.1 in
@@ -67,7 +67,7 @@ returns-clause-files g c =
     let a = c.args.arguments.now in
     let m = c.args.machine.now in
     let kept = c.args.kept.now.answers in
-    let holds = F.holds c.write_files.new.files in
+    let holds = (F.state c.write_files.new.files).holds in
     record {
       model = λ _ differ. subst (λ (t : List ℕ). Stands a.model holds t) c.in_ok-texts.ensures.model (c.in_ok-write_files.ensures.model differ);
       answers = λ _. answers_stand a.answers holds m kept c.in_ok-texts.texts.answers.items c.in_ok-texts.ensures.answers c.in_ok-write_files.ensures.answers;
@@ -78,10 +78,10 @@ pub returns-clause-line : goal.returns-clause-line
 returns-clause-line g c =
     let m = c.args.machine.now in
     let line = c.in_ok-texts.ensures.line ∙ ap (λ (h : MealyMachine). text_of m.inputs m.outputs c.args.kept.now.answers c.args.arguments.now.extra (Learned h c.args.refinements)) c.in_ok-copy.ensures in
-    subst (λ (t : List ℕ). TakesAll t (g.E.Sink.taken c.args.err.now) (g.E.Sink.taken c.put_streams.new.err)) line c.in_ok-put_streams.ensures.line
+    subst (λ (t : List ℕ). TakesAll t (g.E.Sink.state c.args.err.now).taken (g.E.Sink.state c.put_streams.new.err).taken) line c.in_ok-put_streams.ensures.line
 
 pub returns-clause-line_part : goal.returns-clause-line_part
 returns-clause-line_part g c =
     let m = c.args.machine.now in
     let line = c.in_ok-texts.ensures.line ∙ ap (λ (h : MealyMachine). text_of m.inputs m.outputs c.args.kept.now.answers c.args.arguments.now.extra (Learned h c.args.refinements)) c.in_ok-copy.ensures in
-    subst (λ (t : List ℕ). TakesSome t (g.E.Sink.taken c.args.err.now) (g.E.Sink.taken c.put_streams.new.err)) line c.in_ok-put_streams.ensures.line_part
+    subst (λ (t : List ℕ). TakesSome t (g.E.Sink.state c.args.err.now).taken (g.E.Sink.state c.put_streams.new.err).taken) line c.in_ok-put_streams.ensures.line_part

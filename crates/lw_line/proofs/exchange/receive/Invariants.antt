@@ -6,10 +6,10 @@ abbrev pub invariant-loop-line : goal.invariant-loop-line
 invariant-loop-line g l =
     let L = g.L.Link in
     record {
-      come : HasCome l.fn.inbox l.inbox (L.transcript l.fn.link) (L.transcript l.link);
-      faults : L.faults l.fn.link ≤ L.faults l.link;
-      ends : L.ends l.fn.link ≤ L.ends l.link;
-      number : L.number l.link ≡ L.number l.fn.link;
+      come : HasCome l.fn.inbox l.inbox (L.state l.fn.link).transcript (L.state l.link).transcript;
+      faults : (L.state l.fn.link).faults ≤ (L.state l.link).faults;
+      ends : (L.state l.fn.link).ends ≤ (L.state l.link).ends;
+      number : (L.state l.link).number ≡ (L.state l.fn.link).number;
     }
 
 abbrev pub decreases-loop-line : goal.decreases-loop-line

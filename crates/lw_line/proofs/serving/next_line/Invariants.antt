@@ -6,9 +6,9 @@ abbrev pub invariant-loop-line : goal.invariant-loop-line
 invariant-loop-line g l =
     let I = g.I.Source in
     record {
-      read : HasRead l.fn.inbox l.inbox (I.left l.fn.source) (I.left l.source);
-      quiet : I.faults l.source ≡ I.faults l.fn.source;
-      ends : I.ends l.fn.source ≤ I.ends l.source;
+      read : HasRead l.fn.inbox l.inbox (I.state l.fn.source).left (I.state l.source).left;
+      quiet : (I.state l.source).faults ≡ (I.state l.fn.source).faults;
+      ends : (I.state l.fn.source).ends ≤ (I.state l.source).ends;
     }
 
 abbrev pub decreases-loop-line : goal.decreases-loop-line

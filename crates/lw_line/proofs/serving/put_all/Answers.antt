@@ -15,6 +15,6 @@ loop-put-preserved g c =
     let some = c.in_ok-put.ensures.some in
     record {
       within = omega (arith, ap (λ (l : List ℕ). length l) part, some);
-      taken = takes_on put n bytes (O.taken c.args.sink.now) (O.taken c.loop-put.sink) (O.taken c.put.new.self) was.taken (c.in_ok-put.ensures.took ∙ ap (λ (l : List ℕ). option_map (λ t. t ++ take n l) (O.taken c.loop-put.sink)) part);
+      taken = takes_on put n bytes (O.state c.args.sink.now).taken (O.state c.loop-put.sink).taken (O.state c.put.new.self).taken was.taken (c.in_ok-put.ensures.took ∙ ap (λ (l : List ℕ). option_map (λ t. t ++ take n l) (O.state c.loop-put.sink).taken) part);
       quiet = c.in_ok-put.ensures.quiet ∙ was.quiet;
     }

@@ -7,8 +7,8 @@ invariant-loop-put g l =
     let O = g.O.Sink in
     record {
       within : l.put ≤ length l.bytes;
-      taken : TakesAll (take l.put l.bytes) (O.taken l.fn.sink) (O.taken l.sink);
-      quiet : O.faults l.sink ≡ O.faults l.fn.sink;
+      taken : TakesAll (take l.put l.bytes) (O.state l.fn.sink).taken (O.state l.sink).taken;
+      quiet : (O.state l.sink).faults ≡ (O.state l.fn.sink).faults;
     }
 
 abbrev pub decreases-loop-put : goal.decreases-loop-put

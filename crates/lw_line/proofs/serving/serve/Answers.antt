@@ -22,10 +22,10 @@ loop-lines-init g c =
     let I = g.I.Source in
     let O = g.O.Sink in
     let m = c.args.m.now in
-    let first : Serves m (I.left c.args.source.now) (I.left c.args.source.now) c.new-inbox.result 0 0 (O.taken c.args.sink.now) (O.taken c.args.sink.now) =
-    serves_first m (I.left c.args.source.now) (I.left c.args.source.now) c.new-inbox.result (O.taken c.args.sink.now) refl c.new-inbox.ensures in
+    let first : Serves m (I.state c.args.source.now).left (I.state c.args.source.now).left c.new-inbox.result 0 0 (O.state c.args.sink.now).taken (O.state c.args.sink.now).taken =
+    serves_first m (I.state c.args.source.now).left (I.state c.args.source.now).left c.new-inbox.result (O.state c.args.sink.now).taken refl c.new-inbox.ensures in
     record {
-      serves = subst (λ (q : ℕ). Serves m (I.left c.args.source.now) (I.left c.args.source.now) c.new-inbox.result q 0 (O.taken c.args.sink.now) (O.taken c.args.sink.now)) (sym c.new-child.ensures) first;
+      serves = subst (λ (q : ℕ). Serves m (I.state c.args.source.now).left (I.state c.args.source.now).left c.new-inbox.result q 0 (O.state c.args.sink.now).taken (O.state c.args.sink.now).taken) (sym c.new-child.ensures) first;
       state = search rules;
       source_quiet = refl;
       sink_quiet = refl;
@@ -41,10 +41,10 @@ loop-lines-preserved g c =
     let after = c.serve_line.new in
     let n : ℕ = was.lines in
     let below : n ≢ greatest_lines = λ is. absurd (omega arith) in
-    let turns : Turns m (n + 1) was.child was.inbox after.child after.inbox (I.left was.source) (I.left after.source) (O.taken was.sink) (O.taken after.sink) (Ok Answered) =
-    subst (λ (t : Turn). Turns m (n + 1) was.child was.inbox after.child after.inbox (I.left was.source) (I.left after.source) (O.taken was.sink) (O.taken after.sink) (Ok t)) c.in-Answered.is c.in_ok-serve_line.ensures.turns in
+    let turns : Turns m (n + 1) was.child was.inbox after.child after.inbox (I.state was.source).left (I.state after.source).left (O.state was.sink).taken (O.state after.sink).taken (Ok Answered) =
+    subst (λ (t : Turn). Turns m (n + 1) was.child was.inbox after.child after.inbox (I.state was.source).left (I.state after.source).left (O.state was.sink).taken (O.state after.sink).taken (Ok t)) c.in-Answered.is c.in_ok-serve_line.ensures.turns in
     record {
-      serves = serves_on m (I.left c.args.source.now) (I.left was.source) was.inbox was.child n (O.taken c.args.sink.now) (O.taken was.sink) after.inbox after.child (n + 1) (I.left after.source) (O.taken after.sink) was.invariant.serves below turns;
+      serves = serves_on m (I.state c.args.source.now).left (I.state was.source).left was.inbox was.child n (O.state c.args.sink.now).taken (O.state was.sink).taken after.inbox after.child (n + 1) (I.state after.source).left (O.state after.sink).taken was.invariant.serves below turns;
       state = c.serve_line.ensures.state;
       source_quiet = c.in_ok-serve_line.ensures.quiet.0 ∙ was.invariant.source_quiet;
       sink_quiet = c.in_ok-serve_line.ensures.quiet.1 ∙ was.invariant.sink_quiet;
@@ -60,9 +60,9 @@ returns-in-Quit-clause-plays g c =
     let after = c.serve_line.new in
     let n : ℕ = was.lines in
     let below : n ≢ greatest_lines = λ is. absurd (omega arith) in
-    let turns : Turns m (n + 1) was.child was.inbox after.child after.inbox (I.left was.source) (I.left after.source) (O.taken was.sink) (O.taken after.sink) (Ok Quit) =
-    subst (λ (t : Turn). Turns m (n + 1) was.child was.inbox after.child after.inbox (I.left was.source) (I.left after.source) (O.taken was.sink) (O.taken after.sink) (Ok t)) c.in-Quit.is c.in_ok-serve_line.ensures.turns in
-    plays_quit m (I.left c.args.source.now) (I.left was.source) was.inbox was.child n (O.taken c.args.sink.now) (O.taken was.sink) after.inbox after.child (n + 1) (I.left after.source) (O.taken after.sink) was.invariant.serves below turns
+    let turns : Turns m (n + 1) was.child was.inbox after.child after.inbox (I.state was.source).left (I.state after.source).left (O.state was.sink).taken (O.state after.sink).taken (Ok Quit) =
+    subst (λ (t : Turn). Turns m (n + 1) was.child was.inbox after.child after.inbox (I.state was.source).left (I.state after.source).left (O.state was.sink).taken (O.state after.sink).taken (Ok t)) c.in-Quit.is c.in_ok-serve_line.ensures.turns in
+    plays_quit m (I.state c.args.source.now).left (I.state was.source).left was.inbox was.child n (O.state c.args.sink.now).taken (O.state was.sink).taken after.inbox after.child (n + 1) (I.state after.source).left (O.state after.sink).taken was.invariant.serves below turns
 
 pub returns-in-Ended-clause-plays : goal.returns-in-Ended-clause-plays
 returns-in-Ended-clause-plays g c =
@@ -73,9 +73,9 @@ returns-in-Ended-clause-plays g c =
     let after = c.serve_line.new in
     let n : ℕ = was.lines in
     let below : n ≢ greatest_lines = λ is. absurd (omega arith) in
-    let turns : Turns m (n + 1) was.child was.inbox after.child after.inbox (I.left was.source) (I.left after.source) (O.taken was.sink) (O.taken after.sink) (Ok Ended) =
-    subst (λ (t : Turn). Turns m (n + 1) was.child was.inbox after.child after.inbox (I.left was.source) (I.left after.source) (O.taken was.sink) (O.taken after.sink) (Ok t)) c.in-Ended.is c.in_ok-serve_line.ensures.turns in
-    plays_ended m (I.left c.args.source.now) (I.left was.source) was.inbox was.child n (O.taken c.args.sink.now) (O.taken was.sink) after.inbox after.child (n + 1) (I.left after.source) (O.taken after.sink) was.invariant.serves below turns
+    let turns : Turns m (n + 1) was.child was.inbox after.child after.inbox (I.state was.source).left (I.state after.source).left (O.state was.sink).taken (O.state after.sink).taken (Ok Ended) =
+    subst (λ (t : Turn). Turns m (n + 1) was.child was.inbox after.child after.inbox (I.state was.source).left (I.state after.source).left (O.state was.sink).taken (O.state after.sink).taken (Ok t)) c.in-Ended.is c.in_ok-serve_line.ensures.turns in
+    plays_ended m (I.state c.args.source.now).left (I.state was.source).left was.inbox was.child n (O.state c.args.sink.now).taken (O.state was.sink).taken after.inbox after.child (n + 1) (I.state after.source).left (O.state after.sink).taken was.invariant.serves below turns
 
 pub returns-in_err-serve_line-clause-plays : goal.returns-in_err-serve_line-clause-plays
 returns-in_err-serve_line-clause-plays g c =
@@ -88,8 +88,8 @@ returns-in_err-serve_line-clause-plays g c =
     let below : n ≢ greatest_lines = λ is. absurd (omega arith) in
     let fault : ServeFault = c.in_err-serve_line.field-0.0 in
     let is : c.from_residual.result ≡ Err fault = handed_on c.from_residual.result fault c.from_residual.ensures.1 in
-    subst (λ (r : Result Served ServeFault). Plays m (I.left c.args.source.now) r (O.taken c.args.sink.now) (O.taken after.sink)) (sym is)
-    (plays_fault m (I.left c.args.source.now) (I.left was.source) was.inbox was.child n (O.taken c.args.sink.now) (O.taken was.sink) after.inbox after.child (n + 1) (I.left after.source) (O.taken after.sink) fault was.invariant.serves below refl c.len.ensures.names.each c.in_err-serve_line.ensures.turns)
+    subst (λ (r : Result Served ServeFault). Plays m (I.state c.args.source.now).left r (O.state c.args.sink.now).taken (O.state after.sink).taken) (sym is)
+    (plays_fault m (I.state c.args.source.now).left (I.state was.source).left was.inbox was.child n (O.state c.args.sink.now).taken (O.state was.sink).taken after.inbox after.child (n + 1) (I.state after.source).left (O.state after.sink).taken fault was.invariant.serves below refl c.len.ensures.names.each c.in_err-serve_line.ensures.turns)
 
 pub returns-in_err-serve_line-clause-source : goal.returns-in_err-serve_line-clause-source
 returns-in_err-serve_line-clause-source g c =
@@ -104,8 +104,8 @@ returns-in_err-serve_line-clause-source g c =
     let is : c.from_residual.result ≡ Err fault = handed_on c.from_residual.result fault c.from_residual.ensures.1 in
     λ same.
     let at : fault ≡ SourceFault = cc in (
-      subst (λ (k : ℕ). CountedFault k (I.faults after.source)) was.invariant.source_quiet (c.in_err-serve_line.ensures.source (ap (λ (e : ServeFault). Err e) at)),
-      source_goes_on m (I.left c.args.source.now) (I.left was.source) was.inbox was.child n (O.taken c.args.sink.now) (O.taken was.sink) after.inbox after.child (n + 1) (I.left after.source) (O.taken after.sink) fault was.invariant.serves below c.in_err-serve_line.ensures.turns at,
+      subst (λ (k : ℕ). CountedFault k (I.state after.source).faults) was.invariant.source_quiet (c.in_err-serve_line.ensures.source (ap (λ (e : ServeFault). Err e) at)),
+      source_goes_on m (I.state c.args.source.now).left (I.state was.source).left was.inbox was.child n (O.state c.args.sink.now).taken (O.state was.sink).taken after.inbox after.child (n + 1) (I.state after.source).left (O.state after.sink).taken fault was.invariant.serves below c.in_err-serve_line.ensures.turns at,
     )
 
 pub returns-clause-plays : goal.returns-clause-plays
@@ -115,5 +115,5 @@ returns-clause-plays g c =
     let was = c.loop-lines in
     let m = c.args.m.now in
     let full : was.lines ≡ greatest_lines = omega arith in
-    subst (λ (k : ℕ). Plays m (I.left c.args.source.now) (Ok (record { lines = k; cause = Limit })) (O.taken c.args.sink.now) (O.taken was.sink)) full
-    (plays_limit m (I.left c.args.source.now) (I.left was.source) was.inbox was.child was.lines (O.taken c.args.sink.now) (O.taken was.sink) was.invariant.serves full)
+    subst (λ (k : ℕ). Plays m (I.state c.args.source.now).left (Ok (record { lines = k; cause = Limit })) (O.state c.args.sink.now).taken (O.state was.sink).taken) full
+    (plays_limit m (I.state c.args.source.now).left (I.state was.source).left was.inbox was.child was.lines (O.state c.args.sink.now).taken (O.state was.sink).taken was.invariant.serves full)

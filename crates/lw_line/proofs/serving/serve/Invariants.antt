@@ -7,9 +7,9 @@ invariant-loop-lines g l =
     let I = g.I.Source in
     let O = g.O.Sink in
     record {
-      serves : Serves l.m (I.left l.fn.source) (I.left l.source) l.inbox l.child l.lines (O.taken l.fn.sink) (O.taken l.sink);
+      serves : Serves l.m (I.state l.fn.source).left (I.state l.source).left l.inbox l.child l.lines (O.state l.fn.sink).taken (O.state l.sink).taken;
       state : l.child < length l.m.mealy.rows;
-      source_quiet : I.faults l.source ≡ I.faults l.fn.source;
-      sink_quiet : O.faults l.sink ≡ O.faults l.fn.sink;
-      ends : I.ends l.fn.source ≤ I.ends l.source;
+      source_quiet : (I.state l.source).faults ≡ (I.state l.fn.source).faults;
+      sink_quiet : (O.state l.sink).faults ≡ (O.state l.fn.sink).faults;
+      ends : (I.state l.fn.source).ends ≤ (I.state l.source).ends;
     }

@@ -52,8 +52,8 @@ pub fn free(rt: &impl Abort, alloc: Global, script: Script<'_>) -> LineSul<Scrip
 
 /// Whether these outputs come to the first letter, one after another, from a reset on.
 pub fn comes<S: Sul>(sul: &mut S, outs: &[u16]) -> Result<bool, SulStop>
-    requires live { S.stop sul.old ≡ None }
-    requires letter { 0 < S.inputs sul.old }
+    requires live { (S.state sul.old).stop ≡ None }
+    requires letter { 0 < (S.state sul.old).inputs }
 {
     sul.reset()?;
     for y in outs {
@@ -78,7 +78,7 @@ pub fn ended_so(end: &Result<bool, SulStop>, want: Ending) -> bool {
 
 /// Whether a system over this script answers these outputs to the first letter, or ends so.
 pub fn ends<S: Sul>(sul: &mut S, outs: &[u16], want: Ending) -> bool
-    requires live { S.stop sul.old ≡ None }
+    requires live { (S.state sul.old).stop ≡ None }
 {
     if sul.inputs() == 0 {
         return false;

@@ -22,7 +22,7 @@ fn has_names<S: Sul>(sul: &S, want: &[&str]) -> bool {
 
 /// Whether a system names its outputs b, a and c, each once, and has room for the numbers of 256.
 fn names_three<S: Sul>(sul: &mut S) -> bool
-    requires { S.stop sul.old ≡ None }
+    requires { (S.state sul.old).stop ≡ None }
 {
     (sul.inputs(), sul.outputs(), sul.most(), sul.named()) == (1, 4096, 256, 0)
         && ends(sul, &[0, 1, 0, 2, 1], Ending::Answered)

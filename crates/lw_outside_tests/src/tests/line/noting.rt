@@ -120,8 +120,8 @@ static ROWS: [Row; 11] = [
 
 /// Whether a run is answered to its end.
 fn goes_on<S: Sul>(sul: &mut S, letters: &[u16]) -> bool
-    requires { S.stop sul.old ≡ None }
-    ensures { result ≡ true → S.stop sul.new ≡ None }
+    requires { (S.state sul.old).stop ≡ None }
+    ensures { result ≡ true → (S.state sul.new).stop ≡ None }
 {
     if sul.reset().is_err() {
         return false;
@@ -136,7 +136,7 @@ fn goes_on<S: Sul>(sul: &mut S, letters: &[u16]) -> bool
 
 /// Goes through runs, up to the first that is not answered to its end.
 fn run_all<S: Sul>(sul: &mut S, runs: &[&[u16]])
-    requires { S.stop sul.old ≡ None }
+    requires { (S.state sul.old).stop ≡ None }
 {
     for letters in runs {
         if !goes_on(sul, letters) {
@@ -186,7 +186,7 @@ fn tells_after<L: Link + Drop>(alloc: Global, sul: &mut LineSul<L>, row: &Row) -
 }
 
 fn tells_over<L: Link + Drop>(rt: &impl Abort, alloc: Global, link: L, row: &Row) -> bool
-    requires { IsUntouched (L.transcript link) }
+    requires { IsUntouched (L.state link).transcript }
 {
     let inputs = names(rt, alloc, &["t", "u"]);
     let outputs = names(rt, alloc, &["0", "1"]);

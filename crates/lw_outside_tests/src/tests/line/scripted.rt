@@ -103,13 +103,12 @@ impl ScriptedLink {
 impl Link for ScriptedLink {
     ghost use Rattle.std.specs.Prelude.{None};
 
-    ghost number = { λ _. 0 };
-
-    ghost faults = { λ l. l.faults };
-
-    ghost ends = { λ l. l.ends };
-
-    ghost transcript = { λ _. None };
+    ghost state = { λ l. record {
+      number = 0;
+      faults = l.faults;
+      ends = l.ends;
+      transcript = None;
+    } };
 
     fn send(&mut self, bytes: &[u8]) -> Result<(), Failed> {
         if self.note(Call::Send(bytes.len())) {

@@ -12,7 +12,7 @@ use std::process::Abort;
 
 /// Whether a session over a link to a counter answers a word, which is then its one run.
 fn asks<L: Link + Drop>(rt: &impl Abort, alloc: Global, link: L) -> bool
-    requires { IsUntouched (L.transcript link) }
+    requires { IsUntouched (L.state link).transcript }
 {
     let inputs = names(rt, alloc, &["t"]);
     let outputs = names(rt, alloc, &["0", "1"]);
@@ -35,7 +35,7 @@ fn answers<L: Link + Drop>(
 
 /// A link to a child that was started.
 pub fn started<P: Spawner>(rt: &impl Abort, alloc: Global, spawner: &mut P) -> P::Link
-    ensures { IsUntouched (P.Link.transcript result) }
+    ensures { IsUntouched (P.Link.state result).transcript }
 {
     let words = [String::from_str(alloc, "child").expect(rt, "memory")];
     spawner.start(&words).expect(rt, "a child")

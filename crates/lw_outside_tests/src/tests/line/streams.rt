@@ -174,11 +174,11 @@ struct ClockedSource<'a> {
 impl Source for ClockedSource<'_> {
     ghost use Rattle.std.specs.Prelude.{None};
 
-    ghost left = { λ _. None };
-
-    ghost faults = { λ _. 0 };
-
-    ghost ends = { λ s. s.ends };
+    ghost state = { λ s. record {
+      left = None;
+      faults = 0;
+      ends = s.ends;
+    } };
 
     fn read(&mut self, buffer: &mut [u8]) -> Result<usize, Failed> {
         self.reads.set(self.reads.get().saturating_add(1));
@@ -202,9 +202,10 @@ struct ClockedSink<'a> {
 impl Sink for ClockedSink<'_> {
     ghost use Rattle.std.specs.Prelude.{None};
 
-    ghost taken = { λ _. None };
-
-    ghost faults = { λ _. 0 };
+    ghost state = { λ _. record {
+      taken = None;
+      faults = 0;
+    } };
 
     fn put(&mut self, bytes: &[u8]) -> Result<usize, Failed> {
         if self.noted.len() < self.noted.capacity() {

@@ -19,7 +19,7 @@ use Turn::{RefusesSend, RefusesTake, Sends, Takes};
 
 /// Whether a text, which is not empty, is sent.
 pub(super) fn sends<L: Link>(link: &mut L, text: &str) -> bool
-    ensures { L.number link.new ≡ L.number link.old }
+    ensures { (L.state link.new).number ≡ (L.state link.old).number }
 {
     if text.is_empty() {
         return false;
@@ -29,7 +29,7 @@ pub(super) fn sends<L: Link>(link: &mut L, text: &str) -> bool
 
 /// Whether a take into a buffer of eight bytes gives this text.
 pub(super) fn takes<L: Link>(link: &mut L, text: &str) -> bool
-    ensures { L.number link.new ≡ L.number link.old }
+    ensures { (L.state link.new).number ≡ (L.state link.old).number }
 {
     let mut buffer = [0u8; 8];
     match link.take(&mut buffer) {
@@ -70,9 +70,10 @@ pub(super) fn starts<P: Spawner>(
     spawner: &mut P,
     name: &str,
 ) -> Result<P::Link, StartStop>
-    ensures number { IfOk result (λ l. P.Link.number l ≡ P.started spawner.old) }
-    ensures more { OnOk result (P.started spawner.new ≡ P.started spawner.old + 1) }
-    ensures retired { P.retired spawner.new ≡ P.retired spawner.old }
+    ensures number { IfOk result (λ l. (P.Link.state l).number ≡ (P.state spawner.old).started) }
+    ensures more { OnOk result ((P.state spawner.new).started ≡ (P.state spawner.old).started +
+        1) }
+    ensures retired { (P.state spawner.new).retired ≡ (P.state spawner.old).retired }
 {
     let mut words = Vec::with_capacity(alloc, 1).expect(rt, "memory");
     words.push_reserved(String::from_str(alloc, name).expect(rt, "memory"));

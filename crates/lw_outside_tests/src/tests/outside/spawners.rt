@@ -117,8 +117,8 @@ fn starts_past_the_last_script_fail(rt: HostRuntime) {
 
 /// Whether the first link says `a` and the second, to which a byte is sent, `b`.
 fn say_two<L: Link>(first: &mut L, second: &mut L) -> bool
-    ensures { (L.number first.new ≡ L.number first.old) ×
-        (L.number second.new ≡ L.number second.old) }
+    ensures { ((L.state first.new).number ≡ (L.state first.old).number) ×
+        ((L.state second.new).number ≡ (L.state second.old).number) }
 {
     let sent = sends(second, "?");
     let last = takes(second, "b");
@@ -128,7 +128,7 @@ fn say_two<L: Link>(first: &mut L, second: &mut L) -> bool
 
 /// Two links, of which the second is retired first.
 fn use_two<P: Spawner>(rt: &impl Abort, alloc: Global, spawner: &mut P) -> bool
-    requires { P.retired spawner.old ≡ [] }
+    requires { (P.state spawner.old).retired ≡ [] }
 {
     let mut first = starts(rt, alloc, spawner, "first").expect(rt, "a link");
     let mut second = starts(rt, alloc, spawner, "second").expect(rt, "a link");

@@ -4,6 +4,6 @@ use Rattle.lw_pool.proofs.hands.hands_of.Given as goal
 
 abbrev pub invariant-loop-session : goal.invariant-loop-session
 invariant-loop-session g l = record {
-  made : map (λ h. h.worker) l.hands.items ++ map (member_of g.S.Sul.names g.S.Sul.most g.S.Sul.stop g.S.Sul.origin g.S.Sul.inputs g.S.Sul.outputs) l.session-iterator.rest.items ≡ map (member_of g.S.Sul.names g.S.Sul.most g.S.Sul.stop g.S.Sul.origin g.S.Sul.inputs g.S.Sul.outputs) l.fn.sessions.items;
+  made : map (λ h. h.worker) l.hands.items ++ map (member_of g.S.Sul.state) l.session-iterator.rest.items ≡ map (member_of g.S.Sul.state) l.fn.sessions.items;
   room : vec_len l.hands + l.session-iterator.rest.len ≤ vec_capacity l.hands;
 }

@@ -9,8 +9,8 @@ first_difference-found-requires-clause-known g c = subst (λ (l : List ℕ). All
 pub first_difference-found-requires-clause-given : goal.first_difference-found-requires-clause-given
 first_difference-found-requires-clause-given g c =
     let S = g.S.Sul in
-    subst (λ (n : List (List ℕ)). All (λ y. y < length n) c.as_slice-2.result.now) (sym (ap S.names c.sul.ensures))
-    (subst (λ (l : List ℕ). All (λ y. y < length (S.names c.run_again.new.session.sul)) l) (sym c.as_slice-2.ensures) c.in_ok-outs.ensures.gains.below)
+    subst (λ (n : List (List ℕ)). All (λ y. y < length n) c.as_slice-2.result.now) (sym (ap (λ x. (S.state x).names) c.sul.ensures))
+    (subst (λ (l : List ℕ). All (λ y. y < length (S.state c.run_again.new.session.sul).names) l) (sym c.as_slice-2.ensures) c.in_ok-outs.ensures.gains.below)
 
 pub first_difference-found-requires-clause-even : goal.first_difference-found-requires-clause-even
 first_difference-found-requires-clause-even g c =
@@ -22,7 +22,7 @@ returns-in-Some-clause-ok g c =
       refl,
       record {
         gains = c.in_ok-outs.ensures.gains;
-        differs = differs_as c.args.outputs.now (S.names c.sul.result.now) (S.names c.run_again.new.session.sul) c.as_slice.result.now c.args.answer.now.outs c.as_slice-2.result.now c.in_ok-outs.outs c.in-Some.place (ap S.names c.sul.ensures) c.as_slice.ensures c.as_slice-2.ensures c.in-Some.ensures.some;
+        differs = differs_as c.args.outputs.now (S.state c.sul.result.now).names (S.state c.run_again.new.session.sul).names c.as_slice.result.now c.args.answer.now.outs c.as_slice-2.result.now c.in_ok-outs.outs c.in-Some.place (ap (λ x. (S.state x).names) c.sul.ensures) c.as_slice.ensures c.as_slice-2.ensures c.in-Some.ensures.some;
       },
     )
 
@@ -32,5 +32,5 @@ returns-in-None-clause-ok g c =
     record {
       outs = c.in_ok-outs.outs;
       gains = c.in_ok-outs.ensures.gains;
-      same = same_as c.args.outputs.now (S.names c.sul.result.now) (S.names c.run_again.new.session.sul) c.as_slice.result.now c.args.answer.now.outs c.as_slice-2.result.now c.in_ok-outs.outs (ap S.names c.sul.ensures) c.as_slice.ensures c.as_slice-2.ensures c.in-None.ensures.none;
+      same = same_as c.args.outputs.now (S.state c.sul.result.now).names (S.state c.run_again.new.session.sul).names c.as_slice.result.now c.args.answer.now.outs c.as_slice-2.result.now c.in_ok-outs.outs (ap (λ x. (S.state x).names) c.sul.ensures) c.as_slice.ensures c.as_slice-2.ensures c.in-None.ensures.none;
     }

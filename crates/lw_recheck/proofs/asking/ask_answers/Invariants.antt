@@ -7,11 +7,11 @@ abbrev pub invariant-loop-number : goal.invariant-loop-number
 invariant-loop-number g l =
     let S = g.S.Sul in
     record {
-      live : S.stop l.session.sul ≡ None;
-      origin : S.origin l.session.sul ≡ S.origin l.fn.session.sul;
-      inputs : S.inputs l.session.sul ≡ S.inputs l.fn.session.sul;
-      outputs : S.outputs l.session.sul ≡ S.outputs l.fn.session.sul;
-      most : S.most l.session.sul ≡ S.most l.fn.session.sul;
-      are : AreAgain (S.origin l.fn.session.sul).machine l.outputs (take l.number l.kept.answers) (S.names l.session.sul) l.session.journal;
-      grown : IsGrown (S.names l.fn.session.sul) (S.names l.session.sul);
+      live : (S.state l.session.sul).stop ≡ None;
+      origin : (S.state l.session.sul).origin ≡ (S.state l.fn.session.sul).origin;
+      inputs : (S.state l.session.sul).inputs ≡ (S.state l.fn.session.sul).inputs;
+      outputs : (S.state l.session.sul).outputs ≡ (S.state l.fn.session.sul).outputs;
+      most : (S.state l.session.sul).most ≡ (S.state l.fn.session.sul).most;
+      are : AreAgain (S.state l.fn.session.sul).origin.machine l.outputs (take l.number l.kept.answers) (S.state l.session.sul).names l.session.journal;
+      grown : IsGrown (S.state l.fn.session.sul).names (S.state l.session.sul).names;
     }

@@ -4,7 +4,7 @@ use Rattle.lw_recheck.proofs.asking.first_difference.Goals as goal
 
 pub loop-place-preserved : goal.loop-place-preserved
 loop-place-preserved g c =
-    let own = g.S.Sul.names c.args.sul.now in
+    let own = (g.S.Sul.state c.args.sul.now).names in
     let outputs = c.args.outputs.now in
     let known = c.args.known.now in
     let given = c.args.given.now in
@@ -15,7 +15,7 @@ loop-place-preserved g c =
 
 pub returns-then-not-same_name-clause-some : goal.returns-then-not-same_name-clause-some
 returns-then-not-same_name-clause-some g c =
-    let own = g.S.Sul.names c.args.sul.now in
+    let own = (g.S.Sul.state c.args.sul.now).names in
     let outputs = c.args.outputs.now in
     let known = c.args.known.now in
     let given = c.args.given.now in
@@ -26,7 +26,7 @@ returns-then-not-same_name-clause-some g c =
 
 pub returns-clause-none : goal.returns-clause-none
 returns-clause-none g c =
-    let own = g.S.Sul.names c.args.sul.now in
+    let own = (g.S.Sul.state c.args.sul.now).names in
     let known = c.args.known.now in
     let i = c.loop-place.place in
     let all : length known ≤ i = omega (arith, c.loop-place-test.false) in

@@ -1,6 +1,4 @@
 use Rattle.std.proofs.Common.{List, ℕ, refl, subst, subst₂}
-use Rattle.lw_children.specs.Spawners.{spawner_seen}
-use Rattle.lw_report.specs.States.{files_state, sink_state}
 use Rattle.lw_recheck.specs.Ending.{IsBare, IsTold}
 use Rattle.lw_recheck.specs.Reading.{HasReadBoth}
 use Rattle.lw_recheck.proofs.RunLemmas.{asked_run, never_unstarted, unread_run}
@@ -15,17 +13,17 @@ returns-in-Ok-clause-ran g c =
     let a = c.args.arguments.now in
     let files = c.args.files.now in
     let read = c.read_both.new.files in
-    let f = files_state (F.holds files) (F.calls files) (F.reads files) (F.faults files) in
-    let m = files_state (F.holds read) (F.calls read) (F.reads read) (F.faults read) in
+    let f = F.state files in
+    let m = F.state read in
     let before = c.args.spawner.now in
-    let b = spawner_seen (P.faults before) (P.started before) (P.retired before) (P.commands before) in
-    let o = sink_state (O.taken c.args.out.now) (O.faults c.args.out.now) in
-    let e = sink_state (E.taken c.args.err.now) (E.faults c.args.err.now) in
+    let b = P.state before in
+    let o = O.state c.args.out.now in
+    let e = E.state c.args.err.now in
     let has = subst₂ (λ (s k : List ℕ). HasReadBoth s k f m c.read_both.result) c.setup.ensures c.answers.ensures c.read_both.ensures.read in
     let now = c.recheck_task.new.spawner in
-    let z = spawner_seen (P.faults now) (P.started now) (P.retired now) (P.commands now) in
-    let p = sink_state (O.taken c.recheck_task.new.out) (O.faults c.recheck_task.new.out) in
-    let d = sink_state (E.taken c.recheck_task.new.err) (E.faults c.recheck_task.new.err) in
+    let z = P.state now in
+    let p = O.state c.recheck_task.new.out in
+    let d = E.state c.recheck_task.new.err in
     asked_run a f m b z o p e d c.recheck_task.result c.read_both.result has c.in-Ok.task c.in-Ok.is c.recheck_task.ensures.asks
 
 pub returns-in-Err-clause-ran : goal.returns-in-Err-clause-ran
@@ -37,18 +35,18 @@ returns-in-Err-clause-ran g c =
     let a = c.args.arguments.now in
     let files = c.args.files.now in
     let read = c.read_both.new.files in
-    let f = files_state (F.holds files) (F.calls files) (F.reads files) (F.faults files) in
-    let m = files_state (F.holds read) (F.calls read) (F.reads read) (F.faults read) in
+    let f = F.state files in
+    let m = F.state read in
     let before = c.args.spawner.now in
-    let b = spawner_seen (P.faults before) (P.started before) (P.retired before) (P.commands before) in
-    let o = sink_state (O.taken c.args.out.now) (O.faults c.args.out.now) in
-    let e = sink_state (E.taken c.args.err.now) (E.faults c.args.err.now) in
+    let b = P.state before in
+    let o = O.state c.args.out.now in
+    let e = E.state c.args.err.now in
     let has = subst₂ (λ (s k : List ℕ). HasReadBoth s k f m c.read_both.result) c.setup.ensures c.answers.ensures c.read_both.ensures.read in
-    let d = sink_state (E.taken c.end_refused.new.err) (E.faults c.end_refused.new.err) in
+    let d = E.state c.end_refused.new.err in
     let end = c.end_refused.result in
     unread_run a f m b b o o e d end c.read_both.result has c.in-Err.outcome c.in-Err.is refl
     (subst (λ ks. IsBare ks end) c.new.ensures c.end_refused.ensures.bare)
-    (subst (λ ks. IsTold _ _ c.in-Err.outcome ks o o e d end) c.new.ensures (c.end_refused.ensures.told (O.taken c.args.out.now) (O.faults c.args.out.now)))
+    (subst (λ ks. IsTold _ _ c.in-Err.outcome ks o o e d end) c.new.ensures (c.end_refused.ensures.told (O.state c.args.out.now)))
 
 pub returns-in-Err-clause-why : goal.returns-in-Err-clause-why
 returns-in-Err-clause-why g c cause came =
@@ -59,13 +57,13 @@ returns-in-Err-clause-why g c cause came =
     let a = c.args.arguments.now in
     let files = c.args.files.now in
     let read = c.read_both.new.files in
-    let f = files_state (F.holds files) (F.calls files) (F.reads files) (F.faults files) in
-    let m = files_state (F.holds read) (F.calls read) (F.reads read) (F.faults read) in
+    let f = F.state files in
+    let m = F.state read in
     let before = c.args.spawner.now in
-    let b = spawner_seen (P.faults before) (P.started before) (P.retired before) (P.commands before) in
-    let o = sink_state (O.taken c.args.out.now) (O.faults c.args.out.now) in
-    let e = sink_state (E.taken c.args.err.now) (E.faults c.args.err.now) in
+    let b = P.state before in
+    let o = O.state c.args.out.now in
+    let e = E.state c.args.err.now in
     let has = subst₂ (λ (s k : List ℕ). HasReadBoth s k f m c.read_both.result) c.setup.ensures c.answers.ensures c.read_both.ensures.read in
-    let d = sink_state (E.taken c.end_refused.new.err) (E.faults c.end_refused.new.err) in
+    let d = E.state c.end_refused.new.err in
     let end = c.end_refused.result in
     absurd (never_unstarted a f m b b o o e d end c.read_both.result has c.in-Err.outcome cause c.in-Err.is (c.end_refused.ensures.unstarted cause came))

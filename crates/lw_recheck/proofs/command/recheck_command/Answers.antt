@@ -1,6 +1,5 @@
 use Rattle.std.proofs.Common.{◌≡◌, ◌∙◌, ℕ, List, map, string_bytes, inl, ap, rules, subst, sym}
 use Rattle.lw_words.specs.declared.kept.KeptAnswer.{KeptAnswer}
-use Rattle.lw_children.specs.Spawners.{spawner_seen}
 use Rattle.lw_recheck.specs.Child.{RechecksChild}
 use Rattle.lw_recheck.specs.Outcomes.{came_outcome}
 use Rattle.lw_recheck.proofs.command.recheck_command.Goals as goal
@@ -10,8 +9,8 @@ returns-in-Ok-clause-asks g c =
     let P = g.P.Spawner in
     let before = c.args.spawner.now in
     let now = c.recheck_child.new.spawner in
-    let b = spawner_seen (P.faults before) (P.started before) (P.retired before) (P.commands before) in
-    let z = spawner_seen (P.faults now) (P.started now) (P.retired now) (P.commands now) in
+    let b = P.state before in
+    let z = P.state now in
     let command = c.args.command in
     let asked = c.in-Ok.asked in
     let words : map (λ w. string_bytes w) c.deref.result.now ≡ command.words = search rules in

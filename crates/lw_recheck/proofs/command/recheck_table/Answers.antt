@@ -17,7 +17,7 @@ returns c =
     let asked = c.recheck_session-asked.ensures in
     let result = c.recheck_session-asked.result in
     let is : Some s.sul.machine.rows ≡ Some m.mealy.rows = ap (λ (x : SessionState TableSulState). Some x.sul.machine.rows) c.new-session.ensures ∙ ap (λ (x : MealyMachine). Some x.rows) c.new.ensures.machine in
-    let are : t.sul.names ≡ m.outputs = as_many_names s.sul.names t.sul.names asked.grown asked.same.3 ∙ (ap (λ (x : SessionState TableSulState). x.sul.names) c.new-session.ensures ∙ c.new.ensures.names) in
+    let are : t.sul.names ≡ m.outputs = as_many_names s.sul.names t.sul.names asked.grown asked.same.most ∙ (ap (λ (x : SessionState TableSulState). x.sul.names) c.new-session.ensures ∙ c.new.ensures.names) in
     let has = rechecked_as (Some s.sul.machine.rows) (Some m.mealy.rows) c.args.outputs c.args.kept.answers t.sul.names m.outputs t.journal result.names result.kept.answers result.came is are asked.has in
     record {
       came = result.came;

@@ -5,14 +5,14 @@ use Rattle.lw_sul.specs.Names.{named}
 use Rattle.lw_recheck.proofs.keeping.keep_other.Goals as goal
 
 pub joined-requires : goal.joined-requires
-joined-requires g c = subst (λ (l : List ℕ). All (λ y. y < length (g.S.Sul.names c.args.sul.now)) l) (sym c.as_slice.ensures) c.requires.below
+joined-requires g c = subst (λ (l : List ℕ). All (λ y. y < length (g.S.Sul.state c.args.sul.now).names) l) (sym c.as_slice.ensures) c.requires.below
 
 pub renamed-requires : goal.renamed-requires
-renamed-requires g c = subst (λ (l : List ℕ). All (λ y. y < length (g.S.Sul.names c.args.sul.now)) l) (sym c.as_slice-2.ensures) c.requires.below
+renamed-requires g c = subst (λ (l : List ℕ). All (λ y. y < length (g.S.Sul.state c.args.sul.now).names) l) (sym c.as_slice-2.ensures) c.requires.below
 
 pub returns-clause-ok : goal.returns-clause-ok
 returns-clause-ok g c =
-    let own = g.S.Sul.names c.args.sul.now in
+    let own = (g.S.Sul.state c.args.sul.now).names in
     let other = c.args.other.now in
     let answers = c.args.kept.now.answers in
     record {

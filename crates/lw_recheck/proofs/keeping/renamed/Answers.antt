@@ -17,7 +17,7 @@ loop-y-init g c =
 pub loop-y-preserved : goal.loop-y-preserved
 loop-y-preserved g c =
     let names = c.args.names.now in
-    let own = g.S.Sul.names c.args.sul.now in
+    let own = (g.S.Sul.state c.args.sul.now).names in
     let outs = c.args.outs.now in
     let i = c.loop-y.y-index in
     let lt : i < length outs = omega (arith, c.loop-y-test.true) in
@@ -32,7 +32,7 @@ loop-y-preserved g c =
 
 pub returns-clause-named : goal.returns-clause-named
 returns-clause-named g c =
-    let own = g.S.Sul.names c.args.sul.now in
+    let own = (g.S.Sul.state c.args.sul.now).names in
     let outs = c.args.outs.now in
     let all : length outs ≤ c.loop-y.y-index = omega (arith, c.loop-y-test.false) in
     c.loop-y.invariant.named_so ∙ ap (λ (l : List ℕ). named own l) (take_all c.loop-y.y-index outs all)

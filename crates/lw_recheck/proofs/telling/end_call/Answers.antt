@@ -1,6 +1,5 @@
 use Rattle.std.proofs.Common.{◌≡◌, ℕ, List, Option, Some, option_map, rules, subst}
 use Rattle.lw_recheck.specs.Ending.{IsTold}
-use Rattle.lw_report.specs.States.{sink_state}
 use Rattle.lw_recheck.proofs.TellLemmas.{told_other}
 use Rattle.lw_recheck.proofs.telling.end_call.Goals as goal
 
@@ -11,12 +10,12 @@ pub returns-clause-ended : goal.returns-clause-ended
 returns-clause-ended g c =
     let O = g.O.Sink in
     let E = g.E.Sink in
-    let o = sink_state (O.taken c.args.out.now) (O.faults c.args.out.now) in
-    let e = sink_state (E.taken c.args.err.now) (E.faults c.args.err.now) in
-    let d = sink_state (E.taken c.end_refused.new.err) (E.faults c.end_refused.new.err) in
+    let o = O.state c.args.out.now in
+    let e = E.state c.args.err.now in
+    let d = E.state c.end_refused.new.err in
     let told = c.args.told in
     let named : option_map (λ n. n.now) c.as_ref.result ≡ told.names = search rules in
-    let said = subst (λ (n : Option (List (List ℕ))). IsTold (Some c.args.inputs.now) n told.outcome told.kept.answers o o e d c.end_refused.result) named (c.end_refused.ensures.told (O.taken c.args.out.now) (O.faults c.args.out.now)) in
+    let said = subst (λ (n : Option (List (List ℕ))). IsTold (Some c.args.inputs.now) n told.outcome told.kept.answers o o e d c.end_refused.result) named (c.end_refused.ensures.told (O.state c.args.out.now)) in
     record {
       bare = c.end_refused.ensures.bare;
       told = told_other (Some c.args.inputs.now) told.names told.outcome told.kept.answers o o e d c.end_refused.result c.in_default.not-Rechecked said;

@@ -1,7 +1,6 @@
 use Rattle.std.proofs.Common.{inl, refl, subst}
 use Rattle.lw_report.specs.Outcomes.{StandsOrWants}
 use Rattle.lw_report.specs.declared.outcome.Outcome.{Outcome}
-use Rattle.lw_report.specs.States.{sink_state}
 use Rattle.lw_recheck.proofs.TellLemmas.{cut_off}
 use Rattle.lw_recheck.proofs.telling.end_same.Goals as goal
 
@@ -18,10 +17,10 @@ pub returns-in-Err-clause-same : goal.returns-in-Err-clause-same
 returns-in-Err-clause-same g c =
     let O = g.O.Sink in
     let E = g.E.Sink in
-    let o = sink_state (O.taken c.args.out.now) (O.faults c.args.out.now) in
-    let p = sink_state (O.taken c.put_same.new.out) (O.faults c.put_same.new.out) in
-    let e = sink_state (E.taken c.args.err.now) (E.faults c.args.err.now) in
-    let d = sink_state (E.taken c.refuse.new.err) (E.faults c.refuse.new.err) in
+    let o = O.state c.args.out.now in
+    let p = O.state c.put_same.new.out in
+    let e = E.state c.args.err.now in
+    let d = E.state c.refuse.new.err in
     let was = c.put_same.ensures in
     cut_off c.args.answers c.args.kept.answers o p e d c.refuse.result c.put_same.result c.in-Err.stop c.in-Err.is
     (subst (λ (w : Outcome). StandsOrWants w c.refuse.result.outcome) c.from.ensures c.refuse.ensures.outcome)

@@ -7,4 +7,4 @@ pub returns-clause-ok : goal.returns-clause-ok
 returns-clause-ok g c =
     let O = g.O.Sink in
     let is : c.deref.result.now ≡ rechecked_line c.args.answers = c.deref.ensures.value ∙ c.in_ok-text.ensures in
-    subst (λ (l : List ℕ). TakesAll l (O.taken c.args.out.now) (O.taken c.put_all.new.sink)) is c.in_ok-put_all.ensures.ok
+    subst (λ (l : List ℕ). TakesAll l (O.state c.args.out.now).taken (O.state c.put_all.new.sink).taken) is c.in_ok-put_all.ensures.ok

@@ -1,5 +1,4 @@
 use Rattle.lw_json.specs.SetupFile.{HasSetupFault, IsSetupFile}
-use Rattle.lw_report.specs.States.{files_state}
 use Rattle.lw_report.proofs.HintLemmas.{tells_hint}
 use Rattle.lw_report.proofs.ReadLemmas.{has_fault, no_setup}
 use Rattle.lw_report.proofs.reading.read_setup_with.Goals as goal
@@ -7,15 +6,15 @@ use Rattle.lw_report.proofs.reading.read_setup_with.Goals as goal
 pub returns-in-Ok-read_setup-clause-hint : goal.returns-in-Ok-read_setup-clause-hint
 returns-in-Ok-read_setup-clause-hint g c =
     let F = g.F.Files in
-    tells_hint c.args.name.now c.in-Ok.bytes.items c.deref-in-Ok-read_setup.result.now (F.reads c.args.files.now) (F.reads c.read.new.self) c.with_hint.result c.in-Ok.ensures.given c.deref-in-Ok-read_setup.ensures.value c.with_hint.ensures.hint
+    tells_hint c.args.name.now c.in-Ok.bytes.items c.deref-in-Ok-read_setup.result.now (F.state c.args.files.now).reads (F.state c.read.new.self).reads c.with_hint.result c.in-Ok.ensures.given c.deref-in-Ok-read_setup.ensures.value c.with_hint.ensures.hint
 
 pub returns-clause-read : goal.returns-clause-read
 returns-clause-read g c =
     let F = g.F.Files in
     let read = c.in-Ok.ensures in
     has_fault IsSetupFile HasSetupFault c.args.name.now
-    (files_state (F.holds c.args.files.now) (F.calls c.args.files.now) (F.reads c.args.files.now) (F.faults c.args.files.now))
-    (files_state (F.holds c.read.new.self) (F.calls c.read.new.self) (F.reads c.read.new.self) (F.faults c.read.new.self))
+    (F.state c.args.files.now)
+    (F.state c.read.new.self)
     c.in-Ok.bytes.items c.deref.result.now c.in-Err-read_setup.fault c.from-in-Err-read_setup.result no_setup
     (record {
       read = record { given = read.given; short = read.short; held = read.told };

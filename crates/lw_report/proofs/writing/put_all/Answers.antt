@@ -8,5 +8,5 @@ loop-done-preserved g c =
     record {
       quiet = c.in_ok-done.ensures.quiet ∙ c.loop-done.invariant.quiet;
       within = c.in_ok-done.ensures.some.1;
-      took = sink_more (K.taken c.args.sink.now) (K.taken c.loop-done.sink) (K.taken c.put_from.new.sink) c.args.bytes.now c.loop-done.done c.in_ok-done.field-0 c.loop-done.invariant.within c.loop-done.invariant.took c.in_ok-done.ensures.took;
+      took = sink_more (K.state c.args.sink.now).taken (K.state c.loop-done.sink).taken (K.state c.put_from.new.sink).taken c.args.bytes.now c.loop-done.done c.in_ok-done.field-0 c.loop-done.invariant.within c.loop-done.invariant.took c.in_ok-done.ensures.took;
     }

@@ -5,9 +5,9 @@ abbrev pub invariant-loop-done : goal.invariant-loop-done
 invariant-loop-done g l =
     let K = g.K.Sink in
     record {
-      quiet : K.faults l.sink ≡ K.faults l.fn.sink;
+      quiet : (K.state l.sink).faults ≡ (K.state l.fn.sink).faults;
       within : l.done ≤ length l.bytes;
-      took : K.taken l.sink ≡ option_map (λ t. t ++ take l.done l.bytes) (K.taken l.fn.sink);
+      took : (K.state l.sink).taken ≡ option_map (λ t. t ++ take l.done l.bytes) (K.state l.fn.sink).taken;
     }
 
 abbrev pub decreases-loop-done : goal.decreases-loop-done

@@ -10,7 +10,7 @@ use Rattle.lw_rounds.proofs.HypothesisLemmas.{suite_words, kept_words, passes_su
 use Rattle.lw_rounds.proofs.hypothesis.settle_and_certify.Goals as goal
 
 pub settle_suite-requires-clause-letters : goal.settle_suite-requires-clause-letters
-settle_suite-requires-clause-letters g c = suite_words c.args.hypothesis.now.inputs c.args.model.inputs c.args.model.rows c.args.extra c.args.suite c.requires.alphabets.0 c.requires.suite
+settle_suite-requires-clause-letters g c = suite_words c.args.hypothesis.now.inputs c.args.model.inputs c.args.model.rows c.args.settings.extra c.args.suite c.requires.alphabets.0 c.requires.suite
 
 pub certified-requires-clause-letters : goal.certified-requires-clause-letters
 certified-requires-clause-letters g c =
@@ -22,8 +22,8 @@ certified-requires-clause-sure g c =
     let now = g.O.Oracle.state c.settle_suite.new.oracle in
     let a = c.args.hypothesis.now.inputs in
     let leaves = c.in_ok-found.ensures.leaves in
-    subst (λ (kept : List KeptAnswer). IsVerdict c.args.model.inputs c.args.model.rows (answers_of kept) c.args.extra Sure) (sym c.cache.ensures.kept)
-    (passes_sure a c.args.model.inputs c.args.hypothesis.now.rows c.args.model.rows (answers_of now.kept) c.args.extra c.args.suite c.requires.alphabets.0 c.requires.canonical
+    subst (λ (kept : List KeptAnswer). IsVerdict c.args.model.inputs c.args.model.rows (answers_of kept) c.args.settings.extra Sure) (sym c.cache.ensures.kept)
+    (passes_sure a c.args.model.inputs c.args.hypothesis.now.rows c.args.model.rows (answers_of now.kept) c.args.settings.extra c.args.suite c.requires.alphabets.0 c.requires.canonical
     (kept_are_answers now a (c.requires.inputs ∙ sym leaves.same.inputs) leaves.keeps) c.requires.suite c.requires.size (rw c.in-None.is at c.in_ok-found.ensures.comes))
 
 pub certified-requires-clause-canonical : goal.certified-requires-clause-canonical

@@ -15,8 +15,8 @@ returns-in-Err-clause-stops g c =
     let before = g.O.Oracle.state c.args.oracle.now in
     let h = c.args.hypothesis.now in
     let model = c.in_ok-model.model in
-    subst (StopsTest h.inputs h.outputs c.args.extra (length h.rows) (answers_of before.kept)) (sym c.without_suite.ensures)
-    (without_suite_stops h model (answers_of before.kept) c.args.extra c.inputs.ensures.complete.machine c.in_ok-model.ensures.alphabets.0 c.in_ok-model.ensures.alphabets.1 c.in_ok-model.ensures.complete
+    subst (StopsTest h.inputs h.outputs c.args.settings.extra (length h.rows) (answers_of before.kept)) (sym c.without_suite.ensures)
+    (without_suite_stops h model (answers_of before.kept) c.args.settings.extra c.inputs.ensures.complete.machine c.in_ok-model.ensures.alphabets.0 c.in_ok-model.ensures.alphabets.1 c.in_ok-model.ensures.complete
     c.in_ok-model.ensures.canonical (kept_are_answers before h.inputs c.requires.inputs c.requires.keeps) c.requires.gives
     (has_crowd (answers_of before.kept) c.args.learner.now h.rows c.access.ensures.learner c.requires.read c.requires.machine) c.in-Err.fault (λ number is. c.in-Err.ensures.size number (ap Err is)))
 

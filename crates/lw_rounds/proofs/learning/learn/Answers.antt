@@ -3,7 +3,7 @@ use Rattle.lw_words.specs.Answer.{answers_of}
 use Rattle.lw_mealy.specs.Limits.{MealyMachine}
 use Rattle.lw_rounds.specs.Learned.{StopsAs}
 use Rattle.lw_rounds.proofs.StopLemmas.{leaves_learn_handed}
-use Rattle.lw_rounds.proofs.RoundLemmas.{told_stops, learned_from, stops_from}
+use Rattle.lw_rounds.proofs.RoundLemmas.{told_stops, learned_from, new_as, stops_from}
 use Rattle.lw_rounds.proofs.learning.learn.Goals as goal
 
 pub learn_from-requires-clause-read : goal.learn_from-requires-clause-read
@@ -18,11 +18,15 @@ returns-in_err-model-clause-stops g c =
     let ks = answers_of (g.O.Oracle.state c.learn_from.new.oracle).kept in
     let stop = c.in_err-model.field-0.0 in
     let l = c.in_ok-learner.learner in
-    told_stops (StopsAs c.args.inputs c.args.outputs c.args.extra c.args.max_states ks) stop c.from_residual-in_err-model.result (search rules)
-    (stops_from c.args.kind c.args.inputs c.args.outputs c.args.extra c.args.max_states ks l l stop c.in_ok-learner.ensures (record { kind = refl; inputs = refl; outputs = refl; most = refl }) c.in_err-model.ensures.stops)
+    let o = g.O.Oracle.state c.args.oracle.now in
+    let new = new_as c.args.settings.kind c.inputs-inputs.result c.outputs-outputs.result o.inputs o.outputs c.args.settings.max_states l c.inputs-inputs.ensures c.outputs-outputs.ensures c.in_ok-learner.ensures in
+    told_stops (StopsAs o.inputs o.outputs c.args.settings.extra c.args.settings.max_states ks) stop c.from_residual-in_err-model.result (search rules)
+    (stops_from c.args.settings.kind o.inputs o.outputs c.args.settings.extra c.args.settings.max_states ks l l stop new (record { kind = refl; inputs = refl; outputs = refl; most = refl }) c.in_err-model.ensures.stops)
 
 pub returns-clause-learned : goal.returns-clause-learned
 returns-clause-learned g c =
     let ks = answers_of (g.O.Oracle.state c.learn_from.new.oracle).kept in
     let l = c.in_ok-learner.learner in
-    learned_from c.args.kind c.args.inputs c.args.outputs c.args.extra c.args.max_states ks l l c.learn_from.new.learner c.in_ok-model.model c.in_ok-learner.ensures (record { kind = refl; inputs = refl; outputs = refl; most = refl }) c.in_ok-model.ensures.learned
+    let o = g.O.Oracle.state c.args.oracle.now in
+    let new = new_as c.args.settings.kind c.inputs-inputs.result c.outputs-outputs.result o.inputs o.outputs c.args.settings.max_states l c.inputs-inputs.ensures c.outputs-outputs.ensures c.in_ok-learner.ensures in
+    learned_from c.args.settings.kind o.inputs o.outputs c.args.settings.extra c.args.settings.max_states ks l l c.learn_from.new.learner c.in_ok-model.model new (record { kind = refl; inputs = refl; outputs = refl; most = refl }) c.in_ok-model.ensures.learned

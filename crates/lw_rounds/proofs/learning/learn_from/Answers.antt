@@ -26,7 +26,7 @@ returns-in_err-close-clause-stops g c =
     let ks = answers_of (g.O.Oracle.state c.close.new.oracle).kept in
     let l = c.args.learner.now in
     let stop = c.in_err-close.field-0.0 in
-    told_stops (StopsFrom l c.args.extra ks) (of_growth stop) c.from_residual.result (search rules) (growth_as (inputs_of l) (outputs_of l) c.args.extra (most_of l) ks stop c.in_err-close.ensures.grows.stops)
+    told_stops (StopsFrom l c.args.settings.extra ks) (of_growth stop) c.from_residual.result (search rules) (growth_as (inputs_of l) (outputs_of l) c.args.settings.extra (most_of l) ks stop c.in_err-close.ensures.grows.stops)
 
 pub returns-in_err-close-clause-leaves : goal.returns-in_err-close-clause-leaves
 returns-in_err-close-clause-leaves g c =
@@ -43,8 +43,8 @@ returns g c =
     let l = c.args.learner.now in
     let alike = c.in_ok-close.ensures.grows.alike in
     record {
-      learned = learned_since l c.close.new.self c.rounds.new.learner c.args.extra ks alike c.rounds.result c.rounds.ensures.learned;
-      stops = stops_since l c.close.new.self c.rounds.new.learner c.args.extra ks alike c.rounds.result c.rounds.ensures.stops;
+      learned = learned_since l c.close.new.self c.rounds.new.learner c.args.settings.extra ks alike c.rounds.result c.rounds.ensures.learned;
+      stops = stops_since l c.close.new.self c.rounds.new.learner c.args.settings.extra ks alike c.rounds.result c.rounds.ensures.stops;
       leaves = leaves_then (g.O.Oracle.state c.args.oracle.now) (g.O.Oracle.state c.close.new.oracle) (g.O.Oracle.state c.rounds.new.oracle) (learn_stop c.rounds.result) c.in_ok-close.ensures.leaves c.rounds.ensures.leaves;
       can = c.rounds.ensures.can;
     }

@@ -6,7 +6,7 @@ use Rattle.lw_rounds.specs.Learner.{inputs_of, outputs_of, most_of}
 use Rattle.lw_rounds.specs.Stops.{of_growth}
 use Rattle.lw_rounds.specs.bodies.Rounds.{StopsFrom}
 use Rattle.lw_rounds.proofs.StopLemmas.{leaves_learn_grown}
-use Rattle.lw_rounds.proofs.RoundLemmas.{growth_as, ready_more, is_learned, told_stops}
+use Rattle.lw_rounds.proofs.RoundLemmas.{growth_as, few_tested, ready_more, is_learned, tested_stops, told_stops}
 use Rattle.lw_rounds.proofs.rounds.round_by_suite.Goals as goal
 
 pub refine-requires-clause-ready : goal.refine-requires-clause-ready
@@ -29,7 +29,7 @@ returns-in-Sure-clause-goes g c =
     let before = g.O.Oracle.state c.args.oracle.now in
     let now = g.O.Oracle.state c.test_by_suite.new.oracle in
     let l = c.args.learner.now in
-    is_learned now l c.args.hypothesis.now c.in-Sure.model c.args.extra (ready_more before now l c.in_ok-word.ensures.leaves c.requires.ready) c.requires.settled
+    is_learned now l c.args.hypothesis.now c.in-Sure.model c.args.settings.extra (ready_more before now l c.in_ok-word.ensures.leaves c.requires.ready) c.requires.settled
     c.requires.machine c.inputs.ensures.complete.machine c.requires.inputs c.requires.outputs (rw c.in-Sure.is at c.in_ok-word.ensures.tested)
 
 pub returns-in_err-refine-in-Differs-clause-stops : goal.returns-in_err-refine-in-Differs-clause-stops
@@ -37,4 +37,13 @@ returns-in_err-refine-in-Differs-clause-stops g c =
     let l = c.args.learner.now in
     let ks = answers_of (g.O.Oracle.state c.refine.new.oracle).kept in
     let stop = c.in_err-refine-in-Differs.field-0.0 in
-    told_stops (StopsFrom l c.args.extra ks) (of_growth stop) c.from_residual-in_err-refine-in-Differs.result (search rules) (growth_as (inputs_of l) (outputs_of l) c.args.extra (most_of l) ks stop c.in_err-refine-in-Differs.ensures.stops)
+    told_stops (StopsFrom l c.args.settings.extra ks) (of_growth stop) c.from_residual-in_err-refine-in-Differs.result (search rules) (growth_as (inputs_of l) (outputs_of l) c.args.settings.extra (most_of l) ks stop c.in_err-refine-in-Differs.ensures.stops)
+
+pub returns-in_err-word-clause-stops : goal.returns-in_err-word-clause-stops
+returns-in_err-word-clause-stops g c =
+    let l = c.args.learner.now in
+    let h = c.args.hypothesis.now in
+    let ks = answers_of (g.O.Oracle.state c.test_by_suite.new.oracle).kept in
+    let stop = c.in_err-word.field-0.0 in
+    told_stops (StopsFrom l c.args.settings.extra ks) stop c.from_residual.result (search rules)
+    (tested_stops h l c.args.settings.extra ks stop c.requires.inputs c.requires.outputs (few_tested l h.rows c.requires.ready.learner c.requires.machine) c.in_err-word.ensures.stops)

@@ -67,14 +67,14 @@ returns-in_err-refine-clause-stops g c =
     let l = c.args.learner.now in
     let ks = answers_of (g.O.Oracle.state c.refine.new.oracle).kept in
     let stop = c.in_err-refine.field-0.0 in
-    told_stops (StopsFrom l c.args.extra ks) (of_growth stop) c.from_residual-in_err-refine.result (search rules) (growth_as (inputs_of l) (outputs_of l) c.args.extra (most_of l) ks stop c.in_err-refine.ensures.stops)
+    told_stops (StopsFrom l c.args.settings.extra ks) (of_growth stop) c.from_residual-in_err-refine.result (search rules) (growth_as (inputs_of l) (outputs_of l) c.args.settings.extra (most_of l) ks stop c.in_err-refine.ensures.stops)
 
 pub returns-in_err-settle-clause-stops : goal.returns-in_err-settle-clause-stops
 returns-in_err-settle-clause-stops g c =
     let l = c.args.learner.now in
     let ks = answers_of (g.O.Oracle.state c.settle.new.oracle).kept in
     let stop = c.in_err-settle.field-0.0 in
-    told_stops (StopsFrom l c.args.extra ks) (of_growth stop) c.from_residual-in_err-settle.result (search rules) (growth_as (inputs_of l) (outputs_of l) c.args.extra (most_of l) ks stop c.in_err-settle.ensures.grows.stops)
+    told_stops (StopsFrom l c.args.settings.extra ks) (of_growth stop) c.from_residual-in_err-settle.result (search rules) (growth_as (inputs_of l) (outputs_of l) c.args.settings.extra (most_of l) ks stop c.in_err-settle.ensures.grows.stops)
 
 pub returns-in_err-refine-clause-leaves : goal.returns-in_err-refine-clause-leaves
 returns-in_err-refine-clause-leaves g c =

@@ -21,7 +21,7 @@ returns-in_err-model-clause-stops g c =
     let l = c.args.learner.now in
     let ks = answers_of (g.O.Oracle.state c.round.new.oracle).kept in
     let stop = c.in_err-model.field-0.0 in
-    told_stops (StopsFrom l c.args.extra ks) stop c.from_residual.result (search rules) (stops_alike l c.loop-model.learner c.args.extra ks stop c.loop-model.invariant.alike c.in_err-model.ensures.stops)
+    told_stops (StopsFrom l c.args.settings.extra ks) stop c.from_residual.result (search rules) (stops_alike l c.loop-model.learner c.args.settings.extra ks stop c.loop-model.invariant.alike c.in_err-model.ensures.stops)
 
 pub loop-model-preserved : goal.loop-model-preserved
 loop-model-preserved g c =

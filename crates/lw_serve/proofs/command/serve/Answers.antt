@@ -1,5 +1,4 @@
 use Rattle.std.proofs.Common.{◌∙◌, Err, ap}
-use Rattle.lw_report.specs.States.{files_state, sink_state, source_state}
 use Rattle.lw_report.specs.declared.stops.ReadStop.{ReadStop}
 use Rattle.lw_serve.proofs.RunLemmas.{played_run, unread_run}
 use Rattle.lw_serve.proofs.command.serve.Goals as goal
@@ -10,17 +9,17 @@ returns-in-Ok-clause-ran g c =
     let I = g.I.Source in
     let O = g.O.Sink in
     let E = g.E.Sink in
-    let f = files_state (F.holds c.args.files.now) (F.calls c.args.files.now) (F.reads c.args.files.now) (F.faults c.args.files.now) in
+    let f = F.state c.args.files.now in
     let read = c.read_machine_file.new.files in
-    let i = source_state (I.left c.args.input.now) (I.faults c.args.input.now) (I.ends c.args.input.now) in
-    let j = source_state (I.left c.play.new.input) (I.faults c.play.new.input) (I.ends c.play.new.input) in
-    let o = sink_state (O.taken c.args.out.now) (O.faults c.args.out.now) in
-    let p = sink_state (O.taken c.play.new.out) (O.faults c.play.new.out) in
-    let e = sink_state (E.taken c.args.err.now) (E.faults c.args.err.now) in
-    let d = sink_state (E.taken c.play.new.err) (E.faults c.play.new.err) in
+    let i = I.state c.args.input.now in
+    let j = I.state c.play.new.input in
+    let o = O.state c.args.out.now in
+    let p = O.state c.play.new.out in
+    let e = E.state c.args.err.now in
+    let d = E.state c.play.new.err in
     let was = c.in-Ok.ensures in
     let now = c.play.ensures in
-    played_run c.args.model.now f (files_state (F.holds read) (F.calls read) (F.reads read) (F.faults read)) i j o p e d c.play.result c.in-Ok.machine
+    played_run c.args.model.now f (F.state read) i j o p e d c.play.result c.in-Ok.machine
     (record { file = was.ok; calls = was.ok_call; quiet = was.quiet; holds = was.same })
     now.served
     (record { model = now.model; learner = now.learner; kept = now.kept; outputs = now.outputs; said = now.said; part = now.part })
@@ -31,16 +30,16 @@ returns-in-Err-clause-ran g c =
     let I = g.I.Source in
     let O = g.O.Sink in
     let E = g.E.Sink in
-    let f = files_state (F.holds c.args.files.now) (F.calls c.args.files.now) (F.reads c.args.files.now) (F.faults c.args.files.now) in
+    let f = F.state c.args.files.now in
     let read = c.read_machine_file.new.files in
-    let i = source_state (I.left c.args.input.now) (I.faults c.args.input.now) (I.ends c.args.input.now) in
-    let o = sink_state (O.taken c.args.out.now) (O.faults c.args.out.now) in
-    let e = sink_state (E.taken c.args.err.now) (E.faults c.args.err.now) in
-    let d = sink_state (E.taken c.refuse_model.new.err) (E.faults c.refuse_model.new.err) in
+    let i = I.state c.args.input.now in
+    let o = O.state c.args.out.now in
+    let e = E.state c.args.err.now in
+    let d = E.state c.refuse_model.new.err in
     let was = c.read_machine_file.ensures in
     let is = c.in-Err.is in
     let now = c.refuse_model.ensures in
-    unread_run c.args.model.now f (files_state (F.holds read) (F.calls read) (F.reads read) (F.faults read)) i o e d c.refuse_model.result c.in-Err.stop
+    unread_run c.args.model.now f (F.state read) i o e d c.refuse_model.result c.in-Err.stop
     (record {
       bad = λ fault kind. let same = is ∙ ap (λ (s : ReadStop). Err s) kind in (was.bad fault same, was.bad_call fault same);
       long = λ kind. let same = is ∙ ap (λ (s : ReadStop). Err s) kind in (was.long same, was.long_call same, was.long_unread same);

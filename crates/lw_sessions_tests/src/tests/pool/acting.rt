@@ -105,27 +105,19 @@ impl Acting {
 impl Sul for Acting {
     ghost use Rattle.std.specs.Prelude.{length, Some, None};
 
-    ghost inputs = { λ s. s.table.machine.inputs };
-
-    ghost outputs = { λ s. s.table.machine.outputs };
-
-    ghost origin = { λ s. record { machine = Some s.table.machine.rows; link = None; letters = None } };
-
-    ghost state = { λ s. s.table.state };
-
-    ghost started = { λ s. s.started };
-
-    ghost faults = { λ s. s.faults };
-
-    ghost stop = { λ s. s.stop };
-
-    ghost cut = { λ s. s.cut };
-
-    ghost runs = { λ _. None };
-
-    ghost names = { λ s. s.table.names };
-
-    ghost most = { λ s. length s.table.names };
+    ghost state = { λ s. record {
+      inputs = s.table.machine.inputs;
+      outputs = s.table.machine.outputs;
+      origin = record { machine = Some s.table.machine.rows; link = None; letters = None };
+      place = s.table.state;
+      started = s.started;
+      faults = s.faults;
+      stop = s.stop;
+      cut = s.cut;
+      runs = None;
+      names = s.table.names;
+      most = length s.table.names;
+    } };
 
     fn inputs(&self) -> u16 {
         self.table.inputs()

@@ -97,9 +97,7 @@ pub fn hired(
     plans: Vec<Plan>,
 ) -> Vec<Session<Acting>>
     requires { shared.now ≡ record { names = names.now; brought = None } }
-    ensures { AllMayJoin (member_of ⟦<Acting as Sul>⟧.names
-        ⟦<Acting as Sul>⟧.most ⟦<Acting as Sul>⟧.stop ⟦<Acting as Sul>⟧.origin
-        ⟦<Acting as Sul>⟧.inputs ⟦<Acting as Sul>⟧.outputs) shared.now 2 2 result.items }
+    ensures { AllMayJoin (member_of ⟦<Acting as Sul>⟧.state) shared.now 2 2 result.items }
 {
     let mut sessions = Vec::new(alloc);
     for plan in plans {

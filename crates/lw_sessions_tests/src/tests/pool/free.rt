@@ -30,9 +30,8 @@ fn growing(rt: &impl Abort, alloc: Global, outs: [u16; 2], list: &[&str]) -> Gro
 fn hired(rt: &impl Abort, alloc: Global, shared: &OutNames) -> Vec<Session<Growing>>
     requires { shared.now ≡ record { names = []; brought = Some (replicate 16 []) } }
     ensures count { length result.items ≡ 2 }
-    ensures join { AllMayJoin (member_of ⟦<Growing as Sul>⟧.names
-        ⟦<Growing as Sul>⟧.most ⟦<Growing as Sul>⟧.stop ⟦<Growing as Sul>⟧.origin
-        ⟦<Growing as Sul>⟧.inputs ⟦<Growing as Sul>⟧.outputs) shared.now 2 4096 result.items }
+    ensures join { AllMayJoin (member_of ⟦<Growing as Sul>⟧.state) shared.now 2 4096
+        result.items }
 {
     let first = growing(rt, alloc, [0, 1], &["a", "b"]);
     let second = growing(rt, alloc, [1, 0], &["b", "a"]);

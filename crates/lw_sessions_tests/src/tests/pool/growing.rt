@@ -67,27 +67,19 @@ impl Growing {
 impl Sul for Growing {
     ghost use Rattle.std.specs.Prelude.{length, take, None};
 
-    ghost inputs = { λ s. s.table.machine.inputs };
-
-    ghost outputs = { λ _. 4096 };
-
-    ghost origin = { λ _. record { machine = None; link = None; letters = None } };
-
-    ghost state = { λ _. 0 };
-
-    ghost started = { λ s. s.started };
-
-    ghost faults = { λ s. s.faults };
-
-    ghost stop = { λ s. s.stop };
-
-    ghost cut = { λ s. s.cut };
-
-    ghost runs = { λ _. None };
-
-    ghost names = { λ s. take s.known s.table.names };
-
-    ghost most = { λ s. length s.table.names };
+    ghost state = { λ s. record {
+      inputs = s.table.machine.inputs;
+      outputs = 4096;
+      origin = record { machine = None; link = None; letters = None };
+      place = 0;
+      started = s.started;
+      faults = s.faults;
+      stop = s.stop;
+      cut = s.cut;
+      runs = None;
+      names = take s.known s.table.names;
+      most = length s.table.names;
+    } };
 
     fn inputs(&self) -> u16 {
         self.table.inputs()

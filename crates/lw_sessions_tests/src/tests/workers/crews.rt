@@ -72,27 +72,19 @@ impl Refusing {
 impl Sul for Refusing {
     ghost use Rattle.std.specs.Prelude.{length, Some, None};
 
-    ghost inputs = { λ s. s.table.machine.inputs };
-
-    ghost outputs = { λ s. s.table.machine.outputs };
-
-    ghost origin = { λ s. record { machine = Some s.table.machine.rows; link = None; letters = None } };
-
-    ghost state = { λ s. s.table.state };
-
-    ghost started = { λ s. s.started };
-
-    ghost faults = { λ s. s.faults };
-
-    ghost stop = { λ s. s.stop };
-
-    ghost cut = { λ s. s.cut };
-
-    ghost runs = { λ _. None };
-
-    ghost names = { λ s. s.table.names };
-
-    ghost most = { λ s. length s.table.names };
+    ghost state = { λ s. record {
+      inputs = s.table.machine.inputs;
+      outputs = s.table.machine.outputs;
+      origin = record { machine = Some s.table.machine.rows; link = None; letters = None };
+      place = s.table.state;
+      started = s.started;
+      faults = s.faults;
+      stop = s.stop;
+      cut = s.cut;
+      runs = None;
+      names = s.table.names;
+      most = length s.table.names;
+    } };
 
     fn inputs(&self) -> u16 {
         self.table.inputs()
@@ -193,9 +185,7 @@ fn hired(
 ) -> Vec<Session<Refusing>>
     requires names { length names.now ≡ 2 }
     requires shared { shared.now ≡ record { names = names.now; brought = None } }
-    ensures { AllMayJoin (member_of ⟦<Refusing as Sul>⟧.names
-        ⟦<Refusing as Sul>⟧.most ⟦<Refusing as Sul>⟧.stop ⟦<Refusing as Sul>⟧.origin
-        ⟦<Refusing as Sul>⟧.inputs ⟦<Refusing as Sul>⟧.outputs) shared.now 1 2 result.items }
+    ensures { AllMayJoin (member_of ⟦<Refusing as Sul>⟧.state) shared.now 1 2 result.items }
 {
     let mut hired = Vec::new(alloc);
     for _ in 0..sessions {

@@ -9,19 +9,19 @@ abbrev pub invariant-loop-x : goal.invariant-loop-x
 invariant-loop-x g l =
     let S = g.S.Sul in
     record {
-      live : S.stop l.sul ≡ None;
-      started : S.started l.sul ≡ true;
-      inputs : S.inputs l.sul ≡ S.inputs l.fn.sul;
-      outputs : S.outputs l.sul ≡ S.outputs l.fn.sul;
-      origin : S.origin l.sul ≡ S.origin l.fn.sul;
-      most : S.most l.sul ≡ S.most l.fn.sul;
-      faults : S.faults l.fn.sul ≤ S.faults l.sul;
+      live : (S.state l.sul).stop ≡ None;
+      started : (S.state l.sul).started ≡ true;
+      inputs : (S.state l.sul).inputs ≡ (S.state l.fn.sul).inputs;
+      outputs : (S.state l.sul).outputs ≡ (S.state l.fn.sul).outputs;
+      origin : (S.state l.sul).origin ≡ (S.state l.fn.sul).origin;
+      most : (S.state l.sul).most ≡ (S.state l.fn.sul).most;
+      faults : (S.state l.fn.sul).faults ≤ (S.state l.sul).faults;
       count : length l.outs.items ≡ l.x-index;
       room : length l.x-items ≤ vec_capacity l.outs;
-      names_room : min (length l.x-items) (S.most l.fn.sul - length (S.names l.fn.sul)) ≤ vec_capacity l.names;
+      names_room : min (length l.x-items) ((S.state l.fn.sul).most - length (S.state l.fn.sul).names) ≤ vec_capacity l.names;
       few : length l.names.items ≤ l.x-index;
-      naming : IsNaming (S.names l.fn.sul) (S.names l.sul) l.names.items l.outs.items;
-      below : All (λ y. y < S.outputs l.fn.sul) l.outs.items;
-      rests : Rests (S.origin l.fn.sul).machine (S.state l.sul) l.outs.items (drop l.x-index l.x-items) l.x-items;
-      runs : S.runs l.sul ≡ option_map (λ rs. rs ++ run_of (take l.x-index l.x-items) l.outs.items ∷ []) (S.runs l.fn.sul);
+      naming : IsNaming (S.state l.fn.sul).names (S.state l.sul).names l.names.items l.outs.items;
+      below : All (λ y. y < (S.state l.fn.sul).outputs) l.outs.items;
+      rests : Rests (S.state l.fn.sul).origin.machine (S.state l.sul).place l.outs.items (drop l.x-index l.x-items) l.x-items;
+      runs : (S.state l.sul).runs ≡ option_map (λ rs. rs ++ run_of (take l.x-index l.x-items) l.outs.items ∷ []) (S.state l.fn.sul).runs;
     }

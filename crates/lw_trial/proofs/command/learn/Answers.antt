@@ -5,7 +5,6 @@ use Rattle.lw_workers.specs.Machines.{KeepsRuns}
 use Rattle.lw_rounds.specs.declared.learned.Learned.{Learned}
 use Rattle.lw_rounds.specs.declared.stops.LearnStop.{LearnStop}
 use Rattle.lw_report.specs.Outcomes.{StandsOrWants}
-use Rattle.lw_report.specs.States.{sink_state}
 use Rattle.lw_report.specs.declared.outcome.Outcome.{Outcome}
 use Rattle.lw_trial.specs.TrialRun.{drawn_naming}
 use Rattle.lw_trial.proofs.RunLemmas.{HasCome, few_refinements, of_drawn, stopped_run}
@@ -31,9 +30,9 @@ returns-in-Err-clause-ran g c =
     let O = g.O.Sink in
     let E = g.E.Sink in
     let v = c.args.arguments.now in
-    let o = sink_state (O.taken c.args.out.now) (O.faults c.args.out.now) in
-    let e = sink_state (E.taken c.args.err.now) (E.faults c.args.err.now) in
-    let d = sink_state (E.taken c.refuse.new.err) (E.faults c.refuse.new.err) in
+    let o = O.state c.args.out.now in
+    let e = E.state c.args.err.now in
+    let d = E.state c.refuse.new.err in
     let end = c.refuse.result in
     let refused = c.refuse.ensures in
     let came = c.learn_machine-learned.ensures in

@@ -3,7 +3,6 @@ use Rattle.lw_desk.specs.Naming.{Naming}
 use Rattle.lw_mealy.specs.Limits.{MealyMachine}
 use Rattle.lw_rounds.specs.Learner.{refinements_of}
 use Rattle.lw_report.specs.Outcomes.{StandsOrWants}
-use Rattle.lw_report.specs.States.{sink_state}
 use Rattle.lw_report.specs.Text.{trial_lines}
 use Rattle.lw_report.specs.Writing.{TakesSome}
 use Rattle.lw_report.specs.declared.outcome.Outcome.{Outcome}
@@ -18,9 +17,9 @@ returns-in-Ok-clause-ran g c =
     let O = g.O.Sink in
     let E = g.E.Sink in
     let v = c.args.arguments.now in
-    let o = sink_state (O.taken c.args.out.now) (O.faults c.args.out.now) in
-    let p = sink_state (O.taken c.tell.new.out) (O.faults c.tell.new.out) in
-    let e = sink_state (E.taken c.args.err.now) (E.faults c.args.err.now) in
+    let o = O.state c.args.out.now in
+    let p = O.state c.tell.new.out in
+    let e = E.state c.args.err.now in
     let end = c.with_model.result in
     let made = c.with_model.ensures in
     let h = c.args.learned.model in
@@ -44,10 +43,10 @@ returns-in-Err-clause-ran g c =
     let O = g.O.Sink in
     let E = g.E.Sink in
     let v = c.args.arguments.now in
-    let o = sink_state (O.taken c.args.out.now) (O.faults c.args.out.now) in
-    let p = sink_state (O.taken c.tell.new.out) (O.faults c.tell.new.out) in
-    let e = sink_state (E.taken c.args.err.now) (E.faults c.args.err.now) in
-    let d = sink_state (E.taken c.say-outcome.new.err) (E.faults c.say-outcome.new.err) in
+    let o = O.state c.args.out.now in
+    let p = O.state c.tell.new.out in
+    let e = E.state c.args.err.now in
+    let d = E.state c.say-outcome.new.err in
     let end = c.with_model-in-Err.result in
     let made = c.with_model-in-Err.ensures in
     let h = c.args.learned.model in

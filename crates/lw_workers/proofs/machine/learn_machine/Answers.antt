@@ -15,45 +15,45 @@ returns-clause-learned g c =
     let learned = c.learn_with-learned.ensures in
     let parts = c.into_parts-left.ensures in
     let never = never_stopped member _ _ parts.sessions (λ s. refl) in
-    (has_ended c.args.kind c.args.system.now c.args.workers c.args.extra c.args.max_states c.args.shared c.args.cache.kept c.in-Ok.pool c.learn_with-learned.result.pool c.learn_with-learned.result.learned c.into_kept-2.result.answers c.model_is_least.ensures c.too_many_is_none.ensures c.too_large_for_all.ensures c.in-Ok.ensures.pool learned.leaves never learned.learned learned.stops (c.into_kept-2.ensures ∙ parts.cache.0)).ok
+    (has_ended c.args.settings.kind c.args.system.now c.args.settings.workers c.args.settings.extra c.args.settings.max_states c.args.start.names c.args.start.cache.kept c.in-Ok.pool c.learn_with-learned.result.pool c.learn_with-learned.result.learned c.into_kept-2.result.answers c.model_is_least.ensures c.too_many_is_none.ensures c.too_large_for_all.ensures c.in-Ok.ensures.pool learned.leaves never learned.learned learned.stops (c.into_kept-2.ensures ∙ parts.cache.0)).ok
 
 pub returns-clause-stops : goal.returns-clause-stops
 returns-clause-stops g c =
     let learned = c.learn_with-learned.ensures in
     let parts = c.into_parts-left.ensures in
     let never = never_stopped member _ _ parts.sessions (λ s. refl) in
-    (has_ended c.args.kind c.args.system.now c.args.workers c.args.extra c.args.max_states c.args.shared c.args.cache.kept c.in-Ok.pool c.learn_with-learned.result.pool c.learn_with-learned.result.learned c.into_kept-2.result.answers c.model_is_least.ensures c.too_many_is_none.ensures c.too_large_for_all.ensures c.in-Ok.ensures.pool learned.leaves never learned.learned learned.stops (c.into_kept-2.ensures ∙ parts.cache.0)).stops
+    (has_ended c.args.settings.kind c.args.system.now c.args.settings.workers c.args.settings.extra c.args.settings.max_states c.args.start.names c.args.start.cache.kept c.in-Ok.pool c.learn_with-learned.result.pool c.learn_with-learned.result.learned c.into_kept-2.result.answers c.model_is_least.ensures c.too_many_is_none.ensures c.too_large_for_all.ensures c.in-Ok.ensures.pool learned.leaves never learned.learned learned.stops (c.into_kept-2.ensures ∙ parts.cache.0)).stops
 
 pub returns-clause-caused : goal.returns-clause-caused
 returns-clause-caused g c =
     let learned = c.learn_with-learned.ensures in
     let parts = c.into_parts-left.ensures in
     let never = never_stopped member _ _ parts.sessions (λ s. refl) in
-    (has_ended c.args.kind c.args.system.now c.args.workers c.args.extra c.args.max_states c.args.shared c.args.cache.kept c.in-Ok.pool c.learn_with-learned.result.pool c.learn_with-learned.result.learned c.into_kept-2.result.answers c.model_is_least.ensures c.too_many_is_none.ensures c.too_large_for_all.ensures c.in-Ok.ensures.pool learned.leaves never learned.learned learned.stops (c.into_kept-2.ensures ∙ parts.cache.0)).caused
+    (has_ended c.args.settings.kind c.args.system.now c.args.settings.workers c.args.settings.extra c.args.settings.max_states c.args.start.names c.args.start.cache.kept c.in-Ok.pool c.learn_with-learned.result.pool c.learn_with-learned.result.learned c.into_kept-2.result.answers c.model_is_least.ensures c.too_many_is_none.ensures c.too_large_for_all.ensures c.in-Ok.ensures.pool learned.leaves never learned.learned learned.stops (c.into_kept-2.ensures ∙ parts.cache.0)).caused
 
 pub returns-clause-reached : goal.returns-clause-reached
 returns-clause-reached g c =
     let learned = c.learn_with-learned.ensures in
     let parts = c.into_parts-left.ensures in
     let never = never_stopped member _ _ parts.sessions (λ s. refl) in
-    (has_ended c.args.kind c.args.system.now c.args.workers c.args.extra c.args.max_states c.args.shared c.args.cache.kept c.in-Ok.pool c.learn_with-learned.result.pool c.learn_with-learned.result.learned c.into_kept-2.result.answers c.model_is_least.ensures c.too_many_is_none.ensures c.too_large_for_all.ensures c.in-Ok.ensures.pool learned.leaves never learned.learned learned.stops (c.into_kept-2.ensures ∙ parts.cache.0)).reached_by
+    (has_ended c.args.settings.kind c.args.system.now c.args.settings.workers c.args.settings.extra c.args.settings.max_states c.args.start.names c.args.start.cache.kept c.in-Ok.pool c.learn_with-learned.result.pool c.learn_with-learned.result.learned c.into_kept-2.result.answers c.model_is_least.ensures c.too_many_is_none.ensures c.too_large_for_all.ensures c.in-Ok.ensures.pool learned.leaves never learned.learned learned.stops (c.into_kept-2.ensures ∙ parts.cache.0)).reached_by
 
 pub returns-clause-kept : goal.returns-clause-kept
 returns-clause-kept g c =
     let learned = c.learn_with-learned.ensures in
     let parts = c.into_parts-left.ensures in
     let never = never_stopped member _ _ parts.sessions (λ s. refl) in
-    (has_ended c.args.kind c.args.system.now c.args.workers c.args.extra c.args.max_states c.args.shared c.args.cache.kept c.in-Ok.pool c.learn_with-learned.result.pool c.learn_with-learned.result.learned c.into_kept-2.result.answers c.model_is_least.ensures c.too_many_is_none.ensures c.too_large_for_all.ensures c.in-Ok.ensures.pool learned.leaves never learned.learned learned.stops (c.into_kept-2.ensures ∙ parts.cache.0)).runs
+    (has_ended c.args.settings.kind c.args.system.now c.args.settings.workers c.args.settings.extra c.args.settings.max_states c.args.start.names c.args.start.cache.kept c.in-Ok.pool c.learn_with-learned.result.pool c.learn_with-learned.result.learned c.into_kept-2.result.answers c.model_is_least.ensures c.too_many_is_none.ensures c.too_large_for_all.ensures c.in-Ok.ensures.pool learned.leaves never learned.learned learned.stops (c.into_kept-2.ensures ∙ parts.cache.0)).runs
 
 pub returns-clause-names : goal.returns-clause-names
 returns-clause-names g c =
     let parts = c.into_parts-left.ensures in
-    parts.names ∙ keeps_naming c.args.system.now c.args.workers c.args.names.now c.args.shared c.args.cache.kept c.in-Ok.pool c.learn_with-learned.result.pool (learn_stop c.learn_with-learned.result.learned) c.requires.shared c.in-Ok.ensures.pool c.learn_with-learned.ensures.leaves
+    parts.names ∙ keeps_naming c.args.system.now c.args.settings.workers c.args.names.now c.args.start.names c.args.start.cache.kept c.in-Ok.pool c.learn_with-learned.result.pool (learn_stop c.learn_with-learned.result.learned) c.requires.shared c.in-Ok.ensures.pool c.learn_with-learned.ensures.leaves
 
 pub learn_with-learned-requires-clause-nothing : goal.learn_with-learned-requires-clause-nothing
 learn_with-learned-requires-clause-nothing g c κs within = subst (λ (ks : List KeptAnswer). NothingClashes (answers_of ks)) (sym c.in-Ok.ensures.pool.kept) c.requires.nothing
 
 pub returns-in-Err-clause-kept : goal.returns-in-Err-clause-kept
 returns-in-Err-clause-kept g c =
-    subst (KeepsRuns c.args.system.now c.args.workers c.args.cache.kept) (sym (c.into_kept.ensures ∙ ap (λ (x : Caching). x.kept) c.in-Err.ensures.back.1))
-    (keeps_prior c.args.system.now c.args.workers c.args.shared c.args.cache.kept c.requires.prior)
+    subst (KeepsRuns c.args.system.now c.args.settings.workers c.args.start.cache.kept) (sym (c.into_kept.ensures ∙ ap (λ (x : Caching). x.kept) c.in-Err.ensures.back.1))
+    (keeps_prior c.args.system.now c.args.settings.workers c.args.start.names c.args.start.cache.kept c.requires.prior)

@@ -18,4 +18,4 @@ pub returns-in-Ok-new-clause-pool : goal.returns-in-Ok-new-clause-pool
 returns-in-Ok-new-clause-pool g c =
     let pool = c.in-Ok-new.ensures in
     let begun = pool.begun in
-    pool_begun c.args.system.now c.args.names.now c.args.workers c.args.shared c.args.cache.kept c.in-Ok.sessions.items c.in-Ok-new.pool c.in-Ok.ensures.each c.in-Ok.ensures.count pool.members (pool.numbers.0 ∙ c.inputs-inputs.ensures.value) (pool.numbers.1 ∙ c.outputs-outputs.ensures.value) begun.0 begun.1 begun.2 begun.3
+    pool_begun c.args.system.now c.args.names.now c.args.settings.workers c.args.shared c.args.cache.kept c.in-Ok.sessions.items c.in-Ok-new.pool c.in-Ok.ensures.each c.in-Ok.ensures.count pool.members (pool.numbers.0 ∙ c.inputs-inputs.ensures.value) (pool.numbers.1 ∙ c.outputs-outputs.ensures.value) begun.0 begun.1 begun.2 begun.3

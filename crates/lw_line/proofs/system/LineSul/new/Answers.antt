@@ -6,7 +6,7 @@ use Rattle.lw_line.proofs.system.LineSul.new.Goals as goal
 
 pub invariant_of-result : goal.invariant_of-result
 invariant_of-result g c = (
-  stands_first c.args.inputs c.declared.result.names c.declared.result.most (g.L.Link.faults c.args.link) (g.L.Link.ends c.args.link) c.new.result false (g.L.Link.transcript c.args.link) c.new.ensures c.requires,
-  declared_told c.declared.result c.args.outputs (g.L.Link.transcript c.args.link) c.declared.ensures,
+  stands_first c.args.inputs c.declared.result.names c.declared.result.most (g.L.Link.state c.args.link).faults (g.L.Link.state c.args.link).ends c.new.result false (g.L.Link.state c.args.link).transcript c.new.ensures c.requires,
+  declared_told c.declared.result c.args.outputs (g.L.Link.state c.args.link).transcript c.declared.ensures,
   none_noted (length c.args.inputs) c.closed.result c.closed.ensures,
 )

@@ -16,20 +16,31 @@ invariant_of-self g c =
     let s = c.self.inside in
     let live : s.stop ≡ None = search rules in
     let done =
-    reset_ready s.letters s.outputs.names s.outputs.most (L.faults s.link) (L.ends s.link) (L.faults c.start.new.link) (L.ends c.start.new.link) s.started s.inbox c.start.new.inbox s.stop s.cut (L.transcript s.link) (L.transcript c.start.new.link) live c.self.invariant.0
+    reset_ready s.letters s.outputs.names s.outputs.most (L.state s.link).faults (L.state s.link).ends (L.state c.start.new.link).faults (L.state c.start.new.link).ends s.started s.inbox c.start.new.inbox s.stop s.cut (L.state s.link).transcript (L.state c.start.new.link).transcript live c.self.invariant.0
     c.in-Ok.ensures.ready in
-    (done.0, λ free. answered_told s.outputs.names (ended reset_line) s.inbox c.start.new.inbox ready_line (L.transcript s.link) (L.transcript c.start.new.link) c.in-Ok.ensures.ready (c.self.invariant.1 free), run_begun (length s.letters) s.note c.begin_run.new.self c.receive.new.self c.begin_run.ensures c.receive.ensures)
+    (done.0, λ free. answered_told s.outputs.names (ended reset_line) s.inbox c.start.new.inbox ready_line (L.state s.link).transcript (L.state c.start.new.link).transcript c.in-Ok.ensures.ready (c.self.invariant.1 free), run_begun (length s.letters) s.note c.begin_run.new.self c.receive.new.self c.begin_run.ensures c.receive.ensures)
 
-pub returns-in-Ok-clause-begins : goal.returns-in-Ok-clause-begins
-returns-in-Ok-clause-begins g c =
+pub returns-in-Ok : goal.returns-in-Ok
+returns-in-Ok g c =
     let L = g.L.Link in
     let s = c.self.inside in
     let live : s.stop ≡ None = search rules in
     let done =
-    reset_ready s.letters s.outputs.names s.outputs.most (L.faults s.link) (L.ends s.link) (L.faults c.start.new.link) (L.ends c.start.new.link) s.started s.inbox c.start.new.inbox s.stop s.cut (L.transcript s.link) (L.transcript c.start.new.link) live c.self.invariant.0
+    reset_ready s.letters s.outputs.names s.outputs.most (L.state s.link).faults (L.state s.link).ends (L.state c.start.new.link).faults (L.state c.start.new.link).ends s.started s.inbox c.start.new.inbox s.stop s.cut (L.state s.link).transcript (L.state c.start.new.link).transcript live c.self.invariant.0
     c.in-Ok.ensures.ready in
-    let view = ap (λ s. told_runs s.letters s.names (L.transcript s.link)) c.self.view_is in
-    done.1 ∙ ap (option_map after_reset) view
+    let view = ap (λ s. told_runs s.letters s.names (L.state s.link).transcript) c.self.view_is in
+    record {
+      ok = search rules;
+      begins = done.1 ∙ ap (option_map after_reset) view;
+      names = search rules;
+      starts = search rules;
+      err = search rules;
+      left = search rules;
+      whole = search rules;
+      failed = search rules;
+      counts = search rules;
+      same = search rules;
+    }
 
 pub invariant_of-self-in-Err : goal.invariant_of-self-in-Err
 invariant_of-self-in-Err g c =
@@ -37,17 +48,28 @@ invariant_of-self-in-Err g c =
     let s = c.self.inside in
     let live : s.stop ≡ None = search rules in
     let done =
-    reset_refused s.letters s.outputs.names s.outputs.most (L.faults s.link) (L.ends s.link) (L.faults c.start.new.link) (L.ends c.start.new.link) s.started s.inbox c.start.new.inbox s.stop s.cut (L.transcript s.link) (L.transcript c.start.new.link) live c.self.invariant.0
+    reset_refused s.letters s.outputs.names s.outputs.most (L.state s.link).faults (L.state s.link).ends (L.state c.start.new.link).faults (L.state c.start.new.link).ends s.started s.inbox c.start.new.inbox s.stop s.cut (L.state s.link).transcript (L.state c.start.new.link).transcript live c.self.invariant.0
     c.in-Err.stop c.copy.result c.copy.ensures (λ is. c.in-Err.ensures.failed (ap (λ (e : SulStop). Err e) is)) (λ is. c.in-Err.ensures.gone (ap (λ (e : SulStop). Err e) is)) c.in-Err.ensures.err in
-    (done.0, λ free. refused_told s.outputs.names (λ answer. ¬ IsFormed reset_line answer) (ended reset_line) s.inbox c.start.new.inbox c.in-Err.stop (L.transcript s.link) (L.transcript c.start.new.link) c.in-Err.ensures.err (c.self.invariant.1 free), run_begun (length s.letters) s.note c.begin_run.new.self c.begin_run.new.self c.begin_run.ensures refl)
+    (done.0, λ free. refused_told s.outputs.names (λ answer. ¬ IsFormed reset_line answer) (ended reset_line) s.inbox c.start.new.inbox c.in-Err.stop (L.state s.link).transcript (L.state c.start.new.link).transcript c.in-Err.ensures.err (c.self.invariant.1 free), run_begun (length s.letters) s.note c.begin_run.new.self c.begin_run.new.self c.begin_run.ensures refl)
 
-pub returns-in-Err-clause-left : goal.returns-in-Err-clause-left
-returns-in-Err-clause-left g c =
+pub returns-in-Err : goal.returns-in-Err
+returns-in-Err g c =
     let L = g.L.Link in
     let s = c.self.inside in
     let live : s.stop ≡ None = search rules in
     let done =
-    reset_refused s.letters s.outputs.names s.outputs.most (L.faults s.link) (L.ends s.link) (L.faults c.start.new.link) (L.ends c.start.new.link) s.started s.inbox c.start.new.inbox s.stop s.cut (L.transcript s.link) (L.transcript c.start.new.link) live c.self.invariant.0
+    reset_refused s.letters s.outputs.names s.outputs.most (L.state s.link).faults (L.state s.link).ends (L.state c.start.new.link).faults (L.state c.start.new.link).ends s.started s.inbox c.start.new.inbox s.stop s.cut (L.state s.link).transcript (L.state c.start.new.link).transcript live c.self.invariant.0
     c.in-Err.stop c.copy.result c.copy.ensures (λ is. c.in-Err.ensures.failed (ap (λ (e : SulStop). Err e) is)) (λ is. c.in-Err.ensures.gone (ap (λ (e : SulStop). Err e) is)) c.in-Err.ensures.err in
-    let view = ap (λ s. told_runs s.letters s.names (L.transcript s.link)) c.self.view_is in
-    done.1 ∙ view
+    let view = ap (λ s. told_runs s.letters s.names (L.state s.link).transcript) c.self.view_is in
+    record {
+      ok = search rules;
+      begins = search rules;
+      names = search rules;
+      starts = search rules;
+      err = search rules;
+      left = done.1 ∙ view;
+      whole = search rules;
+      failed = search rules;
+      counts = search rules;
+      same = search rules;
+    }

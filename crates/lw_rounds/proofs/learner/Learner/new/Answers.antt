@@ -6,9 +6,9 @@ use Rattle.lw_rounds.proofs.learner.Learner.new.Goals.{in-Table+in_ok-new-in-Tab
 use Rattle.lw_rounds.proofs.learner.Learner.new.Goals as goal
 
 pub returns : goal.returns
-returns c = elim c.match-kind.branch [
-  | in-Table+in_ok-new-in-Table w ↦ subst (λ (k : Kind). IsNew k c.args.inputs c.args.outputs c.args.max_states c.match-kind.result) (sym w.in-Table.is)
-      (new_table_is c.args.inputs c.args.outputs c.args.max_states c.match-kind.result w.in_ok-new-in-Table.field-0 w.in_ok-new-in-Table.ensures.value w.result-is)
-  | in-Ttt+in_ok-new-in-Ttt w ↦ subst (λ (k : Kind). IsNew k c.args.inputs c.args.outputs c.args.max_states c.match-kind.result) (sym w.in-Ttt.is)
-      (new_tree_is c.args.inputs c.args.outputs c.args.max_states c.match-kind.result w.in_ok-new-in-Ttt.field-0 w.in_ok-new-in-Ttt.ensures.value w.result-is)
+returns c = elim c.match-settings.branch [
+  | in-Table+in_ok-new-in-Table w ↦ subst (λ (k : Kind). IsNew k c.args.inputs c.args.outputs c.args.settings.max_states c.match-settings.result) (sym w.in-Table.is)
+      (new_table_is c.args.inputs c.args.outputs c.args.settings.max_states c.match-settings.result w.in_ok-new-in-Table.field-0 w.in_ok-new-in-Table.ensures.value w.result-is)
+  | in-Ttt+in_ok-new-in-Ttt w ↦ subst (λ (k : Kind). IsNew k c.args.inputs c.args.outputs c.args.settings.max_states c.match-settings.result) (sym w.in-Ttt.is)
+      (new_tree_is c.args.inputs c.args.outputs c.args.settings.max_states c.match-settings.result w.in_ok-new-in-Ttt.field-0 w.in_ok-new-in-Ttt.ensures.value w.result-is)
 ]

@@ -5,7 +5,7 @@ abbrev pub invariant-loop-y : goal.invariant-loop-y
 invariant-loop-y g l =
     let S = g.S.Sul in
     record {
-      live : S.stop l.sul ≡ None;
-      begun : S.started l.sul ≡ true;
-      letter : 0 < S.inputs l.sul;
+      live : (S.state l.sul).stop ≡ None;
+      begun : (S.state l.sul).started ≡ true;
+      letter : 0 < (S.state l.sul).inputs;
     }

@@ -5,6 +5,6 @@ abbrev pub invariant-loop-x : goal.invariant-loop-x
 invariant-loop-x g l =
     let S = g.S.Sul in
     record {
-      live : S.stop l.sul ≡ None;
-      begun : S.started l.sul ≡ true;
+      live : (S.state l.sul).stop ≡ None;
+      begun : (S.state l.sul).started ≡ true;
     }
