@@ -6,7 +6,7 @@ ghost use Rattle.lw_pool.specs.Opening.{AllMayJoin, member_of};
 
 use crate::paced::Paced;
 use lw_cache::Cache;
-use lw_desk::OutNames;
+use lw_names::OutNames;
 use lw_mealy::Mealy;
 use lw_pool::Pool;
 use lw_sul::{Session, Sul, TableSul};

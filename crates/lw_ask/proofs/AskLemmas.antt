@@ -7,7 +7,7 @@ use Rattle.lw_words.specs.declared.kept.KeptAnswer.{KeptAnswer}
 use Rattle.lw_words.specs.declared.stop.SulStop.{SulStop}
 use Rattle.lw_mealy.specs.Machine.{Rows}
 use Rattle.lw_outside.specs.Streams.{TakesAll, TakesSome}
-use Rattle.lw_sul.specs.Names.{IsGrown}
+use Rattle.lw_names.specs.Names.{IsGrown}
 use Rattle.lw_sul.specs.SessionState.{run_of}
 use Rattle.lw_sul.specs.Told.{Answers}
 use Rattle.lw_sul.specs.declared.runs.Run.{Run}

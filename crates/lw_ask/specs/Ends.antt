@@ -4,7 +4,7 @@ use Rattle.lw_words.specs.declared.stop.SulStop.{SulStop}
 use Rattle.lw_outside.specs.Links.{LinkState}
 use Rattle.lw_line.specs.Causes.{IsCounted, IsTranscriptOf}
 use Rattle.lw_line.specs.LineState.{AreToldIfFree, IsNaming, told_runs}
-use Rattle.lw_sul.specs.Names.{AreNamed}
+use Rattle.lw_names.specs.Names.{AreNamed}
 use Rattle.lw_sul.specs.SessionState.{IsJournal}
 use Rattle.lw_sul.specs.declared.runs.Run.{Run}
 

@@ -5,7 +5,7 @@ ghost use Rattle.lw_words.specs.Cause.{CountedFault};
 ghost use Rattle.lw_words.specs.Word.{IsWord};
 ghost use Rattle.lw_words.specs.declared.stop.SulStop.{SulStop as Reason};
 ghost use Rattle.lw_outside.specs.Streams.{TakesAll, TakesSome};
-ghost use Rattle.lw_sul.specs.Names.{IsGrown};
+ghost use Rattle.lw_names.specs.Names.{IsGrown};
 ghost use Rattle.lw_sul.specs.SessionState.{run_of};
 ghost use Rattle.lw_sul.specs.System.{IsSameSul};
 ghost use Rattle.lw_sul.specs.Told.{Answers};

@@ -19,7 +19,7 @@ use Rattle.lw_report.specs.declared.role.Role.TheVariants as role
 use Rattle.lw_report.specs.declared.outcome.Outcome.{Outcome}
 use Rattle.lw_report.specs.declared.outcome.Outcome.TheVariants.{Learned, Trial, Yes, Served, No, Usage, BadFile, Alphabets, FileTooLong, Nondeterministic, NoMemory, SulFailed, Gone, BadLine, BadAsk, TooManyStates, SuiteTooLarge, FileFault, SourceFault, SinkFault, Compared, Asked, Rechecked, UnknownLetter, Unstarted}
 use Rattle.lw_check.specs.Decision.{IsAnswered, IsDecision, Pair, pair_of}
-use Rattle.lw_desk.specs.Naming.{Naming}
+use Rattle.lw_names.specs.Naming.{Naming}
 use Rattle.lw_check.specs.Ending.{ComesTo, DecidesAs}
 use Rattle.lw_check.specs.Naming.{NamesOutputs, declared_as}
 use Rattle.lw_outside.specs.Streams.{SinkState}

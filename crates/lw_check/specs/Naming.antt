@@ -1,6 +1,6 @@
 -- The names of the outputs at the end of the command.
 use Rattle.std.specs.Prelude.{◌≡◌, ◌⊎◌, ℕ, List, Option, Some, None}
-use Rattle.lw_desk.specs.Naming.{Naming}
+use Rattle.lw_names.specs.Naming.{Naming}
 use Rattle.lw_check.specs.Decision.{Pair}
 use Rattle.lw_report.specs.declared.outcome.Outcome.{Outcome}
 use Rattle.lw_report.specs.declared.outcome.Outcome.TheVariants.{NoMemory}

@@ -3,7 +3,7 @@ use Rattle.std.proofs.Common.{◌≡◌, ℕ, List, Option, Some, None, is_some,
 use Rattle.std.proofs.lemmas.Bool.{true≢false}
 use Rattle.lw_words.specs.declared.kept.KeptAnswer.{KeptAnswer}
 use Rattle.lw_desk.specs.Ending.{ComeUp, FreeComeUp}
-use Rattle.lw_desk.specs.Naming.{IsFree, Naming}
+use Rattle.lw_names.specs.Naming.{IsFree, Naming}
 use Rattle.lw_pool.proofs.JoinLemmas.{declared_come_up, none_come_up}
 use Rattle.lw_pool.specs.Sharing.{declared_by}
 use Rattle.lw_children.specs.Crews.{first_naming}

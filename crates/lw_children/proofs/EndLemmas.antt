@@ -18,7 +18,7 @@ use Rattle.lw_outside.specs.Links.{LinkState, Transcript, IsUntouched, SpawnerSt
 use Rattle.lw_cache.specs.declared.stops.AskStop.{AskStop}
 use Rattle.lw_cache.specs.declared.stops.AskStop.TheVariants as ask
 use Rattle.lw_cache.specs.Settling.{LeavesStop}
-use Rattle.lw_desk.specs.Naming.{Naming}
+use Rattle.lw_names.specs.Naming.{Naming}
 use Rattle.lw_desk.specs.Ending.{kept_runs}
 use Rattle.lw_pool.specs.Opening.{MayBegin}
 use Rattle.lw_pool.specs.Pool.{AskedOnce, IsStopOf, PoolState, Seen, journal_runs, seen_at, seen_of}

@@ -6,9 +6,8 @@ use Rattle.lw_mealy.specs.Machine.{Rows}
 use Rattle.lw_mealy.specs.Origin.{Origin}
 use Rattle.lw_sul.specs.SessionState.{SessionState}
 use Rattle.lw_cache.specs.declared.stops.AskStop.{AskStop}
-use Rattle.lw_desk.specs.Naming.{Naming, own_names}
+use Rattle.lw_names.specs.Naming.{Naming, own_names, HasLists}
 use Rattle.lw_desk.specs.Ending.{IsShared}
-use Rattle.lw_desk.specs.History.{HasLists}
 use Rattle.lw_pool.specs.Fitting.{FitsBy, Fits}
 use Rattle.lw_pool.specs.Opening.{MayJoin, AllMayJoin}
 use Rattle.lw_pool.specs.Pool.{Seen, Member, PoolState, nobody, origins_of, seen_at, seen_of}

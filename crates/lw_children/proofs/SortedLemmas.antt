@@ -9,14 +9,14 @@ use Rattle.lw_words.specs.Word.{IsPrefix, IsWord}
 use Rattle.lw_words.specs.declared.kept.KeptAnswer.{KeptAnswer}
 use Rattle.lw_mealy.specs.Gives.{Gives}
 use Rattle.lw_mealy.specs.Machine.{Rows}
-use Rattle.lw_sul.specs.Names.{named}
+use Rattle.lw_names.specs.Names.{named}
 use Rattle.lw_cache.specs.Clash.{ClashAt, IsClear, NothingClashes}
 use Rattle.lw_cache.specs.FirstClash.{ClashesFirst}
 use Rattle.lw_cache.specs.Known.{IsKnown}
 use Rattle.lw_cache.specs.declared.stops.AskStop.TheVariants as ask
 use Rattle.lw_cache.specs.declared.stops.Clash.{Clash}
 use Rattle.lw_outside.specs.Links.{LinkState, Transcript, SpawnerState}
-use Rattle.lw_desk.specs.Naming.{AreSorted, Naming}
+use Rattle.lw_names.specs.Naming.{AreSorted, Naming}
 use Rattle.lw_desk.specs.Ending.{CameFirst, ComeUp, NamedRun, kept_runs}
 use Rattle.lw_pool.specs.Opening.{MayBegin}
 use Rattle.lw_pool.specs.Pool.{AskedOnce}

@@ -11,7 +11,7 @@ use Rattle.lw_mealy.specs.Machine.{Rows}
 use Rattle.lw_outside.specs.Links.{LinkState, Transcript, SpawnerState}
 use Rattle.lw_cache.specs.declared.stops.AskStop.TheVariants as ask
 use Rattle.lw_desk.specs.Ending.{CameFirst, ComeUp}
-use Rattle.lw_desk.specs.Naming.{AreSorted}
+use Rattle.lw_names.specs.Naming.{AreSorted}
 use Rattle.lw_renumber.specs.Sorting.{HasSorted}
 use Rattle.lw_rounds.specs.Learned.{IsLearned, StopsAs}
 use Rattle.lw_rounds.specs.declared.learned.Learned.{Learned}

@@ -6,7 +6,7 @@ use Rattle.lw_words.specs.declared.kept.KeptAnswer.{KeptAnswer}
 use Rattle.std.specs.List.{All}
 use Rattle.lw_sul.specs.SessionState.{SessionState, IsJournal}
 use Rattle.lw_outside.specs.Links.{LinkState, IsUntouched, SpawnerState}
-use Rattle.lw_desk.specs.Naming.{Naming}
+use Rattle.lw_names.specs.Naming.{Naming}
 use Rattle.lw_pool.specs.Pool.{Member, PoolState, Seen}
 use Rattle.lw_rounds.specs.Learned.{IsLearned, StopsAs}
 use Rattle.lw_rounds.specs.Stops.{learn_stop}

@@ -15,7 +15,7 @@ use Rattle.lw_cache.specs.declared.stops.AskStop.{AskStop}
 use Rattle.lw_cache.proofs.GainLemmas.{known_stays}
 use Rattle.lw_desk.specs.Step.{word_at, ComesBefore}
 use Rattle.lw_desk.specs.bodies.Board.{numbers_of, without_number, without_numbers, without_all, AreHeld, IsTaken, AreApart, AreInOrder, AreWhole, IsLeast, BeginsOne, IsAtHand, IsPlaces, Waits, letters_of, IsBoard}
-use Rattle.lw_desk.specs.lemmas.Members.{In, in_contains, contains_in, in_filter, in_filter_of, is_same, is_other}
+use Rattle.lw_names.proofs.Members.{In, in_contains, contains_in, in_filter, in_filter_of, is_same, is_other}
 use Rattle.lw_desk.specs.lemmas.CoverLemmas.{known_prefix, prefix_of_prefix}
 use Rattle.lw_desk.specs.bodies.Gathering.{IsReady}
 use Rattle.lw_desk.proofs.TidyLemmas.{known_in_more}

@@ -7,18 +7,18 @@ use Rattle.std.proofs.lemmas.List.Quantifiers.{position-Some}
 use Rattle.std.proofs.lemmas.Slice.Eq.{bytes_eq-Decides}
 use Rattle.lw_words.specs.Name.{number_of}
 use Rattle.lw_words.specs.declared.kept.KeptAnswer.{KeptAnswer}
-use Rattle.lw_sul.specs.Names.{name_at, named, added_name, with_names}
+use Rattle.lw_names.specs.Names.{name_at, named, added_name, with_names}
 use Rattle.lw_turn.specs.declared.shared.Entry.{Entry}
-use Rattle.lw_desk.specs.Naming.{Naming, IsFree, own_names, bring, number_in, shared, MayBring}
+use Rattle.lw_names.specs.Naming.{Naming, IsFree, own_names, bring, number_in, shared, MayBring, HasLists}
 use Rattle.lw_desk.specs.Step.{DeskState, kept_of, GivesAll}
-use Rattle.lw_desk.specs.History.{DeskOpening, opened, HasLists, MayGiveAll, Makes, Replays}
+use Rattle.lw_desk.specs.History.{DeskOpening, opened, MayGiveAll, Makes, Replays}
 use Rattle.lw_desk.specs.Ending.{ComeUp, FreeComeUp}
 use Rattle.lw_desk.specs.declared.ask.Ask.{Ask}
 use Rattle.lw_desk.specs.declared.ask.Reply.{Reply}
 use Rattle.lw_desk.specs.declared.ask.Give.{Give}
-use Rattle.lw_desk.specs.lemmas.Members.{In, in_contains, contains_in, in_left, in_right, in_map, in_mapped}
+use Rattle.lw_names.proofs.Members.{In, in_contains, contains_in, in_left, in_right, in_map, in_mapped}
 use Rattle.lw_desk.specs.lemmas.StepLemmas.{end_naming, end_kept}
-use Rattle.lw_desk.proofs.NameNumbers.{IsNumbered, numbered, Grew, grew_name, in_grew, with_names_grew}
+use Rattle.lw_names.proofs.NameNumbers.{IsNumbered, numbered, Grew, grew_name, in_grew, with_names_grew}
 use Rattle.lw_desk.proofs.NamingLemmas.{OwnMore, own_more}
 use Rattle.lw_desk.proofs.SeatLemmas.{Stands, makes_stands, opened_stands, replays_stands}
 

@@ -6,7 +6,7 @@ use Rattle.lw_cache.specs.declared.stops.AskStop.{AskStop}
 use Rattle.lw_turn.specs.declared.shared.Entry.{Entry}
 use Rattle.lw_desk.specs.Desk.{Finishes}
 use Rattle.lw_desk.specs.Ending.{FreeComeUp}
-use Rattle.lw_desk.specs.Naming.{Naming}
+use Rattle.lw_names.specs.Naming.{Naming}
 use Rattle.lw_desk.specs.Step.{Claimed, DeskState}
 use Rattle.lw_desk.specs.History.{DeskOpening, Makes, Legal, Replays, opened}
 use Rattle.lw_desk.specs.bodies.Board.{BoardState, Agrees}

@@ -8,19 +8,19 @@ use Rattle.lw_cache.specs.Asked.{IsAsked}
 use Rattle.lw_cache.specs.Known.{IsKnown}
 use Rattle.lw_turn.specs.declared.shared.Entry.{Entry}
 use Rattle.lw_turn.specs.History.{entries_of}
-use Rattle.lw_desk.specs.Naming.{Naming, own_names}
+use Rattle.lw_names.specs.Naming.{Naming, own_names, HasLists}
 use Rattle.lw_desk.specs.Step.{Claimed, DeskState, word_at, TakesAll, GivesAll, after_take, after_fail}
-use Rattle.lw_desk.specs.History.{DeskOpening, opened, HasLists, Replays}
+use Rattle.lw_desk.specs.History.{DeskOpening, opened, Replays}
 use Rattle.lw_desk.specs.Ending.{kept_runs, IsShared}
 use Rattle.lw_desk.specs.bodies.Outcome.{given_runs, gives_of, Brought, Settled}
 use Rattle.lw_desk.specs.declared.ask.Ask.{Ask}
 use Rattle.lw_desk.specs.declared.ask.Reply.{Reply}
-use Rattle.lw_desk.specs.lemmas.Members.{In, in_contains, contains_in, in_either, in_map, in_mapped, is_same}
+use Rattle.lw_names.proofs.Members.{In, in_contains, contains_in, in_either, in_map, in_mapped, is_same}
 use Rattle.lw_desk.specs.lemmas.ClaimLists.{places_of, place_is}
 use Rattle.lw_desk.specs.lemmas.CoverLemmas.{nobody_failed}
 use Rattle.lw_desk.specs.lemmas.StepLemmas.{between_claims, end_claims, end_naming}
 use Rattle.lw_desk.specs.declared.ask.Give.{Give}
-use Rattle.lw_desk.proofs.NameNumbers.{Grew, grew_not, grew_both, with_names_grew}
+use Rattle.lw_names.proofs.NameNumbers.{Grew, grew_not, grew_both, with_names_grew}
 use Rattle.lw_desk.proofs.SeatLemmas.{opened_stands}
 use Rattle.lw_desk.proofs.TidyLemmas.{Tidy, since_opening, all_covered, known_in_more, at_place, in_without_all, replays_none}
 use Rattle.lw_desk.proofs.RunLemmas.{later_not, Running, running_replays, running_opened}

@@ -24,13 +24,14 @@ use Rattle.lw_cache.specs.Known.{IsKnown}
 use Rattle.lw_cache.specs.Standing.{Stands}
 use Rattle.lw_cache.specs.declared.known.Known.{Known}
 use Rattle.lw_cache.specs.declared.known.Known.TheVariants.{Yes, Pending, No}
+use Rattle.lw_names.proofs.Pairs.{pairs_first, pairs_rest, pairs_of}
 use Rattle.lw_desk.specs.Step.{word_at, ComesBefore}
 use Rattle.lw_desk.specs.bodies.Board.{AreInOrder, AreWhole, IsAtHand, letters_of}
 use Rattle.lw_desk.specs.bodies.Gathering.{IsGathered, IsUpTo, by_words, StandsBefore, AreByWords, BeginsNext, AreWholeOf, NotAfter, ComeBefore, IsReady}
-use Rattle.lw_desk.specs.lemmas.Members.{In, in_contains, contains_in, in_either, in_left, in_right, is_same, is_other}
+use Rattle.lw_names.proofs.Members.{In, in_contains, contains_in, in_either, in_left, in_right, is_same, is_other}
 use Rattle.lw_desk.specs.lemmas.StepLemmas.{prefix_whole}
 use Rattle.lw_desk.specs.lemmas.CoverLemmas.{prefix_of_prefix}
-use Rattle.lw_desk.proofs.Bringing.{map_agree}
+use Rattle.lw_names.proofs.Bringing.{map_agree}
 use Rattle.lw_desk.proofs.WordOrder.{cmp_less, cmp_equal, cmp_greater, up_to_both, up_to_through, up_to_prefix, between, up_to_cmp, cmp_up_to}
 
 -- where nothing is claimed, a word that isn't free is known
@@ -109,12 +110,6 @@ one_time p x same = ap (λ (b : Bool). cond b 1 0) (is_same p x same)
 
 no_time : (p x : ℕ) → p ≢ x → ◌≡◌ {A = ℕ} (cond (eqb p x) 1 0) 0
 no_time p x other = ap (λ (b : Bool). cond b 1 0) (is_other p x other)
-
-pub pairs_first : {X : Type 0} (R : X → X → Type 0) (x : X) (xs : List X) → AllPairs R (x ∷ xs) → All (R x) xs
-pairs_first R x xs pairs k d lt = pairs 0 (suc k) d (omega arith) (omega arith)
-
-pub pairs_rest : {X : Type 0} (R : X → X → Type 0) (x : X) (xs : List X) → AllPairs R (x ∷ xs) → AllPairs R xs
-pairs_rest R x xs pairs i j d lt within = pairs (suc i) (suc j) d (omega arith) (omega arith)
 
 never : (p : ℕ) (xs : List ℕ) → All (λ x. p < x) xs → times p xs ≡ 0
 never p [] all = refl
@@ -363,23 +358,6 @@ not_after a b p q less =
 
     cmp_equal : (x y : ℕ) → x ≡ y → nat_cmp x y ≡ Equal
     cmp_equal x y same = grind (arith, nat_tests)
-
--- what holds of neighbours holds of all pairs
-pub pairs_of : {X : Type 0} (R : X → X → Type 0) → ((x y z : X) → R x y → R y z → R x z) → (xs : List X) → ((k : ℕ) (d : X) → k + 1 < length xs → R (get_or xs k d) (get_or xs (k + 1) d)) → AllPairs R xs
-pairs_of R through xs next i zero d lt within = absurd (omega arith)
-pairs_of R through xs next i (suc j) d lt within =
-    let step : R (get_or xs j d) (get_or xs (suc j) d) = subst (λ (n : ℕ). R (get_or xs j d) (get_or xs n d)) (more j) (next j d (omega arith)) in
-    by (λ before. pairs_of R through xs next i j d before (omega arith)) step (cases_lt i j)
-  where
-    more : (n : ℕ) → n + 1 ≡ suc n
-    more n = omega arith
-
-    by : (i < j → R (get_or xs i d) (get_or xs j d)) → R (get_or xs j d) (get_or xs (suc j) d) → (i < j) ⊎ (j ≤ i) → R (get_or xs i d) (get_or xs (suc j) d)
-    by earlier step order =
-        ⊎_elim
-        (λ (before : i < j). through (get_or xs i d) (get_or xs j d) (get_or xs (suc j) d) (earlier before) step)
-        (λ (from : j ≤ i). let same : j ≡ i = omega (arith, from, lt) in subst (λ (n : ℕ). R (get_or xs n d) (get_or xs (suc j) d)) same step)
-        order
 
 pub through_after : (words : List (List ℕ)) (p q r : ℕ) → NotAfter words p q → NotAfter words q r → NotAfter words p r
 through_after words p q r one two =

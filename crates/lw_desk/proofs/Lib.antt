@@ -1,11 +1,8 @@
 pub mod BoardLemmas
-pub mod Bringing
 pub mod ComingUp
 pub mod DeskLemmas
 pub mod Endings
 pub mod GatherLemmas
-pub mod NameNumbers
-pub mod NameOrder
 pub mod NamingLemmas
 pub mod ReplayLemmas
 pub mod RunLemmas

@@ -1,9 +1,9 @@
 -- The names of each instance as names are brought.
 use Rattle.std.proofs.Common.{◌≡◌, ◌≢◌, ℕ, ◌<◌, List, [], ◌∷◌, ◌++◌, get_or, Bool, false, Option, Some, None, is_some, refl, ap, sym, ◌∙◌, subst, arith, append_assoc, append-nil, length-set, get_or-set_same, get_or-set_other}
-use Rattle.lw_sul.specs.Names.{with_names}
-use Rattle.lw_desk.specs.Naming.{Naming, own_by, own_names, brought_more, bring}
+use Rattle.lw_names.specs.Names.{with_names}
+use Rattle.lw_names.specs.Naming.{Naming, own_by, own_names, brought_more, bring, HasLists}
 use Rattle.lw_desk.specs.Step.{DeskState, GivesAll}
-use Rattle.lw_desk.specs.History.{HasLists, MayGiveAll, names_given}
+use Rattle.lw_desk.specs.History.{MayGiveAll, names_given}
 use Rattle.lw_desk.specs.declared.ask.Give.{Give}
 
 -- declared names are not brought

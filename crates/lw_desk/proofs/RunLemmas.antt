@@ -2,19 +2,19 @@
 use Rattle.std.proofs.Common.{◌≡◌, inl, inr, ⊎_elim, ℕ, zero, suc, ◌+◌, ◌<◌, ◌≤◌, ◌==◌, List, [], ◌∷◌, ◌++◌, length, map, filter, Contains, All, Bool, true, false, cond, is_some, refl, ap, sym, ◌∙◌, subst, arith, append_assoc, append-nil, length-append}
 use Rattle.std.proofs.lemmas.Bool.{cases_eq, cases_lt}
 use Rattle.lw_words.specs.declared.kept.KeptAnswer.{KeptAnswer}
-use Rattle.lw_sul.specs.Names.{name_at, named, with_names}
+use Rattle.lw_names.specs.Names.{name_at, named, with_names}
 use Rattle.lw_turn.specs.declared.shared.Entry.{Entry}
 use Rattle.lw_turn.specs.History.{entries_of}
-use Rattle.lw_desk.specs.Naming.{Naming, own_names, bring, shared, number_in}
+use Rattle.lw_names.specs.Naming.{Naming, own_names, bring, shared, number_in, HasLists}
 use Rattle.lw_desk.specs.Step.{DeskState, word_at, kept_of, Gives, GivesAll}
-use Rattle.lw_desk.specs.History.{DeskOpening, opened, HasLists, MayGiveAll, Makes, Replays}
+use Rattle.lw_desk.specs.History.{DeskOpening, opened, MayGiveAll, Makes, Replays}
 use Rattle.lw_desk.specs.Ending.{NamedRun, kept_runs, IsShared}
 use Rattle.lw_desk.specs.bodies.Outcome.{given_runs, gives_of}
 use Rattle.lw_desk.specs.declared.ask.Ask.{Ask}
 use Rattle.lw_desk.specs.declared.ask.Reply.{Reply}
 use Rattle.lw_desk.specs.declared.ask.Give.{Give}
-use Rattle.lw_desk.specs.lemmas.Members.{In, in_contains, contains_in, in_either, in_mapped, same_number}
-use Rattle.lw_desk.proofs.NameNumbers.{IsNumbered, numbered, Grew, grew_not, grew_both, grew_name, grew_length, with_names_grew, in_grew, in_with_names}
+use Rattle.lw_names.proofs.Members.{In, in_contains, contains_in, in_either, in_mapped, same_number}
+use Rattle.lw_names.proofs.NameNumbers.{IsNumbered, numbered, Grew, grew_not, grew_both, grew_name, grew_length, with_names_grew, in_grew, in_with_names}
 use Rattle.lw_desk.proofs.NamingLemmas.{OwnMore, own_more}
 use Rattle.lw_desk.proofs.SeatLemmas.{Stands, makes_stands}
 use Rattle.lw_desk.specs.lemmas.StepLemmas.{end_naming, end_kept}

@@ -3,14 +3,14 @@ use Rattle.std.proofs.Common.{◌≡◌, ◌⊎◌, inl, inr, ⊎_elim, ℕ, ◌
 use Rattle.std.specs.List.{list_any}
 use Rattle.lw_turn.specs.declared.shared.Entry.{Entry}
 use Rattle.lw_turn.specs.History.{entries_of}
-use Rattle.lw_desk.specs.Naming.{own_names}
+use Rattle.lw_names.specs.Naming.{own_names, HasLists}
 use Rattle.lw_desk.specs.Step.{DeskState, after_fail, after_done}
-use Rattle.lw_desk.specs.History.{DeskOpening, opened, Seat, MayGiveAll, MayMake, May, seat_in, seat_after, seat_from, actor_of, Makes, Replays, HasLists, names_given, failed_places}
+use Rattle.lw_desk.specs.History.{DeskOpening, opened, Seat, MayGiveAll, MayMake, May, seat_in, seat_after, seat_from, actor_of, Makes, Replays, names_given, failed_places}
 use Rattle.lw_desk.specs.declared.ask.Ask.{Ask}
 use Rattle.lw_desk.specs.declared.ask.Reply.{Reply}
 use Rattle.lw_desk.specs.declared.ask.Give.{Give}
 use Rattle.lw_desk.specs.declared.ask.Failed.{Failed}
-use Rattle.lw_desk.specs.lemmas.Members.{same_number, is_same, is_other, other_number}
+use Rattle.lw_names.proofs.Members.{same_number, is_same, is_other, other_number}
 use Rattle.lw_desk.specs.lemmas.ClaimLists.{EachOnce, places_of}
 use Rattle.lw_desk.specs.lemmas.StepLemmas.{gives_ended, takes_only, makes_once, makes_own, makes_other, end_naming}
 use Rattle.lw_desk.proofs.NamingLemmas.{OwnMore, gives_names}

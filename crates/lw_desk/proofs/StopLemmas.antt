@@ -16,7 +16,7 @@ use Rattle.lw_cache.specs.declared.stops.AskStop.TheVariants as Stop
 use Rattle.lw_cache.proofs.AnswerLemmas.{at_kept, at_last, clear_kept}
 use Rattle.lw_cache.proofs.GrowLemmas.{after_stays}
 use Rattle.lw_turn.specs.declared.shared.Entry.{Entry}
-use Rattle.lw_desk.specs.Naming.{bring}
+use Rattle.lw_names.specs.Naming.{bring}
 use Rattle.lw_desk.specs.Step.{DeskState, GivesAll, StopsBy, kept_of, after_fail, first_stop, stop_of}
 use Rattle.lw_desk.specs.History.{DeskOpening, opened, Replays}
 use Rattle.lw_desk.specs.Ending.{CameFirst, AreClear}
@@ -25,7 +25,7 @@ use Rattle.lw_desk.specs.declared.ask.Ask.{Ask}
 use Rattle.lw_desk.specs.declared.ask.Reply.{Reply}
 use Rattle.lw_desk.specs.declared.ask.Give.{Give}
 use Rattle.lw_desk.specs.declared.ask.Failed.{Failed}
-use Rattle.lw_desk.specs.lemmas.Members.{In, in_contains}
+use Rattle.lw_names.proofs.Members.{In, in_contains}
 use Rattle.lw_desk.specs.lemmas.CoverLemmas.{some_none}
 use Rattle.lw_desk.specs.lemmas.StepLemmas.{end_stop, end_kept}
 

@@ -13,7 +13,7 @@ use Rattle.lw_cache.specs.Known.{IsKnown}
 use Rattle.lw_cache.specs.declared.stops.AskStop.{AskStop}
 use Rattle.lw_cache.proofs.GainLemmas.{known_stays, nothing_more}
 use Rattle.lw_turn.specs.declared.shared.Entry.{Entry}
-use Rattle.lw_desk.specs.Naming.{bring}
+use Rattle.lw_names.specs.Naming.{bring}
 use Rattle.lw_desk.specs.Step.{Claimed, DeskState, word_at, ComesBefore, IsCovered, IsFirstFree, NothingToTake, TakesAll, Gives, GivesAll, kept_of, after_take, after_fail, after_done, without_place, without_places}
 use Rattle.lw_desk.specs.bodies.Outcome.{FreshFrom}
 use Rattle.lw_desk.specs.History.{DeskOpening, opened, Makes, Replays, failed_places}
@@ -21,7 +21,7 @@ use Rattle.lw_desk.specs.declared.ask.Ask.{Ask}
 use Rattle.lw_desk.specs.declared.ask.Reply.{Reply}
 use Rattle.lw_desk.specs.declared.ask.Give.{Give}
 use Rattle.lw_desk.specs.declared.ask.Failed.{Failed}
-use Rattle.lw_desk.specs.lemmas.Members.{In, in_contains, in_either, in_mapped, is_same, is_other, removed}
+use Rattle.lw_names.proofs.Members.{In, in_contains, in_either, in_mapped, is_same, is_other, removed}
 use Rattle.lw_desk.specs.lemmas.ClaimLists.{EachOnce, once_more, places_of, at_none, once_without, once_without_all, in_without, own_without, place_of_actor, places_own, places_other}
 use Rattle.lw_desk.specs.lemmas.StepLemmas.{prefix_whole, free_unclaimed, end_stop}
 use Rattle.lw_desk.specs.lemmas.CoverLemmas.{some_none, stops_none, cover_prefix, cover_take, cover_give, give_known, fail_none, cover_done, cover_makes, makes_none}

@@ -14,7 +14,7 @@ use Rattle.lw_cache.specs.declared.stops.AskStop.{AskStop}
 use Rattle.lw_cache.specs.declared.stops.AskStop.TheVariants as Ask
 use Rattle.lw_cache.specs.declared.stops.Clash.{Clash}
 use Rattle.lw_cache.proofs.GainLemmas.{known_new}
-use Rattle.lw_desk.specs.Naming.{Naming, bring}
+use Rattle.lw_names.specs.Naming.{Naming, bring}
 use Rattle.lw_desk.specs.Step.{Claimed, DeskState, word_at, IsCovered, ComesBefore, IsFirstFree, NothingToTake, IsLeft, AreLeft, CountsLeft, TakesAll, Gives, GivesAll, StopsBy, after_take, after_give, after_fail, kept_of, without_place, without_places, first_stop, stop_of}
 use Rattle.lw_desk.specs.bodies.Board.{BoardState, Agrees, IsTaken, AreApart, AreHeld, BeginsOne, Waits, numbers_of, IsBoard, stop_after, without_number, without_numbers}
 use Rattle.lw_desk.specs.declared.ask.Give.{Give}
@@ -23,7 +23,7 @@ use Rattle.std.proofs.Common.{cond, get_or}
 use Rattle.std.proofs.lemmas.List.Elements.{All-contains, Contains-get_or}
 use Rattle.lw_desk.specs.lemmas.StepLemmas.{done_only, prefix_whole}
 use Rattle.lw_desk.specs.Step.{after_done}
-use Rattle.lw_desk.specs.lemmas.Members.{in_filter, In, in_contains, contains_in, in_map, in_mapped}
+use Rattle.lw_names.proofs.Members.{in_filter, In, in_contains, contains_in, in_map, in_mapped}
 use Rattle.lw_desk.specs.lemmas.CoverLemmas.{some_none, prefix_of_prefix}
 use Rattle.lw_desk.proofs.BoardLemmas.{map-filter, taken_prefix, prefix_alike, whole_words, whole_pairs}
 

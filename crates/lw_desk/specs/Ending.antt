@@ -2,11 +2,11 @@
 use Rattle.std.specs.Prelude.{ℕ, ◌<◌, ◌≤◌, ◌==◌, List, length, map, filter, take, Contains}
 use Rattle.lw_words.specs.Answer.{answer_at, answers_of}
 use Rattle.lw_words.specs.declared.kept.KeptAnswer.{KeptAnswer}
-use Rattle.lw_sul.specs.Names.{name_at, named}
+use Rattle.lw_names.specs.Names.{name_at, named}
 use Rattle.lw_cache.specs.Clash.{IsClear}
 use Rattle.lw_cache.specs.FirstClash.{ClashesFirst}
 use Rattle.lw_cache.specs.declared.stops.Clash.{Clash}
-use Rattle.lw_desk.specs.Naming.{Naming, IsFree, own_names}
+use Rattle.lw_names.specs.Naming.{Naming, IsFree, own_names}
 
 -- a run, its word and its outputs by their names
 pub record NamedRun : Type 0 where

@@ -3,7 +3,7 @@ use Rattle.std.specs.Prelude.{◌≡◌, ◌↔◌, ℕ, ◌+◌, ◌*◌, ◌^�
 use Rattle.std.specs.List.{list_any}
 use Rattle.lw_words.specs.declared.kept.KeptAnswer.{KeptAnswer}
 use Rattle.lw_turn.specs.declared.shared.Entry.{Entry}
-use Rattle.lw_desk.specs.Naming.{Naming, own_names, MayBring}
+use Rattle.lw_names.specs.Naming.{HasLists, Naming, own_names, MayBring}
 use Rattle.lw_desk.specs.Step.{DeskState, word_at, GivesAll, TakesAll, NothingToTake, CountsLeft, after_fail, after_done}
 use Rattle.lw_desk.specs.declared.ask.Ask.{Ask}
 use Rattle.lw_desk.specs.declared.ask.Reply.{Reply}
@@ -76,11 +76,6 @@ pub record Makes (o : DeskOpening) (s : DeskState) (e : Entry Ask Reply) (t : De
 abbrev pub Replays : DeskOpening → DeskState → List (Entry Ask Reply) → DeskState → Type 0
 Replays o s [] t = t ≡ s
 Replays o s (e ∷ es) t = (u : DeskState) × Makes o s e u × Replays o u es t
-
--- where names are free each actor has a list of those that it brought
-abbrev pub HasLists : Option (List (List (List ℕ))) → ℕ → Type 0
-HasLists None actors = Unit {0}
-HasLists (Some brought) actors = actors ≤ length brought
 
 -- a history of a desk from its opening on
 pub record Legal (o : DeskOpening) (es : List (Entry Ask Reply)) : Type 0 where

@@ -1,7 +1,6 @@
 pub mod Desk
 pub mod History
 pub mod Ending
-pub mod Naming
 pub mod Step
 pub mod bodies
 pub mod lemmas

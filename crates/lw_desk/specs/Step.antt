@@ -13,7 +13,7 @@ use Rattle.lw_cache.specs.Known.{IsKnown}
 use Rattle.lw_cache.specs.declared.stops.Clash.{Clash}
 use Rattle.lw_cache.specs.declared.stops.AskStop.{AskStop}
 use Rattle.lw_cache.specs.declared.stops.AskStop.TheVariants as Ask
-use Rattle.lw_desk.specs.Naming.{Naming, bring, shared}
+use Rattle.lw_names.specs.Naming.{Naming, bring, shared}
 use Rattle.lw_desk.specs.declared.ask.Give.{Give}
 use Rattle.lw_desk.specs.declared.ask.Failed.{Failed}
 

@@ -2,5 +2,4 @@
 pub mod Board
 pub mod DeskBody
 pub mod Gathering
-pub mod OutNames
 pub mod Outcome

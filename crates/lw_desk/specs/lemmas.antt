@@ -2,5 +2,4 @@
 pub mod Bounds
 pub mod ClaimLists
 pub mod CoverLemmas
-pub mod Members
 pub mod StepLemmas

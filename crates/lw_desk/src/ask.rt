@@ -1,6 +1,6 @@
 //! What actors ask of a desk, and what they are told.
 use crate::Places;
-use lw_sul::Named;
+use lw_names::Named;
 use lw_words::{RunStop, Word};
 
 /// The answer to the word of a place: its outputs in the system's own numbers, the names that came up first in it, and the

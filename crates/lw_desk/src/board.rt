@@ -1,14 +1,15 @@
 //! The board: what a desk keeps between two turns.
 ghost use Rattle.std.specs.Prelude.{◌≡◌, ◌≢◌, ◌↔◌, ℕ, ◌+◌, ◌^◌, ◌<◌, ◌≤◌, List, [], ◌∷◌, ◌++◌, length, map, drop, slice_index, Contains, IfOk, IfErr, IfSome, IfNone, Some, None, is_some, IsTrue};
 ghost use Rattle.std.specs.List.{All};
-ghost use Rattle.lw_desk.specs.Naming.{own_names, MayBring};
+ghost use Rattle.lw_names.specs.Naming.{own_names, MayBring};
 ghost use Rattle.lw_desk.specs.Step.{DeskState, word_at, IsFirstFree, NothingToTake, CountsLeft, Gives, GivesAll, TakesAll, after_take, after_fail, first_stop, stop_of};
 ghost use Rattle.lw_desk.specs.History.{DeskOpening, Makes, MayMake, MayGiveAll, seat_in, failed_places};
 ghost use Rattle.lw_desk.specs.bodies.DeskBody.{entry};
 ghost use Rattle.lw_desk.specs.bodies.Board.{BoardState, Agrees, AreHeld, numbers_of, stop_after, without_all, without_number, without_numbers};
 
 use crate::gathering::{Needs, needs_of};
-use crate::{Ask, Failed, Give, OutNames, Places, Reply};
+use crate::{Ask, Failed, Give, Places, Reply};
+use lw_names::OutNames;
 use http_server::Log;
 use lw_cache::{AskStop, Cache, Clash};
 use lw_words::{NoMemory, RunStop, Word};

@@ -6,7 +6,8 @@ ghost use Rattle.lw_desk.specs.Step.{DeskState};
 
 use crate::asked::Asked;
 use crate::board::Board;
-use crate::{Ask, Opening, OutNames, Reply};
+use crate::{Ask, Opening, Reply};
+use lw_names::OutNames;
 use http_server::Log;
 use lw_cache::{AskStop, Cache};
 use lw_turn::Core;

@@ -7,12 +7,9 @@ mod board;
 mod desk;
 mod gathering;
 mod opening;
-mod out_names;
 mod places;
-mod sorting;
 
 pub use ask::{Ask, Failed, Give, Reply};
 pub use desk::Desk;
 pub use opening::Opening;
-pub use out_names::OutNames;
 pub use places::{MOST_PLACES, Places};

@@ -1,5 +1,5 @@
 //! What contracts call the opening of a desk.
-use crate::OutNames;
+use lw_names::OutNames;
 use lw_words::{Kept, Words};
 use std::marker::Model;
 

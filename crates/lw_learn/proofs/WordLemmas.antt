@@ -12,7 +12,7 @@ use Rattle.lw_outside.specs.declared.files.FilesStop.{FilesStop}
 use Rattle.lw_outside.specs.declared.files.FilesStop.TheVariants as files
 use Rattle.lw_cache.specs.Caching.{Caching}
 use Rattle.lw_children.specs.Crews.{first_naming}
-use Rattle.lw_desk.specs.Naming.{Naming}
+use Rattle.lw_names.specs.Naming.{Naming}
 use Rattle.lw_report.specs.Reading.{WasRead}
 use Rattle.lw_report.specs.Stops.{read_outcome, unread}
 use Rattle.lw_report.specs.declared.outcome.Outcome.{Outcome}

@@ -5,7 +5,7 @@ use Rattle.lw_words.specs.Answer.{answers_of}
 use Rattle.lw_words.specs.Cause.{CountedFault}
 use Rattle.lw_words.specs.declared.kept.KeptAnswer.{KeptAnswer}
 use Rattle.lw_cache.specs.Clash.{NothingClashes}
-use Rattle.lw_desk.specs.Naming.{Naming}
+use Rattle.lw_names.specs.Naming.{Naming}
 use Rattle.lw_mealy.specs.Gives.{Gives}
 use Rattle.lw_mealy.specs.Machine.{Rows}
 use Rattle.lw_outside.specs.Files.{File, FilesState}

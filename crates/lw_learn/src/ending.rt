@@ -25,7 +25,7 @@ use crate::saving::save_kept;
 use crate::task::System;
 use crate::writing::tell_model;
 use crate::{LearnArguments, Saved};
-use lw_desk::OutNames;
+use lw_names::OutNames;
 use lw_json::Machine;
 use lw_mealy::Mealy;
 use lw_outside::{Files, Sink};

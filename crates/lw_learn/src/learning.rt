@@ -18,7 +18,7 @@ use crate::LearnArguments;
 use crate::task::System;
 use lw_cache::Cache;
 use lw_children::{Command, CutRun, LearnedChildren, learn_children};
-use lw_desk::OutNames;
+use lw_names::OutNames;
 use lw_json::Machine;
 use lw_outside::Spawner;
 use lw_rounds::{LearnStop, Learned, Watcher};

@@ -1,8 +1,7 @@
 //! The names of outputs, as texts have them.
 ghost use Rattle.std.specs.Prelude.{◌≡◌, ◌<◌, length, map, string_bytes, IfOk};
 
-use lw_desk::OutNames;
-use lw_sul::OutName;
+use lw_names::{OutName, OutNames};
 use lw_words::{Names, NoMemory};
 use std::alloc::Global;
 use std::str;

@@ -23,7 +23,7 @@ use crate::arguments::Source;
 use crate::task::{System, Task};
 use lw_cache::Cache;
 use lw_children::Command;
-use lw_desk::OutNames;
+use lw_names::OutNames;
 use lw_json::{Answers, Machine, Setup};
 use lw_log::Log;
 use lw_outside::{Files, LogFile};

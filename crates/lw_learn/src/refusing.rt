@@ -15,7 +15,7 @@ use crate::reading::Unread;
 use crate::saving::save_kept;
 use crate::task::System;
 use crate::{LearnArguments, Saved};
-use lw_desk::OutNames;
+use lw_names::OutNames;
 use lw_outside::{Files, Sink};
 use lw_report::{End, Outcome, refuse};
 use lw_words::{Kept, Names, NoMemory};

@@ -8,7 +8,7 @@ ghost use Rattle.lw_learn.specs.declared.saving.Saved.TheVariants as Was;
 
 use crate::LearnArguments;
 use crate::naming::names_of;
-use lw_desk::OutNames;
+use lw_names::OutNames;
 use lw_json::answers_text;
 use lw_outside::{Files, WriteStop};
 use lw_report::Outcome;

@@ -4,7 +4,7 @@ ghost use Rattle.lw_learn.specs.Tasks.{declared_of, letters_of};
 
 use lw_cache::Cache;
 use lw_children::Command;
-use lw_desk::OutNames;
+use lw_names::OutNames;
 use lw_json::Machine;
 use lw_words::{Names, NoMemory, Words};
 

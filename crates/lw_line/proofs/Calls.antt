@@ -10,9 +10,9 @@ use Rattle.lw_words.specs.Cause.{CountedFault}
 use Rattle.lw_words.specs.Name.{IsName, AllDiffer, number_of}
 use Rattle.lw_words.specs.declared.stop.SulStop.{SulStop}
 use Rattle.lw_words.specs.declared.stop.SulStop.TheVariants.{Failed, BadLine, Gone}
-use Rattle.lw_sul.proofs.NameLemmas.{IsName-at}
+use Rattle.lw_names.proofs.NameLemmas.{IsName-at}
 use Rattle.lw_sul.specs.SessionState.{NoRuns}
-use Rattle.lw_sul.specs.Names.{Brings}
+use Rattle.lw_names.specs.Names.{Brings}
 use Rattle.lw_sul.specs.Runs.{after_reset, after_step}
 use Rattle.lw_sul.specs.declared.runs.Run.{Run}
 use Rattle.lw_outside.specs.Links.{Transcript, IsUntouched, sends, receives}

@@ -12,8 +12,8 @@ use Rattle.std.proofs.lemmas.Option.{slice_get-get_or, slice_get_within, get_or_
 use Rattle.std.specs.Str.{bytes_eq}
 use Rattle.lw_words.specs.Name.{IsName, AllDiffer, number_of}
 use Rattle.lw_words.proofs.NumberLemmas.{number_at_place, name_at_number}
-use Rattle.lw_sul.proofs.NameLemmas.{lacks_name, IsName-at}
-use Rattle.lw_sul.specs.Names.{AreNamed, Brings}
+use Rattle.lw_names.proofs.NameLemmas.{lacks_name, IsName-at}
+use Rattle.lw_names.specs.Names.{AreNamed, Brings}
 use Rattle.lw_outside.specs.Protocol.{behind, out_line}
 use Rattle.lw_line.specs.LineState.{IsNaming}
 use Rattle.lw_line.specs.Transcripts.{number_behind}

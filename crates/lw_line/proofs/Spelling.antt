@@ -3,7 +3,7 @@ use Rattle.std.proofs.Common.{◌≡◌, ℕ, List, [], ◌∷◌, ◌++◌, cod
 use Rattle.std.specs.Str.{bytes_eq}
 use Rattle.std.specs.Str.Lines.{strip_carriage_return}
 use Rattle.lw_words.specs.Name.{AllDiffer, number_of}
-use Rattle.lw_sul.specs.Names.{Brings}
+use Rattle.lw_names.specs.Names.{Brings}
 use Rattle.lw_sul.specs.declared.runs.Run.{Run}
 use Rattle.lw_outside.specs.Protocol.{behind, reset_line}
 use Rattle.lw_line.specs.Transcripts.{number_behind, ready_runs, stepped_runs, exchanged, spelled_on, spelled_from}

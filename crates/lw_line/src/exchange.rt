@@ -5,7 +5,7 @@ ghost use Rattle.lw_words.specs.Cause.{CountedFault};
 ghost use Rattle.lw_words.specs.Name.{AllDiffer};
 ghost use Rattle.lw_words.specs.declared.stop.SulStop.{SulStop as Stop};
 ghost use Rattle.lw_outside.specs.Protocol.{in_line, ready_line, reset_line};
-ghost use Rattle.lw_sul.specs.Names.{Brings};
+ghost use Rattle.lw_names.specs.Names.{Brings};
 ghost use Rattle.lw_line.specs.Causes.{IsFormed};
 ghost use Rattle.lw_line.specs.Transcripts.{number_behind};
 ghost use Rattle.lw_line.specs.bodies.Exchanges.{IsAnswered, IsRefusal, NamesNone, ended};
@@ -15,7 +15,7 @@ use crate::inbox::Inbox;
 use crate::outputs::OutputNames;
 use crate::sent_line::SentLine;
 use lw_outside::{Failed, Link};
-use lw_sul::OutName;
+use lw_names::OutName;
 use lw_words::{Line, SulStop};
 
 /// A line without the carriage return at its end, if it has one.

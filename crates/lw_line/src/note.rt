@@ -3,7 +3,7 @@ ghost use Rattle.std.specs.Prelude.{◌≡◌, ◌⊎◌, [], ◌∷◌, ◌++�
 ghost use Rattle.lw_outside.specs.Protocol.{out_line};
 
 use crate::sent_line::SentLine;
-use lw_sul::OutName;
+use lw_names::OutName;
 use lw_words::Line;
 use std::alloc::Global;
 use std::marker::Model;

@@ -13,9 +13,9 @@ use Rattle.lw_mealy.specs.Machine.{Rows, answer}
 use Rattle.std.proofs.lemmas.Option.{slice_get-get_or}
 use Rattle.lw_cache.specs.declared.stops.AskStop.TheVariants as Stop
 use Rattle.lw_cache.specs.declared.stops.Clash.{Clash}
-use Rattle.lw_sul.specs.Names.{name_at, named, IsGrown}
+use Rattle.lw_names.specs.Names.{name_at, named, IsGrown}
 use Rattle.lw_sul.specs.Told.{Answers}
-use Rattle.lw_sul.proofs.NameLemmas.{number_of-name_at}
+use Rattle.lw_names.proofs.NameLemmas.{number_of-name_at}
 use Rattle.lw_words.specs.Name.{AllDiffer, number_of}
 use Rattle.lw_sul.specs.declared.runs.Run.{Run}
 use Rattle.lw_cache.specs.Asked.{IsAsked}
@@ -24,15 +24,15 @@ use Rattle.lw_cache.specs.Settling.{KeepsAnswers, IsOf, told_machine}
 use Rattle.lw_cache.specs.declared.stops.AskStop.{AskStop}
 use Rattle.lw_turn.specs.declared.shared.Entry.{Entry}
 use Rattle.lw_turn.specs.History.{entries_of}
-use Rattle.lw_desk.specs.Naming.{Naming, own_by, own_names}
+use Rattle.lw_names.specs.Naming.{Naming, own_by, own_names, HasLists}
 use Rattle.lw_desk.specs.Step.{DeskState, word_at}
-use Rattle.lw_desk.specs.History.{DeskOpening, opened, Seat, seat_in, seat_after, seat_from, seat_of, actor_of, HasLists, Replays, names_given}
+use Rattle.lw_desk.specs.History.{DeskOpening, opened, Seat, seat_in, seat_after, seat_from, seat_of, actor_of, Replays, names_given}
 use Rattle.lw_desk.specs.Ending.{NamedRun, kept_runs, AreClear}
 use Rattle.lw_desk.specs.bodies.Outcome.{given_runs, gives_of, Brought, Settled, FailedBy, StopIs, FreshFrom}
 use Rattle.lw_desk.specs.declared.ask.Ask.{Ask}
 use Rattle.lw_desk.specs.declared.ask.Reply.{Reply}
 use Rattle.lw_desk.specs.declared.ask.Give.{Give}
-use Rattle.lw_desk.specs.lemmas.Members.{In, in_contains, contains_in, in_filter, in_filter_of, in_map, in_mapped, in_right, is_same}
+use Rattle.lw_names.proofs.Members.{In, in_contains, contains_in, in_filter, in_filter_of, in_map, in_mapped, in_right, is_same}
 use Rattle.lw_desk.specs.lemmas.ClaimLists.{places_of}
 use Rattle.lw_desk.proofs.ComingUp.{free_come_up}
 use Rattle.lw_desk.proofs.Endings.{brought, stays_shared, settled, nothing_claimed, nobody_has_failed, names_grew, all_of}

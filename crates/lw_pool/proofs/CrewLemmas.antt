@@ -8,7 +8,7 @@ use Rattle.lw_turn.specs.Held.{Held}
 use Rattle.lw_turn.specs.History.{entries_of}
 use Rattle.lw_turn.specs.declared.shared.Entry.{Entry}
 use Rattle.lw_words.specs.Word.{IsWord}
-use Rattle.lw_desk.specs.Naming.{own_names}
+use Rattle.lw_names.specs.Naming.{own_names}
 use Rattle.lw_desk.specs.History.{DeskOpening}
 use Rattle.lw_desk.specs.declared.ask.Ask.{Ask}
 use Rattle.lw_desk.specs.declared.ask.Reply.{Reply}

@@ -1,6 +1,6 @@
 -- Answers that are given one after the other.
 use Rattle.std.proofs.Common.{◌≡◌, inl, ⊎_elim, ℕ, ◌+◌, ◌<◌, ◌≤◌, List, [], ◌∷◌, ◌++◌, length, map, take, drop, get_or, Bool, true, false, Option, Some, None, is_some, refl, ap, sym, ◌∙◌, subst, arith, append-nil, take-append-drop, ◌==◌, ◌≢◌, pos_of_ne-zero, All, length-append}
-use Rattle.lw_desk.specs.lemmas.Members.{In, other_number}
+use Rattle.lw_names.proofs.Members.{In, other_number}
 use Rattle.std.proofs.lemmas.Bool.{true≢false, false≢true}
 use Rattle.std.proofs.lemmas.List.{map_push, take_more, length-drop}
 use Rattle.lw_words.specs.declared.stop.SulStop.{SulStop}

@@ -4,10 +4,10 @@ use Rattle.std.proofs.lemmas.List.{get_or_append_left}
 use Rattle.std.proofs.lemmas.List.Elements.{All-head, All-tail, filter-append}
 use Rattle.std.proofs.lemmas.List.{map-append}
 use Rattle.lw_words.specs.declared.kept.KeptAnswer.{KeptAnswer}
-use Rattle.lw_sul.specs.Names.{named, IsGrown}
+use Rattle.lw_names.specs.Names.{named, IsGrown}
 use Rattle.lw_sul.specs.SessionState.{run_of}
 use Rattle.lw_sul.specs.declared.runs.Run.{Run}
-use Rattle.lw_sul.proofs.NameLemmas.{named-grown}
+use Rattle.lw_names.proofs.NameLemmas.{named-grown}
 use Rattle.lw_desk.specs.Step.{word_at}
 use Rattle.lw_desk.specs.Ending.{NamedRun, kept_runs}
 use Rattle.lw_desk.specs.bodies.Outcome.{given_runs}

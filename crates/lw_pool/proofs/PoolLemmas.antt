@@ -11,16 +11,16 @@ use Rattle.lw_cache.specs.Known.{IsKnown}
 use Rattle.lw_cache.specs.Settling.{GainsExactly, TellsStop, Settles, MayAsk, refused_after, IsOf, told_machine}
 use Rattle.lw_cache.specs.declared.stops.AskStop.{AskStop}
 use Rattle.lw_cache.specs.declared.stops.AskStop.TheVariants.{Sul, Clash, NoMemory}
-use Rattle.lw_sul.specs.Names.{IsGrown}
+use Rattle.lw_names.specs.Names.{IsGrown}
 use Rattle.lw_turn.specs.History.{entries_of}
 use Rattle.lw_turn.specs.declared.shared.Entry.{Entry}
 use Rattle.lw_cache.specs.Caching.{Caching}
 use Rattle.lw_desk.specs.Desk.{DeskHistory, Finishes}
 use Rattle.lw_desk.specs.declared.ask.Ask.{Ask}
 use Rattle.lw_desk.specs.declared.ask.Reply.{Reply}
-use Rattle.lw_desk.specs.Naming.{Naming, own_names}
+use Rattle.lw_names.specs.Naming.{Naming, own_names, HasLists}
 use Rattle.lw_desk.specs.Step.{DeskState}
-use Rattle.lw_desk.specs.History.{DeskOpening, opened, HasLists, Replays}
+use Rattle.lw_desk.specs.History.{DeskOpening, opened, Replays}
 use Rattle.lw_desk.specs.Ending.{IsShared, FreeComeUp, AreClear}
 use Rattle.lw_desk.specs.bodies.Outcome.{Brought, Settled}
 use Rattle.lw_pool.specs.Pool.{Seen, Member, WentOn, PoolState, nobody, seen_at, seen_of, origins_of, journal_runs, IsStopOf}

@@ -5,11 +5,11 @@ use Rattle.lw_words.specs.Name.{IsName, AllDiffer}
 use Rattle.lw_words.specs.declared.stop.SulStop.{SulStop}
 use Rattle.lw_words.specs.declared.stop.RunStop.{RunStop}
 use Rattle.lw_words.specs.declared.stop.RunStop.TheVariants as Run
-use Rattle.lw_sul.specs.Names.{named, with_names}
+use Rattle.lw_names.specs.Names.{named, with_names}
 use Rattle.lw_turn.specs.declared.shared.Entry.{Entry}
 use Rattle.lw_turn.specs.declared.view.View.{View}
 use Rattle.lw_turn.specs.Views.{IsTurned}
-use Rattle.lw_desk.specs.Naming.{own_names}
+use Rattle.lw_names.specs.Naming.{own_names}
 use Rattle.lw_desk.specs.Step.{DeskState, TakesAll, after_fail}
 use Rattle.lw_desk.specs.History.{DeskOpening, opened, Seat, MayGiveAll, May, seat_after, seat_from, seat_of, actor_of, Makes, Replays, Legal, names_given, failed_places}
 use Rattle.lw_desk.specs.bodies.Outcome.{gives_of}
@@ -17,7 +17,7 @@ use Rattle.lw_desk.specs.declared.ask.Ask.{Ask}
 use Rattle.lw_desk.specs.declared.ask.Reply.{Reply}
 use Rattle.lw_desk.specs.declared.ask.Give.{Give}
 use Rattle.lw_desk.specs.declared.ask.Failed.{Failed}
-use Rattle.lw_desk.specs.lemmas.Members.{In, in_contains, contains_in, in_left, in_right, in_either}
+use Rattle.lw_names.proofs.Members.{In, in_contains, contains_in, in_left, in_right, in_either}
 use Rattle.lw_desk.specs.lemmas.Bounds.{AreNew, all_new, taken}
 use Rattle.lw_desk.proofs.Endings.{all_of}
 use Rattle.lw_pool.specs.Pool.{Seen}

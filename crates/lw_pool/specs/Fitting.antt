@@ -1,7 +1,7 @@
 -- Which systems may share one list of names.
 use Rattle.std.specs.Prelude.{◌≡◌, ℕ, ◌≤◌, List, length, Option, Some, None}
 use Rattle.lw_mealy.specs.Machine.{Rows}
-use Rattle.lw_desk.specs.Naming.{Naming}
+use Rattle.lw_names.specs.Naming.{Naming}
 
 -- a system of declared names has just these, by their numbers, and as many outputs; one of free names has at most 256, which
 -- come as they are met, and tells no machine

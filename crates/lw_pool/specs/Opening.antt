@@ -5,7 +5,7 @@ use Rattle.lw_words.specs.Answer.{answer_of, IsAnswer}
 use Rattle.lw_words.specs.declared.kept.KeptAnswer.{KeptAnswer}
 use Rattle.lw_sul.specs.SessionState.{SessionState}
 use Rattle.lw_sul.specs.System.{SulState}
-use Rattle.lw_desk.specs.Naming.{Naming, own_names}
+use Rattle.lw_names.specs.Naming.{Naming, own_names}
 use Rattle.lw_pool.specs.Fitting.{Fits}
 use Rattle.lw_pool.specs.Pool.{Seen, Member, ArePrior}
 

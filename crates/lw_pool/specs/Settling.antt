@@ -11,7 +11,7 @@ use Rattle.lw_cache.specs.Settling.{GainsExactly, TellsStop, MayAsk, refused_aft
 use Rattle.lw_cache.specs.declared.stops.Clash.{Clash}
 use Rattle.lw_cache.specs.declared.stops.AskStop.{AskStop}
 use Rattle.lw_cache.specs.declared.stops.AskStop.TheVariants as Ask
-use Rattle.lw_sul.specs.Names.{IsGrown}
+use Rattle.lw_names.specs.Names.{IsGrown}
 use Rattle.lw_desk.specs.Ending.{AreClear}
 use Rattle.lw_pool.specs.Pool.{PoolState, WentOn, seen_at, seen_of, origins_of}
 use Rattle.lw_pool.specs.Standing.{Stands}

@@ -2,11 +2,10 @@
 use Rattle.std.specs.Prelude.{◌≡◌, ℕ, ◌<◌, ◌≤◌, List, length, Bool, false, Option, None}
 use Rattle.std.specs.List.{All}
 use Rattle.lw_words.specs.declared.kept.KeptAnswer.{KeptAnswer}
-use Rattle.lw_sul.specs.Names.{IsGrown}
+use Rattle.lw_names.specs.Names.{IsGrown}
 use Rattle.lw_cache.specs.Settling.{KeepsAnswers}
 use Rattle.lw_cache.specs.declared.stops.AskStop.{AskStop}
-use Rattle.lw_desk.specs.Naming.{Naming, own_names}
-use Rattle.lw_desk.specs.History.{HasLists}
+use Rattle.lw_names.specs.Naming.{Naming, own_names, HasLists}
 use Rattle.lw_desk.specs.Ending.{IsShared, FreeComeUp}
 use Rattle.lw_pool.specs.Fitting.{Fits}
 use Rattle.lw_pool.specs.Pool.{Seen, PoolState, seen_at, seen_of, ArePrior, StandsFor, AskedOnce, IsStopOf, origins_of}

@@ -3,7 +3,7 @@ ghost use Rattle.std.specs.Prelude.{◌≡◌, ℕ, ◌*◌, ◌<◌, ◌≤◌,
 ghost use Rattle.std.specs.List.{All};
 ghost use Rattle.lw_words.specs.Word.{IsWord};
 ghost use Rattle.lw_turn.specs.Views.{IsTurned};
-ghost use Rattle.lw_desk.specs.Naming.{own_names};
+ghost use Rattle.lw_names.specs.Naming.{own_names};
 ghost use Rattle.lw_desk.specs.History.{Legal};
 ghost use Rattle.lw_pool.specs.bodies.Engaged.{Working, IsReady};
 ghost use Rattle.lw_pool.specs.Pool.{Same};

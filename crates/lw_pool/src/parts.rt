@@ -1,7 +1,7 @@
 //! What the workers of a pool share.
 
 use lw_cache::Cache;
-use lw_desk::OutNames;
+use lw_names::OutNames;
 
 /// The cache, and the names of its outputs.
 #[derive(Drop)]

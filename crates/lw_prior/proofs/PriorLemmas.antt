@@ -10,11 +10,11 @@ use Rattle.lw_words.specs.Renumbering.{renumbered, renumbered_answer, renumbered
 use Rattle.lw_words.specs.Word.{IsWord}
 use Rattle.lw_words.specs.declared.kept.KeptAnswer.{KeptAnswer}
 use Rattle.lw_words.proofs.NumberLemmas.{name_at_number}
-use Rattle.lw_sul.specs.Names.{name_at}
-use Rattle.lw_desk.specs.Naming.{number_in}
-use Rattle.lw_desk.specs.lemmas.Members.{contains_in}
-use Rattle.lw_desk.proofs.Bringing.{map_agree, number_in_place}
-use Rattle.lw_desk.proofs.NameNumbers.{numbered}
+use Rattle.lw_names.specs.Names.{name_at}
+use Rattle.lw_names.specs.Naming.{number_in}
+use Rattle.lw_names.proofs.Members.{contains_in}
+use Rattle.lw_names.proofs.Bringing.{map_agree, number_in_place}
+use Rattle.lw_names.proofs.NameNumbers.{numbered}
 use Rattle.lw_json.specs.AnswersFile.{IsAnswersFile}
 use Rattle.lw_json.specs.KeptOver.{IsKeptOver, AreKeptOver}
 use Rattle.lw_json.specs.declared.answers.Answers.{Answers}

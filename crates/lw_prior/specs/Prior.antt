@@ -3,10 +3,10 @@ use Rattle.std.specs.Prelude.{◌≡◌, ℕ, ◌+◌, List, [], ◌∷◌, map,
 use Rattle.std.specs.List.{All}
 use Rattle.lw_words.specs.Answer.{Answer}
 use Rattle.lw_words.specs.declared.kept.KeptAnswer.{KeptAnswer}
-use Rattle.lw_sul.specs.Names.{name_at}
+use Rattle.lw_names.specs.Names.{name_at}
 use Rattle.lw_cache.specs.Clash.{NothingClashes}
 use Rattle.lw_cache.specs.declared.stops.Clash.{Clash}
-use Rattle.lw_desk.specs.Naming.{number_in}
+use Rattle.lw_names.specs.Naming.{number_in}
 use Rattle.lw_prior.specs.FirstClash.{IsFirstClash}
 
 -- an answer under the instance 16 and this run, its outputs by the numbers that their names have in another list

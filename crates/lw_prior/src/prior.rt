@@ -3,7 +3,7 @@ ghost use Rattle.std.specs.Prelude.{◌≡◌, ◌<◌, [], length, map, Contain
 ghost use Rattle.std.specs.List.{All};
 ghost use Rattle.lw_words.specs.Answer.{answers_of, IsWhole};
 ghost use Rattle.lw_words.specs.Renumbering.{renumbered_answers};
-ghost use Rattle.lw_desk.specs.Naming.{number_in};
+ghost use Rattle.lw_names.specs.Naming.{number_in};
 ghost use Rattle.lw_pool.specs.Opening.{MayBegin};
 ghost use Rattle.lw_prior.specs.Prior.{prior_answers, FitNames, HasFirstClash};
 ghost use Rattle.lw_prior.specs.bodies.Placed.{placed_from};

@@ -9,11 +9,11 @@ use Rattle.lw_words.specs.declared.kept.KeptAnswer.{KeptAnswer}
 use Rattle.lw_words.specs.declared.stop.RunStop.{RunStop}
 use Rattle.lw_json.specs.KeptOver.{AreKeptOver, IsKeptOver}
 use Rattle.lw_mealy.specs.Machine.{Rows}
-use Rattle.lw_sul.specs.Names.{IsGrown, named}
+use Rattle.lw_names.specs.Names.{IsGrown, named}
 use Rattle.lw_sul.specs.SessionState.{run_of}
 use Rattle.lw_sul.specs.Told.{Answers}
 use Rattle.lw_sul.specs.declared.runs.Run.{Run}
-use Rattle.lw_sul.proofs.NameLemmas.{named-grown}
+use Rattle.lw_names.proofs.NameLemmas.{named-grown}
 use Rattle.lw_recheck.specs.Again.{AreAgain, SaidRun, said, said_answers, said_runs, DiffersAt}
 use Rattle.lw_recheck.specs.bodies.Step.{FindsOther, GainsAgain, GainsOne, HasFound, HasGone}
 use Rattle.lw_recheck.specs.declared.asking.Other.{Other}

@@ -9,7 +9,7 @@ use Rattle.lw_mealy.specs.Machine.{Rows}
 use Rattle.lw_outside.specs.Links.{LinkState, SpawnerState}
 use Rattle.lw_line.specs.Causes.{IsCounted, IsTranscriptOf}
 use Rattle.lw_line.specs.LineState.{told_runs}
-use Rattle.lw_sul.specs.Names.{IsGrown}
+use Rattle.lw_names.specs.Names.{IsGrown}
 use Rattle.lw_sul.specs.SessionState.{IsJournal}
 use Rattle.lw_sul.specs.declared.runs.Run.{Run}
 use Rattle.lw_children.specs.Children.{IfTold}

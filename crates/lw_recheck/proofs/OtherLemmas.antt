@@ -13,10 +13,10 @@ use Rattle.lw_cache.specs.Clash.{ClashAt}
 use Rattle.lw_cache.specs.declared.stops.Clash.{Clash}
 use Rattle.lw_json.specs.KeptOver.{AreKeptOver}
 use Rattle.lw_mealy.specs.Machine.{Rows}
-use Rattle.lw_sul.specs.Names.{IsGrown, name_at, named}
+use Rattle.lw_names.specs.Names.{IsGrown, name_at, named}
 use Rattle.lw_sul.specs.SessionState.{run_of}
 use Rattle.lw_sul.specs.declared.runs.Run.{Run}
-use Rattle.lw_sul.proofs.NameLemmas.{named-grown}
+use Rattle.lw_names.proofs.NameLemmas.{named-grown}
 use Rattle.lw_recheck.specs.Again.{AreAgain, ComesOtherwise, HasRechecked, StopsAgain, DiffersAt, IsOtherwise}
 use Rattle.lw_recheck.specs.bodies.Step.{FindsOther, HasGone, KeepsOther}
 use Rattle.lw_recheck.specs.declared.asking.Other.{Other}

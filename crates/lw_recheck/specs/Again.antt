@@ -10,7 +10,7 @@ use Rattle.lw_words.specs.declared.stop.SulStop.{SulStop}
 use Rattle.lw_cache.specs.Clash.{ClashAt}
 use Rattle.lw_cache.specs.declared.stops.Clash.{Clash}
 use Rattle.lw_mealy.specs.Machine.{Rows}
-use Rattle.lw_sul.specs.Names.{IsGrown, named}
+use Rattle.lw_names.specs.Names.{IsGrown, named}
 use Rattle.lw_sul.specs.Told.{Answers}
 use Rattle.lw_sul.specs.declared.runs.Run.{Run}
 use Rattle.lw_words.specs.Name.{IsNames}

@@ -5,7 +5,7 @@ ghost use Rattle.lw_words.specs.Word.{IsWord};
 ghost use Rattle.lw_words.specs.declared.stop.RunStop.{RunStop as Stopped};
 ghost use Rattle.lw_words.specs.declared.stop.SulStop.{SulStop as Reason};
 ghost use Rattle.lw_json.specs.KeptOver.{AreKeptOver, IsEven};
-ghost use Rattle.lw_sul.specs.Names.{IsGrown, name_at, named};
+ghost use Rattle.lw_names.specs.Names.{IsGrown, name_at, named};
 ghost use Rattle.lw_sul.specs.System.{IsSameSul};
 ghost use Rattle.lw_recheck.specs.Again.{DiffersAt};
 ghost use Rattle.lw_recheck.specs.bodies.Step.{GainsOne, GainsRun, HasFound};

@@ -6,14 +6,15 @@ ghost use Rattle.lw_words.specs.Name.{AllDiffer, IsNames, number_of};
 ghost use Rattle.lw_words.specs.declared.stop.RunStop.{RunStop as Stopped};
 ghost use Rattle.lw_words.specs.declared.stop.SulStop.{SulStop as Reason};
 ghost use Rattle.lw_json.specs.KeptOver.{AreKeptOver};
-ghost use Rattle.lw_sul.specs.Names.{IsGrown, name_at, named};
+ghost use Rattle.lw_names.specs.Names.{IsGrown, name_at, named};
 ghost use Rattle.lw_sul.specs.System.{IsSameSul};
 ghost use Rattle.lw_recheck.specs.Again.{HasRechecked};
 ghost use Rattle.lw_recheck.specs.bodies.Step.{KeepsOther};
 
 use crate::asking::{Other, ask_answers};
 use lw_cache::Clash;
-use lw_sul::{OutName, Session, Sul};
+use lw_sul::{Session, Sul};
+use lw_names::OutName;
 use lw_words::{Kept, KeptAnswer, Names, NoMemory, RunStop, Word};
 use std::alloc::Global;
 use std::str;

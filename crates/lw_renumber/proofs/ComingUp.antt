@@ -4,7 +4,7 @@ use Rattle.std.proofs.lemmas.Bool.{cases_lt}
 use Rattle.lw_words.specs.Renumbering.{renumbered, renumbered_answer, renumbered_answers}
 use Rattle.lw_words.specs.declared.kept.KeptAnswer.{KeptAnswer}
 use Rattle.lw_desk.specs.Ending.{ComeUp}
-use Rattle.lw_desk.specs.lemmas.Members.{In, in_contains, contains_in, in_map}
+use Rattle.lw_names.proofs.Members.{In, in_contains, contains_in, in_map}
 use Rattle.lw_renumber.specs.Sorting.{IsRenumbering}
 
 module _ (to : List ℕ) (before now : List (List ℕ)) (f g : ℕ → ℕ) (is : IsRenumbering to before now f g) where

@@ -9,10 +9,10 @@ use Rattle.lw_words.specs.Name.{AllDiffer}
 use Rattle.lw_words.specs.Renumbering.{renumbered, renumbered_answer, renumbered_answers}
 use Rattle.lw_words.specs.declared.kept.KeptAnswer.{KeptAnswer}
 use Rattle.lw_mealy.specs.Limits.{AnswersBelow}
-use Rattle.lw_sul.specs.Names.{named}
+use Rattle.lw_names.specs.Names.{named}
 use Rattle.lw_desk.specs.Ending.{ComeUp}
-use Rattle.lw_desk.specs.Naming.{Renumbers}
-use Rattle.lw_desk.proofs.NameOrder.{differ_moved}
+use Rattle.lw_names.specs.Naming.{Renumbers}
+use Rattle.lw_names.proofs.NameOrder.{differ_moved}
 use Rattle.lw_rounds.specs.declared.learned.Learned.{Learned}
 use Rattle.lw_rounds.specs.declared.stops.LearnStop.{LearnStop}
 use Rattle.lw_renumber.specs.Sorting.{IsRenumbering, IsWithin, outs_named, renumbered_learned, HasSorted}

@@ -7,7 +7,7 @@ use Rattle.lw_mealy.specs.Gives.{Gives}
 use Rattle.lw_mealy.specs.Limits.{MealyMachine, mealy_of}
 use Rattle.lw_mealy.specs.Machine.{Rows, IsMachine}
 use Rattle.lw_mealy.specs.Renumbering.{renumbered_rows}
-use Rattle.lw_sul.specs.Names.{name_at, named}
+use Rattle.lw_names.specs.Names.{name_at, named}
 use Rattle.lw_rounds.specs.Learned.{IsCertified, IsLearned, IsTooMany, IsTooLarge, StopsAs}
 use Rattle.lw_rounds.specs.declared.learned.Learned.{Learned}
 use Rattle.lw_rounds.specs.declared.learner.Kind.{Kind}

@@ -7,10 +7,10 @@ ghost use Rattle.lw_words.specs.Renumbering.{renumbered_answers};
 ghost use Rattle.lw_words.specs.Word.{IsWord};
 ghost use Rattle.lw_mealy.specs.Limits.{AnswersBelow};
 ghost use Rattle.lw_desk.specs.Ending.{ComeUp};
-ghost use Rattle.lw_desk.specs.Naming.{AreSorted};
+ghost use Rattle.lw_names.specs.Naming.{AreSorted};
 ghost use Rattle.lw_renumber.specs.Sorting.{IsWithin, HasSorted, outs_named, renumbered_learned};
 
-use lw_desk::OutNames;
+use lw_names::OutNames;
 use lw_rounds::{LearnStop, Learned};
 use lw_words::Kept;
 

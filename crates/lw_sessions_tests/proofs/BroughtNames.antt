@@ -3,7 +3,7 @@ use Rattle.std.proofs.Common.{◌≡◌, ℕ, zero, suc, ◌<◌, ◌≤◌, Lis
 use Rattle.std.proofs.lemmas.Bool.{true≢false}
 use Rattle.std.proofs.lemmas.List.Elements.{All-nil, All-cons}
 use Rattle.lw_words.specs.Name.{IsName, AllDiffer}
-use Rattle.lw_desk.specs.Naming.{MayBring}
+use Rattle.lw_names.specs.Naming.{MayBring}
 use Rattle.lw_sessions_tests.specs.TestNames.{pair_names, turned_names}
 
 is_letter : (b : ℕ) → 97 ≤ b → b ≤ 122 → IsName (b ∷ [])

@@ -1,7 +1,7 @@
 -- A desk whose one actor has taken its one place: it may give it, and bring the names.
 use Rattle.std.proofs.Common.{◌≡◌, ◌||◌, ℕ, List, [], ◌∷◌, ◌++◌, length, map, Bool, true, false, None, Option, is_some, refl, ap, ap₂, sym, ◌∙◌, subst, arith}
 use Rattle.std.proofs.lemmas.Bool.{true≢false}
-use Rattle.lw_desk.specs.Naming.{MayBring}
+use Rattle.lw_names.specs.Naming.{MayBring}
 use Rattle.lw_desk.specs.History.{settled_places, failed_places, names_given, MayGiveAll, May}
 use Rattle.lw_desk.specs.bodies.DeskBody.{entry}
 use Rattle.lw_desk.specs.declared.ask.Ask.{Ask}

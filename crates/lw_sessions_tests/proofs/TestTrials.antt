@@ -6,22 +6,22 @@ use Rattle.std.proofs.lemmas.List.Elements.{filter-append, All-head, All-tail}
 use Rattle.std.proofs.lemmas.Option.{slice_get-get_or, get_or_from_slice_get}
 use Rattle.lw_words.specs.Name.{AllDiffer, number_of}
 use Rattle.lw_words.proofs.NumberLemmas.{number_at_place, name_at_number, slice_get-take}
-use Rattle.lw_sul.specs.Names.{name_at, named, added_name, with_name, with_names}
+use Rattle.lw_names.specs.Names.{name_at, named, added_name, with_name, with_names}
 use Rattle.lw_turn.specs.declared.shared.Entry.{Entry}
 use Rattle.lw_turn.specs.History.{entries_of}
-use Rattle.lw_desk.specs.Naming.{own_names}
+use Rattle.lw_names.specs.Naming.{own_names, HasLists}
 use Rattle.lw_desk.specs.Desk.{DeskHistory}
 use Rattle.lw_desk.specs.Step.{Claimed, DeskState, TakesAll, after_take, without_place, without_places}
-use Rattle.lw_desk.specs.History.{DeskOpening, opened, Seat, seat_of, seat_from, seat_after, actor_of, Replays, May, MayMake, HasLists, names_given}
+use Rattle.lw_desk.specs.History.{DeskOpening, opened, Seat, seat_of, seat_from, seat_after, actor_of, Replays, May, MayMake, names_given}
 use Rattle.lw_sessions_tests.specs.TestTrial.{seat_by, seat_at, IsTrial}
 use Rattle.lw_desk.specs.declared.ask.Ask.{Ask}
 use Rattle.lw_desk.specs.declared.ask.Reply.{Reply}
 use Rattle.lw_desk.specs.declared.ask.Give.{Give}
-use Rattle.lw_desk.specs.lemmas.Members.{In, in_either, is_same, is_other}
+use Rattle.lw_names.proofs.Members.{In, in_either, is_same, is_other}
 use Rattle.lw_desk.specs.lemmas.ClaimLists.{places_of, place_is, in_without}
 use Rattle.lw_desk.specs.lemmas.StepLemmas.{between, between_claims, end_claims}
 use Rattle.lw_desk.proofs.SeatLemmas.{opened_stands, seat_after_all}
-use Rattle.lw_desk.proofs.Bringing.{with_names-append, with_name_differ}
+use Rattle.lw_names.proofs.Bringing.{with_names-append, with_name_differ}
 
 -- one entry more
 seat_from_more : (seat : Seat) (es : List (Entry Ask Reply)) (e : Entry Ask Reply) → seat_from seat (es ++ e ∷ []) ≡ seat_after (seat_from seat es) e

@@ -1,7 +1,7 @@
 -- How the actors of a trial stand, for tests.
 use Rattle.std.specs.Prelude.{◌≡◌, ℕ, ◌<◌, List, [], length, slice_index_or, Bool, false, is_some}
 use Rattle.lw_turn.specs.History.{entries_of}
-use Rattle.lw_desk.specs.Naming.{own_names}
+use Rattle.lw_names.specs.Naming.{own_names}
 use Rattle.lw_desk.specs.Desk.{DeskHistory}
 use Rattle.lw_desk.specs.History.{Seat, seat_of}
 

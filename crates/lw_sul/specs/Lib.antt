@@ -1,4 +1,3 @@
-pub mod Names
 pub mod SessionState
 pub mod Runs
 pub mod TableSulState

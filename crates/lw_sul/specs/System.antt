@@ -4,7 +4,7 @@ use Rattle.lw_mealy.specs.Origin.{Origin}
 use Rattle.lw_words.specs.Cause.{CountedFault}
 use Rattle.lw_words.specs.declared.stop.SulStop.{SulStop}
 use Rattle.lw_words.specs.declared.stop.SulStop.TheVariants.{Failed}
-use Rattle.lw_sul.specs.Names.{Brings}
+use Rattle.lw_names.specs.Names.{Brings}
 use Rattle.lw_sul.specs.Runs.{after_reset, after_step}
 use Rattle.lw_sul.specs.Told.{Starts, Steps}
 use Rattle.lw_sul.specs.declared.runs.Run.{Run}

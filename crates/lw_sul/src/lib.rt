@@ -2,15 +2,11 @@
 //! A session's journal of finished runs is a value for contracts alone.
 #![tactic(auto)]
 
-mod named;
-mod out_name;
 mod runs;
 mod session;
 mod system;
 mod table;
 
-pub use named::Named;
-pub use out_name::{OutName, name_of};
 pub use runs::Run;
 pub use session::{NamedAnswer, Session};
 pub use system::Sul;

@@ -8,9 +8,11 @@ ghost use Rattle.lw_sul.specs.SessionState.{SessionState, run_of, NoRuns, CutOff
 ghost use Rattle.lw_words.specs.Cause.{CountedFault};
 ghost use Rattle.lw_sul.specs.System.{IsSameSul};
 ghost use Rattle.lw_sul.specs.Told.{Answers};
-ghost use Rattle.lw_sul.specs.Names.{AreNamed, IsGrown, named, with_names};
+ghost use Rattle.lw_names.specs.Names.{AreNamed, IsGrown, named, with_names};
 
-use crate::{Named, OutName, Sul};
+use crate::Sul;
+
+use lw_names::{Named, OutName};
 use http_server::Log;
 use lw_words::{NoMemory, RunStop, SulStop, Word};
 use std::alloc::Global;
@@ -30,7 +32,7 @@ pub struct Session<S: Sul> {
 
 impl<S: Sul> Model for Session<S> {
     ghost use Rattle.std.specs.Prelude.{◌≡◌, length};
-    ghost use Rattle.lw_sul.specs.Names.{AreNamed};
+    ghost use Rattle.lw_names.specs.Names.{AreNamed};
     ghost use Rattle.lw_sul.specs.SessionState.{SessionState, IsJournal, runs_of_pairs};
 
     ghost Value = { SessionState S };
@@ -73,7 +75,7 @@ fn make_room<S: Sul>(alloc: Global, w: &Word, sul: &S) -> Result<Buffers, NoMemo
 }
 
 /// Puts the name of an output last where it came up in the last step, before which so many outputs had names.
-#[tactic(auto, using(crate::proofs::NameLemmas::note_steps))]
+#[tactic(auto, using(lw_names::proofs::NameLemmas::note_steps))]
 fn note<S: Sul>(sul: &S, known: u16, y: u16, names: &mut Vec<OutName>)
     requires one { (length (S.state sul.now).names ≡ known) ⊎
         ((length (S.state sul.now).names ≡ known + 1) × (y ≡ known)) }

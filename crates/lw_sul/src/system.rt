@@ -1,9 +1,9 @@
 //! Systems that can only be reset and stepped.
 ghost use Rattle.std.specs.Prelude.{◌≡◌, ◌<◌, length, true, None};
-ghost use Rattle.lw_sul.specs.Names.{AreNamed, name_at};
+ghost use Rattle.lw_names.specs.Names.{AreNamed, name_at};
 ghost use Rattle.lw_sul.specs.System.{SulState, SulReset, SulStep};
 
-use crate::OutName;
+use lw_names::OutName;
 use lw_words::SulStop;
 
 /// A system that can only be reset and stepped. It may be a table, or a program that runs elsewhere.

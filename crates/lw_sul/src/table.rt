@@ -1,8 +1,8 @@
 //! A machine that is learned from itself.
 ghost use Rattle.std.specs.Prelude.{◌≡◌, length};
 
-use crate::out_name::name_of;
-use crate::{OutName, Sul};
+use lw_names::{OutName, name_of};
+use crate::Sul;
 use lw_mealy::Mealy;
 use lw_words::{Names, SulStop};
 use std::marker::Model;

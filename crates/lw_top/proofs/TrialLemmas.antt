@@ -5,7 +5,7 @@ use Rattle.lw_words.specs.Answer.{IsAnswer, answers_of}
 use Rattle.lw_words.specs.Word.{IsWord}
 use Rattle.lw_words.specs.declared.kept.KeptAnswer.{KeptAnswer}
 use Rattle.lw_mealy.specs.Limits.{MealyMachine}
-use Rattle.lw_desk.specs.Naming.{Naming}
+use Rattle.lw_names.specs.Naming.{Naming}
 use Rattle.lw_workers.specs.Machines.{KeepsRuns}
 use Rattle.lw_rounds.specs.Learned.{IsReadOff}
 use Rattle.lw_rounds.specs.declared.learner.Learner.{Learner}

@@ -5,7 +5,7 @@ use Rattle.lw_words.specs.Cause.{CountedFault}
 use Rattle.lw_mealy.specs.Limits.{MealyMachine, mealy_of}
 use Rattle.lw_separate.specs.Canonical.{IsCanonical}
 use Rattle.lw_suite.specs.Size.{suite_size, greatest_suite}
-use Rattle.lw_desk.specs.Naming.{Naming}
+use Rattle.lw_names.specs.Naming.{Naming}
 use Rattle.lw_rounds.specs.Learned.{IsReadOff}
 use Rattle.lw_rounds.specs.declared.learner.Learner.{Learner}
 use Rattle.lw_workers.specs.Machines.{KeepsRuns}

@@ -12,7 +12,7 @@ ghost use Rattle.lw_trial.specs.TrialRun.{IsTrialRun, drawn_machine, drawn_namin
 use crate::telling::tell;
 use crate::{TrialArguments, drawn};
 use lw_cache::Cache;
-use lw_desk::OutNames;
+use lw_names::OutNames;
 use lw_mealy::Mealy;
 use lw_outside::Sink;
 use lw_report::{End, Outcome, learn_outcome, refuse, say};

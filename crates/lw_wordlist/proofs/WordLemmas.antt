@@ -5,7 +5,7 @@ use Rattle.std.proofs.lemmas.Option.{get_or_from_slice_get, slice_get_within}
 use Rattle.lw_words.specs.Name.{number_of}
 use Rattle.lw_words.proofs.Lists.{read-map}
 use Rattle.lw_words.proofs.NumberLemmas.{name_at_number}
-use Rattle.lw_sul.proofs.NameLemmas.{lacks_name}
+use Rattle.lw_names.proofs.NameLemmas.{lacks_name}
 use Rattle.lw_json.proofs.EachLemmas.{fails_here}
 use Rattle.lw_wordlist.specs.Words.{HasLetters, IsFirstUnknown, IsUnknownIn, names_in}
 

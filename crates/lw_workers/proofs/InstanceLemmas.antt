@@ -8,7 +8,7 @@ use Rattle.lw_mealy.specs.Limits.{MealyMachine}
 use Rattle.lw_mealy.specs.Origin.{Origin}
 use Rattle.lw_sul.specs.SessionState.{SessionState}
 use Rattle.lw_sul.specs.TableSulState.{TableSulState}
-use Rattle.lw_desk.specs.Naming.{Naming}
+use Rattle.lw_names.specs.Naming.{Naming}
 use Rattle.lw_pool.specs.Pool.{Seen, Member, PoolState, origins_of}
 use Rattle.lw_pool.specs.Opening.{MayJoin, AllMayJoin}
 use Rattle.lw_workers.specs.bodies.Instances.{AreInstances, IsPoolOf, instance_of}

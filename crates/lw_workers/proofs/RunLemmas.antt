@@ -12,12 +12,12 @@ use Rattle.lw_mealy.specs.Gives.{Gives}
 use Rattle.lw_mealy.specs.Limits.{MealyMachine}
 use Rattle.lw_mealy.specs.Machine.{Rows, answer}
 use Rattle.lw_mealy.specs.Origin.{Origin}
-use Rattle.lw_sul.specs.Names.{named}
+use Rattle.lw_names.specs.Names.{named}
 use Rattle.lw_sul.specs.declared.runs.Run.{Run}
 use Rattle.lw_cache.specs.Settling.{IsOf, told_machine}
 use Rattle.lw_cache.specs.declared.stops.AskStop.{AskStop}
 use Rattle.lw_desk.specs.Ending.{NamedRun, kept_runs}
-use Rattle.lw_desk.specs.Naming.{Naming}
+use Rattle.lw_names.specs.Naming.{Naming}
 use Rattle.lw_pool.specs.Opening.{MayBegin}
 use Rattle.lw_pool.specs.Sharing.{declared_by}
 use Rattle.lw_pool.specs.Pool.{PoolState, AskedOnce, seen_at, seen_of, origins_of, journal_runs}

@@ -14,7 +14,7 @@ ghost use Rattle.lw_workers.specs.bodies.Instances.{AreInstances, IsPoolOf};
 
 use crate::{LearnedWith, LearningOutcome, Start, learn_with};
 use lw_cache::Cache;
-use lw_desk::OutNames;
+use lw_names::OutNames;
 use lw_mealy::Mealy;
 use lw_pool::Pool;
 use lw_rounds::{

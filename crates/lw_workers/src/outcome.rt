@@ -1,7 +1,7 @@
 //! What a learning begins with, and what comes of it.
 
 use lw_cache::Cache;
-use lw_desk::OutNames;
+use lw_names::OutNames;
 use lw_rounds::{LearnStop, Learned};
 use lw_words::{Kept, Line, Words};
 

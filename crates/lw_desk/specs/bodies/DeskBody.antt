@@ -2,9 +2,9 @@
 use Rattle.std.specs.Prelude.{◌≡◌, ℕ, ◌<◌, ◌≤◌, ◌^◌, List, length, map, is_some}
 use Rattle.lw_words.specs.declared.kept.KeptAnswer.{KeptAnswer}
 use Rattle.lw_turn.specs.declared.shared.Entry.{Entry}
-use Rattle.lw_desk.specs.Naming.{Naming}
+use Rattle.lw_names.specs.Naming.{Naming, HasLists}
 use Rattle.lw_desk.specs.Step.{DeskState}
-use Rattle.lw_desk.specs.History.{DeskOpening, opened, Replays, HasLists}
+use Rattle.lw_desk.specs.History.{DeskOpening, opened, Replays}
 use Rattle.lw_desk.specs.bodies.Board.{BoardState, Agrees}
 use Rattle.lw_desk.specs.declared.ask.Ask.{Ask}
 use Rattle.lw_desk.specs.declared.ask.Reply.{Reply}

@@ -6,7 +6,7 @@ use Rattle.lw_words.specs.Name.{AllDiffer}
 use Rattle.lw_words.specs.declared.kept.KeptAnswer.{KeptAnswer}
 use Rattle.lw_words.specs.declared.stop.SulStop.{SulStop}
 use Rattle.lw_words.specs.declared.stop.RunStop.TheVariants as Run
-use Rattle.lw_sul.specs.Names.{named}
+use Rattle.lw_names.specs.Names.{named}
 use Rattle.lw_cache.specs.Asked.{IsAsked, AreAsked}
 use Rattle.lw_cache.specs.Clash.{NothingClashes}
 use Rattle.lw_cache.specs.Known.{IsKnown}
@@ -14,7 +14,7 @@ use Rattle.lw_cache.specs.declared.stops.Clash.{Clash}
 use Rattle.lw_cache.specs.declared.stops.AskStop.TheVariants as Ask
 use Rattle.lw_turn.specs.declared.shared.Entry.{Entry}
 use Rattle.lw_turn.specs.History.{entries_of}
-use Rattle.lw_desk.specs.Naming.{own_names}
+use Rattle.lw_names.specs.Naming.{own_names}
 use Rattle.lw_desk.specs.Step.{DeskState, word_at}
 use Rattle.lw_desk.specs.History.{DeskOpening}
 use Rattle.lw_desk.specs.Ending.{NamedRun, kept_runs, CameFirst, AreClear}

@@ -9,7 +9,7 @@ use Rattle.lw_desk.specs.History.{DeskOpening, opened, Makes, Replays, Legal, mo
 use Rattle.lw_desk.specs.declared.ask.Ask.{Ask}
 use Rattle.lw_desk.specs.declared.ask.Reply.{Reply}
 use Rattle.lw_desk.specs.declared.ask.Failed.{Failed}
-use Rattle.lw_desk.specs.lemmas.Members.{In, in_left, in_right, in_either, is_same}
+use Rattle.lw_names.proofs.Members.{In, in_left, in_right, in_either, is_same}
 use Rattle.lw_desk.specs.lemmas.ClaimLists.{places_of, place_is}
 use Rattle.lw_desk.specs.lemmas.StepLemmas.{gives_ended, takes_only, end_claims, between_claims, end_stop, takes_length}
 use Rattle.lw_desk.specs.lemmas.CoverLemmas.{cover_take, taken_covered, cover_between, cover_done, makes_none}

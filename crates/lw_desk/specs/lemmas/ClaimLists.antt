@@ -2,7 +2,7 @@
 use Rattle.std.proofs.Common.{◌≡◌, ◌≢◌, inl, inr, ⊎_elim, ℕ, List, [], ◌∷◌, ◌++◌, map, filter, Bool, true, false, not, ◌==◌, cond, refl, ap, sym, ◌∙◌}
 use Rattle.std.proofs.lemmas.Bool.{true≢false, false≢true}
 use Rattle.lw_desk.specs.Step.{Claimed, without_place, without_places}
-use Rattle.lw_desk.specs.lemmas.Members.{In, in_filter, in_filter_of, same_number, is_same, is_other, other_number, removed, removed_all, none_left, in_map, in_mapped}
+use Rattle.lw_names.proofs.Members.{In, in_filter, in_filter_of, same_number, is_same, is_other, other_number, removed, removed_all, none_left, in_map, in_mapped}
 
 -- no claim is on this place
 abbrev pub NotAt : ℕ → List Claimed → Type 0

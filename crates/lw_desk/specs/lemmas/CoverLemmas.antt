@@ -10,14 +10,14 @@ use Rattle.lw_cache.specs.Known.{IsKnown}
 use Rattle.lw_cache.specs.declared.stops.AskStop.{AskStop}
 use Rattle.lw_cache.proofs.GainLemmas.{known_new, known_stays}
 use Rattle.lw_turn.specs.declared.shared.Entry.{Entry}
-use Rattle.lw_desk.specs.Naming.{bring}
+use Rattle.lw_names.specs.Naming.{bring}
 use Rattle.lw_desk.specs.Step.{Claimed, DeskState, word_at, IsCovered, TakesAll, Gives, GivesAll, StopsBy, kept_of, after_take, after_fail, after_done, without_place, first_stop, stop_of}
 use Rattle.lw_desk.specs.History.{DeskOpening, Makes}
 use Rattle.lw_desk.specs.declared.ask.Ask.{Ask}
 use Rattle.lw_desk.specs.declared.ask.Reply.{Reply}
 use Rattle.lw_desk.specs.declared.ask.Give.{Give}
 use Rattle.lw_desk.specs.declared.ask.Failed.{Failed}
-use Rattle.lw_desk.specs.lemmas.Members.{In, in_contains, contains_in, in_left, in_right}
+use Rattle.lw_names.proofs.Members.{In, in_contains, contains_in, in_left, in_right}
 use Rattle.lw_desk.specs.lemmas.ClaimLists.{in_without_of}
 use Rattle.lw_desk.specs.lemmas.StepLemmas.{prefix_whole, end_stop}
 

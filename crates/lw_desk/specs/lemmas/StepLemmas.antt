@@ -8,7 +8,7 @@ use Rattle.lw_desk.specs.declared.ask.Ask.{Ask}
 use Rattle.lw_desk.specs.declared.ask.Reply.{Reply}
 use Rattle.lw_desk.specs.declared.ask.Give.{Give}
 use Rattle.lw_desk.specs.declared.ask.Failed.{Failed}
-use Rattle.lw_desk.specs.lemmas.Members.{in_contains, is_same, is_other, other_number}
+use Rattle.lw_names.proofs.Members.{in_contains, is_same, is_other, other_number}
 use Rattle.lw_desk.specs.lemmas.ClaimLists.{NotAt, EachOnce, places_of, not_at_of, once_without_all, once_more, gives_up, others_keep, places_more, places_same}
 
 pub prefix_whole : (w : List ℕ) → IsPrefix w w

@@ -1,7 +1,7 @@
 -- Why no learning begins, as contracts see it.
 use Rattle.std.specs.Prelude.{◌≡◌, ◌≤◌, List, [], length, Option, Some, None, option_map}
 use Rattle.lw_words.specs.declared.kept.KeptAnswer.{KeptAnswer}
-use Rattle.lw_desk.specs.Naming.{Naming}
+use Rattle.lw_names.specs.Naming.{Naming}
 use Rattle.lw_json.specs.KeptOver.{AreKeptOver}
 use Rattle.lw_report.specs.Text.{names_of}
 use Rattle.lw_report.specs.declared.outcome.Outcome.{Outcome}

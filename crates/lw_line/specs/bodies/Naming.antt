@@ -1,6 +1,6 @@
 -- The names of a child system's outputs: they are declared, or get their numbers as they come.
 use Rattle.std.specs.Prelude.{ℕ, ◌≤◌, List, length, vec_capacity}
-use Rattle.lw_sul.specs.Names.{AreNamed}
+use Rattle.lw_names.specs.Names.{AreNamed}
 use Rattle.lw_line.specs.declared.outputs.OutputList.{OutputList}
 use Rattle.lw_line.specs.declared.outputs.OutputList.TheVariants.{Declared, Free}
 

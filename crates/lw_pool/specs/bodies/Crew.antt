@@ -7,7 +7,7 @@ use Rattle.lw_turn.specs.declared.view.View.{View}
 use Rattle.lw_turn.specs.Held.{Held}
 use Rattle.lw_turn.specs.History.{entries_of}
 use Rattle.lw_turn.specs.Views.{ended_of, ended_view}
-use Rattle.lw_desk.specs.Naming.{own_names}
+use Rattle.lw_names.specs.Naming.{own_names}
 use Rattle.lw_desk.specs.History.{DeskOpening}
 use Rattle.lw_desk.specs.declared.ask.Ask.{Ask}
 use Rattle.lw_desk.specs.declared.ask.Reply.{Reply}

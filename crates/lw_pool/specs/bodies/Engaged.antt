@@ -6,7 +6,7 @@ use Rattle.lw_words.specs.declared.stop.RunStop.{RunStop}
 use Rattle.lw_words.specs.declared.stop.RunStop.TheVariants as Run
 use Rattle.lw_turn.specs.declared.shared.Entry.{Entry}
 use Rattle.lw_turn.specs.declared.view.View.{View}
-use Rattle.lw_desk.specs.Naming.{own_names}
+use Rattle.lw_names.specs.Naming.{own_names}
 use Rattle.lw_desk.specs.History.{DeskOpening, seat_of, actor_of, names_given}
 use Rattle.lw_desk.specs.bodies.Outcome.{gives_of}
 use Rattle.lw_desk.specs.declared.ask.Ask.{Ask}

@@ -5,7 +5,7 @@ use Rattle.lw_words.specs.Name.{IsName, AllDiffer}
 use Rattle.lw_words.specs.declared.stop.SulStop.{SulStop}
 use Rattle.lw_words.specs.declared.stop.RunStop.{RunStop}
 use Rattle.lw_words.specs.declared.stop.RunStop.TheVariants as Run
-use Rattle.lw_sul.specs.Names.{named, with_names, IsGrown}
+use Rattle.lw_names.specs.Names.{named, with_names, IsGrown}
 use Rattle.lw_sul.specs.SessionState.{run_of}
 use Rattle.lw_sul.specs.Told.{Answers}
 use Rattle.lw_desk.specs.Step.{word_at}

@@ -5,7 +5,7 @@ use Rattle.lw_words.specs.Answer.{answer_at, answers_of}
 use Rattle.lw_words.specs.declared.kept.KeptAnswer.{KeptAnswer}
 use Rattle.lw_words.specs.declared.stop.RunStop.{RunStop}
 use Rattle.lw_mealy.specs.Machine.{Rows}
-use Rattle.lw_sul.specs.Names.{IsGrown, named}
+use Rattle.lw_names.specs.Names.{IsGrown, named}
 use Rattle.lw_sul.specs.SessionState.{run_of}
 use Rattle.lw_sul.specs.Told.{Answers}
 use Rattle.lw_sul.specs.declared.runs.Run.{Run}

@@ -7,7 +7,7 @@ mod turns;
 use crate::tests::desk::trial::Trial;
 use crate::tests::desk::turns::{Given, Turn, WANTS, declared, free, taken};
 use lw_cache::{AskStop, Cache};
-use lw_desk::OutNames;
+use lw_names::OutNames;
 use lw_words::SulStop;
 use std::alloc::Global;
 use std::process::Abort;

@@ -7,7 +7,7 @@ ghost use Rattle.lw_mealy.specs.Limits.{AnswersBelow};
 
 use crate::tests::renumber::names::{falling, turning};
 use lw_cache::AskStop;
-use lw_desk::OutNames;
+use lw_names::OutNames;
 use lw_mealy::Mealy;
 use lw_renumber::sort_outputs;
 use lw_rounds::{LearnStop, Learned, Learner};

@@ -5,7 +5,7 @@ use Rattle.lw_words.specs.declared.kept.KeptAnswer.{KeptAnswer}
 use Rattle.lw_mealy.specs.Limits.{MealyMachine}
 use Rattle.lw_sul.specs.SessionState.{SessionState}
 use Rattle.lw_sul.specs.TableSulState.{TableSulState}
-use Rattle.lw_desk.specs.Naming.{Naming}
+use Rattle.lw_names.specs.Naming.{Naming}
 use Rattle.lw_pool.specs.Pool.{PoolState, seen_of, origins_of}
 
 -- a session of a machine under this number, with no run yet

@@ -1,7 +1,7 @@
 use Rattle.std.proofs.Common.{ℕ, ◌+◌, List, [], ◌∷◌, ◌++◌, length, Some, None, refl, ap, sym, ◌∙◌, subst}
 use Rattle.std.proofs.lemmas.List.{length_push}
 use Rattle.lw_sul.specs.SessionState.{SessionState}
-use Rattle.lw_desk.specs.Naming.{Naming}
+use Rattle.lw_names.specs.Naming.{Naming}
 use Rattle.lw_pool.specs.Pool.{Member}
 use Rattle.lw_pool.specs.Opening.{MayJoin, AllMayJoin}
 use Rattle.bench_pool.specs.declared.paced.Paced.{Paced}

@@ -1,7 +1,7 @@
 use Rattle.std.proofs.Common.{ℕ, List, [], None, ap, sym, subst}
 use Rattle.std.proofs.lemmas.List.{get_or_default}
-use Rattle.lw_sul.specs.Names.{name_at}
-use Rattle.lw_desk.specs.Naming.{Naming}
+use Rattle.lw_names.specs.Names.{name_at}
+use Rattle.lw_names.specs.Naming.{Naming}
 use Rattle.lw_desk.specs.Ending.{IsShared}
 use Rattle.lw_pool.proofs.JoinLemmas.{declared_come_up}
 use Rattle.bench_pool.proofs.crews.pool_of.Goals as goal

@@ -1,5 +1,5 @@
 use Rattle.std.proofs.Common.{◌≡◌, length, None, take}
-use Rattle.lw_sul.specs.Names.{IsGrown}
+use Rattle.lw_names.specs.Names.{IsGrown}
 use Rattle.lw_ask.specs.Asking.{HasAsked}
 use Rattle.lw_ask.proofs.asking.ask_words.Given as goal
 

@@ -1,7 +1,7 @@
 use Rattle.std.proofs.Common.{◌≡◌, ◌∙◌, ◌<◌, ℕ, List, arith, map, string_bytes, ap, subst, sym, refl}
 use Rattle.std.specs.List.{All}
 use Rattle.lw_outside.specs.Links.{LinkState}
-use Rattle.lw_sul.specs.Names.{IsGrown}
+use Rattle.lw_names.specs.Names.{IsGrown}
 use Rattle.lw_sul.specs.SessionState.{SessionState}
 use Rattle.lw_line.specs.LineState.{LineState}
 use Rattle.lw_children.specs.Crews.{first_names}

@@ -1,10 +1,12 @@
 //! A system for tests that tells its runs, answers or stops by a script, and names its outputs as they come.
 ghost use Rattle.std.specs.Prelude.{◌≡◌, ◌<◌, ◌≤◌, [], length, take, true, None, Some, IfOk, vec_len, vec_capacity};
-ghost use Rattle.lw_sul.specs.Names.{Brings};
+ghost use Rattle.lw_names.specs.Names.{Brings};
 ghost use Rattle.lw_words.specs.Cause.{CountedFault};
 ghost use Rattle.lw_words.specs.declared.stop.SulStop.TheVariants.{Failed};
 
-use lw_sul::{OutName, Sul, name_of};
+use lw_sul::Sul;
+
+use lw_names::{OutName, name_of};
 use lw_words::{Names, SulStop};
 use std::alloc::{AllocError, Global};
 

@@ -4,7 +4,7 @@ use Rattle.lw_words.specs.Answer.{answers_of}
 use Rattle.lw_words.specs.Word.{IsWord}
 use Rattle.lw_words.specs.declared.kept.KeptAnswer.{KeptAnswer}
 use Rattle.lw_cache.specs.Clash.{NothingClashes}
-use Rattle.lw_desk.specs.Naming.{Naming}
+use Rattle.lw_names.specs.Naming.{Naming}
 use Rattle.lw_desk.specs.Ending.{IsShared}
 use Rattle.lw_pool.specs.Sharing.{declared_by}
 use Rattle.lw_rounds.specs.declared.learned.Learned.{Learned}

@@ -1,7 +1,8 @@
 use Rattle.std.proofs.Common.{is_lt, arith, rules}
 use Rattle.std.proofs.lemmas.Fn.{always_returns_same}
 use Rattle.lw_desk.specs.bodies.Gathering.{by_words, StandsBefore}
-use Rattle.lw_desk.proofs.GatherLemmas.{stands_before, through_before, words_rank, pairs_of}
+use Rattle.lw_desk.proofs.GatherLemmas.{stands_before, through_before, words_rank}
+use Rattle.lw_names.proofs.Pairs.{pairs_of}
 use Rattle.lw_desk.proofs.gathering.sort_by_words.Goals as goal
 
 pub returns-clause-order : goal.returns-clause-order

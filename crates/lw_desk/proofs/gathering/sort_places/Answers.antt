@@ -2,7 +2,8 @@ use Rattle.std.proofs.Common.{length, arith, rules}
 use Rattle.std.proofs.lemmas.Fn.{always_returns_same}
 use Rattle.lw_desk.specs.Step.{word_at}
 use Rattle.lw_desk.specs.bodies.Gathering.{NotAfter}
-use Rattle.lw_desk.proofs.GatherLemmas.{not_after, pairs_of, through_after}
+use Rattle.lw_desk.proofs.GatherLemmas.{not_after, through_after}
+use Rattle.lw_names.proofs.Pairs.{pairs_of}
 use Rattle.lw_desk.proofs.gathering.sort_places.Goals as goal
 
 pub returns-clause-order : goal.returns-clause-order

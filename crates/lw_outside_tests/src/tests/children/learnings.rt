@@ -7,7 +7,7 @@ ghost use Rattle.lw_children.specs.Crews.{first_naming};
 use super::{command, names, speakers};
 use lw_cache::{AskStop, Cache};
 use lw_children::{Command, CutRun, LearnedChildren, learn_children};
-use lw_desk::OutNames;
+use lw_names::OutNames;
 use lw_json::{Machine, read_machine};
 use lw_mealy::Mealy;
 use lw_outside::{MemorySpawner, Spawner};

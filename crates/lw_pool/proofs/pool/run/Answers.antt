@@ -1,6 +1,7 @@
 use Rattle.std.proofs.Common.{◌≡◌, length, refl, sym, ap, subst}
 use Rattle.lw_turn.specs.declared.view.View.{View}
-use Rattle.lw_desk.specs.History.{DeskOpening, HasLists, Replays, opened}
+use Rattle.lw_desk.specs.History.{DeskOpening, Replays, opened}
+use Rattle.lw_names.specs.Naming.{HasLists}
 use Rattle.lw_desk.specs.declared.ask.Ask.{Ask}
 use Rattle.lw_desk.specs.declared.ask.Reply.{Reply}
 use Rattle.lw_pool.specs.bodies.Running.{opening_of}

@@ -1,5 +1,5 @@
 use Rattle.std.proofs.Common.{◌≡◌, None, take}
-use Rattle.lw_sul.specs.Names.{IsGrown}
+use Rattle.lw_names.specs.Names.{IsGrown}
 use Rattle.lw_recheck.specs.Again.{AreAgain}
 use Rattle.lw_recheck.proofs.asking.ask_answers.Given as goal
 

@@ -1,5 +1,5 @@
 use Rattle.std.proofs.Common.{◌≡◌, ℕ, List, map, string_bytes, rules, subst, sym}
-use Rattle.lw_sul.specs.Names.{IsGrown}
+use Rattle.lw_names.specs.Names.{IsGrown}
 use Rattle.lw_recheck.proofs.AgainLemmas.{grown_twice}
 use Rattle.lw_recheck.proofs.NameLemmas.{grown_none}
 use Rattle.lw_recheck.proofs.keeping.joined.Goals as goal

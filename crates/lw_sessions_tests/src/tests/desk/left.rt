@@ -1,7 +1,8 @@
 //! How many words are left: only those that have to be asked.
 use crate::tests::desk::turns::words;
 use lw_cache::Cache;
-use lw_desk::{Desk, OutNames};
+use lw_desk::Desk;
+use lw_names::OutNames;
 use lw_words::Word;
 use std::alloc::Global;
 use std::process::Abort;

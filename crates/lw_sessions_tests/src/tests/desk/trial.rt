@@ -2,15 +2,15 @@
 ghost use Rattle.std.specs.Prelude.{◌≡◌, ℕ, ◌+◌, ◌≤◌, ◌<◌, ◌||◌, true, false, List, [], ◌++◌, length, map, take, IsTrue, is_some};
 ghost use Rattle.std.specs.List.{All};
 ghost use Rattle.lw_words.specs.Name.{IsName, AllDiffer, number_of};
-ghost use Rattle.lw_sul.specs.Names.{named, with_names};
-ghost use Rattle.lw_desk.specs.Naming.{own_names, MayBring};
+ghost use Rattle.lw_names.specs.Names.{named, with_names};
+ghost use Rattle.lw_names.specs.Naming.{own_names, MayBring};
 ghost use Rattle.lw_desk.specs.Step.{word_at};
 ghost use Rattle.lw_desk.specs.History.{MayMake, MayGiveAll, failed_places, names_given, settled_places};
 ghost use Rattle.lw_sessions_tests.specs.TestTrial.{seat_by};
 
 use lw_cache::{AskStop, Cache};
-use lw_desk::{Ask, Desk, Give, OutNames, Places};
-use lw_sul::{Named, OutName};
+use lw_desk::{Ask, Desk, Give, Places};
+use lw_names::{Named, OutName, OutNames};
 use lw_turn::Core;
 use lw_words::{Names, Word};
 use std::alloc::Global;

@@ -2,7 +2,7 @@
 
 use crate::tests::desk::trial::Trial;
 use lw_desk::{Ask, Failed, Give, Places};
-use lw_sul::{Named, OutName};
+use lw_names::{Named, OutName};
 use lw_words::{Names, RunStop, SulStop, Word};
 use std::alloc::Global;
 use std::process::Abort;

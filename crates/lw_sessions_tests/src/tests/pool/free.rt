@@ -5,7 +5,7 @@ ghost use Rattle.lw_pool.specs.Opening.{AllMayJoin, member_of};
 use crate::tests::pool::crews::{machine, names, settles};
 use crate::tests::pool::growing::Growing;
 use lw_cache::Cache;
-use lw_desk::OutNames;
+use lw_names::OutNames;
 use lw_pool::Pool;
 use lw_sul::{Session, Sul, TableSul};
 use lw_words::Kept;

@@ -1,10 +1,12 @@
 //! A system for tests whose outputs have names as they come.
 ghost use Rattle.std.specs.Prelude.{◌≡◌, ◌<◌, ◌≤◌, length, take, true, None, Some};
-ghost use Rattle.lw_sul.specs.Names.{Brings};
+ghost use Rattle.lw_names.specs.Names.{Brings};
 ghost use Rattle.lw_words.specs.Cause.{CountedFault};
 ghost use Rattle.lw_words.specs.declared.stop.SulStop.TheVariants.{Failed};
 
-use lw_sul::{OutName, Sul, TableSul};
+use lw_sul::{Sul, TableSul};
+
+use lw_names::OutName;
 use lw_words::SulStop;
 
 /// A table that tells no machine, and of whose names the first few came. It refuses an output past the next one that has no

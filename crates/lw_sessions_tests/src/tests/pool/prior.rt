@@ -6,7 +6,7 @@ ghost use Rattle.lw_pool.specs.Opening.{MayBegin};
 use crate::tests::pool::acting::Acting;
 use crate::tests::pool::crews::{hired, names, settle, settles, sound_plans, word, words};
 use lw_cache::{AskStop, Cache, Clash};
-use lw_desk::OutNames;
+use lw_names::OutNames;
 use lw_pool::Pool;
 use lw_words::Kept;
 use std::alloc::Global;

@@ -1,11 +1,11 @@
 //! Names that an instance brings to a desk.
 ghost use Rattle.std.specs.Prelude.{◌≡◌, [], ◌∷◌, false, true, None, IsTrue};
-ghost use Rattle.lw_desk.specs.Naming.{MayBring};
+ghost use Rattle.lw_names.specs.Naming.{MayBring};
 ghost use Rattle.lw_sessions_tests.specs.TestNames.{pair_names, turned_names, one_give, one_word};
 
 use lw_cache::Cache;
-use lw_desk::{Ask, Desk, Give, OutNames, Reply};
-use lw_sul::{Named, OutName};
+use lw_desk::{Ask, Desk, Give, Reply};
+use lw_names::{Named, OutName, OutNames};
 use lw_turn::Core;
 use lw_words::Word;
 use std::alloc::Global;

@@ -7,7 +7,7 @@ ghost use Rattle.lw_pool.specs.Opening.{MayBegin};
 use crate::tests::workers::crews::{machine, names_of};
 use crate::tests::workers::{COUNTER, are_long, is_crowd, is_found};
 use lw_cache::Cache;
-use lw_desk::OutNames;
+use lw_names::OutNames;
 use lw_mealy::Mealy;
 use lw_rounds::{Kind, LearnStop, Unwatched};
 use lw_words::Names;

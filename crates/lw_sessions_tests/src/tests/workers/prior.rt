@@ -8,7 +8,7 @@ use crate::tests::workers::crews::{machine, names_of};
 use crate::tests::workers::machines::call;
 use crate::tests::workers::{COUNTER, are_long, is_found};
 use lw_cache::{AskStop, Cache, Clash};
-use lw_desk::OutNames;
+use lw_names::OutNames;
 use lw_mealy::Mealy;
 use lw_rounds::LearnStop;
 use lw_words::{Kept, Word};

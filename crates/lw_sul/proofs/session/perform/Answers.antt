@@ -5,7 +5,7 @@ use Rattle.lw_mealy.specs.Origin.{Origin}
 use Rattle.lw_sul.specs.SessionState.{run_of, CutOff}
 use Rattle.lw_sul.specs.Runs.{after_step}
 use Rattle.lw_sul.specs.Told.{Steps}
-use Rattle.lw_sul.proofs.NameLemmas.{IsNaming, brings_rest, naming_more, noted_few}
+use Rattle.lw_names.proofs.NameLemmas.{IsNaming, brings_rest, naming_more, noted_few}
 use Rattle.lw_sul.proofs.RunLemmas.{Rests, refused_at_step, rests_more, runs_more}
 use Rattle.lw_sul.proofs.session.perform.Goals as goal
 

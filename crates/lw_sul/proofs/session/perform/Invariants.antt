@@ -1,7 +1,7 @@
 use Rattle.std.proofs.Common.{◌≡◌, ◌≤◌, ◌-◌, ◌<◌, ◌++◌, ◌∷◌, [], length, min, take, drop, None, true, option_map, vec_capacity}
 use Rattle.std.specs.List.{All}
 use Rattle.lw_sul.specs.SessionState.{run_of}
-use Rattle.lw_sul.proofs.NameLemmas.{IsNaming}
+use Rattle.lw_names.proofs.NameLemmas.{IsNaming}
 use Rattle.lw_sul.proofs.RunLemmas.{Rests}
 use Rattle.lw_sul.proofs.session.perform.Given as goal
 

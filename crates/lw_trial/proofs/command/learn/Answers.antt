@@ -1,6 +1,6 @@
 use Rattle.std.proofs.Common.{◌≡◌, ◌∙◌, List, Ok, Err, IfSome, Option, Result, Some, ap, refl, subst, sym}
 use Rattle.lw_words.specs.declared.kept.KeptAnswer.{KeptAnswer}
-use Rattle.lw_desk.specs.Naming.{Naming}
+use Rattle.lw_names.specs.Naming.{Naming}
 use Rattle.lw_workers.specs.Machines.{KeepsRuns}
 use Rattle.lw_rounds.specs.declared.learned.Learned.{Learned}
 use Rattle.lw_rounds.specs.declared.stops.LearnStop.{LearnStop}

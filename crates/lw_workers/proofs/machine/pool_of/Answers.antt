@@ -1,5 +1,5 @@
 use Rattle.std.proofs.Common.{◌∙◌, ap, subst, sym}
-use Rattle.lw_desk.specs.Naming.{Naming}
+use Rattle.lw_names.specs.Naming.{Naming}
 use Rattle.lw_desk.specs.Ending.{IsShared}
 use Rattle.lw_pool.proofs.JoinLemmas.{declared_come_up, declared_shared}
 use Rattle.lw_workers.proofs.InstanceLemmas.{instances_join, pool_begun}

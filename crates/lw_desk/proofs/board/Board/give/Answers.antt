@@ -5,7 +5,7 @@ use Rattle.lw_words.specs.declared.kept.KeptAnswer.{KeptAnswer}
 use Rattle.lw_cache.specs.Caching.{IsClaimOf, kept_answer}
 use Rattle.lw_cache.specs.Known.{IsKnown}
 use Rattle.lw_cache.specs.declared.stops.AskStop.{AskStop}
-use Rattle.lw_desk.specs.Naming.{Naming, shared, bring}
+use Rattle.lw_names.specs.Naming.{Naming, shared, bring}
 use Rattle.lw_desk.specs.Step.{DeskState, word_at, Gives, StopsBy, kept_of}
 use Rattle.lw_desk.specs.bodies.Board.{BoardState, Agrees, IsAtHand, numbers_of, without_number, stop_after}
 use Rattle.lw_desk.specs.contracts.board.Board.{the_view}

@@ -1,6 +1,6 @@
 use Rattle.std.proofs.Common.{◌≡◌, ◌++◌, map, is_some}
 use Rattle.std.specs.Vec.Iter.{into_iter_items}
-use Rattle.lw_desk.specs.Naming.{own_names}
+use Rattle.lw_names.specs.Naming.{own_names}
 use Rattle.lw_desk.specs.Step.{DeskState, GivesAll}
 use Rattle.lw_desk.specs.History.{MayGiveAll}
 use Rattle.lw_desk.specs.bodies.Board.{Agrees, AreHeld, without_numbers}

@@ -1,11 +1,11 @@
 use Rattle.std.proofs.Common.{◌≡◌, ◌<◌, ◌^◌, ℕ, List, [], length, is_some, refl, ap, sym, ◌∙◌, subst}
 use Rattle.lw_turn.specs.declared.shared.Entry.{Entry}
-use Rattle.lw_desk.specs.Naming.{Naming}
-use Rattle.lw_desk.specs.History.{DeskOpening, opened, Replays, HasLists}
+use Rattle.lw_names.specs.Naming.{Naming, HasLists}
+use Rattle.lw_desk.specs.History.{DeskOpening, opened, Replays}
 use Rattle.lw_desk.specs.bodies.DeskBody.{opening_of, entries_in}
 use Rattle.lw_desk.specs.declared.ask.Ask.{Ask}
 use Rattle.lw_desk.specs.declared.ask.Reply.{Reply}
-use Rattle.lw_desk.proofs.Bringing.{fewer_lists}
+use Rattle.lw_names.proofs.Bringing.{fewer_lists}
 use Rattle.lw_desk.proofs.desk.Desk.new.Goals as goal
 
 pub invariant_of-result : goal.invariant_of-result

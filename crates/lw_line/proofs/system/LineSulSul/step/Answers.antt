@@ -7,7 +7,7 @@ use Rattle.lw_line.specs.LineState.{AreToldIfFree, LineState, told_runs}
 use Rattle.lw_line.specs.bodies.Exchanges.{NamesNone, ended}
 use Rattle.lw_line.specs.bodies.Naming.{OutputNaming}
 use Rattle.lw_line.specs.bodies.Standing.{Stands}
-use Rattle.lw_sul.proofs.NameLemmas.{IsName-at}
+use Rattle.lw_names.proofs.NameLemmas.{IsName-at}
 use Rattle.lw_line.proofs.Calls.{letter_plain, step_answered, step_refused}
 use Rattle.lw_line.proofs.Noting.{letter_added}
 use Rattle.lw_line.proofs.Telling.{brought_told, refused_told}

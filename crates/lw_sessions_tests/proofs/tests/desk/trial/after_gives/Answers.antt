@@ -1,6 +1,6 @@
 use Rattle.std.proofs.Common.{◌≡◌, ◌<◌, ◌+◌, ℕ, List, [], ◌∷◌, ◌++◌, length, take, drop, ap, sym, ◌∙◌, subst, append_assoc, arith}
 use Rattle.std.proofs.lemmas.List.{take_more, drop_more}
-use Rattle.lw_desk.specs.Naming.{MayBring}
+use Rattle.lw_names.specs.Naming.{MayBring}
 use Rattle.lw_desk.specs.History.{MayGiveAll, names_given}
 use Rattle.lw_desk.specs.declared.ask.Give.{Give}
 use Rattle.lw_sessions_tests.proofs.TestTrials.{given_more}

@@ -1,6 +1,6 @@
 use Rattle.std.proofs.Common.{ℕ, List, [], ◌∷◌, ◌++◌, length, Some, None, rules, ◌≡◌, refl, ap, sym, ◌∙◌, subst}
 use Rattle.lw_sul.specs.SessionState.{SessionState}
-use Rattle.lw_desk.specs.Naming.{Naming}
+use Rattle.lw_names.specs.Naming.{Naming}
 use Rattle.lw_pool.specs.Pool.{Member}
 use Rattle.lw_pool.specs.Opening.{MayJoin, AllMayJoin}
 use Rattle.lw_sessions_tests.specs.declared.tests.pool.acting.Acting.{Acting}

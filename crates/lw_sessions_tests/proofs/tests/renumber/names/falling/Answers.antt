@@ -1,5 +1,5 @@
 use Rattle.std.proofs.Common.{ℕ, List, [], ◌∷◌, true, sym, subst}
-use Rattle.lw_desk.specs.Naming.{MayBring}
+use Rattle.lw_names.specs.Naming.{MayBring}
 use Rattle.lw_sessions_tests.proofs.BroughtNames.{may_bring_pair}
 use Rattle.lw_sessions_tests.proofs.tests.renumber.names.falling.Goals as goal
 

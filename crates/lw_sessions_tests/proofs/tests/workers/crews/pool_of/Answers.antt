@@ -1,5 +1,5 @@
 use Rattle.std.proofs.Common.{rules, ◌≡◌, None, ap, sym, subst}
-use Rattle.lw_desk.specs.Naming.{Naming}
+use Rattle.lw_names.specs.Naming.{Naming}
 use Rattle.lw_desk.specs.Ending.{IsShared}
 use Rattle.lw_pool.proofs.JoinLemmas.{declared_come_up, declared_shared}
 use Rattle.lw_sessions_tests.proofs.tests.workers.crews.pool_of.Goals as goal

@@ -1,6 +1,6 @@
 use Rattle.std.proofs.Common.{◌≡◌, ℕ, List, [], false, length, map, is_some, ap, sym, ◌∙◌, arith}
 use Rattle.std.proofs.lemmas.List.{get_or-replicate, length-replicate}
-use Rattle.lw_desk.specs.Naming.{own_names}
+use Rattle.lw_names.specs.Naming.{own_names}
 use Rattle.lw_desk.specs.History.{DeskOpening, Seat}
 use Rattle.lw_sessions_tests.specs.TestTrial.{seat_by, seat_at}
 use Rattle.lw_sessions_tests.proofs.TestTrials.{trial_new}
