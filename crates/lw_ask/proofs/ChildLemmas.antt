@@ -14,14 +14,14 @@ use Rattle.lw_sul.specs.declared.runs.Run.{Run}
 use Rattle.lw_outside.specs.Links.{LinkState, Transcript, with_start, SpawnerState}
 use Rattle.lw_outside.specs.declared.links.StartStop.{StartStop}
 use Rattle.lw_outside.specs.declared.links.StartStop.TheVariants as start
-use Rattle.lw_line.specs.Causes.{EndsWithin, IsCounted, IsCovered, IsSpelled, IsTranscriptOf}
+use Rattle.lw_line.specs.Causes.{EndsWithin, StopIsCounted, TranscriptIsCovered, IsSpelled, IsTranscriptOf}
 use Rattle.lw_line.specs.LineState.{AreFree, AreToldIfFree, IsNaming, told_runs}
 use Rattle.lw_line.specs.Transcripts.{BreaksIn, SpellsAll, spelled}
 use Rattle.lw_outside.specs.Streams.{SinkState}
 use Rattle.lw_children.specs.Children.{HasRefused, IfTold, IsStopped}
-use Rattle.lw_children.specs.Keeping.{AreFinished, AreOwn, IsBroken, count_of, most_of}
+use Rattle.lw_children.specs.Keeping.{AreFinished, AreOwn, IsBroken, count_of, most_outputs_of}
 use Rattle.lw_children.specs.Crews.{first_names}
-use Rattle.lw_children.specs.Spawners.{Starts, StartsAndRetires, with_starts}
+use Rattle.lw_children.specs.Spawners.{StartsLinks, StartsAndRetires, with_starts}
 use Rattle.lw_ask.specs.Asking.{HasPut}
 use Rattle.lw_ask.specs.Child.{AsksChild, HasNotStarted, SpellsRuns, SpellsWhole}
 use Rattle.lw_ask.specs.Ends.{IsBorneOut}
@@ -43,51 +43,51 @@ none_came declared names grown naming =
     naming
 
 -- the names that a child gave: those that were declared, or different ones, each of which was told
-pub names_own : (outputs : Option (List (List ℕ))) (names : List (List ℕ)) (told : Option Transcript) → IsGrown (first_names outputs) names → AreNamed (most_of outputs) names → IsNaming names (most_of outputs) (count_of outputs) → AreToldIfFree names (most_of outputs) (count_of outputs) told → IfTold (AreOwn outputs names) told
+pub names_own : (outputs : Option (List (List ℕ))) (names : List (List ℕ)) (told : Option Transcript) → IsGrown (first_names outputs) names → AreNamed (most_outputs_of outputs) names → IsNaming names (most_outputs_of outputs) (count_of outputs) → AreToldIfFree names (most_outputs_of outputs) (count_of outputs) told → IfTold (AreOwn outputs names) told
 names_own outputs names None grown named naming free = tt
 names_own None names (Some t) grown named naming free = (named.few, named.differ, free (refl, refl))
 names_own (Some declared) names (Some t) grown named naming free = none_came declared names grown naming
 
 -- declared names are those that a child gave, whatever is told of its link
-pub names_declared : (outputs : Option (List (List ℕ))) (names : List (List ℕ)) → IsGrown (first_names outputs) names → IsNaming names (most_of outputs) (count_of outputs) → IfSome outputs (λ ns. names ≡ ns)
+pub names_declared : (outputs : Option (List (List ℕ))) (names : List (List ℕ)) → IsGrown (first_names outputs) names → IsNaming names (most_outputs_of outputs) (count_of outputs) → IfSome outputs (λ ns. names ≡ ns)
 names_declared None names grown naming = tt
 names_declared (Some declared) names grown naming = none_came declared names grown naming
 
 module _ (letters : List (List ℕ)) (outputs : Option (List (List ℕ))) (names : List (List ℕ)) (r : LinkState) where
-  broken : (t : Transcript) (stop : SulStop) → IsCounted r.faults r.ends (Some stop) → IsSpelled names (most_of outputs) t (Some stop) → IsBroken names (most_of outputs) r t
+  broken : (t : Transcript) (stop : SulStop) → StopIsCounted r.faults r.ends (Some stop) → IsSpelled names (most_outputs_of outputs) t (Some stop) → IsBroken names (most_outputs_of outputs) r t
   broken t sul.Failed counted spelled = inl counted
   broken t sul.Gone counted spelled = inr (inl counted)
   broken t (sul.BadLine line) counted spelled = inr (inr (line, spelled))
 
-  ends : (t : Transcript) (runs : List Run) (stop : Option SulStop) (cut : Bool) → IsCounted r.faults r.ends stop → IsSpelled names (most_of outputs) t stop → IsCovered letters names r.faults t stop cut → IsJournal (Some (spelled letters names t)) runs stop cut
-      → (SpellsAll letters names t × (spelled letters names t ≡ runs)) ⊎ (IsBroken names (most_of outputs) r t × ((c : Bool) × BreaksIn letters names r.faults c t × AreFinished c (spelled letters names t) runs))
+  ends : (t : Transcript) (runs : List Run) (stop : Option SulStop) (cut : Bool) → StopIsCounted r.faults r.ends stop → IsSpelled names (most_outputs_of outputs) t stop → TranscriptIsCovered letters names r.faults t stop cut → IsJournal (Some (spelled letters names t)) runs stop cut
+      → (SpellsAll letters names t × (spelled letters names t ≡ runs)) ⊎ (IsBroken names (most_outputs_of outputs) r t × ((c : Bool) × BreaksIn letters names r.faults c t × AreFinished c (spelled letters names t) runs))
   ends t runs None cut counted told covered journal = inl (covered, journal)
   ends t runs (Some stop) false counted told covered journal = inr (broken t stop counted told, (false, covered, journal))
   ends t runs (Some stop) true counted told covered journal = inr (broken t stop counted told, (true, covered, journal))
 
-  pub spells_told : (told : Option Transcript) (runs : List Run) (stop : Option SulStop) (cut : Bool) → IfTold (AreOwn outputs names) told → IsCounted r.faults r.ends stop → IsTranscriptOf letters names (most_of outputs) r.faults stop cut told → IsJournal (told_runs letters names told) runs stop cut → IfTold (SpellsRuns letters outputs names runs r) told
+  pub spells_told : (told : Option Transcript) (runs : List Run) (stop : Option SulStop) (cut : Bool) → IfTold (AreOwn outputs names) told → StopIsCounted r.faults r.ends stop → IsTranscriptOf letters names (most_outputs_of outputs) r.faults stop cut told → IsJournal (told_runs letters names told) runs stop cut → IfTold (SpellsRuns letters outputs names runs r) told
   spells_told None runs stop cut owns counted told journal = tt
   spells_told (Some t) runs stop cut owns counted told journal = record { proper = told.0; owns = owns; ends = ends t runs stop cut counted told.1 told.2 journal }
 
-  pub whole_told : (told : Option Transcript) (runs : List Run) (cut : Bool) → IsTranscriptOf letters names (most_of outputs) r.faults None cut told → IsJournal (told_runs letters names told) runs None cut → IfTold (SpellsWhole letters names runs) told
+  pub whole_told : (told : Option Transcript) (runs : List Run) (cut : Bool) → IsTranscriptOf letters names (most_outputs_of outputs) r.faults None cut told → IsJournal (told_runs letters names told) runs None cut → IfTold (SpellsWhole letters names runs) told
   whole_told None runs cut told journal = tt
   whole_told (Some t) runs cut told journal = record { covered = told.2; runs_are = journal }
 
-  gone_told : (told : Option Transcript) (cut : Bool) → IsTranscriptOf letters names (most_of outputs) r.faults (Some sul.Gone) cut told → IfTold EndsWithin told
+  gone_told : (told : Option Transcript) (cut : Bool) → IsTranscriptOf letters names (most_outputs_of outputs) r.faults (Some sul.Gone) cut told → IfTold EndsWithin told
   gone_told None cut is = tt
   gone_told (Some t) cut is = is.1
 
-  line_told : (told : Option Transcript) (line : List ℕ) (cut : Bool) → IfTold (AreOwn outputs names) told → IsTranscriptOf letters names (most_of outputs) r.faults (Some (sul.BadLine line)) cut told → IfTold (HasRefused outputs line) told
+  line_told : (told : Option Transcript) (line : List ℕ) (cut : Bool) → IfTold (AreOwn outputs names) told → IsTranscriptOf letters names (most_outputs_of outputs) r.faults (Some (sul.BadLine line)) cut told → IfTold (HasRefused outputs line) told
   line_told None line cut owns is = tt
   line_told (Some t) line cut owns is = (names, owns, is.1)
 
-  pub stopped_by : (why : SulStop) (cut : Bool) → IfTold (AreOwn outputs names) r.transcript → IsCounted r.faults r.ends (Some why) → IsTranscriptOf letters names (most_of outputs) r.faults (Some why) cut r.transcript → IsStopped outputs why r
+  pub stopped_by : (why : SulStop) (cut : Bool) → IfTold (AreOwn outputs names) r.transcript → StopIsCounted r.faults r.ends (Some why) → IsTranscriptOf letters names (most_outputs_of outputs) r.faults (Some why) cut r.transcript → IsStopped outputs why r
   stopped_by sul.Failed cut owns counted is = counted
   stopped_by sul.Gone cut owns counted is = (counted, gone_told r.transcript cut is)
   stopped_by (sul.BadLine line) cut owns counted is = line_told r.transcript line cut owns is
 
 -- a child that was started by itself, and retired
-pub started_one : (words : List (List ℕ)) (b m z : SpawnerState) (link : LinkState) → Starts words b m 1 → link.number ≡ b.started → z.started ≡ m.started → z.retired ≡ m.retired ++ link ∷ [] → z.faults ≡ m.faults → z.commands ≡ m.commands → StartsAndRetires words b z (link ∷ [])
+pub started_one : (words : List (List ℕ)) (b m z : SpawnerState) (link : LinkState) → StartsLinks words b m 1 → link.number ≡ b.started → z.started ≡ m.started → z.retired ≡ m.retired ++ link ∷ [] → z.faults ≡ m.faults → z.commands ≡ m.commands → StartsAndRetires words b z (link ∷ [])
 started_one words b m z link starts number started retired faults commands = record {
   started = started ∙ starts.started;
   retired = retired ∙ ap (λ (l : List LinkState). l ++ link ∷ []) starts.retired;
@@ -103,7 +103,7 @@ started_one words b m z link starts number started retired faults commands = rec
 
 -- what came of asking a child, by what is told of its link
 module _ (command letters : List (List ℕ)) (outputs : Option (List (List ℕ))) (words : List (List ℕ)) (b z : SpawnerState) (o p : SinkState) (kept : List KeptAnswer) (came : Result (Unit {0}) AskingStop) (link : LinkState) (names : List (List ℕ)) (runs : List Run) (stop : Option SulStop) (cut : Bool) where
-  pub asked_child : StartsAndRetires command b z (link ∷ []) → z.faults ≡ b.faults → HasPut None letters words names runs kept o p came → IsGrown (first_names outputs) names → IsBorneOut letters names (most_of outputs) (count_of outputs) stop cut runs link → OnOk came (stop ≡ None) → ((why : SulStop) → came ≡ Err (Sul why) → stop ≡ Some why) → AsksChild command letters outputs words b z o p kept came
+  pub asked_child : StartsAndRetires command b z (link ∷ []) → z.faults ≡ b.faults → HasPut None letters words names runs kept o p came → IsGrown (first_names outputs) names → IsBorneOut letters names (most_outputs_of outputs) (count_of outputs) stop cut runs link → OnOk came (stop ≡ None) → ((why : SulStop) → came ≡ Err (Sul why) → stop ≡ Some why) → AsksChild command letters outputs words b z o p kept came
   asked_child spawner quiet put grown bears live stopped =
       let owns = names_own outputs names link.transcript grown bears.named bears.naming bears.told_names in
       record {
@@ -117,13 +117,13 @@ module _ (command letters : List (List ℕ)) (outputs : Option (List (List ℕ))
         spells = spells_told letters outputs names link link.transcript runs stop cut owns bears.counted bears.told bears.journal;
         whole = whole came live;
         cause = λ why is. let at = stopped why is in
-            stopped_by letters outputs names link why cut owns (subst (IsCounted link.faults link.ends) at bears.counted) (subst (λ (s : Option SulStop). IsTranscriptOf letters names (most_of outputs) link.faults s cut link.transcript) at bears.told);
+            stopped_by letters outputs names link why cut owns (subst (StopIsCounted link.faults link.ends) at bears.counted) (subst (λ (s : Option SulStop). IsTranscriptOf letters names (most_outputs_of outputs) link.faults s cut link.transcript) at bears.told);
       }
     where
       whole : (came : Result (Unit {0}) AskingStop) → OnOk came (stop ≡ None) → OnOk came (IfTold (SpellsWhole letters names runs) link.transcript)
       whole (Err why) live = tt
       whole (Ok done) live =
-          whole_told letters outputs names link link.transcript runs cut (subst (λ (s : Option SulStop). IsTranscriptOf letters names (most_of outputs) link.faults s cut link.transcript) live bears.told)
+          whole_told letters outputs names link link.transcript runs cut (subst (λ (s : Option SulStop). IsTranscriptOf letters names (most_outputs_of outputs) link.faults s cut link.transcript) live bears.told)
           (subst (λ (s : Option SulStop). IsJournal (told_runs letters names link.transcript) runs s cut) live bears.journal)
 
 -- a start that gave no child
@@ -168,7 +168,7 @@ pub nothing_started : (words : List (List ℕ)) (b : SpawnerState) → HasNotSta
 nothing_started words b = not_started words b b start.NoMemory refl refl (omega arith) (λ e. let wrong : start.NoMemory ≡ start.Failed = e in absurd (cc)) (λ _. refl)
 
 -- a link for whose system there was no memory
-pub link_given_up : (words : List (List ℕ)) (b m z : SpawnerState) (link : LinkState) → Starts words b m 1 → link.number ≡ b.started → z.started ≡ m.started → z.retired ≡ m.retired ++ link ∷ [] → z.faults ≡ m.faults → z.commands ≡ m.commands → HasNotStarted words b z start.NoMemory
+pub link_given_up : (words : List (List ℕ)) (b m z : SpawnerState) (link : LinkState) → StartsLinks words b m 1 → link.number ≡ b.started → z.started ≡ m.started → z.retired ≡ m.retired ++ link ∷ [] → z.faults ≡ m.faults → z.commands ≡ m.commands → HasNotStarted words b z start.NoMemory
 link_given_up words b m z link starts number started retired faults commands = record {
   links = link ∷ [];
   spawner = started_one words b m z link starts number started retired faults commands;

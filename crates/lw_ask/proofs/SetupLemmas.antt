@@ -1,12 +1,12 @@
 -- The command of a setup that was read has words.
 use Rattle.std.proofs.Common.{◌≡◌, ℕ, ◌<◌, List, [], ◌∷◌, length, Bool, true, false, Option, Some, None, option_and_then, option_map, if◌then◌else◌, nat_lt, codes, ap, subst, sym, arith}
 use Rattle.lw_json.specs.Members.{texts_at}
-use Rattle.lw_json.specs.SetupFile.{IsSetupFile, SpellsSetup, WrittenSetup, command, has, is_command, outputs_at, table, text_at}
+use Rattle.lw_json.specs.SetupFile.{IsSetupFile, SpellsSetup, WrittenSetup, command, has_member, is_child_command, outputs_at, table, text_at}
 use Rattle.lw_json.specs.declared.setup.Setup.TheVariants as setup
 
 -- the command that three members say
 abbrev command_of : (t i : Option (List (List ℕ))) → Option (Option (List (List ℕ))) → Option WrittenSetup
-command_of t i o = option_and_then (λ inputs. option_and_then (λ outputs. option_map (λ words. command words inputs outputs) (option_and_then (λ words. if is_command words then Some words else None) t)) o) i
+command_of t i o = option_and_then (λ inputs. option_and_then (λ outputs. option_map (λ words. command words inputs outputs) (option_and_then (λ words. if is_child_command words then Some words else None) t)) o) i
 
 command_words : (t i : Option (List (List ℕ))) (o : Option (Option (List (List ℕ)))) (ws us : List (List ℕ)) (os : Option (List (List ℕ))) → command_of t i o ≡ Some (command ws us os) → 0 < length ws
 command_words t None o ws us os e = let wrong : None ≡ Some (command ws us os) = e in absurd (cc)
@@ -35,4 +35,4 @@ said_words x y t i o n words inputs outputs (command ws us os) says spells = sub
 
 pub has_words : (bytes : List ℕ) (words inputs : List (List ℕ)) (outputs : Option (List (List ℕ))) → IsSetupFile bytes (setup.Command words inputs outputs) → 0 < length words
 has_words bytes words inputs outputs file =
-    said_words (has (codes "command") file.0) (has (codes "table") file.0) (texts_at (codes "command") file.0) (texts_at (codes "inputs") file.0) (outputs_at file.0) (text_at (codes "table") file.0) words inputs outputs file.2.0 file.2.1 file.2.2
+    said_words (has_member (codes "command") file.0) (has_member (codes "table") file.0) (texts_at (codes "command") file.0) (texts_at (codes "inputs") file.0) (outputs_at file.0) (text_at (codes "table") file.0) words inputs outputs file.2.0 file.2.1 file.2.2

@@ -25,7 +25,7 @@ use Rattle.lw_ask.specs.Asking.{HasPut}
 use Rattle.lw_ask.specs.Child.{AsksChild, HasNotStarted}
 use Rattle.lw_ask.specs.Hints.{HasHint, IsUnreadWith, TakesHint}
 use Rattle.lw_ask.specs.Outcomes.{came_outcome, start_outcome, word_outcome}
-use Rattle.lw_wordlist.specs.Words.{IsFirstUnknown, words_of}
+use Rattle.lw_wordlist.specs.Words.{IsFirstUnknown, words_of_texts}
 use Rattle.lw_ask.specs.declared.stop.AskingStop.{AskingStop}
 use Rattle.lw_ask.specs.declared.stop.AskingStop.TheVariants.{Sul}
 use Rattle.lw_wordlist.specs.declared.words.WordStop.{WordStop}
@@ -75,7 +75,7 @@ pub record HasNoWords (s : System) (texts : List (List ℕ)) (spawner_before spa
 -- the texts are words of a system, which was asked them
 pub record AsksWords (s : System) (texts : List (List ℕ)) (spawner_before spawner_now : SpawnerState) (out_before out_now : SinkState) (kept : List KeptAnswer) (why : Outcome) : Type 0 where
   pub words : List (List ℕ)
-  pub spells : words_of (letters_of s) texts ≡ Some words
+  pub spells : words_of_texts (letters_of s) texts ≡ Some words
   pub asks : AsksSystem s words spawner_before spawner_now out_before out_now kept why
 
 abbrev pub AsksTexts : System → (texts : List (List ℕ)) → (spawner_before spawner_now : SpawnerState) → (out_before out_now : SinkState) → List KeptAnswer → Outcome → Type 0

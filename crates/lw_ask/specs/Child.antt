@@ -10,7 +10,7 @@ use Rattle.lw_line.specs.Transcripts.{BreaksIn, IsProper, SpellsAll, spelled}
 use Rattle.lw_sul.specs.declared.runs.Run.{Run}
 use Rattle.lw_outside.specs.Streams.{SinkState}
 use Rattle.lw_children.specs.Children.{IfTold, IsStopped}
-use Rattle.lw_children.specs.Keeping.{AreFinished, AreOwn, IsBroken, most_of}
+use Rattle.lw_children.specs.Keeping.{AreFinished, AreOwn, IsBroken, most_outputs_of}
 use Rattle.lw_children.specs.Spawners.{StartsAndRetires}
 use Rattle.lw_ask.specs.Asking.{HasPut}
 use Rattle.lw_ask.specs.declared.stop.AskingStop.{AskingStop}
@@ -31,7 +31,7 @@ pub record SpellsRuns (letters : List (List ℕ)) (outputs : Option (List (List 
   pub owns : AreOwn outputs names t
   pub ends :
       (SpellsAll letters names t × (spelled letters names t ≡ runs))
-      ⊎ (IsBroken names (most_of outputs) link t × ((cut : Bool) × BreaksIn letters names link.faults cut t × AreFinished cut (spelled letters names t) runs))
+      ⊎ (IsBroken names (most_outputs_of outputs) link t × ((cut : Bool) × BreaksIn letters names link.faults cut t × AreFinished cut (spelled letters names t) runs))
 
 -- and nothing else went over the link
 pub record SpellsWhole (letters names : List (List ℕ)) (runs : List Run) (t : Transcript) : Type 0 where

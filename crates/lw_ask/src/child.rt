@@ -6,7 +6,7 @@ ghost use Rattle.lw_outside.specs.Links.{IsUntouched};
 ghost use Rattle.lw_sul.specs.SessionState.{NoRuns};
 ghost use Rattle.lw_line.specs.LineState.{told_runs};
 ghost use Rattle.lw_children.specs.Crews.{new_line};
-ghost use Rattle.lw_children.specs.Spawners.{Starts};
+ghost use Rattle.lw_children.specs.Spawners.{StartsLinks};
 ghost use Rattle.lw_ask.specs.Child.{AsksChild, HasNotStarted};
 ghost use Rattle.lw_ask.specs.Ends.{IsBorneOut};
 
@@ -53,7 +53,8 @@ pub fn start_line<P: Spawner>(
         (λ s. NoRuns (told_runs s.letters s.names (P.Link.state s.link).transcript)) }
     ensures number { IfOk result (λ s. (P.Link.state s.link).number ≡
         (P.state spawner.old).started) }
-    ensures one { OnOk result (Starts (map (λ w. string_bytes w) words.now) (P.state spawner.old)
+    ensures one { OnOk result
+        (StartsLinks (map (λ w. string_bytes w) words.now) (P.state spawner.old)
         (P.state spawner.new) 1) }
     ensures earlier { OnOk result (All (λ r. r.number < (P.state spawner.old).started)
         (P.state spawner.old).retired) }

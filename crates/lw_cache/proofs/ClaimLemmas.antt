@@ -5,7 +5,7 @@ use Rattle.std.proofs.lemmas.Bool.{false≢true, cases_order, cases_eq}
 use Rattle.std.proofs.lemmas.List.{take_all, length-map}
 use Rattle.lw_words.specs.Answer.{answer_of, answers_of}
 use Rattle.lw_words.specs.declared.kept.KeptAnswer.{KeptAnswer}
-use Rattle.lw_cache.specs.Caching.{Claim, claim_of, IsClaimOf, IsClaimedBy, IsUnused, without}
+use Rattle.lw_cache.specs.Caching.{Claim, claim_of, IsClaimOf, IsClaimedBy, IsUnused, without_claim}
 use Rattle.lw_cache.specs.Clash.{IsClearAfter}
 use Rattle.lw_cache.specs.Standing.{Stands}
 use Rattle.lw_cache.specs.declared.known.Known.TheVariants.{No}
@@ -173,5 +173,5 @@ module _ (was at : List Node) (held : List Held) (kept : List KeptAnswer) (s : I
   pub release_stored : IsStored (node_at at) (length at) (without_held number held) kept
   release_stored = subst (λ (n : ℕ). IsStored (node_at at) n (without_held number held) kept) (sym same_long) (released_stored (node_at was) (node_at at) (length was) end no_claim r held kept s number is_end refl)
 
-  pub release_claims : claims_of (node_at at) (without_held number held) ≡ without number (claims_of (node_at was) held)
+  pub release_claims : claims_of (node_at at) (without_held number held) ≡ without_claim number (claims_of (node_at was) held)
   release_claims = released_claims (node_at was) (node_at at) (length was) end no_claim r held kept s number is_end refl

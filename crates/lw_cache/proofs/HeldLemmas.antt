@@ -1,7 +1,7 @@
 -- The claims that are left when one is left out.
 use Rattle.std.proofs.Common.{◌≡◌, ◌≢◌, ℕ, zero, suc, ◌+◌, ◌<◌, ◌≤◌, ◌⊎◌, inl, inr, ⊎_elim, Bool, true, false, not, ◌==◌, cond, List, [], ◌∷◌, length, filter, refl, ap, sym, ◌∙◌, arith}
 use Rattle.std.proofs.lemmas.Bool.{true≢false, false≢true, not-true, eqb-false, ne_eqb, eq-eqb, not_from_false, not_from_true, cases_eq}
-use Rattle.lw_cache.specs.Caching.{Claim, without}
+use Rattle.lw_cache.specs.Caching.{Claim, without_claim}
 use Rattle.lw_cache.specs.bodies.Trie.{held_at, word_of, claims_of}
 use Rattle.lw_cache.specs.bodies.Filling.{without_held, IsHeld}
 use Rattle.lw_cache.specs.declared.node.Node.{Node}
@@ -69,12 +69,12 @@ module _ (p : Held → Bool) where
       by false less = omega arith
 
 -- leaving a claim out, of what contracts see
-pub claims_without : (at : ℕ → Node) (number : ℕ) (held : List Held) → claims_of at (without_held number held) ≡ without number (claims_of at held)
+pub claims_without : (at : ℕ → Node) (number : ℕ) (held : List Held) → claims_of at (without_held number held) ≡ without_claim number (claims_of at held)
 claims_without at number [] = refl
 claims_without at number (h ∷ held) = by (not (h.number == number)) (claims_without at number held)
   where
-    by : (b : Bool) → claims_of at (without_held number held) ≡ without number (claims_of at held)
-        → claims_of at (cond b (h ∷ without_held number held) (without_held number held)) ≡ cond b (record { number = h.number; word = word_of at h.end } ∷ without number (claims_of at held)) (without number (claims_of at held))
+    by : (b : Bool) → claims_of at (without_held number held) ≡ without_claim number (claims_of at held)
+        → claims_of at (cond b (h ∷ without_held number held) (without_held number held)) ≡ cond b (record { number = h.number; word = word_of at h.end } ∷ without_claim number (claims_of at held)) (without_claim number (claims_of at held))
     by true rest = ap (λ (l : List Claim). record { number = h.number; word = word_of at h.end } ∷ l) rest
     by false rest = rest
 

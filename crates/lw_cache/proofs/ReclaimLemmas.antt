@@ -4,7 +4,7 @@ use Rattle.std.proofs.lemmas.Bool.{cases_eq, cases_lt, cases_order}
 use Rattle.std.proofs.lemmas.List.{length-set, length_push, get_or_append_left, get_or_push, map_push}
 use Rattle.lw_words.specs.Answer.{Answer, answers_of}
 use Rattle.lw_words.specs.declared.kept.KeptAnswer.{KeptAnswer}
-use Rattle.lw_cache.specs.Caching.{Claim, claim_of, without}
+use Rattle.lw_cache.specs.Caching.{Claim, claim_of, without_claim}
 use Rattle.lw_cache.specs.bodies.Trie.{node_at, word_of, held_at, claims_of, IsChildOf, IsTrie, IsLeast, AreLeast, AreAnswered, IsStored, no_claim}
 use Rattle.lw_cache.specs.bodies.Filling.{with_claim, with_ends, IsReclaimed, IsEndOf, without_held}
 use Rattle.lw_cache.specs.declared.node.Node.{Node}
@@ -171,6 +171,6 @@ module _ (was at : ℕ → Node) (n end ends : ℕ) (r : IsReclaimed was at n en
           whole = s.whole;
         }
 
-    pub released_claims : claims_of at (without_held number held) ≡ without number (claims_of was held)
+    pub released_claims : claims_of at (without_held number held) ≡ without_claim number (claims_of was held)
     released_claims =
-        claims_without at number held ∙ ap (without number) (claims_same was at held (λ k lt. shape_word was at n s.trie reclaimed_shape (held_at held k).end (s.ends.within k lt).1))
+        claims_without at number held ∙ ap (without_claim number) (claims_same was at held (λ k lt. shape_word was at n s.trie reclaimed_shape (held_at held k).end (s.ends.within k lt).1))

@@ -39,5 +39,5 @@ abbrev pub IsUnused : List Claim → ℕ → Type 0
 IsUnused cs number = (i : ℕ) → i < length cs → (claim_at cs i).number ≢ number
 
 -- the other claims, in their order
-abbrev pub without : ℕ → List Claim → List Claim
-without number cs = filter (λ c. not (c.number == number)) cs
+abbrev pub without_claim : ℕ → List Claim → List Claim
+without_claim number cs = filter (λ c. not (c.number == number)) cs

@@ -4,7 +4,7 @@ ghost use Rattle.std.specs.List.{All};
 ghost use Rattle.lw_words.specs.Answer.{answer_of, answers_of, IsWhole};
 ghost use Rattle.lw_words.specs.Word.{IsWord};
 ghost use Rattle.lw_cache.specs.Against.{DiffersFirst};
-ghost use Rattle.lw_cache.specs.Caching.{Caching, kept_answer, claim_of, IsClaimOf, IsUnused, without};
+ghost use Rattle.lw_cache.specs.Caching.{Caching, kept_answer, claim_of, IsClaimOf, IsUnused, without_claim};
 ghost use Rattle.lw_cache.specs.Clash.{IsClearAfter};
 ghost use Rattle.lw_cache.specs.FirstClash.{ClashesFirst, SameKnown, StopsKeeping};
 ghost use Rattle.lw_cache.specs.Known.{IsKnown, Reads};
@@ -170,7 +170,7 @@ impl Cache {
         requires pending { IsClaimOf self.old.claims number word }
         requires lengths { length outs ≡ length word }
         ensures kept { self.new.kept ≡ self.old.kept ++ kept_answer instance run word outs ∷ [] }
-        ensures claims { self.new.claims ≡ without number self.old.claims }
+        ensures claims { self.new.claims ≡ without_claim number self.old.claims }
         ensures room { (self.new.words ≡ self.old.words) × (self.new.letters ≡ self.old.letters) }
         ensures ok { OnOk result (IsClearAfter (answers_of self.old.kept) (length self.old.kept)
             (answer_of (kept_answer instance run word outs))) }
@@ -200,7 +200,7 @@ impl Cache {
     pub fn release(&mut self, number: u32)
         requires { ¬ IsUnused self.old.claims number }
         ensures kept { self.new.kept ≡ self.old.kept }
-        ensures claims { self.new.claims ≡ without number self.old.claims }
+        ensures claims { self.new.claims ≡ without_claim number self.old.claims }
         ensures room { (self.new.words ≡ self.old.words) × (self.new.letters ≡ self.old.letters) }
     {
         let end = end_of(&self.held, number);

@@ -14,7 +14,7 @@ use Rattle.lw_separate.specs.FirstAlike.{AreFirstAlike}
 use Rattle.lw_separate.specs.Separators.{Earlier}
 use Rattle.lw_suite.proofs.SuiteLemmas.{one_suite}
 use Rattle.lw_cache.specs.Known.{IsKnown}
-use Rattle.lw_certify.specs.Verdict.{OneVerdict, IsFirstUnreached, AllReached, DiffersAt, IsFirstMissing, IsCovered}
+use Rattle.lw_certify.specs.Verdict.{OneVerdict, IsFirstUnreached, AllReached, DiffersAt, IsFirstMissing, SuiteIsKnown}
 use Rattle.lw_certify.specs.declared.verdict.Verdict.TheVariants.{Unreached, Alike, Differs, TooLarge, Missing, Sure}
 
 -- two first places at which something fails are one
@@ -79,7 +79,7 @@ module _ (a : ℕ) (h : Rows) where
       let e : f.number ≡ g.number = first_one (IsKnown ks) g.suite [] f.number g.number f' g.first in
       f.here ∙ (ap₂ (λ (xs : List (List ℕ)) (n : ℕ). get_or xs n []) s e ∙ sym g.here)
 
-  missing_not_covered : (ks : List Answer) (k : ℕ) (u : List ℕ) → IsFirstMissing a h ks k u → IsCovered a h ks k → ⊥
+  missing_not_covered : (ks : List Answer) (k : ℕ) (u : List ℕ) → IsFirstMissing a h ks k u → SuiteIsKnown a h ks k → ⊥
   missing_not_covered ks k u f g =
       let s : f.suite ≡ g.suite = one_suite a h k f.suite g.suite f.whole g.whole in
       first_not_all (IsKnown ks) g.suite [] f.number (subst (λ (xs : List (List ℕ)). FailsFirst (IsKnown ks) xs f.number) s f.first) g.known

@@ -11,13 +11,13 @@ use Rattle.lw_separate.specs.Least.{IsLeastAccess, AreLeastAccess}
 use Rattle.lw_separate.specs.Separators.{IsSeparators}
 use Rattle.lw_separate.proofs.Before.{of_cases}
 use Rattle.lw_suite.specs.Size.{powers}
-use Rattle.lw_suite.specs.Suite.{each_with, words_of, words_up_to, suite_of}
+use Rattle.lw_suite.specs.Suite.{each_with, words_of_length, words_up_to, suite_of}
 use Rattle.lw_suite.proofs.EachLemmas.{each_at, length-each}
 use Rattle.lw_suite.proofs.SizeLemmas.{length-words_of, length-words_up_to, power_in, powers_rise, pow_suc}
 use Rattle.lw_suite.proofs.MiddleLemmas.{first_letter, among}
 use Rattle.lw_cache.specs.Known.{IsKnown}
 use Rattle.lw_certify.specs.Sure.{Sure}
-use Rattle.lw_certify.specs.Verdict.{SureIsSure, IsCovered}
+use Rattle.lw_certify.specs.Verdict.{SureIsSure, SuiteIsKnown}
 use Rattle.lw_certify.proofs.Cover.{Over, Alike, IsCover, Same, AgreesOnSuite}
 use Rattle.lw_certify.proofs.Known.{same_on_known}
 use Rattle.lw_certify.proofs.Walk.{suite}
@@ -32,7 +32,7 @@ each_in f xs ys i j c d e li lj =
     (i * length ys + j, omega arith, each_at f xs ys i j c d e li lj)
 
 -- the number of a word among the words of its length
-pub number_in : (a : ℕ) (w : List ℕ) → Over a w → (r : ℕ) × (r < a ^ length w) × (get_or (words_of a (length w)) r [] ≡ w)
+pub number_in : (a : ℕ) (w : List ℕ) → Over a w → (r : ℕ) × (r < a ^ length w) × (get_or (words_of_length a (length w)) r [] ≡ w)
 number_in a [] o = (0, let e = length-words_of a 0 in omega arith, refl)
 number_in a (x ∷ w) o =
     let h = number_in a w o.1 in
@@ -106,7 +106,7 @@ module _ (a : ℕ) (h : Rows) (access ends : List (List ℕ)) (least : AreLeastA
       tested = λ q lq mid o le. same_ends q mid ends (λ j lt. same_at q (suc j) mid lq o le (omega arith));
     }
 
-pub covered : (a : ℕ) (h : Rows) (ks : List Answer) (k : ℕ) → IsMachine a h → Gives h ks → IsCovered a h ks k → Sure a h ks k
+pub covered : (a : ℕ) (h : Rows) (ks : List Answer) (k : ℕ) → IsMachine a h → Gives h ks → SuiteIsKnown a h ks k → Sure a h ks k
 covered a h ks k machine given_h c m machine_m few given_m w word =
     let known : All (IsKnown ks) (suite_of c.whole.access (words_up_to a (k + 1)) c.whole.ends) = subst (All (IsKnown ks)) c.whole.words c.known in
     suite a h m (at a h c.whole.access c.whole.ends c.whole.least c.whole.separating machine) c.whole.ends k machine machine_m few

@@ -38,7 +38,7 @@ pub record IsFirstMissing (a : ℕ) (h : Rows) (ks : List Answer) (k : ℕ) (wor
   pub here : word ≡ slice_index_or suite number []
 
 -- all words of the suite are known
-pub record IsCovered (a : ℕ) (h : Rows) (ks : List Answer) (k : ℕ) : Type 0 where
+pub record SuiteIsKnown (a : ℕ) (h : Rows) (ks : List Answer) (k : ℕ) : Type 0 where
   pub suite : List (List ℕ)
   pub whole : IsSuite a h k suite
   pub known : All (IsKnown ks) suite
@@ -50,7 +50,7 @@ IsVerdict a h ks k (verdict.Alike p q) = AllReached a h × AreFirstAlike a h (p,
 IsVerdict a h ks k (verdict.Differs number place) = IsMinimal a h × DiffersAt h ks number place
 IsVerdict a h ks k (verdict.TooLarge size) = IsMinimal a h × Gives h ks × (greatest_suite < size) × (size ≡ suite_size (length h) a k)
 IsVerdict a h ks k (verdict.Missing word) = IsMinimal a h × Gives h ks × (suite_size (length h) a k ≤ greatest_suite) × IsFirstMissing a h ks k word
-IsVerdict a h ks k verdict.Sure = IsMinimal a h × Gives h ks × (suite_size (length h) a k ≤ greatest_suite) × IsCovered a h ks k
+IsVerdict a h ks k verdict.Sure = IsMinimal a h × Gives h ks × (suite_size (length h) a k ≤ greatest_suite) × SuiteIsKnown a h ks k
 
 -- the completeness of the W-method: where the verdict is that the answers suffice, they do
 abbrev pub SureIsSure : Type 0

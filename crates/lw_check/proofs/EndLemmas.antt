@@ -18,32 +18,32 @@ use Rattle.lw_report.specs.Writing.{TakesSome}
 use Rattle.lw_report.specs.declared.role.Role.TheVariants as role
 use Rattle.lw_report.specs.declared.outcome.Outcome.{Outcome}
 use Rattle.lw_report.specs.declared.outcome.Outcome.TheVariants.{Learned, Trial, Yes, Served, No, Usage, BadFile, Alphabets, FileTooLong, Nondeterministic, NoMemory, SulFailed, Gone, BadLine, BadAsk, TooManyStates, SuiteTooLarge, FileFault, SourceFault, SinkFault, Compared, Asked, Rechecked, UnknownLetter, Unstarted}
-use Rattle.lw_check.specs.Decision.{IsAnswered, IsDecision, Pair, pair_of}
+use Rattle.lw_check.specs.Decision.{IsYesOrNo, IsDecision, Pair, pair_of}
 use Rattle.lw_names.specs.Naming.{Naming}
 use Rattle.lw_check.specs.Ending.{ComesTo, DecidesAs}
 use Rattle.lw_check.specs.Naming.{NamesOutputs, declared_as}
 use Rattle.lw_outside.specs.Streams.{SinkState}
 use Rattle.lw_report.specs.Reading.{TellsFile}
 use Rattle.lw_check.specs.Reading.{IsUnread, ReadsPair}
-use Rattle.lw_check.specs.Telling.{IsTold}
+use Rattle.lw_check.specs.Telling.{OutcomeIsTold}
 use Rattle.lw_check.proofs.DecideLemmas.{one_decision}
 
-pub comes_to : (p : Pair) (extra : ℕ) (out now : SinkState) (decision outcome : Outcome) → (decision ≡ NoMemory) ⊎ IsDecision p extra decision → IsTold decision outcome
+pub comes_to : (p : Pair) (extra : ℕ) (out now : SinkState) (decision outcome : Outcome) → (decision ≡ NoMemory) ⊎ IsDecision p extra decision → OutcomeIsTold decision outcome
     → (outcome ≡ SinkFault → ¬ (decision ≡ SinkFault) → CountedFault out.faults now.faults) → TakesSome (text_of p.inputs p.outputs p.kept extra decision) out.taken now.taken → ComesTo p extra out now outcome
 comes_to p extra out now decision outcome decided told counted some =
     ⊎_elim
     (λ (stands : outcome ≡ decision). ⊎_elim (λ (none : decision ≡ NoMemory). inr (inl (stands ∙ none))) (λ (d : IsDecision p extra decision). inl (subst (IsDecision p extra) (sym stands) d)) decided)
-    (λ (r : (outcome ≡ NoMemory) ⊎ (IsAnswered decision × (outcome ≡ SinkFault))). ⊎_elim
+    (λ (r : (outcome ≡ NoMemory) ⊎ (IsYesOrNo decision × (outcome ≡ SinkFault))). ⊎_elim
     (λ (none : outcome ≡ NoMemory). inr (inl none))
-    (λ (s : IsAnswered decision × (outcome ≡ SinkFault)). ⊎_elim
-    (λ (none : decision ≡ NoMemory). absurd (subst IsAnswered none s.0))
-    (λ (d : IsDecision p extra decision). inr (inr (s.1, counted s.1 (λ e. subst IsAnswered e s.0), (decision, s.0, d, some))))
+    (λ (s : IsYesOrNo decision × (outcome ≡ SinkFault)). ⊎_elim
+    (λ (none : decision ≡ NoMemory). absurd (subst IsYesOrNo none s.0))
+    (λ (d : IsDecision p extra decision). inr (inr (s.1, counted s.1 (λ e. subst IsYesOrNo e s.0), (decision, s.0, d, some))))
     decided)
     r)
     told
 
 -- the names of the outputs, once an outcome was told
-pub still_named : (p : Pair) (decision outcome : Outcome) (outputs : Option Naming) → NamesOutputs p decision outputs → IsTold decision outcome → NamesOutputs p outcome outputs
+pub still_named : (p : Pair) (decision outcome : Outcome) (outputs : Option Naming) → NamesOutputs p decision outputs → OutcomeIsTold decision outcome → NamesOutputs p outcome outputs
 still_named p decision outcome outputs named told =
     ⊎_elim
     (λ (some : outputs ≡ Some (declared_as p.answer_outputs)). inl some)
@@ -54,7 +54,7 @@ still_named p decision outcome outputs named told =
     still none =
         ⊎_elim
         (λ (stands : outcome ≡ decision). stands ∙ none)
-        (λ (r : (outcome ≡ NoMemory) ⊎ (IsAnswered decision × (outcome ≡ SinkFault))). ⊎_elim (λ (e : outcome ≡ NoMemory). e) (λ (s : IsAnswered decision × (outcome ≡ SinkFault)). absurd (subst IsAnswered none s.0)) r)
+        (λ (r : (outcome ≡ NoMemory) ⊎ (IsYesOrNo decision × (outcome ≡ SinkFault))). ⊎_elim (λ (e : outcome ≡ NoMemory). e) (λ (s : IsYesOrNo decision × (outcome ≡ SinkFault)). absurd (subst IsYesOrNo none s.0)) r)
         told
 
 -- where memory runs out in telling a cause, the calls were its calls
@@ -175,9 +175,9 @@ exact_read model answers before now p extra out out_now m a decision outcome r c
     let d' : IsDecision p extra decision = subst (λ (q : Pair). IsDecision q extra decision) e d in
     ⊎_elim
     (λ (o : IsDecision p extra outcome). inl (one_decision p extra outcome decision o d'))
-    (λ (s : (outcome ≡ NoMemory) ⊎ ((outcome ≡ SinkFault) × CountedFault out.faults out_now.faults × ((t : Outcome) × IsAnswered t × IsDecision p extra t × TakesSome (text_of p.inputs p.outputs p.kept extra t) out.taken out_now.taken))). ⊎_elim
+    (λ (s : (outcome ≡ NoMemory) ⊎ ((outcome ≡ SinkFault) × CountedFault out.faults out_now.faults × ((t : Outcome) × IsYesOrNo t × IsDecision p extra t × TakesSome (text_of p.inputs p.outputs p.kept extra t) out.taken out_now.taken))). ⊎_elim
     (λ (none : outcome ≡ NoMemory). inr (inl none))
-    (λ (f : (outcome ≡ SinkFault) × CountedFault out.faults out_now.faults × ((t : Outcome) × IsAnswered t × IsDecision p extra t × TakesSome (text_of p.inputs p.outputs p.kept extra t) out.taken out_now.taken)). inr (inr (inl f.0)))
+    (λ (f : (outcome ≡ SinkFault) × CountedFault out.faults out_now.faults × ((t : Outcome) × IsYesOrNo t × IsDecision p extra t × TakesSome (text_of p.inputs p.outputs p.kept extra t) out.taken out_now.taken)). inr (inr (inl f.0)))
     s)
     comes
 
@@ -185,8 +185,8 @@ pub yes_is_sure : (p : Pair) (extra : ℕ) (out out_now : SinkState) (states : �
 yes_is_sure p extra out out_now states outcome machine comes is =
     ⊎_elim
     (λ (o : IsDecision p extra outcome). let d : IsDecision p extra (Yes states) = subst (IsDecision p extra) is o in sure_is_sure p.mealy.inputs p.mealy.rows (answers_of p.kept) extra machine d.0.2)
-    (λ (s : (outcome ≡ NoMemory) ⊎ ((outcome ≡ SinkFault) × CountedFault out.faults out_now.faults × ((t : Outcome) × IsAnswered t × IsDecision p extra t × TakesSome (text_of p.inputs p.outputs p.kept extra t) out.taken out_now.taken))). ⊎_elim
+    (λ (s : (outcome ≡ NoMemory) ⊎ ((outcome ≡ SinkFault) × CountedFault out.faults out_now.faults × ((t : Outcome) × IsYesOrNo t × IsDecision p extra t × TakesSome (text_of p.inputs p.outputs p.kept extra t) out.taken out_now.taken))). ⊎_elim
     (λ (none : outcome ≡ NoMemory). let no : NoMemory ≡ Yes states = sym none ∙ is in absurd (cc))
-    (λ (f : (outcome ≡ SinkFault) × CountedFault out.faults out_now.faults × ((t : Outcome) × IsAnswered t × IsDecision p extra t × TakesSome (text_of p.inputs p.outputs p.kept extra t) out.taken out_now.taken)). let no : SinkFault ≡ Yes states = sym f.0 ∙ is in absurd (cc))
+    (λ (f : (outcome ≡ SinkFault) × CountedFault out.faults out_now.faults × ((t : Outcome) × IsYesOrNo t × IsDecision p extra t × TakesSome (text_of p.inputs p.outputs p.kept extra t) out.taken out_now.taken)). let no : SinkFault ≡ Yes states = sym f.0 ∙ is in absurd (cc))
     s)
     comes

@@ -7,7 +7,7 @@ use Rattle.lw_json.specs.declared.answers.Answers.{Answers}
 use Rattle.lw_json.specs.declared.machine.Machine.{Machine}
 use Rattle.lw_certify.specs.Sure.{Sure}
 use Rattle.lw_check.specs.Decision.{IsDecision, Pair, pair_of}
-use Rattle.lw_check.specs.Ending.{DecidesAs, EndsRead, EndsUnread}
+use Rattle.lw_check.specs.Ending.{DecidesAs, EndsPairRead, EndsUnread}
 use Rattle.lw_report.specs.Reading.{TellsFile}
 use Rattle.lw_check.specs.Reading.{ReadsPair}
 use Rattle.lw_report.specs.Ends.{IsWithoutLearner}
@@ -23,7 +23,7 @@ pub record IsCheckRun (model answers : List ℕ) (extra : ℕ) (files_before fil
   pub no_learner : IsWithoutLearner end
   pub untouched : files_now.holds ≡ files_before.holds
   pub ended : EndsUnread model answers files_before files_now extra out_before out_now err_before err_now end.outcome end.kept.answers end.outputs ⊎
-      EndsRead model answers files_before files_now extra out_before out_now err_before err_now end.outcome end.kept.answers end.outputs
+      EndsPairRead model answers files_before files_now extra out_before out_now err_before err_now end.outcome end.kept.answers end.outputs
   -- where both files are told, the outcome is their one decision, but that memory, a file or a stream may fail
   pub exact :
       (m : Machine) (a : Answers) (decision : Outcome)

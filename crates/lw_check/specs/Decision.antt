@@ -62,7 +62,7 @@ IsDecided (SuiteTooLarge states number) = Unit {0}
 IsDecided _ = ⊥
 
 -- a yes or a no, whose text goes to `out`
-abbrev pub IsAnswered : Outcome → Type 0
-IsAnswered (Yes states) = Unit {0}
-IsAnswered (No v) = Unit {0}
-IsAnswered _ = ⊥
+abbrev pub IsYesOrNo : Outcome → Type 0
+IsYesOrNo (Yes states) = Unit {0}
+IsYesOrNo (No v) = Unit {0}
+IsYesOrNo _ = ⊥

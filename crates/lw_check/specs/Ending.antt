@@ -4,7 +4,7 @@ use Rattle.lw_words.specs.Cause.{CountedFault}
 use Rattle.lw_words.specs.declared.kept.KeptAnswer.{KeptAnswer}
 use Rattle.lw_names.specs.Naming.{Naming}
 use Rattle.lw_check.specs.Naming.{NamesOutputs}
-use Rattle.lw_check.specs.Decision.{IsAnswered, IsDecision, Pair}
+use Rattle.lw_check.specs.Decision.{IsYesOrNo, IsDecision, Pair}
 use Rattle.lw_check.specs.Reading.{IsUnread, ReadsPair}
 use Rattle.lw_outside.specs.Files.{FilesState}
 use Rattle.lw_outside.specs.Streams.{SinkState}
@@ -29,24 +29,24 @@ abbrev pub ComesTo : Pair → ℕ → SinkState → SinkState → Outcome → Ty
 ComesTo pair extra out out_now outcome =
     IsDecision pair extra outcome
     ⊎ ((outcome ≡ NoMemory)
-    ⊎ ((outcome ≡ SinkFault) × CountedFault out.faults out_now.faults × ((decision : Outcome) × IsAnswered decision × IsDecision pair extra decision × TakesSome (text_of pair.inputs pair.outputs pair.kept extra decision) out.taken out_now.taken)))
+    ⊎ ((outcome ≡ SinkFault) × CountedFault out.faults out_now.faults × ((decision : Outcome) × IsYesOrNo decision × IsDecision pair extra decision × TakesSome (text_of pair.inputs pair.outputs pair.kept extra decision) out.taken out_now.taken)))
 
 -- a pair was read: its answers are kept, and its outputs are named; a yes or a no is put to `out`, without a fault, and nothing to `err`; of any other
 -- outcome but a fault of a stream nothing is put to `out`, and its text goes to `err`, whole where that counts no fault
-pub record EndsRead (model answers : List ℕ) (before now : FilesState) (extra : ℕ) (out out_now err err_now : SinkState) (outcome : Outcome) (kept : List KeptAnswer) (outputs : Option Naming) : Type 0 where
+pub record EndsPairRead (model answers : List ℕ) (before now : FilesState) (extra : ℕ) (out out_now err err_now : SinkState) (outcome : Outcome) (kept : List KeptAnswer) (outputs : Option Naming) : Type 0 where
   pub pair : Pair
   pub read : ReadsPair model answers before now pair
   pub kept_all : kept ≡ pair.kept
   pub named : NamesOutputs pair outcome outputs
   pub comes : ComesTo pair extra out out_now outcome
-  pub quiet : IsAnswered outcome → (out_now.faults ≡ out.faults) × (err_now.faults ≡ err.faults)
-  pub written : IsAnswered outcome → TakesAll
+  pub quiet : IsYesOrNo outcome → (out_now.faults ≡ out.faults) × (err_now.faults ≡ err.faults)
+  pub written : IsYesOrNo outcome → TakesAll
       (text_of pair.inputs pair.outputs pair.kept extra outcome) out.taken out_now.taken ×
       (err_now.taken ≡ err.taken)
-  pub unwritten : ¬ IsAnswered outcome → outcome ≢ SinkFault → out_now.taken ≡ out.taken
-  pub said : ¬ IsAnswered outcome → ¬ CountedFault err.faults err_now.faults →
+  pub unwritten : ¬ IsYesOrNo outcome → outcome ≢ SinkFault → out_now.taken ≡ out.taken
+  pub said : ¬ IsYesOrNo outcome → ¬ CountedFault err.faults err_now.faults →
       TakesAll (text_of pair.inputs pair.outputs pair.kept extra outcome) err.taken err_now.taken
-  pub said_part : ¬ IsAnswered outcome → TakesSome
+  pub said_part : ¬ IsYesOrNo outcome → TakesSome
       (text_of pair.inputs pair.outputs pair.kept extra outcome) err.taken err_now.taken
 
 -- where files are told, the outcome is their decision, or a fault or memory came between

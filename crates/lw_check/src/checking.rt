@@ -4,13 +4,13 @@ ghost use Rattle.lw_json.specs.AnswersFile.{IsAnswersFile};
 ghost use Rattle.lw_json.specs.MachineFile.{IsMachineFile};
 ghost use Rattle.lw_json.specs.declared.answers.Answers.{Answers as Given};
 ghost use Rattle.lw_json.specs.declared.machine.Machine.{Machine as Model};
-ghost use Rattle.lw_check.specs.Decision.{IsAnswered, IsDecision, Pair, pair_of};
+ghost use Rattle.lw_check.specs.Decision.{IsYesOrNo, IsDecision, Pair, pair_of};
 ghost use Rattle.lw_words.specs.Cause.{CountedFault};
 ghost use Rattle.lw_report.specs.Text.{text_of};
 ghost use Rattle.lw_report.specs.Writing.{TakesAll, TakesSome};
 ghost use Rattle.lw_check.specs.Naming.{NamesOutputs};
 ghost use Rattle.lw_check.specs.CheckRun.{IsCheckRun};
-ghost use Rattle.lw_check.specs.Ending.{ComesTo, DecidesAs, EndsRead, EndsUnread};
+ghost use Rattle.lw_check.specs.Ending.{ComesTo, DecidesAs, EndsPairRead, EndsUnread};
 ghost use Rattle.lw_report.specs.Reading.{TellsFile};
 ghost use Rattle.lw_check.specs.Reading.{ReadsPair};
 ghost use Rattle.lw_mealy.specs.Limits.{IsWithinLimits};
@@ -47,20 +47,20 @@ fn finish<O: Sink, E: Sink>(
     ensures complete { IsWithinLimits machine.mealy }
     ensures comes { ComesTo (pair_of machine answers) extra (O.state out.old) (O.state out.new)
         result.outcome }
-    ensures written { IsAnswered result.outcome →
+    ensures written { IsYesOrNo result.outcome →
         TakesAll (text_of machine.inputs machine.outputs answers.kept.answers extra
         result.outcome) (O.state out.old).taken (O.state out.new).taken ×
         ((E.state err.new).taken ≡ (E.state err.old).taken) }
-    ensures said { ¬ IsAnswered result.outcome → ¬ CountedFault (E.state err.old).faults
+    ensures said { ¬ IsYesOrNo result.outcome → ¬ CountedFault (E.state err.old).faults
         (E.state err.new).faults →
         TakesAll (text_of machine.inputs machine.outputs answers.kept.answers extra
         result.outcome) (E.state err.old).taken (E.state err.new).taken }
-    ensures said_part { ¬ IsAnswered result.outcome →
+    ensures said_part { ¬ IsYesOrNo result.outcome →
         TakesSome (text_of machine.inputs machine.outputs answers.kept.answers extra
         result.outcome) (E.state err.old).taken (E.state err.new).taken }
-    ensures unwritten { ¬ IsAnswered result.outcome → result.outcome ≢ Came.SinkFault →
+    ensures unwritten { ¬ IsYesOrNo result.outcome → result.outcome ≢ Came.SinkFault →
         (O.state out.new).taken ≡ (O.state out.old).taken }
-    ensures quiet { IsAnswered result.outcome →
+    ensures quiet { IsYesOrNo result.outcome →
         ((O.state out.new).faults ≡ (O.state out.old).faults) ×
         ((E.state err.new).faults ≡ (E.state err.old).faults) }
     ensures counts { ((O.state out.old).faults ≤ (O.state out.new).faults) ×

@@ -1,8 +1,8 @@
 //! What the command writes.
 ghost use Rattle.std.specs.Prelude.{◌≡◌, ◌≢◌, ◌⊎◌, ◌≤◌, true, false};
 ghost use Rattle.lw_words.specs.Cause.{CountedFault};
-ghost use Rattle.lw_check.specs.Decision.{IsAnswered};
-ghost use Rattle.lw_check.specs.Telling.{IsTold};
+ghost use Rattle.lw_check.specs.Decision.{IsYesOrNo};
+ghost use Rattle.lw_check.specs.Telling.{OutcomeIsTold};
 ghost use Rattle.lw_report.specs.Text.{text_of};
 ghost use Rattle.lw_report.specs.Writing.{TakesAll, TakesSome};
 ghost use Rattle.lw_report.specs.declared.outcome.Outcome.{Outcome as Came};
@@ -15,8 +15,8 @@ use std::alloc::Global;
 
 /// Whether an outcome is a yes or a no.
 fn is_answered(outcome: &Outcome) -> bool
-    ensures yes { result ≡ true → IsAnswered outcome.now }
-    ensures no { result ≡ false → ¬ IsAnswered outcome.now }
+    ensures yes { result ≡ true → IsYesOrNo outcome.now }
+    ensures no { result ≡ false → ¬ IsYesOrNo outcome.now }
 {
     match outcome {
         Outcome::Yes { .. } | Outcome::No(_) => true,
@@ -34,27 +34,27 @@ pub(crate) fn tell<O: Sink, E: Sink>(
     out: &mut O,
     err: &mut E,
 ) -> Outcome
-    ensures outcome { IsTold outcome result }
+    ensures outcome { OutcomeIsTold outcome result }
     ensures refused { result ≡ Came.SinkFault → ¬ (outcome ≡ Came.SinkFault) →
         CountedFault (O.state out.old).faults (O.state out.new).faults }
-    ensures written { IsAnswered result →
+    ensures written { IsYesOrNo result →
         TakesAll (text_of machine.now.inputs machine.now.outputs kept.now.answers extra result)
         (O.state out.old).taken (O.state out.new).taken }
     ensures part { TakesSome (text_of machine.now.inputs machine.now.outputs kept.now.answers
         extra outcome) (O.state out.old).taken (O.state out.new).taken }
-    ensures unwritten { ¬ IsAnswered result → result ≢ Came.SinkFault → (O.state out.new).taken ≡
+    ensures unwritten { ¬ IsYesOrNo result → result ≢ Came.SinkFault → (O.state out.new).taken ≡
         (O.state out.old).taken }
-    ensures quiet { IsAnswered result → ((O.state out.new).faults ≡ (O.state out.old).faults) ×
+    ensures quiet { IsYesOrNo result → ((O.state out.new).faults ≡ (O.state out.old).faults) ×
         ((E.state err.new).faults ≡ (E.state err.old).faults) }
-    ensures left { ¬ IsAnswered outcome → (O.state out.new).taken ≡ (O.state out.old).taken }
-    ensures said { ¬ IsAnswered result → ¬ CountedFault (E.state err.old).faults
+    ensures left { ¬ IsYesOrNo outcome → (O.state out.new).taken ≡ (O.state out.old).taken }
+    ensures said { ¬ IsYesOrNo result → ¬ CountedFault (E.state err.old).faults
         (E.state err.new).faults →
         TakesAll (text_of machine.now.inputs machine.now.outputs kept.now.answers extra result)
         (E.state err.old).taken (E.state err.new).taken }
-    ensures said_part { ¬ IsAnswered result →
+    ensures said_part { ¬ IsYesOrNo result →
         TakesSome (text_of machine.now.inputs machine.now.outputs kept.now.answers extra result)
         (E.state err.old).taken (E.state err.new).taken }
-    ensures silent { IsAnswered result → (E.state err.new).taken ≡ (E.state err.old).taken }
+    ensures silent { IsYesOrNo result → (E.state err.new).taken ≡ (E.state err.old).taken }
     ensures counts { ((O.state out.old).faults ≤ (O.state out.new).faults) ×
         ((E.state err.old).faults ≤ (E.state err.new).faults) }
 {

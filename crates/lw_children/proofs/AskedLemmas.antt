@@ -7,7 +7,7 @@ use Rattle.lw_rounds.specs.declared.stops.LearnStop.{LearnStop}
 use Rattle.lw_renumber.specs.Sorting.{renamed_learned}
 use Rattle.lw_workers.specs.Asking.{AnswersWords}
 use Rattle.lw_workers.proofs.AskingLemmas.{answered_by_words}
-use Rattle.lw_children.specs.Cuts.{IsStopOf}
+use Rattle.lw_children.specs.Cuts.{IsStopOfInstance}
 use Rattle.lw_workers.specs.declared.outcome.CutRun.{CutRun}
 
 words_stay : (to : List ℕ) (ks : List KeptAnswer) → map (λ k. k.word) ks ≡ map (λ k. k.word) (renumbered_answers to ks)
@@ -33,10 +33,10 @@ pub asked_never : (words : List (List ℕ)) (r : Result Learned LearnStop) (stop
 asked_never words r stop ks is = subst (λ (r : Result Learned LearnStop). OnOk r (AnswersWords words ks)) (sym is) tt
 
 -- a stop stays
-pub cut_sorted : (n : ℕ) (f : ℕ → ℕ) (was is : Result Learned LearnStop) (cut : Option CutRun) → is ≡ renamed_learned n f was → IfSome cut (λ run. IsStopOf run.instance was) → IfSome cut (λ run. IsStopOf run.instance is)
+pub cut_sorted : (n : ℕ) (f : ℕ → ℕ) (was is : Result Learned LearnStop) (cut : Option CutRun) → is ≡ renamed_learned n f was → IfSome cut (λ run. IsStopOfInstance run.instance was) → IfSome cut (λ run. IsStopOfInstance run.instance is)
 cut_sorted n f was is None same stopped = tt
 cut_sorted n f was is (Some run) same (stop, by) = (stop, same ∙ ap (λ (r : Result Learned LearnStop). renamed_learned n f r) by)
 
 -- nothing was cut off
-pub cut_never : (r : Result Learned LearnStop) (cut : Option CutRun) → cut ≡ None → IfSome cut (λ run. IsStopOf run.instance r)
-cut_never r cut is = subst (λ (cut : Option CutRun). IfSome cut (λ run. IsStopOf run.instance r)) (sym is) tt
+pub cut_never : (r : Result Learned LearnStop) (cut : Option CutRun) → cut ≡ None → IfSome cut (λ run. IsStopOfInstance run.instance r)
+cut_never r cut is = subst (λ (cut : Option CutRun). IfSome cut (λ run. IsStopOfInstance run.instance r)) (sym is) tt

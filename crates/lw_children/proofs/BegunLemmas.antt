@@ -5,14 +5,14 @@ use Rattle.std.proofs.lemmas.List.{get_or_append_left, length_push, get_or_push}
 use Rattle.lw_sul.specs.SessionState.{SessionState}
 use Rattle.lw_outside.specs.Links.{LinkState, SpawnerState}
 use Rattle.lw_line.specs.LineState.{LineState}
-use Rattle.lw_children.specs.Spawners.{Starts}
+use Rattle.lw_children.specs.Spawners.{StartsLinks}
 use Rattle.lw_children.specs.Crews.{AreEarlier, HasBegun, IsLoose, new_session}
 
 module _ {L : Type 0} (state : L → LinkState) (letters : List (List ℕ)) (outputs : Option (List (List ℕ))) where
   pub none_begun : (before : SpawnerState) → HasBegun state letters outputs before [] None
   none_begun before = record { new = λ i d lt. absurd (omega (arith, lt)); loose_is = tt; earlier = λ lt. absurd (omega (arith, lt)) }
 
-  module _ (words : List (List ℕ)) (before between : SpawnerState) (sessions : List (SessionState (LineState L))) (begun : HasBegun state letters outputs before sessions None) (starts : Starts words before between (length sessions)) where
+  module _ (words : List (List ℕ)) (before between : SpawnerState) (sessions : List (SessionState (LineState L))) (begun : HasBegun state letters outputs before sessions None) (starts : StartsLinks words before between (length sessions)) where
     -- what was retired before was started before
     earlier_too : AreEarlier between.retired between.started → (n : ℕ) → n ≡ length sessions → AreEarlier before.retired before.started
     earlier_too then zero is = subst₂ (λ (rs : List LinkState) (k : ℕ). AreEarlier rs k) starts.retired (omega (arith, starts.started, is)) then

@@ -33,10 +33,10 @@ use Rattle.lw_workers.specs.Leaving.{HasLearned}
 use Rattle.lw_workers.proofs.MachineLemmas.{no_clash_came, reached}
 use Rattle.lw_children.specs.Children.{IsCausedBy, IsOfChildren, IsSound, IsStopped, LeavesNothing}
 use Rattle.lw_line.specs.Causes.{IsTranscriptOf}
-use Rattle.lw_children.specs.Keeping.{KeepsChildren, count_of, most_of}
+use Rattle.lw_children.specs.Keeping.{KeepsChildren, count_of, most_outputs_of}
 use Rattle.lw_line.specs.LineState.{AreFree, AreToldIfFree, IsNaming, LineState, told_runs}
-use Rattle.lw_children.specs.Spawners.{Starts, StartsAndRetires, StartsSome}
-use Rattle.lw_children.specs.Crews.{AreLinkedWith, AreLinked, AreNew, BearsOut, FitsOutputs, HasBegun, HasRetired, IsChildSeen, IsChildrenPool, IsLoose, RetiresAll, RetiresWith, child_member, count_link, first_names, first_naming, has_number, line_seen, loose_records, new_session}
+use Rattle.lw_children.specs.Spawners.{StartsLinks, StartsAndRetires, StartsSome}
+use Rattle.lw_children.specs.Crews.{AreLinkedWith, AreLinked, AreNewSessions, BearsOut, FitsOutputs, HasBegun, HasRetired, IsChildSeen, IsChildrenPool, IsLoose, RetiresAll, RetiresWith, child_member, count_link, first_names, first_naming, has_number, line_seen, loose_records, new_session}
 use Rattle.lw_children.specs.bodies.Ends.{AreChildEnds, IsChildEnd, broken_stop}
 use Rattle.lw_children.specs.declared.starting.Refusal.{Refusal}
 use Rattle.lw_children.specs.declared.starting.Refusal.TheVariants.{Failed, NoMemory}
@@ -79,24 +79,24 @@ started_retired words before mid now n links some started retired faults command
   each = ⊎_elim (λ (e : some.starts ≡ n). inl (e ∙ sym count)) (λ (e : (some.starts ≡ n + 1) × CountedFault before.faults mid.faults). inr (omega (arith, e.0, count), subst (λ (k : ℕ). CountedFault before.faults k) (sym faults) e.1)) some.each;
 }
 
-fits_declared : (outputs : Option (List (List ℕ))) → FitsOutputs outputs (first_names outputs) (most_of outputs) (count_of outputs)
+fits_declared : (outputs : Option (List (List ℕ))) → FitsOutputs outputs (first_names outputs) (most_outputs_of outputs) (count_of outputs)
 fits_declared None = (refl, omega arith)
 fits_declared (Some names) = (refl, refl)
 
-named_first : (outputs : Option (List (List ℕ))) → IsNaming (first_names outputs) (most_of outputs) (count_of outputs)
+named_first : (outputs : Option (List (List ℕ))) → IsNaming (first_names outputs) (most_outputs_of outputs) (count_of outputs)
 named_first None = inl (refl, refl)
 named_first (Some names) = inr (refl, refl)
 
-differ_first : (outputs : Option (List (List ℕ))) → AreFree (most_of outputs) (count_of outputs) → AllDiffer (first_names outputs)
+differ_first : (outputs : Option (List (List ℕ))) → AreFree (most_outputs_of outputs) (count_of outputs) → AllDiffer (first_names outputs)
 differ_first None free = λ i j d lt within. absurd (omega (arith, within))
 differ_first (Some names) free = absurd (omega (arith, free.0, free.1))
 
-told_first : (outputs : Option (List (List ℕ))) (told : Option Transcript) → AreToldIfFree (first_names outputs) (most_of outputs) (count_of outputs) told
+told_first : (outputs : Option (List (List ℕ))) (told : Option Transcript) → AreToldIfFree (first_names outputs) (most_outputs_of outputs) (count_of outputs) told
 told_first outputs None free = tt
 told_first None (Some t) free = λ i d lt. absurd (omega (arith, lt))
 told_first (Some names) (Some t) free = absurd (omega (arith, free.0, free.1))
 
-few_first : (outputs : Option (List (List ℕ))) → length (first_names outputs) ≤ most_of outputs
+few_first : (outputs : Option (List (List ℕ))) → length (first_names outputs) ≤ most_outputs_of outputs
 few_first None = omega arith
 few_first (Some names) = omega arith
 
@@ -140,7 +140,7 @@ module _ {L : Type 0} (state : L → LinkState) (letters : List (List ℕ)) (out
       letters = letters;
       origin = refl;
       counted = tt;
-      told = untouched_is letters (first_names outputs) (most_of outputs) (state l).faults (state l).transcript is;
+      told = untouched_is letters (first_names outputs) (most_outputs_of outputs) (state l).faults (state l).transcript is;
       few = few_first outputs;
       naming = named_first outputs;
       differ = differ_first outputs;
@@ -273,7 +273,7 @@ given_up kind state words letters outputs workers k most prior before mid now na
         (omega (arith, count, ap (λ (o : Option _). count_link o) f.0)) (subst (λ (n : ℕ). CountedFault before.faults n) (sym (retires.faults_same ∙ retires.first.faults)) f.1)
     by NoMemory failed is = out_of_memory kind words letters outputs workers k most prior before now naming may links spawner (omega (arith, count, few)) ended learned kept names is kept_is names_are
 
-module _ {L : Type 0} (state : L → LinkState) (words letters : List (List ℕ)) (outputs : Option (List (List ℕ))) (workers : ℕ) (before mid : SpawnerState) (sessions : List (SessionState (LineState L))) (begun : HasBegun state letters outputs before sessions None) (starts : Starts words before mid workers) (count : length sessions ≡ workers) where
+module _ {L : Type 0} (state : L → LinkState) (words letters : List (List ℕ)) (outputs : Option (List (List ℕ))) (workers : ℕ) (before mid : SpawnerState) (sessions : List (SessionState (LineState L))) (begun : HasBegun state letters outputs before sessions None) (starts : StartsLinks words before mid workers) (count : length sessions ≡ workers) where
   earlier_all : 0 < length sessions → All (λ r. r.number < before.started) mid.retired
   earlier_all lt = subst (λ (rs : List LinkState). All (λ r. r.number < before.started) rs) (sym starts.retired) (begun.earlier (omega (arith, lt)))
 
@@ -324,7 +324,7 @@ module _ {L : Type 0} (state : L → LinkState) (words letters : List (List ℕ)
           retires.faults retires.commands counted (numbers_rise letters outputs naming.names [] before.started links ended)
 
 -- a learning over a pool of children that were all started
-module _ {L : Type 0} (kind : Kind) (state : L → LinkState) (words letters : List (List ℕ)) (outputs : Option (List (List ℕ))) (workers k most : ℕ) (prior : List KeptAnswer) (before mid now : SpawnerState) (sessions : List (SessionState (LineState L))) (new : AreNew state letters outputs before.started sessions) (starts : Starts words before mid workers) (count : length sessions ≡ workers)
+module _ {L : Type 0} (kind : Kind) (state : L → LinkState) (words letters : List (List ℕ)) (outputs : Option (List (List ℕ))) (workers k most : ℕ) (prior : List KeptAnswer) (before mid now : SpawnerState) (sessions : List (SessionState (LineState L))) (new : AreNewSessions state letters outputs before.started sessions) (starts : StartsLinks words before mid workers) (count : length sessions ≡ workers)
     (pool : PoolState (LineState L)) (members : map (child_member state) sessions ≡ pool.members) (naming_is : pool.naming ≡ first_naming outputs) (prior_is : pool.prior ≡ prior) (inputs_is : pool.inputs ≡ length letters) (outputs_is : pool.outputs ≡ count_of outputs) (unrefused : pool.refused ≡ false)
     (learned : Result Learned LearnStop) (kept : List KeptAnswer) (naming : Naming) (ended : HasRetired kind state k most pool mid now learned kept naming) where
   abbrev left : PoolState (LineState L)

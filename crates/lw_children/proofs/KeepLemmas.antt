@@ -10,9 +10,9 @@ use Rattle.lw_sul.specs.declared.runs.Run.{Run}
 use Rattle.lw_outside.specs.Links.{LinkState, Transcript}
 use Rattle.lw_desk.specs.Ending.{kept_runs}
 use Rattle.lw_pool.specs.Pool.{Seen, journal_runs}
-use Rattle.lw_line.specs.Causes.{EndsWithin, IsCounted, IsCovered, IsRefused, IsSpelled, IsTranscriptOf}
+use Rattle.lw_line.specs.Causes.{EndsWithin, StopIsCounted, TranscriptIsCovered, IsRefusedLine, IsSpelled, IsTranscriptOf}
 use Rattle.lw_children.specs.Children.{HasRefused, IfTold, IsSound, IsStopped}
-use Rattle.lw_children.specs.Keeping.{AreFinished, AreOwn, IsBroken, KeepsTold, most_of}
+use Rattle.lw_children.specs.Keeping.{AreFinished, AreOwn, IsBroken, KeepsTold, most_outputs_of}
 use Rattle.lw_line.specs.LineState.{AreFree, AreToldIfFree, IsNaming, told_runs}
 use Rattle.lw_line.specs.Transcripts.{BreaksIn, SpellsAll, spelled}
 use Rattle.lw_children.specs.Crews.{BearsOut, FitsOutputs, IsChildSeen}
@@ -25,7 +25,7 @@ some_is : {X : Type 0} (x a b : X) → Some a ≡ Some b → a ≡ b
 some_is x a b same = ap (some_by x) same
 
 -- the names that a child gave, and how many they may be
-most_is : (outputs : Option (List (List ℕ))) (names : List (List ℕ)) (most count : ℕ) → FitsOutputs outputs names most count → IsNaming names most count → most ≡ most_of outputs
+most_is : (outputs : Option (List (List ℕ))) (names : List (List ℕ)) (most count : ℕ) → FitsOutputs outputs names most count → IsNaming names most count → most ≡ most_outputs_of outputs
 most_is None names most count fits naming = ⊎_elim (λ (e : AreFree most count). e.0) (λ (e : (most ≡ length names) × (count ≡ length names)). absurd (omega (arith, e.0, e.1, fits.0, fits.1))) naming
 most_is (Some declared) names most count fits naming = fits.1
 
@@ -35,19 +35,19 @@ own_names_are None names most count (Some t) fits few naming differ are =
     let free : AreFree most count = (most_is None names most count fits naming, fits.0) in (omega (arith, few, fits.1), differ free, are free)
 own_names_are (Some declared) names most count (Some t) fits few naming differ are = fits.0
 
-module _ (letters : List (List ℕ)) (outputs : Option (List (List ℕ))) (names : List (List ℕ)) (i : ℕ) (since : List KeptAnswer) (r : LinkState) (own : List (List ℕ)) (most : ℕ) (most_is : most ≡ most_of outputs) where
-  broken : (t : Transcript) (stop : SulStop) → IsCounted r.faults r.ends (Some stop) → IsSpelled own most t (Some stop) → IsBroken own (most_of outputs) r t
+module _ (letters : List (List ℕ)) (outputs : Option (List (List ℕ))) (names : List (List ℕ)) (i : ℕ) (since : List KeptAnswer) (r : LinkState) (own : List (List ℕ)) (most : ℕ) (most_is : most ≡ most_outputs_of outputs) where
+  broken : (t : Transcript) (stop : SulStop) → StopIsCounted r.faults r.ends (Some stop) → IsSpelled own most t (Some stop) → IsBroken own (most_outputs_of outputs) r t
   broken t Failed counted spelled = inl counted
   broken t Gone counted spelled = inr (inl counted)
-  broken t (BadLine line) counted spelled = inr (inr (line, subst (λ (n : ℕ). IsRefused own n t line) most_is spelled))
+  broken t (BadLine line) counted spelled = inr (inr (line, subst (λ (n : ℕ). IsRefusedLine own n t line) most_is spelled))
 
-  ends : (t : Transcript) (runs : List Run) (stop : Option SulStop) (cut : Bool) → IsCounted r.faults r.ends stop → IsSpelled own most t stop → IsCovered letters own r.faults t stop cut → IsJournal (Some (spelled letters own t)) runs stop cut
-      → (SpellsAll letters own t × (spelled letters own t ≡ runs)) ⊎ (IsBroken own (most_of outputs) r t × ((c : Bool) × BreaksIn letters own r.faults c t × AreFinished c (spelled letters own t) runs))
+  ends : (t : Transcript) (runs : List Run) (stop : Option SulStop) (cut : Bool) → StopIsCounted r.faults r.ends stop → IsSpelled own most t stop → TranscriptIsCovered letters own r.faults t stop cut → IsJournal (Some (spelled letters own t)) runs stop cut
+      → (SpellsAll letters own t × (spelled letters own t ≡ runs)) ⊎ (IsBroken own (most_outputs_of outputs) r t × ((c : Bool) × BreaksIn letters own r.faults c t × AreFinished c (spelled letters own t) runs))
   ends t runs None cut counted told covered journal = inl (covered, journal)
   ends t runs (Some stop) false counted told covered journal = inr (broken t stop counted told, (false, covered, journal))
   ends t runs (Some stop) true counted told covered journal = inr (broken t stop counted told, (true, covered, journal))
 
-  keeps_told : (told : Option Transcript) (runs : List Run) (stop : Option SulStop) (cut : Bool) → IfTold (AreOwn outputs own) told → IsCounted r.faults r.ends stop → IsTranscriptOf letters own most r.faults stop cut told → IsJournal (told_runs letters own told) runs stop cut → kept_runs names i since ≡ journal_runs own 0 runs → KeepsTold letters outputs names i since r told
+  keeps_told : (told : Option Transcript) (runs : List Run) (stop : Option SulStop) (cut : Bool) → IfTold (AreOwn outputs own) told → StopIsCounted r.faults r.ends stop → IsTranscriptOf letters own most r.faults stop cut told → IsJournal (told_runs letters own told) runs stop cut → kept_runs names i since ≡ journal_runs own 0 runs → KeepsTold letters outputs names i since r told
   keeps_told None runs stop cut owns counted told journal kept = tt
   keeps_told (Some t) runs stop cut owns counted told journal kept = record {
     proper = told.0;
@@ -58,7 +58,7 @@ module _ (letters : List (List ℕ)) (outputs : Option (List (List ℕ))) (names
     ends = ends t runs stop cut counted told.1 told.2 journal;
   }
 
-  stopped_told : (told : Option Transcript) (stop : SulStop) (cut : Bool) → IfTold (AreOwn outputs own) told → IsCounted r.faults r.ends (Some stop) → IsTranscriptOf letters own most r.faults (Some stop) cut told → r.transcript ≡ told → IsStopped outputs stop r
+  stopped_told : (told : Option Transcript) (stop : SulStop) (cut : Bool) → IfTold (AreOwn outputs own) told → StopIsCounted r.faults r.ends (Some stop) → IsTranscriptOf letters own most r.faults (Some stop) cut told → r.transcript ≡ told → IsStopped outputs stop r
   stopped_told told Failed cut owns counted is same = counted
   stopped_told told Gone cut owns counted is same = (counted, subst (IfTold EndsWithin) (sym same) (by told is))
     where
@@ -69,7 +69,7 @@ module _ (letters : List (List ℕ)) (outputs : Option (List (List ℕ))) (names
     where
       by : (told : Option Transcript) → IfTold (AreOwn outputs own) told → IsTranscriptOf letters own most r.faults (Some (BadLine line)) cut told → IfTold (HasRefused outputs line) told
       by None owns is = tt
-      by (Some t) owns is = (own, owns, subst (λ (n : ℕ). IsRefused own n t line) most_is is.1)
+      by (Some t) owns is = (own, owns, subst (λ (n : ℕ). IsRefusedLine own n t line) most_is is.1)
 
 -- a record that bears out what is seen of a child's session
 module _ (letters : List (List ℕ)) (outputs : Option (List (List ℕ))) (n : ℕ) (s : Seen) (r : LinkState) (seen : IsChildSeen letters outputs n s) (bears : BearsOut s r) where
@@ -85,7 +85,7 @@ module _ (letters : List (List ℕ)) (outputs : Option (List (List ℕ))) (n : �
   pub own : IfTold (AreOwn outputs s.names) r.transcript
   own = own_names_are outputs s.names s.most s.outputs r.transcript seen.fits bears.few bears.naming bears.differ bears.told_names
 
-  most_so : s.most ≡ most_of outputs
+  most_so : s.most ≡ most_outputs_of outputs
   most_so = most_is outputs s.names s.most s.outputs seen.fits bears.naming
 
   pub told : IsTranscriptOf letters s.names s.most r.faults s.stop bears.cut r.transcript
@@ -98,7 +98,7 @@ module _ (letters : List (List ℕ)) (outputs : Option (List (List ℕ))) (n : �
 
   pub stopped_link : (stop : SulStop) → s.stop ≡ Some stop → IsStopped outputs stop r
   stopped_link stop is =
-      stopped_told letters outputs [] 0 [] r s.names s.most most_so r.transcript stop bears.cut own (subst (IsCounted r.faults r.ends) is bears.counted) (subst (λ (o : Option SulStop). IsTranscriptOf letters s.names s.most r.faults o bears.cut r.transcript) is told) refl
+      stopped_told letters outputs [] 0 [] r s.names s.most most_so r.transcript stop bears.cut own (subst (StopIsCounted r.faults r.ends) is bears.counted) (subst (λ (o : Option SulStop). IsTranscriptOf letters s.names s.most r.faults o bears.cut r.transcript) is told) refl
 
 -- a child whose link is sound did not stop
 pub sound_goes_on : (outputs : Option (List (List ℕ))) (r : LinkState) (stop : SulStop) → IsSound outputs r → ¬ IsStopped outputs stop r

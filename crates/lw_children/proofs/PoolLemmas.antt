@@ -15,9 +15,9 @@ use Rattle.lw_pool.specs.Sharing.{declared_by}
 use Rattle.lw_pool.proofs.JoinLemmas.{declared_shared}
 use Rattle.lw_workers.specs.Leaving.{HasLearned}
 use Rattle.lw_outside.specs.Links.{LinkState}
-use Rattle.lw_children.specs.Keeping.{count_of, most_of}
+use Rattle.lw_children.specs.Keeping.{count_of, most_outputs_of}
 use Rattle.lw_line.specs.LineState.{LineState}
-use Rattle.lw_children.specs.Crews.{AreNew, FitsOutputs, IsChildSeen, child_member, first_names, first_naming, line_seen, new_session}
+use Rattle.lw_children.specs.Crews.{AreNewSessions, FitsOutputs, IsChildSeen, child_member, first_names, first_naming, line_seen, new_session}
 
 none_brought : (n i : ℕ) → get_or {A = List (List ℕ)} (replicate n []) i [] ≡ []
 none_brought zero i = refl
@@ -38,7 +38,7 @@ own_first : (outputs : Option (List (List ℕ))) (i : ℕ) → first_names outpu
 own_first None i = sym (none_brought 16 i)
 own_first (Some names) i = refl
 
-fits_first : (outputs : Option (List (List ℕ))) → Fits (first_naming outputs) (first_names outputs) (most_of outputs) (count_of outputs) None
+fits_first : (outputs : Option (List (List ℕ))) → Fits (first_naming outputs) (first_names outputs) (most_outputs_of outputs) (count_of outputs) None
 fits_first None = (refl, omega arith, refl)
 fits_first (Some names) = (refl, refl, refl)
 
@@ -60,7 +60,7 @@ module _ {L : Type 0} (state : L → LinkState) where
   abbrev seens : List (Member (LineState L)) → List Seen
   seens ms = map (λ m. m.seen) ms
 
-  pub children_join : (letters : List (List ℕ)) (outputs : Option (List (List ℕ))) (base : ℕ) (naming : Naming) (inputs count : ℕ) (sessions : List (SessionState (LineState L))) → AreNew state letters outputs base sessions → naming ≡ first_naming outputs → inputs ≡ length letters → count ≡ count_of outputs → AllMayJoin (child_member state) naming inputs count sessions
+  pub children_join : (letters : List (List ℕ)) (outputs : Option (List (List ℕ))) (base : ℕ) (naming : Naming) (inputs count : ℕ) (sessions : List (SessionState (LineState L))) → AreNewSessions state letters outputs base sessions → naming ≡ first_naming outputs → inputs ≡ length letters → count ≡ count_of outputs → AllMayJoin (child_member state) naming inputs count sessions
   children_join letters outputs base naming inputs count sessions new naming_is inputs_is count_is i d lt =
       let s = get_or sessions i d in
       subst (λ (x : SessionState (LineState L)). MayJoin naming inputs count i ((child_member state) x).seen) (sym (new i d lt).0)
@@ -88,7 +88,7 @@ module _ {L : Type 0} (state : L → LinkState) where
 
   -- what is seen of the sessions of children once a learning over them has ended
   pub children_seen : (letters : List (List ℕ)) (outputs : Option (List (List ℕ))) (base : ℕ) (sessions later : List (SessionState (LineState L))) (before now : PoolState (LineState L)) (stop : Option AskStop)
-      → AreNew state letters outputs base sessions → map (child_member state) sessions ≡ before.members → before.naming ≡ first_naming outputs → HasLearned before now stop → map (child_member state) later ≡ now.members
+      → AreNewSessions state letters outputs base sessions → map (child_member state) sessions ≡ before.members → before.naming ≡ first_naming outputs → HasLearned before now stop → map (child_member state) later ≡ now.members
       → (length later ≡ length sessions) × ((i : ℕ) (d : SessionState (LineState L)) → i < length later → IsChildSeen letters outputs (base + i) (line_seen state (get_or later i d)))
   children_seen letters outputs base sessions later before now stop new was naming_is learned are = (count, each)
     where

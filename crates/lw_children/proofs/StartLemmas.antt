@@ -6,14 +6,14 @@ use Rattle.lw_outside.specs.Links.{with_start, SpawnerState}
 use Rattle.lw_outside.specs.declared.links.StartStop.{StartStop}
 use Rattle.lw_outside.specs.declared.links.StartStop.TheVariants as start
 use Rattle.lw_children.specs.Crews.{count_link}
-use Rattle.lw_children.specs.Spawners.{Starts, StartsSome, with_starts}
+use Rattle.lw_children.specs.Spawners.{StartsLinks, StartsSome, with_starts}
 
 no_more : (words : List (List ℕ)) (commands : Option (List (List (List ℕ)))) → commands ≡ with_starts 0 words commands
 no_more words None = refl
 no_more words (Some cs) = ap (λ (l : List (List (List ℕ))). Some l) (sym (append-nil cs))
 
 -- a start that was answered with a link
-pub one_started : (words given : List (List ℕ)) (before now : SpawnerState) → given ≡ words → now.started ≡ before.started + 1 → now.retired ≡ before.retired → now.faults ≡ before.faults → now.commands ≡ with_start given before.commands → Starts words before now 1
+pub one_started : (words given : List (List ℕ)) (before now : SpawnerState) → given ≡ words → now.started ≡ before.started + 1 → now.retired ≡ before.retired → now.faults ≡ before.faults → now.commands ≡ with_start given before.commands → StartsLinks words before now 1
 one_started words given before now same started retired faults commands = record {
   started = started;
   retired = retired;
@@ -21,7 +21,7 @@ one_started words given before now same started retired faults commands = record
   commands = commands ∙ ap (λ (w : List (List ℕ)). with_start w before.commands) same;
 }
 
-pub quietly_some : (words : List (List ℕ)) (before now : SpawnerState) (n : ℕ) → Starts words before now n → StartsSome words before now n
+pub quietly_some : (words : List (List ℕ)) (before now : SpawnerState) (n : ℕ) → StartsLinks words before now n → StartsSome words before now n
 quietly_some words before now n s = record {
   started = s.started;
   retired = s.retired;
@@ -65,7 +65,7 @@ more_commands m n words None = refl
 more_commands m n words (Some cs) = ap (λ (l : List (List (List ℕ))). Some l) (append_assoc cs (replicate m words) (replicate n words) ∙ ap (λ (l : List (List (List ℕ))). cs ++ l) (replicate-append-replicate m n words))
 
 -- starts after starts of which none failed
-pub then_starts : (words : List (List ℕ)) (before between now : SpawnerState) (m n : ℕ) → Starts words before between m → Starts words between now n → Starts words before now (m + n)
+pub then_starts : (words : List (List ℕ)) (before between now : SpawnerState) (m n : ℕ) → StartsLinks words before between m → StartsLinks words between now n → StartsLinks words before now (m + n)
 then_starts words before between now m n some more = record {
   started = omega (arith, some.started, more.started);
   retired = more.retired ∙ some.retired;
@@ -73,7 +73,7 @@ then_starts words before between now m n some more = record {
   commands = more.commands ∙ (ap (with_starts n words) some.commands ∙ more_commands m n words before.commands);
 }
 
-pub then_some : (words : List (List ℕ)) (before between now : SpawnerState) (m n : ℕ) → Starts words before between m → StartsSome words between now n → StartsSome words before now (m + n)
+pub then_some : (words : List (List ℕ)) (before between now : SpawnerState) (m n : ℕ) → StartsLinks words before between m → StartsSome words between now n → StartsSome words before now (m + n)
 then_some words before between now m n some more = record {
   started = omega (arith, some.started, more.started);
   retired = more.retired ∙ some.retired;
@@ -83,7 +83,7 @@ then_some words before between now m n some more = record {
   each = ⊎_elim (λ (e : more.starts ≡ n). inl (ap (λ (k : ℕ). m + k) e)) (λ (e : (more.starts ≡ n + 1) × CountedFault between.faults now.faults). inr (omega (arith, e.0), subst (λ (k : ℕ). CountedFault k now.faults) some.faults e.1)) more.each;
 }
 
-pub none_starts : (words : List (List ℕ)) (before : SpawnerState) → Starts words before before 0
+pub none_starts : (words : List (List ℕ)) (before : SpawnerState) → StartsLinks words before before 0
 none_starts words before = record { started = omega arith; retired = refl; faults = refl; commands = no_more words before.commands }
 
 -- a link that there may be is one at most

@@ -19,8 +19,8 @@ use Rattle.lw_rounds.specs.declared.learner.Kind.{Kind}
 use Rattle.lw_rounds.specs.declared.stops.LearnStop.{LearnStop}
 use Rattle.lw_rounds.specs.declared.stops.LearnStop.TheVariants as learn
 use Rattle.lw_workers.specs.Machines.{IsReached, IsWithin}
-use Rattle.lw_line.specs.Causes.{EndsWithin, IsRefused}
-use Rattle.lw_children.specs.Keeping.{AreOwn, KeepsChildren, KeepsWhole, count_of, most_of}
+use Rattle.lw_line.specs.Causes.{EndsWithin, IsRefusedLine}
+use Rattle.lw_children.specs.Keeping.{AreOwn, KeepsChildren, KeepsWhole, count_of, most_outputs_of}
 use Rattle.lw_children.specs.Spawners.{StartsAndRetires}
 
 -- where the transcript of a link is told, it is such a one
@@ -30,7 +30,7 @@ IfTold P (Some t) = P t
 
 -- what came last over a link is this bad line
 abbrev pub HasRefused : Option (List (List ℕ)) → List ℕ → Transcript → Type 0
-HasRefused outputs line t = (own : List (List ℕ)) × AreOwn outputs own t × IsRefused own (most_of outputs) t line
+HasRefused outputs line t = (own : List (List ℕ)) × AreOwn outputs own t × IsRefusedLine own (most_outputs_of outputs) t line
 
 -- why the child of an instance stopped, by the record of its link
 abbrev pub IsStopped : Option (List (List ℕ)) → SulStop → LinkState → Type 0

@@ -14,9 +14,9 @@ use Rattle.lw_rounds.specs.declared.learned.Learned.{Learned}
 use Rattle.lw_rounds.specs.declared.learner.Kind.{Kind}
 use Rattle.lw_rounds.specs.declared.stops.LearnStop.{LearnStop}
 use Rattle.lw_workers.specs.Leaving.{HasLearned}
-use Rattle.lw_line.specs.Causes.{IsCounted, IsTranscriptOf}
+use Rattle.lw_line.specs.Causes.{StopIsCounted, IsTranscriptOf}
 use Rattle.lw_line.specs.LineState.{AreFree, AreToldIfFree, IsNaming}
-use Rattle.lw_children.specs.Keeping.{count_of, most_of}
+use Rattle.lw_children.specs.Keeping.{count_of, most_outputs_of}
 use Rattle.lw_line.specs.LineState.{LineState, told_runs}
 
 -- what is seen of a session of a child, by the number of its link
@@ -43,7 +43,7 @@ new_line link letters outputs = record {
   link = link;
   letters = letters;
   names = first_names outputs;
-  most = most_of outputs;
+  most = most_outputs_of outputs;
   outputs = count_of outputs;
   started = false;
   stop = None;
@@ -54,15 +54,15 @@ abbrev pub new_session : {L : Type 0} → ℕ → L → List (List ℕ) → Opti
 new_session instance link letters outputs = record { instance = instance; sul = new_line link letters outputs; journal = [] }
 
 -- sessions of children, each under the number of its place, over links that were started one after the other from a number on
-abbrev pub AreNew : {L : Type 0} → (L → LinkState) → List (List ℕ) → Option (List (List ℕ)) → ℕ → List (SessionState (LineState L)) → Type 0
-AreNew state letters outputs base sessions =
+abbrev pub AreNewSessions : {L : Type 0} → (L → LinkState) → List (List ℕ) → Option (List (List ℕ)) → ℕ → List (SessionState (LineState L)) → Type 0
+AreNewSessions state letters outputs base sessions =
     (i : ℕ) (d : SessionState (LineState _)) → i < length sessions → let s = slice_index_or sessions i d in (s ≡ new_session i s.sul.link letters outputs) × ((state s.sul.link).number ≡ base + i)
 
 -- the record of a session's link bears out what is seen of the session
 pub record BearsOut (s : Seen) (r : LinkState) : Type 0 where
   pub letters : List (List ℕ)
   pub origin : s.origin ≡ record { machine = None; link = Some r.number; letters = Some letters }
-  pub counted : IsCounted r.faults r.ends s.stop
+  pub counted : StopIsCounted r.faults r.ends s.stop
   -- whether a step cut a run off
   pub cut : Bool
   pub told : IsTranscriptOf letters s.names s.most r.faults s.stop cut r.transcript
@@ -107,7 +107,7 @@ count_link (Some l) = 1
 
 -- sessions of children that were started since the spawner was as before, and perhaps a link more
 pub record HasBegun {L : Type 0} (state : L → LinkState) (letters : List (List ℕ)) (outputs : Option (List (List ℕ))) (before : SpawnerState) (sessions : List (SessionState (LineState L))) (loose : Option L) : Type 0 where
-  pub new : AreNew state letters outputs before.started sessions
+  pub new : AreNewSessions state letters outputs before.started sessions
   pub loose_is : IsLoose state (before.started + length sessions) loose
   pub earlier : 0 < length sessions + count_link loose → AreEarlier before.retired before.started
 
@@ -162,7 +162,7 @@ pub record IsChildrenPool {L : Type 0} (state : L → LinkState) (spawner : Spaw
   pub outputs_declared : Option (List (List ℕ))
   pub base : ℕ
   pub sessions : List (SessionState (LineState L))
-  pub new : AreNew state letters outputs_declared base sessions
+  pub new : AreNewSessions state letters outputs_declared base sessions
   pub members : map (child_member state) sessions ≡ p.members
   pub naming : p.naming ≡ first_naming outputs_declared
   pub earlier : 0 < length sessions → AreEarlier spawner.retired base

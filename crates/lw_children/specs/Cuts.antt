@@ -7,5 +7,5 @@ use Rattle.lw_rounds.specs.declared.stops.LearnStop.{LearnStop}
 use Rattle.lw_rounds.specs.declared.stops.LearnStop.TheVariants as learn
 
 -- the learning ended because the system of this instance stopped
-abbrev pub IsStopOf : ℕ → Result Learned LearnStop → Type 0
-IsStopOf i learned = (stop : SulStop) × (learned ≡ Err (learn.Ask (ask.Sul i stop)))
+abbrev pub IsStopOfInstance : ℕ → Result Learned LearnStop → Type 0
+IsStopOfInstance i learned = (stop : SulStop) × (learned ≡ Err (learn.Ask (ask.Sul i stop)))

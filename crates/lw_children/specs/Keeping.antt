@@ -9,14 +9,14 @@ use Rattle.lw_sul.specs.declared.runs.Run.{Run}
 use Rattle.lw_outside.specs.Links.{LinkState, Transcript}
 use Rattle.lw_desk.specs.Ending.{kept_runs}
 use Rattle.lw_pool.specs.Pool.{AskedOnce, journal_runs}
-use Rattle.lw_line.specs.Causes.{IsRefused, IsToldName}
+use Rattle.lw_line.specs.Causes.{IsRefusedLine, IsToldName}
 use Rattle.lw_line.specs.Transcripts.{BreaksIn, IsProper, SpellsAll, spelled}
 use Rattle.lw_workers.specs.Machines.{run_numbers}
 
 -- the greatest number of names of a child's outputs: those of a declared list, or 256
-abbrev pub most_of : Option (List (List ℕ)) → ℕ
-most_of None = 256
-most_of (Some names) = length names
+abbrev pub most_outputs_of : Option (List (List ℕ)) → ℕ
+most_outputs_of None = 256
+most_outputs_of (Some names) = length names
 
 -- the numbers that a child's outputs may have
 abbrev pub count_of : Option (List (List ℕ)) → ℕ
@@ -30,7 +30,7 @@ AreOwn (Some names) own t = own ≡ names
 
 -- the record of a link says why it was of no more use: it failed, it ended, or what came last over it was refused
 abbrev pub IsBroken : (own : List (List ℕ)) (most : ℕ) → LinkState → Transcript → Type 0
-IsBroken own most link t = CountedFault 0 link.faults ⊎ CountedFault 0 link.ends ⊎ ((line : List ℕ) × IsRefused own most t line)
+IsBroken own most link t = CountedFault 0 link.faults ⊎ CountedFault 0 link.ends ⊎ ((line : List ℕ) × IsRefusedLine own most t line)
 
 -- the finished ones of some runs: all of them, or, where a step cut the last one off, all before that
 abbrev pub AreFinished : (cut : Bool) (runs finished : List Run) → Type 0
@@ -49,7 +49,7 @@ pub record KeepsTranscript (letters : List (List ℕ)) (outputs : Option (List (
   pub kept : kept_runs names instance since ≡ journal_runs own 0 runs
   pub ends :
       (SpellsAll letters own t × (spelled letters own t ≡ runs))
-      ⊎ (IsBroken own (most_of outputs) link t × ((cut : Bool) × BreaksIn letters own link.faults cut t × AreFinished cut (spelled letters own t) runs))
+      ⊎ (IsBroken own (most_outputs_of outputs) link t × ((cut : Bool) × BreaksIn letters own link.faults cut t × AreFinished cut (spelled letters own t) runs))
 
 abbrev pub KeepsTold : List (List ℕ) → Option (List (List ℕ)) → List (List ℕ) → ℕ → List KeptAnswer → LinkState → Option Transcript → Type 0
 KeepsTold letters outputs names instance since link None = Unit {0}

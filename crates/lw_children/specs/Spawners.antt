@@ -21,7 +21,7 @@ pub record StartsAndRetires (words : List (List ℕ)) (before now : SpawnerState
       CountedFault before.faults now.faults)
 
 -- so many links were started by the words, no start failed, and none was retired
-pub record Starts (words : List (List ℕ)) (before now : SpawnerState) (links : ℕ) : Type 0 where
+pub record StartsLinks (words : List (List ℕ)) (before now : SpawnerState) (links : ℕ) : Type 0 where
   pub started : now.started ≡ before.started + links
   pub retired : now.retired ≡ before.retired
   pub faults : now.faults ≡ before.faults

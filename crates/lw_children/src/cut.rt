@@ -1,6 +1,6 @@
 //! The run in which a child stopped.
 ghost use Rattle.std.specs.Prelude.{◌≡◌, IfSome};
-ghost use Rattle.lw_children.specs.Cuts.{IsStopOf};
+ghost use Rattle.lw_children.specs.Cuts.{IsStopOfInstance};
 
 use lw_cache::AskStop;
 use lw_line::LineSul;
@@ -12,7 +12,7 @@ use std::alloc::Global;
 
 /// The session whose system ended a learning.
 fn stopped_instance(learned: &Result<Learned, LearnStop>) -> Option<u32>
-    ensures { IfSome result (λ instance. IsStopOf instance learned.now) }
+    ensures { IfSome result (λ instance. IsStopOfInstance instance learned.now) }
 {
     match learned {
         Err(LearnStop::Ask(AskStop::Sul { instance, .. })) => Some(*instance),
@@ -39,7 +39,7 @@ pub(crate) fn cut_off<L: Link>(
     sessions: &[Session<LineSul<L>>],
     learned: &Result<Learned, LearnStop>,
 ) -> Option<CutRun>
-    ensures { IfSome result (λ run. IsStopOf run.instance learned.now) }
+    ensures { IfSome result (λ run. IsStopOfInstance run.instance learned.now) }
 {
     let instance = stopped_instance(learned)?;
     let session = sessions.get(instance as usize)?;

@@ -11,7 +11,7 @@ ghost use Rattle.lw_pool.specs.Sharing.{declared_by};
 ghost use Rattle.lw_workers.specs.Asking.{AnswersWords};
 ghost use Rattle.lw_children.specs.Children.{IsOfChildren};
 ghost use Rattle.lw_children.specs.Crews.{AreLinkedWith, HasRetired, IsChildrenPool, RetiresWith, first_naming};
-ghost use Rattle.lw_children.specs.Cuts.{IsStopOf};
+ghost use Rattle.lw_children.specs.Cuts.{IsStopOfInstance};
 ghost use Rattle.lw_children.specs.Keeping.{count_of};
 ghost use Rattle.lw_children.specs.bodies.Ends.{broken_stop};
 
@@ -105,7 +105,7 @@ fn learn_and_retire<P: Spawner, R: Threads + Wait + Sync + Drop, W: Watcher>(
     requires named_few { length words.now < 2 ^ 32 }
     requires children { IsChildrenPool P.Link.state (P.state spawner.old) pool }
     ensures asked { OnOk result.learned (AnswersWords words.now result.kept.answers) }
-    ensures cut { IfSome result.cut (λ run. IsStopOf run.instance result.learned) }
+    ensures cut { IfSome result.cut (λ run. IsStopOfInstance run.instance result.learned) }
     ensures ended { HasRetired settings.kind P.Link.state settings.extra settings.max_states
         pool (P.state spawner.old) (P.state spawner.new) result.learned result.kept.answers
         result.names }
@@ -150,7 +150,7 @@ pub(crate) fn learn_over<P: Spawner, R: Threads + Wait + Sync + Drop, W: Watcher
         declared_by start.names.names start.names.brought }
     ensures come_up { FreeComeUp result.kept.answers result.names }
     ensures asked { OnOk result.learned (AnswersWords start.words result.kept.answers) }
-    ensures cut { IfSome result.cut (λ run. IsStopOf run.instance result.learned) }
+    ensures cut { IfSome result.cut (λ run. IsStopOfInstance run.instance result.learned) }
 {
     model_is_least();
     too_many_is_none();

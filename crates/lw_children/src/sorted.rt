@@ -8,7 +8,7 @@ ghost use Rattle.lw_pool.specs.Opening.{MayBegin};
 ghost use Rattle.lw_workers.specs.Asking.{AnswersWords};
 ghost use Rattle.lw_children.specs.Children.{IsOfCommand, IsOfFree};
 ghost use Rattle.lw_children.specs.Crews.{first_naming};
-ghost use Rattle.lw_children.specs.Cuts.{IsStopOf};
+ghost use Rattle.lw_children.specs.Cuts.{IsStopOfInstance};
 ghost use Rattle.lw_children.specs.Keeping.{count_of};
 
 use crate::Command;
@@ -51,7 +51,7 @@ fn learn_free<P: Spawner, R: Threads + Wait + Sync + Drop, W: Watcher>(
     requires named_letters { All (IsWord (length command.now.inputs)) start.words }
     requires named_few { length start.words < 2 ^ 32 }
     ensures asked { OnOk result.learned (AnswersWords start.words result.kept.answers) }
-    ensures cut { IfSome result.cut (λ run. IsStopOf run.instance result.learned) }
+    ensures cut { IfSome result.cut (λ run. IsStopOfInstance run.instance result.learned) }
     ensures found { IsOfFree settings.kind command.now.words command.now.inputs
         settings.workers settings.extra settings.max_states (P.state spawner.old)
         (P.state spawner.new) result.learned result.kept.answers result.names.names }
@@ -104,7 +104,7 @@ pub fn learn_children<P: Spawner, R: Threads + Wait + Sync + Drop, W: Watcher>(
     requires named_letters { All (IsWord (length command.now.inputs)) start.words }
     requires named_few { length start.words < 2 ^ 32 }
     ensures asked { OnOk result.learned (AnswersWords start.words result.kept.answers) }
-    ensures cut { IfSome result.cut (λ run. IsStopOf run.instance result.learned) }
+    ensures cut { IfSome result.cut (λ run. IsStopOfInstance run.instance result.learned) }
     ensures found { IsOfCommand settings.kind command.now.words command.now.inputs
         command.now.outputs settings.workers settings.extra settings.max_states start.cache.kept
         (P.state spawner.old) (P.state spawner.new) result.learned result.kept.answers

@@ -3,7 +3,7 @@ ghost use Rattle.std.specs.Prelude.{◌≡◌, ℕ, ◌+◌, ◌<◌, ◌≤◌,
 ghost use Rattle.std.specs.List.{All};
 ghost use Rattle.lw_words.specs.Cause.{CountedFault};
 ghost use Rattle.lw_outside.specs.Links.{IsUntouched, with_start};
-ghost use Rattle.lw_children.specs.Spawners.{Starts, StartsSome};
+ghost use Rattle.lw_children.specs.Spawners.{StartsLinks, StartsSome};
 ghost use Rattle.lw_children.specs.Crews.{AreEarlier, HasBegun, IsLoose, count_link, new_line, new_session};
 ghost use Rattle.lw_children.specs.bodies.Refusals.{refusal_by};
 ghost use Rattle.lw_children.specs.declared.starting.Refusal.{Refusal as Why};
@@ -120,7 +120,7 @@ fn start_one<P: Spawner>(
     ensures earlier_too { IfErr result
         (λ u. IfSome u.link (λ l. AreEarlier (P.state spawner.old).retired
         (P.state spawner.old).started)) }
-    ensures one { OnOk result (Starts command.now.words (P.state spawner.old)
+    ensures one { OnOk result (StartsLinks command.now.words (P.state spawner.old)
         (P.state spawner.new) 1) }
     ensures none { IfErr result (λ u. StartsSome command.now.words (P.state spawner.old)
         (P.state spawner.new) (count_link u.link)) }
@@ -161,7 +161,7 @@ pub fn start_all<P: Spawner>(
     ensures count { IfOk result (λ sessions. length sessions.items ≡ workers) }
     ensures made { IfOk result (λ sessions. HasBegun P.Link.state command.now.inputs
         command.now.outputs (P.state spawner.old) sessions.items None) }
-    ensures all { OnOk result (Starts command.now.words (P.state spawner.old)
+    ensures all { OnOk result (StartsLinks command.now.words (P.state spawner.old)
         (P.state spawner.new) workers) }
     ensures few { IfErr result (λ b. length b.sessions.items + count_link b.unmade.link ≤ workers ×
         (length b.sessions.items < workers)) }

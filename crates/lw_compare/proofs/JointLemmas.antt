@@ -12,7 +12,7 @@ use Rattle.lw_mealy.specs.Machine.{Row, Rows, IsMachine, row, cell, next, output
 use Rattle.lw_mealy.proofs.RowLemmas.{target_below}
 use Rattle.lw_mealy.proofs.WordLemmas.{after-append, out-append, after_below}
 use Rattle.lw_json.specs.declared.machine.Machine.{Machine}
-use Rattle.lw_compare.specs.Comparing.{AgreeOn, number_in, reply, second_reply, spelled, translated}
+use Rattle.lw_compare.specs.Comparing.{ModelsAgreeOn, number_or_zero, reply, second_reply, names_of_word, translated}
 use Rattle.lw_compare.specs.bodies.Joint.{AgreeAt, joint, joint_next, joint_row, letter_in}
 
 -- a pair is numbered within all pairs
@@ -82,12 +82,12 @@ module _ (m n : Machine) (one : IsMachine m.mealy.inputs m.mealy.rows) (two : Is
 
   -- the outputs on a word with a letter more
   reply-push : (w : List ℕ) (x : ℕ) → reply m (w ++ x ∷ []) ≡ reply m w ++ get_or m.outputs (output m.mealy.rows (after m.mealy.rows 0 w) x) [] ∷ []
-  reply-push w x = ap (spelled m.outputs) (out-append m.mealy.rows 0 w (x ∷ [])) ∙ map-append (λ y. get_or m.outputs y []) (answer m.mealy.rows w) (output m.mealy.rows (after m.mealy.rows 0 w) x ∷ [])
+  reply-push w x = ap (names_of_word m.outputs) (out-append m.mealy.rows 0 w (x ∷ [])) ∙ map-append (λ y. get_or m.outputs y []) (answer m.mealy.rows w) (output m.mealy.rows (after m.mealy.rows 0 w) x ∷ [])
 
   second-push : (w : List ℕ) (x : ℕ) → second_reply m n (w ++ x ∷ []) ≡ second_reply m n w ++ get_or n.outputs (output n.mealy.rows (after n.mealy.rows 0 (translated m.inputs n.inputs w)) (letter_in m n x)) [] ∷ []
   second-push w x =
       ap (λ (v : List ℕ). reply n v) (map-append (letter_in m n) w (x ∷ []))
-      ∙ (ap (spelled n.outputs) (out-append n.mealy.rows 0 (translated m.inputs n.inputs w) (letter_in m n x ∷ []))
+      ∙ (ap (names_of_word n.outputs) (out-append n.mealy.rows 0 (translated m.inputs n.inputs w) (letter_in m n x ∷ []))
       ∙ map-append (λ y. get_or n.outputs y []) (answer n.mealy.rows (translated m.inputs n.inputs w)) (output n.mealy.rows (after n.mealy.rows 0 (translated m.inputs n.inputs w)) (letter_in m n x) ∷ []))
 
   -- the pair after a word from the initial states
@@ -109,10 +109,10 @@ module _ (m n : Machine) (one : IsMachine m.mealy.inputs m.mealy.rows) (two : Is
       ap (λ (q : ℕ). get_or m.outputs (output m.mealy.rows q x) []) (sym p.0) ∙ (at ∙ ap (λ (q : ℕ). get_or n.outputs (output n.mealy.rows q (letter_in m n x)) []) p.1)
 
   -- they agree on a word and a letter where they agree on the word, and on the letter behind it
-  pub agree_on_push : (w : List ℕ) (x : ℕ) → IsWord m.mealy.inputs w → AgreeOn m n w → AgreeAt m n (pair w) x → AgreeOn m n (w ++ x ∷ [])
+  pub agree_on_push : (w : List ℕ) (x : ℕ) → IsWord m.mealy.inputs w → ModelsAgreeOn m n w → AgreeAt m n (pair w) x → ModelsAgreeOn m n (w ++ x ∷ [])
   agree_on_push w x letters' on at = reply-push w x ∙ (ap₂ (λ (u : List (List ℕ)) (y : List ℕ). u ++ y ∷ []) on (names_at w x letters' at) ∙ sym (second-push w x))
 
-  pub agree_at_last : (w : List ℕ) (x : ℕ) → IsWord m.mealy.inputs w → AgreeOn m n (w ++ x ∷ []) → AgreeAt m n (pair w) x
+  pub agree_at_last : (w : List ℕ) (x : ℕ) → IsWord m.mealy.inputs w → ModelsAgreeOn m n (w ++ x ∷ []) → AgreeAt m n (pair w) x
   agree_at_last w x letters' on =
       let p = pair_parts w letters' in
       let same = sym (reply-push w x) ∙ (on ∙ second-push w x) in

@@ -9,7 +9,7 @@ use Rattle.lw_mealy.proofs.WordLemmas.{after-append}
 use Rattle.lw_json.specs.declared.machine.Machine.{Machine}
 use Rattle.lw_separate.specs.bodies.Search.{AtMost, Before, Closed}
 use Rattle.lw_separate.proofs.Before.{at_most_push, at_most_trans, before_apart, before_last, before_next, before_trans, of_cases}
-use Rattle.lw_compare.specs.Comparing.{Agree, AgreeOn, IsLeastDifference}
+use Rattle.lw_compare.specs.Comparing.{Agree, ModelsAgreeOn, IsLeastDifference}
 use Rattle.lw_compare.specs.declared.walk.Walk.{Walk}
 use Rattle.lw_compare.specs.bodies.Joint.{AgreeAt, joint, letter_in}
 use Rattle.lw_compare.specs.bodies.Walk.{Parts, Walked, words_of}
@@ -44,7 +44,7 @@ module _ (m n : Machine) (one : IsMachine m.mealy.inputs m.mealy.rows) (two : Is
   -- where the walk has gone by each letter of the words of a kind, from the pairs that it found on their way, the models agree on them
   follow : (Of : List ℕ → Type 0) → ((u v : List ℕ) → Of (u ++ v) → Of u)
       → ((u : List ℕ) (y k : ℕ) → Of (u ++ y ∷ []) → k < length words → AtMost (word_is k) u → y < a → IsDone k y)
-      → (u v : List ℕ) (k : ℕ) → k < length words → AtMost (word_is k) u → get_or nodes k 0 ≡ after (joint m n) 0 u → IsWord a u → IsWord a v → Of (u ++ v) → AgreeOn m n u → AgreeOn m n (u ++ v)
+      → (u v : List ℕ) (k : ℕ) → k < length words → AtMost (word_is k) u → get_or nodes k 0 ≡ after (joint m n) 0 u → IsWord a u → IsWord a v → Of (u ++ v) → ModelsAgreeOn m n u → ModelsAgreeOn m n (u ++ v)
   follow Of front done u [] k kw most at lu lv of on = rw append-nil on
   follow Of front done u (y ∷ v) k kw most at lu lv of on =
       let ly = All-head (λ z. z < a) y v lv in
@@ -55,12 +55,12 @@ module _ (m n : Machine) (one : IsMachine m.mealy.inputs m.mealy.rows) (two : Is
       let here : AgreeAt m n (after (joint m n) 0 u) y = subst (λ (q : ℕ). AgreeAt m n q y) at d.1 in
       let there : get_or nodes c.0 0 ≡ after (joint m n) 0 (u ++ y ∷ []) = c.2 ∙ (ap (λ (q : ℕ). after (joint m n) q (y ∷ [])) at ∙ sym (after-append (joint m n) 0 u (y ∷ []))) in
       let step : AtMost (word_is c.0) (u ++ y ∷ []) = at_most_trans (word_is c.0) (word_is k ++ y ∷ []) (u ++ y ∷ []) c.3 (at_most_push (word_is k) u y most) in
-      subst (AgreeOn m n) (sym whole)
+      subst (ModelsAgreeOn m n) (sym whole)
       (follow Of front done (u ++ y ∷ []) v c.0 c.1 step there (All-push (λ z. z < a) u y lu ly) (All-tail (λ z. z < a) y v lv) of' (agree_on_push m n one two letters u y lu on here))
 
   from_start : (Of : List ℕ → Type 0) → ((u v : List ℕ) → Of (u ++ v) → Of u)
       → ((u : List ℕ) (y k : ℕ) → Of (u ++ y ∷ []) → k < length words → AtMost (word_is k) u → y < a → IsDone k y)
-      → (v : List ℕ) → IsWord a v → Of v → AgreeOn m n v
+      → (v : List ℕ) → IsWord a v → Of v → ModelsAgreeOn m n v
   from_start Of front done v lv of =
       let s = walked.search in
       let at : get_or nodes 0 0 ≡ 0 = sym (s.leads 0 s.some) ∙ ap (after (joint m n) 0) s.first in

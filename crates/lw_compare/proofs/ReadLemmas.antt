@@ -16,7 +16,7 @@ use Rattle.lw_report.specs.declared.outcome.Outcome.{Outcome}
 use Rattle.lw_report.specs.declared.outcome.Outcome.TheVariants.{BadFile, FileFault, FileTooLong, NoMemory}
 use Rattle.lw_report.specs.declared.role.Role.{Role}
 use Rattle.lw_report.specs.declared.role.Role.TheVariants.{Model, Second}
-use Rattle.lw_compare.specs.Outcomes.{ComesAs, IsRefused, IsUntroubled}
+use Rattle.lw_compare.specs.Outcomes.{ComesAs, ComparesNothing, IsUntroubled}
 use Rattle.lw_compare.specs.Reading.{IsUnread, ReadsFirst, ReadsModels, TellsModel, TellsNoModel, first_read, second_read}
 use Rattle.lw_compare.specs.bodies.Unread.{HasStopped, IsStopped, with_first}
 
@@ -57,7 +57,7 @@ by_stop P role stop.TooLong outcome stands here memory = ⊎_elim (λ (e : outco
 by_stop P role (stop.Bad fault) outcome stands here memory = ⊎_elim (λ (e : outcome ≡ BadFile role fault). subst P (sym e) here) (λ (w : HasOwnText (BadFile role fault) × (outcome ≡ NoMemory)). subst P (sym w.1) (memory fault refl)) stands
 by_stop P role stop.NoMemory outcome stands here memory = ⊎_elim (λ (e : outcome ≡ NoMemory). subst P (sym e) here) (λ (w : HasOwnText NoMemory × (outcome ≡ NoMemory)). absurd w.0) stands
 
-refused_here : (role : Role) (s : ReadStop) → IsRefused (read_outcome role s)
+refused_here : (role : Role) (s : ReadStop) → ComparesNothing (read_outcome role s)
 refused_here role stop.Failed = tt
 refused_here role stop.TooLong = tt
 refused_here role (stop.Bad fault) = tt
@@ -117,8 +117,8 @@ module _ (one two : List ℕ) (f g : FilesState) where
         (λ s fault bad stopped. inr (inl (stopped.bad fault bad).1))
         (λ s fault middle m bad file stopped. inr (inr (stopped.bad fault bad).1))
 
-    pub unread_refused : IsRefused outcome
-    unread_refused = by_stopped IsRefused was outcome is stands (λ s _. refused_here Model s) (λ s _ _ _ _. refused_here Second s) (λ _ _ _ _. tt) (λ _ _ _ _ _ _ _. tt)
+    pub unread_refused : ComparesNothing outcome
+    unread_refused = by_stopped ComparesNothing was outcome is stands (λ s _. refused_here Model s) (λ s _ _ _ _. refused_here Second s) (λ _ _ _ _. tt) (λ _ _ _ _ _ _ _. tt)
 
     pub unread_exact : (first second : Machine) (c : Comparison) → TellsModel f.holds one first → TellsModel f.holds two second → ComesAs c outcome
     unread_exact first second c told_one told_two =

@@ -14,14 +14,14 @@ use Rattle.lw_report.specs.declared.comparison.Comparison.{Comparison}
 use Rattle.lw_report.specs.declared.comparison.Comparison.TheVariants.{Equal, Differ, OtherInputs}
 use Rattle.lw_report.specs.declared.outcome.Outcome.{Outcome}
 use Rattle.lw_report.specs.declared.outcome.Outcome.TheVariants.{Compared, NoMemory, SinkFault}
-use Rattle.lw_compare.specs.CompareRun.{ComesTo, EndsRead, EndsUnread, IsCompareRun, text}
+use Rattle.lw_compare.specs.CompareRun.{ComesTo, EndsModelsRead, EndsUnread, IsCompareRun, text}
 use Rattle.lw_words.specs.Word.{IsWord}
 use Rattle.lw_mealy.specs.Limits.{MealyMachine}
 use Rattle.lw_mealy.specs.Machine.{answer}
 use Rattle.lw_report.specs.declared.comparison.Difference.{Difference}
-use Rattle.lw_compare.specs.Comparing.{AgreeOn, IsLeastDifference, lacking, reply, second_reply, spelled, translated}
+use Rattle.lw_compare.specs.Comparing.{ModelsAgreeOn, IsLeastDifference, lacking, reply, second_reply, names_of_word, translated}
 use Rattle.lw_compare.specs.Decision.{IsComparison}
-use Rattle.lw_compare.specs.Outcomes.{ComesAs, IsAnswered, IsRefused, IsUntroubled, IsVerdict}
+use Rattle.lw_compare.specs.Outcomes.{ComesAs, IsAnswered, ComparesNothing, IsUntroubled, IsComparisonVerdict}
 use Rattle.lw_compare.specs.Reading.{ReadsModels, TellsModel, TellsNoModel}
 use Rattle.lw_compare.specs.bodies.Telling.{HasCompared, IsTold}
 use Rattle.lw_compare.specs.bodies.Unread.{IsStopped}
@@ -56,17 +56,17 @@ made word first second = record { word = word; first = first; second = second }
 -- machines of one value compare alike
 module _ (m n k l : Machine) (one : SameMachine m k) (two : SameMachine n l) where
   reply_same : (w : List ℕ) → reply m w ≡ reply k w
-  reply_same w = ap₂ (λ (names : List (List ℕ)) (t : MealyMachine). spelled names (answer t.rows w)) one.outputs one.mealy
+  reply_same w = ap₂ (λ (names : List (List ℕ)) (t : MealyMachine). names_of_word names (answer t.rows w)) one.outputs one.mealy
 
   second_same : (w : List ℕ) → second_reply m n w ≡ second_reply k l w
   second_same w =
-      ap₂ (λ (names : List (List ℕ)) (t : MealyMachine). spelled names (answer t.rows (translated m.inputs n.inputs w))) two.outputs two.mealy
+      ap₂ (λ (names : List (List ℕ)) (t : MealyMachine). names_of_word names (answer t.rows (translated m.inputs n.inputs w))) two.outputs two.mealy
       ∙ ap₂ (λ (i j : List (List ℕ)). reply l (translated i j w)) one.inputs two.inputs
 
-  agree_to : (w : List ℕ) → AgreeOn m n w → AgreeOn k l w
+  agree_to : (w : List ℕ) → ModelsAgreeOn m n w → ModelsAgreeOn k l w
   agree_to w on = sym (reply_same w) ∙ (on ∙ second_same w)
 
-  agree_back : (w : List ℕ) → AgreeOn k l w → AgreeOn m n w
+  agree_back : (w : List ℕ) → ModelsAgreeOn k l w → ModelsAgreeOn m n w
   agree_back w on = reply_same w ∙ (on ∙ sym (second_same w))
 
   word_back : (w : List ℕ) → IsWord k.mealy.inputs w → IsWord m.mealy.inputs w
@@ -85,10 +85,10 @@ module _ (m n k l : Machine) (one : SameMachine m k) (two : SameMachine n l) whe
   lack_back : lacking n.inputs m.inputs ≡ lacking l.inputs k.inputs
   lack_back = ap₂ lacking two.inputs one.inputs
 
-  difference_same : (w : List ℕ) → made (spelled m.inputs w) (reply m w) (second_reply m n w) ≡ made (spelled k.inputs w) (reply k w) (second_reply k l w)
+  difference_same : (w : List ℕ) → made (names_of_word m.inputs w) (reply m w) (second_reply m n w) ≡ made (names_of_word k.inputs w) (reply k w) (second_reply k l w)
   difference_same w =
-      ap (λ (u : List (List ℕ)). made u (reply m w) (second_reply m n w)) (ap (λ (names : List (List ℕ)). spelled names w) one.inputs)
-      ∙ ap₂ (made (spelled k.inputs w)) (reply_same w) (second_same w)
+      ap (λ (u : List (List ℕ)). made u (reply m w) (second_reply m n w)) (ap (λ (names : List (List ℕ)). names_of_word names w) one.inputs)
+      ∙ ap₂ (made (names_of_word k.inputs w)) (reply_same w) (second_same w)
 
   same_machine : (c : Comparison) → IsComparison m n c → IsComparison k l c
   same_machine Equal is = ((sym lack_same ∙ is.0.0, sym lack_back ∙ is.0.1), λ w lw. agree_to w (is.1 w (word_back w lw)))
@@ -96,7 +96,7 @@ module _ (m n k l : Machine) (one : SameMachine m k) (two : SameMachine n l) whe
   same_machine (OtherInputs a b) is = (λ same. is.0 (lack_same ∙ same.0, lack_back ∙ same.1), is.1 ∙ lack_same, is.2 ∙ lack_back)
 
 -- a call that read two models
-pub read_run : (one two : List ℕ) (f g : FilesState) (o p e d : SinkState) (end : End) (ends : EndsRead one two f g o p e d end.outcome) → g.holds ≡ f.holds → IsBareEnd end → IsCompareRun one two f g o p e d end
+pub read_run : (one two : List ℕ) (f g : FilesState) (o p e d : SinkState) (end : End) (ends : EndsModelsRead one two f g o p e d end.outcome) → g.holds ≡ f.holds → IsBareEnd end → IsCompareRun one two f g o p e d end
 read_run one two f g o p e d end ends same bare = record {
   no_model = bare.model;
   no_learner = bare.learner;
@@ -110,8 +110,8 @@ read_run one two f g o p e d end ends same bare = record {
       let there = same_machine first second ends.first ends.second (one_value ends.read.first_file.bytes first ends.first fm ends.read.first_file.file) (one_value ends.read.second_file.bytes second ends.second fn ends.read.second_file.file) c is in
       ⊎_elim
       (λ (t : (b : Comparison) × IsComparison ends.first ends.second b × (end.outcome ≡ Compared b)). inl (t.2 ∙ ap (λ (x : Comparison). Compared x) (one_comparison ends.first ends.second t.0 c t.1 there)))
-      (λ (t : (end.outcome ≡ NoMemory) ⊎ ((end.outcome ≡ SinkFault) × CountedFault o.faults p.faults × ((b : Comparison) × IsVerdict b × IsComparison ends.first ends.second b × TakesSome (text (Compared b)) o.taken p.taken))).
-      inr (⊎_elim (λ (n : end.outcome ≡ NoMemory). inl n) (λ (b : (end.outcome ≡ SinkFault) × CountedFault o.faults p.faults × ((b : Comparison) × IsVerdict b × IsComparison ends.first ends.second b × TakesSome (text (Compared b)) o.taken p.taken)). inr (inl b.0)) t))
+      (λ (t : (end.outcome ≡ NoMemory) ⊎ ((end.outcome ≡ SinkFault) × CountedFault o.faults p.faults × ((b : Comparison) × IsComparisonVerdict b × IsComparison ends.first ends.second b × TakesSome (text (Compared b)) o.taken p.taken))).
+      inr (⊎_elim (λ (n : end.outcome ≡ NoMemory). inl n) (λ (b : (end.outcome ≡ SinkFault) × CountedFault o.faults p.faults × ((b : Comparison) × IsComparisonVerdict b × IsComparison ends.first ends.second b × TakesSome (text (Compared b)) o.taken p.taken)). inr (inl b.0)) t))
       ends.comes;
   refused = λ told. absurd (⊎_elim
       (λ (none : TellsNoModel f.holds one). no_model_read one f.holds ends.first ends.read.first_file.bytes none ends.read.first_file.read.held ends.read.first_file.read.short ends.read.first_file.file)
@@ -120,8 +120,8 @@ read_run one two f g o p e d end ends same bare = record {
   untroubled = λ _ _ _ _ _ quiet.
       ⊎_elim
       (λ (t : (b : Comparison) × IsComparison ends.first ends.second b × (end.outcome ≡ Compared b)). subst IsUntroubled (sym t.2) tt)
-      (λ (t : (end.outcome ≡ NoMemory) ⊎ ((end.outcome ≡ SinkFault) × CountedFault o.faults p.faults × ((b : Comparison) × IsVerdict b × IsComparison ends.first ends.second b × TakesSome (text (Compared b)) o.taken p.taken))).
-      ⊎_elim (λ (n : end.outcome ≡ NoMemory). subst IsUntroubled (sym n) tt) (λ (b : (end.outcome ≡ SinkFault) × CountedFault o.faults p.faults × ((b : Comparison) × IsVerdict b × IsComparison ends.first ends.second b × TakesSome (text (Compared b)) o.taken p.taken)). absurd (quiet b.1)) t)
+      (λ (t : (end.outcome ≡ NoMemory) ⊎ ((end.outcome ≡ SinkFault) × CountedFault o.faults p.faults × ((b : Comparison) × IsComparisonVerdict b × IsComparison ends.first ends.second b × TakesSome (text (Compared b)) o.taken p.taken))).
+      ⊎_elim (λ (n : end.outcome ≡ NoMemory). subst IsUntroubled (sym n) tt) (λ (b : (end.outcome ≡ SinkFault) × CountedFault o.faults p.faults × ((b : Comparison) × IsComparisonVerdict b × IsComparison ends.first ends.second b × TakesSome (text (Compared b)) o.taken p.taken)). absurd (quiet b.1)) t)
       ends.comes;
 }
 

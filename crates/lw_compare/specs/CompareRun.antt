@@ -11,7 +11,7 @@ use Rattle.lw_report.specs.declared.comparison.Comparison.{Comparison}
 use Rattle.lw_report.specs.declared.outcome.Outcome.{Outcome}
 use Rattle.lw_report.specs.declared.outcome.Outcome.TheVariants.{Compared, NoMemory, SinkFault}
 use Rattle.lw_compare.specs.Decision.{IsComparison}
-use Rattle.lw_compare.specs.Outcomes.{ComesAs, IsAnswered, IsRefused, IsUntroubled, IsVerdict}
+use Rattle.lw_compare.specs.Outcomes.{ComesAs, IsAnswered, ComparesNothing, IsUntroubled, IsComparisonVerdict}
 use Rattle.lw_compare.specs.Reading.{IsUnread, ReadsModels, TellsModel, TellsNoModel}
 
 -- the text of the outcome, in which no numbers are named by a file
@@ -30,11 +30,11 @@ abbrev pub ComesTo : Machine → Machine → SinkState → SinkState → Outcome
 ComesTo first second out_before out_now outcome =
     ((c : Comparison) × IsComparison first second c × (outcome ≡ Compared c))
     ⊎ ((outcome ≡ NoMemory)
-    ⊎ ((outcome ≡ SinkFault) × CountedFault out_before.faults out_now.faults × ((c : Comparison) × IsVerdict c × IsComparison first second c × TakesSome (text (Compared c)) out_before.taken out_now.taken)))
+    ⊎ ((outcome ≡ SinkFault) × CountedFault out_before.faults out_now.faults × ((c : Comparison) × IsComparisonVerdict c × IsComparison first second c × TakesSome (text (Compared c)) out_before.taken out_now.taken)))
 
 -- both models were read: a verdict is put to `out`, without a fault, and nothing to `err`; of any other outcome but a fault of a
 -- stream `out` is as it was, and its text goes to `err`, whole where that counts no fault
-pub record EndsRead (one two : List ℕ) (files_before files_now : FilesState) (out_before out_now err_before err_now : SinkState) (outcome : Outcome) : Type 0 where
+pub record EndsModelsRead (one two : List ℕ) (files_before files_now : FilesState) (out_before out_now err_before err_now : SinkState) (outcome : Outcome) : Type 0 where
   pub first : Machine
   pub second : Machine
   pub read : ReadsModels one two files_before files_now first second
@@ -53,7 +53,7 @@ pub record IsCompareRun (one two : List ℕ) (files_before files_now : FilesStat
   pub nothing_kept : end.kept.answers ≡ []
   pub no_outputs : end.outputs ≡ None
   pub untouched : files_now.holds ≡ files_before.holds
-  pub ended : EndsUnread one two files_before files_now out_before out_now err_before err_now end.outcome ⊎ EndsRead one two files_before files_now out_before out_now err_before err_now end.outcome
+  pub ended : EndsUnread one two files_before files_now out_before out_now err_before err_now end.outcome ⊎ EndsModelsRead one two files_before files_now out_before out_now err_before err_now end.outcome
   -- where both files are told, the outcome is how their models compare, but that memory, a file or a stream may fail
   pub exact :
       (first second : Machine) (c : Comparison)
@@ -62,7 +62,7 @@ pub record IsCompareRun (one two : List ℕ) (files_before files_now : FilesStat
       → IsComparison first second c
       → ComesAs c end.outcome
   -- where one of the files is told to be no model's, or too long, nothing is compared
-  pub refused : TellsNoModel files_before.holds one ⊎ TellsNoModel files_before.holds two → IsRefused end.outcome
+  pub refused : TellsNoModel files_before.holds one ⊎ TellsNoModel files_before.holds two → ComparesNothing end.outcome
   -- where both files are told to be models', and neither the files nor `out` counted a fault, they are compared, or memory runs out
   pub untroubled :
       (first second : Machine)

@@ -10,38 +10,38 @@ use Rattle.lw_mealy.specs.Machine.{answer}
 use Rattle.lw_json.specs.declared.machine.Machine.{Machine}
 
 -- the names that stand at these numbers
-abbrev pub spelled : List (List ℕ) → List ℕ → List (List ℕ)
-spelled names w = map (λ x. slice_index_or names x []) w
+abbrev pub names_of_word : List (List ℕ) → List ℕ → List (List ℕ)
+names_of_word names w = map (λ x. slice_index_or names x []) w
 
 -- the number of a name; 0 where it has none
-abbrev pub number_in : List (List ℕ) → List ℕ → ℕ
-number_in names name = unwrap_or (number_of name names) 0
+abbrev pub number_or_zero : List (List ℕ) → List ℕ → ℕ
+number_or_zero names name = unwrap_or (number_of name names) 0
 
 -- the word of the same names, by their numbers in another list
 abbrev pub translated : List (List ℕ) → List (List ℕ) → List ℕ → List ℕ
-translated names others w = map (λ x. number_in others (slice_index_or names x [])) w
+translated names others w = map (λ x. number_or_zero others (slice_index_or names x [])) w
 
 -- what a model gives for a word, by the names of its outputs
 abbrev pub reply : Machine → List ℕ → List (List ℕ)
-reply m w = spelled m.outputs (answer m.mealy.rows w)
+reply m w = names_of_word m.outputs (answer m.mealy.rows w)
 
 -- what the second model gives for a word of the first one's inputs
 abbrev pub second_reply : Machine → Machine → List ℕ → List (List ℕ)
 second_reply first second w = reply second (translated first.inputs second.inputs w)
 
-abbrev pub AgreeOn : Machine → Machine → List ℕ → Type 0
-AgreeOn first second w = reply first w ≡ second_reply first second w
+abbrev pub ModelsAgreeOn : Machine → Machine → List ℕ → Type 0
+ModelsAgreeOn first second w = reply first w ≡ second_reply first second w
 
 -- the models give the same for every word
 abbrev pub Agree : Machine → Machine → Type 0
-Agree first second = (w : List ℕ) → IsWord first.mealy.inputs w → AgreeOn first second w
+Agree first second = (w : List ℕ) → IsWord first.mealy.inputs w → ModelsAgreeOn first second w
 
 -- they differ on the word, and agree on each word before it in shortlex order, by the order of the first one's inputs
 pub record IsLeastDifference (first second : Machine) (w : List ℕ) : Type 0 where
   pub word : IsWord first.mealy.inputs w
-  pub differs : ¬ AgreeOn first second w
+  pub differs : ¬ ModelsAgreeOn first second w
   pub least : (v : List ℕ) → IsWord first.mealy.inputs v → shortlex_cmp v w ≡ Less →
-      AgreeOn first second v
+      ModelsAgreeOn first second v
 
 -- the names of a list that another one hasn't, in their order
 abbrev pub lacking : List (List ℕ) → List (List ℕ) → List (List ℕ)

@@ -7,23 +7,23 @@ use Rattle.lw_report.specs.declared.outcome.Outcome.TheVariants.{BadFile, Compar
 use Rattle.lw_report.specs.declared.role.Role.{Role}
 
 -- equal, or a word on which they differ
-abbrev pub IsVerdict : Comparison → Type 0
-IsVerdict Equal = Unit {0}
-IsVerdict (Differ difference) = Unit {0}
-IsVerdict (OtherInputs first second) = ⊥
+abbrev pub IsComparisonVerdict : Comparison → Type 0
+IsComparisonVerdict Equal = Unit {0}
+IsComparisonVerdict (Differ difference) = Unit {0}
+IsComparisonVerdict (OtherInputs first second) = ⊥
 
 -- a verdict, whose text goes to `out`
 abbrev pub IsAnswered : Outcome → Type 0
-IsAnswered (Compared comparison) = IsVerdict comparison
+IsAnswered (Compared comparison) = IsComparisonVerdict comparison
 IsAnswered _ = ⊥
 
 -- nothing was compared
-abbrev pub IsRefused : Outcome → Type 0
-IsRefused (BadFile role fault) = Unit {0}
-IsRefused (FileTooLong role) = Unit {0}
-IsRefused (FileFault role) = Unit {0}
-IsRefused NoMemory = Unit {0}
-IsRefused _ = ⊥
+abbrev pub ComparesNothing : Outcome → Type 0
+ComparesNothing (BadFile role fault) = Unit {0}
+ComparesNothing (FileTooLong role) = Unit {0}
+ComparesNothing (FileFault role) = Unit {0}
+ComparesNothing NoMemory = Unit {0}
+ComparesNothing _ = ⊥
 
 -- the models were compared, or memory ran out
 abbrev pub IsUntroubled : Outcome → Type 0

@@ -7,13 +7,13 @@ use Rattle.std.proofs.lemmas.List.Sums.{sum_by-cons}
 use Rattle.lw_words.specs.Answer.{answers_of}
 use Rattle.lw_words.specs.Word.{IsPrefix}
 use Rattle.lw_words.specs.declared.kept.KeptAnswer.{KeptAnswer}
-use Rattle.lw_cache.specs.Caching.{Claim, claim_of, claim_at, IsClaimOf, IsClaimedBy, IsUnused, without}
+use Rattle.lw_cache.specs.Caching.{Claim, claim_of, claim_at, IsClaimOf, IsClaimedBy, IsUnused, without_claim}
 use Rattle.lw_cache.specs.Known.{IsKnown}
 use Rattle.lw_cache.specs.Standing.{Stands}
 use Rattle.lw_cache.specs.declared.known.Known.TheVariants.{No}
 use Rattle.lw_cache.specs.declared.stops.AskStop.{AskStop}
 use Rattle.lw_cache.proofs.GainLemmas.{known_stays}
-use Rattle.lw_desk.specs.Step.{word_at, ComesBefore}
+use Rattle.lw_desk.specs.Step.{word_at_place, ComesBefore}
 use Rattle.lw_desk.specs.bodies.Board.{numbers_of, without_number, without_numbers, without_all, AreHeld, IsTaken, AreApart, AreInOrder, AreWhole, IsLeast, BeginsOne, IsAtHand, IsPlaces, Waits, letters_of, IsBoard}
 use Rattle.lw_names.proofs.Members.{In, in_contains, contains_in, in_filter, in_filter_of, is_same, is_other}
 use Rattle.lw_desk.specs.lemmas.CoverLemmas.{known_prefix, prefix_of_prefix}
@@ -29,7 +29,7 @@ map-filter f q (x ∷ xs) = by (q (f x)) (map-filter f q xs)
     by true rest = ap (λ (l : List ℕ). f x ∷ l) rest
     by false rest = rest
 
-pub numbers_without : (p : ℕ) (claims : List Claim) → numbers_of (without p claims) ≡ without_number p (numbers_of claims)
+pub numbers_without : (p : ℕ) (claims : List Claim) → numbers_of (without_claim p claims) ≡ without_number p (numbers_of claims)
 numbers_without p claims = map-filter (λ (c : Claim). c.number) (λ n. not (n == p)) claims
 
 pub in_without : (p n : ℕ) (ns : List ℕ) → Contains (without_number p ns) n → Contains ns n × (n ≢ p)
@@ -98,11 +98,11 @@ held_at ns (p ∷ ps) (suc i) h lt = held_at (without_number p ns) ps i (held_re
 
 pub numbers_without_all : (ps : List ℕ) (claims : List Claim) → numbers_of (without_all ps claims) ≡ without_numbers ps (numbers_of claims)
 numbers_without_all [] claims = refl
-numbers_without_all (p ∷ ps) claims = numbers_without_all ps (without p claims) ∙ ap (without_numbers ps) (numbers_without p claims)
+numbers_without_all (p ∷ ps) claims = numbers_without_all ps (without_claim p claims) ∙ ap (without_numbers ps) (numbers_without p claims)
 
-pub without_all_more : (ps : List ℕ) (p : ℕ) (claims : List Claim) → without_all (ps ++ p ∷ []) claims ≡ without p (without_all ps claims)
+pub without_all_more : (ps : List ℕ) (p : ℕ) (claims : List Claim) → without_all (ps ++ p ∷ []) claims ≡ without_claim p (without_all ps claims)
 without_all_more [] p claims = refl
-without_all_more (q ∷ ps) p claims = without_all_more ps p (without q claims)
+without_all_more (q ∷ ps) p claims = without_all_more ps p (without_claim q claims)
 
 -- claims by their numbers
 module _ (batch words : List (List ℕ)) (claims : List Claim) (places : All (IsPlaces batch words) claims) where
@@ -115,19 +115,19 @@ module _ (batch words : List (List ℕ)) (claims : List Claim) (places : All (Is
   pub number_in : (i n : ℕ) → i < length claims → (claim_at claims i).number ≡ n → Contains (numbers_of claims) n
   number_in i n lt is = subst (Contains (numbers_of claims)) (number_at i lt ∙ is) (Contains-get_or (numbers_of claims) i 0 (omega (arith, lt, length-map claims (λ (c : Claim). c.number))))
 
-  pub number_found : (n : ℕ) → Contains (numbers_of claims) n → (i : ℕ) × (i < length claims) × ((claim_at claims i).number ≡ n) × ((claim_at claims i).word ≡ word_at batch n)
+  pub number_found : (n : ℕ) → Contains (numbers_of claims) n → (i : ℕ) × (i < length claims) × ((claim_at claims i).number ≡ n) × ((claim_at claims i).word ≡ word_at_place batch n)
   number_found n c =
       let lt : c.0 < length claims = omega (arith, c.1, length-map claims (λ (d : Claim). d.number)) in
       let is : (claim_at claims c.0).number ≡ n = sym (number_at c.0 lt) ∙ (get_or_default (numbers_of claims) c.0 0 n c.1 ∙ c.2) in
-      (c.0, lt, is, (places c.0 none lt).word ∙ ap (word_at batch) is)
+      (c.0, lt, is, (places c.0 none lt).word ∙ ap (word_at_place batch) is)
 
-  pub claim_of_place : (n : ℕ) → Contains (numbers_of claims) n → IsClaimOf claims n (word_at batch n)
+  pub claim_of_place : (n : ℕ) → Contains (numbers_of claims) n → IsClaimOf claims n (word_at_place batch n)
   claim_of_place n c = number_found n c
 
-  pub claimed_at : (n : ℕ) (w : List ℕ) → IsClaimedBy claims w n → Contains (numbers_of claims) n × IsPrefix w (word_at batch n)
+  pub claimed_at : (n : ℕ) (w : List ℕ) → IsClaimedBy claims w n → Contains (numbers_of claims) n × IsPrefix w (word_at_place batch n)
   claimed_at n w c = (
     number_in c.0 n c.1 c.2,
-    subst (IsPrefix w) ((places c.0 none c.1).word ∙ ap (word_at batch) c.2) c.3,
+    subst (IsPrefix w) ((places c.0 none c.1).word ∙ ap (word_at_place batch) c.2) c.3,
   )
 
   pub unused_of : (n : ℕ) → ¬ Contains (numbers_of claims) n → IsUnused claims n
@@ -145,7 +145,7 @@ pub taken_prefix : (batch : List (List ℕ)) (kept : List KeptAnswer) (claimed :
 taken_prefix batch kept claimed u v pre taken =
     ⊎_elim
     (λ (known : IsKnown (answers_of kept) v). inl (known_prefix (answers_of kept) u v pre known))
-    (λ (r : (p : ℕ) × Contains claimed p × IsPrefix v (word_at batch p)). inr (r.0, r.1, prefix_of_prefix u v (word_at batch r.0) pre r.2))
+    (λ (r : (p : ℕ) × Contains claimed p × IsPrefix v (word_at_place batch p)). inr (r.0, r.1, prefix_of_prefix u v (word_at_place batch r.0) pre r.2))
     taken
 
 -- a word that begins one that isn't longer is this one
@@ -155,36 +155,36 @@ prefix_alike u v pre le = sym (pre.1 ∙ (ap (λ (l : List ℕ). u ++ l) (nil_fr
 prefix_length : (u v : List ℕ) → IsPrefix u v → length u ≤ length v
 prefix_length u v pre = omega (arith, ap (λ (l : List ℕ). length l) pre.1, length-append u pre.0)
 
-begins_either : (batch : List (List ℕ)) (p : ℕ) (ps : List ℕ) (w : List ℕ) → BeginsOne batch (p ∷ ps) w → IsPrefix w (word_at batch p) ⊎ BeginsOne batch ps w
+begins_either : (batch : List (List ℕ)) (p : ℕ) (ps : List ℕ) (w : List ℕ) → BeginsOne batch (p ∷ ps) w → IsPrefix w (word_at_place batch p) ⊎ BeginsOne batch ps w
 begins_either batch p ps w r =
     ⊎_elim
-    (λ (e : p ≡ r.0). inl (subst (λ (q : ℕ). IsPrefix w (word_at batch q)) (sym e) r.2))
+    (λ (e : p ≡ r.0). inl (subst (λ (q : ℕ). IsPrefix w (word_at_place batch q)) (sym e) r.2))
     (λ (c : Contains ps r.0). inr (r.0, c, r.2))
     (contains_either p r.0 ps r.1)
 
 -- of words that stand in order none begins another one
-pub whole_words : (batch : List (List ℕ)) (ps : List ℕ) → AreInOrder batch ps → AreWhole batch ps → (q r : ℕ) → In q ps → In r ps → IsPrefix (word_at batch q) (word_at batch r) → word_at batch q ≡ word_at batch r
+pub whole_words : (batch : List (List ℕ)) (ps : List ℕ) → AreInOrder batch ps → AreWhole batch ps → (q r : ℕ) → In q ps → In r ps → IsPrefix (word_at_place batch q) (word_at_place batch r) → word_at_place batch q ≡ word_at_place batch r
 whole_words batch [] order whole q r i j pre = absurd i
 whole_words batch (p ∷ ps) order whole q r i j pre =
     ⊎_elim
     (λ (e : q ≡ p). ⊎_elim
-    (λ (f : r ≡ p). ap (word_at batch) (e ∙ sym f))
-    (λ (l : In r ps). prefix_alike (word_at batch q) (word_at batch r) pre (subst (λ (x : ℕ). length (word_at batch r) ≤ length (word_at batch x)) (sym e) (not_longer p r (All-contains (ComesBefore batch p) ps r order.0 (in_contains r ps l)))))
+    (λ (f : r ≡ p). ap (word_at_place batch) (e ∙ sym f))
+    (λ (l : In r ps). prefix_alike (word_at_place batch q) (word_at_place batch r) pre (subst (λ (x : ℕ). length (word_at_place batch r) ≤ length (word_at_place batch x)) (sym e) (not_longer p r (All-contains (ComesBefore batch p) ps r order.0 (in_contains r ps l)))))
     j)
     (λ (k : In q ps). ⊎_elim
-    (λ (f : r ≡ p). absurd (All-contains (λ x. ¬ IsPrefix (word_at batch x) (word_at batch p)) ps q whole.0 (in_contains q ps k) (subst (λ (x : ℕ). IsPrefix (word_at batch q) (word_at batch x)) f pre)))
+    (λ (f : r ≡ p). absurd (All-contains (λ x. ¬ IsPrefix (word_at_place batch x) (word_at_place batch p)) ps q whole.0 (in_contains q ps k) (subst (λ (x : ℕ). IsPrefix (word_at_place batch q) (word_at_place batch x)) f pre)))
     (λ (l : In r ps). whole_words batch ps order.1 whole.1 q r k l pre)
     j)
     i
   where
-    not_longer : (x y : ℕ) → ComesBefore batch x y → length (word_at batch y) ≤ length (word_at batch x)
+    not_longer : (x y : ℕ) → ComesBefore batch x y → length (word_at_place batch y) ≤ length (word_at_place batch x)
     not_longer x y before =
         ⊎_elim
-        (λ (l : length (word_at batch y) < length (word_at batch x)). omega (arith, l))
-        (λ (l : (length (word_at batch x) ≡ length (word_at batch y)) × (x < y)). omega (arith, l.0))
+        (λ (l : length (word_at_place batch y) < length (word_at_place batch x)). omega (arith, l))
+        (λ (l : (length (word_at_place batch x) ≡ length (word_at_place batch y)) × (x < y)). omega (arith, l.0))
         before
 
-pub whole_pairs : (batch : List (List ℕ)) (ps : List ℕ) → AreWhole batch ps → (i j : ℕ) → i < j → j < length ps → ¬ IsPrefix (word_at batch (get_or ps j 0)) (word_at batch (get_or ps i 0))
+pub whole_pairs : (batch : List (List ℕ)) (ps : List ℕ) → AreWhole batch ps → (i j : ℕ) → i < j → j < length ps → ¬ IsPrefix (word_at_place batch (get_or ps j 0)) (word_at_place batch (get_or ps i 0))
 whole_pairs batch [] whole i j lt within = absurd (omega arith)
 whole_pairs batch (p ∷ ps) whole zero zero lt within = absurd (omega arith)
 whole_pairs batch (p ∷ ps) whole zero (suc j) lt within = whole.0 j 0 (omega arith)
@@ -193,54 +193,54 @@ whole_pairs batch (p ∷ ps) whole (suc i) (suc j) lt within = whole_pairs batch
 
 -- the first place of the list
 module _ (batch : List (List ℕ)) (kept : List KeptAnswer) (claims : List Claim) (stop : Option AskStop) (words : List (List ℕ)) (p : ℕ) (ps : List ℕ) (room letters : ℕ) (is : IsBoard batch kept claims stop words (p ∷ ps) room letters) where
-  letters_cons : letters_of batch (p ∷ ps) ≡ length (word_at batch p) + letters_of batch ps
-  letters_cons = sum_by-cons (λ (q : ℕ). length (word_at batch q)) p ps
+  letters_cons : letters_of batch (p ∷ ps) ≡ length (word_at_place batch p) + letters_of batch ps
+  letters_cons = sum_by-cons (λ (q : ℕ). length (word_at_place batch q)) p ps
 
   first_waits : Waits batch words kept claims p
   first_waits = All-head (Waits batch words kept claims) p ps is.waits
 
   -- no place before it is free
-  none_before : stop ≡ None → (other : ℕ) → other < length batch → ComesBefore batch other p → IsTaken batch kept (numbers_of claims) (word_at batch other)
+  none_before : stop ≡ None → (other : ℕ) → other < length batch → ComesBefore batch other p → IsTaken batch kept (numbers_of claims) (word_at_place batch other)
   none_before live other within before =
       ⊎_elim
-      (λ (b : BeginsOne batch (p ∷ ps) (word_at batch other)). absurd (⊎_elim
-      (λ (pre : IsPrefix (word_at batch other) (word_at batch p)). itself pre)
-      (λ (r : BeginsOne batch ps (word_at batch other)). later r.0 (All-contains (ComesBefore batch p) ps r.0 is.order.0 r.1) (All-contains (Waits batch words kept claims) ps r.0 (All-tail (Waits batch words kept claims) p ps is.waits) r.1).least r.2)
-      (begins_either batch p ps (word_at batch other) b)))
-      (λ (t : IsTaken batch kept (numbers_of claims) (word_at batch other)). t)
+      (λ (b : BeginsOne batch (p ∷ ps) (word_at_place batch other)). absurd (⊎_elim
+      (λ (pre : IsPrefix (word_at_place batch other) (word_at_place batch p)). itself pre)
+      (λ (r : BeginsOne batch ps (word_at_place batch other)). later r.0 (All-contains (ComesBefore batch p) ps r.0 is.order.0 r.1) (All-contains (Waits batch words kept claims) ps r.0 (All-tail (Waits batch words kept claims) p ps is.waits) r.1).least r.2)
+      (begins_either batch p ps (word_at_place batch other) b)))
+      (λ (t : IsTaken batch kept (numbers_of claims) (word_at_place batch other)). t)
       (is.covered live other within)
     where
-      itself : IsPrefix (word_at batch other) (word_at batch p) → ⊥
+      itself : IsPrefix (word_at_place batch other) (word_at_place batch p) → ⊥
       itself pre =
           ⊎_elim
-          (λ (l : length (word_at batch p) < length (word_at batch other)). omega (arith, l, prefix_length (word_at batch other) (word_at batch p) pre))
-          (λ (l : (length (word_at batch other) ≡ length (word_at batch p)) × (other < p)).
-          omega (arith, l.1, first_waits.least other within (prefix_alike (word_at batch other) (word_at batch p) pre (omega (arith, l.0)))))
+          (λ (l : length (word_at_place batch p) < length (word_at_place batch other)). omega (arith, l, prefix_length (word_at_place batch other) (word_at_place batch p) pre))
+          (λ (l : (length (word_at_place batch other) ≡ length (word_at_place batch p)) × (other < p)).
+          omega (arith, l.1, first_waits.least other within (prefix_alike (word_at_place batch other) (word_at_place batch p) pre (omega (arith, l.0)))))
           before
 
-      later : (q : ℕ) → ComesBefore batch p q → IsLeast batch q → IsPrefix (word_at batch other) (word_at batch q) → ⊥
+      later : (q : ℕ) → ComesBefore batch p q → IsLeast batch q → IsPrefix (word_at_place batch other) (word_at_place batch q) → ⊥
       later q behind least pre =
           ⊎_elim
-          (λ (l : length (word_at batch p) < length (word_at batch other)). omega (arith, l, not_longer, prefix_length (word_at batch other) (word_at batch q) pre))
-          (λ (l : (length (word_at batch other) ≡ length (word_at batch p)) × (other < p)).
-          let same : word_at batch other ≡ word_at batch q = prefix_alike (word_at batch other) (word_at batch q) pre (omega (arith, l.0, not_longer)) in
+          (λ (l : length (word_at_place batch p) < length (word_at_place batch other)). omega (arith, l, not_longer, prefix_length (word_at_place batch other) (word_at_place batch q) pre))
+          (λ (l : (length (word_at_place batch other) ≡ length (word_at_place batch p)) × (other < p)).
+          let same : word_at_place batch other ≡ word_at_place batch q = prefix_alike (word_at_place batch other) (word_at_place batch q) pre (omega (arith, l.0, not_longer)) in
           ⊎_elim
-          (λ (m : length (word_at batch q) < length (word_at batch p)). omega (arith, m, l.0, ap (λ (w : List ℕ). length w) same))
-          (λ (m : (length (word_at batch p) ≡ length (word_at batch q)) × (p < q)). omega (arith, m.1, l.1, least other within same))
+          (λ (m : length (word_at_place batch q) < length (word_at_place batch p)). omega (arith, m, l.0, ap (λ (w : List ℕ). length w) same))
+          (λ (m : (length (word_at_place batch p) ≡ length (word_at_place batch q)) × (p < q)). omega (arith, m.1, l.1, least other within same))
           behind)
           before
         where
-          not_longer : length (word_at batch q) ≤ length (word_at batch p)
+          not_longer : length (word_at_place batch q) ≤ length (word_at_place batch p)
           not_longer =
               ⊎_elim
-              (λ (m : length (word_at batch q) < length (word_at batch p)). omega (arith, m))
-              (λ (m : (length (word_at batch p) ≡ length (word_at batch q)) × (p < q)). omega (arith, m.0))
+              (λ (m : length (word_at_place batch q) < length (word_at_place batch p)). omega (arith, m))
+              (λ (m : (length (word_at_place batch p) ≡ length (word_at_place batch q)) × (p < q)). omega (arith, m.0))
               behind
 
-  take_first : (room_now letters_now : ℕ) → room_now + 1 ≡ room → letters_now + length (word_at batch p) ≡ letters
-      → IsBoard batch kept (claims ++ claim_of p (word_at batch p) ∷ []) stop words ps room_now letters_now
+  take_first : (room_now letters_now : ℕ) → room_now + 1 ≡ room → letters_now + length (word_at_place batch p) ≡ letters
+      → IsBoard batch kept (claims ++ claim_of p (word_at_place batch p) ∷ []) stop words ps room_now letters_now
   take_first room_now letters_now less fewer =
-      let new : Claim = claim_of p (word_at batch p) in
+      let new : Claim = claim_of p (word_at_place batch p) in
       let first : Waits batch words kept claims p = first_waits in
       record {
         few = is.few;
@@ -254,22 +254,22 @@ module _ (batch : List (List ℕ)) (kept : List KeptAnswer) (claims : List Claim
         room_fits = omega (arith, is.room_fits, less);
         letters_fit = omega (arith, is.letters_fit, letters_cons, fewer);
         covered = λ live q within. ⊎_elim
-            (λ (b : BeginsOne batch (p ∷ ps) (word_at batch q)). ⊎_elim
-            (λ (pre : IsPrefix (word_at batch q) (word_at batch p)). inr (inr (p, subst (λ (l : List ℕ). Contains l p) (sym more) (Contains-push (numbers_of claims) p), pre)))
-            (λ (r : BeginsOne batch ps (word_at batch q)). inl r)
-            (begins_either batch p ps (word_at batch q) b))
-            (λ (t : IsTaken batch kept (numbers_of claims) (word_at batch q)). inr (⊎_elim
-            (λ (known : IsKnown (answers_of kept) (word_at batch q)). inl known)
-            (λ (r : (n : ℕ) × Contains (numbers_of claims) n × IsPrefix (word_at batch q) (word_at batch n)).
+            (λ (b : BeginsOne batch (p ∷ ps) (word_at_place batch q)). ⊎_elim
+            (λ (pre : IsPrefix (word_at_place batch q) (word_at_place batch p)). inr (inr (p, subst (λ (l : List ℕ). Contains l p) (sym more) (Contains-push (numbers_of claims) p), pre)))
+            (λ (r : BeginsOne batch ps (word_at_place batch q)). inl r)
+            (begins_either batch p ps (word_at_place batch q) b))
+            (λ (t : IsTaken batch kept (numbers_of claims) (word_at_place batch q)). inr (⊎_elim
+            (λ (known : IsKnown (answers_of kept) (word_at_place batch q)). inl known)
+            (λ (r : (n : ℕ) × Contains (numbers_of claims) n × IsPrefix (word_at_place batch q) (word_at_place batch n)).
             inr (r.0, subst (λ (l : List ℕ). Contains l r.0) (sym more) (Contains-append_left (numbers_of claims) (p ∷ []) r.0 r.1), r.2))
             t))
             (is.covered live q within);
       }
     where
-      more : numbers_of (claims ++ claim_of p (word_at batch p) ∷ []) ≡ numbers_of claims ++ p ∷ []
-      more = map_push (λ (c : Claim). c.number) claims (claim_of p (word_at batch p))
+      more : numbers_of (claims ++ claim_of p (word_at_place batch p) ∷ []) ≡ numbers_of claims ++ p ∷ []
+      more = map_push (λ (c : Claim). c.number) claims (claim_of p (word_at_place batch p))
 
-      either : (n : ℕ) → Contains (numbers_of (claims ++ claim_of p (word_at batch p) ∷ [])) n → Contains (numbers_of claims) n ⊎ (p ≡ n)
+      either : (n : ℕ) → Contains (numbers_of (claims ++ claim_of p (word_at_place batch p) ∷ [])) n → Contains (numbers_of claims) n ⊎ (p ≡ n)
       either n c = Contains-push_cases (numbers_of claims) p n (subst (λ (l : List ℕ). Contains l n) more c)
 
       later : (q : ℕ) → Contains ps q → q ≢ p
@@ -277,11 +277,11 @@ module _ (batch : List (List ℕ)) (kept : List KeptAnswer) (claims : List Claim
           let before : ComesBefore batch p q = All-contains (ComesBefore batch p) ps q is.order.0 c in
           let here : ComesBefore batch p p = subst (ComesBefore batch p) same before in
           ⊎_elim
-          (λ (l : length (word_at batch p) < length (word_at batch p)). omega arith)
-          (λ (l : (length (word_at batch p) ≡ length (word_at batch p)) × (p < p)). omega (arith, l.1))
+          (λ (l : length (word_at_place batch p) < length (word_at_place batch p)). omega arith)
+          (λ (l : (length (word_at_place batch p) ≡ length (word_at_place batch p)) × (p < p)). omega (arith, l.1))
           here
 
-      waiting : All (Waits batch words kept claims) ps → All (Waits batch words kept (claims ++ claim_of p (word_at batch p) ∷ [])) ps
+      waiting : All (Waits batch words kept claims) ps → All (Waits batch words kept (claims ++ claim_of p (word_at_place batch p) ∷ [])) ps
       waiting all k d lt =
           let q : ℕ = get_or ps k d in
           let w : Waits batch words kept claims q = all k d lt in
@@ -289,10 +289,10 @@ module _ (batch : List (List ℕ)) (kept : List KeptAnswer) (claims : List Claim
             at_hand = w.at_hand;
             least = w.least;
             free = λ taken. ⊎_elim
-                (λ (known : IsKnown (answers_of kept) (word_at batch q)). w.free (inl known))
-                (λ (r : (n : ℕ) × Contains (numbers_of (claims ++ claim_of p (word_at batch p) ∷ [])) n × IsPrefix (word_at batch q) (word_at batch n)). ⊎_elim
+                (λ (known : IsKnown (answers_of kept) (word_at_place batch q)). w.free (inl known))
+                (λ (r : (n : ℕ) × Contains (numbers_of (claims ++ claim_of p (word_at_place batch p) ∷ [])) n × IsPrefix (word_at_place batch q) (word_at_place batch n)). ⊎_elim
                 (λ (i : Contains (numbers_of claims) r.0). w.free (inr (r.0, i, r.2)))
-                (λ (e : p ≡ r.0). is.whole.0 k d lt (subst (λ (n : ℕ). IsPrefix (word_at batch q) (word_at batch n)) (sym e) r.2))
+                (λ (e : p ≡ r.0). is.whole.0 k d lt (subst (λ (n : ℕ). IsPrefix (word_at_place batch q) (word_at_place batch n)) (sym e) r.2))
                 (either r.0 r.1))
                 taken;
             unclaimed = λ c. ⊎_elim
@@ -303,27 +303,27 @@ module _ (batch : List (List ℕ)) (kept : List KeptAnswer) (claims : List Claim
 
 -- a claim is gone
 module _ (batch : List (List ℕ)) (kept : List KeptAnswer) (claims : List Claim) (stop : Option AskStop) (words : List (List ℕ)) (waiting : List ℕ) (room letters : ℕ) (is : IsBoard batch kept claims stop words waiting room letters) (p : ℕ) where
-  rest_places : All (IsPlaces batch words) (without p claims)
+  rest_places : All (IsPlaces batch words) (without_claim p claims)
   rest_places = All-filter (λ c. not (c.number == p)) (IsPlaces batch words) claims is.places
 
-  rest_apart : AreApart (numbers_of (without p claims))
+  rest_apart : AreApart (numbers_of (without_claim p claims))
   rest_apart = subst AreApart (sym (numbers_without p claims)) (apart_without p (numbers_of claims) is.apart)
 
-  rest_in : (n : ℕ) → Contains (numbers_of (without p claims)) n → Contains (numbers_of claims) n × (n ≢ p)
+  rest_in : (n : ℕ) → Contains (numbers_of (without_claim p claims)) n → Contains (numbers_of claims) n × (n ≢ p)
   rest_in n c = in_without p n (numbers_of claims) (subst (λ (l : List ℕ). Contains l n) (numbers_without p claims) c)
 
-  rest_taken : (w : List ℕ) → IsTaken batch kept (numbers_of (without p claims)) w → IsTaken batch kept (numbers_of claims) w
+  rest_taken : (w : List ℕ) → IsTaken batch kept (numbers_of (without_claim p claims)) w → IsTaken batch kept (numbers_of claims) w
   rest_taken w taken =
       ⊎_elim
       (λ (known : IsKnown (answers_of kept) w). inl known)
-      (λ (r : (n : ℕ) × Contains (numbers_of (without p claims)) n × IsPrefix w (word_at batch n)). inr (r.0, (rest_in r.0 r.1).0, r.2))
+      (λ (r : (n : ℕ) × Contains (numbers_of (without_claim p claims)) n × IsPrefix w (word_at_place batch n)). inr (r.0, (rest_in r.0 r.1).0, r.2))
       taken
 
-  rest_waits : All (Waits batch words kept (without p claims)) waiting
-  rest_waits = All-weaker (Waits batch words kept claims) (Waits batch words kept (without p claims)) (λ q w. record { at_hand = w.at_hand; least = w.least; free = λ taken. w.free (rest_taken (word_at batch q) taken); unclaimed = λ c. w.unclaimed (rest_in q c).0 }) waiting is.waits
+  rest_waits : All (Waits batch words kept (without_claim p claims)) waiting
+  rest_waits = All-weaker (Waits batch words kept claims) (Waits batch words kept (without_claim p claims)) (λ q w. record { at_hand = w.at_hand; least = w.least; free = λ taken. w.free (rest_taken (word_at_place batch q) taken); unclaimed = λ c. w.unclaimed (rest_in q c).0 }) waiting is.waits
 
   -- it is given up by one who failed
-  pub released : (now : Option AskStop) → (now ≡ None → ⊥) → IsBoard batch kept (without p claims) now words waiting room letters
+  pub released : (now : Option AskStop) → (now ≡ None → ⊥) → IsBoard batch kept (without_claim p claims) now words waiting room letters
   released now stopped = record {
     few = is.few;
     size = is.size;
@@ -339,38 +339,38 @@ module _ (batch : List (List ℕ)) (kept : List KeptAnswer) (claims : List Claim
   }
 
   -- it is answered, and its word goes from the list into the answer
-  module _ (claimed : Contains (numbers_of claims) p) (new : KeptAnswer) (answers : new.word ≡ word_at batch p) (now : Option AskStop) (known : now ≡ None → (stop ≡ None) × IsKnown (answers_of (kept ++ new ∷ [])) (word_at batch p)) where
+  module _ (claimed : Contains (numbers_of claims) p) (new : KeptAnswer) (answers : new.word ≡ word_at_place batch p) (now : Option AskStop) (known : now ≡ None → (stop ≡ None) × IsKnown (answers_of (kept ++ new ∷ [])) (word_at_place batch p)) where
     other_at_hand : (q : ℕ) → q ≢ p → IsAtHand batch words q → IsAtHand batch (set words p []) q
     other_at_hand q other h = record { within = h.within; word = get_or-set_other words p q [] [] other ∙ h.word }
 
-    given_taken : (q : ℕ) → now ≡ None → IsTaken batch kept (numbers_of claims) (word_at batch q) → IsTaken batch (kept ++ new ∷ []) (numbers_of (without p claims)) (word_at batch q)
+    given_taken : (q : ℕ) → now ≡ None → IsTaken batch kept (numbers_of claims) (word_at_place batch q) → IsTaken batch (kept ++ new ∷ []) (numbers_of (without_claim p claims)) (word_at_place batch q)
     given_taken q live taken =
         ⊎_elim
-        (λ (k : IsKnown (answers_of kept) (word_at batch q)). inl (known_stays kept new (word_at batch q) k))
-        (λ (r : (n : ℕ) × Contains (numbers_of claims) n × IsPrefix (word_at batch q) (word_at batch n)). ⊎_elim
-        (λ (same : r.0 ≡ p). inl (known_prefix (answers_of (kept ++ new ∷ [])) (word_at batch q) (word_at batch p) (subst (λ (n : ℕ). IsPrefix (word_at batch q) (word_at batch n)) same r.2) (known live).1))
+        (λ (k : IsKnown (answers_of kept) (word_at_place batch q)). inl (known_stays kept new (word_at_place batch q) k))
+        (λ (r : (n : ℕ) × Contains (numbers_of claims) n × IsPrefix (word_at_place batch q) (word_at_place batch n)). ⊎_elim
+        (λ (same : r.0 ≡ p). inl (known_prefix (answers_of (kept ++ new ∷ [])) (word_at_place batch q) (word_at_place batch p) (subst (λ (n : ℕ). IsPrefix (word_at_place batch q) (word_at_place batch n)) same r.2) (known live).1))
         (λ (other : r.0 ≡ p → ⊥). inr (r.0, subst (λ (l : List ℕ). Contains l r.0) (sym (numbers_without p claims)) (in_without_of p r.0 (numbers_of claims) r.1 other), r.2))
         (cases_eq r.0 p))
         taken
 
-    still_free : (q : ℕ) → ¬ IsTaken batch kept (numbers_of claims) (word_at batch q) → ¬ IsTaken batch (kept ++ new ∷ []) (numbers_of (without p claims)) (word_at batch q)
+    still_free : (q : ℕ) → ¬ IsTaken batch kept (numbers_of claims) (word_at_place batch q) → ¬ IsTaken batch (kept ++ new ∷ []) (numbers_of (without_claim p claims)) (word_at_place batch q)
     still_free q free taken =
         ⊎_elim
-        (λ (known : IsKnown (answers_of (kept ++ new ∷ [])) (word_at batch q)). ⊎_elim
-        (λ (old : IsKnown (answers_of kept) (word_at batch q)). free (inl old))
-        (λ (pre : IsPrefix (word_at batch q) new.word). free (inr (p, claimed, subst (IsPrefix (word_at batch q)) answers pre)))
-        (known_in_more kept new (word_at batch q) known))
-        (λ (r : (n : ℕ) × Contains (numbers_of (without p claims)) n × IsPrefix (word_at batch q) (word_at batch n)). free (inr (r.0, (rest_in r.0 r.1).0, r.2)))
+        (λ (known : IsKnown (answers_of (kept ++ new ∷ [])) (word_at_place batch q)). ⊎_elim
+        (λ (old : IsKnown (answers_of kept) (word_at_place batch q)). free (inl old))
+        (λ (pre : IsPrefix (word_at_place batch q) new.word). free (inr (p, claimed, subst (IsPrefix (word_at_place batch q)) answers pre)))
+        (known_in_more kept new (word_at_place batch q) known))
+        (λ (r : (n : ℕ) × Contains (numbers_of (without_claim p claims)) n × IsPrefix (word_at_place batch q) (word_at_place batch n)). free (inr (r.0, (rest_in r.0 r.1).0, r.2)))
         taken
 
-    pub given : IsBoard batch (kept ++ new ∷ []) (without p claims) now (set words p []) waiting room letters
+    pub given : IsBoard batch (kept ++ new ∷ []) (without_claim p claims) now (set words p []) waiting room letters
     given = record {
       few = is.few;
       size = length-set words p [] ∙ is.size;
       places = λ k d lt.
-          let c : Claim = get_or (without p claims) k d in
+          let c : Claim = get_or (without_claim p claims) k d in
           let h : IsPlaces batch words c = rest_places k d lt in
-          let i : Contains (numbers_of (without p claims)) c.number = number_in batch words (without p claims) rest_places k c.number lt (ap (λ (e : Claim). e.number) (get_or_default (without p claims) k (record { number = 0; word = [] }) d lt)) in
+          let i : Contains (numbers_of (without_claim p claims)) c.number = number_in batch words (without_claim p claims) rest_places k c.number lt (ap (λ (e : Claim). e.number) (get_or_default (without_claim p claims) k (record { number = 0; word = [] }) d lt)) in
           record { at_hand = other_at_hand c.number (rest_in c.number i).1 h.at_hand; word = h.word };
       apart = rest_apart;
       waits = λ k d lt.
@@ -387,8 +387,8 @@ module _ (batch : List (List ℕ)) (kept : List KeptAnswer) (claims : List Claim
       room_fits = is.room_fits;
       letters_fit = is.letters_fit;
       covered = λ live q within. ⊎_elim
-          (λ (b : BeginsOne batch waiting (word_at batch q)). inl b)
-          (λ (t : IsTaken batch kept (numbers_of claims) (word_at batch q)). inr (given_taken q live t))
+          (λ (b : BeginsOne batch waiting (word_at_place batch q)). inl b)
+          (λ (t : IsTaken batch kept (numbers_of claims) (word_at_place batch q)). inr (given_taken q live t))
           (is.covered (known live).0 q within);
     }
 
@@ -411,7 +411,7 @@ restopped batch kept claims stop now words waiting room letters is stopped = rec
 pub released_all : (batch : List (List ℕ)) (kept : List KeptAnswer) (claims : List Claim) (now : Option AskStop) (words : List (List ℕ)) (waiting : List ℕ) (room letters : ℕ) (ps : List ℕ) → IsBoard batch kept claims now words waiting room letters → (now ≡ None → ⊥) → IsBoard batch kept (without_all ps claims) now words waiting room letters
 released_all batch kept claims now words waiting room letters [] is stopped = is
 released_all batch kept claims now words waiting room letters (p ∷ ps) is stopped =
-    released_all batch kept (without p claims) now words waiting room letters ps (released batch kept claims now words waiting room letters is p now stopped) stopped
+    released_all batch kept (without_claim p claims) now words waiting room letters ps (released batch kept claims now words waiting room letters is p now stopped) stopped
 
 pub fail_board : (batch : List (List ℕ)) (kept kept_now : List KeptAnswer) (claims claims_now : List Claim) (stop now : Option AskStop) (words : List (List ℕ)) (waiting : List ℕ) (room letters room_now letters_now : ℕ) (ps : List ℕ) → IsBoard batch kept claims stop words waiting room letters
     → (now ≡ None → ⊥) → kept_now ≡ kept → claims_now ≡ without_all ps claims → room_now ≡ room → letters_now ≡ letters → IsBoard batch kept_now claims_now now words waiting room_now letters_now
@@ -432,22 +432,22 @@ module _ (batch : List (List ℕ)) (kept : List KeptAnswer) (claims : List Claim
   pub here_waits : Waits batch words kept claims p
   here_waits = first_waits batch kept claims stop words p (drop (next + 1) order) room letters here
 
-  pub here_free : Stands (answers_of kept) claims (word_at batch p) No
-  here_free = free_stands batch words claims is.places kept (word_at batch p) here_waits.free
+  pub here_free : Stands (answers_of kept) claims (word_at_place batch p) No
+  here_free = free_stands batch words claims is.places kept (word_at_place batch p) here_waits.free
 
   pub here_unused : IsUnused claims p
   here_unused = unused_of batch words claims is.places p here_waits.unclaimed
 
-  pub here_letters : length (word_at words p) ≤ letters
+  pub here_letters : length (word_at_place words p) ≤ letters
   here_letters = omega (arith, here.letters_fit, letters_cons batch kept claims stop words p (drop (next + 1) order) room letters here, ap (λ (w : List ℕ). length w) here_waits.at_hand.word)
 
-  pub here_first : stop ≡ None → (other : ℕ) → other < length batch → ComesBefore batch other p → IsTaken batch kept (numbers_of claims) (word_at batch other)
+  pub here_first : stop ≡ None → (other : ℕ) → other < length batch → ComesBefore batch other p → IsTaken batch kept (numbers_of claims) (word_at_place batch other)
   here_first = none_before batch kept claims stop words p (drop (next + 1) order) room letters here
 
-  pub here_taken : (w : List ℕ) (kept_now : List KeptAnswer) (claims_now : List Claim) (room_now letters_now : ℕ) → w ≡ word_at words p → kept_now ≡ kept → claims_now ≡ claims ++ claim_of p w ∷ [] → room_now + 1 ≡ room → letters_now + length w ≡ letters
+  pub here_taken : (w : List ℕ) (kept_now : List KeptAnswer) (claims_now : List Claim) (room_now letters_now : ℕ) → w ≡ word_at_place words p → kept_now ≡ kept → claims_now ≡ claims ++ claim_of p w ∷ [] → room_now + 1 ≡ room → letters_now + length w ≡ letters
       → IsBoard batch kept_now claims_now stop words (drop (next + 1) order) room_now letters_now
   here_taken w kept_now claims_now room_now letters_now is_word same_kept more less fewer =
-      let word : w ≡ word_at batch p = is_word ∙ here_waits.at_hand.word in
+      let word : w ≡ word_at_place batch p = is_word ∙ here_waits.at_hand.word in
       subst (λ (l : List KeptAnswer). IsBoard batch l claims_now stop words (drop (next + 1) order) room_now letters_now) (sym same_kept)
       (subst (λ (l : List Claim). IsBoard batch kept l stop words (drop (next + 1) order) room_now letters_now) (sym (more ∙ ap (λ (v : List ℕ). claims ++ claim_of p v ∷ []) word))
       (take_first batch kept claims stop words p (drop (next + 1) order) room letters here room_now letters_now less (omega (arith, fewer, ap (λ (v : List ℕ). length v) word))))
@@ -464,8 +464,8 @@ begun batch kept claims words places room letters sum few is none room_fits lett
         at_hand = is.at_hand k d lt;
         least = is.least k d lt;
         free = λ taken. ⊎_elim
-            (λ (known : IsKnown (answers_of kept) (word_at batch (get_or places k d))). is.unknown k d lt known)
-            (λ (r : (n : ℕ) × Contains [] n × IsPrefix (word_at batch (get_or places k d)) (word_at batch n)). absurd (omega (arith, r.1.1)))
+            (λ (known : IsKnown (answers_of kept) (word_at_place batch (get_or places k d))). is.unknown k d lt known)
+            (λ (r : (n : ℕ) × Contains [] n × IsPrefix (word_at_place batch (get_or places k d)) (word_at_place batch n)). absurd (omega (arith, r.1.1)))
             taken;
         unclaimed = λ c. absurd (omega (arith, c.1));
       };
@@ -475,8 +475,8 @@ begun batch kept claims words places room letters sum few is none room_fits lett
       room_fits = room_fits;
       letters_fit = omega (arith, letters_fit, is.letters_sum);
       covered = λ live p below. ⊎_elim
-          (λ (b : BeginsOne batch places (word_at batch p)). inl b)
-          (λ (known : IsKnown (answers_of kept) (word_at batch p)). inr (inl known))
+          (λ (b : BeginsOne batch places (word_at_place batch p)). inl b)
+          (λ (known : IsKnown (answers_of kept) (word_at_place batch p)). inr (inl known))
           (is.covered p below);
     })
 
@@ -487,14 +487,14 @@ hand_of batch words claims places p c =
     subst (IsAtHand batch words) f.2 (places f.0 (record { number = 0; word = [] }) f.1).at_hand
 
 pub give_board : (batch : List (List ℕ)) (kept kept_now : List KeptAnswer) (claims claims_now : List Claim) (stop now : Option AskStop) (words words_now : List (List ℕ)) (waiting : List ℕ) (room letters room_now letters_now p : ℕ) (new : KeptAnswer) → IsBoard batch kept claims stop words waiting room letters
-    → Contains (numbers_of claims) p → new.word ≡ word_at batch p → (now ≡ None → (stop ≡ None) × IsKnown (answers_of (kept ++ new ∷ [])) (word_at batch p)) → kept_now ≡ kept ++ new ∷ [] → claims_now ≡ without p claims → words_now ≡ set words p [] → room_now ≡ room → letters_now ≡ letters
+    → Contains (numbers_of claims) p → new.word ≡ word_at_place batch p → (now ≡ None → (stop ≡ None) × IsKnown (answers_of (kept ++ new ∷ [])) (word_at_place batch p)) → kept_now ≡ kept ++ new ∷ [] → claims_now ≡ without_claim p claims → words_now ≡ set words p [] → room_now ≡ room → letters_now ≡ letters
     → IsBoard batch kept_now claims_now now words_now waiting room_now letters_now
 give_board batch kept kept_now claims claims_now stop now words words_now waiting room letters room_now letters_now p new is claimed answers known more gone out same_room same_letters =
     subst (λ (l : List KeptAnswer). IsBoard batch l claims_now now words_now waiting room_now letters_now) (sym more)
     (subst (λ (l : List Claim). IsBoard batch (kept ++ new ∷ []) l now words_now waiting room_now letters_now) (sym gone)
-    (subst (λ (l : List (List ℕ)). IsBoard batch (kept ++ new ∷ []) (without p claims) now l waiting room_now letters_now) (sym out)
-    (subst (λ (n : ℕ). IsBoard batch (kept ++ new ∷ []) (without p claims) now (set words p []) waiting n letters_now) (sym same_room)
-    (subst (λ (n : ℕ). IsBoard batch (kept ++ new ∷ []) (without p claims) now (set words p []) waiting room n) (sym same_letters)
+    (subst (λ (l : List (List ℕ)). IsBoard batch (kept ++ new ∷ []) (without_claim p claims) now l waiting room_now letters_now) (sym out)
+    (subst (λ (n : ℕ). IsBoard batch (kept ++ new ∷ []) (without_claim p claims) now (set words p []) waiting n letters_now) (sym same_room)
+    (subst (λ (n : ℕ). IsBoard batch (kept ++ new ∷ []) (without_claim p claims) now (set words p []) waiting room n) (sym same_letters)
     (given batch kept claims stop words waiting room letters is p claimed new answers now known)))))
 
 -- places that are held, in two parts

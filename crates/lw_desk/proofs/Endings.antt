@@ -9,7 +9,7 @@ use Rattle.lw_cache.specs.Known.{IsKnown}
 use Rattle.lw_turn.specs.declared.shared.Entry.{Entry}
 use Rattle.lw_turn.specs.History.{entries_of}
 use Rattle.lw_names.specs.Naming.{Naming, own_names, HasLists}
-use Rattle.lw_desk.specs.Step.{Claimed, DeskState, word_at, TakesAll, GivesAll, after_take, after_fail}
+use Rattle.lw_desk.specs.Step.{Claimed, DeskState, word_at_place, ActorTakesAll, GivesAll, after_take, after_fail}
 use Rattle.lw_desk.specs.History.{DeskOpening, opened, Replays}
 use Rattle.lw_desk.specs.Ending.{kept_runs, IsShared}
 use Rattle.lw_desk.specs.bodies.Outcome.{given_runs, gives_of, Brought, Settled}
@@ -70,11 +70,11 @@ module _ (o : DeskOpening) (es : List (Entry Ask Reply)) (t : DeskState) (r : Re
         exactly = record { exactly = λ w. (was_asked w, answered w); once = b.once };
       }
     where
-      known_at : (p : ℕ) → p < length o.batch → IsKnown (answers_of t.kept) (word_at o.batch p)
+      known_at : (p : ℕ) → p < length o.batch → IsKnown (answers_of t.kept) (word_at_place o.batch p)
       known_at p lt =
           ⊎_elim
-          (λ (known : IsKnown (answers_of t.kept) (word_at o.batch p)). known)
-          (λ (c : (c : Claimed) × Contains t.claims c × IsPrefix (word_at o.batch p) (word_at o.batch c.place)). absurd (subst (In c.0) nobody (contains_in c.0 t.claims c.1)))
+          (λ (known : IsKnown (answers_of t.kept) (word_at_place o.batch p)). known)
+          (λ (c : (c : Claimed) × Contains t.claims c × IsPrefix (word_at_place o.batch p) (word_at_place o.batch c.place)). absurd (subst (In c.0) nobody (contains_in c.0 t.claims c.1)))
           (all_covered o (opened o) t es e r none i done p lt)
 
       was_asked : (w : List ℕ) → Contains (map (λ k. k.word) b.gained) w → IsAsked o.batch (answers_of o.kept) w
@@ -97,7 +97,7 @@ module _ (o : DeskOpening) (es : List (Entry Ask Reply)) (t : DeskState) (r : Re
           (known_gained b.gained o.kept w known)
 
 -- whose the claims are
-takes_actors : (batch : List (List ℕ)) (actor wanted : ℕ) (places : List ℕ) (s t : DeskState) (c : Claimed) → TakesAll batch actor wanted places s t → In c t.claims → In c s.claims ⊎ (c.actor ≡ actor)
+takes_actors : (batch : List (List ℕ)) (actor wanted : ℕ) (places : List ℕ) (s t : DeskState) (c : Claimed) → ActorTakesAll batch actor wanted places s t → In c t.claims → In c s.claims ⊎ (c.actor ≡ actor)
 takes_actors batch actor wanted [] s t c takes i = inl (subst (λ (x : DeskState). In c x.claims) takes.0 i)
 takes_actors batch actor wanted (p ∷ ps) s t c takes i =
     ⊎_elim

@@ -25,7 +25,7 @@ use Rattle.lw_cache.specs.Standing.{Stands}
 use Rattle.lw_cache.specs.declared.known.Known.{Known}
 use Rattle.lw_cache.specs.declared.known.Known.TheVariants.{Yes, Pending, No}
 use Rattle.lw_names.proofs.Pairs.{pairs_first, pairs_rest, pairs_of}
-use Rattle.lw_desk.specs.Step.{word_at, ComesBefore}
+use Rattle.lw_desk.specs.Step.{word_at_place, ComesBefore}
 use Rattle.lw_desk.specs.bodies.Board.{AreInOrder, AreWhole, IsAtHand, letters_of}
 use Rattle.lw_desk.specs.bodies.Gathering.{IsGathered, IsUpTo, by_words, StandsBefore, AreByWords, BeginsNext, AreWholeOf, NotAfter, ComeBefore, IsReady}
 use Rattle.lw_names.proofs.Members.{In, in_contains, contains_in, in_either, in_left, in_right, is_same, is_other}
@@ -45,10 +45,10 @@ unknown_of kept claims w stands = stands.0
 
 -- one word more
 module _ (kept : List KeptAnswer) (batch words : List (List ℕ)) (places : List ℕ) (is : IsGathered kept batch words places) (w : List ℕ) where
-  batch_at : (p : ℕ) → p < length batch → word_at (batch ++ w ∷ []) p ≡ word_at batch p
+  batch_at : (p : ℕ) → p < length batch → word_at_place (batch ++ w ∷ []) p ≡ word_at_place batch p
   batch_at p lt = get_or_append_left batch (w ∷ []) [] p lt
 
-  batch_last : word_at (batch ++ w ∷ []) (length batch) ≡ w
+  batch_last : word_at_place (batch ++ w ∷ []) (length batch) ≡ w
   batch_last = get_or_push batch w [] (length batch) refl
 
   hand_more : (v : List ℕ) → All (IsAtHand (batch ++ w ∷ []) (words ++ v ∷ [])) places
@@ -57,19 +57,19 @@ module _ (kept : List KeptAnswer) (batch words : List (List ℕ)) (places : List
     word = get_or_append_left words (v ∷ []) [] p (omega (arith, h.within, is.size)) ∙ (h.word ∙ sym (batch_at p h.within));
   }) places is.at_hand
 
-  unknown_more : All (λ p. ¬ IsKnown (answers_of kept) (word_at (batch ++ w ∷ []) p)) places
+  unknown_more : All (λ p. ¬ IsKnown (answers_of kept) (word_at_place (batch ++ w ∷ []) p)) places
   unknown_more k d lt known = is.unknown k d lt (subst (IsKnown (answers_of kept)) (batch_at (get_or places k d) (is.at_hand k d lt).within) known)
 
-  covered_more : (places_now : List ℕ) → ((p : ℕ) → Contains places p → Contains places_now p) → Contains places_now (length batch) ⊎ IsKnown (answers_of kept) w → (p : ℕ) → p < length (batch ++ w ∷ []) → Contains places_now p ⊎ IsKnown (answers_of kept) (word_at (batch ++ w ∷ []) p)
+  covered_more : (places_now : List ℕ) → ((p : ℕ) → Contains places p → Contains places_now p) → Contains places_now (length batch) ⊎ IsKnown (answers_of kept) w → (p : ℕ) → p < length (batch ++ w ∷ []) → Contains places_now p ⊎ IsKnown (answers_of kept) (word_at_place (batch ++ w ∷ []) p)
   covered_more places_now grown last p lt =
       ⊎_elim
       (λ (before : p < length batch). ⊎_elim
       (λ (c : Contains places p). inl (grown p c))
-      (λ (k : IsKnown (answers_of kept) (word_at batch p)). inr (subst (IsKnown (answers_of kept)) (sym (batch_at p before)) k))
+      (λ (k : IsKnown (answers_of kept) (word_at_place batch p)). inr (subst (IsKnown (answers_of kept)) (sym (batch_at p before)) k))
       (is.covered p before))
       (λ (from : length batch ≤ p).
       let here : length batch ≡ p = omega (arith, from, lt, length_push batch w) in
-      subst (λ (q : ℕ). Contains places_now q ⊎ IsKnown (answers_of kept) (word_at (batch ++ w ∷ []) q)) here
+      subst (λ (q : ℕ). Contains places_now q ⊎ IsKnown (answers_of kept) (word_at_place (batch ++ w ∷ []) q)) here
       (⊎_elim
       (λ (c : Contains places_now (length batch)). inl c)
       (λ (k : IsKnown (answers_of kept) w). inr (subst (IsKnown (answers_of kept)) (sym batch_last) k))
@@ -88,14 +88,14 @@ module _ (kept : List KeptAnswer) (batch words : List (List ℕ)) (places : List
 
   pub gathered_unknown : ¬ IsKnown (answers_of kept) w → IsGathered kept (batch ++ w ∷ []) (words ++ w ∷ []) (places ++ length words ∷ [])
   gathered_unknown new =
-      let last : word_at (batch ++ w ∷ []) (length words) ≡ w = ap (word_at (batch ++ w ∷ [])) is.size ∙ batch_last in
+      let last : word_at_place (batch ++ w ∷ []) (length words) ≡ w = ap (word_at_place (batch ++ w ∷ [])) is.size ∙ batch_last in
       record {
         size = omega (arith, is.size, length_push batch w, length_push words w);
         at_hand = All-push (IsAtHand (batch ++ w ∷ []) (words ++ w ∷ [])) places (length words) (hand_more w) (record {
           within = omega (arith, is.size, length_push batch w);
           word = get_or_push words w [] (length words) refl ∙ sym last;
         });
-        unknown = All-push (λ p. ¬ IsKnown (answers_of kept) (word_at (batch ++ w ∷ []) p)) places (length words) unknown_more (λ known. new (subst (IsKnown (answers_of kept)) last known));
+        unknown = All-push (λ p. ¬ IsKnown (answers_of kept) (word_at_place (batch ++ w ∷ []) p)) places (length words) unknown_more (λ known. new (subst (IsKnown (answers_of kept)) last known));
         rising = all_pairs_push (λ p q. p < q) places (length words) is.rising (λ k d lt. let h : IsAtHand batch words (get_or places k d) = is.at_hand k d lt in omega (arith, h.within, is.size));
         count = omega (arith, is.count, length_push batch w, length_push places (length words));
         covered = covered_more (places ++ length words ∷ []) (λ p c. Contains-append_left places (length words ∷ []) p c) (inl (subst (Contains (places ++ length words ∷ [])) is.size (Contains-push places (length words))));
@@ -144,13 +144,13 @@ in_order batch words (x ∷ xs) hand order few =
       in_order batch words xs rest (pairs_rest (NotAfter words) x xs order) (λ p. omega (arith, few p, sum_by-cons (λ (y : ℕ). cond (eqb p y) 1 0) x xs)),
     )
   where
-    strict : (p q : ℕ) → word_at words p ≡ word_at batch p → word_at words q ≡ word_at batch q → NotAfter words p q → p ≢ q → ComesBefore batch p q
+    strict : (p q : ℕ) → word_at_place words p ≡ word_at_place batch p → word_at_place words q ≡ word_at_place batch q → NotAfter words p q → p ≢ q → ComesBefore batch p q
     strict p q at_p at_q not_after other =
-        let len_p : length (word_at words p) ≡ length (word_at batch p) = ap (λ (l : List ℕ). length l) at_p in
-        let len_q : length (word_at words q) ≡ length (word_at batch q) = ap (λ (l : List ℕ). length l) at_q in
+        let len_p : length (word_at_place words p) ≡ length (word_at_place batch p) = ap (λ (l : List ℕ). length l) at_p in
+        let len_q : length (word_at_place words q) ≡ length (word_at_place batch q) = ap (λ (l : List ℕ). length l) at_q in
         ⊎_elim
-        (λ (l : length (word_at words q) < length (word_at words p)). inl (omega (arith, l, len_p, len_q)))
-        (λ (l : (length (word_at words p) ≡ length (word_at words q)) × (p ≤ q)). inr (omega (arith, l.0, len_p, len_q), omega (arith, l.1, other)))
+        (λ (l : length (word_at_place words q) < length (word_at_place words p)). inl (omega (arith, l, len_p, len_q)))
+        (λ (l : (length (word_at_place words p) ≡ length (word_at_place words q)) × (p ≤ q)). inr (omega (arith, l.0, len_p, len_q), omega (arith, l.1, other)))
         not_after
 
 -- the places whose words begin no next one's
@@ -186,7 +186,7 @@ module _ (words : List (List ℕ)) where
       h
 
   abbrev IsBegun : List ℕ → ℕ → Type 0
-  IsBegun whole p = (q : ℕ) × In q whole × IsPrefix (word_at words p) (word_at words q)
+  IsBegun whole p = (q : ℕ) × In q whole × IsPrefix (word_at_place words p) (word_at_place words q)
 
   -- each of the places begins one of them
   whole_covers : (xs whole : List ℕ) → AreWholeOf words xs whole → (p : ℕ) → In p xs → IsBegun whole p
@@ -198,32 +198,32 @@ module _ (words : List (List ℕ)) where
       (λ (j : In p xs). whole_covers xs whole d.1 p j)
       i)
       (λ (k : (¬ BeginsNext words x xs) × ((rest : List ℕ) × (whole ≡ rest ++ x ∷ []) × AreWholeOf words xs rest)). ⊎_elim
-      (λ (e : p ≡ x). (x, subst (In x) (sym k.1.1) (in_right x k.1.0 (x ∷ []) (inl refl)), subst (λ (q : ℕ). IsPrefix (word_at words q) (word_at words x)) (sym e) (prefix_whole (word_at words x))))
+      (λ (e : p ≡ x). (x, subst (In x) (sym k.1.1) (in_right x k.1.0 (x ∷ []) (inl refl)), subst (λ (q : ℕ). IsPrefix (word_at_place words q) (word_at_place words x)) (sym e) (prefix_whole (word_at_place words x))))
       (λ (j : In p xs). let r = whole_covers xs k.1.0 k.1.2 p j in (r.0, subst (In r.0) (sym k.1.1) (in_left r.0 k.1.0 (x ∷ []) r.1), r.2))
       i)
       h
     where
       by : (ys : List ℕ) → BeginsNext words x ys → ((n : ℕ) → In n ys → IsBegun whole n) → IsBegun whole x
       by [] none rest = absurd none
-      by (n ∷ ns) begins rest = let r = rest n (inl refl) in (r.0, r.1, prefix_of_prefix (word_at words x) (word_at words n) (word_at words r.0) begins r.2)
+      by (n ∷ ns) begins rest = let r = rest n (inl refl) in (r.0, r.1, prefix_of_prefix (word_at_place words x) (word_at_place words n) (word_at_place words r.0) begins r.2)
 
   -- a place whose word begins a later one's begins the next one's, where they stand by their words
-  begins_one : (x : ℕ) (xs : List ℕ) → AllPairs (StandsBefore words) (x ∷ xs) → (r : ℕ) → In r xs → IsPrefix (word_at words x) (word_at words r) → BeginsNext words x xs
+  begins_one : (x : ℕ) (xs : List ℕ) → AllPairs (StandsBefore words) (x ∷ xs) → (r : ℕ) → In r xs → IsPrefix (word_at_place words x) (word_at_place words r) → BeginsNext words x xs
   begins_one x [] sorted r i pre = absurd i
   begins_one x (n ∷ ns) sorted r i pre =
       ⊎_elim
-      (λ (e : r ≡ n). subst (λ (q : ℕ). IsPrefix (word_at words x) (word_at words q)) e pre)
+      (λ (e : r ≡ n). subst (λ (q : ℕ). IsPrefix (word_at_place words x) (word_at_place words q)) e pre)
       (λ (j : In r ns).
       let next : StandsBefore words x n = All-head (StandsBefore words x) n ns (pairs_first (StandsBefore words) x (n ∷ ns) sorted) in
       let later : StandsBefore words n r = All-contains (StandsBefore words n) ns r (pairs_first (StandsBefore words) n ns (pairs_rest (StandsBefore words) x (n ∷ ns) sorted)) (in_contains r ns j) in
-      between (word_at words x) (word_at words n) (word_at words r) pre next.0 later.0)
+      between (word_at_place words x) (word_at_place words n) (word_at_place words r) pre next.0 later.0)
       i
 
   abbrev IsLeastAlike : ℕ → ℕ → Type 0
-  IsLeastAlike q r = (word_at words r ≡ word_at words q) × (q ≤ r)
+  IsLeastAlike q r = (word_at_place words r ≡ word_at_place words q) × (q ≤ r)
 
   -- one of them begins no other word, and has the least place of its own
-  whole_apart : (xs whole : List ℕ) → AllPairs (StandsBefore words) xs → AreWholeOf words xs whole → (q r : ℕ) → In q whole → In r xs → IsPrefix (word_at words q) (word_at words r) → IsLeastAlike q r
+  whole_apart : (xs whole : List ℕ) → AllPairs (StandsBefore words) xs → AreWholeOf words xs whole → (q r : ℕ) → In q whole → In r xs → IsPrefix (word_at_place words q) (word_at_place words r) → IsLeastAlike q r
   whole_apart [] whole sorted none q r i j pre = absurd j
   whole_apart (x ∷ xs) whole sorted h q r i j pre =
       ⊎_elim
@@ -238,8 +238,8 @@ module _ (words : List (List ℕ)) where
       j)
       (λ (m : In q (x ∷ [])). ⊎_elim
       (λ (own : q ≡ x). ⊎_elim
-      (λ (e : r ≡ x). (ap (word_at words) (e ∙ sym own), omega (arith, e, own)))
-      (λ (l : In r xs). absurd (k.0 (begins_one x xs sorted r l (subst (λ (y : ℕ). IsPrefix (word_at words y) (word_at words r)) own pre))))
+      (λ (e : r ≡ x). (ap (word_at_place words) (e ∙ sym own), omega (arith, e, own)))
+      (λ (l : In r xs). absurd (k.0 (begins_one x xs sorted r l (subst (λ (y : ℕ). IsPrefix (word_at_place words y) (word_at_place words r)) own pre))))
       j)
       (λ (no_one : ⊥). absurd no_one)
       m)
@@ -252,12 +252,12 @@ module _ (words : List (List ℕ)) where
       first : In q xs → r ≡ x → IsLeastAlike q r
       first m e =
           let before : StandsBefore words x q = All-contains (StandsBefore words x) xs q (pairs_first (StandsBefore words) x xs sorted) (in_contains q xs m) in
-          let back : IsUpTo (word_at words q) (word_at words x) = up_to_prefix (word_at words q) (word_at words x) (subst (λ (y : ℕ). IsPrefix (word_at words q) (word_at words y)) e pre) in
-          let same : word_at words x ≡ word_at words q = up_to_both (word_at words x) (word_at words q) before.0 back in
-          (ap (word_at words) e ∙ same, omega (arith, before.1 same, e))
+          let back : IsUpTo (word_at_place words q) (word_at_place words x) = up_to_prefix (word_at_place words q) (word_at_place words x) (subst (λ (y : ℕ). IsPrefix (word_at_place words q) (word_at_place words y)) e pre) in
+          let same : word_at_place words x ≡ word_at_place words q = up_to_both (word_at_place words x) (word_at_place words q) before.0 back in
+          (ap (word_at_place words) e ∙ same, omega (arith, before.1 same, e))
 
 -- places whose words begin no other's
-whole_list : (batch : List (List ℕ)) (xs : List ℕ) → ((p q : ℕ) → In p xs → In q xs → IsPrefix (word_at batch q) (word_at batch p) → p ≡ q) → ((p : ℕ) → times p xs ≤ 1) → AreWhole batch xs
+whole_list : (batch : List (List ℕ)) (xs : List ℕ) → ((p q : ℕ) → In p xs → In q xs → IsPrefix (word_at_place batch q) (word_at_place batch p) → p ≡ q) → ((p : ℕ) → times p xs ≤ 1) → AreWhole batch xs
 whole_list batch [] apart few = tt
 whole_list batch (x ∷ xs) apart few = (
   λ k d lt pre. not_again x xs (few x) k d lt (apart x (get_or xs k d) (inl refl) (inr (contains_in (get_or xs k d) xs (Contains-get_or xs k d lt))) pre),
@@ -290,10 +290,10 @@ module _ (kept : List KeptAnswer) (batch words : List (List ℕ)) (places sorted
   ready_hand k d lt = hand_at (get_or ready k d) (to_sorted (get_or ready k d) (all_in ready k d lt))
 
   -- by the words of the batch
-  least_alike : (q r : ℕ) → In q ready → In r sorted → IsPrefix (word_at batch q) (word_at batch r) → IsLeastAlike words q r
+  least_alike : (q r : ℕ) → In q ready → In r sorted → IsPrefix (word_at_place batch q) (word_at_place batch r) → IsLeastAlike words q r
   least_alike q r i j pre =
       whole_apart words sorted whole by_words are q r (to_whole q i) j
-      (subst (λ (w : List ℕ). IsPrefix w (word_at words r)) (sym (hand_at q (to_sorted q i)).word) (subst (IsPrefix (word_at batch q)) (sym (hand_at r j).word) pre))
+      (subst (λ (w : List ℕ). IsPrefix w (word_at_place words r)) (sym (hand_at q (to_sorted q i)).word) (subst (IsPrefix (word_at_place batch q)) (sym (hand_at r j).word) pre))
 
   pub ready_is : IsReady kept batch words ready letters
   ready_is = record {
@@ -304,19 +304,19 @@ module _ (kept : List KeptAnswer) (batch words : List (List ℕ)) (places sorted
         let p : ℕ = get_or ready k d in
         let i : In p ready = all_in ready k d lt in
         ⊎_elim
-        (λ (c : Contains places q). (least_alike p q i (from_places q c) (subst (IsPrefix (word_at batch p)) (sym same) (prefix_whole (word_at batch p)))).1)
-        (λ (known : IsKnown (answers_of kept) (word_at batch q)). absurd (unknown p i (subst (IsKnown (answers_of kept)) same known)))
+        (λ (c : Contains places q). (least_alike p q i (from_places q c) (subst (IsPrefix (word_at_place batch p)) (sym same) (prefix_whole (word_at_place batch p)))).1)
+        (λ (known : IsKnown (answers_of kept) (word_at_place batch q)). absurd (unknown p i (subst (IsKnown (answers_of kept)) same known)))
         (is.covered q below);
     order = in_order batch words ready ready_hand order few_times;
     whole = whole_list batch ready (λ p q i j pre.
         let a : IsLeastAlike words q p = least_alike q p j (to_sorted p i) pre in
-        let back : word_at batch q ≡ word_at batch p = sym (hand_at q (to_sorted q j)).word ∙ (sym a.0 ∙ (hand_at p (to_sorted p i)).word) in
-        let b : IsLeastAlike words p q = least_alike p q i (to_sorted q j) (subst (IsPrefix (word_at batch p)) (sym back) (prefix_whole (word_at batch p))) in
+        let back : word_at_place batch q ≡ word_at_place batch p = sym (hand_at q (to_sorted q j)).word ∙ (sym a.0 ∙ (hand_at p (to_sorted p i)).word) in
+        let b : IsLeastAlike words p q = least_alike p q i (to_sorted q j) (subst (IsPrefix (word_at_place batch p)) (sym back) (prefix_whole (word_at_place batch p))) in
         omega (arith, a.1, b.1)) few_times;
     count = omega (arith, is.count, length_permutation places sorted moved, whole_long words sorted whole are, length_permutation whole ready last);
     letters_sum =
-        let f : ℕ → ℕ = λ p. length (word_at batch p) in
-        let g : ℕ → ℕ = λ p. length (word_at words p) in
+        let f : ℕ → ℕ = λ p. length (word_at_place batch p) in
+        let g : ℕ → ℕ = λ p. length (word_at_place words p) in
         sym (sum-map f ready)
         ∙ (ap sum (map_agree (IsAtHand batch words) f g (λ p h. ap (λ (l : List ℕ). length l) (sym h.word)) ready ready_hand)
         ∙ (sum-map g ready ∙ sym sum_is));
@@ -327,14 +327,14 @@ module _ (kept : List KeptAnswer) (batch words : List (List ℕ)) (places sorted
         inl (
           r.0,
           Contains-permutation whole ready r.0 last (in_contains r.0 whole r.1),
-          subst (λ (w : List ℕ). IsPrefix w (word_at batch r.0)) (hand_at p i).word (subst (IsPrefix (word_at words p)) (hand_at r.0 (whole_in words sorted whole are r.0 r.1)).word r.2),
+          subst (λ (w : List ℕ). IsPrefix w (word_at_place batch r.0)) (hand_at p i).word (subst (IsPrefix (word_at_place words p)) (hand_at r.0 (whole_in words sorted whole are r.0 r.1)).word r.2),
         ))
-        (λ (k : IsKnown (answers_of kept) (word_at batch p)). inr k)
+        (λ (k : IsKnown (answers_of kept) (word_at_place batch p)). inr k)
         (is.covered p below);
   }
     where
-      unknown : (p : ℕ) → In p ready → ¬ IsKnown (answers_of kept) (word_at batch p)
-      unknown p i = All-contains (λ x. ¬ IsKnown (answers_of kept) (word_at batch x)) sorted p (All-permutation (λ x. ¬ IsKnown (answers_of kept) (word_at batch x)) places sorted moved is.unknown) (in_contains p sorted (to_sorted p i))
+      unknown : (p : ℕ) → In p ready → ¬ IsKnown (answers_of kept) (word_at_place batch p)
+      unknown p i = All-contains (λ x. ¬ IsKnown (answers_of kept) (word_at_place batch x)) sorted p (All-permutation (λ x. ¬ IsKnown (answers_of kept) (word_at_place batch x)) places sorted moved is.unknown) (in_contains p sorted (to_sorted p i))
 
 -- neighbours in the order of their keys
 pub not_after : (a b p q : ℕ) → is_lt (ordering_then (nat_cmp a b) (nat_cmp q p)) ≡ false → (b < a) ⊎ ((a ≡ b) × (p ≤ q))
@@ -362,20 +362,20 @@ not_after a b p q less =
 pub through_after : (words : List (List ℕ)) (p q r : ℕ) → NotAfter words p q → NotAfter words q r → NotAfter words p r
 through_after words p q r one two =
     ⊎_elim
-    (λ (l : length (word_at words q) < length (word_at words p)). ⊎_elim
-    (λ (m : length (word_at words r) < length (word_at words q)). inl (omega (arith, l, m)))
-    (λ (m : (length (word_at words q) ≡ length (word_at words r)) × (q ≤ r)). inl (omega (arith, l, m.0)))
+    (λ (l : length (word_at_place words q) < length (word_at_place words p)). ⊎_elim
+    (λ (m : length (word_at_place words r) < length (word_at_place words q)). inl (omega (arith, l, m)))
+    (λ (m : (length (word_at_place words q) ≡ length (word_at_place words r)) × (q ≤ r)). inl (omega (arith, l, m.0)))
     two)
-    (λ (l : (length (word_at words p) ≡ length (word_at words q)) × (p ≤ q)). ⊎_elim
-    (λ (m : length (word_at words r) < length (word_at words q)). inl (omega (arith, l.0, m)))
-    (λ (m : (length (word_at words q) ≡ length (word_at words r)) × (q ≤ r)). inr (l.0 ∙ m.0, omega (arith, l.1, m.1)))
+    (λ (l : (length (word_at_place words p) ≡ length (word_at_place words q)) × (p ≤ q)). ⊎_elim
+    (λ (m : length (word_at_place words r) < length (word_at_place words q)). inl (omega (arith, l.0, m)))
+    (λ (m : (length (word_at_place words q) ≡ length (word_at_place words r)) × (q ≤ r)). inr (l.0 ∙ m.0, omega (arith, l.1, m.1)))
     two)
     one
 
 -- places in the order of their words
 pub stands_before : (words : List (List ℕ)) (p q : ℕ) → is_lt (by_words words q p) ≡ false → StandsBefore words p q
 stands_before words p q less =
-    let r = up_to_cmp (word_at words p) (word_at words q) (nat_cmp p q) less in
+    let r = up_to_cmp (word_at_place words p) (word_at_place words q) (nat_cmp p q) less in
     (r.0, λ same. not_less (r.1 same))
   where
     not_less : is_lt (nat_cmp p q) ≡ false → q ≤ p
@@ -386,7 +386,7 @@ stands_before words p q less =
         (cases_lt p q)
 
 falls_not : (words : List (List ℕ)) (p q : ℕ) → StandsBefore words p q → is_lt (by_words words q p) ≡ false
-falls_not words p q before = cmp_up_to (word_at words p) (word_at words q) (nat_cmp p q) before.0 (λ same. not_less (before.1 same))
+falls_not words p q before = cmp_up_to (word_at_place words p) (word_at_place words q) (nat_cmp p q) before.0 (λ same. not_less (before.1 same))
   where
     not_less : q ≤ p → is_lt (nat_cmp p q) ≡ false
     not_less le =
@@ -397,9 +397,9 @@ falls_not words p q before = cmp_up_to (word_at words p) (word_at words q) (nat_
 
 pub through_before : (words : List (List ℕ)) (p q r : ℕ) → StandsBefore words p q → StandsBefore words q r → StandsBefore words p r
 through_before words p q r one two = (
-  up_to_through (word_at words p) (word_at words q) (word_at words r) one.0 two.0,
+  up_to_through (word_at_place words p) (word_at_place words q) (word_at_place words r) one.0 two.0,
   λ same.
-      let back : word_at words q ≡ word_at words p = up_to_both (word_at words q) (word_at words p) (subst (IsUpTo (word_at words q)) (sym same) two.0) one.0 in
+      let back : word_at_place words q ≡ word_at_place words p = up_to_both (word_at_place words q) (word_at_place words p) (subst (IsUpTo (word_at_place words q)) (sym same) two.0) one.0 in
       omega (arith, one.1 (sym back), two.1 (back ∙ same)),
 )
 
@@ -410,7 +410,7 @@ words_rank words = record {
 }
   where
     total : IsTotalOrder (by_words words)
-    total = then_total (on_total (word_at words) nat_list_cmp_total) (back_total nat_cmp_total)
+    total = then_total (on_total (word_at_place words) nat_list_cmp_total) (back_total nat_cmp_total)
 
     not_both : (r s : Ordering) → r ≡ ordering_reverse s → is_lt r ≡ true → is_lt s ≡ false
     not_both r s = elim s as (λ s. r ≡ ordering_reverse s → is_lt r ≡ true → is_lt s ≡ false) [
@@ -426,14 +426,14 @@ whole_keeps words places at p whole lt here begins are =
     (subst (λ (l : List ℕ). AreWholeOf words l (whole ++ get_or places at 0 ∷ [])) (sym (drop_more places at 0 lt)) (inr (begins, (whole, refl, are))))
 
 -- whether the word of a place begins that of the next one
-pub begins_is : (words : List (List ℕ)) (places : List ℕ) (at : ℕ) → at + 1 < length places → (long short : List ℕ) → long ≡ word_at words (get_or places (at + 1) 0) → short ≡ word_at words (get_or places at 0) → (r : Bool) → r ≡ starts_with eqb long short → IsTrue r ↔ BeginsNext words (get_or places at 0) (drop (at + 1) places)
+pub begins_is : (words : List (List ℕ)) (places : List ℕ) (at : ℕ) → at + 1 < length places → (long short : List ℕ) → long ≡ word_at_place words (get_or places (at + 1) 0) → short ≡ word_at_place words (get_or places at 0) → (r : Bool) → r ≡ starts_with eqb long short → IsTrue r ↔ BeginsNext words (get_or places at 0) (drop (at + 1) places)
 begins_is words places at lt long short long_is short_is r value =
     let p : ℕ = get_or places at 0 in
     let next : drop (at + 1) places ≡ get_or places (at + 1) 0 ∷ drop (at + 1 + 1) places = drop_more places (at + 1) 0 lt in
     let s = starts_is unsigned_Decides long short r value in (
       λ told. subst (BeginsNext words p) (sym next) (drop (length short) long, sym long_is ∙ (s.0 told ∙ ap (λ (w : List ℕ). w ++ drop (length short) long) short_is)),
       λ begins.
-          let pre : IsPrefix (word_at words p) (word_at words (get_or places (at + 1) 0)) = subst (BeginsNext words p) next begins in
+          let pre : IsPrefix (word_at_place words p) (word_at_place words (get_or places (at + 1) 0)) = subst (BeginsNext words p) next begins in
           s.1 pre.0 (long_is ∙ (pre.1 ∙ ap (λ (w : List ℕ). w ++ pre.0) (sym short_is))),
     )
 

@@ -6,7 +6,7 @@ use Rattle.lw_names.specs.Names.{name_at, named, with_names}
 use Rattle.lw_turn.specs.declared.shared.Entry.{Entry}
 use Rattle.lw_turn.specs.History.{entries_of}
 use Rattle.lw_names.specs.Naming.{Naming, own_names, bring, shared, number_in, HasLists}
-use Rattle.lw_desk.specs.Step.{DeskState, word_at, kept_of, Gives, GivesAll}
+use Rattle.lw_desk.specs.Step.{DeskState, word_at_place, kept_of, ActorGives, GivesAll}
 use Rattle.lw_desk.specs.History.{DeskOpening, opened, MayGiveAll, Makes, Replays}
 use Rattle.lw_desk.specs.Ending.{NamedRun, kept_runs, IsShared}
 use Rattle.lw_desk.specs.bodies.Outcome.{given_runs, gives_of}
@@ -76,9 +76,9 @@ more_other names actor (x ∷ kept) k other = by (x.instance == actor) (more_oth
     by true rest = ap (λ (l : List NamedRun). record { run = x.run; word = x.word; names = named names x.outs } ∷ l) rest
     by false rest = rest
 
-given_more : (batch own : List (List ℕ)) (gs : List Give) (g : Give) → given_runs batch own (gs ++ g ∷ []) ≡ given_runs batch own gs ++ record { run = g.run; word = word_at batch g.place; names = named own g.outs } ∷ []
+given_more : (batch own : List (List ℕ)) (gs : List Give) (g : Give) → given_runs batch own (gs ++ g ∷ []) ≡ given_runs batch own gs ++ record { run = g.run; word = word_at_place batch g.place; names = named own g.outs } ∷ []
 given_more batch own [] g = refl
-given_more batch own (h ∷ gs) g = ap (λ (l : List NamedRun). record { run = h.run; word = word_at batch h.place; names = named own h.outs } ∷ l) (given_more batch own gs g)
+given_more batch own (h ∷ gs) g = ap (λ (l : List NamedRun). record { run = h.run; word = word_at_place batch h.place; names = named own h.outs } ∷ l) (given_more batch own gs g)
 
 abbrev of_actor : ℕ → ℕ → List Give → List Give
 of_actor maker actor gs = cond (maker == actor) gs []
@@ -135,7 +135,7 @@ module _ (o : DeskOpening) where
   }
 
   -- an answer that is given
-  running_give : (maker actor : ℕ) (g : Give) (s t : DeskState) (gs : List Give) → maker < o.actors → Gives o.batch maker g s t → OwnMore o.actors maker g.names s.naming (bring s.naming maker g.names) → IsShared (bring s.naming maker g.names)
+  running_give : (maker actor : ℕ) (g : Give) (s t : DeskState) (gs : List Give) → maker < o.actors → ActorGives o.batch maker g s t → OwnMore o.actors maker g.names s.naming (bring s.naming maker g.names) → IsShared (bring s.naming maker g.names)
       → ((y : ℕ) → In y g.outs → y < length (own_names (bring s.naming maker g.names) maker)) → Running s actor gs → Running t actor (gs ++ of_actor maker actor (g ∷ []))
   running_give maker actor g s t gs lt gives more is below was =
       record {
@@ -164,8 +164,8 @@ module _ (o : DeskOpening) where
           → kept_runs later.names actor (was.gained ++ kept_of o.batch (bring s.naming maker g.names) maker g ∷ []) ≡ given_runs o.batch (own_names later actor) (gs ++ cond b (g ∷ []) [])
       by true own later l =
           more_own later.names actor was.gained (kept_of o.batch (bring s.naming maker g.names) maker g) own
-          ∙ (ap (λ (rs : List NamedRun). rs ++ record { run = g.run; word = word_at o.batch g.place; names = named later.names (shared (bring s.naming maker g.names) maker g.outs) } ∷ []) (was.runs later (later_both s.naming (bring s.naming maker g.names) later (later_more maker g.names s.naming more) l))
-          ∙ (ap (λ (ns : List (List ℕ)). given_runs o.batch (own_names later actor) gs ++ record { run = g.run; word = word_at o.batch g.place; names = ns } ∷ [])
+          ∙ (ap (λ (rs : List NamedRun). rs ++ record { run = g.run; word = word_at_place o.batch g.place; names = named later.names (shared (bring s.naming maker g.names) maker g.outs) } ∷ []) (was.runs later (later_both s.naming (bring s.naming maker g.names) later (later_more maker g.names s.naming more) l))
+          ∙ (ap (λ (ns : List (List ℕ)). given_runs o.batch (own_names later actor) gs ++ record { run = g.run; word = word_at_place o.batch g.place; names = ns } ∷ [])
           (same_names (bring s.naming maker g.names) later maker g.outs l is below ∙ ap (λ (a : ℕ). named (own_names later a) g.outs) (same_number maker actor own))
           ∙ sym (given_more o.batch (own_names later actor) gs g)))
       by false other later l =

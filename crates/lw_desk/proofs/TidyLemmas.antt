@@ -14,7 +14,7 @@ use Rattle.lw_cache.specs.declared.stops.AskStop.{AskStop}
 use Rattle.lw_cache.proofs.GainLemmas.{known_stays, nothing_more}
 use Rattle.lw_turn.specs.declared.shared.Entry.{Entry}
 use Rattle.lw_names.specs.Naming.{bring}
-use Rattle.lw_desk.specs.Step.{Claimed, DeskState, word_at, ComesBefore, IsCovered, IsFirstFree, NothingToTake, TakesAll, Gives, GivesAll, kept_of, after_take, after_fail, after_done, without_place, without_places}
+use Rattle.lw_desk.specs.Step.{Claimed, DeskState, word_at_place, ComesBefore, IsCovered, IsFirstFree, NothingToTake, ActorTakesAll, ActorGives, GivesAll, kept_of, after_take, after_fail, after_done, without_place, without_places}
 use Rattle.lw_desk.specs.bodies.Outcome.{FreshFrom}
 use Rattle.lw_desk.specs.History.{DeskOpening, opened, Makes, Replays, failed_places}
 use Rattle.lw_desk.specs.declared.ask.Ask.{Ask}
@@ -36,14 +36,14 @@ pub record Tidy (o : DeskOpening) (s : DeskState) (gained : List KeptAnswer) : T
   pub once : EachOnce s.claims
   pub grown : s.kept ≡ o.kept ++ gained
   -- each claimed word has to be asked, isn't known yet, and begins no other claimed word
-  pub asked : (c : Claimed) → In c s.claims → IsAsked o.batch (answers_of o.kept) (word_at o.batch c.place)
-  pub unknown : (c : Claimed) → In c s.claims → IsKnown (answers_of s.kept) (word_at o.batch c.place) → ⊥
-  pub apart : (c d : Claimed) → In c s.claims → In d s.claims → c.place ≢ d.place → IsPrefix (word_at o.batch c.place) (word_at o.batch d.place) → ⊥
-  pub longer : s.stop ≡ None → (c : Claimed) → In c s.claims → (p : ℕ) → p < length o.batch → ComesBefore o.batch p c.place → IsCovered o.batch s (word_at o.batch p)
+  pub asked : (c : Claimed) → In c s.claims → IsAsked o.batch (answers_of o.kept) (word_at_place o.batch c.place)
+  pub unknown : (c : Claimed) → In c s.claims → IsKnown (answers_of s.kept) (word_at_place o.batch c.place) → ⊥
+  pub apart : (c d : Claimed) → In c s.claims → In d s.claims → c.place ≢ d.place → IsPrefix (word_at_place o.batch c.place) (word_at_place o.batch d.place) → ⊥
+  pub longer : s.stop ≡ None → (c : Claimed) → In c s.claims → (p : ℕ) → p < length o.batch → ComesBefore o.batch p c.place → IsCovered o.batch s (word_at_place o.batch p)
   -- and so had each word that was answered
   pub answered : (k : KeptAnswer) → In k gained → IsAsked o.batch (answers_of o.kept) k.word
   pub differ : AllDiffer (map (λ k. k.word) gained)
-  pub others : (c : Claimed) → In c s.claims → In (word_at o.batch c.place) (map (λ k. k.word) gained) → ⊥
+  pub others : (c : Claimed) → In c s.claims → In (word_at_place o.batch c.place) (map (λ k. k.word) gained) → ⊥
   pub fresh : FreshFrom o.kept gained
   pub known : s.stop ≡ None → (k : KeptAnswer) → In k gained → IsKnown (answers_of s.kept) k.word
   pub clear : s.stop ≡ None → NothingClashes (answers_of o.kept) → NothingClashes (answers_of s.kept)
@@ -56,11 +56,11 @@ word_in (x ∷ xs) (suc k) d lt = inr (word_in xs k d (omega arith))
 pub differ_more : (ws : List (List ℕ)) (w : List ℕ) → AllDiffer ws → (In w ws → ⊥) → AllDiffer (ws ++ w ∷ [])
 differ_more ws w differ new = all_pairs_push (λ a b. a ≢ b) ws w differ (λ k d lt same. new (subst (λ v. In v ws) same (word_in ws k d lt)))
 
-pub in_batch : (batch : List (List ℕ)) (p : ℕ) → p < length batch → Contains batch (word_at batch p)
-in_batch batch p lt = (p, lt, get_or_default batch p (word_at batch p) [] lt)
+pub in_batch : (batch : List (List ℕ)) (p : ℕ) → p < length batch → Contains batch (word_at_place batch p)
+in_batch batch p lt = (p, lt, get_or_default batch p (word_at_place batch p) [] lt)
 
 -- a word that is in the batch stands at a place
-pub at_place : (batch : List (List ℕ)) (w : List ℕ) → Contains batch w → (p : ℕ) × (p < length batch) × (word_at batch p ≡ w)
+pub at_place : (batch : List (List ℕ)) (w : List ℕ) → Contains batch w → (p : ℕ) × (p < length batch) × (word_at_place batch p ≡ w)
 at_place batch w c = (c.0, c.1, get_or_default batch c.0 [] w c.1 ∙ c.2)
 
 -- a proper prefix is shorter
@@ -95,19 +95,19 @@ module _ (o : DeskOpening) where
       record {
         once = once_more s.claims c is.once (free_unclaimed o.batch actor s p free);
         grown = is.grown;
-        asked = λ d i. ⊎_elim (λ (l : In d s.claims). is.asked d l) (λ (r : In d (c ∷ [])). subst (λ (x : Claimed). IsAsked o.batch (answers_of o.kept) (word_at o.batch x.place)) (sym (only d c r)) new) (in_either d s.claims (c ∷ []) i);
-        unknown = λ d i k. ⊎_elim (λ (l : In d s.claims). is.unknown d l k) (λ (r : In d (c ∷ [])). free.free (inl (subst (λ (x : Claimed). IsKnown (answers_of s.kept) (word_at o.batch x.place)) (only d c r) k))) (in_either d s.claims (c ∷ []) i);
+        asked = λ d i. ⊎_elim (λ (l : In d s.claims). is.asked d l) (λ (r : In d (c ∷ [])). subst (λ (x : Claimed). IsAsked o.batch (answers_of o.kept) (word_at_place o.batch x.place)) (sym (only d c r)) new) (in_either d s.claims (c ∷ []) i);
+        unknown = λ d i k. ⊎_elim (λ (l : In d s.claims). is.unknown d l k) (λ (r : In d (c ∷ [])). free.free (inl (subst (λ (x : Claimed). IsKnown (answers_of s.kept) (word_at_place o.batch x.place)) (only d c r) k))) (in_either d s.claims (c ∷ []) i);
         apart = λ d e i j other pre. ⊎_elim
             (λ (l : In d s.claims). ⊎_elim
             (λ (m : In e s.claims). is.apart d e l m other pre)
-            (λ (m : In e (c ∷ [])). begins_new d l (subst (λ (x : Claimed). IsPrefix (word_at o.batch d.place) (word_at o.batch x.place)) (only e c m) pre))
+            (λ (m : In e (c ∷ [])). begins_new d l (subst (λ (x : Claimed). IsPrefix (word_at_place o.batch d.place) (word_at_place o.batch x.place)) (only e c m) pre))
             (in_either e s.claims (c ∷ []) j))
             (λ (l : In d (c ∷ [])). ⊎_elim
-            (λ (m : In e s.claims). free.free (inr (e, in_contains e s.claims m, subst (λ (x : Claimed). IsPrefix (word_at o.batch x.place) (word_at o.batch e.place)) (only d c l) pre)))
+            (λ (m : In e s.claims). free.free (inr (e, in_contains e s.claims m, subst (λ (x : Claimed). IsPrefix (word_at_place o.batch x.place) (word_at_place o.batch e.place)) (only d c l) pre)))
             (λ (m : In e (c ∷ [])). other (ap (λ (x : Claimed). x.place) (only d c l ∙ sym (only e c m))))
             (in_either e s.claims (c ∷ []) j))
             (in_either d s.claims (c ∷ []) i);
-        longer = λ still d i q lt before. cover_take o.batch actor p s (word_at o.batch q) (⊎_elim
+        longer = λ still d i q lt before. cover_take o.batch actor p s (word_at_place o.batch q) (⊎_elim
             (λ (l : In d s.claims). is.longer none d l q lt before)
             (λ (r : In d (c ∷ [])). free.first q lt (subst (λ (x : Claimed). ComesBefore o.batch q x.place) (only d c r) before))
             (in_either d s.claims (c ∷ []) i));
@@ -117,7 +117,7 @@ module _ (o : DeskOpening) where
         others = λ d i w. ⊎_elim
             (λ (l : In d s.claims). is.others d l w)
             (λ (r : In d (c ∷ [])).
-            let k = in_mapped (λ (k : KeptAnswer). k.word) (word_at o.batch p) gained (subst (λ (x : Claimed). In (word_at o.batch x.place) (map (λ (k : KeptAnswer). k.word) gained)) (only d c r) w) in
+            let k = in_mapped (λ (k : KeptAnswer). k.word) (word_at_place o.batch p) gained (subst (λ (x : Claimed). In (word_at_place o.batch x.place) (map (λ (k : KeptAnswer). k.word) gained)) (only d c r) w) in
             free.free (inl (subst (IsKnown (answers_of s.kept)) k.2 (is.known none k.0 k.1))))
             (in_either d s.claims (c ∷ []) i);
         known = is.known;
@@ -128,31 +128,31 @@ module _ (o : DeskOpening) where
       only d c r = ⊎_elim (λ (e : d ≡ c). e) (λ (no_one : ⊥). absurd no_one) r
 
       -- a claimed word that begins the new one would be the same, or shorter, and then the new one was covered before
-      begins_new : (d : Claimed) → In d s.claims → IsPrefix (word_at o.batch d.place) (word_at o.batch p) → ⊥
+      begins_new : (d : Claimed) → In d s.claims → IsPrefix (word_at_place o.batch d.place) (word_at_place o.batch p) → ⊥
       begins_new d i pre =
           ⊎_elim
-          (λ (same : word_at o.batch p ≡ word_at o.batch d.place). free.free (inr (d, in_contains d s.claims i, subst (λ (w : List ℕ). IsPrefix w (word_at o.batch d.place)) (sym same) (prefix_whole (word_at o.batch d.place)))))
-          (λ (less : length (word_at o.batch d.place) < length (word_at o.batch p)). free.free (is.longer none d i p free.within (inl less)))
-          (longer_word (word_at o.batch d.place) (word_at o.batch p) pre)
+          (λ (same : word_at_place o.batch p ≡ word_at_place o.batch d.place). free.free (inr (d, in_contains d s.claims i, subst (λ (w : List ℕ). IsPrefix w (word_at_place o.batch d.place)) (sym same) (prefix_whole (word_at_place o.batch d.place)))))
+          (λ (less : length (word_at_place o.batch d.place) < length (word_at_place o.batch p)). free.free (is.longer none d i p free.within (inl less)))
+          (longer_word (word_at_place o.batch d.place) (word_at_place o.batch p) pre)
 
-      old_known : IsKnown (answers_of o.kept) (word_at o.batch p) → IsKnown (answers_of s.kept) (word_at o.batch p)
-      old_known k = subst (λ (l : List KeptAnswer). IsKnown (answers_of l) (word_at o.batch p)) (sym is.grown) (all_stay gained o.kept (word_at o.batch p) k)
+      old_known : IsKnown (answers_of o.kept) (word_at_place o.batch p) → IsKnown (answers_of s.kept) (word_at_place o.batch p)
+      old_known k = subst (λ (l : List KeptAnswer). IsKnown (answers_of l) (word_at_place o.batch p)) (sym is.grown) (all_stay gained o.kept (word_at_place o.batch p) k)
 
-      new : IsAsked o.batch (answers_of o.kept) (word_at o.batch p)
+      new : IsAsked o.batch (answers_of o.kept) (word_at_place o.batch p)
       new = record {
         within = in_batch o.batch p free.within;
         unknown = λ k. free.free (inl (old_known k));
         whole = λ v there pre. ⊎_elim
-            (λ (same : v ≡ word_at o.batch p). same)
-            (λ (less : length (word_at o.batch p) < length v).
+            (λ (same : v ≡ word_at_place o.batch p). same)
+            (λ (less : length (word_at_place o.batch p) < length v).
             let q = at_place o.batch v there in
-            absurd (free.free (cover_prefix o.batch s (word_at o.batch p) (word_at o.batch q.0) (subst (IsPrefix (word_at o.batch p)) (sym q.2) pre)
-            (free.first q.0 q.1 (inl (subst (λ (w : List ℕ). length (word_at o.batch p) < length w) (sym q.2) less))))))
-            (longer_word (word_at o.batch p) v pre);
+            absurd (free.free (cover_prefix o.batch s (word_at_place o.batch p) (word_at_place o.batch q.0) (subst (IsPrefix (word_at_place o.batch p)) (sym q.2) pre)
+            (free.first q.0 q.1 (inl (subst (λ (w : List ℕ). length (word_at_place o.batch p) < length w) (sym q.2) less))))))
+            (longer_word (word_at_place o.batch p) v pre);
       }
 
   -- an answer that is given
-  module _ (actor : ℕ) (g : Give) (s t : DeskState) (gained : List KeptAnswer) (c : Claimed) (is : Tidy o s gained) (i : In c s.claims) (here : c.place ≡ g.place) (gives : Gives o.batch actor g s t) where
+  module _ (actor : ℕ) (g : Give) (s t : DeskState) (gained : List KeptAnswer) (c : Claimed) (is : Tidy o s gained) (i : In c s.claims) (here : c.place ≡ g.place) (gives : ActorGives o.batch actor g s t) where
     abbrev new : KeptAnswer
     new = kept_of o.batch (bring s.naming actor g.names) actor g
 
@@ -171,8 +171,8 @@ module _ (o : DeskOpening) where
     only : (k : KeptAnswer) → In k (new ∷ []) → k ≡ new
     only k r = ⊎_elim (λ (e : k ≡ new). e) (λ (no_one : ⊥). absurd no_one) r
 
-    asked_new : IsAsked o.batch (answers_of o.kept) (word_at o.batch g.place)
-    asked_new = subst (λ (p : ℕ). IsAsked o.batch (answers_of o.kept) (word_at o.batch p)) here (is.asked c i)
+    asked_new : IsAsked o.batch (answers_of o.kept) (word_at_place o.batch g.place)
+    asked_new = subst (λ (p : ℕ). IsAsked o.batch (answers_of o.kept) (word_at_place o.batch p)) here (is.asked c i)
 
     pub tidy_give : Tidy o t (gained ++ new ∷ [])
     tidy_give =
@@ -181,24 +181,24 @@ module _ (o : DeskOpening) where
           grown = grown ∙ (ap (λ (l : List KeptAnswer). l ++ new ∷ []) is.grown ∙ append_assoc o.kept gained (new ∷ []));
           asked = λ d j. is.asked d (was d j).0;
           unknown = λ d j known. ⊎_elim
-              (λ (old : IsKnown (answers_of s.kept) (word_at o.batch d.place)). is.unknown d (was d j).0 old)
-              (λ (pre : IsPrefix (word_at o.batch d.place) (word_at o.batch g.place)).
-              is.apart d c (was d j).0 i (λ same. (was d j).1 (same ∙ here)) (subst (λ (p : ℕ). IsPrefix (word_at o.batch d.place) (word_at o.batch p)) (sym here) pre))
-              (known_in_more s.kept new (word_at o.batch d.place) (subst (λ (l : List KeptAnswer). IsKnown (answers_of l) (word_at o.batch d.place)) grown known));
+              (λ (old : IsKnown (answers_of s.kept) (word_at_place o.batch d.place)). is.unknown d (was d j).0 old)
+              (λ (pre : IsPrefix (word_at_place o.batch d.place) (word_at_place o.batch g.place)).
+              is.apart d c (was d j).0 i (λ same. (was d j).1 (same ∙ here)) (subst (λ (p : ℕ). IsPrefix (word_at_place o.batch d.place) (word_at_place o.batch p)) (sym here) pre))
+              (known_in_more s.kept new (word_at_place o.batch d.place) (subst (λ (l : List KeptAnswer). IsKnown (answers_of l) (word_at_place o.batch d.place)) grown known));
           apart = λ d e j k other pre. is.apart d e (was d j).0 (was e k).0 other pre;
-          longer = λ none d j q lt before. cover_give o.batch actor g s t gives none (word_at o.batch q) (is.longer (live none) d (was d j).0 q lt before);
+          longer = λ none d j q lt before. cover_give o.batch actor g s t gives none (word_at_place o.batch q) (is.longer (live none) d (was d j).0 q lt before);
           answered = λ k j. ⊎_elim (λ (l : In k gained). is.answered k l) (λ (r : In k (new ∷ [])). subst (λ (x : KeptAnswer). IsAsked o.batch (answers_of o.kept) x.word) (sym (only k r)) asked_new) (in_either k gained (new ∷ []) j);
           differ = subst AllDiffer (sym (map_push (λ (k : KeptAnswer). k.word) gained new))
-              (differ_more (map (λ (k : KeptAnswer). k.word) gained) (word_at o.batch g.place) is.differ (λ w. is.others c i (subst (λ (p : ℕ). In (word_at o.batch p) (map (λ (k : KeptAnswer). k.word) gained)) (sym here) w)));
-          fresh = fresh_more o.kept gained new is.fresh (λ known. is.unknown c i (subst (λ (p : ℕ). IsKnown (answers_of s.kept) (word_at o.batch p)) (sym here) (subst (λ (l : List KeptAnswer). IsKnown (answers_of l) (word_at o.batch g.place)) (sym is.grown) known)));
+              (differ_more (map (λ (k : KeptAnswer). k.word) gained) (word_at_place o.batch g.place) is.differ (λ w. is.others c i (subst (λ (p : ℕ). In (word_at_place o.batch p) (map (λ (k : KeptAnswer). k.word) gained)) (sym here) w)));
+          fresh = fresh_more o.kept gained new is.fresh (λ known. is.unknown c i (subst (λ (p : ℕ). IsKnown (answers_of s.kept) (word_at_place o.batch p)) (sym here) (subst (λ (l : List KeptAnswer). IsKnown (answers_of l) (word_at_place o.batch g.place)) (sym is.grown) known)));
           others = λ d j w. ⊎_elim
-              (λ (l : In (word_at o.batch d.place) (map (λ (k : KeptAnswer). k.word) gained)). is.others d (was d j).0 l)
-              (λ (r : In (word_at o.batch d.place) (word_at o.batch g.place ∷ [])). ⊎_elim
-              (λ (same : word_at o.batch d.place ≡ word_at o.batch g.place).
-              is.apart d c (was d j).0 i (λ e. (was d j).1 (e ∙ here)) (subst (IsPrefix (word_at o.batch d.place)) (same ∙ ap (word_at o.batch) (sym here)) (prefix_whole (word_at o.batch d.place))))
+              (λ (l : In (word_at_place o.batch d.place) (map (λ (k : KeptAnswer). k.word) gained)). is.others d (was d j).0 l)
+              (λ (r : In (word_at_place o.batch d.place) (word_at_place o.batch g.place ∷ [])). ⊎_elim
+              (λ (same : word_at_place o.batch d.place ≡ word_at_place o.batch g.place).
+              is.apart d c (was d j).0 i (λ e. (was d j).1 (e ∙ here)) (subst (IsPrefix (word_at_place o.batch d.place)) (same ∙ ap (word_at_place o.batch) (sym here)) (prefix_whole (word_at_place o.batch d.place))))
               (λ (no_one : ⊥). absurd no_one)
               r)
-              (in_either (word_at o.batch d.place) (map (λ (k : KeptAnswer). k.word) gained) (word_at o.batch g.place ∷ []) (subst (In (word_at o.batch d.place)) (map_push (λ (k : KeptAnswer). k.word) gained new) w));
+              (in_either (word_at_place o.batch d.place) (map (λ (k : KeptAnswer). k.word) gained) (word_at_place o.batch g.place ∷ []) (subst (In (word_at_place o.batch d.place)) (map_push (λ (k : KeptAnswer). k.word) gained new) w));
           known = λ none k j. ⊎_elim
               (λ (l : In k gained). subst (λ (x : List KeptAnswer). IsKnown (answers_of x) k.word) (sym grown) (known_stays s.kept new k.word (is.known (live none) k l)))
               (λ (r : In k (new ∷ [])). subst (λ (x : KeptAnswer). IsKnown (answers_of t.kept) x.word) (sym (only k r)) (give_known o.batch actor g s t gives none))
@@ -272,7 +272,7 @@ module _ (o : DeskOpening) where
       was : (c : Claimed) → In c (without_places f.places s.claims) → In c s.claims
       was c i = in_without_all f.places s.claims c i
 
-  tidy_takes : (actor wanted : ℕ) (ps : List ℕ) (s t : DeskState) (gained : List KeptAnswer) → Tidy o s gained → TakesAll o.batch actor wanted ps s t → Tidy o t gained
+  tidy_takes : (actor wanted : ℕ) (ps : List ℕ) (s t : DeskState) (gained : List KeptAnswer) → Tidy o s gained → ActorTakesAll o.batch actor wanted ps s t → Tidy o t gained
   tidy_takes actor wanted [] s t gained is takes = subst (λ (x : DeskState). Tidy o x gained) (sym takes.0) is
   tidy_takes actor wanted (p ∷ ps) s t gained is takes = tidy_takes actor (wanted - 1) ps (after_take actor p s) t gained (tidy_take o actor p s gained is takes.1 takes.2) takes.3
 
@@ -284,7 +284,7 @@ module _ (o : DeskOpening) where
     asked = is.asked;
     unknown = is.unknown;
     apart = is.apart;
-    longer = λ none c i p lt before. cover_done o.batch actor true s (word_at o.batch p) (is.longer none c i p lt before);
+    longer = λ none c i p lt before. cover_done o.batch actor true s (word_at_place o.batch p) (is.longer none c i p lt before);
     answered = is.answered;
     differ = is.differ;
     fresh = is.fresh;
@@ -339,27 +339,27 @@ module _ (o : DeskOpening) where
   cover_replays s t (e ∷ es) w r none covered = cover_replays r.0 t es w r.2 none (cover_makes o s r.0 e r.1 (replays_none r.0 t es r.2 none) w covered)
 
   -- an actor that is told that nothing is left is told so when all is covered
-  done_covers : (s t : DeskState) (e : Entry Ask Reply) → Makes o s e t → t.stop ≡ None → e.reply.done ≡ true → (p : ℕ) → p < length o.batch → IsCovered o.batch t (word_at o.batch p)
+  done_covers : (s t : DeskState) (e : Entry Ask Reply) → Makes o s e t → t.stop ≡ None → e.reply.done ≡ true → (p : ℕ) → p < length o.batch → IsCovered o.batch t (word_at_place o.batch p)
   done_covers s t e m none done p lt =
       let told = m.done.0 done in
       let at : DeskState = after_fail e.actor e.ask.failed m.given in
-      let takes : TakesAll o.batch e.actor e.ask.wanted [] at m.taken = subst (λ (ps : List ℕ). TakesAll o.batch e.actor e.ask.wanted ps at m.taken) told.1 m.takes in
+      let takes : ActorTakesAll o.batch e.actor e.ask.wanted [] at m.taken = subst (λ (ps : List ℕ). ActorTakesAll o.batch e.actor e.ask.wanted ps at m.taken) told.1 m.takes in
       let live : at.stop ≡ None = sym (end_stop o s t e m) ∙ none in
-      let all : IsCovered o.batch at (word_at o.batch p) =
+      let all : IsCovered o.batch at (word_at_place o.batch p) =
       ⊎_elim
       (λ (zero_wanted : e.ask.wanted ≡ 0). absurd (omega (arith, told.0, zero_wanted)))
       (λ (nothing : NothingToTake o.batch at). ⊎_elim
       (λ (r : (stop : AskStop) × (at.stop ≡ Some stop)). absurd (some_none r.0 (sym r.1 ∙ live)))
-      (λ (covered : (q : ℕ) → q < length o.batch → IsCovered o.batch at (word_at o.batch q)). covered p lt)
+      (λ (covered : (q : ℕ) → q < length o.batch → IsCovered o.batch at (word_at_place o.batch q)). covered p lt)
       nothing)
       takes.1 in
-      subst (λ (x : DeskState). IsCovered o.batch x (word_at o.batch p)) (sym m.after)
-      (cover_done o.batch e.actor e.reply.done m.taken (word_at o.batch p) (subst (λ (x : DeskState). IsCovered o.batch x (word_at o.batch p)) (sym takes.0) all))
+      subst (λ (x : DeskState). IsCovered o.batch x (word_at_place o.batch p)) (sym m.after)
+      (cover_done o.batch e.actor e.reply.done m.taken (word_at_place o.batch p) (subst (λ (x : DeskState). IsCovered o.batch x (word_at_place o.batch p)) (sym takes.0) all))
 
-  pub all_covered : (s t : DeskState) (es : List (Entry Ask Reply)) (e : Entry Ask Reply) → Replays o s es t → t.stop ≡ None → In e es → e.reply.done ≡ true → (p : ℕ) → p < length o.batch → IsCovered o.batch t (word_at o.batch p)
+  pub all_covered : (s t : DeskState) (es : List (Entry Ask Reply)) (e : Entry Ask Reply) → Replays o s es t → t.stop ≡ None → In e es → e.reply.done ≡ true → (p : ℕ) → p < length o.batch → IsCovered o.batch t (word_at_place o.batch p)
   all_covered s t [] e r none i done p lt = absurd i
   all_covered s t (f ∷ es) e r none i done p lt =
       ⊎_elim
-      (λ (same : e ≡ f). cover_replays r.0 t es (word_at o.batch p) r.2 none (done_covers s r.0 f r.1 (replays_none r.0 t es r.2 none) (ap (λ (x : Entry Ask Reply). x.reply.done) (sym same) ∙ done) p lt))
+      (λ (same : e ≡ f). cover_replays r.0 t es (word_at_place o.batch p) r.2 none (done_covers s r.0 f r.1 (replays_none r.0 t es r.2 none) (ap (λ (x : Entry Ask Reply). x.reply.done) (sym same) ∙ done) p lt))
       (λ (j : In e es). all_covered r.0 t es e r.2 none j done p lt)
       i

@@ -15,7 +15,7 @@ use Rattle.lw_cache.specs.declared.stops.AskStop.TheVariants as Ask
 use Rattle.lw_cache.specs.declared.stops.Clash.{Clash}
 use Rattle.lw_cache.proofs.GainLemmas.{known_new}
 use Rattle.lw_names.specs.Naming.{Naming, bring}
-use Rattle.lw_desk.specs.Step.{Claimed, DeskState, word_at, IsCovered, ComesBefore, IsFirstFree, NothingToTake, IsLeft, AreLeft, CountsLeft, TakesAll, Gives, GivesAll, StopsBy, after_take, after_give, after_fail, kept_of, without_place, without_places, first_stop, stop_of}
+use Rattle.lw_desk.specs.Step.{Claimed, DeskState, word_at_place, IsCovered, ComesBefore, IsFirstFree, NothingToTake, IsLeft, AreLeft, CountsLeft, ActorTakesAll, ActorGives, GivesAll, StopsBy, after_take, after_give, after_fail, kept_of, without_place, without_places, first_stop, stop_of}
 use Rattle.lw_desk.specs.bodies.Board.{BoardState, Agrees, IsTaken, AreApart, AreHeld, BeginsOne, Waits, numbers_of, IsBoard, stop_after, without_number, without_numbers}
 use Rattle.lw_desk.specs.declared.ask.Give.{Give}
 use Rattle.lw_desk.specs.declared.ask.Failed.{Failed}
@@ -32,7 +32,7 @@ module _ (b : BoardState) (s : DeskState) (agrees : Agrees b s) where
   covered_is w covered =
       ⊎_elim
       (λ (known : IsKnown (answers_of s.kept) w). inl (subst (λ (l : List KeptAnswer). IsKnown (answers_of l) w) agrees.kept known))
-      (λ (r : (c : Claimed) × Contains s.claims c × IsPrefix w (word_at b.batch c.place)).
+      (λ (r : (c : Claimed) × Contains s.claims c × IsPrefix w (word_at_place b.batch c.place)).
       inr ((r.0).place, subst (λ (l : List ℕ). Contains l (r.0).place) agrees.claims (in_contains (r.0).place (map (λ (c : Claimed). c.place) s.claims) (in_map (λ (c : Claimed). c.place) r.0 s.claims (contains_in r.0 s.claims r.1))), r.2))
       covered
 
@@ -40,23 +40,23 @@ module _ (b : BoardState) (s : DeskState) (agrees : Agrees b s) where
   taken_is w taken =
       ⊎_elim
       (λ (known : IsKnown (answers_of b.kept) w). inl (subst (λ (l : List KeptAnswer). IsKnown (answers_of l) w) (sym agrees.kept) known))
-      (λ (r : (p : ℕ) × Contains b.claimed p × IsPrefix w (word_at b.batch p)).
+      (λ (r : (p : ℕ) × Contains b.claimed p × IsPrefix w (word_at_place b.batch p)).
       let m = in_mapped (λ (c : Claimed). c.place) r.0 s.claims (contains_in r.0 (map (λ (c : Claimed). c.place) s.claims) (subst (λ (l : List ℕ). Contains l r.0) (sym agrees.claims) r.1)) in
-      inr (m.0, in_contains m.0 s.claims m.1, subst (λ (p : ℕ). IsPrefix w (word_at b.batch p)) (sym m.2) r.2))
+      inr (m.0, in_contains m.0 s.claims m.1, subst (λ (p : ℕ). IsPrefix w (word_at_place b.batch p)) (sym m.2) r.2))
       taken
 
-  pub first_is : (p : ℕ) → p < length b.batch → ¬ IsTaken b.batch b.kept b.claimed (word_at b.batch p) → ((other : ℕ) → other < length b.batch → ComesBefore b.batch other p → IsTaken b.batch b.kept b.claimed (word_at b.batch other)) → IsFirstFree b.batch s p
+  pub first_is : (p : ℕ) → p < length b.batch → ¬ IsTaken b.batch b.kept b.claimed (word_at_place b.batch p) → ((other : ℕ) → other < length b.batch → ComesBefore b.batch other p → IsTaken b.batch b.kept b.claimed (word_at_place b.batch other)) → IsFirstFree b.batch s p
   first_is p within free first = record {
     within = within;
-    free = λ covered. free (covered_is (word_at b.batch p) covered);
-    first = λ other below before. taken_is (word_at b.batch other) (first other below before);
+    free = λ covered. free (covered_is (word_at_place b.batch p) covered);
+    first = λ other below before. taken_is (word_at_place b.batch other) (first other below before);
   }
 
-  pub nothing_is : (b.stop ≡ None → (p : ℕ) → p < length b.batch → IsTaken b.batch b.kept b.claimed (word_at b.batch p)) → NothingToTake b.batch s
+  pub nothing_is : (b.stop ≡ None → (p : ℕ) → p < length b.batch → IsTaken b.batch b.kept b.claimed (word_at_place b.batch p)) → NothingToTake b.batch s
   nothing_is all = by b.stop refl
     where
       by : (o : Option AskStop) → b.stop ≡ o → NothingToTake b.batch s
-      by None e = inr (λ p below. taken_is (word_at b.batch p) (all e p below))
+      by None e = inr (λ p below. taken_is (word_at_place b.batch p) (all e p below))
       by (Some stop) e = inl (stop, agrees.stop ∙ e)
 
   -- a place is taken
@@ -72,7 +72,7 @@ module _ (b : BoardState) (s : DeskState) (agrees : Agrees b s) where
 
   -- an answer is given
   pub agrees_give : (now : BoardState) (actor : ℕ) (g : Give) → now.naming ≡ bring b.naming actor g.names → now.kept ≡ b.kept ++ kept_of b.batch (bring b.naming actor g.names) actor g ∷ [] → now.claimed ≡ without_number g.place b.claimed
-      → StopsBy b.stop (answers_of b.kept) (answer_of (kept_of b.batch (bring b.naming actor g.names) actor g)) now.stop → (t : DeskState) × Gives b.batch actor g s t × Agrees now t
+      → StopsBy b.stop (answers_of b.kept) (answer_of (kept_of b.batch (bring b.naming actor g.names) actor g)) now.stop → (t : DeskState) × ActorGives b.batch actor g s t × Agrees now t
   agrees_give now actor g naming kept claimed stops =
       let new : Naming → KeptAnswer = λ n. kept_of b.batch (bring n actor g.names) actor g in (
         after_give b.batch actor g s now.stop,
@@ -120,8 +120,8 @@ stopped_by None last live = some_none last live
 stopped_by (Some first) last live = some_none first live
 
 -- answers one after the other
-pub gives_more : (batch : List (List ℕ)) (actor : ℕ) (gs : List Give) (g : Give) (s t u : DeskState) → GivesAll batch actor gs s t → Gives batch actor g t u → GivesAll batch actor (gs ++ g ∷ []) s u
-gives_more batch actor [] g s t u same gives = (u, subst (λ (x : DeskState). Gives batch actor g x u) same gives, refl)
+pub gives_more : (batch : List (List ℕ)) (actor : ℕ) (gs : List Give) (g : Give) (s t u : DeskState) → GivesAll batch actor gs s t → ActorGives batch actor g t u → GivesAll batch actor (gs ++ g ∷ []) s u
+gives_more batch actor [] g s t u same gives = (u, subst (λ (x : DeskState). ActorGives batch actor g x u) same gives, refl)
 gives_more batch actor (h ∷ gs) g s t u all gives = (all.0, all.1, gives_more batch actor gs g all.0 t u all.2 gives)
 
 pub without_numbers_more : (ps : List ℕ) (p : ℕ) (ns : List ℕ) → without_numbers (ps ++ p ∷ []) ns ≡ without_number p (without_numbers ps ns)
@@ -147,7 +147,7 @@ front_more batch actor wanted (q ∷ ps) p s t takes less live first = (
   front_more batch actor (wanted - 1) ps p (after_take actor q s) t takes.3 (omega arith) live first,
 )
 
-pub front_all : (batch : List (List ℕ)) (actor wanted : ℕ) (ps : List ℕ) (s t : DeskState) → TakesFront batch actor wanted ps s t → (wanted ≤ length ps) ⊎ NothingToTake batch t → TakesAll batch actor wanted ps s t
+pub front_all : (batch : List (List ℕ)) (actor wanted : ℕ) (ps : List ℕ) (s t : DeskState) → TakesFront batch actor wanted ps s t → (wanted ≤ length ps) ⊎ NothingToTake batch t → ActorTakesAll batch actor wanted ps s t
 front_all batch actor wanted [] s t same end = (
   same,
   ⊎_elim
@@ -173,8 +173,8 @@ none_waits b naming batch kept claims stop words waiting room letters view is no
     subst (λ (v : BoardState). (s : DeskState) → Agrees v s → NothingToTake v.batch s) view (λ s agrees.
     nothing_is (record { naming = naming; kept = kept; claimed = numbers_of claims; stop = stop; batch = batch; waiting = waiting }) s agrees (λ live p below.
     ⊎_elim
-    (λ (r : BeginsOne batch waiting (word_at batch p)). absurd (omega (arith, r.1.1, none)))
-    (λ (t : IsTaken batch kept (numbers_of claims) (word_at batch p)). t)
+    (λ (r : BeginsOne batch waiting (word_at_place batch p)). absurd (omega (arith, r.1.1, none)))
+    (λ (t : IsTaken batch kept (numbers_of claims) (word_at_place batch p)). t)
     (is.covered live p below)))
 
 -- the words of the places that wait are those that are left
@@ -183,63 +183,63 @@ module _ (naming : Naming) (batch : List (List ℕ)) (kept : List KeptAnswer) (c
   board = record { naming = naming; kept = kept; claimed = numbers_of claims; stop = stop; batch = batch; waiting = waiting }
 
   abbrev left_words : List (List ℕ)
-  left_words = map (word_at batch) waiting
+  left_words = map (word_at_place batch) waiting
 
   waits_at : (q : ℕ) → In q waiting → Waits batch words kept claims q
   waits_at q i = All-contains (Waits batch words kept claims) waiting q is.waits (in_contains q waiting i)
 
-  in_batch : (q : ℕ) → q < length batch → Contains batch (word_at batch q)
+  in_batch : (q : ℕ) → q < length batch → Contains batch (word_at_place batch q)
   in_batch q lt = Contains-get_or batch q [] lt
 
-  word_found : (v : List ℕ) (c : Contains batch v) → word_at batch c.0 ≡ v
+  word_found : (v : List ℕ) (c : Contains batch v) → word_at_place batch c.0 ≡ v
   word_found v c = get_or_default batch c.0 [] v c.1 ∙ c.2
 
   module _ (s : DeskState) (agrees : Agrees board s) (live : stop ≡ None) where
-    is_left : (q : ℕ) → In q waiting → IsLeft batch s (word_at batch q)
+    is_left : (q : ℕ) → In q waiting → IsLeft batch s (word_at_place batch q)
     is_left q i = record {
       within = in_batch q (waits_at q i).at_hand.within;
-      free = λ covered. (waits_at q i).free (covered_is board s agrees (word_at batch q) covered);
+      free = λ covered. (waits_at q i).free (covered_is board s agrees (word_at_place batch q) covered);
       whole = λ v c pre. whole v (c.0) c.1 (word_found v c) pre;
     }
       where
-        whole : (v : List ℕ) (r : ℕ) → r < length batch → word_at batch r ≡ v → IsPrefix (word_at batch q) v → v ≡ word_at batch q
+        whole : (v : List ℕ) (r : ℕ) → r < length batch → word_at_place batch r ≡ v → IsPrefix (word_at_place batch q) v → v ≡ word_at_place batch q
         whole v r lt found pre =
             ⊎_elim
-            (λ (b : BeginsOne batch waiting (word_at batch r)).
-            let more : IsPrefix v (word_at batch b.0) = subst (λ (w : List ℕ). IsPrefix w (word_at batch b.0)) found b.2 in
-            let same : word_at batch q ≡ word_at batch b.0 = whole_words batch waiting is.order is.whole q b.0 i (contains_in b.0 waiting b.1) (prefix_of_prefix (word_at batch q) v (word_at batch b.0) pre more) in
-            prefix_alike v (word_at batch q) (subst (IsPrefix v) (sym same) more) (omega (arith, ap (λ (l : List ℕ). length l) pre.1, length-append (word_at batch q) pre.0)))
-            (λ (t : IsTaken batch kept (numbers_of claims) (word_at batch r)).
-            absurd ((waits_at q i).free (taken_prefix batch kept (numbers_of claims) (word_at batch q) (word_at batch r) (subst (IsPrefix (word_at batch q)) (sym found) pre) t)))
+            (λ (b : BeginsOne batch waiting (word_at_place batch r)).
+            let more : IsPrefix v (word_at_place batch b.0) = subst (λ (w : List ℕ). IsPrefix w (word_at_place batch b.0)) found b.2 in
+            let same : word_at_place batch q ≡ word_at_place batch b.0 = whole_words batch waiting is.order is.whole q b.0 i (contains_in b.0 waiting b.1) (prefix_of_prefix (word_at_place batch q) v (word_at_place batch b.0) pre more) in
+            prefix_alike v (word_at_place batch q) (subst (IsPrefix v) (sym same) more) (omega (arith, ap (λ (l : List ℕ). length l) pre.1, length-append (word_at_place batch q) pre.0)))
+            (λ (t : IsTaken batch kept (numbers_of claims) (word_at_place batch r)).
+            absurd ((waits_at q i).free (taken_prefix batch kept (numbers_of claims) (word_at_place batch q) (word_at_place batch r) (subst (IsPrefix (word_at_place batch q)) (sym found) pre) t)))
             (is.covered live r lt)
 
     left_is : (w : List ℕ) → IsLeft batch s w → Contains left_words w
     left_is w left =
         let c : Contains batch w = left.within in
-        let found : word_at batch c.0 ≡ w = word_found w c in
+        let found : word_at_place batch c.0 ≡ w = word_found w c in
         ⊎_elim
-        (λ (b : BeginsOne batch waiting (word_at batch c.0)).
+        (λ (b : BeginsOne batch waiting (word_at_place batch c.0)).
         let i : In b.0 waiting = contains_in b.0 waiting b.1 in
-        let same : word_at batch b.0 ≡ w = left.whole (word_at batch b.0) (in_batch b.0 (waits_at b.0 i).at_hand.within) (subst (λ (v : List ℕ). IsPrefix v (word_at batch b.0)) found b.2) in
-        subst (Contains left_words) same (in_contains (word_at batch b.0) left_words (in_map (word_at batch) b.0 waiting i)))
-        (λ (t : IsTaken batch kept (numbers_of claims) (word_at batch c.0)). absurd (left.free (taken_is board s agrees w (subst (IsTaken batch kept (numbers_of claims)) found t))))
+        let same : word_at_place batch b.0 ≡ w = left.whole (word_at_place batch b.0) (in_batch b.0 (waits_at b.0 i).at_hand.within) (subst (λ (v : List ℕ). IsPrefix v (word_at_place batch b.0)) found b.2) in
+        subst (Contains left_words) same (in_contains (word_at_place batch b.0) left_words (in_map (word_at_place batch) b.0 waiting i)))
+        (λ (t : IsTaken batch kept (numbers_of claims) (word_at_place batch c.0)). absurd (left.free (taken_is board s agrees w (subst (IsTaken batch kept (numbers_of claims)) found t))))
         (is.covered live c.0 c.1)
 
     left_once : AllDiffer left_words
     left_once i j d lt within same =
-        let long : length left_words ≡ length waiting = length-map waiting (word_at batch) in
+        let long : length left_words ≡ length waiting = length-map waiting (word_at_place batch) in
         let second : j < length waiting = omega (arith, within, long) in
         let first : i < length waiting = omega (arith, lt, second) in
         whole_pairs batch waiting is.whole i j lt second
-        (subst (λ (w : List ℕ). IsPrefix w (word_at batch (get_or waiting i 0)))
-        (sym (get_or-map (word_at batch) waiting i 0 d first) ∙ (same ∙ get_or-map (word_at batch) waiting j 0 d second))
-        (prefix_whole (word_at batch (get_or waiting i 0))))
+        (subst (λ (w : List ℕ). IsPrefix w (word_at_place batch (get_or waiting i 0)))
+        (sym (get_or-map (word_at_place batch) waiting i 0 d first) ∙ (same ∙ get_or-map (word_at_place batch) waiting j 0 d second))
+        (prefix_whole (word_at_place batch (get_or waiting i 0))))
 
     pub are_left : AreLeft batch s left_words
     are_left = record {
       exactly = λ w. (
         λ c.
-            let m = in_mapped (word_at batch) w waiting (contains_in w left_words c) in
+            let m = in_mapped (word_at_place batch) w waiting (contains_in w left_words c) in
             subst (IsLeft batch s) m.2 (is_left m.0 m.1),
         λ left. left_is w left,
       );
@@ -251,9 +251,9 @@ pub counts_waiting : (b : BoardState) (naming : Naming) (batch : List (List ℕ)
     → IsBoard batch kept claims stop words waiting room letters → length waiting ≡ left → (s : DeskState) → Agrees b s → CountsLeft b.batch s left
 counts_waiting b naming batch kept claims stop words waiting room letters left view is long =
     subst (λ (v : BoardState). (s : DeskState) → Agrees v s → CountsLeft v.batch s left) view (λ s agrees live. (
-      map (word_at batch) waiting,
+      map (word_at_place batch) waiting,
       are_left naming batch kept claims stop words waiting room letters is s agrees (sym agrees.stop ∙ live),
-      length-map waiting (word_at batch) ∙ long,
+      length-map waiting (word_at_place batch) ∙ long,
     ))
 
 -- the places that an actor holds are claimed, each once

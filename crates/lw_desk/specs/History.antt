@@ -4,7 +4,7 @@ use Rattle.std.specs.List.{list_any}
 use Rattle.lw_words.specs.declared.kept.KeptAnswer.{KeptAnswer}
 use Rattle.lw_turn.specs.declared.shared.Entry.{Entry}
 use Rattle.lw_names.specs.Naming.{HasLists, Naming, own_names, MayBring}
-use Rattle.lw_desk.specs.Step.{DeskState, word_at, GivesAll, TakesAll, NothingToTake, CountsLeft, after_fail, after_done}
+use Rattle.lw_desk.specs.Step.{DeskState, word_at_place, GivesAll, ActorTakesAll, NothingToTake, CountsLeft, after_fail, after_done}
 use Rattle.lw_desk.specs.declared.ask.Ask.{Ask}
 use Rattle.lw_desk.specs.declared.ask.Reply.{Reply}
 use Rattle.lw_desk.specs.declared.ask.Give.{Give}
@@ -37,7 +37,7 @@ settled_places ask = map (λ g. g.place) ask.gives.items ++ failed_places ask.fa
 -- the answers that an actor may give one after the other, by its own names
 abbrev pub MayGiveAll : List (List ℕ) → Bool → List (List ℕ) → List Give → Type 0
 MayGiveAll batch free own [] = Unit {0}
-MayGiveAll batch free own (g ∷ gs) = MayBring free own g.names g.outs × (length g.outs ≡ length (word_at batch g.place)) × MayGiveAll batch free (own ++ g.names) gs
+MayGiveAll batch free own (g ∷ gs) = MayBring free own g.names g.outs × (length g.outs ≡ length (word_at_place batch g.place)) × MayGiveAll batch free (own ++ g.names) gs
 
 -- an actor that has not ended gives or fails all the places that it holds, and then may take more, where none failed
 pub record MayMake (batch : List (List ℕ)) (free : Bool) (seat : Seat) (ask : Ask) : Type 0 where
@@ -64,7 +64,7 @@ pub record Makes (o : DeskOpening) (s : DeskState) (e : Entry Ask Reply) (t : De
   pub given : DeskState
   pub gives : GivesAll o.batch e.actor e.ask.gives.items s given
   pub taken : DeskState
-  pub takes : TakesAll o.batch e.actor e.ask.wanted e.reply.places (after_fail e.actor e.ask.failed given) taken
+  pub takes : ActorTakesAll o.batch e.actor e.ask.wanted e.reply.places (after_fail e.actor e.ask.failed given) taken
   pub done : (e.reply.done ≡ true) ↔ ((0 < e.ask.wanted) × (e.reply.places ≡ []))
   pub after : t ≡ after_done e.actor e.reply.done taken
   pub stopped : e.reply.stopped ≡ is_some t.stop

@@ -32,26 +32,26 @@ pub record DeskState : Type 0 where
   pub stop : Option AskStop
 
 -- the word at a place of the batch
-abbrev pub word_at : List (List ℕ) → ℕ → List ℕ
-word_at batch place = slice_index_or batch place []
+abbrev pub word_at_place : List (List ℕ) → ℕ → List ℕ
+word_at_place batch place = slice_index_or batch place []
 
 -- the word is known, or the word of a claimed place begins with it
 abbrev pub IsCovered : List (List ℕ) → DeskState → List ℕ → Type 0
-IsCovered batch s w = IsKnown (answers_of s.kept) w ⊎ ((c : Claimed) × Contains s.claims c × IsPrefix w (word_at batch c.place))
+IsCovered batch s w = IsKnown (answers_of s.kept) w ⊎ ((c : Claimed) × Contains s.claims c × IsPrefix w (word_at_place batch c.place))
 
 -- the longer word comes first; of equally long ones the one with the smaller place
 abbrev pub ComesBefore : List (List ℕ) → ℕ → ℕ → Type 0
-ComesBefore batch p q = (length (word_at batch q) < length (word_at batch p)) ⊎ ((length (word_at batch p) ≡ length (word_at batch q)) × (p < q))
+ComesBefore batch p q = (length (word_at_place batch q) < length (word_at_place batch p)) ⊎ ((length (word_at_place batch p) ≡ length (word_at_place batch q)) × (p < q))
 
 -- of the places whose words are not covered, the one that comes first
 pub record IsFirstFree (batch : List (List ℕ)) (s : DeskState) (place : ℕ) : Type 0 where
   pub within : place < length batch
-  pub free : ¬ IsCovered batch s (word_at batch place)
-  pub first : (other : ℕ) → other < length batch → ComesBefore batch other place → IsCovered batch s (word_at batch other)
+  pub free : ¬ IsCovered batch s (word_at_place batch place)
+  pub first : (other : ℕ) → other < length batch → ComesBefore batch other place → IsCovered batch s (word_at_place batch other)
 
 -- the desk was stopped, or all words of the batch are covered
 abbrev pub NothingToTake : List (List ℕ) → DeskState → Type 0
-NothingToTake batch s = ((stop : AskStop) × (s.stop ≡ Some stop)) ⊎ ((place : ℕ) → place < length batch → IsCovered batch s (word_at batch place))
+NothingToTake batch s = ((stop : AskStop) × (s.stop ≡ Some stop)) ⊎ ((place : ℕ) → place < length batch → IsCovered batch s (word_at_place batch place))
 
 -- a word of the batch that is not covered, and that no other word of the batch begins with
 pub record IsLeft (batch : List (List ℕ)) (s : DeskState) (w : List ℕ) : Type 0 where
@@ -78,17 +78,17 @@ after_take actor place s = record {
 }
 
 -- an actor takes free places, first ones first, until it has as many as it wants or nothing is left to take
-abbrev pub TakesAll : List (List ℕ) → ℕ → ℕ → List ℕ → DeskState → DeskState → Type 0
-TakesAll batch actor wanted [] s t = (t ≡ s) × ((wanted ≡ 0) ⊎ NothingToTake batch s)
-TakesAll batch actor wanted (place ∷ places) s t =
-    (0 < wanted) × (s.stop ≡ None) × IsFirstFree batch s place × TakesAll batch actor (wanted - 1) places (after_take actor place s) t
+abbrev pub ActorTakesAll : List (List ℕ) → ℕ → ℕ → List ℕ → DeskState → DeskState → Type 0
+ActorTakesAll batch actor wanted [] s t = (t ≡ s) × ((wanted ≡ 0) ⊎ NothingToTake batch s)
+ActorTakesAll batch actor wanted (place ∷ places) s t =
+    (0 < wanted) × (s.stop ≡ None) × IsFirstFree batch s place × ActorTakesAll batch actor (wanted - 1) places (after_take actor place s) t
 
 abbrev pub without_place : ℕ → List Claimed → List Claimed
 without_place place claims = filter (λ c. not (c.place == place)) claims
 
 -- the answer that is given, as it is kept
 abbrev pub kept_of : List (List ℕ) → Naming → ℕ → Give → KeptAnswer
-kept_of batch naming actor g = kept_answer actor g.run (word_at batch g.place) (shared naming actor g.outs)
+kept_of batch naming actor g = kept_answer actor g.run (word_at_place batch g.place) (shared naming actor g.outs)
 
 -- a desk that was stopped keeps its stop; else a clash of the new answer with a clear one stops it
 abbrev pub StopsBy : Option AskStop → List Answer → Answer → Option AskStop → Type 0
@@ -105,13 +105,13 @@ after_give batch actor g s stop = record {
 }
 
 -- an actor gives the answer to the word of a place: it is kept in every case
-pub record Gives (batch : List (List ℕ)) (actor : ℕ) (g : Give) (s t : DeskState) : Type 0 where
+pub record ActorGives (batch : List (List ℕ)) (actor : ℕ) (g : Give) (s t : DeskState) : Type 0 where
   pub stop : StopsBy s.stop (answers_of s.kept) (answer_of (kept_of batch (bring s.naming actor g.names) actor g)) t.stop
   pub after : t ≡ after_give batch actor g s t.stop
 
 abbrev pub GivesAll : List (List ℕ) → ℕ → List Give → DeskState → DeskState → Type 0
 GivesAll batch actor [] s t = t ≡ s
-GivesAll batch actor (g ∷ gs) s t = (u : DeskState) × Gives batch actor g s u × GivesAll batch actor gs u t
+GivesAll batch actor (g ∷ gs) s t = (u : DeskState) × ActorGives batch actor g s u × GivesAll batch actor gs u t
 
 abbrev pub stop_of : ℕ → RunStop → AskStop
 stop_of actor (Run.Sul stop) = Ask.Sul actor stop

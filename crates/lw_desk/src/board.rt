@@ -2,7 +2,7 @@
 ghost use Rattle.std.specs.Prelude.{◌≡◌, ◌≢◌, ◌↔◌, ℕ, ◌+◌, ◌^◌, ◌<◌, ◌≤◌, List, [], ◌∷◌, ◌++◌, length, map, drop, slice_index, Contains, IfOk, IfErr, IfSome, IfNone, Some, None, is_some, IsTrue};
 ghost use Rattle.std.specs.List.{All};
 ghost use Rattle.lw_names.specs.Naming.{own_names, MayBring};
-ghost use Rattle.lw_desk.specs.Step.{DeskState, word_at, IsFirstFree, NothingToTake, CountsLeft, Gives, GivesAll, TakesAll, after_take, after_fail, first_stop, stop_of};
+ghost use Rattle.lw_desk.specs.Step.{DeskState, word_at_place, IsFirstFree, NothingToTake, CountsLeft, ActorGives, GivesAll, ActorTakesAll, after_take, after_fail, first_stop, stop_of};
 ghost use Rattle.lw_desk.specs.History.{DeskOpening, Makes, MayMake, MayGiveAll, seat_in, failed_places};
 ghost use Rattle.lw_desk.specs.bodies.DeskBody.{entry};
 ghost use Rattle.lw_desk.specs.bodies.Board.{BoardState, Agrees, AreHeld, numbers_of, stop_after, without_all, without_number, without_numbers};
@@ -136,11 +136,11 @@ impl Board {
     pub(crate) fn give(&mut self, actor: u32, answer: Give)
         requires actor { actor < 16 }
         requires claimed { Contains self.old.claimed answer.place }
-        requires outs { length answer.outs ≡ length (word_at self.old.batch answer.place) }
+        requires outs { length answer.outs ≡ length (word_at_place self.old.batch answer.place) }
         requires names { MayBring (is_some self.old.naming.brought)
             (own_names self.old.naming actor) answer.names answer.outs }
         ensures gives { (s : DeskState) → Agrees self.old s → (t : DeskState) ×
-            Gives self.old.batch actor answer s t × Agrees self.new t }
+            ActorGives self.old.batch actor answer s t × Agrees self.new t }
         ensures claimed { self.new.claimed ≡ without_number answer.place self.old.claimed }
         ensures own { own_names self.new.naming actor ≡
             own_names self.old.naming actor ++ answer.names }
@@ -231,7 +231,7 @@ impl Board {
     pub(crate) fn take(&mut self, wanted: u32) -> Places
         requires few { wanted ≤ 16 }
         ensures takes { (actor : ℕ) (s : DeskState) → Agrees self.old s → (t : DeskState) ×
-            TakesAll self.old.batch actor wanted result s t × Agrees self.new t }
+            ActorTakesAll self.old.batch actor wanted result s t × Agrees self.new t }
         ensures naming { self.new.naming ≡ self.old.naming }
         ensures batch { self.new.batch ≡ self.old.batch }
     {

@@ -1,7 +1,7 @@
 //! What a batch needs before its words are handed out.
 ghost use Rattle.std.specs.Prelude.{◌≡◌, ◌↔◌, ℕ, ◌+◌, ◌^◌, ◌<◌, List, [], ◌∷◌, ◌++◌, length, map, drop, slice_index, IfOk, IfSome, OnOk, IsTrue};
 ghost use Rattle.std.specs.List.Sorted.{IsPermutation};
-ghost use Rattle.lw_desk.specs.Step.{word_at};
+ghost use Rattle.lw_desk.specs.Step.{word_at_place};
 ghost use Rattle.lw_desk.specs.bodies.Board.{letters_of};
 ghost use Rattle.lw_desk.specs.bodies.Gathering.{IsGathered, IsReady, ComeBefore, by_words, AreByWords, AreWholeOf, BeginsNext};
 
@@ -73,7 +73,7 @@ fn gather(alloc: Global, cache: &Cache, batch: &[Word]) -> Result<Unknown, NoMem
 
 /// The word of a place.
 fn word_of(words: &[Word], place: u32) -> &[u16]
-    ensures { result.now ≡ word_at words.now place }
+    ensures { result.now ≡ word_at_place words.now place }
 {
     match words.get(place as usize) {
         Some(word) => word.as_slice(),
@@ -124,7 +124,7 @@ fn whole_places(alloc: Global, words: &[Word], places: &[u32]) -> Result<Vec<u32
 
 /// How many letters the word of a place has.
 fn letters_at(words: &[Word], place: u32) -> usize
-    ensures { result ≡ length (word_at words.now place) }
+    ensures { result ≡ length (word_at_place words.now place) }
 {
     word_of(words, place).len()
 }

@@ -2,7 +2,7 @@
 use Rattle.lw_words.specs.First.{FailsFirst}
 use Rattle.lw_words.specs.Name.{IsNames}
 use Rattle.lw_json.specs.AnswersFile.{WrittenAnswers}
-use Rattle.lw_json.specs.AnswersFault.{HasWords, SaysAnswersFault}
+use Rattle.lw_json.specs.AnswersFault.{AnswerHasWords, SaysAnswersFault}
 use Rattle.lw_json.specs.Fault.{IsFaultOf}
 use Rattle.lw_json.specs.MachineFile.{AreInputs}
 use Rattle.lw_json.specs.bodies.Told.{Told}
@@ -17,5 +17,5 @@ module _ (w : WrittenAnswers) (told : JsonFault) where
   pub outputs_fault : AreInputs w.inputs → Told Outputs (IsFaultOf 4096 w.outputs) told → SaysAnswersFault w told
   outputs_fault inputs h = told_by Outputs (IsFaultOf 4096 w.outputs) (SaysAnswersFault w) told h tt (λ fault p. (inputs, p))
 
-  pub words_fault : AreInputs w.inputs → IsNames w.outputs → Told BadWord (FailsFirst (HasWords w.inputs w.outputs) w.answers) told → SaysAnswersFault w told
-  words_fault inputs outputs h = told_by BadWord (FailsFirst (HasWords w.inputs w.outputs) w.answers) (SaysAnswersFault w) told h tt (λ place p. (inputs, outputs, p))
+  pub words_fault : AreInputs w.inputs → IsNames w.outputs → Told BadWord (FailsFirst (AnswerHasWords w.inputs w.outputs) w.answers) told → SaysAnswersFault w told
+  words_fault inputs outputs h = told_by BadWord (FailsFirst (AnswerHasWords w.inputs w.outputs) w.answers) (SaysAnswersFault w) told h tt (λ place p. (inputs, outputs, p))

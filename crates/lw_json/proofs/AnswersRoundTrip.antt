@@ -7,7 +7,7 @@ use Rattle.serde_json.specs.Data.{string, depth}
 use Rattle.serde_json.specs.Written.{has_float}
 use Rattle.lw_words.specs.Name.{IsNames}
 use Rattle.lw_words.specs.declared.kept.KeptAnswer.{KeptAnswer}
-use Rattle.lw_json.specs.AnswersFile.{WrittenAnswer, WrittenAnswers, SaysAnswers, SpellsAnswers, answer_of, kept_answer}
+use Rattle.lw_json.specs.AnswersFile.{WrittenAnswer, WrittenAnswers, SaysAnswers, SpellsAnswers, written_answer_of, numbered_answer}
 use Rattle.lw_json.specs.AnswersText.{IsWrittenOrder, answer_data, answers_data}
 use Rattle.lw_json.specs.Each.{each_of}
 use Rattle.lw_json.specs.KeptOver.{IsKeptOver}
@@ -33,33 +33,33 @@ module _ (inputs outputs : List (List ℕ)) where
   abbrev IsOver : KeptAnswer → Type 0
   IsOver k = IsKeptOver (length inputs) (length outputs) k
 
-  read_answer : (k : KeptAnswer) → IsOver k → answer_of (answer_data inputs outputs k) ≡ Some (written k)
+  read_answer : (k : KeptAnswer) → IsOver k → written_answer_of (answer_data inputs outputs k) ≡ Some (written k)
   read_answer k h = rw (small k.instance h.instance) refl
 
   pub says_it : (ks : List KeptAnswer) → All IsOver ks → SaysAnswers (answers_data inputs outputs ks) (written_of ks)
   says_it ks over = record {
     inputs = read_texts inputs;
     outputs = read_texts outputs;
-    answers = read_list (answer_data inputs outputs) answer_of written IsOver read_answer ks over;
+    answers = read_list (answer_data inputs outputs) written_answer_of written IsOver read_answer ks over;
   }
 
   module _ (inputs_named : IsNames inputs) (outputs_named : IsNames outputs) where
-    read_words : (k : KeptAnswer) → IsOver k → kept_answer inputs outputs (written k) ≡ Some k
+    read_words : (k : KeptAnswer) → IsOver k → numbered_answer inputs outputs (written k) ≡ Some k
     read_words k h = rw (read_back inputs inputs_named k.word h.word, read_back outputs outputs_named k.outs h.outs) refl
 
-    read_kept : (ks : List KeptAnswer) → All IsOver ks → each_of (kept_answer inputs outputs) (map written ks) ≡ Some ks
-    read_kept ks over = each_of-map written (kept_answer inputs outputs) (λ k. k) IsOver read_words ks over ∙ ap (λ (l : List KeptAnswer). Some l) (map-id ks)
+    read_kept : (ks : List KeptAnswer) → All IsOver ks → each_of (numbered_answer inputs outputs) (map written ks) ≡ Some ks
+    read_kept ks over = each_of-map written (numbered_answer inputs outputs) (λ k. k) IsOver read_words ks over ∙ ap (λ (l : List KeptAnswer). Some l) (map-id ks)
 
     -- what is written are the answers, in the one order in which they are written
     pub spelled : (kept ks : List KeptAnswer) (a : Answers) → length inputs ≤ 64 → All IsOver ks → a.inputs ≡ inputs → a.outputs ≡ outputs → IsWrittenOrder kept ks → IsWrittenOrder kept a.kept.answers → SpellsAnswers (written_of ks) a
     spelled kept ks a few over in_is out_is order order' =
         let same : ks ≡ a.kept.answers = one_written_order kept ks a.kept.answers order order' in
-        let spelt : each_of (kept_answer inputs outputs) (map written ks) ≡ Some a.kept.answers = read_kept ks over ∙ ap (λ (l : List KeptAnswer). Some l) same in
-        let first : each_of (kept_answer a.inputs outputs) (map written ks) ≡ Some a.kept.answers = subst (λ (i : List (List ℕ)). each_of (kept_answer i outputs) (map written ks) ≡ Some a.kept.answers) (sym in_is) spelt in
+        let spelt : each_of (numbered_answer inputs outputs) (map written ks) ≡ Some a.kept.answers = read_kept ks over ∙ ap (λ (l : List KeptAnswer). Some l) same in
+        let first : each_of (numbered_answer a.inputs outputs) (map written ks) ≡ Some a.kept.answers = subst (λ (i : List (List ℕ)). each_of (numbered_answer i outputs) (map written ks) ≡ Some a.kept.answers) (sym in_is) spelt in
         record {
           inputs = sym in_is;
           outputs = sym out_is;
-          answers = subst (λ (o : List (List ℕ)). each_of (kept_answer a.inputs o) (map written ks) ≡ Some a.kept.answers) (sym out_is) first;
+          answers = subst (λ (o : List (List ℕ)). each_of (numbered_answer a.inputs o) (map written ks) ≡ Some a.kept.answers) (sym out_is) first;
           even = λ k d below. (a.over k d below).even;
           inputs_named = subst (λ (i : List (List ℕ)). AreInputs i) (sym in_is) (inputs_named, few);
           outputs_named = subst (λ (o : List (List ℕ)). IsNames o) (sym out_is) outputs_named;

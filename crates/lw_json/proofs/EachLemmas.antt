@@ -10,25 +10,25 @@ use Rattle.serde_json.specs.View.{items_of}
 use Rattle.lw_json.specs.Each.{each_of}
 use Rattle.serde_json.specs.Find.{as_array}
 use Rattle.serde_json.specs.Written.{has_float, items_have_float}
-use Rattle.lw_json.specs.MachineFile.{pair_of}
-use Rattle.lw_json.specs.Members.{values, list_of}
+use Rattle.lw_json.specs.MachineFile.{cell_of_two}
+use Rattle.lw_json.specs.Members.{values, array_of}
 
 pub values-items_of : (ds : List Data) → values (items_of ds) ≡ ds
 values-items_of [] = refl
 values-items_of (d ∷ ds) = ap (λ (l : List Data). d ∷ l) (values-items_of ds)
 
 -- a list that is read through as_array
-pub listed : {L : Type 0} (f : L → List Data) (r : Option L) (d : Data) → option_map (λ v. items_of (f v)) r ≡ as_array d → option_map f r ≡ list_of d
+pub listed : {L : Type 0} (f : L → List Data) (r : Option L) (d : Data) → option_map (λ v. items_of (f v)) r ≡ as_array d → option_map f r ≡ array_of d
 listed f None d e = ap (option_map values) e
 listed f (Some v) d e = ap (λ (l : List Data). Some l) (sym (values-items_of (f v))) ∙ ap (option_map values) e
 
 -- a list that has fewer or more than two values is no cell
-pub short_no_pair : (ds : List Data) → length ds < 2 → pair_of ds ≡ None
+pub short_no_pair : (ds : List Data) → length ds < 2 → cell_of_two ds ≡ None
 short_no_pair [] lt = refl
 short_no_pair (d ∷ []) lt = refl
 short_no_pair (d ∷ e ∷ ds) lt = absurd (omega arith)
 
-pub long_no_pair : (ds : List Data) → 3 ≤ length ds → pair_of ds ≡ None
+pub long_no_pair : (ds : List Data) → 3 ≤ length ds → cell_of_two ds ≡ None
 long_no_pair [] le = refl
 long_no_pair (d ∷ []) le = refl
 long_no_pair (d ∷ e ∷ []) le = absurd (omega arith)

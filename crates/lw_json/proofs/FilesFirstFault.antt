@@ -10,12 +10,12 @@ use Rattle.lw_words.specs.declared.names.NamesFault.{NamesFault}
 use Rattle.lw_mealy.specs.Fault as rows
 use Rattle.lw_mealy.specs.Machine.{Rows}
 use Rattle.lw_mealy.specs.declared.fault.MealyFault.{MealyFault}
-use Rattle.lw_json.specs.AnswersFault.{HasWords, SaysAnswersFault, HasAnswersFault, answers_tests}
-use Rattle.lw_json.specs.AnswersFile.{WrittenAnswer, WrittenAnswers, SaysAnswers, kept_answer}
+use Rattle.lw_json.specs.AnswersFault.{AnswerHasWords, SaysAnswersFault, HasAnswersFault, answers_tests}
+use Rattle.lw_json.specs.AnswersFile.{WrittenAnswer, WrittenAnswers, SaysAnswers, numbered_answer}
 use Rattle.lw_json.specs.Each.{each_of}
 use Rattle.lw_json.specs.Fault.{HasFault, HasOneFault, first_failing}
 use Rattle.lw_json.specs.KeptOver.{IsEven}
-use Rattle.lw_json.specs.MachineFault.{IsKnown, UnknownFirst, SaysMachineFault, HasMachineFault, machine_tests}
+use Rattle.lw_json.specs.MachineFault.{HasOutputIn, UnknownFirst, SaysMachineFault, HasMachineFault, machine_tests}
 use Rattle.lw_json.specs.MachineFile.{NamedRow, WrittenMachine, SaysMachine}
 use Rattle.lw_json.specs.Members.{IsJson}
 use Rattle.lw_json.specs.SetupFile.{WrittenSetup, table, command, SaysSetup, SaysSetupFault, HasSetupFault, DeclaredFault, setup_tests}
@@ -28,8 +28,8 @@ use Rattle.lw_json.proofs.NoFault.{names_none, each_some}
 
 one_unknown : (outputs : List (List ℕ)) (states : List NamedRow) (q x r y : ℕ) → UnknownFirst outputs states q x → UnknownFirst outputs states r y → (q ≡ r) × (x ≡ y)
 one_unknown outputs states q x r y h k =
-    let same : q ≡ r = first_one [] (All (IsKnown outputs)) states q r h.0 k.0 in
-    (same, first_one (0, []) (IsKnown outputs) (slice_index_or states r []) x y (subst (λ (i : ℕ). FailsFirst (IsKnown outputs) (slice_index_or states i []) x) same h.1) k.1)
+    let same : q ≡ r = first_one [] (All (HasOutputIn outputs)) states q r h.0 k.0 in
+    (same, first_one (0, []) (HasOutputIn outputs) (slice_index_or states r []) x y (subst (λ (i : ℕ). FailsFirst (HasOutputIn outputs) (slice_index_or states i []) x) same h.1) k.1)
 
 abbrev no_answer : WrittenAnswer
 no_answer = record { instance = 0; run = 0; word = []; outs = [] }
@@ -37,9 +37,9 @@ no_answer = record { instance = 0; run = 0; word = []; outs = [] }
 abbrev no_kept : KeptAnswer
 no_kept = record { instance = 0; run = 0; word = []; outs = [] }
 
-no_bad_word : (inputs outputs : List (List ℕ)) (answers : List WrittenAnswer) (kept : List KeptAnswer) (place : ℕ) → each_of (kept_answer inputs outputs) answers ≡ Some kept → ¬ FailsFirst (HasWords inputs outputs) answers place
+no_bad_word : (inputs outputs : List (List ℕ)) (answers : List WrittenAnswer) (kept : List KeptAnswer) (place : ℕ) → each_of (numbered_answer inputs outputs) answers ≡ Some kept → ¬ FailsFirst (AnswerHasWords inputs outputs) answers place
 no_bad_word inputs outputs answers kept place is h =
-    let each = each_some (kept_answer inputs outputs) answers (rw is refl) in
+    let each = each_some (numbered_answer inputs outputs) answers (rw is refl) in
     h.fails no_answer (each place no_answer h.within)
 
 declared_one : (outputs : Option (List (List ℕ))) (a b : NamesFault) → DeclaredFault outputs a → DeclaredFault outputs b → a ≡ b
@@ -99,7 +99,7 @@ machine_one w (Mealy a) NoMemory h k n n' = absurd (n' refl)
 machine_one w (Mealy a) (Inputs b) h k n n' = absurd (names_none 64 w.inputs b h.0.0 h.0.1 k)
 machine_one w (Mealy a) (Outputs b) h k n n' = absurd (names_none 4096 w.outputs b h.1 h.1.few k.1)
 machine_one w (Mealy a) (UnknownOutput r y) h k n n' = absurd (unknown_none w.outputs w.states h.2.0 r y h.2.1 k.2)
-machine_one w (Mealy a) (Mealy b) h k n n' = ap (λ (x : MealyFault). Mealy x) (one_rows (length w.inputs) (length w.outputs) k.2.0 a b (subst (λ (m : Rows). rows.HasFault (length w.inputs) (length w.outputs) m a) (Some_inj h.2.0 k.2.0 (sym h.2.1 ∙ k.2.1)) h.2.2) k.2.2 h.2.3 k.2.3)
+machine_one w (Mealy a) (Mealy b) h k n n' = ap (λ (x : MealyFault). Mealy x) (one_rows (length w.inputs) (length w.outputs) k.2.0 a b (subst (λ (m : Rows). rows.RowsHaveFault (length w.inputs) (length w.outputs) m a) (Some_inj h.2.0 k.2.0 (sym h.2.1 ∙ k.2.1)) h.2.2) k.2.2 h.2.3 k.2.3)
 
 setup_one : (w : WrittenSetup) (f g : JsonFault) → SaysSetupFault w f → SaysSetupFault w g → f ≢ NoMemory → g ≢ NoMemory → f ≡ g
 setup_one w NotJson g h k n n' = absurd h
@@ -159,7 +159,7 @@ answers_one w (BadWord a) (Mealy fault') h k n n' = absurd k
 answers_one w (BadWord a) NoMemory h k n n' = absurd (n' refl)
 answers_one w (BadWord a) (Inputs b) h k n n' = absurd (names_none 64 w.inputs b h.0.0 h.0.1 k)
 answers_one w (BadWord a) (Outputs b) h k n n' = absurd (names_none 4096 w.outputs b h.1 h.1.few k.1)
-answers_one w (BadWord a) (BadWord b) h k n n' = ap (λ (x : ℕ). BadWord x) (first_one no_answer (HasWords w.inputs w.outputs) w.answers a b h.2 k.2)
+answers_one w (BadWord a) (BadWord b) h k n n' = ap (λ (x : ℕ). BadWord x) (first_one no_answer (AnswerHasWords w.inputs w.outputs) w.answers a b h.2 k.2)
 answers_one w (BadWord a) (Lengths b) h k n n' = absurd (no_bad_word w.inputs w.outputs w.answers k.2.0 a k.2.1 h.2)
 answers_one w (Lengths a) NotJson h k n n' = absurd k
 answers_one w (Lengths a) (Shape field') h k n n' = absurd k

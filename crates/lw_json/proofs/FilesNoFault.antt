@@ -8,14 +8,14 @@ use Rattle.lw_words.specs.Name.{IsNames}
 use Rattle.lw_words.specs.declared.kept.KeptAnswer.{KeptAnswer}
 use Rattle.lw_mealy.specs.Machine.{Rows}
 use Rattle.lw_json.specs.AnswersFault.{SaysAnswersFault, HasAnswersFault, answers_tests}
-use Rattle.lw_json.specs.AnswersFile.{WrittenAnswer, WrittenAnswers, format_at, answers_in, SaysAnswers, SpellsAnswers, IsAnswersFile, kept_answer}
+use Rattle.lw_json.specs.AnswersFile.{WrittenAnswer, WrittenAnswers, format_at, answers_in, SaysAnswers, SpellsAnswers, IsAnswersFile, numbered_answer}
 use Rattle.lw_json.specs.Each.{each_of}
 use Rattle.lw_json.specs.Fault.{HasFault, NoneIsFaulty, first_failing}
 use Rattle.lw_json.specs.KeptOver.{IsEven}
 use Rattle.lw_json.specs.MachineFault.{UnknownFirst, SaysMachineFault, HasMachineFault, machine_tests}
-use Rattle.lw_json.specs.MachineFile.{NamedRow, WrittenMachine, SaysMachine, Spells, IsMachineFile, AreInputs, numbered_cell, numbered_rows}
+use Rattle.lw_json.specs.MachineFile.{NamedRow, WrittenMachine, SaysMachine, SpellsMachine, IsMachineFile, AreInputs, numbered_cell, numbered_rows}
 use Rattle.lw_json.specs.Members.{IsJson, is_object, list_at, texts_at}
-use Rattle.lw_json.specs.SetupFile.{WrittenSetup, table, command, SaysSetup, SpellsSetup, IsSetupFile, SaysSetupFault, HasSetupFault, AreOutputs, DeclaredFault, has, text_at, command_at, outputs_at, setup_tests}
+use Rattle.lw_json.specs.SetupFile.{WrittenSetup, table, command, SaysSetup, SpellsSetup, IsSetupFile, SaysSetupFault, HasSetupFault, AreOutputs, DeclaredFault, has_member, text_at, command_at, outputs_at, setup_tests}
 use Rattle.lw_json.specs.bodies.MachineParts.{IsFaultOfRows}
 use Rattle.lw_json.specs.declared.answers.Answers.{Answers}
 use Rattle.lw_json.specs.declared.fault.Field.{Field}
@@ -37,7 +37,7 @@ unknown_none outputs states rows q x is h =
     let each = each_some (each_of (numbered_cell outputs)) states (rw is refl) in
     h.0.fails [] (known_row outputs (slice_index_or states q []) (each q [] h.0.within))
 
-module _ (w : WrittenMachine) (m : Machine) (s : Spells w m) where
+module _ (w : WrittenMachine) (m : Machine) (s : SpellsMachine w m) where
   said_inputs : AreInputs w.inputs
   said_inputs = subst (λ (l : List (List ℕ)). AreInputs l) (sym s.inputs) s.named.inputs
 
@@ -99,14 +99,14 @@ module _ (w : WrittenAnswers) (a : Answers) (s : SpellsAnswers w a) where
   answered_outputs : IsNames w.outputs
   answered_outputs = subst (λ (l : List (List ℕ)). IsNames l) (sym s.outputs) s.outputs_named
 
-  answered : each_of (kept_answer w.inputs w.outputs) w.answers ≡ Some a.kept.answers
+  answered : each_of (numbered_answer w.inputs w.outputs) w.answers ≡ Some a.kept.answers
   answered =
-      subst (λ (o : List (List ℕ)). each_of (kept_answer w.inputs o) w.answers ≡ Some a.kept.answers) (sym s.outputs)
-      (subst (λ (i : List (List ℕ)). each_of (kept_answer i a.outputs) w.answers ≡ Some a.kept.answers) (sym s.inputs) s.answers)
+      subst (λ (o : List (List ℕ)). each_of (numbered_answer w.inputs o) w.answers ≡ Some a.kept.answers) (sym s.outputs)
+      (subst (λ (i : List (List ℕ)). each_of (numbered_answer i a.outputs) w.answers ≡ Some a.kept.answers) (sym s.inputs) s.answers)
 
   words_none : (place : ℕ) → ¬ SaysAnswersFault w (BadWord place)
   words_none place h =
-      let each = each_some (kept_answer w.inputs w.outputs) w.answers (rw answered refl) in
+      let each = each_some (numbered_answer w.inputs w.outputs) w.answers (rw answered refl) in
       let none : WrittenAnswer = record { instance = 0; run = 0; word = []; outs = [] } in
       h.2.fails none (each place none h.2.within)
 
@@ -199,7 +199,7 @@ setup_cases false has_table inputs outputs words (Some n) w e = refl
 
 pub setup_passes : (d : Data) (w : WrittenSetup) → SaysSetup d w → first_failing (setup_tests d) ≡ None
 setup_passes d w s =
-    rw (object_setup d w s) (setup_cases (has (codes "command") d) (has (codes "table") d) (texts_at (codes "inputs") d) (outputs_at d) (command_at d) (text_at (codes "table") d) w s)
+    rw (object_setup d w s) (setup_cases (has_member (codes "command") d) (has_member (codes "table") d) (texts_at (codes "inputs") d) (outputs_at d) (command_at d) (text_at (codes "table") d) w s)
 
 abbrev said_as : List (List ℕ) → List (List ℕ) → List NamedRow → WrittenMachine
 said_as i o r = record { inputs = i; outputs = o; states = r }
@@ -218,7 +218,7 @@ answers_same d v w s t =
     ap (λ (i : List (List ℕ)). answered_as i v.outputs v.answers) same.inputs ∙ (ap (λ (o : List (List ℕ)). answered_as w.inputs o v.answers) same.outputs ∙ ap (λ (l : List WrittenAnswer). answered_as w.inputs w.outputs l) same.answers)
 
 pub machines : NoneIsFaulty IsMachineFile HasMachineFault
-machines = file_none machine_tests SaysMachine SaysMachineFault Spells machine_passes machine_same machine_none
+machines = file_none machine_tests SaysMachine SaysMachineFault SpellsMachine machine_passes machine_same machine_none
 
 pub setups : NoneIsFaulty IsSetupFile HasSetupFault
 setups = file_none setup_tests SaysSetup SaysSetupFault SpellsSetup setup_passes (λ d v w s t. Some_inj v w (sym s ∙ t)) setup_none

@@ -84,7 +84,7 @@ one_names limit list (Repeated a c) (TooMany b) h k n n' = absurd (omega (arith,
 one_names limit list (Repeated a c) (BadName b) h k n n' = absurd (k.1.fails [] (h.1 b [] k.1.within))
 one_names limit list (Repeated a c) (Repeated b e) h k n n' = ap (λ (x : ℕ). Repeated x c) (repeats_first list a c b e h.2 k.2) ∙ ap (λ (x : ℕ). Repeated b x) (repeats_second list a c b e h.2 k.2)
 
-pub one_rows : (a b : ℕ) (m : Rows) (f g : MealyFault) → rows.HasFault a b m f → rows.HasFault a b m g → f ≢ mealy.NoMemory → g ≢ mealy.NoMemory → f ≡ g
+pub one_rows : (a b : ℕ) (m : Rows) (f g : MealyFault) → rows.RowsHaveFault a b m f → rows.RowsHaveFault a b m g → f ≢ mealy.NoMemory → g ≢ mealy.NoMemory → f ≡ g
 one_rows a b m mealy.NoMemory g h k n n' = absurd (n refl)
 one_rows a b m mealy.NoState mealy.NoMemory h k n n' = absurd (n' refl)
 one_rows a b m mealy.NoState mealy.NoState h k n n' = refl

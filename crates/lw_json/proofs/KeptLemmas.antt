@@ -8,7 +8,7 @@ use Rattle.lw_words.specs.Name.{number_of}
 use Rattle.lw_words.specs.Word.{IsWord}
 use Rattle.lw_words.specs.declared.kept.KeptAnswer.{KeptAnswer}
 use Rattle.lw_words.proofs.NumberLemmas.{name_at_number}
-use Rattle.lw_json.specs.AnswersFile.{WrittenAnswer, kept_answer}
+use Rattle.lw_json.specs.AnswersFile.{WrittenAnswer, numbered_answer}
 use Rattle.lw_json.specs.Each.{each_of}
 use Rattle.lw_json.specs.KeptOver.{IsEven, AreKeptOver}
 use Rattle.lw_json.specs.WordText.{word_of}
@@ -47,14 +47,14 @@ module _ (inputs outputs : List (List ℕ)) where
   abbrev IsOver : KeptAnswer → Type 0
   IsOver k = (k.instance ≤ 16) × IsWord (length inputs) k.word × IsWord (length outputs) k.outs
 
-  is_over : (a : WrittenAnswer) (k : KeptAnswer) → a.instance ≤ 16 → kept_answer inputs outputs a ≡ Some k → IsOver k
+  is_over : (a : WrittenAnswer) (k : KeptAnswer) → a.instance ≤ 16 → numbered_answer inputs outputs a ≡ Some k → IsOver k
   is_over a k small e =
       let first = and_then_some (λ w. option_map (λ o. record { instance = a.instance; run = a.run; word = w; outs = o }) (word_of outputs a.outs)) (word_of inputs a.word) k e in
       let rest = map_some (λ o. record { instance = a.instance; run = a.run; word = first.0; outs = o }) (word_of outputs a.outs) k first.2 in
       subst (λ (k : KeptAnswer). IsOver k) rest.2 (small, is_word inputs a.word first.0 first.1, is_word outputs a.outs rest.0 rest.1)
 
-  pub are_over : {V : Type 0} (v : V → WrittenAnswer) → ((x : V) → (v x).instance ≤ 16) → (xs : List V) (kept : List KeptAnswer) → each_of (kept_answer inputs outputs) (map v xs) ≡ Some kept → All IsEven kept
+  pub are_over : {V : Type 0} (v : V → WrittenAnswer) → ((x : V) → (v x).instance ≤ 16) → (xs : List V) (kept : List KeptAnswer) → each_of (numbered_answer inputs outputs) (map v xs) ≡ Some kept → All IsEven kept
       → AreKeptOver (length inputs) (length outputs) kept
   are_over v small xs kept e even =
-      let over : All IsOver kept = each_of-All v (kept_answer inputs outputs) IsOver (λ x k is. is_over (v x) k (small x) is) xs kept e in
+      let over : All IsOver kept = each_of-All v (numbered_answer inputs outputs) IsOver (λ x k is. is_over (v x) k (small x) is) xs kept e in
       λ k d lt. let h = over k d lt in record { instance = h.0; word = h.1; outs = h.2; even = even k d lt }

@@ -2,14 +2,14 @@
 use Rattle.std.proofs.Common.{◌≡◌, ⊎_elim, ℕ, ◌<◌, List, [], length, get_or, map, sym, subst, inl, inr, ◌∷◌, Option, Some, None, option_map, option_and_then, IsSome, refl, true≢false}
 use Rattle.std.proofs.lemmas.List.Elements.{All-nil, All-cons}
 use Rattle.lw_words.specs.Name.{IsNames, number_of}
-use Rattle.lw_mealy.specs.Fault.{HasFault}
+use Rattle.lw_mealy.specs.Fault.{RowsHaveFault}
 use Rattle.lw_mealy.specs.Machine.{Rows}
 use Rattle.lw_json.specs.Each.{each_of}
 use Rattle.std.specs.List.{All, AllWithin}
 use Rattle.lw_words.specs.First.{FailsFirst}
 use Rattle.lw_words.proofs.Lists.{read-map}
 use Rattle.lw_json.specs.MachineFile.{NamedRow, WrittenMachine, AreInputs, numbered_cell, numbered_rows}
-use Rattle.lw_json.specs.MachineFault.{IsKnown, SaysMachineFault}
+use Rattle.lw_json.specs.MachineFault.{HasOutputIn, SaysMachineFault}
 use Rattle.lw_json.specs.Fault.{IsFaultOf}
 use Rattle.lw_json.specs.bodies.MachineParts.{UnknownAt, IsFaultOfRows}
 use Rattle.lw_json.specs.bodies.Told.{Told}
@@ -20,15 +20,15 @@ use Rattle.lw_json.proofs.Faults.{told_by}
 
 module _ {V : Type 0} (v : V → NamedRow) (outputs : List (List ℕ)) where
   -- the first row with an unknown output
-  pub unknown_at : (rows : List V) (q : ℕ) (r : V) (told : JsonFault) → q < length rows → r ≡ get_or rows q r → AllWithin (All (IsKnown outputs)) (map v rows) 0 q → Told (UnknownOutput q) (FailsFirst (IsKnown outputs) (v r)) told
+  pub unknown_at : (rows : List V) (q : ℕ) (r : V) (told : JsonFault) → q < length rows → r ≡ get_or rows q r → AllWithin (All (HasOutputIn outputs)) (map v rows) 0 q → Told (UnknownOutput q) (FailsFirst (HasOutputIn outputs) (v r)) told
       → UnknownAt outputs (map v rows) told
   unknown_at rows q r told lt at before h = ⊎_elim inl (λ w. inr (
     q,
     w.0,
     w.1,
     (
-      fails_here v (All (IsKnown outputs)) rows q r lt at (λ all. w.2.fails (0, []) (all w.0 (0, []) w.2.within)) before,
-      subst (λ (s : NamedRow). FailsFirst (IsKnown outputs) s w.0) (sym (read-map v rows q r [] lt at)) w.2,
+      fails_here v (All (HasOutputIn outputs)) rows q r lt at (λ all. w.2.fails (0, []) (all w.0 (0, []) w.2.within)) before,
+      subst (λ (s : NamedRow). FailsFirst (HasOutputIn outputs) s w.0) (sym (read-map v rows q r [] lt at)) w.2,
     ),
   )) h
 
@@ -39,13 +39,13 @@ module _ (outputs : List (List ℕ)) where
   first_known t (Some y) None e = absurd (true≢false (sym e))
   first_known t (Some y) (Some l) e = (refl, refl)
 
-  pub known_row : (row : NamedRow) → IsSome (each_of (numbered_cell outputs) row) → All (IsKnown outputs) row
-  known_row [] e = All-nil (IsKnown outputs)
+  pub known_row : (row : NamedRow) → IsSome (each_of (numbered_cell outputs) row) → All (HasOutputIn outputs) row
+  known_row [] e = All-nil (HasOutputIn outputs)
   known_row (c ∷ row) e =
       let h = first_known c.0 (number_of c.1 outputs) (each_of (numbered_cell outputs) row) e in
-      All-cons (IsKnown outputs) c row h.0 (known_row row h.1)
+      All-cons (HasOutputIn outputs) c row h.0 (known_row row h.1)
 
-  pub all_known : (row : NamedRow) (cells : List (ℕ × ℕ)) → each_of (numbered_cell outputs) row ≡ Some cells → All (IsKnown outputs) row
+  pub all_known : (row : NamedRow) (cells : List (ℕ × ℕ)) → each_of (numbered_cell outputs) row ≡ Some cells → All (HasOutputIn outputs) row
   all_known row cells is = known_row row (rw is refl)
 
 -- what a machine file says has the fault that a part told
@@ -62,4 +62,4 @@ module _ (w : WrittenMachine) (told : JsonFault) where
   pub rows_fault : (a b : ℕ) (rows : Rows) → AreInputs w.inputs → IsNames w.outputs → a ≡ length w.inputs → b ≡ length w.outputs → numbered_rows w.outputs w.states ≡ Some rows → Told Mealy (IsFaultOfRows a b rows) told → SaysMachineFault w told
   rows_fault a b rows inputs outputs letters answers numbered h =
       told_by Mealy (IsFaultOfRows a b rows) (SaysMachineFault w) told h tt
-      (λ fault p. (inputs, outputs, (rows, numbered, subst (λ (k : ℕ). HasFault k (length w.outputs) rows fault) letters (subst (λ (k : ℕ). HasFault a k rows fault) answers p.0), p.1)))
+      (λ fault p. (inputs, outputs, (rows, numbered, subst (λ (k : ℕ). RowsHaveFault k (length w.outputs) rows fault) letters (subst (λ (k : ℕ). RowsHaveFault a k rows fault) answers p.0), p.1)))

@@ -2,7 +2,7 @@
 use Rattle.std.proofs.Common.{◌≡◌, List, ℕ, codes, sym, ap, ap₂, ◌∙◌}
 use Rattle.json.proofs.Found.{Some_inj}
 use Rattle.serde_json.specs.Data.{Data}
-use Rattle.lw_json.specs.AnswersFile.{WrittenAnswer, WrittenAnswers, SaysAnswers, SpellsAnswers, IsAnswersFile, SameAnswers, answers_at, kept_answer}
+use Rattle.lw_json.specs.AnswersFile.{WrittenAnswer, WrittenAnswers, SaysAnswers, SpellsAnswers, IsAnswersFile, SameAnswers, answers_at, numbered_answer}
 use Rattle.lw_json.specs.Each.{each_of}
 use Rattle.lw_json.specs.Members.{texts_at}
 use Rattle.lw_json.specs.declared.answers.Answers.{Answers}
@@ -24,8 +24,8 @@ spell_same : (v w : WrittenAnswers) (a b : Answers) → SameSaid v w → SpellsA
 spell_same v w a b same s t =
     let inputs : a.inputs ≡ b.inputs = sym s.inputs ∙ (same.inputs ∙ t.inputs) in
     let outputs : a.outputs ≡ b.outputs = sym s.outputs ∙ (same.outputs ∙ t.outputs) in
-    let one : each_of (kept_answer a.inputs a.outputs) v.answers ≡ each_of (kept_answer b.inputs b.outputs) v.answers = ap₂ (λ (i o : List (List ℕ)). each_of (kept_answer i o) v.answers) inputs outputs in
-    let two : each_of (kept_answer b.inputs b.outputs) v.answers ≡ each_of (kept_answer b.inputs b.outputs) w.answers = ap (λ (l : List WrittenAnswer). each_of (kept_answer b.inputs b.outputs) l) same.answers in
+    let one : each_of (numbered_answer a.inputs a.outputs) v.answers ≡ each_of (numbered_answer b.inputs b.outputs) v.answers = ap₂ (λ (i o : List (List ℕ)). each_of (numbered_answer i o) v.answers) inputs outputs in
+    let two : each_of (numbered_answer b.inputs b.outputs) v.answers ≡ each_of (numbered_answer b.inputs b.outputs) w.answers = ap (λ (l : List WrittenAnswer). each_of (numbered_answer b.inputs b.outputs) l) same.answers in
     record { inputs = inputs; outputs = outputs; answers = Some_inj a.kept.answers b.kept.answers (sym s.answers ∙ (one ∙ (two ∙ t.answers))) }
 
 pub one_answers : (bytes : List ℕ) (a b : Answers) → IsAnswersFile bytes a → IsAnswersFile bytes b → SameAnswers a b

@@ -4,7 +4,7 @@ use Rattle.json.proofs.Found.{Some_inj}
 use Rattle.serde_json.specs.Data.{Data}
 use Rattle.lw_mealy.specs.Machine.{Rows}
 use Rattle.lw_mealy.specs.Limits.{MealyMachine, mealy_of}
-use Rattle.lw_json.specs.MachineFile.{NamedRow, WrittenMachine, SaysMachine, Spells, IsMachineFile, SameMachine, numbered_rows, rows_at}
+use Rattle.lw_json.specs.MachineFile.{NamedRow, WrittenMachine, SaysMachine, SpellsMachine, IsMachineFile, SameMachine, numbered_rows, rows_at}
 use Rattle.lw_json.specs.Members.{texts_at}
 use Rattle.lw_json.specs.declared.machine.Machine.{Machine}
 
@@ -24,7 +24,7 @@ says_same d e v w de s t = record {
   states = Some_inj v.states w.states (sym s.states ∙ (ap (λ (x : Data). rows_at (codes "states") x) de ∙ t.states));
 }
 
-spell_same : (v w : WrittenMachine) (m n : Machine) → SameSaid v w → Spells v m → Spells w n → SameMachine m n
+spell_same : (v w : WrittenMachine) (m n : Machine) → SameSaid v w → SpellsMachine v m → SpellsMachine w n → SameMachine m n
 spell_same v w m n same s t =
     let inputs : m.inputs ≡ n.inputs = sym s.inputs ∙ (same.inputs ∙ t.inputs) in
     let outputs : m.outputs ≡ n.outputs = sym s.outputs ∙ (same.outputs ∙ t.outputs) in

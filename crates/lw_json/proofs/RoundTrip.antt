@@ -11,8 +11,8 @@ use Rattle.lw_words.specs.Name.{AllDiffer, number_of}
 use Rattle.lw_words.proofs.NumberLemmas.{number_at_place}
 use Rattle.lw_mealy.specs.Machine.{Row, Rows}
 use Rattle.lw_json.specs.Each.{each_of}
-use Rattle.lw_json.specs.MachineFile.{WrittenMachine, SaysMachine, Spells, IsNamed, cell_of, row_of, numbered_cell, numbered_rows}
-use Rattle.lw_json.specs.Members.{list_of}
+use Rattle.lw_json.specs.MachineFile.{WrittenMachine, SaysMachine, SpellsMachine, IsNamed, cell_of, row_of, numbered_cell, numbered_rows}
+use Rattle.lw_json.specs.Members.{array_of}
 use Rattle.lw_json.specs.MachineText.{texts_data, cell_data, row_data, rows_data, machine_data}
 use Rattle.lw_json.specs.declared.machine.Machine.{Machine}
 use Rattle.lw_json.proofs.EachLemmas.{values-items_of}
@@ -24,14 +24,14 @@ module _ {X D Y : Type 0} (f : X → D) (g : D → Option Y) (h : X → Y) (P : 
   each_of-map (x ∷ xs) a = rw (same x (a 0 x (omega arith)), each_of-map xs (λ k d lt. a (suc k) d (omega arith))) refl
 
 module _ {X Y : Type 0} (f : X → Data) (g : Data → Option Y) (h : X → Y) (P : X → Type 0) (same : (x : X) → P x → g (f x) ≡ Some (h x)) where
-  pub read_list : (xs : List X) → All P xs → option_and_then (each_of g) (list_of (array (items_of (map f xs)))) ≡ Some (map h xs)
+  pub read_list : (xs : List X) → All P xs → option_and_then (each_of g) (array_of (array (items_of (map f xs)))) ≡ Some (map h xs)
   read_list xs a = ap (each_of g) (values-items_of (map f xs)) ∙ each_of-map f g h P same xs a
 
 each_text : (texts : List (List ℕ)) → each_of as_str (map string texts) ≡ Some texts
 each_text [] = refl
 each_text (t ∷ ts) = rw (each_text ts) refl
 
-pub read_texts : (texts : List (List ℕ)) → option_and_then (each_of as_str) (list_of (texts_data texts)) ≡ Some texts
+pub read_texts : (texts : List (List ℕ)) → option_and_then (each_of as_str) (array_of (texts_data texts)) ≡ Some texts
 read_texts texts = ap (each_of as_str) (values-items_of (map string texts)) ∙ each_text texts
 
 -- a cell within the limits
@@ -52,7 +52,7 @@ module _ (outputs : List (List ℕ)) (differ : AllDiffer outputs) where
   read_row : (r : Row) → All (IsCell outputs) r → row_of (row_data outputs r) ≡ Some (map (named_cell outputs) r)
   read_row r h = read_list (cell_data outputs) cell_of (named_cell outputs) (IsCell outputs) read_cell r h
 
-  read_rows : (rows : Rows) → All (All (IsCell outputs)) rows → option_and_then (each_of row_of) (list_of (rows_data outputs rows)) ≡ Some (map (map (named_cell outputs)) rows)
+  read_rows : (rows : Rows) → All (All (IsCell outputs)) rows → option_and_then (each_of row_of) (array_of (rows_data outputs rows)) ≡ Some (map (map (named_cell outputs)) rows)
   read_rows rows h = read_list (row_data outputs) row_of (map (named_cell outputs)) (All (IsCell outputs)) read_row rows h
 
   named_output : (n : ℕ) → n < length outputs → number_of (slice_index_or outputs n []) outputs ≡ Some n
@@ -91,7 +91,7 @@ says_it m named =
       states = read_rows m.outputs named.outputs.differ m.mealy.rows (cells m named);
     }
 
-pub spelled : (m : Machine) → IsNamed m → Spells (written_of m) m
+pub spelled : (m : Machine) → IsNamed m → SpellsMachine (written_of m) m
 spelled m named =
     record {
       inputs = refl;

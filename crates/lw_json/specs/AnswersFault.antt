@@ -4,7 +4,7 @@ use Rattle.serde_json.specs.Data.{Data}
 use Rattle.lw_words.specs.First.{FailsFirst}
 use Rattle.lw_words.specs.Name.{IsNames}
 use Rattle.lw_words.specs.declared.kept.KeptAnswer.{KeptAnswer}
-use Rattle.lw_json.specs.AnswersFile.{WrittenAnswer, WrittenAnswers, SaysAnswers, answers_at, format_at, kept_answer}
+use Rattle.lw_json.specs.AnswersFile.{WrittenAnswer, WrittenAnswers, SaysAnswers, answers_at, format_at, numbered_answer}
 use Rattle.lw_json.specs.Each.{each_of}
 use Rattle.lw_json.specs.Fault.{IsFaultOf, HasFault}
 use Rattle.lw_json.specs.KeptOver.{IsEven}
@@ -26,12 +26,12 @@ answers_tests d =
     ∷ []
 
 -- both texts of the answer are words
-abbrev pub HasWords : List (List ℕ) → List (List ℕ) → WrittenAnswer → Type 0
-HasWords inputs outputs a = IsSome (kept_answer inputs outputs a)
+abbrev pub AnswerHasWords : List (List ℕ) → List (List ℕ) → WrittenAnswer → Type 0
+AnswerHasWords inputs outputs a = IsSome (numbered_answer inputs outputs a)
 
 -- the answers are words, and this one is the first whose two words have different lengths
 abbrev pub IsUneven : List (List ℕ) → List (List ℕ) → List WrittenAnswer → ℕ → Type 0
-IsUneven inputs outputs answers place = (kept : List KeptAnswer) × (each_of (kept_answer inputs outputs) answers ≡ Some kept) × FailsFirst IsEven kept place
+IsUneven inputs outputs answers place = (kept : List KeptAnswer) × (each_of (numbered_answer inputs outputs) answers ≡ Some kept) × FailsFirst IsEven kept place
 
 -- what the members of an answers file say has this fault first
 abbrev pub SaysAnswersFault : WrittenAnswers → JsonFault → Type 0
@@ -41,7 +41,7 @@ SaysAnswersFault w (Inputs fault) = IsFaultOf 64 w.inputs fault
 SaysAnswersFault w (Outputs fault) = AreInputs w.inputs × IsFaultOf 4096 w.outputs fault
 SaysAnswersFault w (UnknownOutput state letter) = ⊥
 SaysAnswersFault w (Mealy fault) = ⊥
-SaysAnswersFault w (BadWord place) = AreInputs w.inputs × IsNames w.outputs × FailsFirst (HasWords w.inputs w.outputs) w.answers place
+SaysAnswersFault w (BadWord place) = AreInputs w.inputs × IsNames w.outputs × FailsFirst (AnswerHasWords w.inputs w.outputs) w.answers place
 SaysAnswersFault w (Lengths place) = AreInputs w.inputs × IsNames w.outputs × IsUneven w.inputs w.outputs w.answers place
 SaysAnswersFault w NoMemory = Unit {0}
 

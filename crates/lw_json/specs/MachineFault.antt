@@ -25,12 +25,12 @@ machine_tests d =
     ∷ []
 
 -- the output that the cell names is one of these
-abbrev pub IsKnown : List (List ℕ) → ℕ × List ℕ → Type 0
-IsKnown outputs c = IsSome (number_of c.1 outputs)
+abbrev pub HasOutputIn : List (List ℕ) → ℕ × List ℕ → Type 0
+HasOutputIn outputs c = IsSome (number_of c.1 outputs)
 
 -- this cell is the first whose output is none of these: by state, then by letter
 abbrev pub UnknownFirst : List (List ℕ) → List NamedRow → ℕ → ℕ → Type 0
-UnknownFirst outputs rows q x = FailsFirst (All (IsKnown outputs)) rows q × FailsFirst (IsKnown outputs) (slice_index_or rows q []) x
+UnknownFirst outputs rows q x = FailsFirst (All (HasOutputIn outputs)) rows q × FailsFirst (HasOutputIn outputs) (slice_index_or rows q []) x
 
 -- what the members of a machine file say has this fault first
 abbrev pub SaysMachineFault : WrittenMachine → JsonFault → Type 0
@@ -41,7 +41,7 @@ SaysMachineFault w (Outputs fault) = AreInputs w.inputs × IsFaultOf 4096 w.outp
 SaysMachineFault w (UnknownOutput q x) = AreInputs w.inputs × IsNames w.outputs × UnknownFirst w.outputs w.states q x
 SaysMachineFault w (Mealy fault) =
     AreInputs w.inputs × IsNames w.outputs
-    × ((rows : Rows) × (numbered_rows w.outputs w.states ≡ Some rows) × mealy.HasFault (length w.inputs) (length w.outputs) rows fault × (fault ≢ mealy_fault.NoMemory))
+    × ((rows : Rows) × (numbered_rows w.outputs w.states ≡ Some rows) × mealy.RowsHaveFault (length w.inputs) (length w.outputs) rows fault × (fault ≢ mealy_fault.NoMemory))
 SaysMachineFault w (BadWord place) = ⊥
 SaysMachineFault w (Lengths place) = ⊥
 SaysMachineFault w NoMemory = Unit {0}

@@ -6,7 +6,7 @@ use Rattle.lw_words.specs.Name.{IsNames, number_of}
 use Rattle.lw_mealy.specs.Machine.{Rows}
 use Rattle.lw_mealy.specs.Limits.{IsWithinLimits}
 use Rattle.lw_json.specs.Each.{each_of}
-use Rattle.lw_json.specs.Members.{IsJson, list_of, list_at, texts_at}
+use Rattle.lw_json.specs.Members.{IsJson, array_of, list_at, texts_at}
 use Rattle.lw_json.specs.declared.machine.Machine.{Machine}
 
 -- a row as it is written: for each input the target and the name of the output
@@ -18,17 +18,17 @@ abbrev pub target_of : Data → Option ℕ
 target_of d = option_and_then (λ n. if nat_lt n 65536 then Some n else None) (option_and_then as_u64 (as_number d))
 
 -- a cell is a list of two: the target and the name of the output
-abbrev pub pair_of : List Data → Option (ℕ × List ℕ)
-pair_of [] = None
-pair_of (d ∷ []) = None
-pair_of (d ∷ e ∷ []) = option_and_then (λ t. option_map (λ y. (t, y)) (as_str e)) (target_of d)
-pair_of (d ∷ e ∷ f ∷ ds) = None
+abbrev pub cell_of_two : List Data → Option (ℕ × List ℕ)
+cell_of_two [] = None
+cell_of_two (d ∷ []) = None
+cell_of_two (d ∷ e ∷ []) = option_and_then (λ t. option_map (λ y. (t, y)) (as_str e)) (target_of d)
+cell_of_two (d ∷ e ∷ f ∷ ds) = None
 
 abbrev pub cell_of : Data → Option (ℕ × List ℕ)
-cell_of d = option_and_then pair_of (list_of d)
+cell_of d = option_and_then cell_of_two (array_of d)
 
 abbrev pub row_of : Data → Option NamedRow
-row_of d = option_and_then (each_of cell_of) (list_of d)
+row_of d = option_and_then (each_of cell_of) (array_of d)
 
 -- a member that is a list of rows
 abbrev pub rows_at : List ℕ → Data → Option (List NamedRow)
@@ -66,7 +66,7 @@ pub record IsNamed (m : Machine) : Type 0 where
   pub answers : m.mealy.outputs ≡ length m.outputs
 
 -- what is said is the machine, its names and its rows
-pub record Spells (w : WrittenMachine) (m : Machine) : Type 0 where
+pub record SpellsMachine (w : WrittenMachine) (m : Machine) : Type 0 where
   pub inputs : w.inputs ≡ m.inputs
   pub outputs : w.outputs ≡ m.outputs
   pub states : numbered_rows m.outputs w.states ≡ Some m.mealy.rows
@@ -74,7 +74,7 @@ pub record Spells (w : WrittenMachine) (m : Machine) : Type 0 where
 
 -- the bytes are a machine file, and this is the machine
 abbrev pub IsMachineFile : List ℕ → Machine → Type 0
-IsMachineFile bytes m = (d : Data) × IsJson bytes d × ((w : WrittenMachine) × SaysMachine d w × Spells w m)
+IsMachineFile bytes m = (d : Data) × IsJson bytes d × ((w : WrittenMachine) × SaysMachine d w × SpellsMachine w m)
 
 -- the names and the machine are the same
 pub record SameMachine (m n : Machine) : Type 0 where

@@ -17,12 +17,12 @@ abbrev pub values : Items → List Data
 values no_items = []
 values (item d ds) = d ∷ values ds
 
-abbrev pub list_of : Data → Option (List Data)
-list_of d = option_map values (as_array d)
+abbrev pub array_of : Data → Option (List Data)
+array_of d = option_map values (as_array d)
 
 -- a member that is a list
 abbrev pub list_at : List ℕ → Data → Option (List Data)
-list_at key d = option_and_then list_of (get key d)
+list_at key d = option_and_then array_of (get key d)
 
 -- a member that is a list of texts
 abbrev pub texts_at : List ℕ → Data → Option (List (List ℕ))

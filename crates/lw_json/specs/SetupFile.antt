@@ -15,25 +15,25 @@ use Rattle.lw_json.specs.declared.setup.Setup.{Setup}
 use Rattle.lw_json.specs.declared.setup.Setup.TheVariants.{Table, Command}
 
 -- the object has this member, whatever its value
-abbrev pub has : List ℕ → Data → Bool
-has key d = is_some (get key d)
+abbrev pub has_member : List ℕ → Data → Bool
+has_member key d = is_some (get key d)
 
 -- a member that is a text
 abbrev pub text_at : List ℕ → Data → Option (List ℕ)
 text_at key d = option_and_then as_str (get key d)
 
 -- 1 to 64 texts, the first not empty
-abbrev pub is_command : List (List ℕ) → Bool
-is_command [] = false
-is_command ([] ∷ words) = false
-is_command ((b ∷ first) ∷ words) = nat_lt (length words) 64
+abbrev pub is_child_command : List (List ℕ) → Bool
+is_child_command [] = false
+is_child_command ([] ∷ words) = false
+is_child_command ((b ∷ first) ∷ words) = nat_lt (length words) 64
 
 abbrev pub command_at : Data → Option (List (List ℕ))
-command_at d = option_and_then (λ words. if is_command words then Some words else None) (texts_at (codes "command") d)
+command_at d = option_and_then (λ words. if is_child_command words then Some words else None) (texts_at (codes "command") d)
 
 -- the outputs, which may be left out
 abbrev pub outputs_at : Data → Option (Option (List (List ℕ)))
-outputs_at d = if has (codes "outputs") d then option_map (λ outputs. Some outputs) (texts_at (codes "outputs") d) else Some None
+outputs_at d = if has_member (codes "outputs") d then option_map (λ outputs. Some outputs) (texts_at (codes "outputs") d) else Some None
 
 -- what a setup says, before its names are looked at
 pub data WrittenSetup : Type 0 where
@@ -46,8 +46,8 @@ command_said d = option_and_then (λ inputs. option_and_then (λ outputs. option
 -- one of a table and a command, never both
 abbrev pub setup_said : Data → Option WrittenSetup
 setup_said d =
-    if has (codes "command") d
-    then (if has (codes "table") d then None else command_said d)
+    if has_member (codes "command") d
+    then (if has_member (codes "table") d then None else command_said d)
     else option_map table (text_at (codes "table") d)
 
 abbrev pub SaysSetup : Data → WrittenSetup → Type 0
@@ -57,10 +57,10 @@ SaysSetup d w = setup_said d ≡ Some w
 abbrev pub setup_tests : Data → List (Field × Bool)
 setup_tests d =
     (field.Root, is_object d)
-    ∷ (if has (codes "command") d && not (has (codes "table") d) then (field.Inputs, is_some (texts_at (codes "inputs") d)) ∷ (field.Outputs, is_some (outputs_at d)) ∷ [] else [])
-    ++ ((field.Both, not (has (codes "command") d && has (codes "table") d))
-    ∷ (field.Neither, has (codes "command") d || is_some (text_at (codes "table") d))
-    ∷ (field.Command, not (has (codes "command") d) || is_some (command_at d))
+    ∷ (if has_member (codes "command") d && not (has_member (codes "table") d) then (field.Inputs, is_some (texts_at (codes "inputs") d)) ∷ (field.Outputs, is_some (outputs_at d)) ∷ [] else [])
+    ++ ((field.Both, not (has_member (codes "command") d && has_member (codes "table") d))
+    ∷ (field.Neither, has_member (codes "command") d || is_some (text_at (codes "table") d))
+    ∷ (field.Command, not (has_member (codes "command") d) || is_some (command_at d))
     ∷ [])
 
 -- the names, where they aren't left out

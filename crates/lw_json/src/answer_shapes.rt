@@ -2,7 +2,7 @@
 
 ghost use Rattle.std.specs.Prelude.{◌≡◌, ◌≤◌, IfOk, IfSome, Some, map, option_map};
 ghost use Rattle.serde_json.specs.View.{view};
-ghost use Rattle.lw_json.specs.AnswersFile.{pair_of, pairs_from, answer_of, instance_of, format_at, answers_at};
+ghost use Rattle.lw_json.specs.AnswersFile.{pair_of_texts, pairs_from, written_answer_of, instance_of, format_at, answers_at};
 ghost use Rattle.lw_json.specs.Each.{each_of};
 ghost use Rattle.lw_json.specs.bodies.Found.{FindsAnswers};
 ghost use Rattle.lw_json.specs.bodies.AnswersParts.{said_answer};
@@ -18,7 +18,7 @@ const LAST_INSTANCE: u64 = 16;
 
 /// The two texts of an answer in format 1.
 fn pair<'a>(value: &'a Value) -> Option<(&'a str, &'a str)>
-    ensures { option_map (λ p. (p.0.now, p.1.now)) result ≡ pair_of (view value.now) }
+    ensures { option_map (λ p. (p.0.now, p.1.now)) result ≡ pair_of_texts (view value.now) }
 {
     let [word, outs] = list(value)?.as_slice() else {
         return None;
@@ -60,7 +60,7 @@ fn instance(value: &Value) -> Option<u32>
 
 /// An answer in format 2.
 fn answer<'a>(value: &'a Value) -> Option<SaidAnswer<'a>>
-    ensures { option_map said_answer result ≡ answer_of (view value.now) }
+    ensures { option_map said_answer result ≡ written_answer_of (view value.now) }
 {
     let [origin, run, word, outs] = list(value)?.as_slice() else {
         return None;
@@ -75,7 +75,7 @@ fn answer<'a>(value: &'a Value) -> Option<SaidAnswer<'a>>
 
 /// The answers in format 2, or None where one hasn't its shape.
 fn answers<'a>(alloc: Global, items: &'a [Value]) -> Result<Option<Vec<SaidAnswer<'a>>>, NoMemory>
-    ensures { IfOk result (FindsAnswers (each_of answer_of (map view items.now))) }
+    ensures { IfOk result (FindsAnswers (each_of written_answer_of (map view items.now))) }
 {
     let mut all = Vec::with_capacity(alloc, items.len())?;
     for item in items {

@@ -5,8 +5,8 @@ ghost use Rattle.std.specs.List.{All};
 ghost use Rattle.serde_json.specs.View.{view};
 ghost use Rattle.lw_words.specs.First.{FailsFirst};
 ghost use Rattle.lw_words.specs.Name.{IsNames};
-ghost use Rattle.lw_json.specs.AnswersFile.{kept_answer, SaysAnswers, SpellsAnswers, IsAnswersFile, SameAnswers};
-ghost use Rattle.lw_json.specs.AnswersFault.{answers_tests, HasWords, SaysAnswersFault, HasAnswersFault};
+ghost use Rattle.lw_json.specs.AnswersFile.{numbered_answer, SaysAnswers, SpellsAnswers, IsAnswersFile, SameAnswers};
+ghost use Rattle.lw_json.specs.AnswersFault.{answers_tests, AnswerHasWords, SaysAnswersFault, HasAnswersFault};
 ghost use Rattle.lw_json.specs.Each.{each_of};
 ghost use Rattle.lw_json.specs.Fault.{first_failing};
 ghost use Rattle.lw_json.specs.KeptOver.{IsEven};
@@ -67,7 +67,7 @@ fn kept_one(
     inputs: &Names,
     outputs: &Names,
 ) -> Result<Option<KeptAnswer>, NoMemory>
-    ensures { IfOk result (λ r. r ≡ kept_answer inputs.now outputs.now (said_answer said.now)) }
+    ensures { IfOk result (λ r. r ≡ numbered_answer inputs.now outputs.now (said_answer said.now)) }
 {
     let Some(word) = read_word(alloc, inputs, said.word)? else {
         return Ok(None);
@@ -91,10 +91,10 @@ fn kept_all(
     outputs: &Names,
 ) -> Result<Kept, JsonFault>
     ensures ok { IfOk result
-        (λ kept. each_of (kept_answer inputs.now outputs.now) (map said_answer answers.now)
+        (λ kept. each_of (numbered_answer inputs.now outputs.now) (map said_answer answers.now)
         ≡ Some kept.answers) }
     ensures err { IfErr result
-        (Told Fault.BadWord (FailsFirst (HasWords inputs.now outputs.now)
+        (Told Fault.BadWord (FailsFirst (AnswerHasWords inputs.now outputs.now)
         (map said_answer answers.now))) }
 {
     let mut kept = Kept::new(alloc);
@@ -133,7 +133,7 @@ fn kept_even(
     requires inputs { AreInputs inputs.now }
     requires outputs { IsNames outputs.now }
     ensures ok { IfOk result
-        (λ kept. each_of (kept_answer inputs.now outputs.now) (map said_answer answers.now)
+        (λ kept. each_of (numbered_answer inputs.now outputs.now) (map said_answer answers.now)
         ≡ Some kept.answers) }
     ensures even { IfOk result (λ kept. All IsEven kept.answers) }
     ensures err { IfErr result

@@ -7,8 +7,8 @@ ghost use Rattle.lw_words.specs.Name.{IsNames};
 ghost use Rattle.lw_mealy.specs.Limits.{mealy_of, IsWithinLimits};
 ghost use Rattle.lw_json.specs.Each.{each_of};
 ghost use Rattle.lw_json.specs.Fault.{first_failing};
-ghost use Rattle.lw_json.specs.MachineFile.{AreInputs, cell_of, row_of, rows_at, numbered_cell, numbered_rows, SaysMachine, Spells, IsMachineFile, SameMachine};
-ghost use Rattle.lw_json.specs.MachineFault.{machine_tests, IsKnown, SaysMachineFault, HasMachineFault};
+ghost use Rattle.lw_json.specs.MachineFile.{AreInputs, cell_of, row_of, rows_at, numbered_cell, numbered_rows, SaysMachine, SpellsMachine, IsMachineFile, SameMachine};
+ghost use Rattle.lw_json.specs.MachineFault.{machine_tests, HasOutputIn, SaysMachineFault, HasMachineFault};
 ghost use Rattle.lw_json.specs.bodies.Found.{FindsRow, FindsRows, named_row};
 ghost use Rattle.lw_json.specs.bodies.MachineParts.{said_machine, written, IsFaultOfRows, UnknownAt};
 ghost use Rattle.lw_json.specs.bodies.Told.{Told, IsMisshapen};
@@ -120,7 +120,8 @@ fn numbered_row(
     ensures ok { IfOk result
         (λ r. each_of (numbered_cell outputs.now) (named_row row.now) ≡ Some r.items) }
     ensures err { IfErr result
-        (Told (Fault.UnknownOutput state) (FailsFirst (IsKnown outputs.now) (named_row row.now))) }
+        (Told (Fault.UnknownOutput state)
+        (FailsFirst (HasOutputIn outputs.now) (named_row row.now))) }
 {
     let mut cells = Vec::with_capacity(alloc, row.len())?;
     for (letter, cell) in row.iter().enumerate() {
@@ -193,7 +194,7 @@ fn mealy_said(
 
 /// The machine that is said.
 fn machine_of(alloc: Global, said: &Said<'_>) -> Result<Machine, JsonFault>
-    ensures ok { IfOk result (Spells (said_machine said.now)) }
+    ensures ok { IfOk result (SpellsMachine (said_machine said.now)) }
     ensures err { IfErr result (SaysMachineFault (said_machine said.now)) }
 {
     let inputs = inputs_of(alloc, &said.inputs)?;

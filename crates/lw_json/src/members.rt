@@ -7,7 +7,7 @@ ghost use Rattle.lw_words.specs.Name.{IsNames};
 ghost use Rattle.lw_json.specs.Each.{each_of};
 ghost use Rattle.lw_json.specs.Fault.{IsFaultOf};
 ghost use Rattle.lw_json.specs.MachineFile.{AreInputs};
-ghost use Rattle.lw_json.specs.Members.{IsJson, list_of, list_at, texts_at};
+ghost use Rattle.lw_json.specs.Members.{IsJson, array_of, list_at, texts_at};
 ghost use Rattle.lw_json.specs.bodies.Found.{FindsTexts};
 ghost use Rattle.lw_json.specs.bodies.Told.{Told, IsUnread};
 ghost use Rattle.lw_json.specs.declared.fault.JsonFault.{JsonFault as Fault};
@@ -34,7 +34,7 @@ pub fn value_of(alloc: Global, bytes: &[u8]) -> Result<Value, JsonFault>
 
 /// The values of a list.
 pub fn list<'a>(value: &'a Value) -> Option<&'a Vec<Value>>
-    ensures { option_map (λ v. map view v.now.items) result ≡ list_of (view value.now) }
+    ensures { option_map (λ v. map view v.now.items) result ≡ array_of (view value.now) }
 {
     value.as_array()
 }

@@ -4,7 +4,7 @@ ghost use Rattle.std.specs.Prelude.{◌≡◌, List, ℕ, IfOk, IfErr, Some, tru
 ghost use Rattle.serde_json.specs.View.{view};
 ghost use Rattle.lw_json.specs.Fault.{first_failing};
 ghost use Rattle.lw_json.specs.Members.{is_object};
-ghost use Rattle.lw_json.specs.SetupFile.{has, text_at, is_command, command_at, outputs_at, AreOutputs, DeclaredFault, setup_tests, SaysSetup, SpellsSetup, IsSetupFile, SaysSetupFault, HasSetupFault};
+ghost use Rattle.lw_json.specs.SetupFile.{has_member, text_at, is_child_command, command_at, outputs_at, AreOutputs, DeclaredFault, setup_tests, SaysSetup, SpellsSetup, IsSetupFile, SaysSetupFault, HasSetupFault};
 ghost use Rattle.lw_json.specs.bodies.SetupParts.{said_setup, said_command, said_texts};
 ghost use Rattle.lw_json.specs.bodies.Told.{Told, IsMisshapen};
 ghost use Rattle.lw_json.specs.declared.fault.JsonFault.{JsonFault as Fault};
@@ -47,7 +47,7 @@ fn text_member(alloc: Global, root: &Value, key: &str) -> Result<Option<String>,
 
 /// Whether these are 1 to 64 words, the first not empty.
 fn is_command(words: &[String]) -> bool
-    ensures { result ≡ is_command (map (λ s. string_bytes s) words.now) }
+    ensures { result ≡ is_child_command (map (λ s. string_bytes s) words.now) }
 {
     match words {
         [first, ..] => !first.is_empty() && words.len() <= MOST_WORDS,
@@ -86,8 +86,8 @@ fn outputs_member(alloc: Global, root: &Value) -> Result<Option<Option<Vec<Strin
 /// What a setup with a command alone says, where the members have their shapes.
 fn command_of(alloc: Global, root: &Value) -> Result<Said, JsonFault>
     requires object { is_object (view root.now) ≡ true }
-    requires command { has (codes "command") (view root.now) ≡ true }
-    requires alone { has (codes "table") (view root.now) ≡ false }
+    requires command { has_member (codes "command") (view root.now) ≡ true }
+    requires alone { has_member (codes "table") (view root.now) ≡ false }
     ensures ok { IfOk result (λ s. SaysSetup (view root.now) (said_setup s)) }
     ensures err { IfErr result (IsMisshapen (setup_tests (view root.now))) }
 {
@@ -110,7 +110,7 @@ fn command_of(alloc: Global, root: &Value) -> Result<Said, JsonFault>
 /// What a setup without a command says, where the members have their shapes.
 fn table_of(alloc: Global, root: &Value) -> Result<Said, JsonFault>
     requires object { is_object (view root.now) ≡ true }
-    requires alone { has (codes "command") (view root.now) ≡ false }
+    requires alone { has_member (codes "command") (view root.now) ≡ false }
     ensures ok { IfOk result (λ s. SaysSetup (view root.now) (said_setup s)) }
     ensures err { IfErr result (IsMisshapen (setup_tests (view root.now))) }
 {

@@ -20,7 +20,7 @@ use Rattle.lw_children.specs.Children.{IsOfChildren, IsOfCommand}
 use Rattle.lw_children.specs.Keeping.{KeepsChildren, count_of}
 use Rattle.lw_report.proofs.LearningLemmas.{has_large_sorted, has_large_suite, has_model, has_model_sorted, sorted_settled}
 use Rattle.lw_learn.specs.Arguments.{LearnValues}
-use Rattle.lw_learn.specs.Findings.{IsOfInstances, StopsBy}
+use Rattle.lw_learn.specs.Findings.{IsOfInstances, LearningStopsBy}
 use Rattle.lw_learn.specs.bodies.Ready.{GivesModel}
 
 -- what holds of each of a mapped list, of the element itself
@@ -50,12 +50,12 @@ pub learned_sizes : (kind : Kind) (a b k most : ℕ) (kept : List KeptAnswer) (r
 learned_sizes kind a b k most kept (Ok l) is = (is.certified.inputs, is.certified.outputs)
 learned_sizes kind a b k most kept (Err stop) is = tt
 
-stops_as : (a b k most : ℕ) (ks : List Answer) (stop : LearnStop) → AreAnswers a ks → StopsAs a b k most ks stop → StopsBy a b k most ks stop
+stops_as : (a b k most : ℕ) (ks : List Answer) (stop : LearnStop) → AreAnswers a ks → StopsAs a b k most ks stop → LearningStopsBy a b k most ks stop
 stops_as a b k most ks (learn.Ask stop) are is = tt
 stops_as a b k most ks (learn.Crowd words) are is = is
 stops_as a b k most ks (learn.TooLarge model number) are is = has_large_suite a b k most ks model number are is
 
-pub learned_stops : (a b k most : ℕ) (ks : List Answer) (r : Result Learned LearnStop) → AreAnswers a ks → IfErr r (StopsAs a b k most ks) → IfErr r (StopsBy a b k most ks)
+pub learned_stops : (a b k most : ℕ) (ks : List Answer) (r : Result Learned LearnStop) → AreAnswers a ks → IfErr r (StopsAs a b k most ks) → IfErr r (LearningStopsBy a b k most ks)
 learned_stops a b k most ks (Ok l) are is = tt
 learned_stops a b k most ks (Err stop) are is = stops_as a b k most ks stop are is
 
@@ -74,7 +74,7 @@ module _ (a : LearnValues) (m : Machine) (prior : List KeptAnswer) (learned : Re
       subst (λ (ns : List (List ℕ)). IfOk learned (λ l. (l.model.inputs ≡ length m.inputs) × (l.model.outputs ≡ length ns))) (sym is.named)
       (learned_sizes a.learner (length m.inputs) (length m.outputs) a.extra a.max_states kept learned is.ok)
 
-  pub table_stops : IfErr learned (StopsBy (length m.inputs) (length m.outputs) a.extra a.max_states (answers_of kept))
+  pub table_stops : IfErr learned (LearningStopsBy (length m.inputs) (length m.outputs) a.extra a.max_states (answers_of kept))
   table_stops = learned_stops (length m.inputs) (length m.outputs) a.extra a.max_states (answers_of kept) learned words_of_table is.stops
 
   pub table_over : ArePrior prior → a.workers ≤ 16 → AreKeptOver (length m.inputs) (length names) kept
@@ -110,12 +110,12 @@ module _ (kind : Kind) (letters : List (List ℕ)) (k most : ℕ) (kept : List K
   free_sizes (Err stop) (Ok l) same is = let wrong = same.renamed in absurd (cc)
   free_sizes own (Err stop) same is = tt
 
-  still_stops : (f : ℕ → ℕ) (stop : LearnStop) → AreAnswers (length letters) (answers_of kept) → StillStops (length letters) k most f (answers_of kept) stop → StopsBy (length letters) 4096 k most (answers_of kept) stop
+  still_stops : (f : ℕ → ℕ) (stop : LearnStop) → AreAnswers (length letters) (answers_of kept) → StillStops (length letters) k most f (answers_of kept) stop → LearningStopsBy (length letters) 4096 k most (answers_of kept) stop
   still_stops f (learn.Ask stop) kept_are is = tt
   still_stops f (learn.Crowd words) kept_are is = is
   still_stops f (learn.TooLarge model number) kept_are is = has_large_sorted (length letters) k most f (answers_of kept) model number kept_are is
 
-  free_stops : (own learned : Result Learned LearnStop) → AreAnswers (length letters) (answers_of kept) → HasSorted to own_names names ks (answers_of kept) own learned → IfErr own (StopsAs (length letters) 4096 k most ks) → IfErr learned (StopsBy (length letters) 4096 k most (answers_of kept))
+  free_stops : (own learned : Result Learned LearnStop) → AreAnswers (length letters) (answers_of kept) → HasSorted to own_names names ks (answers_of kept) own learned → IfErr own (StopsAs (length letters) 4096 k most ks) → IfErr learned (LearningStopsBy (length letters) 4096 k most (answers_of kept))
   free_stops own (Ok l) kept_are same is = tt
   free_stops own (Err stop) kept_are same is = still_stops same.f stop kept_are (same.stopped (length letters) 4096 k most are is)
 
@@ -133,7 +133,7 @@ module _ (kind : Kind) (words letters : List (List ℕ)) (workers k most : ℕ) 
   command_sizes None is = let free = is.1 in free_sizes kind letters k most kept names free.own_names free.new_numbers free.own_answers free.answers free.own learned free.same free.ok
   command_sizes (Some outputs) is = declared_sizes kind words letters outputs workers k most prior before now learned kept names is.0 is.1
 
-  pub command_stops : (outputs : Option (List (List ℕ))) → IsOfCommand kind words letters outputs workers k most prior before now learned kept names → IfErr learned (StopsBy (length letters) (count_of outputs) k most (answers_of kept))
+  pub command_stops : (outputs : Option (List (List ℕ))) → IsOfCommand kind words letters outputs workers k most prior before now learned kept names → IfErr learned (LearningStopsBy (length letters) (count_of outputs) k most (answers_of kept))
   command_stops None is = let free = is.1 in free_stops kind letters k most kept names free.own_names free.new_numbers free.own_answers free.answers free.own learned free.keeps.words free.same free.stops
   command_stops (Some outputs) is = learned_stops (length letters) (length outputs) k most (answers_of kept) learned is.1.keeps.words is.1.stops
 

@@ -44,11 +44,11 @@ use Rattle.lw_json.specs.declared.machine.Machine.{Machine}
 use Rattle.lw_report.specs.declared.stops.TellStop.TheVariants as tell
 use Rattle.lw_children.specs.Keeping.{count_of}
 use Rattle.lw_learn.specs.Ending.{Carries, EndsLearned, EndsRead, EndsUnread, IsEndOf, IsSoundSystem, IsToldOf, end_outputs}
-use Rattle.lw_learn.specs.Findings.{IsOfSystem, StopsBy}
-use Rattle.lw_learn.specs.Outcomes.{HasFiles, HasModelFile, IsLearnedOutcome, IsReachedOutcome, IsTold}
+use Rattle.lw_learn.specs.Findings.{IsOfSystem, LearningStopsBy}
+use Rattle.lw_learn.specs.Outcomes.{HasFiles, HasModelFile, IsLearnedOutcome, IsReachedOutcome, ModelIsTold}
 use Rattle.lw_learn.specs.Saving.{HasSaved, IsKeptWritten, IsSaved, IsTextWritten, KeptStand, MayTell, saved_outcome}
 use Rattle.lw_learn.specs.Tasks.{declared_of, letters_of}
-use Rattle.lw_learn.specs.Writing.{NothingFailed, StaysBesides, TakesInTurn, WritesFiles, WritesModel, WritesOut, line_of}
+use Rattle.lw_learn.specs.Writing.{NothingFailed, StaysBesides, TakesInTurn, WritesFiles, WritesModel, WritesOut, model_line}
 use Rattle.lw_learn.specs.bodies.UnreadState.{UnreadState}
 use Rattle.lw_learn.specs.Unread.{IsUnreadAs, IsUnreadBy, names_read}
 use Rattle.lw_learn.specs.bodies.Ready.{GivesModel}
@@ -122,7 +122,7 @@ told_stop a s naming stop kept was f o e d end stands wants none learner kept_is
   nothing = λ is. (refl, refl);
   beside = stays_same a.model a.answers None f.holds;
   said = said;
-  in_turn = record { between = e.taken; some = (0, sink_none e.taken (line_of (letters_of s) naming.names kept a.extra end.model end.refinements)); then = part };
+  in_turn = record { between = e.taken; some = (0, sink_none e.taken (model_line (letters_of s) naming.names kept a.extra end.model end.refinements)); then = part };
   may = record { learned = λ is. absurd (not_learned is); failed = λ is. absurd (not_file Kept is); wants = wants };
   quiet = λ is. absurd (not_learned is);
   role = λ r is. absurd (not_file r is);
@@ -147,7 +147,7 @@ told_stop a s naming stop kept was f o e d end stands wants none learner kept_is
         (λ i line h. let wrong : BadLine i line ≡ SinkFault = h in cc) (λ words h. let wrong : TooManyStates words ≡ SinkFault = h in cc) (λ states number h. let wrong : SuiteTooLarge states number ≡ SinkFault = h in cc) is
 
 -- where a model was written out and nothing failed, it is told, or memory ran out
-pub told_reached : (n : ℕ) (model : MealyMachine) (count : ℕ) (outcome : Outcome) → count < n → IsTold model count outcome → (outcome ≡ SinkFault → ⊥) → ((role : Role) → outcome ≡ FileFault role → ⊥) → IsReachedOutcome n outcome
+pub told_reached : (n : ℕ) (model : MealyMachine) (count : ℕ) (outcome : Outcome) → count < n → ModelIsTold model count outcome → (outcome ≡ SinkFault → ⊥) → ((role : Role) → outcome ≡ FileFault role → ⊥) → IsReachedOutcome n outcome
 told_reached n model count (Learned h r) few told sink file = subst (λ (c : ℕ). c < n) (sym told.1) few
 told_reached n model count NoMemory few told sink file = tt
 told_reached n model count SinkFault few told sink file = absurd (sink refl)
@@ -266,7 +266,7 @@ model_end kind a b k most (Err stop) kept end gives same carries = subst (λ (m 
 
 -- what writing a model out came to
 pub record HasWritten (a : LearnValues) (m : Machine) (learner : Learner) (kept : List KeptAnswer) (was : Saved) (f g : FilesState) (o p : SinkState) (e d : SinkState) (end : End) : Type 0 where
-  pub outcome : IsTold m.mealy (refinements_of learner) end.outcome
+  pub outcome : ModelIsTold m.mealy (refinements_of learner) end.outcome
   pub model : end.model ≡ Some m.mealy
   pub learner_is : end.learner ≡ Some learner
   pub refinements : end.refinements ≡ refinements_of learner
@@ -287,7 +287,7 @@ pub record HasWritten (a : LearnValues) (m : Machine) (learner : Learner) (kept 
 -- a learning with a model, which was written out under its names
 pub told_written : (a : LearnValues) (s : System) (naming : Naming) (l : Found) (m : Machine) (kept : List KeptAnswer) (was : Saved) (f g : FilesState) (o p e d : SinkState) (end : End) → m.inputs ≡ letters_of s → m.outputs ≡ naming.names → m.mealy ≡ l.model → end.outputs ≡ end_outputs (declared_of s) kept naming → HasWritten a m l.learner kept was f g o p e d end → IsToldOf a s naming (Ok l) kept was f g o p e d end
 told_written a s naming l m kept was f g o p e d end inputs outputs mealy own w = record {
-  carries = (w.model ∙ ap (λ (h : MealyMachine). Some h) mealy, w.learner_is, w.refinements, subst (λ (h : MealyMachine). IsTold h (refinements_of l.learner) end.outcome) mealy w.outcome);
+  carries = (w.model ∙ ap (λ (h : MealyMachine). Some h) mealy, w.learner_is, w.refinements, subst (λ (h : MealyMachine). ModelIsTold h (refinements_of l.learner) end.outcome) mealy w.outcome);
   kept_is = w.kept_is;
   outputs = own;
   written = subst (λ (h : Option MealyMachine). IfSome h (WritesModel a kept end.outcome g.holds (o.taken, p.taken) (o.faults, p.faults) (letters_of s) naming.names)) (sym w.model) done;
@@ -315,17 +315,17 @@ told_written a s naming l m kept was f g o p e d end inputs outputs mealy own w 
     same : (x : Outcome) → text_of m.inputs m.outputs kept a.extra x ≡ text_of (letters_of s) naming.names kept a.extra x
     same x = text_same m.inputs (letters_of s) m.outputs naming.names kept kept a.extra x inputs outputs refl
 
-    line : text_of m.inputs m.outputs kept a.extra (Learned m.mealy (refinements_of l.learner)) ≡ line_of (letters_of s) naming.names kept a.extra end.model end.refinements
+    line : text_of m.inputs m.outputs kept a.extra (Learned m.mealy (refinements_of l.learner)) ≡ model_line (letters_of s) naming.names kept a.extra end.model end.refinements
     line =
         same (Learned m.mealy (refinements_of l.learner))
-        ∙ (ap (λ (n : ℕ). line_of (letters_of s) naming.names kept a.extra (Some m.mealy) n) (sym w.refinements)
-        ∙ ap (λ (h : Option MealyMachine). line_of (letters_of s) naming.names kept a.extra h end.refinements) (sym w.model))
+        ∙ (ap (λ (n : ℕ). model_line (letters_of s) naming.names kept a.extra (Some m.mealy) n) (sym w.refinements)
+        ∙ ap (λ (h : Option MealyMachine). model_line (letters_of s) naming.names kept a.extra h end.refinements) (sym w.model))
 
 -- a learning with a model for whose texts there was no memory: nothing was written
 pub told_left : (a : LearnValues) (s : System) (naming : Naming) (l : Found) (kept : List KeptAnswer) (was : Saved) (f : FilesState) (o e d : SinkState) (end : End) → length (letters_of s) ≤ 64 → (l.model.inputs ≡ length (letters_of s)) × (l.model.outputs ≡ length naming.names) → end.outcome ≡ NoMemory → end.model ≡ Some l.model → end.learner ≡ Some l.learner → end.refinements ≡ refinements_of l.learner → end.kept.answers ≡ kept
     → end.outputs ≡ end_outputs (declared_of s) kept naming → (¬ CountedFault e.faults d.faults → TakesAll (text_of [] [] [] 0 NoMemory) e.taken d.taken) → TakesSome (text_of [] [] [] 0 NoMemory) e.taken d.taken → e.faults ≤ d.faults → IsToldOf a s naming (Ok l) kept was f f o o e d end
 told_left a s naming l kept was f o e d end few sizes wants model learner refinements kept_is outputs said part counts = record {
-  carries = (model, learner, refinements, subst (λ (x : Outcome). IsTold l.model (refinements_of l.learner) x) (sym wants) tt);
+  carries = (model, learner, refinements, subst (λ (x : Outcome). ModelIsTold l.model (refinements_of l.learner) x) (sym wants) tt);
   kept_is = kept_is;
   outputs = outputs;
   written = subst (λ (h : Option MealyMachine). IfSome h (WritesModel a kept end.outcome f.holds (o.taken, o.taken) (o.faults, o.faults) (letters_of s) naming.names)) (sym model) none_written;
@@ -334,7 +334,7 @@ told_left a s naming l kept was f o e d end few sizes wants model learner refine
   said = λ none. subst (λ (t : List ℕ). TakesAll t e.taken d.taken) text (said none);
   in_turn = record {
     between = e.taken;
-    some = (0, sink_none e.taken (line_of (letters_of s) naming.names kept a.extra end.model end.refinements));
+    some = (0, sink_none e.taken (model_line (letters_of s) naming.names kept a.extra end.model end.refinements));
     then = subst (λ (t : List ℕ). TakesSome t e.taken d.taken) text part;
   };
   may = record {
@@ -375,13 +375,13 @@ told_left a s naming l kept was f o e d end few sizes wants model learner refine
 
 -- what was found of a system, and told
 pub ends_learned : (a : LearnValues) (s : System) (prior : List KeptAnswer) (naming : Naming) (learned : Result Found LearnStop) (kept : List KeptAnswer) (f g : FilesState) (b z : SpawnerState) (o p e d : SinkState) (end : End) → IsOfSystem a s prior b z learned kept naming.names → IfOk learned (GivesModel a.learner (length (letters_of s)) (length naming.names) a.extra a.max_states kept)
-    → IfErr learned (StopsBy (length (letters_of s)) (count_of (declared_of s)) a.extra a.max_states (answers_of kept)) → IsEndOf a s naming learned kept f g o p e d end → EndsLearned a s prior f g b z o p e d end
+    → IfErr learned (LearningStopsBy (length (letters_of s)) (count_of (declared_of s)) a.extra a.max_states (answers_of kept)) → IsEndOf a s naming learned kept f g o p e d end → EndsLearned a s prior f g b z o p e d end
 ends_learned a s prior naming learned kept f g b z o p e d end found gives stops whole = record {
   naming = naming;
   learned = learned;
   found = subst (λ (ks : List KeptAnswer). IsOfSystem a s prior b z learned ks naming.names) (sym whole.told.kept_is) found;
   model = model_end a.learner (length (letters_of s)) (length naming.names) a.extra a.max_states learned kept end gives whole.told.kept_is whole.told.carries;
-  stops = subst (λ (ks : List KeptAnswer). IfErr learned (StopsBy (length (letters_of s)) (count_of (declared_of s)) a.extra a.max_states (answers_of ks))) (sym whole.told.kept_is) stops;
+  stops = subst (λ (ks : List KeptAnswer). IfErr learned (LearningStopsBy (length (letters_of s)) (count_of (declared_of s)) a.extra a.max_states (answers_of ks))) (sym whole.told.kept_is) stops;
   reached = reached_end a s prior naming learned kept f g b z o p e d end found whole;
   told = subst (λ (ks : List KeptAnswer). IsEndOf a s naming learned ks f g o p e d end) (sym whole.told.kept_is) whole;
 }

@@ -6,7 +6,7 @@ use Rattle.lw_words.specs.Cause.{CountedFault}
 use Rattle.lw_words.specs.Name.{number_of}
 use Rattle.lw_words.specs.declared.kept.KeptAnswer.{KeptAnswer}
 use Rattle.lw_wordlist.specs.Lines.{lines_in}
-use Rattle.lw_wordlist.specs.Words.{HasLetters, IsFirstUnknown, names_in, word_of, words_of}
+use Rattle.lw_wordlist.specs.Words.{HasLetters, IsFirstUnknown, names_in, word_of_names, words_of_texts}
 use Rattle.lw_wordlist.proofs.WordLemmas.{known_by}
 use Rattle.lw_json.proofs.NoFault.{each_some}
 use Rattle.lw_json.proofs.OneAnswers.{one_answers}
@@ -220,14 +220,14 @@ some_value None is = absurd (true≢false (sym is))
 some_value (Some v) is = (v, refl)
 
 -- texts that all have words have letters alone
-letters_in : (letters texts words : List (List ℕ)) → words_of letters texts ≡ Some words → All (HasLetters letters) texts
+letters_in : (letters texts words : List (List ℕ)) → words_of_texts letters texts ≡ Some words → All (HasLetters letters) texts
 letters_in letters texts words is i d lt name e within =
-    let text = each_some (λ t. word_of letters (names_in t)) texts (rw is refl) i d lt in
+    let text = each_some (λ t. word_of_names letters (names_in t)) texts (rw is refl) i d lt in
     let found = some_value (number_of (slice_index_or (names_in (slice_index_or texts i d)) name e) letters) (each_some (λ n. number_of n letters) (names_in (slice_index_or texts i d)) text name e within) in
     known_by letters (slice_index_or (names_in (slice_index_or texts i d)) name e) found.0 found.1
 
 -- so none of them is the first that has none
-none_unknown : (letters texts words : List (List ℕ)) (word place : ℕ) → words_of letters texts ≡ Some words → IsFirstUnknown letters texts word place → ⊥
+none_unknown : (letters texts words : List (List ℕ)) (word place : ℕ) → words_of_texts letters texts ≡ Some words → IsFirstUnknown letters texts word place → ⊥
 none_unknown letters texts words word place is first = first.2.fails [] (letters_in letters texts words is first.0 [] first.2.within)
 
 told_not_unknown : (name : List ℕ) (letters : List (List ℕ)) (holds : Option (List File)) (before after : List File) (word place : ℕ) (words : List (List ℕ)) → TellsFile (IsWordsFile letters) holds name words → ReadsUnknown name letters holds before after word place → ⊥

@@ -19,7 +19,7 @@ use Rattle.lw_report.proofs.SinkLemmas.{sink_none}
 use Rattle.lw_learn.specs.Arguments.{LearnValues}
 use Rattle.lw_learn.specs.Calls.{all_writes, gained}
 use Rattle.lw_learn.specs.Outcomes.{told_outcome}
-use Rattle.lw_learn.specs.Writing.{AnswersStand, PutsAll, PutsSome, Stands, StaysBesides, WritesFiles, WritesOut}
+use Rattle.lw_learn.specs.Writing.{AnswersStand, PutsAll, PutsSome, StandsInFile, StaysBesides, WritesFiles, WritesOut}
 
 -- calls gained in two steps
 pub gained_twice : (a b : List Call) (first second third : Option (List Call)) → second ≡ gained a first → third ≡ gained b second → third ≡ gained (a ++ b) first
@@ -51,7 +51,7 @@ stays_joined m a k (Some fs) two three first second =
     (later.0, later.1, λ other nm na nk. later.2 other nm na (none_some other) ∙ first.2 other nk (none_some other) (none_some other))
 
 -- what stands in a file stands while another is written
-pub stands_beside : (m a : Option (List ℕ)) (before now : Option (List File)) (bytes : List ℕ) → m ≢ a → StaysBesides a None None before now → Stands m before bytes → Stands m now bytes
+pub stands_beside : (m a : Option (List ℕ)) (before now : Option (List File)) (bytes : List ℕ) → m ≢ a → StaysBesides a None None before now → StandsInFile m before bytes → StandsInFile m now bytes
 stands_beside None a before now bytes differ stays stands = tt
 stands_beside (Some name) a before now bytes differ stays stands = holds_beside name a None None before now bytes (λ e. differ (sym e)) (none_some name) (none_some name) stays stands
 
@@ -89,7 +89,7 @@ not_kept (inl both) = let wrong : Kept ≡ Model = both.0 in cc
 not_kept (inr both) = let wrong : Kept ≡ Answers = both.0 in cc
 
 -- what became of the files and of `out` where a stream refused, or where the kept answers' file failed before
-pub files_behind : (a : LearnValues) (m : Machine) (kept : List KeptAnswer) (holds : Option (List File)) (made : Option (List Call) × Option (List Call)) (stop : TellStop) → (stop ≡ Sink) ⊎ (stop ≡ FileStop Kept) → (a.model ≢ a.answers → Stands a.model holds (written_text m)) → AnswersStand a.answers holds m kept → made.1 ≡ gained (all_writes a) made.0 → WritesFiles a m kept (tell_outcome stop) holds made
+pub files_behind : (a : LearnValues) (m : Machine) (kept : List KeptAnswer) (holds : Option (List File)) (made : Option (List Call) × Option (List Call)) (stop : TellStop) → (stop ≡ Sink) ⊎ (stop ≡ FileStop Kept) → (a.model ≢ a.answers → StandsInFile a.model holds (written_text m)) → AnswersStand a.answers holds m kept → made.1 ≡ gained (all_writes a) made.0 → WritesFiles a m kept (tell_outcome stop) holds made
 files_behind a m kept holds made stop (inl sink) model answers calls = subst (λ (s : TellStop). WritesFiles a m kept (tell_outcome s) holds made) (sym sink) (record { model = λ _. model; answers = λ _. answers; calls = calls })
 files_behind a m kept holds made stop (inr file) model answers calls = subst (λ (s : TellStop). WritesFiles a m kept (tell_outcome s) holds made) (sym file) (record { model = λ _. model; answers = λ _. answers; calls = calls })
 
@@ -107,7 +107,7 @@ out_behind file text taken faults stop (inr failed) whole kept part = subst (λ 
 })
 
 -- the answers' text stands where a file is named for it
-pub answers_stand : (file : Option (List ℕ)) (holds : Option (List File)) (m : Machine) (kept : List KeptAnswer) (text : List ℕ) → (file ≢ None → IsAnswersText m.inputs m.outputs kept text) → Stands file holds text → AnswersStand file holds m kept
+pub answers_stand : (file : Option (List ℕ)) (holds : Option (List File)) (m : Machine) (kept : List KeptAnswer) (text : List ℕ) → (file ≢ None → IsAnswersText m.inputs m.outputs kept text) → StandsInFile file holds text → AnswersStand file holds m kept
 answers_stand None holds m kept text is stands = tt
 answers_stand (Some name) holds m kept text is stands = (text, is (λ e. let wrong : Some name ≡ None = e in absurd (cc)), stands)
 

@@ -5,7 +5,7 @@ use Rattle.lw_words.specs.Cause.{CountedFault}
 use Rattle.lw_words.specs.declared.kept.KeptAnswer.{KeptAnswer}
 use Rattle.lw_wordlist.specs.Drawn.{drawn_words}
 use Rattle.lw_wordlist.specs.Lines.{lines_in}
-use Rattle.lw_wordlist.specs.Words.{IsFirstUnknown, words_of}
+use Rattle.lw_wordlist.specs.Words.{IsFirstUnknown, words_of_texts}
 use Rattle.lw_outside.specs.Files.{File, HoldsLong, read_call, FilesState}
 use Rattle.lw_report.specs.Reading.{ReadsFile, WasRead}
 use Rattle.lw_report.specs.declared.outcome.Outcome.{Outcome}
@@ -19,7 +19,7 @@ use Rattle.lw_learn.specs.declared.task.System.{System}
 
 -- the bytes of a file say these words over the letters, one a line; bytes that are no UTF-8 are in no name
 abbrev pub IsWordsFile : (letters : List (List ℕ)) → List ℕ → List (List ℕ) → Type 0
-IsWordsFile letters bytes words = words_of letters (lines_in (utf8_lossy bytes)) ≡ Some words
+IsWordsFile letters bytes words = words_of_texts letters (lines_in (utf8_lossy bytes)) ≡ Some words
 
 -- the bytes that were read of a file of words, where one is named, say these
 abbrev pub ReadsWords : Option (List ℕ) → (letters : List (List ℕ)) → Option (List File) → (before after : List File) → List (List ℕ) → Type 0

@@ -30,12 +30,12 @@ use Rattle.lw_report.specs.declared.role.Role.TheVariants.{Answers, Kept, Model}
 use Rattle.lw_learn.specs.Arguments.{LearnValues}
 use Rattle.lw_learn.specs.Asking.{IsWordlessTask, SaysWords}
 use Rattle.lw_learn.specs.Calls.{MadeWrites}
-use Rattle.lw_learn.specs.Findings.{IsOfSystem, StopsBy}
-use Rattle.lw_learn.specs.Outcomes.{IsLearnedOutcome, IsReachedOutcome, IsTold}
+use Rattle.lw_learn.specs.Findings.{IsOfSystem, LearningStopsBy}
+use Rattle.lw_learn.specs.Outcomes.{IsLearnedOutcome, IsReachedOutcome, ModelIsTold}
 use Rattle.lw_learn.specs.Saving.{HasSaved, IsSaved, KeptStand, MayTell}
 use Rattle.lw_learn.specs.Tasks.{ReadsTask, declared_of, letters_of}
 use Rattle.lw_learn.specs.Unread.{IsUnreadAs, MadeReads, names_read}
-use Rattle.lw_learn.specs.Writing.{NothingFailed, StaysBesides, TakesInTurn, WritesModel, line_of}
+use Rattle.lw_learn.specs.Writing.{NothingFailed, StaysBesides, TakesInTurn, WritesModel, model_line}
 use Rattle.lw_learn.specs.declared.saving.Saved.{Saved}
 use Rattle.lw_learn.specs.declared.saving.Saved.TheVariants as saving
 use Rattle.lw_learn.specs.declared.task.System.{System}
@@ -67,7 +67,7 @@ pub record EndsUnread (a : LearnValues) (files_before files_now : FilesState) (s
 -- what a learning answered is what the end says: its model is carried with its learner, and was written out, but that a write
 -- may have failed or memory run out; or the outcome is that of its stop, but that memory may have run out
 abbrev pub Carries : Result Found LearnStop → End → Type 0
-Carries (Ok l) end = (end.model ≡ Some l.model) × (end.learner ≡ Some l.learner) × (end.refinements ≡ refinements_of l.learner) × IsTold l.model (refinements_of l.learner) end.outcome
+Carries (Ok l) end = (end.model ≡ Some l.model) × (end.learner ≡ Some l.learner) × (end.refinements ≡ refinements_of l.learner) × ModelIsTold l.model (refinements_of l.learner) end.outcome
 Carries (Err stop) end = (end.model ≡ None) × IsWithoutLearner end × StandsOrWants (learn_outcome stop) end.outcome
 
 -- the names of outputs that an end has: where they weren't declared, those of the kept answers, if there are any
@@ -89,7 +89,7 @@ pub record IsToldOf (a : LearnValues) (s : System) (naming : Naming) (learned : 
   pub may : MayTell was end.outcome
   pub said : ¬ CountedFault err_before.faults err_now.faults →
       TakesAll (text_of (letters_of s) naming.names kept a.extra end.outcome) err_before.taken err_now.taken
-  pub in_turn : TakesInTurn (line_of (letters_of s) naming.names kept a.extra end.model
+  pub in_turn : TakesInTurn (model_line (letters_of s) naming.names kept a.extra end.model
       end.refinements) (text_of (letters_of s) naming.names kept a.extra end.outcome) err_before.taken
       err_now.taken
   pub quiet : IsLearnedOutcome end.outcome → (files_now.faults ≡ files_before.faults) × (out_now.faults ≡ out_before.faults) ×
@@ -131,7 +131,7 @@ pub record EndsLearned (a : LearnValues) (s : System) (prior : List KeptAnswer) 
   -- the model, and what it is worth
   pub model : IfSome end.model (HasModel a.learner (length (letters_of s)) (length naming.names)
       a.extra a.max_states end)
-  pub stops : IfErr learned (StopsBy (length (letters_of s)) (count_of (declared_of s)) a.extra
+  pub stops : IfErr learned (LearningStopsBy (length (letters_of s)) (count_of (declared_of s)) a.extra
       a.max_states (answers_of end.kept.answers))
   -- where nothing outside was wrong, and a machine of n states that gives the answers is within the limits, a model comes within
   -- n - 1 refinements, or memory runs out

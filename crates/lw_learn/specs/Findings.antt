@@ -36,7 +36,7 @@ IsOfSystem a (Table m) prior before now learned kept names = (now ≡ before) ×
 IsOfSystem a (Children c) prior before now learned kept names = IsOfCommand a.learner c.words c.inputs c.outputs a.workers a.extra a.max_states prior before now learned kept names
 
 -- why there is no model, by the answers: too many words are apart, or the suite is too large; nothing where an ask stopped
-abbrev pub StopsBy : (a b k most : ℕ) → List Answer → LearnStop → Type 0
-StopsBy a b k most ks (learn.Ask stop) = Unit {0}
-StopsBy a b k most ks (learn.Crowd words) = IsTooMany most ks words
-StopsBy a b k most ks (learn.TooLarge model number) = HasLargeSuite a b k most ks (length model.rows) number
+abbrev pub LearningStopsBy : (a b k most : ℕ) → List Answer → LearnStop → Type 0
+LearningStopsBy a b k most ks (learn.Ask stop) = Unit {0}
+LearningStopsBy a b k most ks (learn.Crowd words) = IsTooMany most ks words
+LearningStopsBy a b k most ks (learn.TooLarge model number) = HasLargeSuite a b k most ks (length model.rows) number

@@ -8,12 +8,12 @@ use Rattle.lw_report.specs.declared.outcome.Outcome.TheVariants.{Learned, NoMemo
 use Rattle.lw_report.specs.declared.role.Role.TheVariants.{Model, Answers, Kept}
 
 -- what writing a model out comes to
-abbrev pub IsTold : MealyMachine → ℕ → Outcome → Type 0
-IsTold model refinements (Learned told count) = (told ≡ model) × (count ≡ refinements)
-IsTold model refinements NoMemory = Unit {0}
-IsTold model refinements (FileFault role) = (role ≡ Model) ⊎ ((role ≡ Answers) ⊎ (role ≡ Kept))
-IsTold model refinements SinkFault = Unit {0}
-IsTold model refinements _ = ⊥
+abbrev pub ModelIsTold : MealyMachine → ℕ → Outcome → Type 0
+ModelIsTold model refinements (Learned told count) = (told ≡ model) × (count ≡ refinements)
+ModelIsTold model refinements NoMemory = Unit {0}
+ModelIsTold model refinements (FileFault role) = (role ≡ Model) ⊎ ((role ≡ Answers) ⊎ (role ≡ Kept))
+ModelIsTold model refinements SinkFault = Unit {0}
+ModelIsTold model refinements _ = ⊥
 
 -- what came of writing the model out
 abbrev pub told_outcome : {T : Type 0} → MealyMachine → ℕ → Result T TellStop → Outcome

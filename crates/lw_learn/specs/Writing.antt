@@ -25,9 +25,9 @@ PutsSome None text before now = TakesSome text before now
 PutsSome (Some name) text before now = now ≡ before
 
 -- the bytes stand in the file, where one is named
-abbrev pub Stands : Option (List ℕ) → Option (List File) → List ℕ → Type 0
-Stands None holds bytes = Unit {0}
-Stands (Some name) holds bytes = Holds holds name bytes
+abbrev pub StandsInFile : Option (List ℕ) → Option (List File) → List ℕ → Type 0
+StandsInFile None holds bytes = Unit {0}
+StandsInFile (Some name) holds bytes = Holds holds name bytes
 
 -- a text of the kept answers under the names of the machine stands in the file, where one is named
 abbrev pub AnswersStand : Option (List ℕ) → Option (List File) → Machine → List KeptAnswer → Type 0
@@ -37,7 +37,7 @@ AnswersStand (Some name) holds m kept = (text : List ℕ) × IsAnswersText m.inp
 -- what became of the files that are named, by the outcome: the model's file stands, but for a later write under its name; the
 -- answers' file stands; and the calls were these
 pub record WritesFiles (a : LearnValues) (m : Machine) (kept : List KeptAnswer) (outcome : Outcome) (holds : Option (List File)) (made : Option (List Call) × Option (List Call)) : Type 0 where
-  pub model : HasModelFile outcome → a.model ≢ a.answers → Stands a.model holds (written_text m)
+  pub model : HasModelFile outcome → a.model ≢ a.answers → StandsInFile a.model holds (written_text m)
   pub answers : HasFiles outcome → AnswersStand a.answers holds m kept
   pub calls : MadeWrites a outcome made.0 made.1
 
@@ -63,14 +63,14 @@ pub record WritesModel (a : LearnValues) (kept : List KeptAnswer) (outcome : Out
   pub inputs_are : model.inputs ≡ inputs
   pub outputs_are : model.outputs ≡ outputs
   pub mealy : model.mealy ≡ h
-  pub file : HasModelFile outcome → a.model ≢ a.answers → Stands a.model holds (written_text model)
+  pub file : HasModelFile outcome → a.model ≢ a.answers → StandsInFile a.model holds (written_text model)
   pub answers : HasFiles outcome → AnswersStand a.answers holds model kept
   pub out : WritesOut a.model (written_text model) outcome taken faults
 
 -- the line about a model, or nothing where there is none
-abbrev pub line_of : (inputs outputs : List (List ℕ)) → List KeptAnswer → ℕ → Option MealyMachine → ℕ → List ℕ
-line_of inputs outputs kept extra None refinements = []
-line_of inputs outputs kept extra (Some h) refinements = text_of inputs outputs kept extra (Learned h refinements)
+abbrev pub model_line : (inputs outputs : List (List ℕ)) → List KeptAnswer → ℕ → Option MealyMachine → ℕ → List ℕ
+model_line inputs outputs kept extra None refinements = []
+model_line inputs outputs kept extra (Some h) refinements = text_of inputs outputs kept extra (Learned h refinements)
 
 -- one text was taken in part, then the other
 pub record TakesInTurn (first second : List ℕ) (before now : Option (List ℕ)) : Type 0 where

@@ -13,7 +13,7 @@ ghost use Rattle.lw_report.specs.declared.outcome.Outcome.{Outcome as Came};
 ghost use Rattle.lw_report.specs.declared.role.Role.{Role as Part};
 ghost use Rattle.lw_report.specs.declared.role.Role.TheVariants.{Answers as AnswersRole, Kept as KeptRole, Model as ModelRole};
 ghost use Rattle.lw_learn.specs.Ending.{IsEndOf, IsToldOf, end_outputs};
-ghost use Rattle.lw_learn.specs.Outcomes.{IsLearnedOutcome, IsTold};
+ghost use Rattle.lw_learn.specs.Outcomes.{IsLearnedOutcome, ModelIsTold};
 ghost use Rattle.lw_learn.specs.Saving.{MayTell};
 ghost use Rattle.lw_learn.specs.Tasks.{declared_of, letters_of};
 ghost use Rattle.lw_learn.specs.Writing.{StaysBesides, TakesInTurn, WritesFiles, WritesOut};
@@ -48,7 +48,7 @@ fn write_out<F: Files, O: Sink, E: Sink>(
     err: &mut E,
 ) -> End
     requires over { AreKeptOver (length machine.inputs) (length machine.outputs) kept.answers }
-    ensures outcome { IsTold machine.mealy (refinements_of learner) result.outcome }
+    ensures outcome { ModelIsTold machine.mealy (refinements_of learner) result.outcome }
     ensures status { result.status ≡ status_of result.outcome }
     ensures model { result.model ≡ Some machine.mealy }
     ensures learner { result.learner ≡ Some learner }

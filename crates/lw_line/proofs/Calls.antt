@@ -18,7 +18,7 @@ use Rattle.lw_sul.specs.declared.runs.Run.{Run}
 use Rattle.lw_outside.specs.Links.{Transcript, IsUntouched, sends, receives}
 use Rattle.lw_outside.specs.Protocol.{reset_line, ready_line, in_line, out_line}
 use Rattle.lw_line.specs.Transcripts.{IsLineOf, IsSentLine, exchanged, spelled, number_behind, stepped_runs}
-use Rattle.lw_line.specs.Causes.{IsBadAnswer, IsFormed, IsCounted, IsTranscriptOf, IsUnknown}
+use Rattle.lw_line.specs.Causes.{IsBadAnswer, IsFormed, StopIsCounted, IsTranscriptOf, IsUnknown}
 use Rattle.lw_line.specs.LineState.{told_runs}
 use Rattle.lw_line.specs.bodies.Exchanges.{IsAnswered, IsRefusal, NamesNone, ended}
 use Rattle.lw_line.specs.bodies.Pieces.{NoFeed, EndsOpen}
@@ -30,7 +30,7 @@ use Rattle.lw_line.proofs.Standing.{good, live_runs, live_proper, live_spells, l
 pub counted_since : (before now : ℕ) → CountedFault before now → CountedFault 0 now
 counted_since before now h = omega arith
 
-pub counted_stop : (stop : SulStop) (faults ends faults' ends' : ℕ) → (stop ≡ Failed → CountedFault faults faults') → (stop ≡ Gone → CountedFault ends ends') → IsCounted faults' ends' (Some stop)
+pub counted_stop : (stop : SulStop) (faults ends faults' ends' : ℕ) → (stop ≡ Failed → CountedFault faults faults') → (stop ≡ Gone → CountedFault ends ends') → StopIsCounted faults' ends' (Some stop)
 counted_stop Failed faults ends faults' ends' failed gone = counted_since faults faults' (failed refl)
 counted_stop Gone faults ends faults' ends' failed gone = counted_since ends ends' (gone refl)
 counted_stop (BadLine line) faults ends faults' ends' failed gone = tt

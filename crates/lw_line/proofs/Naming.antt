@@ -14,7 +14,7 @@ use Rattle.lw_words.specs.Name.{IsName, AllDiffer, number_of}
 use Rattle.lw_words.proofs.NumberLemmas.{number_at_place, name_at_number}
 use Rattle.lw_names.proofs.NameLemmas.{lacks_name, IsName-at}
 use Rattle.lw_names.specs.Names.{AreNamed, Brings}
-use Rattle.lw_outside.specs.Protocol.{behind, out_line}
+use Rattle.lw_outside.specs.Protocol.{bytes_behind, out_line}
 use Rattle.lw_line.specs.LineState.{IsNaming}
 use Rattle.lw_line.specs.Transcripts.{number_behind}
 use Rattle.lw_line.specs.bodies.Naming.{naming_of}
@@ -87,7 +87,7 @@ pub not_in : (names : List (List ℕ)) (name : List ℕ) → number_of name name
 not_in names name lacks c = lacks_name names name lacks c.0 name c.1 c.2
 
 -- what stands behind the front of an answer
-pub behind_is : (front answer rest : List ℕ) → bytes_eq (take (length front) answer) front ≡ true → rest ≡ drop (length front) answer → behind front answer ≡ Some rest
+pub behind_is : (front answer rest : List ℕ) → bytes_eq (take (length front) answer) front ≡ true → rest ≡ drop (length front) answer → bytes_behind front answer ≡ Some rest
 behind_is front answer rest begins is =
     ap (λ (b : Bool). cond b (Some (drop (length front) answer)) None) begins ∙ ap (λ (l : List ℕ). Some l) (sym is)
 
@@ -112,23 +112,23 @@ brought_is before now y n name is grown number =
     sym (get_or_from_slice_get now y name name at) ∙ (ap (λ (l : List (List ℕ)). get_or l y name) grown ∙ get_or_push before n name y (sym is))
 
 -- an answer that names no output
-pub names_no_output : (names : List (List ℕ)) (most : ℕ) (answer rest : List ℕ) → AreNamed most names → behind (codes "out ") answer ≡ Some rest → ¬ IsName rest → NamesNone names most answer
+pub names_no_output : (names : List (List ℕ)) (most : ℕ) (answer rest : List ℕ) → AreNamed most names → bytes_behind (codes "out ") answer ≡ Some rest → ¬ IsName rest → NamesNone names most answer
 names_no_output names most answer rest lawful is none = (
   ap (option_and_then (λ name. number_of name names)) is ∙ no_number names rest lawful.each none,
   inl (λ name is_name same. none (subst IsName (named name same) is_name)),
 )
   where
     named : (name : List ℕ) → answer ≡ out_line name → name ≡ rest
-    named name same = let both : ◌≡◌ {A = Option (List ℕ)} (Some name) (Some rest) = sym (ap (λ (l : List ℕ). behind (codes "out ") l) same) ∙ is in cc
+    named name same = let both : ◌≡◌ {A = Option (List ℕ)} (Some name) (Some rest) = sym (ap (λ (l : List ℕ). bytes_behind (codes "out ") l) same) ∙ is in cc
 
 -- an answer that names an output which isn't known
-pub names_unknown : (names : List (List ℕ)) (most : ℕ) (answer rest : List ℕ) → behind (codes "out ") answer ≡ Some rest → answer ≡ out_line rest → IsName rest → number_of rest names ≡ None → length names ≡ most → NamesNone names most answer
+pub names_unknown : (names : List (List ℕ)) (most : ℕ) (answer rest : List ℕ) → bytes_behind (codes "out ") answer ≡ Some rest → answer ≡ out_line rest → IsName rest → number_of rest names ≡ None → length names ≡ most → NamesNone names most answer
 names_unknown names most answer rest is same is_name lacks full = (
   ap (option_and_then (λ name. number_of name names)) is ∙ lacks,
   inr (rest, is_name, same, not_in names rest lacks, full),
 )
 
-pub names_known : (names : List (List ℕ)) (answer rest : List ℕ) (y : ℕ) → behind (codes "out ") answer ≡ Some rest → number_of rest names ≡ Some y → number_behind (codes "out ") names answer ≡ Some y
+pub names_known : (names : List (List ℕ)) (answer rest : List ℕ) (y : ℕ) → bytes_behind (codes "out ") answer ≡ Some rest → number_of rest names ≡ Some y → number_behind (codes "out ") names answer ≡ Some y
 names_known names answer rest y is number = ap (option_and_then (λ name. number_of name names)) is ∙ number
 
 -- how many names a list of outputs may have, and how many numbers

@@ -12,8 +12,8 @@ use Rattle.std.proofs.lemmas.List.Elements.{All-push, All-nil}
 use Rattle.lw_words.specs.Name.{IsName}
 use Rattle.lw_json.specs.declared.machine.Machine.{Machine}
 use Rattle.lw_outside.specs.Lines.{Split, split_bytes, lines_of, rest_of}
-use Rattle.lw_outside.specs.Played.{Move, Answer, Quit as Quits, Refuse, Play, AtQuit, AtEnd, AtLimit, AtBadLine, PlayEnd, ends_at, rest_end, moved, move_of, name_move, letter_move, greatest_lines, played_from, played, ended_lines}
-use Rattle.lw_outside.specs.Protocol.{behind, reset_line, quit_line}
+use Rattle.lw_outside.specs.Played.{Move, Answer, Quit as Quits, Refuse, Play, AtQuit, AtEnd, AtLimit, AtBadLine, PlayEnd, play_ended_at, rest_end, play_of_move, move_of, name_move, letter_move, greatest_lines, played_from, played, ended_lines}
+use Rattle.lw_outside.specs.Protocol.{bytes_behind, reset_line, quit_line}
 use Rattle.lw_outside.specs.Streams.{Gave, IsSpent, TakesAll, TakesSome}
 use Rattle.lw_line.specs.Serving.{GoesOn, Plays, EndsAs, Takes}
 use Rattle.lw_line.specs.declared.serving.Served.{Served}
@@ -36,11 +36,11 @@ is_below n ne = false_from_ne_true (n == greatest_lines) (λ is. ne ((Decides-eq
 
 module _ (m : Machine) where
   -- a play below the limit
-  play_line : (q n : ℕ) (l : List ℕ) (ls : List (List ℕ)) (rest : List ℕ) → n ≢ greatest_lines → played_from m q n (l ∷ ls) rest ≡ moved n (move_of m q l) (λ r. played_from m r (n + 1) ls rest)
-  play_line q n l ls rest ne = ap (λ (b : Bool). cond b (ends_at n AtLimit) (moved n (move_of m q l) (λ r. played_from m r (n + 1) ls rest))) (is_below n ne)
+  play_line : (q n : ℕ) (l : List ℕ) (ls : List (List ℕ)) (rest : List ℕ) → n ≢ greatest_lines → played_from m q n (l ∷ ls) rest ≡ play_of_move n (move_of m q l) (λ r. played_from m r (n + 1) ls rest)
+  play_line q n l ls rest ne = ap (λ (b : Bool). cond b (play_ended_at n AtLimit) (play_of_move n (move_of m q l) (λ r. played_from m r (n + 1) ls rest))) (is_below n ne)
 
   play_rest : (q n : ℕ) (rest : List ℕ) → n ≢ greatest_lines → played_from m q n [] rest ≡ rest_end n rest
-  play_rest q n rest ne = ap (λ (b : Bool). cond b (ends_at n AtLimit) (rest_end n rest)) (is_below n ne)
+  play_rest q n rest ne = ap (λ (b : Bool). cond b (play_ended_at n AtLimit) (rest_end n rest)) (is_below n ne)
 
   -- a play after lines that were answered
   walked : (q n : ℕ) (ls : List (List ℕ)) (r k : ℕ) (answers more : List (List ℕ)) (rest : List ℕ) → Walks m q n ls r k answers → played_from m q n (ls ++ more) rest ≡ after_answers answers (played_from m r k more rest)
@@ -49,7 +49,7 @@ module _ (m : Machine) where
   walked q n (l ∷ ls) r k answers more rest h =
       let text = h.1.0 in
       play_line q n l (ls ++ more) rest h.0
-      ∙ (ap (λ (v : Move). moved n v (λ r. played_from m r (n + 1) (ls ++ more) rest)) h.1.3
+      ∙ (ap (λ (v : Move). play_of_move n v (λ r. played_from m r (n + 1) (ls ++ more) rest)) h.1.3
       ∙ (ap (λ (p : Play). record { answers = h.1.0 ∷ p.answers; lines = p.lines; end = p.end }) (walked h.1.1 (n + 1) ls r k h.1.2 more rest h.1.5)
       ∙ ap (λ (a : List (List ℕ)). after_answers a (played_from m r k more rest)) (sym h.1.4)))
 
@@ -82,7 +82,7 @@ module _ (m : Machine) where
   differs : (s other : List ℕ) → length other < length s → bytes_eq s other ≡ false
   differs s other lt = false_from_ne_true (bytes_eq s other) (λ is. let same : length s ≡ length other = ap (λ (l : List ℕ). length l) ((bytes_eq-Decides s other).0 is) in omega arith)
 
-  long_letter : (q : ℕ) (s : List ℕ) → 255 ≤ length s → All IsName m.inputs → name_move m q (behind (codes "in ") s) ≡ Refuse
+  long_letter : (q : ℕ) (s : List ℕ) → 255 ≤ length s → All IsName m.inputs → name_move m q (bytes_behind (codes "in ") s) ≡ Refuse
   long_letter q s long each = go (bytes_eq (take 3 s) (codes "in "))
     where
       go : (b : Bool) → name_move m q (cond b (Some (drop 3 s)) None) ≡ Refuse
@@ -95,8 +95,8 @@ module _ (m : Machine) where
       let less : length l ≤ length s + 1 = strip_length l in
       let no_reset : bytes_eq s reset_line ≡ false = differs s reset_line (omega arith) in
       let no_quit : bytes_eq s quit_line ≡ false = differs s quit_line (omega arith) in
-      ap (λ (b : Bool). cond b (Answer (codes "ready") 0) (cond (bytes_eq s quit_line) Quits (name_move m q (behind (codes "in ") s)))) no_reset
-      ∙ (ap (λ (b : Bool). cond b Quits (name_move m q (behind (codes "in ") s))) no_quit ∙ long_letter q s (omega arith) each)
+      ap (λ (b : Bool). cond b (Answer (codes "ready") 0) (cond (bytes_eq s quit_line) Quits (name_move m q (bytes_behind (codes "in ") s)))) no_reset
+      ∙ (ap (λ (b : Bool). cond b Quits (name_move m q (bytes_behind (codes "in ") s))) no_quit ∙ long_letter q s (omega arith) each)
 
 -- what is left of the input after a read
 comes : (held bs rest : List ℕ) (left left' : Option (List ℕ)) → left ≡ Some rest → HasRead held bs left left' → (rest' : List ℕ) × (left' ≡ Some rest') × (held ++ rest ≡ bs ++ rest')
@@ -127,7 +127,7 @@ takes_part a b more before mid now h k =
 pub ended_play : List (List ℕ) → ℕ → PlayEnd → Play
 ended_play answers n end = record { answers = answers; lines = n; end = end }
 
-ends_behind : (answers : List (List ℕ)) (n : ℕ) (end : PlayEnd) → after_answers answers (ends_at n end) ≡ ended_play answers n end
+ends_behind : (answers : List (List ℕ)) (n : ℕ) (end : PlayEnd) → after_answers answers (play_ended_at n end) ≡ ended_play answers n end
 unfolding after_answers ended_play
 ends_behind answers n end = ap (λ (a : List (List ℕ)). record { answers = a; lines = n; end = end }) (append-nil answers)
 
@@ -140,7 +140,7 @@ module _ (m : Machine) (bytes : List ℕ) (left : Option (List ℕ)) (held : Lis
 
   -- at a line that was read
   play_at : (now' raw : List ℕ) (left' : Option (List ℕ)) → n ≢ greatest_lines → HasReadLine held now' raw left left'
-      → (rest : List ℕ) × (left' ≡ Some rest) × (held ++ s.rest ≡ raw ++ 10 ∷ (now' ++ rest)) × (played m bytes ≡ after_answers s.answers (moved n (move_of m q raw) (λ r. played_from m r (n + 1) (lines_of (now' ++ rest)) (rest_of (now' ++ rest)))))
+      → (rest : List ℕ) × (left' ≡ Some rest) × (held ++ s.rest ≡ raw ++ 10 ∷ (now' ++ rest)) × (played m bytes ≡ after_answers s.answers (play_of_move n (move_of m q raw) (λ r. played_from m r (n + 1) (lines_of (now' ++ rest)) (rest_of (now' ++ rest)))))
   play_at now' raw left' ne h =
       let c = comes held (raw ++ 10 ∷ now') s.rest left left' s.left_is h.read in
       let x : List ℕ = raw ++ 10 ∷ (now' ++ c.0) in
@@ -178,14 +178,14 @@ module _ (m : Machine) (bytes : List ℕ) (left : Option (List ℕ)) (held : Lis
   quits now' raw left' ne h move =
       let c = play_at now' raw left' ne h in
       c.3
-      ∙ (ap (λ (v : Move). after_answers s.answers (moved n v (λ r. played_from m r (n + 1) (lines_of (now' ++ c.0)) (rest_of (now' ++ c.0))))) move
+      ∙ (ap (λ (v : Move). after_answers s.answers (play_of_move n v (λ r. played_from m r (n + 1) (lines_of (now' ++ c.0)) (rest_of (now' ++ c.0))))) move
       ∙ ends_behind s.answers (n + 1) AtQuit)
 
   refuses : (now' raw : List ℕ) (left' : Option (List ℕ)) → n ≢ greatest_lines → HasReadLine held now' raw left left' → move_of m q raw ≡ Refuse → played m bytes ≡ ended_play s.answers n (AtBadLine (n + 1))
   refuses now' raw left' ne h move =
       let c = play_at now' raw left' ne h in
       c.3
-      ∙ (ap (λ (v : Move). after_answers s.answers (moved n v (λ r. played_from m r (n + 1) (lines_of (now' ++ c.0)) (rest_of (now' ++ c.0))))) move
+      ∙ (ap (λ (v : Move). after_answers s.answers (play_of_move n v (λ r. played_from m r (n + 1) (lines_of (now' ++ c.0)) (rest_of (now' ++ c.0))))) move
       ∙ ends_behind s.answers n (AtBadLine (n + 1)))
 
   -- the input ends
@@ -199,9 +199,9 @@ module _ (m : Machine) (bytes : List ℕ) (left : Option (List ℕ)) (held : Lis
   limit : n ≡ greatest_lines → played m bytes ≡ ended_play s.answers n AtLimit
   limit is = play_on (held ++ s.rest) refl ∙ (ap (after_answers s.answers) (go (lines_of (held ++ s.rest)) (rest_of (held ++ s.rest))) ∙ ends_behind s.answers n AtLimit)
     where
-      go : (ls : List (List ℕ)) (rest : List ℕ) → played_from m q n ls rest ≡ ends_at n AtLimit
-      go [] rest = ap (λ (b : Bool). cond b (ends_at n AtLimit) (rest_end n rest)) ((Decides-eqb n greatest_lines).1 is)
-      go (l ∷ ls) rest = ap (λ (b : Bool). cond b (ends_at n AtLimit) (moved n (move_of m q l) (λ r. played_from m r (n + 1) ls rest))) ((Decides-eqb n greatest_lines).1 is)
+      go : (ls : List (List ℕ)) (rest : List ℕ) → played_from m q n ls rest ≡ play_ended_at n AtLimit
+      go [] rest = ap (λ (b : Bool). cond b (play_ended_at n AtLimit) (rest_end n rest)) ((Decides-eqb n greatest_lines).1 is)
+      go (l ∷ ls) rest = ap (λ (b : Bool). cond b (play_ended_at n AtLimit) (play_of_move n (move_of m q l) (λ r. played_from m r (n + 1) ls rest))) ((Decides-eqb n greatest_lines).1 is)
 
   -- a line has no end, or is too long
   unended : (bs : List ℕ) (left' : Option (List ℕ)) → n ≢ greatest_lines → All IsName m.inputs → IsUnended held bs left left' → played m bytes ≡ ended_play s.answers n (AtBadLine (n + 1))
@@ -211,17 +211,17 @@ module _ (m : Machine) (bytes : List ℕ) (left : Option (List ℕ)) (held : Lis
       ∙ (ap (after_answers s.answers) (ap (λ (p : Split). played_from m q n p.lines p.rest) (split_front bs c.0 h.open_read.plain) ∙ go h.why c.0 c.1)
       ∙ ends_behind s.answers n (AtBadLine (n + 1)))
     where
-      bad_rest : (l : List ℕ) → 0 < length l → played_from m q n [] l ≡ ends_at n (AtBadLine (n + 1))
+      bad_rest : (l : List ℕ) → 0 < length l → played_from m q n [] l ≡ play_ended_at n (AtBadLine (n + 1))
       bad_rest [] lt = absurd (omega arith)
       bad_rest (b ∷ l) lt = play_rest m q n (b ∷ l) ne
 
-      bad : (ls : List (List ℕ)) (rest : List ℕ) → length bs ≡ 256 → played_from m q n (lead bs ls rest).lines (lead bs ls rest).rest ≡ ends_at n (AtBadLine (n + 1))
+      bad : (ls : List (List ℕ)) (rest : List ℕ) → length bs ≡ 256 → played_from m q n (lead bs ls rest).lines (lead bs ls rest).rest ≡ play_ended_at n (AtBadLine (n + 1))
       bad [] rest size = let all = length-append bs rest in bad_rest (bs ++ rest) (omega (arith, all))
       bad (l ∷ ls) rest size =
           let all : length (bs ++ l) ≡ length bs + length l = length-append bs l in
-          play_line m q n (bs ++ l) ls rest ne ∙ ap (λ (v : Move). moved n v (λ r. played_from m r (n + 1) ls rest)) (long_refused m q (bs ++ l) (omega arith) each)
+          play_line m q n (bs ++ l) ls rest ne ∙ ap (λ (v : Move). play_of_move n v (λ r. played_from m r (n + 1) ls rest)) (long_refused m q (bs ++ l) (omega arith) each)
 
-      go : IsSpent left' ⊎ (length bs ≡ 256) → (rest : List ℕ) → left' ≡ Some rest → played_from m q n (lead bs (lines_of rest) (rest_of rest)).lines (lead bs (lines_of rest) (rest_of rest)).rest ≡ ends_at n (AtBadLine (n + 1))
+      go : IsSpent left' ⊎ (length bs ≡ 256) → (rest : List ℕ) → left' ≡ Some rest → played_from m q n (lead bs (lines_of rest) (rest_of rest)).lines (lead bs (lines_of rest) (rest_of rest)).rest ≡ play_ended_at n (AtBadLine (n + 1))
       go (inl spent) rest is =
           let none : rest ≡ [] = subst (λ (o : Option (List ℕ)). IsSpent o) is spent in
           ap (λ (l : List ℕ). played_from m q n (lead bs (lines_of l) (rest_of l)).lines (lead bs (lines_of l) (rest_of l)).rest) none
@@ -262,8 +262,8 @@ module _ (m : Machine) (bytes : List ℕ) (left : Option (List ℕ)) (held : Lis
   sink_takes now' raw text r left' taken ne h move takes =
       let c = play_at now' raw left' ne h in
       let on : ℕ → Play = λ (r : ℕ). played_from m r (n + 1) (lines_of (now' ++ c.0)) (rest_of (now' ++ c.0)) in
-      let p : Play = moved n (Answer text r) on in
-      let is : played m bytes ≡ after_answers s.answers p = c.3 ∙ ap (λ (v : Move). after_answers s.answers (moved n v on)) move in
+      let p : Play = play_of_move n (Answer text r) on in
+      let is : played m bytes ≡ after_answers s.answers p = c.3 ∙ ap (λ (v : Move). after_answers s.answers (play_of_move n v on)) move in
       subst (λ (l : List ℕ). TakesSome l before taken) (sym (answers_of_play p is))
       (takes_part (ended_lines s.answers) (ended text) (ended_lines (on r).answers) before now taken s.taken takes)
 

@@ -5,14 +5,14 @@ use Rattle.std.specs.Str.Lines.{strip_carriage_return}
 use Rattle.lw_words.specs.Name.{AllDiffer, number_of}
 use Rattle.lw_names.specs.Names.{Brings}
 use Rattle.lw_sul.specs.declared.runs.Run.{Run}
-use Rattle.lw_outside.specs.Protocol.{behind, reset_line}
+use Rattle.lw_outside.specs.Protocol.{bytes_behind, reset_line}
 use Rattle.lw_line.specs.Transcripts.{number_behind, ready_runs, stepped_runs, exchanged, spelled_on, spelled_from}
 use Rattle.lw_line.specs.bodies.Standing.{Spells}
 use Rattle.lw_line.proofs.Naming.{number_stays}
 
 -- a number that stands behind some bytes stays
 number_behind_stays : (before now : List (List ℕ)) (y : ℕ) (front line : List ℕ) (z : ℕ) → Brings before now y → AllDiffer now → number_behind front before line ≡ Some z → number_behind front now line ≡ Some z
-number_behind_stays before now y front line z brings differ is = go (behind front line) is
+number_behind_stays before now y front line z brings differ is = go (bytes_behind front line) is
   where
     go : (o : Option (List ℕ)) → option_and_then (λ name. number_of name before) o ≡ Some z → option_and_then (λ name. number_of name now) o ≡ Some z
     go None h = cc

@@ -13,8 +13,8 @@ use Rattle.lw_outside.specs.Lines.{Split, split_bytes, lines_of, rest_of}
 use Rattle.lw_outside.specs.Links.{Transcript, IsUntouched, sends, receives}
 use Rattle.lw_outside.specs.Played.{ended_lines}
 use Rattle.lw_outside.specs.Protocol.{reset_line}
-use Rattle.lw_line.specs.Transcripts.{BreaksAt, IsSentLine, IsProper, SpellsAll, exchanged, lines_in, spelled, spelled_from}
-use Rattle.lw_line.specs.Causes.{EndsWithin, IsBadAnswer, IsRefused, IsSpelled}
+use Rattle.lw_line.specs.Transcripts.{BreaksAt, IsSentLine, IsProper, SpellsAll, exchanged, lines_taken_by, spelled, spelled_from}
+use Rattle.lw_line.specs.Causes.{EndsWithin, IsBadAnswer, IsRefusedLine, IsSpelled}
 use Rattle.lw_line.specs.bodies.Exchanges.{IsAnswered, IsRefusal, ended}
 use Rattle.lw_line.specs.bodies.Pieces.{NoFeed, EndsOpen}
 use Rattle.lw_line.specs.bodies.Standing.{Spells, BeginsWell, IsLive, IsToldLive}
@@ -94,8 +94,8 @@ module _ (inputs names : List (List ℕ)) (started : Bool) (held : List ℕ) (t 
       spells_lines inputs names t live.lines [] (live.answers ++ lines_of held) (rest_of held) live_sees
       ∙ spelled_whole inputs names [] live.lines live.answers live.runs (lines_of held) live.spells
 
-  pub live_covered : length live.lines ≡ lines_in (spelled inputs names t)
-  live_covered = sym (all_covered inputs names started live.lines live.answers live.runs live.begins live.spells) ∙ ap (λ (rs : List Run). lines_in rs) (sym live_runs)
+  pub live_covered : length live.lines ≡ lines_taken_by (spelled inputs names t)
+  live_covered = sym (all_covered inputs names started live.lines live.answers live.runs live.begins live.spells) ∙ ap (λ (rs : List Run). lines_taken_by rs) (sym live_runs)
 
   pub live_spells : SpellsAll inputs names t
   live_spells = (ap (λ (s : Split). length s.lines) live_sees.sent ∙ live_covered, ap (λ (s : Split). s.rest) live_sees.sent)
@@ -165,7 +165,7 @@ module _ (inputs names : List (List ℕ)) (started : Bool) (held : List ℕ) (t 
     sent_breaks faults u sent same = inl (
       ap (λ (s : Split). length s.lines) sent
           ∙ (length-append live.lines (line ∷ [])
-          ∙ ap (λ (n : ℕ). n + 1) (live_covered ∙ ap (λ (rs : List Run). lines_in rs) (sym same))),
+          ∙ ap (λ (n : ℕ). n + 1) (live_covered ∙ ap (λ (rs : List Run). lines_taken_by rs) (sym same))),
       (live.lines, ap (λ (s : Split). s.lines) sent),
       ap (λ (s : Split). s.rest) sent,
     )
@@ -238,7 +238,7 @@ module _ (inputs names : List (List ℕ)) (started : Bool) (held : List ℕ) (t 
         breaks = inr (
           ap (λ (s : Split). length s.lines) sees.sent
               ∙ (live_covered inputs names started held t live
-              ∙ ap (λ (rs : List Run). lines_in rs) (sym (spells_lines inputs names u live.lines (take n line) early (rest_of held) sees
+              ∙ ap (λ (rs : List Run). lines_taken_by rs) (sym (spells_lines inputs names u live.lines (take n line) early (rest_of held) sees
               ∙ (spelled_whole inputs names [] live.lines live.answers live.runs (lines_of held) live.spells ∙ sym (live_runs inputs names started held t live))))),
           (drop n line, sym (take-append-drop n line) ∙ ap (λ (l : List ℕ). l ++ drop n line) (sym (ap (λ (s : Split). s.rest) sees.sent))),
           counted,
@@ -271,7 +271,7 @@ module _ (inputs names : List (List ℕ)) (started : Bool) (held : List ℕ) (t 
         ∙ (length_more inputs names started held t live line plain is_line well
         ∙ ap (λ (s : Split). length s.lines + 1) (sym sees_unanswered.received))
 
-    too_long : length bytes ≡ 256 → IsRefused names most unanswered bytes
+    too_long : length bytes ≡ 256 → IsRefusedLine names most unanswered bytes
     too_long size =
         let same : length live.lines ≡ length live.answers = live_length inputs names started held t live in
         record {

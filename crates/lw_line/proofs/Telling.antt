@@ -12,7 +12,7 @@ use Rattle.lw_outside.specs.Lines.{lines_of}
 use Rattle.lw_outside.specs.Links.{Transcript, receives, sends}
 use Rattle.lw_outside.specs.Protocol.{in_line, out_line}
 use Rattle.lw_line.specs.Transcripts.{number_behind}
-use Rattle.lw_line.specs.Causes.{AreTold, IsToldName}
+use Rattle.lw_line.specs.Causes.{AreToldNames, IsToldName}
 use Rattle.lw_line.specs.LineState.{AreToldIfFree}
 use Rattle.lw_line.specs.bodies.Exchanges.{IsAnswered, IsRefusal, ended}
 use Rattle.lw_line.specs.bodies.Naming.{OutputNaming}
@@ -40,28 +40,28 @@ told_more names t more are = All-weaker (IsToldName t) (IsToldName (receives mor
 told_sent : (names : List (List ℕ)) (t : Transcript) (more : List ℕ) → All (IsToldName t) names → All (IsToldName (sends more t)) names
 told_sent names t more are = All-weaker (IsToldName t) (IsToldName (sends more t)) (λ name told. (told.0, (told.1.0, told.1.1, line_stays t.sent more told.0 (in_line told.1.0) told.1.2, told.1.3, told.1.4))) names are
 
-told_come : (names : List (List ℕ)) (held bytes : List ℕ) (t : Transcript) (after : Option Transcript) → HasCome held bytes (Some t) after → All (IsToldName t) names → AreTold names after
-told_come names held bytes t after come are = subst (AreTold names) (sym come.told) (told_more names t come.more are)
+told_come : (names : List (List ℕ)) (held bytes : List ℕ) (t : Transcript) (after : Option Transcript) → HasCome held bytes (Some t) after → All (IsToldName t) names → AreToldNames names after
+told_come names held bytes t after come are = subst (AreToldNames names) (sym come.told) (told_more names t come.more are)
 
-nothing_come : (names : List (List ℕ)) (held bytes : List ℕ) (after : Option Transcript) → HasCome held bytes None after → AreTold names after
-nothing_come names held bytes after come = subst (AreTold names) (sym come.told) tt
+nothing_come : (names : List (List ℕ)) (held bytes : List ℕ) (after : Option Transcript) → HasCome held bytes None after → AreToldNames names after
+nothing_come names held bytes after come = subst (AreToldNames names) (sym come.told) tt
 
-come_told : (names : List (List ℕ)) (sent held bytes : List ℕ) (told after : Option Transcript) → HasCome held bytes (option_map (sends sent) told) after → AreTold names told → AreTold names after
+come_told : (names : List (List ℕ)) (sent held bytes : List ℕ) (told after : Option Transcript) → HasCome held bytes (option_map (sends sent) told) after → AreToldNames names told → AreToldNames names after
 come_told names sent held bytes None after come are = nothing_come names held bytes after come
 come_told names sent held bytes (Some t) after come are = told_come names held bytes (sends sent t) after come (told_sent names t sent are)
 
-open_told : (names : List (List ℕ)) (sent held : List ℕ) (stop : SulStop) (told after : Option Transcript) → EndsOpen held stop (option_map (sends sent) told) after → AreTold names told → AreTold names after
+open_told : (names : List (List ℕ)) (sent held : List ℕ) (stop : SulStop) (told after : Option Transcript) → EndsOpen held stop (option_map (sends sent) told) after → AreToldNames names told → AreToldNames names after
 open_told names sent held Failed told after h are = come_told names sent held h.0 told after h.1.come are
 open_told names sent held Gone told after h are = come_told names sent held h.0 told after h.1.come are
 open_told names sent held (BadLine line) told after h are = come_told names sent held line told after h.0.come are
 
 -- an answered call, and a refused one, leave the names told that were so
-pub answered_told : (names : List (List ℕ)) (bytes held now answer : List ℕ) (told after : Option Transcript) → IsAnswered bytes held now answer told after → AreTold names told → AreTold names after
+pub answered_told : (names : List (List ℕ)) (bytes held now answer : List ℕ) (told after : Option Transcript) → IsAnswered bytes held now answer told after → AreToldNames names told → AreToldNames names after
 answered_told names bytes held now answer told after h are = come_told names bytes held (h.raw ++ 10 ∷ now) told after h.received.come are
 
-pub refused_told : (names : List (List ℕ)) (IsBad : List ℕ → Type 0) (bytes held now : List ℕ) (stop : SulStop) (told after : Option Transcript) → IsRefusal IsBad bytes held now stop told after → AreTold names told → AreTold names after
-refused_told names IsBad bytes held now stop None after (inl h) are = subst (AreTold names) (sym h.1) tt
-refused_told names IsBad bytes held now stop (Some t) after (inl h) are = subst (AreTold names) (sym h.1.2) (told_sent names t (take h.1.0 bytes) are)
+pub refused_told : (names : List (List ℕ)) (IsBad : List ℕ → Type 0) (bytes held now : List ℕ) (stop : SulStop) (told after : Option Transcript) → IsRefusal IsBad bytes held now stop told after → AreToldNames names told → AreToldNames names after
+refused_told names IsBad bytes held now stop None after (inl h) are = subst (AreToldNames names) (sym h.1) tt
+refused_told names IsBad bytes held now stop (Some t) after (inl h) are = subst (AreToldNames names) (sym h.1.2) (told_sent names t (take h.1.0 bytes) are)
 refused_told names IsBad bytes held now stop told after (inr (inl h)) are = open_told names bytes held stop told after h are
 refused_told names IsBad bytes held now stop told after (inr (inr h)) are = answered_told names bytes held now h.0 told after h.2 are
 
@@ -78,15 +78,15 @@ module _ (inputs before names : List (List ℕ)) (most faults : ℕ) (started : 
           let said : IsToldName (receives more t) h.1.0 = (i, (letter, raw, asked, at, sym stripped ∙ (is.1 ∙ ap out_line same))) in
           subst (λ (l : List (List ℕ)). All (IsToldName (receives more t)) l) (sym h.1.1) (All-push (IsToldName (receives more t)) before h.1.0 are said)
 
-  live_told : (told after : Option Transcript) → IsToldLive inputs before started held told → IsAnswered (ended (in_line letter)) held now answer told after → AreTold before told → AreTold names after
-  live_told None after live h are = subst (AreTold names) (sym h.received.come.told) tt
+  live_told : (told after : Option Transcript) → IsToldLive inputs before started held told → IsAnswered (ended (in_line letter)) held now answer told after → AreToldNames before told → AreToldNames names after
+  live_told None after live h are = subst (AreToldNames names) (sym h.received.come.told) tt
   live_told (Some t) after live h are =
       let c = h.received.come in
-      subst (AreTold names) (sym c.told)
+      subst (AreToldNames names) (sym c.told)
       (told_here (sends (ended (in_line letter)) t) c.more h.raw (length live.answers) (is_sent inputs before started held t live (in_line letter) plain) (is_among inputs before started held t live c.more h.raw now h.received.plain c.whole) h.stripped
       (told_more before (sends (ended (in_line letter)) t) c.more (told_sent before t (ended (in_line letter)) are)))
 
-  pub brought_told : (ends : ℕ) (stop : Option SulStop) (cut : Bool) (told after : Option Transcript) → stop ≡ None → Stands inputs before most faults ends started held stop cut told → IsAnswered (ended (in_line letter)) held now answer told after → AreTold before told → AreTold names after
+  pub brought_told : (ends : ℕ) (stop : Option SulStop) (cut : Bool) (told after : Option Transcript) → stop ≡ None → Stands inputs before most faults ends started held stop cut told → IsAnswered (ended (in_line letter)) held now answer told after → AreToldNames before told → AreToldNames names after
   brought_told ends stop cut told after none stands =
       live_told told after (subst (λ (s : Option SulStop). IsTold inputs before most faults started held s cut told) none stands.link)
 

@@ -27,15 +27,15 @@ IsToldName t name =
     × (strip_carriage_return raw ≡ out_line name))
 
 -- where it is told what went over a link, answers to letters named all of these outputs
-abbrev pub AreTold : List (List ℕ) → Option Transcript → Type 0
-AreTold names None = Unit {0}
-AreTold names (Some t) = All (IsToldName t) names
+abbrev pub AreToldNames : List (List ℕ) → Option Transcript → Type 0
+AreToldNames names None = Unit {0}
+AreToldNames names (Some t) = All (IsToldName t) names
 
 abbrev pub IsBadAnswer : List (List ℕ) → ℕ → (sent answer : List ℕ) → Type 0
 IsBadAnswer names most sent answer = (¬ IsFormed sent answer) ⊎ IsUnknown names most answer
 
 -- what was received for the last sent line is this bad answer, or these 256 bytes without an end
-pub record IsRefused (names : List (List ℕ)) (most : ℕ) (t : Transcript) (line : List ℕ) : Type 0 where
+pub record IsRefusedLine (names : List (List ℕ)) (most : ℕ) (t : Transcript) (line : List ℕ) : Type 0 where
   pub before : List (List ℕ)
   pub last : List ℕ
   pub sent : lines_of t.sent ≡ before ++ last ∷ []
@@ -48,27 +48,27 @@ abbrev pub EndsWithin : Transcript → Type 0
 EndsWithin t = length (lines_of t.sent) ≡ length (lines_of t.received) + 1
 
 -- a system's stop is borne out by the counts of its link
-abbrev pub IsCounted : (faults ends : ℕ) → Option SulStop → Type 0
-IsCounted faults ends None = Unit {0}
-IsCounted faults ends (Some Failed) = CountedFault 0 faults
-IsCounted faults ends (Some Gone) = CountedFault 0 ends
-IsCounted faults ends (Some (BadLine line)) = Unit {0}
+abbrev pub StopIsCounted : (faults ends : ℕ) → Option SulStop → Type 0
+StopIsCounted faults ends None = Unit {0}
+StopIsCounted faults ends (Some Failed) = CountedFault 0 faults
+StopIsCounted faults ends (Some Gone) = CountedFault 0 ends
+StopIsCounted faults ends (Some (BadLine line)) = Unit {0}
 
 -- and by what went over it
 abbrev pub IsSpelled : List (List ℕ) → ℕ → Transcript → Option SulStop → Type 0
 IsSpelled names most t None = Unit {0}
 IsSpelled names most t (Some Failed) = Unit {0}
 IsSpelled names most t (Some Gone) = EndsWithin t
-IsSpelled names most t (Some (BadLine line)) = IsRefused names most t line
+IsSpelled names most t (Some (BadLine line)) = IsRefusedLine names most t line
 
 -- all that was sent is lines of the runs, but for the line of the step, or of the reset, in which the system stopped
-abbrev pub IsCovered : (inputs names : List (List ℕ)) (faults : ℕ) → Transcript → Option SulStop → (cut : Bool) → Type 0
-IsCovered inputs names faults t None cut = SpellsAll inputs names t
-IsCovered inputs names faults t (Some stop) cut = BreaksIn inputs names faults cut t
+abbrev pub TranscriptIsCovered : (inputs names : List (List ℕ)) (faults : ℕ) → Transcript → Option SulStop → (cut : Bool) → Type 0
+TranscriptIsCovered inputs names faults t None cut = SpellsAll inputs names t
+TranscriptIsCovered inputs names faults t (Some stop) cut = BreaksIn inputs names faults cut t
 
 -- what is told of a link to a child that was asked for letters of these names and named its outputs so: its transcript is
 -- proper, bears out the stop, and is covered by the runs that it spells, but for the line at which it broke: a letter's exactly
 -- where the stop cut a run off
 abbrev pub IsTranscriptOf : (inputs names : List (List ℕ)) (most faults : ℕ) → Option SulStop → (cut : Bool) → Option Transcript → Type 0
 IsTranscriptOf inputs names most faults stop cut None = Unit {0}
-IsTranscriptOf inputs names most faults stop cut (Some t) = IsProper inputs faults t × IsSpelled names most t stop × IsCovered inputs names faults t stop cut
+IsTranscriptOf inputs names most faults stop cut (Some t) = IsProper inputs faults t × IsSpelled names most t stop × TranscriptIsCovered inputs names faults t stop cut

@@ -4,7 +4,7 @@ use Rattle.std.specs.Prelude.{◌≡◌, ◌⊎◌, ℕ, List, length, Bool, Opt
 use Rattle.lw_words.specs.declared.stop.SulStop.{SulStop}
 use Rattle.lw_sul.specs.declared.runs.Run.{Run}
 use Rattle.lw_outside.specs.Links.{Transcript}
-use Rattle.lw_line.specs.Causes.{AreTold}
+use Rattle.lw_line.specs.Causes.{AreToldNames}
 use Rattle.lw_line.specs.Transcripts.{spelled}
 
 pub record LineState (L : Type 0) : Type 0 where
@@ -31,4 +31,4 @@ IsNaming names most outputs = AreFree most outputs ⊎ ((most ≡ length names) 
 
 -- names that weren't declared were told over the link
 abbrev pub AreToldIfFree : List (List ℕ) → ℕ → ℕ → Option Transcript → Type 0
-AreToldIfFree names most outputs told = AreFree most outputs → AreTold names told
+AreToldIfFree names most outputs told = AreFree most outputs → AreToldNames names told

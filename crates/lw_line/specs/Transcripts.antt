@@ -10,11 +10,11 @@ use Rattle.lw_sul.specs.Runs.{after_reset, after_step}
 use Rattle.lw_sul.specs.declared.runs.Run.{Run}
 use Rattle.lw_outside.specs.Lines.{lines_of, rest_of}
 use Rattle.lw_outside.specs.Links.{Transcript}
-use Rattle.lw_outside.specs.Protocol.{behind, reset_line, in_line, ready_line}
+use Rattle.lw_outside.specs.Protocol.{bytes_behind, reset_line, in_line, ready_line}
 
 -- the number of the name that stands behind these bytes in a line
 abbrev pub number_behind : List ℕ → List (List ℕ) → List ℕ → Option ℕ
-number_behind front names line = option_and_then (λ name. number_of name names) (behind front line)
+number_behind front names line = option_and_then (λ name. number_of name names) (bytes_behind front line)
 
 abbrev pub ready_runs : List Run → List ℕ → Option (List Run)
 ready_runs rs answer = if bytes_eq answer ready_line then Some (after_reset rs) else None
@@ -61,21 +61,21 @@ pub record IsProper (inputs : List (List ℕ)) (faults : ℕ) (t : Transcript) :
   pub whole : rest_of t.sent ≢ [] → CountedFault 0 faults
 
 -- the lines that runs take: a reset each, and their letters
-abbrev pub lines_in : List Run → ℕ
-lines_in runs = sum_by (λ r. 1 + length r.word) runs
+abbrev pub lines_taken_by : List Run → ℕ
+lines_taken_by runs = sum_by (λ r. 1 + length r.word) runs
 
 -- all that was sent is lines of the runs that it spells
 abbrev pub SpellsAll : (inputs outputs : List (List ℕ)) → Transcript → Type 0
-SpellsAll inputs outputs t = (length (lines_of t.sent) ≡ lines_in (spelled inputs outputs t)) × (rest_of t.sent ≡ [])
+SpellsAll inputs outputs t = (length (lines_of t.sent) ≡ lines_taken_by (spelled inputs outputs t)) × (rest_of t.sent ≡ [])
 
 -- the line at which a link broke, which none of the runs has: the last one that was sent; or one whose sending failed, and then
 -- what stands behind the last one is its front, perhaps of no bytes
 abbrev pub BreaksAt : (inputs outputs : List (List ℕ)) (faults : ℕ) → Transcript → List ℕ → Type 0
 BreaksAt inputs outputs faults t line =
-    ((length (lines_of t.sent) ≡ lines_in (spelled inputs outputs t) + 1)
+    ((length (lines_of t.sent) ≡ lines_taken_by (spelled inputs outputs t) + 1)
     × ((before : List (List ℕ)) × (lines_of t.sent ≡ before ++ line ∷ []))
     × (rest_of t.sent ≡ []))
-    ⊎ ((length (lines_of t.sent) ≡ lines_in (spelled inputs outputs t)) × IsPrefix (rest_of t.sent) line × CountedFault 0 faults)
+    ⊎ ((length (lines_of t.sent) ≡ lines_taken_by (spelled inputs outputs t)) × IsPrefix (rest_of t.sent) line × CountedFault 0 faults)
 
 -- a link broke in a step, or in a reset
 abbrev pub BreaksIn : (inputs outputs : List (List ℕ)) (faults : ℕ) (step : Bool) → Transcript → Type 0

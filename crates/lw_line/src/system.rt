@@ -2,7 +2,7 @@
 ghost use Rattle.std.specs.Prelude.{◌≡◌, [], length, IfOk, IfErr, IfSome, None, false};
 ghost use Rattle.lw_words.specs.Word.{IsWord};
 ghost use Rattle.lw_outside.specs.Links.{IsUntouched};
-ghost use Rattle.lw_line.specs.Causes.{IsCounted, IsTranscriptOf};
+ghost use Rattle.lw_line.specs.Causes.{StopIsCounted, IsTranscriptOf};
 ghost use Rattle.lw_line.specs.LineState.{AreToldIfFree, IsNaming, told_runs};
 ghost use Rattle.lw_sul.specs.SessionState.{NoRuns};
 
@@ -145,7 +145,7 @@ impl<L: Link> LineSul<L> {
     /// The link. Its counts and what went over it bear out the system's stop, and whether that was in a step.
     pub fn into_link(self) -> L
         ensures link { result ≡ self.link }
-        ensures counted { IsCounted (L.state self.link).faults (L.state self.link).ends
+        ensures counted { StopIsCounted (L.state self.link).faults (L.state self.link).ends
             self.stop }
         ensures told { IsTranscriptOf self.letters self.names self.most (L.state self.link).faults
             self.stop self.cut (L.state self.link).transcript }

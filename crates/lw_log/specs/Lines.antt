@@ -28,8 +28,8 @@ abbrev pub name_of : List (List ℕ) → ℕ → List ℕ
 name_of names x = slice_index_or names x []
 
 -- a run that was cut before it was asked a letter
-abbrev pub reset_line : ℕ → List ℕ
-reset_line instance = codes "instance " ++ (decimal instance ++ codes ": cut in a reset\n")
+abbrev pub cut_in_reset_line : ℕ → List ℕ
+cut_in_reset_line instance = codes "instance " ++ (decimal instance ++ codes ": cut in a reset\n")
 
 -- a run that was cut behind the letter with this number, counted from 1, of a word with these names
 abbrev pub place_line : (instance place : ℕ) (names : List ℕ) → List ℕ
@@ -39,7 +39,7 @@ place_line instance place names =
 -- the letters that a run was asked before it was cut, joined by one blank
 abbrev pub cut_line : ℕ → List (List ℕ) → List ℕ → List ℕ
 cut_line instance letters asked =
-    if length asked == 0 then reset_line instance else place_line instance (length asked) (join_by (name_of letters) (codes " ") asked)
+    if length asked == 0 then cut_in_reset_line instance else place_line instance (length asked) (join_by (name_of letters) (codes " ") asked)
 
 -- a byte that stands for itself: from a blank to a tilde, and no backslash
 abbrev pub is_plain : ℕ → Bool

@@ -8,7 +8,7 @@ ghost use Rattle.lw_mealy.specs.CellHalf.{IsBelow};
 ghost use Rattle.lw_mealy.specs.Limits.{MealyMachine, mealy_of, IsWithinLimits, AnswersBelow};
 ghost use Rattle.lw_mealy.specs.Difference.{DifferFirst};
 ghost use Rattle.lw_mealy.specs.declared.fault.MealyFault.{MealyFault as Fault};
-ghost use Rattle.lw_mealy.specs.Fault.{HasFault, IsCounted, IsSquare, IsClosed, CellFailsFirst};
+ghost use Rattle.lw_mealy.specs.Fault.{RowsHaveFault, IsCounted, IsSquare, TargetsAreStates, CellFailsFirst};
 ghost use Rattle.lw_mealy.specs.Renumbering.{renumbered_cells, renumbered_rows, AllRenumber};
 
 use crate::MealyFault;
@@ -106,9 +106,9 @@ fn first_in_rows(rows: &[Vec<(u16, u16)>], half: Half, bound: usize) -> Option<(
 fn fault_of(inputs: u16, outputs: u16, rows: &[Vec<(u16, u16)>]) -> Option<MealyFault>
     requires counted { IsCounted (map (λ r. r.items) rows.now) }
     ensures none { IfNone result (IsSquare inputs (map (λ r. r.items) rows.now) ×
-        IsClosed (map (λ r. r.items) rows.now) × AnswersBelow outputs
+        TargetsAreStates (map (λ r. r.items) rows.now) × AnswersBelow outputs
         (map (λ r. r.items) rows.now)) }
-    ensures some { IfSome result (HasFault inputs outputs (map (λ r. r.items) rows.now)) }
+    ensures some { IfSome result (RowsHaveFault inputs outputs (map (λ r. r.items) rows.now)) }
     ensures memory { ¬ (result ≡ Some Fault.NoMemory) }
 {
     if let Some(state) = first_ragged(rows, inputs) {
@@ -171,7 +171,7 @@ impl Mealy {
         ensures ok { IfOk result (λ m. m ≡ mealy_of inputs outputs
             (map (λ r. r.items) rows.items)) }
         ensures complete { IfOk result IsWithinLimits }
-        ensures err { IfErr result (HasFault inputs outputs (map (λ r. r.items) rows.items)) }
+        ensures err { IfErr result (RowsHaveFault inputs outputs (map (λ r. r.items) rows.items)) }
         ensures memory { ¬ (result ≡ Err Fault.NoMemory) }
     {
         if rows.is_empty() {

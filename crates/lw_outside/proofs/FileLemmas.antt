@@ -3,9 +3,9 @@ use Rattle.std.proofs.Common.{◌≡◌, ◌≢◌, ℕ, List, [], ◌∷◌, �
 use Rattle.std.proofs.lemmas.Bool.{false_from_ne_true}
 use Rattle.std.proofs.lemmas.Slice.Eq.{bytes_eq-Decides}
 use Rattle.std.specs.Str.{bytes_eq}
-use Rattle.lw_outside.specs.Files.{File, first_of, file_at}
+use Rattle.lw_outside.specs.Files.{File, first_present, file_at}
 
-later : (b : Bool) (x : List ℕ) (o other : Option (List ℕ)) → first_of (if b then Some x else o) other ≡ (if b then Some x else first_of o other)
+later : (b : Bool) (x : List ℕ) (o other : Option (List ℕ)) → first_present (if b then Some x else o) other ≡ (if b then Some x else first_present o other)
 later true x o other = refl
 later false x o other = refl
 
@@ -13,7 +13,7 @@ later false x o other = refl
 pub file_at_push : (name : List ℕ) (fs : List File) (f : File) → file_at name (fs ++ f ∷ []) ≡ (if bytes_eq name f.0 then Some f.1 else file_at name fs)
 file_at_push name [] f = refl
 file_at_push name (g ∷ fs) f =
-    ap (λ (o : Option (List ℕ)). first_of o (if bytes_eq name g.0 then Some g.1 else None)) (file_at_push name fs f)
+    ap (λ (o : Option (List ℕ)). first_present o (if bytes_eq name g.0 then Some g.1 else None)) (file_at_push name fs f)
     ∙ later (bytes_eq name f.0) f.1 (file_at name fs) (if bytes_eq name g.0 then Some g.1 else None)
 
 pub same_file : (name : List ℕ) (fs : List File) (f : File) (b : Bool) → bytes_eq name f.0 ≡ b → file_at name (fs ++ f ∷ []) ≡ (if b then Some f.1 else file_at name fs)

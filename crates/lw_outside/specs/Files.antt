@@ -16,14 +16,14 @@ abbrev pub longest_file : ℕ
 longest_file = 16777216
 
 -- the first of two that is there
-abbrev pub first_of : Option (List ℕ) → Option (List ℕ) → Option (List ℕ)
-first_of None other = other
-first_of (Some bytes) other = Some bytes
+abbrev pub first_present : Option (List ℕ) → Option (List ℕ) → Option (List ℕ)
+first_present None other = other
+first_present (Some bytes) other = Some bytes
 
 -- the bytes under a name: a later file of the same name wins
 abbrev pub file_at : List ℕ → List File → Option (List ℕ)
 file_at name [] = None
-file_at name (f ∷ fs) = first_of (file_at name fs) (if bytes_eq name f.0 then Some f.1 else None)
+file_at name (f ∷ fs) = first_present (file_at name fs) (if bytes_eq name f.0 then Some f.1 else None)
 
 -- these bytes stand under the name, where it is told what files hold
 abbrev pub Holds : Option (List File) → List ℕ → List ℕ → Type 0

@@ -47,11 +47,11 @@ abbrev pub read_end : MemoryFilesState → List ℕ → ReadEnd
 read_end s name = if is_planned s.plan s.made then Fails else found_end (file_at name s.holds)
 
 -- a read was answered as it ends, or there was no memory
-abbrev pub EndsRead : {X : Type 0} → (X → List ℕ) → ReadEnd → Result X FilesStop → Type 0
-EndsRead items end (Ok bytes) = end ≡ Gives (items bytes)
-EndsRead items end (Err Failed) = end ≡ Fails
-EndsRead items end (Err TooLong) = end ≡ IsLong
-EndsRead items end (Err NoMemory) = Unit {0}
+abbrev pub ReadEndsAs : {X : Type 0} → (X → List ℕ) → ReadEnd → Result X FilesStop → Type 0
+ReadEndsAs items end (Ok bytes) = end ≡ Gives (items bytes)
+ReadEndsAs items end (Err Failed) = end ≡ Fails
+ReadEndsAs items end (Err TooLong) = end ≡ IsLong
+ReadEndsAs items end (Err NoMemory) = Unit {0}
 
 -- a call was made and noted; what the files hold is another matter
 pub record NotesCall (before : MemoryFilesState) (call : Call) (after : MemoryFilesState) : Type 0 where

@@ -8,7 +8,7 @@ use Rattle.lw_json.specs.declared.machine.Machine.{Machine}
 use Rattle.lw_outside.specs.declared.player.Reply.{Reply}
 use Rattle.lw_outside.specs.declared.player.Reply.TheVariants.{Ready, Out, Quit as QuitsAt, Refused}
 use Rattle.lw_outside.specs.Lines.{lines_of, rest_of}
-use Rattle.lw_outside.specs.Protocol.{behind, reset_line, quit_line, out_line, ready_line}
+use Rattle.lw_outside.specs.Protocol.{bytes_behind, reset_line, quit_line, out_line, ready_line}
 
 -- what a child does at a line: it answers with a line and goes to a state, or it ends
 pub data Move : Type 0 where
@@ -32,7 +32,7 @@ name_move m q None = Refuse
 name_move m q (Some name) = letter_move m q (number_of name m.inputs)
 
 abbrev pub line_move : Machine → ℕ → List ℕ → Move
-line_move m q line = if bytes_eq line reset_line then Answer ready_line 0 else (if bytes_eq line quit_line then Quit else name_move m q (behind (codes "in ") line))
+line_move m q line = if bytes_eq line reset_line then Answer ready_line 0 else (if bytes_eq line quit_line then Quit else name_move m q (bytes_behind (codes "in ") line))
 
 -- at a line as it was received, without its line feed
 abbrev pub move_of : Machine → ℕ → List ℕ → Move
@@ -66,18 +66,18 @@ pub record Play : Type 0 where
   pub lines : ℕ
   pub end : PlayEnd
 
-abbrev pub ends_at : ℕ → PlayEnd → Play
-ends_at n end = record { answers = []; lines = n; end = end }
+abbrev pub play_ended_at : ℕ → PlayEnd → Play
+play_ended_at n end = record { answers = []; lines = n; end = end }
 
 -- behind the last line the input ends, or a line has no end
 abbrev pub rest_end : ℕ → List ℕ → Play
-rest_end n [] = ends_at n AtEnd
-rest_end n (b ∷ bs) = ends_at n (AtBadLine (n + 1))
+rest_end n [] = play_ended_at n AtEnd
+rest_end n (b ∷ bs) = play_ended_at n (AtBadLine (n + 1))
 
-abbrev pub moved : ℕ → Move → (ℕ → Play) → Play
-moved n (Answer line q) on = record { answers = line ∷ (on q).answers; lines = (on q).lines; end = (on q).end }
-moved n Quit on = ends_at (n + 1) AtQuit
-moved n Refuse on = ends_at n (AtBadLine (n + 1))
+abbrev pub play_of_move : ℕ → Move → (ℕ → Play) → Play
+play_of_move n (Answer line q) on = record { answers = line ∷ (on q).answers; lines = (on q).lines; end = (on q).end }
+play_of_move n Quit on = play_ended_at (n + 1) AtQuit
+play_of_move n Refuse on = play_ended_at n (AtBadLine (n + 1))
 
 -- the most lines that a child reads
 abbrev pub greatest_lines : ℕ
@@ -85,8 +85,8 @@ greatest_lines = 2 ^ 32 - 1
 
 -- from a state, after so many lines, on further lines and what stands behind the last of them
 abbrev pub played_from : Machine → ℕ → ℕ → List (List ℕ) → List ℕ → Play
-played_from m q n [] rest = if n == greatest_lines then ends_at n AtLimit else rest_end n rest
-played_from m q n (l ∷ ls) rest = if n == greatest_lines then ends_at n AtLimit else moved n (move_of m q l) (λ r. played_from m r (n + 1) ls rest)
+played_from m q n [] rest = if n == greatest_lines then play_ended_at n AtLimit else rest_end n rest
+played_from m q n (l ∷ ls) rest = if n == greatest_lines then play_ended_at n AtLimit else play_of_move n (move_of m q l) (λ r. played_from m r (n + 1) ls rest)
 
 -- what a child that plays the machine answers to these bytes, from its initial state on, and how it ends
 abbrev pub played : Machine → List ℕ → Play

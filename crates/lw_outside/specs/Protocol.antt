@@ -21,5 +21,5 @@ abbrev pub out_line : List ℕ → List ℕ
 out_line name = codes "out " ++ name
 
 -- what stands behind these bytes, in a line that begins with them
-abbrev pub behind : List ℕ → List ℕ → Option (List ℕ)
-behind front line = if bytes_eq (take (length front) line) front then Some (drop (length front) line) else None
+abbrev pub bytes_behind : List ℕ → List ℕ → Option (List ℕ)
+bytes_behind front line = if bytes_eq (take (length front) line) front then Some (drop (length front) line) else None

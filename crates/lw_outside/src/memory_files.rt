@@ -2,7 +2,7 @@
 ghost use Rattle.std.specs.Prelude.{◌≡◌, ◌<◌, ◌≤◌, ◌∷◌, [], ◌++◌, length, map, true, false, Some, Err, IfOk, OnOk, OnErr, option_map, string_bytes, vec_capacity, vec_len};
 ghost use Rattle.lw_words.specs.Cause.{CountedFault};
 ghost use Rattle.lw_outside.specs.Files.{Holds, HoldsLong, StaysBeside, file_at, longest_file, noted, read_call, write_call, FilesRead, FilesWrite};
-ghost use Rattle.lw_outside.specs.Memory.{EndsRead, NotesCall, files_with, is_planned, read_end, told_files};
+ghost use Rattle.lw_outside.specs.Memory.{ReadEndsAs, NotesCall, files_with, is_planned, read_end, told_files};
 ghost use Rattle.lw_outside.specs.declared.files.FilesStop.{FilesStop as ReadRefusal};
 ghost use Rattle.lw_outside.specs.declared.files.WriteStop.{WriteStop as WriteRefusal};
 
@@ -162,7 +162,7 @@ impl MemoryFiles {
 
     /// What the next read of the file ends in.
     fn look(&self, name: &str) -> Result<Vec<u8>, FilesStop>
-        ensures { EndsRead (λ v. v.items) (read_end self.now name.now) result }
+        ensures { ReadEndsAs (λ v. v.items) (read_end self.now name.now) result }
     {
         if self.plan.contains(&self.made) {
             return Err(FilesStop::Failed);
@@ -187,7 +187,7 @@ impl Files for MemoryFiles {
             (told_files self.new) result }
 
         // By the plan and the files, and nothing else.
-        ensures exact { EndsRead (λ v. v.items) (read_end self.old name.now) result }
+        ensures exact { ReadEndsAs (λ v. v.items) (read_end self.old name.now) result }
         ensures noted_ok { OnOk result (NotesCall self.old (read_call name.now false) self.new) }
         ensures noted_failed { result ≡ Err ReadRefusal.Failed →
             NotesCall self.old (read_call name.now true) self.new }

@@ -3,7 +3,7 @@ ghost use Rattle.std.specs.Prelude.{◌≡◌, ◌<◌, codes, length, option_ma
 ghost use Rattle.lw_words.specs.Name.{number_of};
 ghost use Rattle.std.specs.Str.Lines.{strip_carriage_return};
 ghost use Rattle.lw_outside.specs.Played.{EndsPlay, IsMove, letter_named, move_of};
-ghost use Rattle.lw_outside.specs.Protocol.{behind};
+ghost use Rattle.lw_outside.specs.Protocol.{bytes_behind};
 
 use lw_json::Machine;
 use lw_words::Names;
@@ -48,7 +48,7 @@ fn without_return(received: &[u8]) -> &[u8]
 
 /// What stands behind the front of a line that begins with it.
 fn behind_front<'a>(front: &[u8], line: &'a [u8]) -> Option<&'a [u8]>
-    ensures { option_map (λ l. l.now) result ≡ behind front.now line.now }
+    ensures { option_map (λ l. l.now) result ≡ bytes_behind front.now line.now }
 {
     line.strip_prefix(front)
 }
@@ -66,7 +66,7 @@ fn number_of_bytes(inputs: &Names, name: &[u8]) -> Option<u16>
 
 /// The letter of a line that names one.
 fn letter_of(inputs: &Names, line: &[u8]) -> Option<u16>
-    ensures { result ≡ letter_named inputs.now (behind (codes "in ") line.now) }
+    ensures { result ≡ letter_named inputs.now (bytes_behind (codes "in ") line.now) }
 {
     let name = behind_front(b"in ", line)?;
     number_of_bytes(inputs, name)

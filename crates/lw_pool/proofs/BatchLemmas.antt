@@ -25,7 +25,7 @@ use Rattle.lw_cache.specs.declared.stops.AskStop.{AskStop}
 use Rattle.lw_turn.specs.declared.shared.Entry.{Entry}
 use Rattle.lw_turn.specs.History.{entries_of}
 use Rattle.lw_names.specs.Naming.{Naming, own_by, own_names, HasLists}
-use Rattle.lw_desk.specs.Step.{DeskState, word_at}
+use Rattle.lw_desk.specs.Step.{DeskState, word_at_place}
 use Rattle.lw_desk.specs.History.{DeskOpening, opened, Seat, seat_in, seat_after, seat_from, seat_of, actor_of, Replays, names_given}
 use Rattle.lw_desk.specs.Ending.{NamedRun, kept_runs, AreClear}
 use Rattle.lw_desk.specs.bodies.Outcome.{given_runs, gives_of, Brought, Settled, FailedBy, StopIs, FreshFrom}
@@ -43,7 +43,7 @@ use Rattle.lw_pool.specs.Pool.{Seen, WentOn, nobody, seen_at, journal_runs, Stan
 use Rattle.lw_pool.specs.bodies.Working.{HasRefused, GivesBetween}
 use Rattle.lw_pool.specs.bodies.Engaged.{NobodyFailed}
 use Rattle.lw_pool.specs.bodies.Crew.{HasWorkedOff}
-use Rattle.lw_pool.specs.Standing.{IsMember, IsPool}
+use Rattle.lw_pool.specs.Standing.{IsPoolMember, IsPool}
 use Rattle.lw_pool.proofs.GiveLemmas.{gives_same, gives_stopped, gives_few, gives_live, refused_few, each_given}
 use Rattle.lw_pool.proofs.JournalLemmas.{grown_not, grown_both, runs_both, runs_grown, kept_grown, kept_both, runs_given, gives_journal, gives_grown, gives_below, gives_runs}
 use Rattle.lw_pool.proofs.WorkLemmas.{gives_names, first_live}
@@ -131,7 +131,7 @@ module _ (o : DeskOpening) (es : List (Entry Ask Reply)) (start now : List Seen)
     pub b : Brought o es t
     b = brought o es t r lists is.shared
 
-    member : (i : ℕ) → i < length start → IsMember o.naming inputs outputs i (seen_at start i)
+    member : (i : ℕ) → i < length start → IsPoolMember o.naming inputs outputs i (seen_at start i)
     member i lt = is.members i lt
 
     -- the names of a session that answered anything are those that the desk has of it
@@ -292,7 +292,7 @@ module _ (o : DeskOpening) (es : List (Entry Ask Reply)) (start now : List Seen)
             append_nothing xs [] same = refl
             append_nothing xs (y ∷ ys) same = absurd (omega (arith, ap (λ (l : List (List ℕ)). length l) same, length-append xs (y ∷ ys)))
 
-    member_end : (i : ℕ) → i < length now → IsMember t.naming inputs outputs i (seen_at now i)
+    member_end : (i : ℕ) → i < length now → IsPoolMember t.naming inputs outputs i (seen_at now i)
     member_end i within =
         let lt : i < length start = omega (arith, within, long) in
         record {
@@ -442,12 +442,12 @@ module _ (o : DeskOpening) (es : List (Entry Ask Reply)) (start now : List Seen)
         ∙ ap (λ (o : Origin). o.machine) (get_or-map (λ (s : Seen). s.origin) start i (nobody) (nobody.origin) lt)
 
     -- a new answer is one that its instance's session gave
-    gave : (k : KeptAnswer) → In k b.gained → (i : ℕ) → k.instance ≡ i → (g : Give) × In g (gives_of (entries_of i es)) × (word_at o.batch g.place ≡ k.word) × (named (own_names t.naming i) g.outs ≡ named t.naming.names k.outs)
+    gave : (k : KeptAnswer) → In k b.gained → (i : ℕ) → k.instance ≡ i → (g : Give) × In g (gives_of (entries_of i es)) × (word_at_place o.batch g.place ≡ k.word) × (named (own_names t.naming i) g.outs ≡ named t.naming.names k.outs)
     gave k j i own =
         let here : In k (filter (λ (x : KeptAnswer). x.instance == i) b.gained) = in_filter_of (λ (x : KeptAnswer). x.instance == i) k b.gained j (is_same k.instance i own) in
         let run : In (run_told k) (kept_runs t.naming.names i b.gained) = in_map (λ (x : KeptAnswer). run_told x) k (filter (λ (x : KeptAnswer). x.instance == i) b.gained) here in
         let given : In (run_told k) (given_runs o.batch (own_names t.naming i) (gives_of (entries_of i es))) = subst (In (run_told k)) (b.runs i) run in
-        let g = in_mapped (λ (x : Give). let n : NamedRun = record { run = x.run; word = word_at o.batch x.place; names = named (own_names t.naming i) x.outs } in n) (run_told k) (gives_of (entries_of i es)) given in
+        let g = in_mapped (λ (x : Give). let n : NamedRun = record { run = x.run; word = word_at_place o.batch x.place; names = named (own_names t.naming i) x.outs } in n) (run_told k) (gives_of (entries_of i es)) given in
         (g.0, g.1, ap (λ (n : NamedRun). n.word) g.2, ap (λ (n : NamedRun). n.names) g.2)
       where
         run_told : KeptAnswer → NamedRun
@@ -471,7 +471,7 @@ module _ (o : DeskOpening) (es : List (Entry Ask Reply)) (start now : List Seen)
             declared None f fits =
                 let g = gave k j i own in
                 let own_is : own_names t.naming i ≡ t.naming.names = ap (λ (z : Option (List (List (List ℕ)))). own_by t.naming.names z i) f in
-                let facts : Answers (seen_at start i).origin.machine (word_at o.batch (g.0).place) (g.0).outs × All (λ y. y < length (worked i lt).working.mid.names) (g.0).outs = each_given o.batch (seen_at start i) (worked i lt).working.mid (gives_of (entries_of i es)) g.0 (end_gives i lt) g.1 in
+                let facts : Answers (seen_at start i).origin.machine (word_at_place o.batch (g.0).place) (g.0).outs × All (λ y. y < length (worked i lt).working.mid.names) (g.0).outs = each_given o.batch (seen_at start i) (worked i lt).working.mid (gives_of (entries_of i es)) g.0 (end_gives i lt) g.1 in
                 let mid_is : (worked i lt).working.mid.names ≡ t.naming.names =
                 ⊎_elim
                 (λ (none : gives_of (entries_of i es) ≡ []). absurd (subst (In g.0) none g.1))
@@ -479,7 +479,7 @@ module _ (o : DeskOpening) (es : List (Entry Ask Reply)) (start now : List Seen)
                 (mid_own i lt) in
                 let kept_outs : All (λ y. y < length t.naming.names) k.outs = (let c = in_contains k b.gained j in subst (λ (x : KeptAnswer). All (λ y. y < length t.naming.names) x.outs) c.2 (b.below c.0 k c.1)) in
                 let outs : (g.0).outs ≡ k.outs = named_once t.naming.names (g.0).outs k.outs differ (subst (λ (l : List (List ℕ)). All (λ y. y < length l) (g.0).outs) mid_is facts.1) kept_outs (ap (λ (l : List (List ℕ)). named l (g.0).outs) (sym own_is) ∙ g.3) in
-                let given : answer m (word_at o.batch (g.0).place) ≡ (g.0).outs = subst (λ (z : Option Rows). Answers z (word_at o.batch (g.0).place) (g.0).outs) e facts.0 in
+                let given : answer m (word_at_place o.batch (g.0).place) ≡ (g.0).outs = subst (λ (z : Option Rows). Answers z (word_at_place o.batch (g.0).place) (g.0).outs) e facts.0 in
                 ap (answer m) (sym g.2) ∙ (given ∙ outs)
 
     -- the pool after a batch

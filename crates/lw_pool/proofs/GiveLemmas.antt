@@ -7,7 +7,7 @@ use Rattle.lw_words.specs.declared.stop.SulStop.{SulStop}
 use Rattle.lw_words.specs.declared.stop.RunStop.{RunStop}
 use Rattle.lw_sul.specs.Told.{Answers}
 use Rattle.lw_mealy.specs.Origin.{Origin}
-use Rattle.lw_desk.specs.Step.{word_at}
+use Rattle.lw_desk.specs.Step.{word_at_place}
 use Rattle.std.proofs.lemmas.List.Elements.{All-weaker}
 use Rattle.lw_desk.specs.History.{failed_places}
 use Rattle.lw_desk.specs.declared.ask.Ask.{Ask}
@@ -111,17 +111,17 @@ names_longer batch was now [] same = omega (arith, ap (λ (s : Seen). length s.n
 names_longer batch was now (g ∷ gs) gives = omega (arith, names_longer batch gives.0 now gs gives.2, ap (λ (l : List (List ℕ)). length l) gives.1.names, length-append was.names g.names)
 
 -- what holds of each answer that was given
-pub each_given : (batch : List (List ℕ)) (was now : Seen) (gs : List Give) (g : Give) → GivesBetween batch was now gs → In g gs → Answers was.origin.machine (word_at batch g.place) g.outs × All (λ y. y < length now.names) g.outs
+pub each_given : (batch : List (List ℕ)) (was now : Seen) (gs : List Give) (g : Give) → GivesBetween batch was now gs → In g gs → Answers was.origin.machine (word_at_place batch g.place) g.outs × All (λ y. y < length now.names) g.outs
 each_given batch was now [] g same i = absurd i
 each_given batch was now (h ∷ gs) g gives i =
     ⊎_elim
     (λ (same : g ≡ h).
-    let first : Answers was.origin.machine (word_at batch h.place) h.outs × All (λ y. y < length now.names) h.outs =
+    let first : Answers was.origin.machine (word_at_place batch h.place) h.outs × All (λ y. y < length now.names) h.outs =
     (gives.1.answers, All-weaker (λ y. y < length gives.0.names) (λ y. y < length now.names) (λ y lt. omega (arith, lt, names_longer batch gives.0 now gs gives.2)) h.outs gives.1.numbers) in
-    subst (λ (x : Give). Answers was.origin.machine (word_at batch x.place) x.outs × All (λ y. y < length now.names) x.outs) (sym same) first)
+    subst (λ (x : Give). Answers was.origin.machine (word_at_place batch x.place) x.outs × All (λ y. y < length now.names) x.outs) (sym same) first)
     (λ (j : In g gs).
     let rest = each_given batch gives.0 now gs g gives.2 j in
-    (subst (λ (o : Origin). Answers o.machine (word_at batch g.place) g.outs) gives.1.same.origin rest.0, rest.1))
+    (subst (λ (o : Origin). Answers o.machine (word_at_place batch g.place) g.outs) gives.1.same.origin rest.0, rest.1))
     i
 
 -- the names of a system that may have no more than it had are as they were

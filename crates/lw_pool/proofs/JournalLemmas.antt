@@ -8,7 +8,7 @@ use Rattle.lw_names.specs.Names.{named, IsGrown}
 use Rattle.lw_sul.specs.SessionState.{run_of}
 use Rattle.lw_sul.specs.declared.runs.Run.{Run}
 use Rattle.lw_names.proofs.NameLemmas.{named-grown}
-use Rattle.lw_desk.specs.Step.{word_at}
+use Rattle.lw_desk.specs.Step.{word_at_place}
 use Rattle.lw_desk.specs.Ending.{NamedRun, kept_runs}
 use Rattle.lw_desk.specs.bodies.Outcome.{given_runs}
 use Rattle.lw_desk.specs.declared.ask.Give.{Give}
@@ -57,13 +57,13 @@ kept_both names i kept more =
 
 -- the runs that were given
 abbrev pub runs_given : List (List ℕ) → List Give → List Run
-runs_given batch gs = map (λ g. run_of (word_at batch g.place) g.outs) gs
+runs_given batch gs = map (λ g. run_of (word_at_place batch g.place) g.outs) gs
 
 pub gives_journal : (batch : List (List ℕ)) (was now : Seen) (gs : List Give) → GivesBetween batch was now gs → now.journal ≡ was.journal ++ runs_given batch gs
 gives_journal batch was now [] same = ap (λ (s : Seen). s.journal) same ∙ sym (append-nil was.journal)
 gives_journal batch was now (g ∷ gs) gives =
     gives_journal batch gives.0 now gs gives.2
-    ∙ (ap (λ (l : List Run). l ++ runs_given batch gs) gives.1.journal ∙ append_assoc was.journal (run_of (word_at batch g.place) g.outs ∷ []) (runs_given batch gs))
+    ∙ (ap (λ (l : List Run). l ++ runs_given batch gs) gives.1.journal ∙ append_assoc was.journal (run_of (word_at_place batch g.place) g.outs ∷ []) (runs_given batch gs))
 
 pub gives_grown : (batch : List (List ℕ)) (was now : Seen) (gs : List Give) → GivesBetween batch was now gs → IsGrown was.names now.names
 gives_grown batch was now [] same = subst (λ (s : Seen). IsGrown was.names s.names) (sym same) (grown_not was.names)
@@ -72,7 +72,7 @@ gives_grown batch was now (g ∷ gs) gives = grown_both was.names gives.0.names 
 pub gives_below : (batch : List (List ℕ)) (was now : Seen) (gs : List Give) → GivesBetween batch was now gs → All (λ r. All (λ y. y < length now.names) r.outs) (runs_given batch gs)
 gives_below batch was now [] same = λ k d lt. absurd (omega arith)
 gives_below batch was now (g ∷ gs) gives =
-    Rattle.std.proofs.lemmas.List.Elements.All-cons (λ (r : Run). All (λ y. y < length now.names) r.outs) (run_of (word_at batch g.place) g.outs) (runs_given batch gs)
+    Rattle.std.proofs.lemmas.List.Elements.All-cons (λ (r : Run). All (λ y. y < length now.names) r.outs) (run_of (word_at_place batch g.place) g.outs) (runs_given batch gs)
     (Rattle.std.proofs.lemmas.List.Elements.All-weaker (λ y. y < length gives.0.names) (λ y. y < length now.names) (λ y lt. omega (arith, lt, longer gives.0.names now.names (gives_grown batch gives.0 now gs gives.2))) g.outs gives.1.numbers)
     (gives_below batch gives.0 now gs gives.2)
   where
@@ -87,8 +87,8 @@ gives_runs batch was now (x ∷ gs) own names gives g h =
     let same : named own x.outs ≡ named names x.outs =
     same_named gives.0.names own x.outs (grown_both gives.0.names now.names own grown g) gives.1.numbers
     ∙ sym (same_named gives.0.names names x.outs (grown_both gives.0.names now.names names grown h) gives.1.numbers) in
-    let count : length gives.0.journal ≡ length was.journal + 1 = ap (λ (l : List Run). length l) gives.1.journal ∙ length-append was.journal (run_of (word_at batch x.place) x.outs ∷ []) in
-    ap (λ (n : ℕ). record { run = n; word = word_at batch x.place; names = named own x.outs } ∷ given_runs batch own gs) gives.1.run
-    ∙ (ap (λ (ns : List (List ℕ)). record { run = length was.journal; word = word_at batch x.place; names = ns } ∷ given_runs batch own gs) same
-    ∙ ap (λ (l : List NamedRun). record { run = length was.journal; word = word_at batch x.place; names = named names x.outs } ∷ l)
+    let count : length gives.0.journal ≡ length was.journal + 1 = ap (λ (l : List Run). length l) gives.1.journal ∙ length-append was.journal (run_of (word_at_place batch x.place) x.outs ∷ []) in
+    ap (λ (n : ℕ). record { run = n; word = word_at_place batch x.place; names = named own x.outs } ∷ given_runs batch own gs) gives.1.run
+    ∙ (ap (λ (ns : List (List ℕ)). record { run = length was.journal; word = word_at_place batch x.place; names = ns } ∷ given_runs batch own gs) same
+    ∙ ap (λ (l : List NamedRun). record { run = length was.journal; word = word_at_place batch x.place; names = named names x.outs } ∷ l)
     (gives_runs batch gives.0 now gs own names gives.2 g h ∙ ap (λ (n : ℕ). journal_runs names n (runs_given batch gs)) count))

@@ -36,7 +36,7 @@ use Rattle.lw_pool.specs.declared.hands.Hand.{Hand}
 use Rattle.lw_pool.specs.declared.parts.Parts.{Parts}
 use Rattle.lw_pool.specs.bodies.Crew.{HasWorkedOff, AllWorkedOff}
 use Rattle.lw_pool.specs.bodies.Running.{opening_of, AreWhole, NotBegun, WasRun, AfterBatch}
-use Rattle.lw_pool.specs.Standing.{IsMember, IsPool}
+use Rattle.lw_pool.specs.Standing.{IsPoolMember, IsPool}
 use Rattle.lw_pool.specs.bodies.Engaged.{IsReady}
 use Rattle.lw_pool.specs.Fitting.{FitsBy}
 use Rattle.lw_pool.proofs.BatchLemmas.{b, end_idle, pool_end, settled_end, origins_end, new_end, first_end, names_end, kinds, declared_end, went_on_end}
@@ -270,19 +270,19 @@ module _ {S : Type 0} (batch : List (List ℕ)) where
 
 -- the sessions of a pool may work for it
 module _ {S : Type 0} (hands : List (Hand S)) (naming : Naming) (prior kept : List KeptAnswer) (stop : Option AskStop) (refused : Bool) (inputs outputs : ℕ) (is : IsPool (seen_in hands) naming prior kept stop refused inputs outputs) where
-  member_here : (i : ℕ) (d : Hand S) → i < length hands → IsMember naming inputs outputs i (slice_index_or hands i d).worker.seen
-  member_here i d lt = subst (IsMember naming inputs outputs i) (seen_here hands i d lt) (is.members i (omega (arith, lt, seen_long hands)))
+  member_here : (i : ℕ) (d : Hand S) → i < length hands → IsPoolMember naming inputs outputs i (slice_index_or hands i d).worker.seen
+  member_here i d lt = subst (IsPoolMember naming inputs outputs i) (seen_here hands i d lt) (is.members i (omega (arith, lt, seen_long hands)))
 
   pub all_ready : (i : ℕ) (d : Hand S) → i < length hands → IsReady (is_some naming.brought) (own_names naming i) (slice_index_or hands i d).worker.seen
   all_ready i d lt =
-      let m : IsMember naming inputs outputs i (slice_index_or hands i d).worker.seen = member_here i d lt in
+      let m : IsPoolMember naming inputs outputs i (slice_index_or hands i d).worker.seen = member_here i d lt in
       record { names = m.live; declared = declared m naming.brought refl m.fits; few = few m naming.brought refl m.fits }
     where
-      declared : IsMember naming inputs outputs i (slice_index_or hands i d).worker.seen → (b : Option (List (List (List ℕ)))) → naming.brought ≡ b → FitsBy b naming.names (slice_index_or hands i d).worker.seen.names (slice_index_or hands i d).worker.seen.most (slice_index_or hands i d).worker.seen.outputs (slice_index_or hands i d).worker.seen.origin.machine → is_some naming.brought ≡ false → (slice_index_or hands i d).worker.seen.most ≤ length (slice_index_or hands i d).worker.seen.names
+      declared : IsPoolMember naming inputs outputs i (slice_index_or hands i d).worker.seen → (b : Option (List (List (List ℕ)))) → naming.brought ≡ b → FitsBy b naming.names (slice_index_or hands i d).worker.seen.names (slice_index_or hands i d).worker.seen.most (slice_index_or hands i d).worker.seen.outputs (slice_index_or hands i d).worker.seen.origin.machine → is_some naming.brought ≡ false → (slice_index_or hands i d).worker.seen.most ≤ length (slice_index_or hands i d).worker.seen.names
       declared m None e fits kind = omega (arith, fits.1, ap (λ (l : List (List ℕ)). length l) fits.0)
       declared m (Some x) e fits kind = absurd (false≢true (sym kind ∙ ap is_some e))
 
-      few : IsMember naming inputs outputs i (slice_index_or hands i d).worker.seen → (b : Option (List (List (List ℕ)))) → naming.brought ≡ b → FitsBy b naming.names (slice_index_or hands i d).worker.seen.names (slice_index_or hands i d).worker.seen.most (slice_index_or hands i d).worker.seen.outputs (slice_index_or hands i d).worker.seen.origin.machine → is_some naming.brought ≡ true → (slice_index_or hands i d).worker.seen.most ≤ 256
+      few : IsPoolMember naming inputs outputs i (slice_index_or hands i d).worker.seen → (b : Option (List (List (List ℕ)))) → naming.brought ≡ b → FitsBy b naming.names (slice_index_or hands i d).worker.seen.names (slice_index_or hands i d).worker.seen.most (slice_index_or hands i d).worker.seen.outputs (slice_index_or hands i d).worker.seen.origin.machine → is_some naming.brought ≡ true → (slice_index_or hands i d).worker.seen.most ≤ 256
       few m None e fits kind = absurd (false≢true (sym (ap is_some e) ∙ kind))
       few m (Some x) e fits kind = fits.1
 

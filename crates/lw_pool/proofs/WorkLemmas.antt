@@ -10,7 +10,7 @@ use Rattle.lw_turn.specs.declared.shared.Entry.{Entry}
 use Rattle.lw_turn.specs.declared.view.View.{View}
 use Rattle.lw_turn.specs.Views.{IsTurned}
 use Rattle.lw_names.specs.Naming.{own_names}
-use Rattle.lw_desk.specs.Step.{DeskState, TakesAll, after_fail}
+use Rattle.lw_desk.specs.Step.{DeskState, ActorTakesAll, after_fail}
 use Rattle.lw_desk.specs.History.{DeskOpening, opened, Seat, MayGiveAll, May, seat_after, seat_from, seat_of, actor_of, Makes, Replays, Legal, names_given, failed_places}
 use Rattle.lw_desk.specs.bodies.Outcome.{gives_of}
 use Rattle.lw_desk.specs.declared.ask.Ask.{Ask}
@@ -54,7 +54,7 @@ taken_more : (es : List (Entry Ask Reply)) (e : Entry Ask Reply) (p : ℕ) → I
 taken_more [] e p i = in_left p e.reply.places [] i
 taken_more (f ∷ es) e p i = in_right p f.reply.places (taken (es ++ e ∷ [])) (taken_more es e p i)
 
-takes_wanted : (batch : List (List ℕ)) (actor wanted : ℕ) (places : List ℕ) (s t : DeskState) → TakesAll batch actor wanted places s t → 0 < length places → 0 < wanted
+takes_wanted : (batch : List (List ℕ)) (actor wanted : ℕ) (places : List ℕ) (s t : DeskState) → ActorTakesAll batch actor wanted places s t → 0 < length places → 0 < wanted
 takes_wanted batch actor wanted [] s t takes some = absurd (omega arith)
 takes_wanted batch actor wanted (p ∷ ps) s t takes some = takes.0
 

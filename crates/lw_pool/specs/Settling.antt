@@ -14,7 +14,7 @@ use Rattle.lw_cache.specs.declared.stops.AskStop.TheVariants as Ask
 use Rattle.lw_names.specs.Names.{IsGrown}
 use Rattle.lw_desk.specs.Ending.{AreClear}
 use Rattle.lw_pool.specs.Pool.{PoolState, WentOn, seen_at, seen_of, origins_of}
-use Rattle.lw_pool.specs.Standing.{Stands}
+use Rattle.lw_pool.specs.Standing.{PoolStands}
 
 -- the kept answers gain some at their end, to words that had to be asked, each at most once
 pub record GainsSome (batch : List (List ℕ)) (before now : List KeptAnswer) : Type 0 where
@@ -33,7 +33,7 @@ pub record HasSettled {S : Type 0} (batch : List (List ℕ)) (before now : PoolS
   pub gains : GainsSome batch before.kept now.kept
   pub instances : All (λ k. k.instance < length (seen_of before)) gains.gained
   -- between its calls a pool is one
-  pub stands : Stands now
+  pub stands : PoolStands now
   -- the refusal is told; after a system's stop or a clash nothing more is asked; and a clash that comes is that of the first
   -- answer of this batch that is not clear
   pub stop : TellsStop result now.stop

@@ -11,7 +11,7 @@ use Rattle.lw_pool.specs.Fitting.{Fits}
 use Rattle.lw_pool.specs.Pool.{Seen, PoolState, seen_at, seen_of, ArePrior, StandsFor, AskedOnce, IsStopOf, origins_of}
 
 -- a session's outputs have the names that the pool has of it, if it is live, and else those and perhaps more
-pub record IsMember (naming : Naming) (inputs outputs number : ℕ) (s : Seen) : Type 0 where
+pub record IsPoolMember (naming : Naming) (inputs outputs number : ℕ) (s : Seen) : Type 0 where
   pub instance : s.instance ≡ number
   pub inputs_is : s.inputs ≡ inputs
   pub outputs_is : s.outputs ≡ outputs
@@ -25,7 +25,7 @@ pub record IsMember (naming : Naming) (inputs outputs number : ℕ) (s : Seen) :
 pub record IsPool (seen : List Seen) (naming : Naming) (prior kept : List KeptAnswer) (stop : Option AskStop) (refused : Bool) (inputs outputs : ℕ) : Type 0 where
   pub some : 0 < length seen
   pub few : length seen ≤ 16
-  pub members : (i : ℕ) → i < length seen → IsMember naming inputs outputs i (seen_at seen i)
+  pub members : (i : ℕ) → i < length seen → IsPoolMember naming inputs outputs i (seen_at seen i)
   pub lists : HasLists naming.brought (length seen)
   pub shared : IsShared naming
   pub come_up : FreeComeUp kept naming
@@ -37,5 +37,5 @@ pub record IsPool (seen : List Seen) (naming : Naming) (prior kept : List KeptAn
   pub why : IsStopOf seen kept stop
   pub unrefused : refused ≡ false → (stop ≡ None) × ((i : ℕ) → i < length seen → (seen_at seen i).stop ≡ None)
 
-abbrev pub Stands : {S : Type 0} → PoolState S → Type 0
-Stands p = IsPool (seen_of p) p.naming p.prior p.kept p.stop p.refused p.inputs p.outputs
+abbrev pub PoolStands : {S : Type 0} → PoolState S → Type 0
+PoolStands p = IsPool (seen_of p) p.naming p.prior p.kept p.stop p.refused p.inputs p.outputs

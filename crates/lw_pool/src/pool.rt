@@ -11,7 +11,7 @@ ghost use Rattle.lw_desk.specs.Step.{DeskState};
 ghost use Rattle.lw_pool.specs.Opening.{MayBegin, AllMayJoin, member_of};
 ghost use Rattle.lw_pool.specs.Pool.{seen_of, origins_of};
 ghost use Rattle.lw_pool.specs.Settling.{HasSettled};
-ghost use Rattle.lw_pool.specs.Standing.{Stands};
+ghost use Rattle.lw_pool.specs.Standing.{PoolStands};
 ghost use Rattle.lw_desk.specs.Ending.{IsShared, FreeComeUp};
 ghost use Rattle.lw_pool.specs.bodies.Crew.{AllReady, AllRead};
 ghost use Rattle.lw_pool.specs.bodies.Running.{AfterBatch, AreWhole, opening_of};
@@ -210,7 +210,7 @@ impl<S: Sul + Drop, R: Drop> Pool<S, R> {
             (p.kept ≡ cache.kept) × (p.stop ≡ None) × (p.refused ≡ false)) }
         ensures numbers { IfOk result (λ p.
             (p.inputs ≡ inputs) × (p.outputs ≡ outputs)) }
-        ensures stands { IfOk result Stands }
+        ensures stands { IfOk result PoolStands }
         ensures back { IfErr result (λ e. (e.0 ≡ sessions) × (e.1 ≡ names) × (e.2 ≡ cache)) }
     {
         let prior = Snapshot::of(&cache);
@@ -270,7 +270,7 @@ impl<S: Sul, R> Pool<S, R> {
         ensures keeps { KeepsAnswers self.now.inputs self.now.outputs
             (origins_of (seen_of self.now))
             self.now.kept }
-        ensures stands { Stands self.now }
+        ensures stands { PoolStands self.now }
     {
         let Some(parts) = &self.parts else {
             unreachable!()
@@ -281,7 +281,7 @@ impl<S: Sul, R> Pool<S, R> {
     /// The names of the kept answers' outputs.
     pub fn names(&self) -> &OutNames
         ensures names { result.now ≡ self.now.naming }
-        ensures stands { Stands self.now }
+        ensures stands { PoolStands self.now }
     {
         let Some(parts) = &self.parts else {
             unreachable!()
@@ -313,7 +313,7 @@ impl<S: Sul, R> Pool<S, R> {
         requires { instance < length self.now.members }
         ensures member { (d : _) → member_of S.state result.now ≡ slice_index_or self.now.members
             instance d }
-        ensures stands { Stands self.now }
+        ensures stands { PoolStands self.now }
     {
         &self.hands[instance].worker.session
     }
@@ -325,7 +325,7 @@ impl<S: Sul + Drop, R: Drop> Pool<S, R> {
         ensures sessions { map (member_of S.state) result.0.items ≡ self.members }
         ensures names { result.1 ≡ self.naming }
         ensures cache { (result.2.kept ≡ self.kept) × (result.2.claims ≡ []) }
-        ensures stands { Stands self }
+        ensures stands { PoolStands self }
     {
         let Pool {
             hands,

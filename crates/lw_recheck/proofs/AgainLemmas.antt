@@ -14,7 +14,7 @@ use Rattle.lw_sul.specs.SessionState.{run_of}
 use Rattle.lw_sul.specs.Told.{Answers}
 use Rattle.lw_sul.specs.declared.runs.Run.{Run}
 use Rattle.lw_names.proofs.NameLemmas.{named-grown}
-use Rattle.lw_recheck.specs.Again.{AreAgain, SaidRun, said, said_answers, said_runs, DiffersAt}
+use Rattle.lw_recheck.specs.Again.{AreAgain, SaidRun, run_in_names, said_answers, said_runs, NamesDifferAt}
 use Rattle.lw_recheck.specs.bodies.Step.{FindsOther, GainsAgain, GainsOne, HasFound, HasGone}
 use Rattle.lw_recheck.specs.declared.asking.Other.{Other}
 
@@ -38,7 +38,7 @@ below_grown names more runs below i d lt j e lt' = let small = below i d lt j e 
 -- there are as many runs as answers
 count_runs : (outputs names : List (List ℕ)) (answers : List KeptAnswer) (runs : List Run) → said_runs names runs ≡ said_answers outputs answers → length runs ≡ length answers
 count_runs outputs names answers runs same =
-    sym (length-map runs (λ (r : Run). said names r.word r.outs)) ∙ (ap (λ (l : List SaidRun). length l) same ∙ length-map answers (λ (k : KeptAnswer). said outputs k.word k.outs))
+    sym (length-map runs (λ (r : Run). run_in_names names r.word r.outs)) ∙ (ap (λ (l : List SaidRun). length l) same ∙ length-map answers (λ (k : KeptAnswer). run_in_names outputs k.word k.outs))
 
 module _ (machine : Option Rows) (outputs : List (List ℕ)) (answers : List KeptAnswer) (names names_now : List (List ℕ)) (runs runs_now : List Run) (are : AreAgain machine outputs answers names runs) where
   -- the same runs under more names
@@ -54,9 +54,9 @@ module _ (machine : Option Rows) (outputs : List (List ℕ)) (answers : List Kep
       let r = run_of k.word again.outs in
       let was = are_grown gains.grown in
       let step : said_runs names_now (runs ++ r ∷ []) ≡ said_answers outputs (answers ++ k ∷ []) =
-      map-append (λ (q : Run). said names_now q.word q.outs) runs (r ∷ [])
+      map-append (λ (q : Run). run_in_names names_now q.word q.outs) runs (r ∷ [])
       ∙ (ap₂ (λ (l : List SaidRun) (o : List (List ℕ)). let one : SaidRun = record { word = k.word; outs = o } in l ++ one ∷ []) was.same again.same
-      ∙ sym (map-append (λ (q : KeptAnswer). said outputs q.word q.outs) answers (k ∷ []))) in
+      ∙ sym (map-append (λ (q : KeptAnswer). run_in_names outputs q.word q.outs) answers (k ∷ []))) in
       subst (λ (l : List Run). AreAgain machine outputs (answers ++ k ∷ []) names_now l) (sym gains.journal)
       (record {
         same = step;
@@ -104,7 +104,7 @@ module _ (machine : Option Rows) (outputs : List (List ℕ)) (answers : List Kep
         even = g.even ∙ ap (λ (a : Answer). length a.word) same;
         below = g.below;
         given = subst (λ (a : Answer). Answers machine a.word other.outs) same g.given;
-        differs = subst (λ (a : Answer). DiffersAt (named outputs a.outs) (named names_now other.outs) other.place) same gains.1.differs;
+        differs = subst (λ (a : Answer). NamesDifferAt (named outputs a.outs) (named names_now other.outs) other.place) same gains.1.differs;
       }
 
   -- by whether it came out otherwise

@@ -9,7 +9,7 @@ use Rattle.std.proofs.lemmas.List.Elements.{All-head, All-tail}
 use Rattle.lw_words.specs.Name.{AllDiffer, number_of}
 use Rattle.lw_names.specs.Names.{IsGrown, name_at, named}
 use Rattle.lw_names.proofs.NameLemmas.{number_of-name_at}
-use Rattle.lw_recheck.specs.Again.{DiffersAt}
+use Rattle.lw_recheck.specs.Again.{NamesDifferAt}
 
 -- the name of the output at a place
 named_at : (names : List (List ℕ)) (outs : List ℕ) (i : ℕ) → i < length outs → get_or (named names outs) i [] ≡ name_at names (get_or outs i 0)
@@ -37,7 +37,7 @@ module _ (outputs own : List (List ℕ)) (known given : List ℕ) (even : length
       take_more (named own given) i [] lt_given
       ∙ (ap₂ (λ (l : List (List ℕ)) (n : List ℕ). l ++ n ∷ []) so_far here ∙ sym (take_more (named outputs known) i [] lt_known))
 
-  pub differs_here : (a b : ℕ) → i < length known → a ≡ get_or known i 0 → b ≡ get_or given i 0 → ¬ (name_at outputs a ≡ name_at own b) → DiffersAt (named outputs known) (named own given) i
+  pub differs_here : (a b : ℕ) → i < length known → a ≡ get_or known i 0 → b ≡ get_or given i 0 → ¬ (name_at outputs a ≡ name_at own b) → NamesDifferAt (named outputs known) (named own given) i
   differs_here a b lt is is' other = record {
     within = omega (arith, lt, named_length outputs known);
     other = omega (arith, lt, even, named_length own given);
@@ -77,10 +77,10 @@ named_more names own word outs i n y lt is so_far here =
     ∙ (sym (map-append (name_at own) (take i outs) (get_or outs i 0 ∷ [])) ∙ ap (λ (l : List ℕ). named own l) (sym (take_more outs i 0 lt))))
 
 -- the same of lists that are equal
-pub differs_as : (outputs own own' : List (List ℕ)) (known known' given given' : List ℕ) (place : ℕ) → own ≡ own' → known ≡ known' → given ≡ given' → DiffersAt (named outputs known) (named own given) place → DiffersAt (named outputs known') (named own' given') place
+pub differs_as : (outputs own own' : List (List ℕ)) (known known' given given' : List ℕ) (place : ℕ) → own ≡ own' → known ≡ known' → given ≡ given' → NamesDifferAt (named outputs known) (named own given) place → NamesDifferAt (named outputs known') (named own' given') place
 differs_as outputs own own' known known' given given' place is known_is given_is differs =
-    subst (λ (n : List (List ℕ)). DiffersAt (named outputs known') (named n given') place) is
-    (subst₂ (λ (k g : List ℕ). DiffersAt (named outputs k) (named own g) place) known_is given_is differs)
+    subst (λ (n : List (List ℕ)). NamesDifferAt (named outputs known') (named n given') place) is
+    (subst₂ (λ (k g : List ℕ). NamesDifferAt (named outputs k) (named own g) place) known_is given_is differs)
 
 pub same_as : (outputs own own' : List (List ℕ)) (known known' given given' : List ℕ) → own ≡ own' → known ≡ known' → given ≡ given' → named own given ≡ named outputs known → named own' given' ≡ named outputs known'
 same_as outputs own own' known known' given given' is known_is given_is same =

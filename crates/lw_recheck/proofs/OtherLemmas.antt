@@ -17,7 +17,7 @@ use Rattle.lw_names.specs.Names.{IsGrown, name_at, named}
 use Rattle.lw_sul.specs.SessionState.{run_of}
 use Rattle.lw_sul.specs.declared.runs.Run.{Run}
 use Rattle.lw_names.proofs.NameLemmas.{named-grown}
-use Rattle.lw_recheck.specs.Again.{AreAgain, ComesOtherwise, HasRechecked, StopsAgain, DiffersAt, IsOtherwise}
+use Rattle.lw_recheck.specs.Again.{AreAgain, ComesOtherwise, HasRechecked, StopsAgain, NamesDifferAt, IsOtherwise}
 use Rattle.lw_recheck.specs.bodies.Step.{FindsOther, HasGone, KeepsOther}
 use Rattle.lw_recheck.specs.declared.asking.Other.{Other}
 use Rattle.lw_recheck.proofs.AgainLemmas.{blank}
@@ -42,7 +42,7 @@ is_over a b answers n lt over =
     subst (λ (k : Answer). IsOver b k) (sym (get_or-map answer_of answers n blank (record { word = []; outs = [] }) lt)) (record { below = one.outs; even = one.even })
 
 -- outputs whose names differ at a place differ there, where the names of both are in one list
-module _ (outputs own shown : List (List ℕ)) (names : IsNames shown) (grown : IsGrown outputs shown) (known given outs : List ℕ) (below : All (λ y. y < length outputs) known) (within : All (λ y. y < length shown) outs) (shown_is : named shown outs ≡ named own given) (place : ℕ) (differs : DiffersAt (named outputs known) (named own given) place) where
+module _ (outputs own shown : List (List ℕ)) (names : IsNames shown) (grown : IsGrown outputs shown) (known given outs : List ℕ) (below : All (λ y. y < length outputs) known) (within : All (λ y. y < length shown) outs) (shown_is : named shown outs ≡ named own given) (place : ℕ) (differs : NamesDifferAt (named outputs known) (named own given) place) where
   known_is : named shown known ≡ named outputs known
   known_is = ap (λ (n : List (List ℕ)). named n known) grown.1 ∙ named-grown outputs grown.0 known below
 

@@ -20,14 +20,14 @@ pub record SaidRun : Type 0 where
   pub word : List ℕ
   pub outs : List (List ℕ)
 
-abbrev pub said : (names : List (List ℕ)) → (word outs : List ℕ) → SaidRun
-said names word outs = record { word = word; outs = named names outs }
+abbrev pub run_in_names : (names : List (List ℕ)) → (word outs : List ℕ) → SaidRun
+run_in_names names word outs = record { word = word; outs = named names outs }
 
 abbrev pub said_runs : (names : List (List ℕ)) → List Run → List SaidRun
-said_runs names runs = map (λ r. said names r.word r.outs) runs
+said_runs names runs = map (λ r. run_in_names names r.word r.outs) runs
 
 abbrev pub said_answers : (names : List (List ℕ)) → List KeptAnswer → List SaidRun
-said_answers names kept = map (λ k. said names k.word k.outs) kept
+said_answers names kept = map (λ k. run_in_names names k.word k.outs) kept
 
 -- runs that give these answers again, each of them and in their order: of a machine where that is told, with outputs that have
 -- names
@@ -42,7 +42,7 @@ pub record AllAgain (machine : Option Rows) (outputs : List (List ℕ)) (answers
   pub kept_is : kept ≡ answers
 
 -- the names at a place are the first that differ
-pub record DiffersAt (first second : List (List ℕ)) (place : ℕ) : Type 0 where
+pub record NamesDifferAt (first second : List (List ℕ)) (place : ℕ) : Type 0 where
   pub within : place < length first
   pub other : place < length second
   pub before : take place first ≡ take place second
@@ -53,7 +53,7 @@ pub record IsOtherwise (machine : Option Rows) (outputs : List (List ℕ)) (k : 
   pub word : run.word ≡ k.word
   pub below : All (λ y. y < length names) run.outs
   pub given : Answers machine run.word run.outs
-  pub differs : DiffersAt (named outputs k.outs) (named names run.outs) place
+  pub differs : NamesDifferAt (named outputs k.outs) (named names run.outs) place
 
 -- the answers before one were given again, and the run of its word came out otherwise, which is kept behind all answers as the
 -- instance 0's: its outputs by the numbers that their names have in the answers' list, or behind it

@@ -73,7 +73,7 @@ pub record AsksTask (system : System) (answers : Answers) (spawner_before spawne
   pub ended : IsEnd (Some answers.inputs) shown why kept out_before out_now err_before err_now end
 
 -- the files say a system and answers over its names, by reads of which none failed, and the system was asked
-pub record HasAsked (a : RecheckValues) (files_before files_now : FilesState) (spawner_before spawner_now : SpawnerState) (out_before out_now err_before err_now : SinkState) (end : End) : Type 0 where
+pub record HasAskedSystem (a : RecheckValues) (files_before files_now : FilesState) (spawner_before spawner_now : SpawnerState) (out_before out_now err_before err_now : SinkState) (end : End) : Type 0 where
   pub system : System
   pub answers : Answers
   pub reads : ReadsBoth a.setup a.answers files_before.holds files_before.reads files_now.reads system answers
@@ -91,5 +91,5 @@ pub record HasNone (a : RecheckValues) (files_before files_now : FilesState) (sp
 
 -- a call with these arguments changed files, a spawner, `out` and `err` so, and came to the end
 pub record IsRecheckRun (a : RecheckValues) (files_before files_now : FilesState) (spawner_before spawner_now : SpawnerState) (out_before out_now err_before err_now : SinkState) (end : End) : Type 0 where
-  pub came : HasAsked a files_before files_now spawner_before spawner_now out_before out_now err_before err_now end ⊎ HasNone a files_before files_now spawner_before spawner_now out_before out_now err_before err_now end
+  pub came : HasAskedSystem a files_before files_now spawner_before spawner_now out_before out_now err_before err_now end ⊎ HasNone a files_before files_now spawner_before spawner_now out_before out_now err_before err_now end
   pub holds : files_now.holds ≡ files_before.holds

@@ -7,7 +7,7 @@ ghost use Rattle.lw_words.specs.declared.stop.SulStop.{SulStop as Reason};
 ghost use Rattle.lw_json.specs.KeptOver.{AreKeptOver, IsEven};
 ghost use Rattle.lw_names.specs.Names.{IsGrown, name_at, named};
 ghost use Rattle.lw_sul.specs.System.{IsSameSul};
-ghost use Rattle.lw_recheck.specs.Again.{DiffersAt};
+ghost use Rattle.lw_recheck.specs.Again.{NamesDifferAt};
 ghost use Rattle.lw_recheck.specs.bodies.Step.{GainsOne, GainsRun, HasFound};
 
 use lw_sul::{NamedAnswer, Session, Sul};
@@ -39,7 +39,7 @@ fn first_difference<S: Sul>(outputs: &Names, sul: &S, known: &[u16], given: &[u1
     requires even { length given.now ≡ length known.now }
     ensures none { IfNone result (named (S.state sul.now).names given.now ≡
         named outputs.now known.now) }
-    ensures some { IfSome result (DiffersAt (named outputs.now known.now)
+    ensures some { IfSome result (NamesDifferAt (named outputs.now known.now)
         (named (S.state sul.now).names given.now)) }
 {
     for place in 0..known.len() {

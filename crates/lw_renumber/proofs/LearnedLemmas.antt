@@ -17,7 +17,7 @@ use Rattle.lw_rounds.specs.declared.learner.Kind.{Kind}
 use Rattle.lw_rounds.specs.declared.stops.LearnStop.{LearnStop}
 use Rattle.lw_rounds.specs.declared.stops.LearnStop.TheVariants as learn
 use Rattle.lw_renumber.specs.Renaming.{Renames, renamed_cell, renamed_row, renamed_rows, renamed_answers}
-use Rattle.lw_renumber.specs.Sorting.{IsRenumbering, renumbered_learned, renamed_learned, IsSettled, StillStops, HasSorted}
+use Rattle.lw_renumber.specs.Sorting.{IsRenumbering, renumbered_learned, renamed_learned, IsCertifiedLeast, StillStops, HasSorted}
 use Rattle.lw_renumber.proofs.MachineLemmas.{states_same, answers_too}
 use Rattle.lw_renumber.proofs.LawLemmas.{renamed_never_clash, renamed_is_certified, renamed_is_least, renamed_is_too_many, renamed_is_too_large}
 
@@ -64,12 +64,12 @@ some_output t n is below =
 module _ (f g : ℕ → ℕ) (r : Renames f g) (n : ℕ) (within : (y : ℕ) → y < n → f y < n) (past : (y : ℕ) → n ≤ y → f y ≡ y) (few : n ≤ 4096) (ks : List Answer) where
   -- the model is settled by the renamed answers
   settled : (kind : Kind) (a b k most : ℕ) (l : Learned) → AreAnswers a ks → AnswersBelow n l.model.rows → IsLearned kind a b k most ks l.model l.learner
-      → IsSettled a n k (renamed_answers f ks) (mealy_of l.model.inputs n (renamed_rows f l.model.rows))
+      → IsCertifiedLeast a n k (renamed_answers f ks) (mealy_of l.model.inputs n (renamed_rows f l.model.rows))
   settled kind a b k most l are below is =
       let c = is.certified in
       let some : 1 ≤ n = some_output l.model n c.complete below in
       let model : MealyMachine = mealy_of a n (renamed_rows f l.model.rows) in
-      subst (λ (i : ℕ). IsSettled a n k (renamed_answers f ks) (mealy_of i n (renamed_rows f l.model.rows))) (sym c.inputs)
+      subst (λ (i : ℕ). IsCertifiedLeast a n k (renamed_answers f ks) (mealy_of i n (renamed_rows f l.model.rows))) (sym c.inputs)
       (record {
         certified = renamed_is_certified f g a b n k ks l.model r are c (some, few) (rows_below f n n l.model.rows within below);
         least = renamed_is_least f g a (length model.rows) ks r are (λ m machine gives.
@@ -85,7 +85,7 @@ module _ (f g : ℕ → ℕ) (r : Renames f g) (n : ℕ) (within : (y : ℕ) →
       (λ q d lt x e le. let low = is.complete.answers q d lt x e le in omega (arith, low, is.complete.outputs)))
 
   learned_still : (kind : Kind) (a b k most : ℕ) (was : Result Learned LearnStop) → AreAnswers a ks → IfOk was (λ l. AnswersBelow n l.model.rows) → IfOk was (λ l. IsLearned kind a b k most ks l.model l.learner)
-      → IfOk (renamed_learned n f was) (λ l. IsSettled a n k (renamed_answers f ks) l.model)
+      → IfOk (renamed_learned n f was) (λ l. IsCertifiedLeast a n k (renamed_answers f ks) l.model)
   learned_still kind a b k most (Ok l) are below is = settled kind a b k most l are below is
   learned_still kind a b k most (Err stop) are below is = is
 
@@ -110,9 +110,9 @@ has_sorted to before now f g ks more was is r few below answers renamed =
       nothing = λ a are nothing. subst (λ (ls : List Answer). NothingClashes ls) (sym answers) (renamed_never_clash f g a ks r.renames are nothing);
       renamed = renamed ∙ ap (λ (c : ℕ). renamed_learned c f was) same;
       learned = λ kind a b k most are learned.
-          subst (λ (c : ℕ). IfOk is (λ l. IsSettled a c k more l.model)) same
-          (subst (λ (ls : List Answer). IfOk is (λ l. IsSettled a n k ls l.model)) (sym answers)
-          (subst (λ (now : Result Learned LearnStop). IfOk now (λ l. IsSettled a n k (renamed_answers f ks) l.model)) (sym renamed)
+          subst (λ (c : ℕ). IfOk is (λ l. IsCertifiedLeast a c k more l.model)) same
+          (subst (λ (ls : List Answer). IfOk is (λ l. IsCertifiedLeast a n k ls l.model)) (sym answers)
+          (subst (λ (now : Result Learned LearnStop). IfOk now (λ l. IsCertifiedLeast a n k (renamed_answers f ks) l.model)) (sym renamed)
           (learned_still f g r.renames n r.within r.past few ks kind a b k most was are below learned)));
       stopped = λ a b k most are stops.
           subst (λ (ls : List Answer). IfErr is (StillStops a k most f ls)) (sym answers)

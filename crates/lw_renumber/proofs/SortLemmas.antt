@@ -15,7 +15,7 @@ use Rattle.lw_names.specs.Naming.{Renumbers}
 use Rattle.lw_names.proofs.NameOrder.{differ_moved}
 use Rattle.lw_rounds.specs.declared.learned.Learned.{Learned}
 use Rattle.lw_rounds.specs.declared.stops.LearnStop.{LearnStop}
-use Rattle.lw_renumber.specs.Sorting.{IsRenumbering, IsWithin, outs_named, renumbered_learned, HasSorted}
+use Rattle.lw_renumber.specs.Sorting.{IsRenumbering, MapsWithin, outs_named, renumbered_learned, HasSorted}
 use Rattle.lw_renumber.proofs.ComingUp.{come_up_still}
 use Rattle.lw_renumber.proofs.LearnedLemmas.{answers_listed, learned_listed, has_sorted}
 use Rattle.lw_renumber.proofs.NumberLemmas.{renumbering}
@@ -37,7 +37,7 @@ module _ (to : List ℕ) (before now : List (List ℕ)) (differ : AllDiffer befo
       (each_named k.outs (All-head (λ k. All (λ y. y < length before) k.outs) k ks low))
       (all_named ks (All-tail (λ k. All (λ y. y < length before) k.outs) k ks low))
 
-  pub numbers_within : IsWithin (length before) to
+  pub numbers_within : MapsWithin (length before) to
   numbers_within y lt = subst (λ (c : ℕ). get_or to y 0 < c) (length_permutation before now moved) (numbers y lt).0
 
   module _ (kept kept_now : List KeptAnswer) (outs : All (λ k. All (λ y. y < length before) k.outs) kept) (answers : kept_now ≡ renumbered_answers to kept) where

@@ -7,7 +7,7 @@ use Rattle.lw_separate.specs.Canonical.{IsCanonical}
 use Rattle.lw_separate.specs.Least.{IsLeastAccess, IsLeastSeparating, AreLeastAccess}
 use Rattle.lw_separate.specs.Separators.{IsSeparators, IsPair}
 use Rattle.lw_suite.specs.Suite.{IsSuite}
-use Rattle.lw_certify.specs.Verdict.{IsCovered}
+use Rattle.lw_certify.specs.Verdict.{SuiteIsKnown}
 use Rattle.lw_renumber.specs.Renaming.{Renames, renamed_rows, renamed_answers}
 use Rattle.lw_renumber.proofs.ClashLemmas.{known_stays}
 use Rattle.lw_renumber.proofs.MachineLemmas.{after_is, states_same, is_machine, equal_too, minimal_too, differ_too, agree_too}
@@ -63,7 +63,7 @@ module _ (f g : ℕ → ℕ) (r : Renames f g) (a : ℕ) (m : Rows) (machine : I
     words = is.words;
   }
 
-  pub covered_too : (ks : List Answer) (k : ℕ) → AreAnswers a ks → IsCovered a m ks k → IsCovered a (renamed_rows f m) (renamed_answers f ks) k
+  pub covered_too : (ks : List Answer) (k : ℕ) → AreAnswers a ks → SuiteIsKnown a m ks k → SuiteIsKnown a (renamed_rows f m) (renamed_answers f ks) k
   covered_too ks k are is = record {
     suite = is.suite;
     whole = suite_too k is.suite is.whole;

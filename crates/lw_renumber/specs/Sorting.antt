@@ -29,8 +29,8 @@ abbrev pub outs_named : List (List ℕ) → List KeptAnswer → List (List (List
 outs_named names kept = map (λ k. named names k.outs) kept
 
 -- a list has for each number below a bound another one below it
-abbrev pub IsWithin : ℕ → List ℕ → Type 0
-IsWithin n to = (y : ℕ) → y < n → slice_index_or to y 0 < n
+abbrev pub MapsWithin : ℕ → List ℕ → Type 0
+MapsWithin n to = (y : ℕ) → y < n → slice_index_or to y 0 < n
 
 -- the model with so many outputs, by the list of their new numbers; what stopped a learning stays
 abbrev pub renumbered_learned : ℕ → List ℕ → Result Learned LearnStop → Result Learned LearnStop
@@ -49,7 +49,7 @@ renamed_learned outputs f (Ok l) = Ok (record {
 renamed_learned outputs f (Err stop) = Err stop
 
 -- the model is certified, and no machine of fewer states gives the answers
-pub record IsSettled (a b k : ℕ) (ks : List Answer) (model : MealyMachine) : Type 0 where
+pub record IsCertifiedLeast (a b k : ℕ) (ks : List Answer) (model : MealyMachine) : Type 0 where
   pub certified : IsCertified a b k ks model
   pub least : (m : Rows) → IsMachine a m → Gives m ks → length model.rows ≤ length m
 
@@ -72,6 +72,6 @@ pub record HasSorted (to : List ℕ) (before now : List (List ℕ)) (ks more : L
   pub renamed : is ≡ renamed_learned (length now) f was
   pub learned : (kind : Kind) (a b k most : ℕ) → AreAnswers a ks
       → IfOk was (λ l. IsLearned kind a b k most ks l.model l.learner)
-      → IfOk is (λ l. IsSettled a (length now) k more l.model)
+      → IfOk is (λ l. IsCertifiedLeast a (length now) k more l.model)
   pub stopped : (a b k most : ℕ) → AreAnswers a ks → IfErr was (StopsAs a b k most ks)
       → IfErr is (StillStops a k most f more)

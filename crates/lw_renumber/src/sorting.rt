@@ -8,7 +8,7 @@ ghost use Rattle.lw_words.specs.Word.{IsWord};
 ghost use Rattle.lw_mealy.specs.Limits.{AnswersBelow};
 ghost use Rattle.lw_desk.specs.Ending.{ComeUp};
 ghost use Rattle.lw_names.specs.Naming.{AreSorted};
-ghost use Rattle.lw_renumber.specs.Sorting.{IsWithin, HasSorted, outs_named, renumbered_learned};
+ghost use Rattle.lw_renumber.specs.Sorting.{MapsWithin, HasSorted, outs_named, renumbered_learned};
 
 use lw_names::OutNames;
 use lw_rounds::{LearnStop, Learned};
@@ -18,7 +18,7 @@ use lw_words::Kept;
 pub(crate) fn renumber_learned(learned: &mut Result<Learned, LearnStop>, outputs: u16, to: &[u16])
     requires few { outputs ≤ 4096 }
     requires room { outputs ≤ length to.now }
-    requires within { IsWithin outputs to.now }
+    requires within { MapsWithin outputs to.now }
     requires model { IfOk learned.old (λ l. AnswersBelow outputs l.model.rows) }
     ensures { learned.new ≡ renumbered_learned outputs to.now learned.old }
 {

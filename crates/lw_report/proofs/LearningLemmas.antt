@@ -17,7 +17,7 @@ use Rattle.lw_rounds.specs.declared.stops.LearnStop.{LearnStop}
 use Rattle.lw_rounds.specs.declared.stops.LearnStop.TheVariants as learn
 use Rattle.lw_rounds.proofs.LawLemmas.{model_is_canonical, model_is_least, too_large_is_least}
 use Rattle.lw_renumber.specs.Renaming.{renamed_answers, renamed_row, renamed_rows}
-use Rattle.lw_renumber.specs.Sorting.{HasSorted, IsSettled, StillStops, renamed_learned}
+use Rattle.lw_renumber.specs.Sorting.{HasSorted, IsCertifiedLeast, StillStops, renamed_learned}
 use Rattle.lw_report.specs.Learnings.{HasModel, HasLargeSuite, IsReadOffAs, ask_outcome, learn_outcome}
 use Rattle.lw_report.specs.declared.«end».End.{End}
 use Rattle.lw_report.specs.declared.outcome.Outcome.{Outcome}
@@ -96,9 +96,9 @@ module _ (to : List ℕ) (before now : List (List ℕ)) (ks more : List Answer) 
     read_off = subst (IsReadOff kind a b most ks l0.model.rows) (sym sorted_learner) read;
   }
 
-  pub sorted_settled : (kind : Kind) (a b k most : ℕ) → AreAnswers a ks → IsLearned kind a b k most ks l0.model l0.learner → IsSettled a (length now) k more l.model
+  pub sorted_settled : (kind : Kind) (a b k most : ℕ) → AreAnswers a ks → IsLearned kind a b k most ks l0.model l0.learner → IsCertifiedLeast a (length now) k more l.model
   sorted_settled kind a b k most are learned =
-      subst (λ (r : Result Learned LearnStop). IfOk r (λ x. IsSettled a (length now) k more x.model)) is_is
+      subst (λ (r : Result Learned LearnStop). IfOk r (λ x. IsCertifiedLeast a (length now) k more x.model)) is_is
       (sorted.learned kind a b k most are (subst (λ (r : Result Learned LearnStop). IfOk r (λ x. IsLearned kind a b k most ks x.model x.learner)) (sym was_is) learned))
 
 pub has_model_sorted : (kind : Kind) (a b k most : ℕ) (to : List ℕ) (before now : List (List ℕ)) (ks more : List Answer) (was is : Result Learned LearnStop) (l0 l : Learned) (end : End) → HasSorted to before now ks more was is → was ≡ Ok l0 → AreAnswers a ks → IsLearned kind a b k most ks l0.model l0.learner → is ≡ Ok l

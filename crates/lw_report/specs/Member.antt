@@ -19,12 +19,12 @@ abbrev pub unknown_in : Data → Option (List ℕ)
 unknown_in d = option_and_then first_unknown (as_object d)
 
 -- printable ASCII, and neither the quote nor the backslash
-abbrev pub is_plain : ℕ → Bool
-is_plain b = not (nat_lt b 32) && (nat_lt b 127 && (not (b == 34) && not (b == 92)))
+abbrev pub is_unescaped : ℕ → Bool
+is_unescaped b = not (nat_lt b 32) && (nat_lt b 127 && (not (b == 34) && not (b == 92)))
 
 -- a plain byte is printed as it is, each other one by two hexadecimal digits
 abbrev pub printed : ℕ → List ℕ
-printed b = if is_plain b then b ∷ [] else codes "\\x" ++ encode_lower (b ∷ [])
+printed b = if is_unescaped b then b ∷ [] else codes "\\x" ++ encode_lower (b ∷ [])
 
 -- the hint at a member of this name
 abbrev pub hint_text : List ℕ → List ℕ

@@ -20,12 +20,12 @@ use Rattle.lw_report.specs.declared.outcome.Tried.{Tried}
 use Rattle.lw_report.specs.declared.outcome.Outcome.TheVariants.{Learned, Trial, Yes, Served, No, Usage, BadFile, Alphabets, FileTooLong, Nondeterministic, NoMemory, SulFailed, Gone, BadLine, BadAsk, TooManyStates, SuiteTooLarge, FileFault, SourceFault, SinkFault, Compared, Asked, Rechecked, UnknownLetter, Unstarted}
 
 -- the name of a letter
-abbrev pub name_of : List (List ℕ) → ℕ → List ℕ
-name_of names x = slice_index_or names x []
+abbrev pub letter_name : List (List ℕ) → ℕ → List ℕ
+letter_name names x = slice_index_or names x []
 
 -- a word in quotes, its names joined by one blank, on a line of its own
 abbrev pub word_line : List (List ℕ) → List ℕ → List ℕ
-word_line names w = codes "\"" ++ (join_by (name_of names) (codes " ") w ++ codes "\"\n")
+word_line names w = codes "\"" ++ (join_by (letter_name names) (codes " ") w ++ codes "\"\n")
 
 -- a model's number of states, how often its learner was refined, the extra states, and the number of kept answers
 abbrev pub learned_line : (states refinements extra answers : ℕ) → List ℕ
@@ -80,7 +80,7 @@ abbrev pub no_line : List (List ℕ) → Verdict → List ℕ
 no_line inputs (verdict.Unreached state) = unreached_line state
 no_line inputs (verdict.Alike p q) = alike_line p q
 no_line inputs (verdict.Differs answer place) = differs_line answer place
-no_line inputs (verdict.Missing word) = codes "no: word \"" ++ (join_by (name_of inputs) (codes " ") word ++ codes "\" is missing\n")
+no_line inputs (verdict.Missing word) = codes "no: word \"" ++ (join_by (letter_name inputs) (codes " ") word ++ codes "\" is missing\n")
 no_line inputs (verdict.TooLarge size) = codes "no\n"
 no_line inputs verdict.Sure = codes "no\n"
 
@@ -92,7 +92,7 @@ run_line inputs outputs (Some k) =
     ++ (decimal k.instance
     ++ (codes " run "
     ++ (decimal k.run
-    ++ (codes ": " ++ (join_by (name_of inputs) (codes " ") k.word ++ (codes " / " ++ (join_by (name_of outputs) (codes " ") k.outs ++ codes "\n")))))))
+    ++ (codes ": " ++ (join_by (letter_name inputs) (codes " ") k.word ++ (codes " / " ++ (join_by (letter_name outputs) (codes " ") k.outs ++ codes "\n")))))))
 
 -- the place at which two kept answers differ, and both
 abbrev pub clash_lines : List (List ℕ) → List (List ℕ) → List KeptAnswer → Clash → List ℕ
@@ -128,16 +128,16 @@ abbrev pub bad_ask_line : ℕ → List ℕ
 bad_ask_line number = codes "bad line: " ++ (decimal number ++ codes "\n")
 
 -- names, joined by one blank
-abbrev pub joined : List (List ℕ) → List ℕ
-joined names = join_by (λ n. n) (codes " ") names
+abbrev pub joined_names : List (List ℕ) → List ℕ
+joined_names names = join_by (λ n. n) (codes " ") names
 
 -- what one of two models gives for a word
 abbrev pub given_line : (which : List ℕ) (word outs : List (List ℕ)) → List ℕ
-given_line which word outs = which ++ (codes ": " ++ (joined word ++ (codes " / " ++ (joined outs ++ codes "\n"))))
+given_line which word outs = which ++ (codes ": " ++ (joined_names word ++ (codes " / " ++ (joined_names outs ++ codes "\n"))))
 
 -- the inputs of one of two models alone
 abbrev pub only_line : (which : List ℕ) (names : List (List ℕ)) → List ℕ
-only_line which names = which ++ (codes " only: " ++ (joined names ++ codes "\n"))
+only_line which names = which ++ (codes " only: " ++ (joined_names names ++ codes "\n"))
 
 -- how two models compare
 abbrev pub comparison_lines : Comparison → List ℕ

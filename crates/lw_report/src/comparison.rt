@@ -1,7 +1,7 @@
 //! How two models compare, and the text of it.
 ghost use Rattle.std.specs.Prelude.{◌≡◌, ◌++◌, codes, IfOk, OnOk, string_bytes};
 ghost use Rattle.std.specs.List.{join_by};
-ghost use Rattle.lw_report.specs.Text.{comparison_lines, given_line, joined, only_line};
+ghost use Rattle.lw_report.specs.Text.{comparison_lines, given_line, joined_names, only_line};
 
 use lw_json::Texts;
 use lw_words::NoMemory;
@@ -44,7 +44,8 @@ fn put_joined(text: &mut String, names: &[String]) -> Result<(), NoMemory>
 
 /// Appends a list of names, joined by one blank.
 fn put_list(text: &mut String, names: &Texts) -> Result<(), NoMemory>
-    ensures { OnOk result (string_bytes text.new ≡ string_bytes text.old ++ joined names.now) }
+    ensures { OnOk result (string_bytes text.new ≡ string_bytes text.old ++ joined_names names.now)
+        }
 {
     put_joined(text, names.get().as_slice())
 }

@@ -3,7 +3,7 @@ ghost use Rattle.std.specs.Prelude.{◌≡◌, ◌++◌, option_map, IfOk, OnOk}
 ghost use Rattle.serde_json.specs.Data.{Data};
 ghost use Rattle.serde_json.specs.View.{members_view, view};
 ghost use Rattle.lw_json.specs.Members.{IsJson};
-ghost use Rattle.lw_report.specs.Member.{first_unknown, hint_of, hint_text, is_known, is_plain, printed, unknown_in};
+ghost use Rattle.lw_report.specs.Member.{first_unknown, hint_of, hint_text, is_known, is_unescaped, printed, unknown_in};
 
 use lw_words::NoMemory;
 use serde_json::{Map, Value};
@@ -37,7 +37,7 @@ fn unknown_in<'a>(root: &'a Value) -> Option<&'a str>
 
 /// Whether a byte stands for itself in a hint: printable ASCII, and neither the quote nor the backslash.
 fn is_plain(byte: u8) -> bool
-    ensures { result ≡ is_plain byte }
+    ensures { result ≡ is_unescaped byte }
 {
     matches!(byte, 32..=126) && byte != b'"' && byte != b'\\'
 }

@@ -26,7 +26,7 @@ use Rattle.lw_tree.proofs.FewLemmas.{finals_are_few}
 use Rattle.lw_settle.specs.Settling.{IsReplaced, IsSettled}
 use Rattle.lw_settle.specs.declared.settling.Settled.{Settled}
 use Rattle.lw_settle.specs.declared.settling.Settled.TheVariants.{NoBlock, Replaced}
-use Rattle.lw_rounds.specs.Learner.{inputs_of, most_of, access_of, refinements_of, IsLearner, IsRead, IsClosed, IsMachineOf}
+use Rattle.lw_rounds.specs.Learner.{inputs_of, most_of, access_of, refinements_of, IsLearner, IsRead, IsClosedLearner, IsMachineOf}
 use Rattle.lw_rounds.specs.declared.learner.Learner.{Learner}
 use Rattle.lw_rounds.specs.declared.learner.Learner.TheVariants.{Table, Tree}
 use Rattle.lw_rounds.specs.declared.learner.Kind.TheVariants as kind
@@ -44,7 +44,7 @@ pub access_leads : (l : Learner) (m : Rows) → IsLearner l → IsMachineOf l m 
 access_leads (Table t) m is of = of_table.access_leads t m is of
 access_leads (Tree t) m is of = of_tree.access_leads t m is of
 
-pub steps_are_read : (ks : List Answer) (l : Learner) (m : Rows) → IsLearner l → AreAnswers (inputs_of l) ks → IsRead ks l → IsClosed l → IsMachineOf l m → StepsAreRead ks (inputs_of l) m (access_of l)
+pub steps_are_read : (ks : List Answer) (l : Learner) (m : Rows) → IsLearner l → AreAnswers (inputs_of l) ks → IsRead ks l → IsClosedLearner l → IsMachineOf l m → StepsAreRead ks (inputs_of l) m (access_of l)
 steps_are_read ks (Table t) m is are read closed of = of_table.machine_gives_cells ks t m is are read closed of
 steps_are_read ks (Tree t) m is are read closed of = of_tree.machine_gives_steps ks t m is are read of
 
@@ -81,7 +81,7 @@ tree_stops X ks t u (Err (grow.Crowd words)) most tells =
     let crowd = tells words refl in
     record { count = crowd.count ∙ ap (λ (n : ℕ). n + 1) most; crowd = crowd.apart }
 
-pub table_grows : (ks : List Answer) (t u : TableState) (result : Result ⊤ GrowStop) → table.HasGrown ks t u → OnOk result (table_state.IsClosed u) → table.TellsCrowd ks u result → Grows ks (Table t) (Table u) result
+pub table_grows : (ks : List Answer) (t u : TableState) (result : Result ⊤ GrowStop) → table.HasGrown ks t u → OnOk result (table_state.IsClosedTable u) → table.TellsCrowd ks u result → Grows ks (Table t) (Table u) result
 table_grows ks t u result grown closed tells =
     record {
       alike = record { kind = refl; inputs = grown.inputs; outputs = grown.outputs; most = grown.most };
@@ -115,7 +115,7 @@ new_tree_is a b most l t fresh is =
     subst (IsNew kind.Ttt a b most) (ap Tree (sym fresh) ∙ sym is)
     (record { of_kind = refl; inputs = refl; outputs = refl; limit = refl; read = λ ks. branches.new_is_read ks a b most })
 
-pub table_stays : (ks : List Answer) (t : TableState) (s : Settled) → table_state.IsTable t → table_state.CellsAreRead ks t → table_state.IsClosed t → Grows ks (Table t) (Table t) (Ok s)
+pub table_stays : (ks : List Answer) (t : TableState) (s : Settled) → table_state.IsTable t → table_state.CellsAreRead ks t → table_state.IsClosedTable t → Grows ks (Table t) (Table t) (Ok s)
 table_stays ks t s is read closed =
     record {
       alike = record { kind = refl; inputs = refl; outputs = refl; most = refl };

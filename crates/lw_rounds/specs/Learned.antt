@@ -11,7 +11,7 @@ use Rattle.lw_suite.specs.Size.{suite_size, greatest_suite}
 use Rattle.lw_certify.specs.Sure.{Sure}
 use Rattle.lw_certify.specs.Verdict.{IsVerdict}
 use Rattle.lw_certify.specs.declared.verdict.Verdict.TheVariants as verdict
-use Rattle.lw_rounds.specs.Learner.{kind_of, inputs_of, outputs_of, most_of, access_of, refinements_of, IsLearner, IsRead, IsClosed, HasNoTemporary, IsMachineOf}
+use Rattle.lw_rounds.specs.Learner.{kind_of, inputs_of, outputs_of, most_of, access_of, refinements_of, IsLearner, IsRead, IsClosedLearner, HasNoTemporary, IsMachineOf}
 use Rattle.lw_rounds.specs.declared.learner.Kind.{Kind}
 use Rattle.lw_rounds.specs.declared.learner.Learner.{Learner}
 use Rattle.lw_rounds.specs.declared.stops.LearnStop.{LearnStop}
@@ -35,7 +35,7 @@ pub record IsReadOff (kind : Kind) (a b most : ℕ) (ks : List Answer) (rows : R
   pub outputs : outputs_of l ≡ b
   pub limit : most_of l ≡ most
   pub learner : IsLearner l
-  pub closed : IsClosed l
+  pub closed : IsClosedLearner l
   pub final : HasNoTemporary l
   pub read : IsRead ks l
   pub machine : Rows

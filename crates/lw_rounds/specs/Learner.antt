@@ -43,9 +43,9 @@ abbrev pub IsRead : List Answer → Learner → Type 0
 IsRead ks (Table t) = table.CellsAreRead ks t
 IsRead ks (Tree t) = tree.BranchesAreRead ks t
 
-abbrev pub IsClosed : Learner → Type 0
-IsClosed (Table t) = table.IsClosed t
-IsClosed (Tree t) = tree.IsClosed t
+abbrev pub IsClosedLearner : Learner → Type 0
+IsClosedLearner (Table t) = table.IsClosedTable t
+IsClosedLearner (Tree t) = tree.IsClosed t
 
 -- a tree has no temporary node
 abbrev pub HasNoTemporary : Learner → Type 0

@@ -6,7 +6,7 @@ ghost use Rattle.lw_mealy.specs.Machine.{Rows};
 ghost use Rattle.lw_cache.specs.Cut.{IsCut};
 ghost use Rattle.lw_cache.specs.Settling.{Keeps, MayAsk, Leaves, grown_stop};
 ghost use Rattle.lw_settle.specs.declared.settling.Settled.TheVariants.{NoBlock};
-ghost use Rattle.lw_rounds.specs.Learner.{inputs_of, outputs_of, access_of, refinements_of, IsLearner, IsRead, IsClosed, IsMachineOf};
+ghost use Rattle.lw_rounds.specs.Learner.{inputs_of, outputs_of, access_of, refinements_of, IsLearner, IsRead, IsClosedLearner, IsMachineOf};
 ghost use Rattle.lw_rounds.specs.bodies.Rounds.{IsNew, Grows, SettlesBlock};
 
 use crate::Settings;
@@ -82,7 +82,7 @@ impl Learner {
 
     /// The machine of a closed learner: a state for each access word, in their order.
     pub(crate) fn machine(&self) -> Result<Mealy, NoMemory>
-        requires closed { IsClosed self.now }
+        requires closed { IsClosedLearner self.now }
         ensures value { IfOk result (λ m. IsMachineOf self.now m.rows) }
         ensures inputs { IfOk result (λ m. m.inputs ≡ inputs_of self.now) }
         ensures outputs { IfOk result (λ m. m.outputs ≡ outputs_of self.now) }
@@ -117,7 +117,7 @@ impl Learner {
         requires inputs { inputs_of self.old ≡ (O.state oracle.old).inputs }
         requires outputs { outputs_of self.old ≡ (O.state oracle.old).outputs }
         requires read { IsRead (answers_of (O.state oracle.old).kept) self.old }
-        requires closed { IsClosed self.old }
+        requires closed { IsClosedLearner self.old }
         requires cut { (m : Rows) × IsMachineOf self.old m × IsCut
             (answers_of (O.state oracle.old).kept) (inputs_of self.old) m (access_of self.old)
             cut.now }
@@ -143,7 +143,7 @@ impl Learner {
         requires inputs { inputs_of self.old ≡ (O.state oracle.old).inputs }
         requires outputs { outputs_of self.old ≡ (O.state oracle.old).outputs }
         requires read { IsRead (answers_of (O.state oracle.old).kept) self.old }
-        requires closed { IsClosed self.old }
+        requires closed { IsClosedLearner self.old }
         requires keeps { Keeps (O.state oracle.old) }
         requires learner { IsLearner self.old }
         requires gives { (m : Rows) × IsMachineOf self.old m × Gives m

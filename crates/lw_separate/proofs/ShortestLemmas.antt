@@ -5,7 +5,7 @@ use Rattle.std.proofs.lemmas.List.Elements.{All-cons, All-tail, All-head}
 use Rattle.lw_words.specs.Word.{IsWord}
 use Rattle.lw_mealy.specs.Machine.{Rows, IsMachine, next, output, out}
 use Rattle.lw_mealy.proofs.RowLemmas.{target_below}
-use Rattle.lw_separate.specs.Least.{Separates, IsLeastSeparating}
+use Rattle.lw_separate.specs.Least.{SeparatesStates, IsLeastSeparating}
 use Rattle.lw_separate.specs.bodies.Levels.{AgreeUpTo, AreApartBy, AreClassesOf, MeetsAt, IsFirstLetter}
 use Rattle.lw_separate.specs.bodies.Search.{AtMost}
 use Rattle.lw_separate.proofs.Before.{of_cases, at_most_cons, at_most_not_behind, not_behind_at_most}
@@ -24,12 +24,12 @@ module _ (a : ℕ) (m : Rows) where
   -- a word whose first letter is the least that begins one, and whose rest is the least that goes on
   least_cons : (d p q x : ℕ) (v : List ℕ) → AgreeUpTo a m d p q
       → ((y : ℕ) → y < x → y < a → (output m p y ≡ output m q y) × AgreeUpTo a m d (next m p y) (next m q y))
-      → length v ≡ d → Separates a m p q (x ∷ v)
-      → ((u : List ℕ) → length u ≡ d → Separates a m p q (x ∷ u) → AtMost v u)
+      → length v ≡ d → SeparatesStates a m p q (x ∷ v)
+      → ((u : List ℕ) → length u ≡ d → SeparatesStates a m p q (x ∷ u) → AtMost v u)
       → IsLeastSeparating a m p q (x ∷ v)
   least_cons d p q x v agree below long does rest = record { does = does; least = λ u s. at_most_not_behind (x ∷ v) u (least u s) }
     where
-      least : (u : List ℕ) → Separates a m p q u → AtMost (x ∷ v) u
+      least : (u : List ℕ) → SeparatesStates a m p q u → AtMost (x ∷ v) u
       least [] s = absurd (s.1 refl)
       least (y ∷ u) s =
           let ya : y < a = All-head (λ z. z < a) y u s.0 in
@@ -43,7 +43,7 @@ module _ (a : ℕ) (m : Rows) where
           let same : length u ≡ d = omega (arith, le, ge) in
           ⊎_elim
           (λ (e : x ≡ y).
-          let t : Separates a m p q (x ∷ u) = subst (λ (z : ℕ). Separates a m p q (z ∷ u)) (sym e) s in
+          let t : SeparatesStates a m p q (x ∷ u) = subst (λ (z : ℕ). SeparatesStates a m p q (z ∷ u)) (sym e) s in
           subst (λ (z : ℕ). AtMost (x ∷ v) (z ∷ u)) e (at_most_cons x v u (long ∙ sym same) (rest u same t)))
           (λ (o : (x < y) ⊎ (y < x)). ⊎_elim
           (λ (lt : x < y). inr (of_cases (x ∷ v) (y ∷ u) (inr (omega (arith, long, same), inl lt))))

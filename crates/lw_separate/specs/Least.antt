@@ -18,14 +18,14 @@ abbrev pub Leads : ℕ → Rows → ℕ → List ℕ → Type 0
 Leads a m q w = IsWord a w × (after m 0 w ≡ q)
 
 -- a word over a letters on which the outputs of two states differ
-abbrev pub Separates : ℕ → Rows → ℕ → ℕ → List ℕ → Type 0
-Separates a m p q w = IsWord a w × (out m p w ≢ out m q w)
+abbrev pub SeparatesStates : ℕ → Rows → ℕ → ℕ → List ℕ → Type 0
+SeparatesStates a m p q w = IsWord a w × (out m p w ≢ out m q w)
 
 abbrev pub IsLeastAccess : ℕ → Rows → ℕ → List ℕ → Type 0
 IsLeastAccess a m q w = LeastWord (Leads a m q) w
 
 abbrev pub IsLeastSeparating : ℕ → Rows → ℕ → ℕ → List ℕ → Type 0
-IsLeastSeparating a m p q w = LeastWord (Separates a m p q) w
+IsLeastSeparating a m p q w = LeastWord (SeparatesStates a m p q) w
 
 -- the state's least access word, and none exactly where no word leads to it
 abbrev pub IsAccessWord : ℕ → Rows → ℕ → Option (List ℕ) → Type 0

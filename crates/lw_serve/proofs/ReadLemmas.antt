@@ -7,7 +7,7 @@ use Rattle.lw_json.specs.declared.fault.JsonFault.{JsonFault}
 use Rattle.lw_json.specs.declared.machine.Machine.{Machine}
 use Rattle.lw_outside.specs.Files.{Call, File, Holds, HoldsLong, file_at, longest_file, noted, read_call}
 use Rattle.lw_report.specs.Reading.{ReadsBadFile, ReadsFile}
-use Rattle.lw_serve.specs.Reading.{Tells, TellsFailed, TellsLong, TellsMachine, TellsNoMachine}
+use Rattle.lw_serve.specs.Reading.{FilesTell, TellsFailed, TellsLong, TellsMachine, TellsNoMachine}
 
 -- a read that was answered isn't told as failed
 one_call : (name : List ℕ) (calls : List Call) → calls ++ read_call name false ∷ [] ≡ calls ++ read_call name true ∷ [] → ⊥
@@ -37,7 +37,7 @@ not_called name (Some calls) now is told =
 same_bytes : (held : Option (List ℕ)) (b c : List ℕ) → held ≡ Some b → held ≡ Some c → b ≡ c
 same_bytes held b c one two = cc
 
-told_is_read : (holds : Option (List File)) (name b c : List ℕ) → Tells holds name b → Holds holds name c → b ≡ c
+told_is_read : (holds : Option (List File)) (name b c : List ℕ) → FilesTell holds name b → Holds holds name c → b ≡ c
 told_is_read None name b c told held = absurd told
 told_is_read (Some fs) name b c told held = same_bytes (file_at name fs) b c told held
 

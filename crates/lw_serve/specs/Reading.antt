@@ -5,21 +5,21 @@ use Rattle.lw_json.specs.declared.machine.Machine.{Machine}
 use Rattle.lw_outside.specs.Files.{Call, File, file_at, longest_file, read_call}
 
 -- it is told that these bytes stand under the name
-abbrev pub Tells : Option (List File) → List ℕ → List ℕ → Type 0
-Tells None name bytes = ⊥
-Tells (Some fs) name bytes = file_at name fs ≡ Some bytes
+abbrev pub FilesTell : Option (List File) → List ℕ → List ℕ → Type 0
+FilesTell None name bytes = ⊥
+FilesTell (Some fs) name bytes = file_at name fs ≡ Some bytes
 
 -- it is told that a machine's file stands under the name, which is not too long
 abbrev pub TellsMachine : Option (List File) → List ℕ → Type 0
-TellsMachine holds name = (bytes : List ℕ) × Tells holds name bytes × (¬ (longest_file < length bytes)) × ((m : Machine) × IsMachineFile bytes m)
+TellsMachine holds name = (bytes : List ℕ) × FilesTell holds name bytes × (¬ (longest_file < length bytes)) × ((m : Machine) × IsMachineFile bytes m)
 
 -- it is told that the file of no machine stands under the name
 abbrev pub TellsNoMachine : Option (List File) → List ℕ → Type 0
-TellsNoMachine holds name = (bytes : List ℕ) × Tells holds name bytes × ((m : Machine) → ¬ IsMachineFile bytes m)
+TellsNoMachine holds name = (bytes : List ℕ) × FilesTell holds name bytes × ((m : Machine) → ¬ IsMachineFile bytes m)
 
 -- it is told that a file that is too long stands under the name
 abbrev pub TellsLong : Option (List File) → List ℕ → Type 0
-TellsLong holds name = (bytes : List ℕ) × Tells holds name bytes × (longest_file < length bytes)
+TellsLong holds name = (bytes : List ℕ) × FilesTell holds name bytes × (longest_file < length bytes)
 
 -- it is told that the one call was a read of the file that failed
 abbrev pub TellsFailed : List ℕ → Option (List Call) → Option (List Call) → Type 0

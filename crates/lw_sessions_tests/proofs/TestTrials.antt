@@ -11,9 +11,9 @@ use Rattle.lw_turn.specs.declared.shared.Entry.{Entry}
 use Rattle.lw_turn.specs.History.{entries_of}
 use Rattle.lw_names.specs.Naming.{own_names, HasLists}
 use Rattle.lw_desk.specs.Desk.{DeskHistory}
-use Rattle.lw_desk.specs.Step.{Claimed, DeskState, TakesAll, after_take, without_place, without_places}
+use Rattle.lw_desk.specs.Step.{Claimed, DeskState, ActorTakesAll, after_take, without_place, without_places}
 use Rattle.lw_desk.specs.History.{DeskOpening, opened, Seat, seat_of, seat_from, seat_after, actor_of, Replays, May, MayMake, names_given}
-use Rattle.lw_sessions_tests.specs.TestTrial.{seat_by, seat_at, IsTrial}
+use Rattle.lw_sessions_tests.specs.TestTrial.{seat_by, seat_at, IsDeskTrial}
 use Rattle.lw_desk.specs.declared.ask.Ask.{Ask}
 use Rattle.lw_desk.specs.declared.ask.Reply.{Reply}
 use Rattle.lw_desk.specs.declared.ask.Give.{Give}
@@ -38,13 +38,13 @@ entries_own a es e same = filter-append (λ (x : Entry Ask Reply). x.actor == a)
 entries_other : (a : ℕ) (es : List (Entry Ask Reply)) (e : Entry Ask Reply) → e.actor ≢ a → entries_of a (es ++ e ∷ []) ≡ entries_of a es
 entries_other a es e other = filter-append (λ (x : Entry Ask Reply). x.actor == a) es (e ∷ []) ∙ (ap (λ (b : Bool). entries_of a es ++ cond b (e ∷ []) []) (is_other e.actor a other) ∙ append-nil (entries_of a es))
 
-pub trial_may : (d : DeskHistory) (batch : List (List ℕ)) (free : Bool) (seats : List Seat) (actor : ℕ) (ask : Ask) → IsTrial d batch free seats → actor < length seats → MayMake batch free (seat_at seats actor) ask → May d.opening (entries_of actor d.entries) ask
+pub trial_may : (d : DeskHistory) (batch : List (List ℕ)) (free : Bool) (seats : List Seat) (actor : ℕ) (ask : Ask) → IsDeskTrial d batch free seats → actor < length seats → MayMake batch free (seat_at seats actor) ask → May d.opening (entries_of actor d.entries) ask
 trial_may d batch free seats actor ask is lt may =
     subst (λ (l : List (List ℕ)). MayMake l (is_some d.opening.naming.brought) (seat_of d.opening (entries_of actor d.entries)) ask) (sym is.batch_is)
     (subst (λ (f : Bool). MayMake batch f (seat_of d.opening (entries_of actor d.entries)) ask) (sym is.kind)
     (subst (λ (x : Seat). MayMake batch free x ask) (sym (is.stand actor lt)) may))
 
-pub trial_more : (d now : DeskHistory) (batch : List (List ℕ)) (free : Bool) (seats : List Seat) (e : Entry Ask Reply) (seat : Seat) → IsTrial d batch free seats → e.actor < length seats → now.opening ≡ d.opening → now.entries ≡ d.entries ++ e ∷ [] → seat ≡ seat_after (seat_at seats e.actor) e → IsTrial now batch free (set seats e.actor seat)
+pub trial_more : (d now : DeskHistory) (batch : List (List ℕ)) (free : Bool) (seats : List Seat) (e : Entry Ask Reply) (seat : Seat) → IsDeskTrial d batch free seats → e.actor < length seats → now.opening ≡ d.opening → now.entries ≡ d.entries ++ e ∷ [] → seat ≡ seat_after (seat_at seats e.actor) e → IsDeskTrial now batch free (set seats e.actor seat)
 trial_more d now batch free seats e seat is lt same more standing = record {
   batch_is = ap (λ (o : DeskOpening). o.batch) same ∙ is.batch_is;
   kind = ap (λ (o : DeskOpening). is_some o.naming.brought) same ∙ is.kind;
@@ -74,7 +74,7 @@ trial_more d now batch free seats e seat is lt same more standing = record {
 abbrev pub AllBelow : ℕ → List Claimed → Type 0
 AllBelow n cs = (c : Claimed) → In c cs → c.actor < n
 
-takes_below : (batch : List (List ℕ)) (n actor wanted : ℕ) (ps : List ℕ) (s t : DeskState) → actor < n → TakesAll batch actor wanted ps s t → AllBelow n s.claims → AllBelow n t.claims
+takes_below : (batch : List (List ℕ)) (n actor wanted : ℕ) (ps : List ℕ) (s t : DeskState) → actor < n → ActorTakesAll batch actor wanted ps s t → AllBelow n s.claims → AllBelow n t.claims
 takes_below batch n actor wanted [] s t lt takes below = subst (λ (x : DeskState). AllBelow n x.claims) (sym takes.0) below
 takes_below batch n actor wanted (p ∷ ps) s t lt takes below =
     let new : Claimed = record { actor = actor; place = p } in
@@ -102,7 +102,7 @@ none_of_any n (c ∷ cs) below none =
     absurd (subst (In c.place) (none c.actor (below c (inl refl))) (place_is c.actor c (c ∷ cs) (inl refl) (is_same c.actor c.actor refl)))
 
 -- where no actor holds a place, nothing is claimed
-pub trial_idle : (d : DeskHistory) (batch : List (List ℕ)) (free : Bool) (seats : List Seat) → IsTrial d batch free seats → HasLists d.opening.naming.brought d.opening.actors → ((a : ℕ) → a < length seats → (seat_at seats a).held ≡ []) → (t : DeskState) → Replays d.opening (opened d.opening) d.entries t → t.claims ≡ []
+pub trial_idle : (d : DeskHistory) (batch : List (List ℕ)) (free : Bool) (seats : List Seat) → IsDeskTrial d batch free seats → HasLists d.opening.naming.brought d.opening.actors → ((a : ℕ) → a < length seats → (seat_at seats a).held ≡ []) → (t : DeskState) → Replays d.opening (opened d.opening) d.entries t → t.claims ≡ []
 trial_idle d batch free seats is lists none t r =
     none_of_any d.opening.actors t.claims (replays_below d.opening (opened d.opening) t d.entries r (λ c i. absurd i)) (λ a lt.
     let o : DeskOpening = d.opening in
@@ -115,7 +115,7 @@ trial_idle d batch free seats is lists none t r =
     ∙ none a inside)
 
 -- a trial begins
-pub trial_new : (d : DeskHistory) (batch own : List (List ℕ)) (free : Bool) (seats : List Seat) → d.opening.batch ≡ batch → is_some d.opening.naming.brought ≡ free → d.opening.actors ≡ length seats → d.entries ≡ [] → ((a : ℕ) → own_names d.opening.naming a ≡ own) → ((a : ℕ) → a < length seats → seat_at seats a ≡ seat_by [] false own) → IsTrial d batch free seats
+pub trial_new : (d : DeskHistory) (batch own : List (List ℕ)) (free : Bool) (seats : List Seat) → d.opening.batch ≡ batch → is_some d.opening.naming.brought ≡ free → d.opening.actors ≡ length seats → d.entries ≡ [] → ((a : ℕ) → own_names d.opening.naming a ≡ own) → ((a : ℕ) → a < length seats → seat_at seats a ≡ seat_by [] false own) → IsDeskTrial d batch free seats
 trial_new d batch own free seats same kind actors none alike blank = record {
   batch_is = same;
   kind = kind;

@@ -12,7 +12,7 @@ abbrev pub seat_at : List Seat → ℕ → Seat
 seat_at seats a = slice_index_or seats a (record { held = []; ended = false; own = [] })
 
 -- each actor stands as its own entries say
-pub record IsTrial (d : DeskHistory) (batch : List (List ℕ)) (free : Bool) (seats : List Seat) : Type 0 where
+pub record IsDeskTrial (d : DeskHistory) (batch : List (List ℕ)) (free : Bool) (seats : List Seat) : Type 0 where
   pub batch_is : d.opening.batch ≡ batch
   pub kind : is_some d.opening.naming.brought ≡ free
   pub actors : d.opening.actors ≡ length seats

@@ -15,7 +15,7 @@ use Rattle.lw_tree.specs.Grown.{HasGrown, KeepsDiscriminators, TellsCrowd, HasCl
 use Rattle.lw_tree.specs.Tree.{TreeState, temporaries, IsTree, BranchesAreRead, IsClosed, IsMachineOf}
 use Rattle.lw_tree.proofs.CloseLemmas.{handed_stop, crowd_too}
 use Rattle.lw_tree.proofs.GrownLemmas.{not_grown, grown_then}
-use Rattle.lw_settle.specs.Settling.{IsReplaced, HasSettled}
+use Rattle.lw_settle.specs.Settling.{IsReplaced, HasSettledBlock}
 use Rattle.lw_settle.specs.bodies.Parting.{AreMembers, IsReplacement, AreWordsOf, NothingIsParted}
 use Rattle.lw_settle.specs.declared.settling.Replacement.{Replacement}
 use Rattle.lw_settle.specs.declared.settling.Settled.{Settled}
@@ -23,7 +23,7 @@ use Rattle.lw_settle.specs.declared.settling.Settled.TheVariants.{NoBlock, Repla
 use Rattle.lw_settle.proofs.PartingLemmas.{some_block_is_parted, temporary_counts}
 
 -- no node is temporary, and nothing was done
-pub nothing_settled : (ks : List Answer) (t : TreeState) (m : Rows) → IsTree t → BranchesAreRead ks t → IsClosed t → IsMachineOf t m → Gives m ks → NothingIsParted t → HasSettled ks t t (Ok NoBlock)
+pub nothing_settled : (ks : List Answer) (t : TreeState) (m : Rows) → IsTree t → BranchesAreRead ks t → IsClosed t → IsMachineOf t m → Gives m ks → NothingIsParted t → HasSettledBlock ks t t (Ok NoBlock)
 nothing_settled ks t m g read closed is gives nothing =
     record {
       grown = not_grown ks t g read;
@@ -41,24 +41,24 @@ nothing_settled ks t m g read closed is gives nothing =
     }
 
 -- where the settling was refused
-pub not_settled : (ks : List Answer) (t now : TreeState) (stop : GrowStop) (result : Result Settled GrowStop) → HasGrown ks t now → now.refinements ≡ t.refinements → (now ≡ t) ⊎ IsReplaced t now → TellsCrowd {X = ⊤} ks now (Err stop) → IsErrAnd result (λ e. e ≡ stop) → HasSettled ks t now result
+pub not_settled : (ks : List Answer) (t now : TreeState) (stop : GrowStop) (result : Result Settled GrowStop) → HasGrown ks t now → now.refinements ≡ t.refinements → (now ≡ t) ⊎ IsReplaced t now → TellsCrowd {X = ⊤} ks now (Err stop) → IsErrAnd result (λ e. e ≡ stop) → HasSettledBlock ks t now result
 not_settled ks t now stop result grown same left crowd is =
-    subst (HasSettled ks t now) (sym (handed_stop stop result is))
+    subst (HasSettledBlock ks t now) (sym (handed_stop stop result is))
     (record { grown = grown; closed = tt; settled = tt; left = left; refinements = same; crowd = crowd_too {X = ⊤} {Y = Settled} ks now stop crowd })
 
-pub untouched : (ks : List Answer) (t now : TreeState) (stop : GrowStop) (result : Result Settled GrowStop) → now ≡ t → IsTree t → BranchesAreRead ks t → TellsCrowd {X = ⊤} ks t (Err stop) → IsErrAnd result (λ e. e ≡ stop) → HasSettled ks t now result
-untouched ks t now stop result same g read crowd is = subst (λ (u : TreeState). HasSettled ks t u result) (sym same) (not_settled ks t t stop result (not_grown ks t g read) refl (inl refl) crowd is)
+pub untouched : (ks : List Answer) (t now : TreeState) (stop : GrowStop) (result : Result Settled GrowStop) → now ≡ t → IsTree t → BranchesAreRead ks t → TellsCrowd {X = ⊤} ks t (Err stop) → IsErrAnd result (λ e. e ≡ stop) → HasSettledBlock ks t now result
+untouched ks t now stop result same g read crowd is = subst (λ (u : TreeState). HasSettledBlock ks t u result) (sym same) (not_settled ks t t stop result (not_grown ks t g read) refl (inl refl) crowd is)
 
 -- a replaced node stays while the tree is closed
 final_then : (word : List ℕ) (r : ℕ) (t middle now : TreeState) → IsBlock t r → HasFinal word t middle → KeepsDiscriminators middle now → IsReplaced t now
 final_then word r t middle now block final keeps = (r, word, block, record { front = final.front; back = final.back; were = final.were; are = keeps.finals ∙ final.are })
 
 -- where the closing was refused
-pub not_closed_then : (first ks : List Answer) (word : List ℕ) (r : ℕ) (t middle now : TreeState) (stop : GrowStop) (result : Result Settled GrowStop) → IsBlock t r → HasGrown first t middle → HasFinal word t middle → middle.refinements ≡ t.refinements → HasClosed ks middle now (Err stop) → IsErrAnd result (λ e. e ≡ stop) → HasSettled ks t now result
+pub not_closed_then : (first ks : List Answer) (word : List ℕ) (r : ℕ) (t middle now : TreeState) (stop : GrowStop) (result : Result Settled GrowStop) → IsBlock t r → HasGrown first t middle → HasFinal word t middle → middle.refinements ≡ t.refinements → HasClosed ks middle now (Err stop) → IsErrAnd result (λ e. e ≡ stop) → HasSettledBlock ks t now result
 not_closed_then first ks word r t middle now stop result block one final same done is =
     not_settled ks t now stop result (grown_then first ks t middle now one done.grown) (done.keeps.refinements ∙ same) (inr (final_then word r t middle now block final done.keeps)) done.crowd is
 
-pub all_settled : (first ks : List Answer) (word : List ℕ) (r : ℕ) (t middle now : TreeState) → IsBlock t r → HasGrown first t middle → HasFinal word t middle → middle.refinements ≡ t.refinements → HasClosed ks middle now (Ok tt) → HasSettled ks t now (Ok Replaced)
+pub all_settled : (first ks : List Answer) (word : List ℕ) (r : ℕ) (t middle now : TreeState) → IsBlock t r → HasGrown first t middle → HasFinal word t middle → middle.refinements ≡ t.refinements → HasClosed ks middle now (Ok tt) → HasSettledBlock ks t now (Ok Replaced)
 all_settled first ks word r t middle now block one final same done =
     record {
       grown = grown_then first ks t middle now one done.grown;

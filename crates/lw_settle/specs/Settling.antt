@@ -36,7 +36,7 @@ IsSettled before now Replaced = (0 < temporaries before.nodes) × IsReplaced bef
 
 -- a tree once a block was to be settled; where that was refused, it is as before, or a node was replaced and the
 -- tree maybe not closed
-pub record HasSettled (ks : List Answer) (before now : TreeState) (result : Result Settled GrowStop) : Type 0 where
+pub record HasSettledBlock (ks : List Answer) (before now : TreeState) (result : Result Settled GrowStop) : Type 0 where
   pub grown : HasGrown ks before now
   pub closed : OnOk result (IsClosed now)
   pub settled : IfOk result (IsSettled before now)

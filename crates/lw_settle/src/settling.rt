@@ -4,7 +4,7 @@ ghost use Rattle.lw_words.specs.Answer.{answers_of};
 ghost use Rattle.lw_mealy.specs.Gives.{Gives};
 ghost use Rattle.lw_mealy.specs.Machine.{Rows};
 ghost use Rattle.lw_cache.specs.Settling.{MayAsk, Leaves, grown_stop};
-ghost use Rattle.lw_settle.specs.Settling.{HasSettled};
+ghost use Rattle.lw_settle.specs.Settling.{HasSettledBlock};
 ghost use Rattle.lw_settle.specs.bodies.Parting.{NothingIsParted, IsReplacement};
 ghost use Rattle.lw_settle.specs.declared.settling.Settled.TheVariants.{NoBlock};
 ghost use Rattle.lw_tree.specs.Tree.{BranchesAreRead, IsClosed, IsMachineOf};
@@ -79,7 +79,8 @@ pub fn settle_block<O: Oracle>(
     requires closed { IsClosed tree.old }
     requires gives { (m : Rows) × IsMachineOf tree.old m × Gives m
         (answers_of (O.state oracle.old).kept) }
-    ensures settles { HasSettled (answers_of (O.state oracle.new).kept) tree.old tree.new result }
+    ensures settles { HasSettledBlock (answers_of (O.state oracle.new).kept) tree.old tree.new
+        result }
     ensures unasked { IfOk result (λ s. s ≡ NoBlock → O.state oracle.new ≡ O.state oracle.old) }
     ensures leaves { Leaves (O.state oracle.old) (O.state oracle.new) (grown_stop result) }
     ensures can { O.can_settle oracle.new }

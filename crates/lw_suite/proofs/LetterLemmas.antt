@@ -7,7 +7,7 @@ use Rattle.lw_words.specs.Word.{IsWord}
 use Rattle.lw_mealy.specs.Machine.{Rows}
 use Rattle.lw_separate.specs.Least.{AreLeastAccess}
 use Rattle.lw_separate.specs.Separators.{IsSeparators}
-use Rattle.lw_suite.specs.Suite.{each_with, words_of, words_up_to, suite_of, SuiteIsOfWords}
+use Rattle.lw_suite.specs.Suite.{each_with, words_of_length, words_up_to, suite_of, SuiteIsOfWords}
 
 -- what holds of each with each
 all_each : {X Y Z : Type 0} (P : X → Type 0) (Q : Y → Type 0) (R : Z → Type 0) (f : X → Y → Z) → ((x : X) (y : Y) → P x → Q y → R (f x y))
@@ -27,14 +27,14 @@ letters a = All-from_get_or (λ x. x < a) (range_with_len 0 a) 0 (λ i lt.
     let below : i < a = omega arith in
     omega (arith, below, get_or-range_with_len 0 a i 0 below))
 
-words_of_words : (a n : ℕ) → All (IsWord a) (words_of a n)
+words_of_words : (a n : ℕ) → All (IsWord a) (words_of_length a n)
 words_of_words a zero = All-cons (IsWord a) [] [] (All-nil (λ x. x < a)) (All-nil (IsWord a))
 words_of_words a (suc n) =
-    all_each (λ x. x < a) (IsWord a) (IsWord a) (λ x w. x ∷ w) (λ x w lt is. All-cons (λ y. y < a) x w lt is) (range_with_len 0 a) (words_of a n) (letters a) (words_of_words a n)
+    all_each (λ x. x < a) (IsWord a) (IsWord a) (λ x w. x ∷ w) (λ x w lt is. All-cons (λ y. y < a) x w lt is) (range_with_len 0 a) (words_of_length a n) (letters a) (words_of_words a n)
 
 middle_words : (a n : ℕ) → All (IsWord a) (words_up_to a n)
 middle_words a zero = words_of_words a zero
-middle_words a (suc n) = All-append (IsWord a) (words_up_to a n) (words_of a (suc n)) (middle_words a n) (words_of_words a (suc n))
+middle_words a (suc n) = All-append (IsWord a) (words_up_to a n) (words_of_length a (suc n)) (middle_words a n) (words_of_words a (suc n))
 
 access_are_words : (a : ℕ) (m : Rows) (access : List (List ℕ)) → AreLeastAccess a m access → All (IsWord a) access
 access_are_words a m access least =

@@ -7,26 +7,26 @@ use Rattle.std.proofs.Math.Nat.{pow-zero, pow-suc, mul-div_cancel, div-lt_iff_lt
 use Rattle.std.proofs.lemmas.Nat.{div-add-mod'}
 use Rattle.std.specs.List.{range_with_len}
 use Rattle.lw_suite.specs.Size.{powers}
-use Rattle.lw_suite.specs.Suite.{words_of, words_up_to}
+use Rattle.lw_suite.specs.Suite.{words_of_length, words_up_to}
 use Rattle.lw_suite.proofs.EachLemmas.{each_at}
 use Rattle.lw_suite.proofs.SizeLemmas.{length-words_of, length-words_up_to, pow_suc, power_in, power_below, powers_rise}
 
 -- the first letter of a word and its rest, by its number
-pub first_letter : (a n x r : ℕ) → x < a → r < a ^ n → get_or (words_of a (suc n)) (x * a ^ n + r) [] ≡ x ∷ get_or (words_of a n) r []
+pub first_letter : (a n x r : ℕ) → x < a → r < a ^ n → get_or (words_of_length a (suc n)) (x * a ^ n + r) [] ≡ x ∷ get_or (words_of_length a n) r []
 first_letter a n x r lx lr =
-    let long : length (words_of a n) ≡ a ^ n = length-words_of a n in
+    let long : length (words_of_length a n) ≡ a ^ n = length-words_of a n in
     let li : x < length (range_with_len 0 a) = rw (length-range_with_len 0 a) lx in
-    let lj : r < length (words_of a n) = rw long lr in
-    let e = each_at (λ y w. y ∷ w) (range_with_len 0 a) (words_of a n) x r 0 [] [] li lj in
-    let e' : get_or (words_of a (suc n)) (x * a ^ n + r) [] ≡ get_or (range_with_len 0 a) x 0 ∷ get_or (words_of a n) r [] =
-    ap (λ (m : ℕ). get_or (words_of a (suc n)) (x * m + r) []) (sym long) ∙ e in
-    e' ∙ ap (λ (y : ℕ). y ∷ get_or (words_of a n) r []) (get_or-range_with_len 0 a x 0 lx ∙ zero-add x)
+    let lj : r < length (words_of_length a n) = rw long lr in
+    let e = each_at (λ y w. y ∷ w) (range_with_len 0 a) (words_of_length a n) x r 0 [] [] li lj in
+    let e' : get_or (words_of_length a (suc n)) (x * a ^ n + r) [] ≡ get_or (range_with_len 0 a) x 0 ∷ get_or (words_of_length a n) r [] =
+    ap (λ (m : ℕ). get_or (words_of_length a (suc n)) (x * m + r) []) (sym long) ∙ e in
+    e' ∙ ap (λ (y : ℕ). y ∷ get_or (words_of_length a n) r []) (get_or-range_with_len 0 a x 0 lx ∙ zero-add x)
 
 -- a word of exactly l letters, among those of at most n
-pub among : (a l n r : ℕ) → l ≤ n → r < a ^ l → get_or (words_up_to a n) (powers a l - a ^ l + r) [] ≡ get_or (words_of a l) r []
+pub among : (a l n r : ℕ) → l ≤ n → r < a ^ l → get_or (words_up_to a n) (powers a l - a ^ l + r) [] ≡ get_or (words_of_length a l) r []
 among a l zero r le lr =
     let e : l ≡ 0 = omega arith in
-    rw e (let z : a ^ 0 ≡ 1 = pow-zero a in let h : powers a 0 - a ^ 0 + r ≡ r = omega arith in ap (λ (m : ℕ). get_or (words_of a 0) m []) h)
+    rw e (let z : a ^ 0 ≡ 1 = pow-zero a in let h : powers a 0 - a ^ 0 + r ≡ r = omega arith in ap (λ (m : ℕ). get_or (words_of_length a 0) m []) h)
 among a l (suc n) r le lr = ⊎_elim
     (λ (lt : l < suc n).
     let h = among a l n r (omega arith) lr in
@@ -34,12 +34,12 @@ among a l (suc n) r le lr = ⊎_elim
     let part : a ^ l ≤ powers a l = power_in a l l (omega arith) in
     let long : length (words_up_to a n) ≡ powers a n = length-words_up_to a n in
     let within : powers a l - a ^ l + r < length (words_up_to a n) = omega arith in
-    get_or_append_left (words_up_to a n) (words_of a (suc n)) [] (powers a l - a ^ l + r) within ∙ h)
+    get_or_append_left (words_up_to a n) (words_of_length a (suc n)) [] (powers a l - a ^ l + r) within ∙ h)
     (λ (ge : suc n ≤ l).
     let e : l ≡ suc n = omega arith in
     let long : length (words_up_to a n) ≡ powers a n = length-words_up_to a n in
     let at : powers a (suc n) - a ^ suc n + r ≡ length (words_up_to a n) + r = omega arith in
-    rw e (ap (λ (m : ℕ). get_or (words_up_to a (suc n)) m []) at ∙ get_or-append-add (words_up_to a n) (words_of a (suc n)) r []))
+    rw e (ap (λ (m : ℕ). get_or (words_up_to a (suc n)) m []) at ∙ get_or-append-add (words_up_to a n) (words_of_length a (suc n)) r []))
     (cases_lt l (suc n))
 
 -- the loop that looks for the number of letters: what is left of the number, and the words of so many letters
@@ -65,7 +65,7 @@ looked_more a longest number letters rest count within more h =
     (lt, record { counted = sym up; short = omega arith; left = let l = h.left in omega arith })
 
 pub looked_end : (a longest number letters rest count : ℕ) → rest < count → Looked a longest number letters rest count
-    → get_or (words_up_to a longest) number [] ≡ get_or (words_of a letters) rest []
+    → get_or (words_up_to a longest) number [] ≡ get_or (words_of_length a letters) rest []
 looked_end a longest number letters rest count lt h =
     let part : a ^ letters ≤ powers a letters = power_in a letters letters (omega arith) in
     let c = h.counted in
@@ -85,7 +85,7 @@ looked_fits a longest number letters rest count le few within more h =
 pub record Spelled (a left : ℕ) (word : List ℕ) (number count : ℕ) (whole : List ℕ) : Type 0 where
   pub counted : count ≡ a ^ left
   pub below : number < count
-  pub rest : word ++ get_or (words_of a left) number [] ≡ whole
+  pub rest : word ++ get_or (words_of_length a left) number [] ≡ whole
 
 -- one letter more is spelled
 pub spelled_more : (a n : ℕ) (word : List ℕ) (number count : ℕ) (whole : List ℕ) → Spelled a (suc n) word number count whole
@@ -102,25 +102,25 @@ spelled_more a n word number count whole h =
     let letter : number / (count / a) < a = (div-lt_iff_lt-mul some').1 lt in
     let r : number % (count / a) < count / a = mod-lt number some' in
     let is : number / (count / a) * (count / a) + number % (count / a) ≡ number = div-add-mod' number (count / a) in
-    let f : get_or (words_of a (suc n)) (number / (count / a) * a ^ n + number % (count / a)) [] ≡ number / (count / a) ∷ get_or (words_of a n) (number % (count / a)) [] =
+    let f : get_or (words_of_length a (suc n)) (number / (count / a) * a ^ n + number % (count / a)) [] ≡ number / (count / a) ∷ get_or (words_of_length a n) (number % (count / a)) [] =
     first_letter a n (number / (count / a)) (number % (count / a)) letter (rw (← e) r) in
     let at : number ≡ number / (count / a) * a ^ n + number % (count / a) = rw (← e) (sym is) in
-    let first : get_or (words_of a (suc n)) number [] ≡ number / (count / a) ∷ get_or (words_of a n) (number % (count / a)) [] =
-    ap (λ (k : ℕ). get_or (words_of a (suc n)) k []) at ∙ f in (
+    let first : get_or (words_of_length a (suc n)) number [] ≡ number / (count / a) ∷ get_or (words_of_length a n) (number % (count / a)) [] =
+    ap (λ (k : ℕ). get_or (words_of_length a (suc n)) k []) at ∙ f in (
       pos,
       some',
       letter,
       record {
         counted = e;
         below = r;
-        rest = append_assoc word (number / (count / a) ∷ []) (get_or (words_of a n) (number % (count / a)) []) ∙ (ap (λ (v : List ℕ). word ++ v) (sym first) ∙ h.rest);
+        rest = append_assoc word (number / (count / a) ∷ []) (get_or (words_of_length a n) (number % (count / a)) []) ∙ (ap (λ (v : List ℕ). word ++ v) (sym first) ∙ h.rest);
       },
     )
 
 pub spelled_end : (a : ℕ) (word : List ℕ) (number count : ℕ) (whole : List ℕ) → Spelled a 0 word number count whole → word ≡ whole
 spelled_end a word number count whole h =
     let z : number ≡ 0 = let c = h.counted in let b = h.below in let p : a ^ 0 ≡ 1 = pow-zero a in omega arith in
-    let r : get_or (words_of a 0) number [] ≡ [] = rw z refl in
+    let r : get_or (words_of_length a 0) number [] ≡ [] = rw z refl in
     sym (append-nil word) ∙ (ap (λ (v : List ℕ). word ++ v) (sym r) ∙ h.rest)
 
 -- one letter more is spelled, in a loop that counts the letters, over the number of inputs as the code has it

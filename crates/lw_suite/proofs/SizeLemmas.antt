@@ -7,22 +7,22 @@ use Rattle.std.proofs.lemmas.Bool.{cases_lt}
 use Rattle.std.proofs.lemmas.Grind.{pow_more}
 use Rattle.std.specs.List.{range_with_len}
 use Rattle.lw_suite.specs.Size.{powers}
-use Rattle.lw_suite.specs.Suite.{words_of, words_up_to}
+use Rattle.lw_suite.specs.Suite.{words_of_length, words_up_to}
 use Rattle.lw_suite.proofs.EachLemmas.{length-each}
 
 pub pow_suc : (a n : ℕ) → a ^ suc n ≡ a * a ^ n
 pow_suc a n = let e : suc n ≡ n + 1 = omega arith in ap (λ (k : ℕ). a ^ k) e ∙ (pow_more a n ∙ (let m : a ^ n * a ≡ a * a ^ n = omega arith in m))
 
-pub length-words_of : (a n : ℕ) → length (words_of a n) ≡ a ^ n
+pub length-words_of : (a n : ℕ) → length (words_of_length a n) ≡ a ^ n
 length-words_of a zero = sym (pow-zero a)
 length-words_of a (suc n) =
-    length-each (λ x w. x ∷ w) (range_with_len 0 a) (words_of a n)
+    length-each (λ x w. x ∷ w) (range_with_len 0 a) (words_of_length a n)
     ∙ (ap₂ (λ (x y : ℕ). x * y) (length-range_with_len 0 a) (length-words_of a n) ∙ sym (pow_suc a n))
 
 pub length-words_up_to : (a n : ℕ) → length (words_up_to a n) ≡ powers a n
 length-words_up_to a zero = refl
 length-words_up_to a (suc n) =
-    length-append (words_up_to a n) (words_of a (suc n))
+    length-append (words_up_to a n) (words_of_length a (suc n))
     ∙ ap₂ (λ (x y : ℕ). x + y) (length-words_up_to a n) (length-words_of a (suc n))
 
 pub power_below : (a i : ℕ) → a ≤ 64 → i ≤ 5 → a ^ i ≤ 1073741824

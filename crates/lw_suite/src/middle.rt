@@ -1,7 +1,7 @@
 //! The middle words of a suite, by their numbers.
 ghost use Rattle.std.specs.Prelude.{◌≡◌, ◌<◌, ◌≤◌, ◌+◌, ◌^◌, ◌++◌, [], OnOk, slice_index_or};
 ghost use Rattle.lw_suite.specs.Size.{powers};
-ghost use Rattle.lw_suite.specs.Suite.{words_of, words_up_to};
+ghost use Rattle.lw_suite.specs.Suite.{words_of_length, words_up_to};
 
 use lw_words::{NoMemory, Word};
 
@@ -23,7 +23,7 @@ fn rank_of(inputs: u16, longest: u8, number: u64) -> Rank
     ensures short { result.letters ≤ longest }
     ensures below { result.number < result.count }
     ensures same { slice_index_or (words_up_to inputs longest) number [] ≡
-        slice_index_or (words_of inputs result.letters) result.number [] }
+        slice_index_or (words_of_length inputs result.letters) result.number [] }
 {
     let mut rank = Rank {
         letters: 0,

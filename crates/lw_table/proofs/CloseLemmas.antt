@@ -9,7 +9,7 @@ use Rattle.lw_words.specs.Answer.{Answer}
 use Rattle.lw_cache.specs.Settling.{OracleState, Leaves, grown_stop}
 use Rattle.lw_cache.specs.declared.stops.GrowStop.{GrowStop}
 use Rattle.lw_table.specs.Grown.{HasGrown, TellsCrowd, HasClosed}
-use Rattle.lw_table.specs.Table.{TableState, row_number, row_at, home_at, access_row, IsTable, IsClosed}
+use Rattle.lw_table.specs.Table.{TableState, row_number, row_at, home_at, access_row, IsTable, IsClosedTable}
 use Rattle.lw_table.specs.bodies.Growing.{AreFull, HasState, HaveStates}
 use Rattle.lw_table.proofs.FilledLemmas.{homes_in}
 use Rattle.lw_table.proofs.RowLemmas.{home_row, rows_more}
@@ -51,7 +51,7 @@ module _ (ks : List Answer) (before now : TableState) (table : IsTable before) (
   rows_left row lt = omega (arith, lt, more_rows)
 
 -- each extension has the row of an access word
-pub all_closed : (t : TableState) → IsTable t → AreFull t → HaveStates t 1 (length t.cells) → IsClosed t
+pub all_closed : (t : TableState) → IsTable t → AreFull t → HaveStates t 1 (length t.cells) → IsClosedTable t
 all_closed t g full states =
     record {
       filled = All-from_get_or (λ row. length row ≡ length t.suffixes) t.cells [] full;

@@ -10,7 +10,7 @@ use Rattle.lw_cache.specs.Clash.{IsClear}
 use Rattle.lw_cache.specs.Cut.{word_at, AreAccess, StepsAreRead}
 use Rattle.lw_cache.specs.Known.{Reads}
 use Rattle.lw_cache.proofs.KnownLemmas.{reads_once}
-use Rattle.lw_table.specs.Table.{TableState, row_at, home_at, access_row, IsTable, Extends, CellsAreRead, IsClosed, IsMachineOf}
+use Rattle.lw_table.specs.Table.{TableState, row_at, home_at, access_row, IsTable, Extends, CellsAreRead, IsClosedTable, IsMachineOf}
 use Rattle.lw_table.specs.Laws.{OneMachine, AccessLeads, MachineGivesCells}
 use Rattle.lw_table.proofs.CellLemmas.{same_place, letter_suffix, enough_suffixes, access_read}
 
@@ -60,7 +60,7 @@ reads_front ks u v o read =
     inr (r.0, r.1, (v ++ r.2.0, r.2.1 ∙ append_assoc u v r.2.0), ap (take (length u)) r.3 ∙ take-take (length u) (length (u ++ v)) (answer_at ks r.0).outs (omega (arith, length-append u v))))
     read
 
-module _ (ks : List Answer) (t : TableState) (m : Rows) (g : IsTable t) (are : AreAnswers t.inputs ks) (read : CellsAreRead ks t) (closed : IsClosed t) (is : IsMachineOf t m) where
+module _ (ks : List Answer) (t : TableState) (m : Rows) (g : IsTable t) (are : AreAnswers t.inputs ks) (read : CellsAreRead ks t) (closed : IsClosedTable t) (is : IsMachineOf t m) where
   full : (q : ℕ) → q < length t.access → length (access_row t q) ≡ length t.suffixes
   full q lt = g.even q lt ∙ All-get_or (λ (r : List (List ℕ)). length r ≡ length t.suffixes) t.cells 0 [] (omega (arith, g.rows)) closed.filled
 

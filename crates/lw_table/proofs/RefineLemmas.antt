@@ -16,7 +16,7 @@ use Rattle.lw_cache.specs.declared.stops.GrowStop.{GrowStop}
 use Rattle.lw_cache.proofs.KnownLemmas.{reads_once}
 use Rattle.lw_cache.proofs.ReadLemmas.{reads_more}
 use Rattle.lw_table.specs.Grown.{HasGrown, HasClosed, HasRefined}
-use Rattle.lw_table.specs.Table.{TableState, row_number, row_at, home_at, access_row, extension_row, IsTable, IsClosed, IsMachineOf}
+use Rattle.lw_table.specs.Table.{TableState, row_number, row_at, home_at, access_row, extension_row, IsTable, IsClosedTable, IsMachineOf}
 use Rattle.lw_table.specs.bodies.Growing.{with_suffix, refined_once}
 use Rattle.lw_table.proofs.CellLemmas.{same_place, access_read}
 use Rattle.lw_table.proofs.CloseLemmas.{handed_stop}
@@ -29,9 +29,9 @@ same_front : (r s more rest : List (List ℕ)) → length r ≡ length s → r +
 same_front r s more rest size same = sym (take-append_seam r more) ∙ (ap (take (length r)) same ∙ (ap (λ (n : ℕ). take n (s ++ rest)) size ∙ take-append_seam s rest))
 
 -- once a closed table is closed again with a suffix by which an extension differs from its target, there are more access words
-module _ (ks : List Answer) (t now : TableState) (m : Rows) (state letter target : ℕ) (suffix : List ℕ) (g : IsTable t) (are : AreAnswers t.inputs ks) (closed : IsClosed t) (is : IsMachineOf t m)
+module _ (ks : List Answer) (t now : TableState) (m : Rows) (state letter target : ℕ) (suffix : List ℕ) (g : IsTable t) (are : AreAnswers t.inputs ks) (closed : IsClosedTable t) (is : IsMachineOf t m)
     (in_state : state < length t.access) (small : letter < t.inputs) (is_target : target ≡ next m state letter) (separates : Separates ks suffix (word_at t.access state ++ letter ∷ []) (word_at t.access target))
-    (grown : HasGrown ks (with_suffix t suffix) now) (again : IsClosed now) (suffixes : now.suffixes ≡ t.suffixes ++ suffix ∷ []) where
+    (grown : HasGrown ks (with_suffix t suffix) now) (again : IsClosedTable now) (suffixes : now.suffixes ≡ t.suffixes ++ suffix ∷ []) where
   in_target : target < length t.access
   in_target = subst (λ (q : ℕ). q < length t.access) (sym is_target) (is.within state letter in_state small)
 
@@ -121,7 +121,7 @@ separates_more before gained now e u v grown s =
     }
 
 -- after the closing there are more access words than refinements
-pub split_by : (before gained kept : List KeptAnswer) (t now : TableState) (cut : Cut) → kept ≡ before ++ gained → IsTable t → AreAnswers t.inputs (answers_of kept) → IsClosed t → (m : Rows) × IsMachineOf t m × IsCut (answers_of before) t.inputs m t.access cut
+pub split_by : (before gained kept : List KeptAnswer) (t now : TableState) (cut : Cut) → kept ≡ before ++ gained → IsTable t → AreAnswers t.inputs (answers_of kept) → IsClosedTable t → (m : Rows) × IsMachineOf t m × IsCut (answers_of before) t.inputs m t.access cut
     → HasClosed (answers_of kept) (with_suffix t cut.suffix) now (Ok tt) → length t.access < length now.access
 split_by before gained kept t now cut grown g are closed cuts done =
     let m = cuts.0 in

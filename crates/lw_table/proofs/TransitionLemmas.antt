@@ -10,13 +10,13 @@ use Rattle.lw_words.specs.Word.{IsWord}
 use Rattle.lw_mealy.specs.Limits.{IsWithinLimits, mealy_of}
 use Rattle.lw_mealy.specs.Machine.{Row, Rows, next, output}
 use Rattle.lw_cache.specs.Cut.{word_at}
-use Rattle.lw_table.specs.Table.{TableState, home_at, access_row, IsTable, IsClosed, IsMachineOf}
+use Rattle.lw_table.specs.Table.{TableState, home_at, access_row, IsTable, IsClosedTable, IsMachineOf}
 use Rattle.lw_table.specs.Laws.{HasMachine}
 use Rattle.lw_table.specs.bodies.Transitions.{IsTransition, AreTransitionsTo, AreTransitions, AreStates}
 use Rattle.lw_table.proofs.CellLemmas.{enough_suffixes, letter_suffix}
 use Rattle.lw_table.proofs.FilledLemmas.{homes_in}
 
-module _ (t : TableState) (g : IsTable t) (closed : IsClosed t) (q : ℕ) (lt : q < length t.access) where
+module _ (t : TableState) (g : IsTable t) (closed : IsClosedTable t) (q : ℕ) (lt : q < length t.access) where
   full : length (access_row t q) ≡ length t.suffixes
   full = closed.filled (home_at t q) [] (homes_in t g q lt)
 
@@ -56,7 +56,7 @@ states_more t q row rows now was here grown =
     )
 
 -- all states are the machine
-module _ (t : TableState) (rows : Rows) (g : IsTable t) (closed : IsClosed t) (all : AreStates t (length t.access) rows) where
+module _ (t : TableState) (rows : Rows) (g : IsTable t) (closed : IsClosedTable t) (all : AreStates t (length t.access) rows) where
   at : (q x : ℕ) → q < length t.access → x < t.inputs → IsTransition t q x (next rows q x) (output rows q x)
   at q x lt small = (all.1 q lt).1 x small
 
@@ -100,7 +100,7 @@ one_output [] one = absurd (omega arith)
 one_output (y ∷ []) one = refl
 one_output (y ∷ z ∷ outs) one = absurd (omega arith)
 
-transitions_to : (t : TableState) → IsTable t → IsClosed t → (q : ℕ) → q < length t.access → (n : ℕ) → n ≤ t.inputs → (row : Row) × AreTransitionsTo t q n row
+transitions_to : (t : TableState) → IsTable t → IsClosedTable t → (q : ℕ) → q < length t.access → (n : ℕ) → n ≤ t.inputs → (row : Row) × AreTransitionsTo t q n row
 transitions_to t g closed q lt zero le = ([], (refl, λ x below. absurd (omega arith)))
 transitions_to t g closed q lt (suc n) le =
     let r = transitions_to t g closed q lt n (omega (arith, le)) in
@@ -113,7 +113,7 @@ transitions_to t g closed q lt (suc n) le =
       subst (λ (k : ℕ). AreTransitionsTo t q k (r.0 ++ (there.0, get_or out 0 0) ∷ [])) next (transitions_more t q n there.0 (get_or out 0 0) r.0 (r.0 ++ (there.0, get_or out 0 0) ∷ []) r.1 here refl),
     )
 
-states_to : (t : TableState) → IsTable t → IsClosed t → (n : ℕ) → n ≤ length t.access → (rows : Rows) × AreStates t n rows
+states_to : (t : TableState) → IsTable t → IsClosedTable t → (n : ℕ) → n ≤ length t.access → (rows : Rows) × AreStates t n rows
 states_to t g closed zero le = ([], (refl, λ x below. absurd (omega arith)))
 states_to t g closed (suc n) le =
     let r = states_to t g closed n (omega (arith, le)) in

@@ -5,7 +5,7 @@ use Rattle.lw_cache.specs.Crowd.{IsCrowd}
 use Rattle.lw_cache.specs.Cut.{word_at}
 use Rattle.lw_cache.specs.declared.stops.GrowStop.{GrowStop}
 use Rattle.lw_cache.specs.declared.stops.GrowStop.TheVariants.{Crowd}
-use Rattle.lw_table.specs.Table.{TableState, row_at, home_at, IsTable, CellsAreRead, IsClosed}
+use Rattle.lw_table.specs.Table.{TableState, row_at, home_at, IsTable, CellsAreRead, IsClosedTable}
 
 -- the same numbers, more access words at the end, rows that go on as they began, access words whose rows are where they were,
 -- and cells that are what the answers say; cells are filled together: the rows that were there are as they were, or each has a
@@ -41,7 +41,7 @@ TellsCrowd ks now result = (words : List (List ℕ)) → result ≡ Err (Crowd w
 -- a table once it was to be closed
 pub record HasClosed (ks : List Answer) (before now : TableState) (result : Result ⊤ GrowStop) : Type 0 where
   pub grown : HasGrown ks before now
-  pub closed : OnOk result (IsClosed now)
+  pub closed : OnOk result (IsClosedTable now)
   pub suffixes : now.suffixes ≡ before.suffixes
   pub refinements : now.refinements ≡ before.refinements
   pub crowd : TellsCrowd ks now result
@@ -49,7 +49,7 @@ pub record HasClosed (ks : List Answer) (before now : TableState) (result : Resu
 -- a table once it was to be refined with a suffix; where it was refused, the suffix may have been added
 pub record HasRefined (ks : List Answer) (suffix : List ℕ) (before now : TableState) (result : Result ⊤ GrowStop) : Type 0 where
   pub grown : HasGrown ks before now
-  pub closed : OnOk result (IsClosed now)
+  pub closed : OnOk result (IsClosedTable now)
   pub split : OnOk result (length before.access < length now.access)
   pub added : OnOk result (now.suffixes ≡ before.suffixes ++ suffix ∷ [])
   pub left : OnErr result ((now.suffixes ≡ before.suffixes) ⊎ (now.suffixes ≡ before.suffixes ++ suffix ∷ []))

@@ -4,7 +4,7 @@ use Rattle.lw_words.specs.Answer.{Answer, AreAnswers}
 use Rattle.lw_mealy.specs.Machine.{Rows}
 use Rattle.lw_cache.specs.Crowd.{IsCrowd}
 use Rattle.lw_cache.specs.Cut.{AreAccess, StepsAreRead}
-use Rattle.lw_table.specs.Table.{TableState, IsTable, CellsAreRead, IsClosed, IsMachineOf, new_table}
+use Rattle.lw_table.specs.Table.{TableState, IsTable, CellsAreRead, IsClosedTable, IsMachineOf, new_table}
 
 -- a new table has no cell that could be read otherwise
 abbrev pub NewIsRead : Type 0
@@ -16,7 +16,7 @@ CellsStay = (ks more : List Answer) (t : TableState) → CellsAreRead ks t → C
 
 -- a closed table has a machine
 abbrev pub HasMachine : Type 0
-HasMachine = (t : TableState) → IsTable t → IsClosed t → (m : Rows) × IsMachineOf t m
+HasMachine = (t : TableState) → IsTable t → IsClosedTable t → (m : Rows) × IsMachineOf t m
 
 -- a table has one machine at most
 abbrev pub OneMachine : Type 0
@@ -28,7 +28,7 @@ AccessLeads = (t : TableState) (m : Rows) → IsTable t → IsMachineOf t m → 
 
 -- each access word followed by each letter is known, with the machine's outputs
 abbrev pub MachineGivesCells : Type 0
-MachineGivesCells = (ks : List Answer) (t : TableState) (m : Rows) → IsTable t → AreAnswers t.inputs ks → CellsAreRead ks t → IsClosed t → IsMachineOf t m → StepsAreRead ks t.inputs m t.access
+MachineGivesCells = (ks : List Answer) (t : TableState) (m : Rows) → IsTable t → AreAnswers t.inputs ks → CellsAreRead ks t → IsClosedTable t → IsMachineOf t m → StepsAreRead ks t.inputs m t.access
 
 -- any two access words are apart
 abbrev pub AccessIsCrowd : Type 0

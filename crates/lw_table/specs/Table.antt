@@ -85,7 +85,7 @@ pub record CellsAreRead (ks : List Answer) (t : TableState) : Type 0 where
   pub extensions : (q x : ℕ) → q < length t.access → x < t.inputs → RowIsRead ks (word_at t.access q ++ x ∷ []) t.suffixes (extension_row t q x)
 
 -- each cell is filled, and each extension has the row of an access word
-pub record IsClosed (t : TableState) : Type 0 where
+pub record IsClosedTable (t : TableState) : Type 0 where
   pub filled : All (λ row. length row ≡ length t.suffixes) t.cells
   pub targets : (q x : ℕ) → q < length t.access → x < t.inputs → (p : ℕ) × (p < length t.access) × (extension_row t q x ≡ access_row t p)
 

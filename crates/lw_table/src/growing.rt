@@ -5,7 +5,7 @@ ghost use Rattle.lw_cache.specs.Cut.{IsCut};
 ghost use Rattle.lw_cache.specs.Settling.{Keeps, MayAsk, Leaves, grown_stop};
 ghost use Rattle.lw_mealy.specs.Machine.{Rows};
 ghost use Rattle.lw_table.specs.Grown.{HasGrown, TellsCrowd, HasClosed, HasRefined};
-ghost use Rattle.lw_table.specs.Table.{row_at, access_row, IsTable, CellsAreRead, IsClosed, IsMachineOf};
+ghost use Rattle.lw_table.specs.Table.{row_at, access_row, IsTable, CellsAreRead, IsClosedTable, IsMachineOf};
 ghost use Rattle.lw_table.specs.bodies.Growing.{AreFull, HasState, HaveStates, refined_once};
 ghost use Rattle.lw_table.specs.bodies.Rows.{IsRowWord};
 
@@ -121,7 +121,7 @@ impl ObservationTable {
         requires inputs { self.old.inputs ≡ (O.state oracle.old).inputs }
         requires outputs { self.old.outputs ≡ (O.state oracle.old).outputs }
         requires read { CellsAreRead (answers_of (O.state oracle.old).kept) self.old }
-        requires closed { IsClosed self.old }
+        requires closed { IsClosedTable self.old }
         requires cut { (m : Rows) × IsMachineOf self.old m × IsCut
             (answers_of (O.state oracle.old).kept) self.old.inputs m self.old.access cut.now }
         ensures refines { HasRefined (answers_of (O.state oracle.new).kept) cut.now.suffix self.old

@@ -1,7 +1,7 @@
 //! The machine of a closed table.
 ghost use Rattle.std.specs.Prelude.{◌≡◌, ◌<◌, length, map, IfOk};
 ghost use Rattle.lw_mealy.specs.Limits.{IsWithinLimits, mealy_of};
-ghost use Rattle.lw_table.specs.Table.{access_row, IsClosed, IsMachineOf};
+ghost use Rattle.lw_table.specs.Table.{access_row, IsClosedTable, IsMachineOf};
 ghost use Rattle.lw_table.specs.bodies.Classes.{AreSingles};
 ghost use Rattle.lw_table.specs.bodies.Transitions.{AreTransitions};
 
@@ -30,7 +30,7 @@ fn machine_of(
 impl ObservationTable {
     /// The output of a state at each letter.
     fn letter_outputs(&self, state: usize) -> Result<Vec<u16>, NoMemory>
-        requires closed { IsClosed self.now }
+        requires closed { IsClosedTable self.now }
         requires state { state < length self.now.access }
         ensures { IfOk result (λ outs. AreSingles (access_row self.now state) self.now.inputs
             outs.items) }
@@ -42,7 +42,7 @@ impl ObservationTable {
 
     /// The target and the output of a state at each letter.
     fn transitions(&self, state: usize) -> Result<Vec<(u16, u16)>, NoMemory>
-        requires closed { IsClosed self.now }
+        requires closed { IsClosedTable self.now }
         requires state { state < length self.now.access }
         ensures { IfOk result (λ row. AreTransitions self.now state row.items) }
     {
@@ -63,7 +63,7 @@ impl ObservationTable {
     /// # Errors
     /// Only where memory runs out.
     pub fn machine(&self) -> Result<Mealy, NoMemory>
-        requires closed { IsClosed self.now }
+        requires closed { IsClosedTable self.now }
         ensures value { IfOk result (λ m. IsMachineOf self.now m.rows) }
         ensures inputs { IfOk result (λ m. m.inputs ≡ self.now.inputs) }
         ensures outputs { IfOk result (λ m. m.outputs ≡ self.now.outputs) }

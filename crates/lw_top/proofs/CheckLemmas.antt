@@ -9,7 +9,7 @@ use Rattle.lw_report.specs.declared.outcome.Outcome.{Outcome}
 use Rattle.lw_report.specs.declared.outcome.Outcome.TheVariants.{NoMemory, SinkFault, Usage, Yes}
 use Rattle.lw_check.specs.CheckRun.{IsCheckRun}
 use Rattle.lw_check.specs.Decision.{IsDecision}
-use Rattle.lw_check.specs.Ending.{EndsRead, EndsUnread}
+use Rattle.lw_check.specs.Ending.{EndsPairRead, EndsUnread}
 use Rattle.lw_check.specs.Reading.{IsUnread}
 use Rattle.lw_top.specs.Run.{TellsOutcome}
 
@@ -37,11 +37,11 @@ wanted_check model answers extra f o e d end out r =
     }
 
 -- `check` never comes to the usage
-pub no_usage : (model answers : List ℕ) (extra : ℕ) (f g : FilesState) (o p e d : SinkState) (end : End) → EndsUnread model answers f g extra o p e d end.outcome end.kept.answers end.outputs ⊎ EndsRead model answers f g extra o p e d end.outcome end.kept.answers end.outputs → end.outcome ≡ Usage → ⊥
+pub no_usage : (model answers : List ℕ) (extra : ℕ) (f g : FilesState) (o p e d : SinkState) (end : End) → EndsUnread model answers f g extra o p e d end.outcome end.kept.answers end.outputs ⊎ EndsPairRead model answers f g extra o p e d end.outcome end.kept.answers end.outputs → end.outcome ≡ Usage → ⊥
 no_usage model answers extra f g o p e d end ended is =
     ⊎_elim
     (λ (u : EndsUnread model answers f g extra o p e d end.outcome end.kept.answers end.outputs). subst (IsUnread model answers f g) is u.cause)
-    (λ (r : EndsRead model answers f g extra o p e d end.outcome end.kept.answers end.outputs). ⊎_elim
+    (λ (r : EndsPairRead model answers f g extra o p e d end.outcome end.kept.answers end.outputs). ⊎_elim
     (λ decided. subst (IsDecision r.pair extra) is decided)
     (λ s. ⊎_elim (λ none. let wrong : NoMemory ≡ Usage = sym none ∙ is in absurd (cc)) (λ t. let wrong : SinkFault ≡ Usage = sym t.0 ∙ is in absurd (cc)) s)
     r.comes)

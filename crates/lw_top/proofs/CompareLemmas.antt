@@ -5,7 +5,7 @@ use Rattle.lw_outside.specs.Streams.{SinkState}
 use Rattle.lw_report.specs.declared.«end».End.{End}
 use Rattle.lw_report.specs.declared.outcome.Outcome.TheVariants.{NoMemory}
 use Rattle.lw_compare.specs.CompareRun.{IsCompareRun}
-use Rattle.lw_compare.specs.Outcomes.{IsRefused as IsRefusedOutcome, IsUntroubled}
+use Rattle.lw_compare.specs.Outcomes.{ComparesNothing as IsRefusedOutcome, IsUntroubled}
 use Rattle.lw_compare.specs.Reading.{IsUnread}
 use Rattle.lw_top.specs.Run.{TellsOutcome}
 

@@ -2,7 +2,7 @@
 use Rattle.std.specs.Prelude.{ℕ, List, codes, Option, Some, None, if◌then◌else◌, ◌&&◌}
 use Rattle.clap.specs.Faults.{fault_of}
 use Rattle.clap.specs.Words.{App, Row, first_of, matches_of, new_app, one_of, with_rule}
-use Rattle.lw_top.specs.CommandLine.{is_command, is_faultless, number_in}
+use Rattle.lw_top.specs.CommandLine.{is_command, is_faultless, number_in_range}
 use Rattle.lw_top.specs.Options.{number_option, required_argument}
 
 -- the values of the arguments of `check`: the model file, the answers file and the extra states
@@ -23,7 +23,7 @@ values_from (Some model) (Some answers) None = None
 values_from (Some model) (Some answers) (Some extra) = Some (record { model = model; answers = answers; extra = extra })
 
 abbrev pub values_in : List Row → Option CheckValues
-values_in rows = values_from (first_of (codes "model") rows) (first_of (codes "answers") rows) (number_in 0 4 (one_of (codes "extra") rows))
+values_in rows = values_from (first_of (codes "model") rows) (first_of (codes "answers") rows) (number_in_range 0 4 (one_of (codes "extra") rows))
 
 -- what the arguments say to `check`, where they are taken
 abbrev pub check_values : List (List ℕ) → Option CheckValues

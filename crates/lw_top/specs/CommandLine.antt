@@ -26,9 +26,9 @@ is_faultless [] = true
 is_faultless (k ∷ ks) = false
 
 -- the number that a text spells, where it is in the range
-abbrev pub number_in : ℕ → ℕ → Option (List ℕ) → Option ℕ
-number_in low high None = None
-number_in low high (Some text) = if is_unsigned_in low high text then Some (digits_value 10 (without_leading_plus text)) else None
+abbrev pub number_in_range : ℕ → ℕ → Option (List ℕ) → Option ℕ
+number_in_range low high None = None
+number_in_range low high (Some text) = if is_unsigned_in low high text then Some (digits_value 10 (without_leading_plus text)) else None
 
 -- the kind of learner that a text names
 abbrev pub kind_named : List ℕ → Option Kind

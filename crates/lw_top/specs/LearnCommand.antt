@@ -7,7 +7,7 @@ use Rattle.lw_learn.specs.Arguments.{LearnValues}
 use Rattle.lw_learn.specs.declared.arguments.Drawn.{Drawn}
 use Rattle.lw_learn.specs.declared.arguments.Source.{Source}
 use Rattle.lw_learn.specs.declared.arguments.Source.TheVariants.{Setup, Table}
-use Rattle.lw_top.specs.CommandLine.{is_command, is_faultless, kind_named, number_in}
+use Rattle.lw_top.specs.CommandLine.{is_command, is_faultless, kind_named, number_in_range}
 use Rattle.lw_top.specs.Options.{default_option, free_number, number_option, optional_argument, text_option}
 
 -- learn (SETUP | --table FILE) [--workers N] [--extra K] [--learner table|ttt] [--max-states N] [--model FILE] [--answers FILE] [--prior FILE]
@@ -56,7 +56,7 @@ drawn_from (Some count) (Some length) (Some seed) = Some (Some (record { count =
 drawn_from _ _ _ = None
 
 abbrev pub drawn_in : List Row → Option (Option Drawn)
-drawn_in rows = drawn_from (number_in 0 1000000 (one_of (codes "random") rows)) (number_in 0 65536 (one_of (codes "length") rows)) (number_in 0 18446744073709551615 (one_of (codes "seed") rows))
+drawn_in rows = drawn_from (number_in_range 0 1000000 (one_of (codes "random") rows)) (number_in_range 0 65536 (one_of (codes "length") rows)) (number_in_range 0 18446744073709551615 (one_of (codes "seed") rows))
 
 -- the values, where the system's file is named, the numbers are in their ranges and the learner is of a kind
 abbrev pub values_from : Option (Source × List ℕ) → (workers extra : Option ℕ) → Option Kind → Option ℕ → Option (Option Drawn) → (model answers prior kept words log : Option (List ℕ)) → Option LearnValues
@@ -86,8 +86,8 @@ values_from (Some s) (Some workers) (Some extra) (Some learner) (Some max_states
 
 abbrev pub values_in : List Row → Option LearnValues
 values_in rows =
-    values_from (source_from (first_of (codes "setup") rows) (first_of (codes "table") rows)) (number_in 1 16 (one_of (codes "workers") rows)) (number_in 0 4 (one_of (codes "extra") rows))
-    (option_and_then kind_named (first_of (codes "learner") rows)) (number_in 1 1024 (one_of (codes "max-states") rows)) (drawn_in rows)
+    values_from (source_from (first_of (codes "setup") rows) (first_of (codes "table") rows)) (number_in_range 1 16 (one_of (codes "workers") rows)) (number_in_range 0 4 (one_of (codes "extra") rows))
+    (option_and_then kind_named (first_of (codes "learner") rows)) (number_in_range 1 1024 (one_of (codes "max-states") rows)) (drawn_in rows)
     (first_of (codes "model") rows) (first_of (codes "answers") rows) (first_of (codes "prior") rows)
     (first_of (codes "kept") rows) (first_of (codes "words") rows) (first_of (codes "log") rows)
 

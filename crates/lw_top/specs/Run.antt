@@ -43,7 +43,7 @@ pub record TellsOutcome (before now : SinkState) (end : End) : Type 0 where
   pub part : TakesSome (said_text None None [] 0 end.outcome) before.taken now.taken
 
 -- arguments were not taken: nothing was read, started, asked for, written or put but the outcome's text to `err`
-pub record IsRefused (before now : World) (end : End) : Type 0 where
+pub record ArgumentsAreRefused (before now : World) (end : End) : Type 0 where
   pub outcome : (end.outcome ≡ Usage) ⊎ (end.outcome ≡ NoMemory)
   pub files : now.files ≡ before.files
   pub spawner : now.spawner ≡ before.spawner
@@ -104,7 +104,7 @@ pub record RunsRecheck (arguments : RecheckValues) (before now : World) (end : E
 
 -- by the call that the arguments make
 abbrev pub Runs : Option CallValues → World → World → End → Type 0
-Runs None before now end = IsRefused before now end
+Runs None before now end = ArgumentsAreRefused before now end
 Runs (Some (Learn arguments)) before now end = RunsLearn arguments before now end
 Runs (Some (Check arguments)) before now end = RunsCheck arguments before now end
 Runs (Some (Trial arguments)) before now end = RunsTrial arguments before now end

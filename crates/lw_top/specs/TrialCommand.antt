@@ -4,7 +4,7 @@ use Rattle.clap.specs.Faults.{fault_of}
 use Rattle.clap.specs.Words.{App, Row, first_of, matches_of, new_app, one_of, with_rule}
 use Rattle.lw_rounds.specs.declared.learner.Kind.{Kind}
 use Rattle.lw_trial.specs.Arguments.{TrialValues}
-use Rattle.lw_top.specs.CommandLine.{is_command, is_faultless, kind_named, number_in}
+use Rattle.lw_top.specs.CommandLine.{is_command, is_faultless, kind_named, number_in_range}
 use Rattle.lw_top.specs.Options.{default_option, number_option, required_number}
 
 -- trial --states N --inputs A --seed S [--workers N] [--learner table|ttt]
@@ -29,8 +29,8 @@ values_from (Some states) (Some inputs) (Some seed) (Some workers) (Some learner
 
 abbrev pub values_in : List Row → Option TrialValues
 values_in rows =
-    values_from (number_in 1 1024 (one_of (codes "states") rows)) (number_in 1 64 (one_of (codes "inputs") rows))
-    (number_in 0 18446744073709551615 (one_of (codes "seed") rows)) (number_in 1 16 (one_of (codes "workers") rows))
+    values_from (number_in_range 1 1024 (one_of (codes "states") rows)) (number_in_range 1 64 (one_of (codes "inputs") rows))
+    (number_in_range 0 18446744073709551615 (one_of (codes "seed") rows)) (number_in_range 1 16 (one_of (codes "workers") rows))
     (option_and_then kind_named (first_of (codes "learner") rows))
 
 -- what the arguments say to `trial`, where they are taken

@@ -1,7 +1,7 @@
 //! The values of arguments that clap has read.
 ghost use Rattle.std.specs.Prelude.{◌≡◌, ◌&&◌, [], map, unwrap_or, Some, None, nat_le, if◌then◌else◌, option_and_then, option_map, IfOk, string_bytes};
 ghost use Rattle.clap.specs.Words.{all_of, first_of, found_of, kind_of, one_of, rows_of};
-ghost use Rattle.lw_top.specs.CommandLine.{kind_named, number_in, refusal_of};
+ghost use Rattle.lw_top.specs.CommandLine.{kind_named, number_in_range, refusal_of};
 
 use clap::error::ErrorKind;
 use clap::{ArgMatches, Error};
@@ -107,7 +107,7 @@ fn within(number: Option<u64>, low: u64, high: u64) -> Option<u64>
 
 /// The number of an argument, where it is in the range.
 pub(crate) fn number_at(matches: &ArgMatches, id: &str, low: u64, high: u64) -> Option<u64>
-    ensures { result ≡ number_in low high (one_of id.now (rows_of (found_of matches.now))) }
+    ensures { result ≡ number_in_range low high (one_of id.now (rows_of (found_of matches.now))) }
 {
     within(matches.get_one::<u64>(id), low, high)
 }

@@ -2,7 +2,7 @@
 ghost use Rattle.std.specs.Prelude.{◌≡◌, ℕ, ◌+◌, ◌*◌, ◌-◌, ◌%◌, ◌<◌, ◌≤◌, map, nat_eq, if◌then◌else◌, IfOk, OnOk};
 ghost use Rattle.std.specs.List.{range_with_len};
 ghost use Rattle.lw_mealy.specs.Limits.{IsWithinLimits, mealy_of};
-ghost use Rattle.lw_trial.specs.Drawn.{after_words, word_at, drawn_cell, drawn_rows};
+ghost use Rattle.lw_trial.specs.Drawn.{after_words, generator_word, drawn_cell, drawn_rows};
 
 use lw_mealy::{Mealy, MealyFault};
 use lw_words::NoMemory;
@@ -24,8 +24,8 @@ fn round_pair(states: u16, state: u16) -> (u16, u16)
 /// A target among so many states, and an output: two words.
 fn drawn_pair(random: &mut Lcg128Xsl64, states: u16) -> (u16, u16)
     requires { 0 < states }
-    ensures target { result.0 ≡ word_at random.old 0 % states }
-    ensures output { result.1 ≡ word_at random.old 1 % 2 }
+    ensures target { result.0 ≡ generator_word random.old 0 % states }
+    ensures output { result.1 ≡ generator_word random.old 1 % 2 }
     ensures random { random.new ≡ after_words random.old 2 }
 {
     let target = random.next_word() % u64::from(states);

@@ -15,7 +15,7 @@ use Rattle.lw_turn.specs.declared.view.Doing.{Doing}
 use Rattle.lw_turn.specs.declared.view.Stage.TheVariants.{Idle, Turning}
 use Rattle.lw_turn.specs.History.{entries_of}
 use Rattle.lw_turn.specs.Turns.{Carries}
-use Rattle.lw_turn.specs.Rule.{ticket_of, IsLive, IsSpent, Fits, AreTickets, IsTurn, RuleHolds}
+use Rattle.lw_turn.specs.Rule.{ticket_of, IsLiveStage, IsSpent, Fits, AreTickets, IsTurn, RuleHolds}
 use Rattle.lw_turn.specs.Steps.{End, grown}
 use Rattle.lw_turn.proofs.Histories.{prefix_refl, prefix_more, prefix_trans, own_more, other_more}
 use Rattle.lw_turn.proofs.Places.{there}
@@ -81,7 +81,7 @@ module _ {C O A B : Type 0} (actors : O → ℕ) (legal : O → List (Entry A B)
       ended = λ n x is. let h = fit.ended n x is in let g = gone n h.2 in (g.1 ∙ h.0, prefix_trans x.seen k.log log' h.1 (prefix_more k.log (e ∷ [])), g.0);
     }
 
-    live_still : (i : ℕ) (x : Doing O A B) → get_elem? places i ≡ some x → IsLive x.stage → Fits o log' places i x.view
+    live_still : (i : ℕ) (x : Doing O A B) → get_elem? places i ≡ some x → IsLiveStage x.stage → Fits o log' places i x.view
     live_still i x is lx =
         ⊎_elim
         (λ (h : (i ≡ id) × (new ≡ x)). subst (λ (y : Doing O A B). Fits o log' places i y.view) h.1 (subst (λ (n : ℕ). Fits o log' places n new.view) (sym h.0) own_fit))

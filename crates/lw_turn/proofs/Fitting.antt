@@ -11,11 +11,11 @@ use Rattle.lw_turn.specs.declared.view.Doing.{Doing}
 use Rattle.lw_turn.specs.declared.view.Stage.{Stage}
 use Rattle.lw_turn.specs.declared.view.Stage.TheVariants.{Idle, Waiting, Turning, Spent}
 use Rattle.lw_turn.specs.History.{entries_of}
-use Rattle.lw_turn.specs.Rule.{IsLive, IsSpent, Fits}
+use Rattle.lw_turn.specs.Rule.{IsLiveStage, IsSpent, Fits}
 use Rattle.lw_turn.proofs.Histories.{prefix_refl, prefix_trans}
 use Rattle.lw_turn.proofs.Places.{one_at}
 
-pub live_not_spent : (s : Stage) → IsLive s → s ≢ Spent
+pub live_not_spent : (s : Stage) → IsLiveStage s → s ≢ Spent
 live_not_spent Idle h e = cc
 live_not_spent (Waiting t) h e = cc
 live_not_spent (Turning t) h e = cc
@@ -23,13 +23,13 @@ live_not_spent Spent h e = h
 
 module _ {O A B : Type 0} where
   -- a pass that was joined is not one that takes a step
-  pub spent_apart : (places : List (Doing O A B)) (id n : ℕ) (d : Doing O A B) → get_elem? places id ≡ some d → IsLive d.stage → IsSpent places n → n ≢ id
+  pub spent_apart : (places : List (Doing O A B)) (id n : ℕ) (d : Doing O A B) → get_elem? places id ≡ some d → IsLiveStage d.stage → IsSpent places n → n ≢ id
   spent_apart places id n d at live sp e =
       let P : ℕ → Type 0 = λ k. get_elem? places k ≡ some sp.0 in
       let same : d ≡ sp.0 = one_at places id d sp.0 at (subst P e sp.1) in
       let st : d.stage ≡ Spent = ap (λ (x : Doing O A B). x.stage) same ∙ sp.2 in live_not_spent d.stage live st
 
-  pub spent_set : (places : List (Doing O A B)) (id n : ℕ) (d new : Doing O A B) → get_elem? places id ≡ some d → IsLive d.stage → IsSpent places n → IsSpent (set places id new) n
+  pub spent_set : (places : List (Doing O A B)) (id n : ℕ) (d new : Doing O A B) → get_elem? places id ≡ some d → IsLiveStage d.stage → IsSpent places n → IsSpent (set places id new) n
   spent_set places id n d new at live sp = (sp.0, set_else places id n new (spent_apart places id n d at live sp) ∙ sp.1, sp.2)
 
   pub spent_longer : (places more : List (Doing O A B)) (n : ℕ) → IsSpent places n → IsSpent (places ++ more) n
@@ -49,10 +49,10 @@ module _ {O A B : Type 0} where
   }
 
   -- all places after one was changed, and the history has not
-  pub live_set : (o : O) (log : List (Entry A B)) (places : List (Doing O A B)) (id : ℕ) (d new : Doing O A B) → get_elem? places id ≡ some d → IsLive d.stage
-      → ((i : ℕ) (x : Doing O A B) → get_elem? places i ≡ some x → IsLive x.stage → Fits o log places i x.view)
+  pub live_set : (o : O) (log : List (Entry A B)) (places : List (Doing O A B)) (id : ℕ) (d new : Doing O A B) → get_elem? places id ≡ some d → IsLiveStage d.stage
+      → ((i : ℕ) (x : Doing O A B) → get_elem? places i ≡ some x → IsLiveStage x.stage → Fits o log places i x.view)
       → Fits o log places id new.view
-      → (i : ℕ) (x : Doing O A B) → get_elem? (set places id new) i ≡ some x → IsLive x.stage → Fits o log (set places id new) i x.view
+      → (i : ℕ) (x : Doing O A B) → get_elem? (set places id new) i ≡ some x → IsLiveStage x.stage → Fits o log (set places id new) i x.view
   live_set o log places id d new at live all own i x is lx =
       let len = length-set places id new in
       let still : (j : ℕ) (v : View O A B) → Fits o log places j v → Fits o log (set places id new) j v = λ j v f.

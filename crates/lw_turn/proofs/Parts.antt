@@ -12,7 +12,7 @@ use Rattle.lw_turn.specs.declared.view.Ended.{Ended}
 use Rattle.lw_turn.specs.declared.view.Doing.{Doing}
 use Rattle.lw_turn.specs.declared.view.Stage.TheVariants.{Idle}
 use Rattle.lw_turn.specs.History.{entries_of}
-use Rattle.lw_turn.specs.Rule.{IsLive, IsSpent, Fits, IsTurn, RuleHolds}
+use Rattle.lw_turn.specs.Rule.{IsLiveStage, IsSpent, Fits, IsTurn, RuleHolds}
 use Rattle.lw_turn.specs.Steps.{one_more, next_place}
 use Rattle.lw_turn.proofs.Histories.{prefix_refl}
 use Rattle.lw_turn.proofs.Places.{there, at_snoc_index}
@@ -81,7 +81,7 @@ module _ {C O A B : Type 0} (actors : O → ℕ) (legal : O → List (Entry A B)
         nothing : (e : Ended A B) → None ≡ Some e → ⊥
         nothing e q = cc
 
-    live_still : (i : ℕ) (x : Doing O A B) → get_elem? places i ≡ some x → IsLive x.stage → Fits o k.log places i x.view
+    live_still : (i : ℕ) (x : Doing O A B) → get_elem? places i ≡ some x → IsLiveStage x.stage → Fits o k.log places i x.view
     live_still i x is lx =
         ⊎_elim
         (λ (h : get_elem? changed i ≡ some x).

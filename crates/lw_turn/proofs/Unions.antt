@@ -15,7 +15,7 @@ use Rattle.lw_turn.specs.declared.view.Doing.{Doing}
 use Rattle.lw_turn.specs.declared.view.Stage.TheVariants.{Idle}
 use Rattle.lw_turn.specs.History.{entries_of}
 use Rattle.lw_turn.specs.Views.{ended_of, ended_view}
-use Rattle.lw_turn.specs.Rule.{IsLive, IsSpent, Fits, IsTurn, RuleHolds}
+use Rattle.lw_turn.specs.Rule.{IsLiveStage, IsSpent, Fits, IsTurn, RuleHolds}
 use Rattle.lw_turn.specs.Steps.{with_ended, spent_place}
 use Rattle.lw_turn.proofs.Histories.{prefix_refl}
 use Rattle.lw_turn.proofs.Places.{there}
@@ -83,10 +83,10 @@ module _ {C O A B : Type 0} (actors : O → ℕ) (legal : O → List (Entry A B)
       ended = λ n x is. ended_fits n x (eqb w.number n) refl is;
     }
 
-    live_still : (i : ℕ) (x : Doing O A B) → get_elem? places i ≡ some x → IsLive x.stage → Fits o k.log places i x.view
+    live_still : (i : ℕ) (x : Doing O A B) → get_elem? places i ≡ some x → IsLiveStage x.stage → Fits o k.log places i x.view
     live_still i x is lx =
         ⊎_elim
-        (λ (h : (i ≡ other) × (spent ≡ x)). absurd (subst (λ (y : Doing O A B). IsLive y.stage) (sym h.1) lx))
+        (λ (h : (i ≡ other) × (spent ≡ x)). absurd (subst (λ (y : Doing O A B). IsLiveStage y.stage) (sym h.1) lx))
         (λ (h : (i ≢ other) × (get_elem? changed i ≡ some x)).
         ⊎_elim
         (λ (q : (i ≡ id) × (both ≡ x)). subst (λ (y : Doing O A B). Fits o k.log places i y.view) q.1 (subst (λ (n : ℕ). Fits o k.log places n both.view) (sym q.0) both_fits))

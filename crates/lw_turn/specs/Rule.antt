@@ -20,11 +20,11 @@ ticket_of (Waiting t) = Some t
 ticket_of (Turning t) = Some t
 ticket_of Spent = None
 
-abbrev pub IsLive : Stage → Type 0
-IsLive Idle = Unit {0}
-IsLive (Waiting t) = Unit {0}
-IsLive (Turning t) = Unit {0}
-IsLive Spent = ⊥
+abbrev pub IsLiveStage : Stage → Type 0
+IsLiveStage Idle = Unit {0}
+IsLiveStage (Waiting t) = Unit {0}
+IsLiveStage (Turning t) = Unit {0}
+IsLiveStage Spent = ⊥
 
 module _ {O A B : Type 0} where
   abbrev pub has_ticket : Doing O A B → Bool
@@ -71,7 +71,7 @@ module _ {C O A B : Type 0} (actors : O → ℕ) (legal : O → List (Entry A B)
     pub lawful : legal o log
     pub room : length s.views ≤ actors o
     pub tickets : AreTickets (length log) next s.views
-    pub live : (i : ℕ) (d : Doing O A B) → get_elem? s.views i ≡ some d → IsLive d.stage → Fits o log s.views i d.view
+    pub live : (i : ℕ) (d : Doing O A B) → get_elem? s.views i ≡ some d → IsLiveStage d.stage → Fits o log s.views i d.view
     pub absent : (n : ℕ) → length s.views ≤ n → entries_of n log ≡ []
     pub turning : (i : ℕ) (d : Doing O A B) (t : ℕ) → get_elem? s.views i ≡ some d → d.stage ≡ Turning t → IsTurn log s.homes d t
     pub slot : IsHome opening entries o log s.homes ⊎ IsOut s.views

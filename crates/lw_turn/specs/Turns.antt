@@ -6,8 +6,8 @@ use Rattle.lw_turn.specs.declared.view.View.{View}
 use Rattle.lw_turn.specs.declared.view.Doing.{Doing}
 
 -- the history so far, and this entry
-abbrev pub one_more : {O A B : Type 0} → View O A B → ℕ → A → B → List (Entry A B)
-one_more v n ask reply = v.seen ++ record { actor = n; ask = ask; reply = reply } ∷ []
+abbrev pub with_entry : {O A B : Type 0} → View O A B → ℕ → A → B → List (Entry A B)
+with_entry v n ask reply = v.seen ++ record { actor = n; ask = ask; reply = reply } ∷ []
 
 module _ {C O A B : Type 0} (opening : C → O) (entries : C → List (Entry A B)) where
   -- the core, whose list is this history, is out with the caller
@@ -18,5 +18,5 @@ module _ {C O A B : Type 0} (opening : C → O) (entries : C → List (Entry A B
 
   -- it was asked once since the caller saw the history, and the history is lawful still
   pub record WasAsked (legal : O → List (Entry A B) → Type 0) (core : C) (v : View O A B) (n : ℕ) (ask : A) (reply : B) (me : Me (Option C) (Doing O A B)) : Type 0 where
-    pub carries : Carries core (one_more v n ask reply) me
-    pub lawful : legal v.opening (one_more v n ask reply)
+    pub carries : Carries core (with_entry v n ask reply) me
+    pub lawful : legal v.opening (with_entry v n ask reply)

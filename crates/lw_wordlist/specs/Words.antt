@@ -13,12 +13,12 @@ abbrev pub names_in : List ℕ → List (List ℕ)
 names_in text = filter is_some_text (slice_split (λ c. c == 32) text)
 
 -- the word of these names, where each is a letter's
-abbrev pub word_of : (letters names : List (List ℕ)) → Option (List ℕ)
-word_of letters names = each_of (λ name. number_of name letters) names
+abbrev pub word_of_names : (letters names : List (List ℕ)) → Option (List ℕ)
+word_of_names letters names = each_of (λ name. number_of name letters) names
 
 -- the words of these texts, where all their names are letters'
-abbrev pub words_of : (letters texts : List (List ℕ)) → Option (List (List ℕ))
-words_of letters texts = each_of (λ text. word_of letters (names_in text)) texts
+abbrev pub words_of_texts : (letters texts : List (List ℕ)) → Option (List (List ℕ))
+words_of_texts letters texts = each_of (λ text. word_of_names letters (names_in text)) texts
 
 -- all names in a text are letters'
 abbrev pub HasLetters : List (List ℕ) → List ℕ → Type 0

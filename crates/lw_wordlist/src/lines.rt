@@ -4,7 +4,7 @@ ghost use Rattle.std.specs.List.{All};
 ghost use Rattle.std.specs.Io.BufRead.{strip_last};
 ghost use Rattle.lw_words.specs.Word.{IsWord};
 ghost use Rattle.lw_wordlist.specs.Lines.{lines_in};
-ghost use Rattle.lw_wordlist.specs.Words.{IsFirstUnknown, words_of};
+ghost use Rattle.lw_wordlist.specs.Words.{IsFirstUnknown, words_of_texts};
 ghost use Rattle.lw_wordlist.specs.declared.words.WordStop.{WordStop as Whole};
 
 use crate::words::{WordStop, words_from};
@@ -39,7 +39,7 @@ fn lines_of(alloc: Global, text: &str) -> Result<Vec<&str>, AllocError>
 /// # Errors
 /// `Unknown` at the first line that has a name which is no letter's, with the first such name in it.
 pub fn read_lines(alloc: Global, letters: &Names, text: &str) -> Result<Words, WordStop>
-    ensures ok { IfOk result (λ ws. words_of letters.now (lines_in text.now) ≡ Some ws) }
+    ensures ok { IfOk result (λ ws. words_of_texts letters.now (lines_in text.now) ≡ Some ws) }
     ensures words { IfOk result (All (IsWord (length letters.now))) }
     ensures err { (word place : ℕ) → result ≡ Err (Whole.Unknown word place) →
         IsFirstUnknown letters.now (lines_in text.now) word place }

@@ -2,7 +2,7 @@
 ghost use Rattle.std.specs.Prelude.{◌≡◌, ◌+◌, ◌∷◌, ◌++◌, ℕ, [], length, map, Contains, Some, Err, IfOk, OnOk, string_bytes};
 ghost use Rattle.std.specs.List.{All};
 ghost use Rattle.lw_words.specs.Word.{IsWord};
-ghost use Rattle.lw_wordlist.specs.Words.{HasLetters, IsFirstUnknown, IsUnknownIn, names_in, word_of, words_of};
+ghost use Rattle.lw_wordlist.specs.Words.{HasLetters, IsFirstUnknown, IsUnknownIn, names_in, word_of_names, words_of_texts};
 ghost use Rattle.lw_wordlist.specs.declared.words.LetterStop.{LetterStop as Stop};
 ghost use Rattle.lw_wordlist.specs.declared.words.WordStop.{WordStop as Whole};
 
@@ -80,7 +80,8 @@ fn names_of(alloc: Global, text: &str) -> Result<Vec<&str>, AllocError>
 
 /// The word of these names.
 fn word_from(alloc: Global, letters: &Names, names: &[&str]) -> Result<Word, LetterStop>
-    ensures ok { IfOk result (λ w. word_of letters.now (map (λ n. n.now) names.now) ≡ Some w) }
+    ensures ok { IfOk result (λ w. word_of_names letters.now (map (λ n. n.now) names.now) ≡ Some w)
+        }
     ensures word { IfOk result (IsWord (length letters.now)) }
     ensures all { IfOk result (λ w. All (Contains letters.now) (map (λ n. n.now) names.now)) }
     ensures err { (place : ℕ) → result ≡ Err (Stop.Unknown place) →
@@ -98,7 +99,7 @@ fn word_from(alloc: Global, letters: &Names, names: &[&str]) -> Result<Word, Let
 
 /// The word of a text.
 fn read_word(alloc: Global, letters: &Names, text: &str) -> Result<Word, LetterStop>
-    ensures ok { IfOk result (λ w. word_of letters.now (names_in text.now) ≡ Some w) }
+    ensures ok { IfOk result (λ w. word_of_names letters.now (names_in text.now) ≡ Some w) }
     ensures word { IfOk result (IsWord (length letters.now)) }
     ensures all { IfOk result (λ w. HasLetters letters.now text.now) }
     ensures err { (place : ℕ) → result ≡ Err (Stop.Unknown place) →
@@ -132,7 +133,7 @@ fn stop_in(word: u64, stop: LetterStop) -> WordStop
 /// The words of texts.
 pub(crate) fn words_from(alloc: Global, letters: &Names, texts: &[&str]) -> Result<Words, WordStop>
     ensures ok { IfOk result (λ ws.
-        words_of letters.now (map (λ t. t.now) texts.now) ≡ Some ws) }
+        words_of_texts letters.now (map (λ t. t.now) texts.now) ≡ Some ws) }
     ensures words { IfOk result (All (IsWord (length letters.now))) }
     ensures err { (word place : ℕ) → result ≡ Err (Whole.Unknown word place) →
         IsFirstUnknown letters.now (map (λ t. t.now) texts.now) word place }
@@ -159,7 +160,7 @@ fn borrowed(alloc: Global, texts: &[String]) -> Result<Vec<&str>, AllocError>
 /// The words of these texts.
 pub fn read_words(alloc: Global, letters: &Names, texts: &[String]) -> Result<Words, WordStop>
     ensures ok { IfOk result (λ ws.
-        words_of letters.now (map (λ s. string_bytes s) texts.now) ≡ Some ws) }
+        words_of_texts letters.now (map (λ s. string_bytes s) texts.now) ≡ Some ws) }
     ensures words { IfOk result (All (IsWord (length letters.now))) }
     ensures err { (word place : ℕ) → result ≡ Err (Whole.Unknown word place) →
         IsFirstUnknown letters.now (map (λ s. string_bytes s) texts.now) word place }

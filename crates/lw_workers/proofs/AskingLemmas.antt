@@ -6,12 +6,12 @@ use Rattle.lw_words.specs.Answer.{Answer, answer_of, answers_of}
 use Rattle.lw_words.specs.Word.{IsPrefix}
 use Rattle.lw_words.specs.declared.kept.KeptAnswer.{KeptAnswer}
 use Rattle.lw_cache.specs.Known.{IsKnown}
-use Rattle.lw_workers.specs.Asking.{IsAnswered, AnswersWords}
+use Rattle.lw_workers.specs.Asking.{WordIsAnswered, AnswersWords}
 
 abbrev nothing : KeptAnswer
 nothing = record { instance = 0; run = 0; word = []; outs = [] }
 
-known_is_answered : (kept : List KeptAnswer) (w : List ℕ) → IsKnown (answers_of kept) w → IsAnswered kept w
+known_is_answered : (kept : List KeptAnswer) (w : List ℕ) → IsKnown (answers_of kept) w → WordIsAnswered kept w
 known_is_answered kept w (inl empty) = inl empty
 known_is_answered kept w (inr (i, clear, front)) =
     let lt : i < length kept = subst (λ (n : ℕ). i < n) (length-map kept answer_of) clear.0 in
@@ -25,7 +25,7 @@ known_is_answered kept w (inr (i, clear, front)) =
 pub known_are_answered : (kept : List KeptAnswer) (words : List (List ℕ)) → All (IsKnown (answers_of kept)) words → AnswersWords words kept
 known_are_answered kept words known w d lt = known_is_answered kept (get_or words w d) (known w d lt)
 
-answered_more : (kept more : List KeptAnswer) (w : List ℕ) → IsAnswered kept w → IsAnswered (kept ++ more) w
+answered_more : (kept more : List KeptAnswer) (w : List ℕ) → WordIsAnswered kept w → WordIsAnswered (kept ++ more) w
 answered_more kept more w (inl empty) = inl empty
 answered_more kept more w (inr (k, within, front)) = inr (k, Contains-append_left kept more k within, front)
 
@@ -46,7 +46,7 @@ as_long ks ls same =
     sym (length-map ks (λ (k : KeptAnswer). k.word))
     ∙ (ap (λ (ws : List (List ℕ)). length ws) same ∙ length-map ls (λ (k : KeptAnswer). k.word))
 
-answered_by_same : (ks ls : List KeptAnswer) (w : List ℕ) → map (λ k. k.word) ks ≡ map (λ k. k.word) ls → IsAnswered ks w → IsAnswered ls w
+answered_by_same : (ks ls : List KeptAnswer) (w : List ℕ) → map (λ k. k.word) ks ≡ map (λ k. k.word) ls → WordIsAnswered ks w → WordIsAnswered ls w
 answered_by_same ks ls w same (inl empty) = inl empty
 answered_by_same ks ls w same (inr (k, (i, lt, is), front)) =
     let within : i < length ls = subst (λ (n : ℕ). i < n) (as_long ks ls same) lt in

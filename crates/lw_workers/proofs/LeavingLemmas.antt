@@ -8,7 +8,7 @@ use Rattle.lw_cache.specs.declared.stops.AskStop.{AskStop}
 use Rattle.lw_mealy.specs.Origin.{Origin}
 use Rattle.lw_pool.specs.Pool.{PoolState, Seen, seen_of, origins_of}
 use Rattle.lw_pool.specs.Sharing.{oracle_of}
-use Rattle.lw_pool.specs.Standing.{Stands}
+use Rattle.lw_pool.specs.Standing.{PoolStands}
 use Rattle.lw_workers.specs.Leaving.{HasLearned}
 
 abbrev IsPrior : KeptAnswer → Type 0
@@ -40,7 +40,7 @@ below n ks few all k d lt = omega (arith, few, all k d lt)
 as_many : (ss : List Seen) → length (origins_of ss) ≡ length ss
 as_many ss = length-map ss (λ (s : Seen). s.origin)
 
-pub has_learned : {S : Type 0} (before now : PoolState S) (stop : Option AskStop) → Stands before → Stands now → Leaves (oracle_of before) (oracle_of now) stop → HasLearned before now stop
+pub has_learned : {S : Type 0} (before now : PoolState S) (stop : Option AskStop) → PoolStands before → PoolStands now → Leaves (oracle_of before) (oracle_of now) stop → HasLearned before now stop
 has_learned before now stop was stands leaves = record {
   leaves = leaves;
   stands = stands;

@@ -5,9 +5,9 @@ use Rattle.lw_words.specs.Word.{IsPrefix}
 use Rattle.lw_words.specs.declared.kept.KeptAnswer.{KeptAnswer}
 
 -- the word is empty, or a front of the word of a kept answer
-abbrev pub IsAnswered : List KeptAnswer → List ℕ → Type 0
-IsAnswered kept w = (w ≡ []) ⊎ ((k : KeptAnswer) × Contains kept k × IsPrefix w k.word)
+abbrev pub WordIsAnswered : List KeptAnswer → List ℕ → Type 0
+WordIsAnswered kept w = (w ≡ []) ⊎ ((k : KeptAnswer) × Contains kept k × IsPrefix w k.word)
 
 -- each of the words is
 abbrev pub AnswersWords : List (List ℕ) → List KeptAnswer → Type 0
-AnswersWords words kept = All (IsAnswered kept) words
+AnswersWords words kept = All (WordIsAnswered kept) words

@@ -13,7 +13,7 @@ use Rattle.lw_mealy.proofs.WordLemmas.{length-out}
 use Rattle.lw_cache.specs.Caching.{kept_answer}
 use Rattle.lw_cache.specs.Known.{IsKnown}
 use Rattle.lw_cache.specs.Settling.{IsOf, told_machine, GainsAnswers}
-use Rattle.test_oracle.specs.Recording.{origins_of, KeepsOf, HasAsked}
+use Rattle.test_oracle.specs.Recording.{oracle_origins, KeepsOf, HasAskedOracle}
 use Rattle.lw_cache.proofs.GainLemmas.{known_stays}
 
 outs_below : (t : MealyMachine) → IsWithinLimits t → (w : List ℕ) (q : ℕ) → q < length t.rows → IsWord t.inputs w → IsWord t.outputs (out t.rows q w)
@@ -30,7 +30,7 @@ answers_more t kept run w outs is was letters given =
       answers = record {
         answers = All-push (λ (k : KeptAnswer). IsAnswer t.inputs (answer_of k)) kept k was.answers.answers (letters, ap (λ (o : List ℕ). length o) given ∙ length-out t.rows 0 w);
         outputs_below = All-push (λ (k : KeptAnswer). IsWord t.outputs k.outs) kept k was.answers.outputs_below (subst (IsWord t.outputs) (sym given) (outs_below t is w 0 is.machine.some_state letters));
-        told = All-push (λ (k : KeptAnswer). IsOf (told_machine (origins_of t) k.instance) (answer_of k)) kept k was.answers.told (sym given);
+        told = All-push (λ (k : KeptAnswer). IsOf (told_machine (oracle_origins t) k.instance) (answer_of k)) kept k was.answers.told (sym given);
       };
       own = All-push (λ (k : KeptAnswer). k.instance < 1) kept k was.own (omega arith);
     }
@@ -42,7 +42,7 @@ gained_own t before gained now grown keeps =
     (All-drop (λ (k : KeptAnswer). k.instance < 1) (length before) (before ++ gained) (subst (All (λ (k : KeptAnswer). k.instance < 1)) grown keeps.own))
 
 -- the words that were known stay known
-pub asked_known : (t : MealyMachine) (w : List ℕ) (before now : List KeptAnswer) (v : List ℕ) → HasAsked t w before now → IsKnown (answers_of before) v → IsKnown (answers_of now) v
+pub asked_known : (t : MealyMachine) (w : List ℕ) (before now : List KeptAnswer) (v : List ℕ) → HasAskedOracle t w before now → IsKnown (answers_of before) v → IsKnown (answers_of now) v
 asked_known t w before now v a known =
     ⊎_elim
     (λ (same : now ≡ before). subst (λ (l : List KeptAnswer). IsKnown (answers_of l) v) (sym same) known)
@@ -52,7 +52,7 @@ asked_known t w before now v a known =
 pub gains_none : (batch : List (List ℕ)) (kept : List KeptAnswer) → GainsAnswers batch kept kept
 gains_none batch kept = record { gained = []; at_end = sym (append-nil kept); of_batch = All-nil (λ k. Contains batch k.word) }
 
-pub gains_more : (batch : List (List ℕ)) (t : MealyMachine) (w : List ℕ) (first before now : List KeptAnswer) → Contains batch w → GainsAnswers batch first before → HasAsked t w before now → GainsAnswers batch first now
+pub gains_more : (batch : List (List ℕ)) (t : MealyMachine) (w : List ℕ) (first before now : List KeptAnswer) → Contains batch w → GainsAnswers batch first before → HasAskedOracle t w before now → GainsAnswers batch first now
 gains_more batch t w first before now has was a =
     ⊎_elim
     (λ (same : now ≡ before). subst (GainsAnswers batch first) (sym same) was)
@@ -65,7 +65,7 @@ gains_more batch t w first before now has was a =
     a.gains
 
 -- the machine's answer is kept, whether it clashes or not
-pub asked_new : (t : MealyMachine) (before now : List KeptAnswer) (run : ℕ) (w word outs : List ℕ) → IsWithinLimits t → KeepsOf t before → IsWord t.inputs w → word ≡ w → outs ≡ answer t.rows w → now ≡ before ++ kept_answer 0 run word outs ∷ [] → HasAsked t w before now
+pub asked_new : (t : MealyMachine) (before now : List KeptAnswer) (run : ℕ) (w word outs : List ℕ) → IsWithinLimits t → KeepsOf t before → IsWord t.inputs w → word ≡ w → outs ≡ answer t.rows w → now ≡ before ++ kept_answer 0 run word outs ∷ [] → HasAskedOracle t w before now
 asked_new t before now run w word outs is was letters same given grown =
     record {
       gains = inr (kept_answer 0 run word outs, grown, same);
@@ -73,6 +73,6 @@ asked_new t before now run w word outs is was letters same given grown =
     }
 
 -- all words so far are known
-pub known_more : (t : MealyMachine) (w : List ℕ) (before now : List KeptAnswer) (batch : List (List ℕ)) (i : ℕ) → i < length batch → get_or batch i [] ≡ w → HasAsked t w before now → All (IsKnown (answers_of before)) (take i batch) → IsKnown (answers_of now) w → All (IsKnown (answers_of now)) (take (i + 1) batch)
+pub known_more : (t : MealyMachine) (w : List ℕ) (before now : List KeptAnswer) (batch : List (List ℕ)) (i : ℕ) → i < length batch → get_or batch i [] ≡ w → HasAskedOracle t w before now → All (IsKnown (answers_of before)) (take i batch) → IsKnown (answers_of now) w → All (IsKnown (answers_of now)) (take (i + 1) batch)
 known_more t w before now batch i lt is a was known =
     All-more (IsKnown (answers_of now)) batch i [] lt (All-weaker (IsKnown (answers_of before)) (IsKnown (answers_of now)) (λ v k. asked_known t w before now v a k) (take i batch) was) (subst (IsKnown (answers_of now)) (sym is) known)

@@ -14,12 +14,12 @@ pub record RecordingState : Type 0 where
   pub refused : Bool
 
 -- one instance, which tells the machine
-abbrev pub origins_of : MealyMachine → List Origin
-origins_of t = record { machine = Some t.rows; link = None; letters = None } ∷ []
+abbrev pub oracle_origins : MealyMachine → List Origin
+oracle_origins t = record { machine = Some t.rows; link = None; letters = None } ∷ []
 
 -- each kept answer is the machine's, of that instance
 pub record KeepsOf (t : MealyMachine) (kept : List KeptAnswer) : Type 0 where
-  pub answers : KeepsAnswers t.inputs t.outputs (origins_of t) kept
+  pub answers : KeepsAnswers t.inputs t.outputs (oracle_origins t) kept
   pub own : All (λ k. k.instance < 1) kept
 
 abbrev pub state_of : RecordingState → OracleState
@@ -28,13 +28,13 @@ state_of t = record {
   outputs = t.machine.outputs;
   names = None;
   kept = t.kept;
-  origins = origins_of t.machine;
+  origins = oracle_origins t.machine;
   stop = t.stop;
   refused = t.refused;
   exact = false;
 }
 
 -- at most one answer more, to the word
-pub record HasAsked (t : MealyMachine) (w : List ℕ) (before now : List KeptAnswer) : Type 0 where
+pub record HasAskedOracle (t : MealyMachine) (w : List ℕ) (before now : List KeptAnswer) : Type 0 where
   pub gains : (now ≡ before) ⊎ ((k : KeptAnswer) × (now ≡ before ++ k ∷ []) × (k.word ≡ w))
   pub keeps : KeepsOf t now

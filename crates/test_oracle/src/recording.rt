@@ -6,7 +6,7 @@ ghost use Rattle.lw_words.specs.Word.{IsWord};
 ghost use Rattle.lw_cache.specs.Clash.{NothingClashes};
 ghost use Rattle.lw_cache.specs.Known.{IsKnown};
 ghost use Rattle.lw_cache.specs.Settling.{GainsAnswers};
-ghost use Rattle.test_oracle.specs.Recording.{KeepsOf, HasAsked};
+ghost use Rattle.test_oracle.specs.Recording.{KeepsOf, HasAskedOracle};
 
 use lw_cache::{AskStop, Cache, KeepStop, Known, Oracle};
 use lw_mealy::Mealy;
@@ -109,7 +109,7 @@ fn answer_one(m: &Mealy, cache: &mut Cache, w: &Word) -> Result<(), AskStop>
     requires unclaimed { cache.old.claims ≡ [] }
     requires keeps { KeepsOf m.now cache.old.kept }
     ensures known { OnOk result (IsKnown (answers_of cache.new.kept) w.now) }
-    ensures asked { HasAsked m.now w.now cache.old.kept cache.new.kept }
+    ensures asked { HasAskedOracle m.now w.now cache.old.kept cache.new.kept }
     ensures unclashed { OnOk result (NothingClashes (answers_of cache.old.kept) →
         NothingClashes (answers_of cache.new.kept)) }
     ensures claims { cache.new.claims ≡ [] }

@@ -5,13 +5,13 @@ use Rattle.std.specs.List.{All, sum_by}
 use Rattle.lw_words.specs.Answer.{answers_of}
 use Rattle.lw_words.specs.Word.{IsPrefix}
 use Rattle.lw_words.specs.declared.kept.KeptAnswer.{KeptAnswer}
-use Rattle.lw_cache.specs.Caching.{Claim, without}
+use Rattle.lw_cache.specs.Caching.{Claim, without_claim}
 use Rattle.lw_cache.specs.Known.{IsKnown}
 use Rattle.lw_cache.specs.declared.stops.AskStop.{AskStop}
 use Rattle.lw_cache.specs.declared.stops.AskStop.TheVariants as Ask
 use Rattle.lw_cache.specs.declared.stops.Clash.{Clash}
 use Rattle.lw_names.specs.Naming.{Naming}
-use Rattle.lw_desk.specs.Step.{DeskState, word_at, ComesBefore}
+use Rattle.lw_desk.specs.Step.{DeskState, word_at_place, ComesBefore}
 
 -- what contracts see of a board: the places that are claimed, in order, and those that wait, first ones first
 pub record BoardState : Type 0 where
@@ -43,11 +43,11 @@ without_numbers (p ∷ ps) numbers = without_numbers ps (without_number p number
 
 abbrev pub without_all : List ℕ → List Claim → List Claim
 without_all [] claims = claims
-without_all (p ∷ ps) claims = without_all ps (without p claims)
+without_all (p ∷ ps) claims = without_all ps (without_claim p claims)
 
 -- the word is known, or the word of a claimed place begins with it
 abbrev pub IsTaken : List (List ℕ) → List KeptAnswer → List ℕ → List ℕ → Type 0
-IsTaken batch kept claimed w = IsKnown (answers_of kept) w ⊎ ((p : ℕ) × Contains claimed p × IsPrefix w (word_at batch p))
+IsTaken batch kept claimed w = IsKnown (answers_of kept) w ⊎ ((p : ℕ) × Contains claimed p × IsPrefix w (word_at_place batch p))
 
 -- no place twice
 abbrev pub AreApart : List ℕ → Type 0
@@ -61,16 +61,16 @@ AreInOrder batch (p ∷ ps) = All (ComesBefore batch p) ps × AreInOrder batch p
 
 -- of the places with its word the least one
 abbrev pub IsLeast : List (List ℕ) → ℕ → Type 0
-IsLeast batch p = (q : ℕ) → q < length batch → word_at batch q ≡ word_at batch p → p ≤ q
+IsLeast batch p = (q : ℕ) → q < length batch → word_at_place batch q ≡ word_at_place batch p → p ≤ q
 
 -- the word begins that of one of these places
 abbrev pub BeginsOne : List (List ℕ) → List ℕ → List ℕ → Type 0
-BeginsOne batch places w = (p : ℕ) × Contains places p × IsPrefix w (word_at batch p)
+BeginsOne batch places w = (p : ℕ) × Contains places p × IsPrefix w (word_at_place batch p)
 
 -- no word begins one that stands before it
 abbrev pub AreWhole : List (List ℕ) → List ℕ → Type 0
 AreWhole batch [] = Unit {0}
-AreWhole batch (p ∷ ps) = All (λ q. ¬ IsPrefix (word_at batch q) (word_at batch p)) ps × AreWhole batch ps
+AreWhole batch (p ∷ ps) = All (λ q. ¬ IsPrefix (word_at_place batch q) (word_at_place batch p)) ps × AreWhole batch ps
 
 -- the places are claimed, and different
 abbrev pub AreHeld : List ℕ → List ℕ → Type 0
@@ -79,22 +79,22 @@ AreHeld claimed ps = All (Contains claimed) ps × AreApart ps
 -- the word of a place of the batch lies at hand
 pub record IsAtHand (batch words : List (List ℕ)) (p : ℕ) : Type 0 where
   pub within : p < length batch
-  pub word : word_at words p ≡ word_at batch p
+  pub word : word_at_place words p ≡ word_at_place batch p
 
 -- a claim is of a place, whose word is at hand
 pub record IsPlaces (batch words : List (List ℕ)) (c : Claim) : Type 0 where
   pub at_hand : IsAtHand batch words c.number
-  pub word : c.word ≡ word_at batch c.number
+  pub word : c.word ≡ word_at_place batch c.number
 
 -- a place waits: its word is at hand and not taken, it is the least with this word, and no claim is of it
 pub record Waits (batch words : List (List ℕ)) (kept : List KeptAnswer) (claims : List Claim) (p : ℕ) : Type 0 where
   pub at_hand : IsAtHand batch words p
   pub least : IsLeast batch p
-  pub free : ¬ IsTaken batch kept (numbers_of claims) (word_at batch p)
+  pub free : ¬ IsTaken batch kept (numbers_of claims) (word_at_place batch p)
   pub unclaimed : ¬ Contains (numbers_of claims) p
 
 abbrev pub letters_of : List (List ℕ) → List ℕ → ℕ
-letters_of batch places = sum_by (λ p. length (word_at batch p)) places
+letters_of batch places = sum_by (λ p. length (word_at_place batch p)) places
 
 -- what holds of a board between calls, with the room of its cache
 pub record IsBoard (batch : List (List ℕ)) (kept : List KeptAnswer) (claims : List Claim) (stop : Option AskStop) (words : List (List ℕ)) (waiting : List ℕ) (room letters : ℕ) : Type 0 where
@@ -108,7 +108,7 @@ pub record IsBoard (batch : List (List ℕ)) (kept : List KeptAnswer) (claims : 
   pub count : length waiting ≤ length batch
   pub room_fits : length waiting ≤ room
   pub letters_fit : letters_of batch waiting ≤ letters
-  pub covered : stop ≡ None → (p : ℕ) → p < length batch → BeginsOne batch waiting (word_at batch p) ⊎ IsTaken batch kept (numbers_of claims) (word_at batch p)
+  pub covered : stop ≡ None → (p : ℕ) → p < length batch → BeginsOne batch waiting (word_at_place batch p) ⊎ IsTaken batch kept (numbers_of claims) (word_at_place batch p)
 
 -- the first stop, after what came of an answer that was kept
 abbrev pub stop_after : Option AskStop → Result ⊤ Clash → Option AskStop

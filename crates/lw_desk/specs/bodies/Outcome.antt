@@ -15,7 +15,7 @@ use Rattle.lw_cache.specs.declared.stops.AskStop.TheVariants as Ask
 use Rattle.lw_turn.specs.declared.shared.Entry.{Entry}
 use Rattle.lw_turn.specs.History.{entries_of}
 use Rattle.lw_names.specs.Naming.{own_names}
-use Rattle.lw_desk.specs.Step.{DeskState, word_at}
+use Rattle.lw_desk.specs.Step.{DeskState, word_at_place}
 use Rattle.lw_desk.specs.History.{DeskOpening}
 use Rattle.lw_desk.specs.Ending.{NamedRun, kept_runs, CameFirst, AreClear}
 use Rattle.lw_desk.specs.declared.ask.Ask.{Ask}
@@ -25,7 +25,7 @@ use Rattle.lw_desk.specs.declared.ask.Failed.{Failed}
 
 -- answers as an actor gives them, by the names of its own
 abbrev pub given_runs : List (List ℕ) → List (List ℕ) → List Give → List NamedRun
-given_runs batch own gs = map (λ g. record { run = g.run; word = word_at batch g.place; names = named own g.outs }) gs
+given_runs batch own gs = map (λ g. record { run = g.run; word = word_at_place batch g.place; names = named own g.outs }) gs
 
 -- all that was given in these entries
 abbrev pub gives_of : List (Entry Ask Reply) → List Give

@@ -4,7 +4,7 @@ use Rattle.std.specs.List.{list_any}
 use Rattle.std.proofs.lemmas.Bool.{true≢false, cases_eq}
 use Rattle.lw_words.proofs.Pigeonhole.{no_more_than}
 use Rattle.lw_turn.specs.declared.shared.Entry.{Entry}
-use Rattle.lw_desk.specs.Step.{Claimed, DeskState, word_at, IsCovered, TakesAll, after_take, after_fail, after_done, without_place, without_places}
+use Rattle.lw_desk.specs.Step.{Claimed, DeskState, word_at_place, IsCovered, ActorTakesAll, after_take, after_fail, after_done, without_place, without_places}
 use Rattle.lw_desk.specs.History.{DeskOpening, opened, Makes, Replays, Legal, most_entries, settled_places}
 use Rattle.lw_desk.specs.declared.ask.Ask.{Ask}
 use Rattle.lw_desk.specs.declared.ask.Reply.{Reply}
@@ -185,7 +185,7 @@ replays_ended o s t (e ∷ es) r was = replays_ended o r.0 t es r.2 (makes_ended
 
 -- these places are covered, where nothing has stopped the desk
 abbrev pub AllCovered : List (List ℕ) → DeskState → List ℕ → Type 0
-AllCovered batch s ps = s.stop ≡ None → (p : ℕ) → In p ps → IsCovered batch s (word_at batch p)
+AllCovered batch s ps = s.stop ≡ None → (p : ℕ) → In p ps → IsCovered batch s (word_at_place batch p)
 
 -- new places: none twice, none of the earlier ones, all of the batch
 pub record AreNew (batch : List (List ℕ)) (earlier ps : List ℕ) : Type 0 where
@@ -193,7 +193,7 @@ pub record AreNew (batch : List (List ℕ)) (earlier ps : List ℕ) : Type 0 whe
   pub others : (p : ℕ) → In p ps → In p earlier → ⊥
   pub within : (p : ℕ) → In p ps → p < length batch
 
-takes_new : (batch : List (List ℕ)) (actor wanted : ℕ) (ps : List ℕ) (s t : DeskState) (earlier : List ℕ) → TakesAll batch actor wanted ps s t → AllCovered batch s earlier → AreNew batch earlier ps × AllCovered batch t (earlier ++ ps)
+takes_new : (batch : List (List ℕ)) (actor wanted : ℕ) (ps : List ℕ) (s t : DeskState) (earlier : List ℕ) → ActorTakesAll batch actor wanted ps s t → AllCovered batch s earlier → AreNew batch earlier ps × AllCovered batch t (earlier ++ ps)
 takes_new batch actor wanted [] s t earlier takes covered = (
   record { once = tt; others = λ p i. absurd i; within = λ p i. absurd i },
   subst (λ (x : DeskState). AllCovered batch x (earlier ++ [])) (sym takes.0)
@@ -202,9 +202,9 @@ takes_new batch actor wanted [] s t earlier takes covered = (
 takes_new batch actor wanted (q ∷ qs) s t earlier takes covered =
     let more : AllCovered batch (after_take actor q s) (earlier ++ q ∷ []) =
     λ none p i. ⊎_elim
-    (λ (l : In p earlier). cover_take batch actor q s (word_at batch p) (covered takes.1 p l))
+    (λ (l : In p earlier). cover_take batch actor q s (word_at_place batch p) (covered takes.1 p l))
     (λ (r : In p (q ∷ [])). ⊎_elim
-    (λ (same : p ≡ q). subst (λ (x : ℕ). IsCovered batch (after_take actor q s) (word_at batch x)) (sym same) (taken_covered batch actor q s))
+    (λ (same : p ≡ q). subst (λ (x : ℕ). IsCovered batch (after_take actor q s) (word_at_place batch x)) (sym same) (taken_covered batch actor q s))
     (λ (no_one : ⊥). absurd no_one)
     r)
     (in_either p earlier (q ∷ []) i) in
@@ -236,11 +236,11 @@ makes_new o s t e earlier m covered =
     between : AllCovered o.batch (after_fail e.actor e.ask.failed m.given) earlier
     between none p i =
         let ended : t.stop ≡ None = end_stop o s t e m ∙ none in
-        cover_between o s t e m ended (word_at o.batch p) (covered (makes_none o s t e m ended) p i)
+        cover_between o s t e m ended (word_at_place o.batch p) (covered (makes_none o s t e m ended) p i)
 
     after : (done : Bool) (ps : List ℕ) → AllCovered o.batch m.taken ps → AllCovered o.batch (after_done e.actor done m.taken) ps
     after false ps c = c
-    after true ps c = λ none p i. cover_done o.batch e.actor true m.taken (word_at o.batch p) (c none p i)
+    after true ps c = λ none p i. cover_done o.batch e.actor true m.taken (word_at_place o.batch p) (c none p i)
 
 pub all_new : (o : DeskOpening) (s t : DeskState) (es : List (Entry Ask Reply)) (earlier : List ℕ) → Replays o s es t → AllCovered o.batch s earlier → AreNew o.batch earlier (taken es)
 all_new o s t [] earlier same covered = record { once = tt; others = λ p i. absurd i; within = λ p i. absurd i }

@@ -11,7 +11,7 @@ use Rattle.lw_cache.specs.declared.stops.AskStop.{AskStop}
 use Rattle.lw_cache.proofs.GainLemmas.{known_new, known_stays}
 use Rattle.lw_turn.specs.declared.shared.Entry.{Entry}
 use Rattle.lw_names.specs.Naming.{bring}
-use Rattle.lw_desk.specs.Step.{Claimed, DeskState, word_at, IsCovered, TakesAll, Gives, GivesAll, StopsBy, kept_of, after_take, after_fail, after_done, without_place, first_stop, stop_of}
+use Rattle.lw_desk.specs.Step.{Claimed, DeskState, word_at_place, IsCovered, ActorTakesAll, ActorGives, GivesAll, StopsBy, kept_of, after_take, after_fail, after_done, without_place, first_stop, stop_of}
 use Rattle.lw_desk.specs.History.{DeskOpening, Makes}
 use Rattle.lw_desk.specs.declared.ask.Ask.{Ask}
 use Rattle.lw_desk.specs.declared.ask.Reply.{Reply}
@@ -52,7 +52,7 @@ module _ (batch : List (List ℕ)) where
   cover_prefix s u v p covered =
       ⊎_elim
       (λ (known : IsKnown (answers_of s.kept) v). inl (known_prefix (answers_of s.kept) u v p known))
-      (λ (r : (c : Claimed) × Contains s.claims c × IsPrefix v (word_at batch c.place)). inr (r.0, r.1, prefix_of_prefix u v (word_at batch (r.0).place) p r.2))
+      (λ (r : (c : Claimed) × Contains s.claims c × IsPrefix v (word_at_place batch c.place)). inr (r.0, r.1, prefix_of_prefix u v (word_at_place batch (r.0).place) p r.2))
       covered
 
   -- a claim more
@@ -60,20 +60,20 @@ module _ (batch : List (List ℕ)) where
   cover_take actor place s w covered =
       ⊎_elim
       (λ (known : IsKnown (answers_of s.kept) w). inl known)
-      (λ (r : (c : Claimed) × Contains s.claims c × IsPrefix w (word_at batch c.place)). inr (r.0, in_contains r.0 (s.claims ++ record { actor = actor; place = place } ∷ []) (in_left r.0 s.claims (record { actor = actor; place = place } ∷ []) (contains_in r.0 s.claims r.1)), r.2))
+      (λ (r : (c : Claimed) × Contains s.claims c × IsPrefix w (word_at_place batch c.place)). inr (r.0, in_contains r.0 (s.claims ++ record { actor = actor; place = place } ∷ []) (in_left r.0 s.claims (record { actor = actor; place = place } ∷ []) (contains_in r.0 s.claims r.1)), r.2))
       covered
 
-  pub taken_covered : (actor place : ℕ) (s : DeskState) → IsCovered batch (after_take actor place s) (word_at batch place)
+  pub taken_covered : (actor place : ℕ) (s : DeskState) → IsCovered batch (after_take actor place s) (word_at_place batch place)
   taken_covered actor place s =
       let c : Claimed = record { actor = actor; place = place } in
-      inr (c, in_contains c (s.claims ++ c ∷ []) (in_right c s.claims (c ∷ []) (inl refl)), prefix_whole (word_at batch place))
+      inr (c, in_contains c (s.claims ++ c ∷ []) (in_right c s.claims (c ∷ []) (inl refl)), prefix_whole (word_at_place batch place))
 
-  pub cover_takes : (actor wanted : ℕ) (places : List ℕ) (s t : DeskState) (w : List ℕ) → TakesAll batch actor wanted places s t → IsCovered batch s w → IsCovered batch t w
+  pub cover_takes : (actor wanted : ℕ) (places : List ℕ) (s t : DeskState) (w : List ℕ) → ActorTakesAll batch actor wanted places s t → IsCovered batch s w → IsCovered batch t w
   cover_takes actor wanted [] s t w takes covered = subst (λ (x : DeskState). IsCovered batch x w) (sym takes.0) covered
   cover_takes actor wanted (p ∷ ps) s t w takes covered = cover_takes actor (wanted - 1) ps (after_take actor p s) t w takes.3 (cover_take actor p s w covered)
 
   -- an answer more, to a claimed word
-  module _ (actor : ℕ) (g : Give) (s t : DeskState) (gives : Gives batch actor g s t) (none : t.stop ≡ None) where
+  module _ (actor : ℕ) (g : Give) (s t : DeskState) (gives : ActorGives batch actor g s t) (none : t.stop ≡ None) where
     abbrev new : KeptAnswer
     new = kept_of batch (bring s.naming actor g.names) actor g
 
@@ -83,15 +83,15 @@ module _ (batch : List (List ℕ)) where
     clear : IsClearAfter (answers_of s.kept) (length s.kept) (answer_of new)
     clear = subst (λ (n : ℕ). IsClearAfter (answers_of s.kept) n (answer_of new)) (length-map s.kept answer_of) (stops_none s.stop t.stop (answers_of s.kept) (answer_of new) gives.stop none).1
 
-    pub give_known : IsKnown (answers_of t.kept) (word_at batch g.place)
-    give_known = subst (λ (l : List KeptAnswer). IsKnown (answers_of l) (word_at batch g.place)) (sym grown) (known_new s.kept new clear (length-map s.kept answer_of))
+    pub give_known : IsKnown (answers_of t.kept) (word_at_place batch g.place)
+    give_known = subst (λ (l : List KeptAnswer). IsKnown (answers_of l) (word_at_place batch g.place)) (sym grown) (known_new s.kept new clear (length-map s.kept answer_of))
 
     pub cover_give : (w : List ℕ) → IsCovered batch s w → IsCovered batch t w
     cover_give w covered =
         ⊎_elim
         (λ (known : IsKnown (answers_of s.kept) w). inl (subst (λ (l : List KeptAnswer). IsKnown (answers_of l) w) (sym grown) (known_stays s.kept new w known)))
-        (λ (r : (c : Claimed) × Contains s.claims c × IsPrefix w (word_at batch c.place)). ⊎_elim
-        (λ (same : (r.0).place ≡ g.place). inl (known_prefix (answers_of t.kept) w (word_at batch g.place) (subst (λ (p : ℕ). IsPrefix w (word_at batch p)) same r.2) give_known))
+        (λ (r : (c : Claimed) × Contains s.claims c × IsPrefix w (word_at_place batch c.place)). ⊎_elim
+        (λ (same : (r.0).place ≡ g.place). inl (known_prefix (answers_of t.kept) w (word_at_place batch g.place) (subst (λ (p : ℕ). IsPrefix w (word_at_place batch p)) same r.2) give_known))
         (λ (other : (r.0).place ≡ g.place → ⊥).
         let i : In r.0 (without_place g.place s.claims) = in_without_of g.place s.claims r.0 (contains_in r.0 s.claims r.1) other in
         inr (r.0, in_contains r.0 t.claims (subst (In r.0) (sym (ap (λ (x : DeskState). x.claims) gives.after)) i), r.2))

@@ -2,7 +2,7 @@
 use Rattle.std.proofs.Common.{◌≡◌, inr, ℕ, ◌-◌, length, ◌+◌, List, [], ◌∷◌, ◌++◌, map, Bool, true, false, ◌==◌, Option, Some, None, refl, ap, sym, ◌∙◌, subst, append_assoc, append-nil, length-append, arith}
 use Rattle.lw_words.specs.Word.{IsPrefix}
 use Rattle.lw_turn.specs.declared.shared.Entry.{Entry}
-use Rattle.lw_desk.specs.Step.{Claimed, DeskState, word_at, IsFirstFree, TakesAll, GivesAll, after_take, after_fail, after_done, without_place, without_places}
+use Rattle.lw_desk.specs.Step.{Claimed, DeskState, word_at_place, IsFirstFree, ActorTakesAll, GivesAll, after_take, after_fail, after_done, without_place, without_places}
 use Rattle.lw_desk.specs.History.{DeskOpening, Makes, failed_places}
 use Rattle.lw_desk.specs.declared.ask.Ask.{Ask}
 use Rattle.lw_desk.specs.declared.ask.Reply.{Reply}
@@ -34,7 +34,7 @@ module _ (batch : List (List ℕ)) (actor : ℕ) where
     pub ended : t.ended ≡ s.ended
     pub stop : t.stop ≡ s.stop
 
-  pub takes_only : (wanted : ℕ) (places : List ℕ) (s t : DeskState) → TakesAll batch actor wanted places s t → OnlyClaims s t
+  pub takes_only : (wanted : ℕ) (places : List ℕ) (s t : DeskState) → ActorTakesAll batch actor wanted places s t → OnlyClaims s t
   takes_only wanted [] s t takes = record {
     naming = ap (λ (x : DeskState). x.naming) takes.0;
     kept = ap (λ (x : DeskState). x.kept) takes.0;
@@ -45,19 +45,19 @@ module _ (batch : List (List ℕ)) (actor : ℕ) where
       let r = takes_only (wanted - 1) ps (after_take actor p s) t takes.3 in
       record { naming = r.naming; kept = r.kept; ended = r.ended; stop = r.stop }
 
-  pub takes_own : (wanted : ℕ) (places : List ℕ) (s t : DeskState) → TakesAll batch actor wanted places s t → places_of actor t.claims ≡ places_of actor s.claims ++ places
+  pub takes_own : (wanted : ℕ) (places : List ℕ) (s t : DeskState) → ActorTakesAll batch actor wanted places s t → places_of actor t.claims ≡ places_of actor s.claims ++ places
   takes_own wanted [] s t takes = ap (λ (x : DeskState). places_of actor x.claims) takes.0 ∙ sym (append-nil (places_of actor s.claims))
   takes_own wanted (p ∷ ps) s t takes =
       takes_own (wanted - 1) ps (after_take actor p s) t takes.3
       ∙ (ap (λ (l : List ℕ). l ++ ps) (places_more actor s.claims (record { actor = actor; place = p }) (is_same actor actor refl))
       ∙ append_assoc (places_of actor s.claims) (p ∷ []) ps)
 
-  pub takes_length : (wanted : ℕ) (places : List ℕ) (s t : DeskState) → TakesAll batch actor wanted places s t → length t.claims ≡ length s.claims + length places
+  pub takes_length : (wanted : ℕ) (places : List ℕ) (s t : DeskState) → ActorTakesAll batch actor wanted places s t → length t.claims ≡ length s.claims + length places
   takes_length wanted [] s t takes = omega (arith, ap (λ (x : DeskState). length x.claims) takes.0)
   takes_length wanted (p ∷ ps) s t takes =
       omega (arith, takes_length (wanted - 1) ps (after_take actor p s) t takes.3, length-append s.claims (record { actor = actor; place = p } ∷ []))
 
-  pub takes_other : (other wanted : ℕ) (places : List ℕ) (s t : DeskState) → (actor == other) ≡ false → TakesAll batch actor wanted places s t → places_of other t.claims ≡ places_of other s.claims
+  pub takes_other : (other wanted : ℕ) (places : List ℕ) (s t : DeskState) → (actor == other) ≡ false → ActorTakesAll batch actor wanted places s t → places_of other t.claims ≡ places_of other s.claims
   takes_other other wanted [] s t differ takes = ap (λ (x : DeskState). places_of other x.claims) takes.0
   takes_other other wanted (p ∷ ps) s t differ takes =
       takes_other other (wanted - 1) ps (after_take actor p s) t differ takes.3
@@ -66,9 +66,9 @@ module _ (batch : List (List ℕ)) (actor : ℕ) where
   -- a free place is nobody's
   pub free_unclaimed : (s : DeskState) (p : ℕ) → IsFirstFree batch s p → NotAt p s.claims
   free_unclaimed s p free = not_at_of p s.claims (λ c i. λ same.
-      free.free (inr (c, in_contains c s.claims i, subst (λ (q : ℕ). IsPrefix (word_at batch p) (word_at batch q)) (sym same) (prefix_whole (word_at batch p)))))
+      free.free (inr (c, in_contains c s.claims i, subst (λ (q : ℕ). IsPrefix (word_at_place batch p) (word_at_place batch q)) (sym same) (prefix_whole (word_at_place batch p)))))
 
-  pub takes_once : (wanted : ℕ) (places : List ℕ) (s t : DeskState) → TakesAll batch actor wanted places s t → EachOnce s.claims → EachOnce t.claims
+  pub takes_once : (wanted : ℕ) (places : List ℕ) (s t : DeskState) → ActorTakesAll batch actor wanted places s t → EachOnce s.claims → EachOnce t.claims
   takes_once wanted [] s t takes once = subst (λ (x : DeskState). EachOnce x.claims) (sym takes.0) once
   takes_once wanted (p ∷ ps) s t takes once =
       takes_once (wanted - 1) ps (after_take actor p s) t takes.3 (once_more s.claims (record { actor = actor; place = p }) once (free_unclaimed s p takes.2))

@@ -1,6 +1,6 @@
 -- What the parts of the reader of machine files find.
 use Rattle.std.specs.Prelude.{◌≡◌, ◌≢◌, ◌⊎◌, ℕ, List, map, string_bytes}
-use Rattle.lw_mealy.specs.Fault.{HasFault}
+use Rattle.lw_mealy.specs.Fault.{RowsHaveFault}
 use Rattle.lw_mealy.specs.Machine.{Rows}
 use Rattle.lw_mealy.specs.declared.fault.MealyFault.{MealyFault}
 use Rattle.lw_mealy.specs.declared.fault.MealyFault.TheVariants as mealy_fault
@@ -18,7 +18,7 @@ said_machine s = written (map (λ t. string_bytes t) s.inputs.items) (map (λ t.
 
 -- a fault of the rows themselves
 abbrev pub IsFaultOfRows : ℕ → ℕ → Rows → MealyFault → Type 0
-IsFaultOfRows a b rows fault = HasFault a b rows fault × (fault ≢ mealy_fault.NoMemory)
+IsFaultOfRows a b rows fault = RowsHaveFault a b rows fault × (fault ≢ mealy_fault.NoMemory)
 
 -- out of memory, or the first cell whose output is unknown
 abbrev pub UnknownAt : List (List ℕ) → List NamedRow → JsonFault → Type 0

@@ -8,7 +8,7 @@ use Rattle.lw_outside.specs.Links.{Transcript}
 use Rattle.lw_outside.specs.Played.{ended_lines}
 use Rattle.lw_outside.specs.Protocol.{reset_line}
 use Rattle.lw_line.specs.Transcripts.{IsSentLine, exchanged}
-use Rattle.lw_line.specs.Causes.{IsTranscriptOf, IsCounted}
+use Rattle.lw_line.specs.Causes.{IsTranscriptOf, StopIsCounted}
 use Rattle.lw_line.specs.bodies.Pieces.{NoFeed}
 
 -- lines that were sent, each with its answer, add runs so
@@ -48,5 +48,5 @@ IsTold inputs names most faults started held None cut told = IsToldLive inputs n
 IsTold inputs names most faults started held (Some stop) cut told = IsTranscriptOf inputs names most faults (Some stop) cut told
 
 pub record Stands (inputs names : List (List ℕ)) (most faults ends : ℕ) (started : Bool) (held : List ℕ) (stop : Option SulStop) (cut : Bool) (told : Option Transcript) : Type 0 where
-  pub counted : IsCounted faults ends stop
+  pub counted : StopIsCounted faults ends stop
   pub link : IsTold inputs names most faults started held stop cut told

@@ -8,7 +8,7 @@ use Rattle.lw_words.specs.declared.stop.RunStop.TheVariants as Run
 use Rattle.lw_names.specs.Names.{named, with_names, IsGrown}
 use Rattle.lw_sul.specs.SessionState.{run_of}
 use Rattle.lw_sul.specs.Told.{Answers}
-use Rattle.lw_desk.specs.Step.{word_at}
+use Rattle.lw_desk.specs.Step.{word_at_place}
 use Rattle.lw_desk.specs.History.{settled_places, failed_places}
 use Rattle.lw_desk.specs.declared.ask.Ask.{Ask}
 use Rattle.lw_desk.specs.declared.ask.Give.{Give}
@@ -18,11 +18,11 @@ use Rattle.lw_pool.specs.Pool.{Seen, Same}
 -- the word of a place was asked, and this is its answer
 pub record HasGiven (batch : List (List ℕ)) (was now : Seen) (g : Give) : Type 0 where
   pub same : Same was now
-  pub journal : now.journal ≡ was.journal ++ run_of (word_at batch g.place) g.outs ∷ []
+  pub journal : now.journal ≡ was.journal ++ run_of (word_at_place batch g.place) g.outs ∷ []
   pub run : g.run ≡ length was.journal
-  pub long : length g.outs ≡ length (word_at batch g.place)
+  pub long : length g.outs ≡ length (word_at_place batch g.place)
   pub outputs : All (λ y. y < was.outputs) g.outs
-  pub answers : Answers was.origin.machine (word_at batch g.place) g.outs
+  pub answers : Answers was.origin.machine (word_at_place batch g.place) g.outs
   pub names : now.names ≡ was.names ++ g.names
   pub brought : now.names ≡ with_names was.names (named now.names g.outs)
   pub numbers : All (λ y. y < length now.names) g.outs

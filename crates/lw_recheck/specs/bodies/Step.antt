@@ -9,7 +9,7 @@ use Rattle.lw_names.specs.Names.{IsGrown, named}
 use Rattle.lw_sul.specs.SessionState.{run_of}
 use Rattle.lw_sul.specs.Told.{Answers}
 use Rattle.lw_sul.specs.declared.runs.Run.{Run}
-use Rattle.lw_recheck.specs.Again.{AreAgain, DiffersAt}
+use Rattle.lw_recheck.specs.Again.{AreAgain, NamesDifferAt}
 use Rattle.lw_recheck.specs.declared.asking.Other.{Other}
 
 -- a word's run was finished with these outputs; names may have come
@@ -29,7 +29,7 @@ pub record GainsAgain (machine : Option Rows) (outputs : List (List ℕ)) (k : K
 -- a run came out otherwise, at this place first
 pub record GainsOther (machine : Option Rows) (outputs : List (List ℕ)) (k : KeptAnswer) (names_before names : List (List ℕ)) (runs_before runs : List Run) (place : ℕ) (outs : List ℕ) : Type 0 where
   pub gains : GainsRun machine k.word outs names_before names runs_before runs
-  pub differs : DiffersAt (named outputs k.outs) (named names outs) place
+  pub differs : NamesDifferAt (named outputs k.outs) (named names outs) place
 
 abbrev pub GainsOne : (machine : Option Rows) (outputs : List (List ℕ)) (number : ℕ) (k : KeptAnswer) (names_before names : List (List ℕ)) (runs_before runs : List Run) → Option Other → Type 0
 GainsOne machine outputs number k names_before names runs_before runs None = GainsAgain machine outputs k names_before names runs_before runs
@@ -46,7 +46,7 @@ pub record FindsOther (machine : Option Rows) (outputs : List (List ℕ)) (answe
   pub even : length other.outs ≡ length (answer_at (answers_of answers) other.number).word
   pub below : All (λ y. y < length names) other.outs
   pub given : Answers machine (answer_at (answers_of answers) other.number).word other.outs
-  pub differs : DiffersAt (named outputs (answer_at (answers_of answers) other.number).outs) (named names other.outs) other.place
+  pub differs : NamesDifferAt (named outputs (answer_at (answers_of answers) other.number).outs) (named names other.outs) other.place
 
 -- the answers before the number of runs were given again
 pub record HasGone (machine : Option Rows) (outputs : List (List ℕ)) (answers : List KeptAnswer) (names : List (List ℕ)) (runs : List Run) : Type 0 where

@@ -15,7 +15,7 @@ use Rattle.lw_suite.specs.declared.suite.SuiteFault.TheVariants as fault
 use Rattle.lw_settle.specs.declared.settling.Settled.{Settled}
 use Rattle.lw_settle.specs.declared.settling.Settled.TheVariants.{NoBlock, Replaced}
 use Rattle.lw_tree.specs.Tree.{final_discriminators}
-use Rattle.lw_rounds.specs.Learner.{kind_of, inputs_of, outputs_of, most_of, access_of, IsLearner, IsRead, IsClosed, HasNoTemporary}
+use Rattle.lw_rounds.specs.Learner.{kind_of, inputs_of, outputs_of, most_of, access_of, IsLearner, IsRead, IsClosedLearner, HasNoTemporary}
 use Rattle.lw_rounds.specs.declared.learner.Kind.{Kind}
 use Rattle.lw_rounds.specs.declared.learner.Learner.{Learner}
 use Rattle.lw_rounds.specs.declared.learner.Learner.TheVariants.{Table, Tree}
@@ -91,7 +91,7 @@ pub record Grows {X : Type 0} (ks : List Answer) (before now : Learner) (result 
   pub read : IsRead ks now
   pub finals : finals_of before ≤ finals_of now
   pub longer : length (access_of before) ≤ length (access_of now)
-  pub closed : OnOk result (IsClosed now)
+  pub closed : OnOk result (IsClosedLearner now)
   pub stops : IfErr result (StopsGrowth (most_of before) ks)
 
 -- what a settling did: nothing, where no node is temporary; else one is final that was temporary
@@ -107,7 +107,7 @@ pub record IsReady (o : OracleState) (l : Learner) : Type 0 where
   pub keeps : Keeps o
   pub nothing : NothingClashes (answers_of o.kept)
   pub learner : IsLearner l
-  pub closed : IsClosed l
+  pub closed : IsClosedLearner l
   pub read : IsRead (answers_of o.kept) l
 
 -- what is learned, and why it isn't, by the kind and the numbers of the learner that a learning began with

@@ -3,7 +3,7 @@ use Rattle.std.proofs.lemmas.List.{length_push}
 use Rattle.lw_words.specs.Cause.{CountedFault}
 use Rattle.lw_sul.specs.SessionState.{SessionState}
 use Rattle.lw_line.specs.LineState.{LineState}
-use Rattle.lw_children.specs.Spawners.{Starts}
+use Rattle.lw_children.specs.Spawners.{StartsLinks}
 use Rattle.lw_children.specs.Crews.{HasBegun}
 use Rattle.lw_children.proofs.BegunLemmas.{none_begun, more_begun, begun_with}
 use Rattle.lw_children.proofs.StartLemmas.{none_starts, one_link, then_starts, then_some}
@@ -13,7 +13,7 @@ pub loop-instance-init : goal.loop-instance-init
 loop-instance-init g c =
     let none = c.in-Ok.ensures.items in (
       (ap (λ (l : List (SessionState (LineState g.row.P-Link.Denot))). length l) none, c.in-Ok.ensures.len, omega (arith, c.in-Ok.ensures.capacity, c.from.ensures)),
-      subst (λ (l : List (SessionState (LineState g.row.P-Link.Denot))). Starts c.args.command.now.words (g.P.Spawner.state c.args.spawner.now) (g.P.Spawner.state c.args.spawner.now) (length l)) (sym none) (none_starts c.args.command.now.words (g.P.Spawner.state c.args.spawner.now)),
+      subst (λ (l : List (SessionState (LineState g.row.P-Link.Denot))). StartsLinks c.args.command.now.words (g.P.Spawner.state c.args.spawner.now) (g.P.Spawner.state c.args.spawner.now) (length l)) (sym none) (none_starts c.args.command.now.words (g.P.Spawner.state c.args.spawner.now)),
       subst (λ (l : List (SessionState (LineState g.row.P-Link.Denot))). HasBegun g.P.Link.Link.state c.args.command.now.inputs c.args.command.now.outputs (g.P.Spawner.state c.args.spawner.now) l None) (sym none) (none_begun g.P.Link.Link.state c.args.command.now.inputs c.args.command.now.outputs (g.P.Spawner.state c.args.spawner.now)),
     )
 
@@ -43,8 +43,8 @@ loop-instance-preserved g c =
     let pushed = c.push_reserved.ensures.items in
     let long = length_push sessions s in (
       (ap (λ (l : List (SessionState (LineState g.row.P-Link.Denot))). length l) pushed ∙ omega (arith, long, inv.0.0), omega (arith, c.push_reserved.ensures.len, inv.0.1), omega (arith, c.push_reserved.ensures.capacity, inv.0.2)),
-      subst (λ (l : List (SessionState (LineState g.row.P-Link.Denot))). Starts c.args.command.now.words (g.P.Spawner.state c.args.spawner.now) (g.P.Spawner.state c.start_one.new.spawner) (length l)) (sym pushed)
-          (subst (λ (n : ℕ). Starts c.args.command.now.words (g.P.Spawner.state c.args.spawner.now) (g.P.Spawner.state c.start_one.new.spawner) n) (sym long) (then_starts c.args.command.now.words (g.P.Spawner.state c.args.spawner.now) (g.P.Spawner.state c.loop-instance.spawner) (g.P.Spawner.state c.start_one.new.spawner) (length sessions) 1 inv.1 c.in-Ok-start_one.ensures.one)),
+      subst (λ (l : List (SessionState (LineState g.row.P-Link.Denot))). StartsLinks c.args.command.now.words (g.P.Spawner.state c.args.spawner.now) (g.P.Spawner.state c.start_one.new.spawner) (length l)) (sym pushed)
+          (subst (λ (n : ℕ). StartsLinks c.args.command.now.words (g.P.Spawner.state c.args.spawner.now) (g.P.Spawner.state c.start_one.new.spawner) n) (sym long) (then_starts c.args.command.now.words (g.P.Spawner.state c.args.spawner.now) (g.P.Spawner.state c.loop-instance.spawner) (g.P.Spawner.state c.start_one.new.spawner) (length sessions) 1 inv.1 c.in-Ok-start_one.ensures.one)),
       subst (λ (l : List (SessionState (LineState g.row.P-Link.Denot))). HasBegun g.P.Link.Link.state c.args.command.now.inputs c.args.command.now.outputs (g.P.Spawner.state c.args.spawner.now) l None) (sym pushed)
           (more_begun g.P.Link.Link.state c.args.command.now.inputs c.args.command.now.outputs c.args.command.now.words (g.P.Spawner.state c.args.spawner.now) (g.P.Spawner.state c.loop-instance.spawner) sessions inv.2 inv.1 s c.from-in-loop-instance.result (c.from-in-loop-instance.ensures ∙ sym inv.0.0) c.in-Ok-start_one.ensures.made.0 c.in-Ok-start_one.ensures.made.1 c.in-Ok-start_one.ensures.earlier),
     )
@@ -59,4 +59,4 @@ returns-clause-made g c =
 
 pub returns-clause-all : goal.returns-clause-all
 returns-clause-all g c =
-    subst (λ (n : ℕ). Starts c.args.command.now.words (g.P.Spawner.state c.args.spawner.now) (g.P.Spawner.state c.loop-instance.spawner) n) (omega (arith, c.loop-instance.invariant.0.0)) c.loop-instance.invariant.1
+    subst (λ (n : ℕ). StartsLinks c.args.command.now.words (g.P.Spawner.state c.args.spawner.now) (g.P.Spawner.state c.loop-instance.spawner) n) (omega (arith, c.loop-instance.invariant.0.0)) c.loop-instance.invariant.1

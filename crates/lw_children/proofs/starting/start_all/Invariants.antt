@@ -1,5 +1,5 @@
 use Rattle.std.proofs.Common.{◌≡◌, ◌≤◌, length, None, vec_capacity, vec_len}
-use Rattle.lw_children.specs.Spawners.{Starts}
+use Rattle.lw_children.specs.Spawners.{StartsLinks}
 use Rattle.lw_children.specs.Crews.{HasBegun}
 use Rattle.lw_children.proofs.starting.start_all.Given as goal
 
@@ -7,7 +7,7 @@ use Rattle.lw_children.proofs.starting.start_all.Given as goal
 abbrev pub invariant-loop-instance : goal.invariant-loop-instance
 invariant-loop-instance g l =
     ((length l.sessions.items ≡ l.instance) × (vec_len l.sessions ≡ l.instance) × (l.workers ≤ vec_capacity l.sessions))
-    × Starts l.command.words
+    × StartsLinks l.command.words
     (g.P.Spawner.state l.fn.spawner)
     (g.P.Spawner.state l.spawner) (length l.sessions.items)
     × HasBegun g.P.Link.Link.state l.command.inputs l.command.outputs

@@ -1,6 +1,6 @@
 use Rattle.std.proofs.Common.{◌≡◌, ◌<◌, ℕ, List, length, get_or, take, Contains, ap, sym, ◌∙◌, subst, arith}
 use Rattle.std.proofs.lemmas.List.{take_more}
-use Rattle.lw_cache.specs.Caching.{without}
+use Rattle.lw_cache.specs.Caching.{without_claim}
 use Rattle.lw_desk.specs.bodies.Board.{numbers_of, without_all, without_numbers}
 use Rattle.lw_desk.proofs.BoardLemmas.{used, held_at, numbers_without_all, without_all_more}
 use Rattle.lw_desk.proofs.board.release_all.Goals as goal
@@ -23,7 +23,7 @@ loop-place-preserved c =
     record {
       kept = c.release.ensures.kept ∙ c.loop-place.invariant.kept;
       claims = c.release.ensures.claims
-          ∙ (ap (without (get_or places i 0)) c.loop-place.invariant.claims
+          ∙ (ap (without_claim (get_or places i 0)) c.loop-place.invariant.claims
           ∙ (sym (without_all_more (take i places) (get_or places i 0) claims)
           ∙ ap (λ (l : List ℕ). without_all l claims) (sym (take_more places i 0 lt))));
       words = c.release.ensures.room.0 ∙ c.loop-place.invariant.words;

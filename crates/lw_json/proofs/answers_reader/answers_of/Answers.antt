@@ -1,5 +1,5 @@
 use Rattle.std.proofs.Common.{◌≡◌, ◌∙◌, List, ℕ, ap, map, string_bytes, subst, sym, Some}
-use Rattle.lw_json.specs.AnswersFile.{WrittenAnswers, kept_answer}
+use Rattle.lw_json.specs.AnswersFile.{WrittenAnswers, numbered_answer}
 use Rattle.lw_json.specs.AnswersFault.{SaysAnswersFault}
 use Rattle.lw_json.specs.Each.{each_of}
 use Rattle.lw_json.specs.MachineFile.{AreInputs}
@@ -37,7 +37,7 @@ returns-in_err-kept-clause-err c =
 pub invariant_of-result : goal.invariant_of-result
 invariant_of-result c =
     let w : WrittenAnswers = said_answers c.args.said.now in
-    let kept : each_of (kept_answer c.in_ok-inputs.inputs c.in_ok-outputs.outputs) w.answers ≡ Some c.in_ok-kept.kept.answers = rw c.deref-3.ensures.value at c.in_ok-kept.ensures.ok in
+    let kept : each_of (numbered_answer c.in_ok-inputs.inputs c.in_ok-outputs.outputs) w.answers ≡ Some c.in_ok-kept.kept.answers = rw c.deref-3.ensures.value at c.in_ok-kept.ensures.ok in
     record {
       few = c.in_ok-inputs.ensures.names.1;
       over = are_over c.in_ok-inputs.inputs c.in_ok-outputs.outputs said_answer (λ a. a.known) c.args.said.now.answers.items c.in_ok-kept.kept.answers kept c.in_ok-kept.ensures.even;
@@ -48,7 +48,7 @@ returns-clause-ok c =
     let w : WrittenAnswers = said_answers c.args.said.now in
     let in_is : c.in_ok-inputs.inputs ≡ w.inputs = c.in_ok-inputs.ensures.ok ∙ ap (map (λ s. string_bytes s)) c.deref.ensures.value in
     let out_is : c.in_ok-outputs.outputs ≡ w.outputs = c.in_ok-outputs.ensures.ok ∙ ap (map (λ s. string_bytes s)) c.deref-2.ensures.value in
-    let kept : each_of (kept_answer c.in_ok-inputs.inputs c.in_ok-outputs.outputs) w.answers ≡ Some c.in_ok-kept.kept.answers = rw c.deref-3.ensures.value at c.in_ok-kept.ensures.ok in
+    let kept : each_of (numbered_answer c.in_ok-inputs.inputs c.in_ok-outputs.outputs) w.answers ≡ Some c.in_ok-kept.kept.answers = rw c.deref-3.ensures.value at c.in_ok-kept.ensures.ok in
     record {
       inputs = sym in_is;
       outputs = sym out_is;

@@ -4,7 +4,7 @@ use Rattle.std.proofs.lemmas.List.{map-append}
 use Rattle.lw_words.proofs.Lists.{within-map_more}
 use Rattle.lw_json.specs.Each.{each_of}
 use Rattle.lw_json.specs.MachineFile.{NamedRow, numbered_cell}
-use Rattle.lw_json.specs.MachineFault.{IsKnown}
+use Rattle.lw_json.specs.MachineFault.{HasOutputIn}
 use Rattle.lw_json.specs.bodies.MachineParts.{UnknownAt}
 use Rattle.lw_json.proofs.EachLemmas.{going_more}
 use Rattle.lw_json.proofs.MachineFaults.{unknown_at, all_known}
@@ -26,6 +26,6 @@ loop-state-preserved c =
       so_far = going_more (λ w. map (λ k. (k.0, k.1.now)) w.items) (each_of (numbered_cell c.args.outputs.now)) (map (λ r. r.items) c.loop-state.all.items) (map (λ r. r.items) c.push.new.self.items) c.args.rows.now c.loop-state.state
           c.index-rows-state.result c.in_ok-numbered_row.field-0.items c.loop-state-test.true c.index-rows-state.is found
           (ap (map (λ r. r.items)) c.in_ok-push.ensures.items ∙ map-append (λ r. r.items) c.loop-state.all.items (c.in_ok-numbered_row.field-0 ∷ [])) c.loop-state.invariant.so_far;
-      known = within-map_more (λ w. map (λ k. (k.0, k.1.now)) w.items) (All (IsKnown c.args.outputs.now)) c.args.rows.now c.loop-state.state c.index-rows-state.result c.loop-state-test.true c.index-rows-state.is
+      known = within-map_more (λ w. map (λ k. (k.0, k.1.now)) w.items) (All (HasOutputIn c.args.outputs.now)) c.args.rows.now c.loop-state.state c.index-rows-state.result c.loop-state-test.true c.index-rows-state.is
           (all_known c.args.outputs.now row c.in_ok-numbered_row.field-0.items found) c.loop-state.invariant.known;
     }

@@ -1,7 +1,7 @@
 use Rattle.std.proofs.Common.{◌∙◌, ℕ, List, [], Bor, ap, sym, get_or, inr, refl, option_map, true≢false}
 use Rattle.lw_words.proofs.Lists.{within-map_more}
 use Rattle.lw_json.specs.MachineFile.{numbered_cell}
-use Rattle.lw_json.specs.MachineFault.{IsKnown}
+use Rattle.lw_json.specs.MachineFault.{HasOutputIn}
 use Rattle.lw_json.proofs.EachLemmas.{going_more, fails_here, element}
 use Rattle.lw_json.proofs.machine_reader.numbered_row.Goals as goal
 
@@ -16,7 +16,7 @@ returns-in_default-clause-err c =
     inr (
       i,
       refl,
-      fails_here (λ (k : ℕ × Bor (List ℕ)). (k.0, k.1.now)) (IsKnown c.args.outputs.now) xs i (get_or xs i nothing) c.loop-letter-test.true (element xs i nothing c.loop-letter-test.true)
+      fails_here (λ (k : ℕ × Bor (List ℕ)). (k.0, k.1.now)) (HasOutputIn c.args.outputs.now) xs i (get_or xs i nothing) c.loop-letter-test.true (element xs i nothing c.loop-letter-test.true)
           (λ known. true≢false (sym (rw none at known))) c.loop-letter.invariant.known,
     )
 
@@ -30,5 +30,5 @@ loop-letter-preserved c =
     record {
       so_far = going_more (λ (k : ℕ × Bor (List ℕ)). (k.0, k.1.now)) (numbered_cell c.args.outputs.now) c.loop-letter.cells.items c.push.new.self.items xs i x (x.0, c.in-Some.output) lt (element xs i nothing lt)
           (ap (option_map (λ (y : ℕ). (x.0, y))) found) c.in_ok-push.ensures.items c.loop-letter.invariant.so_far;
-      known = within-map_more (λ (k : ℕ × Bor (List ℕ)). (k.0, k.1.now)) (IsKnown c.args.outputs.now) xs i x lt (element xs i nothing lt) (rw found refl) c.loop-letter.invariant.known;
+      known = within-map_more (λ (k : ℕ × Bor (List ℕ)). (k.0, k.1.now)) (HasOutputIn c.args.outputs.now) xs i x lt (element xs i nothing lt) (rw found refl) c.loop-letter.invariant.known;
     }

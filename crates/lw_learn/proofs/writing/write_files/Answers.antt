@@ -1,6 +1,6 @@
 use Rattle.std.proofs.Common.{◌≡◌, ◌∙◌, List, ℕ, Option, None, false, length, ap, subst, sym}
 use Rattle.lw_learn.specs.Calls.{gained, write_of}
-use Rattle.lw_learn.specs.Writing.{Stands, StaysBesides}
+use Rattle.lw_learn.specs.Writing.{StandsInFile, StaysBesides}
 use Rattle.lw_outside.specs.Files.{Call}
 use Rattle.lw_learn.proofs.WriteLemmas.{always, stands_beside, take_front}
 use Rattle.lw_learn.proofs.writing.write_files.Goals as goal
@@ -12,8 +12,8 @@ returns-clause-model g c =
     let before = (F.state c.write_named.new.files).holds in
     let now = (F.state c.write_named-2.new.files).holds in
     let bytes = c.args.texts.now.model.items in
-    let stands : Stands a.model before bytes =
-    subst (λ (b : List ℕ). Stands a.model before b) c.deref.ensures.value (subst (λ (m : Option (List ℕ)). Stands m before c.deref.result.now) c.model.ensures c.in_ok-write_named.ensures.told) in
+    let stands : StandsInFile a.model before bytes =
+    subst (λ (b : List ℕ). StandsInFile a.model before b) c.deref.ensures.value (subst (λ (m : Option (List ℕ)). StandsInFile m before c.deref.result.now) c.model.ensures c.in_ok-write_named.ensures.told) in
     let stays : StaysBesides a.answers None None before now = subst (λ (m : Option (List ℕ)). StaysBesides m None None before now) c.answers.ensures c.write_named-2.ensures.beside in
     always c.write_named-2.result (λ differ. stands_beside a.model a.answers before now bytes differ stays stands)
 

@@ -10,7 +10,7 @@ use Rattle.lw_report.specs.declared.outcome.Outcome.TheVariants.{Learned}
 use Rattle.lw_report.specs.declared.role.Role.TheVariants.{Kept}
 use Rattle.lw_report.specs.declared.stops.TellStop.{TellStop}
 use Rattle.lw_report.specs.declared.stops.TellStop.TheVariants.{File, NoMemory, Sink}
-use Rattle.lw_learn.specs.Writing.{Stands, WritesFiles, WritesOut}
+use Rattle.lw_learn.specs.Writing.{StandsInFile, WritesFiles, WritesOut}
 use Rattle.lw_learn.proofs.WriteLemmas.{answers_stand, files_behind, not_kept, out_before, out_behind, told_err}
 use Rattle.lw_learn.proofs.writing.write_model.Goals as goal
 
@@ -44,7 +44,7 @@ returns-in_err-put_streams-clause-files g c =
     let is = told_err m.mealy c.args.refinements c.from_residual-in_err-put_streams.result stop c.from_residual-in_err-put_streams.ensures.1 in
     subst (λ (o : Outcome). WritesFiles a m kept o holds calls) (sym is)
     (files_behind a m kept holds calls stop c.in_err-put_streams.ensures.stops
-    (λ differ. subst (λ (t : List ℕ). Stands a.model holds t) c.in_ok-texts.ensures.model (c.in_ok-write_files.ensures.model differ))
+    (λ differ. subst (λ (t : List ℕ). StandsInFile a.model holds t) c.in_ok-texts.ensures.model (c.in_ok-write_files.ensures.model differ))
     (answers_stand a.answers holds m kept c.in_ok-texts.texts.answers.items c.in_ok-texts.ensures.answers c.in_ok-write_files.ensures.answers) c.in_ok-write_files.ensures.ok)
 
 pub returns-in_err-put_streams-clause-out : goal.returns-in_err-put_streams-clause-out
@@ -69,7 +69,7 @@ returns-clause-files g c =
     let kept = c.args.kept.now.answers in
     let holds = (F.state c.write_files.new.files).holds in
     record {
-      model = λ _ differ. subst (λ (t : List ℕ). Stands a.model holds t) c.in_ok-texts.ensures.model (c.in_ok-write_files.ensures.model differ);
+      model = λ _ differ. subst (λ (t : List ℕ). StandsInFile a.model holds t) c.in_ok-texts.ensures.model (c.in_ok-write_files.ensures.model differ);
       answers = λ _. answers_stand a.answers holds m kept c.in_ok-texts.texts.answers.items c.in_ok-texts.ensures.answers c.in_ok-write_files.ensures.answers;
       calls = c.in_ok-write_files.ensures.ok;
     }

@@ -1,6 +1,6 @@
 //! Tables that are closed over machines, worked by hand: the words that are asked, in their order, and the machines.
 ghost use Rattle.std.specs.Prelude.{◌<◌, IfOk, length};
-ghost use Rattle.lw_table.specs.Table.{IsClosed};
+ghost use Rattle.lw_table.specs.Table.{IsClosedTable};
 
 use super::{are, has};
 use lw_cache::{AskStop, GrowStop};
@@ -24,7 +24,7 @@ struct Trial {
 /// A new table that was closed over a machine, or the stop.
 #[tactic(auto, using(lw_table::proofs::NewLemmas::new_is_read))]
 fn closed_over(rt: &impl Abort, alloc: Global, mealy: Mealy, most: u16) -> Result<Trial, GrowStop>
-    ensures { IfOk result (λ trial. IsClosed trial.table) }
+    ensures { IfOk result (λ trial. IsClosedTable trial.table) }
 {
     assert!(rt; 1 <= most && most <= 1024);
     let inputs = mealy.inputs();
@@ -39,7 +39,7 @@ fn closed_over(rt: &impl Abort, alloc: Global, mealy: Mealy, most: u16) -> Resul
 
 /// Such a table where it is closed.
 fn closed(rt: &impl Abort, alloc: Global, mealy: Mealy, most: u16) -> Trial
-    ensures { IsClosed result.table }
+    ensures { IsClosedTable result.table }
 {
     match closed_over(rt, alloc, mealy, most) {
         Ok(trial) => trial,

@@ -1,7 +1,7 @@
 use Rattle.std.proofs.Common.{◌≡◌, ◌<◌, ℕ, List, length, Option, None, Some, MatchOption, IfNone, IfSome, codes, refl, subst}
 use Rattle.lw_words.specs.Name.{IsName, number_of}
 use Rattle.lw_names.specs.Names.{Brings}
-use Rattle.lw_outside.specs.Protocol.{behind, out_line}
+use Rattle.lw_outside.specs.Protocol.{bytes_behind, out_line}
 use Rattle.lw_line.specs.Transcripts.{number_behind}
 use Rattle.lw_line.specs.bodies.Exchanges.{NamesNone}
 use Rattle.lw_line.specs.bodies.Naming.{OutputNaming}
@@ -16,7 +16,7 @@ returns-in_err-name-clause-cases c =
     rw c.from_residual-in_err-name.ensures
     (names_no_output outputs.names outputs.most answer c.in_ok-strip_prefix.field-0.now c.len-names.ensures.lawful (behind_is (codes "out ") answer c.in_ok-strip_prefix.field-0.now p.0 p.1) c.in_err-name.ensures.none, refl)
 
-tells : (before after : OutputNaming) (answer rest : List ℕ) (o : Option ℕ) → behind (codes "out ") answer ≡ Some rest → answer ≡ out_line rest → IsName rest
+tells : (before after : OutputNaming) (answer rest : List ℕ) (o : Option ℕ) → bytes_behind (codes "out ") answer ≡ Some rest → answer ≡ out_line rest → IsName rest
     → IfNone o ((number_of rest before.names ≡ None) × (length before.names ≡ before.most) × (after ≡ before))
     → IfSome o (λ y. (number_of rest after.names ≡ Some y) × Brings before.names after.names y × (y < before.range))
     → MatchOption o (NamesNone before.names before.most answer × (after ≡ before)) (λ y. number_behind (codes "out ") after.names answer ≡ Some y)

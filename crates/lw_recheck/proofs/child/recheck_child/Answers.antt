@@ -5,7 +5,7 @@ use Rattle.lw_names.specs.Names.{IsGrown}
 use Rattle.lw_sul.specs.SessionState.{SessionState}
 use Rattle.lw_line.specs.LineState.{LineState}
 use Rattle.lw_children.specs.Crews.{first_names}
-use Rattle.lw_children.specs.Keeping.{count_of, most_of}
+use Rattle.lw_children.specs.Keeping.{count_of, most_outputs_of}
 use Rattle.lw_json.specs.KeptOver.{AreKeptOver}
 use Rattle.lw_recheck.proofs.ChildLemmas.{rechecked_child}
 use Rattle.lw_ask.proofs.ChildLemmas.{bears_as, is_unretired, nothing_started, same_link, started_one}
@@ -75,8 +75,8 @@ returns-clause-ok g c =
     let ended = c.retire.ensures in
     let spawner = started_one command b m z link started.one number ended.started ended.retired ended.faults ended.commands in
     let is_letters : t.sul.letters ≡ letters = same.1 ∙ (ap (λ (x : LineState g.row.P-Link.Denot). x.letters) new ∙ c.in-Ok.ensures) in
-    let is_most : t.sul.most ≡ most_of declared = asked.same.most ∙ ap (λ (x : LineState g.row.P-Link.Denot). x.most) new in
+    let is_most : t.sul.most ≡ most_outputs_of declared = asked.same.most ∙ ap (λ (x : LineState g.row.P-Link.Denot). x.most) new in
     let is_count : t.sul.outputs ≡ count_of declared = asked.same.outputs ∙ ap (λ (x : LineState g.row.P-Link.Denot). x.outputs) new in
-    let bears = bears_as t.sul.letters letters t.sul.names t.sul.most (most_of declared) t.sul.outputs (count_of declared) t.sul.stop t.sul.cut t.journal link is_letters is_most is_count c.link_of.ensures.bears in
+    let bears = bears_as t.sul.letters letters t.sul.names t.sul.most (most_outputs_of declared) t.sul.outputs (count_of declared) t.sul.stop t.sul.cut t.journal link is_letters is_most is_count c.link_of.ensures.bears in
     let grown : IsGrown (first_names declared) t.sul.names = subst (λ (n : List (List ℕ)). IsGrown n t.sul.names) (ap (λ (x : LineState g.row.P-Link.Denot). x.names) new) asked.grown in
     rechecked_child command letters declared c.args.outputs c.args.kept.answers b z c.recheck_session-asked.result.names c.recheck_session-asked.result.kept.answers c.recheck_session-asked.result.came link t.sul.names t.journal t.sul.stop t.sul.cut spawner (ended.faults ∙ started.one.faults) asked.has grown bears asked.live asked.stopped

@@ -1,13 +1,13 @@
 -- What the sort and the two renumberings say, put together.
 use Rattle.std.proofs.Common.{◌∙◌, ℕ, sym, ap, subst}
-use Rattle.lw_renumber.specs.Sorting.{IsWithin, renumbered_learned}
+use Rattle.lw_renumber.specs.Sorting.{MapsWithin, renumbered_learned}
 use Rattle.lw_renumber.proofs.SortLemmas.{names_come_up, numbers_within, outs_below, outs_stay_named, sorted_stays}
 use Rattle.lw_renumber.proofs.sorting.sort_outputs.Goals as goal
 
 pub renumber_learned-requires-clause-within : goal.renumber_learned-requires-clause-within
 renumber_learned-requires-clause-within c =
     let s = c.sort.ensures in
-    subst (λ (n : ℕ). IsWithin n c.sort.new.to) (sym c.len-count.ensures.value)
+    subst (λ (n : ℕ). MapsWithin n c.sort.new.to) (sym c.len-count.ensures.value)
     (numbers_within c.sort.new.to c.args.names.now.names c.sort.new.self.names c.len-count.ensures.differ s.permuted s.numbers)
 
 pub returns-clause-below : goal.returns-clause-below

@@ -4,7 +4,7 @@ ghost use Rattle.std.specs.List.{All};
 ghost use Rattle.lw_words.specs.Name.{IsName, AllDiffer, number_of};
 ghost use Rattle.lw_names.specs.Names.{named, with_names};
 ghost use Rattle.lw_names.specs.Naming.{own_names, MayBring};
-ghost use Rattle.lw_desk.specs.Step.{word_at};
+ghost use Rattle.lw_desk.specs.Step.{word_at_place};
 ghost use Rattle.lw_desk.specs.History.{MayMake, MayGiveAll, failed_places, names_given, settled_places};
 ghost use Rattle.lw_sessions_tests.specs.TestTrial.{seat_by};
 
@@ -38,13 +38,13 @@ pub struct Trial {
 impl Model for Trial {
     ghost use Rattle.std.specs.Prelude.{map};
     ghost use Rattle.lw_desk.specs.Desk.{DeskHistory};
-    ghost use Rattle.lw_sessions_tests.specs.TestTrial.{seat_by, IsTrial};
+    ghost use Rattle.lw_sessions_tests.specs.TestTrial.{seat_by, IsDeskTrial};
 
     ghost Value = { DeskHistory };
 
     ghost view = { λ t. t.desk };
 
-    ghost invariant = { λ t. IsTrial t.desk t.words.items t.free (map (λ x. seat_by x.held x.ended x.own.items) t.seats.items) };
+    ghost invariant = { λ t. IsDeskTrial t.desk t.words.items t.free (map (λ x. seat_by x.held x.ended x.own.items) t.seats.items) };
 }
 
 fn copies(rt: &impl Abort, alloc: Global, names: &[OutName]) -> Vec<OutName>
@@ -163,7 +163,7 @@ fn after_give(
     g: &Give,
 ) -> Vec<OutName>
     ensures may { MayBring free own.now g.now.names g.now.outs }
-    ensures long { length g.now.outs ≡ length (word_at words.now g.now.place) }
+    ensures long { length g.now.outs ≡ length (word_at_place words.now g.now.place) }
     ensures own { result.items ≡ own.now ++ g.now.names }
 {
     let all = joined(rt, alloc, own, &g.names);

@@ -4,7 +4,7 @@ use Rattle.std.proofs.lemmas.List.Elements.{All-push}
 use Rattle.lw_words.specs.Word.{IsWord}
 use Rattle.lw_words.proofs.Lists.{within-map_more}
 use Rattle.lw_json.proofs.EachLemmas.{element, going_more}
-use Rattle.lw_wordlist.specs.Words.{names_in, word_of}
+use Rattle.lw_wordlist.specs.Words.{names_in, word_of_names}
 use Rattle.lw_wordlist.specs.Words.{HasLetters}
 use Rattle.lw_wordlist.specs.declared.words.LetterStop.{LetterStop}
 use Rattle.lw_wordlist.proofs.WordLemmas.{first_unknown}
@@ -34,7 +34,7 @@ loop-number-preserved c =
     let w : List ℕ = c.in-Ok.word in
     let gains : c.push_word.new.words ≡ c.loop-number.words ++ w ∷ [] = c.in_ok-push_word.ensures in
     record {
-      going = going_more (λ (y : Bor (List ℕ)). y.now) (λ text. word_of letters (names_in text)) c.loop-number.words c.push_word.new.words xs i x w lt at c.in-Ok.ensures.ok gains c.loop-number.invariant.going;
+      going = going_more (λ (y : Bor (List ℕ)). y.now) (λ text. word_of_names letters (names_in text)) c.loop-number.words c.push_word.new.words xs i x w lt at c.in-Ok.ensures.ok gains c.loop-number.invariant.going;
       words = subst (λ (ws : List (List ℕ)). All (IsWord (length letters)) ws) (sym gains) (All-push (IsWord (length letters)) c.loop-number.words w c.loop-number.invariant.words c.in-Ok.ensures.word);
       known = within-map_more (λ (y : Bor (List ℕ)). y.now) (HasLetters letters) xs i x lt at c.in-Ok.ensures.all c.loop-number.invariant.known;
     }

@@ -1,7 +1,7 @@
 use Rattle.std.proofs.Common.{◌≡◌, ℕ, ◌+◌, ◌<◌, ◌≤◌, List, [], ◌∷◌, ◌++◌, length, vec_len, vec_capacity, MatchOption, subst, ap, sym, ◌∙◌, arith}
 use Rattle.std.proofs.lemmas.List.{length_push}
 use Rattle.lw_words.specs.declared.kept.KeptAnswer.{KeptAnswer}
-use Rattle.lw_cache.specs.Caching.{Claim, Caching, IsClaimOf, kept_answer, without}
+use Rattle.lw_cache.specs.Caching.{Claim, Caching, IsClaimOf, kept_answer, without_claim}
 use Rattle.lw_cache.specs.bodies.Trie.{node_at, word_of, claims_of, no_answer, IsStored}
 use Rattle.lw_cache.specs.bodies.Filling.{ComparedTo, AreMarked, IsHeld, IsEndOf, without_held}
 use Rattle.lw_cache.specs.declared.node.Held.{Held}
@@ -160,7 +160,7 @@ returns-clause-claims c =
     let long : length c.reclaim.new.nodes.items ≡ length c.tell_at-found.new.nodes.items = omega (arith, c.reclaim.ensures.len) in
     ap (λ (h : List Held). claims_of (node_at c.reclaim.new.nodes.items) h) c.let_go.ensures.held
     ∙ (release_claims c.tell_at-found.new.nodes.items c.reclaim.new.nodes.items c.self.inside.held.items (c.self.inside.kept.answers ++ new ∷ []) mid c.args.number c.end_of-end.result is_end c.reclaim.ensures.nodes long
-    ∙ ap (without c.args.number) (see_claims c.self.inside.nodes.items c.tell_at-found.new.nodes.items c.self.inside.held.items c.self.inside.kept.answers _ _ c.args.self.now c.self.view_is new c.clash_of.result k))
+    ∙ ap (without_claim c.args.number) (see_claims c.self.inside.nodes.items c.tell_at-found.new.nodes.items c.self.inside.held.items c.self.inside.kept.answers _ _ c.args.self.now c.self.view_is new c.clash_of.result k))
 
 pub returns-clause-ok : goal.returns-clause-ok
 returns-clause-ok c =

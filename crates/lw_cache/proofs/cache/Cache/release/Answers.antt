@@ -1,5 +1,5 @@
 use Rattle.std.proofs.Common.{◌≡◌, List, length, vec_len, vec_capacity, subst, ap, sym, ◌∙◌, arith}
-use Rattle.lw_cache.specs.Caching.{Claim, Caching, IsUnused, without}
+use Rattle.lw_cache.specs.Caching.{Claim, Caching, IsUnused, without_claim}
 use Rattle.lw_cache.specs.bodies.Trie.{node_at, claims_of, IsStored}
 use Rattle.lw_cache.specs.bodies.Filling.{IsHeld, IsEndOf}
 use Rattle.lw_cache.specs.declared.node.Held.{Held}
@@ -34,4 +34,4 @@ returns-clause-claims c =
     let long : length c.reclaim.new.nodes.items ≡ length c.self.inside.nodes.items = omega (arith, c.reclaim.ensures.len) in
     ap (λ (h : List Held). claims_of (node_at c.reclaim.new.nodes.items) h) c.let_go.ensures.held
     ∙ (release_claims c.self.inside.nodes.items c.reclaim.new.nodes.items c.self.inside.held.items c.self.inside.kept.answers c.self.invariant.0 c.args.number c.end_of-end.result is_end c.reclaim.ensures.nodes long
-    ∙ ap (λ (v : Caching). without c.args.number v.claims) c.self.view_is)
+    ∙ ap (λ (v : Caching). without_claim c.args.number v.claims) c.self.view_is)

@@ -6,7 +6,7 @@ use Rattle.lw_cache.specs.Caching.{IsClaimOf, kept_answer}
 use Rattle.lw_cache.specs.Known.{IsKnown}
 use Rattle.lw_cache.specs.declared.stops.AskStop.{AskStop}
 use Rattle.lw_names.specs.Naming.{Naming, shared, bring}
-use Rattle.lw_desk.specs.Step.{DeskState, word_at, Gives, StopsBy, kept_of}
+use Rattle.lw_desk.specs.Step.{DeskState, word_at_place, ActorGives, StopsBy, kept_of}
 use Rattle.lw_desk.specs.bodies.Board.{BoardState, Agrees, IsAtHand, numbers_of, without_number, stop_after}
 use Rattle.lw_desk.specs.contracts.board.Board.{the_view}
 use Rattle.lw_desk.proofs.BoardLemmas.{hand_of, claim_of_place, give_board, numbers_without}
@@ -34,9 +34,9 @@ fill-filled-requires-clause-pending c =
     let claimed : Contains (numbers_of b.cache.claims) p = subst (λ (v : BoardState). Contains v.claimed p) (sym c.self.view_is) c.requires.claimed in
     let hand : IsAtHand batch words p = hand_of batch words b.cache.claims is.places p claimed in
     let inside : p < length words = omega (arith, hand.within, is.size) in
-    let at : c.index_mut.result.now ≡ word_at words p = get_or_read words p c.index_mut.result.now inside c.index_mut.ensures.value [] in
+    let at : c.index_mut.result.now ≡ word_at_place words p = get_or_read words p c.index_mut.result.now inside c.index_mut.ensures.value [] in
     let w = c.replace-word.result in
-    let word : w ≡ word_at batch p = c.replace-word.ensures.value ∙ (at ∙ hand.word) in
+    let word : w ≡ word_at_place batch p = c.replace-word.ensures.value ∙ (at ∙ hand.word) in
     subst (IsClaimOf b.cache.claims p) (sym word) (claim_of_place batch words b.cache.claims is.places p claimed)
 
 pub fill-filled-requires-clause-lengths : goal.fill-filled-requires-clause-lengths
@@ -49,10 +49,10 @@ fill-filled-requires-clause-lengths c =
     let claimed : Contains (numbers_of b.cache.claims) p = subst (λ (v : BoardState). Contains v.claimed p) (sym c.self.view_is) c.requires.claimed in
     let hand : IsAtHand batch words p = hand_of batch words b.cache.claims is.places p claimed in
     let inside : p < length words = omega (arith, hand.within, is.size) in
-    let at : c.index_mut.result.now ≡ word_at words p = get_or_read words p c.index_mut.result.now inside c.index_mut.ensures.value [] in
+    let at : c.index_mut.result.now ≡ word_at_place words p = get_or_read words p c.index_mut.result.now inside c.index_mut.ensures.value [] in
     let w = c.replace-word.result in
-    let word : w ≡ word_at batch p = c.replace-word.ensures.value ∙ (at ∙ hand.word) in
-    let own : length c.args.answer.outs ≡ length (word_at batch p) = subst (λ (v : BoardState). length c.args.answer.outs ≡ length (word_at v.batch p)) (sym c.self.view_is) c.requires.outs in
+    let word : w ≡ word_at_place batch p = c.replace-word.ensures.value ∙ (at ∙ hand.word) in
+    let own : length c.args.answer.outs ≡ length (word_at_place batch p) = subst (λ (v : BoardState). length c.args.answer.outs ≡ length (word_at_place v.batch p)) (sym c.self.view_is) c.requires.outs in
     ap (λ (l : List ℕ). length l) c.renumber-outs.ensures ∙ (length-map c.args.answer.outs _ ∙ (own ∙ ap (λ (l : List ℕ). length l) (sym word)))
 
 pub invariant_of-self : goal.invariant_of-self
@@ -65,9 +65,9 @@ invariant_of-self c =
     let claimed : Contains (numbers_of b.cache.claims) p = subst (λ (v : BoardState). Contains v.claimed p) (sym c.self.view_is) c.requires.claimed in
     let hand : IsAtHand batch words p = hand_of batch words b.cache.claims is.places p claimed in
     let inside : p < length words = omega (arith, hand.within, is.size) in
-    let at : c.index_mut.result.now ≡ word_at words p = get_or_read words p c.index_mut.result.now inside c.index_mut.ensures.value [] in
+    let at : c.index_mut.result.now ≡ word_at_place words p = get_or_read words p c.index_mut.result.now inside c.index_mut.ensures.value [] in
     let w = c.replace-word.result in
-    let word : w ≡ word_at batch p = c.replace-word.ensures.value ∙ (at ∙ hand.word) in
+    let word : w ≡ word_at_place batch p = c.replace-word.ensures.value ∙ (at ∙ hand.word) in
     let e = c.fill-filled.ensures in
     let now = c.fill-filled.new.self in
     let new : KeptAnswer = kept_answer c.args.actor c.args.answer.run w c.renumber-outs.result in
@@ -89,9 +89,9 @@ returns-clause-gives c =
     let claimed : Contains (numbers_of b.cache.claims) p = subst (λ (v : BoardState). Contains v.claimed p) (sym c.self.view_is) c.requires.claimed in
     let hand : IsAtHand batch words p = hand_of batch words b.cache.claims is.places p claimed in
     let inside : p < length words = omega (arith, hand.within, is.size) in
-    let at : c.index_mut.result.now ≡ word_at words p = get_or_read words p c.index_mut.result.now inside c.index_mut.ensures.value [] in
+    let at : c.index_mut.result.now ≡ word_at_place words p = get_or_read words p c.index_mut.result.now inside c.index_mut.ensures.value [] in
     let w = c.replace-word.result in
-    let word : w ≡ word_at batch p = c.replace-word.ensures.value ∙ (at ∙ hand.word) in
+    let word : w ≡ word_at_place batch p = c.replace-word.ensures.value ∙ (at ∙ hand.word) in
     let e = c.fill-filled.ensures in
     let actor : ℕ = c.args.actor in
     let g = c.args.answer in
@@ -99,13 +99,13 @@ returns-clause-gives c =
     let new : KeptAnswer = kept_answer actor g.run w c.renumber-outs.result in
     let outs : c.renumber-outs.result ≡ shared (bring b.names actor g.names) actor g.outs = c.renumber-outs.ensures ∙ ap (λ (n : Naming). shared n actor g.outs) naming in
     let same : new ≡ kept_of batch (bring b.names actor g.names) actor g =
-    ap (λ (v : List ℕ). kept_answer actor g.run v c.renumber-outs.result) word ∙ ap (λ (v : List ℕ). kept_answer actor g.run (word_at batch p) v) outs in
+    ap (λ (v : List ℕ). kept_answer actor g.run v c.renumber-outs.result) word ∙ ap (λ (v : List ℕ). kept_answer actor g.run (word_at_place batch p) v) outs in
     let stop : c.stop_by-self-inside.result ≡ stop_after b.stop c.fill-filled.result = c.stop_by-self-inside.ensures ∙ ap (λ (o : Option AskStop). stop_after o c.fill-filled.result) c.replace-stop.ensures.value in
     let stops : StopsBy b.stop (answers_of b.cache.kept) (answer_of (kept_of batch (bring b.names actor g.names) actor g)) c.stop_by-self-inside.result =
     subst (λ (k : KeptAnswer). StopsBy b.stop (answers_of b.cache.kept) (answer_of k) c.stop_by-self-inside.result) same
     (subst (StopsBy b.stop (answers_of b.cache.kept) (answer_of new)) (sym stop) (stops_by b.stop c.fill-filled.result b.cache.kept new e.ok e.err)) in
     let now : BoardState = record { naming = c.bring.new.self; kept = c.fill-filled.new.self.kept; claimed = numbers_of c.fill-filled.new.self.claims; stop = c.stop_by-self-inside.result; batch = batch; waiting = drop b.next b.order.items } in
-    subst (λ (v : BoardState). (s : DeskState) → Agrees v s → (t : DeskState) × Gives v.batch actor g s t × Agrees now t) c.self.view_is (λ s agrees.
+    subst (λ (v : BoardState). (s : DeskState) → Agrees v s → (t : DeskState) × ActorGives v.batch actor g s t × Agrees now t) c.self.view_is (λ s agrees.
     agrees_give (the_view b) s agrees now actor g naming (e.kept ∙ ap (λ (k : KeptAnswer). b.cache.kept ++ k ∷ []) same) (ap numbers_of e.claims ∙ numbers_without p b.cache.claims) stops)
 
 pub returns-clause-claimed : goal.returns-clause-claimed

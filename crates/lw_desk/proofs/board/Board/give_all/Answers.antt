@@ -2,7 +2,7 @@ use Rattle.std.proofs.Common.{◌≡◌, ℕ, List, [], ◌∷◌, ◌++◌, map
 use Rattle.std.proofs.lemmas.List.{map_push}
 use Rattle.std.specs.Vec.Iter.{into_iter_items}
 use Rattle.lw_names.specs.Naming.{own_names}
-use Rattle.lw_desk.specs.Step.{Gives}
+use Rattle.lw_desk.specs.Step.{ActorGives}
 use Rattle.lw_desk.specs.History.{MayGiveAll}
 use Rattle.lw_desk.specs.bodies.Board.{AreHeld, without_number, without_numbers}
 use Rattle.lw_desk.specs.declared.ask.Give.{Give}
@@ -54,7 +54,7 @@ loop-answer-preserved c =
       gives = λ s agrees.
           let t = i.gives s agrees in
           let g = c.give.ensures.gives t.0 t.2 in
-          (g.0, gives_more b.batch c.args.actor yielded x s t.0 g.0 t.1 (subst (λ (l : List (List ℕ)). Gives l c.args.actor x t.0 g.0) i.batch g.1), g.2);
+          (g.0, gives_more b.batch c.args.actor yielded x s t.0 g.0 t.1 (subst (λ (l : List (List ℕ)). ActorGives l c.args.actor x t.0 g.0) i.batch g.1), g.2);
       claimed = c.give.ensures.claimed
           ∙ (ap (without_number x.place) i.claimed
           ∙ (sym (without_numbers_more (places yielded) x.place b.claimed)

@@ -4,7 +4,7 @@ use Rattle.lw_words.specs.Answer.{answers_of}
 use Rattle.lw_cache.specs.Caching.{Claim, claim_of}
 use Rattle.lw_cache.specs.Standing.{Stands}
 use Rattle.lw_cache.specs.declared.known.Known.TheVariants.{No}
-use Rattle.lw_desk.specs.Step.{DeskState, word_at, IsFirstFree, after_take}
+use Rattle.lw_desk.specs.Step.{DeskState, word_at_place, IsFirstFree, after_take}
 use Rattle.lw_desk.specs.bodies.Board.{BoardState, Agrees, numbers_of}
 use Rattle.lw_desk.specs.contracts.board.Board.{the_view}
 use Rattle.lw_desk.proofs.BoardLemmas.{here_waits, here_free, here_unused, here_letters, here_first, here_taken}
@@ -48,7 +48,7 @@ claim-requires-clause-unclaimed c =
     let waits = here_waits batch b.cache.kept b.cache.claims b.stop words order next b.cache.words b.cache.letters c.self.invariant.1 lt p place in
     let inside : p < length words = omega (arith, waits.at_hand.within, c.self.invariant.1.size) in
     let w = c.index.result.now in
-    let word : w ≡ word_at words p = get_or_read words p w inside c.index.ensures [] in
+    let word : w ≡ word_at_place words p = get_or_read words p w inside c.index.ensures [] in
     subst (λ (v : List ℕ). Stands (answers_of b.cache.kept) b.cache.claims v No) (sym (word ∙ waits.at_hand.word)) (here_free batch b.cache.kept b.cache.claims b.stop words order next b.cache.words b.cache.letters c.self.invariant.1 lt p place)
 
 pub claim-requires-clause-unused : goal.claim-requires-clause-unused
@@ -76,7 +76,7 @@ claim-requires-clause-letters c =
     let waits = here_waits batch b.cache.kept b.cache.claims b.stop words order next b.cache.words b.cache.letters c.self.invariant.1 lt p place in
     let inside : p < length words = omega (arith, waits.at_hand.within, c.self.invariant.1.size) in
     let w = c.index.result.now in
-    let word : w ≡ word_at words p = get_or_read words p w inside c.index.ensures [] in
+    let word : w ≡ word_at_place words p = get_or_read words p w inside c.index.ensures [] in
     omega (arith, here_letters batch b.cache.kept b.cache.claims b.stop words order next b.cache.words b.cache.letters c.self.invariant.1 lt p place, ap (λ (v : List ℕ). length v) word)
 
 pub invariant_of-self : goal.invariant_of-self
@@ -92,7 +92,7 @@ invariant_of-self c =
     let waits = here_waits batch b.cache.kept b.cache.claims b.stop words order next b.cache.words b.cache.letters c.self.invariant.1 lt p place in
     let inside : p < length words = omega (arith, waits.at_hand.within, c.self.invariant.1.size) in
     let w = c.index.result.now in
-    let word : w ≡ word_at words p = get_or_read words p w inside c.index.ensures [] in
+    let word : w ≡ word_at_place words p = get_or_read words p w inside c.index.ensures [] in
     let e = c.claim.ensures in
     (omega (arith, lt), here_taken batch b.cache.kept b.cache.claims b.stop words order next b.cache.words b.cache.letters c.self.invariant.1 lt p place w c.claim.new.self.kept c.claim.new.self.claims c.claim.new.self.words c.claim.new.self.letters word e.kept e.claims e.words e.letters)
 
@@ -109,7 +109,7 @@ returns-clause-some c =
     let waits = here_waits batch b.cache.kept b.cache.claims b.stop words order next b.cache.words b.cache.letters c.self.invariant.1 lt p place in
     let inside : p < length words = omega (arith, waits.at_hand.within, c.self.invariant.1.size) in
     let w = c.index.result.now in
-    let word : w ≡ word_at words p = get_or_read words p w inside c.index.ensures [] in
+    let word : w ≡ word_at_place words p = get_or_read words p w inside c.index.ensures [] in
     let e = c.claim.ensures in
     let live : b.stop ≡ None = ap (λ (v : BoardState). v.stop) c.self.view_is ∙ c.requires.live in
     let now : BoardState = record { naming = b.names; kept = c.claim.new.self.kept; claimed = numbers_of c.claim.new.self.claims; stop = b.stop; batch = batch; waiting = drop (next + 1) order } in

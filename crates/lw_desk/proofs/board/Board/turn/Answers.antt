@@ -1,5 +1,5 @@
 use Rattle.std.proofs.Common.{◌≡◌, ◌≤◌, ℕ, List, length, map, is_some, refl, ap, sym, ◌∙◌, subst}
-use Rattle.lw_desk.specs.Step.{DeskState, GivesAll, TakesAll, NothingToTake, CountsLeft, after_fail, after_done}
+use Rattle.lw_desk.specs.Step.{DeskState, GivesAll, ActorTakesAll, NothingToTake, CountsLeft, after_fail, after_done}
 use Rattle.lw_desk.specs.History.{settled_places, failed_places}
 use Rattle.lw_desk.specs.bodies.Board.{BoardState, Agrees, AreApart, AreHeld}
 use Rattle.lw_desk.proofs.BoardLemmas.{held_front, held_back}
@@ -43,7 +43,7 @@ returns-clause-makes c o s same lt may agrees =
         given = g.0;
         gives = subst (λ (l : List (List ℕ)). GivesAll l actor ask.gives.items s g.0) (sym same) g.1;
         taken = t.0;
-        takes = subst (λ (l : List (List ℕ)). TakesAll l actor ask.wanted c.take-places.result failed t.0) batch t.1;
+        takes = subst (λ (l : List (List ℕ)). ActorTakesAll l actor ask.wanted c.take-places.result failed t.0) batch t.1;
         done = c.is_done-done.ensures;
         after = refl;
         stopped = c.is_stopped.ensures ∙ ap is_some (sym end_agrees.stop);

@@ -5,7 +5,7 @@ use Rattle.lw_rounds.specs.declared.learner.Learner.TheVariants.{Tree}
 use Rattle.lw_rounds.specs.bodies.Rounds.{Grows, SettlesBlock}
 use Rattle.lw_rounds.proofs.LearnerLemmas.{table_stays, tree_grows, settled_finals, tree_settles}
 use Rattle.std.proofs.Common.{Ok, IfOk}
-use Rattle.lw_rounds.specs.Learner.{IsLearner, IsRead, IsClosed}
+use Rattle.lw_rounds.specs.Learner.{IsLearner, IsRead, IsClosedLearner}
 use Rattle.lw_settle.specs.declared.settling.Settled.{Settled}
 use Rattle.lw_settle.specs.declared.settling.Settled.TheVariants.{NoBlock}
 use Rattle.lw_cache.proofs.SettlingLemmas.{leaves_nothing}
@@ -16,7 +16,7 @@ returns-in-Table-clause-grows g c =
     let ks = answers_of (g.O.Oracle.state c.args.oracle.now).kept in
     let is = c.in-Table.is in
     subst (λ (l : Learner). Grows ks l l (Ok NoBlock)) (sym is)
-    (table_stays ks c.in-Table.field-0 NoBlock (subst IsLearner is c.requires.learner) (subst (IsRead ks) is c.requires.read) (subst IsClosed is c.requires.closed))
+    (table_stays ks c.in-Table.field-0 NoBlock (subst IsLearner is c.requires.learner) (subst (IsRead ks) is c.requires.read) (subst IsClosedLearner is c.requires.closed))
 
 pub returns-in-Table-clause-leaves : goal.returns-in-Table-clause-leaves
 returns-in-Table-clause-leaves g c = leaves_nothing (g.O.Oracle.state c.args.oracle.now) c.requires.keeps c.requires.may

@@ -1,7 +1,7 @@
 use Rattle.std.proofs.Common.{◌≡◌, ℕ, ◌<◌, List, length, get_or, IfOk, ap, sym, ◌∙◌, subst, arith}
 use Rattle.std.proofs.lemmas.List.{get_or_default}
 use Rattle.lw_cache.specs.Cut.{word_at}
-use Rattle.lw_table.specs.Table.{TableState, access_row, IsClosed}
+use Rattle.lw_table.specs.Table.{TableState, access_row, IsClosedTable}
 use Rattle.lw_table.specs.bodies.Classes.{row_of, AreSingles}
 use Rattle.lw_table.specs.bodies.Rows.{no_cells, table_of}
 use Rattle.lw_table.specs.declared.rows.Row.{Row}
@@ -38,7 +38,7 @@ singles-requires-clause-count c =
     let is : found ≡ get_or s.rows.items h no_cells = c.index-home.ensures ∙ (ap (λ (j : ℕ). get_or s.rows.items j found) home ∙ get_or_default s.rows.items h found no_cells inside) in
     let row : row_of s.classes found.class ≡ access_row t q = ap (λ (r : Row). row_of s.classes r.class) is ∙ sym (row_is s.classes s.rows.items h inside) in
     let cells : found.cells ≡ length (row_of s.classes found.class) = subst (λ (r : Row). r.cells ≡ length (row_of s.classes r.class)) (sym is) (c.self.invariant.1.counts h no_cells inside) in
-    let closed : IsClosed t = subst (λ (u : TableState). IsClosed u) (sym c.self.view_is) c.requires.closed in
+    let closed : IsClosedTable t = subst (λ (u : TableState). IsClosedTable u) (sym c.self.view_is) c.requires.closed in
     let few = letters_inside t c.self.invariant.0 closed q lt in
     omega (arith, few, c.from.ensures, cells, ap (λ (r : List (List ℕ)). length r) row)
 
@@ -55,7 +55,7 @@ singles-requires-clause-each c =
     let is : found ≡ get_or s.rows.items h no_cells = c.index-home.ensures ∙ (ap (λ (j : ℕ). get_or s.rows.items j found) home ∙ get_or_default s.rows.items h found no_cells inside) in
     let row : row_of s.classes found.class ≡ access_row t q = ap (λ (r : Row). row_of s.classes r.class) is ∙ sym (row_is s.classes s.rows.items h inside) in
     let cells : found.cells ≡ length (row_of s.classes found.class) = subst (λ (r : Row). r.cells ≡ length (row_of s.classes r.class)) (sym is) (c.self.invariant.1.counts h no_cells inside) in
-    let closed : IsClosed t = subst (λ (u : TableState). IsClosed u) (sym c.self.view_is) c.requires.closed in
+    let closed : IsClosedTable t = subst (λ (u : TableState). IsClosedTable u) (sym c.self.view_is) c.requires.closed in
     λ k small. ap (λ (r : List (List ℕ)). length (word_at r k)) row ∙ single_cell t c.self.invariant.0 closed q lt k (subst (λ (n : ℕ). k < n) c.from.ensures small)
 
 pub returns : goal.returns

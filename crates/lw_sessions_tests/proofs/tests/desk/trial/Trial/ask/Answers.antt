@@ -2,7 +2,7 @@ use Rattle.std.proofs.Common.{◌≡◌, ◌<◌, ◌++◌, ℕ, List, [], Bool,
 use Rattle.std.proofs.lemmas.List.{map-set, get_or-map, length-map}
 use Rattle.lw_turn.specs.declared.shared.Entry.{Entry}
 use Rattle.lw_desk.specs.History.{Seat, seat_after, names_given}
-use Rattle.lw_sessions_tests.specs.TestTrial.{seat_by, seat_at, IsTrial}
+use Rattle.lw_sessions_tests.specs.TestTrial.{seat_by, seat_at, IsDeskTrial}
 use Rattle.lw_desk.specs.bodies.DeskBody.{entry}
 use Rattle.lw_desk.specs.declared.ask.Ask.{Ask}
 use Rattle.lw_desk.specs.declared.ask.Reply.{Reply}
@@ -27,5 +27,5 @@ invariant_of-self g c =
     ∙ ap seat (sym (found.3.1 c.in-Some.seat.now ∙ ap (λ (l : List Standing). get_or l a c.in-Some.seat.now) c.deref.ensures.value)) in
     let standing : seat new ≡ seat_after (seat_at (map seat seats) a) e =
     stands_after (seat_at (map seat seats) a) e c.either.result c.after_ask-own.result.items (c.either.ensures ∙ ap (λ (b : Bool). c.on-reply.result.done || b) c.is_some-failed.ensures) (c.after_ask-own.ensures.own ∙ ap (λ (x : Seat). x.own ++ names_given c.args.ask.gives.items) (sym was)) in
-    subst (IsTrial c.on-reply.new.self t.words.items t.free) (sym (map-set seat seats a new))
+    subst (IsDeskTrial c.on-reply.new.self t.words.items t.free) (sym (map-set seat seats a new))
     (trial_more t.desk c.on-reply.new.self t.words.items t.free (map seat seats) e (seat new) c.self.invariant lt c.on-reply.ensures.opening c.on-reply.ensures.entry standing)
