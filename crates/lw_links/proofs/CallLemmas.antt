@@ -274,7 +274,7 @@ get_or-replicate_none n i d = elim (cases_lt i n) [
 ]
 
 -- what is read past the end is none, and so is what was appended
-get_or-append_none : {X : Type 0} (xs : List X) (n i : ℕ) (d : X) → get_or (xs ++ replicate n d) i d ≡ get_or xs i d
+pub get_or-append_none : {X : Type 0} (xs : List X) (n i : ℕ) (d : X) → get_or (xs ++ replicate n d) i d ≡ get_or xs i d
 get_or-append_none xs n i d = elim (cases_lt i (length xs)) [
   | inl lt ↦ get_or_append_left xs (replicate n d) d i lt
   | inr le ↦ get_or-append_right xs (replicate n d) (length xs) i d refl le

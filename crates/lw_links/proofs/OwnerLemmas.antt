@@ -1,11 +1,12 @@
 -- Which owner a cell has, once lists were changed.
-use Rattle.std.proofs.Common.{◌≡◌, ◌≢◌, ℕ, ◌<◌, true, false, if◌then◌else◌, ◌==◌, List, [], ◌∷◌, ◌++◌, length, map, replicate, Some, None, Option, option_map, refl, sym, ◌∙◌, ap, subst, inl, inr}
+use Rattle.std.proofs.Common.{◌≡◌, ◌≢◌, ℕ, ◌-◌, ◌<◌, true, false, if◌then◌else◌, ◌==◌, List, [], ◌∷◌, ◌++◌, length, map, replicate, Some, None, Option, option_map, refl, sym, ◌∙◌, ap, subst, inl, inr}
 use Rattle.std.proofs.lemmas.Bool.{cases_eq, cases_lt, eq-eqb, ne_eqb, both_ways, cond-true, cond-false}
 use Rattle.std.proofs.lemmas.Iterator.Adapters.{option_map_id}
 use Rattle.std.proofs.lemmas.List.{get_or-map, get_or_past, get_or-set_same, get_or-set_other, get_or-replicate, length-map, length-set, length-replicate}
 use Rattle.std.proofs.lemmas.List.Quantifiers.{position-Some}
-use Rattle.lw_links.specs.Owners.{ListsByOwner, HasEachOnce, has, without, list_of, owner_of, empty_lists, pushed, unlinked, moved}
+use Rattle.lw_links.specs.Owners.{ListsByOwner, HasEachOnce, has, without, list_of, owner_of, empty_lists, grown, pushed, unlinked, moved}
 use Rattle.lw_links.proofs.CellLemmas.{has_here, has_cases, has_at, has_behind, has_left, has_right, has_either, has_without, exists_from_has, lacks_both, position-none}
+use Rattle.lw_links.proofs.CallLemmas.{get_or-append_none}
 use Rattle.lw_links.proofs.KeepLemmas.{owner_of-has, owner_of-none}
 
 -- the list of a cell's owner has the cell
@@ -140,3 +141,12 @@ module _ (v : ListsByOwner) (a b : ℕ) (hv : HasEachOnce v) (hw : HasEachOnce (
 -- in empty lists no cell has an owner
 pub empty_owner : (owners cells k : ℕ) → owner_of (empty_lists owners cells) k ≡ None
 empty_owner owners cells k = position-none (has k) (replicate owners []) [] (λ o lt h. both_ways false refl (subst (λ xs. has k xs ≡ true) (get_or-replicate owners o [] [] (rw length-replicate at lt)) h))
+
+-- more owners and more cells
+module _ (v : ListsByOwner) (owners cells : ℕ) (hv : HasEachOnce v) (hw : HasEachOnce (grown v owners cells)) where
+  pub grow_owner : (k : ℕ) → owner_of (grown v owners cells) k ≡ owner_of v k
+  grow_owner k =
+      owner_then v (grown v owners cells) hv hw (λ p. p) k
+      (λ p h. subst (λ xs. has k xs ≡ true) (sym (get_or-append_none v.lists (owners - length v.lists) p [])) h)
+      (λ p h. (p, subst (λ xs. has k xs ≡ true) (get_or-append_none v.lists (owners - length v.lists) p []) h))
+      ∙ option_map_id (owner_of v k)

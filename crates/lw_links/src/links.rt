@@ -58,9 +58,9 @@ impl Place {
 
 /// The lists of owners `0, 1, ..` over the cells `0, 1, ..`. A cell stands in one list at most, once.
 ///
-/// Only [`Lists::new`] and [`Lists::grow`] take memory: 16 bytes for each owner and 24 for each cell,
-/// and up to twice that after a `grow`, so that growing step by step costs little. All else but
-/// [`Lists::move_all`] takes constant time, whatever the lists' lengths.
+/// Only [`Lists::new`] and [`Lists::grow`] take memory to keep: 16 bytes for each owner and 24 for each
+/// cell, and up to twice that after a `grow`, so that growing step by step costs little. All else but
+/// [`Lists::move_all`] and [`Lists::list`] takes constant time, whatever the lists' lengths.
 #[derive(Drop)]
 pub struct Lists {
     ends: Vec<Ends>,
@@ -86,7 +86,8 @@ impl Lists {
     /// # Errors
     /// Only where memory runs out.
     pub fn new(alloc: Global, owners: u32, cells: u32) -> Result<Lists, NoMemory>
-        ensures { IfOk result (λ l. l ≡ empty_lists owners cells) }
+        ensures value { IfOk result (λ l. l ≡ empty_lists owners cells) }
+        ensures owners { IfOk result (λ l. (k : ℕ) → owner_of l k ≡ None) }
     {
         let mut ends = Vec::with_capacity(alloc, owners as usize)?;
         append(&mut ends, owners as usize, Ends::NONE);
@@ -105,6 +106,7 @@ impl Lists {
         requires cells_stay { self.old.cells ≤ cells }
         ensures ok { OnOk result (self.new ≡ grown self.old owners cells) }
         ensures err { OnErr result (self.new ≡ self.old) }
+        ensures owners { (k : ℕ) → owner_of self.new k ≡ owner_of self.old k }
     {
         let more_owners = owners as usize - self.ends.len();
         let more_cells = cells as usize - self.places.len();
@@ -174,6 +176,13 @@ impl Lists {
         self.ends[from as usize] = Ends::NONE;
     }
 
+    /// How many cells there are.
+    pub fn cells(&self) -> usize
+        ensures { result ≡ self.now.cells }
+    {
+        self.places.len()
+    }
+
     /// The owner whose list has the cell. Takes constant time.
     pub fn owner(&self, cell: u32) -> Option<u32>
         requires { cell < self.now.cells }
@@ -198,7 +207,7 @@ impl Lists {
         self.places[cell as usize].next
     }
 
-    /// The owner's list, from its first cell to its last.
+    /// The owner's list, from its first cell to its last. Takes time in proportion to its length.
     ///
     /// # Errors
     /// Only where memory runs out.

@@ -1,37 +1,32 @@
--- Nodes that are linked anew, and cleared one by one.
-use Rattle.std.proofs.Common.{◌≡◌, ◌≢◌, inl, inr, ⊎_elim, ℕ, zero, suc, ◌+◌, ◌<◌, ◌≤◌, Bool, true, false, true≢false, List, [], ◌∷◌, length, replicate, get_or, set, refl, ap, sym, ◌∙◌, subst, arith}
-use Rattle.std.proofs.lemmas.Bool.{cases_lt, cases_eq}
-use Rattle.std.proofs.lemmas.List.{length-set, length-replicate, ext_get_or}
+-- Nodes that are put into lists anew, and cleared one by one.
+use Rattle.std.proofs.Common.{◌≡◌, ◌≢◌, ⊎_elim, ℕ, zero, suc, ◌+◌, ◌<◌, ◌≤◌, Bool, true, false, true≢false, ◌==◌, if◌then◌else◌, List, [], ◌∷◌, length, set, Option, Some, None, refl, ap, sym, ◌∙◌, subst, arith}
+use Rattle.std.proofs.lemmas.Bool.{cases_lt, cases_eq, eq-eqb, ne_eqb, cond-true, cond-false}
+use Rattle.std.proofs.lemmas.List.{length-set, ext_get_or}
+use Rattle.lw_links.specs.Owners.{ListsByOwner, owner_of, pushed}
 use Rattle.lw_tree.specs.Tree.{no_node, node_at, IsLive}
-use Rattle.lw_tree.specs.bodies.Nodes.{IsChild, IsNewest, AreLinked, AreLower, link_at, with_first}
+use Rattle.lw_tree.specs.bodies.Nodes.{IsChild, AreLinked}
 use Rattle.lw_tree.specs.bodies.Sprouts.{mark_at, gone_node, cleared}
-use Rattle.lw_tree.specs.declared.linked.Link.{Link}
 use Rattle.lw_tree.specs.declared.nodes.Node.{Node}
 use Rattle.lw_tree.specs.declared.nodes.Content.{Content}
 use Rattle.lw_tree.specs.declared.nodes.Content.TheVariants.{State, Discriminator, Gone}
-use Rattle.lw_tree.proofs.NodeLemmas.{Updates, everywhere, written, live_within}
+use Rattle.lw_tree.proofs.ArrivalLemmas.{size_pushed}
+use Rattle.lw_tree.proofs.NodeLemmas.{written, live_within}
 use Rattle.lw_tree.proofs.ClearedLemmas.{cleared_long}
 
-abbrev alone : Link
-alone = record { first = 0; next = 0 }
+-- the nodes before a number are in their lists
+pub record AreLinkedTo (nodes : List Node) (upto : ℕ) (v : ListsByOwner) : Type 0 where
+  pub owners : length v.lists ≡ v.cells
+  pub each : length nodes ≤ v.cells
+  pub linked : (p n : ℕ) → n < upto → IsChild (node_at nodes) p n → owner_of v n ≡ Some p
+  pub child : (p n : ℕ) → owner_of v n ≡ Some p → (n < upto) × IsChild (node_at nodes) p n
 
--- the nodes before a number are linked
-pub record AreLinkedTo (nodes : List Node) (upto : ℕ) (links : List Link) : Type 0 where
-  pub each : length links ≡ length nodes
-  pub firsts : (p : ℕ) → IsNewest (node_at nodes) p upto (link_at links p).first
-  pub nexts : (n : ℕ) → 0 < n → n < upto → IsLive (node_at nodes n).content → IsNewest (node_at nodes) (node_at nodes n).parent n (link_at links n).next
-
-alone_at : (n i : ℕ) → get_or {A = Link} (replicate n alone) i alone ≡ alone
-alone_at zero i = refl
-alone_at (suc n) zero = refl
-alone_at (suc n) (suc i) = alone_at n i
-
-pub linked_none : (nodes : List Node) (links : List Link) → links ≡ replicate (length nodes) (record { first = 0; next = 0 }) → AreLinkedTo nodes 1 links
-linked_none nodes links is =
+pub linked_none : (nodes : List Node) (v : ListsByOwner) → length v.lists ≡ v.cells → length nodes ≤ v.cells → ((k : ℕ) → owner_of v k ≡ None) → AreLinkedTo nodes 1 v
+linked_none nodes v owners each none =
     record {
-      each = ap (λ (l : List Link). length l) is ∙ length-replicate {A = Link} (length nodes) alone;
-      firsts = λ p. inl (ap (λ (l : List Link). (link_at l p).first) is ∙ ap (λ (l : Link). l.first) (alone_at (length nodes) p), λ n lt child. let some = child.0 in omega (arith, lt, some));
-      nexts = λ n some lt. absurd (omega (arith, some, lt));
+      owners = owners;
+      each = each;
+      linked = λ p n lt child. let some = child.0 in absurd (omega (arith, lt, some));
+      child = λ p n is. let both : None ≡ Some p = sym (none n) ∙ is in absurd cc;
     }
 
 pub live_else : (c : Content) → (c ≡ Gone → ⊥) → IsLive c
@@ -39,85 +34,59 @@ live_else (State q) other = tt
 live_else (Discriminator word temporary) other = tt
 live_else Gone other = absurd (other refl)
 
--- a greater bound, where no node is below it
-further : (node : ℕ → Node) (p bound c : ℕ) → ¬ (IsChild node p bound) → IsNewest node p bound c → IsNewest node p (bound + 1) c
-further node p bound c other (inl none) =
-    inl (none.0, λ n lt child. ⊎_elim (λ (below : n < bound). none.1 n below child) (λ (ge : bound ≤ n). other (subst (IsChild node p) (omega (arith, ge, lt)) child)) (cases_lt n bound))
-further node p bound c other (inr some) =
-    let under = some.1 in
-    inr (some.0, omega (arith, under), λ n gt lt child. ⊎_elim (λ (below : n < bound). some.2 n gt below child) (λ (ge : bound ≤ n). other (subst (IsChild node p) (omega (arith, ge, lt)) child)) (cases_lt n bound))
-
-module _ (nodes : List Node) (upto : ℕ) (links : List Link) (l : AreLinkedTo nodes upto links) where
+module _ (nodes : List Node) (upto : ℕ) (v : ListsByOwner) (l : AreLinkedTo nodes upto v) where
   -- a node that isn't live stands in no list
-  pub linked_gone : (node_at nodes upto).content ≡ Gone → AreLinkedTo nodes (upto + 1) links
+  pub linked_gone : (node_at nodes upto).content ≡ Gone → AreLinkedTo nodes (upto + 1) v
   linked_gone is =
       record {
+        owners = l.owners;
         each = l.each;
-        firsts = λ p. further (node_at nodes) p upto (link_at links p).first (λ child. elim (subst IsLive is child.1) [ ]) (l.firsts p);
-        nexts = λ n some lt live. ⊎_elim
-            (λ (less : n < upto). l.nexts n some less live)
-            (λ (ge : upto ≤ n). let same : n ≡ upto = omega (arith, lt, ge) in elim (subst IsLive (ap (λ (k : ℕ). (node_at nodes k).content) same ∙ is) live) [ ])
+        linked = λ p n lt child. ⊎_elim
+            (λ (less : n < upto). l.linked p n less child)
+            (λ (ge : upto ≤ n). let same : n ≡ upto = omega (arith, lt, ge) in elim (subst IsLive (ap (λ (k : ℕ). (node_at nodes k).content) same ∙ is) child.1) [ ])
             (cases_lt n upto);
+        child = λ p n e. let here = l.child p n e in let lt = here.0 in (omega (arith, lt), here.1);
       }
 
-  module _ (some : 0 < upto) (inside : upto < length nodes) (live : IsLive (node_at nodes upto).content) (lower : (node_at nodes upto).parent < upto) where
-    abbrev parent : ℕ
-    parent = (node_at nodes upto).parent
+  -- the next one stands in none yet
+  pub next_free : owner_of v upto ≡ None
+  next_free = by (owner_of v upto) refl
+    where
+      by : (s : Option ℕ) → owner_of v upto ≡ s → owner_of v upto ≡ None
+      by None e = e
+      by (Some p) e = let lt = (l.child p upto e).0 in absurd (omega (arith, lt))
 
-    abbrev own : Link
-    own = record { first = (link_at links upto).first; next = (link_at links parent).first }
+  pub linked_first : (w : ListsByOwner) → 0 < upto → IsLive (node_at nodes upto).content → w ≡ pushed v (node_at nodes upto).parent upto → ((k : ℕ) → owner_of w k ≡ (if k == upto then Some (node_at nodes upto).parent else owner_of v k)) → AreLinkedTo nodes (upto + 1) w
+  linked_first w some live is owner =
+      let size = size_pushed v (node_at nodes upto).parent upto in
+      let cells : w.cells ≡ v.cells = ap (λ (u : ListsByOwner). u.cells) is ∙ size.cells in
+      let each = l.each in
+      record {
+        owners = ap (λ (u : ListsByOwner). length u.lists) is ∙ (size.owners ∙ (l.owners ∙ sym cells));
+        each = omega (arith, each, cells);
+        linked = λ p n lt child. ⊎_elim
+            (λ (same : n ≡ upto). owner n ∙ (cond-true _ _ _ (eq-eqb n upto same) ∙ ap Some (ap (λ (m : ℕ). (node_at nodes m).parent) (sym same) ∙ child.2)))
+            (λ (other : n ≢ upto). owner n ∙ (cond-false _ _ _ (ne_eqb n upto other) ∙ l.linked p n (omega (arith, lt, other)) child))
+            (cases_eq n upto);
+        child = λ p n e. ⊎_elim
+            (λ (same : n ≡ upto).
+            let both : Some (node_at nodes upto).parent ≡ Some p = sym (owner n ∙ cond-true _ _ _ (eq-eqb n upto same)) ∙ e in
+            let up : (node_at nodes upto).parent ≡ p = cc in
+            (omega (arith, same), subst (λ (m : ℕ). IsChild (node_at nodes) p m) (sym same) (some, live, up)))
+            (λ (other : n ≢ upto).
+            let here = l.child p n (sym (owner n ∙ cond-false _ _ _ (ne_eqb n upto other)) ∙ e) in
+            let lt = here.0 in
+            (omega (arith, lt), here.1))
+            (cases_eq n upto);
+      }
 
-    abbrev new : Link
-    new = record { first = upto; next = (link_at links parent).next }
-
-    abbrev now : ℕ → Link
-    now = link_at (with_first links parent upto)
-
-    one : Updates (link_at links) (link_at (set links upto own)) upto own
-    one = written links upto own alone (omega (arith, inside, l.each))
-
-    two : Updates (link_at (set links upto own)) (link_at (with_first links parent upto)) parent new
-    two = written (set links upto own) parent new alone (let long = length-set links upto own in omega (arith, long, inside, lower, l.each))
-
-    first_other : (p : ℕ) → p ≢ parent → (now p).first ≡ (link_at links p).first
-    first_other p other =
-        ap (λ (k : Link). k.first) (two.others p other)
-        ∙ everywhere (link_at links) (link_at (set links upto own)) upto own (λ n k. k.first ≡ (link_at links n).first) one refl (λ n differ. refl) p
-
-    next_other : (n : ℕ) → n ≢ upto → (now n).next ≡ (link_at links n).next
-    next_other n other =
-        everywhere (link_at (set links upto own)) now parent new (λ m k. m ≢ upto → k.next ≡ (link_at links m).next) two (λ differ. refl) (λ m differ apart. ap (λ (k : Link). k.next) (one.others m apart)) n other
-
-    next_here : (now upto).next ≡ (link_at links parent).first
-    next_here = ap (λ (k : Link). k.next) (two.others upto (λ same. omega (arith, same, lower)) ∙ one.here)
-
-    pub linked_first : AreLinkedTo nodes (upto + 1) (with_first links (node_at nodes upto).parent upto)
-    linked_first =
-        record {
-          each = length-set (set links upto own) parent new ∙ (length-set links upto own ∙ l.each);
-          firsts = λ p. ⊎_elim
-              (λ (same : p ≡ parent).
-              let at : (now p).first ≡ upto = ap (λ (k : ℕ). (now k).first) same ∙ ap (λ (k : Link). k.first) two.here in
-              subst (IsNewest (node_at nodes) p (upto + 1)) (sym at) (inr ((some, live, sym same), omega arith, λ n gt lt _. omega (arith, gt, lt))))
-              (λ (other : p ≢ parent).
-              subst (IsNewest (node_at nodes) p (upto + 1)) (sym (first_other p other)) (further (node_at nodes) p upto (link_at links p).first (λ child. other (sym child.2)) (l.firsts p)))
-              (cases_eq p parent);
-          nexts = λ n more lt is. ⊎_elim
-              (λ (same : n ≡ upto).
-              subst (λ (k : ℕ). IsNewest (node_at nodes) (node_at nodes k).parent k (now k).next) (sym same) (subst (IsNewest (node_at nodes) parent upto) (sym next_here) (l.firsts parent)))
-              (λ (other : n ≢ upto).
-              let less : n < upto = ⊎_elim (λ (below : n < upto). below) (λ (ge : upto ≤ n). absurd (other (omega (arith, lt, ge)))) (cases_lt n upto) in
-              subst (IsNewest (node_at nodes) (node_at nodes n).parent n) (sym (next_other n other)) (l.nexts n more less is))
-              (cases_eq n upto);
-        }
-
-pub linked_all : (nodes : List Node) (upto : ℕ) (links : List Link) → upto ≡ length nodes → AreLower nodes → AreLinkedTo nodes upto links → AreLinked nodes links
-linked_all nodes upto links all lower l =
+pub linked_all : (nodes : List Node) (upto : ℕ) (v : ListsByOwner) → upto ≡ length nodes → AreLinkedTo nodes upto v → AreLinked nodes v
+linked_all nodes upto v all l =
     record {
+      owners = l.owners;
       each = l.each;
-      lower = lower;
-      firsts = λ p. subst (λ (n : ℕ). IsNewest (node_at nodes) p n (link_at links p).first) all (l.firsts p);
-      nexts = λ n some live. l.nexts n some (let lt = live_within nodes n live in omega (arith, lt, all)) live;
+      linked = λ p n child. l.linked p n (let lt = live_within nodes n child.1 in omega (arith, lt, all)) child;
+      child = λ p n e. (l.child p n e).1;
     }
 
 -- the nodes before a number are cleared

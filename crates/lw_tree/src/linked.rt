@@ -1,32 +1,23 @@
 //! The nodes of a discrimination tree by their numbers, with a list of those below each.
-ghost use Rattle.std.specs.Prelude.{◌≡◌, ◌≢◌, ℕ, ◌+◌, ◌^◌, ◌<◌, ◌≤◌, [], ◌∷◌, ◌++◌, length, replicate, slice_set, vec_len, vec_capacity, MatchOption, IfOk, OnOk};
+ghost use Rattle.std.specs.Prelude.{◌≡◌, ◌≢◌, ℕ, ◌+◌, ◌^◌, ◌<◌, ◌≤◌, [], ◌∷◌, ◌++◌, length, None, slice_set, vec_len, vec_capacity, MatchOption, IfOk, OnOk};
 ghost use Rattle.lw_tree.specs.Tree.{node_at, IsLive};
-ghost use Rattle.lw_tree.specs.bodies.Nodes.{IsChild, AreLinked, AreLower, linked_leaf, with_first};
+ghost use Rattle.lw_tree.specs.bodies.Nodes.{IsChild, AreLinked, AreLower};
+ghost use Rattle.lw_links.specs.Owners.{owner_of};
 ghost use Rattle.lw_tree.specs.bodies.Steps.{leaf_below, inner_node};
 ghost use Rattle.lw_tree.specs.bodies.Sprouts.{gone_node, cleared, final_node, replaced_root};
 
 use crate::nodes::{Content, Node};
+use lw_links::Lists;
 use lw_words::{NoMemory, Word};
 use std::alloc::Global;
 use std::marker::Model;
 
-/// How the nodes below one node are linked, the newest first: the first below this node, and the next one beside it. The root
-/// stands below none, so 0 is none.
-#[derive(Clone, Copy, Drop)]
-pub struct Link {
-    first: u32,
-    next: u32,
-}
-
-/// The link of a node that has none below it, and none beside it.
-const ALONE: Link = Link { first: 0, next: 0 };
-
-/// Nodes, each with its link. Contracts see the nodes in order, and beside them the room: so many more can be added without
-/// memory.
+/// Nodes, and a list of those below each, over their numbers. Contracts see the nodes in order, and beside them the room: so
+/// many more can be added without memory.
 #[derive(Drop)]
 pub struct Nodes {
     nodes: Vec<Node>,
-    links: Vec<Link>,
+    children: Lists,
 }
 
 impl Model for Nodes {
@@ -37,11 +28,10 @@ impl Model for Nodes {
 
     ghost view = { λ n. record {
       items = n.nodes.items;
-      room =
-          min (vec_capacity n.nodes - vec_len n.nodes) (vec_capacity n.links - vec_len n.links);
+      room = min (vec_capacity n.nodes - vec_len n.nodes) (n.children.cells - vec_len n.nodes);
     } };
 
-    ghost invariant = { λ n. AreLinked n.nodes.items n.links.items };
+    ghost invariant = { λ n. AreLinked n.nodes.items n.children };
 }
 
 /// The leaf of state 0 alone.
@@ -58,40 +48,23 @@ fn the_root(alloc: Global) -> Result<Vec<Node>, NoMemory>
 }
 
 /// The child of a node under these outputs, if there is one.
-fn find_child(nodes: &[Node], links: &[Link], parent: u32, outputs: &[u16]) -> Option<u32>
-    requires linked { AreLinked nodes.now links.now }
+fn find_child(nodes: &[Node], children: &Lists, parent: u32, outputs: &[u16]) -> Option<u32>
+    requires linked { AreLinked nodes.now children.now }
     requires parent { parent < length nodes.now }
     ensures { MatchOption result
         ((n : ℕ) → IsChild (node_at nodes.now) parent n →
         (node_at nodes.now n).branch ≢ outputs.now)
         (λ n. IsChild (node_at nodes.now) parent n × ((node_at nodes.now n).branch ≡ outputs.now)) }
 {
-    let mut cursor = links[parent as usize].first;
-    while cursor != 0 {
-        if nodes[cursor as usize].branch.as_slice() == outputs {
-            return Some(cursor);
+    children.has_each_once();
+    let mut cursor = children.first(parent);
+    while let Some(child) = cursor {
+        if nodes[child as usize].branch.as_slice() == outputs {
+            return Some(child);
         }
-        cursor = links[cursor as usize].next;
+        cursor = children.next(child);
     }
     None
-}
-
-/// Puts a node first among those below another one. There is room for its link.
-fn add_link(links: &mut Vec<Link>, parent: u32, number: u32)
-    requires room { vec_len links.old + 1 ≤ vec_capacity links.old }
-    requires parent { parent < length links.old.items }
-    ensures items { links.new.items ≡ linked_leaf links.old.items parent number }
-    ensures capacity { vec_capacity links.new ≡ vec_capacity links.old }
-{
-    let old = links[parent as usize];
-    links[parent as usize] = Link {
-        first: number,
-        ..old
-    };
-    links.push_reserved(Link {
-        next: old.first,
-        ..ALONE
-    });
 }
 
 /// Gives a node a temporary discriminator.
@@ -154,50 +127,22 @@ fn append(nodes: &mut Vec<Node>, more: Vec<Node>)
     }
 }
 
-/// Gives each node a link of its own. There is room for them.
-fn add_links(links: &mut Vec<Link>, count: usize)
-    requires { count ≤ vec_capacity links.old }
-    ensures { links.new.items ≡ replicate count (record { first = 0; next = 0 }) }
-{
-    links.clear();
-    for _ in 0..count {
-        links.push_reserved(ALONE);
-    }
-}
-
-/// Puts a node first among those below another one.
-fn put_first(links: &mut Vec<Link>, parent: u32, number: u32)
-    requires parent { parent < length links.old.items }
-    requires number { number < length links.old.items }
-    ensures { links.new.items ≡ with_first links.old.items parent number }
-{
-    let old = links[parent as usize];
-    let own = links[number as usize];
-    links[number as usize] = Link {
-        next: old.first,
-        ..own
-    };
-    links[parent as usize] = Link {
-        first: number,
-        ..old
-    };
-}
-
-/// Links nodes anew, where each link is alone.
-fn relink(nodes: &[Node], links: &mut Vec<Link>)
-    requires alone { links.old.items ≡
-        replicate (length nodes.now) (record { first = 0; next = 0 }) }
+/// Puts each live node into the list of its parent. All lists are empty.
+fn relink(nodes: &[Node], children: &mut Lists)
+    requires free { (k : ℕ) → owner_of children.old k ≡ None }
+    requires owners { length children.old.lists ≡ children.old.cells }
+    requires each { length nodes.now ≤ children.old.cells }
     requires lower { AreLower nodes.now }
     requires some { 0 < length nodes.now }
     requires few { length nodes.now < 2 ^ 32 }
-    ensures { AreLinked nodes.now links.new.items }
+    ensures { AreLinked nodes.now children.new }
 {
     for number in 1..nodes.len() {
         let node = &nodes[number];
         if let Content::Gone = &node.content {
             continue;
         }
-        put_first(links, node.parent, number as u32);
+        children.push(node.parent, number as u32);
     }
 }
 
@@ -208,7 +153,7 @@ impl Nodes {
     {
         Ok(Nodes {
             nodes: the_root(alloc)?,
-            links: vec![in alloc; ALONE; 1]?,
+            children: Lists::new(alloc, 1, 1)?,
         })
     }
 
@@ -240,7 +185,7 @@ impl Nodes {
             (λ n. IsChild (node_at self.now.items) parent n ×
             ((node_at self.now.items n).branch ≡ outputs.now)) }
     {
-        find_child(&self.nodes, &self.links, parent, outputs)
+        find_child(&self.nodes, &self.children, parent, outputs)
     }
 
     /// Makes room for `more` nodes.
@@ -249,8 +194,14 @@ impl Nodes {
         ensures room { OnOk result (more ≤ self.new.room) }
     {
         self.nodes.reserve(more)?;
-        self.links.reserve(more)?;
-        Ok(())
+        let count = self.nodes.len() + more;
+        if count > u32::MAX as usize {
+            return Err(NoMemory);
+        }
+        if self.children.cells() >= count {
+            return Ok(());
+        }
+        self.children.grow(count as u32, count as u32)
     }
 
     /// Puts the leaf of a state below a node. There is room for it.
@@ -261,7 +212,7 @@ impl Nodes {
         ensures items { self.new.items ≡ self.old.items ++ leaf_below parent branch state ∷ [] }
         ensures room { self.old.room ≤ self.new.room + 1 }
     {
-        add_link(&mut self.links, parent, self.nodes.len() as u32);
+        self.children.push(parent, self.nodes.len() as u32);
         self.nodes.push_reserved(Node {
             parent,
             branch,
@@ -303,8 +254,18 @@ impl Nodes {
     }
 
     /// Puts a final node in the place of another one, with these nodes behind all others, and takes away what stands at the
-    /// marked ones. There is room for them.
-    pub(crate) fn replace(&mut self, root: u32, word: Word, below: &[bool], more: Vec<Node>)
+    /// marked ones. There is room for them, and the lists, which are empty, are to have those below each.
+    pub(crate) fn replace(
+        &mut self,
+        root: u32,
+        word: Word,
+        below: &[bool],
+        more: Vec<Node>,
+        mut children: Lists,
+    )
+        requires free { (k : ℕ) → owner_of children k ≡ None }
+        requires owners { length children.lists ≡ children.cells }
+        requires cells { length self.old.items + length more.items ≤ children.cells }
         requires room { length more.items ≤ self.old.room }
         requires few { length self.old.items + length more.items < 2 ^ 32 }
         requires root { root < length self.old.items }
@@ -315,7 +276,7 @@ impl Nodes {
         clear(&mut self.nodes, below);
         make_final(&mut self.nodes, root, word);
         append(&mut self.nodes, more);
-        add_links(&mut self.links, self.nodes.len());
-        relink(&self.nodes, &mut self.links);
+        relink(&self.nodes, &mut children);
+        self.children = children;
     }
 }

@@ -10,6 +10,7 @@ use crate::arrivals::Arrivals;
 use crate::sprouts::lift;
 use crate::transitions::{Edge, Place};
 use lw_cache::Cache;
+use lw_links::Lists;
 use lw_words::{NoMemory, Word};
 use std::alloc::Global;
 
@@ -77,8 +78,11 @@ impl DiscriminationTree {
         let mut places = lifted_places(self.alloc, &self.places, root, &below)?;
         place_edges(&mut places, self.inputs, &self.spanning, &sprout.leaves);
         let mut arrivals = Arrivals::new(self.alloc, self.most, self.inputs)?;
+        let count = (self.nodes.len() + sprout.nodes.len()) as u32;
+        let children = Lists::new(self.alloc, count, count)?;
         self.nodes.reserve(sprout.nodes.len())?;
-        self.nodes.replace(root, word, &below, sprout.nodes);
+        self.nodes
+            .replace(root, word, &below, sprout.nodes, children);
         arrivals.fill(&self.nodes, &places);
         self.leaves = sprout.leaves;
         self.places = places;

@@ -13,4 +13,4 @@ pub invariant_of-self : goal.invariant_of-self
 invariant_of-self c =
     let s = c.self.inside in
     let live : IsLive (node_at s.nodes.items c.args.leaf).content = subst (λ (n : NodeList). IsLive (node_at n.items c.args.leaf).content) (sym c.self.view_is) c.requires in
-    subst (λ (n : List Node). AreLinked n s.links.items) (sym c.lower.ensures.items) (lowered_linked s.nodes.items s.links.items c.args.leaf c.args.word c.self.invariant live)
+    subst (λ (n : List Node). AreLinked n s.children) (sym c.lower.ensures.items) (lowered_linked s.nodes.items s.children c.args.leaf c.args.word c.self.invariant live)
