@@ -4,7 +4,7 @@ use Rattle.std.specs.Option.{option_or}
 use Rattle.std.proofs.lemmas.Bool.{cases_lt, both_ways}
 use Rattle.std.proofs.lemmas.List.{get_or-map, get_or_default, get_or_past, get_or-set_same, get_or-set_other, get_or-replicate, get_or_append_left, get_or-append_right, length-map, length-set, length-append, length-replicate}
 use Rattle.lw_links.specs.Owners.{ListsByOwner, Spells, has, without, list_of, owner_of, empty_lists, grown, pushed, unlinked, moved}
-use Rattle.lw_links.specs.Chains.{no_place, no_ends, place_at, ends_at, first_or, last_or, IsChain, IsLinked, KeepsLists, lists_in, way_in, joined, given, ends_without}
+use Rattle.lw_links.specs.Chains.{place_in_no_list, no_ends, place_of_cell, ends_at, first_or, last_or, IsChain, IsLinked, KeepsLists, lists_in, way_in, joined, given, ends_without}
 use Rattle.lw_links.specs.declared.links.Place.{Place}
 use Rattle.lw_links.specs.declared.links.Ends.{Ends}
 use Rattle.lw_links.proofs.CellLemmas.{has_here, has_behind, has_left, has_right, split_at_cell, exists_from_has}
@@ -18,9 +18,9 @@ pub record Made (ends : List Ends) (places : List Place) (w : ListsByOwner) : Ty
   pub view : seen ends places ≡ w
 
 made : (ends : List Ends) (places : List Place) (w : ListsByOwner) → length ends ≡ length w.lists → length places ≡ w.cells
-    → IsLinked (place_at places) (ends_at ends) w.cells (list_of w) → Made ends places w
+    → IsLinked (place_of_cell places) (ends_at ends) w.cells (list_of w) → Made ends places w
 made ends places w le lp k =
-    let s : Keeps ends places w.lists = keeps ends places w.lists le (subst (λ n. IsLinked (place_at places) (ends_at ends) n (list_of w)) (sym lp) k) in record {
+    let s : Keeps ends places w.lists = keeps ends places w.lists le (subst (λ n. IsLinked (place_of_cell places) (ends_at ends) n (list_of w)) (sym lp) k) in record {
       invariant = s.invariant;
       view = ap (λ (n : ℕ). record { cells = n; lists = lists_in ends places }) lp ∙ ap (λ (ls : List (List ℕ)). record { cells = w.cells; lists = ls }) s.view;
     }
@@ -51,10 +51,10 @@ module _ (ends : List Ends) (places : List Place) (k : KeepsLists ends places) w
   pub record IsHeld (o c : ℕ) : Type 0 where
     pub cell : c < length places
     pub owner : o < length ends
-    pub previous : IfSome (place_at places c).previous (λ x. x < length places)
-    pub next : IfSome (place_at places c).next (λ x. x < length places)
+    pub previous : IfSome (place_of_cell places c).previous (λ x. x < length places)
+    pub next : IfSome (place_of_cell places c).next (λ x. x < length places)
 
-  pub held : (o c : ℕ) → (place_at places c).owner ≡ Some o → IsHeld o c
+  pub held : (o c : ℕ) → (place_of_cell places c).owner ≡ Some o → IsHeld o c
   held o c e = by (split_at_cell c (list_in ends places o) (k.owned c o e))
     where
       below : (s : Option ℕ) → IfSome s (λ x. has x (list_in ends places o) ≡ true) → IfSome s (λ x. x < length places)
@@ -62,7 +62,7 @@ module _ (ends : List Ends) (places : List Place) (k : KeepsLists ends places) w
 
       by : (front : List ℕ) × ((back : List ℕ) × (list_in ends places o ≡ front ++ c ∷ back)) → IsHeld o c
       by s =
-          let at = (chain_split (place_at places) o None None s.0 (c ∷ s.1.0) (subst (λ zs. IsChain (place_at places) o None zs None) s.1.1 (k.chain o))).1.0 in
+          let at = (chain_split (place_of_cell places) o None None s.0 (c ∷ s.1.0) (subst (λ zs. IsChain (place_of_cell places) o None zs None) s.1.1 (k.chain o))).1.0 in
           let front : (x : ℕ) → has x s.0 ≡ true → has x (list_in ends places o) ≡ true =
           λ x t. subst (λ zs. has x zs ≡ true) (sym s.1.1) (has_left x s.0 (c ∷ s.1.0) t) in
           let back : (x : ℕ) → has x s.1.0 ≡ true → has x (list_in ends places o) ≡ true =
@@ -98,7 +98,7 @@ module _ (ends : List Ends) (places : List Place) (v : ListsByOwner) (is : seen 
       (owner_exists : o < length v.lists) (cell_exists : c < v.cells) (none : owner_of v c ≡ None)
       (b_at : b ≡ get_or ends o b) (same : P ≡ Q) (len : length Q ≡ length places)
       (first_is : first ≡ option_or b.first (Some c))
-      (joins : (x : ℕ) → place_at Q x ≡ joined b.last (Some c) x (place_at (set places c (first_place o)) x)) where
+      (joins : (x : ℕ) → place_of_cell Q x ≡ joined b.last (Some c) x (place_of_cell (set places c (first_place o)) x)) where
     pub push_made : Made (set ends o (record { first = first; last = Some c })) P (pushed v o c)
     push_made =
         let o_lt : o < length ends = rw owners owner_exists in
@@ -108,13 +108,13 @@ module _ (ends : List Ends) (places : List Place) (v : ListsByOwner) (is : seen 
         subst (λ w. Made (set ends o (record { first = first; last = Some c })) P (pushed w o c)) is
         (subst (λ q. Made (set ends o (record { first = first; last = Some c })) q (pushed (seen ends places) o c)) (sym same)
         (made _ Q (pushed (seen ends places) o c) (length-set ends o _ ∙ (lists_len ∙ sym (length-set (lists_in ends places) o _))) len
-        (push_linked (place_at places) (place_at (set places c (first_place o))) (place_at Q)
+        (push_linked (place_of_cell places) (place_of_cell (set places c (first_place o))) (place_of_cell Q)
         (ends_at ends) (ends_at (set ends o (record { first = first; last = Some c }))) (length places)
         (list_in ends places) (list_of (pushed (seen ends places) o c)) k o c
         (seen_owner ends places k c ∙ (ap (λ w. owner_of w c) is ∙ none)) c_lt
-        (get_or-set_same places c _ no_place c_lt)
-        (λ x ne. get_or-set_other places c x _ no_place ne)
-        (λ x. joins x ∙ ap (λ (e : Ends). joined e.last (Some c) x (place_at (set places c (first_place o)) x)) b_is)
+        (get_or-set_same places c _ place_in_no_list c_lt)
+        (λ x ne. get_or-set_other places c x _ place_in_no_list ne)
+        (λ x. joins x ∙ ap (λ (e : Ends). joined e.last (Some c) x (place_of_cell (set places c (first_place o)) x)) b_is)
         (get_or-set_same ends o _ no_ends o_lt ∙ ap (λ (s : Option ℕ). record { first = s; last = Some c }) (first_is ∙ ap (λ (e : Ends). option_or e.first (Some c)) b_is))
         (λ p ne. get_or-set_other ends o p _ no_ends ne)
         (get_or-set_same (lists_in ends places) o _ [] l_lt)
@@ -122,20 +122,20 @@ module _ (ends : List Ends) (places : List Place) (v : ListsByOwner) (is : seen 
 
   -- what `unlink` asks of the vectors, and what it makes
   module _ (c : ℕ) (some : IsSome (owner_of v c)) where
-    with_owner : (s : Option ℕ) → (place_at places c).owner ≡ s → IsSome s → (o : ℕ) × ((place_at places c).owner ≡ Some o)
+    with_owner : (s : Option ℕ) → (place_of_cell places c).owner ≡ s → IsSome s → (o : ℕ) × ((place_of_cell places c).owner ≡ Some o)
     with_owner None e t = absurd (both_ways false refl t)
     with_owner (Some o) e t = (o, e)
 
-    owned : (o : ℕ) × ((place_at places c).owner ≡ Some o)
-    owned = with_owner (place_at places c).owner refl
+    owned : (o : ℕ) × ((place_of_cell places c).owner ≡ Some o)
+    owned = with_owner (place_of_cell places c).owner refl
         (subst (λ s. IsSome s) (sym (seen_owner ends places k c ∙ ap (λ w. owner_of w c) is)) some)
 
     pub unlink_cell : c < length places
     unlink_cell = (held ends places k owned.0 c owned.1).cell
 
     module _ (r : Place) (r_at : r ≡ get_or places c r) where
-      r_is : r ≡ place_at places c
-      r_is = r_at ∙ get_or_default places c r no_place unlink_cell
+      r_is : r ≡ place_of_cell places c
+      r_is = r_at ∙ get_or_default places c r place_in_no_list unlink_cell
 
       pub unlink_some : IsSome r.owner
       unlink_some = subst (λ s. IsSome s) (sym (ap (λ (p : Place). p.owner) r_is ∙ owned.1)) refl
@@ -154,7 +154,7 @@ module _ (ends : List Ends) (places : List Place) (v : ListsByOwner) (is : seen 
 
       module _ (o : ℕ) (b e : Ends) (P Q : List Place) (owner : r.owner ≡ Some o) (b_at : b ≡ get_or ends o b) (same : P ≡ Q) (len : length Q ≡ length places)
           (e_is : e ≡ ends_without b r)
-          (joins : (x : ℕ) → place_at Q x ≡ joined r.previous r.next x (place_at places x)) where
+          (joins : (x : ℕ) → place_of_cell Q x ≡ joined r.previous r.next x (place_of_cell places x)) where
         lists_without : (p : ℕ) → get_or (map (without c) (lists_in ends places)) p [] ≡ without c (list_in ends places p)
         lists_without p = elim (cases_lt p (length (lists_in ends places))) [
           | inl lt ↦ get_or-map (without c) (lists_in ends places) p [] [] lt
@@ -162,21 +162,21 @@ module _ (ends : List Ends) (places : List Place) (v : ListsByOwner) (is : seen 
               ∙ ap (without c) (sym (get_or_past (lists_in ends places) p [] le))
         ]
 
-        pub unlink_made : Made (set ends o e) (set P c no_place) (unlinked v c)
+        pub unlink_made : Made (set ends o e) (set P c place_in_no_list) (unlinked v c)
         unlink_made =
             let o_lt : o < length ends = unlink_owner o owner in
             let c_lt : c < length Q = rw len unlink_cell in
             let b_is : b ≡ ends_at ends o = b_at ∙ get_or_default ends o b no_ends o_lt in
-            subst (λ w. Made (set ends o e) (set P c no_place) (unlinked w c)) is
-            (subst (λ q. Made (set ends o e) (set q c no_place) (unlinked (seen ends places) c)) (sym same)
-            (made _ (set Q c no_place) (unlinked (seen ends places) c)
+            subst (λ w. Made (set ends o e) (set P c place_in_no_list) (unlinked w c)) is
+            (subst (λ q. Made (set ends o e) (set q c place_in_no_list) (unlinked (seen ends places) c)) (sym same)
+            (made _ (set Q c place_in_no_list) (unlinked (seen ends places) c)
             (length-set ends o _ ∙ (lists_len ∙ sym (length-map (lists_in ends places) (without c)))) (length-set Q c _ ∙ len)
-            (unlink_linked (place_at places) (place_at Q) (place_at (set Q c no_place)) (ends_at ends) (ends_at (set ends o e)) (length places)
+            (unlink_linked (place_of_cell places) (place_of_cell Q) (place_of_cell (set Q c place_in_no_list)) (ends_at ends) (ends_at (set ends o e)) (length places)
             (list_in ends places) (list_of (unlinked (seen ends places) c)) k o c
             (sym (ap (λ (p : Place). p.owner) r_is) ∙ owner)
-            (λ x. joins x ∙ ap (λ (p : Place). joined p.previous p.next x (place_at places x)) r_is)
-            (get_or-set_same Q c _ no_place c_lt)
-            (λ x ne. get_or-set_other Q c x _ no_place ne)
+            (λ x. joins x ∙ ap (λ (p : Place). joined p.previous p.next x (place_of_cell places x)) r_is)
+            (get_or-set_same Q c _ place_in_no_list c_lt)
+            (λ x ne. get_or-set_other Q c x _ place_in_no_list ne)
             (get_or-set_same ends o _ no_ends o_lt ∙ (e_is ∙ (ap (λ (d : Ends). ends_without d r) b_is ∙ ap (λ (p : Place). ends_without (ends_at ends o) p) r_is)))
             (λ p ne. get_or-set_other ends o p _ no_ends ne)
             lists_without)))
@@ -192,12 +192,12 @@ module _ (ends : List Ends) (places : List Place) (v : ListsByOwner) (is : seen 
         ap (λ q. way_in q a.first) same_places ∙ (ap (λ (e : Ends). way_in places e.first) first_is
         ∙ sym (get_or-map (λ (e : Ends). way_in places e.first) ends o no_ends [] lt))
 
-    pub list_way : Spells (λ x. (place_at S x).next) a.first (way_in S a.first)
-    list_way = subst (λ xs. Spells (λ x. (place_at S x).next) a.first xs) (sym list_is)
-        (subst (λ q. Spells (λ x. (place_at q x).next) a.first (list_in ends places o)) (sym same_places)
-        (subst (λ (s : Option ℕ). Spells (λ x. (place_at places x).next) s (list_in ends places o))
+    pub list_way : Spells (λ x. (place_of_cell S x).next) a.first (way_in S a.first)
+    list_way = subst (λ xs. Spells (λ x. (place_of_cell S x).next) a.first xs) (sym list_is)
+        (subst (λ q. Spells (λ x. (place_of_cell q x).next) a.first (list_in ends places o)) (sym same_places)
+        (subst (λ (s : Option ℕ). Spells (λ x. (place_of_cell places x).next) s (list_in ends places o))
         (sym (ap (λ (e : Ends). e.first) (first_is ∙ k.ends_are o)))
-        (chain_spells (place_at places) o None (list_in ends places o) (k.chain o))))
+        (chain_spells (place_of_cell places) o None (list_in ends places o) (k.chain o))))
 
     pub list_exist : (x : ℕ) → has x (way_in S a.first) ≡ true → x < length S
     list_exist x h = subst (λ (q : List Place). x < length q) (sym same_places) (k.in_range o x (subst (λ xs. has x xs ≡ true) list_is h))
@@ -217,7 +217,7 @@ module _ (ends : List Ends) (places : List Place) (v : ListsByOwner) (is : seen 
     way_is : way_in S a.first ≡ list_in ends places o
     way_is = list_is o o_exists a a_at S same_places
 
-    pub move_way : Spells (λ x. (place_at S x).next) a.first (way_in S a.first)
+    pub move_way : Spells (λ x. (place_of_cell S x).next) a.first (way_in S a.first)
     move_way = list_way o o_exists a a_at S same_places
 
     pub move_previous : (n : ℕ) → n ≡ length places → IfSome b.last (λ x. x < n)
@@ -227,8 +227,8 @@ module _ (ends : List Ends) (places : List Place) (v : ListsByOwner) (is : seen 
     move_next n len = rw (len, a_is) (first_below ends places k o)
 
     module _ (G P Q : List Place) (first last : Option ℕ) (same : P ≡ Q) (len : length Q ≡ length places)
-        (gives : (x : ℕ) → place_at G x ≡ given t (way_in S a.first) x (place_at S x))
-        (joins : (x : ℕ) → place_at Q x ≡ joined b.last a.first x (place_at G x))
+        (gives : (x : ℕ) → place_of_cell G x ≡ given t (way_in S a.first) x (place_of_cell S x))
+        (joins : (x : ℕ) → place_of_cell Q x ≡ joined b.last a.first x (place_of_cell G x))
         (first_is : first ≡ option_or b.first a.first) (last_is : last ≡ option_or a.last b.last) where
       abbrev ends_then : List Ends
       ends_then = set (set ends t (record { first = first; last = last })) o no_ends
@@ -236,17 +236,17 @@ module _ (ends : List Ends) (places : List Place) (v : ListsByOwner) (is : seen 
       others_then : (p : ℕ) → p ≢ o → p ≢ t → ends_at ends_then p ≡ ends_at ends p
       others_then p n m = get_or-set_other (set ends t _) o p _ no_ends n ∙ get_or-set_other ends t p _ no_ends m
 
-      move_linked_so : IsLinked (place_at Q) (ends_at ends_then) (length places) (list_of (moved (seen ends places) o t))
+      move_linked_so : IsLinked (place_of_cell Q) (ends_at ends_then) (length places) (list_of (moved (seen ends places) o t))
       move_linked_so =
           let o_lt : o < length ends = rw owners o_exists in
           let t_lt : t < length ends = rw owners t_exists in
           let o_lt' : o < length (set ends t (record { first = first; last = last })) = rw length-set o_lt in
           let l_lt : t < length (lists_in ends places) = rw (← lists_len) t_lt in
           let l_lt' : o < length (set (lists_in ends places) t (list_in ends places t ++ list_in ends places o)) = rw (length-set, ← lists_len) o_lt in
-          move_linked (place_at places) (place_at G) (place_at Q) (ends_at ends) (ends_at ends_then) (length places)
+          move_linked (place_of_cell places) (place_of_cell G) (place_of_cell Q) (ends_at ends) (ends_at ends_then) (length places)
           (list_in ends places) (list_of (moved (seen ends places) o t)) k o t two
-          (λ x. gives x ∙ (ap (λ xs. given t xs x (place_at S x)) way_is ∙ ap (λ q. given t (list_in ends places o) x (place_at q x)) same_places))
-          (λ x. joins x ∙ (ap (λ (e : Ends). joined e.last a.first x (place_at G x)) b_is ∙ ap (λ (e : Ends). joined (ends_at ends t).last e.first x (place_at G x)) a_is))
+          (λ x. gives x ∙ (ap (λ xs. given t xs x (place_of_cell S x)) way_is ∙ ap (λ q. given t (list_in ends places o) x (place_of_cell q x)) same_places))
+          (λ x. joins x ∙ (ap (λ (e : Ends). joined e.last a.first x (place_of_cell G x)) b_is ∙ ap (λ (e : Ends). joined (ends_at ends t).last e.first x (place_of_cell G x)) a_is))
           (get_or-set_other (set ends t _) o t _ no_ends (λ i. two (sym i)) ∙ (get_or-set_same ends t _ no_ends t_lt
           ∙ (ap (λ (s : Option ℕ). record { first = s; last = last }) (first_is ∙ (ap (λ (e : Ends). option_or e.first a.first) b_is ∙ ap (λ (e : Ends). option_or (ends_at ends t).first e.first) a_is))
           ∙ ap (λ (s : Option ℕ). record { first = option_or (ends_at ends t).first (ends_at ends o).first; last = s })
@@ -283,20 +283,20 @@ get_or-append_none xs n i d = elim (cases_lt i (length xs)) [
 
 module _ (ends : List Ends) (places : List Place) (v : ListsByOwner) (is : seen ends places ≡ v) (k : KeepsLists ends places) (owners cells : ℕ)
     (owners_stay : length v.lists ≤ owners) (cells_stay : v.cells ≤ cells) (m n : ℕ) (m_is : m ≡ owners - length ends) (n_is : n ≡ cells - length places) where
-  grow_linked : IsLinked (place_at (places ++ replicate n no_place)) (ends_at (ends ++ replicate m no_ends)) cells (list_of (grown (seen ends places) owners cells))
+  grow_linked : IsLinked (place_of_cell (places ++ replicate n place_in_no_list)) (ends_at (ends ++ replicate m no_ends)) cells (list_of (grown (seen ends places) owners cells))
   grow_linked =
-      relinked (place_at places) (place_at (places ++ replicate n no_place)) (ends_at ends) (ends_at (ends ++ replicate m no_ends)) (length places) cells
+      relinked (place_of_cell places) (place_of_cell (places ++ replicate n place_in_no_list)) (ends_at ends) (ends_at (ends ++ replicate m no_ends)) (length places) cells
       (list_in ends places) (list_of (grown (seen ends places) owners cells)) k (rw (ap (λ (w : ListsByOwner). w.cells) is) cells_stay)
       (λ p. inl (record {
         list = get_or-append_none (lists_in ends places) (owners - length (lists_in ends places)) p [];
         ends = get_or-append_none ends m p no_ends;
-        places = λ x h. get_or-append_none places n x no_place;
+        places = λ x h. get_or-append_none places n x place_in_no_list;
       }))
       (λ x p e. subst (λ xs. has x xs ≡ true) (sym (get_or-append_none (lists_in ends places) (owners - length (lists_in ends places)) p []))
-      (k.owned x p (ap (λ (q : Place). q.owner) (sym (get_or-append_none places n x no_place)) ∙ e)))
-      (λ x e. get_or-append_none places n x no_place ∙ k.free x (ap (λ (q : Place). q.owner) (sym (get_or-append_none places n x no_place)) ∙ e))
+      (k.owned x p (ap (λ (q : Place). q.owner) (sym (get_or-append_none places n x place_in_no_list)) ∙ e)))
+      (λ x e. get_or-append_none places n x place_in_no_list ∙ k.free x (ap (λ (q : Place). q.owner) (sym (get_or-append_none places n x place_in_no_list)) ∙ e))
 
-  pub grow_made : (E D : List Ends) (P Q : List Place) → E ≡ D ++ replicate m no_ends → D ≡ ends → P ≡ Q ++ replicate n no_place → Q ≡ places → Made E P (grown v owners cells)
+  pub grow_made : (E D : List Ends) (P Q : List Place) → E ≡ D ++ replicate m no_ends → D ≡ ends → P ≡ Q ++ replicate n place_in_no_list → Q ≡ places → Made E P (grown v owners cells)
   grow_made E D P Q E_is D_is P_is Q_is =
       let le : length ends ≡ length (lists_in ends places) = sym (length-map ends _) in
       let few : length ends ≤ owners = rw (le ∙ ap (λ (w : ListsByOwner). length w.lists) is) owners_stay in
@@ -315,7 +315,7 @@ none_kept = record {
 }
 
 pub new_made : (owners cells : ℕ) (E D : List Ends) (P Q : List Place)
-    → E ≡ D ++ replicate owners no_ends → D ≡ [] → P ≡ Q ++ replicate cells no_place → Q ≡ [] → Made E P (empty_lists owners cells)
+    → E ≡ D ++ replicate owners no_ends → D ≡ [] → P ≡ Q ++ replicate cells place_in_no_list → Q ≡ [] → Made E P (empty_lists owners cells)
 new_made owners cells E D P Q E_is D_is P_is Q_is =
     let e : owners - 0 ≡ owners = omega arith in
     subst (λ o. Made E P (empty_lists o cells)) e

@@ -3,7 +3,7 @@ use Rattle.std.proofs.Common.{◌≡◌, ◌≢◌, ℕ, ◌<◌, ◌≤◌, ◌
 use Rattle.std.specs.Option.{option_or}
 use Rattle.std.proofs.lemmas.Bool.{cases_eq, ne_eqb, both_ways, cases_Bool, false_from_ne_true}
 use Rattle.lw_links.specs.Owners.{has, without}
-use Rattle.lw_links.specs.Chains.{StandsOnce, no_place, no_ends, first_or, last_or, ends_of, IsChain, IsLinked, is_cell, joined, ends_without, given}
+use Rattle.lw_links.specs.Chains.{StandsOnce, place_in_no_list, no_ends, first_or, last_or, ends_of, IsChain, IsLinked, is_cell, joined, ends_without, given}
 use Rattle.lw_links.specs.declared.links.Place.{Place}
 use Rattle.lw_links.specs.declared.links.Ends.{Ends}
 use Rattle.lw_links.proofs.CellLemmas.{has_here, has_at, has_cases, has_left, has_right, has_either, lacks_both, lacks_rest, lacks_left, lacks_right, has_behind, apart, StandApart, apart_from_once, once_from_apart, split_at_cell, without_none, without_middle, has_without}
@@ -28,7 +28,7 @@ other_owner e = cc
 module _ (f g : ℕ → Place) (d e : ℕ → Ends) (n m : ℕ) (L M : ℕ → List ℕ) (k : IsLinked f d n L) where
   -- each owner's list stays or is made anew
   pub relinked : n ≤ m → ((o : ℕ) → IsSame f g (d o) (e o) (L o) (M o) ⊎ IsRebuilt g (e o) m (M o) o)
-      → ((c o : ℕ) → (g c).owner ≡ Some o → has c (M o) ≡ true) → ((c : ℕ) → (g c).owner ≡ None → g c ≡ no_place) → IsLinked g e m M
+      → ((c o : ℕ) → (g c).owner ≡ Some o → has c (M o) ≡ true) → ((c : ℕ) → (g c).owner ≡ None → g c ≡ place_in_no_list) → IsLinked g e m M
   relinked le each owned free = record {
     chain = λ o. elim (each o) [
       | inl s ↦ subst (λ xs. IsChain g o None xs None) (sym s.list) (chain_frame f g o None None (L o) (k.chain o) s.places)
@@ -146,7 +146,7 @@ module _ (f h g : ℕ → Place) (d e : ℕ → Ends) (n : ℕ) (L M : ℕ → L
 module _ (f h g : ℕ → Place) (d e : ℕ → Ends) (n : ℕ) (L M : ℕ → List ℕ) (k : IsLinked f d n L) (o c : ℕ)
     (owner : (f c).owner ≡ Some o)
     (joins : (x : ℕ) → h x ≡ joined (f c).previous (f c).next x (f x))
-    (here : g c ≡ no_place)
+    (here : g c ≡ place_in_no_list)
     (there : (x : ℕ) → x ≢ c → g x ≡ h x)
     (ends_here : e o ≡ ends_without (d o) (f c))
     (ends_there : (p : ℕ) → p ≢ o → e p ≡ d p)
@@ -294,7 +294,7 @@ module _ (f h g : ℕ → Place) (d e : ℕ → Ends) (n : ℕ) (L M : ℕ → L
         move_has x p (λ j. both_ways _ i (subst (λ q. has x (L q) ≡ true) j s')) s'
   ]
 
-  move_free : (x : ℕ) → (g x).owner ≡ None → g x ≡ no_place
+  move_free : (x : ℕ) → (g x).owner ≡ None → g x ≡ place_in_no_list
   move_free x s = elim (cases_Bool (has x (L o))) [
     | inl i ↦ let to : None ≡ Some t = sym s ∙ (move_owner x ∙ ap (λ (q : Place). q.owner) (move_given x i)) in absurd cc
     | inr i ↦ let s' : (f x).owner ≡ None = ap (λ (q : Place). q.owner) (sym (move_kept x i)) ∙ (sym (move_owner x) ∙ s) in

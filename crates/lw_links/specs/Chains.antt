@@ -5,15 +5,15 @@ use Rattle.lw_links.specs.declared.links.Place.{Place}
 use Rattle.lw_links.specs.declared.links.Ends.{Ends}
 
 -- the place of a cell that is in no list
-abbrev pub no_place : Place
-no_place = record { owner = None; previous = None; next = None }
+abbrev pub place_in_no_list : Place
+place_in_no_list = record { owner = None; previous = None; next = None }
 
 -- the ends of an empty list
 abbrev pub no_ends : Ends
 no_ends = record { first = None; last = None }
 
-abbrev pub place_at : List Place → ℕ → Place
-place_at places cell = slice_index_or places cell no_place
+abbrev pub place_of_cell : List Place → ℕ → Place
+place_of_cell places cell = slice_index_or places cell place_in_no_list
 
 abbrev pub ends_at : List Ends → ℕ → Ends
 ends_at ends owner = slice_index_or ends owner no_ends
@@ -45,7 +45,7 @@ walk place (suc n) (Some cell) = cell ∷ walk place n (place cell).next
 
 -- the list of each owner
 abbrev pub lists_in : List Ends → List Place → List (List ℕ)
-lists_in ends places = map (λ e. walk (place_at places) (length places) e.first) ends
+lists_in ends places = map (λ e. walk (place_of_cell places) (length places) e.first) ends
 
 -- each cell of a list stands in it once
 abbrev pub StandsOnce : List ℕ → Type 0
@@ -59,11 +59,11 @@ pub record IsLinked (place : ℕ → Place) (ends : ℕ → Ends) (cells : ℕ) 
   pub once : (owner : ℕ) → StandsOnce (list owner)
   pub in_range : (owner cell : ℕ) → has cell (list owner) ≡ true → cell < cells
   pub owned : (cell owner : ℕ) → (place cell).owner ≡ Some owner → has cell (list owner) ≡ true
-  pub free : (cell : ℕ) → (place cell).owner ≡ None → place cell ≡ no_place
+  pub free : (cell : ℕ) → (place cell).owner ≡ None → place cell ≡ place_in_no_list
 
 abbrev pub KeepsLists : List Ends → List Place → Type 0
 KeepsLists ends places =
-    IsLinked (place_at places) (ends_at ends) (length places) (λ owner. slice_index_or (lists_in ends places) owner [])
+    IsLinked (place_of_cell places) (ends_at ends) (length places) (λ owner. slice_index_or (lists_in ends places) owner [])
 
 -- whether this is the cell
 abbrev pub is_cell : Option ℕ → ℕ → Bool
@@ -87,7 +87,7 @@ ends_without ends p = record {
 
 -- the cells from a start by `next`
 abbrev pub way_in : List Place → Option ℕ → List ℕ
-way_in places start = walk (place_at places) (length places) start
+way_in places start = walk (place_of_cell places) (length places) start
 
 -- a cell's place once these cells are given to the owner
 abbrev pub given : ℕ → List ℕ → ℕ → Place → Place

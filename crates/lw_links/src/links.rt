@@ -2,7 +2,7 @@
 ghost use Rattle.std.specs.Prelude.{◌≡◌, ◌≢◌, ℕ, ◌+◌, ◌<◌, ◌≤◌, List, ◌++◌, length, replicate, IsSome, IfOk, IfSome, OnOk, OnErr, vec_len, Some, None, true, ◌==◌, if◌then◌else◌, option_map};
 ghost use Rattle.std.specs.Vec.{vec_capacity};
 ghost use Rattle.lw_links.specs.Owners.{empty_lists, grown, pushed, unlinked, moved, owner_of, first_of, next_of, list_of, HasEachOnce, Spells, has};
-ghost use Rattle.lw_links.specs.Chains.{place_at, joined, ends_without, way_in, given};
+ghost use Rattle.lw_links.specs.Chains.{place_of_cell, joined, ends_without, way_in, given};
 
 use lw_words::NoMemory;
 use std::alloc::Global;
@@ -231,8 +231,8 @@ impl Lists {
 fn join(places: &mut [Place], previous: Option<u32>, next: Option<u32>)
     requires previous_exists { IfSome previous (λ c. c < length places.old) }
     requires next_exists { IfSome next (λ c. c < length places.old) }
-    ensures { (cell : ℕ) → place_at places.new cell ≡
-        joined previous next cell (place_at places.old cell) }
+    ensures { (cell : ℕ) → place_of_cell places.new cell ≡
+        joined previous next cell (place_of_cell places.old cell) }
 {
     if let Some(cell) = previous {
         places[cell as usize].next = next;
@@ -244,7 +244,7 @@ fn join(places: &mut [Place], previous: Option<u32>, next: Option<u32>)
 
 /// The cells from `first` on by `next`, in the order of the way.
 fn spell(alloc: Global, places: &[Place], first: Option<u32>) -> Result<Vec<u32>, NoMemory>
-    requires way_ends { Spells (λ cell. (place_at places.now cell).next) first
+    requires way_ends { Spells (λ cell. (place_of_cell places.now cell).next) first
         (way_in places.now first) }
     requires cells_exist { (cell : ℕ) → has cell (way_in places.now first) ≡ true →
         cell < length places.now }
@@ -261,12 +261,12 @@ fn spell(alloc: Global, places: &[Place], first: Option<u32>) -> Result<Vec<u32>
 
 /// Makes an owner that of the cells from `first` on by `next`.
 fn give(places: &mut [Place], first: Option<u32>, owner: u32)
-    requires way_ends { Spells (λ cell. (place_at places.old cell).next) first
+    requires way_ends { Spells (λ cell. (place_of_cell places.old cell).next) first
         (way_in places.old first) }
     requires cells_exist { (cell : ℕ) → has cell (way_in places.old first) ≡ true →
         cell < length places.old }
-    ensures { (cell : ℕ) → place_at places.new cell ≡
-        given owner (way_in places.old first) cell (place_at places.old cell) }
+    ensures { (cell : ℕ) → place_of_cell places.new cell ≡
+        given owner (way_in places.old first) cell (place_of_cell places.old cell) }
 {
     let mut cursor = first;
     while let Some(cell) = cursor {
