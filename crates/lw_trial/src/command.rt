@@ -16,9 +16,9 @@ use lw_names::OutNames;
 use lw_mealy::Mealy;
 use lw_outside::Sink;
 use lw_report::{End, Outcome, learn_outcome, refuse, say};
-use lw_rounds::{Learned, Unwatched};
-use lw_words::{Kept, Names, NamesFault, NoMemory};
-use lw_workers::{LearnedMachine, learn_machine};
+use lw_rounds::{Learned, Settings, Unwatched};
+use lw_words::{Kept, Names, NoMemory, Words};
+use lw_workers::{LearningOutcome, Start, learn_machine};
 use std::alloc::Global;
 use std::sync::Wait;
 use std::thread::Threads;
@@ -34,6 +34,14 @@ const MOST_STATES: u16 = 1024;
 struct Drawn {
     machine: Mealy,
     outputs: Names,
+}
+
+/// A model that was learned, with the kept answers and the names of their outputs.
+#[derive(Drop)]
+struct Found {
+    learned: Learned,
+    kept: Kept,
+    names: OutNames,
 }
 
 /// The names of the two outputs, `0` and `1`.
@@ -72,26 +80,29 @@ fn report<O: Sink, E: Sink>(
     alloc: Global,
     arguments: &TrialArguments,
     drawn: &Drawn,
-    learned: Learned,
-    kept: Kept,
-    named: OutNames,
+    found: Found,
     out: &mut O,
     err: &mut E,
 ) -> End
     requires machine { drawn.now.machine ≡ drawn_machine arguments.now }
     requires learned { IsLearned arguments.now.learner arguments.now.inputs 2 1 1024
-        (answers_of kept.answers) learned.model learned.learner }
+        (answers_of found.kept.answers) found.learned.model found.learned.learner }
     requires kept { KeepsRuns (drawn_machine arguments.now) arguments.now.workers []
-        kept.answers }
-    requires named { named ≡ drawn_naming }
+        found.kept.answers }
+    requires named { found.names ≡ drawn_naming }
     requires reached { suite_size arguments.now.states arguments.now.inputs 1 ≤ greatest_suite →
-        refinements_of learned.learner < arguments.now.states }
+        refinements_of found.learned.learner < arguments.now.states }
     ensures status { result.status ≡ status_of result.outcome }
     ensures ran { IsTrialRun arguments.now (O.state out.old) (O.state out.new) (E.state err.old)
         (E.state err.new) result }
     ensures counts { ((O.state out.old).faults ≤ (O.state out.new).faults) ×
         ((E.state err.old).faults ≤ (E.state err.new).faults) }
 {
+    let Found {
+        learned,
+        kept,
+        names,
+    } = found;
     match tell(
         alloc,
         arguments,
@@ -101,10 +112,10 @@ fn report<O: Sink, E: Sink>(
         &kept,
         out,
     ) {
-        Ok(tried) => End::with_model(Outcome::Trial(tried), learned, kept, Some(named)),
+        Ok(tried) => End::with_model(Outcome::Trial(tried), learned, kept, Some(names)),
         Err(stop) => {
             let outcome = say(alloc, Outcome::from(stop), None, None, &kept, EXTRA, err);
-            End::with_model(outcome, learned, kept, Some(named))
+            End::with_model(outcome, learned, kept, Some(names))
         }
     }
 }
@@ -129,26 +140,40 @@ fn learn<R: Threads + Wait + Sync + Drop, O: Sink, E: Sink>(
     ensures counts { ((O.state out.old).faults ≤ (O.state out.new).faults) ×
         ((E.state err.old).faults ≤ (E.state err.new).faults) }
 {
-    let LearnedMachine {
+    let start = Start {
+        names: named,
+        cache: Cache::new(alloc),
+        words: Words::new(alloc),
+    };
+    let settings = Settings {
+        workers: arguments.workers(),
+        kind: arguments.learner(),
+        extra: EXTRA,
+        max_states: MOST_STATES,
+    };
+    let LearningOutcome {
         learned,
         kept,
         names,
+        cut: _,
     } = learn_machine(
         rt,
         alloc,
         &drawn.machine,
         &drawn.outputs,
-        named,
-        Cache::new(alloc),
-        &[],
-        arguments.workers(),
-        arguments.learner(),
-        EXTRA,
-        MOST_STATES,
+        start,
+        settings,
         &mut Unwatched,
     );
     match learned {
-        Ok(learned) => report(alloc, arguments, drawn, learned, kept, names, out, err),
+        Ok(learned) => {
+            let found = Found {
+                learned,
+                kept,
+                names,
+            };
+            report(alloc, arguments, drawn, found, out, err)
+        }
         Err(stop) => {
             let outcome = learn_outcome(stop);
             refuse(alloc, outcome, None, None, kept, Some(names), EXTRA, err)
