@@ -7,6 +7,5 @@ use Rattle.lw_learn.proofs.ending.leave_model.Goals as goal
 
 pub returns-clause-part : goal.returns-clause-part
 returns-clause-part g c =
-    let taken = λ x. (g.E.Sink.state x).taken in
     let memory = wanted c.say-outcome.result c.say-outcome.ensures.outcome in
-    subst (λ (o : Outcome). TakesSome (text_of [] [] c.args.kept.answers c.args.extra o) (taken c.args.err.now) (taken c.say-outcome.new.err)) memory c.say-outcome.ensures.part
+    subst (λ (o : Outcome). TakesSome (text_of [] [] c.args.kept.answers c.args.extra o) (g.E.Sink.state c.args.err.now).taken (g.E.Sink.state c.say-outcome.new.err).taken) memory c.say-outcome.ensures.part
