@@ -1,5 +1,5 @@
 -- Files that tell what they hold: what a call of `learn` may come to by it.
-use Rattle.std.specs.Prelude.{◌≡◌, ◌⊎◌, ℕ, ◌<◌, ◌≤◌, List, length, Option, Some, None}
+use Rattle.std.specs.Prelude.{◌≡◌, ℕ, List, Option, Some, None}
 use Rattle.lw_words.specs.Cause.{CountedFault}
 use Rattle.lw_json.specs.AnswersFile.{IsAnswersFile}
 use Rattle.lw_json.specs.MachineFile.{IsMachineFile}
@@ -8,7 +8,7 @@ use Rattle.lw_json.specs.declared.answers.Answers.{Answers}
 use Rattle.lw_json.specs.declared.machine.Machine.{Machine}
 use Rattle.lw_json.specs.declared.setup.Setup.{Setup}
 use Rattle.lw_json.specs.declared.setup.Setup.TheVariants as setup
-use Rattle.lw_outside.specs.Files.{File, file_at, longest_file, FilesState}
+use Rattle.lw_outside.specs.Files.{File, FilesState}
 use Rattle.lw_outside.specs.Links.{SpawnerState}
 use Rattle.lw_outside.specs.Streams.{SinkState}
 use Rattle.lw_report.specs.Reading.{TellsBad, TellsFile}

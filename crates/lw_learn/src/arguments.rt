@@ -2,7 +2,7 @@
 ghost use Rattle.std.specs.Prelude.{◌≡◌, ◌≤◌, IfSome, option_map, string_bytes};
 ghost use Rattle.lw_learn.specs.Arguments.{AreFewDrawn};
 
-use lw_rounds::Kind;
+use lw_rounds::{Kind, Settings};
 use std::marker::Model;
 
 /// What kind of file a system is read of.
@@ -22,18 +22,15 @@ pub struct Drawn {
     pub seed: u64,
 }
 
-/// The values of the arguments of `learn`: the file of the system and its kind, how many instances there are, the extra states,
-/// the kind of the learner, the greatest number of states, the files for the model and for the answers, where these are to be
-/// written, the file of prior answers, where there are some, the file for the answers that are kept at any end, the file of words
-/// that are asked first, the words that are drawn for that, and the file of the log.
+/// The values of the arguments of `learn`: the file of the system and its kind, the settings of the learning, the files for the
+/// model and for the answers, where these are to be written, the file of prior answers, where there are some, the file for the
+/// answers that are kept at any end, the file of words that are asked first, the words that are drawn for that, and the file of
+/// the log.
 #[derive(Drop)]
 pub struct LearnArguments {
     source: Source,
     system: String,
-    workers: u8,
-    extra: u8,
-    learner: Kind,
-    max_states: u16,
+    settings: Settings,
     model: Option<String>,
     answers: Option<String>,
     prior: Option<String>,
@@ -52,10 +49,10 @@ impl Model for LearnArguments {
     ghost view = { λ a. record {
       source = a.source;
       system = string_bytes a.system;
-      workers = a.workers;
-      extra = a.extra;
-      learner = a.learner;
-      max_states = a.max_states;
+      workers = a.settings.workers;
+      extra = a.settings.extra;
+      learner = a.settings.kind;
+      max_states = a.settings.max_states;
       model = option_map (λ s. string_bytes s) a.model;
       answers = option_map (λ s. string_bytes s) a.answers;
       prior = option_map (λ s. string_bytes s) a.prior;
@@ -68,10 +65,10 @@ impl Model for LearnArguments {
     ghost invariant = { λ a. AreWithinLimits (record {
       source = a.source;
       system = string_bytes a.system;
-      workers = a.workers;
-      extra = a.extra;
-      learner = a.learner;
-      max_states = a.max_states;
+      workers = a.settings.workers;
+      extra = a.settings.extra;
+      learner = a.settings.kind;
+      max_states = a.settings.max_states;
       model = option_map (λ s. string_bytes s) a.model;
       answers = option_map (λ s. string_bytes s) a.answers;
       prior = option_map (λ s. string_bytes s) a.prior;
@@ -122,10 +119,12 @@ impl LearnArguments {
         LearnArguments {
             source,
             system,
-            workers,
-            extra,
-            learner,
-            max_states,
+            settings: Settings {
+                workers,
+                kind: learner,
+                extra,
+                max_states,
+            },
             model,
             answers,
             prior,
@@ -150,32 +149,21 @@ impl LearnArguments {
         self.system.as_str()
     }
 
-    pub fn workers(&self) -> u8
-        ensures value { result ≡ self.now.workers }
-        ensures limits { (1 ≤ result) × (result ≤ 16) }
+    /// What the learning keeps to.
+    pub fn settings(&self) -> Settings
+        ensures workers { result.workers ≡ self.now.workers }
+        ensures kind { result.kind ≡ self.now.learner }
+        ensures extra { result.extra ≡ self.now.extra }
+        ensures states { result.max_states ≡ self.now.max_states }
     {
-        self.workers
+        self.settings
     }
 
     pub fn extra(&self) -> u8
         ensures value { result ≡ self.now.extra }
         ensures limit { result ≤ 4 }
     {
-        self.extra
-    }
-
-    /// The kind of the learner.
-    pub fn learner(&self) -> Kind
-        ensures { result ≡ self.now.learner }
-    {
-        self.learner
-    }
-
-    pub fn max_states(&self) -> u16
-        ensures value { result ≡ self.now.max_states }
-        ensures limits { (1 ≤ result) × (result ≤ 1024) }
-    {
-        self.max_states
+        self.settings.extra
     }
 
     pub fn model(&self) -> Option<&str>

@@ -19,6 +19,7 @@ use crate::task::{Task, WordedTask};
 use lw_log::Log;
 use lw_outside::{Files, LogFile, Sink, Spawner};
 use lw_report::End;
+use lw_workers::Start;
 use std::alloc::Global;
 use std::sync::Wait;
 use std::thread::Threads;
@@ -56,9 +57,11 @@ fn learn_read<R: Threads + Wait + Sync + Drop, F: Files, P: Spawner, O: Sink, E:
         spawner,
         arguments,
         &system,
-        names,
-        cache,
-        words.as_slice(),
+        Start {
+            names,
+            cache,
+            words,
+        },
         log,
     );
     log_stop(alloc, spawner, system.inputs(), &found, log);

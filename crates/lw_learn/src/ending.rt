@@ -13,51 +13,57 @@ ghost use Rattle.lw_report.specs.declared.outcome.Outcome.{Outcome as Came};
 ghost use Rattle.lw_report.specs.declared.role.Role.{Role as Part};
 ghost use Rattle.lw_report.specs.declared.role.Role.TheVariants.{Answers as AnswersRole, Kept as KeptRole, Model as ModelRole};
 ghost use Rattle.lw_learn.specs.Ending.{IsEndOf, IsToldOf, end_outputs};
-ghost use Rattle.lw_learn.specs.Outcomes.{IsLearnedOutcome, ModelIsTold};
+ghost use Rattle.lw_learn.specs.Outcomes.{IsLearnedOutcome, IsTold};
 ghost use Rattle.lw_learn.specs.Saving.{MayTell};
 ghost use Rattle.lw_learn.specs.Tasks.{declared_of, letters_of};
 ghost use Rattle.lw_learn.specs.Writing.{StaysBesides, TakesInTurn, WritesFiles, WritesOut};
 ghost use Rattle.lw_learn.specs.declared.saving.Saved.TheVariants as Was;
 
-use crate::learning::Found;
 use crate::naming::names_of;
 use crate::saving::save_kept;
 use crate::task::System;
-use crate::writing::tell_model;
+use crate::writing::{NamedModel, tell_model};
 use crate::{LearnArguments, Saved};
-use lw_names::OutNames;
+use lw_desk::OutNames;
 use lw_json::Machine;
 use lw_mealy::Mealy;
 use lw_outside::{Files, Sink};
 use lw_report::{End, Outcome, learn_outcome, refuse, say};
-use lw_rounds::{LearnStop, Learned, Learner};
+use lw_rounds::{LearnStop, Learned};
 use lw_words::{Kept, Names, NoMemory};
+use lw_workers::LearningOutcome;
 use std::alloc::Global;
+
+/// What a learning came to, with the kept answers, the names of their outputs, and whether these answers were saved.
+#[derive(Drop)]
+struct Ended<T> {
+    came: T,
+    kept: Kept,
+    names: OutNames,
+    saved: Saved,
+}
 
 /// Ends a call with its model, which is written out.
 fn write_out<F: Files, O: Sink, E: Sink>(
     alloc: Global,
     arguments: &LearnArguments,
-    machine: Machine,
-    learner: Learner,
-    kept: Kept,
-    outputs: Option<OutNames>,
-    saved: Saved,
+    model: NamedModel,
     files: &mut F,
     out: &mut O,
     err: &mut E,
 ) -> End
-    requires over { AreKeptOver (length machine.inputs) (length machine.outputs) kept.answers }
-    ensures outcome { ModelIsTold machine.mealy (refinements_of learner) result.outcome }
+    requires over { AreKeptOver (length model.machine.inputs) (length model.machine.outputs)
+        model.kept.answers }
+    ensures outcome { IsTold model.machine.mealy (refinements_of model.learner) result.outcome }
     ensures status { result.status ≡ status_of result.outcome }
-    ensures model { result.model ≡ Some machine.mealy }
-    ensures learner { result.learner ≡ Some learner }
-    ensures refinements { result.refinements ≡ refinements_of learner }
-    ensures kept { result.kept ≡ kept }
-    ensures outputs { result.outputs ≡ outputs }
-    ensures files { WritesFiles arguments.now machine kept.answers result.outcome
+    ensures model { result.model ≡ Some model.machine.mealy }
+    ensures learner { result.learner ≡ Some model.learner }
+    ensures refinements { result.refinements ≡ refinements_of model.learner }
+    ensures kept { result.kept ≡ model.kept }
+    ensures outputs { result.outputs ≡ model.outputs }
+    ensures files { WritesFiles arguments.now model.machine model.kept.answers result.outcome
         (F.state files.new).holds ((F.state files.old).calls, (F.state files.new).calls) }
-    ensures out { WritesOut arguments.now.model (written_text machine) result.outcome
+    ensures out { WritesOut arguments.now.model (written_text model.machine) result.outcome
         ((O.state out.old).taken, (O.state out.new).taken)
         ((O.state out.old).faults, (O.state out.new).faults) }
     ensures beside { StaysBesides arguments.now.model arguments.now.answers None
@@ -67,16 +73,19 @@ fn write_out<F: Files, O: Sink, E: Sink>(
         (((role ≡ AnswersRole) × (arguments.now.answers ≢ None)) ⊎ (role ≡ KeptRole)) }
     ensures failed { (role : Part) → result.outcome ≡ Came.FileFault role → role ≢ KeptRole →
         CountedFault (F.state files.old).faults (F.state files.new).faults }
-    ensures may { MayTell saved result.outcome }
+    ensures may { MayTell model.saved result.outcome }
     ensures refused { result.outcome ≡ Came.SinkFault → CountedFault (O.state out.old).faults
         (O.state out.new).faults ⊎ CountedFault (E.state err.old).faults
         (E.state err.new).faults }
     ensures said { ¬ CountedFault (E.state err.old).faults (E.state err.new).faults →
-        TakesAll (text_of machine.inputs machine.outputs kept.answers arguments.now.extra
+        TakesAll (text_of model.machine.inputs model.machine.outputs
+        model.kept.answers arguments.now.extra
         result.outcome) (E.state err.old).taken (E.state err.new).taken }
-    ensures part { TakesInTurn (text_of machine.inputs machine.outputs kept.answers
-        arguments.now.extra (Came.Learned machine.mealy (refinements_of learner)))
-        (text_of machine.inputs machine.outputs kept.answers arguments.now.extra result.outcome)
+    ensures part { TakesInTurn (text_of model.machine.inputs model.machine.outputs
+        model.kept.answers arguments.now.extra
+        (Came.Learned model.machine.mealy (refinements_of model.learner)))
+        (text_of model.machine.inputs model.machine.outputs
+        model.kept.answers arguments.now.extra result.outcome)
         (E.state err.old).taken (E.state err.new).taken }
     ensures reads { (F.state files.new).reads ≡ (F.state files.old).reads }
     ensures quiet { IsLearnedOutcome result.outcome →
@@ -87,18 +96,15 @@ fn write_out<F: Files, O: Sink, E: Sink>(
         ((O.state out.old).faults ≤ (O.state out.new).faults) ×
         ((E.state err.old).faults ≤ (E.state err.new).faults) }
 {
-    let refinements = learner.refinements();
-    let outcome = tell_model(
-        alloc,
-        arguments,
-        &machine,
-        refinements,
-        &kept,
-        saved,
-        files,
-        out,
-        err,
-    );
+    let refinements = model.learner.refinements();
+    let outcome = tell_model(alloc, arguments, &model, refinements, files, out, err);
+    let NamedModel {
+        machine,
+        learner,
+        kept,
+        outputs,
+        saved: _,
+    } = model;
     let learned = Learned {
         model: machine.mealy,
         learner,
@@ -168,31 +174,42 @@ fn end_model<F: Files, O: Sink, E: Sink>(
     alloc: Global,
     arguments: &LearnArguments,
     system: &System,
-    learned: Learned,
-    kept: Kept,
-    names: OutNames,
-    saved: Saved,
+    ended: Ended<Learned>,
     files: &mut F,
     out: &mut O,
     err: &mut E,
 ) -> End
     requires few { length (letters_of system.now) ≤ 64 }
-    requires sizes { (learned.model.inputs ≡ length (letters_of system.now)) ×
-        (learned.model.outputs ≡ length names.names) }
-    requires over { AreKeptOver (length (letters_of system.now)) (length names.names)
-        kept.answers }
+    requires sizes { (ended.came.model.inputs ≡ length (letters_of system.now)) ×
+        (ended.came.model.outputs ≡ length ended.names.names) }
+    requires over { AreKeptOver (length (letters_of system.now)) (length ended.names.names)
+        ended.kept.answers }
     ensures status { result.status ≡ status_of result.outcome }
-    ensures told { IsToldOf arguments.now system.now names (Ok learned) kept.answers saved
+    ensures told { IsToldOf arguments.now system.now ended.names (Ok ended.came)
+        ended.kept.answers ended.saved
         (F.state files.old) (F.state files.new) (O.state out.old) (O.state out.new)
         (E.state err.old) (E.state err.new) result }
 {
-    let Learned { model, learner } = learned;
+    let Ended {
+        came,
+        kept,
+        names,
+        saved,
+    } = ended;
+    let Learned { model, learner } = came;
     let read = named(system, &names, model, alloc);
     let outputs = outputs_of(system, &kept, names);
     match read {
-        Ok(machine) => write_out(
-            alloc, arguments, machine, learner, kept, outputs, saved, files, out, err,
-        ),
+        Ok(machine) => {
+            let model = NamedModel {
+                machine,
+                learner,
+                kept,
+                outputs,
+                saved,
+            };
+            write_out(alloc, arguments, model, files, out, err)
+        }
         Err(model) => {
             let learned = Learned { model, learner };
             leave_model(alloc, learned, kept, outputs, arguments.extra(), err)
@@ -214,27 +231,32 @@ pub(crate) fn text_names(alloc: Global, names: &OutNames) -> Result<Option<Names
 fn end_stop<E: Sink>(
     alloc: Global,
     system: &System,
-    stop: LearnStop,
-    kept: Kept,
-    names: OutNames,
-    saved: Saved,
+    ended: Ended<LearnStop>,
     extra: u8,
     err: &mut E,
 ) -> End
-    ensures outcome { StandsOrWants (outcome_of stop) result.outcome }
-    ensures wants { saved ≡ Was.NoMemory → result.outcome ≡ Came.NoMemory }
+    ensures outcome { StandsOrWants (outcome_of ended.came) result.outcome }
+    ensures wants { ended.saved ≡ Was.NoMemory → result.outcome ≡ Came.NoMemory }
     ensures status { result.status ≡ status_of result.outcome }
     ensures model { result.model ≡ None }
     ensures learner { IsWithoutLearner result }
-    ensures kept { result.kept ≡ kept }
-    ensures outputs { result.outputs ≡ end_outputs (declared_of system.now) kept.answers names }
+    ensures kept { result.kept ≡ ended.kept }
+    ensures outputs { result.outputs ≡ end_outputs (declared_of system.now) ended.kept.answers
+        ended.names }
     ensures said { ¬ CountedFault (E.state err.old).faults (E.state err.new).faults →
-        TakesAll (text_of (letters_of system.now) names.names kept.answers extra result.outcome)
+        TakesAll (text_of (letters_of system.now) ended.names.names ended.kept.answers extra
+        result.outcome)
         (E.state err.old).taken (E.state err.new).taken }
-    ensures part { TakesSome (text_of (letters_of system.now) names.names kept.answers extra
-        result.outcome) (E.state err.old).taken (E.state err.new).taken }
+    ensures part { TakesSome (text_of (letters_of system.now) ended.names.names ended.kept.answers
+        extra result.outcome) (E.state err.old).taken (E.state err.new).taken }
     ensures counts { (E.state err.old).faults ≤ (E.state err.new).faults }
 {
+    let Ended {
+        came: stop,
+        kept,
+        names,
+        saved,
+    } = ended;
     let texts = text_names(alloc, &names);
     let outputs = outputs_of(system, &kept, names);
     let inputs = Some(system.inputs());
@@ -270,7 +292,7 @@ pub(crate) fn finish<F: Files, O: Sink, E: Sink>(
     alloc: Global,
     arguments: &LearnArguments,
     system: &System,
-    found: Found,
+    found: LearningOutcome,
     files: &mut F,
     out: &mut O,
     err: &mut E,
@@ -286,7 +308,7 @@ pub(crate) fn finish<F: Files, O: Sink, E: Sink>(
         (F.state files.old) (F.state files.new) (O.state out.old) (O.state out.new)
         (E.state err.old) (E.state err.new) result }
 {
-    let Found {
+    let LearningOutcome {
         learned,
         kept,
         names,
@@ -295,18 +317,23 @@ pub(crate) fn finish<F: Files, O: Sink, E: Sink>(
     drop(cut);
     let saved = save_kept(alloc, arguments, system.inputs(), &names, &kept, files);
     match learned {
-        Ok(learned) => end_model(
-            alloc, arguments, system, learned, kept, names, saved, files, out, err,
-        ),
-        Err(stop) => end_stop(
-            alloc,
-            system,
-            stop,
-            kept,
-            names,
-            saved,
-            arguments.extra(),
-            err,
-        ),
+        Ok(came) => {
+            let ended = Ended {
+                came,
+                kept,
+                names,
+                saved,
+            };
+            end_model(alloc, arguments, system, ended, files, out, err)
+        }
+        Err(came) => {
+            let ended = Ended {
+                came,
+                kept,
+                names,
+                saved,
+            };
+            end_stop(alloc, system, ended, arguments.extra(), err)
+        }
     }
 }

@@ -4,17 +4,16 @@ ghost use Rattle.lw_learn.specs.LearnRun.{SaysLog};
 
 use crate::LearnArguments;
 use crate::ending::text_names;
-use crate::learning::Found;
 use crate::reading::Unread;
 use crate::refusing::{letters_read, outputs_read};
 use crate::task::System;
 use lw_cache::AskStop;
-use lw_children::CutRun;
 use lw_log::{Log, LogState};
 use lw_outside::{LogFile, Sink, Spawner};
 use lw_report::{End, Outcome, outcome_text, put_all};
 use lw_rounds::LearnStop;
 use lw_words::{Names, NoMemory, SulStop};
+use lw_workers::{CutRun, LearningOutcome};
 use std::alloc::Global;
 
 /// The text of a call that ran out of memory. Takes no memory itself.
@@ -40,7 +39,7 @@ pub(crate) fn log_stop<P: Spawner, L: LogFile>(
     alloc: Global,
     spawner: &P,
     inputs: &Names,
-    found: &Found,
+    found: &LearningOutcome,
     log: &mut Log<L>,
 ) {
     if let Some(cut) = &found.cut {

@@ -111,39 +111,51 @@ fn save_read<F: Files>(
     save_kept(alloc, arguments, system.inputs(), names, kept, files)
 }
 
+/// What was read of a task whose prior answers clash: its system, the kept answers, and the names of their outputs.
+#[derive(Drop)]
+struct ReadTask {
+    system: Option<System>,
+    kept: Kept,
+    names: OutNames,
+}
+
 /// Ends a call whose prior answers clash, which are kept, once they were saved.
 fn end_kept<F: Files, E: Sink>(
     alloc: Global,
     arguments: &LearnArguments,
     outcome: Outcome,
-    system: Option<System>,
-    kept: Kept,
-    names: OutNames,
+    read: ReadTask,
     files: &mut F,
     err: &mut E,
 ) -> End
-    requires named { names_read system ≡ Some names }
-    requires few { length (names_said (option_map letters_of system)) ≤ 64 }
-    requires over { AreKeptOver (length (names_said (option_map letters_of system)))
-        (length names.names) kept.answers }
+    requires named { names_read read.system ≡ Some read.names }
+    requires few { length (names_said (option_map letters_of read.system)) ≤ 64 }
+    requires over { AreKeptOver (length (names_said (option_map letters_of read.system)))
+        (length read.names.names) read.kept.answers }
     ensures outcome { (result.outcome ≡ outcome) ⊎ (result.outcome ≡ Came.NoMemory) }
     ensures status { result.status ≡ status_of result.outcome }
     ensures model { result.model ≡ None }
     ensures learner { IsWithoutLearner result }
-    ensures kept { result.kept.answers ≡ kept.answers }
-    ensures outputs { result.outputs ≡ names_read system }
-    ensures saved { IsSaved arguments.now.kept (names_said (option_map letters_of system))
-        (names_said (option_and_then declared_of system)) kept.answers (F.state files.old)
+    ensures kept { result.kept.answers ≡ read.kept.answers }
+    ensures outputs { result.outputs ≡ names_read read.system }
+    ensures saved { IsSaved arguments.now.kept (names_said (option_map letters_of read.system))
+        (names_said (option_and_then declared_of read.system)) read.kept.answers (F.state files.old)
         (F.state files.new) result.outcome }
     ensures said { ¬ CountedFault (E.state err.old).faults (E.state err.new).faults →
-        TakesAll (said_text (option_map letters_of system) (option_and_then declared_of system)
+        TakesAll (said_text (option_map letters_of read.system)
+        (option_and_then declared_of read.system)
         result.kept.answers arguments.now.extra result.outcome) (E.state err.old).taken
         (E.state err.new).taken }
-    ensures part { TakesSome (said_text (option_map letters_of system)
-        (option_and_then declared_of system) result.kept.answers arguments.now.extra
+    ensures part { TakesSome (said_text (option_map letters_of read.system)
+        (option_and_then declared_of read.system) result.kept.answers arguments.now.extra
         result.outcome) (E.state err.old).taken (E.state err.new).taken }
     ensures counts { (E.state err.old).faults ≤ (E.state err.new).faults }
 {
+    let ReadTask {
+        system,
+        kept,
+        names,
+    } = read;
     let saved = save_read(alloc, arguments, &system, &names, &kept, files);
     let outcome = saved.outcome(outcome);
     let inputs = letters_read(&system);
@@ -196,7 +208,14 @@ pub(crate) fn end_unread<F: Files, E: Sink>(
         names,
     } = unread;
     match names {
-        Some(names) => end_kept(alloc, arguments, outcome, system, kept, names, files, err),
+        Some(names) => {
+            let read = ReadTask {
+                system,
+                kept,
+                names,
+            };
+            end_kept(alloc, arguments, outcome, read, files, err)
+        }
         None => end_bare(alloc, outcome, system, kept, arguments.extra(), err),
     }
 }

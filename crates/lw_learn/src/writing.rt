@@ -11,15 +11,17 @@ ghost use Rattle.lw_report.specs.declared.role.Role.TheVariants.{Answers as Answ
 ghost use Rattle.lw_report.specs.declared.stops.TellStop.{TellStop as Stop};
 ghost use Rattle.lw_report.specs.declared.outcome.Outcome.{Outcome as Came};
 ghost use Rattle.lw_learn.specs.Calls.{all_writes, gained, write_of};
-ghost use Rattle.lw_learn.specs.Outcomes.{ModelIsTold, IsLearnedOutcome, told_outcome};
+ghost use Rattle.lw_learn.specs.Outcomes.{IsTold, IsLearnedOutcome, told_outcome};
 ghost use Rattle.lw_learn.specs.Saving.{MayTell};
 ghost use Rattle.lw_learn.specs.declared.saving.Saved.TheVariants as Was;
-ghost use Rattle.lw_learn.specs.Writing.{PutsAll, PutsSome, StandsInFile, StaysBesides, TakesInTurn, WritesFiles, WritesOut};
+ghost use Rattle.lw_learn.specs.Writing.{PutsAll, PutsSome, Stands, StaysBesides, TakesInTurn, WritesFiles, WritesOut};
 
 use crate::{LearnArguments, Saved};
+use lw_desk::OutNames;
 use lw_json::{Machine, answers_text, machine_text};
 use lw_outside::{Failed, Files, Sink};
 use lw_report::{Outcome, Role, TellStop, put_all, say, text, write_file};
+use lw_rounds::Learner;
 use lw_words::{Kept, NoMemory};
 use std::alloc::Global;
 
@@ -30,6 +32,17 @@ struct Texts {
     model: Vec<u8>,
     answers: Vec<u8>,
     line: Vec<u8>,
+}
+
+/// A model with its names, the learner that it was read off, the kept answers with the names of their outputs, and whether these
+/// answers were saved.
+#[derive(Drop)]
+pub(crate) struct NamedModel {
+    pub(crate) machine: Machine,
+    pub(crate) learner: Learner,
+    pub(crate) kept: Kept,
+    pub(crate) outputs: Option<OutNames>,
+    pub(crate) saved: Saved,
 }
 
 /// Makes the texts that are written of a model.
@@ -77,7 +90,7 @@ fn write_named<F: Files>(
     name: Option<&str>,
     bytes: &[u8],
 ) -> Result<(), TellStop>
-    ensures told { OnOk result (StandsInFile (option_map (λ n. n.now) name.entry)
+    ensures told { OnOk result (Stands (option_map (λ n. n.now) name.entry)
         (F.state files.new).holds bytes.now) }
     ensures beside { StaysBesides (option_map (λ n. n.now) name.entry) None None
         (F.state files.old).holds (F.state files.new).holds }
@@ -109,11 +122,11 @@ fn write_files<F: Files>(
     texts: &Texts,
 ) -> Result<(), TellStop>
     ensures model { OnOk result (arguments.now.model ≢ arguments.now.answers →
-        StandsInFile arguments.now.model (F.state files.new).holds texts.now.model.items) }
-    ensures answers { OnOk result (StandsInFile arguments.now.answers (F.state files.new).holds
+        Stands arguments.now.model (F.state files.new).holds texts.now.model.items) }
+    ensures answers { OnOk result (Stands arguments.now.answers (F.state files.new).holds
         texts.now.answers.items) }
     ensures model_before { result ≡ Err (Stop.File AnswersRole) → arguments.now.model ≢
-        arguments.now.answers → StandsInFile arguments.now.model (F.state files.new).holds
+        arguments.now.answers → Stands arguments.now.model (F.state files.new).holds
         texts.now.model.items }
     ensures beside { StaysBesides arguments.now.model arguments.now.answers None
         (F.state files.old).holds (F.state files.new).holds }
@@ -230,22 +243,20 @@ fn put_streams<O: Sink, E: Sink>(
 fn write_model<F: Files, O: Sink, E: Sink>(
     alloc: Global,
     arguments: &LearnArguments,
-    machine: &Machine,
+    model: &NamedModel,
     refinements: u32,
-    kept: &Kept,
-    saved: Saved,
     files: &mut F,
     out: &mut O,
     err: &mut E,
 ) -> Result<Outcome, TellStop>
-    requires over { AreKeptOver (length machine.now.inputs) (length machine.now.outputs)
-        kept.now.answers }
-    ensures ok { IfOk result (λ o. o ≡ Came.Learned machine.now.mealy refinements) }
-    ensures files { WritesFiles arguments.now machine.now kept.now.answers
-        (told_outcome machine.now.mealy refinements result) (F.state files.new).holds
+    requires over { AreKeptOver (length model.now.machine.inputs) (length model.now.machine.outputs)
+        model.now.kept.answers }
+    ensures ok { IfOk result (λ o. o ≡ Came.Learned model.now.machine.mealy refinements) }
+    ensures files { WritesFiles arguments.now model.now.machine model.now.kept.answers
+        (told_outcome model.now.machine.mealy refinements result) (F.state files.new).holds
         ((F.state files.old).calls, (F.state files.new).calls) }
-    ensures out { WritesOut arguments.now.model (written_text machine.now)
-        (told_outcome machine.now.mealy refinements result)
+    ensures out { WritesOut arguments.now.model (written_text model.now.machine)
+        (told_outcome model.now.machine.mealy refinements result)
         ((O.state out.old).taken, (O.state out.new).taken)
         ((O.state out.old).faults, (O.state out.new).faults) }
     ensures beside { StaysBesides arguments.now.model arguments.now.answers None
@@ -255,18 +266,20 @@ fn write_model<F: Files, O: Sink, E: Sink>(
         (((role ≡ AnswersRole) × (arguments.now.answers ≢ None)) ⊎ (role ≡ KeptRole)) }
     ensures failed { (role : Part) → result ≡ Err (Stop.File role) → role ≢ KeptRole →
         CountedFault (F.state files.old).faults (F.state files.new).faults }
-    ensures stood { OnOk result (saved ≡ Was.Stand) }
-    ensures unsaved { result ≡ Err (Stop.File KeptRole) → saved ≡ Was.Failed }
-    ensures wants { saved ≡ Was.NoMemory → result ≡ Err Stop.NoMemory }
+    ensures stood { OnOk result (model.now.saved ≡ Was.Stand) }
+    ensures unsaved { result ≡ Err (Stop.File KeptRole) → model.now.saved ≡ Was.Failed }
+    ensures wants { model.now.saved ≡ Was.NoMemory → result ≡ Err Stop.NoMemory }
     ensures refused { result ≡ Err Stop.Sink → CountedFault (O.state out.old).faults
         (O.state out.new).faults ⊎ CountedFault (E.state err.old).faults
         (E.state err.new).faults }
     ensures line { OnOk result
-        (TakesAll (text_of machine.now.inputs machine.now.outputs kept.now.answers
-        arguments.now.extra (Came.Learned machine.now.mealy refinements)) (E.state err.old).taken
+        (TakesAll (text_of model.now.machine.inputs model.now.machine.outputs
+        model.now.kept.answers arguments.now.extra
+        (Came.Learned model.now.machine.mealy refinements)) (E.state err.old).taken
         (E.state err.new).taken) }
-    ensures line_part { TakesSome (text_of machine.now.inputs machine.now.outputs kept.now.answers
-        arguments.now.extra (Came.Learned machine.now.mealy refinements)) (E.state err.old).taken
+    ensures line_part { TakesSome (text_of model.now.machine.inputs model.now.machine.outputs
+        model.now.kept.answers arguments.now.extra
+        (Came.Learned model.now.machine.mealy refinements)) (E.state err.old).taken
         (E.state err.new).taken }
     ensures unsaid { OnErr result (¬ CountedFault (E.state err.old).faults
         (E.state err.new).faults → (E.state err.new).taken ≡ (E.state err.old).taken) }
@@ -278,14 +291,14 @@ fn write_model<F: Files, O: Sink, E: Sink>(
         ((O.state out.old).faults ≤ (O.state out.new).faults) ×
         ((E.state err.old).faults ≤ (E.state err.new).faults) }
 {
-    saved.memory()?;
+    model.saved.memory()?;
     let outcome = Outcome::Learned {
-        model: machine.mealy.copy()?,
+        model: model.machine.mealy.copy()?,
         refinements,
     };
-    let texts = texts_of(alloc, arguments, machine, kept, &outcome)?;
+    let texts = texts_of(alloc, arguments, &model.machine, &model.kept, &outcome)?;
     write_files(files, arguments, &texts)?;
-    put_streams(arguments, &texts, saved, out, err)?;
+    put_streams(arguments, &texts, model.saved, out, err)?;
     Ok(outcome)
 }
 
@@ -293,20 +306,18 @@ fn write_model<F: Files, O: Sink, E: Sink>(
 pub(crate) fn tell_model<F: Files, O: Sink, E: Sink>(
     alloc: Global,
     arguments: &LearnArguments,
-    machine: &Machine,
+    model: &NamedModel,
     refinements: u32,
-    kept: &Kept,
-    saved: Saved,
     files: &mut F,
     out: &mut O,
     err: &mut E,
 ) -> Outcome
-    requires over { AreKeptOver (length machine.now.inputs) (length machine.now.outputs)
-        kept.now.answers }
-    ensures outcome { ModelIsTold machine.now.mealy refinements result }
-    ensures files { WritesFiles arguments.now machine.now kept.now.answers result
+    requires over { AreKeptOver (length model.now.machine.inputs) (length model.now.machine.outputs)
+        model.now.kept.answers }
+    ensures outcome { IsTold model.now.machine.mealy refinements result }
+    ensures files { WritesFiles arguments.now model.now.machine model.now.kept.answers result
         (F.state files.new).holds ((F.state files.old).calls, (F.state files.new).calls) }
-    ensures out { WritesOut arguments.now.model (written_text machine.now) result
+    ensures out { WritesOut arguments.now.model (written_text model.now.machine) result
         ((O.state out.old).taken, (O.state out.new).taken)
         ((O.state out.old).faults, (O.state out.new).faults) }
     ensures beside { StaysBesides arguments.now.model arguments.now.answers None
@@ -316,17 +327,20 @@ pub(crate) fn tell_model<F: Files, O: Sink, E: Sink>(
         (((role ≡ AnswersRole) × (arguments.now.answers ≢ None)) ⊎ (role ≡ KeptRole)) }
     ensures failed { (role : Part) → result ≡ Came.FileFault role → role ≢ KeptRole →
         CountedFault (F.state files.old).faults (F.state files.new).faults }
-    ensures may { MayTell saved result }
+    ensures may { MayTell model.now.saved result }
     ensures refused { result ≡ Came.SinkFault → CountedFault (O.state out.old).faults
         (O.state out.new).faults ⊎ CountedFault (E.state err.old).faults
         (E.state err.new).faults }
     ensures said { ¬ CountedFault (E.state err.old).faults (E.state err.new).faults →
-        TakesAll (text_of machine.now.inputs machine.now.outputs kept.now.answers
-        arguments.now.extra result) (E.state err.old).taken (E.state err.new).taken }
-    ensures part { TakesInTurn (text_of machine.now.inputs machine.now.outputs kept.now.answers
-        arguments.now.extra (Came.Learned machine.now.mealy refinements))
-        (text_of machine.now.inputs machine.now.outputs kept.now.answers arguments.now.extra
-        result) (E.state err.old).taken (E.state err.new).taken }
+        TakesAll (text_of model.now.machine.inputs model.now.machine.outputs
+        model.now.kept.answers arguments.now.extra result) (E.state err.old).taken
+        (E.state err.new).taken }
+    ensures part { TakesInTurn (text_of model.now.machine.inputs model.now.machine.outputs
+        model.now.kept.answers arguments.now.extra
+        (Came.Learned model.now.machine.mealy refinements))
+        (text_of model.now.machine.inputs model.now.machine.outputs
+        model.now.kept.answers arguments.now.extra result) (E.state err.old).taken
+        (E.state err.new).taken }
     ensures reads { (F.state files.new).reads ≡ (F.state files.old).reads }
     ensures quiet { IsLearnedOutcome result →
         ((F.state files.new).faults ≡ (F.state files.old).faults) ×
@@ -336,24 +350,14 @@ pub(crate) fn tell_model<F: Files, O: Sink, E: Sink>(
         ((O.state out.old).faults ≤ (O.state out.new).faults) ×
         ((E.state err.old).faults ≤ (E.state err.new).faults) }
 {
-    match write_model(
-        alloc,
-        arguments,
-        machine,
-        refinements,
-        kept,
-        saved,
-        files,
-        out,
-        err,
-    ) {
+    match write_model(alloc, arguments, model, refinements, files, out, err) {
         Ok(outcome) => outcome,
         Err(stop) => say(
             alloc,
             Outcome::from(stop),
-            Some(&machine.inputs),
-            Some(&machine.outputs),
-            kept,
+            Some(&model.machine.inputs),
+            Some(&model.machine.outputs),
+            &model.kept,
             arguments.extra(),
             err,
         ),

@@ -1,5 +1,3 @@
-use Rattle.std.proofs.Common.{List, ℕ, subst}
-use Rattle.lw_workers.specs.Asking.{AnswersWords}
 use Rattle.lw_learn.proofs.RunLemmas.{answered_end, ends_learned}
 use Rattle.lw_learn.proofs.command.learn_read.Goals as goal
 
@@ -29,4 +27,4 @@ pub returns-clause-answered : goal.returns-clause-answered
 returns-clause-answered g c some =
     let found = c.learn_system-found in
     let told = c.finish-end.ensures.told.told in
-    subst (λ (ws : List (List ℕ)). AnswersWords ws c.finish-end.result.kept.answers) c.as_slice.ensures (answered_end c.as_slice.result.now found.result.learned found.result.kept.answers c.finish-end.result told.carries told.kept_is found.ensures.asked some)
+    answered_end c.args.worded.words found.result.learned found.result.kept.answers c.finish-end.result told.carries told.kept_is found.ensures.asked some

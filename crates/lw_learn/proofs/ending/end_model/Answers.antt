@@ -18,7 +18,7 @@ returns-in-Ok-clause-told g c =
     let d = E.state c.write_out.new.err in
     let is = c.in-Ok.ensures in
     let w = c.write_out.ensures in
-    told_written c.args.arguments.now c.args.system.now c.args.names c.args.learned c.in-Ok.machine c.args.kept.answers c.args.saved f h o p e d c.write_out.result is.inputs is.outputs is.mealy
+    told_written c.args.arguments.now c.args.system.now c.args.ended.names c.args.ended.came c.in-Ok.machine c.args.ended.kept.answers c.args.ended.saved f h o p e d c.write_out.result is.inputs is.outputs is.mealy
     (w.outputs ∙ c.outputs_of-outputs.ensures)
     (record {
       outcome = w.outcome;
@@ -51,7 +51,7 @@ returns-in-Err-clause-told g c =
     let e = E.state c.args.err.now in
     let d = E.state c.leave_model.new.err in
     let w = c.leave_model.ensures in
-    told_left c.args.arguments.now c.args.system.now c.args.names c.args.learned c.args.kept.answers c.args.saved f o e d c.leave_model.result c.requires.few c.requires.sizes w.outcome
+    told_left c.args.arguments.now c.args.system.now c.args.ended.names c.args.ended.came c.args.ended.kept.answers c.args.ended.saved f o e d c.leave_model.result c.requires.few c.requires.sizes w.outcome
     (w.model ∙ ap (λ (m : MealyMachine). Some m) c.in-Err.ensures.back)
     w.learner w.refinements
     (ap (λ k. k.answers) w.kept)

@@ -56,7 +56,7 @@ returns-in-Err-clause-told g c =
     let saved = subst (λ (l : List (List ℕ)). HasSaved a.kept l naming.names kept f m was) c.inputs.ensures c.save_kept-saved.ensures in
     end_of a s naming c.args.found.learned kept was f m m o o e d end saved
     (subst (λ (x : Result Learned LearnStop). IsToldOf a s naming x kept was m m o o e d end) (sym c.in-Err.is)
-    (told_stop a s naming c.in-Err.stop kept was m o e d end w.outcome w.wants w.model w.learner
+    (told_stop a s naming c.in-Err.came kept was m o e d end w.outcome w.wants w.model w.learner
     (ap (λ k. k.answers) w.kept)
     w.outputs
     (subst (λ (x : ℕ). ¬ CountedFault e.faults d.faults → TakesAll (text_of (letters_of s) naming.names kept x end.outcome) e.taken d.taken) c.extra.ensures.value w.said)

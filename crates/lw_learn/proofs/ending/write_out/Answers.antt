@@ -11,9 +11,9 @@ returns-clause-role g c role is = c.tell_model-outcome.ensures.role role (sym c.
 
 pub returns-clause-part : goal.returns-clause-part
 returns-clause-part g c =
-    let m = c.args.machine in
-    let kept = c.args.kept.answers in
+    let m = c.args.model.machine in
+    let kept = c.args.model.kept.answers in
     let extra = c.args.arguments.now.extra in
     let told = c.tell_model-outcome.ensures.part in
     let counted = subst (λ (n : ℕ). TakesInTurn (text_of m.inputs m.outputs kept extra (Learned m.mealy n)) (text_of m.inputs m.outputs kept extra c.tell_model-outcome.result) (g.E.Sink.state c.args.err.now).taken (g.E.Sink.state c.tell_model-outcome.new.err).taken) c.refinements-refinements.ensures.value told in
-    subst (λ (o : Outcome). TakesInTurn (text_of m.inputs m.outputs kept extra (Learned m.mealy (refinements_of c.args.learner))) (text_of m.inputs m.outputs kept extra o) (g.E.Sink.state c.args.err.now).taken (g.E.Sink.state c.tell_model-outcome.new.err).taken) (sym c.with_model.ensures.outcome) counted
+    subst (λ (o : Outcome). TakesInTurn (text_of m.inputs m.outputs kept extra (Learned m.mealy (refinements_of c.args.model.learner))) (text_of m.inputs m.outputs kept extra o) (g.E.Sink.state c.args.err.now).taken (g.E.Sink.state c.tell_model-outcome.new.err).taken) (sym c.with_model.ensures.outcome) counted

@@ -2,7 +2,7 @@ use Rattle.std.proofs.Common.{◌≡◌, length, IfOk, IfErr, sym, subst}
 use Rattle.lw_words.specs.Answer.{answers_of}
 use Rattle.lw_json.specs.KeptOver.{AreKeptOver}
 use Rattle.lw_children.specs.Keeping.{count_of}
-use Rattle.lw_learn.specs.Findings.{LearningStopsBy}
+use Rattle.lw_learn.specs.Findings.{StopsBy}
 use Rattle.lw_learn.specs.Tasks.{declared_of, letters_of}
 use Rattle.lw_learn.specs.bodies.Ready.{GivesModel}
 use Rattle.lw_learn.specs.declared.task.System.{System}
@@ -11,36 +11,36 @@ use Rattle.lw_learn.proofs.learning.learn_system.Goals as goal
 
 pub returns-in-Table-clause-model : goal.returns-in-Table-clause-model
 returns-in-Table-clause-model g c =
-    subst (λ (s : System). IfOk c.learn_table.result.learned (GivesModel c.args.arguments.now.learner (length (letters_of s)) (length c.learn_table.result.names.names) c.args.arguments.now.extra c.args.arguments.now.max_states c.learn_table.result.kept.answers)) (sym c.in-Table.is) (table_gives c.args.arguments.now c.in-Table.machine c.args.cache.kept c.learn_table.result.learned c.learn_table.result.kept.answers c.learn_table.result.names.names c.learn_table.ensures.found)
+    subst (λ (s : System). IfOk c.learn_table.result.learned (GivesModel c.args.arguments.now.learner (length (letters_of s)) (length c.learn_table.result.names.names) c.args.arguments.now.extra c.args.arguments.now.max_states c.learn_table.result.kept.answers)) (sym c.in-Table.is) (table_gives c.args.arguments.now c.in-Table.machine c.args.start.cache.kept c.learn_table.result.learned c.learn_table.result.kept.answers c.learn_table.result.names.names c.learn_table.ensures.found)
 
 pub returns-in-Table-clause-sizes : goal.returns-in-Table-clause-sizes
 returns-in-Table-clause-sizes g c =
-    subst (λ (s : System). IfOk c.learn_table.result.learned (λ l. (l.model.inputs ≡ length (letters_of s)) × (l.model.outputs ≡ length c.learn_table.result.names.names))) (sym c.in-Table.is) (table_sizes c.args.arguments.now c.in-Table.machine c.args.cache.kept c.learn_table.result.learned c.learn_table.result.kept.answers c.learn_table.result.names.names c.learn_table.ensures.found)
+    subst (λ (s : System). IfOk c.learn_table.result.learned (λ l. (l.model.inputs ≡ length (letters_of s)) × (l.model.outputs ≡ length c.learn_table.result.names.names))) (sym c.in-Table.is) (table_sizes c.args.arguments.now c.in-Table.machine c.args.start.cache.kept c.learn_table.result.learned c.learn_table.result.kept.answers c.learn_table.result.names.names c.learn_table.ensures.found)
 
 pub returns-in-Table-clause-stops : goal.returns-in-Table-clause-stops
 returns-in-Table-clause-stops g c =
-    subst (λ (s : System). IfErr c.learn_table.result.learned (LearningStopsBy (length (letters_of s)) (count_of (declared_of s)) c.args.arguments.now.extra c.args.arguments.now.max_states (answers_of c.learn_table.result.kept.answers))) (sym c.in-Table.is) (table_stops c.args.arguments.now c.in-Table.machine c.args.cache.kept c.learn_table.result.learned c.learn_table.result.kept.answers c.learn_table.result.names.names c.learn_table.ensures.found)
+    subst (λ (s : System). IfErr c.learn_table.result.learned (StopsBy (length (letters_of s)) (count_of (declared_of s)) c.args.arguments.now.extra c.args.arguments.now.max_states (answers_of c.learn_table.result.kept.answers))) (sym c.in-Table.is) (table_stops c.args.arguments.now c.in-Table.machine c.args.start.cache.kept c.learn_table.result.learned c.learn_table.result.kept.answers c.learn_table.result.names.names c.learn_table.ensures.found)
 
 pub returns-in-Table-clause-over : goal.returns-in-Table-clause-over
 returns-in-Table-clause-over g c =
-    subst (λ (s : System). AreKeptOver (length (letters_of s)) (length c.learn_table.result.names.names) c.learn_table.result.kept.answers) (sym c.in-Table.is) (table_over c.args.arguments.now c.in-Table.machine c.args.cache.kept c.learn_table.result.learned c.learn_table.result.kept.answers c.learn_table.result.names.names c.learn_table.ensures.found c.requires.ready.may.prior_is c.learn_table.ensures.few)
+    subst (λ (s : System). AreKeptOver (length (letters_of s)) (length c.learn_table.result.names.names) c.learn_table.result.kept.answers) (sym c.in-Table.is) (table_over c.args.arguments.now c.in-Table.machine c.args.start.cache.kept c.learn_table.result.learned c.learn_table.result.kept.answers c.learn_table.result.names.names c.learn_table.ensures.found c.requires.ready.may.prior_is c.learn_table.ensures.few)
 
 pub returns-in-Children-clause-model : goal.returns-in-Children-clause-model
 returns-in-Children-clause-model g c =
     let m = c.in-Children.command in
-    subst (λ (s : System). IfOk c.learn_command.result.learned (GivesModel c.args.arguments.now.learner (length (letters_of s)) (length c.learn_command.result.names.names) c.args.arguments.now.extra c.args.arguments.now.max_states c.learn_command.result.kept.answers)) (sym c.in-Children.is) (command_gives c.args.arguments.now.learner m.words m.inputs c.args.arguments.now.workers c.args.arguments.now.extra c.args.arguments.now.max_states c.args.cache.kept (g.P.Spawner.state c.args.spawner.now) (g.P.Spawner.state c.learn_command.new.spawner) c.learn_command.result.learned c.learn_command.result.kept.answers c.learn_command.result.names.names m.outputs c.learn_command.ensures.found)
+    subst (λ (s : System). IfOk c.learn_command.result.learned (GivesModel c.args.arguments.now.learner (length (letters_of s)) (length c.learn_command.result.names.names) c.args.arguments.now.extra c.args.arguments.now.max_states c.learn_command.result.kept.answers)) (sym c.in-Children.is) (command_gives c.args.arguments.now.learner m.words m.inputs c.args.arguments.now.workers c.args.arguments.now.extra c.args.arguments.now.max_states c.args.start.cache.kept (g.P.Spawner.state c.args.spawner.now) (g.P.Spawner.state c.learn_command.new.spawner) c.learn_command.result.learned c.learn_command.result.kept.answers c.learn_command.result.names.names m.outputs c.learn_command.ensures.found)
 
 pub returns-in-Children-clause-sizes : goal.returns-in-Children-clause-sizes
 returns-in-Children-clause-sizes g c =
     let m = c.in-Children.command in
-    subst (λ (s : System). IfOk c.learn_command.result.learned (λ l. (l.model.inputs ≡ length (letters_of s)) × (l.model.outputs ≡ length c.learn_command.result.names.names))) (sym c.in-Children.is) (command_sizes c.args.arguments.now.learner m.words m.inputs c.args.arguments.now.workers c.args.arguments.now.extra c.args.arguments.now.max_states c.args.cache.kept (g.P.Spawner.state c.args.spawner.now) (g.P.Spawner.state c.learn_command.new.spawner) c.learn_command.result.learned c.learn_command.result.kept.answers c.learn_command.result.names.names m.outputs c.learn_command.ensures.found)
+    subst (λ (s : System). IfOk c.learn_command.result.learned (λ l. (l.model.inputs ≡ length (letters_of s)) × (l.model.outputs ≡ length c.learn_command.result.names.names))) (sym c.in-Children.is) (command_sizes c.args.arguments.now.learner m.words m.inputs c.args.arguments.now.workers c.args.arguments.now.extra c.args.arguments.now.max_states c.args.start.cache.kept (g.P.Spawner.state c.args.spawner.now) (g.P.Spawner.state c.learn_command.new.spawner) c.learn_command.result.learned c.learn_command.result.kept.answers c.learn_command.result.names.names m.outputs c.learn_command.ensures.found)
 
 pub returns-in-Children-clause-stops : goal.returns-in-Children-clause-stops
 returns-in-Children-clause-stops g c =
     let m = c.in-Children.command in
-    subst (λ (s : System). IfErr c.learn_command.result.learned (LearningStopsBy (length (letters_of s)) (count_of (declared_of s)) c.args.arguments.now.extra c.args.arguments.now.max_states (answers_of c.learn_command.result.kept.answers))) (sym c.in-Children.is) (command_stops c.args.arguments.now.learner m.words m.inputs c.args.arguments.now.workers c.args.arguments.now.extra c.args.arguments.now.max_states c.args.cache.kept (g.P.Spawner.state c.args.spawner.now) (g.P.Spawner.state c.learn_command.new.spawner) c.learn_command.result.learned c.learn_command.result.kept.answers c.learn_command.result.names.names m.outputs c.learn_command.ensures.found)
+    subst (λ (s : System). IfErr c.learn_command.result.learned (StopsBy (length (letters_of s)) (count_of (declared_of s)) c.args.arguments.now.extra c.args.arguments.now.max_states (answers_of c.learn_command.result.kept.answers))) (sym c.in-Children.is) (command_stops c.args.arguments.now.learner m.words m.inputs c.args.arguments.now.workers c.args.arguments.now.extra c.args.arguments.now.max_states c.args.start.cache.kept (g.P.Spawner.state c.args.spawner.now) (g.P.Spawner.state c.learn_command.new.spawner) c.learn_command.result.learned c.learn_command.result.kept.answers c.learn_command.result.names.names m.outputs c.learn_command.ensures.found)
 
 pub returns-in-Children-clause-over : goal.returns-in-Children-clause-over
 returns-in-Children-clause-over g c =
     let m = c.in-Children.command in
-    subst (λ (s : System). AreKeptOver (length (letters_of s)) (length c.learn_command.result.names.names) c.learn_command.result.kept.answers) (sym c.in-Children.is) (command_over c.args.arguments.now.learner m.words m.inputs c.args.arguments.now.workers c.args.arguments.now.extra c.args.arguments.now.max_states c.args.cache.kept (g.P.Spawner.state c.args.spawner.now) (g.P.Spawner.state c.learn_command.new.spawner) c.learn_command.result.learned c.learn_command.result.kept.answers c.learn_command.result.names.names m.outputs c.learn_command.ensures.found c.requires.ready.may.prior_is c.learn_command.ensures.few)
+    subst (λ (s : System). AreKeptOver (length (letters_of s)) (length c.learn_command.result.names.names) c.learn_command.result.kept.answers) (sym c.in-Children.is) (command_over c.args.arguments.now.learner m.words m.inputs c.args.arguments.now.workers c.args.arguments.now.extra c.args.arguments.now.max_states c.args.start.cache.kept (g.P.Spawner.state c.args.spawner.now) (g.P.Spawner.state c.learn_command.new.spawner) c.learn_command.result.learned c.learn_command.result.kept.answers c.learn_command.result.names.names m.outputs c.learn_command.ensures.found c.requires.ready.may.prior_is c.learn_command.ensures.few)

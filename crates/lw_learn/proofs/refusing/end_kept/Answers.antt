@@ -24,7 +24,7 @@ returns-clause-saved g c =
 
 pub returns-clause-said : goal.returns-clause-said
 returns-clause-said g c none =
-    let u = c.args in
+    let u = c.args.read in
     let end = c.refuse.result in
     let same = text_same (names_said (option_map (λ n. n.now) c.letters_read-inputs.result)) (names_said (option_map letters_of u.system)) (names_said (option_map (λ n. n.now) c.outputs_read-outputs.result)) (names_said (option_and_then declared_of u.system)) u.kept.answers end.kept.answers c.extra-extra.result end.outcome
     (ap names_said c.letters_read-inputs.ensures) (ap names_said c.outputs_read-outputs.ensures) (ap (λ k. k.answers) (sym c.refuse.ensures.kept)) in
@@ -33,7 +33,7 @@ returns-clause-said g c none =
 
 pub returns-clause-part : goal.returns-clause-part
 returns-clause-part g c =
-    let u = c.args in
+    let u = c.args.read in
     let end = c.refuse.result in
     let same = text_same (names_said (option_map (λ n. n.now) c.letters_read-inputs.result)) (names_said (option_map letters_of u.system)) (names_said (option_map (λ n. n.now) c.outputs_read-outputs.result)) (names_said (option_and_then declared_of u.system)) u.kept.answers end.kept.answers c.extra-extra.result end.outcome
     (ap names_said c.letters_read-inputs.ensures) (ap names_said c.outputs_read-outputs.ensures) (ap (λ k. k.answers) (sym c.refuse.ensures.kept)) in

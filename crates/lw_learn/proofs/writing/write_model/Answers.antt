@@ -18,26 +18,26 @@ pub returns-in_err-texts-clause-out : goal.returns-in_err-texts-clause-out
 returns-in_err-texts-clause-out g c =
     let taken = (g.O.Sink.state c.args.out.now).taken in
     let faults : ℕ × ℕ = ((g.O.Sink.state c.args.out.now).faults, (g.O.Sink.state c.args.out.now).faults) in
-    let is = told_err c.args.machine.now.mealy c.args.refinements c.from_residual-in_err-texts.result NoMemory c.from_residual-in_err-texts.ensures.1 in
-    subst (λ (o : Outcome). WritesOut c.args.arguments.now.model (written_text c.args.machine.now) o (taken, taken) faults) (sym is)
-    (out_before c.args.arguments.now.model (written_text c.args.machine.now) taken faults NoMemory (λ e. let wrong : NoMemory ≡ Sink = e in cc) (λ e. let wrong : NoMemory ≡ File Kept = e in cc))
+    let is = told_err c.args.model.now.machine.mealy c.args.refinements c.from_residual-in_err-texts.result NoMemory c.from_residual-in_err-texts.ensures.1 in
+    subst (λ (o : Outcome). WritesOut c.args.arguments.now.model (written_text c.args.model.now.machine) o (taken, taken) faults) (sym is)
+    (out_before c.args.arguments.now.model (written_text c.args.model.now.machine) taken faults NoMemory (λ e. let wrong : NoMemory ≡ Sink = e in cc) (λ e. let wrong : NoMemory ≡ File Kept = e in cc))
 
 pub returns-in_err-write_files-clause-out : goal.returns-in_err-write_files-clause-out
 returns-in_err-write_files-clause-out g c =
     let taken = (g.O.Sink.state c.args.out.now).taken in
     let faults : ℕ × ℕ = ((g.O.Sink.state c.args.out.now).faults, (g.O.Sink.state c.args.out.now).faults) in
     let stop = c.in_err-write_files.field-0.0 in
-    let is = told_err c.args.machine.now.mealy c.args.refinements c.from_residual-in_err-write_files.result stop c.from_residual-in_err-write_files.ensures.1 in
-    subst (λ (o : Outcome). WritesOut c.args.arguments.now.model (written_text c.args.machine.now) o (taken, taken) faults) (sym is)
-    (out_before c.args.arguments.now.model (written_text c.args.machine.now) taken faults stop (λ e. c.in_err-write_files.ensures.no_sink (ap (λ (s : TellStop). Err s) e))
+    let is = told_err c.args.model.now.machine.mealy c.args.refinements c.from_residual-in_err-write_files.result stop c.from_residual-in_err-write_files.ensures.1 in
+    subst (λ (o : Outcome). WritesOut c.args.arguments.now.model (written_text c.args.model.now.machine) o (taken, taken) faults) (sym is)
+    (out_before c.args.arguments.now.model (written_text c.args.model.now.machine) taken faults stop (λ e. c.in_err-write_files.ensures.no_sink (ap (λ (s : TellStop). Err s) e))
     (λ e. not_kept (c.in_err-write_files.ensures.role Kept (ap (λ (s : TellStop). Err s) e))))
 
 pub returns-in_err-put_streams-clause-files : goal.returns-in_err-put_streams-clause-files
 returns-in_err-put_streams-clause-files g c =
     let F = g.F.Files in
     let a = c.args.arguments.now in
-    let m = c.args.machine.now in
-    let kept = c.args.kept.now.answers in
+    let m = c.args.model.now.machine in
+    let kept = c.args.model.now.kept.answers in
     let holds = (F.state c.write_files.new.files).holds in
     let calls : Option (List Call) × Option (List Call) = ((F.state c.args.files.now).calls, (F.state c.write_files.new.files).calls) in
     let stop = c.in_err-put_streams.field-0.0 in
@@ -51,7 +51,7 @@ pub returns-in_err-put_streams-clause-out : goal.returns-in_err-put_streams-clau
 returns-in_err-put_streams-clause-out g c =
     let O = g.O.Sink in
     let a = c.args.arguments.now in
-    let m = c.args.machine.now in
+    let m = c.args.model.now.machine in
     let taken : Option (List ℕ) × Option (List ℕ) = ((O.state c.args.out.now).taken, (O.state c.put_streams.new.out).taken) in
     let faults : ℕ × ℕ = ((O.state c.args.out.now).faults, (O.state c.put_streams.new.out).faults) in
     let stop = c.in_err-put_streams.field-0.0 in
@@ -65,8 +65,8 @@ pub returns-clause-files : goal.returns-clause-files
 returns-clause-files g c =
     let F = g.F.Files in
     let a = c.args.arguments.now in
-    let m = c.args.machine.now in
-    let kept = c.args.kept.now.answers in
+    let m = c.args.model.now.machine in
+    let kept = c.args.model.now.kept.answers in
     let holds = (F.state c.write_files.new.files).holds in
     record {
       model = λ _ differ. subst (λ (t : List ℕ). StandsInFile a.model holds t) c.in_ok-texts.ensures.model (c.in_ok-write_files.ensures.model differ);
@@ -76,12 +76,12 @@ returns-clause-files g c =
 
 pub returns-clause-line : goal.returns-clause-line
 returns-clause-line g c =
-    let m = c.args.machine.now in
-    let line = c.in_ok-texts.ensures.line ∙ ap (λ (h : MealyMachine). text_of m.inputs m.outputs c.args.kept.now.answers c.args.arguments.now.extra (Learned h c.args.refinements)) c.in_ok-copy.ensures in
+    let m = c.args.model.now.machine in
+    let line = c.in_ok-texts.ensures.line ∙ ap (λ (h : MealyMachine). text_of m.inputs m.outputs c.args.model.now.kept.answers c.args.arguments.now.extra (Learned h c.args.refinements)) c.in_ok-copy.ensures in
     subst (λ (t : List ℕ). TakesAll t (g.E.Sink.state c.args.err.now).taken (g.E.Sink.state c.put_streams.new.err).taken) line c.in_ok-put_streams.ensures.line
 
 pub returns-clause-line_part : goal.returns-clause-line_part
 returns-clause-line_part g c =
-    let m = c.args.machine.now in
-    let line = c.in_ok-texts.ensures.line ∙ ap (λ (h : MealyMachine). text_of m.inputs m.outputs c.args.kept.now.answers c.args.arguments.now.extra (Learned h c.args.refinements)) c.in_ok-copy.ensures in
+    let m = c.args.model.now.machine in
+    let line = c.in_ok-texts.ensures.line ∙ ap (λ (h : MealyMachine). text_of m.inputs m.outputs c.args.model.now.kept.answers c.args.arguments.now.extra (Learned h c.args.refinements)) c.in_ok-copy.ensures in
     subst (λ (t : List ℕ). TakesSome t (g.E.Sink.state c.args.err.now).taken (g.E.Sink.state c.put_streams.new.err).taken) line c.in_ok-put_streams.ensures.line_part
