@@ -13,7 +13,7 @@ ghost use Rattle.lw_report.specs.declared.outcome.Outcome.{Outcome as Came};
 ghost use Rattle.lw_report.specs.declared.role.Role.{Role as Part};
 ghost use Rattle.lw_report.specs.declared.role.Role.TheVariants.{Answers as AnswersRole, Kept as KeptRole, Model as ModelRole};
 ghost use Rattle.lw_learn.specs.Ending.{IsEndOf, IsToldOf, end_outputs};
-ghost use Rattle.lw_learn.specs.Outcomes.{IsLearnedOutcome, IsTold};
+ghost use Rattle.lw_learn.specs.Outcomes.{IsLearnedOutcome, ModelIsTold};
 ghost use Rattle.lw_learn.specs.Saving.{MayTell};
 ghost use Rattle.lw_learn.specs.Tasks.{declared_of, letters_of};
 ghost use Rattle.lw_learn.specs.Writing.{StaysBesides, TakesInTurn, WritesFiles, WritesOut};
@@ -24,7 +24,7 @@ use crate::saving::save_kept;
 use crate::task::System;
 use crate::writing::{NamedModel, tell_model};
 use crate::{LearnArguments, Saved};
-use lw_desk::OutNames;
+use lw_names::OutNames;
 use lw_json::Machine;
 use lw_mealy::Mealy;
 use lw_outside::{Files, Sink};
@@ -54,7 +54,8 @@ fn write_out<F: Files, O: Sink, E: Sink>(
 ) -> End
     requires over { AreKeptOver (length model.machine.inputs) (length model.machine.outputs)
         model.kept.answers }
-    ensures outcome { IsTold model.machine.mealy (refinements_of model.learner) result.outcome }
+    ensures outcome { ModelIsTold model.machine.mealy (refinements_of model.learner)
+        result.outcome }
     ensures status { result.status ≡ status_of result.outcome }
     ensures model { result.model ≡ Some model.machine.mealy }
     ensures learner { result.learner ≡ Some model.learner }

@@ -9,7 +9,7 @@ ghost use Rattle.lw_pool.specs.Opening.{MayBegin};
 ghost use Rattle.lw_workers.specs.Asking.{AnswersWords};
 ghost use Rattle.lw_children.specs.Keeping.{count_of};
 ghost use Rattle.lw_children.specs.Children.{IsOfCommand};
-ghost use Rattle.lw_learn.specs.Findings.{IsOfInstances, IsOfSystem, StopsBy};
+ghost use Rattle.lw_learn.specs.Findings.{IsOfInstances, IsOfSystem, LearningStopsBy};
 ghost use Rattle.lw_learn.specs.declared.task.System.TheVariants as Of;
 ghost use Rattle.lw_learn.specs.Tasks.{declared_of, letters_of};
 ghost use Rattle.lw_learn.specs.bodies.Ready.{GivesModel, IsReady};
@@ -100,7 +100,7 @@ pub(crate) fn learn_system<P: Spawner, R: Threads + Wait + Sync + Drop, W: Watch
     ensures sizes { IfOk result.learned (λ l.
         (l.model.inputs ≡ length (letters_of system.now)) ×
         (l.model.outputs ≡ length result.names.names)) }
-    ensures stops { IfErr result.learned (StopsBy (length (letters_of system.now))
+    ensures stops { IfErr result.learned (LearningStopsBy (length (letters_of system.now))
         (count_of (declared_of system.now)) arguments.now.extra arguments.now.max_states
         (answers_of result.kept.answers)) }
     ensures over { AreKeptOver (length (letters_of system.now)) (length result.names.names)

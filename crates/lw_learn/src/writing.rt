@@ -11,13 +11,13 @@ ghost use Rattle.lw_report.specs.declared.role.Role.TheVariants.{Answers as Answ
 ghost use Rattle.lw_report.specs.declared.stops.TellStop.{TellStop as Stop};
 ghost use Rattle.lw_report.specs.declared.outcome.Outcome.{Outcome as Came};
 ghost use Rattle.lw_learn.specs.Calls.{all_writes, gained, write_of};
-ghost use Rattle.lw_learn.specs.Outcomes.{IsTold, IsLearnedOutcome, told_outcome};
+ghost use Rattle.lw_learn.specs.Outcomes.{ModelIsTold, IsLearnedOutcome, told_outcome};
 ghost use Rattle.lw_learn.specs.Saving.{MayTell};
 ghost use Rattle.lw_learn.specs.declared.saving.Saved.TheVariants as Was;
-ghost use Rattle.lw_learn.specs.Writing.{PutsAll, PutsSome, Stands, StaysBesides, TakesInTurn, WritesFiles, WritesOut};
+ghost use Rattle.lw_learn.specs.Writing.{PutsAll, PutsSome, StandsInFile, StaysBesides, TakesInTurn, WritesFiles, WritesOut};
 
 use crate::{LearnArguments, Saved};
-use lw_desk::OutNames;
+use lw_names::OutNames;
 use lw_json::{Machine, answers_text, machine_text};
 use lw_outside::{Failed, Files, Sink};
 use lw_report::{Outcome, Role, TellStop, put_all, say, text, write_file};
@@ -90,7 +90,7 @@ fn write_named<F: Files>(
     name: Option<&str>,
     bytes: &[u8],
 ) -> Result<(), TellStop>
-    ensures told { OnOk result (Stands (option_map (λ n. n.now) name.entry)
+    ensures told { OnOk result (StandsInFile (option_map (λ n. n.now) name.entry)
         (F.state files.new).holds bytes.now) }
     ensures beside { StaysBesides (option_map (λ n. n.now) name.entry) None None
         (F.state files.old).holds (F.state files.new).holds }
@@ -122,11 +122,11 @@ fn write_files<F: Files>(
     texts: &Texts,
 ) -> Result<(), TellStop>
     ensures model { OnOk result (arguments.now.model ≢ arguments.now.answers →
-        Stands arguments.now.model (F.state files.new).holds texts.now.model.items) }
-    ensures answers { OnOk result (Stands arguments.now.answers (F.state files.new).holds
+        StandsInFile arguments.now.model (F.state files.new).holds texts.now.model.items) }
+    ensures answers { OnOk result (StandsInFile arguments.now.answers (F.state files.new).holds
         texts.now.answers.items) }
     ensures model_before { result ≡ Err (Stop.File AnswersRole) → arguments.now.model ≢
-        arguments.now.answers → Stands arguments.now.model (F.state files.new).holds
+        arguments.now.answers → StandsInFile arguments.now.model (F.state files.new).holds
         texts.now.model.items }
     ensures beside { StaysBesides arguments.now.model arguments.now.answers None
         (F.state files.old).holds (F.state files.new).holds }
@@ -314,7 +314,7 @@ pub(crate) fn tell_model<F: Files, O: Sink, E: Sink>(
 ) -> Outcome
     requires over { AreKeptOver (length model.now.machine.inputs) (length model.now.machine.outputs)
         model.now.kept.answers }
-    ensures outcome { IsTold model.now.machine.mealy refinements result }
+    ensures outcome { ModelIsTold model.now.machine.mealy refinements result }
     ensures files { WritesFiles arguments.now model.now.machine model.now.kept.answers result
         (F.state files.new).holds ((F.state files.old).calls, (F.state files.new).calls) }
     ensures out { WritesOut arguments.now.model (written_text model.now.machine) result

@@ -2,7 +2,7 @@ use Rattle.std.proofs.Common.{◌≡◌, length, IfOk, IfErr, sym, subst}
 use Rattle.lw_words.specs.Answer.{answers_of}
 use Rattle.lw_json.specs.KeptOver.{AreKeptOver}
 use Rattle.lw_children.specs.Keeping.{count_of}
-use Rattle.lw_learn.specs.Findings.{StopsBy}
+use Rattle.lw_learn.specs.Findings.{LearningStopsBy}
 use Rattle.lw_learn.specs.Tasks.{declared_of, letters_of}
 use Rattle.lw_learn.specs.bodies.Ready.{GivesModel}
 use Rattle.lw_learn.specs.declared.task.System.{System}
@@ -19,7 +19,7 @@ returns-in-Table-clause-sizes g c =
 
 pub returns-in-Table-clause-stops : goal.returns-in-Table-clause-stops
 returns-in-Table-clause-stops g c =
-    subst (λ (s : System). IfErr c.learn_table.result.learned (StopsBy (length (letters_of s)) (count_of (declared_of s)) c.args.arguments.now.extra c.args.arguments.now.max_states (answers_of c.learn_table.result.kept.answers))) (sym c.in-Table.is) (table_stops c.args.arguments.now c.in-Table.machine c.args.start.cache.kept c.learn_table.result.learned c.learn_table.result.kept.answers c.learn_table.result.names.names c.learn_table.ensures.found)
+    subst (λ (s : System). IfErr c.learn_table.result.learned (LearningStopsBy (length (letters_of s)) (count_of (declared_of s)) c.args.arguments.now.extra c.args.arguments.now.max_states (answers_of c.learn_table.result.kept.answers))) (sym c.in-Table.is) (table_stops c.args.arguments.now c.in-Table.machine c.args.start.cache.kept c.learn_table.result.learned c.learn_table.result.kept.answers c.learn_table.result.names.names c.learn_table.ensures.found)
 
 pub returns-in-Table-clause-over : goal.returns-in-Table-clause-over
 returns-in-Table-clause-over g c =
@@ -38,7 +38,7 @@ returns-in-Children-clause-sizes g c =
 pub returns-in-Children-clause-stops : goal.returns-in-Children-clause-stops
 returns-in-Children-clause-stops g c =
     let m = c.in-Children.command in
-    subst (λ (s : System). IfErr c.learn_command.result.learned (StopsBy (length (letters_of s)) (count_of (declared_of s)) c.args.arguments.now.extra c.args.arguments.now.max_states (answers_of c.learn_command.result.kept.answers))) (sym c.in-Children.is) (command_stops c.args.arguments.now.learner m.words m.inputs c.args.arguments.now.workers c.args.arguments.now.extra c.args.arguments.now.max_states c.args.start.cache.kept (g.P.Spawner.state c.args.spawner.now) (g.P.Spawner.state c.learn_command.new.spawner) c.learn_command.result.learned c.learn_command.result.kept.answers c.learn_command.result.names.names m.outputs c.learn_command.ensures.found)
+    subst (λ (s : System). IfErr c.learn_command.result.learned (LearningStopsBy (length (letters_of s)) (count_of (declared_of s)) c.args.arguments.now.extra c.args.arguments.now.max_states (answers_of c.learn_command.result.kept.answers))) (sym c.in-Children.is) (command_stops c.args.arguments.now.learner m.words m.inputs c.args.arguments.now.workers c.args.arguments.now.extra c.args.arguments.now.max_states c.args.start.cache.kept (g.P.Spawner.state c.args.spawner.now) (g.P.Spawner.state c.learn_command.new.spawner) c.learn_command.result.learned c.learn_command.result.kept.answers c.learn_command.result.names.names m.outputs c.learn_command.ensures.found)
 
 pub returns-in-Children-clause-over : goal.returns-in-Children-clause-over
 returns-in-Children-clause-over g c =
