@@ -6,8 +6,8 @@ ghost use Rattle.lw_pool.specs.Opening.{AllMayJoin, member_of};
 
 use crate::paced::Paced;
 use lw_cache::Cache;
-use lw_names::OutNames;
 use lw_mealy::Mealy;
+use lw_names::OutNames;
 use lw_pool::Pool;
 use lw_sul::{Session, Sul, TableSul};
 use lw_words::{Names, NoMemory, Word};

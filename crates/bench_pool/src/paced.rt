@@ -1,9 +1,8 @@
 //! A system whose steps take a while.
 ghost use Rattle.std.specs.Prelude.{◌≡◌, length};
 
-use lw_sul::{Sul, TableSul};
-
 use lw_names::OutName;
+use lw_sul::{Sul, TableSul};
 use lw_words::SulStop;
 
 /// A table that counts so many turns of a loop in each step, as a system that is busy for a while.

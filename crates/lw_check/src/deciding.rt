@@ -11,8 +11,8 @@ ghost use Rattle.lw_report.specs.declared.outcome.Outcome.{Outcome as Came};
 
 use lw_cache::Cache;
 use lw_certify::{Verdict, certify};
-use lw_names::OutNames;
 use lw_json::{Answers, Machine};
+use lw_names::OutNames;
 use lw_prior::{Prior, fill};
 use lw_report::{Outcome, Role};
 use std::alloc::Global;

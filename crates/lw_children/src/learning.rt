@@ -18,8 +18,8 @@ ghost use Rattle.lw_children.specs.bodies.Ends.{broken_stop};
 use crate::cut::cut_off;
 use crate::{Broken, Command, Refusal, retire_all, retire_with, start_all};
 use lw_cache::{AskStop, Cache};
-use lw_names::OutNames;
 use lw_line::LineSul;
+use lw_names::OutNames;
 use lw_outside::Spawner;
 use lw_pool::Pool;
 use lw_rounds::{

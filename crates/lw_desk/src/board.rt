@@ -9,9 +9,9 @@ ghost use Rattle.lw_desk.specs.bodies.Board.{BoardState, Agrees, AreHeld, number
 
 use crate::gathering::{Needs, needs_of};
 use crate::{Ask, Failed, Give, Places, Reply};
-use lw_names::OutNames;
 use http_server::Log;
 use lw_cache::{AskStop, Cache, Clash};
+use lw_names::OutNames;
 use lw_words::{NoMemory, RunStop, Word};
 use std::alloc::Global;
 use std::marker::Model;

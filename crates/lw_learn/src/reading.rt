@@ -23,9 +23,9 @@ use crate::arguments::Source;
 use crate::task::{System, Task};
 use lw_cache::Cache;
 use lw_children::Command;
-use lw_names::OutNames;
 use lw_json::{Answers, Machine, Setup};
 use lw_log::Log;
+use lw_names::OutNames;
 use lw_outside::{Files, LogFile};
 use lw_prior::{Prior, PriorStop, prior_of};
 use lw_report::{

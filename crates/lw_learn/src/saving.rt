@@ -8,8 +8,8 @@ ghost use Rattle.lw_learn.specs.declared.saving.Saved.TheVariants as Was;
 
 use crate::LearnArguments;
 use crate::naming::names_of;
-use lw_names::OutNames;
 use lw_json::answers_text;
+use lw_names::OutNames;
 use lw_outside::{Files, WriteStop};
 use lw_report::Outcome;
 use lw_words::{Kept, Names, NoMemory};

@@ -4,8 +4,8 @@ ghost use Rattle.lw_learn.specs.Tasks.{declared_of, letters_of};
 
 use lw_cache::Cache;
 use lw_children::Command;
-use lw_names::OutNames;
 use lw_json::Machine;
+use lw_names::OutNames;
 use lw_words::{Names, NoMemory, Words};
 
 /// A system that is learned.

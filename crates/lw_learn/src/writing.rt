@@ -17,8 +17,8 @@ ghost use Rattle.lw_learn.specs.declared.saving.Saved.TheVariants as Was;
 ghost use Rattle.lw_learn.specs.Writing.{PutsAll, PutsSome, StandsInFile, StaysBesides, TakesInTurn, WritesFiles, WritesOut};
 
 use crate::{LearnArguments, Saved};
-use lw_names::OutNames;
 use lw_json::{Machine, answers_text, machine_text};
+use lw_names::OutNames;
 use lw_outside::{Failed, Files, Sink};
 use lw_report::{Outcome, Role, TellStop, put_all, say, text, write_file};
 use lw_rounds::Learner;

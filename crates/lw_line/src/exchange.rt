@@ -14,8 +14,8 @@ ghost use Rattle.lw_line.specs.bodies.Pieces.{EndsOpen, HasLine};
 use crate::inbox::Inbox;
 use crate::outputs::OutputNames;
 use crate::sent_line::SentLine;
-use lw_outside::{Failed, Link};
 use lw_names::OutName;
+use lw_outside::{Failed, Link};
 use lw_words::{Line, SulStop};
 
 /// A line without the carriage return at its end, if it has one.

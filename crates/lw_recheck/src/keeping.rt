@@ -13,8 +13,8 @@ ghost use Rattle.lw_recheck.specs.bodies.Step.{KeepsOther};
 
 use crate::asking::{Other, ask_answers};
 use lw_cache::Clash;
-use lw_sul::{Session, Sul};
 use lw_names::OutName;
+use lw_sul::{Session, Sul};
 use lw_words::{Kept, KeptAnswer, Names, NoMemory, RunStop, Word};
 use std::alloc::Global;
 use std::str;

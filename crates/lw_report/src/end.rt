@@ -7,8 +7,8 @@ ghost use Rattle.lw_report.specs.Outcomes.{StandsOrWants, status_of};
 ghost use Rattle.lw_report.specs.Writing.{TakesAll, TakesSome, said_text};
 
 use crate::{Outcome, say, status};
-use lw_names::OutNames;
 use lw_mealy::Mealy;
+use lw_names::OutNames;
 use lw_outside::Sink;
 use lw_rounds::{Learned, Learner};
 use lw_words::{Kept, Names};

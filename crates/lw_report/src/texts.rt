@@ -56,8 +56,7 @@ pub(crate) fn put_names(
     names: Option<&Names>,
 ) -> Result<(), NoMemory>
     ensures { OnOk result (string_bytes text.new ≡ string_bytes text.old ++
-        join_by (letter_name (names_of (option_map (λ n. n.now) names.entry))) (codes " ") word.now)
-        }
+        join_by (letter_name (names_of (option_map (λ n. n.now) names.entry))) (codes " ") word.now) }
 {
     let Some((first, rest)) = word.split_first() else {
         return Ok(());

@@ -11,9 +11,8 @@ ghost use Rattle.lw_sul.specs.Told.{Answers};
 ghost use Rattle.lw_names.specs.Names.{AreNamed, IsGrown, named, with_names};
 
 use crate::Sul;
-
-use lw_names::{Named, OutName};
 use http_server::Log;
+use lw_names::{Named, OutName};
 use lw_words::{NoMemory, RunStop, SulStop, Word};
 use std::alloc::Global;
 use std::marker::Model;

@@ -1,9 +1,9 @@
 //! A machine that is learned from itself.
 ghost use Rattle.std.specs.Prelude.{◌≡◌, length};
 
-use lw_names::{OutName, name_of};
 use crate::Sul;
 use lw_mealy::Mealy;
+use lw_names::{OutName, name_of};
 use lw_words::{Names, SulStop};
 use std::marker::Model;
 

@@ -12,8 +12,8 @@ ghost use Rattle.lw_trial.specs.TrialRun.{IsTrialRun, drawn_machine, drawn_namin
 use crate::telling::tell;
 use crate::{TrialArguments, drawn};
 use lw_cache::Cache;
-use lw_names::OutNames;
 use lw_mealy::Mealy;
+use lw_names::OutNames;
 use lw_outside::Sink;
 use lw_report::{End, Outcome, learn_outcome, refuse, say};
 use lw_rounds::{Learned, Settings, Unwatched};

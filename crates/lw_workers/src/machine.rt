@@ -14,8 +14,8 @@ ghost use Rattle.lw_workers.specs.bodies.Instances.{AreInstances, IsPoolOf};
 
 use crate::{LearnedWith, LearningOutcome, Start, learn_with};
 use lw_cache::Cache;
-use lw_names::OutNames;
 use lw_mealy::Mealy;
+use lw_names::OutNames;
 use lw_pool::Pool;
 use lw_rounds::{
     LearnStop, Settings, Watcher, model_is_least, too_large_for_all, too_many_is_none,

@@ -4,8 +4,8 @@ ghost use Rattle.std.specs.Prelude.{◌≡◌, [], None};
 mod scripted;
 
 use lw_mealy::Mealy;
-use lw_sul::{NamedAnswer, Session, Sul, TableSul};
 use lw_names::{Named, OutName};
+use lw_sul::{NamedAnswer, Session, Sul, TableSul};
 use lw_words::{Names, RunStop, SulStop, Word};
 use scripted::{Reply, Scripted};
 use std::alloc::Global;

@@ -4,9 +4,8 @@ ghost use Rattle.lw_names.specs.Names.{Brings};
 ghost use Rattle.lw_words.specs.Cause.{CountedFault};
 ghost use Rattle.lw_words.specs.declared.stop.SulStop.TheVariants.{Failed};
 
-use lw_sul::Sul;
-
 use lw_names::{OutName, name_of};
+use lw_sul::Sul;
 use lw_words::{Names, SulStop};
 use std::alloc::{AllocError, Global};
 
