@@ -9,7 +9,7 @@ ghost use Rattle.lw_cache.specs.Settling.{MayAsk};
 use crate::tests::workers::crews::{Refusing, pool_of};
 use lw_cache::AskStop;
 use lw_pool::Pool;
-use lw_rounds::{Kind, LearnStop, Learned, Phase, Step, Watcher};
+use lw_rounds::{Kind, LearnStop, Learned, Phase, Settings, Step, Watcher};
 use lw_words::{Kept, Word, Words};
 use lw_workers::{LearnedWith, learn_with};
 use std::alloc::Global;
@@ -160,9 +160,8 @@ fn learn_by<R: Abort + Threads + Wait + Sync + Copy + Drop>(
     ensures may { OnOk result.learned (MayAsk result.pool.stop) }
     ensures nothing { OnOk result.learned (NothingClashes (answers_of result.pool.kept)) }
 {
-    let (extra, most) = (case.extra, case.most);
-    assert!(rt; extra <= 4 && 1 <= most && most <= 1024);
-    learn_with(pool, alloc, words, case.kind, extra, most, notes)
+    let settings = Settings::new(1, case.kind, case.extra, case.most).expect(&rt, "settings");
+    learn_with(pool, alloc, words, settings, notes)
 }
 
 /// What comes of a case.

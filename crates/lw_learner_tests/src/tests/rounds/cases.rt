@@ -8,7 +8,7 @@ ghost use Rattle.lw_cache.specs.Settling.{MayAsk};
 
 use lw_cache::Oracle;
 use lw_mealy::Mealy;
-use lw_rounds::{Kind, LearnStop, Learned, Learner, Step, Watcher, learn};
+use lw_rounds::{Kind, LearnStop, Learned, Learner, Settings, Step, Watcher, learn};
 use lw_words::{Word, Words};
 use std::alloc::Global;
 use std::process::Abort;
@@ -167,30 +167,24 @@ fn oracle_of(rt: &impl Abort, alloc: Global, machine: Mealy, length: usize) -> R
 fn call(
     alloc: Global,
     oracle: &mut Recording,
-    kind: Kind,
-    extra: u8,
-    most: u16,
+    settings: Settings,
     notes: &mut Notes,
 ) -> Result<Learned, LearnStop>
     requires letters { (1 ≤ oracle.old.machine.inputs) × (oracle.old.machine.inputs ≤ 64) }
     requires signs { (1 ≤ oracle.old.machine.outputs) × (oracle.old.machine.outputs ≤ 4096) }
     requires nothing { NothingClashes (answers_of oracle.old.kept) }
     requires may { MayAsk oracle.old.stop }
-    requires few { extra ≤ 4 }
-    requires most { (1 ≤ most) × (most ≤ 1024) }
 {
-    let (inputs, outputs) = (oracle.inputs(), oracle.outputs());
-    learn(oracle, alloc, inputs, outputs, kind, extra, most, notes)
+    learn(oracle, alloc, settings, notes)
 }
 
 /// What comes of a case.
 fn play(rt: &impl Abort, alloc: Global, case: &Case) -> Came {
-    let (extra, most) = (case.extra, case.most);
-    assert!(rt; extra <= 4 && 1 <= most && most <= 1024);
+    let settings = Settings::new(1, case.kind, case.extra, case.most).expect(rt, "settings");
     let machine = machine_of(rt, alloc, case.outputs, case.rows);
     let mut oracle = oracle_of(rt, alloc, machine, case.known);
     let mut notes = Notes::new(alloc);
-    let learned = call(alloc, &mut oracle, case.kind, extra, most, &mut notes);
+    let learned = call(alloc, &mut oracle, settings, &mut notes);
     Came {
         oracle,
         learned,

@@ -1,5 +1,5 @@
 //! Learnings of machines, worked by hand, with pools of one to sixteen instances: the model, and what the instances answered.
-ghost use Rattle.std.specs.Prelude.{◌≡◌, ◌≤◌, [], length, None};
+ghost use Rattle.std.specs.Prelude.{◌≡◌, [], length, None};
 ghost use Rattle.lw_words.specs.Answer.{answers_of};
 ghost use Rattle.lw_cache.specs.Clash.{NothingClashes};
 ghost use Rattle.lw_pool.specs.Opening.{MayBegin};
@@ -7,11 +7,11 @@ ghost use Rattle.lw_pool.specs.Opening.{MayBegin};
 use crate::tests::workers::crews::{machine, names_of};
 use crate::tests::workers::{COUNTER, are_long, is_crowd, is_found};
 use lw_cache::Cache;
-use lw_mealy::Mealy;
 use lw_names::OutNames;
-use lw_rounds::{Kind, LearnStop, Unwatched};
-use lw_words::Names;
-use lw_workers::{LearnedMachine, learn_machine};
+use lw_mealy::Mealy;
+use lw_rounds::{Kind, LearnStop, Settings, Unwatched};
+use lw_words::{Names, Words};
+use lw_workers::{LearningOutcome, Start, learn_machine};
 use std::alloc::Global;
 use std::process::Abort;
 use std::sync::Wait;
@@ -24,36 +24,17 @@ pub fn call<R: Threads + Wait + Sync + Drop>(
     alloc: Global,
     system: &Mealy,
     names: &Names,
-    shared: OutNames,
-    cache: Cache,
-    workers: u8,
-    extra: u8,
-    max_states: u16,
-) -> LearnedMachine
+    start: Start,
+    settings: Settings,
+) -> LearningOutcome
     requires named { length names.now ≡ system.now.outputs }
-    requires shared { shared ≡ record { names = names.now; brought = None } }
-    requires unclaimed { cache.claims ≡ [] }
-    requires nothing { NothingClashes (answers_of cache.kept) }
-    requires prior { MayBegin shared system.now.inputs system.now.outputs cache.kept }
-    requires workers { (1 ≤ workers) × (workers ≤ 16) }
-    requires few { extra ≤ 4 }
-    requires most { (1 ≤ max_states) × (max_states ≤ 1024) }
+    requires shared { start.names ≡ record { names = names.now; brought = None } }
+    requires unclaimed { start.cache.claims ≡ [] }
+    requires nothing { NothingClashes (answers_of start.cache.kept) }
+    requires prior { MayBegin start.names system.now.inputs system.now.outputs start.cache.kept }
+    requires words { start.words ≡ [] }
 {
-    let kind = Kind::Table;
-    learn_machine(
-        rt,
-        alloc,
-        system,
-        names,
-        shared,
-        cache,
-        &[],
-        workers,
-        kind,
-        extra,
-        max_states,
-        &mut Unwatched,
-    )
+    learn_machine(rt, alloc, system, names, start, settings, &mut Unwatched)
 }
 
 /// What comes of a machine whose outputs have these names with so many instances.
@@ -65,17 +46,16 @@ fn learned_by<R: Abort + Threads + Wait + Sync + Copy + Drop>(
     workers: u8,
     extra: u8,
     max_states: u16,
-) -> LearnedMachine
+) -> LearningOutcome
     requires named { length names.now ≡ system.now.outputs }
-    requires few { extra ≤ 4 }
-    requires most { (1 ≤ max_states) × (max_states ≤ 1024) }
 {
-    assert!(rt; 1 <= workers && workers <= 16);
-    let shared = OutNames::declared(alloc, names).expect(&rt, "memory");
-    let cache = Cache::new(alloc);
-    call(
-        rt, alloc, system, names, shared, cache, workers, extra, max_states,
-    )
+    let settings = Settings::new(workers, Kind::Table, extra, max_states).expect(&rt, "settings");
+    let start = Start {
+        names: OutNames::declared(alloc, names).expect(&rt, "memory"),
+        cache: Cache::new(alloc),
+        words: Words::new(alloc),
+    };
+    call(rt, alloc, system, names, start, settings)
 }
 
 /// What comes of a counter of three.
@@ -85,10 +65,7 @@ fn counter_by<R: Abort + Threads + Wait + Sync + Copy + Drop>(
     workers: u8,
     extra: u8,
     max_states: u16,
-) -> LearnedMachine
-    requires few { extra ≤ 4 }
-    requires most { (1 ≤ max_states) × (max_states ≤ 1024) }
-{
+) -> LearningOutcome {
     let names = names_of(&rt, alloc, &["0", "1"]);
     let system = machine(&rt, alloc, &COUNTER);
     learned_by(rt, alloc, &system, &names, workers, extra, max_states)
@@ -96,7 +73,7 @@ fn counter_by<R: Abort + Threads + Wait + Sync + Copy + Drop>(
 
 /// Whether a model of so many states was found with so many refinements, by the answers to words of these numbers of
 /// letters, in this order.
-fn has_found(ended: &LearnedMachine, states: u16, refinements: u32, letters: &[usize]) -> bool {
+fn has_found(ended: &LearningOutcome, states: u16, refinements: u32, letters: &[usize]) -> bool {
     is_found(&ended.learned, states, refinements) && are_long(&ended.kept, letters)
 }
 
@@ -121,7 +98,7 @@ fn two_extra_states_tell_a_counter_of_three(rt: HostRuntime) {
 }
 
 /// Whether it ended with a crowd of so many words, by the answers to words of these numbers of letters, in this order.
-fn has_stopped(ended: &LearnedMachine, count: usize, letters: &[usize]) -> bool {
+fn has_stopped(ended: &LearningOutcome, count: usize, letters: &[usize]) -> bool {
     is_crowd(&ended.learned, count) && are_long(&ended.kept, letters)
 }
 
@@ -142,7 +119,7 @@ fn of_many_letters(rt: &impl Abort, alloc: Global) -> Mealy
 }
 
 /// Whether it ended with a model of so many states whose suite would have this size.
-fn is_too_large(ended: &LearnedMachine, states: u16, size: u64) -> bool {
+fn is_too_large(ended: &LearningOutcome, states: u16, size: u64) -> bool {
     match &ended.learned {
         Err(LearnStop::TooLarge { model, number }) => model.states() == states && *number == size,
         _ => false,
@@ -153,7 +130,7 @@ fn is_too_large(ended: &LearnedMachine, states: u16, size: u64) -> bool {
 fn many_letters_by<R: Abort + Threads + Wait + Sync + Copy + Drop>(
     rt: R,
     alloc: Global,
-) -> LearnedMachine {
+) -> LearningOutcome {
     let names = names_of(&rt, alloc, &["0"]);
     let system = of_many_letters(&rt, alloc);
     learned_by(rt, alloc, &system, &names, 2, 3, 4)
@@ -206,14 +183,14 @@ fn four_states_by<R: Abort + Threads + Wait + Sync + Copy + Drop>(
     rt: R,
     alloc: Global,
     workers: u8,
-) -> LearnedMachine {
+) -> LearningOutcome {
     let names = names_of(&rt, alloc, &["0", "1"]);
     let system = of_four_states(&rt, alloc);
     learned_by(rt, alloc, &system, &names, workers, 1, 12)
 }
 
 /// Whether the four states were found with two refinements.
-fn has_found_them(ended: &LearnedMachine) -> bool {
+fn has_found_them(ended: &LearningOutcome) -> bool {
     match &ended.learned {
         Ok(learned) => learned.refinements() == 2 && has_rows(&learned.model, &ROWS),
         Err(_) => false,

@@ -8,11 +8,11 @@ use crate::tests::workers::crews::{machine, names_of};
 use crate::tests::workers::machines::call;
 use crate::tests::workers::{COUNTER, are_long, is_found};
 use lw_cache::{AskStop, Cache, Clash};
-use lw_mealy::Mealy;
 use lw_names::OutNames;
-use lw_rounds::LearnStop;
-use lw_words::{Kept, Word};
-use lw_workers::LearnedMachine;
+use lw_mealy::Mealy;
+use lw_rounds::{Kind, LearnStop, Settings};
+use lw_words::{Kept, Word, Words};
+use lw_workers::{LearningOutcome, Start};
 use std::alloc::Global;
 use std::process::Abort;
 use std::sync::Wait;
@@ -54,12 +54,18 @@ fn learned_after<R: Abort + Threads + Wait + Sync + Copy + Drop>(
     alloc: Global,
     letters: &[u16],
     outs: &[u16],
-) -> LearnedMachine {
+) -> LearningOutcome {
     let system = machine(&rt, alloc, &COUNTER);
     let names = names_of(&rt, alloc, &["0", "1"]);
     let shared = OutNames::declared(alloc, &names).expect(&rt, "memory");
     let cache = with_prior(&rt, alloc, &system, &shared, letters, outs);
-    call(rt, alloc, &system, &names, shared, cache, 1, 2, 4)
+    let settings = Settings::new(1, Kind::Table, 2, 4).expect(&rt, "settings");
+    let start = Start {
+        names: shared,
+        cache,
+        words: Words::new(alloc),
+    };
+    call(rt, alloc, &system, &names, start, settings)
 }
 
 /// Whether the first answer is the prior one, and the second that of the first run of the first instance.
@@ -82,7 +88,7 @@ fn a_learning_begins_with_what_was_kept_before(rt: HostRuntime) {
 }
 
 /// The clash that a learning stopped with.
-fn clash_of(ended: &LearnedMachine) -> Option<Clash> {
+fn clash_of(ended: &LearningOutcome) -> Option<Clash> {
     match &ended.learned {
         Err(LearnStop::Ask(stop)) => match stop {
             AskStop::Clash(clash) => Some(*clash),
