@@ -1,10 +1,10 @@
 -- Arguments whose first names no command.
-use Rattle.std.proofs.Common.{◌≡◌, ◌∙◌, List, ℕ, [], ◌∷◌, Bool, true, false, codes, Option, Some, None, refl, sym, ap, string_bytes}
+use Rattle.std.proofs.Common.{◌≡◌, ◌∙◌, List, ℕ, [], ◌∷◌, Bool, true, false, codes, Option, Some, None, option_map, refl, sym, ap, string_bytes}
 use Rattle.std.specs.Str.{bytes_eq}
 use Rattle.std.specs.Prelude.{String, slice_get}
 use Rattle.std.specs.declared.alloc.Global.{Global}
 use Rattle.std.proofs.lemmas.Slice.Eq.{bytes_eq-Decides}
-use Rattle.lw_top.specs.Call.{call_named, call_of}
+use Rattle.lw_top.specs.Call.{CallValues, call_named, call_of}
 use Rattle.lw_top.specs.CommandLine.{texts}
 
 is_other : (w name : List ℕ) → (w ≡ name → ⊥) → bytes_eq w name ≡ false
@@ -21,6 +21,11 @@ same_text s a e = cc
 pub named_call : (args : List (String Global)) (s : String Global) (w : List ℕ) → Some s ≡ slice_get args 0 → w ≡ string_bytes s → call_of (texts args) ≡ call_named w (texts args)
 named_call [] s w first is = let wrong : ◌≡◌ {A = Option (String Global)} (Some s) None = first in absurd (cc)
 named_call (a ∷ more) s w first is = ap (λ (name : List ℕ). call_named name (texts (a ∷ more))) (sym (is ∙ ap string_bytes (same_text s a first)))
+
+-- where it names this command, the call is made of the values that the command takes
+pub call_is : {V : Type 0} (name : List ℕ) (make : V → CallValues) (args : List (String Global)) (s : String Global) (w : List ℕ) (values was : Option V) → Some s ≡ slice_get args 0 → w ≡ string_bytes s → w ≡ name → call_named name (texts args) ≡ option_map make values → values ≡ was
+    → call_of (texts args) ≡ option_map make was
+call_is name make args s w values was first is named made same = named_call args s w first is ∙ (ap (λ (n : List ℕ). call_named n (texts args)) named ∙ (made ∙ ap (option_map make) same))
 
 -- no command takes arguments whose first one has another name than each of them
 pub no_call : (args : List (String Global)) (s : String Global) (w : List ℕ) → Some s ≡ slice_get args 0 → w ≡ string_bytes s

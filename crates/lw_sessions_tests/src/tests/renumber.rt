@@ -7,8 +7,8 @@ ghost use Rattle.lw_mealy.specs.Limits.{AnswersBelow};
 
 use crate::tests::renumber::names::{falling, turning};
 use lw_cache::AskStop;
-use lw_names::OutNames;
 use lw_mealy::Mealy;
+use lw_names::OutNames;
 use lw_renumber::sort_outputs;
 use lw_rounds::{LearnStop, Learned, Learner};
 use lw_table::ObservationTable;

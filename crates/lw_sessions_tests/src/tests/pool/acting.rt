@@ -3,9 +3,8 @@ ghost use Rattle.std.specs.Prelude.{◌≡◌, ◌≤◌, length, true, None, So
 ghost use Rattle.lw_words.specs.Cause.{CountedFault};
 ghost use Rattle.lw_words.specs.declared.stop.SulStop.TheVariants.{Failed};
 
-use lw_sul::{Sul, TableSul};
-
 use lw_names::OutName;
+use lw_sul::{Sul, TableSul};
 use lw_words::SulStop;
 use std::alloc::Global;
 use std::sync::Arc;

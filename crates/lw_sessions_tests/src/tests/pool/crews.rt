@@ -5,8 +5,8 @@ ghost use Rattle.lw_pool.specs.Opening.{AllMayJoin, member_of};
 
 use crate::tests::pool::acting::{Acting, Meeting};
 use lw_cache::{AskStop, Cache};
-use lw_names::OutNames;
 use lw_mealy::Mealy;
+use lw_names::OutNames;
 use lw_pool::Pool;
 use lw_sul::{Session, Sul, TableSul};
 use lw_words::{Kept, KeptAnswer, Names, Word};

@@ -4,9 +4,8 @@ ghost use Rattle.lw_names.specs.Names.{Brings};
 ghost use Rattle.lw_words.specs.Cause.{CountedFault};
 ghost use Rattle.lw_words.specs.declared.stop.SulStop.TheVariants.{Failed};
 
-use lw_sul::{Sul, TableSul};
-
 use lw_names::OutName;
+use lw_sul::{Sul, TableSul};
 use lw_words::SulStop;
 
 /// A table that tells no machine, and of whose names the first few came. It refuses an output past the next one that has no

@@ -5,8 +5,8 @@ ghost use Rattle.lw_words.specs.declared.stop.SulStop.TheVariants.{Failed};
 ghost use Rattle.lw_pool.specs.Opening.{AllMayJoin, member_of};
 
 use lw_cache::Cache;
-use lw_names::{OutName, OutNames};
 use lw_mealy::Mealy;
+use lw_names::{OutName, OutNames};
 use lw_pool::Pool;
 use lw_sul::{Session, Sul, TableSul};
 use lw_words::{Names, SulStop};
