@@ -6,13 +6,14 @@ ghost use Rattle.lw_children.specs.Crews.{first_naming};
 
 use super::{command, names, speakers};
 use lw_cache::{AskStop, Cache};
-use lw_children::{Command, CutRun, LearnedChildren, learn_children};
+use lw_children::{Command, learn_children};
 use lw_json::{Machine, read_machine};
 use lw_mealy::Mealy;
 use lw_names::OutNames;
 use lw_outside::{MemorySpawner, Spawner};
-use lw_rounds::{Kind, LearnStop, Unwatched};
-use lw_words::{Line, Names, SulStop, Word};
+use lw_rounds::{Kind, LearnStop, Settings, Unwatched};
+use lw_words::{Line, Names, SulStop, Word, Words};
+use lw_workers::{CutRun, LearningOutcome, Start};
 use std::alloc::Global;
 use std::process::Abort;
 use std::sync::Wait;
@@ -55,13 +56,11 @@ fn are_words(words: &[Word], inputs: u16) -> bool
     words.iter().all(|w| is_word(w, inputs))
 }
 
-fn words_of(rt: &impl Abort, alloc: Global, list: &[&[u16]]) -> Vec<Word> {
-    let mut words = Vec::new(alloc);
+fn words_of(rt: &impl Abort, alloc: Global, list: &[&[u16]]) -> Words {
+    let mut words = Words::new(alloc);
     for letters in list {
         let letters = Vec::from_slice(alloc, letters).expect(rt, "memory");
-        words
-            .push(Word::from_letters(alloc, letters))
-            .expect(rt, "memory");
+        assert!(rt; words.push(Word::from_letters(alloc, letters)).is_ok());
     }
     words
 }
@@ -72,31 +71,23 @@ fn learn<P: Spawner, R: Abort + Threads + Wait + Sync + Copy + Drop>(
     alloc: Global,
     spawner: &mut P,
     command: &Command,
-    words: &[Word],
+    words: Words,
     workers: u8,
     kind: Kind,
-) -> LearnedChildren
+) -> LearningOutcome
     requires words { 0 < length command.now.words }
 {
     let inputs = command.inputs.len();
-    assert!(rt; inputs <= 64 && 0 < workers && workers <= 16);
-    assert!(rt; words.len() <= 9 && are_words(words, inputs));
-    let names = first_names(&rt, alloc, &command.outputs);
-    let mut nobody = Unwatched;
-    let ended = learn_children(
-        rt,
-        alloc,
-        spawner,
-        command,
-        names,
-        Cache::new(alloc),
+    assert!(rt; inputs <= 64);
+    assert!(rt; words.len() <= 9 && are_words(words.as_slice(), inputs));
+    let settings = Settings::new(workers, kind, 1, 4).expect(&rt, "settings");
+    let start = Start {
+        names: first_names(&rt, alloc, &command.outputs),
+        cache: Cache::new(alloc),
         words,
-        workers,
-        kind,
-        1,
-        4,
-        &mut nobody,
-    );
+    };
+    let mut nobody = Unwatched;
+    let ended = learn_children(rt, alloc, spawner, command, start, settings, &mut nobody);
     let Unwatched = nobody;
     ended
 }
@@ -185,7 +176,7 @@ static FOUND: [Found; 4] = [
 ];
 
 /// Whether a model was found as a row says.
-fn is_found(ended: &LearnedChildren, row: &Found) -> bool {
+fn is_found(ended: &LearningOutcome, row: &Found) -> bool {
     let Ok(learned) = &ended.learned else {
         return false;
     };
@@ -214,7 +205,7 @@ fn finds_over<R: Abort + Threads + Wait + Sync + Copy + Drop>(
     requires { 0 < length command.now.words }
 {
     let words = words_of(&rt, alloc, row.words);
-    let ended = learn(rt, alloc, spawner, command, words.as_slice(), 1, row.kind);
+    let ended = learn(rt, alloc, spawner, command, words, 1, row.kind);
     is_found(&ended, row) && was_sent(spawner, row.sent)
 }
 
@@ -276,7 +267,7 @@ fn stops_so(stop: &LearnStop, number: u32, want: Ending) -> bool {
 }
 
 /// Whether a learning ended so, and kept nothing.
-fn has_stopped(ended: &LearnedChildren, number: u32, want: Ending) -> bool {
+fn has_stopped(ended: &LearningOutcome, number: u32, want: Ending) -> bool {
     match &ended.learned {
         Err(stop) => stops_so(stop, number, want) && ended.kept.len() == 0,
         Ok(_) => false,
@@ -376,7 +367,7 @@ static ROWS: [Row; 4] = [
 ];
 
 /// Whether a learning has ended as its row says.
-fn has_ended(ended: &LearnedChildren, spawner: &MemorySpawner, row: &Row) -> bool {
+fn has_ended(ended: &LearningOutcome, spawner: &MemorySpawner, row: &Row) -> bool {
     has_stopped(ended, row.instance, row.ending)
         && is_cut(&ended.cut, row.instance, &row.cut)
         && spawner.started().len() == row.starts
@@ -393,7 +384,8 @@ fn ends_over<R: Abort + Threads + Wait + Sync + Copy + Drop>(
 ) -> bool
     requires { 0 < length command.now.words }
 {
-    let ended = learn(rt, alloc, spawner, command, &[], row.workers, Kind::Table);
+    let words = Words::new(alloc);
+    let ended = learn(rt, alloc, spawner, command, words, row.workers, Kind::Table);
     has_ended(&ended, spawner, row)
 }
 

@@ -13,11 +13,12 @@ pub fn counter(rt: &impl Abort, alloc: Global) -> Machine {
     read_machine(alloc, COUNTER).expect(rt, "a machine")
 }
 
-/// Calls that are to fail.
+/// Calls that are to fail, and how many bytes each other one takes or gives at most.
 #[derive(Clone, Copy)]
 struct Plans<'a> {
     source: &'a [u64],
     sink: &'a [u64],
+    piece: usize,
 }
 
 fn source_of(
@@ -66,12 +67,11 @@ fn serves_with(
     machine: &Machine,
     input: &[u8],
     plans: Plans<'_>,
-    piece: usize,
     answers: &[u8],
     want: &Result<Served, ServeFault>,
 ) -> bool {
-    let mut source = source_of(rt, alloc, input, piece, plans.source);
-    let mut sink = sink_of(rt, alloc, piece, plans.sink);
+    let mut source = source_of(rt, alloc, input, plans.piece, plans.source);
+    let mut sink = sink_of(rt, alloc, plans.piece, plans.sink);
     serves_on(&mut source, &mut sink, machine, answers, want)
 }
 
@@ -88,8 +88,9 @@ pub fn serves(
     let plans = Plans {
         source: &[],
         sink: &[],
+        piece,
     };
-    serves_with(rt, alloc, machine, input, plans, piece, answers, want)
+    serves_with(rt, alloc, machine, input, plans, answers, want)
 }
 
 /// Which call fails, what is answered before it, and the fault.
@@ -104,6 +105,7 @@ static FAULTS: [FaultRow; 5] = [
         plans: Plans {
             source: &[0],
             sink: &[],
+            piece: 6,
         },
         answers: b"",
         fault: ServeFault::SourceFault,
@@ -112,6 +114,7 @@ static FAULTS: [FaultRow; 5] = [
         plans: Plans {
             source: &[1],
             sink: &[],
+            piece: 6,
         },
         answers: b"ready\n",
         fault: ServeFault::SourceFault,
@@ -120,6 +123,7 @@ static FAULTS: [FaultRow; 5] = [
         plans: Plans {
             source: &[2],
             sink: &[],
+            piece: 6,
         },
         answers: b"ready\nout 0\n",
         fault: ServeFault::SourceFault,
@@ -128,6 +132,7 @@ static FAULTS: [FaultRow; 5] = [
         plans: Plans {
             source: &[],
             sink: &[0],
+            piece: 6,
         },
         answers: b"",
         fault: ServeFault::SinkFault,
@@ -136,6 +141,7 @@ static FAULTS: [FaultRow; 5] = [
         plans: Plans {
             source: &[],
             sink: &[1],
+            piece: 6,
         },
         answers: b"ready\n",
         fault: ServeFault::SinkFault,
@@ -150,7 +156,6 @@ fn fails_so(rt: &impl Abort, alloc: Global, row: &FaultRow) -> bool {
         &machine,
         b"reset\nin t\n",
         row.plans,
-        6,
         row.answers,
         &Err(row.fault),
     )
