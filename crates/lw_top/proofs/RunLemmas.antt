@@ -2,6 +2,7 @@
 use Rattle.std.proofs.Common.{◌≡◌, ◌⊎◌, List, ℕ, [], ◌∷◌, Bool, true, false, codes, Option, Some, None, IfSome, option_map, inl, inr, refl, sym, ap, ◌∙◌, subst, append-nil}
 use Rattle.std.specs.Prelude.{if◌then◌else◌}
 use Rattle.std.specs.Str.{bytes_eq}
+use Rattle.std.proofs.lemmas.Bool.{true≢false}
 use Rattle.lw_words.specs.declared.kept.KeptAnswer.{KeptAnswer}
 use Rattle.lw_outside.specs.declared.links.StartFailure.{StartFailure}
 use Rattle.lw_outside.specs.Links.{SpawnerState}
@@ -77,8 +78,8 @@ pub not_usage : (s : ArgumentStop) (outcome : Outcome) → outcome ≡ argument_
 not_usage stop.Usage outcome is other = absurd (other refl)
 not_usage stop.NoMemory outcome is other = is
 
-no_cause : {spawner : SpawnerState} {outcome : Outcome} (cause : StartFailure) → outcome ≡ NoMemory → outcome ≡ Unstarted cause → cause ≡ spawner.cause
-no_cause cause out came = let wrong : NoMemory ≡ Unstarted cause = sym out ∙ came in absurd (cc)
+no_cause : (spawner : SpawnerState) (outcome : Outcome) (cause : StartFailure) → outcome ≡ NoMemory → outcome ≡ Unstarted cause → cause ≡ spawner.cause
+no_cause spawner outcome cause out came = let wrong : NoMemory ≡ Unstarted cause = sym out ∙ came in absurd (cc)
 
 same_call : (a b : CallValues) → ◌≡◌ {A = Option CallValues} (Some a) (Some b) → a ≡ b
 same_call a b e = cc
@@ -101,6 +102,28 @@ names_other (w ∷ ws) call is other = by (bytes_eq w (codes "learn")) refl
     by false e = e
     by true e = absurd (not_learn (learn_values (w ∷ ws)) (sym (ap (λ (t : Bool). if t then option_map Learn (learn_values (w ∷ ws)) else if bytes_eq w (codes "check") then option_map Check (check_values (w ∷ ws)) else if bytes_eq w (codes "trial") then option_map Trial (trial_values (w ∷ ws)) else if bytes_eq w (codes "serve") then option_map Serve (serve_values (w ∷ ws)) else if bytes_eq w (codes "ask") then option_map Ask (ask_values (w ∷ ws)) else if bytes_eq w (codes "compare") then option_map Compare (compare_values (w ∷ ws)) else if bytes_eq w (codes "recheck") then option_map Recheck (recheck_values (w ∷ ws)) else None) e) ∙ is))
 
+other_call : {X : Type 0} (b : Bool) (make : X → CallValues) (v : Option X) (rest : Option CallValues) (a : LearnValues) → ((x : X) → IsOther (make x)) → (rest ≡ Some (Learn a) → ⊥) → (if b then option_map make v else rest) ≡ Some (Learn a) → ⊥
+other_call true make None rest a other later is = let wrong : ◌≡◌ {A = Option CallValues} None (Some (Learn a)) = is in absurd (cc)
+other_call true make (Some x) rest a other later is = subst IsOther (same_call (make x) (Learn a) is) (other x)
+other_call false make v rest a other later is = later is
+
+not_first : (b : Bool) (one rest call : Option CallValues) → b ≡ false → (if b then one else rest) ≡ call → rest ≡ call
+not_first true one rest call not_one is = absurd (true≢false not_one)
+not_first false one rest call not_one is = is
+
+-- the first argument of a call of `learn` names it
+pub names_learn : (words : List (List ℕ)) (a : LearnValues) → call_of words ≡ Some (Learn a) → is_command (codes "learn") words ≡ false → ⊥
+names_learn [] a is unnamed = let wrong : ◌≡◌ {A = Option CallValues} None (Some (Learn a)) = is in absurd (cc)
+names_learn (w ∷ ws) a is unnamed =
+    let words : List (List ℕ) = w ∷ ws in
+    other_call (bytes_eq w (codes "check")) Check (check_values words) _ a (λ x. tt)
+    (other_call (bytes_eq w (codes "trial")) Trial (trial_values words) _ a (λ x. tt)
+    (other_call (bytes_eq w (codes "serve")) Serve (serve_values words) _ a (λ x. tt)
+    (other_call (bytes_eq w (codes "ask")) Ask (ask_values words) _ a (λ x. tt)
+    (other_call (bytes_eq w (codes "compare")) Compare (compare_values words) _ a (λ x. tt)
+    (other_call (bytes_eq w (codes "recheck")) Recheck (recheck_values words) None a (λ x. tt) (λ e. let wrong : ◌≡◌ {A = Option CallValues} None (Some (Learn a)) = e in absurd (cc)))))))
+    (not_first (bytes_eq w (codes "learn")) (option_map Learn (learn_values words)) _ (Some (Learn a)) unnamed is)
+
 -- where memory ran out while the arguments were read, the call came to an end that each command may come to
 module _ (f : FilesState) (b : SpawnerState) (i : SourceState) (o e d : SinkState) (l s : LogState) (end : End) (ended : TellsOutcome e d end) where
   pub wanted : (call : Option CallValues) → end.outcome ≡ NoMemory → ((c : CallValues) → call ≡ Some c → IsOther c → s ≡ l) → Runs call (world f b i o e l) (world f b i o d s) end
@@ -109,9 +132,9 @@ module _ (f : FilesState) (b : SpawnerState) (i : SourceState) (o e d : SinkStat
   wanted (Some (Check a)) out same = record { ran = wanted_check a.model a.answers a.extra f o e d end out ended; spawner = refl; input = refl; log = same (Check a) refl tt }
   wanted (Some (Trial a)) out same = record { ran = wanted_trial a f o e d end out ended; files = refl; spawner = refl; input = refl; log = same (Trial a) refl tt }
   wanted (Some (Serve m)) out same = record { ran = wanted_serve m f i o e d end out ended; spawner = refl; log = same (Serve m) refl tt }
-  wanted (Some (Ask a)) out same = record { ran = wanted_ask a f b o e d end out ended; cause = λ cause came. no_cause cause out came; input = refl; log = same (Ask a) refl tt }
+  wanted (Some (Ask a)) out same = record { ran = wanted_ask a f b o e d end out ended; cause = λ cause came. no_cause b end.outcome cause out came; input = refl; log = same (Ask a) refl tt }
   wanted (Some (Compare p)) out same = record { ran = wanted_compare p.first p.second f o e d end out ended; spawner = refl; input = refl; log = same (Compare p) refl tt }
-  wanted (Some (Recheck a)) out same = record { ran = wanted_recheck a f b o e d end out ended; cause = λ cause came. no_cause cause out came; input = refl; log = same (Recheck a) refl tt }
+  wanted (Some (Recheck a)) out same = record { ran = wanted_recheck a f b o e d end out ended; cause = λ cause came. no_cause b end.outcome cause out came; input = refl; log = same (Recheck a) refl tt }
 
   -- by why the arguments weren't taken
   pub refused : (reason : ArgumentStop) (call : Option CallValues) → end.outcome ≡ argument_outcome reason → (reason ≡ stop.Usage → call ≡ None) → ((c : CallValues) → call ≡ Some c → IsOther c → s ≡ l)
