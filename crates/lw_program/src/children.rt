@@ -2,6 +2,7 @@
 //! faults, and a link its ends. What goes over them, and what was started, is told to no contract.
 ghost use Rattle.std.specs.Prelude.{◌≡◌, ◌<◌, ◌≤◌, [], length, map, None, IfOk};
 ghost use Rattle.std.specs.List.{All};
+ghost use Rattle.lw_outside.specs.Links.{LinkState};
 
 use http_server::Log;
 use lw_outside::{Failed, Link, Spawner, StartFailure, StartStop};
@@ -104,7 +105,7 @@ impl<R> RealSpawner<R> {
 impl<R> RealSpawner<R> {
     /// For the proof alone: each link that was retired was started before.
     fn keeps_earlier(&self)
-        ensures { All (λ r. r.number < self.now.started) (map (λ r. record {
+        ensures { All (λ (r : LinkState). r.number < self.now.started) (map (λ r. record {
           number = r.0.number;
           faults = r.0.faults;
           ends = r.0.ends;

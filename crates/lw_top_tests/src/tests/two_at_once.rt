@@ -1,6 +1,7 @@
 //! Two children that wait for each other: a call that puts every word to one of them fails.
 ghost use Rattle.std.specs.Prelude.{◌≡◌, ◌<◌, ◌≤◌, length, map, None, IfOk};
 ghost use Rattle.std.specs.List.{All};
+ghost use Rattle.lw_outside.specs.Links.{LinkState};
 
 use crate::tests::cases::{World, files_of};
 use http_server::Log;
@@ -144,7 +145,7 @@ impl MeetingSpawner {
 impl MeetingSpawner {
     /// For the proof alone: each link that was retired was started before.
     fn keeps_earlier(&self)
-        ensures { All (λ r. r.number < self.now.started) (map (λ r. record {
+        ensures { All (λ (r : LinkState). r.number < self.now.started) (map (λ r. record {
           number = r.0.number;
           faults = r.0.faults;
           ends = r.0.ends;

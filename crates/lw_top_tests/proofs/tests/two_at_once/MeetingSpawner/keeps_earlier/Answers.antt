@@ -1,6 +1,7 @@
 use Rattle.std.proofs.Common.{◌<◌}
 use Rattle.std.proofs.lemmas.List.Elements.{All-map}
+use Rattle.lw_outside.specs.Links.{LinkState}
 use Rattle.lw_top_tests.proofs.tests.two_at_once.MeetingSpawner.keeps_earlier.Goals as goal
 
 pub returns : goal.returns
-returns c = All-map (λ r. r.number < c.args.self.now.started) _ c.args.self.now.retired.items c.args.self.now.earlier
+returns c = All-map (λ (r : LinkState). r.number < c.args.self.now.started) _ c.args.self.now.retired.items c.args.self.now.earlier
