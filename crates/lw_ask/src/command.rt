@@ -20,7 +20,7 @@ use lw_children::Command;
 use lw_json::Machine;
 use lw_learn::System;
 use lw_outside::{Files, Sink, Spawner, StartStop};
-use lw_report::{End, Outcome, put_all, refuse};
+use lw_report::{End, Outcome, UNSAID, put_all, refuse};
 use lw_sul::{Session, TableSul};
 use lw_wordlist::{WordStop, read_words};
 use lw_words::{Kept, SulStop, Words};
@@ -178,7 +178,7 @@ fn end_call<E: Sink>(alloc: Global, told: Told, err: &mut E) -> End
     ensures counts { (E.state err.old).faults ≤ (E.state err.new).faults }
 {
     let Told { kept, outcome } = told;
-    refuse(alloc, outcome, None, None, kept, None, 0, err)
+    refuse(alloc, outcome, UNSAID, kept, None, 0, err)
 }
 
 /// Asks the words of these texts of a system that was read.

@@ -25,7 +25,7 @@ use crate::reading::{Read, read_pair};
 use crate::telling::tell;
 use lw_json::{Answers, Machine};
 use lw_outside::{Files, Sink};
-use lw_report::{End, refuse};
+use lw_report::{End, UNSAID, refuse};
 use lw_words::Kept;
 use std::alloc::Global;
 
@@ -98,16 +98,7 @@ pub fn check<F: Files, O: Sink, E: Sink>(
     let Read { machine, answers } = match read_pair(alloc, files, model, answers) {
         Ok(read) => read,
         Err(outcome) => {
-            return refuse(
-                alloc,
-                outcome,
-                None,
-                None,
-                Kept::new(alloc),
-                None,
-                extra,
-                err,
-            );
+            return refuse(alloc, outcome, UNSAID, Kept::new(alloc), None, extra, err);
         }
     };
     finish(alloc, machine, answers, extra, out, err)

@@ -9,7 +9,7 @@ ghost use Rattle.lw_report.specs.declared.outcome.Outcome.{Outcome as Came};
 
 use lw_json::Machine;
 use lw_outside::Sink;
-use lw_report::{Outcome, put_report, say};
+use lw_report::{Outcome, Said, put_report, say};
 use lw_words::Kept;
 use std::alloc::Global;
 
@@ -59,27 +59,15 @@ pub(crate) fn tell<O: Sink, E: Sink>(
         ((E.state err.old).faults ≤ (E.state err.new).faults) }
 {
     let (inputs, outputs) = (&machine.inputs, &machine.outputs);
+    let said = Said {
+        inputs: Some(inputs),
+        outputs: Some(outputs),
+    };
     if !is_answered(&outcome) {
-        return say(
-            alloc,
-            outcome,
-            Some(inputs),
-            Some(outputs),
-            kept,
-            extra,
-            err,
-        );
+        return say(alloc, outcome, said, kept, extra, err);
     }
     match put_report(alloc, &outcome, inputs, outputs, kept, extra, out) {
         Ok(()) => outcome,
-        Err(stop) => say(
-            alloc,
-            Outcome::from(stop),
-            Some(inputs),
-            Some(outputs),
-            kept,
-            extra,
-            err,
-        ),
+        Err(stop) => say(alloc, Outcome::from(stop), said, kept, extra, err),
     }
 }

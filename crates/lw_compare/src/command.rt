@@ -14,7 +14,7 @@ use crate::reading::read_models;
 use crate::telling::tell;
 use lw_json::Machine;
 use lw_outside::{Files, Sink};
-use lw_report::{End, Outcome, refuse};
+use lw_report::{End, Outcome, UNSAID, refuse};
 use lw_words::Kept;
 use std::alloc::Global;
 
@@ -84,6 +84,6 @@ pub fn compare<F: Files, O: Sink, E: Sink>(
 {
     match read_models(alloc, files, first, second) {
         Ok(models) => finish(alloc, &models.first, &models.second, out, err),
-        Err(outcome) => refuse(alloc, outcome, None, None, Kept::new(alloc), None, 0, err),
+        Err(outcome) => refuse(alloc, outcome, UNSAID, Kept::new(alloc), None, 0, err),
     }
 }

@@ -11,7 +11,7 @@ ghost use Rattle.lw_report.specs.declared.stops.TellStop.{TellStop as Stop};
 
 use lw_json::Machine;
 use lw_outside::Sink;
-use lw_report::{Comparison, Outcome, TellStop, put_all, say, text};
+use lw_report::{Comparison, Outcome, TellStop, UNSAID, put_all, say, text};
 use lw_words::{Kept, Names};
 use std::alloc::Global;
 
@@ -90,10 +90,10 @@ pub(crate) fn tell<O: Sink, E: Sink>(
 {
     let kept = Kept::new(alloc);
     if !is_answered(&outcome) {
-        return say(alloc, outcome, None, None, &kept, 0, err);
+        return say(alloc, outcome, UNSAID, &kept, 0, err);
     }
     match put_verdict(alloc, &outcome, &first.inputs, &first.outputs, &kept, out) {
         Ok(()) => outcome,
-        Err(stop) => say(alloc, Outcome::from(stop), None, None, &kept, 0, err),
+        Err(stop) => say(alloc, Outcome::from(stop), UNSAID, &kept, 0, err),
     }
 }

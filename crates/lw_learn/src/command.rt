@@ -17,7 +17,7 @@ use crate::logging::{log_end, log_stop, log_unread, say_log, unread_text};
 use crate::refusing::end_unread;
 use crate::task::{Task, WordedTask};
 use lw_log::Log;
-use lw_outside::{Files, LogFile, Sink, Spawner};
+use lw_outside::{Files, LogFile, Sink, Spawner, World};
 use lw_report::End;
 use lw_workers::Start;
 use std::alloc::Global;
@@ -25,25 +25,32 @@ use std::sync::Wait;
 use std::thread::Threads;
 
 /// Learns what was read, and ends the call.
-fn learn_read<R: Threads + Wait + Sync + Drop, F: Files, P: Spawner, O: Sink, E: Sink, L: LogFile>(
+fn learn_read<
+    R: Threads + Wait + Sync + Drop,
+    F: Files,
+    P: Spawner,
+    I,
+    O: Sink,
+    E: Sink,
+    L: LogFile,
+>(
     rt: R,
     alloc: Global,
     arguments: &LearnArguments,
     worded: WordedTask,
-    files: &mut F,
-    spawner: &mut P,
-    out: &mut O,
-    err: &mut E,
-    log: &mut Log<L>,
+    world: &mut World<F, P, I, O, E, Log<L>>,
 ) -> End
     requires ready { IsReady worded.task.system worded.task.names worded.task.cache }
     requires letters { All (IsWord (length (letters_of worded.task.system))) worded.words }
     requires batch { length worded.words < 2 ^ 32 }
     ensures status { result.status ≡ status_of result.outcome }
     ensures learned { EndsLearned arguments.now worded.task.system worded.task.cache.kept
-        (F.state files.old) (F.state files.new) (P.state spawner.old) (P.state spawner.new)
-        (O.state out.old) (O.state out.new) (E.state err.old) (E.state err.new) result }
+        (F.state world.old.files) (F.state world.new.files)
+        (P.state world.old.spawner) (P.state world.new.spawner)
+        (O.state world.old.out) (O.state world.new.out)
+        (E.state world.old.err) (E.state world.new.err) result }
     ensures answered { result.model ≢ None → AnswersWords worded.words result.kept.answers }
+    ensures input { world.new.input ≡ world.old.input }
 {
     let WordedTask { task, words } = worded;
     let Task {
@@ -54,7 +61,7 @@ fn learn_read<R: Threads + Wait + Sync + Drop, F: Files, P: Spawner, O: Sink, E:
     let found = learn_system(
         rt,
         alloc,
-        spawner,
+        &mut world.spawner,
         arguments,
         &system,
         Start {
@@ -62,11 +69,18 @@ fn learn_read<R: Threads + Wait + Sync + Drop, F: Files, P: Spawner, O: Sink, E:
             cache,
             words,
         },
-        log,
+        &mut world.log,
     );
-    log_stop(alloc, spawner, system.inputs(), &found, log);
+    log_stop(
+        alloc,
+        &world.spawner,
+        system.inputs(),
+        &found,
+        &mut world.log,
+    );
+    let (files, out, err) = (&mut world.files, &mut world.out, &mut world.err);
     let end = finish(alloc, arguments, &system, found, files, out, err);
-    log_end(alloc, &system, &end, arguments.extra(), log);
+    log_end(alloc, &system, &end, arguments.extra(), &mut world.log);
     end
 }
 
@@ -75,33 +89,28 @@ fn learn_logged<
     R: Threads + Wait + Sync + Drop,
     F: Files,
     P: Spawner,
+    I,
     O: Sink,
     E: Sink,
     L: LogFile,
->(
-    rt: R,
-    alloc: Global,
-    arguments: &LearnArguments,
-    files: &mut F,
-    spawner: &mut P,
-    out: &mut O,
-    err: &mut E,
-    log: &mut Log<L>,
-) -> End
+>(rt: R, alloc: Global, arguments: &LearnArguments, world: &mut World<F, P, I, O, E, Log<L>>) -> End
     ensures status { result.status ≡ status_of result.outcome }
-    ensures ends { IsLearnEnd arguments.now (F.state files.old) (F.state files.new)
-        (P.state spawner.old) (P.state spawner.new) (O.state out.old) (O.state out.new)
-        (E.state err.old) (E.state err.new) result }
-    ensures counts { ((F.state files.old).faults ≤ (F.state files.new).faults) ×
-        ((O.state out.old).faults ≤ (O.state out.new).faults) ×
-        ((E.state err.old).faults ≤ (E.state err.new).faults) }
+    ensures ends { IsLearnEnd arguments.now
+        (F.state world.old.files) (F.state world.new.files)
+        (P.state world.old.spawner) (P.state world.new.spawner)
+        (O.state world.old.out) (O.state world.new.out)
+        (E.state world.old.err) (E.state world.new.err) result }
+    ensures counts { ((F.state world.old.files).faults ≤ (F.state world.new.files).faults) ×
+        ((O.state world.old.out).faults ≤ (O.state world.new.out).faults) ×
+        ((E.state world.old.err).faults ≤ (E.state world.new.err).faults) }
+    ensures input { world.new.input ≡ world.old.input }
 {
-    match read_worded(alloc, arguments, files, log) {
-        Ok(worded) => learn_read(rt, alloc, arguments, worded, files, spawner, out, err, log),
+    match read_worded(alloc, arguments, &mut world.files, &mut world.log) {
+        Ok(worded) => learn_read(rt, alloc, arguments, worded, world),
         Err(unread) => {
             let text = unread_text(alloc, &unread, arguments.extra());
-            let end = end_unread(alloc, arguments, unread, files, err);
-            log_unread(&end, text, log);
+            let end = end_unread(alloc, arguments, unread, &mut world.files, &mut world.err);
+            log_unread(&end, text, &mut world.log);
             end
         }
     }
@@ -115,29 +124,31 @@ fn learn_logged<
 /// they are named, the model's text to `out`, where no file is named for it, and a line about it to `err`. The text of every other
 /// outcome goes to `err`. A log, where one is named, gets a line for each step, what stopped it midway, and the outcome's text;
 /// that it could not be written is said once, last of all, on `err`. May wait for a child, and for a turn of its workers.
-pub fn learn<R: Threads + Wait + Sync + Drop, F: Files, P: Spawner, O: Sink, E: Sink, L: LogFile>(
-    rt: R,
-    alloc: Global,
-    arguments: &LearnArguments,
-    files: &mut F,
-    spawner: &mut P,
-    out: &mut O,
-    err: &mut E,
-    log: &mut Log<L>,
-) -> End
+pub fn learn<
+    R: Threads + Wait + Sync + Drop,
+    F: Files,
+    P: Spawner,
+    I,
+    O: Sink,
+    E: Sink,
+    L: LogFile,
+>(rt: R, alloc: Global, arguments: &LearnArguments, world: &mut World<F, P, I, O, E, Log<L>>) -> End
     ensures status { result.status ≡ status_of result.outcome }
-    ensures run { IsLearnRun arguments.now (F.state files.old) (F.state files.new)
-        (P.state spawner.old) (P.state spawner.new) (O.state out.old) (O.state out.new)
-        (E.state err.old) (E.state err.new) log.new.state result }
+    ensures run { IsLearnRun arguments.now
+        (F.state world.old.files) (F.state world.new.files)
+        (P.state world.old.spawner) (P.state world.new.spawner)
+        (O.state world.old.out) (O.state world.new.out)
+        (E.state world.old.err) (E.state world.new.err) world.new.log.state result }
     // No count of faults falls.
-    ensures counts { ((F.state files.old).faults ≤ (F.state files.new).faults) ×
-        ((O.state out.old).faults ≤ (O.state out.new).faults) ×
-        ((E.state err.old).faults ≤ (E.state err.new).faults) }
+    ensures counts { ((F.state world.old.files).faults ≤ (F.state world.new.files).faults) ×
+        ((O.state world.old.out).faults ≤ (O.state world.new.out).faults) ×
+        ((E.state world.old.err).faults ≤ (E.state world.new.err).faults) }
+    ensures input { world.new.input ≡ world.old.input }
 {
     if let Some(name) = arguments.log() {
-        log.open(name);
+        world.log.open(name);
     }
-    let end = learn_logged(rt, alloc, arguments, files, spawner, out, err, log);
-    say_log(arguments, log, err);
+    let end = learn_logged(rt, alloc, arguments, world);
+    say_log(arguments, &mut world.log, &mut world.err);
     end
 }

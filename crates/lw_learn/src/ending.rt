@@ -28,7 +28,7 @@ use lw_json::Machine;
 use lw_mealy::Mealy;
 use lw_names::OutNames;
 use lw_outside::{Files, Sink};
-use lw_report::{End, Outcome, learn_outcome, refuse, say};
+use lw_report::{End, Outcome, Said, UNSAID, learn_outcome, refuse, say};
 use lw_rounds::{LearnStop, Learned};
 use lw_words::{Kept, Names, NoMemory};
 use lw_workers::LearningOutcome;
@@ -166,7 +166,7 @@ fn leave_model<E: Sink>(
         (E.state err.new).taken }
     ensures counts { (E.state err.old).faults ≤ (E.state err.new).faults }
 {
-    let outcome = say(alloc, Outcome::NoMemory, None, None, &kept, extra, err);
+    let outcome = say(alloc, Outcome::NoMemory, UNSAID, &kept, extra, err);
     End::with_model(outcome, learned, kept, outputs)
 }
 
@@ -264,27 +264,19 @@ fn end_stop<E: Sink>(
     match texts {
         Ok(texts) => {
             let outcome = saved.outcome(learn_outcome(stop));
-            refuse(
-                alloc,
-                outcome,
+            let said = Said {
                 inputs,
-                texts.as_ref(),
-                kept,
-                outputs,
-                extra,
-                err,
-            )
+                outputs: texts.as_ref(),
+            };
+            refuse(alloc, outcome, said, kept, outputs, extra, err)
         }
-        Err(NoMemory) => refuse(
-            alloc,
-            Outcome::NoMemory,
-            inputs,
-            None,
-            kept,
-            outputs,
-            extra,
-            err,
-        ),
+        Err(NoMemory) => {
+            let said = Said {
+                inputs,
+                outputs: None,
+            };
+            refuse(alloc, Outcome::NoMemory, said, kept, outputs, extra, err)
+        }
     }
 }
 

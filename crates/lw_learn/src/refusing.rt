@@ -17,7 +17,7 @@ use crate::task::System;
 use crate::{LearnArguments, Saved};
 use lw_names::OutNames;
 use lw_outside::{Files, Sink};
-use lw_report::{End, Outcome, refuse};
+use lw_report::{End, Outcome, Said, UNSAID, refuse};
 use lw_words::{Kept, Names, NoMemory};
 use std::alloc::Global;
 
@@ -81,11 +81,15 @@ fn end_bare<E: Sink>(
     ensures counts { (E.state err.old).faults ≤ (E.state err.new).faults }
 {
     let Ok(outputs) = read_names(alloc, &system) else {
-        return refuse(alloc, Outcome::NoMemory, None, None, kept, None, extra, err);
+        return refuse(alloc, Outcome::NoMemory, UNSAID, kept, None, extra, err);
     };
     let inputs = letters_read(&system);
     let names = outputs_read(&system);
-    refuse(alloc, outcome, inputs, names, kept, outputs, extra, err)
+    let said = Said {
+        inputs,
+        outputs: names,
+    };
+    refuse(alloc, outcome, said, kept, outputs, extra, err)
 }
 
 /// Saves the prior answers of a system that was read.
@@ -161,16 +165,8 @@ fn end_kept<F: Files, E: Sink>(
     let inputs = letters_read(&system);
     let outputs = outputs_read(&system);
     let extra = arguments.extra();
-    refuse(
-        alloc,
-        outcome,
-        inputs,
-        outputs,
-        kept,
-        Some(names),
-        extra,
-        err,
-    )
+    let said = Said { inputs, outputs };
+    refuse(alloc, outcome, said, kept, Some(names), extra, err)
 }
 
 /// Ends a call that began no learning, with what it kept of prior answers, once that was saved.

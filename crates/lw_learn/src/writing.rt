@@ -20,7 +20,7 @@ use crate::{LearnArguments, Saved};
 use lw_json::{Machine, answers_text, machine_text};
 use lw_names::OutNames;
 use lw_outside::{Failed, Files, Sink};
-use lw_report::{Outcome, Role, TellStop, put_all, say, text, write_file};
+use lw_report::{Outcome, Role, Said, TellStop, put_all, say, text, write_file};
 use lw_rounds::Learner;
 use lw_words::{Kept, NoMemory};
 use std::alloc::Global;
@@ -352,14 +352,13 @@ pub(crate) fn tell_model<F: Files, O: Sink, E: Sink>(
 {
     match write_model(alloc, arguments, model, refinements, files, out, err) {
         Ok(outcome) => outcome,
-        Err(stop) => say(
-            alloc,
-            Outcome::from(stop),
-            Some(&model.machine.inputs),
-            Some(&model.machine.outputs),
-            &model.kept,
-            arguments.extra(),
-            err,
-        ),
+        Err(stop) => {
+            let said = Said {
+                inputs: Some(&model.machine.inputs),
+                outputs: Some(&model.machine.outputs),
+            };
+            let extra = arguments.extra();
+            say(alloc, Outcome::from(stop), said, &model.kept, extra, err)
+        }
     }
 }

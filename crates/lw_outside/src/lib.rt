@@ -18,6 +18,7 @@ mod script;
 mod served;
 mod streams;
 mod transcript;
+mod world;
 
 pub use answer_line::AnswerLine;
 pub use files::{Files, FilesStop, LONGEST_FILE, WriteStop};
@@ -31,3 +32,4 @@ pub use memory_spawner::MemorySpawner;
 pub use player::{Player, Reply};
 pub use streams::{Failed, Sink, Source};
 pub use transcript::{Bytes, Transcript};
+pub use world::World;

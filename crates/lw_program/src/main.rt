@@ -9,6 +9,7 @@ use adapters::{Input, RealFiles, Stream};
 use children::RealSpawner;
 use log::RealLog;
 use lw_log::Log;
+use lw_outside::World;
 use lw_top::{run, without_arguments};
 use std::alloc::Global;
 use std::io::ErrorKind;
@@ -38,21 +39,17 @@ fn main(rt: HostRuntime) -> ExitCode {
     // What is opened takes the least number that is free. Where standard streams are closed the folder takes theirs, so that no
     // file and no pipe does, and they fail as closed ones do.
     let _streams = (root_folder(&rt), root_folder(&rt), root_folder(&rt));
-    let mut out = Stream::new(rt.stdout());
-    let mut err = Stream::new(rt.stderr());
+    let mut world = World {
+        files: RealFiles::new(rt),
+        spawner: RealSpawner::new(rt),
+        input: Input::new(rt.stdin()),
+        out: Stream::new(rt.stdout()),
+        err: Stream::new(rt.stderr()),
+        log: Log::new(alloc, RealLog::new(rt)),
+    };
     let end = match arguments(&rt) {
-        Ok(arguments) => run(
-            rt,
-            alloc,
-            &arguments,
-            &mut RealFiles::new(rt),
-            &mut RealSpawner::new(rt),
-            &mut Input::new(rt.stdin()),
-            &mut out,
-            &mut err,
-            &mut Log::new(alloc, RealLog::new(rt)),
-        ),
-        Err(_) => without_arguments(alloc, &mut err),
+        Ok(arguments) => run(rt, alloc, &arguments, &mut world),
+        Err(_) => without_arguments(alloc, &mut world.err),
     };
     ExitCode::from(end.status)
 }

@@ -12,7 +12,7 @@ ghost use Rattle.lw_report.specs.declared.stops.TellStop.{TellStop as Stop};
 ghost use Rattle.lw_recheck.specs.Ending.{EndsSame, IsBare, IsEnd, IsTold};
 
 use lw_outside::Sink;
-use lw_report::{End, Outcome, TellStop, put_all, refuse, text};
+use lw_report::{End, Outcome, Said, TellStop, UNSAID, put_all, refuse, text};
 use lw_words::{Kept, Names};
 use std::alloc::Global;
 
@@ -63,7 +63,7 @@ fn end_same<O: Sink, E: Sink>(
 {
     match put_same(alloc, answers, inputs, &kept, out) {
         Ok(()) => End::new(Outcome::Rechecked { answers }, kept, None),
-        Err(stop) => refuse(alloc, Outcome::from(stop), None, None, kept, None, 0, err),
+        Err(stop) => refuse(alloc, Outcome::from(stop), UNSAID, kept, None, 0, err),
     }
 }
 
@@ -85,7 +85,8 @@ pub(crate) fn end_refused<E: Sink>(
         (E.state err.new) result }
     ensures counts { (E.state err.old).faults ≤ (E.state err.new).faults }
 {
-    refuse(alloc, outcome, inputs, outputs, kept, None, 0, err)
+    let said = Said { inputs, outputs };
+    refuse(alloc, outcome, said, kept, None, 0, err)
 }
 
 /// What came of asking a system again: the answers that are kept, the names of their outputs, where it was asked, and what it

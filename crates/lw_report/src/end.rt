@@ -6,12 +6,12 @@ ghost use Rattle.lw_report.specs.Ends.{IsWithoutLearner};
 ghost use Rattle.lw_report.specs.Outcomes.{StandsOrWants, status_of};
 ghost use Rattle.lw_report.specs.Writing.{TakesAll, TakesSome, said_text};
 
-use crate::{Outcome, say, status};
+use crate::{Outcome, Said, say, status};
 use lw_mealy::Mealy;
 use lw_names::OutNames;
 use lw_outside::Sink;
 use lw_rounds::{Learned, Learner};
-use lw_words::{Kept, Names};
+use lw_words::Kept;
 use std::alloc::Global;
 
 /// The end of a call of the program: what it came to with its exit status; the model where there is one, also where a later
@@ -83,8 +83,7 @@ impl End {
 pub fn refuse<E: Sink>(
     alloc: Global,
     outcome: Outcome,
-    inputs: Option<&Names>,
-    outputs: Option<&Names>,
+    said: Said,
     kept: Kept,
     named: Option<OutNames>,
     extra: u8,
@@ -97,14 +96,14 @@ pub fn refuse<E: Sink>(
     ensures kept { result.kept ≡ kept }
     ensures named { result.outputs ≡ named }
     ensures said { ¬ CountedFault (E.state err.old).faults (E.state err.new).faults →
-        TakesAll (said_text (option_map (λ n. n.now) inputs.entry)
-        (option_map (λ n. n.now) outputs.entry) kept.answers extra result.outcome)
+        TakesAll (said_text (option_map (λ n. n.now) said.entry.inputs)
+        (option_map (λ n. n.now) said.entry.outputs) kept.answers extra result.outcome)
         (E.state err.old).taken (E.state err.new).taken }
-    ensures part { TakesSome (said_text (option_map (λ n. n.now) inputs.entry)
-        (option_map (λ n. n.now) outputs.entry) kept.answers extra result.outcome)
+    ensures part { TakesSome (said_text (option_map (λ n. n.now) said.entry.inputs)
+        (option_map (λ n. n.now) said.entry.outputs) kept.answers extra result.outcome)
         (E.state err.old).taken (E.state err.new).taken }
     ensures counts { (E.state err.old).faults ≤ (E.state err.new).faults }
 {
-    let outcome = say(alloc, outcome, inputs, outputs, &kept, extra, err);
+    let outcome = say(alloc, outcome, said, &kept, extra, err);
     End::new(outcome, kept, named)
 }

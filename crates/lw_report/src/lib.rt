@@ -24,4 +24,4 @@ pub use reading::{
 pub use role::Role;
 pub use stops::{ReadStop, TellStop, learn_outcome};
 pub use texts::{outcome_text, text};
-pub use writing::{put_all, put_report, say, write_file};
+pub use writing::{Said, UNSAID, put_all, put_report, say, write_file};

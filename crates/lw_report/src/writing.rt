@@ -57,24 +57,36 @@ fn put_text<K: Sink>(sink: &mut K, text: &str)
     let _refused = put_all(sink, text.as_bytes()).is_err();
 }
 
+/// The names of letters and of outputs that a file has said, where one has.
+#[derive(Clone, Copy)]
+pub struct Said<'a> {
+    pub inputs: Option<&'a Names>,
+    pub outputs: Option<&'a Names>,
+}
+
+/// What is said where no file was read.
+pub const UNSAID: Said<'static> = Said {
+    inputs: None,
+    outputs: None,
+};
+
 /// Puts the text of an outcome to `err`, with the names that a file has said, if any. Where making the text takes more memory
 /// than there is, that is the outcome, and its text is put.
 pub fn say<E: Sink>(
     alloc: Global,
     outcome: Outcome,
-    inputs: Option<&Names>,
-    outputs: Option<&Names>,
+    said: Said,
     kept: &Kept,
     extra: u8,
     err: &mut E,
 ) -> Outcome
     ensures outcome { StandsOrWants outcome result }
     ensures said { ¬ CountedFault (E.state err.old).faults (E.state err.new).faults →
-        TakesAll (said_text (option_map (λ n. n.now) inputs.entry)
-        (option_map (λ n. n.now) outputs.entry) kept.now.answers extra result)
+        TakesAll (said_text (option_map (λ n. n.now) said.entry.inputs)
+        (option_map (λ n. n.now) said.entry.outputs) kept.now.answers extra result)
         (E.state err.old).taken (E.state err.new).taken }
-    ensures part { TakesSome (said_text (option_map (λ n. n.now) inputs.entry)
-        (option_map (λ n. n.now) outputs.entry) kept.now.answers extra result)
+    ensures part { TakesSome (said_text (option_map (λ n. n.now) said.entry.inputs)
+        (option_map (λ n. n.now) said.entry.outputs) kept.now.answers extra result)
         (E.state err.old).taken (E.state err.new).taken }
     ensures counts { (E.state err.old).faults ≤ (E.state err.new).faults }
 {
@@ -82,7 +94,7 @@ pub fn say<E: Sink>(
         put_text(err, text);
         return outcome;
     }
-    match outcome_text(alloc, &outcome, inputs, outputs, kept, extra) {
+    match outcome_text(alloc, &outcome, said.inputs, said.outputs, kept, extra) {
         Ok(text) => {
             put_text(err, text.as_str());
             outcome

@@ -13,7 +13,7 @@ ghost use Rattle.lw_serve.specs.bodies.Served.{HasServed};
 use lw_json::Machine;
 use lw_line::{ServeFault, Served};
 use lw_outside::{Files, Sink, Source};
-use lw_report::{End, Outcome, ReadStop, Role, read_machine_file, refuse};
+use lw_report::{End, Outcome, ReadStop, Role, UNSAID, read_machine_file, refuse};
 use lw_words::Kept;
 use std::alloc::Global;
 
@@ -47,8 +47,7 @@ fn refuse_model<E: Sink>(alloc: Global, stop: ReadStop, err: &mut E) -> End
     refuse(
         alloc,
         stop.outcome(Role::Model),
-        None,
-        None,
+        UNSAID,
         Kept::new(alloc),
         None,
         0,
@@ -85,8 +84,7 @@ fn play<I: Source, O: Sink, E: Sink>(
     refuse(
         alloc,
         played_outcome(served),
-        None,
-        None,
+        UNSAID,
         Kept::new(alloc),
         None,
         0,

@@ -29,7 +29,7 @@ use Rattle.lw_top.specs.RecheckCommand.{recheck_values}
 use Rattle.lw_top.specs.ServeCommand.{serve_values}
 use Rattle.lw_top.specs.TrialCommand.{trial_values}
 use Rattle.lw_top.specs.Run.{Runs, TellsOutcome, argument_outcome}
-use Rattle.lw_top.specs.World.{world}
+use Rattle.lw_top.specs.World.{states}
 use Rattle.lw_top.proofs.AskLemmas.{wanted_ask}
 use Rattle.lw_top.proofs.CheckLemmas.{wanted_check}
 use Rattle.lw_top.proofs.CompareLemmas.{wanted_compare}
@@ -126,7 +126,7 @@ names_learn (w ∷ ws) a is unnamed =
 
 -- where memory ran out while the arguments were read, the call came to an end that each command may come to
 module _ (f : FilesState) (b : SpawnerState) (i : SourceState) (o e d : SinkState) (l s : LogState) (end : End) (ended : TellsOutcome e d end) where
-  pub wanted : (call : Option CallValues) → end.outcome ≡ NoMemory → ((c : CallValues) → call ≡ Some c → IsOther c → s ≡ l) → Runs call (world f b i o e l) (world f b i o d s) end
+  pub wanted : (call : Option CallValues) → end.outcome ≡ NoMemory → ((c : CallValues) → call ≡ Some c → IsOther c → s ≡ l) → Runs call (states f b i o e l) (states f b i o d s) end
   wanted None out same = record { outcome = inr out; files = refl; spawner = refl; input = refl; out = refl; ended = ended }
   wanted (Some (Learn a)) out same = record { ran = wanted_run a f b o e d s end out ended; input = refl }
   wanted (Some (Check a)) out same = record { ran = wanted_check a.model a.answers a.extra f o e d end out ended; spawner = refl; input = refl; log = same (Check a) refl tt }
@@ -138,6 +138,6 @@ module _ (f : FilesState) (b : SpawnerState) (i : SourceState) (o e d : SinkStat
 
   -- by why the arguments weren't taken
   pub refused : (reason : ArgumentStop) (call : Option CallValues) → end.outcome ≡ argument_outcome reason → (reason ≡ stop.Usage → call ≡ None) → ((c : CallValues) → call ≡ Some c → IsOther c → s ≡ l)
-      → Runs call (world f b i o e l) (world f b i o d s) end
-  refused stop.Usage call is none same = subst (λ (c : Option CallValues). Runs c (world f b i o e l) (world f b i o d s) end) (sym (none refl)) (record { outcome = inl is; files = refl; spawner = refl; input = refl; out = refl; ended = ended })
+      → Runs call (states f b i o e l) (states f b i o d s) end
+  refused stop.Usage call is none same = subst (λ (c : Option CallValues). Runs c (states f b i o e l) (states f b i o d s) end) (sym (none refl)) (record { outcome = inl is; files = refl; spawner = refl; input = refl; out = refl; ended = ended })
   refused stop.NoMemory call is none same = wanted call is same

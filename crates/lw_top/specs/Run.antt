@@ -23,7 +23,7 @@ use Rattle.lw_trial.specs.TrialRun.{IsTrialRun}
 use Rattle.lw_top.specs.Call.{CallValues, Learn, Check, Trial, Serve, Ask, Compare, Recheck, call_of}
 use Rattle.lw_top.specs.CheckCommand.{CheckValues}
 use Rattle.lw_top.specs.FilePairs.{PairValues}
-use Rattle.lw_top.specs.World.{World, CountsOn}
+use Rattle.lw_top.specs.World.{WorldState, CountsOn}
 use Rattle.lw_top.specs.declared.values.ArgumentStop.{ArgumentStop}
 use Rattle.lw_top.specs.declared.values.ArgumentStop.TheVariants as stop
 
@@ -43,7 +43,7 @@ pub record TellsOutcome (before now : SinkState) (end : End) : Type 0 where
   pub part : TakesSome (said_text None None [] 0 end.outcome) before.taken now.taken
 
 -- arguments were not taken: nothing was read, started, asked for, written or put but the outcome's text to `err`
-pub record ArgumentsAreRefused (before now : World) (end : End) : Type 0 where
+pub record ArgumentsAreRefused (before now : WorldState) (end : End) : Type 0 where
   pub outcome : (end.outcome ≡ Usage) ⊎ (end.outcome ≡ NoMemory)
   pub files : now.files ≡ before.files
   pub spawner : now.spawner ≡ before.spawner
@@ -52,50 +52,50 @@ pub record ArgumentsAreRefused (before now : World) (end : End) : Type 0 where
   pub ended : TellsOutcome before.err now.err end
 
 -- why no child was started, where that is the outcome, is what the spawner tells
-abbrev pub TellsCause : World → Outcome → Type 0
+abbrev pub TellsCause : WorldState → Outcome → Type 0
 TellsCause now outcome = (cause : StartFailure) → outcome ≡ Unstarted cause → cause ≡ now.spawner.cause
 
 -- what each command did, and what it didn't touch
-pub record RunsLearn (arguments : LearnValues) (before now : World) (end : End) : Type 0 where
+pub record RunsLearn (arguments : LearnValues) (before now : WorldState) (end : End) : Type 0 where
   pub ran : IsLearnRun arguments before.files now.files before.spawner now.spawner
       before.out now.out before.err now.err now.log end
   pub input : now.input ≡ before.input
 
-pub record RunsCheck (arguments : CheckValues) (before now : World) (end : End) : Type 0 where
+pub record RunsCheck (arguments : CheckValues) (before now : WorldState) (end : End) : Type 0 where
   pub ran : IsCheckRun arguments.model arguments.answers arguments.extra before.files now.files
       before.out now.out before.err now.err end
   pub spawner : now.spawner ≡ before.spawner
   pub input : now.input ≡ before.input
   pub log : now.log ≡ before.log
 
-pub record RunsTrial (arguments : TrialValues) (before now : World) (end : End) : Type 0 where
+pub record RunsTrial (arguments : TrialValues) (before now : WorldState) (end : End) : Type 0 where
   pub ran : IsTrialRun arguments before.out now.out before.err now.err end
   pub files : now.files ≡ before.files
   pub spawner : now.spawner ≡ before.spawner
   pub input : now.input ≡ before.input
   pub log : now.log ≡ before.log
 
-pub record RunsServe (model : List ℕ) (before now : World) (end : End) : Type 0 where
+pub record RunsServe (model : List ℕ) (before now : WorldState) (end : End) : Type 0 where
   pub ran : IsServeRun model before.files now.files before.input now.input before.out now.out
       before.err now.err end
   pub spawner : now.spawner ≡ before.spawner
   pub log : now.log ≡ before.log
 
-pub record RunsAsk (arguments : AskValues) (before now : World) (end : End) : Type 0 where
+pub record RunsAsk (arguments : AskValues) (before now : WorldState) (end : End) : Type 0 where
   pub ran : IsAskRun arguments before.files now.files before.spawner now.spawner
       before.out now.out before.err now.err end
   pub cause : TellsCause now end.outcome
   pub input : now.input ≡ before.input
   pub log : now.log ≡ before.log
 
-pub record RunsCompare (models : PairValues) (before now : World) (end : End) : Type 0 where
+pub record RunsCompare (models : PairValues) (before now : WorldState) (end : End) : Type 0 where
   pub ran : IsCompareRun models.first models.second before.files now.files before.out now.out
       before.err now.err end
   pub spawner : now.spawner ≡ before.spawner
   pub input : now.input ≡ before.input
   pub log : now.log ≡ before.log
 
-pub record RunsRecheck (arguments : RecheckValues) (before now : World) (end : End) : Type 0 where
+pub record RunsRecheck (arguments : RecheckValues) (before now : WorldState) (end : End) : Type 0 where
   pub ran : IsRecheckRun arguments before.files now.files before.spawner now.spawner
       before.out now.out before.err now.err end
   pub cause : TellsCause now end.outcome
@@ -103,7 +103,7 @@ pub record RunsRecheck (arguments : RecheckValues) (before now : World) (end : E
   pub log : now.log ≡ before.log
 
 -- by the call that the arguments make
-abbrev pub Runs : Option CallValues → World → World → End → Type 0
+abbrev pub Runs : Option CallValues → WorldState → WorldState → End → Type 0
 Runs None before now end = ArgumentsAreRefused before now end
 Runs (Some (Learn arguments)) before now end = RunsLearn arguments before now end
 Runs (Some (Check arguments)) before now end = RunsCheck arguments before now end
@@ -114,7 +114,7 @@ Runs (Some (Compare models)) before now end = RunsCompare models before now end
 Runs (Some (Recheck arguments)) before now end = RunsRecheck arguments before now end
 
 -- a call of the program with these arguments
-pub record IsRun (words : List (List ℕ)) (before now : World) (end : End) : Type 0 where
+pub record IsRun (words : List (List ℕ)) (before now : WorldState) (end : End) : Type 0 where
   pub status : end.status ≡ status_of end.outcome
   pub ran : Runs (call_of words) before now end
   -- the usage exactly where no command takes the arguments, but that memory may run out

@@ -4,7 +4,7 @@ ghost use Rattle.lw_report.specs.Outcomes.{status_of};
 ghost use Rattle.lw_report.specs.declared.outcome.Outcome.{Outcome as Came};
 ghost use Rattle.lw_top.specs.CommandLine.{is_command, texts};
 ghost use Rattle.lw_top.specs.Run.{IsRun, TellsOutcome, argument_outcome};
-ghost use Rattle.lw_top.specs.World.{world};
+ghost use Rattle.lw_top.specs.World.{seen};
 
 use crate::ArgumentStop;
 use crate::call::{Call, read_call};
@@ -14,9 +14,9 @@ use lw_check::check;
 use lw_compare::compare;
 use lw_learn::learn;
 use lw_log::Log;
-use lw_outside::{Files, LogFile, Sink, Source, Spawner};
+use lw_outside::{Files, LogFile, Sink, Source, Spawner, World};
 use lw_recheck::recheck;
-use lw_report::{End, Outcome, refuse};
+use lw_report::{End, Outcome, UNSAID, refuse};
 use lw_serve::serve;
 use lw_trial::trial;
 use lw_words::Kept;
@@ -34,8 +34,7 @@ fn refuse_arguments<E: Sink>(alloc: Global, stop: ArgumentStop, err: &mut E) -> 
     refuse(
         alloc,
         Outcome::from(stop),
-        None,
-        None,
+        UNSAID,
         Kept::new(alloc),
         None,
         0,
@@ -64,33 +63,30 @@ pub fn run<
     O: Sink,
     E: Sink,
     L: LogFile,
->(
-    rt: R,
-    alloc: Global,
-    arguments: &[String],
-    files: &mut F,
-    spawner: &mut P,
-    input: &mut I,
-    out: &mut O,
-    err: &mut E,
-    log: &mut Log<L>,
-) -> End
-    ensures ran { IsRun (texts arguments.now) (world (F.state files.old) (P.state spawner.old)
-        (I.state input.old) (O.state out.old) (E.state err.old) log.old.state)
-        (world (F.state files.new) (P.state spawner.new) (I.state input.new) (O.state out.new)
-        (E.state err.new) log.new.state) result }
+>(rt: R, alloc: Global, arguments: &[String], world: &mut World<F, P, I, O, E, Log<L>>) -> End
+    ensures ran { IsRun (texts arguments.now)
+        (seen F.state P.state I.state O.state E.state (λ l. l.state) world.old)
+        (seen F.state P.state I.state O.state E.state (λ l. l.state) world.new) result }
     ensures unlogged { is_command (codes "learn") (texts arguments.now) ≡ false →
-        log.new ≡ log.old }
+        world.new.log ≡ world.old.log }
 {
     let call = match read_call(alloc, arguments) {
         Ok(call) => call,
         Err(stop) => {
-            log_refused(alloc, arguments, stop, log);
-            return refuse_arguments(alloc, stop, err);
+            log_refused(alloc, arguments, stop, &mut world.log);
+            return refuse_arguments(alloc, stop, &mut world.err);
         }
     };
+    let World {
+        files,
+        spawner,
+        input,
+        out,
+        err,
+        log: _,
+    } = world;
     match call {
-        Call::Learn(values) => learn(rt, alloc, &values, files, spawner, out, err, log),
+        Call::Learn(values) => learn(rt, alloc, &values, world),
         Call::Check(values) => {
             let (model, answers) = (values.model(), values.answers());
             check(alloc, model, answers, values.extra(), files, out, err)

@@ -11,7 +11,7 @@ mod trials;
 mod two_at_once;
 
 use crate::tests::cases::{
-    Case, LEARN, ONE, PLAIN, World, call, check, check_over, end_of, file_of, files_of, sink,
+    Case, LEARN, ONE, PLAIN, Shell, call, check, check_over, end_of, file_of, files_of, sink,
     stands,
 };
 use lw_outside::MemoryFiles;
@@ -179,9 +179,9 @@ fn leaves<R: Abort + Threads + Wait + Sync + Copy + Drop>(
     written: &[(&str, &str)],
 ) -> bool {
     let files = files_of(rt, alloc, ONE, case.file_plan);
-    let mut world = World::new(rt, alloc, case.arguments, files);
-    check_over(rt, alloc, case, &mut world);
-    all_stand(&world.files, written)
+    let mut shell = Shell::new(rt, alloc, case.arguments, files);
+    check_over(rt, alloc, case, &mut shell);
+    all_stand(&shell.world.files, written)
 }
 
 /// A call that names one file twice: the later write stands.
@@ -228,9 +228,9 @@ fn ends_with<R: Abort + Threads + Wait + Sync + Copy + Drop>(
     status: u8,
     said: &str,
 ) -> bool {
-    let mut world = World::new(rt, alloc, &LEARN, padded(rt, alloc, bytes));
-    let end = call(rt, alloc, &mut world);
-    end.status == status && world.err.taken() == said.as_bytes()
+    let mut shell = Shell::new(rt, alloc, &LEARN, padded(rt, alloc, bytes));
+    let end = call(rt, alloc, &mut shell);
+    end.status == status && shell.world.err.taken() == said.as_bytes()
 }
 
 #[test]
@@ -268,9 +268,9 @@ static CHECKS: [Case; 3] = [
 #[test]
 fn check_of_what_was_learned(rt: HostRuntime) {
     let alloc = rt.alloc();
-    let mut world = World::new(&rt, alloc, &LEARN, files_of(&rt, alloc, ONE, &[]));
-    check_over(&rt, alloc, &WRITES, &mut world);
+    let mut shell = Shell::new(&rt, alloc, &LEARN, files_of(&rt, alloc, ONE, &[]));
+    check_over(&rt, alloc, &WRITES, &mut shell);
     for case in &CHECKS {
-        check_over(&rt, alloc, case, &mut world);
+        check_over(&rt, alloc, case, &mut shell);
     }
 }

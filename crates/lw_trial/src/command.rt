@@ -15,7 +15,7 @@ use lw_cache::Cache;
 use lw_mealy::Mealy;
 use lw_names::OutNames;
 use lw_outside::Sink;
-use lw_report::{End, Outcome, learn_outcome, refuse, say};
+use lw_report::{End, Outcome, UNSAID, learn_outcome, refuse, say};
 use lw_rounds::{Learned, Settings, Unwatched};
 use lw_words::{Kept, Names, NoMemory, Words};
 use lw_workers::{LearningOutcome, Start, learn_machine};
@@ -114,7 +114,7 @@ fn report<O: Sink, E: Sink>(
     ) {
         Ok(tried) => End::with_model(Outcome::Trial(tried), learned, kept, Some(names)),
         Err(stop) => {
-            let outcome = say(alloc, Outcome::from(stop), None, None, &kept, EXTRA, err);
+            let outcome = say(alloc, Outcome::from(stop), UNSAID, &kept, EXTRA, err);
             End::with_model(outcome, learned, kept, Some(names))
         }
     }
@@ -176,7 +176,7 @@ fn learn<R: Threads + Wait + Sync + Drop, O: Sink, E: Sink>(
         }
         Err(stop) => {
             let outcome = learn_outcome(stop);
-            refuse(alloc, outcome, None, None, kept, Some(names), EXTRA, err)
+            refuse(alloc, outcome, UNSAID, kept, Some(names), EXTRA, err)
         }
     }
 }
@@ -202,8 +202,7 @@ pub fn trial<R: Threads + Wait + Sync + Drop, O: Sink, E: Sink>(
         Err(NoMemory) => refuse(
             alloc,
             Outcome::NoMemory,
-            None,
-            None,
+            UNSAID,
             Kept::new(alloc),
             None,
             EXTRA,

@@ -4,7 +4,7 @@ ghost use Rattle.std.specs.Prelude.{◌≤◌};
 use crate::tests::memory::string;
 use lw_learn::{LearnArguments, Source, bad_is_refused, learn, told_is_learned};
 use lw_log::{Log, MemoryLog};
-use lw_outside::{MemoryFiles, MemorySink, MemorySpawner};
+use lw_outside::{MemoryFiles, MemorySink, MemorySpawner, World};
 use lw_report::{End, Outcome};
 use lw_rounds::{Kind, Learner};
 use std::alloc::Global;
@@ -21,32 +21,24 @@ const TWO: &str =
 /// A child with one letter, whose outputs aren't declared.
 const CHILD: &str = "{\"command\":[\"child\"],\"inputs\":[\"t\"]}";
 
-/// All that a call is handed.
-#[derive(Drop)]
-struct Outside {
+/// What a call is over, in memory. No call reads an input.
+type Outside = World<MemoryFiles, MemorySpawner, (), MemorySink, MemorySink, Log<MemoryLog>>;
+
+/// These files, children and log, and two empty streams.
+fn outside_of(
+    rt: &impl Abort,
+    alloc: Global,
     files: MemoryFiles,
     children: MemorySpawner,
-    out: MemorySink,
-    err: MemorySink,
-    log: Log<MemoryLog>,
-}
-
-impl Outside {
-    /// These files, children and log, and two empty streams.
-    fn new(
-        rt: &impl Abort,
-        alloc: Global,
-        files: MemoryFiles,
-        children: MemorySpawner,
-        log: MemoryLog,
-    ) -> Outside {
-        Outside {
-            files,
-            children,
-            out: sink(rt, alloc),
-            err: sink(rt, alloc),
-            log: Log::new(alloc, log),
-        }
+    log: MemoryLog,
+) -> Outside {
+    World {
+        files,
+        spawner: children,
+        input: (),
+        out: sink(rt, alloc),
+        err: sink(rt, alloc),
+        log: Log::new(alloc, log),
     }
 }
 
@@ -157,16 +149,7 @@ fn end<R: Threads + Wait + Sync + Drop>(
     arguments: &LearnArguments,
     outside: &mut Outside,
 ) -> End {
-    learn(
-        rt,
-        alloc,
-        arguments,
-        &mut outside.files,
-        &mut outside.children,
-        &mut outside.out,
-        &mut outside.err,
-        &mut outside.log,
-    )
+    learn(rt, alloc, arguments, outside)
 }
 
 /// The same, and the end is let go: a proof of what owns it beside all that a call is handed would be a long one.
@@ -197,14 +180,14 @@ fn check_text(rt: &impl Abort, sink: &MemorySink, text: &str) {
 fn with_table(rt: &impl Abort, alloc: Global) -> Outside {
     let files = files_of(rt, alloc, TWO);
     let children = no_children(rt, alloc);
-    Outside::new(rt, alloc, files, children, MemoryLog::new(alloc))
+    outside_of(rt, alloc, files, children, MemoryLog::new(alloc))
 }
 
 /// The setup `m`, and a child that says what is listed.
 fn with_child(rt: &impl Abort, alloc: Global, script: &str) -> Outside {
     let files = files_of(rt, alloc, CHILD);
     let children = speaker(rt, alloc, script, &[]);
-    Outside::new(rt, alloc, files, children, MemoryLog::new(alloc))
+    outside_of(rt, alloc, files, children, MemoryLog::new(alloc))
 }
 
 /// What a learning of `m` comes to at a limit of states.
@@ -269,7 +252,7 @@ fn a_child_is_learned(rt: HostRuntime) {
     let mut outside = with_child(&rt, rt.alloc(), "ready\nout z\nout z\n");
     let end = told(rt, rt.alloc(), &mut outside);
     assert!(rt; end.came == Came::Learned && end.has_outputs && end.kept == 1);
-    assert!(rt; outside.children.retired().len() == 1);
+    assert!(rt; outside.spawner.retired().len() == 1);
     let model = "{\"inputs\":[\"t\"],\"outputs\":[\"z\"],\"states\":[[[0,\"z\"]]]}\n";
     check_text(&rt, &outside.out, model);
 }
@@ -279,7 +262,7 @@ fn a_child_ends_early(rt: HostRuntime) {
     let mut outside = with_child(&rt, rt.alloc(), "ready\nout z\n");
     let end = told(rt, rt.alloc(), &mut outside);
     assert!(rt; end.came == Came::Gone && !end.has_model && !end.has_outputs);
-    assert!(rt; outside.children.retired().len() == 1);
+    assert!(rt; outside.spawner.retired().len() == 1);
     check_text(&rt, &outside.err, "system ended: instance 0\n");
 }
 

@@ -3,8 +3,8 @@ use lw_json::{Field, JsonFault};
 use lw_mealy::MealyFault;
 use lw_outside::{MemoryFiles, MemorySink};
 use lw_report::{
-    End, Outcome, ReadStop, Role, TellStop, put_report, read_answers_file, read_machine_file,
-    read_setup_file, refuse, text, write_file,
+    End, Outcome, ReadStop, Role, TellStop, UNSAID, put_report, read_answers_file,
+    read_machine_file, read_setup_file, refuse, text, write_file,
 };
 use lw_words::{Kept, Names, NamesFault, Word, Words};
 use std::alloc::Global;
@@ -140,7 +140,7 @@ fn tells_fault(rt: &impl Abort, alloc: Global, sink: &mut MemorySink) -> bool {
 /// The status after a model is refused, which isn't JSON.
 fn refusal(alloc: Global, sink: &mut MemorySink) -> u8 {
     let stop = ReadStop::Bad(JsonFault::NotJson).outcome(Role::Model);
-    let End { status, .. } = refuse(alloc, stop, None, None, Kept::new(alloc), None, 1, sink);
+    let End { status, .. } = refuse(alloc, stop, UNSAID, Kept::new(alloc), None, 1, sink);
     status
 }
 

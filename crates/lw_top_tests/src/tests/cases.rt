@@ -2,7 +2,7 @@
 ghost use Rattle.std.specs.Prelude.{◌<◌};
 
 use lw_log::{Log, MemoryLog};
-use lw_outside::{MemoryFiles, MemorySink, MemorySource, MemorySpawner};
+use lw_outside::{MemoryFiles, MemorySink, MemorySource, MemorySpawner, World};
 use lw_report::End;
 use lw_top::run;
 use std::alloc::Global;
@@ -97,27 +97,41 @@ fn no_children(rt: &impl Abort, alloc: Global) -> MemorySpawner {
     MemorySpawner::scripted(alloc, scripts, 0, Vec::new(alloc), links).expect(rt, "memory")
 }
 
-/// What a call is over: its arguments, the files, the children and the streams, all in memory.
+/// A world in memory.
+type MemoryWorld = World<
+    MemoryFiles,
+    MemorySpawner,
+    MemorySource,
+    MemorySink,
+    MemorySink,
+    Log<MemoryLog>,
+>;
+
+/// What a call is over: its arguments and a world, in memory.
 #[derive(Drop)]
-pub struct World {
+pub struct Shell {
     pub arguments: Vec<String>,
-    pub files: MemoryFiles,
-    pub children: MemorySpawner,
-    pub input: MemorySource,
-    pub out: MemorySink,
-    pub err: MemorySink,
+    pub world: MemoryWorld,
 }
 
-impl World {
-    /// These arguments and files, with no child, an empty input, and streams that don't fail.
-    pub fn new(rt: &impl Abort, alloc: Global, arguments: &[&str], files: MemoryFiles) -> World {
-        World {
+/// A world with these files, no child, an empty input, and streams that don't fail.
+fn world_over(rt: &impl Abort, alloc: Global, files: MemoryFiles) -> MemoryWorld {
+    World {
+        files,
+        spawner: no_children(rt, alloc),
+        input: source(rt, alloc, "", &[]),
+        out: sink(rt, alloc, 4096, &[]),
+        err: sink(rt, alloc, 4096, &[]),
+        log: Log::new(alloc, MemoryLog::new(alloc)),
+    }
+}
+
+impl Shell {
+    /// These arguments over a world with these files.
+    pub fn new(rt: &impl Abort, alloc: Global, arguments: &[&str], files: MemoryFiles) -> Shell {
+        Shell {
             arguments: texts(rt, alloc, arguments),
-            files,
-            children: no_children(rt, alloc),
-            input: source(rt, alloc, "", &[]),
-            out: sink(rt, alloc, 4096, &[]),
-            err: sink(rt, alloc, 4096, &[]),
+            world: world_over(rt, alloc, files),
         }
     }
 
@@ -125,62 +139,51 @@ impl World {
     fn renew(&mut self, rt: &impl Abort, alloc: Global, case: &Case) {
         assert!(rt; case.piece > 0);
         self.arguments = texts(rt, alloc, case.arguments);
-        self.input = source(rt, alloc, case.input, case.input_plan);
-        self.out = sink(rt, alloc, case.piece, case.out_plan);
-        self.err = sink(rt, alloc, case.piece, case.err_plan);
+        self.world.input = source(rt, alloc, case.input, case.input_plan);
+        self.world.out = sink(rt, alloc, case.piece, case.out_plan);
+        self.world.err = sink(rt, alloc, case.piece, case.err_plan);
     }
 
     /// Checks what the streams took.
     pub fn check_streams(&self, rt: &impl Abort, out: &str, err: &str) {
-        assert_eq!(rt; self.out.taken(), out.as_bytes());
-        assert_eq!(rt; self.err.taken(), err.as_bytes());
+        assert_eq!(rt; self.world.out.taken(), out.as_bytes());
+        assert_eq!(rt; self.world.err.taken(), err.as_bytes());
     }
 }
 
-/// The top call over a world. What its contract says ends here: a test looks at what came.
+/// The top call over a shell. What its contract says ends here: a test looks at what came.
 pub fn call<R: Threads + Wait + Sync + Copy + Drop>(
     rt: &R,
     alloc: Global,
-    world: &mut World,
+    shell: &mut Shell,
 ) -> End {
-    let mut log = Log::new(alloc, MemoryLog::new(alloc));
-    run(
-        *rt,
-        alloc,
-        &world.arguments,
-        &mut world.files,
-        &mut world.children,
-        &mut world.input,
-        &mut world.out,
-        &mut world.err,
-        &mut log,
-    )
+    run(*rt, alloc, &shell.arguments, &mut shell.world)
 }
 
 /// The end of a call, which has this status and puts these texts to its streams.
 pub fn play<R: Abort + Threads + Wait + Sync + Copy + Drop>(
     rt: &R,
     alloc: Global,
-    world: &mut World,
+    shell: &mut Shell,
     status: u8,
     out: &str,
     err: &str,
 ) -> End {
-    let end = call(rt, alloc, world);
+    let end = call(rt, alloc, shell);
     assert_eq!(rt; end.status, status);
-    world.check_streams(rt, out, err);
+    shell.check_streams(rt, out, err);
     end
 }
 
-/// The end of a case over the files of this world.
+/// The end of a case over the files of this shell.
 fn end_over<R: Abort + Threads + Wait + Sync + Copy + Drop>(
     rt: &R,
     alloc: Global,
     case: &Case,
-    world: &mut World,
+    shell: &mut Shell,
 ) -> End {
-    world.renew(rt, alloc, case);
-    play(rt, alloc, world, case.status, case.out, case.err)
+    shell.renew(rt, alloc, case);
+    play(rt, alloc, shell, case.status, case.out, case.err)
 }
 
 /// The end of a case over its own file.
@@ -190,18 +193,18 @@ pub fn end_of<R: Abort + Threads + Wait + Sync + Copy + Drop>(
     case: &Case,
 ) -> End {
     let files = files_of(rt, alloc, case.file, case.file_plan);
-    let mut world = World::new(rt, alloc, case.arguments, files);
-    end_over(rt, alloc, case, &mut world)
+    let mut shell = Shell::new(rt, alloc, case.arguments, files);
+    end_over(rt, alloc, case, &mut shell)
 }
 
-/// Checks a case over the files of this world.
+/// Checks a case over the files of this shell.
 pub fn check_over<R: Abort + Threads + Wait + Sync + Copy + Drop>(
     rt: &R,
     alloc: Global,
     case: &Case,
-    world: &mut World,
+    shell: &mut Shell,
 ) {
-    let _end = end_over(rt, alloc, case, world);
+    let _end = end_over(rt, alloc, case, shell);
 }
 
 /// Checks a case over its own file.

@@ -1,7 +1,7 @@
 //! Children in memory that are learned, worked by hand: what they say, and faults at each call.
 ghost use Rattle.std.specs.Prelude.{◌<◌};
 
-use crate::tests::cases::{World, call, files_of, play, sink, source, texts};
+use crate::tests::cases::{Shell, call, files_of, play, sink, source, texts};
 use lw_json::read_machine;
 use lw_outside::{MemoryFiles, MemorySpawner};
 use lw_report::End;
@@ -129,17 +129,15 @@ fn spawner(rt: &impl Abort, alloc: Global, row: &Row) -> MemorySpawner {
     children.expect(rt, "memory")
 }
 
-/// The world of a row.
-fn world_of(rt: &impl Abort, alloc: Global, row: &Row) -> World {
+/// The shell of a row.
+fn shell_of(rt: &impl Abort, alloc: Global, row: &Row) -> Shell {
     assert!(rt; row.piece > 0);
-    World {
-        arguments: texts(rt, alloc, row.arguments),
-        files: files_of(rt, alloc, row.setup, row.file_plan),
-        children: spawner(rt, alloc, row),
-        input: source(rt, alloc, "", &[]),
-        out: sink(rt, alloc, row.piece, row.out_plan),
-        err: sink(rt, alloc, row.piece, row.err_plan),
-    }
+    let files = files_of(rt, alloc, row.setup, row.file_plan);
+    let mut shell = Shell::new(rt, alloc, row.arguments, files);
+    shell.world.spawner = spawner(rt, alloc, row);
+    shell.world.out = sink(rt, alloc, row.piece, row.out_plan);
+    shell.world.err = sink(rt, alloc, row.piece, row.err_plan);
+    shell
 }
 
 /// Whether the file `h` has these bytes, or isn't there where there are none.
@@ -151,15 +149,15 @@ fn has_model(files: &MemoryFiles, text: &str) -> bool {
 }
 
 /// Whether a call left the model file and the retired links of its row.
-fn is_left(world: &World, row: &Row) -> bool {
-    has_model(&world.files, row.model) && world.children.retired().len() == row.retired
+fn is_left(shell: &Shell, row: &Row) -> bool {
+    has_model(&shell.world.files, row.model) && shell.world.spawner.retired().len() == row.retired
 }
 
 /// Checks a call, and gives its end.
 fn check<R: Abort + Threads + Wait + Sync + Copy + Drop>(rt: &R, alloc: Global, row: &Row) -> End {
-    let mut world = world_of(rt, alloc, row);
-    let end = play(rt, alloc, &mut world, row.status, row.out, row.err);
-    assert!(rt; is_left(&world, row), "{}", row.err);
+    let mut shell = shell_of(rt, alloc, row);
+    let end = play(rt, alloc, &mut shell, row.status, row.out, row.err);
+    assert!(rt; is_left(&shell, row), "{}", row.err);
     end
 }
 
@@ -393,10 +391,10 @@ fn says<R: Abort + Threads + Wait + Sync + Copy + Drop>(
     script: &[u8],
     said: &[u8],
 ) -> bool {
-    let mut world = World::new(rt, alloc, &LEARN, files_of(rt, alloc, KID, &[]));
-    world.children = flooding(rt, alloc, script);
-    let end = call(rt, alloc, &mut world);
-    end.status == 6 && world.err.taken() == said
+    let mut shell = Shell::new(rt, alloc, &LEARN, files_of(rt, alloc, KID, &[]));
+    shell.world.spawner = flooding(rt, alloc, script);
+    let end = call(rt, alloc, &mut shell);
+    end.status == 6 && shell.world.err.taken() == said
 }
 
 /// The text about a bad line of so many times `x`.

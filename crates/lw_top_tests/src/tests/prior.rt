@@ -1,5 +1,5 @@
 //! Learnings behind earlier answers, worked by hand.
-use crate::tests::cases::{World, call, play, stands};
+use crate::tests::cases::{Shell, call, play, stands};
 use lw_outside::MemoryFiles;
 use std::alloc::Global;
 use std::process::Abort;
@@ -119,8 +119,8 @@ fn files(rt: &impl Abort, alloc: Global, prior: &str) -> MemoryFiles {
 
 /// Checks what comes of earlier answers.
 fn check<R: Abort + Threads + Wait + Sync + Copy + Drop>(rt: &R, alloc: Global, row: &Row) {
-    let mut world = World::new(rt, alloc, &LEARN, files(rt, alloc, row.prior));
-    let _end = play(rt, alloc, &mut world, row.status, row.out, row.err);
+    let mut shell = Shell::new(rt, alloc, &LEARN, files(rt, alloc, row.prior));
+    let _end = play(rt, alloc, &mut shell, row.status, row.out, row.err);
 }
 
 #[test]
@@ -132,9 +132,9 @@ fn earlier_answers(rt: HostRuntime) {
 
 /// Whether an earlier answer is written before those of the learning.
 fn is_written_first<R: Abort + Threads + Wait + Sync + Copy + Drop>(rt: &R, alloc: Global) -> bool {
-    let mut world = World::new(rt, alloc, &WRITE, files(rt, alloc, TRUE));
-    let end = call(rt, alloc, &mut world);
-    end.status == 0 && stands(&world.files, "k", KEPT)
+    let mut shell = Shell::new(rt, alloc, &WRITE, files(rt, alloc, TRUE));
+    let end = call(rt, alloc, &mut shell);
+    end.status == 0 && stands(&shell.world.files, "k", KEPT)
 }
 
 #[test]

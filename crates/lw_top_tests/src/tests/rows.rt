@@ -1,5 +1,5 @@
 //! Machines that are learned, worked by hand: at one worker, at two and at sixteen.
-use crate::tests::cases::{Case, LEARN, PLAIN, World, call, check, end_of, files_of, play};
+use crate::tests::cases::{Case, LEARN, PLAIN, Shell, call, check, end_of, files_of, play};
 use lw_outside::MemorySink;
 use lw_report::End;
 use lw_rounds::Learner;
@@ -151,9 +151,9 @@ fn find_lock<R: Abort + Threads + Wait + Sync + Copy + Drop>(
         "--workers",
         workers,
     ];
-    let mut world = World::new(rt, alloc, &arguments, files_of(rt, alloc, CODE, &[]));
-    let end = call(rt, alloc, &mut world);
-    is_lock(&end, &world.out)
+    let mut shell = Shell::new(rt, alloc, &arguments, files_of(rt, alloc, CODE, &[]));
+    let end = call(rt, alloc, &mut shell);
+    is_lock(&end, &shell.world.out)
 }
 
 #[test]
@@ -202,8 +202,8 @@ fn check_at<R: Abort + Threads + Wait + Sync + Copy + Drop>(
     err: &str,
 ) {
     let arguments = ["learn", "--table", "m", "--extra", extra];
-    let mut world = World::new(rt, alloc, &arguments, files_of(rt, alloc, table, &[]));
-    let _end = play(rt, alloc, &mut world, status, out, err);
+    let mut shell = Shell::new(rt, alloc, &arguments, files_of(rt, alloc, table, &[]));
+    let _end = play(rt, alloc, &mut shell, status, out, err);
 }
 
 #[test]

@@ -1,5 +1,5 @@
 //! A counter modulo three that is served, worked by hand, and what is asked of other commands.
-use crate::tests::cases::{Case, PLAIN, World, call, check, files_of, source, texts};
+use crate::tests::cases::{Case, PLAIN, Shell, call, check, files_of, source, texts};
 use lw_outside::{MemorySource, Source};
 use lw_top::serve_arguments;
 use std::alloc::Global;
@@ -121,10 +121,10 @@ fn leaves_input<R: Abort + Threads + Wait + Sync + Copy + Drop>(
     alloc: Global,
     arguments: &[&str],
 ) -> bool {
-    let mut world = World::new(rt, alloc, arguments, files_of(rt, alloc, COUNTER, &[]));
-    world.input = source(rt, alloc, "reset\n", &[]);
-    let _end = call(rt, alloc, &mut world);
-    is_unread(&mut world.input)
+    let mut shell = Shell::new(rt, alloc, arguments, files_of(rt, alloc, COUNTER, &[]));
+    shell.world.input = source(rt, alloc, "reset\n", &[]);
+    let _end = call(rt, alloc, &mut shell);
+    is_unread(&mut shell.world.input)
 }
 
 #[test]

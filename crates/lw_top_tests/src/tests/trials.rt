@@ -1,5 +1,5 @@
 //! Trials: small ones worked by hand, and greater ones that many workers make as one does.
-use crate::tests::cases::{Case, PLAIN, World, call, check, files_of};
+use crate::tests::cases::{Case, PLAIN, Shell, call, check, files_of};
 use lw_outside::MemorySink;
 use lw_report::End;
 use std::alloc::Global;
@@ -37,9 +37,9 @@ fn small_trials(rt: HostRuntime) {
     }
 }
 
-/// The world of a trial, over an empty file.
-fn world_of(rt: &impl Abort, alloc: Global, arguments: &[&str]) -> World {
-    World::new(rt, alloc, arguments, files_of(rt, alloc, "", &[]))
+/// The shell of a trial, over an empty file.
+fn shell_of(rt: &impl Abort, alloc: Global, arguments: &[&str]) -> Shell {
+    Shell::new(rt, alloc, arguments, files_of(rt, alloc, "", &[]))
 }
 
 /// What a trial of two hundred states with so many workers, which succeeds, leaves.
@@ -47,7 +47,7 @@ fn two_hundred<R: Abort + Threads + Wait + Sync + Copy + Drop>(
     rt: &R,
     alloc: Global,
     workers: &str,
-) -> World {
+) -> Shell {
     let arguments = [
         "trial",
         "--states=200",
@@ -56,9 +56,9 @@ fn two_hundred<R: Abort + Threads + Wait + Sync + Copy + Drop>(
         "--workers",
         workers,
     ];
-    let mut world = world_of(rt, alloc, &arguments);
-    assert!(rt; call(rt, alloc, &mut world).status == 0);
-    world
+    let mut shell = shell_of(rt, alloc, &arguments);
+    assert!(rt; call(rt, alloc, &mut shell).status == 0);
+    shell
 }
 
 #[test]
@@ -90,9 +90,9 @@ fn finds<R: Abort + Threads + Wait + Sync + Copy + Drop>(
         "--learner",
         learner,
     ];
-    let mut world = world_of(rt, alloc, &arguments);
-    let _end = call(rt, alloc, &mut world);
-    is_found(&world.out)
+    let mut shell = shell_of(rt, alloc, &arguments);
+    let _end = call(rt, alloc, &mut shell);
+    is_found(&shell.world.out)
 }
 
 #[test]
@@ -122,8 +122,8 @@ fn is_shared<R: Abort + Threads + Wait + Sync + Copy + Drop>(rt: &R, alloc: Glob
         "--seed=7",
         "--workers=8",
     ];
-    let mut world = world_of(rt, alloc, &arguments);
-    let end = call(rt, alloc, &mut world);
+    let mut shell = shell_of(rt, alloc, &arguments);
+    let end = call(rt, alloc, &mut shell);
     has_two_instances(&end)
 }
 

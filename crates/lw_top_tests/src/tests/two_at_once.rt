@@ -3,10 +3,9 @@ ghost use Rattle.std.specs.Prelude.{◌≡◌, ◌<◌, ◌≤◌, length, map, 
 ghost use Rattle.std.specs.List.{All};
 ghost use Rattle.lw_outside.specs.Links.{LinkState};
 
-use crate::tests::cases::{World, files_of};
+use crate::tests::cases::{Shell, files_of};
 use http_server::Log;
-use lw_log::MemoryLog;
-use lw_outside::{Failed, Link, Spawner, StartFailure, StartStop};
+use lw_outside::{Failed, Link, Spawner, StartFailure, StartStop, World};
 use lw_top::run;
 use std::alloc::Global;
 use std::process::Abort;
@@ -211,32 +210,26 @@ const LEARNED: &str = "learned: states 1, refinements 0, extra 0, answers 4\n";
 
 const LEARN: [&str; 6] = ["learn", "m", "--workers", "2", "--extra", "0"];
 
-/// The status of the top call over a world, with two such children in place of its own.
-fn meet<R: Abort + Threads + Wait + Sync + Copy + Drop>(
-    rt: &R,
-    alloc: Global,
-    world: &mut World,
-) -> u8 {
-    let mut children = MeetingSpawner::new(rt, alloc);
-    let mut log = lw_log::Log::new(alloc, MemoryLog::new(alloc));
-    let end = run(
-        *rt,
-        alloc,
-        &world.arguments,
-        &mut world.files,
-        &mut children,
-        &mut world.input,
-        &mut world.out,
-        &mut world.err,
-        &mut log,
-    );
+/// The status of the top call over a shell, with two such children in place of its own.
+fn meet<R: Abort + Threads + Wait + Sync + Copy + Drop>(rt: &R, alloc: Global, shell: Shell) -> u8 {
+    let Shell { arguments, world } = shell;
+    let mut world = World {
+        files: world.files,
+        spawner: MeetingSpawner::new(rt, alloc),
+        input: world.input,
+        out: world.out,
+        err: world.err,
+        log: world.log,
+    };
+    let end = run(*rt, alloc, &arguments, &mut world);
+    assert_eq!(rt; world.out.taken(), MODEL.as_bytes());
+    assert_eq!(rt; world.err.taken(), LEARNED.as_bytes());
     end.status
 }
 
 #[test]
 fn two_children_are_asked_at_once(rt: HostRuntime) {
     let alloc = rt.alloc();
-    let mut world = World::new(&rt, alloc, &LEARN, files_of(&rt, alloc, SETUP, &[]));
-    assert!(rt; meet(&rt, alloc, &mut world) == 0);
-    world.check_streams(&rt, MODEL, LEARNED);
+    let shell = Shell::new(&rt, alloc, &LEARN, files_of(&rt, alloc, SETUP, &[]));
+    assert!(rt; meet(&rt, alloc, shell) == 0);
 }

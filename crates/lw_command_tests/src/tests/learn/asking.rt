@@ -2,7 +2,9 @@
 ghost use Rattle.std.specs.Prelude.{◌≤◌, IfSome, IsTrue};
 ghost use Rattle.lw_learn.specs.Arguments.{AreFewDrawn};
 
-use crate::tests::learn::{Outside, call, check_text, has, named, no_children, push_file};
+use crate::tests::learn::{
+    Outside, call, check_text, has, named, no_children, outside_of, push_file,
+};
 use crate::tests::memory::string;
 use lw_learn::{Drawn, LearnArguments, Source};
 use lw_log::MemoryLog;
@@ -89,7 +91,7 @@ fn log_of(alloc: Global, row: &Row) -> MemoryLog {
 fn prepare(rt: &impl Abort, alloc: Global, row: &Row) -> Outside {
     let files = files(rt, alloc, row);
     let children = no_children(rt, alloc);
-    Outside::new(rt, alloc, files, children, log_of(alloc, row))
+    outside_of(rt, alloc, files, children, log_of(alloc, row))
 }
 
 /// Whether the words that are drawn are few, where there are some.

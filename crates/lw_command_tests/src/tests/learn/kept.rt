@@ -1,7 +1,9 @@
 //! The answers that are kept at any end, worked by hand: their file at each outcome, and faults of each write.
 ghost use Rattle.std.specs.Prelude.{◌≤◌};
 
-use crate::tests::learn::{Outside, call, check_text, has, links_of, named, push_file, speaker};
+use crate::tests::learn::{
+    Outside, call, check_text, has, links_of, named, outside_of, push_file, speaker,
+};
 use crate::tests::memory::string;
 use lw_json::read_machine;
 use lw_learn::{LearnArguments, Source};
@@ -96,7 +98,7 @@ fn arguments(rt: &impl Abort, alloc: Global, row: &Row) -> LearnArguments
 fn prepare(rt: &impl Abort, alloc: Global, row: &Row) -> Outside {
     let files = files(rt, alloc, row);
     let children = children(rt, alloc, row);
-    Outside::new(rt, alloc, files, children, MemoryLog::new(alloc))
+    outside_of(rt, alloc, files, children, MemoryLog::new(alloc))
 }
 
 /// The exit status of a call.

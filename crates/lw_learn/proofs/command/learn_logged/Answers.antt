@@ -5,7 +5,7 @@ use Rattle.lw_learn.proofs.command.learn_logged.Goals as goal
 pub learn_read-requires-clause-ready : goal.learn_read-requires-clause-ready
 learn_read-requires-clause-ready g c κs within =
     let F = g.F.Files in
-    let before = c.args.files.now in
+    let before = c.args.world.now.files in
     let read = c.read_worded.new.files in
     let f = F.state before in
     let m = F.state read in
@@ -14,7 +14,7 @@ learn_read-requires-clause-ready g c κs within =
 pub learn_read-requires-clause-letters : goal.learn_read-requires-clause-letters
 learn_read-requires-clause-letters g c κs within =
     let F = g.F.Files in
-    let before = c.args.files.now in
+    let before = c.args.world.now.files in
     let read = c.read_worded.new.files in
     let f = F.state before in
     let m = F.state read in
@@ -23,7 +23,7 @@ learn_read-requires-clause-letters g c κs within =
 pub learn_read-requires-clause-batch : goal.learn_read-requires-clause-batch
 learn_read-requires-clause-batch g c κs within =
     let F = g.F.Files in
-    let before = c.args.files.now in
+    let before = c.args.world.now.files in
     let read = c.read_worded.new.files in
     let f = F.state before in
     let m = F.state read in
@@ -35,20 +35,20 @@ returns-in-Ok-clause-ends g c =
     let P = g.P.Spawner in
     let O = g.O.Sink in
     let E = g.E.Sink in
-    let before = c.args.files.now in
+    let before = c.args.world.now.files in
     let read = c.read_worded.new.files in
-    let files = c.learn_read.new.files in
-    let child = c.args.spawner.now in
-    let children = c.learn_read.new.spawner in
+    let files = c.learn_read.new.world.files in
+    let child = c.args.world.now.spawner in
+    let children = c.learn_read.new.world.spawner in
     let f = F.state before in
     let m = F.state read in
     let h = F.state files in
     let b = P.state child in
     let z = P.state children in
-    let o = O.state c.args.out.now in
-    let p = O.state c.learn_read.new.out in
-    let e = E.state c.args.err.now in
-    let d = E.state c.learn_read.new.err in
+    let o = O.state c.args.world.now.out in
+    let p = O.state c.learn_read.new.world.out in
+    let e = E.state c.args.world.now.err in
+    let d = E.state c.learn_read.new.world.err in
     inr (ends_read c.args.arguments.now f m h b z o p e d c.learn_read.result c.read_worded.result c.in-Ok.worded c.in-Ok.is c.read_worded.ensures c.learn_read.ensures.learned c.learn_read.ensures.answered)
 
 pub returns-in-Ok-clause-counts : goal.returns-in-Ok-clause-counts
@@ -70,16 +70,16 @@ returns-in-Err-clause-ends g c =
     let P = g.P.Spawner in
     let O = g.O.Sink in
     let E = g.E.Sink in
-    let before = c.args.files.now in
+    let before = c.args.world.now.files in
     let read = c.read_worded.new.files in
-    let child = c.args.spawner.now in
+    let child = c.args.world.now.spawner in
     let f = F.state before in
     let files = c.end_unread-end.new.files in
     let m = F.state read in
     let h = F.state files in
     let b = P.state child in
-    let o = O.state c.args.out.now in
-    let e = E.state c.args.err.now in
+    let o = O.state c.args.world.now.out in
+    let e = E.state c.args.world.now.err in
     let d = E.state c.end_unread-end.new.err in
     let w = c.end_unread-end.ensures in
     inl (ends_unread c.args.arguments.now f m h b o e d c.end_unread-end.result c.read_worded.result c.in-Err.unread c.in-Err.is c.read_worded.ensures

@@ -6,7 +6,7 @@ use Rattle.lw_serve.specs.ServeRun.{IsServeRun}
 use Rattle.lw_top.specs.Call.{CallValues, call_of, values_of}
 use Rattle.lw_top.specs.CommandLine.{texts}
 use Rattle.lw_top.specs.Run.{Runs}
-use Rattle.lw_top.specs.World.{World, world}
+use Rattle.lw_top.specs.World.{WorldState, seen, states}
 use Rattle.lw_top.specs.declared.call.Call.{Call}
 use Rattle.lw_top.specs.declared.values.ArgumentStop.{ArgumentStop}
 use Rattle.lw_top.specs.declared.values.ArgumentStop.TheVariants as stop
@@ -21,8 +21,9 @@ returns-in-Learn-clause-ran g c =
     let O = g.O.Sink in
     let E = g.E.Sink in
     let words = texts c.args.arguments.now in
-    let before : World = world (F.state c.args.files.now) (P.state c.args.spawner.now) (I.state c.args.input.now) (O.state c.args.out.now) (E.state c.args.err.now) c.args.log.now.state in
-    let now : World = world (F.state c.learn.new.files) (P.state c.learn.new.spawner) (I.state c.args.input.now) (O.state c.learn.new.out) (E.state c.learn.new.err) c.learn.new.log.state in
+    let w = c.args.world.now in
+    let before : WorldState = seen F.state P.state I.state O.state E.state (λ l. l.state) w in
+    let now : WorldState = seen F.state P.state I.state O.state E.state (λ l. l.state) c.learn.new.world in
     let is : call_of words ≡ Some (values_of c.in-Ok.call) = c.in-Ok.ensures.ok in
     let here = subst (λ (call : Call). call_of words ≡ Some (values_of call)) c.in-Learn.is is in
     let taken : ¬ (c.learn.result.outcome ≡ Usage) = search rules in
@@ -47,8 +48,9 @@ returns-in-Check-clause-ran g c =
     let O = g.O.Sink in
     let E = g.E.Sink in
     let words = texts c.args.arguments.now in
-    let before : World = world (F.state c.args.files.now) (P.state c.args.spawner.now) (I.state c.args.input.now) (O.state c.args.out.now) (E.state c.args.err.now) c.args.log.now.state in
-    let now : World = world (F.state c.check.new.files) (P.state c.args.spawner.now) (I.state c.args.input.now) (O.state c.check.new.out) (E.state c.check.new.err) c.args.log.now.state in
+    let w = c.args.world.now in
+    let before : WorldState = seen F.state P.state I.state O.state E.state (λ l. l.state) w in
+    let now : WorldState = states (F.state c.check.new.files) (P.state w.spawner) (I.state w.input) (O.state c.check.new.out) (E.state c.check.new.err) w.log.state in
     let is : call_of words ≡ Some (values_of c.in-Ok.call) = c.in-Ok.ensures.ok in
     let here = subst (λ (call : Call). call_of words ≡ Some (values_of call)) c.in-Check.is is in
     let taken : ¬ (c.check.result.outcome ≡ Usage) = search rules in
@@ -69,8 +71,9 @@ returns-in-Trial-clause-ran g c =
     let O = g.O.Sink in
     let E = g.E.Sink in
     let words = texts c.args.arguments.now in
-    let before : World = world (F.state c.args.files.now) (P.state c.args.spawner.now) (I.state c.args.input.now) (O.state c.args.out.now) (E.state c.args.err.now) c.args.log.now.state in
-    let now : World = world (F.state c.args.files.now) (P.state c.args.spawner.now) (I.state c.args.input.now) (O.state c.trial.new.out) (E.state c.trial.new.err) c.args.log.now.state in
+    let w = c.args.world.now in
+    let before : WorldState = seen F.state P.state I.state O.state E.state (λ l. l.state) w in
+    let now : WorldState = states (F.state w.files) (P.state w.spawner) (I.state w.input) (O.state c.trial.new.out) (E.state c.trial.new.err) w.log.state in
     let is : call_of words ≡ Some (values_of c.in-Ok.call) = c.in-Ok.ensures.ok in
     let here = subst (λ (call : Call). call_of words ≡ Some (values_of call)) c.in-Trial.is is in
     let taken : ¬ (c.trial.result.outcome ≡ Usage) = search rules in
@@ -89,8 +92,9 @@ returns-in-Serve-clause-ran g c =
     let O = g.O.Sink in
     let E = g.E.Sink in
     let words = texts c.args.arguments.now in
-    let before : World = world (F.state c.args.files.now) (P.state c.args.spawner.now) (I.state c.args.input.now) (O.state c.args.out.now) (E.state c.args.err.now) c.args.log.now.state in
-    let now : World = world (F.state c.serve.new.files) (P.state c.args.spawner.now) (I.state c.serve.new.input) (O.state c.serve.new.out) (E.state c.serve.new.err) c.args.log.now.state in
+    let w = c.args.world.now in
+    let before : WorldState = seen F.state P.state I.state O.state E.state (λ l. l.state) w in
+    let now : WorldState = states (F.state c.serve.new.files) (P.state w.spawner) (I.state c.serve.new.input) (O.state c.serve.new.out) (E.state c.serve.new.err) w.log.state in
     let is : call_of words ≡ Some (values_of c.in-Ok.call) = c.in-Ok.ensures.ok in
     let here = subst (λ (call : Call). call_of words ≡ Some (values_of call)) c.in-Serve.is is in
     let taken : ¬ (c.serve.result.outcome ≡ Usage) = search rules in
@@ -110,8 +114,9 @@ returns-in-Ask-clause-ran g c =
     let O = g.O.Sink in
     let E = g.E.Sink in
     let words = texts c.args.arguments.now in
-    let before : World = world (F.state c.args.files.now) (P.state c.args.spawner.now) (I.state c.args.input.now) (O.state c.args.out.now) (E.state c.args.err.now) c.args.log.now.state in
-    let now : World = world (F.state c.ask.new.files) (P.state c.ask.new.spawner) (I.state c.args.input.now) (O.state c.ask.new.out) (E.state c.ask.new.err) c.args.log.now.state in
+    let w = c.args.world.now in
+    let before : WorldState = seen F.state P.state I.state O.state E.state (λ l. l.state) w in
+    let now : WorldState = states (F.state c.ask.new.files) (P.state c.ask.new.spawner) (I.state w.input) (O.state c.ask.new.out) (E.state c.ask.new.err) w.log.state in
     let is : call_of words ≡ Some (values_of c.in-Ok.call) = c.in-Ok.ensures.ok in
     let here = subst (λ (call : Call). call_of words ≡ Some (values_of call)) c.in-Ask.is is in
     let taken : ¬ (c.ask.result.outcome ≡ Usage) = search rules in
@@ -130,8 +135,9 @@ returns-in-Compare-clause-ran g c =
     let O = g.O.Sink in
     let E = g.E.Sink in
     let words = texts c.args.arguments.now in
-    let before : World = world (F.state c.args.files.now) (P.state c.args.spawner.now) (I.state c.args.input.now) (O.state c.args.out.now) (E.state c.args.err.now) c.args.log.now.state in
-    let now : World = world (F.state c.compare.new.files) (P.state c.args.spawner.now) (I.state c.args.input.now) (O.state c.compare.new.out) (E.state c.compare.new.err) c.args.log.now.state in
+    let w = c.args.world.now in
+    let before : WorldState = seen F.state P.state I.state O.state E.state (λ l. l.state) w in
+    let now : WorldState = states (F.state c.compare.new.files) (P.state w.spawner) (I.state w.input) (O.state c.compare.new.out) (E.state c.compare.new.err) w.log.state in
     let is : call_of words ≡ Some (values_of c.in-Ok.call) = c.in-Ok.ensures.ok in
     let here = subst (λ (call : Call). call_of words ≡ Some (values_of call)) c.in-Compare.is is in
     let taken : ¬ (c.compare.result.outcome ≡ Usage) = search rules in
@@ -152,8 +158,9 @@ returns-in-Recheck-clause-ran g c =
     let O = g.O.Sink in
     let E = g.E.Sink in
     let words = texts c.args.arguments.now in
-    let before : World = world (F.state c.args.files.now) (P.state c.args.spawner.now) (I.state c.args.input.now) (O.state c.args.out.now) (E.state c.args.err.now) c.args.log.now.state in
-    let now : World = world (F.state c.recheck.new.files) (P.state c.recheck.new.spawner) (I.state c.args.input.now) (O.state c.recheck.new.out) (E.state c.recheck.new.err) c.args.log.now.state in
+    let w = c.args.world.now in
+    let before : WorldState = seen F.state P.state I.state O.state E.state (λ l. l.state) w in
+    let now : WorldState = states (F.state c.recheck.new.files) (P.state c.recheck.new.spawner) (I.state w.input) (O.state c.recheck.new.out) (E.state c.recheck.new.err) w.log.state in
     let is : call_of words ≡ Some (values_of c.in-Ok.call) = c.in-Ok.ensures.ok in
     let here = subst (λ (call : Call). call_of words ≡ Some (values_of call)) c.in-Recheck.is is in
     let taken : ¬ (c.recheck.result.outcome ≡ Usage) = search rules in
@@ -176,7 +183,7 @@ returns-in-Err-clause-ran g c =
     let none : c.in-Err.stop ≡ stop.Usage → call_of words ≡ None = λ u. c.in-Err.ensures.refused (ap (λ (s : ArgumentStop). Err s) u) in
     record {
       status = c.refuse_arguments.ensures.status;
-      ran = refused (F.state c.args.files.now) (P.state c.args.spawner.now) (I.state c.args.input.now) (O.state c.args.out.now) (E.state c.args.err.now) (E.state c.refuse_arguments.new.err) c.args.log.now.state c.log_refused.new.log.state end c.refuse_arguments.ensures.ended c.in-Err.stop (call_of words) c.refuse_arguments.ensures.outcome none
+      ran = refused (F.state w.files) (P.state w.spawner) (I.state w.input) (O.state w.out) (E.state w.err) (E.state c.refuse_arguments.new.err) w.log.state c.log_refused.new.log.state end c.refuse_arguments.ensures.ended c.in-Err.stop (call_of words) c.refuse_arguments.ensures.outcome none
           (λ call is other. ap (λ l. l.state) (c.log_refused.ensures (names_other words call is other)));
       usage = λ usage. none (refused_usage c.in-Err.stop end.outcome c.refuse_arguments.ensures.outcome usage);
       counts = search rules;
