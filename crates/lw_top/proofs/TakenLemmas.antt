@@ -2,8 +2,6 @@
 use Rattle.std.proofs.Common.{◌≡◌, ◌∙◌, ◌&&◌, List, ℕ, Bool, true, false, Option, Some, None, Result, Ok, Err, IfOk, if◌then◌else◌, ap, refl, sym}
 use Rattle.clap.specs.Words.{App, Row, matches_of}
 use Rattle.lw_top.specs.CommandLine.{are_taken, values_taken}
-use Rattle.lw_top.specs.declared.values.ArgumentStop.{ArgumentStop}
-use Rattle.lw_top.specs.declared.values.ArgumentStop.TheVariants.{Usage}
 
 -- what one of two tests refuses
 pub untaken : (named : Bool) {faultless : Bool} → faultless ≡ false → (named && faultless) ≡ false
