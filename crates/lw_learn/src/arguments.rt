@@ -2,7 +2,7 @@
 ghost use Rattle.std.specs.Prelude.{◌≡◌, ◌≤◌, IfSome, option_map, string_bytes};
 ghost use Rattle.lw_learn.specs.Arguments.{AreFewDrawn};
 
-use lw_rounds::{Kind, Settings};
+use lw_rounds::Settings;
 use std::marker::Model;
 
 /// What kind of file a system is read of.
@@ -22,22 +22,27 @@ pub struct Drawn {
     pub seed: u64,
 }
 
-/// The values of the arguments of `learn`: the file of the system and its kind, the settings of the learning, the files for the
-/// model and for the answers, where these are to be written, the file of prior answers, where there are some, the file for the
-/// answers that are kept at any end, the file of words that are asked first, the words that are drawn for that, and the file of
-/// the log.
+/// The files that `learn` is given beside the system's, where they are: for the model and for the answers, which are to be written,
+/// of prior answers, for the answers that are kept at any end, of the words that are asked first, and for the log.
+#[derive(Drop)]
+pub struct LearnFiles {
+    pub model: Option<String>,
+    pub answers: Option<String>,
+    pub prior: Option<String>,
+    pub kept: Option<String>,
+    pub words: Option<String>,
+    pub log: Option<String>,
+}
+
+/// The values of the arguments of `learn`: the file of the system and its kind, the settings of the learning, the words that are
+/// drawn to be asked first, and the other files.
 #[derive(Drop)]
 pub struct LearnArguments {
     source: Source,
     system: String,
     settings: Settings,
-    model: Option<String>,
-    answers: Option<String>,
-    prior: Option<String>,
-    kept: Option<String>,
-    words: Option<String>,
     drawn: Option<Drawn>,
-    log: Option<String>,
+    files: LearnFiles,
 }
 
 impl Model for LearnArguments {
@@ -53,13 +58,13 @@ impl Model for LearnArguments {
       extra = a.settings.extra;
       learner = a.settings.kind;
       max_states = a.settings.max_states;
-      model = option_map (λ s. string_bytes s) a.model;
-      answers = option_map (λ s. string_bytes s) a.answers;
-      prior = option_map (λ s. string_bytes s) a.prior;
-      kept = option_map (λ s. string_bytes s) a.kept;
-      words = option_map (λ s. string_bytes s) a.words;
+      model = option_map (λ s. string_bytes s) a.files.model;
+      answers = option_map (λ s. string_bytes s) a.files.answers;
+      prior = option_map (λ s. string_bytes s) a.files.prior;
+      kept = option_map (λ s. string_bytes s) a.files.kept;
+      words = option_map (λ s. string_bytes s) a.files.words;
       drawn = a.drawn;
-      log = option_map (λ s. string_bytes s) a.log;
+      log = option_map (λ s. string_bytes s) a.files.log;
     } };
 
     ghost invariant = { λ a. AreWithinLimits (record {
@@ -69,13 +74,13 @@ impl Model for LearnArguments {
       extra = a.settings.extra;
       learner = a.settings.kind;
       max_states = a.settings.max_states;
-      model = option_map (λ s. string_bytes s) a.model;
-      answers = option_map (λ s. string_bytes s) a.answers;
-      prior = option_map (λ s. string_bytes s) a.prior;
-      kept = option_map (λ s. string_bytes s) a.kept;
-      words = option_map (λ s. string_bytes s) a.words;
+      model = option_map (λ s. string_bytes s) a.files.model;
+      answers = option_map (λ s. string_bytes s) a.files.answers;
+      prior = option_map (λ s. string_bytes s) a.files.prior;
+      kept = option_map (λ s. string_bytes s) a.files.kept;
+      words = option_map (λ s. string_bytes s) a.files.words;
       drawn = a.drawn;
-      log = option_map (λ s. string_bytes s) a.log;
+      log = option_map (λ s. string_bytes s) a.files.log;
     }) };
 }
 
@@ -84,54 +89,33 @@ impl LearnArguments {
     pub fn new(
         source: Source,
         system: String,
-        workers: u8,
-        extra: u8,
-        learner: Kind,
-        max_states: u16,
-        model: Option<String>,
-        answers: Option<String>,
-        prior: Option<String>,
-        kept: Option<String>,
-        words: Option<String>,
+        settings: Settings,
         drawn: Option<Drawn>,
-        log: Option<String>,
+        files: LearnFiles,
     ) -> LearnArguments
-        requires workers { (1 ≤ workers) × (workers ≤ 16) }
-        requires extra { extra ≤ 4 }
-        requires max_states { (1 ≤ max_states) × (max_states ≤ 1024) }
-        requires drawn { IfSome drawn AreFewDrawn }
+        requires { IfSome drawn AreFewDrawn }
         ensures { result ≡ record {
           source = source;
           system = string_bytes system;
-          workers = workers;
-          extra = extra;
-          learner = learner;
-          max_states = max_states;
-          model = option_map (λ s. string_bytes s) model;
-          answers = option_map (λ s. string_bytes s) answers;
-          prior = option_map (λ s. string_bytes s) prior;
-          kept = option_map (λ s. string_bytes s) kept;
-          words = option_map (λ s. string_bytes s) words;
+          workers = settings.workers;
+          extra = settings.extra;
+          learner = settings.kind;
+          max_states = settings.max_states;
+          model = option_map (λ s. string_bytes s) files.model;
+          answers = option_map (λ s. string_bytes s) files.answers;
+          prior = option_map (λ s. string_bytes s) files.prior;
+          kept = option_map (λ s. string_bytes s) files.kept;
+          words = option_map (λ s. string_bytes s) files.words;
           drawn = drawn;
-          log = option_map (λ s. string_bytes s) log;
+          log = option_map (λ s. string_bytes s) files.log;
         } }
     {
         LearnArguments {
             source,
             system,
-            settings: Settings {
-                workers,
-                kind: learner,
-                extra,
-                max_states,
-            },
-            model,
-            answers,
-            prior,
-            kept,
-            words,
+            settings,
             drawn,
-            log,
+            files,
         }
     }
 
@@ -169,32 +153,32 @@ impl LearnArguments {
     pub fn model(&self) -> Option<&str>
         ensures { option_map (λ s. s.now) result ≡ self.now.model }
     {
-        text_of(&self.model)
+        text_of(&self.files.model)
     }
 
     pub fn answers(&self) -> Option<&str>
         ensures { option_map (λ s. s.now) result ≡ self.now.answers }
     {
-        text_of(&self.answers)
+        text_of(&self.files.answers)
     }
 
     pub fn prior(&self) -> Option<&str>
         ensures { option_map (λ s. s.now) result ≡ self.now.prior }
     {
-        text_of(&self.prior)
+        text_of(&self.files.prior)
     }
 
     pub fn kept(&self) -> Option<&str>
         ensures { option_map (λ s. s.now) result ≡ self.now.kept }
     {
-        text_of(&self.kept)
+        text_of(&self.files.kept)
     }
 
     /// The name of the file of words that are asked first.
     pub fn words(&self) -> Option<&str>
         ensures { option_map (λ s. s.now) result ≡ self.now.words }
     {
-        text_of(&self.words)
+        text_of(&self.files.words)
     }
 
     /// The words that are drawn and asked behind them.
@@ -209,7 +193,7 @@ impl LearnArguments {
     pub fn log(&self) -> Option<&str>
         ensures { option_map (λ s. s.now) result ≡ self.now.log }
     {
-        text_of(&self.log)
+        text_of(&self.files.log)
     }
 }
 

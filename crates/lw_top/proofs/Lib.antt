@@ -2,8 +2,10 @@ pub mod CheckLemmas
 pub mod AskLemmas
 pub mod CommandLemmas
 pub mod CompareLemmas
+pub mod OptionLemmas
 pub mod RecheckLemmas
 pub mod RunLemmas
 pub mod ValueLemmas
 pub mod ServeLemmas
+pub mod TakenLemmas
 pub mod TrialLemmas

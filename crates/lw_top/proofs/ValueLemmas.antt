@@ -1,5 +1,5 @@
 -- Numbers that clap has read, and kinds of errors.
-use Rattle.std.proofs.Common.{◌≡◌, ◌∙◌, ℕ, ◌<◌, ◌≤◌, ◌^◌, ◌&&◌, List, [], ◌∷◌, Bool, true, false, Option, Some, None, Ok, Err, Result, if◌then◌else◌, inl, inr, refl, sym, ap, subst}
+use Rattle.std.proofs.Common.{◌≡◌, ◌∙◌, ℕ, ◌<◌, ◌^◌, ◌&&◌, List, [], ◌∷◌, Bool, true, false, Option, Some, None, Ok, Err, Result, if◌then◌else◌, inl, inr, refl, sym, ap}
 use Rattle.std.specs.Prelude.{nat_le, option_and_then}
 use Rattle.std.specs.Str.Parse.{IsNumeral, ParsesUnsigned, digits_value, without_leading_plus}
 use Rattle.std.proofs.lemmas.Bool.{le-leb, leb-true}
@@ -12,6 +12,7 @@ use Rattle.clap.specs.Values.{Accepts, kind_of}
 use Rattle.clap.specs.declared.builder.value_parser.ValueParser.TheVariants as vp
 use Rattle.clap.specs.declared.error.Error.{Error}
 use Rattle.lw_top.specs.CommandLine.{is_faultless, number_in_range, refusal_of}
+use Rattle.lw_top.specs.declared.ranges.Range.{Range}
 use Rattle.lw_top.specs.declared.values.ArgumentStop.{ArgumentStop}
 use Rattle.lw_top.specs.declared.values.ArgumentStop.TheVariants.{NoMemory, Usage}
 
@@ -47,18 +48,18 @@ unread low high text other = go (is_unsigned_in low high text) refl
     go false e = e
 
 -- the number that was read of a text, within a range
-pub reads_number : {E : Type 0} (G : List ℕ → Result ℕ E → Type 0) → ((u : List ℕ) (x : Result ℕ E) → G u x → ParsesUnsigned 64 10 u x) → (low high : ℕ) (t : Option (List ℕ)) (r : Option ℕ)
+pub reads_number : {E : Type 0} (G : List ℕ → Result ℕ E → Type 0) → ((u : List ℕ) (x : Result ℕ E) → G u x → ParsesUnsigned 64 10 u x) → (range : Range) (t : Option (List ℕ)) (r : Option ℕ)
     → (t ≡ None → r ≡ None) → ((u : List ℕ) → t ≡ Some u → ReadsOne G u r)
-    → option_and_then (λ n. if nat_le low n && nat_le n high then Some n else None) r ≡ number_in_range low high t
-reads_number G only low high None r none some = ap (option_and_then (λ n. if nat_le low n && nat_le n high then Some n else None)) (none refl)
-reads_number {E = E} G only low high (Some u) r none some = go r (some u refl)
+    → option_and_then (λ n. if nat_le range.low n && nat_le n range.high then Some n else None) r ≡ number_in_range range t
+reads_number G only range None r none some = ap (option_and_then (λ n. if nat_le range.low n && nat_le n range.high then Some n else None)) (none refl)
+reads_number {E = E} G only range (Some u) r none some = go r (some u refl)
   where
-    go : (o : Option ℕ) → ReadsOne {T = ℕ} {E = E} G u o → option_and_then (λ n. if nat_le low n && nat_le n high then Some n else None) o ≡ number_in_range low high (Some u)
-    go None h = ap (λ (b : Bool). if b then Some (digits_value 10 (without_leading_plus u)) else None) (sym (unread low high u (only u (Err h.0) h.1)))
+    go : (o : Option ℕ) → ReadsOne {T = ℕ} {E = E} G u o → option_and_then (λ n. if nat_le range.low n && nat_le n range.high then Some n else None) o ≡ number_in_range range (Some u)
+    go None h = ap (λ (b : Bool). if b then Some (digits_value 10 (without_leading_plus u)) else None) (sym (unread range.low range.high u (only u (Err h.0) h.1)))
     go (Some v) h =
         let p = only u (Ok v) h in
-        ap (λ (n : ℕ). if nat_le low n && nat_le n high then Some n else None) p.1
-        ∙ ap (λ (b : Bool). if b then Some (digits_value 10 (without_leading_plus u)) else None) (in_range_is low high u p.0.0 p.0.1)
+        ap (λ (n : ℕ). if nat_le range.low n && nat_le n range.high then Some n else None) p.1
+        ∙ ap (λ (b : Bool). if b then Some (digits_value 10 (without_leading_plus u)) else None) (in_range_is range.low range.high u p.0.0 p.0.1)
 
 -- an error that isn't memory's is a fault
 pub faulty : (kinds : Kinds) (e : Error) → HasKind kinds e → refusal_of (kind_of e) ≡ Usage → is_faultless kinds ≡ false
@@ -72,15 +73,3 @@ faulty (k ∷ ks) e h is = refl
 -- the reason in a refusal
 pub stop_is : {V : Type 0} (one : ArgumentStop) {two : ArgumentStop} → ◌≡◌ {A = Result V ArgumentStop} (Err one) (Err two) → one ≡ two
 stop_is one e = cc
-
--- a number that was found is in its range
-pub number_bounds : (low high n : ℕ) (t : Option (List ℕ)) → Some n ≡ number_in_range low high t → (low ≤ n) × (n ≤ high)
-number_bounds low high n None is = let wrong : Some n ≡ None = is in absurd (cc)
-number_bounds low high n (Some text) is = go (is_unsigned_in low high text) refl is
-  where
-    go : (b : Bool) → is_unsigned_in low high text ≡ b → Some n ≡ (if b then Some (digits_value 10 (without_leading_plus text)) else None) → (low ≤ n) × (n ≤ high)
-    go true e s =
-        let h : Accepts false (vp.Unsigned low high) text = accepts-Accepts false (vp.Unsigned low high) text e in
-        let same : digits_value 10 (without_leading_plus text) ≡ n = cc in
-        (subst (λ (k : ℕ). low ≤ k) same h.2, subst (λ (k : ℕ). k ≤ high) same h.3)
-    go false e s = let wrong : Some n ≡ None = s in absurd (cc)

@@ -1,15 +1,14 @@
 -- The command `ask` as clap sees it, and what arguments that it takes say.
-use Rattle.std.specs.Prelude.{ℕ, List, [], ◌∷◌, codes, Option, Some, None, unwrap_or, if◌then◌else◌, ◌&&◌}
-use Rattle.clap.specs.Faults.{fault_of}
-use Rattle.clap.specs.Words.{App, Row, all_of, first_of, matches_of, new_app, with_rule}
+use Rattle.std.specs.Prelude.{ℕ, List, [], ◌∷◌, codes, Option, Some, None, unwrap_or}
+use Rattle.clap.specs.Words.{App, Row, all_of, first_of}
 use Rattle.lw_ask.specs.Arguments.{AskValues}
 use Rattle.lw_learn.specs.declared.arguments.Source.TheVariants.{Setup, Table}
-use Rattle.lw_top.specs.CommandLine.{is_command, is_faultless}
-use Rattle.lw_top.specs.Options.{many_arguments, text_option}
+use Rattle.lw_top.specs.CommandLine.{values_taken}
+use Rattle.lw_top.specs.Options.{app_with, many_arguments, text_option}
 
 -- ask (SETUP | --table FILE) WORD...
 abbrev pub ask_app : App
-ask_app = with_rule (with_rule (new_app (codes "ask")) (text_option (codes "table"))) (many_arguments (codes "words"))
+ask_app = app_with (codes "ask") (text_option (codes "table") ∷ many_arguments (codes "words") ∷ [])
 
 -- the words that are asked of a table, or behind the name of a setup: one at least
 abbrev pub values_from : (table : Option (List ℕ)) → (words : List (List ℕ)) → Option AskValues
@@ -27,4 +26,4 @@ values_in rows = values_from (first_of (codes "table") rows) (unwrap_or (all_of 
 
 -- what the arguments say to `ask`, where they are taken
 abbrev pub ask_values : List (List ℕ) → Option AskValues
-ask_values words = if is_command (codes "ask") words && is_faultless (fault_of ask_app words) then values_in (matches_of ask_app words) else None
+ask_values = values_taken ask_app values_in

@@ -1,5 +1,5 @@
 -- The call that arguments make: a command with the values of its arguments.
-use Rattle.std.specs.Prelude.{ℕ, List, [], ◌∷◌, codes, Option, Some, None, option_map, string_bytes, if◌then◌else◌}
+use Rattle.std.specs.Prelude.{ℕ, List, [], ◌∷◌, codes, Option, None, option_map, string_bytes, if◌then◌else◌}
 use Rattle.std.specs.Str.{bytes_eq}
 use Rattle.lw_ask.specs.Arguments.{AskValues}
 use Rattle.lw_learn.specs.Arguments.{LearnValues}

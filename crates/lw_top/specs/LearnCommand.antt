@@ -1,46 +1,37 @@
 -- The command `learn` as clap sees it, and what arguments that it takes say.
-use Rattle.std.specs.Prelude.{ℕ, List, codes, Option, Some, None, option_and_then, if◌then◌else◌, ◌&&◌}
-use Rattle.clap.specs.Faults.{fault_of}
-use Rattle.clap.specs.Words.{App, Row, first_of, matches_of, new_app, one_of, with_rule}
+use Rattle.std.specs.Prelude.{ℕ, List, [], ◌∷◌, codes, Option, Some, None, option_and_then, option_map, string_bytes}
+use Rattle.clap.specs.Words.{App, Row, first_of}
 use Rattle.lw_rounds.specs.declared.learner.Kind.{Kind}
+use Rattle.lw_rounds.specs.declared.settings.Settings.{Settings}
 use Rattle.lw_learn.specs.Arguments.{LearnValues}
 use Rattle.lw_learn.specs.declared.arguments.Drawn.{Drawn}
+use Rattle.lw_learn.specs.declared.arguments.LearnFiles.{LearnFiles}
 use Rattle.lw_learn.specs.declared.arguments.Source.{Source}
 use Rattle.lw_learn.specs.declared.arguments.Source.TheVariants.{Setup, Table}
-use Rattle.lw_top.specs.CommandLine.{is_command, is_faultless, kind_named, number_in_range}
-use Rattle.lw_top.specs.Options.{default_option, free_number, number_option, optional_argument, text_option}
+use Rattle.lw_top.specs.CommandLine.{kind_named, number_given, values_taken}
+use Rattle.lw_top.specs.Options.{app_with, default_option, free_number, number_option, optional_argument, text_option}
+use Rattle.lw_top.specs.declared.ranges.TheConstants.{EXTRA, LENGTH, RANDOM, SEED, STATES, WORKERS}
 
 -- learn (SETUP | --table FILE) [--workers N] [--extra K] [--learner table|ttt] [--max-states N] [--model FILE] [--answers FILE] [--prior FILE]
 -- [--kept FILE] [--words FILE] [--random R --length L --seed S] [--log FILE]
 abbrev pub learn_app : App
-learn_app =
-    with_rule
-    (with_rule
-    (with_rule
-    (with_rule
-    (with_rule
-    (with_rule
-    (with_rule
-    (with_rule
-    (with_rule
-    (with_rule
-    (with_rule
-    (with_rule
-    (with_rule
-    (with_rule (with_rule (new_app (codes "learn")) (optional_argument (codes "setup"))) (text_option (codes "table")))
-    (number_option (codes "workers") 1 16 (codes "1")))
-    (number_option (codes "extra") 0 4 (codes "1")))
-    (default_option (codes "learner") (codes "table")))
-    (number_option (codes "max-states") 1 1024 (codes "1024")))
-    (text_option (codes "model")))
-    (text_option (codes "answers")))
-    (text_option (codes "prior")))
-    (text_option (codes "kept")))
-    (text_option (codes "words")))
-    (free_number (codes "random") 0 1000000))
-    (free_number (codes "length") 0 65536))
-    (free_number (codes "seed") 0 18446744073709551615))
-    (text_option (codes "log"))
+learn_app = app_with (codes "learn")
+    (optional_argument (codes "setup")
+    ∷ text_option (codes "table")
+    ∷ number_option (codes "workers") WORKERS (codes "1")
+    ∷ number_option (codes "extra") EXTRA (codes "1")
+    ∷ default_option (codes "learner") (codes "table")
+    ∷ number_option (codes "max-states") STATES (codes "1024")
+    ∷ text_option (codes "model")
+    ∷ text_option (codes "answers")
+    ∷ text_option (codes "prior")
+    ∷ text_option (codes "kept")
+    ∷ text_option (codes "words")
+    ∷ free_number (codes "random") RANDOM
+    ∷ free_number (codes "length") LENGTH
+    ∷ free_number (codes "seed") SEED
+    ∷ text_option (codes "log")
+    ∷ [])
 
 -- the file of the system and its kind: one of a setup and a table, never both
 abbrev pub source_from : (setup table : Option (List ℕ)) → Option (Source × List ℕ)
@@ -49,6 +40,9 @@ source_from None (Some table) = Some (Table, table)
 source_from (Some setup) (Some table) = None
 source_from None None = None
 
+abbrev pub source_in : List Row → Option (Source × List ℕ)
+source_in rows = source_from (first_of (codes "setup") rows) (first_of (codes "table") rows)
+
 -- the words that are to be drawn: all of their numbers are given, or none of them
 abbrev pub drawn_from : (count length seed : Option ℕ) → Option (Option Drawn)
 drawn_from None None None = Some None
@@ -56,41 +50,86 @@ drawn_from (Some count) (Some length) (Some seed) = Some (Some (record { count =
 drawn_from _ _ _ = None
 
 abbrev pub drawn_in : List Row → Option (Option Drawn)
-drawn_in rows = drawn_from (number_in_range 0 1000000 (one_of (codes "random") rows)) (number_in_range 0 65536 (one_of (codes "length") rows)) (number_in_range 0 18446744073709551615 (one_of (codes "seed") rows))
+drawn_in rows = drawn_from (number_given (codes "random") RANDOM rows) (number_given (codes "length") LENGTH rows) (number_given (codes "seed") SEED rows)
 
--- the values, where the system's file is named, the numbers are in their ranges and the learner is of a kind
-abbrev pub values_from : Option (Source × List ℕ) → (workers extra : Option ℕ) → Option Kind → Option ℕ → Option (Option Drawn) → (model answers prior kept words log : Option (List ℕ)) → Option LearnValues
-values_from None workers extra learner max_states drawn model answers prior kept words log = None
-values_from (Some s) None extra learner max_states drawn model answers prior kept words log = None
-values_from (Some s) (Some workers) None learner max_states drawn model answers prior kept words log = None
-values_from (Some s) (Some workers) (Some extra) None max_states drawn model answers prior kept words log = None
-values_from (Some s) (Some workers) (Some extra) (Some learner) None drawn model answers prior kept words log = None
-values_from (Some s) (Some workers) (Some extra) (Some learner) (Some max_states) None model answers prior kept words log = None
-values_from (Some s) (Some workers) (Some extra) (Some learner) (Some max_states) (Some drawn) model answers prior kept words log =
+-- the settings of the learning
+pub record SettingValues : Type 0 where
+  pub workers : ℕ
+  pub extra : ℕ
+  pub learner : Kind
+  pub max_states : ℕ
+
+abbrev pub setting_values : Settings → SettingValues
+setting_values s = record { workers = s.workers; extra = s.extra; learner = s.kind; max_states = s.max_states }
+
+-- the settings, where the numbers are in their ranges and the learner is of a kind
+abbrev pub settings_from : (workers extra : Option ℕ) → Option Kind → (max_states : Option ℕ) → Option SettingValues
+settings_from None extra learner max_states = None
+settings_from (Some workers) None learner max_states = None
+settings_from (Some workers) (Some extra) None max_states = None
+settings_from (Some workers) (Some extra) (Some learner) None = None
+settings_from (Some workers) (Some extra) (Some learner) (Some max_states) = Some (record { workers = workers; extra = extra; learner = learner; max_states = max_states })
+
+abbrev pub settings_in : List Row → Option SettingValues
+settings_in rows =
+    settings_from (number_given (codes "workers") WORKERS rows) (number_given (codes "extra") EXTRA rows) (option_and_then kind_named (first_of (codes "learner") rows))
+    (number_given (codes "max-states") STATES rows)
+
+-- the names of the other files
+pub record LearnFileNames : Type 0 where
+  pub model : Option (List ℕ)
+  pub answers : Option (List ℕ)
+  pub prior : Option (List ℕ)
+  pub kept : Option (List ℕ)
+  pub words : Option (List ℕ)
+  pub log : Option (List ℕ)
+
+abbrev pub file_names : LearnFiles → LearnFileNames
+file_names f = record {
+  model = option_map (λ s. string_bytes s) f.model;
+  answers = option_map (λ s. string_bytes s) f.answers;
+  prior = option_map (λ s. string_bytes s) f.prior;
+  kept = option_map (λ s. string_bytes s) f.kept;
+  words = option_map (λ s. string_bytes s) f.words;
+  log = option_map (λ s. string_bytes s) f.log;
+}
+
+abbrev pub files_in : List Row → LearnFileNames
+files_in rows = record {
+  model = first_of (codes "model") rows;
+  answers = first_of (codes "answers") rows;
+  prior = first_of (codes "prior") rows;
+  kept = first_of (codes "kept") rows;
+  words = first_of (codes "words") rows;
+  log = first_of (codes "log") rows;
+}
+
+-- the values, where the system's file is named and all else is there
+abbrev pub values_from : Option (Source × List ℕ) → Option SettingValues → Option (Option Drawn) → LearnFileNames → Option LearnValues
+values_from None settings drawn files = None
+values_from (Some system) None drawn files = None
+values_from (Some system) (Some settings) None files = None
+values_from (Some system) (Some settings) (Some drawn) files =
     Some
     (record {
-      source = s.0;
-      system = s.1;
-      workers = workers;
-      extra = extra;
-      learner = learner;
-      max_states = max_states;
-      model = model;
-      answers = answers;
-      prior = prior;
-      kept = kept;
-      words = words;
+      source = system.0;
+      system = system.1;
+      workers = settings.workers;
+      extra = settings.extra;
+      learner = settings.learner;
+      max_states = settings.max_states;
+      model = files.model;
+      answers = files.answers;
+      prior = files.prior;
+      kept = files.kept;
+      words = files.words;
       drawn = drawn;
-      log = log;
+      log = files.log;
     })
 
 abbrev pub values_in : List Row → Option LearnValues
-values_in rows =
-    values_from (source_from (first_of (codes "setup") rows) (first_of (codes "table") rows)) (number_in_range 1 16 (one_of (codes "workers") rows)) (number_in_range 0 4 (one_of (codes "extra") rows))
-    (option_and_then kind_named (first_of (codes "learner") rows)) (number_in_range 1 1024 (one_of (codes "max-states") rows)) (drawn_in rows)
-    (first_of (codes "model") rows) (first_of (codes "answers") rows) (first_of (codes "prior") rows)
-    (first_of (codes "kept") rows) (first_of (codes "words") rows) (first_of (codes "log") rows)
+values_in rows = values_from (source_in rows) (settings_in rows) (drawn_in rows) (files_in rows)
 
 -- what the arguments say to `learn`, where they are taken
 abbrev pub learn_values : List (List ℕ) → Option LearnValues
-learn_values words = if is_command (codes "learn") words && is_faultless (fault_of learn_app words) then values_in (matches_of learn_app words) else None
+learn_values = values_taken learn_app values_in

@@ -1,14 +1,13 @@
 -- The command `recheck` as clap sees it, and what arguments that it takes say.
-use Rattle.std.specs.Prelude.{ℕ, List, codes, Option, Some, None, if◌then◌else◌, ◌&&◌}
-use Rattle.clap.specs.Faults.{fault_of}
-use Rattle.clap.specs.Words.{App, Row, first_of, matches_of, new_app, with_rule}
+use Rattle.std.specs.Prelude.{ℕ, List, [], ◌∷◌, codes, Option, Some, None}
+use Rattle.clap.specs.Words.{App, Row, first_of}
 use Rattle.lw_recheck.specs.Arguments.{RecheckValues}
-use Rattle.lw_top.specs.CommandLine.{is_command, is_faultless}
-use Rattle.lw_top.specs.Options.{required_argument}
+use Rattle.lw_top.specs.CommandLine.{values_taken}
+use Rattle.lw_top.specs.Options.{app_with, required_argument}
 
 -- recheck SETUP ANSWERS
 abbrev pub recheck_app : App
-recheck_app = with_rule (with_rule (new_app (codes "recheck")) (required_argument (codes "setup"))) (required_argument (codes "answers"))
+recheck_app = app_with (codes "recheck") (required_argument (codes "setup") ∷ required_argument (codes "answers") ∷ [])
 
 abbrev pub recheck_from : Option (List ℕ) → Option (List ℕ) → Option RecheckValues
 recheck_from None answers = None
@@ -20,4 +19,4 @@ values_in rows = recheck_from (first_of (codes "setup") rows) (first_of (codes "
 
 -- the files that the arguments name to `recheck`, where they are taken
 abbrev pub recheck_values : List (List ℕ) → Option RecheckValues
-recheck_values words = if is_command (codes "recheck") words && is_faultless (fault_of recheck_app words) then values_in (matches_of recheck_app words) else None
+recheck_values = values_taken recheck_app values_in

@@ -1,22 +1,21 @@
 -- The command `trial` as clap sees it, and what arguments that it takes say.
-use Rattle.std.specs.Prelude.{ℕ, List, codes, Option, Some, None, option_and_then, if◌then◌else◌, ◌&&◌}
-use Rattle.clap.specs.Faults.{fault_of}
-use Rattle.clap.specs.Words.{App, Row, first_of, matches_of, new_app, one_of, with_rule}
+use Rattle.std.specs.Prelude.{ℕ, List, [], ◌∷◌, codes, Option, Some, None, option_and_then}
+use Rattle.clap.specs.Words.{App, Row, first_of}
 use Rattle.lw_rounds.specs.declared.learner.Kind.{Kind}
 use Rattle.lw_trial.specs.Arguments.{TrialValues}
-use Rattle.lw_top.specs.CommandLine.{is_command, is_faultless, kind_named, number_in_range}
-use Rattle.lw_top.specs.Options.{default_option, number_option, required_number}
+use Rattle.lw_top.specs.CommandLine.{kind_named, number_given, values_taken}
+use Rattle.lw_top.specs.Options.{app_with, default_option, number_option, required_number}
+use Rattle.lw_top.specs.declared.ranges.TheConstants.{INPUTS, SEED, STATES, WORKERS}
 
 -- trial --states N --inputs A --seed S [--workers N] [--learner table|ttt]
 abbrev pub trial_app : App
-trial_app =
-    with_rule
-    (with_rule
-    (with_rule
-    (with_rule (with_rule (new_app (codes "trial")) (required_number (codes "states") 1 1024)) (required_number (codes "inputs") 1 64))
-    (required_number (codes "seed") 0 18446744073709551615))
-    (number_option (codes "workers") 1 16 (codes "1")))
-    (default_option (codes "learner") (codes "table"))
+trial_app = app_with (codes "trial")
+    (required_number (codes "states") STATES
+    ∷ required_number (codes "inputs") INPUTS
+    ∷ required_number (codes "seed") SEED
+    ∷ number_option (codes "workers") WORKERS (codes "1")
+    ∷ default_option (codes "learner") (codes "table")
+    ∷ [])
 
 -- the values, where each number is there and in its range, and the learner is of a kind
 abbrev pub values_from : Option ℕ → Option ℕ → Option ℕ → Option ℕ → Option Kind → Option TrialValues
@@ -29,10 +28,9 @@ values_from (Some states) (Some inputs) (Some seed) (Some workers) (Some learner
 
 abbrev pub values_in : List Row → Option TrialValues
 values_in rows =
-    values_from (number_in_range 1 1024 (one_of (codes "states") rows)) (number_in_range 1 64 (one_of (codes "inputs") rows))
-    (number_in_range 0 18446744073709551615 (one_of (codes "seed") rows)) (number_in_range 1 16 (one_of (codes "workers") rows))
-    (option_and_then kind_named (first_of (codes "learner") rows))
+    values_from (number_given (codes "states") STATES rows) (number_given (codes "inputs") INPUTS rows) (number_given (codes "seed") SEED rows)
+    (number_given (codes "workers") WORKERS rows) (option_and_then kind_named (first_of (codes "learner") rows))
 
 -- what the arguments say to `trial`, where they are taken
 abbrev pub trial_values : List (List ℕ) → Option TrialValues
-trial_values words = if is_command (codes "trial") words && is_faultless (fault_of trial_app words) then values_in (matches_of trial_app words) else None
+trial_values = values_taken trial_app values_in

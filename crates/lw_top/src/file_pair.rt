@@ -5,7 +5,7 @@ ghost use Rattle.lw_top.specs.FilePairs.{pair_from};
 ghost use Rattle.lw_top.specs.declared.values.ArgumentStop.{ArgumentStop as Stop};
 
 use crate::ArgumentStop;
-use crate::values::text_at;
+use crate::values::required_text_at;
 use clap::ArgMatches;
 use std::alloc::Global;
 use std::marker::Model;
@@ -53,11 +53,7 @@ pub(crate) fn pair_at(
         (first_of first.now (rows_of (found_of matches.now)))
         (first_of second.now (rows_of (found_of matches.now))) ≡ None }
 {
-    let Some(first) = text_at(alloc, matches, first)? else {
-        return Err(ArgumentStop::Usage);
-    };
-    let Some(second) = text_at(alloc, matches, second)? else {
-        return Err(ArgumentStop::Usage);
-    };
+    let first = required_text_at(alloc, matches, first)?;
+    let second = required_text_at(alloc, matches, second)?;
     Ok(FilePair { first, second })
 }

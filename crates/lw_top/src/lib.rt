@@ -4,7 +4,9 @@
 mod arguments;
 mod call;
 mod file_pair;
+mod matching;
 mod options;
+mod ranges;
 mod refused;
 mod top;
 mod values;

@@ -3,56 +3,29 @@ ghost use Rattle.std.specs.Prelude.{◌≡◌, codes, false};
 ghost use Rattle.lw_top.specs.CommandLine.{is_command, texts};
 
 use crate::ArgumentStop;
+use crate::arguments::learn::LEARN;
+use crate::matching::is_command;
+use crate::ranges::Range;
 use lw_log::Log;
 use lw_outside::LogFile;
 use lw_report::{Outcome, outcome_text};
 use lw_words::{Kept, NoMemory};
 use std::alloc::Global;
 
-/// An option that takes a whole number, with the least and the greatest.
-struct Range {
-    option: &'static str,
-    low: u64,
-    high: u64,
-}
-
-/// The options of `learn` that take whole numbers.
-static RANGES: [Range; 6] = [
-    Range {
-        option: "--workers",
-        low: 1,
-        high: 16,
-    },
-    Range {
-        option: "--extra",
-        low: 0,
-        high: 4,
-    },
-    Range {
-        option: "--max-states",
-        low: 1,
-        high: 1024,
-    },
-    Range {
-        option: "--random",
-        low: 0,
-        high: 1_000_000,
-    },
-    Range {
-        option: "--length",
-        low: 0,
-        high: 65_536,
-    },
-    Range {
-        option: "--seed",
-        low: 0,
-        high: u64::MAX,
-    },
-];
-
 /// The value of an option in one argument, behind a `=`.
 fn value_in<'a>(argument: &'a str, option: &str) -> Option<&'a str> {
-    argument.strip_prefix(option)?.strip_prefix("=")
+    argument
+        .strip_prefix("--")?
+        .strip_prefix(option)?
+        .strip_prefix("=")
+}
+
+/// Whether an argument names an option.
+fn names_option(argument: &str, option: &str) -> bool {
+    match argument.strip_prefix("--") {
+        Some(name) => name == option,
+        None => false,
+    }
 }
 
 /// The value of an option: behind a `=`, or in the next argument, which begins no other option. What is behind `--` is no
@@ -70,33 +43,36 @@ fn value_of<'a>(arguments: &'a [String], option: &str) -> Option<&'a str> {
         if let Some(value) = value_in(argument, option) {
             return Some(value);
         }
-        is_next = argument == option;
+        is_next = names_option(argument, option);
     }
     None
 }
 
 /// Whether a text is a whole number of the range.
-fn is_within(text: &str, range: &Range) -> bool {
+fn is_within(text: &str, range: Range) -> bool {
     match text.parse::<u64>() {
         Ok(number) => range.low <= number && number <= range.high,
         Err(_) => false,
     }
 }
 
-/// The line about a value that is out of its range.
-fn range_line(alloc: Global, range: &Range) -> Result<String, NoMemory> {
-    let Range { option, low, high } = range;
-    Ok(format!(in alloc; "{option} is out of range: {low} to {high}\n")?)
+/// The line about the value of an option that is out of its range.
+fn range_line(alloc: Global, option: &str, range: Range) -> Result<String, NoMemory> {
+    let Range { low, high } = range;
+    Ok(format!(in alloc; "--{option} is out of range: {low} to {high}\n")?)
 }
 
 /// Puts a line for each value that is out of its range.
 fn log_ranges<L: LogFile>(alloc: Global, arguments: &[String], log: &mut Log<L>) {
-    for range in &RANGES {
-        let Some(text) = value_of(arguments, range.option) else {
+    for argument in LEARN.arguments {
+        let Some((option, range)) = argument.number() else {
+            continue;
+        };
+        let Some(text) = value_of(arguments, option) else {
             continue;
         };
         if !is_within(text, range) {
-            log.line(range_line(alloc, range));
+            log.line(range_line(alloc, option, range));
         }
     }
 }
@@ -111,11 +87,10 @@ pub(crate) fn log_refused<L: LogFile>(
 )
     ensures { is_command (codes "learn") (texts arguments.now) ≡ false → log.new ≡ log.old }
 {
-    match arguments.first() {
-        Some(command) if command.as_str() == "learn" => {}
-        _ => return,
+    if !is_command(LEARN.command, arguments) {
+        return;
     }
-    let Some(name) = value_of(arguments, "--log") else {
+    let Some(name) = value_of(arguments, "log") else {
         return;
     };
     log.open(name);

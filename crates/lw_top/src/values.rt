@@ -1,10 +1,11 @@
 //! The values of arguments that clap has read.
-ghost use Rattle.std.specs.Prelude.{◌≡◌, ◌&&◌, [], map, unwrap_or, Some, None, nat_le, if◌then◌else◌, option_and_then, option_map, IfOk, string_bytes};
-ghost use Rattle.clap.specs.Words.{all_of, first_of, found_of, kind_of, one_of, rows_of};
-ghost use Rattle.lw_top.specs.CommandLine.{kind_named, number_in_range, refusal_of};
+ghost use Rattle.std.specs.Prelude.{◌≡◌, ◌≤◌, ◌&&◌, [], Err, map, unwrap_or, Some, None, nat_le, if◌then◌else◌, option_and_then, option_map, IfOk, IfSome, string_bytes};
+ghost use Rattle.clap.specs.Words.{all_of, first_of, found_of, rows_of};
+ghost use Rattle.lw_top.specs.declared.values.ArgumentStop.{ArgumentStop as Stop};
+ghost use Rattle.lw_top.specs.CommandLine.{kind_named, number_given};
 
-use clap::error::ErrorKind;
-use clap::{ArgMatches, Error};
+use crate::ranges::Range;
+use clap::ArgMatches;
 use lw_report::Outcome;
 use lw_rounds::Kind;
 use std::alloc::{AllocError, Global};
@@ -42,14 +43,11 @@ impl From<ArgumentStop> for Outcome {
     }
 }
 
-/// Why a parse failed.
-pub(crate) fn stop_of(error: &Error) -> ArgumentStop
-    ensures { result ≡ refusal_of (kind_of error.now) }
+/// The text of an argument, where it was given, as it stands in the arguments.
+pub(crate) fn str_at<'a>(matches: &ArgMatches<'a>, id: &str) -> Option<&'a str>
+    ensures { option_map (λ s. s.now) result ≡ first_of id.now (rows_of (found_of matches.now)) }
 {
-    match error.kind() {
-        ErrorKind::OutOfMemory => ArgumentStop::NoMemory,
-        _ => ArgumentStop::Usage,
-    }
+    matches.get_str(id)
 }
 
 /// The text of an argument, where it was given.
@@ -61,9 +59,26 @@ pub(crate) fn text_at(
     ensures { IfOk result (λ text. option_map (λ s. string_bytes s) text ≡
         first_of id.now (rows_of (found_of matches.now))) }
 {
-    match matches.get_str(id) {
+    match str_at(matches, id) {
         Some(text) => Ok(Some(String::from_str(alloc, text)?)),
         None => Ok(None),
+    }
+}
+
+/// The text of an argument that has to be there.
+pub(crate) fn required_text_at(
+    alloc: Global,
+    matches: &ArgMatches,
+    id: &str,
+) -> Result<String, ArgumentStop>
+    ensures ok { IfOk result (λ text. first_of id.now (rows_of (found_of matches.now)) ≡
+        Some (string_bytes text)) }
+    ensures refused { result ≡ Err Stop.Usage →
+        first_of id.now (rows_of (found_of matches.now)) ≡ None }
+{
+    match str_at(matches, id) {
+        Some(text) => Ok(String::from_str(alloc, text)?),
+        None => Err(ArgumentStop::Usage),
     }
 }
 
@@ -95,21 +110,23 @@ pub(crate) fn texts_at(
 }
 
 /// The number, where it is in the range.
-fn within(number: Option<u64>, low: u64, high: u64) -> Option<u64>
-    ensures { result ≡ option_and_then (λ n. if nat_le low n && nat_le n high then Some n else None)
-        number }
+fn within(number: Option<u64>, range: Range) -> Option<u64>
+    ensures same { result ≡ option_and_then
+        (λ n. if nat_le range.low n && nat_le n range.high then Some n else None) number }
+    ensures bounds { IfSome result (λ n. (range.low ≤ n) × (n ≤ range.high)) }
 {
     match number {
-        Some(number) if low <= number && number <= high => Some(number),
+        Some(number) if range.low <= number && number <= range.high => Some(number),
         _ => None,
     }
 }
 
 /// The number of an argument, where it is in the range.
-pub(crate) fn number_at(matches: &ArgMatches, id: &str, low: u64, high: u64) -> Option<u64>
-    ensures { result ≡ number_in_range low high (one_of id.now (rows_of (found_of matches.now))) }
+pub(crate) fn number_at(matches: &ArgMatches, id: &str, range: Range) -> Option<u64>
+    ensures given { result ≡ number_given id.now range (rows_of (found_of matches.now)) }
+    ensures bounds { IfSome result (λ n. (range.low ≤ n) × (n ≤ range.high)) }
 {
-    within(matches.get_one::<u64>(id), low, high)
+    within(matches.get_one::<u64>(id), range)
 }
 
 /// The kind of learner of this name.
@@ -130,7 +147,7 @@ pub(crate) fn kind_at(matches: &ArgMatches, id: &str) -> Option<Kind>
     ensures { result ≡ option_and_then kind_named
         (first_of id.now (rows_of (found_of matches.now))) }
 {
-    match matches.get_str(id) {
+    match str_at(matches, id) {
         Some(name) => kind_named(name),
         None => None,
     }

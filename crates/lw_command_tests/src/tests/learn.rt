@@ -2,11 +2,11 @@
 ghost use Rattle.std.specs.Prelude.{◌≤◌};
 
 use crate::tests::memory::string;
-use lw_learn::{LearnArguments, Source, bad_is_refused, learn, told_is_learned};
+use lw_learn::{LearnArguments, LearnFiles, Source, bad_is_refused, learn, told_is_learned};
 use lw_log::{Log, MemoryLog};
 use lw_outside::{MemoryFiles, MemorySink, MemorySpawner, World};
 use lw_report::{End, Outcome};
-use lw_rounds::{Kind, Learner};
+use lw_rounds::{Kind, Learner, Settings};
 use std::alloc::Global;
 use std::process::Abort;
 use std::sync::Wait;
@@ -190,6 +190,19 @@ fn with_child(rt: &impl Abort, alloc: Global, script: &str) -> Outside {
     outside_of(rt, alloc, files, children, MemoryLog::new(alloc))
 }
 
+/// The arguments that name no file but the system's, and draw no words.
+fn bare(source: Source, system: String, settings: Settings) -> LearnArguments {
+    let files = LearnFiles {
+        model: None,
+        answers: None,
+        prior: None,
+        kept: None,
+        words: None,
+        log: None,
+    };
+    LearnArguments::new(source, system, settings, None, files)
+}
+
 /// What a learning of `m` comes to at a limit of states.
 fn limited<R: Abort + Threads + Wait + Sync + Copy + Drop>(
     rt: R,
@@ -199,21 +212,13 @@ fn limited<R: Abort + Threads + Wait + Sync + Copy + Drop>(
 ) -> Seen
     requires { (1 ≤ max_states) × (max_states ≤ 1024) }
 {
-    let arguments = LearnArguments::new(
-        Source::Table,
-        string(&rt, alloc, "m"),
-        2,
-        1,
-        Kind::Table,
+    let settings = Settings {
+        workers: 2,
+        kind: Kind::Table,
+        extra: 1,
         max_states,
-        None,
-        None,
-        None,
-        None,
-        None,
-        None,
-        None,
-    );
+    };
+    let arguments = bare(Source::Table, string(&rt, alloc, "m"), settings);
     call(rt, alloc, &arguments, outside)
 }
 
@@ -223,21 +228,13 @@ fn told<R: Abort + Threads + Wait + Sync + Copy + Drop>(
     alloc: Global,
     outside: &mut Outside,
 ) -> Seen {
-    let arguments = LearnArguments::new(
-        Source::Setup,
-        string(&rt, alloc, "m"),
-        1,
-        0,
-        Kind::Table,
-        8,
-        None,
-        None,
-        None,
-        None,
-        None,
-        None,
-        None,
-    );
+    let settings = Settings {
+        workers: 1,
+        kind: Kind::Table,
+        extra: 0,
+        max_states: 8,
+    };
+    let arguments = bare(Source::Setup, string(&rt, alloc, "m"), settings);
     call(rt, alloc, &arguments, outside)
 }
 

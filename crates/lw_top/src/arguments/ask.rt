@@ -1,44 +1,24 @@
-//! The arguments of `ask`, read by clap.
-ghost use Rattle.std.specs.Prelude.{◌≡◌, [], true, false, string_bytes, map, Some, None, Err, IfOk, OnOk, option_map};
-ghost use Rattle.clap.specs.Faults.{fault_of};
-ghost use Rattle.clap.specs.Words.{app_of, found_of, matches_of, rows_of};
-ghost use Rattle.lw_top.specs.CommandLine.{is_faultless, texts};
-ghost use Rattle.lw_top.specs.AskCommand.{ask_app, ask_values, values_from, values_in};
+//! The arguments of `ask`.
+ghost use Rattle.std.specs.Prelude.{◌≡◌, [], string_bytes, map, Some, None, Err, IfOk, option_map};
+ghost use Rattle.clap.specs.Words.{found_of, rows_of};
+ghost use Rattle.lw_top.specs.CommandLine.{texts};
+ghost use Rattle.lw_top.specs.AskCommand.{ask_values, values_from, values_in};
 ghost use Rattle.lw_top.specs.declared.values.ArgumentStop.{ArgumentStop as Stop};
 
 use crate::ArgumentStop;
-use crate::options::{many_arguments, text_option};
-use crate::values::{stop_of, text_at, texts_at};
-use clap::{ArgMatches, Command};
+use crate::matching::read_matches;
+use crate::options::{Argument, Syntax};
+use crate::values::{text_at, texts_at};
+use clap::ArgMatches;
 use lw_ask::AskArguments;
 use lw_learn::Source;
-use std::alloc::{AllocError, Global};
+use std::alloc::Global;
 
 /// The command `ask`.
-fn ask_command<'a>(alloc: Global) -> Result<Command<'a>, AllocError>
-    ensures { IfOk result (λ c. app_of c ≡ ask_app) }
-{
-    let command = Command::new(alloc, "ask")
-        .arg(text_option(alloc, "table"))?
-        .arg(many_arguments(alloc, "words"))?;
-    Ok(command)
-}
-
-/// What clap finds in the arguments.
-fn ask_matches<'a>(alloc: Global, arguments: &'a [String]) -> Result<ArgMatches<'a>, ArgumentStop>
-    ensures found { IfOk result (λ m. rows_of (found_of m) ≡
-        matches_of ask_app (texts arguments.entry.now)) }
-    ensures taken { OnOk result (is_faultless (fault_of ask_app (texts arguments.entry.now)) ≡
-        true) }
-    ensures refused { result ≡ Err Stop.Usage →
-        is_faultless (fault_of ask_app (texts arguments.entry.now)) ≡ false }
-{
-    let command = ask_command(alloc)?;
-    match command.try_get_matches_from(arguments) {
-        Ok(matches) => Ok(matches),
-        Err(error) => Err(stop_of(&error)),
-    }
-}
+static ASK: Syntax = Syntax {
+    command: "ask",
+    arguments: &[Argument::Text("table"), Argument::Many("words")],
+};
 
 /// The system and its words: without a table the first of the words is the setup.
 fn ask_of(table: Option<String>, words: Vec<String>) -> Option<AskArguments>
@@ -77,11 +57,6 @@ pub fn ask_arguments(alloc: Global, arguments: &[String]) -> Result<AskArguments
     ensures ok { IfOk result (λ a. ask_values (texts arguments.now) ≡ Some a) }
     ensures refused { result ≡ Err Stop.Usage → ask_values (texts arguments.now) ≡ None }
 {
-    match arguments.first() {
-        Some(command) if command.as_str() == "ask" => {
-            let matches = ask_matches(alloc, arguments)?;
-            values_of(alloc, &matches)
-        }
-        _ => Err(ArgumentStop::Usage),
-    }
+    let matches = read_matches(alloc, &ASK, arguments)?;
+    values_of(alloc, &matches)
 }

@@ -1,16 +1,17 @@
-//! The arguments of `check`, read by clap.
-ghost use Rattle.std.specs.Prelude.{◌≡◌, ◌≤◌, true, false, Some, None, Err, IfOk, OnOk, string_bytes};
-ghost use Rattle.clap.specs.Faults.{fault_of};
-ghost use Rattle.clap.specs.Words.{app_of, found_of, matches_of, rows_of};
-ghost use Rattle.lw_top.specs.CommandLine.{is_faultless, texts};
-ghost use Rattle.lw_top.specs.CheckCommand.{check_app, check_values, values_in};
+//! The arguments of `check`.
+ghost use Rattle.std.specs.Prelude.{◌≡◌, ◌≤◌, Some, None, Err, IfOk, string_bytes};
+ghost use Rattle.clap.specs.Words.{found_of, rows_of};
+ghost use Rattle.lw_top.specs.CommandLine.{texts};
+ghost use Rattle.lw_top.specs.CheckCommand.{check_values, values_in};
 ghost use Rattle.lw_top.specs.declared.values.ArgumentStop.{ArgumentStop as Stop};
 
 use crate::ArgumentStop;
-use crate::options::{extra_option, required_argument};
-use crate::values::{number_at, stop_of, text_at};
-use clap::{ArgMatches, Command};
-use std::alloc::{AllocError, Global};
+use crate::matching::read_matches;
+use crate::options::{Argument, Syntax};
+use crate::ranges::EXTRA;
+use crate::values::{number_at, required_text_at};
+use clap::ArgMatches;
+use std::alloc::Global;
 use std::marker::Model;
 
 /// The values of the arguments of `check`: the model file, the answers file and the extra states.
@@ -74,46 +75,25 @@ impl CheckArguments {
 }
 
 /// The command `check`.
-fn check_command<'a>(alloc: Global) -> Result<Command<'a>, AllocError>
-    ensures { IfOk result (λ c. app_of c ≡ check_app) }
-{
-    let command = Command::new(alloc, "check")
-        .arg(required_argument(alloc, "model"))?
-        .arg(required_argument(alloc, "answers"))?
-        .arg(extra_option(alloc))?;
-    Ok(command)
-}
-
-/// What clap finds in the arguments.
-fn check_matches<'a>(alloc: Global, arguments: &'a [String]) -> Result<ArgMatches<'a>, ArgumentStop>
-    ensures found { IfOk result (λ m. rows_of (found_of m) ≡
-        matches_of check_app (texts arguments.entry.now)) }
-    ensures taken { OnOk result (is_faultless (fault_of check_app (texts arguments.entry.now)) ≡
-        true) }
-    ensures refused { result ≡ Err Stop.Usage →
-        is_faultless (fault_of check_app (texts arguments.entry.now)) ≡ false }
-{
-    let command = check_command(alloc)?;
-    match command.try_get_matches_from(arguments) {
-        Ok(matches) => Ok(matches),
-        Err(error) => Err(stop_of(&error)),
-    }
-}
+static CHECK: Syntax = Syntax {
+    command: "check",
+    arguments: &[
+        Argument::Required("model"),
+        Argument::Required("answers"),
+        Argument::NumberOr("extra", EXTRA, "1"),
+    ],
+};
 
 /// The values that clap found.
 fn values_of(alloc: Global, matches: &ArgMatches) -> Result<CheckArguments, ArgumentStop>
     ensures ok { IfOk result (λ a. values_in (rows_of (found_of matches.now)) ≡ Some a) }
     ensures refused { result ≡ Err Stop.Usage → values_in (rows_of (found_of matches.now)) ≡ None }
 {
-    let Some(model) = text_at(alloc, matches, "model")? else {
+    let Some(extra) = number_at(matches, "extra", EXTRA) else {
         return Err(ArgumentStop::Usage);
     };
-    let Some(answers) = text_at(alloc, matches, "answers")? else {
-        return Err(ArgumentStop::Usage);
-    };
-    let Some(extra) = number_at(matches, "extra", 0, 4) else {
-        return Err(ArgumentStop::Usage);
-    };
+    let model = required_text_at(alloc, matches, "model")?;
+    let answers = required_text_at(alloc, matches, "answers")?;
     Ok(CheckArguments::new(model, answers, extra as u8))
 }
 
@@ -122,11 +102,6 @@ pub fn check_arguments(alloc: Global, arguments: &[String]) -> Result<CheckArgum
     ensures ok { IfOk result (λ a. check_values (texts arguments.now) ≡ Some a) }
     ensures refused { result ≡ Err Stop.Usage → check_values (texts arguments.now) ≡ None }
 {
-    match arguments.first() {
-        Some(command) if command.as_str() == "check" => {
-            let matches = check_matches(alloc, arguments)?;
-            values_of(alloc, &matches)
-        }
-        _ => Err(ArgumentStop::Usage),
-    }
+    let matches = read_matches(alloc, &CHECK, arguments)?;
+    values_of(alloc, &matches)
 }

@@ -1,65 +1,47 @@
-//! The arguments of `learn`, read by clap.
-ghost use Rattle.std.specs.Prelude.{◌≡◌, true, false, Some, None, Err, IfOk, IfSome, OnOk, option_map, string_bytes};
-ghost use Rattle.clap.specs.Faults.{fault_of};
-ghost use Rattle.clap.specs.Words.{app_of, found_of, matches_of, rows_of};
-ghost use Rattle.lw_top.specs.CommandLine.{is_faultless, texts};
+//! The arguments of `learn`.
+ghost use Rattle.std.specs.Prelude.{◌≡◌, Some, None, Err, IfOk, IfSome, option_map, string_bytes};
+ghost use Rattle.clap.specs.Words.{found_of, rows_of};
 ghost use Rattle.lw_learn.specs.Arguments.{AreFewDrawn};
-ghost use Rattle.lw_top.specs.LearnCommand.{drawn_in, learn_app, learn_values, source_from, values_in};
+ghost use Rattle.lw_top.specs.CommandLine.{texts};
+ghost use Rattle.lw_top.specs.LearnCommand.{drawn_in, file_names, files_in, learn_values, setting_values, settings_in, source_from, source_in, values_in};
 ghost use Rattle.lw_top.specs.declared.values.ArgumentStop.{ArgumentStop as Stop};
 
 use crate::ArgumentStop;
-use crate::options::{
-    drawn_seed_option, extra_option, learner_option, length_option, optional_argument,
-    random_option, states_option, text_option, workers_option,
-};
-use crate::values::{kind_at, number_at, stop_of, text_at};
-use clap::{ArgMatches, Command};
-use lw_learn::{Drawn, LearnArguments, Source};
+use crate::matching::read_matches;
+use crate::options::{Argument, Syntax};
+use crate::ranges::{EXTRA, LENGTH, RANDOM, SEED, STATES, WORKERS};
+use crate::values::{kind_at, number_at, str_at, text_at};
+use clap::ArgMatches;
+use lw_learn::{Drawn, LearnArguments, LearnFiles, Source};
+use lw_rounds::Settings;
 use std::alloc::{AllocError, Global};
 
 /// The command `learn`.
-fn learn_command<'a>(alloc: Global) -> Result<Command<'a>, AllocError>
-    ensures { IfOk result (λ c. app_of c ≡ learn_app) }
-{
-    let command = Command::new(alloc, "learn")
-        .arg(optional_argument(alloc, "setup"))?
-        .arg(text_option(alloc, "table"))?
-        .arg(workers_option(alloc))?
-        .arg(extra_option(alloc))?
-        .arg(learner_option(alloc))?
-        .arg(states_option(alloc))?
-        .arg(text_option(alloc, "model"))?
-        .arg(text_option(alloc, "answers"))?
-        .arg(text_option(alloc, "prior"))?
-        .arg(text_option(alloc, "kept"))?
-        .arg(text_option(alloc, "words"))?
-        .arg(random_option(alloc))?
-        .arg(length_option(alloc))?
-        .arg(drawn_seed_option(alloc))?
-        .arg(text_option(alloc, "log"))?;
-    Ok(command)
-}
-
-/// What clap finds in the arguments.
-fn learn_matches<'a>(alloc: Global, arguments: &'a [String]) -> Result<ArgMatches<'a>, ArgumentStop>
-    ensures found { IfOk result (λ m. rows_of (found_of m) ≡
-        matches_of learn_app (texts arguments.entry.now)) }
-    ensures taken { OnOk result (is_faultless (fault_of learn_app (texts arguments.entry.now)) ≡
-        true) }
-    ensures refused { result ≡ Err Stop.Usage →
-        is_faultless (fault_of learn_app (texts arguments.entry.now)) ≡ false }
-{
-    let command = learn_command(alloc)?;
-    match command.try_get_matches_from(arguments) {
-        Ok(matches) => Ok(matches),
-        Err(error) => Err(stop_of(&error)),
-    }
-}
+pub(crate) static LEARN: Syntax = Syntax {
+    command: "learn",
+    arguments: &[
+        Argument::Optional("setup"),
+        Argument::Text("table"),
+        Argument::NumberOr("workers", WORKERS, "1"),
+        Argument::NumberOr("extra", EXTRA, "1"),
+        Argument::TextOr("learner", "table"),
+        Argument::NumberOr("max-states", STATES, "1024"),
+        Argument::Text("model"),
+        Argument::Text("answers"),
+        Argument::Text("prior"),
+        Argument::Text("kept"),
+        Argument::Text("words"),
+        Argument::Number("random", RANDOM),
+        Argument::Number("length", LENGTH),
+        Argument::Number("seed", SEED),
+        Argument::Text("log"),
+    ],
+};
 
 /// The file of the system and its kind, where one of the two is named.
-fn source_of(setup: Option<String>, table: Option<String>) -> Option<(Source, String)>
-    ensures { option_map (λ s. (s.0, string_bytes s.1)) result ≡ source_from
-        (option_map (λ s. string_bytes s) setup) (option_map (λ s. string_bytes s) table) }
+fn source_of<'a>(setup: Option<&'a str>, table: Option<&'a str>) -> Option<(Source, &'a str)>
+    ensures { option_map (λ s. (s.0, s.1.now)) result ≡ source_from
+        (option_map (λ s. s.now) setup.entry) (option_map (λ s. s.now) table.entry) }
 {
     match (setup, table) {
         (Some(setup), None) => Some((Source::Setup, setup)),
@@ -68,14 +50,42 @@ fn source_of(setup: Option<String>, table: Option<String>) -> Option<(Source, St
     }
 }
 
+/// The file of the system and its kind.
+fn source_at(alloc: Global, matches: &ArgMatches) -> Result<(Source, String), ArgumentStop>
+    ensures ok { IfOk result (λ s. source_in (rows_of (found_of matches.now)) ≡
+        Some (s.0, string_bytes s.1)) }
+    ensures refused { result ≡ Err Stop.Usage → source_in (rows_of (found_of matches.now)) ≡ None }
+{
+    match source_of(str_at(matches, "setup"), str_at(matches, "table")) {
+        Some((source, name)) => Ok((source, String::from_str(alloc, name)?)),
+        None => Err(ArgumentStop::Usage),
+    }
+}
+
+/// The settings of the learning, where each number is in its range and the learner is of a kind.
+fn settings_at(matches: &ArgMatches) -> Option<Settings>
+    ensures { option_map setting_values result ≡ settings_in (rows_of (found_of matches.now)) }
+{
+    let workers = number_at(matches, "workers", WORKERS)?;
+    let extra = number_at(matches, "extra", EXTRA)?;
+    let kind = kind_at(matches, "learner")?;
+    let max_states = number_at(matches, "max-states", STATES)?;
+    Some(Settings {
+        workers: workers as u8,
+        kind,
+        extra: extra as u8,
+        max_states: max_states as u16,
+    })
+}
+
 /// The words that are to be drawn, where all of their numbers are given, or none; else the arguments aren't taken.
 fn drawn_at(matches: &ArgMatches) -> Option<Option<Drawn>>
     ensures value { result ≡ drawn_in (rows_of (found_of matches.now)) }
     ensures few { IfSome result (λ drawn. IfSome drawn AreFewDrawn) }
 {
-    let count = number_at(matches, "random", 0, 1_000_000);
-    let length = number_at(matches, "length", 0, 65_536);
-    let seed = number_at(matches, "seed", 0, u64::MAX);
+    let count = number_at(matches, "random", RANDOM);
+    let length = number_at(matches, "length", LENGTH);
+    let seed = number_at(matches, "seed", SEED);
     match (count, length, seed) {
         (None, None, None) => Some(None),
         (Some(count), Some(length), Some(seed)) => Some(Some(Drawn {
@@ -87,46 +97,34 @@ fn drawn_at(matches: &ArgMatches) -> Option<Option<Drawn>>
     }
 }
 
+/// The names of the other files.
+fn files_at(alloc: Global, matches: &ArgMatches) -> Result<LearnFiles, AllocError>
+    ensures { IfOk result (λ f. file_names f ≡ files_in (rows_of (found_of matches.now))) }
+{
+    Ok(LearnFiles {
+        model: text_at(alloc, matches, "model")?,
+        answers: text_at(alloc, matches, "answers")?,
+        prior: text_at(alloc, matches, "prior")?,
+        kept: text_at(alloc, matches, "kept")?,
+        words: text_at(alloc, matches, "words")?,
+        log: text_at(alloc, matches, "log")?,
+    })
+}
+
 /// The values that clap found, where the file of the system is named.
 fn values_of(alloc: Global, matches: &ArgMatches) -> Result<LearnArguments, ArgumentStop>
     ensures ok { IfOk result (λ a. values_in (rows_of (found_of matches.now)) ≡ Some a) }
     ensures refused { result ≡ Err Stop.Usage → values_in (rows_of (found_of matches.now)) ≡ None }
 {
-    let setup = text_at(alloc, matches, "setup")?;
-    let table = text_at(alloc, matches, "table")?;
-    let Some((source, system)) = source_of(setup, table) else {
-        return Err(ArgumentStop::Usage);
-    };
-    let Some(workers) = number_at(matches, "workers", 1, 16) else {
-        return Err(ArgumentStop::Usage);
-    };
-    let Some(extra) = number_at(matches, "extra", 0, 4) else {
-        return Err(ArgumentStop::Usage);
-    };
-    let Some(learner) = kind_at(matches, "learner") else {
-        return Err(ArgumentStop::Usage);
-    };
-    let Some(max_states) = number_at(matches, "max-states", 1, 1024) else {
+    let Some(settings) = settings_at(matches) else {
         return Err(ArgumentStop::Usage);
     };
     let Some(drawn) = drawn_at(matches) else {
         return Err(ArgumentStop::Usage);
     };
-    Ok(LearnArguments::new(
-        source,
-        system,
-        workers as u8,
-        extra as u8,
-        learner,
-        max_states as u16,
-        text_at(alloc, matches, "model")?,
-        text_at(alloc, matches, "answers")?,
-        text_at(alloc, matches, "prior")?,
-        text_at(alloc, matches, "kept")?,
-        text_at(alloc, matches, "words")?,
-        drawn,
-        text_at(alloc, matches, "log")?,
-    ))
+    let (source, system) = source_at(alloc, matches)?;
+    let files = files_at(alloc, matches)?;
+    Ok(LearnArguments::new(source, system, settings, drawn, files))
 }
 
 /// Reads the arguments of `learn`, of which the first is the command.
@@ -134,11 +132,6 @@ pub fn learn_arguments(alloc: Global, arguments: &[String]) -> Result<LearnArgum
     ensures ok { IfOk result (λ a. learn_values (texts arguments.now) ≡ Some a) }
     ensures refused { result ≡ Err Stop.Usage → learn_values (texts arguments.now) ≡ None }
 {
-    match arguments.first() {
-        Some(command) if command.as_str() == "learn" => {
-            let matches = learn_matches(alloc, arguments)?;
-            values_of(alloc, &matches)
-        }
-        _ => Err(ArgumentStop::Usage),
-    }
+    let matches = read_matches(alloc, &LEARN, arguments)?;
+    values_of(alloc, &matches)
 }

@@ -1,6 +1,6 @@
 //! What is refused: arguments that are not taken, and texts that are no machine file.
 use crate::tests::cases::{Case, PLAIN, check, texts};
-use lw_top::check_arguments;
+use lw_top::{check_arguments, learn_arguments};
 use std::alloc::Global;
 use std::process::Abort;
 use std::sync::Wait;
@@ -99,6 +99,42 @@ fn arguments_of_check(rt: HostRuntime) {
     assert!(rt; is_check(&rt, alloc, &["check", "--extra", "0", "m", "k"]));
     assert!(rt; !is_check(&rt, alloc, &["check", "m"]));
     assert!(rt; !is_check(&rt, alloc, &["check", "m", "k", "--extra", "5"]));
+}
+
+/// Arguments of `learn` with each number at the least and the greatest of its range.
+static ENDS: [&[&str]; 2] = [
+    &[
+        "learn",
+        "s",
+        "--workers=1",
+        "--extra=0",
+        "--max-states=1",
+        "--random=0",
+        "--length=0",
+        "--seed=0",
+    ],
+    &[
+        "learn",
+        "s",
+        "--workers=16",
+        "--extra=4",
+        "--max-states=1024",
+        "--random=1000000",
+        "--length=65536",
+        "--seed=18446744073709551615",
+    ],
+];
+
+/// Whether `learn` takes the arguments.
+fn is_learn(rt: &impl Abort, alloc: Global, arguments: &[&str]) -> bool {
+    learn_arguments(alloc, &texts(rt, alloc, arguments)).is_ok()
+}
+
+#[test]
+fn numbers_at_the_ends_of_their_ranges(rt: HostRuntime) {
+    for arguments in &ENDS {
+        assert!(rt; is_learn(&rt, rt.alloc(), arguments));
+    }
 }
 
 /// Texts that are no machine file, with what is said of each.

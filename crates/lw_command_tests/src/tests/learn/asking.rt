@@ -6,10 +6,10 @@ use crate::tests::learn::{
     Outside, call, check_text, has, named, no_children, outside_of, push_file,
 };
 use crate::tests::memory::string;
-use lw_learn::{Drawn, LearnArguments, Source};
+use lw_learn::{Drawn, LearnArguments, LearnFiles, Source};
 use lw_log::MemoryLog;
 use lw_outside::MemoryFiles;
-use lw_rounds::Kind;
+use lw_rounds::{Kind, Settings};
 use std::alloc::Global;
 use std::process::Abort;
 use std::sync::Wait;
@@ -54,20 +54,26 @@ fn arguments(rt: &impl Abort, alloc: Global, row: &Row) -> LearnArguments
     requires extra { row.now.extra ≤ 4 }
     requires drawn { IfSome row.now.drawn AreFewDrawn }
 {
+    let settings = Settings {
+        workers: 1,
+        kind: Kind::Table,
+        extra: row.extra,
+        max_states: 8,
+    };
+    let files = LearnFiles {
+        model: None,
+        answers: None,
+        prior: named(rt, alloc, "p", row.prior.is_some()),
+        kept: named(rt, alloc, "k", true),
+        words: named(rt, alloc, "w", row.drawn.is_none()),
+        log: named(rt, alloc, "l", row.is_logged),
+    };
     LearnArguments::new(
         Source::Table,
         string(rt, alloc, "m"),
-        1,
-        row.extra,
-        Kind::Table,
-        8,
-        None,
-        None,
-        named(rt, alloc, "p", row.prior.is_some()),
-        named(rt, alloc, "k", true),
-        named(rt, alloc, "w", row.drawn.is_none()),
+        settings,
         row.drawn,
-        named(rt, alloc, "l", row.is_logged),
+        files,
     )
 }
 

@@ -6,10 +6,10 @@ use crate::tests::learn::{
 };
 use crate::tests::memory::string;
 use lw_json::read_machine;
-use lw_learn::{LearnArguments, Source};
+use lw_learn::{LearnArguments, LearnFiles, Source};
 use lw_log::MemoryLog;
 use lw_outside::{MemoryFiles, MemorySpawner};
-use lw_rounds::Kind;
+use lw_rounds::{Kind, Settings};
 use std::alloc::Global;
 use std::process::Abort;
 use std::sync::Wait;
@@ -78,21 +78,21 @@ fn files(rt: &impl Abort, alloc: Global, row: &Row) -> MemoryFiles {
 fn arguments(rt: &impl Abort, alloc: Global, row: &Row) -> LearnArguments
     requires { (row.now.extra ≤ 4) × (1 ≤ row.now.max_states) × (row.now.max_states ≤ 1024) }
 {
-    LearnArguments::new(
-        Source::Setup,
-        string(rt, alloc, "s"),
-        1,
-        row.extra,
-        Kind::Table,
-        row.max_states,
-        named(rt, alloc, "h", row.to_files),
-        named(rt, alloc, "a", row.to_files),
-        named(rt, alloc, "p", row.prior.is_some()),
-        named(rt, alloc, "k", true),
-        None,
-        None,
-        None,
-    )
+    let settings = Settings {
+        workers: 1,
+        kind: Kind::Table,
+        extra: row.extra,
+        max_states: row.max_states,
+    };
+    let files = LearnFiles {
+        model: named(rt, alloc, "h", row.to_files),
+        answers: named(rt, alloc, "a", row.to_files),
+        prior: named(rt, alloc, "p", row.prior.is_some()),
+        kept: named(rt, alloc, "k", true),
+        words: None,
+        log: None,
+    };
+    LearnArguments::new(Source::Setup, string(rt, alloc, "s"), settings, None, files)
 }
 
 fn prepare(rt: &impl Abort, alloc: Global, row: &Row) -> Outside {

@@ -1,13 +1,21 @@
-use Rattle.std.specs.Prelude.{codes}
-use Rattle.clap.specs.Words.{found_of, rows_of}
+use Rattle.std.proofs.Common.{◌≡◌, ◌∙◌, Err, rules}
 use Rattle.lw_top.specs.CommandLine.{texts}
-use Rattle.lw_top.proofs.RecheckLemmas.{first_is, values_taken}
+use Rattle.lw_top.specs.RecheckCommand.{recheck_app, values_in}
+use Rattle.lw_top.specs.declared.values.ArgumentStop.TheVariants.{Usage}
+use Rattle.lw_top.proofs.TakenLemmas.{say, taken_values, untaken_values}
 use Rattle.lw_top.proofs.arguments.recheck.recheck_arguments.Goals as goal
 
-pub returns-in_ok-matches-in-Some-clause-ok : goal.returns-in_ok-matches-in-Some-clause-ok
-returns-in_ok-matches-in-Some-clause-ok c =
-    let words = texts c.args.arguments.now in
-    let found = c.in_ok-matches-in-Some.ensures in
-    let first = c.in-Some.ensures.item.3 in
-    let command = first_is (codes "recheck") c.args.arguments.now first.0 c.in-Some.command.now first.1 c.as_str.result.now c.as_str.ensures.value c.if-eq.ensures in
-    values_taken words (rows_of (found_of c.in_ok-matches-in-Some.matches)) c.values_of.result command found.taken found.found c.values_of.ensures.ok
+pub returns-clause-ok : goal.returns-clause-ok
+returns-clause-ok c =
+    let found = c.in_ok-matches.ensures in
+    say (λ v. v) c.values_of.result (taken_values recheck_app values_in (texts c.args.arguments.now) found.found found.taken) c.values_of.ensures.ok
+
+pub returns-clause-refused : goal.returns-clause-refused
+returns-clause-refused c usage =
+    let found = c.in_ok-matches.ensures in
+    taken_values recheck_app values_in (texts c.args.arguments.now) found.found found.taken ∙ c.values_of.ensures.refused usage
+
+pub returns-in_err-matches-clause-refused : goal.returns-in_err-matches-clause-refused
+returns-in_err-matches-clause-refused c usage =
+    let is : c.read_matches.result ≡ Err Usage = search (rules, usage) in
+    untaken_values recheck_app values_in (texts c.args.arguments.now) (c.read_matches.ensures.refused is)

@@ -1,8 +1,0 @@
-use Rattle.std.proofs.Common.{◌∙◌, ap₂}
-use Rattle.clap.specs.Words.{with_rule}
-use Rattle.lw_top.proofs.arguments.serve.serve_command.Goals as goal
-
-pub returns : goal.returns
-returns c =
-    c.in_ok-command.ensures.shape c.required_argument.ensures.local
-    ∙ ap₂ with_rule c.new.ensures.app c.required_argument.ensures.rule
