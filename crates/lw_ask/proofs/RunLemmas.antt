@@ -6,7 +6,7 @@ use Rattle.lw_outside.specs.Files.{FilesState}
 use Rattle.lw_outside.specs.Streams.{SinkState}
 use Rattle.lw_report.specs.declared.«end».End.{End}
 use Rattle.lw_report.specs.declared.outcome.Outcome.{Outcome}
-use Rattle.lw_learn.specs.declared.task.System.{System}
+use Rattle.lw_system.specs.declared.system.System.{System}
 use Rattle.lw_ask.specs.Arguments.{AskValues}
 use Rattle.lw_ask.specs.AskRun.{AsksTexts, IsAskRun, IsEnd}
 use Rattle.lw_ask.specs.Hints.{TakesHint}

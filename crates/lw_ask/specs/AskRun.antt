@@ -10,21 +10,24 @@ use Rattle.lw_sul.specs.declared.runs.Run.{Run}
 use Rattle.lw_outside.specs.Links.{SpawnerState}
 use Rattle.lw_outside.specs.Files.{FilesState}
 use Rattle.lw_outside.specs.Streams.{SinkState}
-use Rattle.lw_children.specs.declared.command.Command.{Command}
+use Rattle.lw_json.specs.declared.setup.Command.{Command}
 use Rattle.lw_report.specs.Ends.{IsWithoutLearner}
 use Rattle.lw_report.specs.Outcomes.{StandsOrWants}
 use Rattle.lw_report.specs.Writing.{TakesAll, TakesSome, said_text}
 use Rattle.lw_report.specs.declared.«end».End.{End}
 use Rattle.lw_report.specs.declared.outcome.Outcome.{Outcome}
-use Rattle.lw_learn.specs.Tasks.{ReadsSystem, letters_of}
-use Rattle.lw_learn.specs.Unread.{MadeReads}
-use Rattle.lw_learn.specs.declared.task.System.{System}
-use Rattle.lw_learn.specs.declared.task.System.TheVariants.{Table, Children}
+use Rattle.lw_system.specs.Systems.{ReadsSystem, letters_of}
+use Rattle.lw_system.specs.Reads.{MadeReads}
+use Rattle.lw_system.specs.declared.system.System.{System}
+use Rattle.lw_system.specs.declared.system.System.TheVariants.{Table, Children}
 use Rattle.lw_ask.specs.Arguments.{AskValues}
 use Rattle.lw_ask.specs.Asking.{HasPut}
-use Rattle.lw_ask.specs.Child.{AsksChild, HasNotStarted}
-use Rattle.lw_ask.specs.Hints.{HasHint, IsUnreadWith, TakesHint}
-use Rattle.lw_ask.specs.Outcomes.{came_outcome, start_outcome, word_outcome}
+use Rattle.lw_ask.specs.Child.{AsksChild}
+use Rattle.lw_system.specs.Spawners.{HasNotStarted}
+use Rattle.lw_ask.specs.Hints.{IsUnreadWith, TakesHint}
+use Rattle.lw_system.specs.Finding.{HasHint}
+use Rattle.lw_ask.specs.Outcomes.{came_outcome, word_outcome}
+use Rattle.lw_report.specs.Stops.{start_outcome}
 use Rattle.lw_wordlist.specs.Words.{IsFirstUnknown, words_of_texts}
 use Rattle.lw_ask.specs.declared.stop.AskingStop.{AskingStop}
 use Rattle.lw_ask.specs.declared.stop.AskingStop.TheVariants.{Sul}

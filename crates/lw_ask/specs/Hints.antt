@@ -3,14 +3,14 @@ use Rattle.std.specs.Prelude.{◌≡◌, ◌⊎◌, ℕ, ◌≤◌, List, []}
 use Rattle.lw_words.specs.Cause.{CountedFault}
 use Rattle.lw_json.specs.SetupFile.{HasSetupFault, IsSetupFile}
 use Rattle.lw_outside.specs.Files.{File, FilesState}
-use Rattle.lw_report.specs.SetupHint.{TellsHint}
+use Rattle.lw_system.specs.SetupHint.{TellsHint}
 use Rattle.lw_outside.specs.Streams.{SinkState}
 use Rattle.lw_report.specs.Writing.{TakesAll, TakesSome}
 use Rattle.lw_report.specs.declared.outcome.Outcome.{Outcome}
 use Rattle.lw_report.specs.declared.role.Role.TheVariants as role
-use Rattle.lw_learn.specs.Unread.{IsRefused}
-use Rattle.lw_learn.specs.declared.arguments.Source.{Source}
-use Rattle.lw_learn.specs.declared.arguments.Source.TheVariants as source
+use Rattle.lw_report.specs.Refused.{IsRefused}
+use Rattle.lw_system.specs.declared.source.Source.{Source}
+use Rattle.lw_system.specs.declared.source.Source.TheVariants as source
 use Rattle.lw_ask.specs.Reading.{IsNoTable, NamesNoTable}
 
 -- the hint at a file that was read: that at the members of a setup; at a table there is none

@@ -6,15 +6,16 @@ use Rattle.lw_json.specs.SetupFile.{HasSetupFault, IsSetupFile}
 use Rattle.lw_json.specs.declared.machine.Machine.{Machine}
 use Rattle.lw_json.specs.declared.setup.Setup.TheVariants as setup
 use Rattle.lw_outside.specs.Files.{File, FilesState}
-use Rattle.lw_report.specs.Reading.{ReadsFile}
+use Rattle.lw_system.specs.Reading.{ReadsFile}
 use Rattle.lw_report.specs.declared.outcome.Outcome.{Outcome}
 use Rattle.lw_report.specs.declared.role.Role.TheVariants as role
-use Rattle.lw_learn.specs.Tasks.{ReadsSystem}
-use Rattle.lw_learn.specs.Unread.{IsRefused, MadeReads}
-use Rattle.lw_learn.specs.declared.arguments.Source.{Source}
-use Rattle.lw_learn.specs.declared.arguments.Source.TheVariants as source
-use Rattle.lw_learn.specs.declared.task.System.{System}
-use Rattle.lw_learn.specs.declared.task.System.TheVariants.{Table}
+use Rattle.lw_system.specs.Systems.{ReadsSystem}
+use Rattle.lw_report.specs.Refused.{IsRefused}
+use Rattle.lw_system.specs.Reads.{MadeReads}
+use Rattle.lw_system.specs.declared.source.Source.{Source}
+use Rattle.lw_system.specs.declared.source.Source.TheVariants as source
+use Rattle.lw_system.specs.declared.system.System.{System}
+use Rattle.lw_system.specs.declared.system.System.TheVariants.{Table}
 
 -- a table file of this name was refused
 abbrev pub IsNoTable : List ℕ → FilesState → FilesState → Outcome → Type 0

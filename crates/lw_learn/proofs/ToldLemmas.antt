@@ -22,22 +22,23 @@ use Rattle.lw_json.specs.declared.machine.Machine.{Machine}
 use Rattle.lw_json.specs.declared.setup.Setup.{Setup}
 use Rattle.lw_json.specs.declared.setup.Setup.TheVariants as setup
 use Rattle.lw_outside.specs.Files.{File, HoldsLong, file_at, longest_file, FilesState}
-use Rattle.lw_prior.specs.Prior.{FitNames}
-use Rattle.lw_report.specs.Reading.{ReadsBadFile, ReadsFile, TellsBad, TellsFile}
+use Rattle.lw_json.specs.FitNames.{FitNames}
+use Rattle.lw_system.specs.Reading.{ReadsBadFile, ReadsFile, TellsBad, TellsFile}
 use Rattle.lw_report.specs.declared.outcome.Outcome.{Outcome}
 use Rattle.lw_report.specs.declared.outcome.Outcome.TheVariants.{Learned, Trial, Yes, Served, No, Usage, BadFile, Alphabets, FileTooLong, Nondeterministic, NoMemory, SulFailed, Gone, BadLine, BadAsk, TooManyStates, SuiteTooLarge, FileFault, SourceFault, SinkFault, Compared, Asked, Rechecked, UnknownLetter, Unstarted}
 use Rattle.lw_report.specs.declared.role.Role.{Role}
 use Rattle.lw_report.specs.declared.role.Role.TheVariants as role
 use Rattle.lw_learn.specs.Arguments.{LearnValues}
 use Rattle.lw_learn.specs.Asking.{IsWordless, IsWordlessTask, IsWordsFile, ReadsUnknown}
-use Rattle.lw_learn.specs.Tasks.{FitsSystem, ReadsPrior, ReadsSystem, SaysSystem, declared_of, letters_of, or_these, with_outputs}
+use Rattle.lw_learn.specs.Tasks.{ReadsPrior, with_outputs}
+use Rattle.lw_system.specs.Systems.{FitsSystem, ReadsSystem, SaysSystem, declared_of, letters_of, or_these}
 use Rattle.lw_learn.specs.Told.{BadIsRefused, IsNoRefusal, TellsNoSystem, TellsPrior, TellsSetup, TellsSystem, TellsTask, TellsWords, ToldIsLearned}
 use Rattle.lw_learn.specs.Unread.{IsNext, IsTableNext, IsUnreadAs, IsUnreadBy, ReadsBad}
 use Rattle.lw_learn.proofs.RunLemmas.{counted_to}
-use Rattle.lw_learn.specs.declared.arguments.Source.{Source}
-use Rattle.lw_learn.specs.declared.arguments.Source.TheVariants as source
-use Rattle.lw_learn.specs.declared.task.System.{System}
-use Rattle.lw_learn.specs.declared.task.System.TheVariants.{Table, Children}
+use Rattle.lw_system.specs.declared.source.Source.{Source}
+use Rattle.lw_system.specs.declared.source.Source.TheVariants as source
+use Rattle.lw_system.specs.declared.system.System.{System}
+use Rattle.lw_system.specs.declared.system.System.TheVariants.{Table, Children}
 
 module _ {A : Type 0} where
   some_same : (a b : A) → Some a ≡ Some b → a ≡ b

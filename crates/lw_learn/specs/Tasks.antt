@@ -9,13 +9,14 @@ use Rattle.lw_json.specs.declared.machine.Machine.{Machine}
 use Rattle.lw_json.specs.declared.setup.Setup.{Setup}
 use Rattle.lw_json.specs.declared.setup.Setup.TheVariants as setup
 use Rattle.lw_outside.specs.Files.{File}
-use Rattle.lw_prior.specs.Prior.{FitNames, prior_answers}
-use Rattle.lw_report.specs.Reading.{ReadsFile}
+use Rattle.lw_json.specs.FitNames.{FitNames}
+use Rattle.lw_prior.specs.Prior.{prior_answers}
+use Rattle.lw_system.specs.Reading.{ReadsFile}
 use Rattle.lw_learn.specs.Arguments.{LearnValues}
-use Rattle.lw_learn.specs.declared.arguments.Source.{Source}
-use Rattle.lw_learn.specs.declared.arguments.Source.TheVariants as source
-use Rattle.lw_learn.specs.declared.task.System.{System}
-use Rattle.lw_learn.specs.declared.task.System.TheVariants.{Table, Children}
+use Rattle.lw_system.specs.declared.source.Source.{Source}
+use Rattle.lw_system.specs.declared.source.Source.TheVariants as source
+use Rattle.lw_system.specs.declared.system.System.{System}
+use Rattle.lw_system.specs.declared.system.System.TheVariants.{Table, Children}
 
 -- the names of a system's letters
 abbrev pub letters_of : System → List (List ℕ)

@@ -14,17 +14,18 @@ use Rattle.lw_json.specs.declared.fault.JsonFault.{JsonFault}
 use Rattle.lw_json.specs.declared.setup.Setup.TheVariants as setup
 use Rattle.lw_outside.specs.Files.{Call, File, HoldsLong, read_call, FilesState}
 use Rattle.lw_prior.specs.FirstClash.{IsFirstClash}
-use Rattle.lw_report.specs.Reading.{ReadsBadFile, ReadsFile}
+use Rattle.lw_system.specs.Reading.{ReadsBadFile, ReadsFile}
 use Rattle.lw_report.specs.declared.outcome.Outcome.{Outcome}
 use Rattle.lw_report.specs.declared.outcome.Outcome.TheVariants.{Alphabets, BadFile, FileFault, FileTooLong, NoMemory, Nondeterministic}
 use Rattle.lw_report.specs.declared.role.Role.{Role}
 use Rattle.lw_report.specs.declared.role.Role.TheVariants as role
 use Rattle.lw_learn.specs.Arguments.{LearnValues}
-use Rattle.lw_learn.specs.Calls.{gained}
-use Rattle.lw_learn.specs.Tasks.{FitsSystem, ReadsSystem, ReadsTask, declared_of}
-use Rattle.lw_learn.specs.declared.arguments.Source.{Source}
-use Rattle.lw_learn.specs.declared.arguments.Source.TheVariants as source
-use Rattle.lw_learn.specs.declared.task.System.{System}
+use Rattle.lw_system.specs.Reads.{gained}
+use Rattle.lw_learn.specs.Tasks.{ReadsTask}
+use Rattle.lw_system.specs.Systems.{FitsSystem, ReadsSystem, declared_of}
+use Rattle.lw_system.specs.declared.source.Source.{Source}
+use Rattle.lw_system.specs.declared.source.Source.TheVariants as source
+use Rattle.lw_system.specs.declared.system.System.{System}
 
 -- a table file of this name is read next
 abbrev pub IsTableNext : Source → List ℕ → Option (List File) → List File → List File → List ℕ → Type 0

@@ -15,7 +15,7 @@ ghost use Rattle.lw_report.specs.declared.role.Role.TheVariants.{Answers as Answ
 ghost use Rattle.lw_learn.specs.Ending.{IsEndOf, IsToldOf, end_outputs};
 ghost use Rattle.lw_learn.specs.Outcomes.{IsLearnedOutcome, ModelIsTold};
 ghost use Rattle.lw_learn.specs.Saving.{MayTell};
-ghost use Rattle.lw_learn.specs.Tasks.{declared_of, letters_of};
+ghost use Rattle.lw_system.specs.Systems.{declared_of, letters_of};
 ghost use Rattle.lw_learn.specs.Writing.{StaysBesides, TakesInTurn, WritesFiles, WritesOut};
 ghost use Rattle.lw_learn.specs.declared.saving.Saved.TheVariants as Was;
 

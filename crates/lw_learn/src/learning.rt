@@ -7,11 +7,11 @@ ghost use Rattle.lw_cache.specs.Clash.{NothingClashes};
 ghost use Rattle.lw_json.specs.KeptOver.{AreKeptOver};
 ghost use Rattle.lw_pool.specs.Opening.{MayBegin};
 ghost use Rattle.lw_workers.specs.Asking.{AnswersWords};
-ghost use Rattle.lw_children.specs.Keeping.{count_of};
+ghost use Rattle.lw_system.specs.NewLines.{count_of};
 ghost use Rattle.lw_children.specs.Children.{IsOfCommand};
 ghost use Rattle.lw_learn.specs.Findings.{IsOfInstances, IsOfSystem, LearningStopsBy};
-ghost use Rattle.lw_learn.specs.declared.task.System.TheVariants as Of;
-ghost use Rattle.lw_learn.specs.Tasks.{declared_of, letters_of};
+ghost use Rattle.lw_system.specs.declared.system.System.TheVariants as Of;
+ghost use Rattle.lw_system.specs.Systems.{declared_of, letters_of};
 ghost use Rattle.lw_learn.specs.bodies.Ready.{GivesModel, IsReady};
 
 use crate::LearnArguments;

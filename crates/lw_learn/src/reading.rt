@@ -1,6 +1,6 @@
 //! The files that say what is to be learned: a setup or a table, and prior answers.
 ghost use Rattle.std.specs.Prelude.{◌≡◌, ℕ, ◌≤◌, List, [], length, None, Some, Ok, Err, IfOk, IfErr};
-ghost use Rattle.lw_report.specs.Reading.{HasRead};
+ghost use Rattle.lw_system.specs.Reading.{HasRead};
 ghost use Rattle.lw_words.specs.Answer.{answers_of};
 ghost use Rattle.lw_cache.specs.Clash.{NothingClashes};
 ghost use Rattle.lw_json.specs.SetupFile.{HasSetupFault, IsSetupFile};
@@ -11,12 +11,13 @@ ghost use Rattle.lw_prior.specs.Prior.{HasFirstClash};
 ghost use Rattle.lw_report.specs.Stops.{read_outcome};
 ghost use Rattle.lw_report.specs.declared.outcome.Outcome.{Outcome as Came};
 ghost use Rattle.lw_report.specs.declared.role.Role.TheVariants.{Prior as PriorRole, Table as TableRole};
-ghost use Rattle.lw_report.specs.declared.stops.ReadStop.{ReadStop as Stop};
-ghost use Rattle.lw_learn.specs.Tasks.{HasWords, declared_of, letters_of, or_these, with_outputs};
+ghost use Rattle.lw_system.specs.declared.stops.ReadStop.{ReadStop as Stop};
+ghost use Rattle.lw_learn.specs.Tasks.{with_outputs};
+ghost use Rattle.lw_system.specs.Systems.{HasWords, declared_of, letters_of, or_these};
 ghost use Rattle.lw_learn.specs.bodies.Ready.{IsReady};
 ghost use Rattle.lw_learn.specs.bodies.Stages.{HasPrior, IsBack, IsClash, IsStage, IsTaskWith, IsUnfit, SaysReady, SaysWhole};
-ghost use Rattle.lw_learn.specs.declared.arguments.Source.{Source as Kind};
-ghost use Rattle.lw_learn.specs.declared.task.System.TheVariants as Of;
+ghost use Rattle.lw_system.specs.declared.source.Source.{Source as Kind};
+ghost use Rattle.lw_system.specs.declared.system.System.TheVariants as Of;
 
 use crate::LearnArguments;
 use crate::arguments::Source;

@@ -1,6 +1,6 @@
 //! What is to be learned.
 ghost use Rattle.std.specs.Prelude.{◌≡◌, Some, option_map};
-ghost use Rattle.lw_learn.specs.Tasks.{declared_of, letters_of};
+ghost use Rattle.lw_system.specs.Systems.{declared_of, letters_of};
 
 use lw_cache::Cache;
 use lw_children::Command;

@@ -6,18 +6,19 @@ use Rattle.lw_json.specs.AnswersFault.{HasAnswersFault}
 use Rattle.lw_json.specs.AnswersFile.{IsAnswersFile}
 use Rattle.lw_json.specs.declared.answers.Answers.{Answers}
 use Rattle.lw_outside.specs.Files.{File, FilesState}
-use Rattle.lw_report.specs.Reading.{HasRead, ReadsFile}
+use Rattle.lw_system.specs.Reading.{HasRead, ReadsFile}
 use Rattle.lw_report.specs.Stops.{read_outcome}
 use Rattle.lw_report.specs.declared.outcome.Outcome.{Outcome}
 use Rattle.lw_report.specs.declared.outcome.Outcome.TheVariants.{Alphabets}
 use Rattle.lw_report.specs.declared.role.Role.TheVariants as role
-use Rattle.lw_report.specs.declared.stops.ReadStop.{ReadStop}
-use Rattle.lw_learn.specs.Tasks.{FitsSystem, ReadsSystem, declared_of, letters_of, or_these}
-use Rattle.lw_learn.specs.Unread.{IsRefused}
-use Rattle.lw_learn.specs.declared.arguments.Source.TheVariants as source
-use Rattle.lw_learn.specs.declared.task.System.{System}
-use Rattle.lw_learn.proofs.ReadLemmas.{made_then, read_made, read_refused}
-use Rattle.lw_ask.specs.Reading.{HasReadSystem}
+use Rattle.lw_system.specs.declared.stops.ReadStop.{ReadStop}
+use Rattle.lw_system.specs.Systems.{FitsSystem, ReadsSystem, declared_of, letters_of, or_these}
+use Rattle.lw_report.specs.Refused.{IsRefused}
+use Rattle.lw_system.specs.declared.source.Source.TheVariants as source
+use Rattle.lw_system.specs.declared.system.System.{System}
+use Rattle.lw_learn.proofs.ReadLemmas.{read_refused}
+use Rattle.lw_system.proofs.ReadsLemmas.{made_then, read_made}
+use Rattle.lw_system.specs.Finding.{HasReadSystem}
 use Rattle.lw_recheck.specs.Reading.{HasReadBoth, IsBehind}
 use Rattle.lw_recheck.specs.declared.reading.Task.{Task}
 

@@ -8,7 +8,7 @@ use Rattle.lw_report.specs.declared.«end».End.{End}
 use Rattle.lw_report.specs.declared.outcome.Outcome.{Outcome}
 use Rattle.lw_report.specs.declared.outcome.Outcome.TheVariants.{Alphabets, Unstarted}
 use Rattle.lw_report.specs.declared.role.Role.TheVariants as role
-use Rattle.lw_learn.specs.declared.arguments.Source.TheVariants as source
+use Rattle.lw_system.specs.declared.source.Source.TheVariants as source
 use Rattle.lw_ask.specs.Reading.{IsUnread as IsNoSystem, NamesNoTable}
 use Rattle.lw_recheck.specs.Arguments.{RecheckValues}
 use Rattle.lw_recheck.specs.Ending.{IsBare, IsTold}

@@ -4,14 +4,15 @@ use Rattle.lw_json.specs.AnswersFault.{HasAnswersFault}
 use Rattle.lw_json.specs.AnswersFile.{IsAnswersFile}
 use Rattle.lw_json.specs.declared.answers.Answers.{Answers}
 use Rattle.lw_outside.specs.Files.{File, FilesState}
-use Rattle.lw_report.specs.Reading.{ReadsFile}
+use Rattle.lw_system.specs.Reading.{ReadsFile}
 use Rattle.lw_report.specs.declared.outcome.Outcome.{Outcome}
 use Rattle.lw_report.specs.declared.outcome.Outcome.TheVariants.{Alphabets}
 use Rattle.lw_report.specs.declared.role.Role.TheVariants as role
-use Rattle.lw_learn.specs.Tasks.{FitsSystem, ReadsSystem}
-use Rattle.lw_learn.specs.Unread.{IsRefused, MadeReads}
-use Rattle.lw_learn.specs.declared.arguments.Source.TheVariants as source
-use Rattle.lw_learn.specs.declared.task.System.{System}
+use Rattle.lw_system.specs.Systems.{FitsSystem, ReadsSystem}
+use Rattle.lw_report.specs.Refused.{IsRefused}
+use Rattle.lw_system.specs.Reads.{MadeReads}
+use Rattle.lw_system.specs.declared.source.Source.TheVariants as source
+use Rattle.lw_system.specs.declared.system.System.{System}
 use Rattle.lw_ask.specs.Reading.{IsUnread as IsNoSystem}
 use Rattle.lw_recheck.specs.declared.reading.Task.{Task}
 

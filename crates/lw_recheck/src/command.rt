@@ -4,7 +4,7 @@ ghost use Rattle.lw_outside.specs.declared.links.StartFailure.{StartFailure as C
 ghost use Rattle.lw_json.specs.KeptOver.{AreKeptOver};
 ghost use Rattle.lw_report.specs.Outcomes.{status_of};
 ghost use Rattle.lw_report.specs.declared.outcome.Outcome.{Outcome as Came};
-ghost use Rattle.lw_learn.specs.Tasks.{FitsSystem, HasWords, letters_of};
+ghost use Rattle.lw_system.specs.Systems.{FitsSystem, HasWords, letters_of};
 ghost use Rattle.lw_recheck.specs.Outcomes.{came_outcome};
 ghost use Rattle.lw_recheck.specs.RecheckRun.{AsksTask, IsRecheckRun, RechecksCommand, RechecksMachine, RechecksSystem};
 

@@ -3,7 +3,7 @@ ghost use Rattle.std.specs.Prelude.{◌≡◌, ◌≤◌, true, false, length, C
 ghost use Rattle.std.specs.List.{All};
 ghost use Rattle.lw_report.specs.declared.outcome.Outcome.{Outcome as Came};
 ghost use Rattle.lw_report.specs.declared.role.Role.{Role as Part};
-ghost use Rattle.lw_learn.specs.Tasks.{FitsSystem, HasWords, letters_of};
+ghost use Rattle.lw_system.specs.Systems.{FitsSystem, HasWords, letters_of};
 ghost use Rattle.lw_recheck.specs.Reading.{HasReadBoth};
 
 use lw_ask::read_system;

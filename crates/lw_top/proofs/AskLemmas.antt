@@ -8,9 +8,9 @@ use Rattle.lw_report.specs.Writing.{TakesAll, TakesSome, said_text}
 use Rattle.lw_report.specs.declared.«end».End.{End}
 use Rattle.lw_report.specs.declared.outcome.Outcome.{Outcome}
 use Rattle.lw_report.specs.declared.outcome.Outcome.TheVariants.{NoMemory}
-use Rattle.lw_learn.specs.declared.arguments.Source.{Source}
-use Rattle.lw_learn.specs.declared.arguments.Source.TheVariants.{Setup, Table}
-use Rattle.lw_learn.proofs.ReadLemmas.{made_none, some_made}
+use Rattle.lw_system.specs.declared.source.Source.{Source}
+use Rattle.lw_system.specs.declared.source.Source.TheVariants.{Setup, Table}
+use Rattle.lw_system.proofs.ReadsLemmas.{made_none, some_made}
 use Rattle.lw_ask.specs.Arguments.{AskValues}
 use Rattle.lw_ask.specs.AskRun.{IsAskRun}
 use Rattle.lw_ask.specs.Hints.{IsUnreadWith}

@@ -8,7 +8,7 @@ use Rattle.lw_outside.specs.Files.{FilesState}
 use Rattle.lw_outside.specs.Streams.{SinkState}
 use Rattle.lw_report.specs.declared.«end».End.{End}
 use Rattle.lw_report.specs.declared.outcome.Outcome.TheVariants.{NoMemory}
-use Rattle.lw_learn.proofs.ReadLemmas.{made_none, some_made}
+use Rattle.lw_system.proofs.ReadsLemmas.{made_none, some_made}
 use Rattle.lw_recheck.specs.Arguments.{RecheckValues}
 use Rattle.lw_recheck.specs.RecheckRun.{IsRecheckRun}
 use Rattle.lw_top.specs.CommandLine.{is_command, is_faultless, texts}

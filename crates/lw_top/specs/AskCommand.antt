@@ -3,7 +3,7 @@ use Rattle.std.specs.Prelude.{ℕ, List, [], ◌∷◌, codes, Option, Some, Non
 use Rattle.clap.specs.Faults.{fault_of}
 use Rattle.clap.specs.Words.{App, Row, all_of, first_of, matches_of, new_app, with_rule}
 use Rattle.lw_ask.specs.Arguments.{AskValues}
-use Rattle.lw_learn.specs.declared.arguments.Source.TheVariants.{Setup, Table}
+use Rattle.lw_system.specs.declared.source.Source.TheVariants.{Setup, Table}
 use Rattle.lw_top.specs.CommandLine.{is_command, is_faultless}
 use Rattle.lw_top.specs.Options.{many_arguments, text_option}
 

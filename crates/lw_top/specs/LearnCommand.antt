@@ -5,8 +5,8 @@ use Rattle.clap.specs.Words.{App, Row, first_of, matches_of, new_app, one_of, wi
 use Rattle.lw_rounds.specs.declared.learner.Kind.{Kind}
 use Rattle.lw_learn.specs.Arguments.{LearnValues}
 use Rattle.lw_learn.specs.declared.arguments.Drawn.{Drawn}
-use Rattle.lw_learn.specs.declared.arguments.Source.{Source}
-use Rattle.lw_learn.specs.declared.arguments.Source.TheVariants.{Setup, Table}
+use Rattle.lw_system.specs.declared.source.Source.{Source}
+use Rattle.lw_system.specs.declared.source.Source.TheVariants.{Setup, Table}
 use Rattle.lw_top.specs.CommandLine.{is_command, is_faultless, kind_named, number_in_range}
 use Rattle.lw_top.specs.Options.{default_option, free_number, number_option, optional_argument, text_option}
 

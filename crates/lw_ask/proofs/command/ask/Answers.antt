@@ -1,5 +1,5 @@
 use Rattle.std.proofs.Common.{List, ℕ, refl, subst, subst₂}
-use Rattle.lw_learn.specs.declared.arguments.Source.{Source}
+use Rattle.lw_system.specs.declared.source.Source.{Source}
 use Rattle.lw_ask.specs.AskRun.{AsksTexts}
 use Rattle.lw_ask.specs.Hints.{TakesHint}
 use Rattle.lw_ask.specs.bodies.Found.{HasFound}

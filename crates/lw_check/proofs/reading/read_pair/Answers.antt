@@ -3,9 +3,9 @@ use Rattle.lw_json.specs.AnswersFile.{IsAnswersFile}
 use Rattle.lw_json.specs.AnswersFault.{HasAnswersFault}
 use Rattle.lw_json.specs.MachineFile.{IsMachineFile}
 use Rattle.lw_outside.specs.Files.{File, HoldsLong, noted, read_call}
-use Rattle.lw_report.specs.Reading.{ReadsFile, ReadsBadFile}
+use Rattle.lw_system.specs.Reading.{ReadsFile, ReadsBadFile}
 use Rattle.lw_words.specs.Cause.{CountedFault}
-use Rattle.lw_report.specs.declared.stops.ReadStop.{ReadStop}
+use Rattle.lw_system.specs.declared.stops.ReadStop.{ReadStop}
 use Rattle.lw_check.proofs.ReadLemmas.{unread_answers, unread_model}
 use Rattle.lw_check.proofs.reading.read_pair.Goals as goal
 

@@ -1,6 +1,6 @@
 use Rattle.std.proofs.Common.{◌≡◌, ◌∙◌, List, ℕ, Option, Err, false, inl, inr, ap, subst}
 use Rattle.lw_outside.specs.Files.{Call, File, FilesState, noted, read_call}
-use Rattle.lw_report.specs.declared.stops.ReadStop.{ReadStop}
+use Rattle.lw_system.specs.declared.stops.ReadStop.{ReadStop}
 use Rattle.lw_compare.specs.bodies.Unread.{HasStopped}
 use Rattle.lw_compare.proofs.reading.read_models.Goals as goal
 

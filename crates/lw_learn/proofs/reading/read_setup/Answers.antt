@@ -2,8 +2,9 @@ use Rattle.std.proofs.Common.{◌≡◌, Ok, List, ℕ, sym, subst, ap, ◌∙�
 use Rattle.lw_json.specs.SetupFile.{HasSetupFault, IsSetupFile}
 use Rattle.lw_json.specs.declared.setup.Setup.{Setup}
 use Rattle.lw_json.specs.declared.setup.Setup.TheVariants as setup
-use Rattle.lw_report.specs.Reading.{HasRead, ReadsFile}
-use Rattle.lw_learn.proofs.ReadLemmas.{read_made, setup_next, stage_setup, stage_table, table_said}
+use Rattle.lw_system.specs.Reading.{HasRead, ReadsFile}
+use Rattle.lw_learn.proofs.ReadLemmas.{setup_next, stage_setup, stage_table, table_said}
+use Rattle.lw_system.proofs.ReadsLemmas.{read_made}
 use Rattle.lw_learn.proofs.reading.read_setup.Goals as goal
 
 pub returns-in-Ok-Table : goal.returns-in-Ok-Table

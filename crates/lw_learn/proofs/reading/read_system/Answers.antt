@@ -1,8 +1,9 @@
 use Rattle.std.proofs.Common.{List, ℕ, refl, sym, subst, ◌∙◌}
 use Rattle.lw_json.specs.MachineFile.{IsMachineFile}
 use Rattle.lw_json.specs.MachineFault.{HasMachineFault}
-use Rattle.lw_report.specs.Reading.{HasRead}
-use Rattle.lw_learn.proofs.ReadLemmas.{made_none, stage_table, table_alone, table_first}
+use Rattle.lw_system.specs.Reading.{HasRead}
+use Rattle.lw_learn.proofs.ReadLemmas.{stage_table, table_alone, table_first}
+use Rattle.lw_system.proofs.ReadsLemmas.{made_none}
 use Rattle.lw_learn.proofs.reading.read_system.Goals as goal
 
 pub returns-in-Table : goal.returns-in-Table
