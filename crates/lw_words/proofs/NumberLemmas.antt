@@ -1,17 +1,18 @@
 -- Lists of names: what their numbers say, and what a look-up among the earlier ones says.
-use Rattle.std.proofs.Common.{◌≡◌, ◌≢◌, ℕ, ◌+◌, ◌<◌, ◌⊎◌, inl, inr, List, [], ◌∷◌, ◌++◌, Bool, true, false, length, map, get_or, take, slice_get, Some, None, Option, IfSome, ◌&&◌, min, cond, ltb, refl, ap, sym, ◌∙◌, subst, arith, length-take, length-append}
+use Rattle.std.proofs.Common.{◌≡◌, ◌≢◌, ℕ, ◌+◌, ◌<◌, ◌⊎◌, inl, inr, List, [], ◌∷◌, ◌++◌, Bool, true, false, length, map, get_or, take, slice_get, Some, None, Option, IfSome, option_map, ◌&&◌, if◌then◌else◌, min, cond, ltb, refl, ap, sym, ◌∙◌, subst, arith, length-take, length-append}
 use Rattle.std.specs.Str.{bytes_eq}
-use Rattle.std.specs.List.{position_or_len, AllZip}
+use Rattle.std.specs.List.{position_or_len, AllZip, list_any}
 use Rattle.std.proofs.lemmas.Bool.{cases_Bool, false_from_ne_true}
 use Rattle.std.proofs.lemmas.Bool.Decides.{Decides-ltb}
 use Rattle.std.specs.Bool.{Decides}
 use Rattle.std.proofs.lemmas.Slice.Eq.{bytes_eq-Decides, slice_eq-Decides}
 use lib.Pointwise.{pointwise}
-use Rattle.std.proofs.lemmas.List.{get_or_append_left, get_or-take}
+use Rattle.std.proofs.lemmas.List.{get_or_append_left, get_or-take, get_or-map, length-map, map-append}
+use Rattle.std.proofs.lemmas.List.Folds.{list_any_at}
 use Rattle.std.proofs.Math.Seq.{get_or-append_seam}
 use Rattle.std.proofs.lemmas.List.Quantifiers.{position-Some, all_pairs_push}
 use Rattle.std.proofs.lemmas.List.Sums.{position_or_len_is}
-use Rattle.std.proofs.lemmas.Option.{slice_get-get_or, slice_get_within, get_or_from_slice_get}
+use Rattle.std.proofs.lemmas.Option.{slice_get-map, slice_get-get_or, slice_get_within, get_or_from_slice_get}
 use Rattle.std.specs.Prelude.{String}
 use Rattle.std.specs.HashMap.{HashMap, get_by_text}
 use Rattle.std.specs.Map.{update}
@@ -83,12 +84,6 @@ slice_get-push_cases xs name i x at =
     ]
 
 module _ {X S : Type 0} (m : HashMap (String X) ℕ S) (xs : List (List ℕ)) (name : List ℕ) where
-  -- a name that the map hasn't differs from all that it has
-  pub differ_more : AreNumbers m xs → get_by_text m name ≡ None → AllDiffer xs → AllDiffer (xs ++ name ∷ [])
-  differ_more numbers none differ = all_pairs_push (λ a b. a ≢ b) xs name differ (λ k d lt same.
-      let there : get_by_text m name ≡ Some k = numbers.at k name (slice_get-get_or xs k d lt ∙ ap (λ (n : List ℕ). Some n) same) in
-      cc)
-
   -- the map with such a name at the next place
   pub numbers_more : (n : HashMap (String X) ℕ S) → AreNumbers m xs → get_by_text m name ≡ None → ((text : List ℕ) → get_by_text n text ≡ update bytes_eq (get_by_text m) name (Some (length xs)) text)
       → AreNumbers n (xs ++ name ∷ [])
@@ -111,6 +106,18 @@ module _ {X S : Type 0} (m : HashMap (String X) ℕ S) (xs : List (List ℕ)) (n
         ];
       }
 
+  -- a name behind others that it differs from is none of the map's
+  pub none_before : (place : ℕ) → AreNumbers m (take place xs) → AllDiffer xs → slice_get xs place ≡ Some name → get_by_text m name ≡ None
+  none_before place numbers differ here =
+      elim (get_by_text m name) as (λ r. get_by_text m name ≡ r → r ≡ None) [
+        | Some first ↦ λ is.
+            let before = slice_get-take xs place first name (numbers.is name first is) in
+            let within : place < length xs = slice_get_within xs place name here in
+            absurd (differ first place name before.0 within
+            (get_or_from_slice_get xs first name name before.1 ∙ sym (get_or_from_slice_get xs place name name here)))
+        | None ↦ λ is. refl
+      ] refl
+
   not_found : AreNumbers m xs → AllDiffer xs → number_of name xs ≡ None → get_by_text m name ≡ None
   not_found numbers differ none =
       elim (get_by_text m name) as (λ r. get_by_text m name ≡ r → r ≡ None) [
@@ -127,6 +134,25 @@ module _ {X S : Type 0} (m : HashMap (String X) ℕ S) (xs : List (List ℕ)) (n
       ] refl
 
 module _ {X : Type 0} (f : X → List ℕ) where
+  -- a name that a search among the earlier ones misses
+  pub differ_more : (xs : List X) (x : X) → list_any (λ y. bytes_eq (f x) (f y)) xs ≡ false → AllDiffer (map f xs) → AllDiffer (map f xs ++ f x ∷ [])
+  differ_more xs x none differ = all_pairs_push (λ a b. a ≢ b) (map f xs) (f x) differ (λ k d lt same.
+      let lt' : k < length xs = rw length-map at lt in
+      let found : list_any (λ y. bytes_eq (f x) (f y)) xs ≡ true =
+      list_any_at (λ y. bytes_eq (f x) (f y)) xs k x lt' ((bytes_eq-Decides (f x) (f (get_or xs k x))).1 (sym (sym (get_or-map f xs k x d lt') ∙ same))) in
+      cc)
+
+  -- the names after one that is new, and what was found where it is not
+  pub added : (xs ys : List X) (x : X) → ys ≡ (if list_any (λ y. bytes_eq (f x) (f y)) xs then xs else xs ++ x ∷ []) → list_any (λ y. bytes_eq (f x) (f y)) xs ≡ false → map f ys ≡ map f xs ++ f x ∷ []
+  added xs ys x is none = ap (map f) (is ∙ ap (λ (b : Bool). if b then xs else xs ++ x ∷ []) none) ∙ map-append f xs (x ∷ [])
+
+  pub stays : (xs ys : List X) (x : X) → ys ≡ (if list_any (λ y. bytes_eq (f x) (f y)) xs then xs else xs ++ x ∷ []) → list_any (λ y. bytes_eq (f x) (f y)) xs ≡ true → ys ≡ xs
+  stays xs ys x is any = is ∙ ap (λ (b : Bool). if b then xs else xs ++ x ∷ []) any
+
+  -- an element that is equal to x stands for its name
+  pub stored_at : (ys : List X) (x y : X) (i : ℕ) → slice_get ys i ≡ Some y → bytes_eq (f x) (f y) ≡ true → slice_get (map f ys) i ≡ Some (f x)
+  stored_at ys x y i at same = slice_get-map f ys i ∙ (ap (option_map f) at ∙ ap (λ n. Some n) (sym ((bytes_eq-Decides (f x) (f y)).0 same)))
+
   -- copies have the same names
   pub map-AllZip_same : (xs ys : List X) → AllZip (λ x y. f y ≡ f x) xs ys → map f ys ≡ map f xs
   map-AllZip_same [] [] h = refl

@@ -7,6 +7,7 @@ ghost use Rattle.lw_words.specs.Name.{IsName, IsNames, AllDiffer, number_of, Has
 ghost use Rattle.lw_words.specs.bodies.Numbers.{AreNumbers};
 
 use crate::NoMemory;
+use indexmap::IndexSet;
 use std::alloc::{AllocError, AllocFailed, Global};
 use std::collections::HashMap;
 use std::marker::Model;
@@ -98,26 +99,51 @@ fn first_bad_name(list: &[String]) -> Option<usize>
     None
 }
 
+/// Puts the names in their order, up to the first that stood before.
+fn in_order<'a>(alloc: Global, list: &'a [String]) -> Result<IndexSet<&'a str>, NamesFault>
+    requires few { length list.now ≤ 4096 }
+    requires each { All IsName (map (λ s. string_bytes s) list.now) }
+    ensures ok { IfOk result (λ names. map (λ t. t.now) names.keys ≡
+        map (λ s. string_bytes s) list.now) }
+    ensures differ { OnOk result (AllDiffer (map (λ s. string_bytes s) list.now)) }
+    ensures err { IfErr result (λ fault. (limit : ℕ) → length list.now ≤ limit →
+        HasFault limit (map (λ s. string_bytes s) list.now) fault) }
+{
+    let mut names = IndexSet::with_capacity(alloc, list.len())?;
+    for (place, name) in list.iter().enumerate() {
+        let (first, is_new) = names.insert_full(name.as_str())?;
+        if !is_new {
+            return Err(NamesFault::Repeated(first, place));
+        }
+    }
+    Ok(names)
+}
+
+/// The numbers of names that differ: their places.
+fn numbered(alloc: Global, names: &[&str]) -> Result<HashMap<String, u16>, AllocError>
+    requires few { length names.now ≤ 4096 }
+    requires differ { AllDiffer (map (λ t. t.now) names.now) }
+    ensures { IfOk result (λ numbers. AreNumbers numbers (map (λ t. t.now) names.now)) }
+{
+    let mut numbers = HashMap::with_capacity(alloc, names.len())?;
+    for (place, name) in names.iter().enumerate() {
+        let name = String::from_str(alloc, name)?;
+        numbers.insert(name, place as u16)?;
+    }
+    Ok(numbers)
+}
+
 /// Numbers the names in their order, up to the first that stood before.
-fn numbered(
-    alloc: Global,
-    list: &[String],
-    limit: usize,
-) -> Result<HashMap<String, u16>, NamesFault>
-    requires limit { limit ≤ 4096 }
-    requires few { length list.now ≤ limit }
+fn numbers_of(alloc: Global, list: &[String]) -> Result<HashMap<String, u16>, NamesFault>
+    requires few { length list.now ≤ 4096 }
     requires each { All IsName (map (λ s. string_bytes s) list.now) }
     ensures ok { IfOk result (λ numbers. AreNumbers numbers (map (λ s. string_bytes s) list.now)) }
     ensures differ { OnOk result (AllDiffer (map (λ s. string_bytes s) list.now)) }
-    ensures err { IfErr result (HasFault limit (map (λ s. string_bytes s) list.now)) }
+    ensures err { IfErr result (λ fault. (limit : ℕ) → length list.now ≤ limit →
+        HasFault limit (map (λ s. string_bytes s) list.now) fault) }
 {
-    let mut numbers = HashMap::with_capacity(alloc, list.len())?;
-    for (place, name) in list.iter().enumerate() {
-        let name = String::from_str(alloc, name.as_str())?;
-        if let Some(first) = numbers.insert(name, place as u16)? {
-            return Err(NamesFault::Repeated(usize::from(first), place));
-        }
-    }
+    let names = in_order(alloc, list)?;
+    let numbers = numbered(alloc, names.as_slice())?;
     Ok(numbers)
 }
 
@@ -152,7 +178,7 @@ impl Names {
         if let Some(place) = first_bad_name(list) {
             return Err(NamesFault::BadName(place));
         }
-        let numbers = numbered(alloc, list, limit)?;
+        let numbers = numbers_of(alloc, list)?;
         let names = list.to_vec(alloc)?;
         Ok(Names {
             names,
