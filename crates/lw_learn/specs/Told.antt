@@ -27,7 +27,7 @@ use Rattle.lw_system.specs.declared.system.System.TheVariants.{Table, Children}
 -- the files tell the system that a setup says
 abbrev pub TellsSetup : Setup → Option (List File) → System → Type 0
 TellsSetup (setup.Table name) holds s = (m : Machine) × TellsFile IsMachineFile holds name m × (s ≡ Table m)
-TellsSetup (setup.Command words inputs outputs) holds s = s ≡ Children (record { words = words; inputs = inputs; outputs = outputs })
+TellsSetup (setup.Command c) holds s = s ≡ Children c
 
 -- they tell the system of this kind of file under this name
 abbrev pub TellsSystem : Source → List ℕ → Option (List File) → System → Type 0

@@ -15,11 +15,11 @@ ghost use Rattle.lw_system.specs.Systems.{declared_of, letters_of};
 ghost use Rattle.lw_learn.specs.bodies.Ready.{GivesModel, IsReady};
 
 use crate::LearnArguments;
-use crate::task::System;
-use lw_children::{Command, learn_children};
-use lw_json::Machine;
+use lw_children::learn_children;
+use lw_json::{Command, Machine};
 use lw_outside::Spawner;
 use lw_rounds::Watcher;
+use lw_system::System;
 use lw_workers::{LearningOutcome, Start, learn_machine};
 use std::alloc::Global;
 use std::sync::Wait;

@@ -13,11 +13,11 @@ ghost use Rattle.lw_learn.specs.Unread.{names_read};
 
 use crate::reading::Unread;
 use crate::saving::save_kept;
-use crate::task::System;
 use crate::{LearnArguments, Saved};
 use lw_names::OutNames;
 use lw_outside::{Files, Sink};
 use lw_report::{End, Outcome, refuse};
+use lw_system::System;
 use lw_words::{Kept, Names, NoMemory};
 use std::alloc::Global;
 

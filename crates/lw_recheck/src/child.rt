@@ -5,9 +5,9 @@ ghost use Rattle.lw_system.specs.Spawners.{HasNotStarted};
 ghost use Rattle.lw_recheck.specs.Child.{RechecksChild};
 
 use crate::keeping::{RecheckEnd, recheck_session};
-use lw_ask::{link_of, start_line};
 use lw_outside::{Spawner, StartStop};
 use lw_sul::Session;
+use lw_system::{link_of, start_line};
 use lw_words::{Kept, Names};
 use std::alloc::Global;
 

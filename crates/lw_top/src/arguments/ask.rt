@@ -11,7 +11,7 @@ use crate::options::{many_arguments, text_option};
 use crate::values::{stop_of, text_at, texts_at};
 use clap::{ArgMatches, Command};
 use lw_ask::AskArguments;
-use lw_learn::Source;
+use lw_system::Source;
 use std::alloc::{AllocError, Global};
 
 /// The command `ask`.

@@ -14,7 +14,8 @@ use crate::options::{
 };
 use crate::values::{kind_at, number_at, stop_of, text_at};
 use clap::{ArgMatches, Command};
-use lw_learn::{Drawn, LearnArguments, Source};
+use lw_learn::{Drawn, LearnArguments};
+use lw_system::Source;
 use std::alloc::{AllocError, Global};
 
 /// The command `learn`.

@@ -4,10 +4,11 @@ ghost use Rattle.lw_learn.specs.Arguments.{AreFewDrawn};
 
 use crate::tests::learn::{Outside, call, check_text, has, named, no_children, push_file};
 use crate::tests::memory::string;
-use lw_learn::{Drawn, LearnArguments, Source};
+use lw_learn::{Drawn, LearnArguments};
 use lw_log::MemoryLog;
 use lw_outside::MemoryFiles;
 use lw_rounds::Kind;
+use lw_system::Source;
 use std::alloc::Global;
 use std::process::Abort;
 use std::sync::Wait;
