@@ -4,18 +4,20 @@ use Rattle.lw_words.specs.declared.kept.KeptAnswer.{KeptAnswer}
 use Rattle.lw_outside.specs.Links.{SpawnerState}
 use Rattle.lw_outside.specs.Files.{FilesState}
 use Rattle.lw_outside.specs.Streams.{SinkState}
+use Rattle.lw_system.specs.Finding.{HasFound}
+use Rattle.lw_system.specs.declared.stops.SystemStop.{SystemStop}
+use Rattle.lw_report.specs.Stops.{unread_outcome}
 use Rattle.lw_report.specs.declared.«end».End.{End}
 use Rattle.lw_report.specs.declared.outcome.Outcome.{Outcome}
-use Rattle.lw_learn.specs.declared.task.System.{System}
+use Rattle.lw_system.specs.declared.system.System.{System}
 use Rattle.lw_ask.specs.Arguments.{AskValues}
 use Rattle.lw_ask.specs.AskRun.{AsksTexts, IsAskRun, IsEnd}
 use Rattle.lw_ask.specs.Hints.{TakesHint}
-use Rattle.lw_ask.specs.bodies.Found.{HasFound}
 
-module _ (a : AskValues) (f g : FilesState) (b z : SpawnerState) (o p e m d : SinkState) (end : End) (r : Result System Outcome) (hint : List ℕ) (has : HasFound a.source a.system f g r hint) (hinted : TakesHint hint e m) where
+module _ (a : AskValues) (f g : FilesState) (b z : SpawnerState) (o p e m d : SinkState) (end : End) (r : Result System SystemStop) (hint : List ℕ) (has : HasFound a.source a.system f g r hint) (hinted : TakesHint hint e m) where
   -- a system was read
   pub asked_run : (s : System) → r ≡ Ok s → (kept : List KeptAnswer) (why : Outcome) → AsksTexts s a.words b z o p kept why → IsEnd why kept m d end → IsAskRun a f g b z o p e d end
-  asked_run s is kept why asks ended = by (subst (λ (x : Result System Outcome). HasFound a.source a.system f g x hint) is has)
+  asked_run s is kept why asks ended = by (subst (λ (x : Result System SystemStop). HasFound a.source a.system f g x hint) is has)
     where
       by : HasFound a.source a.system f g (Ok s) hint → IsAskRun a f g b z o p e d end
       by found = record {
@@ -30,16 +32,16 @@ module _ (a : AskValues) (f g : FilesState) (b z : SpawnerState) (o p e m d : Si
       }
 
   -- none was
-  pub unread_run : (why : Outcome) → r ≡ Err why → (kept : List KeptAnswer) → kept ≡ [] → z ≡ b → p ≡ o → IsEnd why kept m d end → IsAskRun a f g b z o p e d end
-  unread_run why is kept none unstarted unput ended = by (subst (λ (x : Result System Outcome). HasFound a.source a.system f g x hint) is has)
+  pub unread_run : (stop : SystemStop) → r ≡ Err stop → (why : Outcome) → why ≡ unread_outcome stop → (kept : List KeptAnswer) → kept ≡ [] → z ≡ b → p ≡ o → IsEnd why kept m d end → IsAskRun a f g b z o p e d end
+  unread_run stop is why outcome kept none unstarted unput ended = by (subst (λ (x : Result System SystemStop). HasFound a.source a.system f g x hint) is has)
     where
-      by : HasFound a.source a.system f g (Err why) hint → IsAskRun a f g b z o p e d end
+      by : HasFound a.source a.system f g (Err stop) hint → IsAskRun a f g b z o p e d end
       by found = record {
         why = why;
         kept = kept;
         hint = hint;
         m = m;
-        came = inr (record { cause = found.err; nothing = none; unstarted = unstarted; unput = unput });
+        came = inr (record { stop = stop; outcome = outcome; cause = found.err; nothing = none; unstarted = unstarted; unput = unput });
         hinted = hinted;
         ended = ended;
         holds = has.read.same;

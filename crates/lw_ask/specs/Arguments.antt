@@ -1,6 +1,6 @@
 -- The values of the arguments of `ask`, as contracts see them.
 use Rattle.std.specs.Prelude.{ℕ, List}
-use Rattle.lw_learn.specs.declared.arguments.Source.{Source}
+use Rattle.lw_system.specs.declared.source.Source.{Source}
 
 -- the kind and the name of the system's file, and the texts of the words
 pub record AskValues : Type 0 where

@@ -4,32 +4,36 @@ use Rattle.lw_words.specs.Cause.{CountedFault}
 use Rattle.lw_words.specs.declared.kept.KeptAnswer.{KeptAnswer}
 use Rattle.lw_words.specs.declared.stop.SulStop.{SulStop}
 use Rattle.lw_json.specs.declared.machine.Machine.{Machine}
+use Rattle.lw_json.specs.declared.setup.Command.{Command}
 use Rattle.lw_outside.specs.declared.links.StartFailure.{StartFailure}
 use Rattle.lw_outside.specs.declared.links.StartStop.{StartStop}
 use Rattle.lw_sul.specs.declared.runs.Run.{Run}
 use Rattle.lw_outside.specs.Links.{SpawnerState}
 use Rattle.lw_outside.specs.Files.{FilesState}
 use Rattle.lw_outside.specs.Streams.{SinkState}
-use Rattle.lw_children.specs.declared.command.Command.{Command}
+use Rattle.lw_system.specs.Finding.{HasHint, IsNoSystemWith}
+use Rattle.lw_system.specs.Reads.{MadeReads}
+use Rattle.lw_system.specs.Spawners.{HasNotStarted}
+use Rattle.lw_system.specs.Systems.{ReadsSystem, letters_of}
+use Rattle.lw_system.specs.declared.stops.SystemStop.{SystemStop}
+use Rattle.lw_system.specs.declared.system.System.{System}
+use Rattle.lw_system.specs.declared.system.System.TheVariants.{Table, Children}
 use Rattle.lw_report.specs.Ends.{IsWithoutLearner}
 use Rattle.lw_report.specs.Outcomes.{StandsOrWants}
+use Rattle.lw_report.specs.Stops.{start_outcome, unread_outcome}
 use Rattle.lw_report.specs.Writing.{TakesAll, TakesSome, said_text}
 use Rattle.lw_report.specs.declared.«end».End.{End}
 use Rattle.lw_report.specs.declared.outcome.Outcome.{Outcome}
-use Rattle.lw_learn.specs.Tasks.{ReadsSystem, letters_of}
-use Rattle.lw_learn.specs.Unread.{MadeReads}
-use Rattle.lw_learn.specs.declared.task.System.{System}
-use Rattle.lw_learn.specs.declared.task.System.TheVariants.{Table, Children}
-use Rattle.lw_ask.specs.Arguments.{AskValues}
-use Rattle.lw_ask.specs.Asking.{HasPut}
-use Rattle.lw_ask.specs.Child.{AsksChild, HasNotStarted}
-use Rattle.lw_ask.specs.Hints.{HasHint, IsUnreadWith, TakesHint}
-use Rattle.lw_ask.specs.Outcomes.{came_outcome, start_outcome, word_outcome}
 use Rattle.lw_wordlist.specs.Words.{IsFirstUnknown, words_of_texts}
-use Rattle.lw_ask.specs.declared.stop.AskingStop.{AskingStop}
-use Rattle.lw_ask.specs.declared.stop.AskingStop.TheVariants.{Sul}
 use Rattle.lw_wordlist.specs.declared.words.WordStop.{WordStop}
 use Rattle.lw_wordlist.specs.declared.words.WordStop.TheVariants.{Unknown}
+use Rattle.lw_ask.specs.Arguments.{AskValues}
+use Rattle.lw_ask.specs.Asking.{HasPut}
+use Rattle.lw_ask.specs.Child.{AsksChild}
+use Rattle.lw_ask.specs.Hints.{TakesHint}
+use Rattle.lw_ask.specs.Outcomes.{came_outcome, word_outcome}
+use Rattle.lw_ask.specs.declared.stop.AskingStop.{AskingStop}
+use Rattle.lw_ask.specs.declared.stop.AskingStop.TheVariants.{Sul}
 
 -- a machine was asked, which doesn't stop
 pub record AsksMachine (m : Machine) (words : List (List ℕ)) (out_before out_now : SinkState) (kept : List KeptAnswer) (why : Outcome) : Type 0 where
@@ -81,9 +85,11 @@ pub record AsksWords (s : System) (texts : List (List ℕ)) (spawner_before spaw
 abbrev pub AsksTexts : System → (texts : List (List ℕ)) → (spawner_before spawner_now : SpawnerState) → (out_before out_now : SinkState) → List KeptAnswer → Outcome → Type 0
 AsksTexts s texts spawner_before spawner_now out_before out_now kept why = AsksWords s texts spawner_before spawner_now out_before out_now kept why ⊎ HasNoWords s texts spawner_before spawner_now out_before out_now kept why
 
--- the system's file was refused, with this hint: nothing is asked
+-- the files say no system, with this hint: nothing is asked
 pub record HasNoSystem (a : AskValues) (files_before files_now : FilesState) (spawner_before spawner_now : SpawnerState) (out_before out_now : SinkState) (hint : List ℕ) (kept : List KeptAnswer) (why : Outcome) : Type 0 where
-  pub cause : IsUnreadWith a.source a.system files_before files_now hint why
+  pub stop : SystemStop
+  pub outcome : why ≡ unread_outcome stop
+  pub cause : IsNoSystemWith a.source a.system files_before files_now hint stop
   pub nothing : kept ≡ []
   pub unstarted : spawner_now ≡ spawner_before
   pub unput : out_now ≡ out_before

@@ -2,10 +2,8 @@ pub mod Arguments
 pub mod AskRun
 pub mod Asking
 pub mod Child
-pub mod Ends
 pub mod Hints
 pub mod Lines
 pub mod Outcomes
-pub mod Reading
 pub mod Stops
 pub mod bodies

@@ -1,8 +1,5 @@
 -- What asking comes to.
 use Rattle.std.specs.Prelude.{Result, Ok, Err}
-use Rattle.lw_outside.specs.declared.links.StartFailure.{StartFailure}
-use Rattle.lw_outside.specs.declared.links.StartStop.{StartStop}
-use Rattle.lw_outside.specs.declared.links.StartStop.TheVariants as start
 use Rattle.lw_report.specs.Learnings.{system_outcome}
 use Rattle.lw_report.specs.declared.outcome.Outcome.{Outcome}
 use Rattle.lw_report.specs.declared.outcome.Outcome.TheVariants as outcome
@@ -26,8 +23,3 @@ came_outcome (Err stop) = stop_outcome stop
 abbrev pub word_outcome : WordStop → Outcome
 word_outcome (word.Unknown number place) = outcome.UnknownLetter number place
 word_outcome word.NoMemory = outcome.NoMemory
-
--- what a start that gave no child comes to
-abbrev pub start_outcome : StartFailure → StartStop → Outcome
-start_outcome cause start.Failed = outcome.Unstarted cause
-start_outcome cause start.NoMemory = outcome.NoMemory

@@ -1,7 +1,7 @@
 //! The values of the arguments of `ask`.
 ghost use Rattle.std.specs.Prelude.{◌≡◌, map, string_bytes};
 
-use lw_learn::Source;
+use lw_system::Source;
 use std::marker::Model;
 
 /// The values of the arguments of `ask`: the file of the system and its kind, and the words, each of which is the names of its

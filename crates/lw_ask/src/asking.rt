@@ -16,8 +16,7 @@ ghost use Rattle.lw_ask.specs.declared.stop.AskingStop.{AskingStop as Stop};
 
 use crate::lines::answer_line;
 use crate::stop::AskingStop;
-use lw_outside::Sink;
-use lw_report::put_all;
+use lw_outside::{Sink, put_all};
 use lw_sul::{NamedAnswer, Session, Sul};
 use lw_words::{Kept, KeptAnswer, Names, NoMemory, Word, Words};
 use std::alloc::Global;

@@ -3,27 +3,24 @@ ghost use Rattle.std.specs.Prelude.{◌≡◌, ◌<◌, ◌≤◌, length, map, 
 ghost use Rattle.std.specs.List.{All};
 ghost use Rattle.lw_words.specs.Word.{IsWord};
 ghost use Rattle.lw_outside.specs.declared.links.StartFailure.{StartFailure as Cause};
+ghost use Rattle.lw_system.specs.Systems.{HasWords, letters_of};
 ghost use Rattle.lw_report.specs.Outcomes.{status_of};
 ghost use Rattle.lw_report.specs.declared.outcome.Outcome.{Outcome as Came};
-ghost use Rattle.lw_learn.specs.Tasks.{HasWords, letters_of};
-ghost use Rattle.lw_report.specs.Learnings.{system_outcome};
 ghost use Rattle.lw_ask.specs.AskRun.{AsksCommand, AsksMachine, AsksSystem, AsksTexts, IsAskRun, IsEnd};
 ghost use Rattle.lw_ask.specs.Hints.{TakesHint};
-ghost use Rattle.lw_ask.specs.Outcomes.{came_outcome, start_outcome, stop_outcome, word_outcome};
+ghost use Rattle.lw_ask.specs.Outcomes.{came_outcome, stop_outcome, word_outcome};
 
 use crate::AskArguments;
 use crate::asking::{AskingEnd, ask_session};
 use crate::child::ask_child;
-use crate::reading::{Found, find_system};
 use crate::stop::AskingStop;
-use lw_children::Command;
-use lw_json::Machine;
-use lw_learn::System;
-use lw_outside::{Files, Sink, Spawner, StartStop};
-use lw_report::{End, Outcome, UNSAID, put_all, refuse};
+use lw_json::{Command, Machine};
+use lw_outside::{Files, Sink, Spawner, put_all};
+use lw_report::{End, Outcome, UNSAID, refuse, start_outcome, system_outcome, unread_outcome};
 use lw_sul::{Session, TableSul};
+use lw_system::{Found, System, find_system};
 use lw_wordlist::{WordStop, read_words};
-use lw_words::{Kept, SulStop, Words};
+use lw_words::{Kept, Words};
 use std::alloc::Global;
 
 /// What asking comes to.
@@ -36,25 +33,14 @@ fn came_outcome(came: Result<(), AskingStop>) -> Outcome
     }
 }
 
-/// What asking comes to that stopped so.
+/// What asking comes to that stopped so: a child is the one of instance 0.
 fn stop_outcome(stop: AskingStop) -> Outcome
     ensures { result ≡ stop_outcome stop }
 {
     match stop {
-        AskingStop::Sul(stop) => child_outcome(stop),
+        AskingStop::Sul(stop) => system_outcome(0, stop),
         AskingStop::Sink => Outcome::SinkFault,
         AskingStop::NoMemory => Outcome::NoMemory,
-    }
-}
-
-/// What a child that stopped so comes to.
-pub fn child_outcome(stop: SulStop) -> Outcome
-    ensures { result ≡ system_outcome 0 stop }
-{
-    match stop {
-        SulStop::Failed => Outcome::SulFailed(0),
-        SulStop::BadLine(line) => Outcome::BadLine(0, line),
-        SulStop::Gone => Outcome::Gone(0),
     }
 }
 
@@ -65,16 +51,6 @@ fn word_outcome(stop: WordStop) -> Outcome
     match stop {
         WordStop::Unknown { word, place } => Outcome::UnknownLetter { word, place },
         WordStop::NoMemory => Outcome::NoMemory,
-    }
-}
-
-/// What a start that gave no child comes to.
-pub fn start_outcome<P: Spawner>(spawner: &P, stop: StartStop) -> Outcome
-    ensures { result ≡ start_outcome (P.state spawner.now).cause stop }
-{
-    match stop {
-        StartStop::Failed => Outcome::Unstarted(spawner.failure()),
-        StartStop::NoMemory => Outcome::NoMemory,
     }
 }
 
@@ -237,8 +213,9 @@ pub fn ask<F: Files, P: Spawner, O: Sink, E: Sink>(
             let told = ask_texts(alloc, system, arguments.words(), spawner, out);
             end_call(alloc, told, err)
         }
-        Err(outcome) => {
+        Err(stop) => {
             let kept = Kept::new(alloc);
+            let outcome = unread_outcome(stop);
             end_call(alloc, Told { kept, outcome }, err)
         }
     }

@@ -6,12 +6,9 @@ mod asking;
 mod child;
 mod command;
 mod lines;
-mod reading;
 mod stop;
 
 pub use arguments::AskArguments;
 pub use asking::ask_words;
-pub use child::{link_of, start_line};
-pub use command::{ask, child_outcome, start_outcome};
-pub use reading::read_system;
+pub use command::ask;
 pub use stop::AskingStop;

@@ -23,7 +23,7 @@ use Rattle.lw_names.specs.Naming.{Naming}
 use Rattle.lw_check.specs.Ending.{ComesTo, DecidesAs}
 use Rattle.lw_check.specs.Naming.{NamesOutputs, declared_as}
 use Rattle.lw_outside.specs.Streams.{SinkState}
-use Rattle.lw_report.specs.Reading.{TellsFile}
+use Rattle.lw_system.specs.Reading.{TellsFile}
 use Rattle.lw_check.specs.Reading.{IsUnread, ReadsPair}
 use Rattle.lw_check.specs.Telling.{OutcomeIsTold}
 use Rattle.lw_check.proofs.DecideLemmas.{one_decision}

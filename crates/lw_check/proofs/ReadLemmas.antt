@@ -8,10 +8,10 @@ use Rattle.lw_json.specs.MachineFile.{IsMachineFile}
 use Rattle.lw_json.specs.declared.machine.Machine.{Machine}
 use Rattle.lw_json.specs.declared.fault.JsonFault.{JsonFault}
 use Rattle.lw_outside.specs.Files.{File, HoldsLong, FilesState}
-use Rattle.lw_report.specs.Reading.{ReadsFile, ReadsBadFile}
+use Rattle.lw_system.specs.Reading.{ReadsFile, ReadsBadFile}
 use Rattle.lw_report.specs.Stops.{read_outcome}
-use Rattle.lw_report.specs.declared.stops.ReadStop.{ReadStop}
-use Rattle.lw_report.specs.declared.stops.ReadStop.TheVariants.{Failed, TooLong, Bad, NoMemory}
+use Rattle.lw_system.specs.declared.stops.ReadStop.{ReadStop}
+use Rattle.lw_system.specs.declared.stops.ReadStop.TheVariants.{Failed, TooLong, Bad, NoMemory}
 use Rattle.lw_report.specs.declared.role.Role.TheVariants.{Answers, Model}
 use Rattle.lw_check.specs.Reading.{IsUnread, ReadsModel, answers_read, model_read}
 

@@ -8,7 +8,7 @@ use Rattle.lw_json.specs.declared.machine.Machine.{Machine}
 use Rattle.lw_certify.specs.Sure.{Sure}
 use Rattle.lw_check.specs.Decision.{IsDecision, Pair, pair_of}
 use Rattle.lw_check.specs.Ending.{DecidesAs, EndsPairRead, EndsUnread}
-use Rattle.lw_report.specs.Reading.{TellsFile}
+use Rattle.lw_system.specs.Reading.{TellsFile}
 use Rattle.lw_check.specs.Reading.{ReadsPair}
 use Rattle.lw_report.specs.Ends.{IsWithoutLearner}
 use Rattle.lw_outside.specs.Files.{FilesState}

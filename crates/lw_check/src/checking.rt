@@ -11,7 +11,7 @@ ghost use Rattle.lw_report.specs.Writing.{TakesAll, TakesSome};
 ghost use Rattle.lw_check.specs.Naming.{NamesOutputs};
 ghost use Rattle.lw_check.specs.CheckRun.{IsCheckRun};
 ghost use Rattle.lw_check.specs.Ending.{ComesTo, DecidesAs, EndsPairRead, EndsUnread};
-ghost use Rattle.lw_report.specs.Reading.{TellsFile};
+ghost use Rattle.lw_system.specs.Reading.{TellsFile};
 ghost use Rattle.lw_check.specs.Reading.{ReadsPair};
 ghost use Rattle.lw_mealy.specs.Limits.{IsWithinLimits};
 ghost use Rattle.lw_certify.specs.Sure.{Sure};

@@ -5,7 +5,8 @@ ghost use Rattle.lw_check.specs.Reading.{IsUnread, ReadsPair};
 
 use lw_json::{Answers, Machine};
 use lw_outside::Files;
-use lw_report::{Outcome, Role, read_answers_file, read_machine_file};
+use lw_report::{Outcome, Role, read_outcome};
+use lw_system::{read_answers_file, read_machine_file};
 use std::alloc::Global;
 
 /// A model and answers, each with its names.
@@ -31,10 +32,10 @@ pub(crate) fn read_pair<F: Files>(
 {
     let machine = match read_machine_file(alloc, files, model) {
         Ok(machine) => machine,
-        Err(stop) => return Err(stop.outcome(Role::Model)),
+        Err(stop) => return Err(read_outcome(stop, Role::Model)),
     };
     match read_answers_file(alloc, files, answers) {
         Ok(answers) => Ok(Read { machine, answers }),
-        Err(stop) => Err(stop.outcome(Role::Answers)),
+        Err(stop) => Err(read_outcome(stop, Role::Answers)),
     }
 }

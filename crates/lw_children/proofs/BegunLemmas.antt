@@ -5,7 +5,7 @@ use Rattle.std.proofs.lemmas.List.{get_or_append_left, length_push, get_or_push}
 use Rattle.lw_sul.specs.SessionState.{SessionState}
 use Rattle.lw_outside.specs.Links.{LinkState, SpawnerState}
 use Rattle.lw_line.specs.LineState.{LineState}
-use Rattle.lw_children.specs.Spawners.{StartsLinks}
+use Rattle.lw_system.specs.Spawners.{StartsLinks}
 use Rattle.lw_children.specs.Crews.{AreEarlier, HasBegun, IsLoose, new_session}
 
 module _ {L : Type 0} (state : L → LinkState) (letters : List (List ℕ)) (outputs : Option (List (List ℕ))) where

@@ -31,15 +31,17 @@ use Rattle.lw_rounds.specs.declared.stops.LearnStop.{LearnStop}
 use Rattle.lw_rounds.specs.declared.stops.LearnStop.TheVariants as learn
 use Rattle.lw_workers.specs.Leaving.{HasLearned}
 use Rattle.lw_workers.proofs.MachineLemmas.{no_clash_came, reached}
-use Rattle.lw_children.specs.Children.{IsCausedBy, IsOfChildren, IsSound, IsStopped, LeavesNothing}
+use Rattle.lw_children.specs.Children.{IsCausedBy, IsOfChildren, IsSound, LeavesNothing}
+use Rattle.lw_system.specs.Told.{IsStopped}
 use Rattle.lw_line.specs.Causes.{IsTranscriptOf}
-use Rattle.lw_children.specs.Keeping.{KeepsChildren, count_of, most_outputs_of}
+use Rattle.lw_children.specs.Keeping.{KeepsChildren}
+use Rattle.lw_system.specs.NewLines.{count_of, most_outputs_of, first_names}
 use Rattle.lw_line.specs.LineState.{AreFree, AreToldIfFree, IsNaming, LineState, told_runs}
-use Rattle.lw_children.specs.Spawners.{StartsLinks, StartsAndRetires, StartsSome}
-use Rattle.lw_children.specs.Crews.{AreLinkedWith, AreLinked, AreNewSessions, BearsOut, FitsOutputs, HasBegun, HasRetired, IsChildSeen, IsChildrenPool, IsLoose, RetiresAll, RetiresWith, child_member, count_link, first_names, first_naming, has_number, line_seen, loose_records, new_session}
+use Rattle.lw_system.specs.Spawners.{StartsLinks, StartsAndRetires, StartsSome}
+use Rattle.lw_children.specs.Crews.{AreLinkedWith, AreLinked, AreNewSessions, BearsOut, FitsOutputs, HasBegun, HasRetired, IsChildSeen, IsChildrenPool, IsLoose, RetiresAll, RetiresWith, child_member, count_link, first_naming, has_number, line_seen, loose_records, new_session}
 use Rattle.lw_children.specs.bodies.Ends.{AreChildEnds, IsChildEnd, broken_stop}
-use Rattle.lw_children.specs.declared.starting.Refusal.{Refusal}
-use Rattle.lw_children.specs.declared.starting.Refusal.TheVariants.{Failed, NoMemory}
+use Rattle.lw_outside.specs.declared.links.StartStop.{StartStop}
+use Rattle.lw_outside.specs.declared.links.StartStop.TheVariants.{Failed, NoMemory}
 use Rattle.lw_children.proofs.KeepLemmas.{keeps_link, number_is, sound_goes_on, stopped_link}
 use Rattle.lw_children.proofs.PoolLemmas.{as_many, children_seen, seen_there}
 use Rattle.lw_children.proofs.RetireLemmas.{seat_of, some_number}
@@ -241,12 +243,12 @@ begun_linked state letters outputs words before mid sessions loose begun some = 
     last (Some l) is = is.0
 
 -- a learning that was given up before it began
-pub given_up : {L : Type 0} (kind : Kind) (state : L → LinkState) (words letters : List (List ℕ)) (outputs : Option (List (List ℕ))) (workers k most : ℕ) (prior : List KeptAnswer) (before mid now : SpawnerState) (naming : Naming) (sessions : List (SessionState (LineState L))) (loose : Option L) (refusal : Refusal)
+pub given_up : {L : Type 0} (kind : Kind) (state : L → LinkState) (words letters : List (List ℕ)) (outputs : Option (List (List ℕ))) (workers k most : ℕ) (prior : List KeptAnswer) (before mid now : SpawnerState) (naming : Naming) (sessions : List (SessionState (LineState L))) (loose : Option L) (stop : StartStop)
     → MayBegin naming (length letters) (count_of outputs) prior → HasBegun state letters outputs before sessions loose → StartsSome words before mid (length sessions + count_link loose)
-    → RetiresWith state sessions loose mid now → length sessions + count_link loose ≤ workers → length sessions < workers → (refusal ≡ Failed → (loose ≡ None) × CountedFault before.faults mid.faults)
-    → (learned : Result Learned LearnStop) (kept : List KeptAnswer) (names : List (List ℕ)) → learned ≡ Err (broken_stop refusal (length sessions)) → kept ≡ prior → names ≡ naming.names → IsOfChildren kind words letters outputs workers k most prior before now learned kept names
-given_up kind state words letters outputs workers k most prior before mid now naming sessions loose refusal may begun some retires few less failed learned kept names is kept_is names_are =
-    by refusal failed is
+    → RetiresWith state sessions loose mid now → length sessions + count_link loose ≤ workers → length sessions < workers → (stop ≡ Failed → (loose ≡ None) × CountedFault before.faults mid.faults)
+    → (learned : Result Learned LearnStop) (kept : List KeptAnswer) (names : List (List ℕ)) → learned ≡ Err (broken_stop stop (length sessions)) → kept ≡ prior → names ≡ naming.names → IsOfChildren kind words letters outputs workers k most prior before now learned kept names
+given_up kind state words letters outputs workers k most prior before mid now naming sessions loose stop may begun some retires few less failed learned kept names is kept_is names_are =
+    by stop failed is
   where
     links : List LinkState
     links = retires.first.records ++ loose_records state loose
@@ -266,7 +268,7 @@ given_up kind state words letters outputs workers k most prior before mid now na
         (retires.retired ∙ (ap (λ (l : List LinkState). l ++ loose_records state loose) retires.first.retired ∙ append_assoc mid.retired retires.first.records (loose_records state loose)))
         (retires.faults_same ∙ retires.first.faults) (retires.commands ∙ retires.first.commands) count (numbers_rise letters outputs naming.names [] before.started links ended)
 
-    by : (refusal : Refusal) → (refusal ≡ Failed → (loose ≡ None) × CountedFault before.faults mid.faults) → learned ≡ Err (broken_stop refusal (length sessions)) → IsOfChildren kind words letters outputs workers k most prior before now learned kept names
+    by : (stop : StartStop) → (stop ≡ Failed → (loose ≡ None) × CountedFault before.faults mid.faults) → learned ≡ Err (broken_stop stop (length sessions)) → IsOfChildren kind words letters outputs workers k most prior before now learned kept names
     by Failed failed is =
         let f = failed refl in
         not_started kind words letters outputs workers k most prior before now naming may links spawner (omega (arith, count, few)) ended (length sessions) learned kept names is kept_is names_are less

@@ -11,8 +11,10 @@ use Rattle.lw_outside.specs.Links.{LinkState, Transcript}
 use Rattle.lw_desk.specs.Ending.{kept_runs}
 use Rattle.lw_pool.specs.Pool.{Seen, journal_runs}
 use Rattle.lw_line.specs.Causes.{EndsWithin, StopIsCounted, TranscriptIsCovered, IsRefusedLine, IsSpelled, IsTranscriptOf}
-use Rattle.lw_children.specs.Children.{HasRefused, IfTold, IsSound, IsStopped}
-use Rattle.lw_children.specs.Keeping.{AreFinished, AreOwn, IsBroken, KeepsTold, most_outputs_of}
+use Rattle.lw_children.specs.Children.{IsSound}
+use Rattle.lw_system.specs.Told.{HasRefused, IfTold, IsStopped, AreFinished, AreOwn, IsBroken}
+use Rattle.lw_children.specs.Keeping.{KeepsTold}
+use Rattle.lw_system.specs.NewLines.{most_outputs_of}
 use Rattle.lw_line.specs.LineState.{AreFree, AreToldIfFree, IsNaming, told_runs}
 use Rattle.lw_line.specs.Transcripts.{BreaksIn, SpellsAll, spelled}
 use Rattle.lw_children.specs.Crews.{BearsOut, FitsOutputs, IsChildSeen}

@@ -15,9 +15,9 @@ use Rattle.lw_pool.specs.Sharing.{declared_by}
 use Rattle.lw_pool.proofs.JoinLemmas.{declared_shared}
 use Rattle.lw_workers.specs.Leaving.{HasLearned}
 use Rattle.lw_outside.specs.Links.{LinkState}
-use Rattle.lw_children.specs.Keeping.{count_of, most_outputs_of}
+use Rattle.lw_system.specs.NewLines.{count_of, most_outputs_of, first_names}
 use Rattle.lw_line.specs.LineState.{LineState}
-use Rattle.lw_children.specs.Crews.{AreNewSessions, FitsOutputs, IsChildSeen, child_member, first_names, first_naming, line_seen, new_session}
+use Rattle.lw_children.specs.Crews.{AreNewSessions, FitsOutputs, IsChildSeen, child_member, first_naming, line_seen, new_session}
 
 none_brought : (n i : ℕ) → get_or {A = List (List ℕ)} (replicate n []) i [] ≡ []
 none_brought zero i = refl

@@ -8,6 +8,7 @@ use Rattle.lw_mealy.specs.Origin.{Origin}
 use Rattle.lw_sul.specs.SessionState.{SessionState}
 use Rattle.lw_outside.specs.Links.{LinkState, SpawnerState}
 use Rattle.lw_line.specs.LineState.{LineState}
+use Rattle.lw_system.specs.Ends.{IsBorneOut}
 use Rattle.lw_children.specs.Crews.{AreLinked, AreLinkedWith, BearsOut, RetiresAll, count_link, has_number, line_seen}
 
 pub some_number : (a b : ℕ) → Some a ≡ Some b → a ≡ b
@@ -16,6 +17,10 @@ some_number a b same = ap (λ (o : Option ℕ). by o) same
     by : Option ℕ → ℕ
     by None = 0
     by (Some n) = n
+
+-- the origin of a child's system
+abbrev origin_of : ℕ → List (List ℕ) → Origin
+origin_of number letters = record { machine = None; link = Some number; letters = Some letters }
 
 -- an element of a list that has one
 pub seat_of : {X : Type 0} (xs : List X) (i : ℕ) → i < length xs → X
@@ -26,6 +31,21 @@ module _ {L : Type 0} (state : L → LinkState) where
   -- a record has the number of the session's link
   of_link : (s : SessionState (LineState L)) (r : LinkState) → BearsOut (line_seen state s) r → r.number ≡ (state s.sul.link).number
   of_link s r bears = sym (some_number (state s.sul.link).number r.number (ap (λ (o : Origin). o.link) bears.origin))
+
+  -- what the record of a link bears out of its session is what is seen of that
+  pub borne_seen : (s : SessionState (LineState L)) (r : LinkState) → r.number ≡ (state s.sul.link).number → IsBorneOut s.sul.letters s.sul.names s.sul.most s.sul.outputs s.sul.stop s.sul.cut s.journal r → BearsOut (line_seen state s) r
+  borne_seen s r number bears = record {
+    letters = s.sul.letters;
+    origin = ap (λ (n : ℕ). origin_of n s.sul.letters) (sym number);
+    counted = bears.counted;
+    cut = s.sul.cut;
+    told = bears.told;
+    few = bears.named.few;
+    naming = bears.naming;
+    differ = λ _. bears.named.differ;
+    told_names = bears.told_names;
+    journal = bears.journal;
+  }
 
   pub none_retired : (before : SpawnerState) → RetiresAll state [] before before
   none_retired before = record {

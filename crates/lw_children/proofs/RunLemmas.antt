@@ -13,9 +13,9 @@ use Rattle.lw_pool.specs.Pool.{Seen, journal_runs}
 use Rattle.lw_line.specs.Causes.{IsTranscriptOf}
 use Rattle.lw_line.specs.LineState.{told_runs}
 use Rattle.lw_workers.specs.Machines.{run_numbers}
-use Rattle.lw_children.specs.Children.{IfTold}
+use Rattle.lw_system.specs.Told.{IfTold, AreOwn}
 use Rattle.lw_children.specs.Crews.{BearsOut, IsChildSeen}
-use Rattle.lw_children.specs.Keeping.{AreOwn, KeepsWhole}
+use Rattle.lw_children.specs.Keeping.{KeepsWhole}
 use Rattle.lw_children.proofs.KeepLemmas.{letters_are, own, told}
 
 abbrev numbers : List NamedRun → List ℕ

@@ -31,7 +31,8 @@ use Rattle.lw_renumber.proofs.LawLemmas.{renamed_is_clear, renamed_is_known}
 use Rattle.lw_renumber.proofs.MachineLemmas.{is_machine, states_same, told_apart}
 use Rattle.lw_renumber.proofs.SureLemmas.{gives_back}
 use Rattle.lw_workers.specs.Machines.{IsReached, IsWithin, run_numbers}
-use Rattle.lw_children.specs.Children.{IfTold, IsCausedBy, IsOfChildren, IsOfCommand, IsOfFree, LeavesNothing}
+use Rattle.lw_children.specs.Children.{IsCausedBy, IsOfChildren, IsOfCommand, IsOfFree, LeavesNothing}
+use Rattle.lw_system.specs.Told.{IfTold}
 use Rattle.lw_children.specs.Crews.{first_naming}
 use Rattle.lw_children.specs.Keeping.{KeepsChildren, KeepsTold, KeepsWhole}
 use Rattle.lw_children.proofs.StartLemmas.{none_starts}

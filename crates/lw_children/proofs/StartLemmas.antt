@@ -6,7 +6,7 @@ use Rattle.lw_outside.specs.Links.{with_start, SpawnerState}
 use Rattle.lw_outside.specs.declared.links.StartStop.{StartStop}
 use Rattle.lw_outside.specs.declared.links.StartStop.TheVariants as start
 use Rattle.lw_children.specs.Crews.{count_link}
-use Rattle.lw_children.specs.Spawners.{StartsLinks, StartsSome, with_starts}
+use Rattle.lw_system.specs.Spawners.{StartsLinks, StartsSome, with_starts}
 
 no_more : (words : List (List ℕ)) (commands : Option (List (List (List ℕ)))) → commands ≡ with_starts 0 words commands
 no_more words None = refl

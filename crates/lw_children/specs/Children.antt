@@ -5,7 +5,7 @@ use Rattle.lw_words.specs.Answer.{Answer, AreAnswers, answers_of}
 use Rattle.lw_words.specs.Cause.{CountedFault}
 use Rattle.lw_words.specs.declared.kept.KeptAnswer.{KeptAnswer}
 use Rattle.lw_words.specs.declared.stop.SulStop.{SulStop}
-use Rattle.lw_words.specs.declared.stop.SulStop.TheVariants.{Failed, BadLine, Gone}
+use Rattle.lw_words.specs.declared.stop.SulStop.TheVariants.{Failed}
 use Rattle.lw_mealy.specs.Gives.{Gives}
 use Rattle.lw_mealy.specs.Machine.{Rows}
 use Rattle.lw_outside.specs.Links.{LinkState, Transcript, SpawnerState}
@@ -18,25 +18,11 @@ use Rattle.lw_rounds.specs.declared.learned.Learned.{Learned}
 use Rattle.lw_rounds.specs.declared.learner.Kind.{Kind}
 use Rattle.lw_rounds.specs.declared.stops.LearnStop.{LearnStop}
 use Rattle.lw_rounds.specs.declared.stops.LearnStop.TheVariants as learn
+use Rattle.lw_system.specs.NewLines.{count_of}
+use Rattle.lw_system.specs.Spawners.{StartsAndRetires}
+use Rattle.lw_system.specs.Told.{HasRefused, IfTold, IsStopped}
 use Rattle.lw_workers.specs.Machines.{IsReached, IsWithin}
-use Rattle.lw_line.specs.Causes.{EndsWithin, IsRefusedLine}
-use Rattle.lw_children.specs.Keeping.{AreOwn, KeepsChildren, KeepsWhole, count_of, most_outputs_of}
-use Rattle.lw_children.specs.Spawners.{StartsAndRetires}
-
--- where the transcript of a link is told, it is such a one
-abbrev pub IfTold : (Transcript → Type 0) → Option Transcript → Type 0
-IfTold P None = Unit {0}
-IfTold P (Some t) = P t
-
--- what came last over a link is this bad line
-abbrev pub HasRefused : Option (List (List ℕ)) → List ℕ → Transcript → Type 0
-HasRefused outputs line t = (own : List (List ℕ)) × AreOwn outputs own t × IsRefusedLine own (most_outputs_of outputs) t line
-
--- why the child of an instance stopped, by the record of its link
-abbrev pub IsStopped : Option (List (List ℕ)) → SulStop → LinkState → Type 0
-IsStopped outputs Failed link = CountedFault 0 link.faults
-IsStopped outputs Gone link = CountedFault 0 link.ends × IfTold EndsWithin link.transcript
-IsStopped outputs (BadLine line) link = IfTold (HasRefused outputs line) link.transcript
+use Rattle.lw_children.specs.Keeping.{KeepsChildren, KeepsWhole}
 
 -- the one whose link is not there could not be started; of the others the record says why
 abbrev pub IsChildStop : Option (List (List ℕ)) → SpawnerState → SpawnerState → List LinkState → ℕ → SulStop → Type 0

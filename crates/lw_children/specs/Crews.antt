@@ -16,8 +16,8 @@ use Rattle.lw_rounds.specs.declared.stops.LearnStop.{LearnStop}
 use Rattle.lw_workers.specs.Leaving.{HasLearned}
 use Rattle.lw_line.specs.Causes.{StopIsCounted, IsTranscriptOf}
 use Rattle.lw_line.specs.LineState.{AreFree, AreToldIfFree, IsNaming}
-use Rattle.lw_children.specs.Keeping.{count_of, most_outputs_of}
 use Rattle.lw_line.specs.LineState.{LineState, told_runs}
+use Rattle.lw_system.specs.NewLines.{new_line}
 
 -- what is seen of a session of a child, by the number of its link
 abbrev pub line_seen : {L : Type 0} → (L → LinkState) → SessionState (LineState L) → Seen
@@ -30,24 +30,6 @@ line_seen state s = record {
   origin = record { machine = None; link = Some (state s.sul.link).number; letters = Some s.sul.letters };
   inputs = length s.sul.letters;
   outputs = s.sul.outputs;
-}
-
--- the names that are there from the start: of a declared list, or of none
-abbrev pub first_names : Option (List (List ℕ)) → List (List ℕ)
-first_names None = []
-first_names (Some names) = names
-
--- a system over a link, before anything was asked
-abbrev pub new_line : {L : Type 0} → L → List (List ℕ) → Option (List (List ℕ)) → LineState L
-new_line link letters outputs = record {
-  link = link;
-  letters = letters;
-  names = first_names outputs;
-  most = most_outputs_of outputs;
-  outputs = count_of outputs;
-  started = false;
-  stop = None;
-  cut = false;
 }
 
 abbrev pub new_session : {L : Type 0} → ℕ → L → List (List ℕ) → Option (List (List ℕ)) → SessionState (LineState L)

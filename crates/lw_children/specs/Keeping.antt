@@ -1,41 +1,16 @@
 -- What is kept of a learning over children: the runs that went over their links.
-use Rattle.std.specs.Prelude.{◌≡◌, ◌⊎◌, ℕ, ◌<◌, ◌≤◌, List, [], ◌∷◌, ◌++◌, length, slice_index_or, Bool, true, false, Option, Some, None}
+use Rattle.std.specs.Prelude.{◌≡◌, ◌⊎◌, ℕ, ◌<◌, List, ◌++◌, length, slice_index_or, Bool, Option, Some, None}
 use Rattle.std.specs.List.{All, range_with_len}
 use Rattle.lw_words.specs.Answer.{AreAnswers, answers_of}
-use Rattle.lw_words.specs.Cause.{CountedFault}
-use Rattle.lw_words.specs.Name.{AllDiffer}
 use Rattle.lw_words.specs.declared.kept.KeptAnswer.{KeptAnswer}
 use Rattle.lw_sul.specs.declared.runs.Run.{Run}
 use Rattle.lw_outside.specs.Links.{LinkState, Transcript}
 use Rattle.lw_desk.specs.Ending.{kept_runs}
 use Rattle.lw_pool.specs.Pool.{AskedOnce, journal_runs}
-use Rattle.lw_line.specs.Causes.{IsRefusedLine, IsToldName}
 use Rattle.lw_line.specs.Transcripts.{BreaksIn, IsProper, SpellsAll, spelled}
+use Rattle.lw_system.specs.NewLines.{most_outputs_of}
+use Rattle.lw_system.specs.Told.{AreFinished, AreOwn, IsBroken}
 use Rattle.lw_workers.specs.Machines.{run_numbers}
-
--- the greatest number of names of a child's outputs: those of a declared list, or 256
-abbrev pub most_outputs_of : Option (List (List ℕ)) → ℕ
-most_outputs_of None = 256
-most_outputs_of (Some names) = length names
-
--- the numbers that a child's outputs may have
-abbrev pub count_of : Option (List (List ℕ)) → ℕ
-count_of None = 4096
-count_of (Some names) = length names
-
--- the names of a child's outputs are those that were declared, or at most 256 different ones, each told by an answer to a letter
-abbrev pub AreOwn : Option (List (List ℕ)) → List (List ℕ) → Transcript → Type 0
-AreOwn None own t = (length own ≤ 256) × AllDiffer own × All (IsToldName t) own
-AreOwn (Some names) own t = own ≡ names
-
--- the record of a link says why it was of no more use: it failed, it ended, or what came last over it was refused
-abbrev pub IsBroken : (own : List (List ℕ)) (most : ℕ) → LinkState → Transcript → Type 0
-IsBroken own most link t = CountedFault 0 link.faults ⊎ CountedFault 0 link.ends ⊎ ((line : List ℕ) × IsRefusedLine own most t line)
-
--- the finished ones of some runs: all of them, or, where a step cut the last one off, all before that
-abbrev pub AreFinished : (cut : Bool) (runs finished : List Run) → Type 0
-AreFinished false runs finished = runs ≡ finished
-AreFinished true runs finished = (r : Run) × (runs ≡ finished ++ r ∷ [])
 
 -- the kept answers of an instance are the runs that the transcript of its link spells, by the names of their outputs and
 -- numbered from 0: all of them, where all that was sent is lines of these runs, or where the link broke in a reset; where it

@@ -2,5 +2,4 @@ pub mod Children
 pub mod Crews
 pub mod Cuts
 pub mod Keeping
-pub mod Spawners
 pub mod bodies

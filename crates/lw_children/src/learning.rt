@@ -12,15 +12,16 @@ ghost use Rattle.lw_workers.specs.Asking.{AnswersWords};
 ghost use Rattle.lw_children.specs.Children.{IsOfChildren};
 ghost use Rattle.lw_children.specs.Crews.{AreLinkedWith, HasRetired, IsChildrenPool, RetiresWith, first_naming};
 ghost use Rattle.lw_children.specs.Cuts.{IsStopOfInstance};
-ghost use Rattle.lw_children.specs.Keeping.{count_of};
+ghost use Rattle.lw_system.specs.NewLines.{count_of};
 ghost use Rattle.lw_children.specs.bodies.Ends.{broken_stop};
 
 use crate::cut::cut_off;
-use crate::{Broken, Command, Refusal, retire_all, retire_with, start_all};
+use crate::{Broken, retire_all, retire_with, start_all};
 use lw_cache::{AskStop, Cache};
+use lw_json::Command;
 use lw_line::LineSul;
 use lw_names::OutNames;
-use lw_outside::Spawner;
+use lw_outside::{Spawner, StartStop};
 use lw_pool::Pool;
 use lw_rounds::{
     LearnStop, Settings, Watcher, model_is_least, too_large_for_all, too_many_is_none,
@@ -35,16 +36,16 @@ use std::thread::Threads;
 const FREE_OUTPUTS: u16 = 4096;
 
 /// Why a learning stops where this many sessions were made and then no more.
-fn stop_of(refusal: Refusal, made: usize) -> LearnStop
+fn stop_of(stop: StartStop, made: usize) -> LearnStop
     requires few { made < 16 }
-    ensures { result ≡ broken_stop refusal made }
+    ensures { result ≡ broken_stop stop made }
 {
-    match refusal {
-        Refusal::Failed => LearnStop::Ask(AskStop::Sul {
+    match stop {
+        StartStop::Failed => LearnStop::Ask(AskStop::Sul {
             instance: made as u32,
             stop: SulStop::Failed,
         }),
-        Refusal::NoMemory => LearnStop::from(NoMemory),
+        StartStop::NoMemory => LearnStop::from(NoMemory),
     }
 }
 
@@ -69,7 +70,7 @@ fn give_up<P: Spawner>(
     requires few { length broken.sessions.items < 16 }
     requires linked { AreLinkedWith P.Link.state broken.sessions.items broken.unmade.link
         (P.state spawner.old) }
-    ensures learned { result.learned ≡ Err (broken_stop broken.unmade.refusal
+    ensures learned { result.learned ≡ Err (broken_stop broken.unmade.stop
         (length broken.sessions.items)) }
     ensures kept { result.kept.answers ≡ cache.kept }
     ensures names { result.names ≡ names }
@@ -78,7 +79,7 @@ fn give_up<P: Spawner>(
         (P.state spawner.old) (P.state spawner.new) }
 {
     let Broken { sessions, unmade } = broken;
-    let learned = Err(stop_of(unmade.refusal, sessions.len()));
+    let learned = Err(stop_of(unmade.stop, sessions.len()));
     retire_with(spawner, sessions, unmade.link);
     LearningOutcome {
         learned,

@@ -2,14 +2,12 @@
 //! links say of what is kept and of why it stopped.
 #![tactic(auto)]
 
-mod command;
 mod cut;
 mod learning;
 mod retiring;
 mod sorted;
 mod starting;
 
-pub use command::Command;
 pub use retiring::{retire_all, retire_with};
 pub use sorted::learn_children;
-pub use starting::{Broken, Refusal, Unmade, start_all};
+pub use starting::{Broken, Unmade, start_all};

@@ -1,21 +1,10 @@
 //! The retiring of the links of sessions.
-ghost use Rattle.std.specs.Prelude.{◌≡◌};
-ghost use Rattle.lw_children.specs.Crews.{AreLinked, AreLinkedWith, BearsOut, RetiresAll, RetiresWith, line_seen};
+ghost use Rattle.lw_children.specs.Crews.{AreLinked, AreLinkedWith, RetiresAll, RetiresWith};
 
 use lw_line::LineSul;
-use lw_outside::{Link, Spawner};
-use lw_sul::{Session, Sul};
-
-/// The link of a session that is at its end.
-fn link_of<L: Link + Drop>(session: Session<LineSul<L>>) -> L
-    ensures link { result ≡ session.sul.link }
-    ensures bears { BearsOut (line_seen L.state session) (L.state result) }
-{
-    // for the proof alone: what the system's runs are, and that its names are few
-    let _runs = session.runs();
-    let _named = session.sul().named();
-    session.into_sul().into_link()
-}
+use lw_outside::Spawner;
+use lw_sul::Session;
+use lw_system::link_of;
 
 /// Retires the links of sessions, in their order. May wait for the children's ends.
 pub fn retire_all<P: Spawner>(spawner: &mut P, sessions: Vec<Session<LineSul<P::Link>>>)

@@ -9,10 +9,10 @@ ghost use Rattle.lw_workers.specs.Asking.{AnswersWords};
 ghost use Rattle.lw_children.specs.Children.{IsOfCommand, IsOfFree};
 ghost use Rattle.lw_children.specs.Crews.{first_naming};
 ghost use Rattle.lw_children.specs.Cuts.{IsStopOfInstance};
-ghost use Rattle.lw_children.specs.Keeping.{count_of};
+ghost use Rattle.lw_system.specs.NewLines.{count_of};
 
-use crate::Command;
 use crate::learning::learn_over;
+use lw_json::Command;
 use lw_outside::Spawner;
 use lw_renumber::sort_outputs;
 use lw_rounds::{LearnStop, Settings, Watcher};

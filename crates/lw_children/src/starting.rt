@@ -2,31 +2,22 @@
 ghost use Rattle.std.specs.Prelude.{◌≡◌, ℕ, ◌+◌, ◌<◌, ◌≤◌, List, [], length, Option, Some, None, IfErr, IfOk, IfSome, OnOk, OnErr};
 ghost use Rattle.std.specs.List.{All};
 ghost use Rattle.lw_words.specs.Cause.{CountedFault};
-ghost use Rattle.lw_outside.specs.Links.{IsUntouched, with_start};
-ghost use Rattle.lw_children.specs.Spawners.{StartsLinks, StartsSome};
-ghost use Rattle.lw_children.specs.Crews.{AreEarlier, HasBegun, IsLoose, count_link, new_line, new_session};
-ghost use Rattle.lw_children.specs.bodies.Refusals.{refusal_by};
-ghost use Rattle.lw_children.specs.declared.starting.Refusal.{Refusal as Why};
+ghost use Rattle.lw_outside.specs.declared.links.StartStop.{StartStop as Why};
+ghost use Rattle.lw_system.specs.Spawners.{StartsLinks, StartsSome};
+ghost use Rattle.lw_children.specs.Crews.{AreEarlier, HasBegun, IsLoose, count_link, new_session};
 
-use crate::Command;
+use lw_json::Command;
 use lw_line::LineSul;
 use lw_outside::{Link, Spawner, StartStop};
 use lw_sul::Session;
+use lw_system::line_over;
 use lw_words::{Names, NoMemory};
 use std::alloc::Global;
 
-/// Why a child's session was not made.
-#[derive(Clone, Copy, Debug, PartialEq, Eq)]
-pub enum Refusal {
-    /// It could not be started.
-    Failed,
-    NoMemory,
-}
-
-/// A session that was not made, and the link to its child where that was started.
+/// A session that was not made, why, and the link to its child where that was started.
 #[derive(Drop)]
 pub struct Unmade<L> {
-    pub refusal: Refusal,
+    pub stop: StartStop,
     pub link: Option<L>,
 }
 
@@ -42,24 +33,15 @@ impl<L: Link> Broken<L> {
     fn of_none(alloc: Global) -> Broken<L>
         ensures sessions { result.sessions.items ≡ [] }
         ensures link { result.unmade.link ≡ None }
-        ensures refusal { result.unmade.refusal ≡ Why.NoMemory }
+        ensures stop { result.unmade.stop ≡ Why.NoMemory }
     {
         Broken {
             sessions: Vec::new(alloc),
             unmade: Unmade {
-                refusal: Refusal::NoMemory,
+                stop: StartStop::NoMemory,
                 link: None,
             },
         }
-    }
-}
-
-fn refusal_of(stop: StartStop) -> Refusal
-    ensures { result ≡ refusal_by stop }
-{
-    match stop {
-        StartStop::Failed => Refusal::Failed,
-        StartStop::NoMemory => Refusal::NoMemory,
     }
 }
 
@@ -80,26 +62,6 @@ fn noting<L: Link>(alloc: Global, system: LineSul<L>) -> LineSul<L>
     let mut noting = system;
     noting.note(alloc);
     noting
-}
-
-/// The system over a link, which notes what it is asked.
-fn line_over<L: Link>(
-    alloc: Global,
-    link: L,
-    inputs: Names,
-    outputs: Option<Names>,
-) -> Result<LineSul<L>, L>
-    requires { IsUntouched (L.state link).transcript }
-    ensures ok { IfOk result (λ s. s ≡ new_line link inputs outputs) }
-    ensures back { IfErr result (λ l. l ≡ link) }
-{
-    match outputs {
-        Some(outputs) => Ok(noting(alloc, LineSul::new(link, inputs, outputs))),
-        None => match LineSul::free(alloc, link, inputs) {
-            Ok(system) => Ok(noting(alloc, system)),
-            Err((link, NoMemory)) => Err(link),
-        },
-    }
 }
 
 /// Starts a child, and makes the session of it under this number.
@@ -124,27 +86,24 @@ fn start_one<P: Spawner>(
         (P.state spawner.new) 1) }
     ensures none { IfErr result (λ u. StartsSome command.now.words (P.state spawner.old)
         (P.state spawner.new) (count_link u.link)) }
-    ensures failed { IfErr result (λ u. u.refusal ≡ Why.Failed → (u.link ≡ None) ×
+    ensures failed { IfErr result (λ u. u.stop ≡ Why.Failed → (u.link ≡ None) ×
         CountedFault (P.state spawner.old).faults (P.state spawner.new).faults) }
 {
     let (inputs, outputs) = match (command.inputs.copy(), copy_declared(&command.outputs)) {
         (Ok(inputs), Ok(outputs)) => (inputs, outputs),
         _ => return Err(Unmade {
-            refusal: Refusal::NoMemory,
+            stop: StartStop::NoMemory,
             link: None,
         }),
     };
     let link = match spawner.start(command.words.get()) {
         Ok(link) => link,
-        Err(stop) => return Err(Unmade {
-            refusal: refusal_of(stop),
-            link: None,
-        }),
+        Err(stop) => return Err(Unmade { stop, link: None }),
     };
     match line_over(alloc, link, inputs, outputs) {
-        Ok(system) => Ok(Session::new(alloc, instance, system)),
+        Ok(system) => Ok(Session::new(alloc, instance, noting(alloc, system))),
         Err(link) => Err(Unmade {
-            refusal: Refusal::NoMemory,
+            stop: StartStop::NoMemory,
             link: Some(link),
         }),
     }
@@ -169,7 +128,7 @@ pub fn start_all<P: Spawner>(
         command.now.outputs (P.state spawner.old) b.sessions.items b.unmade.link) }
     ensures some { IfErr result (λ b. StartsSome command.now.words (P.state spawner.old)
         (P.state spawner.new) (length b.sessions.items + count_link b.unmade.link)) }
-    ensures failed { IfErr result (λ b. b.unmade.refusal ≡ Why.Failed → (b.unmade.link ≡ None) ×
+    ensures failed { IfErr result (λ b. b.unmade.stop ≡ Why.Failed → (b.unmade.link ≡ None) ×
         CountedFault (P.state spawner.old).faults (P.state spawner.new).faults) }
 {
     let mut sessions = match Vec::with_capacity(alloc, usize::from(workers)) {

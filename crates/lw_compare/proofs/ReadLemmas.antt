@@ -7,10 +7,10 @@ use Rattle.lw_json.specs.declared.machine.Machine.{Machine}
 use Rattle.lw_json.specs.declared.fault.JsonFault.{JsonFault}
 use Rattle.lw_outside.specs.Files.{File, Holds, HoldsLong, file_at, longest_file, FilesState}
 use Rattle.lw_report.specs.Outcomes.{HasOwnText, StandsOrWants}
-use Rattle.lw_report.specs.Reading.{ReadsFile, ReadsBadFile}
+use Rattle.lw_system.specs.Reading.{ReadsFile, ReadsBadFile}
 use Rattle.lw_report.specs.Stops.{read_outcome}
-use Rattle.lw_report.specs.declared.stops.ReadStop.{ReadStop}
-use Rattle.lw_report.specs.declared.stops.ReadStop.TheVariants as stop
+use Rattle.lw_system.specs.declared.stops.ReadStop.{ReadStop}
+use Rattle.lw_system.specs.declared.stops.ReadStop.TheVariants as stop
 use Rattle.lw_report.specs.declared.comparison.Comparison.{Comparison}
 use Rattle.lw_report.specs.declared.outcome.Outcome.{Outcome}
 use Rattle.lw_report.specs.declared.outcome.Outcome.TheVariants.{BadFile, FileFault, FileTooLong, NoMemory}

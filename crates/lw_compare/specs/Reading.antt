@@ -5,7 +5,7 @@ use Rattle.lw_json.specs.MachineFile.{IsMachineFile}
 use Rattle.lw_json.specs.MachineFault.{HasMachineFault}
 use Rattle.lw_json.specs.declared.machine.Machine.{Machine}
 use Rattle.lw_outside.specs.Files.{Call, File, HoldsLong, file_at, longest_file, noted, read_call, FilesState}
-use Rattle.lw_report.specs.Reading.{ReadsBadFile, ReadsFile, TellsBad, TellsFile}
+use Rattle.lw_system.specs.Reading.{ReadsBadFile, ReadsFile, TellsBad, TellsFile}
 use Rattle.lw_report.specs.declared.role.Role.TheVariants.{Model, Second}
 use Rattle.lw_report.specs.declared.outcome.Outcome.{Outcome}
 use Rattle.lw_report.specs.declared.outcome.Outcome.TheVariants.{BadFile, FileTooLong, FileFault, NoMemory}

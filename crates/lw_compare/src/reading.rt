@@ -5,7 +5,8 @@ ghost use Rattle.lw_compare.specs.bodies.Unread.{IsStopped};
 
 use lw_json::Machine;
 use lw_outside::Files;
-use lw_report::{Outcome, Role, read_machine_file};
+use lw_report::{Outcome, Role, read_outcome};
+use lw_system::read_machine_file;
 use std::alloc::Global;
 
 /// Two models, each with its names.
@@ -31,13 +32,13 @@ pub(crate) fn read_models<F: Files>(
 {
     let one = match read_machine_file(alloc, files, first) {
         Ok(machine) => machine,
-        Err(stop) => return Err(stop.outcome(Role::Model)),
+        Err(stop) => return Err(read_outcome(stop, Role::Model)),
     };
     match read_machine_file(alloc, files, second) {
         Ok(machine) => Ok(Models {
             first: one,
             second: machine,
         }),
-        Err(stop) => Err(stop.outcome(Role::Second)),
+        Err(stop) => Err(read_outcome(stop, Role::Second)),
     }
 }

@@ -10,8 +10,8 @@ ghost use Rattle.lw_report.specs.declared.role.Role.{Role as Part};
 ghost use Rattle.lw_report.specs.declared.stops.TellStop.{TellStop as Stop};
 
 use lw_json::Machine;
-use lw_outside::Sink;
-use lw_report::{Comparison, Outcome, TellStop, UNSAID, put_all, say, text};
+use lw_outside::{Sink, put_all};
+use lw_report::{Comparison, Outcome, TellStop, UNSAID, say, text};
 use lw_words::{Kept, Names};
 use std::alloc::Global;
 

@@ -73,12 +73,12 @@ declared_none (Some outputs) fault named h = names_none 4096 outputs fault named
 setup_inputs : (w : WrittenSetup) (s : Setup) (fault : NamesFault) → SpellsSetup w s → ¬ SaysSetupFault w (Inputs fault)
 setup_inputs (table name) s fault spells h = h
 setup_inputs (command words inputs outputs) (Table t) fault spells h = spells
-setup_inputs (command words inputs outputs) (Command ws i o) fault spells h = names_none 64 inputs fault spells.3.0 spells.3.1 h
+setup_inputs (command words inputs outputs) (Command c) fault spells h = names_none 64 inputs fault spells.3.0 spells.3.1 h
 
 setup_outputs : (w : WrittenSetup) (s : Setup) (fault : NamesFault) → SpellsSetup w s → ¬ SaysSetupFault w (Outputs fault)
 setup_outputs (table name) s fault spells h = h
 setup_outputs (command words inputs outputs) (Table t) fault spells h = spells
-setup_outputs (command words inputs outputs) (Command ws i o) fault spells h = declared_none outputs fault spells.4 h.1
+setup_outputs (command words inputs outputs) (Command c) fault spells h = declared_none outputs fault spells.4 h.1
 
 setup_none : (w : WrittenSetup) (s : Setup) → SpellsSetup w s → (fault : JsonFault) → SaysSetupFault w fault → fault ≡ NoMemory
 setup_none w s spells NotJson h = absurd h

@@ -3,6 +3,8 @@ pub mod AnswersFile
 pub mod AnswersText
 pub mod Each
 pub mod Fault
+pub mod FitNames
+pub mod Hint
 pub mod KeptOver
 pub mod MachineFault
 pub mod MachineFile

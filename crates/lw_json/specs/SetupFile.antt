@@ -71,9 +71,9 @@ AreOutputs (Some outputs) = IsNames outputs
 -- what is said is the setup
 abbrev pub SpellsSetup : WrittenSetup → Setup → Type 0
 SpellsSetup (table name) (Table t) = t ≡ name
-SpellsSetup (table name) (Command w i o) = ⊥
+SpellsSetup (table name) (Command c) = ⊥
 SpellsSetup (command words inputs outputs) (Table t) = ⊥
-SpellsSetup (command words inputs outputs) (Command w i o) = (w ≡ words) × (i ≡ inputs) × (o ≡ outputs) × AreInputs inputs × AreOutputs outputs
+SpellsSetup (command words inputs outputs) (Command c) = (c.words ≡ words) × (c.inputs ≡ inputs) × (c.outputs ≡ outputs) × AreInputs inputs × AreOutputs outputs
 
 -- the bytes are a setup file, and this is the setup
 abbrev pub IsSetupFile : List ℕ → Setup → Type 0

@@ -65,15 +65,20 @@ impl Texts {
     }
 }
 
+/// What children are started by: the words of the command, the first of them its program; the names of their letters; and
+/// those of their outputs, or None where they weren't declared.
+#[derive(Drop)]
+pub struct Command {
+    pub words: Texts,
+    pub inputs: Names,
+    pub outputs: Option<Names>,
+}
+
 /// Where a system comes from.
 #[derive(Drop)]
 pub enum Setup {
     /// A machine file of this name. It gives the inputs and the outputs.
     Table(Text),
-    /// A program: its words, and the names of its inputs and outputs. The outputs may be left open.
-    Command {
-        words: Texts,
-        inputs: Names,
-        outputs: Option<Names>,
-    },
+    /// A program.
+    Command(Command),
 }

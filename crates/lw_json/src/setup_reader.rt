@@ -1,9 +1,11 @@
 //! Reads setup files: the shapes of the members, then the names.
 
 ghost use Rattle.std.specs.Prelude.{◌≡◌, List, ℕ, IfOk, IfErr, Some, true, false, map, string_bytes, option_map};
+ghost use Rattle.serde_json.specs.Data.{Data};
 ghost use Rattle.serde_json.specs.View.{view};
 ghost use Rattle.lw_json.specs.Fault.{first_failing};
-ghost use Rattle.lw_json.specs.Members.{is_object};
+ghost use Rattle.lw_json.specs.Hint.{hint_of};
+ghost use Rattle.lw_json.specs.Members.{IsJson, is_object};
 ghost use Rattle.lw_json.specs.SetupFile.{has_member, text_at, is_child_command, command_at, outputs_at, AreOutputs, DeclaredFault, setup_tests, SaysSetup, SpellsSetup, IsSetupFile, SaysSetupFault, HasSetupFault};
 ghost use Rattle.lw_json.specs.bodies.SetupParts.{said_setup, said_command, said_texts};
 ghost use Rattle.lw_json.specs.bodies.Told.{Told, IsMisshapen};
@@ -11,8 +13,9 @@ ghost use Rattle.lw_json.specs.declared.fault.JsonFault.{JsonFault as Fault};
 ghost use Rattle.lw_json.specs.declared.setup.Setup.{Setup as OneSetup};
 ghost use Rattle.std.specs.Prelude.{codes};
 
+use crate::hint::hint_of;
 use crate::members::{inputs_of, outputs_of, texts_member, value_of};
-use crate::{Field, JsonFault, Setup, Text, Texts};
+use crate::{Command, Field, JsonFault, Setup, SetupFile, Text, Texts};
 use lw_words::{Names, NoMemory};
 use serde_json::Value;
 use std::alloc::Global;
@@ -164,11 +167,11 @@ fn command_setup(
 {
     let inputs_named = inputs_of(alloc, &inputs)?;
     let outputs_named = declared(alloc, outputs)?;
-    Ok(Setup::Command {
+    Ok(Setup::Command(Command {
         words: Texts::new(words),
         inputs: inputs_named,
         outputs: outputs_named,
-    })
+    }))
 }
 
 /// The setup that is said.
@@ -186,6 +189,24 @@ fn setup_of(alloc: Global, said: Said) -> Result<Setup, JsonFault>
     }
 }
 
+/// Reads a setup file as `read_setup` does, and tells the first of its members that a setup doesn't know, in the order of their
+/// names, as a line `unknown member "outpts" in setup`. A byte of the name that isn't printable ASCII, or is a quote or a
+/// backslash, is printed as `\xHH`, by two hexadecimal digits.
+pub fn read_setup_with_hint(alloc: Global, bytes: &[u8]) -> Result<SetupFile, JsonFault>
+    ensures ok { IfOk result (λ file. IsSetupFile bytes.now file.setup) }
+    ensures only { IfOk result (λ file. (t : OneSetup) → IsSetupFile bytes.now t →
+        t ≡ file.setup) }
+    ensures hint { (d : Data) → IsJson bytes.now d → IfOk result (λ file.
+        file.hint.items ≡ hint_of d) }
+    ensures err { IfErr result (HasSetupFault bytes.now) }
+{
+    let root = value_of(alloc, bytes)?;
+    let said = members_of(alloc, &root)?;
+    let setup = setup_of(alloc, said)?;
+    let hint = hint_of(alloc, &root)?;
+    Ok(SetupFile { setup, hint })
+}
+
 /// Reads a setup file: an object with one of `table`, the name of a machine file, and `command`, the words of a
 /// program, beside which stand `inputs` and, where they are declared, `outputs`.
 pub fn read_setup(alloc: Global, bytes: &[u8]) -> Result<Setup, JsonFault>
@@ -193,7 +214,8 @@ pub fn read_setup(alloc: Global, bytes: &[u8]) -> Result<Setup, JsonFault>
     ensures only { IfOk result (λ s. (t : OneSetup) → IsSetupFile bytes.now t → t ≡ s) }
     ensures err { IfErr result (HasSetupFault bytes.now) }
 {
-    let root = value_of(alloc, bytes)?;
-    let said = members_of(alloc, &root)?;
-    setup_of(alloc, said)
+    match read_setup_with_hint(alloc, bytes) {
+        Ok(file) => Ok(file.setup),
+        Err(fault) => Err(fault),
+    }
 }

@@ -17,7 +17,8 @@ use Rattle.lw_rounds.specs.declared.learner.Kind.{Kind}
 use Rattle.lw_rounds.specs.declared.stops.LearnStop.{LearnStop}
 use Rattle.lw_rounds.specs.declared.stops.LearnStop.TheVariants as learn
 use Rattle.lw_children.specs.Children.{IsOfChildren, IsOfCommand}
-use Rattle.lw_children.specs.Keeping.{KeepsChildren, count_of}
+use Rattle.lw_children.specs.Keeping.{KeepsChildren}
+use Rattle.lw_system.specs.NewLines.{count_of}
 use Rattle.lw_report.proofs.LearningLemmas.{has_large_sorted, has_large_suite, has_model, has_model_sorted, sorted_settled}
 use Rattle.lw_learn.specs.Arguments.{LearnValues}
 use Rattle.lw_learn.specs.Findings.{IsOfInstances, LearningStopsBy}

@@ -1,6 +1,5 @@
--- Reads of files, one after the other, and why the last one may be refused.
-use Rattle.std.proofs.Common.{◌≡◌, ◌∙◌, ◌⊎◌, ⊎_elim, ℕ, List, [], ◌∷◌, ◌++◌, map, true, false, Option, Some, None, Result, Ok, Err, IfOk, IfErr, length, ◌≤◌, arith, inl, inr, refl, ap, sym, subst, append_assoc, append-nil}
-use Rattle.std.proofs.lemmas.List.{map-append}
+-- Why nothing is learned, from why a file wasn't read, and a task from a system that was.
+use Rattle.std.proofs.Common.{◌≡◌, ◌∙◌, ◌⊎◌, ⊎_elim, ℕ, List, [], ◌∷◌, true, false, Option, Some, None, Result, Ok, Err, IfOk, IfErr, length, ◌≤◌, arith, inl, inr, refl, ap, sym, subst}
 use Rattle.lw_words.specs.Cause.{CountedFault}
 use Rattle.lw_words.specs.declared.kept.KeptAnswer.{KeptAnswer}
 use Rattle.lw_json.specs.AnswersFault.{HasAnswersFault}
@@ -10,205 +9,95 @@ use Rattle.lw_json.specs.MachineFile.{IsMachineFile}
 use Rattle.lw_json.specs.SetupFile.{HasSetupFault, IsSetupFile}
 use Rattle.lw_json.specs.declared.answers.Answers.{Answers}
 use Rattle.lw_json.specs.declared.fault.JsonFault.{JsonFault}
-use Rattle.lw_json.specs.declared.machine.Machine.{Machine}
-use Rattle.lw_json.specs.declared.setup.Setup.{Setup}
 use Rattle.lw_json.specs.declared.setup.Setup.TheVariants as setup
-use Rattle.lw_outside.specs.Files.{Call, File, HoldsLong, noted, read_call, FilesState}
-use Rattle.lw_report.specs.Reading.{HasRead, ReadsBadFile, ReadsFile, WasRead}
-use Rattle.lw_report.specs.Stops.{read_outcome}
+use Rattle.lw_outside.specs.Files.{File, HoldsLong, read_call, FilesState}
+use Rattle.lw_system.specs.Finding.{HasFound, IsNoSetup, IsNoSystem, IsNoTable, NamesNoTable}
+use Rattle.lw_system.specs.Reading.{HasRead, ReadsBadFile, ReadsFile}
+use Rattle.lw_system.specs.Reads.{IsNotRead, MadeReads}
+use Rattle.lw_system.specs.Systems.{HasWords, letters_of}
+use Rattle.lw_system.specs.declared.source.Source.{Source}
+use Rattle.lw_system.specs.declared.source.Source.TheVariants as source
+use Rattle.lw_system.specs.declared.stops.ReadStop.{ReadStop}
+use Rattle.lw_system.specs.declared.stops.ReadStop.TheVariants as stop
+use Rattle.lw_system.specs.declared.stops.SystemStop.{SystemStop}
+use Rattle.lw_system.specs.declared.system.System.{System}
+use Rattle.lw_system.proofs.ReadsLemmas.{made_none, made_then, read_made, read_none, some_made, some_then}
+use Rattle.lw_report.specs.Refused.{IsRefused}
+use Rattle.lw_report.specs.Stops.{read_outcome, role_of, unread_outcome}
 use Rattle.lw_report.specs.declared.outcome.Outcome.{Outcome}
 use Rattle.lw_report.specs.declared.outcome.Outcome.TheVariants.{Learned, Trial, Yes, Served, No, Usage, BadFile, Alphabets, FileTooLong, Nondeterministic, NoMemory, SulFailed, Gone, BadLine, BadAsk, TooManyStates, SuiteTooLarge, FileFault, SourceFault, SinkFault, Compared, Asked, Rechecked, UnknownLetter, Unstarted}
 use Rattle.lw_report.specs.declared.role.Role.{Role}
 use Rattle.lw_report.specs.declared.role.Role.TheVariants as role
-use Rattle.lw_report.specs.declared.stops.ReadStop.{ReadStop}
-use Rattle.lw_report.specs.declared.stops.ReadStop.TheVariants as stop
 use Rattle.lw_learn.specs.Arguments.{LearnValues}
-use Rattle.lw_learn.specs.Calls.{gained}
-use Rattle.lw_learn.specs.bodies.UnreadState.{UnreadState}
-use Rattle.lw_learn.specs.Unread.{IsNext, IsRefused, IsTableNext, IsUnreadBy, MadeReads, MadeSomeReads, ReadsBad}
-use Rattle.lw_learn.specs.Tasks.{ReadsPrior, ReadsSystem, with_outputs}
+use Rattle.lw_learn.specs.Tasks.{ReadsPrior, with_outputs}
+use Rattle.lw_learn.specs.Unread.{IsNext, IsTableNext, IsUnreadBy, ReadsBad}
 use Rattle.lw_learn.specs.bodies.Ready.{IsReady}
 use Rattle.lw_learn.specs.bodies.Stages.{HasPrior, IsBack, IsStage, IsTaskWith, IsUnfit, SaysReady, SaysWhole}
-use Rattle.lw_learn.specs.declared.arguments.Source.{Source}
-use Rattle.lw_learn.specs.declared.arguments.Source.TheVariants as source
-use Rattle.lw_learn.specs.declared.task.System.{System}
-use Rattle.lw_learn.specs.declared.task.System.TheVariants.{Table}
+use Rattle.lw_learn.specs.bodies.UnreadState.{UnreadState}
 use Rattle.lw_learn.specs.declared.task.Task.{Task}
 
--- the call of a read that gave bytes
-abbrev call_of : File → Call
-call_of r = read_call r.0 false
-
-gained_twice : (a b : List Call) (first second third : Option (List Call)) → second ≡ gained a first → third ≡ gained b second → third ≡ gained (a ++ b) first
-gained_twice a b None second third one two = two ∙ ap (gained b) one
-gained_twice a b (Some cs) second third one two = two ∙ (ap (gained b) one ∙ ap (λ (l : List Call). Some l) (append_assoc cs a b))
-
-gained_none : (calls : Option (List Call)) → calls ≡ gained [] calls
-gained_none None = refl
-gained_none (Some cs) = ap (λ (l : List Call). Some l) (sym (append-nil cs))
-
--- nothing was read yet
-pub made_none : (f : FilesState) → MadeReads f f []
-made_none f = ([], sym (append-nil f.reads), gained_none f.calls)
-
--- one read gave bytes
-pub made_one : (f g : FilesState) (name bytes : List ℕ) → g.reads ≡ f.reads ++ (name, bytes) ∷ [] → g.calls ≡ noted (read_call name false) f.calls → MadeReads f g []
-made_one f g name bytes reads calls = ((name, bytes) ∷ [], reads, calls)
-
--- a call gave none
-pub made_call : (f g : FilesState) (c : Call) → g.reads ≡ f.reads → g.calls ≡ noted c f.calls → MadeReads f g (c ∷ [])
-made_call f g c reads calls = ([], reads ∙ sym (append-nil f.reads), calls)
-
--- reads that gave bytes, and then others
-pub made_then : (f m g : FilesState) (last : List Call) → MadeReads f m [] → MadeReads m g last → MadeReads f g last
-made_then f m g last one two = (
-  one.0 ++ two.0,
-  two.1 ∙ (ap (λ (l : List File). l ++ two.0) one.1 ∙ append_assoc f.reads one.0 two.0),
-  gained_twice (map call_of one.0) (map call_of two.0 ++ last) f.calls m.calls g.calls
-      (one.2 ∙ ap (λ (l : List Call). gained l f.calls) (append-nil (map call_of one.0)))
-      two.2
-      ∙ ap (λ (l : List Call). gained l f.calls) (sym (append_assoc (map call_of one.0) (map call_of two.0) last) ∙ ap (λ (l : List Call). l ++ last) (sym (map-append call_of one.0 two.0))),
-)
-
-names_of_reads : (more : List File) → map call_of more ≡ map (λ (n : List ℕ). read_call n false) (map (λ (r : File). r.0) more)
-names_of_reads [] = refl
-names_of_reads (r ∷ rs) = ap (λ (l : List Call). call_of r ∷ l) (names_of_reads rs)
-
--- and then some of which nothing more is known
-some_then : (f m g : FilesState) → MadeReads f m [] → MadeSomeReads m g → MadeSomeReads f g
-some_then f m g one two = (
-  (one.0 ++ two.0.0, two.0.1 ∙ (ap (λ (l : List File). l ++ two.0.0) one.1 ∙ append_assoc f.reads one.0 two.0.0)),
-  (
-    map (λ (r : File). r.0) one.0 ++ two.1.0,
-    gained_twice (map call_of one.0) (map (λ (n : List ℕ). read_call n false) two.1.0) f.calls m.calls g.calls
-        (one.2 ∙ ap (λ (l : List Call). gained l f.calls) (append-nil (map call_of one.0)))
-        two.1.1
-        ∙ ap (λ (l : List Call). gained l f.calls)
-        (ap (λ (l : List Call). l ++ map (λ (n : List ℕ). read_call n false) two.1.0) (names_of_reads one.0)
-        ∙ sym (map-append (λ (n : List ℕ). read_call n false) (map (λ (r : File). r.0) one.0) two.1.0)),
-  ),
-)
-
--- what was made so far is some reads
-pub some_made : (f g : FilesState) → MadeReads f g [] → MadeSomeReads f g
-some_made f g made = (
-  (made.0, made.1),
-  (map (λ (r : File). r.0) made.0, made.2 ∙ ap (λ (l : List Call). gained l f.calls) (append-nil (map call_of made.0) ∙ names_of_reads made.0)),
-)
-
 module _ {V : Type 0} (IsFile : List ℕ → V → Type 0) (HasFirst : List ℕ → JsonFault → Type 0) (name : List ℕ) where
-  some_reads : (f g : FilesState) → (g.reads ≡ f.reads) ⊎ ((bytes : List ℕ) × WasRead f.holds f.reads g.reads name bytes) → (more : List File) × (g.reads ≡ f.reads ++ more)
-  some_reads f g reads = ⊎_elim (λ (same : g.reads ≡ f.reads). ([], same ∙ sym (append-nil f.reads))) (λ (r : (bytes : List ℕ) × WasRead f.holds f.reads g.reads name bytes). ((name, r.0) ∷ [], r.1.given)) reads
-
-  some_calls : (f g : FilesState) → (g.calls ≡ f.calls) ⊎ (g.calls ≡ noted (read_call name false) f.calls) → (names : List (List ℕ)) × (g.calls ≡ gained (map (λ n. read_call n false) names) f.calls)
-  some_calls f g calls = ⊎_elim (λ (same : g.calls ≡ f.calls). ([], same ∙ gained_none f.calls)) (λ (one : g.calls ≡ noted (read_call name false) f.calls). (name ∷ [], one)) calls
-
-  -- the file of a value, by a read that gave bytes
-  pub read_made : (f g : FilesState) (r : Result V ReadStop) (v : V) → HasRead IsFile HasFirst name f g r → r ≡ Ok v → ReadsFile IsFile name f.holds f.reads g.reads v × MadeReads f g [] × (g.faults ≡ f.faults)
-  read_made f g r v has is = by (subst (λ (x : Result V ReadStop). HasRead IsFile HasFirst name f g x) is has)
-    where
-      by : HasRead IsFile HasFirst name f g (Ok v) → ReadsFile IsFile name f.holds f.reads g.reads v × MadeReads f g [] × (g.faults ≡ f.faults)
-      by h = (h.ok, made_one f g name h.ok.bytes h.ok.read.given h.ok_call, h.quiet)
-
-  -- why the file in a role was refused
-  pub read_refused : (role : Role) (f g : FilesState) (r : Result V ReadStop) (why : ReadStop) → HasRead IsFile HasFirst name f g r → r ≡ Err why → IsRefused IsFile HasFirst role name f g (read_outcome role why)
-  read_refused role f g r stop.Failed has is = (refl, has.failed is, has.failed_unread is, made_call f g (read_call name true) (has.failed_unread is) (has.failed_call is))
-  read_refused role f g r stop.TooLong has is = (refl, has.long is, has.long_unread is, made_call f g (read_call name false) (has.long_unread is) (has.long_call is))
-  read_refused role f g r (stop.Bad fault) has is = let bad = has.bad fault is in (refl, bad, made_one f g name bad.bytes bad.read.given (has.bad_call fault is))
-  read_refused role f g r stop.NoMemory has is = (some_reads f g has.reads, some_calls f g (has.memory is))
-
-  -- a read that was refused, behind those that weren't, is why nothing is learned
+  -- a file that wasn't read, behind those that were, is why nothing is learned
   module _ (a : LearnValues) (f m g : FilesState) (role : Role) (read : Option System) (next : IsNext a f.holds f.reads m.reads role name read) (bad : (fault : JsonFault) → ReadsBadFile IsFile HasFirst name f.holds m.reads g.reads fault → ReadsBad role name f.holds m.reads g.reads fault) (made : MadeReads f m []) (same : m.holds ≡ f.holds) (quiet : m.faults ≡ f.faults) (kept : List KeptAnswer) (none : kept ≡ []) where
-    next_as : (r : Role) → r ≡ role → g.reads ≡ m.reads → IsNext a f.holds f.reads g.reads r name read
-    next_as r is reads = subst (λ (x : Role). IsNext a f.holds f.reads g.reads x name read) (sym is) (subst (λ (l : List File). IsNext a f.holds f.reads l role name read) (sym reads) next)
+    next_then : g.reads ≡ m.reads → IsNext a f.holds f.reads g.reads role name read
+    next_then reads = subst (λ (l : List File). IsNext a f.holds f.reads l role name read) (sym reads) next
 
-    pub refused_then : (outcome : Outcome) → (outcome ≡ NoMemory → read ≡ None) → IsRefused IsFile HasFirst role name m g outcome → IsUnreadBy a f g read kept outcome
-    refused_then (BadFile r fault) memory refused = (
-      m.reads,
-      name,
-      subst (λ (x : Role). IsNext a f.holds f.reads m.reads x name read) (sym refused.0) next,
-      subst (λ (x : Role). ReadsBad x name f.holds m.reads g.reads fault) (sym refused.0) (bad fault (subst (λ (h : Option (List File)). ReadsBadFile IsFile HasFirst name h m.reads g.reads fault) same refused.1)),
-      made_then f m g [] made refused.2,
-      none,
-    )
-    refused_then (FileTooLong r) memory refused = (name, next_as r refused.0 refused.2, subst (λ (h : Option (List File)). HoldsLong h name) same refused.1, made_then f m g (read_call name false ∷ []) made refused.3, none)
-    refused_then (FileFault r) memory refused = (name, next_as r refused.0 refused.2, subst (λ (n : ℕ). CountedFault n g.faults) quiet refused.1, made_then f m g (read_call name true ∷ []) made refused.3, none)
-    refused_then NoMemory memory refused = (some_then f m g made refused, none, memory refl)
-    refused_then (Learned h r) memory refused = absurd refused
-    refused_then (Trial t) memory refused = absurd refused
-    refused_then (Yes states) memory refused = absurd refused
-    refused_then (Served served) memory refused = absurd refused
-    refused_then (No verdict) memory refused = absurd refused
-    refused_then Usage memory refused = absurd refused
-    refused_then (SulFailed i) memory refused = absurd refused
-    refused_then (Gone i) memory refused = absurd refused
-    refused_then (BadLine i line) memory refused = absurd refused
-    refused_then (BadAsk number) memory refused = absurd refused
-    refused_then (TooManyStates words) memory refused = absurd refused
-    refused_then (SuiteTooLarge states number) memory refused = absurd refused
-    refused_then SourceFault memory refused = absurd refused
-    refused_then (Compared comparison) memory refused = absurd refused
-    refused_then Asked memory refused = absurd refused
-    refused_then (Rechecked answers) memory refused = absurd refused
-    refused_then (UnknownLetter word place) memory refused = absurd refused
-    refused_then (Unstarted cause) memory refused = absurd refused
-    refused_then SinkFault memory refused = absurd refused
-    refused_then (Alphabets r) memory refused = absurd refused
-    refused_then (Nondeterministic clash) memory refused = absurd refused
-
--- a machine that was read, behind other reads, or why none was
-module _ (a : LearnValues) (f m g : FilesState) (name : List ℕ) (r : Result Machine ReadStop) (has : HasRead IsMachineFile HasMachineFault name m g r) (next : IsTableNext a.source a.system f.holds f.reads m.reads name) (made : MadeReads f m []) (same : m.holds ≡ f.holds) (quiet : m.faults ≡ f.faults) (says : (x : Machine) → ReadsFile IsMachineFile name f.holds m.reads g.reads x → ReadsSystem a.source a.system f.holds f.reads g.reads (Table x)) where
-  abbrev Told : System → Type 0
-  Told s = (x : Machine) × (r ≡ Ok x) × (s ≡ Table x) × (length x.inputs ≤ 64)
-
-  abbrev Refused : UnreadState → Type 0
-  Refused u = (why : ReadStop) × (r ≡ Err why) × (u.outcome ≡ read_outcome role.Table why) × (u.system ≡ None) × (u.kept ≡ [])
-
-  counted : f.faults ≤ g.faults
-  counted = omega (arith, quiet, has.counts)
-
-  whole : (s : System) → Told s → SaysWhole a f g s
-  whole s told =
-      let read = read_made IsMachineFile HasMachineFault name m g r told.0 has told.1 in
-      subst (λ (x : System). SaysWhole a f g x) (sym told.2) (record {
-        says = says told.0 (subst (λ (h : Option (List File)). ReadsFile IsMachineFile name h m.reads g.reads told.0) same read.0);
-        letters = told.3;
-        words = tt;
-      })
-
-  pub stage_table : (result : Result System UnreadState) → IfOk result Told → IfErr result Refused → IsStage a f g (SaysWhole a f g) result
-  stage_table (Ok s) told refused =
-      let read = read_made IsMachineFile HasMachineFault name m g r told.0 has told.1 in
-      record {
-        ok = whole s told;
-        made = made_then f m g [] made read.1;
-        quiet = read.2 ∙ quiet;
-        err = tt;
-        same = has.same ∙ same;
-        counts = counted;
-      }
-  stage_table (Err u) told refused = record {
-    ok = tt;
-    made = tt;
-    quiet = tt;
-    err = subst (λ (o : Outcome). IsUnreadBy a f g u.system u.kept o) (sym refused.2)
-        (refused_then IsMachineFile HasMachineFault name a f m g role.Table u.system (next, refused.3) (λ fault x. x) made same quiet u.kept refused.4 (read_outcome role.Table refused.0) (λ _. refused.3) (read_refused IsMachineFile HasMachineFault name role.Table m g r refused.0 has refused.1));
-    same = has.same ∙ same;
-    counts = counted;
-  }
+    pub unread_then : (why : ReadStop) → (read_outcome role why ≡ NoMemory → read ≡ None) → IsNotRead IsFile HasFirst name m g why → IsUnreadBy a f g read kept (read_outcome role why)
+    unread_then (stop.Bad fault) memory unread = (m.reads, name, next, bad fault (subst (λ (h : Option (List File)). ReadsBadFile IsFile HasFirst name h m.reads g.reads fault) same unread.0), made_then f m g [] made unread.1, none)
+    unread_then stop.TooLong memory unread = (name, next_then unread.1, subst (λ (h : Option (List File)). HoldsLong h name) same unread.0, made_then f m g (read_call name false ∷ []) made unread.2, none)
+    unread_then stop.Failed memory unread = (name, next_then unread.1, subst (λ (n : ℕ). CountedFault n g.faults) quiet unread.0, made_then f m g (read_call name true ∷ []) made unread.2, none)
+    unread_then stop.NoMemory memory unread = (some_then f m g made unread, none, memory refl)
 
 -- a table file is the first one that is read, or the one that a setup names
-pub table_first : (a : LearnValues) (f : FilesState) → a.source ≡ source.Table → IsTableNext a.source a.system f.holds f.reads f.reads a.system
+table_first : (a : LearnValues) (f : FilesState) → a.source ≡ source.Table → IsTableNext a.source a.system f.holds f.reads f.reads a.system
 table_first a f is = subst (λ (k : Source). IsTableNext k a.system f.holds f.reads f.reads a.system) (sym is) (refl, refl)
 
-pub table_alone : (a : LearnValues) (f g : FilesState) → a.source ≡ source.Table → (x : Machine) → ReadsFile IsMachineFile a.system f.holds f.reads g.reads x → ReadsSystem a.source a.system f.holds f.reads g.reads (Table x)
-table_alone a f g is x read = subst (λ (k : Source). ReadsSystem k a.system f.holds f.reads g.reads (Table x)) (sym is) (x, read, refl)
-
-pub setup_next : (a : LearnValues) (f m : FilesState) (name : List ℕ) → a.source ≡ source.Setup → ReadsFile IsSetupFile a.system f.holds f.reads m.reads (setup.Table name) → IsTableNext a.source a.system f.holds f.reads m.reads name
+setup_next : (a : LearnValues) (f m : FilesState) (name : List ℕ) → a.source ≡ source.Setup → ReadsFile IsSetupFile a.system f.holds f.reads m.reads (setup.Table name) → IsTableNext a.source a.system f.holds f.reads m.reads name
 setup_next a f m name is read = subst (λ (k : Source). IsTableNext k a.system f.holds f.reads m.reads name) (sym is) read
 
-pub table_said : (a : LearnValues) (f m g : FilesState) (name : List ℕ) → a.source ≡ source.Setup → ReadsFile IsSetupFile a.system f.holds f.reads m.reads (setup.Table name) → (x : Machine) → ReadsFile IsMachineFile name f.holds m.reads g.reads x → ReadsSystem a.source a.system f.holds f.reads g.reads (Table x)
-table_said a f m g name is read x then = subst (λ (k : Source). ReadsSystem k a.system f.holds f.reads g.reads (Table x)) (sym is) (m.reads, setup.Table name, read, (x, then, refl))
+-- a system that was found, or why there is none
+module _ (a : LearnValues) (f g : FilesState) (r : Result System SystemStop) (hint : List ℕ) (has : HasFound a.source a.system f g r hint) where
+  pub stage_found : (s : System) → r ≡ Ok s → length (letters_of s) ≤ 64 → HasWords s → IsStage a f g (SaysWhole a f g) (Ok s)
+  stage_found s is letters words = by (subst (λ (x : Result System SystemStop). HasFound a.source a.system f g x hint) is has)
+    where
+      by : HasFound a.source a.system f g (Ok s) hint → IsStage a f g (SaysWhole a f g) (Ok s)
+      by found = record {
+        ok = record { says = found.read.ok; letters = letters; words = words };
+        made = found.read.made;
+        quiet = found.read.quiet;
+        err = tt;
+        same = found.read.same;
+        counts = found.read.counts;
+      }
+
+  module _ (read : Option System) (kept : List KeptAnswer) (none_read : read ≡ None) (none_kept : kept ≡ []) (why : SystemStop) where
+    IsWhy : Source → Type 0
+    IsWhy file = IsUnreadBy a f g read kept (read_outcome (role_of file) why.stop)
+
+    no_table : (m : FilesState) (name : List ℕ) → IsTableNext a.source a.system f.holds f.reads m.reads name → MadeReads f m [] → m.holds ≡ f.holds → m.faults ≡ f.faults → IsNoTable name m g why → IsUnreadBy a f g read kept (unread_outcome why)
+    unfolding IsWhy
+    no_table m name next made same quiet none = subst IsWhy (sym none.file) (unread_then IsMachineFile HasMachineFault name a f m g role.Table read (next, none_read) (λ fault x. x) made same quiet kept none_kept why.stop (λ _. none_read) none.unread)
+
+    no_setup : a.source ≡ source.Setup → IsNoSetup a.system f g why → IsUnreadBy a f g read kept (unread_outcome why)
+    unfolding IsWhy
+    no_setup is none = subst IsWhy (sym none.file) (unread_then IsSetupFile HasSetupFault a.system a f f g role.Setup read (is, refl, refl, none_read) (λ fault x. x) (made_none f) refl refl kept none_kept why.stop (λ _. none_read) none.unread)
+
+    no_system : (kind : Source) → a.source ≡ kind → IsNoSystem kind a.system f g why → IsUnreadBy a f g read kept (unread_outcome why)
+    no_system source.Table is none = no_table f a.system (table_first a f is) (made_none f) refl refl none
+    no_system source.Setup is none = ⊎_elim (no_setup is) (λ (no : NamesNoTable a.system f g why). no_table no.between no.table (setup_next a f no.between no.table is no.setup_file) no.made no.same no.quiet no.refused) none
+
+  pub stage_unfound : (why : SystemStop) (u : UnreadState) → r ≡ Err why → u.outcome ≡ unread_outcome why → u.system ≡ None → u.kept ≡ [] → IsStage a f g (SaysWhole a f g) (Err u)
+  stage_unfound why u is outcome system kept = by (subst (λ (x : Result System SystemStop). HasFound a.source a.system f g x hint) is has)
+    where
+      by : HasFound a.source a.system f g (Err why) hint → IsStage a f g (SaysWhole a f g) (Err u)
+      by found = record {
+        ok = tt;
+        made = tt;
+        quiet = tt;
+        err = subst (λ (o : Outcome). IsUnreadBy a f g u.system u.kept o) (sym outcome) (no_system u.system u.kept system kept why a.source refl found.read.err);
+        same = found.read.same;
+        counts = found.read.counts;
+      }
 
 -- a system that was read
 pub system_read : (a : LearnValues) (f m : FilesState) (r : Result System UnreadState) (s : System) → r ≡ Ok s → IsStage a f m (SaysWhole a f m) r → SaysWhole a f m s × MadeReads f m [] × (m.holds ≡ f.holds) × (m.faults ≡ f.faults)
@@ -216,18 +105,6 @@ system_read a f m r s is stage = by (subst (λ (x : Result System UnreadState). 
   where
     by : IsStage a f m (SaysWhole a f m) (Ok s) → SaysWhole a f m s × MadeReads f m [] × (m.holds ≡ f.holds) × (m.faults ≡ f.faults)
     by x = (x.ok, x.made, x.same, x.quiet)
-
--- a setup that wasn't read
-pub stage_setup : (a : LearnValues) (f g : FilesState) (r : Result Setup ReadStop) (why : ReadStop) (u : UnreadState) → a.source ≡ source.Setup → HasRead IsSetupFile HasSetupFault a.system f g r → r ≡ Err why → u.outcome ≡ read_outcome role.Setup why → u.system ≡ None → u.kept ≡ [] → IsStage a f g (SaysWhole a f g) (Err u)
-stage_setup a f g r why u is has err outcome system kept = record {
-  ok = tt;
-  made = tt;
-  quiet = tt;
-  err = subst (λ (o : Outcome). IsUnreadBy a f g u.system u.kept o) (sym outcome)
-      (refused_then IsSetupFile HasSetupFault a.system a f f g role.Setup u.system (is, refl, refl, system) (λ fault x. x) (made_none f) refl refl u.kept kept (read_outcome role.Setup why) (λ _. system) (read_refused IsSetupFile HasSetupFault a.system role.Setup f g r why has err));
-  same = has.same;
-  counts = has.counts;
-}
 
 -- prior answers that were read
 pub prior_read : (name : List ℕ) (s : System) (f g : FilesState) (r : Result Answers ReadStop) (p : Answers) (result : Result Task UnreadState) → HasRead IsAnswersFile HasAnswersFault name f g r → r ≡ Ok p → IfOk result (IsTaskWith s p) → IfErr result (λ u. IsUnfit s p u.system u.kept u.outcome) → HasPrior name s f g result
@@ -244,7 +121,7 @@ prior_unread name s f g r why u has is outcome system kept = record {
   ok = tt;
   made = tt;
   quiet = tt;
-  err = inl (subst (λ (o : Outcome). IsRefused IsAnswersFile HasAnswersFault role.Prior name f g o) (sym outcome) (read_refused IsAnswersFile HasAnswersFault name role.Prior f g r why has is), subst (λ (o : Outcome). IsBack o s u.system) (sym outcome) system, kept);
+  err = inl (record { stop = why; comes_to = outcome; unread = read_none IsAnswersFile HasAnswersFault name f g r why has is }, subst (λ (o : Outcome). IsBack o s u.system) (sym outcome) system, kept);
   same = has.same;
   counts = has.counts;
 }
@@ -308,35 +185,20 @@ module _ (a : LearnValues) (f m g : FilesState) (s : System) (whole : SaysWhole 
     unfit p read kept was then (FileTooLong r) is = absurd is
     unfit p read kept was then (FileFault r) is = absurd is
 
-    behind : (read : Option System) (kept : List KeptAnswer) → kept ≡ [] → read ≡ Some s → (outcome : Outcome) → (outcome ≡ NoMemory → read ≡ None) → IsRefused IsAnswersFile HasAnswersFault role.Prior name m g outcome → IsUnreadBy a f g read kept outcome
-    behind read kept none is = refused_then IsAnswersFile HasAnswersFault name a f m g role.Prior read (named, (s, is, whole.says)) (λ fault x. x) made same quiet kept none
+    module _ (read : Option System) (kept : List KeptAnswer) (none : kept ≡ []) where
+      behind : (why : ReadStop) → read ≡ Some s → (read_outcome role.Prior why ≡ NoMemory → read ≡ None) → IsNotRead IsAnswersFile HasAnswersFault name m g why → IsUnreadBy a f g read kept (read_outcome role.Prior why)
+      behind why is = unread_then IsAnswersFile HasAnswersFault name a f m g role.Prior read (named, (s, is, whole.says)) (λ fault x. x) made same quiet kept none why
 
-    prior_refused : (read : Option System) (kept : List KeptAnswer) → kept ≡ [] → (outcome : Outcome) → IsRefused IsAnswersFile HasAnswersFault role.Prior name m g outcome → IsBack outcome s read → IsUnreadBy a f g read kept outcome
-    prior_refused read kept none NoMemory refused back = (some_then f m g made refused, none, back)
-    prior_refused read kept none (BadFile r fault) refused back = behind read kept none back (BadFile r fault) (λ h. let wrong : BadFile r fault ≡ NoMemory = h in absurd (cc)) refused
-    prior_refused read kept none (FileTooLong r) refused back = behind read kept none back (FileTooLong r) (λ h. let wrong : FileTooLong r ≡ NoMemory = h in absurd (cc)) refused
-    prior_refused read kept none (FileFault r) refused back = behind read kept none back (FileFault r) (λ h. let wrong : FileFault r ≡ NoMemory = h in absurd (cc)) refused
-    prior_refused read kept none (Learned h r) refused back = absurd refused
-    prior_refused read kept none (Trial t) refused back = absurd refused
-    prior_refused read kept none (Yes states) refused back = absurd refused
-    prior_refused read kept none (Served served) refused back = absurd refused
-    prior_refused read kept none (No verdict) refused back = absurd refused
-    prior_refused read kept none Usage refused back = absurd refused
-    prior_refused read kept none (SulFailed i) refused back = absurd refused
-    prior_refused read kept none (Gone i) refused back = absurd refused
-    prior_refused read kept none (BadLine i line) refused back = absurd refused
-    prior_refused read kept none (BadAsk number) refused back = absurd refused
-    prior_refused read kept none (TooManyStates words) refused back = absurd refused
-    prior_refused read kept none (SuiteTooLarge states number) refused back = absurd refused
-    prior_refused read kept none SourceFault refused back = absurd refused
-    prior_refused read kept none (Compared comparison) refused back = absurd refused
-    prior_refused read kept none Asked refused back = absurd refused
-    prior_refused read kept none (Rechecked answers) refused back = absurd refused
-    prior_refused read kept none (UnknownLetter word place) refused back = absurd refused
-    prior_refused read kept none (Unstarted cause) refused back = absurd refused
-    prior_refused read kept none SinkFault refused back = absurd refused
-    prior_refused read kept none (Alphabets r) refused back = absurd refused
-    prior_refused read kept none (Nondeterministic clash) refused back = absurd refused
+      prior_not_read : (why : ReadStop) → IsBack (read_outcome role.Prior why) s read → IsNotRead IsAnswersFile HasAnswersFault name m g why → IsUnreadBy a f g read kept (read_outcome role.Prior why)
+      prior_not_read stop.NoMemory back unread = (some_then f m g made unread, none, back)
+      prior_not_read (stop.Bad fault) back unread = behind (stop.Bad fault) back (λ h. let wrong : BadFile role.Prior fault ≡ NoMemory = h in absurd (cc)) unread
+      prior_not_read stop.TooLong back unread = behind stop.TooLong back (λ h. let wrong : FileTooLong role.Prior ≡ NoMemory = h in absurd (cc)) unread
+      prior_not_read stop.Failed back unread = behind stop.Failed back (λ h. let wrong : FileFault role.Prior ≡ NoMemory = h in absurd (cc)) unread
+
+      prior_refused : (outcome : Outcome) → IsRefused IsAnswersFile HasAnswersFault role.Prior name m g outcome → IsBack outcome s read → IsUnreadBy a f g read kept outcome
+      prior_refused outcome refused back =
+          subst (λ (o : Outcome). IsUnreadBy a f g read kept o) (sym refused.comes_to)
+          (prior_not_read refused.stop (subst (λ (o : Outcome). IsBack o s read) refused.comes_to back) refused.unread)
 
     pub stage_prior : (result : Result Task UnreadState) → HasPrior name s m g result → IsStage a f g (SaysReady a f g) result
     stage_prior (Ok t) has = record {

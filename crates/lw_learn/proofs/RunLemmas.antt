@@ -34,7 +34,7 @@ use Rattle.lw_report.specs.declared.role.Role.TheVariants.{Answers, Kept, Model}
 use Rattle.lw_report.specs.declared.role.Role.TheVariants as role
 use Rattle.lw_report.specs.declared.outcome.Outcome.{Outcome}
 use Rattle.lw_report.specs.declared.outcome.Outcome.TheVariants.{Learned, Trial, Yes, Served, No, Usage, BadFile, Alphabets, FileTooLong, Nondeterministic, NoMemory, SulFailed, Gone, BadLine, BadAsk, TooManyStates, SuiteTooLarge, FileFault, SourceFault, SinkFault, Compared, Asked, Rechecked, UnknownLetter, Unstarted}
-use Rattle.lw_report.proofs.SinkLemmas.{sink_none}
+use Rattle.lw_outside.proofs.SinkLemmas.{sink_none}
 use Rattle.lw_workers.specs.Asking.{AnswersWords}
 use Rattle.lw_learn.specs.Arguments.{LearnValues}
 use Rattle.lw_learn.specs.Asking.{IsWordlessTask}
@@ -42,12 +42,12 @@ use Rattle.lw_learn.specs.Calls.{MadeWrites}
 use Rattle.lw_json.specs.MachineText.{written_text}
 use Rattle.lw_json.specs.declared.machine.Machine.{Machine}
 use Rattle.lw_report.specs.declared.stops.TellStop.TheVariants as tell
-use Rattle.lw_children.specs.Keeping.{count_of}
+use Rattle.lw_system.specs.NewLines.{count_of}
 use Rattle.lw_learn.specs.Ending.{Carries, EndsLearned, EndsRead, EndsUnread, IsEndOf, IsSoundSystem, IsToldOf, end_outputs}
 use Rattle.lw_learn.specs.Findings.{IsOfSystem, LearningStopsBy}
 use Rattle.lw_learn.specs.Outcomes.{HasFiles, HasModelFile, IsLearnedOutcome, IsReachedOutcome, ModelIsTold}
 use Rattle.lw_learn.specs.Saving.{HasSaved, IsKeptWritten, IsSaved, IsTextWritten, KeptStand, MayTell, saved_outcome}
-use Rattle.lw_learn.specs.Tasks.{declared_of, letters_of}
+use Rattle.lw_system.specs.Systems.{declared_of, letters_of}
 use Rattle.lw_learn.specs.Writing.{NothingFailed, StaysBesides, TakesInTurn, WritesFiles, WritesModel, WritesOut, model_line}
 use Rattle.lw_learn.specs.bodies.UnreadState.{UnreadState}
 use Rattle.lw_learn.specs.Unread.{IsUnreadAs, IsUnreadBy, names_read}
@@ -56,8 +56,8 @@ use Rattle.lw_learn.specs.bodies.Stages.{IsWordedStage, SaysWorded}
 use Rattle.lw_learn.specs.declared.saving.Saved.{Saved}
 use Rattle.lw_learn.specs.declared.saving.Saved.TheVariants as saving
 use Rattle.lw_learn.specs.declared.task.WordedTask.{WordedTask}
-use Rattle.lw_learn.specs.declared.task.System.{System}
-use Rattle.lw_learn.specs.declared.task.System.TheVariants.{Table, Children}
+use Rattle.lw_system.specs.declared.system.System.{System}
+use Rattle.lw_system.specs.declared.system.System.TheVariants.{Table, Children}
 use Rattle.lw_learn.proofs.WriteLemmas.{gained_none, holds_beside, out_before, stays_joined, stays_same, text_same}
 
 -- an outcome that stands, or is out of memory, has what both have

@@ -22,22 +22,23 @@ use Rattle.lw_json.specs.declared.machine.Machine.{Machine}
 use Rattle.lw_json.specs.declared.setup.Setup.{Setup}
 use Rattle.lw_json.specs.declared.setup.Setup.TheVariants as setup
 use Rattle.lw_outside.specs.Files.{File, HoldsLong, file_at, longest_file, FilesState}
-use Rattle.lw_prior.specs.Prior.{FitNames}
-use Rattle.lw_report.specs.Reading.{ReadsBadFile, ReadsFile, TellsBad, TellsFile}
+use Rattle.lw_json.specs.FitNames.{FitNames}
+use Rattle.lw_system.specs.Reading.{ReadsBadFile, ReadsFile, TellsBad, TellsFile}
 use Rattle.lw_report.specs.declared.outcome.Outcome.{Outcome}
 use Rattle.lw_report.specs.declared.outcome.Outcome.TheVariants.{Learned, Trial, Yes, Served, No, Usage, BadFile, Alphabets, FileTooLong, Nondeterministic, NoMemory, SulFailed, Gone, BadLine, BadAsk, TooManyStates, SuiteTooLarge, FileFault, SourceFault, SinkFault, Compared, Asked, Rechecked, UnknownLetter, Unstarted}
 use Rattle.lw_report.specs.declared.role.Role.{Role}
 use Rattle.lw_report.specs.declared.role.Role.TheVariants as role
 use Rattle.lw_learn.specs.Arguments.{LearnValues}
 use Rattle.lw_learn.specs.Asking.{IsWordless, IsWordlessTask, IsWordsFile, ReadsUnknown}
-use Rattle.lw_learn.specs.Tasks.{FitsSystem, ReadsPrior, ReadsSystem, SaysSystem, declared_of, letters_of, or_these, with_outputs}
+use Rattle.lw_learn.specs.Tasks.{ReadsPrior, with_outputs}
+use Rattle.lw_system.specs.Systems.{FitsSystem, ReadsSystem, SaysSystem, declared_of, letters_of, or_these}
 use Rattle.lw_learn.specs.Told.{BadIsRefused, IsNoRefusal, TellsNoSystem, TellsPrior, TellsSetup, TellsSystem, TellsTask, TellsWords, ToldIsLearned}
 use Rattle.lw_learn.specs.Unread.{IsNext, IsTableNext, IsUnreadAs, IsUnreadBy, ReadsBad}
 use Rattle.lw_learn.proofs.RunLemmas.{counted_to}
-use Rattle.lw_learn.specs.declared.arguments.Source.{Source}
-use Rattle.lw_learn.specs.declared.arguments.Source.TheVariants as source
-use Rattle.lw_learn.specs.declared.task.System.{System}
-use Rattle.lw_learn.specs.declared.task.System.TheVariants.{Table, Children}
+use Rattle.lw_system.specs.declared.source.Source.{Source}
+use Rattle.lw_system.specs.declared.source.Source.TheVariants as source
+use Rattle.lw_system.specs.declared.system.System.{System}
+use Rattle.lw_system.specs.declared.system.System.TheVariants.{Table, Children}
 
 module _ {A : Type 0} where
   some_same : (a b : A) → Some a ≡ Some b → a ≡ b
@@ -50,14 +51,14 @@ module _ {A : Type 0} where
 -- a setup file has one value
 spells_one : (x : WrittenSetup) (v w : Setup) → SpellsSetup x v → SpellsSetup x w → v ≡ w
 spells_one (table name) (setup.Table t) (setup.Table u) one two = ap (λ (n : List ℕ). setup.Table n) (one ∙ sym two)
-spells_one (table name) (setup.Table t) (setup.Command w i o) one two = absurd two
-spells_one (table name) (setup.Command w i o) v one two = absurd one
+spells_one (table name) (setup.Table t) (setup.Command c) one two = absurd two
+spells_one (table name) (setup.Command c) v one two = absurd one
 spells_one (command words inputs outputs) (setup.Table t) v one two = absurd one
-spells_one (command words inputs outputs) (setup.Command w i o) (setup.Table t) one two = absurd two
-spells_one (command words inputs outputs) (setup.Command w i o) (setup.Command w' i' o') one two =
-    ap (λ (x : List (List ℕ)). setup.Command x i o) (one.0 ∙ sym two.0)
-    ∙ (ap (λ (x : List (List ℕ)). setup.Command w' x o) (one.1 ∙ sym two.1)
-    ∙ ap (λ (x : Option (List (List ℕ))). setup.Command w' i' x) (one.2 ∙ sym two.2))
+spells_one (command words inputs outputs) (setup.Command c) (setup.Table t) one two = absurd two
+spells_one (command words inputs outputs) (setup.Command c) (setup.Command d) one two =
+    ap (λ (x : List (List ℕ)). setup.Command (record { words = x; inputs = c.inputs; outputs = c.outputs })) (one.0 ∙ sym two.0)
+    ∙ (ap (λ (x : List (List ℕ)). setup.Command (record { words = d.words; inputs = x; outputs = c.outputs })) (one.1 ∙ sym two.1)
+    ∙ ap (λ (x : Option (List (List ℕ))). setup.Command (record { words = d.words; inputs = d.inputs; outputs = x })) (one.2 ∙ sym two.2))
 
 one_setup : (bytes : List ℕ) (v w : Setup) → IsSetupFile bytes v → IsSetupFile bytes w → v ≡ w
 one_setup bytes v w f g =
@@ -156,7 +157,7 @@ machines_same name holds before now m n s t told s_is read t_is =
 
 said_same : (v : Setup) (holds : Option (List File)) (before now : List File) (s t : System) → TellsSetup v holds s → SaysSystem v holds before now t → SameNames s t
 said_same (setup.Table name) holds before now s t told read = machines_same name holds before now told.0 read.0 s t told.1 told.2 read.1 read.2
-said_same (setup.Command w i o) holds before now s t told read = let same : s ≡ t = told ∙ sym read.1 in (ap (λ (x : System). letters_of x) same, ap (λ (x : System). declared_of x) same)
+said_same (setup.Command c) holds before now s t told read = let same : s ≡ t = told ∙ sym read.1 in (ap (λ (x : System). letters_of x) same, ap (λ (x : System). declared_of x) same)
 
 systems_same : (k : Source) (system : List ℕ) (holds : Option (List File)) (before now : List File) (s t : System) → TellsSystem k system holds s → ReadsSystem k system holds before now t → SameNames s t
 systems_same source.Table system holds before now s t told read = machines_same system holds before now told.0 read.0 s t told.1 told.2 read.1 read.2

@@ -13,22 +13,25 @@ use Rattle.lw_outside.specs.declared.files.FilesStop.TheVariants as files
 use Rattle.lw_cache.specs.Caching.{Caching}
 use Rattle.lw_children.specs.Crews.{first_naming}
 use Rattle.lw_names.specs.Naming.{Naming}
-use Rattle.lw_report.specs.Reading.{WasRead}
-use Rattle.lw_report.specs.Stops.{read_outcome, unread}
+use Rattle.lw_system.specs.Reading.{WasRead}
+use Rattle.lw_report.specs.Stops.{read_outcome}
+use Rattle.lw_system.specs.Stops.{unread}
 use Rattle.lw_report.specs.declared.outcome.Outcome.{Outcome}
 use Rattle.lw_report.specs.declared.outcome.Outcome.TheVariants.{Learned, Trial, Yes, Served, No, Usage, BadFile, Alphabets, FileTooLong, Nondeterministic, NoMemory, SulFailed, Gone, BadLine, BadAsk, TooManyStates, SuiteTooLarge, FileFault, SourceFault, SinkFault, Compared, Asked, Rechecked, UnknownLetter, Unstarted}
 use Rattle.lw_report.specs.declared.role.Role.TheVariants.{Words}
 use Rattle.lw_learn.specs.Arguments.{LearnValues}
 use Rattle.lw_learn.specs.Asking.{AreDrawn, IsWordless, IsWordsFile, SaysWords}
-use Rattle.lw_learn.specs.Tasks.{ReadsTask, declared_of, letters_of}
-use Rattle.lw_learn.specs.Unread.{MadeReads, names_read}
+use Rattle.lw_learn.specs.Tasks.{ReadsTask}
+use Rattle.lw_system.specs.Systems.{declared_of, letters_of}
+use Rattle.lw_learn.specs.Unread.{names_read}
+use Rattle.lw_system.specs.Reads.{MadeReads}
 use Rattle.lw_learn.specs.bodies.Stages.{HasNamedWords, HasWorded, IsStage, IsWordedStage, SaysNoWords, SaysReady}
 use Rattle.lw_learn.specs.bodies.Ready.{IsReady}
 use Rattle.lw_learn.specs.bodies.UnreadState.{UnreadState}
-use Rattle.lw_learn.specs.declared.task.System.{System}
+use Rattle.lw_system.specs.declared.system.System.{System}
 use Rattle.lw_learn.specs.declared.arguments.Drawn.{Drawn}
 use Rattle.lw_learn.specs.declared.task.Task.{Task}
-use Rattle.lw_learn.proofs.ReadLemmas.{made_call, made_none, made_one, made_then, some_made}
+use Rattle.lw_system.proofs.ReadsLemmas.{made_call, made_none, made_one, made_then, some_made}
 
 -- why the file of words was not read
 not_read : (name : List ℕ) (letters : List (List ℕ)) (f g : FilesState) (stop : FilesStop) → (stop ≡ files.Failed → CountedFault f.faults g.faults) → (stop ≡ files.Failed → g.calls ≡ noted (read_call name true) f.calls) → (stop ≡ files.TooLong → HoldsLong f.holds name) → (stop ≡ files.TooLong → g.calls ≡ noted (read_call name false) f.calls)

@@ -15,9 +15,10 @@ use Rattle.lw_report.specs.declared.outcome.Outcome.{Outcome}
 use Rattle.lw_report.specs.declared.role.Role.{Role}
 use Rattle.lw_report.specs.declared.role.Role.TheVariants.{Answers, Kept, Model}
 use Rattle.lw_report.specs.declared.outcome.Outcome.TheVariants.{FileFault, NoMemory, SinkFault}
-use Rattle.lw_report.proofs.SinkLemmas.{sink_none}
+use Rattle.lw_outside.proofs.SinkLemmas.{sink_none}
 use Rattle.lw_learn.specs.Arguments.{LearnValues}
-use Rattle.lw_learn.specs.Calls.{all_writes, gained}
+use Rattle.lw_learn.specs.Calls.{all_writes}
+use Rattle.lw_system.specs.Reads.{gained}
 use Rattle.lw_learn.specs.Outcomes.{told_outcome}
 use Rattle.lw_learn.specs.Writing.{AnswersStand, PutsAll, PutsSome, StandsInFile, StaysBesides, WritesFiles, WritesOut}
 

@@ -2,7 +2,7 @@
 use Rattle.std.specs.Prelude.{ℕ, ◌≤◌, List, Option, IfSome}
 use Rattle.lw_rounds.specs.declared.learner.Kind.{Kind}
 use Rattle.lw_learn.specs.declared.arguments.Drawn.{Drawn}
-use Rattle.lw_learn.specs.declared.arguments.Source.{Source}
+use Rattle.lw_system.specs.declared.source.Source.{Source}
 
 -- the kind and the name of the system's file, the number of instances, the extra states, the kind of the learner, the greatest
 -- number of states, the file for the model and that for the answers, the file of prior answers, the file for the answers that

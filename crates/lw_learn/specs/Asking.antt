@@ -7,15 +7,16 @@ use Rattle.lw_wordlist.specs.Drawn.{drawn_words}
 use Rattle.lw_wordlist.specs.Lines.{lines_in}
 use Rattle.lw_wordlist.specs.Words.{IsFirstUnknown, words_of_texts}
 use Rattle.lw_outside.specs.Files.{File, HoldsLong, read_call, FilesState}
-use Rattle.lw_report.specs.Reading.{ReadsFile, WasRead}
+use Rattle.lw_system.specs.Reading.{ReadsFile, WasRead}
 use Rattle.lw_report.specs.declared.outcome.Outcome.{Outcome}
 use Rattle.lw_report.specs.declared.outcome.Outcome.TheVariants.{FileFault, FileTooLong, NoMemory, UnknownLetter}
 use Rattle.lw_report.specs.declared.role.Role.TheVariants.{Words}
 use Rattle.lw_learn.specs.Arguments.{LearnValues}
-use Rattle.lw_learn.specs.Tasks.{ReadsTask, letters_of}
-use Rattle.lw_learn.specs.Unread.{MadeReads, MadeSomeReads}
+use Rattle.lw_learn.specs.Tasks.{ReadsTask}
+use Rattle.lw_system.specs.Systems.{letters_of}
+use Rattle.lw_system.specs.Reads.{MadeReads, MadeSomeReads}
 use Rattle.lw_learn.specs.declared.arguments.Drawn.{Drawn}
-use Rattle.lw_learn.specs.declared.task.System.{System}
+use Rattle.lw_system.specs.declared.system.System.{System}
 
 -- the bytes of a file say these words over the letters, one a line; bytes that are no UTF-8 are in no name
 abbrev pub IsWordsFile : (letters : List (List ℕ)) → List ℕ → List (List ℕ) → Type 0

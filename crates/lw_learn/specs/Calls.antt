@@ -1,8 +1,9 @@
 -- The writes of a model by `learn`: the model file is written, then the answers file, up to the write that ends the run. A fault
 -- of the kept answers' file is told once these are written.
-use Rattle.std.specs.Prelude.{◌≡◌, ℕ, List, [], ◌∷◌, ◌++◌, take, Bool, true, false, Option, Some, None, option_map}
+use Rattle.std.specs.Prelude.{◌≡◌, ℕ, List, [], ◌∷◌, ◌++◌, take, Bool, true, false, Option, Some, None}
 use Rattle.lw_learn.specs.Arguments.{LearnValues}
 use Rattle.lw_outside.specs.Files.{Call, write_call}
+use Rattle.lw_system.specs.Reads.{gained}
 use Rattle.lw_report.specs.declared.outcome.Outcome.{Outcome}
 use Rattle.lw_report.specs.declared.outcome.Outcome.TheVariants.{Learned, NoMemory, FileFault, SinkFault}
 use Rattle.lw_report.specs.declared.role.Role.{Role}
@@ -27,10 +28,6 @@ writes_to a Prior = []
 writes_to a Second = []
 writes_to a Words = []
 writes_to a Kept = all_writes a
-
--- told calls, and these
-abbrev pub gained : List Call → Option (List Call) → Option (List Call)
-gained more calls = option_map (λ cs. cs ++ more) calls
 
 -- the writes of a call of `learn` that came to the outcome
 abbrev pub MadeWrites : LearnValues → Outcome → Option (List Call) → Option (List Call) → Type 0

@@ -16,7 +16,7 @@ use Rattle.lw_rounds.specs.declared.stops.LearnStop.{LearnStop}
 use Rattle.lw_workers.specs.Asking.{AnswersWords}
 use Rattle.lw_workers.specs.Machines.{IsWithin}
 use Rattle.lw_children.specs.Children.{IsSound}
-use Rattle.lw_children.specs.Keeping.{count_of}
+use Rattle.lw_system.specs.NewLines.{count_of}
 use Rattle.lw_outside.specs.Streams.{SinkState}
 use Rattle.lw_report.specs.Ends.{IsWithoutLearner}
 use Rattle.lw_report.specs.Learnings.{HasModel, learn_outcome}
@@ -33,13 +33,15 @@ use Rattle.lw_learn.specs.Calls.{MadeWrites}
 use Rattle.lw_learn.specs.Findings.{IsOfSystem, LearningStopsBy}
 use Rattle.lw_learn.specs.Outcomes.{IsLearnedOutcome, IsReachedOutcome, ModelIsTold}
 use Rattle.lw_learn.specs.Saving.{HasSaved, IsSaved, KeptStand, MayTell}
-use Rattle.lw_learn.specs.Tasks.{ReadsTask, declared_of, letters_of}
-use Rattle.lw_learn.specs.Unread.{IsUnreadAs, MadeReads, names_read}
+use Rattle.lw_learn.specs.Tasks.{ReadsTask}
+use Rattle.lw_system.specs.Systems.{declared_of, letters_of}
+use Rattle.lw_learn.specs.Unread.{IsUnreadAs, names_read}
+use Rattle.lw_system.specs.Reads.{MadeReads}
 use Rattle.lw_learn.specs.Writing.{NothingFailed, StaysBesides, TakesInTurn, WritesModel, model_line}
 use Rattle.lw_learn.specs.declared.saving.Saved.{Saved}
 use Rattle.lw_learn.specs.declared.saving.Saved.TheVariants as saving
-use Rattle.lw_learn.specs.declared.task.System.{System}
-use Rattle.lw_learn.specs.declared.task.System.TheVariants.{Table, Children}
+use Rattle.lw_system.specs.declared.system.System.{System}
+use Rattle.lw_system.specs.declared.system.System.TheVariants.{Table, Children}
 
 -- no learning began: no child is started, nothing is written but prior answers, where they clash or words that are to be asked
 -- could not be read, which are what is kept, and the outcome's text goes to `err`

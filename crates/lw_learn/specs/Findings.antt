@@ -14,8 +14,8 @@ use Rattle.lw_children.specs.Children.{IsOfCommand}
 use Rattle.lw_outside.specs.Links.{SpawnerState}
 use Rattle.lw_report.specs.Learnings.{HasLargeSuite}
 use Rattle.lw_learn.specs.Arguments.{LearnValues}
-use Rattle.lw_learn.specs.declared.task.System.{System}
-use Rattle.lw_learn.specs.declared.task.System.TheVariants.{Table, Children}
+use Rattle.lw_system.specs.declared.system.System.{System}
+use Rattle.lw_system.specs.declared.system.System.TheVariants.{Table, Children}
 
 -- of instances of a machine, behind prior answers: the names are the machine's, the answers are the instances' runs; and what
 -- was learned, or why nothing was

@@ -11,23 +11,23 @@ use Rattle.lw_json.specs.declared.setup.Setup.TheVariants as setup
 use Rattle.lw_outside.specs.Files.{File, FilesState}
 use Rattle.lw_outside.specs.Links.{SpawnerState}
 use Rattle.lw_outside.specs.Streams.{SinkState}
-use Rattle.lw_report.specs.Reading.{TellsBad, TellsFile}
+use Rattle.lw_system.specs.Reading.{TellsBad, TellsFile}
 use Rattle.lw_report.specs.declared.«end».End.{End}
 use Rattle.lw_report.specs.declared.outcome.Outcome.{Outcome}
 use Rattle.lw_report.specs.declared.outcome.Outcome.TheVariants.{NoMemory, Nondeterministic}
 use Rattle.lw_learn.specs.Arguments.{LearnValues}
 use Rattle.lw_learn.specs.Asking.{IsWordsFile}
 use Rattle.lw_learn.specs.Ending.{EndsRead, EndsUnread}
-use Rattle.lw_learn.specs.Tasks.{FitsSystem, letters_of}
-use Rattle.lw_learn.specs.declared.arguments.Source.{Source}
-use Rattle.lw_learn.specs.declared.arguments.Source.TheVariants as source
-use Rattle.lw_learn.specs.declared.task.System.{System}
-use Rattle.lw_learn.specs.declared.task.System.TheVariants.{Table, Children}
+use Rattle.lw_system.specs.Systems.{FitsSystem, letters_of}
+use Rattle.lw_system.specs.declared.source.Source.{Source}
+use Rattle.lw_system.specs.declared.source.Source.TheVariants as source
+use Rattle.lw_system.specs.declared.system.System.{System}
+use Rattle.lw_system.specs.declared.system.System.TheVariants.{Table, Children}
 
 -- the files tell the system that a setup says
 abbrev pub TellsSetup : Setup → Option (List File) → System → Type 0
 TellsSetup (setup.Table name) holds s = (m : Machine) × TellsFile IsMachineFile holds name m × (s ≡ Table m)
-TellsSetup (setup.Command words inputs outputs) holds s = s ≡ Children (record { words = words; inputs = inputs; outputs = outputs })
+TellsSetup (setup.Command c) holds s = s ≡ Children c
 
 -- they tell the system of this kind of file under this name
 abbrev pub TellsSystem : Source → List ℕ → Option (List File) → System → Type 0

@@ -1,5 +1,5 @@
 -- Why a call of `learn` began no learning: what it read before that, and what it made of it.
-use Rattle.std.specs.Prelude.{◌≡◌, ◌⊎◌, ℕ, List, [], ◌∷◌, ◌++◌, map, true, false, Option, Some, None, option_map}
+use Rattle.std.specs.Prelude.{◌≡◌, ◌⊎◌, ℕ, List, [], ◌∷◌, true, false, Option, Some, None, option_map}
 use Rattle.lw_words.specs.Answer.{answers_of}
 use Rattle.lw_words.specs.Cause.{CountedFault}
 use Rattle.lw_words.specs.declared.kept.KeptAnswer.{KeptAnswer}
@@ -12,19 +12,20 @@ use Rattle.lw_json.specs.SetupFile.{HasSetupFault, IsSetupFile}
 use Rattle.lw_json.specs.declared.answers.Answers.{Answers}
 use Rattle.lw_json.specs.declared.fault.JsonFault.{JsonFault}
 use Rattle.lw_json.specs.declared.setup.Setup.TheVariants as setup
-use Rattle.lw_outside.specs.Files.{Call, File, HoldsLong, read_call, FilesState}
+use Rattle.lw_outside.specs.Files.{File, HoldsLong, read_call, FilesState}
 use Rattle.lw_prior.specs.FirstClash.{IsFirstClash}
-use Rattle.lw_report.specs.Reading.{ReadsBadFile, ReadsFile}
+use Rattle.lw_system.specs.Reading.{ReadsBadFile, ReadsFile}
 use Rattle.lw_report.specs.declared.outcome.Outcome.{Outcome}
 use Rattle.lw_report.specs.declared.outcome.Outcome.TheVariants.{Alphabets, BadFile, FileFault, FileTooLong, NoMemory, Nondeterministic}
 use Rattle.lw_report.specs.declared.role.Role.{Role}
 use Rattle.lw_report.specs.declared.role.Role.TheVariants as role
 use Rattle.lw_learn.specs.Arguments.{LearnValues}
-use Rattle.lw_learn.specs.Calls.{gained}
-use Rattle.lw_learn.specs.Tasks.{FitsSystem, ReadsSystem, ReadsTask, declared_of}
-use Rattle.lw_learn.specs.declared.arguments.Source.{Source}
-use Rattle.lw_learn.specs.declared.arguments.Source.TheVariants as source
-use Rattle.lw_learn.specs.declared.task.System.{System}
+use Rattle.lw_system.specs.Reads.{MadeReads, MadeSomeReads}
+use Rattle.lw_learn.specs.Tasks.{ReadsTask}
+use Rattle.lw_system.specs.Systems.{FitsSystem, ReadsSystem, declared_of}
+use Rattle.lw_system.specs.declared.source.Source.{Source}
+use Rattle.lw_system.specs.declared.source.Source.TheVariants as source
+use Rattle.lw_system.specs.declared.system.System.{System}
 
 -- a table file of this name is read next
 abbrev pub IsTableNext : Source → List ℕ → Option (List File) → List File → List File → List ℕ → Type 0
@@ -52,22 +53,6 @@ ReadsBad role.Answers name holds before after fault = ⊥
 ReadsBad role.Second name holds before after fault = ⊥
 ReadsBad role.Words name holds before after fault = ⊥
 ReadsBad role.Kept name holds before after fault = ⊥
-
--- reads that gave bytes, one after the other, and then these calls
-abbrev pub MadeReads : FilesState → FilesState → List Call → Type 0
-MadeReads files_before files_now last = (more : List File) × (files_now.reads ≡ files_before.reads ++ more) × (files_now.calls ≡ gained (map (λ r. read_call r.0 false) more ++ last) files_before.calls)
-
--- reads of which none failed, some of which gave bytes
-abbrev pub MadeSomeReads : FilesState → FilesState → Type 0
-MadeSomeReads files_before files_now = ((more : List File) × (files_now.reads ≡ files_before.reads ++ more)) × ((names : List (List ℕ)) × (files_now.calls ≡ gained (map (λ n. read_call n false) names) files_before.calls))
-
--- why the file in a role wasn't read
-abbrev pub IsRefused : {V : Type 0} → (List ℕ → V → Type 0) → (List ℕ → JsonFault → Type 0) → Role → List ℕ → FilesState → FilesState → Outcome → Type 0
-IsRefused IsFile HasFirst role name files_before files_now (BadFile r fault) = (r ≡ role) × ReadsBadFile IsFile HasFirst name files_before.holds files_before.reads files_now.reads fault × MadeReads files_before files_now []
-IsRefused IsFile HasFirst role name files_before files_now (FileTooLong r) = (r ≡ role) × HoldsLong files_before.holds name × (files_now.reads ≡ files_before.reads) × MadeReads files_before files_now (read_call name false ∷ [])
-IsRefused IsFile HasFirst role name files_before files_now (FileFault r) = (r ≡ role) × CountedFault files_before.faults files_now.faults × (files_now.reads ≡ files_before.reads) × MadeReads files_before files_now (read_call name true ∷ [])
-IsRefused IsFile HasFirst role name files_before files_now NoMemory = MadeSomeReads files_before files_now
-IsRefused IsFile HasFirst role name files_before files_now _ = ⊥
 
 -- why no learning began, by the outcome: what it read, whether it read a system, and what it kept
 abbrev pub IsUnreadBy : LearnValues → FilesState → FilesState → Option System → List KeptAnswer → Outcome → Type 0

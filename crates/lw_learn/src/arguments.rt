@@ -3,16 +3,8 @@ ghost use Rattle.std.specs.Prelude.{◌≡◌, ◌≤◌, IfSome, option_map, st
 ghost use Rattle.lw_learn.specs.Arguments.{AreFewDrawn};
 
 use lw_rounds::Settings;
+use lw_system::Source;
 use std::marker::Model;
-
-/// What kind of file a system is read of.
-#[derive(Clone, Copy, Debug, PartialEq, Eq)]
-pub enum Source {
-    /// A setup, which names a machine file, or says how a child is started.
-    Setup,
-    /// A machine file.
-    Table,
-}
 
 /// Words that are drawn: how many, how many letters each has, and the seed of the generator.
 #[derive(Clone, Copy, Debug, PartialEq, Eq)]

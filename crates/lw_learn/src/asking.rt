@@ -12,7 +12,8 @@ use crate::reading::{Unread, read_task};
 use crate::task::{Task, WordedTask};
 use lw_log::Log;
 use lw_outside::{Files, LogFile};
-use lw_report::{Outcome, ReadStop, Role};
+use lw_report::{Outcome, Role, read_outcome};
+use lw_system::ReadStop;
 use lw_wordlist::{WordStop, draw_words, read_lines};
 use lw_words::{Names, NoMemory, Words};
 use std::alloc::Global;
@@ -44,7 +45,7 @@ fn read_named<F: Files>(
 {
     let bytes = match files.read(name) {
         Ok(bytes) => bytes,
-        Err(refusal) => return Err(ReadStop::from(refusal).outcome(Role::Words)),
+        Err(refusal) => return Err(read_outcome(ReadStop::from(refusal), Role::Words)),
     };
     words_in(alloc, inputs, &bytes)
 }

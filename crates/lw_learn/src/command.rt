@@ -6,7 +6,7 @@ ghost use Rattle.lw_workers.specs.Asking.{AnswersWords};
 ghost use Rattle.lw_report.specs.Outcomes.{status_of};
 ghost use Rattle.lw_learn.specs.Ending.{EndsLearned};
 ghost use Rattle.lw_learn.specs.LearnRun.{IsLearnEnd, IsLearnRun};
-ghost use Rattle.lw_learn.specs.Tasks.{letters_of};
+ghost use Rattle.lw_system.specs.Systems.{letters_of};
 ghost use Rattle.lw_learn.specs.bodies.Ready.{IsReady};
 
 use crate::LearnArguments;

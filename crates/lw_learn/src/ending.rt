@@ -15,13 +15,12 @@ ghost use Rattle.lw_report.specs.declared.role.Role.TheVariants.{Answers as Answ
 ghost use Rattle.lw_learn.specs.Ending.{IsEndOf, IsToldOf, end_outputs};
 ghost use Rattle.lw_learn.specs.Outcomes.{IsLearnedOutcome, ModelIsTold};
 ghost use Rattle.lw_learn.specs.Saving.{MayTell};
-ghost use Rattle.lw_learn.specs.Tasks.{declared_of, letters_of};
+ghost use Rattle.lw_system.specs.Systems.{declared_of, letters_of};
 ghost use Rattle.lw_learn.specs.Writing.{StaysBesides, TakesInTurn, WritesFiles, WritesOut};
 ghost use Rattle.lw_learn.specs.declared.saving.Saved.TheVariants as Was;
 
 use crate::naming::names_of;
 use crate::saving::save_kept;
-use crate::task::System;
 use crate::writing::{NamedModel, tell_model};
 use crate::{LearnArguments, Saved};
 use lw_json::Machine;
@@ -30,6 +29,7 @@ use lw_names::OutNames;
 use lw_outside::{Files, Sink};
 use lw_report::{End, Outcome, Said, UNSAID, learn_outcome, refuse, say};
 use lw_rounds::{LearnStop, Learned};
+use lw_system::System;
 use lw_words::{Kept, Names, NoMemory};
 use lw_workers::LearningOutcome;
 use std::alloc::Global;

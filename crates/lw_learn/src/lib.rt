@@ -15,8 +15,7 @@ mod saving;
 mod task;
 mod writing;
 
-pub use arguments::{Drawn, LearnArguments, LearnFiles, Source};
+pub use arguments::{Drawn, LearnArguments, LearnFiles};
 pub use command::learn;
 pub use laws::{bad_is_refused, told_is_learned};
 pub use saving::Saved;
-pub use task::System;

@@ -1,36 +1,28 @@
 //! The files that say what is to be learned: a setup or a table, and prior answers.
-ghost use Rattle.std.specs.Prelude.{◌≡◌, ℕ, ◌≤◌, List, [], length, None, Some, Ok, Err, IfOk, IfErr};
-ghost use Rattle.lw_report.specs.Reading.{HasRead};
+ghost use Rattle.std.specs.Prelude.{◌≡◌, ℕ, ◌≤◌, List, [], length, None, Some, IfOk, IfErr};
 ghost use Rattle.lw_words.specs.Answer.{answers_of};
 ghost use Rattle.lw_cache.specs.Clash.{NothingClashes};
-ghost use Rattle.lw_json.specs.SetupFile.{HasSetupFault, IsSetupFile};
-ghost use Rattle.lw_json.specs.declared.machine.Machine.{Machine as Named};
 ghost use Rattle.lw_pool.specs.Opening.{MayBegin};
 ghost use Rattle.lw_children.specs.Crews.{first_naming};
 ghost use Rattle.lw_prior.specs.Prior.{HasFirstClash};
+ghost use Rattle.lw_system.specs.Systems.{HasWords, declared_of, letters_of, or_these};
 ghost use Rattle.lw_report.specs.Stops.{read_outcome};
 ghost use Rattle.lw_report.specs.declared.outcome.Outcome.{Outcome as Came};
-ghost use Rattle.lw_report.specs.declared.role.Role.TheVariants.{Prior as PriorRole, Table as TableRole};
-ghost use Rattle.lw_report.specs.declared.stops.ReadStop.{ReadStop as Stop};
-ghost use Rattle.lw_learn.specs.Tasks.{HasWords, declared_of, letters_of, or_these, with_outputs};
+ghost use Rattle.lw_report.specs.declared.role.Role.TheVariants.{Prior as PriorRole};
+ghost use Rattle.lw_learn.specs.Tasks.{with_outputs};
 ghost use Rattle.lw_learn.specs.bodies.Ready.{IsReady};
 ghost use Rattle.lw_learn.specs.bodies.Stages.{HasPrior, IsBack, IsClash, IsStage, IsTaskWith, IsUnfit, SaysReady, SaysWhole};
-ghost use Rattle.lw_learn.specs.declared.arguments.Source.{Source as Kind};
-ghost use Rattle.lw_learn.specs.declared.task.System.TheVariants as Of;
 
 use crate::LearnArguments;
-use crate::arguments::Source;
-use crate::task::{System, Task};
+use crate::task::Task;
 use lw_cache::Cache;
-use lw_children::Command;
-use lw_json::{Answers, Machine, Setup};
+use lw_json::{Answers, Command};
 use lw_log::Log;
 use lw_names::OutNames;
 use lw_outside::{Files, LogFile};
 use lw_prior::{Prior, PriorStop, prior_of};
-use lw_report::{
-    Outcome, ReadStop, Role, SetupFile, read_answers_file, read_machine_file, read_setup_with,
-};
+use lw_report::{Outcome, Role, unread_outcome};
+use lw_system::{Found, ReadStop, System, find_system, read_answers_file};
 use lw_words::{Kept, Names, NoMemory};
 use std::alloc::Global;
 use std::marker::Model;
@@ -71,87 +63,24 @@ impl Unread {
     }
 }
 
-/// A machine as a system.
-fn table_of(alloc: Global, read: Result<Machine, ReadStop>) -> Result<System, Unread>
-    ensures ok { IfOk result (λ s. (m : Named) × (read ≡ Ok m) × (s ≡ Of.Table m) ×
-        (length m.inputs ≤ 64)) }
-    ensures err { IfErr result (λ u. (stop : Stop) × (read ≡ Err stop) ×
-        (u.outcome ≡ read_outcome TableRole stop) × (u.system ≡ None) ×
-        (u.kept ≡ [])) }
-{
-    match read {
-        Ok(machine) => Ok(System::Table(machine)),
-        Err(stop) => Err(Unread::bare(alloc, stop.outcome(Role::Table), None)),
-    }
-}
-
-/// Reads a setup file. The log is told the first of its members that a setup doesn't know.
-fn read_hinted<F: Files, L: LogFile>(
+/// Reads the system that is to be learned: the setup or the table file, and the table file that a setup names. The log is told
+/// the first member that the setup doesn't know.
+fn read_whole<F: Files, L: LogFile>(
     alloc: Global,
+    arguments: &LearnArguments,
     files: &mut F,
-    name: &str,
     log: &mut Log<L>,
-) -> Result<Setup, ReadStop>
-    ensures { HasRead IsSetupFile HasSetupFault name.now (F.state files.old) (F.state files.new)
-        result }
+) -> Result<System, Unread>
+    ensures { IsStage arguments.now (F.state files.old) (F.state files.new)
+        (SaysWhole arguments.now (F.state files.old) (F.state files.new)) result }
 {
-    let SetupFile { setup, hint } = match read_setup_with(alloc, files, name) {
-        Ok(file) => file,
-        Err(stop) => return Err(stop),
-    };
+    let Found { system, hint } = find_system(alloc, arguments.source(), arguments.system(), files);
     if !hint.is_empty() {
         log.text(&hint);
     }
-    Ok(setup)
-}
-
-/// Reads the setup file, and the table file that it names, if it names one.
-fn read_setup<F: Files, L: LogFile>(
-    alloc: Global,
-    arguments: &LearnArguments,
-    files: &mut F,
-    log: &mut Log<L>,
-) -> Result<System, Unread>
-    requires setup { arguments.now.source ≡ Kind.Setup }
-    ensures { IsStage arguments.now (F.state files.old) (F.state files.new)
-        (SaysWhole arguments.now (F.state files.old) (F.state files.new)) result }
-{
-    match read_hinted(alloc, files, arguments.system(), log) {
-        Ok(Setup::Table(name)) => {
-            let read = read_machine_file(alloc, files, name.get().as_str());
-            table_of(alloc, read)
-        }
-        Ok(
-            Setup::Command {
-                words,
-                inputs,
-                outputs,
-            },
-        ) => Ok(System::Children(Command {
-            words,
-            inputs,
-            outputs,
-        })),
-        Err(stop) => Err(Unread::bare(alloc, stop.outcome(Role::Setup), None)),
-    }
-}
-
-/// Reads the system that is to be learned.
-fn read_system<F: Files, L: LogFile>(
-    alloc: Global,
-    arguments: &LearnArguments,
-    files: &mut F,
-    log: &mut Log<L>,
-) -> Result<System, Unread>
-    ensures { IsStage arguments.now (F.state files.old) (F.state files.new)
-        (SaysWhole arguments.now (F.state files.old) (F.state files.new)) result }
-{
-    match arguments.source() {
-        Source::Setup => read_setup(alloc, arguments, files, log),
-        Source::Table => {
-            let read = read_machine_file(alloc, files, arguments.system());
-            table_of(alloc, read)
-        }
+    match system {
+        Ok(system) => Ok(system),
+        Err(stop) => Err(Unread::bare(alloc, unread_outcome(stop), None)),
     }
 }
 
@@ -328,7 +257,7 @@ pub(crate) fn read_task<F: Files, L: LogFile>(
     ensures { IsStage arguments.now (F.state files.old) (F.state files.new)
         (SaysReady arguments.now (F.state files.old) (F.state files.new)) result }
 {
-    let system = read_system(alloc, arguments, files, log)?;
+    let system = read_whole(alloc, arguments, files, log)?;
     match arguments.prior() {
         Some(name) => read_prior(alloc, system, name, files),
         None => fresh_task(alloc, system),

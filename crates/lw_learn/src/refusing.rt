@@ -8,16 +8,16 @@ ghost use Rattle.lw_report.specs.Text.{names_of as names_said};
 ghost use Rattle.lw_report.specs.Writing.{TakesAll, TakesSome, said_text};
 ghost use Rattle.lw_report.specs.declared.outcome.Outcome.{Outcome as Came};
 ghost use Rattle.lw_learn.specs.Saving.{HasSaved, IsSaved};
-ghost use Rattle.lw_learn.specs.Tasks.{declared_of, letters_of};
+ghost use Rattle.lw_system.specs.Systems.{declared_of, letters_of};
 ghost use Rattle.lw_learn.specs.Unread.{names_read};
 
 use crate::reading::Unread;
 use crate::saving::save_kept;
-use crate::task::System;
 use crate::{LearnArguments, Saved};
 use lw_names::OutNames;
 use lw_outside::{Files, Sink};
 use lw_report::{End, Outcome, Said, UNSAID, refuse};
+use lw_system::System;
 use lw_words::{Kept, Names, NoMemory};
 use std::alloc::Global;
 

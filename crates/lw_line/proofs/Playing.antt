@@ -7,7 +7,7 @@ use Rattle.std.proofs.lemmas.Bool.{false_from_ne_true}
 use Rattle.std.proofs.lemmas.Bool.Decides.{Decides-eqb}
 use Rattle.std.proofs.lemmas.Slice.Eq.{bytes_eq-Decides}
 use Rattle.std.proofs.lemmas.List.{take_at, take-append-le, take_min}
-use Rattle.std.proofs.Math.Seq.{take-append-add, take-add}
+use Rattle.std.proofs.Math.Seq.{take-append-add}
 use Rattle.std.proofs.lemmas.List.Elements.{All-push, All-nil}
 use Rattle.lw_words.specs.Name.{IsName}
 use Rattle.lw_json.specs.declared.machine.Machine.{Machine}
@@ -371,8 +371,3 @@ reads_on held bs bs' more left mid left' h is gave = record {
     both (Some l) mid g k =
         let k' : Gave more (Some g.0) left' = subst (λ (o : Option (List ℕ)). Gave more o left') g.1 k in
         (k'.0, k'.1, g.2 ∙ (ap (λ (x : List ℕ). h.more ++ x) k'.2 ∙ sym (append_assoc h.more more k'.0)))
-
--- bytes that were put, and some more
-pub takes_on : (put n : ℕ) (bytes : List ℕ) (before mid now : Option (List ℕ)) → TakesAll (take put bytes) before mid → now ≡ option_map (λ t. t ++ take n (drop put bytes)) mid → TakesAll (take (put + n) bytes) before now
-takes_on put n bytes before mid now h k =
-    subst (λ (l : List ℕ). TakesAll l before now) (sym (take-add put n bytes)) (takes_both (take put bytes) (take n (drop put bytes)) before mid now h k)

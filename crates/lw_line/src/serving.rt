@@ -1,7 +1,6 @@
 //! The child's side of the line protocol.
 ghost use Rattle.std.specs.Prelude.{◌≡◌, ℕ, ◌+◌, ◌<◌, ◌≤◌, List, length, Err, Ok, IfOk, OnOk, OnErr};
 ghost use Rattle.lw_words.specs.Cause.{CountedFault};
-ghost use Rattle.lw_outside.specs.Streams.{TakesAll, TakesSome};
 ghost use Rattle.lw_line.specs.Serving.{GoesOn, Plays};
 ghost use Rattle.lw_line.specs.bodies.Playing.{Comes, IsOpenRead, Replies, Turns};
 ghost use Rattle.lw_line.specs.declared.serving.ServeFault.{ServeFault as Fault};
@@ -11,7 +10,7 @@ ghost use Rattle.lw_line.specs.declared.serving.ServedCause.{ServedCause as Caus
 
 use crate::inbox::Inbox;
 use lw_json::Machine;
-use lw_outside::{AnswerLine, Failed, Player, Reply, Sink, Source};
+use lw_outside::{AnswerLine, Failed, Player, Reply, Sink, Source, put_all};
 use lw_words::Line;
 
 /// Why serving came to its end.
@@ -91,24 +90,6 @@ fn next_line<I: Source>(source: &mut I, inbox: &mut Inbox) -> Result<Next, Faile
             });
         }
     }
-}
-
-/// Puts all the bytes.
-fn put_all<O: Sink>(sink: &mut O, bytes: &[u8]) -> Result<(), Failed>
-    ensures ok { OnOk result (TakesAll bytes.now (O.state sink.old).taken
-        (O.state sink.new).taken) }
-    ensures err { OnErr result (TakesSome bytes.now (O.state sink.old).taken
-        (O.state sink.new).taken) }
-    ensures failed { OnErr result (CountedFault (O.state sink.old).faults
-        (O.state sink.new).faults) }
-    ensures quiet { OnOk result ((O.state sink.new).faults ≡ (O.state sink.old).faults) }
-    ensures counts { (O.state sink.old).faults ≤ (O.state sink.new).faults }
-{
-    let mut put = 0;
-    while put < bytes.len() {
-        put += sink.put(&bytes[put..])?;
-    }
-    Ok(())
 }
 
 /// Lets the child answer a line, whole.

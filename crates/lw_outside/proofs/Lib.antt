@@ -4,4 +4,5 @@ mod LineLemmas
 mod NameLemmas
 mod RetireLemmas
 mod SayLemmas
+pub mod SinkLemmas
 mod StreamLemmas

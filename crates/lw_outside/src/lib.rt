@@ -30,6 +30,6 @@ pub use memory_sink::MemorySink;
 pub use memory_source::MemorySource;
 pub use memory_spawner::MemorySpawner;
 pub use player::{Player, Reply};
-pub use streams::{Failed, Sink, Source};
+pub use streams::{Failed, Sink, Source, put_all};
 pub use transcript::{Bytes, Transcript};
 pub use world::World;

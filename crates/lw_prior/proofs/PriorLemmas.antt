@@ -19,7 +19,8 @@ use Rattle.lw_json.specs.AnswersFile.{IsAnswersFile}
 use Rattle.lw_json.specs.KeptOver.{IsKeptOver, AreKeptOver}
 use Rattle.lw_json.specs.declared.answers.Answers.{Answers}
 use Rattle.lw_pool.specs.Opening.{MayBegin}
-use Rattle.lw_prior.specs.Prior.{FitNames, prior_answer, prior_from, prior_answers}
+use Rattle.lw_json.specs.FitNames.{FitNames}
+use Rattle.lw_prior.specs.Prior.{prior_answer, prior_from, prior_answers}
 use Rattle.lw_prior.specs.bodies.Placed.{placed_answer, placed_from}
 
 abbrev blank : KeptAnswer

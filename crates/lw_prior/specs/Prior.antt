@@ -1,6 +1,5 @@
 -- The answers of an earlier call, as those that a learning begins with.
-use Rattle.std.specs.Prelude.{◌≡◌, ℕ, ◌+◌, List, [], ◌∷◌, map, Contains, Option, None, Some}
-use Rattle.std.specs.List.{All}
+use Rattle.std.specs.Prelude.{ℕ, ◌+◌, List, [], ◌∷◌, map, Option, None, Some}
 use Rattle.lw_words.specs.Answer.{Answer}
 use Rattle.lw_words.specs.declared.kept.KeptAnswer.{KeptAnswer}
 use Rattle.lw_names.specs.Names.{name_at}
@@ -21,11 +20,6 @@ prior_from n own names (k ∷ ks) = prior_answer n own names k ∷ prior_from (n
 -- each answer in the run of its place
 abbrev pub prior_answers : (own names : List (List ℕ)) → List KeptAnswer → List KeptAnswer
 prior_answers own names ks = prior_from 0 own names ks
-
--- the letters are the same, and each name of an output is among the others
-pub record FitNames (own_inputs own_outputs their_inputs their_outputs : List (List ℕ)) : Type 0 where
-  pub inputs : own_inputs ≡ their_inputs
-  pub outputs : All (λ n. Contains their_outputs n) own_outputs
 
 -- the first two answers that no one machine gives, where there are any
 abbrev pub HasFirstClash : List Answer → Option Clash → Type 0

@@ -5,7 +5,8 @@ ghost use Rattle.lw_words.specs.Answer.{answers_of, IsWhole};
 ghost use Rattle.lw_words.specs.Renumbering.{renumbered_answers};
 ghost use Rattle.lw_names.specs.Naming.{number_in};
 ghost use Rattle.lw_pool.specs.Opening.{MayBegin};
-ghost use Rattle.lw_prior.specs.Prior.{prior_answers, FitNames, HasFirstClash};
+ghost use Rattle.lw_json.specs.FitNames.{FitNames};
+ghost use Rattle.lw_prior.specs.Prior.{prior_answers, HasFirstClash};
 ghost use Rattle.lw_prior.specs.bodies.Placed.{placed_from};
 ghost use Rattle.lw_prior.specs.declared.stops.PriorStop.TheVariants as Stopped;
 

@@ -12,13 +12,11 @@ use Rattle.lw_line.specs.LineState.{told_runs}
 use Rattle.lw_names.specs.Names.{IsGrown}
 use Rattle.lw_sul.specs.SessionState.{IsJournal}
 use Rattle.lw_sul.specs.declared.runs.Run.{Run}
-use Rattle.lw_children.specs.Children.{IfTold}
-use Rattle.lw_children.specs.Crews.{first_names}
-use Rattle.lw_children.specs.Keeping.{count_of, most_outputs_of}
-use Rattle.lw_children.specs.Spawners.{StartsAndRetires}
-use Rattle.lw_ask.specs.Child.{SpellsWhole}
-use Rattle.lw_ask.specs.Ends.{IsBorneOut}
-use Rattle.lw_ask.proofs.ChildLemmas.{names_declared, names_own, spells_told, stopped_by, whole_told}
+use Rattle.lw_system.specs.Told.{IfTold, SpellsWhole}
+use Rattle.lw_system.specs.NewLines.{first_names, count_of, most_outputs_of}
+use Rattle.lw_system.specs.Spawners.{StartsAndRetires}
+use Rattle.lw_system.specs.Ends.{IsBorneOut}
+use Rattle.lw_system.proofs.ToldLemmas.{names_declared, names_own, spells_told, stopped_by, whole_told}
 use Rattle.lw_recheck.specs.Again.{HasRechecked}
 use Rattle.lw_recheck.specs.Child.{RechecksChild}
 

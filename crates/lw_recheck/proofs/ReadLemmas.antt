@@ -6,18 +6,18 @@ use Rattle.lw_json.specs.AnswersFault.{HasAnswersFault}
 use Rattle.lw_json.specs.AnswersFile.{IsAnswersFile}
 use Rattle.lw_json.specs.declared.answers.Answers.{Answers}
 use Rattle.lw_outside.specs.Files.{File, FilesState}
-use Rattle.lw_report.specs.Reading.{HasRead, ReadsFile}
-use Rattle.lw_report.specs.Stops.{read_outcome}
+use Rattle.lw_system.specs.Reading.{HasRead, ReadsFile}
+use Rattle.lw_report.specs.Stops.{read_outcome, unread_outcome}
 use Rattle.lw_report.specs.declared.outcome.Outcome.{Outcome}
 use Rattle.lw_report.specs.declared.outcome.Outcome.TheVariants.{Alphabets}
 use Rattle.lw_report.specs.declared.role.Role.TheVariants as role
-use Rattle.lw_report.specs.declared.stops.ReadStop.{ReadStop}
-use Rattle.lw_learn.specs.Tasks.{FitsSystem, ReadsSystem, declared_of, letters_of, or_these}
-use Rattle.lw_learn.specs.Unread.{IsRefused}
-use Rattle.lw_learn.specs.declared.arguments.Source.TheVariants as source
-use Rattle.lw_learn.specs.declared.task.System.{System}
-use Rattle.lw_learn.proofs.ReadLemmas.{made_then, read_made, read_refused}
-use Rattle.lw_ask.specs.Reading.{HasReadSystem}
+use Rattle.lw_system.specs.declared.stops.ReadStop.{ReadStop}
+use Rattle.lw_system.specs.Systems.{FitsSystem, ReadsSystem, declared_of, letters_of, or_these}
+use Rattle.lw_system.specs.declared.source.Source.TheVariants as source
+use Rattle.lw_system.specs.declared.system.System.{System}
+use Rattle.lw_system.specs.declared.stops.SystemStop.{SystemStop}
+use Rattle.lw_system.proofs.ReadsLemmas.{made_then, read_made, read_none}
+use Rattle.lw_system.specs.Finding.{HasReadSystem}
 use Rattle.lw_recheck.specs.Reading.{HasReadBoth, IsBehind}
 use Rattle.lw_recheck.specs.declared.reading.Task.{Task}
 
@@ -42,15 +42,15 @@ module _ (p : Answers) (s : System) where
   unfit_letters other fits = other fits.inputs
 
 -- the system's files
-module _ (setup answers : List ℕ) (f m : FilesState) (r : Result System Outcome) (has : HasReadSystem source.Setup setup f m r) where
-  pub unread_system : (why : Outcome) → r ≡ Err why → HasReadBoth setup answers f m (Err why)
-  unread_system why is = by (subst (λ (x : Result System Outcome). HasReadSystem source.Setup setup f m x) is has)
+module _ (setup answers : List ℕ) (f m : FilesState) (r : Result System SystemStop) (has : HasReadSystem source.Setup setup f m r) where
+  pub unread_system : (stop : SystemStop) (why : Outcome) → r ≡ Err stop → why ≡ unread_outcome stop → HasReadBoth setup answers f m (Err why)
+  unread_system stop why is came = by (subst (λ (x : Result System SystemStop). HasReadSystem source.Setup setup f m x) is has)
     where
-      by : HasReadSystem source.Setup setup f m (Err why) → HasReadBoth setup answers f m (Err why)
-      by h = record { ok = tt; made = tt; quiet = tt; err = inl h.err; same = h.same; counts = h.counts }
+      by : HasReadSystem source.Setup setup f m (Err stop) → HasReadBoth setup answers f m (Err why)
+      by h = record { ok = tt; made = tt; quiet = tt; err = inl (record { stop = stop; comes_to = came; unread = h.err }); same = h.same; counts = h.counts }
 
   pub behind : (s : System) → r ≡ Ok s → IsBehind setup f m s
-  behind s is = by (subst (λ (x : Result System Outcome). HasReadSystem source.Setup setup f m x) is has)
+  behind s is = by (subst (λ (x : Result System SystemStop). HasReadSystem source.Setup setup f m x) is has)
     where
       by : HasReadSystem source.Setup setup f m (Ok s) → IsBehind setup f m s
       by h = record { reads = h.ok; made = h.made; quiet = h.quiet; same = h.same }
@@ -66,7 +66,7 @@ module _ (setup answers : List ℕ) (f m g : FilesState) (s : System) (first : I
       between = m;
       system = s;
       behind = first;
-      refused = subst (λ (o : Outcome). IsRefused IsAnswersFile HasAnswersFault role.Prior answers m g o) (sym came) (read_refused IsAnswersFile HasAnswersFault answers role.Prior m g r why has is);
+      refused = record { stop = why; comes_to = came; unread = read_none IsAnswersFile HasAnswersFault answers m g r why has is };
     }));
     same = has.same ∙ first.same;
     counts = omega (arith, first.quiet, has.counts);

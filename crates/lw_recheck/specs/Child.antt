@@ -7,9 +7,8 @@ use Rattle.lw_words.specs.declared.stop.SulStop.{SulStop}
 use Rattle.lw_cache.specs.declared.stops.Clash.{Clash}
 use Rattle.lw_outside.specs.Links.{LinkState, SpawnerState}
 use Rattle.lw_sul.specs.declared.runs.Run.{Run}
-use Rattle.lw_children.specs.Children.{IfTold, IsStopped}
-use Rattle.lw_children.specs.Spawners.{StartsAndRetires}
-use Rattle.lw_ask.specs.Child.{SpellsRuns, SpellsWhole}
+use Rattle.lw_system.specs.Told.{IfTold, IsStopped, SpellsRuns, SpellsWhole}
+use Rattle.lw_system.specs.Spawners.{StartsAndRetires}
 use Rattle.lw_recheck.specs.Again.{HasRechecked}
 
 -- a child was started, asked the words of answers again, and retired; the runs are those that went over its link

@@ -4,15 +4,18 @@ use Rattle.lw_json.specs.AnswersFault.{HasAnswersFault}
 use Rattle.lw_json.specs.AnswersFile.{IsAnswersFile}
 use Rattle.lw_json.specs.declared.answers.Answers.{Answers}
 use Rattle.lw_outside.specs.Files.{File, FilesState}
-use Rattle.lw_report.specs.Reading.{ReadsFile}
+use Rattle.lw_system.specs.Reading.{ReadsFile}
+use Rattle.lw_system.specs.Finding.{IsNoSystem}
+use Rattle.lw_system.specs.declared.stops.SystemStop.{SystemStop}
+use Rattle.lw_report.specs.Stops.{unread_outcome}
 use Rattle.lw_report.specs.declared.outcome.Outcome.{Outcome}
 use Rattle.lw_report.specs.declared.outcome.Outcome.TheVariants.{Alphabets}
 use Rattle.lw_report.specs.declared.role.Role.TheVariants as role
-use Rattle.lw_learn.specs.Tasks.{FitsSystem, ReadsSystem}
-use Rattle.lw_learn.specs.Unread.{IsRefused, MadeReads}
-use Rattle.lw_learn.specs.declared.arguments.Source.TheVariants as source
-use Rattle.lw_learn.specs.declared.task.System.{System}
-use Rattle.lw_ask.specs.Reading.{IsUnread as IsNoSystem}
+use Rattle.lw_system.specs.Systems.{FitsSystem, ReadsSystem}
+use Rattle.lw_report.specs.Refused.{IsRefused}
+use Rattle.lw_system.specs.Reads.{MadeReads}
+use Rattle.lw_system.specs.declared.source.Source.TheVariants as source
+use Rattle.lw_system.specs.declared.system.System.{System}
 use Rattle.lw_recheck.specs.declared.reading.Task.{Task}
 
 -- the files say a system, by reads of which none failed, before which they were f and after which they are m
@@ -21,6 +24,12 @@ pub record IsBehind (setup : List ℕ) (files_before m : FilesState) (system : S
   pub made : MadeReads files_before m []
   pub quiet : m.faults ≡ files_before.faults
   pub same : m.holds ≡ files_before.holds
+
+-- the files say no system
+pub record ReadsNoSystem (setup : List ℕ) (files_before files_now : FilesState) (outcome : Outcome) : Type 0 where
+  pub stop : SystemStop
+  pub comes_to : outcome ≡ unread_outcome stop
+  pub unread : IsNoSystem source.Setup setup files_before files_now stop
 
 -- a system was read, and then the answers file refused
 pub record HasNoAnswers (setup answers : List ℕ) (files_before files_now : FilesState) (outcome : Outcome) : Type 0 where
@@ -43,7 +52,7 @@ pub record HasOtherNames (setup answers : List ℕ) (files_before files_now : Fi
 
 -- why nothing is asked
 abbrev pub IsUnread : (setup answers : List ℕ) → FilesState → FilesState → Outcome → Type 0
-IsUnread setup answers files_before files_now outcome = IsNoSystem source.Setup setup files_before files_now outcome ⊎ (HasNoAnswers setup answers files_before files_now outcome ⊎ HasOtherNames setup answers files_before files_now outcome)
+IsUnread setup answers files_before files_now outcome = ReadsNoSystem setup files_before files_now outcome ⊎ (HasNoAnswers setup answers files_before files_now outcome ⊎ HasOtherNames setup answers files_before files_now outcome)
 
 -- the bytes that were read say a system and answers over its names
 pub record ReadsBoth (setup answers : List ℕ) (holds : Option (List File)) (before after : List File) (system : System) (read : Answers) : Type 0 where

@@ -13,14 +13,14 @@ use Rattle.lw_sul.specs.declared.runs.Run.{Run}
 use Rattle.lw_outside.specs.Links.{SpawnerState}
 use Rattle.lw_outside.specs.Files.{FilesState}
 use Rattle.lw_outside.specs.Streams.{SinkState}
-use Rattle.lw_children.specs.declared.command.Command.{Command}
+use Rattle.lw_json.specs.declared.setup.Command.{Command}
 use Rattle.lw_report.specs.declared.«end».End.{End}
 use Rattle.lw_report.specs.declared.outcome.Outcome.{Outcome}
-use Rattle.lw_learn.specs.Unread.{MadeReads}
-use Rattle.lw_learn.specs.declared.task.System.{System}
-use Rattle.lw_learn.specs.declared.task.System.TheVariants.{Table, Children}
-use Rattle.lw_ask.specs.Child.{HasNotStarted}
-use Rattle.lw_ask.specs.Outcomes.{start_outcome}
+use Rattle.lw_system.specs.Reads.{MadeReads}
+use Rattle.lw_system.specs.declared.system.System.{System}
+use Rattle.lw_system.specs.declared.system.System.TheVariants.{Table, Children}
+use Rattle.lw_system.specs.Spawners.{HasNotStarted}
+use Rattle.lw_report.specs.Stops.{start_outcome}
 use Rattle.lw_recheck.specs.Again.{HasRechecked}
 use Rattle.lw_recheck.specs.Arguments.{RecheckValues}
 use Rattle.lw_recheck.specs.Child.{RechecksChild}

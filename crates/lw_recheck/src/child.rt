@@ -1,13 +1,13 @@
 //! A child that is started, asked the words of answers again, and retired.
 ghost use Rattle.std.specs.Prelude.{◌≡◌, ◌<◌, length, map, IfErr, IfOk, string_bytes};
 ghost use Rattle.lw_json.specs.KeptOver.{AreKeptOver};
-ghost use Rattle.lw_ask.specs.Child.{HasNotStarted};
+ghost use Rattle.lw_system.specs.Spawners.{HasNotStarted};
 ghost use Rattle.lw_recheck.specs.Child.{RechecksChild};
 
 use crate::keeping::{RecheckEnd, recheck_session};
-use lw_ask::{link_of, start_line};
 use lw_outside::{Spawner, StartStop};
 use lw_sul::Session;
+use lw_system::{link_of, start_line};
 use lw_words::{Kept, Names};
 use std::alloc::Global;
 

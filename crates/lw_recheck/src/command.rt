@@ -4,7 +4,7 @@ ghost use Rattle.lw_outside.specs.declared.links.StartFailure.{StartFailure as C
 ghost use Rattle.lw_json.specs.KeptOver.{AreKeptOver};
 ghost use Rattle.lw_report.specs.Outcomes.{status_of};
 ghost use Rattle.lw_report.specs.declared.outcome.Outcome.{Outcome as Came};
-ghost use Rattle.lw_learn.specs.Tasks.{FitsSystem, HasWords, letters_of};
+ghost use Rattle.lw_system.specs.Systems.{FitsSystem, HasWords, letters_of};
 ghost use Rattle.lw_recheck.specs.Outcomes.{came_outcome};
 ghost use Rattle.lw_recheck.specs.RecheckRun.{AsksTask, IsRecheckRun, RechecksCommand, RechecksMachine, RechecksSystem};
 
@@ -13,25 +13,23 @@ use crate::child::recheck_child;
 use crate::keeping::{RecheckEnd, recheck_session};
 use crate::reading::{Task, read_both};
 use crate::telling::{Told, end_call, end_refused};
-use lw_ask::{child_outcome, start_outcome};
 use lw_cache::Clash;
-use lw_children::Command;
-use lw_json::{Answers, Machine};
-use lw_learn::System;
+use lw_json::{Answers, Command, Machine};
 use lw_outside::{Files, Sink, Spawner};
-use lw_report::{End, Outcome};
+use lw_report::{End, Outcome, start_outcome, system_outcome};
 use lw_sul::{Session, TableSul};
+use lw_system::System;
 use lw_words::{Kept, Names, RunStop};
 use std::alloc::Global;
 
-/// What asking so many answers again comes to.
+/// What asking so many answers again comes to: a child is the one of instance 0.
 fn came_outcome(answers: u64, came: Result<Option<Clash>, RunStop>) -> Outcome
     ensures { result ≡ came_outcome answers came }
 {
     match came {
         Ok(None) => Outcome::Rechecked { answers },
         Ok(Some(clash)) => Outcome::Nondeterministic(clash),
-        Err(RunStop::Sul(stop)) => child_outcome(stop),
+        Err(RunStop::Sul(stop)) => system_outcome(0, stop),
         Err(RunStop::NoMemory) => Outcome::NoMemory,
     }
 }

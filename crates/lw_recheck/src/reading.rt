@@ -3,14 +3,13 @@ ghost use Rattle.std.specs.Prelude.{◌≡◌, ◌≤◌, true, false, length, C
 ghost use Rattle.std.specs.List.{All};
 ghost use Rattle.lw_report.specs.declared.outcome.Outcome.{Outcome as Came};
 ghost use Rattle.lw_report.specs.declared.role.Role.{Role as Part};
-ghost use Rattle.lw_learn.specs.Tasks.{FitsSystem, HasWords, letters_of};
+ghost use Rattle.lw_system.specs.Systems.{FitsSystem, HasWords, letters_of};
 ghost use Rattle.lw_recheck.specs.Reading.{HasReadBoth};
 
-use lw_ask::read_system;
 use lw_json::Answers;
-use lw_learn::{Source, System};
 use lw_outside::Files;
-use lw_report::{Outcome, Role, read_answers_file};
+use lw_report::{Outcome, Role, read_outcome, unread_outcome};
+use lw_system::{Source, System, read_answers_file, read_system};
 use lw_words::Names;
 use std::alloc::Global;
 
@@ -77,10 +76,10 @@ pub(crate) fn read_both<F: Files>(
 {
     let system = match read_system(alloc, Source::Setup, setup, files) {
         Ok(system) => system,
-        Err(outcome) => return Err(outcome),
+        Err(stop) => return Err(unread_outcome(stop)),
     };
     match read_answers_file(alloc, files, answers) {
         Ok(answers) => with_answers(system, answers),
-        Err(stop) => Err(stop.outcome(Role::Prior)),
+        Err(stop) => Err(read_outcome(stop, Role::Prior)),
     }
 }

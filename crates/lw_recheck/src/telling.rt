@@ -11,8 +11,8 @@ ghost use Rattle.lw_report.specs.declared.role.Role.{Role as Part};
 ghost use Rattle.lw_report.specs.declared.stops.TellStop.{TellStop as Stop};
 ghost use Rattle.lw_recheck.specs.Ending.{EndsSame, IsBare, IsEnd, IsTold};
 
-use lw_outside::Sink;
-use lw_report::{End, Outcome, Said, TellStop, UNSAID, put_all, refuse, text};
+use lw_outside::{Sink, put_all};
+use lw_report::{End, Outcome, Said, TellStop, UNSAID, refuse, text};
 use lw_words::{Kept, Names};
 use std::alloc::Global;
 

@@ -1,10 +1,8 @@
 pub mod Ends
 pub mod Learnings
-pub mod Member
 pub mod Outcomes
-pub mod Reading
 pub mod Reasons
-pub mod SetupHint
+pub mod Refused
 pub mod Stops
 pub mod Text
 pub mod Writing

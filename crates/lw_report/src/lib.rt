@@ -3,9 +3,7 @@
 
 mod comparison;
 mod end;
-mod member;
 mod outcome;
-mod reading;
 mod reasons;
 mod role;
 mod stops;
@@ -18,10 +16,9 @@ mod writing;
 pub use comparison::{Comparison, Difference};
 pub use end::{End, refuse};
 pub use outcome::{Outcome, Tried, status};
-pub use reading::{
-    SetupFile, read_answers_file, read_machine_file, read_setup_file, read_setup_with,
-};
 pub use role::Role;
-pub use stops::{ReadStop, TellStop, learn_outcome};
+pub use stops::{
+    TellStop, learn_outcome, read_outcome, start_outcome, system_outcome, unread_outcome,
+};
 pub use texts::{outcome_text, text};
-pub use writing::{Said, UNSAID, put_all, put_report, say, write_file};
+pub use writing::{Said, UNSAID, put_report, say, write_file};

@@ -1,26 +1,15 @@
-//! Why a file was not read, or an outcome was not told, and the outcome that each comes to.
+//! What comes of a file that was not read, a child that was not started, and a system or a learning that stopped; and why an
+//! outcome was not told.
 ghost use Rattle.std.specs.Prelude.{◌≡◌};
 ghost use Rattle.lw_report.specs.Learnings.{ask_outcome, learn_outcome, system_outcome};
-ghost use Rattle.lw_report.specs.Stops.{read_outcome};
+ghost use Rattle.lw_report.specs.Stops.{read_outcome, role_of, start_outcome, unread_outcome};
 
 use crate::{Outcome, Role};
 use lw_cache::AskStop;
-use lw_json::JsonFault;
-use lw_outside::{Failed, FilesStop, WriteStop};
+use lw_outside::{Failed, Spawner, StartStop};
 use lw_rounds::LearnStop;
+use lw_system::{ReadStop, Source, SystemStop};
 use lw_words::{NoMemory, SulStop};
-
-/// Why a file was not read.
-#[derive(Clone, Copy, Debug, PartialEq, Eq)]
-pub enum ReadStop {
-    /// It could not be read.
-    Failed,
-    /// It has more than 16,777,216 bytes.
-    TooLong,
-    /// It is none of its kind, and this is its first fault.
-    Bad(JsonFault),
-    NoMemory,
-}
 
 /// Why an outcome was not told.
 #[derive(Clone, Copy, Debug, PartialEq, Eq)]
@@ -32,46 +21,42 @@ pub enum TellStop {
     NoMemory,
 }
 
-impl ReadStop {
-    /// What it comes to for a file in this role.
-    pub fn outcome(self, role: Role) -> Outcome
-        ensures { result ≡ read_outcome role self }
-    {
-        match self {
-            ReadStop::Failed => Outcome::FileFault(role),
-            ReadStop::TooLong => Outcome::FileTooLong(role),
-            ReadStop::Bad(fault) => Outcome::BadFile { role, fault },
-            ReadStop::NoMemory => Outcome::NoMemory,
-        }
+/// What a file in this role comes to that was not read.
+pub fn read_outcome(stop: ReadStop, role: Role) -> Outcome
+    ensures { result ≡ read_outcome role stop }
+{
+    match stop {
+        ReadStop::Failed => Outcome::FileFault(role),
+        ReadStop::TooLong => Outcome::FileTooLong(role),
+        ReadStop::Bad(fault) => Outcome::BadFile { role, fault },
+        ReadStop::NoMemory => Outcome::NoMemory,
     }
 }
 
-impl From<FilesStop> for ReadStop {
-    ghost use Rattle.std.specs.Prelude.{◌≡◌};
-    ghost use Rattle.lw_report.specs.Stops.{unread};
-
-    ghost from_gives = { λ refusal stop. stop ≡ unread refusal };
-
-    fn from(refusal: FilesStop) -> ReadStop {
-        match refusal {
-            FilesStop::Failed => ReadStop::Failed,
-            FilesStop::TooLong => ReadStop::TooLong,
-            FilesStop::NoMemory => ReadStop::NoMemory,
-        }
+/// The role of a file that says a system.
+fn role_of(file: Source) -> Role
+    ensures { result ≡ role_of file }
+{
+    match file {
+        Source::Setup => Role::Setup,
+        Source::Table => Role::Table,
     }
 }
 
-impl From<JsonFault> for ReadStop {
-    ghost use Rattle.std.specs.Prelude.{◌≡◌};
-    ghost use Rattle.lw_report.specs.Stops.{read_stop};
+/// What files come to that say no system.
+pub fn unread_outcome(stop: SystemStop) -> Outcome
+    ensures { result ≡ unread_outcome stop }
+{
+    read_outcome(stop.stop, role_of(stop.file))
+}
 
-    ghost from_gives = { λ fault stop. stop ≡ read_stop fault };
-
-    fn from(fault: JsonFault) -> ReadStop {
-        match fault {
-            JsonFault::NoMemory => ReadStop::NoMemory,
-            _ => ReadStop::Bad(fault),
-        }
+/// What a start comes to that gave no child.
+pub fn start_outcome<P: Spawner>(spawner: &P, stop: StartStop) -> Outcome
+    ensures { result ≡ start_outcome (P.state spawner.now).cause stop }
+{
+    match stop {
+        StartStop::Failed => Outcome::Unstarted(spawner.failure()),
+        StartStop::NoMemory => Outcome::NoMemory,
     }
 }
 
@@ -113,7 +98,7 @@ impl From<Failed> for TellStop {
 }
 
 /// What a system comes to that stopped so, by its instance.
-fn system_outcome(instance: u32, stop: SulStop) -> Outcome
+pub fn system_outcome(instance: u32, stop: SulStop) -> Outcome
     ensures { result ≡ system_outcome instance stop }
 {
     match stop {

@@ -1,5 +1,5 @@
 //! What is put to streams and written to files.
-ghost use Rattle.std.specs.Prelude.{◌≡◌, ◌+◌, ◌<◌, ◌≤◌, ◌++◌, length, take, drop, true, false, Err, IfOk, OnOk, OnErr, option_map};
+ghost use Rattle.std.specs.Prelude.{◌≡◌, ◌≤◌, true, false, Err, OnOk, option_map};
 ghost use Rattle.lw_words.specs.Cause.{CountedFault};
 ghost use Rattle.lw_outside.specs.Files.{Holds, StaysBeside, noted, write_call};
 ghost use Rattle.lw_report.specs.Outcomes.{StandsOrWants};
@@ -10,42 +10,9 @@ ghost use Rattle.lw_report.specs.declared.stops.TellStop.{TellStop as Stop};
 
 use crate::texts::{NO_MEMORY, fixed_text, outcome_text};
 use crate::{Outcome, Role, TellStop, text};
-use lw_outside::{Failed, Files, Sink, WriteStop};
+use lw_outside::{Files, Sink, WriteStop, put_all};
 use lw_words::{Kept, Names, NoMemory};
 use std::alloc::Global;
-
-/// Puts some of the bytes from a place on, and says how many.
-fn put_from<K: Sink>(sink: &mut K, bytes: &[u8], done: usize) -> Result<usize, Failed>
-    requires { done < length bytes.now }
-    ensures some { IfOk result (λ n. (1 ≤ n) × (done + n ≤ length bytes.now)) }
-    ensures took { IfOk result (λ n. (K.state sink.new).taken ≡
-        option_map (λ t. t ++ take n (drop done bytes.now)) (K.state sink.old).taken) }
-    ensures left { OnErr result ((K.state sink.new).taken ≡ (K.state sink.old).taken) }
-    ensures quiet { OnOk result ((K.state sink.new).faults ≡ (K.state sink.old).faults) }
-    ensures failed { OnErr result (CountedFault (K.state sink.old).faults
-        (K.state sink.new).faults) }
-    ensures counts { (K.state sink.old).faults ≤ (K.state sink.new).faults }
-{
-    sink.put(&bytes[done..])
-}
-
-/// Puts all the bytes into a sink, piece by piece.
-#[tactic(auto, using(crate::proofs::SinkLemmas::sink_steps))]
-pub fn put_all<K: Sink>(sink: &mut K, bytes: &[u8]) -> Result<(), Failed>
-    ensures ok { OnOk result (TakesAll bytes.now (K.state sink.old).taken
-        (K.state sink.new).taken) }
-    ensures part { TakesSome bytes.now (K.state sink.old).taken (K.state sink.new).taken }
-    ensures quiet { OnOk result ((K.state sink.new).faults ≡ (K.state sink.old).faults) }
-    ensures failed { OnErr result (CountedFault (K.state sink.old).faults
-        (K.state sink.new).faults) }
-    ensures counts { (K.state sink.old).faults ≤ (K.state sink.new).faults }
-{
-    let mut done = 0;
-    while done < bytes.len() {
-        done += put_from(sink, bytes, done)?;
-    }
-    Ok(())
-}
 
 /// Puts a text to a stream that may refuse it.
 fn put_text<K: Sink>(sink: &mut K, text: &str)

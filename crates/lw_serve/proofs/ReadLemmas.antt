@@ -6,7 +6,7 @@ use Rattle.lw_json.specs.MachineFault.{HasMachineFault}
 use Rattle.lw_json.specs.declared.fault.JsonFault.{JsonFault}
 use Rattle.lw_json.specs.declared.machine.Machine.{Machine}
 use Rattle.lw_outside.specs.Files.{Call, File, Holds, HoldsLong, file_at, longest_file, noted, read_call}
-use Rattle.lw_report.specs.Reading.{ReadsBadFile, ReadsFile}
+use Rattle.lw_system.specs.Reading.{ReadsBadFile, ReadsFile}
 use Rattle.lw_serve.specs.Reading.{FilesTell, TellsFailed, TellsLong, TellsMachine, TellsNoMachine}
 
 -- a read that was answered isn't told as failed

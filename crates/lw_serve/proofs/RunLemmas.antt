@@ -6,13 +6,13 @@ use Rattle.lw_json.specs.declared.machine.Machine.{Machine}
 use Rattle.lw_outside.specs.Files.{Call, noted, read_call, FilesState}
 use Rattle.lw_report.specs.Ends.{IsWithoutLearner}
 use Rattle.lw_report.specs.Outcomes.{StandsOrWants}
-use Rattle.lw_report.specs.Reading.{ReadsFile, WasRead}
+use Rattle.lw_system.specs.Reading.{ReadsFile, WasRead}
 use Rattle.lw_outside.specs.Streams.{SinkState, SourceState}
 use Rattle.lw_report.specs.Stops.{read_outcome}
 use Rattle.lw_report.specs.Writing.{TakesAll, TakesSome, said_text}
 use Rattle.lw_report.specs.declared.«end».End.{End}
 use Rattle.lw_report.specs.declared.role.Role.TheVariants.{Model}
-use Rattle.lw_report.specs.declared.stops.ReadStop.{ReadStop}
+use Rattle.lw_system.specs.declared.stops.ReadStop.{ReadStop}
 use Rattle.lw_serve.specs.ServeRun.{IsServeRun}
 use Rattle.lw_serve.specs.bodies.Served.{HasServed}
 use Rattle.lw_serve.proofs.PlayedLemmas.{IsOfFile, answered_read, is_played, no_file, untroubled_play}

@@ -6,14 +6,14 @@ use Rattle.lw_json.specs.MachineFault.{HasMachineFault}
 use Rattle.lw_json.specs.declared.fault.JsonFault.{JsonFault}
 use Rattle.lw_outside.specs.Files.{HoldsLong, noted, read_call, FilesState}
 use Rattle.lw_report.specs.Outcomes.{HasOwnText, StandsOrWants}
-use Rattle.lw_report.specs.Reading.{ReadsBadFile}
+use Rattle.lw_system.specs.Reading.{ReadsBadFile}
 use Rattle.lw_report.specs.Stops.{read_outcome}
 use Rattle.lw_report.specs.declared.outcome.Outcome.{Outcome}
 use Rattle.lw_report.specs.declared.outcome.Outcome.TheVariants.{BadFile, FileTooLong, NoMemory, FileFault}
 use Rattle.lw_report.specs.declared.role.Role.{Role}
 use Rattle.lw_report.specs.declared.role.Role.TheVariants.{Model}
-use Rattle.lw_report.specs.declared.stops.ReadStop.{ReadStop}
-use Rattle.lw_report.specs.declared.stops.ReadStop.TheVariants as stop
+use Rattle.lw_system.specs.declared.stops.ReadStop.{ReadStop}
+use Rattle.lw_system.specs.declared.stops.ReadStop.TheVariants as stop
 use Rattle.lw_serve.specs.Calls.{MadeCalls}
 use Rattle.lw_serve.specs.Outcomes.{IsUngiven, IsUnread, IsUntroubled}
 use Rattle.lw_serve.specs.Reading.{TellsFailed, TellsLong, TellsMachine}

@@ -7,7 +7,7 @@ use Rattle.lw_json.specs.declared.fault.JsonFault.{JsonFault}
 use Rattle.lw_json.specs.declared.machine.Machine.{Machine}
 use Rattle.lw_outside.specs.Files.{HoldsLong, FilesState}
 use Rattle.lw_report.specs.Ends.{IsWithoutLearner}
-use Rattle.lw_report.specs.Reading.{ReadsBadFile, ReadsFile, WasRead}
+use Rattle.lw_system.specs.Reading.{ReadsBadFile, ReadsFile, WasRead}
 use Rattle.lw_outside.specs.Streams.{SinkState, SourceState}
 use Rattle.lw_report.specs.Writing.{TakesAll, TakesSome, said_text}
 use Rattle.lw_report.specs.declared.«end».End.{End}

@@ -13,7 +13,8 @@ ghost use Rattle.lw_serve.specs.bodies.Served.{HasServed};
 use lw_json::Machine;
 use lw_line::{ServeFault, Served};
 use lw_outside::{Files, Sink, Source};
-use lw_report::{End, Outcome, ReadStop, Role, UNSAID, read_machine_file, refuse};
+use lw_report::{End, Outcome, Role, UNSAID, read_outcome, refuse};
+use lw_system::{ReadStop, read_machine_file};
 use lw_words::Kept;
 use std::alloc::Global;
 
@@ -46,7 +47,7 @@ fn refuse_model<E: Sink>(alloc: Global, stop: ReadStop, err: &mut E) -> End
 {
     refuse(
         alloc,
-        stop.outcome(Role::Model),
+        read_outcome(stop, Role::Model),
         UNSAID,
         Kept::new(alloc),
         None,

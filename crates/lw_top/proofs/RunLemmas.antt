@@ -16,7 +16,7 @@ use Rattle.lw_report.specs.declared.outcome.Outcome.TheVariants.{NoMemory, Unsta
 use Rattle.lw_learn.specs.Arguments.{LearnValues}
 use Rattle.lw_learn.specs.LearnRun.{IsLearnRun}
 use Rattle.lw_learn.specs.Unread.{IsUnreadBy}
-use Rattle.lw_learn.proofs.ReadLemmas.{made_none, some_made}
+use Rattle.lw_system.proofs.ReadsLemmas.{made_none, some_made}
 use Rattle.lw_learn.proofs.RunLemmas.{none_saved}
 use Rattle.lw_report.specs.Text.{names_of}
 use Rattle.lw_top.specs.Call.{CallValues, Learn, Check, Trial, Serve, Ask, Compare, Recheck, call_of}

@@ -5,7 +5,7 @@ use Rattle.lw_outside.specs.Streams.{SinkState, SourceState}
 use Rattle.lw_report.specs.declared.«end».End.{End}
 use Rattle.lw_report.specs.declared.outcome.Outcome.{Outcome}
 use Rattle.lw_report.specs.declared.outcome.Outcome.TheVariants.{NoMemory, Usage}
-use Rattle.lw_report.specs.declared.stops.ReadStop.TheVariants as stop
+use Rattle.lw_system.specs.declared.stops.ReadStop.TheVariants as stop
 use Rattle.lw_serve.specs.Outcomes.{IsUnread}
 use Rattle.lw_serve.specs.Playing.{PlaysTo}
 use Rattle.lw_serve.specs.ServeRun.{EndsPlayed, EndsUnread, IsServeRun}

@@ -37,13 +37,14 @@ use Rattle.lw_report.specs.declared.stops.TellStop.{TellStop}
 use Rattle.lw_report.specs.declared.stops.TellStop.TheVariants as tell
 use Rattle.lw_report.proofs.LearningLemmas.{has_model, has_large_suite, own_ask}
 use Rattle.lw_trial.specs.Arguments.{TrialValues}
-use Rattle.lw_trial.specs.Drawn.{generator_of_seed, drawn_row}
+use Rattle.lw_wordlist.specs.Drawn.{seeded}
+use Rattle.lw_trial.specs.Drawn.{drawn_row}
 use Rattle.lw_trial.specs.TrialRun.{IsReachedTrial, IsTrial, IsTrialOutcome, IsTrialRun, IsTried, drawn_machine, drawn_naming}
 use Rattle.lw_trial.specs.bodies.Told.{IsToldOf}
 
 -- a drawn machine has as many states as were asked for
 pub drawn_states : (v : TrialValues) → length (drawn_machine v).rows ≡ v.states
-drawn_states v = length-map (range_with_len 0 v.states) (drawn_row (generator_of_seed v.seed) v.states v.inputs) ∙ length-range_with_len 0 v.states
+drawn_states v = length-map (range_with_len 0 v.states) (drawn_row (seeded v.seed) v.states v.inputs) ∙ length-range_with_len 0 v.states
 
 -- a drawn machine is within the limits of a learning
 pub drawn_is_within : (v : TrialValues) → IsWithinLimits (drawn_machine v) → suite_size v.states v.inputs 1 ≤ greatest_suite → IsWithin v.inputs 1 1024 (drawn_machine v).rows

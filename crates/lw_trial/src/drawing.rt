@@ -2,13 +2,12 @@
 ghost use Rattle.std.specs.Prelude.{◌≡◌, ℕ, ◌+◌, ◌*◌, ◌-◌, ◌%◌, ◌<◌, ◌≤◌, map, nat_eq, if◌then◌else◌, IfOk, OnOk};
 ghost use Rattle.std.specs.List.{range_with_len};
 ghost use Rattle.lw_mealy.specs.Limits.{IsWithinLimits, mealy_of};
-ghost use Rattle.lw_trial.specs.Drawn.{after_words, generator_word, drawn_cell, drawn_rows};
+ghost use Rattle.lw_wordlist.specs.Drawn.{after_draws, draw_at};
+ghost use Rattle.lw_trial.specs.Drawn.{drawn_cell, drawn_rows};
 
 use lw_mealy::{Mealy, MealyFault};
+use lw_wordlist::Generator;
 use lw_words::NoMemory;
-use rand_core::SeedableRng;
-use rand_core::utils::NextWord;
-use rand_pcg::Lcg128Xsl64;
 use std::alloc::Global;
 
 /// The next state, and from the last the first; the last alone has output 1.
@@ -21,22 +20,22 @@ fn round_pair(states: u16, state: u16) -> (u16, u16)
     ((state + 1) % states, u16::from(state + 1 == states))
 }
 
-/// A target among so many states, and an output: two words.
-fn drawn_pair(random: &mut Lcg128Xsl64, states: u16) -> (u16, u16)
+/// A target among so many states, and an output: two numbers.
+fn drawn_pair(random: &mut Generator, states: u16) -> (u16, u16)
     requires { 0 < states }
-    ensures target { result.0 ≡ generator_word random.old 0 % states }
-    ensures output { result.1 ≡ generator_word random.old 1 % 2 }
-    ensures random { random.new ≡ after_words random.old 2 }
+    ensures target { result.0 ≡ draw_at random.old 0 % states }
+    ensures output { result.1 ≡ draw_at random.old 1 % 2 }
+    ensures random { random.new ≡ after_draws random.old 2 }
 {
-    let target = random.next_word() % u64::from(states);
-    let output = random.next_word() % 2;
+    let target = random.draw() % u64::from(states);
+    let output = random.draw() % 2;
     (target as u16, output as u16)
 }
 
 /// The row of a state.
 fn drawn_state(
     alloc: Global,
-    random: &mut Lcg128Xsl64,
+    random: &mut Generator,
     states: u16,
     inputs: u16,
     state: u16,
@@ -46,7 +45,7 @@ fn drawn_state(
     requires inputs { 1 ≤ inputs }
     ensures row { IfOk result (λ row. row.items ≡ map (drawn_cell random.old states state)
         (range_with_len 0 inputs)) }
-    ensures random { OnOk result (random.new ≡ after_words random.old (2 * (inputs - 1))) }
+    ensures random { OnOk result (random.new ≡ after_draws random.old (2 * (inputs - 1))) }
 {
     let mut row = Vec::with_capacity(alloc, usize::from(inputs))?;
     row.push(round_pair(states, state))?;
@@ -74,7 +73,7 @@ fn machine_of(
 }
 
 /// A machine of so many states and inputs and two outputs, drawn by a seed. Letter 0 goes round the states, and has output 1 at
-/// the last alone; targets and outputs of the other letters are the words of PCG with 128 bits of state (O'Neill 2014).
+/// the last alone; targets and outputs of the other letters are the numbers of the seed's generator.
 ///
 /// # Errors
 /// Only where memory runs out.
@@ -83,7 +82,7 @@ pub fn drawn(alloc: Global, states: u16, inputs: u16, seed: u64) -> Result<Mealy
     requires inputs { (1 ≤ inputs) × (inputs ≤ 64) }
     ensures { IfOk result (λ m. m ≡ mealy_of inputs 2 (drawn_rows states inputs seed)) }
 {
-    let mut random = Lcg128Xsl64::seed_from_u64(seed);
+    let mut random = Generator::of_seed(seed);
     let mut rows = Vec::with_capacity(alloc, usize::from(states))?;
     for state in 0..states {
         rows.push(drawn_state(alloc, &mut random, states, inputs, state)?)?;

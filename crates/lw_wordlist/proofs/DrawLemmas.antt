@@ -18,8 +18,12 @@ state_then w m p (suc i) k s =
     let one : suc i + k ≡ suc (i + k) = omega arith in
     ap (λ (n : ℕ). state_after w m p n s) one ∙ state_then w m p i k (next_state w m p s)
 
-draws_then : (g : Lcg) (i k : ℕ) → after_draws (after_draws g i) k ≡ after_draws g (i + k)
+pub draws_then : (g : Lcg) (i k : ℕ) → after_draws (after_draws g i) k ≡ after_draws g (i + k)
 draws_then g i k = ap (λ (s : ℕ). record (g) { state = s }) (sym (state_then 128 multiplier_128 g.increment i k g.state))
+
+-- the number behind those that were drawn
+pub draw_then : (g : Lcg) (i k : ℕ) → draw_at (after_draws g i) k ≡ draw_at g (i + k)
+draw_then g i k = ap (λ (h : Lcg). (pcg64 h).0) (draws_then g i k)
 
 no_draw : (g : Lcg) → after_draws g 0 ≡ g
 unfolding state_after

@@ -2,27 +2,25 @@
 ghost use Rattle.std.specs.Prelude.{◌≡◌, ◌%◌, ◌<◌, ◌≤◌, ◌++◌, IfOk, OnOk};
 ghost use Rattle.lw_wordlist.specs.Drawn.{after_draws, draw_at, drawn_word, drawn_words};
 
+use crate::Generator;
 use crate::words::push_word;
 use lw_words::{NoMemory, Word, Words};
-use rand_core::SeedableRng;
-use rand_core::utils::NextWord;
-use rand_pcg::Lcg128Xsl64;
 use std::alloc::Global;
 
 /// A letter: what the next number leaves when it is divided by the number of inputs.
-fn draw_letter(random: &mut Lcg128Xsl64, inputs: u16) -> u16
+fn draw_letter(random: &mut Generator, inputs: u16) -> u16
     requires { 1 ≤ inputs }
     ensures letter { result ≡ draw_at random.old 0 % inputs }
     ensures random { random.new ≡ after_draws random.old 1 }
 {
-    let number = random.next_word() % u64::from(inputs);
+    let number = random.draw() % u64::from(inputs);
     number as u16
 }
 
 /// A word of so many letters.
 fn draw_word(
     alloc: Global,
-    random: &mut Lcg128Xsl64,
+    random: &mut Generator,
     inputs: u16,
     word_length: u32,
 ) -> Result<Word, NoMemory>
@@ -37,9 +35,8 @@ fn draw_word(
     Ok(word)
 }
 
-/// Puts so many words of so many letters each behind these, drawn by a seed. The generator is PCG with 128 bits of state (XSL RR,
-/// O'Neill 2014), `Lcg128Xsl64` of `rand_pcg`, begun by `seed_from_u64`. Each letter is the next number of 64 bits modulo the number
-/// of inputs: first the letters of the first word, then those of the second, and so on.
+/// Puts so many words of so many letters each behind these, drawn by a seed. Each letter is the next number of the seed modulo the
+/// number of inputs: first the letters of the first word, then those of the second, and so on.
 ///
 /// # Errors
 /// Only where memory runs out: then some of the words stand there.
@@ -54,7 +51,7 @@ pub fn draw_words(
     requires { 1 ≤ inputs }
     ensures { OnOk result (words.new ≡ words.old ++ drawn_words inputs count word_length seed) }
 {
-    let mut random = Lcg128Xsl64::seed_from_u64(seed);
+    let mut random = Generator::of_seed(seed);
     for _ in 0..count {
         let word = draw_word(alloc, &mut random, inputs, word_length)?;
         push_word(words, word)?;

@@ -1,9 +1,9 @@
 //! The rows worked by hand, over files, children and streams in memory.
 use crate::tests::memory::{files, sink, spawner, string};
 use lw_ask::{AskArguments, ask};
-use lw_learn::Source;
 use lw_outside::{MemoryFiles, MemorySink, MemorySpawner};
 use lw_report::End;
+use lw_system::Source;
 use std::alloc::Global;
 use std::process::Abort;
 

@@ -10,11 +10,11 @@ use Rattle.lw_rounds.specs.Learner.{refinements_of}
 use Rattle.lw_rounds.specs.declared.learned.Learned.{Learned}
 use Rattle.lw_rounds.specs.declared.learner.Kind.{Kind}
 use Rattle.lw_children.specs.Crews.{first_naming}
-use Rattle.lw_children.specs.Keeping.{count_of}
+use Rattle.lw_system.specs.NewLines.{count_of}
 use Rattle.lw_report.specs.Learnings.{HasModel}
 use Rattle.lw_report.specs.declared.«end».End.{End}
-use Rattle.lw_learn.specs.Tasks.{HasWords, declared_of, letters_of}
-use Rattle.lw_learn.specs.declared.task.System.{System}
+use Rattle.lw_system.specs.Systems.{HasWords, declared_of, letters_of}
+use Rattle.lw_system.specs.declared.system.System.{System}
 
 -- the names of a system's outputs, and a cache of prior answers, of which nothing clashes
 pub record IsReady (s : System) (naming : Naming) (cache : Caching) : Type 0 where

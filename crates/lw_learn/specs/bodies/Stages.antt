@@ -13,17 +13,20 @@ use Rattle.lw_wordlist.specs.Lines.{lines_in}
 use Rattle.lw_wordlist.specs.Words.{IsFirstUnknown}
 use Rattle.lw_prior.specs.FirstClash.{IsFirstClash}
 use Rattle.lw_prior.specs.Prior.{prior_answers}
-use Rattle.lw_report.specs.Reading.{ReadsFile}
+use Rattle.lw_system.specs.Reading.{ReadsFile}
 use Rattle.lw_report.specs.declared.outcome.Outcome.{Outcome}
 use Rattle.lw_report.specs.declared.outcome.Outcome.TheVariants.{Alphabets, NoMemory, Nondeterministic, UnknownLetter}
 use Rattle.lw_report.specs.declared.role.Role.TheVariants.{Prior}
 use Rattle.lw_learn.specs.Arguments.{LearnValues}
 use Rattle.lw_learn.specs.Asking.{IsWordless, IsWordlessTask, ReadsWords, SaysWords}
-use Rattle.lw_learn.specs.Tasks.{FitsSystem, HasWords, ReadsSystem, ReadsTask, declared_of, letters_of, or_these, with_outputs}
-use Rattle.lw_learn.specs.Unread.{IsRefused, IsUnreadBy, MadeReads}
+use Rattle.lw_learn.specs.Tasks.{ReadsTask, with_outputs}
+use Rattle.lw_system.specs.Systems.{FitsSystem, HasWords, ReadsSystem, declared_of, letters_of, or_these}
+use Rattle.lw_learn.specs.Unread.{IsUnreadBy}
+use Rattle.lw_report.specs.Refused.{IsRefused}
+use Rattle.lw_system.specs.Reads.{MadeReads}
 use Rattle.lw_learn.specs.bodies.Ready.{IsReady}
 use Rattle.lw_learn.specs.bodies.UnreadState.{UnreadState}
-use Rattle.lw_learn.specs.declared.task.System.{System}
+use Rattle.lw_system.specs.declared.system.System.{System}
 use Rattle.lw_learn.specs.declared.task.Task.{Task}
 use Rattle.lw_learn.specs.declared.task.WordedTask.{WordedTask}
 

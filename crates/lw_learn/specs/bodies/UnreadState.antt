@@ -5,9 +5,9 @@ use Rattle.lw_names.specs.Naming.{Naming}
 use Rattle.lw_json.specs.KeptOver.{AreKeptOver}
 use Rattle.lw_report.specs.Text.{names_of}
 use Rattle.lw_report.specs.declared.outcome.Outcome.{Outcome}
-use Rattle.lw_learn.specs.Tasks.{letters_of}
+use Rattle.lw_system.specs.Systems.{letters_of}
 use Rattle.lw_learn.specs.Unread.{names_read}
-use Rattle.lw_learn.specs.declared.task.System.{System}
+use Rattle.lw_system.specs.declared.system.System.{System}
 
 -- the outcome, the system if it was read, what is kept of prior answers, and the names of their outputs
 pub record UnreadState : Type 0 where

@@ -1,8 +1,8 @@
 //! What no clause says: that children are started where there is memory, by hand, and learned over.
 ghost use Rattle.std.specs.Prelude.{◌≡◌, ◌<◌, length};
 
-use lw_children::{Command, start_all};
-use lw_json::Texts;
+use lw_children::start_all;
+use lw_json::{Command, Texts};
 use lw_outside::MemorySpawner;
 use lw_words::Names;
 use std::alloc::Global;

@@ -3,9 +3,9 @@ use lw_json::{Field, JsonFault};
 use lw_mealy::MealyFault;
 use lw_outside::{MemoryFiles, MemorySink};
 use lw_report::{
-    End, Outcome, ReadStop, Role, TellStop, UNSAID, put_report, read_answers_file,
-    read_machine_file, read_setup_file, refuse, text, write_file,
+    End, Outcome, Role, TellStop, UNSAID, put_report, read_outcome, refuse, text, write_file,
 };
+use lw_system::{ReadStop, read_answers_file, read_machine_file, read_setup_file};
 use lw_words::{Kept, Names, NamesFault, Word, Words};
 use std::alloc::Global;
 use std::process::Abort;
@@ -139,7 +139,7 @@ fn tells_fault(rt: &impl Abort, alloc: Global, sink: &mut MemorySink) -> bool {
 
 /// The status after a model is refused, which isn't JSON.
 fn refusal(alloc: Global, sink: &mut MemorySink) -> u8 {
-    let stop = ReadStop::Bad(JsonFault::NotJson).outcome(Role::Model);
+    let stop = read_outcome(ReadStop::Bad(JsonFault::NotJson), Role::Model);
     let End { status, .. } = refuse(alloc, stop, UNSAID, Kept::new(alloc), None, 1, sink);
     status
 }

@@ -11,7 +11,7 @@ use crate::options::{Argument, Syntax};
 use crate::values::{text_at, texts_at};
 use clap::ArgMatches;
 use lw_ask::AskArguments;
-use lw_learn::Source;
+use lw_system::Source;
 use std::alloc::Global;
 
 /// The command `ask`.

@@ -12,8 +12,9 @@ use crate::options::{Argument, Syntax};
 use crate::ranges::{EXTRA, LENGTH, RANDOM, SEED, STATES, WORKERS};
 use crate::values::{kind_at, number_at, str_at, text_at};
 use clap::ArgMatches;
-use lw_learn::{Drawn, LearnArguments, LearnFiles, Source};
+use lw_learn::{Drawn, LearnArguments, LearnFiles};
 use lw_rounds::Settings;
+use lw_system::Source;
 use std::alloc::{AllocError, Global};
 
 /// The command `learn`.

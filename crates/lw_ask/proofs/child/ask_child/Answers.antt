@@ -4,9 +4,10 @@ use Rattle.lw_outside.specs.Links.{LinkState}
 use Rattle.lw_names.specs.Names.{IsGrown}
 use Rattle.lw_sul.specs.SessionState.{SessionState}
 use Rattle.lw_line.specs.LineState.{LineState}
-use Rattle.lw_children.specs.Crews.{first_names}
-use Rattle.lw_children.specs.Keeping.{count_of, most_outputs_of}
-use Rattle.lw_ask.proofs.ChildLemmas.{asked_child, bears_as, is_unretired, nothing_started, same_link, started_one}
+use Rattle.lw_system.specs.NewLines.{count_of, first_names, most_outputs_of}
+use Rattle.lw_system.proofs.StartLemmas.{is_unretired, nothing_started, started_one}
+use Rattle.lw_system.proofs.ToldLemmas.{bears_as, same_link}
+use Rattle.lw_ask.proofs.ChildLemmas.{asked_child}
 use Rattle.lw_ask.proofs.child.ask_child.Goals as goal
 
 pub returns-in_default-clause-err : goal.returns-in_default-clause-err

@@ -1,8 +1,8 @@
 use Rattle.std.proofs.Common.{List, ℕ, refl, subst, subst₂}
-use Rattle.lw_learn.specs.declared.arguments.Source.{Source}
+use Rattle.lw_system.specs.declared.source.Source.{Source}
+use Rattle.lw_system.specs.Finding.{HasFound}
 use Rattle.lw_ask.specs.AskRun.{AsksTexts}
 use Rattle.lw_ask.specs.Hints.{TakesHint}
-use Rattle.lw_ask.specs.bodies.Found.{HasFound}
 use Rattle.lw_ask.proofs.RunLemmas.{asked_run, unread_run}
 use Rattle.lw_ask.proofs.command.ask.Goals as goal
 
@@ -53,4 +53,4 @@ returns-clause-ran g c =
     let found = c.find_system-system.result in
     let put = subst (λ (h : List ℕ). TakesHint h e hinted) c.as_slice.ensures.value c.put_hint.ensures in
     let has = subst₂ (λ (k : Source) (n : List ℕ). HasFound k n f m found.system found.hint.items) c.source.ensures c.system.ensures c.find_system-system.ensures.found in
-    unread_run a f m b b o o e hinted d c.end_call-in-Err.result found.system found.hint.items has put c.in-Err.outcome c.in-Err.is c.new-kept.result.answers c.new-kept.ensures refl refl c.end_call-in-Err.ensures.ended
+    unread_run a f m b b o o e hinted d c.end_call-in-Err.result found.system found.hint.items has put c.in-Err.stop c.in-Err.is c.unread_outcome-outcome.result c.unread_outcome-outcome.ensures c.new-kept.result.answers c.new-kept.ensures refl refl c.end_call-in-Err.ensures.ended

@@ -2,7 +2,8 @@ use Rattle.std.proofs.Common.{◌≡◌, ◌∙◌, Some, None, ap, refl}
 use Rattle.lw_mealy.specs.Limits.{MealyMachine}
 use Rattle.lw_sul.specs.SessionState.{SessionState}
 use Rattle.lw_sul.specs.TableSulState.{TableSulState}
-use Rattle.lw_ask.proofs.ChildLemmas.{as_many_names, never_stopped, put_as}
+use Rattle.lw_system.proofs.ToldLemmas.{as_many_names}
+use Rattle.lw_ask.proofs.ChildLemmas.{never_stopped, put_as}
 use Rattle.lw_ask.proofs.command.ask_table.Goals as goal
 
 pub returns-clause-asks : goal.returns-clause-asks

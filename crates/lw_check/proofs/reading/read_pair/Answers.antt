@@ -3,9 +3,9 @@ use Rattle.lw_json.specs.AnswersFile.{IsAnswersFile}
 use Rattle.lw_json.specs.AnswersFault.{HasAnswersFault}
 use Rattle.lw_json.specs.MachineFile.{IsMachineFile}
 use Rattle.lw_outside.specs.Files.{File, HoldsLong, noted, read_call}
-use Rattle.lw_report.specs.Reading.{ReadsFile, ReadsBadFile}
+use Rattle.lw_system.specs.Reading.{ReadsFile, ReadsBadFile}
 use Rattle.lw_words.specs.Cause.{CountedFault}
-use Rattle.lw_report.specs.declared.stops.ReadStop.{ReadStop}
+use Rattle.lw_system.specs.declared.stops.ReadStop.{ReadStop}
 use Rattle.lw_check.proofs.ReadLemmas.{unread_answers, unread_model}
 use Rattle.lw_check.proofs.reading.read_pair.Goals as goal
 
@@ -38,7 +38,7 @@ returns-in-Err-read_answers_file-clause-err g c =
     let model_file : end ≡ middle → ReadsFile IsMachineFile model (F.state c.args.files.now).holds (F.state c.args.files.now).reads end c.in-Ok.machine = λ same. subst (λ (r : List File). ReadsFile IsMachineFile model (F.state c.args.files.now).holds (F.state c.args.files.now).reads r c.in-Ok.machine) (sym same) first.ok in
     let then = ap (noted (read_call answers false)) first.ok_call in
     let failing = ap (noted (read_call answers true)) first.ok_call in
-    rw c.outcome-in-Err-read_answers_file.ensures
+    rw c.read_outcome-in-Err-read_answers_file.ensures
     (unread_answers model answers (F.state c.args.files.now) (F.state c.read_answers_file.new.files) middle c.in-Ok.machine first.ok c.in-Err-read_answers_file.stop
     (λ fault kind. (
       subst (λ (h : Option (List File)). ReadsBadFile IsAnswersFile HasAnswersFault answers h middle end fault) first.same (told.bad fault (is ∙ ap (λ (s : ReadStop). Err s) kind)),
@@ -64,7 +64,7 @@ returns-in-Err-clause-err g c =
     let F = g.F.Files in
     let told = c.read_machine_file.ensures in
     let is = c.in-Err.is in
-    rw c.outcome.ensures
+    rw c.read_outcome.ensures
     (unread_model c.args.model.now c.args.answers.now (F.state c.args.files.now) (F.state c.read_machine_file.new.files) c.in-Err.stop
     (λ fault kind. let e = is ∙ ap (λ (s : ReadStop). Err s) kind in (told.bad fault e, told.bad_call fault e))
     (λ kind. let e = is ∙ ap (λ (s : ReadStop). Err s) kind in (told.long e, told.long_call e, told.long_unread e))

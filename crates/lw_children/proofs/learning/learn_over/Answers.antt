@@ -19,7 +19,7 @@ pub give_up-requires-clause-linked : goal.give_up-requires-clause-linked
 give_up-requires-clause-linked g c κs within = begun_linked g.P.Link.Link.state c.args.command.now.inputs c.args.command.now.outputs c.args.command.now.words (g.P.Spawner.state c.args.spawner.now) (g.P.Spawner.state c.start_all.new.spawner) c.in-Err.broken.sessions.items c.in-Err.broken.unmade.link c.in-Err.ensures.broken c.in-Err.ensures.some
 
 pub returns-in-Err-clause-found : goal.returns-in-Err-clause-found
-returns-in-Err-clause-found g c = given_up c.args.settings.kind g.P.Link.Link.state c.args.command.now.words c.args.command.now.inputs c.args.command.now.outputs c.args.settings.workers c.args.settings.extra c.args.settings.max_states c.args.start.cache.kept (g.P.Spawner.state c.args.spawner.now) (g.P.Spawner.state c.start_all.new.spawner) (g.P.Spawner.state c.give_up.new.spawner) c.args.start.names c.in-Err.broken.sessions.items c.in-Err.broken.unmade.link c.in-Err.broken.unmade.refusal c.requires.prior c.in-Err.ensures.broken c.in-Err.ensures.some c.give_up.ensures.retires c.in-Err.ensures.few.0 c.in-Err.ensures.few.1 c.in-Err.ensures.failed c.give_up.result.learned c.give_up.result.kept.answers c.give_up.result.names.names c.give_up.ensures.learned c.give_up.ensures.kept (ap (λ (n : Naming). n.names) c.give_up.ensures.names)
+returns-in-Err-clause-found g c = given_up c.args.settings.kind g.P.Link.Link.state c.args.command.now.words c.args.command.now.inputs c.args.command.now.outputs c.args.settings.workers c.args.settings.extra c.args.settings.max_states c.args.start.cache.kept (g.P.Spawner.state c.args.spawner.now) (g.P.Spawner.state c.start_all.new.spawner) (g.P.Spawner.state c.give_up.new.spawner) c.args.start.names c.in-Err.broken.sessions.items c.in-Err.broken.unmade.link c.in-Err.broken.unmade.stop c.requires.prior c.in-Err.ensures.broken c.in-Err.ensures.some c.give_up.ensures.retires c.in-Err.ensures.few.0 c.in-Err.ensures.few.1 c.in-Err.ensures.failed c.give_up.result.learned c.give_up.result.kept.answers c.give_up.result.names.names c.give_up.ensures.learned c.give_up.ensures.kept (ap (λ (n : Naming). n.names) c.give_up.ensures.names)
 
 pub new-requires-clause-lists : goal.new-requires-clause-lists
 new-requires-clause-lists g c = first_lists c.args.command.now.outputs c.args.start.names (length c.in-Ok.sessions.items) c.requires.named (omega (arith, c.in-Ok.ensures.count, c.args.settings.workers_in_range.1))

@@ -3,7 +3,7 @@ use Rattle.std.specs.Vec.Iter.{into_iter_items}
 use Rattle.lw_sul.specs.SessionState.{SessionState}
 use Rattle.lw_line.specs.LineState.{LineState}
 use Rattle.lw_children.specs.Crews.{RetiresAll}
-use Rattle.lw_children.proofs.RetireLemmas.{all_done, none_retired, was_started, not_retired, one_more_retired}
+use Rattle.lw_children.proofs.RetireLemmas.{all_done, borne_seen, none_retired, was_started, not_retired, one_more_retired}
 use Rattle.lw_children.proofs.retiring.retire_all.Goals as goal
 
 pub loop-session-init : goal.loop-session-init
@@ -31,7 +31,7 @@ loop-session-preserved g c = record {
   rest = c.loop-session.invariant.rest ∙ (ap (λ (l : List (SessionState (LineState g.row.P-Link.Denot))). c.loop-session.yielded ++ l) c.in-Some.ensures.steps.0 ∙ sym (append_assoc c.loop-session.yielded (c.in-Some.session ∷ []) (into_iter_items c.next.new.self)));
   retires = one_more_retired g.P.Link.Link.state c.args.sessions.items c.loop-session.yielded (into_iter_items c.next.new.self) c.in-Some.session (g.P.Spawner.state c.args.spawner.now) (g.P.Spawner.state c.loop-session.spawner) c.requires.linked c.loop-session.invariant.retires (c.loop-session.invariant.rest ∙ ap (λ (l : List (SessionState (LineState g.row.P-Link.Denot))). c.loop-session.yielded ++ l) c.in-Some.ensures.steps.0)
       (g.P.Link.Link.state c.link_of-link.result) (g.P.Spawner.state c.retire.new.self)
-      c.link_of-link.ensures.bears c.retire.ensures.retired c.retire.ensures.started c.retire.ensures.faults c.retire.ensures.commands;
+      (borne_seen g.P.Link.Link.state c.in-Some.session (g.P.Link.Link.state c.link_of-link.result) (ap (λ x. (g.P.Link.Link.state x).number) c.link_of-link.ensures.link) c.link_of-link.ensures.bears) c.retire.ensures.retired c.retire.ensures.started c.retire.ensures.faults c.retire.ensures.commands;
 }
 
 pub returns : goal.returns

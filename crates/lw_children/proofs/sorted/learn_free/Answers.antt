@@ -3,7 +3,7 @@ use Rattle.lw_words.specs.Answer.{answers_of}
 use Rattle.lw_rounds.specs.declared.learned.Learned.{Learned}
 use Rattle.lw_rounds.specs.declared.stops.LearnStop.{LearnStop}
 use Rattle.lw_renumber.proofs.OccurLemmas.{kept_below, learned_below}
-use Rattle.lw_children.specs.Keeping.{count_of}
+use Rattle.lw_system.specs.NewLines.{count_of}
 use Rattle.lw_children.proofs.AskedLemmas.{asked_sorted, cut_sorted}
 use Rattle.lw_children.proofs.ComingUp.{came_up_undeclared}
 use Rattle.lw_children.proofs.SortedLemmas.{not_begun, sorted_free, without_outputs}

@@ -3,7 +3,7 @@ use Rattle.std.proofs.lemmas.List.{length_push}
 use Rattle.lw_words.specs.Cause.{CountedFault}
 use Rattle.lw_sul.specs.SessionState.{SessionState}
 use Rattle.lw_line.specs.LineState.{LineState}
-use Rattle.lw_children.specs.Spawners.{StartsLinks}
+use Rattle.lw_system.specs.Spawners.{StartsLinks}
 use Rattle.lw_children.specs.Crews.{HasBegun}
 use Rattle.lw_children.proofs.BegunLemmas.{none_begun, more_begun, begun_with}
 use Rattle.lw_children.proofs.StartLemmas.{none_starts, one_link, then_starts, then_some}

@@ -1,5 +1,5 @@
 use Rattle.std.proofs.Common.{◌≡◌, ◌≤◌, length, None, vec_capacity, vec_len}
-use Rattle.lw_children.specs.Spawners.{StartsLinks}
+use Rattle.lw_system.specs.Spawners.{StartsLinks}
 use Rattle.lw_children.specs.Crews.{HasBegun}
 use Rattle.lw_children.proofs.starting.start_all.Given as goal
 

@@ -6,10 +6,11 @@ use crate::tests::learn::{
 };
 use crate::tests::memory::string;
 use lw_json::read_machine;
-use lw_learn::{LearnArguments, LearnFiles, Source};
+use lw_learn::{LearnArguments, LearnFiles};
 use lw_log::MemoryLog;
 use lw_outside::{MemoryFiles, MemorySpawner};
 use lw_rounds::{Kind, Settings};
+use lw_system::Source;
 use std::alloc::Global;
 use std::process::Abort;
 use std::sync::Wait;

@@ -1,6 +1,6 @@
 use Rattle.std.proofs.Common.{◌≡◌, ◌∙◌, List, ℕ, Option, Err, false, inl, inr, ap, subst}
 use Rattle.lw_outside.specs.Files.{Call, File, FilesState, noted, read_call}
-use Rattle.lw_report.specs.declared.stops.ReadStop.{ReadStop}
+use Rattle.lw_system.specs.declared.stops.ReadStop.{ReadStop}
 use Rattle.lw_compare.specs.bodies.Unread.{HasStopped}
 use Rattle.lw_compare.proofs.reading.read_models.Goals as goal
 
@@ -19,7 +19,7 @@ returns-in-Err-clause-err g c =
         failed = λ kind. let e = is ∙ ap (λ (s : ReadStop). Err s) kind in (told.failed e, told.failed_call e, told.failed_unread e);
         memory = λ kind. told.memory (is ∙ ap (λ (s : ReadStop). Err s) kind);
       },
-      c.outcome.ensures,
+      c.read_outcome.ensures,
     )
 
 pub returns-in-Err-read_machine_file-clause-err : goal.returns-in-Err-read_machine_file-clause-err
@@ -41,4 +41,4 @@ returns-in-Err-read_machine_file-clause-err g c =
     let at_holds : HasStopped two (files_of (F.state c.args.files.now).holds (F.state mid).calls (F.state mid).reads (F.state mid).faults) now s = subst (λ (h : Option (List File)). HasStopped two (files_of h (F.state mid).calls (F.state mid).reads (F.state mid).faults) now s) first.same stopped in
     let at_calls : HasStopped two (files_of (F.state c.args.files.now).holds (noted (read_call c.args.first.now false) (F.state c.args.files.now).calls) (F.state mid).reads (F.state mid).faults) now s = subst (λ (k : Option (List Call)). HasStopped two (files_of (F.state c.args.files.now).holds k (F.state mid).reads (F.state mid).faults) now s) first.ok_call at_holds in
     let at_faults : HasStopped two (files_of (F.state c.args.files.now).holds (noted (read_call c.args.first.now false) (F.state c.args.files.now).calls) (F.state mid).reads (F.state c.args.files.now).faults) now s = subst (λ (n : ℕ). HasStopped two (files_of (F.state c.args.files.now).holds (noted (read_call c.args.first.now false) (F.state c.args.files.now).calls) (F.state mid).reads n) now s) first.quiet at_calls in
-    inr (s, (F.state mid).reads, c.in-Ok.machine, first.ok, at_faults, c.outcome-in-Err-read_machine_file.ensures)
+    inr (s, (F.state mid).reads, c.in-Ok.machine, first.ok, at_faults, c.read_outcome-in-Err-read_machine_file.ensures)

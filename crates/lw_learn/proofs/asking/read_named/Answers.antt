@@ -15,9 +15,9 @@ returns-in-Err g c =
     let f = F.state before in
     let h = F.state now in
     let read = c.in-Err.ensures in
-    let is = c.outcome.ensures ∙ ap (read_outcome Words) c.from.ensures in
-    named_unread name letters f h c.outcome.result
-    (not_read_at name letters f h c.in-Err.refusal c.outcome.result is (λ e. read.failed (ap (λ s. Err s) e)) (λ e. read.failed_call (ap (λ s. Err s) e)) (λ e. read.long (ap (λ s. Err s) e)) (λ e. read.long_call (ap (λ s. Err s) e)) (λ e. read.memory (ap (λ s. Err s) e)) read.withheld)
+    let is = c.read_outcome.ensures ∙ ap (read_outcome Words) c.from.ensures in
+    named_unread name letters f h c.read_outcome.result
+    (not_read_at name letters f h c.in-Err.refusal c.read_outcome.result is (λ e. read.failed (ap (λ s. Err s) e)) (λ e. read.failed_call (ap (λ s. Err s) e)) (λ e. read.long (ap (λ s. Err s) e)) (λ e. read.long_call (ap (λ s. Err s) e)) (λ e. read.memory (ap (λ s. Err s) e)) read.withheld)
     read.same read.counts
 
 pub returns : goal.returns

@@ -1,7 +1,7 @@
 use Rattle.std.proofs.Common.{◌≡◌, ◌∙◌, ℕ, List, option_map, refl, ap, subst}
 use Rattle.lw_report.specs.Text.{names_of as names_said}
 use Rattle.lw_report.specs.Writing.{TakesAll, TakesSome}
-use Rattle.lw_learn.specs.Tasks.{letters_of}
+use Rattle.lw_system.specs.Systems.{letters_of}
 use Rattle.lw_learn.proofs.WriteLemmas.{text_same}
 use Rattle.lw_report.specs.Learnings.{learn_outcome}
 use Rattle.lw_report.specs.Outcomes.{StandsOrWants}

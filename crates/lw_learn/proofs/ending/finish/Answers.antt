@@ -6,7 +6,7 @@ use Rattle.lw_report.specs.Text.{text_of}
 use Rattle.lw_report.specs.Writing.{TakesAll, TakesSome}
 use Rattle.lw_learn.specs.Ending.{IsToldOf}
 use Rattle.lw_learn.specs.Saving.{HasSaved}
-use Rattle.lw_learn.specs.Tasks.{letters_of}
+use Rattle.lw_system.specs.Systems.{letters_of}
 use Rattle.lw_learn.proofs.RunLemmas.{end_of, told_stop}
 use Rattle.lw_learn.proofs.ending.finish.Goals as goal
 

@@ -1,11 +1,11 @@
 use Rattle.std.proofs.Common.{◌≡◌, length, IfOk, IfErr, sym, subst}
 use Rattle.lw_words.specs.Answer.{answers_of}
 use Rattle.lw_json.specs.KeptOver.{AreKeptOver}
-use Rattle.lw_children.specs.Keeping.{count_of}
+use Rattle.lw_system.specs.NewLines.{count_of}
 use Rattle.lw_learn.specs.Findings.{LearningStopsBy}
-use Rattle.lw_learn.specs.Tasks.{declared_of, letters_of}
+use Rattle.lw_system.specs.Systems.{declared_of, letters_of}
 use Rattle.lw_learn.specs.bodies.Ready.{GivesModel}
-use Rattle.lw_learn.specs.declared.task.System.{System}
+use Rattle.lw_system.specs.declared.system.System.{System}
 use Rattle.lw_learn.proofs.FoundLemmas.{command_gives, command_over, command_sizes, command_stops, table_gives, table_over, table_sizes, table_stops}
 use Rattle.lw_learn.proofs.learning.learn_system.Goals as goal
 

@@ -1,7 +1,7 @@
 use Rattle.std.proofs.Common.{inr, ℕ, List, [], option_and_then, option_map, ap, subst, sym}
 use Rattle.lw_report.specs.Text.{names_of as names_said}
 use Rattle.lw_report.specs.Writing.{TakesAll, TakesSome}
-use Rattle.lw_learn.specs.Tasks.{declared_of, letters_of}
+use Rattle.lw_system.specs.Systems.{declared_of, letters_of}
 use Rattle.lw_learn.proofs.RunLemmas.{text_memory, wanted, wanted_or}
 use Rattle.lw_learn.proofs.WriteLemmas.{text_same}
 use Rattle.lw_learn.proofs.refusing.end_bare.Goals as goal

@@ -3,7 +3,7 @@ use Rattle.lw_report.specs.Outcomes.{StandsOrWants}
 use Rattle.lw_report.specs.Text.{names_of as names_said, text_of}
 use Rattle.lw_report.specs.Writing.{TakesAll, TakesSome}
 use Rattle.lw_report.specs.declared.outcome.Outcome.{Outcome}
-use Rattle.lw_learn.specs.Tasks.{declared_of, letters_of}
+use Rattle.lw_system.specs.Systems.{declared_of, letters_of}
 use Rattle.lw_learn.proofs.RunLemmas.{saved_or, saved_wants}
 use Rattle.lw_learn.proofs.WriteLemmas.{text_same}
 use Rattle.lw_learn.proofs.refusing.end_kept.Goals as goal

@@ -3,7 +3,7 @@ use Rattle.lw_report.specs.Text.{names_of as names_said}
 use Rattle.lw_report.specs.Writing.{TakesAll, TakesSome, said_text}
 use Rattle.lw_words.specs.Cause.{CountedFault}
 use Rattle.lw_learn.specs.Saving.{IsSaved}
-use Rattle.lw_learn.specs.Tasks.{declared_of, letters_of}
+use Rattle.lw_system.specs.Systems.{declared_of, letters_of}
 use Rattle.lw_names.specs.Naming.{Naming}
 use Rattle.lw_learn.specs.bodies.UnreadState.{IsNamed, UnreadState}
 use Rattle.lw_learn.proofs.RunLemmas.{none_saved}

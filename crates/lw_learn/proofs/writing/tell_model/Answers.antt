@@ -2,7 +2,7 @@ use Rattle.std.proofs.Common.{sym, subst}
 use Rattle.lw_report.specs.Text.{text_of}
 use Rattle.lw_report.specs.Writing.{TakesAll}
 use Rattle.lw_report.specs.declared.outcome.Outcome.{Outcome}
-use Rattle.lw_report.proofs.SinkLemmas.{sink_none}
+use Rattle.lw_outside.proofs.SinkLemmas.{sink_none}
 use Rattle.lw_learn.proofs.writing.tell_model.Goals as goal
 
 pub returns-in-Ok-clause-said : goal.returns-in-Ok-clause-said

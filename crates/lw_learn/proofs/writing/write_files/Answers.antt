@@ -1,5 +1,6 @@
 use Rattle.std.proofs.Common.{◌≡◌, ◌∙◌, List, ℕ, Option, None, false, length, ap, subst, sym}
-use Rattle.lw_learn.specs.Calls.{gained, write_of}
+use Rattle.lw_learn.specs.Calls.{write_of}
+use Rattle.lw_system.specs.Reads.{gained}
 use Rattle.lw_learn.specs.Writing.{StandsInFile, StaysBesides}
 use Rattle.lw_outside.specs.Files.{Call}
 use Rattle.lw_learn.proofs.WriteLemmas.{always, stands_beside, take_front}

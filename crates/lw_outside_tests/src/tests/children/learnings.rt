@@ -6,8 +6,8 @@ ghost use Rattle.lw_children.specs.Crews.{first_naming};
 
 use super::{command, names, speakers};
 use lw_cache::{AskStop, Cache};
-use lw_children::{Command, learn_children};
-use lw_json::{Machine, read_machine};
+use lw_children::learn_children;
+use lw_json::{Command, Machine, read_machine};
 use lw_mealy::Mealy;
 use lw_names::OutNames;
 use lw_outside::{MemorySpawner, Spawner};

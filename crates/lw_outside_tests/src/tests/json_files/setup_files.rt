@@ -122,7 +122,7 @@ fn setup_of(rt: &impl Abort, alloc: Global, text: &str) -> Setup {
 fn is_table(setup: &Setup, name: &str) -> bool {
     match setup {
         Setup::Table(text) => text.get().as_str() == name,
-        Setup::Command { .. } => false,
+        Setup::Command(_) => false,
     }
 }
 
@@ -130,11 +130,11 @@ fn is_table(setup: &Setup, name: &str) -> bool {
 fn is_open(setup: &Setup, count: usize, letters: u16) -> bool {
     match setup {
         Setup::Table(_) => false,
-        Setup::Command {
-            words,
-            inputs,
-            outputs,
-        } => words.get().len() == count && inputs.len() == letters && outputs.is_none(),
+        Setup::Command(command) => {
+            command.words.get().len() == count
+                && command.inputs.len() == letters
+                && command.outputs.is_none()
+        }
     }
 }
 
@@ -158,11 +158,9 @@ fn second_name_is(names: &Option<Names>, name: &str) -> bool {
 fn has_seconds(setup: &Setup, word: &str, output: &str) -> bool {
     match setup {
         Setup::Table(_) => false,
-        Setup::Command {
-            words,
-            inputs: _,
-            outputs,
-        } => second_word_is(words, word) && second_name_is(outputs, output),
+        Setup::Command(command) => {
+            second_word_is(&command.words, word) && second_name_is(&command.outputs, output)
+        }
     }
 }
 

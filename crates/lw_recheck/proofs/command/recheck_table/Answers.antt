@@ -3,7 +3,7 @@ use Rattle.lw_words.specs.declared.kept.KeptAnswer.{KeptAnswer}
 use Rattle.lw_mealy.specs.Limits.{MealyMachine}
 use Rattle.lw_sul.specs.SessionState.{SessionState}
 use Rattle.lw_sul.specs.TableSulState.{TableSulState}
-use Rattle.lw_ask.proofs.ChildLemmas.{as_many_names}
+use Rattle.lw_system.proofs.ToldLemmas.{as_many_names}
 use Rattle.lw_recheck.specs.Again.{HasRechecked}
 use Rattle.lw_recheck.specs.Outcomes.{came_outcome}
 use Rattle.lw_recheck.proofs.ChildLemmas.{never_stopped, rechecked_as}

@@ -1,5 +1,5 @@
 use Rattle.std.proofs.Common.{◌≡◌, ◌∙◌, Some, None, false, true, ap, option_map, rules, sym}
-use Rattle.lw_learn.specs.Tasks.{declared_of}
+use Rattle.lw_system.specs.Systems.{declared_of}
 use Rattle.lw_recheck.proofs.ReadLemmas.{fits_declared, fits_free, unfit_declared, unfit_letters}
 use Rattle.lw_recheck.proofs.reading.fits.Goals as goal
 

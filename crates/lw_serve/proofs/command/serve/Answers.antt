@@ -1,5 +1,5 @@
 use Rattle.std.proofs.Common.{◌∙◌, Err, ap}
-use Rattle.lw_report.specs.declared.stops.ReadStop.{ReadStop}
+use Rattle.lw_system.specs.declared.stops.ReadStop.{ReadStop}
 use Rattle.lw_serve.proofs.RunLemmas.{played_run, unread_run}
 use Rattle.lw_serve.proofs.command.serve.Goals as goal
 

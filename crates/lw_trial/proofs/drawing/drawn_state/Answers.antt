@@ -1,8 +1,10 @@
 use Rattle.std.proofs.Common.{rules, ◌≡◌, ◌*◌, ◌-◌, ◌∷◌, ◌++◌, [], ℕ, map, refl, ap, ◌∙◌, subst, arith}
 use Rattle.std.specs.List.{range_with_len}
 use Rattle.lw_mealy.specs.Machine.{Row}
-use Rattle.lw_trial.specs.Drawn.{after_words, drawn_cell}
-use Rattle.lw_trial.proofs.DrawnLemmas.{cell_more, words_more, first_cell, none_yet}
+use Rattle.lw_wordlist.specs.Drawn.{after_draws}
+use Rattle.lw_trial.specs.Drawn.{drawn_cell}
+use Rattle.lw_wordlist.proofs.DrawLemmas.{none_yet}
+use Rattle.lw_trial.proofs.DrawnLemmas.{cell_more, words_more, first_cell}
 use Rattle.lw_trial.proofs.drawing.drawn_state.Goals as goal
 
 pub loop-init : goal.loop-init
@@ -30,4 +32,4 @@ returns-clause-row c =
 pub returns-clause-random : goal.returns-clause-random
 returns-clause-random c =
     let past : c.loop.counter ≡ c.args.inputs = search rules in
-    subst (λ (n : ℕ). c.loop.random ≡ after_words c.args.random.now (2 * (n - 1))) past c.loop.invariant.random
+    subst (λ (n : ℕ). c.loop.random ≡ after_draws c.args.random.now (2 * (n - 1))) past c.loop.invariant.random

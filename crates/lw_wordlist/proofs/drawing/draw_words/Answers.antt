@@ -6,7 +6,7 @@ use Rattle.lw_wordlist.proofs.drawing.draw_words.Goals as goal
 pub loop-init : goal.loop-init
 loop-init c = record {
   words = no_word c.args.inputs c.args.word_length c.args.seed c.args.words.now;
-  random = c.seed_from_u64-random.ensures ∙ none_yet (seeded c.args.seed) (0 * c.args.word_length) (omega arith);
+  random = c.of_seed-random.ensures ∙ none_yet (seeded c.args.seed) (0 * c.args.word_length) (omega arith);
 }
 
 pub loop-preserved : goal.loop-preserved

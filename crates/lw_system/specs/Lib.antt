@@ -1,0 +1,11 @@
+pub mod Ends
+pub mod Finding
+pub mod NewLines
+pub mod Reading
+pub mod Reads
+pub mod SetupHint
+pub mod Spawners
+pub mod Stops
+pub mod Systems
+pub mod Told
+pub mod bodies

@@ -1,0 +1,17 @@
+-- Why a file was not read.
+use Rattle.lw_json.specs.declared.fault.JsonFault.{JsonFault}
+use Rattle.lw_json.specs.declared.fault.JsonFault.TheVariants.{NoMemory as NoMemoryToParse}
+use Rattle.lw_outside.specs.declared.files.FilesStop.{FilesStop}
+use Rattle.lw_outside.specs.declared.files.FilesStop.TheVariants as files
+use Rattle.lw_system.specs.declared.stops.ReadStop.{ReadStop}
+use Rattle.lw_system.specs.declared.stops.ReadStop.TheVariants.{Failed, TooLong, Bad, NoMemory as NoMemoryToRead}
+
+abbrev pub unread : FilesStop → ReadStop
+unread files.Failed = Failed
+unread files.TooLong = TooLong
+unread files.NoMemory = NoMemoryToRead
+
+-- out of memory is no fault of a file
+abbrev pub read_stop : JsonFault → ReadStop
+read_stop NoMemoryToParse = NoMemoryToRead
+read_stop fault = Bad fault

@@ -1,0 +1,90 @@
+//! Files that are read, each of its kind.
+ghost use Rattle.std.specs.Prelude.{IfOk};
+ghost use Rattle.lw_json.specs.AnswersFault.{HasAnswersFault};
+ghost use Rattle.lw_json.specs.AnswersFile.{IsAnswersFile};
+ghost use Rattle.lw_json.specs.MachineFile.{IsMachineFile};
+ghost use Rattle.lw_json.specs.MachineFault.{HasMachineFault};
+ghost use Rattle.lw_json.specs.SetupFile.{HasSetupFault, IsSetupFile};
+ghost use Rattle.lw_system.specs.Reading.{HasRead};
+ghost use Rattle.lw_system.specs.SetupHint.{TellsHint, setup_in};
+
+use crate::ReadStop;
+use lw_json::{
+    Answers, Machine, Setup, SetupFile, read_answers, read_machine, read_setup_with_hint,
+};
+use lw_outside::Files;
+use std::alloc::Global;
+
+/// Reads a machine file.
+pub fn read_machine_file<F: Files>(
+    alloc: Global,
+    files: &mut F,
+    name: &str,
+) -> Result<Machine, ReadStop>
+    ensures { HasRead IsMachineFile HasMachineFault name.now (F.state files.old)
+        (F.state files.new) result }
+{
+    let bytes = match files.read(name) {
+        Ok(bytes) => bytes,
+        Err(refusal) => return Err(ReadStop::from(refusal)),
+    };
+    match read_machine(alloc, &bytes) {
+        Ok(machine) => Ok(machine),
+        Err(fault) => Err(ReadStop::from(fault)),
+    }
+}
+
+/// Reads an answers file, in either format.
+pub fn read_answers_file<F: Files>(
+    alloc: Global,
+    files: &mut F,
+    name: &str,
+) -> Result<Answers, ReadStop>
+    ensures { HasRead IsAnswersFile HasAnswersFault name.now (F.state files.old)
+        (F.state files.new) result }
+{
+    let bytes = match files.read(name) {
+        Ok(bytes) => bytes,
+        Err(refusal) => return Err(ReadStop::from(refusal)),
+    };
+    match read_answers(alloc, &bytes) {
+        Ok(answers) => Ok(answers),
+        Err(fault) => Err(ReadStop::from(fault)),
+    }
+}
+
+/// Reads a setup file, and tells the first of its members that a setup doesn't know, as `read_setup_with_hint` does.
+pub fn read_setup_with<F: Files>(
+    alloc: Global,
+    files: &mut F,
+    name: &str,
+) -> Result<SetupFile, ReadStop>
+    ensures read { HasRead IsSetupFile HasSetupFault name.now (F.state files.old)
+        (F.state files.new) (setup_in result) }
+    ensures hint { IfOk result (λ file. TellsHint name.now (F.state files.old).reads
+        (F.state files.new).reads file.hint.items) }
+{
+    let bytes = match files.read(name) {
+        Ok(bytes) => bytes,
+        Err(refusal) => return Err(ReadStop::from(refusal)),
+    };
+    match read_setup_with_hint(alloc, &bytes) {
+        Ok(file) => Ok(file),
+        Err(fault) => Err(ReadStop::from(fault)),
+    }
+}
+
+/// Reads a setup file.
+pub fn read_setup_file<F: Files>(
+    alloc: Global,
+    files: &mut F,
+    name: &str,
+) -> Result<Setup, ReadStop>
+    ensures { HasRead IsSetupFile HasSetupFault name.now (F.state files.old) (F.state files.new)
+        result }
+{
+    match read_setup_with(alloc, files, name) {
+        Ok(file) => Ok(file.setup),
+        Err(stop) => Err(stop),
+    }
+}

@@ -1,0 +1,10 @@
+//! What kind of file says a system.
+
+/// What kind of file a system is read of.
+#[derive(Clone, Copy, Debug, PartialEq, Eq)]
+pub enum Source {
+    /// A setup, which names a machine file, or says how a child is started.
+    Setup,
+    /// A machine file.
+    Table,
+}

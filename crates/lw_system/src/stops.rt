@@ -1,0 +1,53 @@
+//! Why a file was not read, and why a file says no system.
+
+use crate::Source;
+use lw_json::JsonFault;
+use lw_outside::FilesStop;
+
+/// Why a file was not read.
+#[derive(Clone, Copy, Debug, PartialEq, Eq)]
+pub enum ReadStop {
+    /// It could not be read.
+    Failed,
+    /// It has more than 16,777,216 bytes.
+    TooLong,
+    /// It is none of its kind, and this is its first fault.
+    Bad(JsonFault),
+    NoMemory,
+}
+
+/// Which file was not read, so that there is no system, and why.
+#[derive(Clone, Copy, Debug, PartialEq, Eq)]
+pub struct SystemStop {
+    pub file: Source,
+    pub stop: ReadStop,
+}
+
+impl From<FilesStop> for ReadStop {
+    ghost use Rattle.std.specs.Prelude.{◌≡◌};
+    ghost use Rattle.lw_system.specs.Stops.{unread};
+
+    ghost from_gives = { λ refusal stop. stop ≡ unread refusal };
+
+    fn from(refusal: FilesStop) -> ReadStop {
+        match refusal {
+            FilesStop::Failed => ReadStop::Failed,
+            FilesStop::TooLong => ReadStop::TooLong,
+            FilesStop::NoMemory => ReadStop::NoMemory,
+        }
+    }
+}
+
+impl From<JsonFault> for ReadStop {
+    ghost use Rattle.std.specs.Prelude.{◌≡◌};
+    ghost use Rattle.lw_system.specs.Stops.{read_stop};
+
+    ghost from_gives = { λ fault stop. stop ≡ read_stop fault };
+
+    fn from(fault: JsonFault) -> ReadStop {
+        match fault {
+            JsonFault::NoMemory => ReadStop::NoMemory,
+            _ => ReadStop::Bad(fault),
+        }
+    }
+}
