@@ -2,9 +2,7 @@
 use lw_json::{Field, JsonFault};
 use lw_mealy::MealyFault;
 use lw_outside::{MemoryFiles, MemorySink};
-use lw_report::{
-    End, Outcome, Role, TellStop, put_report, read_outcome, refuse, text, write_file,
-};
+use lw_report::{End, Outcome, Role, TellStop, put_report, read_outcome, refuse, text, write_file};
 use lw_system::{ReadStop, read_answers_file, read_machine_file, read_setup_file};
 use lw_words::{Kept, Names, NamesFault, Word, Words};
 use std::alloc::Global;
