@@ -18,11 +18,13 @@ module _ {V : Type 0} (app : App) (values : List Row → Option V) (words : List
   left false is = refl
 
   -- what is read of the rows that clap found is what the arguments say
-  pub taken_values : {rows : List Row} → rows ≡ matches_of app words → are_taken app words ≡ true → values_taken app values words ≡ values rows
-  taken_values found taken = chosen (are_taken app words) taken ∙ sym (ap values found)
+  pub taken_values : {asked : App} {rows : List Row} → asked ≡ app → rows ≡ matches_of asked words → are_taken asked words ≡ true → values_taken app values words ≡ values rows
+  taken_values same found taken =
+      chosen (are_taken app words) (ap (λ (a : App). are_taken a words) (sym same) ∙ taken)
+      ∙ sym (ap values (found ∙ ap (λ (a : App). matches_of a words) same))
 
-  pub untaken_values : are_taken app words ≡ false → values_taken app values words ≡ None
-  untaken_values refused = left (are_taken app words) refused
+  pub untaken_values : {asked : App} → asked ≡ app → are_taken asked words ≡ false → values_taken app values words ≡ None
+  untaken_values same refused = left (are_taken app words) (ap (λ (a : App). are_taken a words) (sym same) ∙ refused)
 
 -- the same of a value that was made
 pub say : {V X E : Type 0} (made : X → V) {said read : Option V} (r : Result X E) → said ≡ read → IfOk r (λ x. read ≡ Some (made x)) → IfOk r (λ x. said ≡ Some (made x))

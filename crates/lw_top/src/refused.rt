@@ -3,7 +3,7 @@ ghost use Rattle.std.specs.Prelude.{◌≡◌, codes, false};
 ghost use Rattle.lw_top.specs.CommandLine.{is_command, texts};
 
 use crate::ArgumentStop;
-use crate::arguments::learn::LEARN;
+use crate::arguments::learn::learn_syntax;
 use crate::matching::is_command;
 use crate::ranges::Range;
 use lw_log::Log;
@@ -64,7 +64,7 @@ fn range_line(alloc: Global, option: &str, range: Range) -> Result<String, NoMem
 
 /// Puts a line for each value that is out of its range.
 fn log_ranges<L: LogFile>(alloc: Global, arguments: &[String], log: &mut Log<L>) {
-    for argument in LEARN.arguments {
+    for argument in learn_syntax().arguments {
         let Some((option, range)) = argument.number() else {
             continue;
         };
@@ -87,7 +87,7 @@ pub(crate) fn log_refused<L: LogFile>(
 )
     ensures { is_command (codes "learn") (texts arguments.now) ≡ false → log.new ≡ log.old }
 {
-    if !is_command(LEARN.command, arguments) {
+    if !is_command("learn", arguments) {
         return;
     }
     let Some(name) = value_of(arguments, "log") else {

@@ -2,7 +2,8 @@
 ghost use Rattle.std.specs.Prelude.{◌≡◌, [], string_bytes, map, Some, None, Err, IfOk, option_map};
 ghost use Rattle.clap.specs.Words.{found_of, rows_of};
 ghost use Rattle.lw_top.specs.CommandLine.{texts};
-ghost use Rattle.lw_top.specs.AskCommand.{ask_values, values_from, values_in};
+ghost use Rattle.lw_top.specs.Options.{app_for};
+ghost use Rattle.lw_top.specs.AskCommand.{ask_app, ask_values, values_from, values_in};
 ghost use Rattle.lw_top.specs.declared.values.ArgumentStop.{ArgumentStop as Stop};
 
 use crate::ArgumentStop;
@@ -14,11 +15,17 @@ use lw_ask::AskArguments;
 use lw_system::Source;
 use std::alloc::Global;
 
-/// The command `ask`.
 static ASK: Syntax = Syntax {
     command: "ask",
     arguments: &[Argument::Text("table"), Argument::Many("words")],
 };
+
+/// The arguments that `ask` takes.
+fn ask_syntax() -> &'static Syntax
+    ensures { app_for result.now ≡ ask_app }
+{
+    &ASK
+}
 
 /// The system and its words: without a table the first of the words is the setup.
 fn ask_of(table: Option<String>, words: Vec<String>) -> Option<AskArguments>
@@ -57,6 +64,6 @@ pub fn ask_arguments(alloc: Global, arguments: &[String]) -> Result<AskArguments
     ensures ok { IfOk result (λ a. ask_values (texts arguments.now) ≡ Some a) }
     ensures refused { result ≡ Err Stop.Usage → ask_values (texts arguments.now) ≡ None }
 {
-    let matches = read_matches(alloc, &ASK, arguments)?;
+    let matches = read_matches(alloc, ask_syntax(), arguments)?;
     values_of(alloc, &matches)
 }

@@ -2,7 +2,8 @@
 ghost use Rattle.std.specs.Prelude.{◌≡◌, ◌≤◌, Some, None, Err, IfOk, string_bytes};
 ghost use Rattle.clap.specs.Words.{found_of, rows_of};
 ghost use Rattle.lw_top.specs.CommandLine.{texts};
-ghost use Rattle.lw_top.specs.CheckCommand.{check_values, values_in};
+ghost use Rattle.lw_top.specs.Options.{app_for};
+ghost use Rattle.lw_top.specs.CheckCommand.{check_app, check_values, values_in};
 ghost use Rattle.lw_top.specs.declared.values.ArgumentStop.{ArgumentStop as Stop};
 
 use crate::ArgumentStop;
@@ -24,7 +25,7 @@ pub struct CheckArguments {
 
 impl Model for CheckArguments {
     ghost use Rattle.std.specs.Prelude.{◌≤◌, string_bytes};
-    ghost use Rattle.lw_top.specs.CheckCommand.{CheckValues};
+    ghost use Rattle.lw_top.specs.CheckCommand.{CheckValues, check_app};
 
     ghost Value = { CheckValues };
 
@@ -74,7 +75,6 @@ impl CheckArguments {
     }
 }
 
-/// The command `check`.
 static CHECK: Syntax = Syntax {
     command: "check",
     arguments: &[
@@ -83,6 +83,13 @@ static CHECK: Syntax = Syntax {
         Argument::NumberOr("extra", EXTRA, "1"),
     ],
 };
+
+/// The arguments that `check` takes.
+fn check_syntax() -> &'static Syntax
+    ensures { app_for result.now ≡ check_app }
+{
+    &CHECK
+}
 
 /// The values that clap found.
 fn values_of(alloc: Global, matches: &ArgMatches) -> Result<CheckArguments, ArgumentStop>
@@ -102,6 +109,6 @@ pub fn check_arguments(alloc: Global, arguments: &[String]) -> Result<CheckArgum
     ensures ok { IfOk result (λ a. check_values (texts arguments.now) ≡ Some a) }
     ensures refused { result ≡ Err Stop.Usage → check_values (texts arguments.now) ≡ None }
 {
-    let matches = read_matches(alloc, &CHECK, arguments)?;
+    let matches = read_matches(alloc, check_syntax(), arguments)?;
     values_of(alloc, &matches)
 }

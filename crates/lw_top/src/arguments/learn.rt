@@ -3,7 +3,8 @@ ghost use Rattle.std.specs.Prelude.{◌≡◌, Some, None, Err, IfOk, IfSome, op
 ghost use Rattle.clap.specs.Words.{found_of, rows_of};
 ghost use Rattle.lw_learn.specs.Arguments.{AreFewDrawn};
 ghost use Rattle.lw_top.specs.CommandLine.{texts};
-ghost use Rattle.lw_top.specs.LearnCommand.{drawn_in, file_names, files_in, learn_values, setting_values, settings_in, source_from, source_in, values_in};
+ghost use Rattle.lw_top.specs.Options.{app_for};
+ghost use Rattle.lw_top.specs.LearnCommand.{drawn_in, file_names, files_in, learn_app, learn_values, setting_values, settings_in, source_from, source_in, values_in};
 ghost use Rattle.lw_top.specs.declared.values.ArgumentStop.{ArgumentStop as Stop};
 
 use crate::ArgumentStop;
@@ -17,8 +18,7 @@ use lw_rounds::Settings;
 use lw_system::Source;
 use std::alloc::{AllocError, Global};
 
-/// The command `learn`.
-pub(crate) static LEARN: Syntax = Syntax {
+static LEARN: Syntax = Syntax {
     command: "learn",
     arguments: &[
         Argument::Optional("setup"),
@@ -38,6 +38,13 @@ pub(crate) static LEARN: Syntax = Syntax {
         Argument::Text("log"),
     ],
 };
+
+/// The arguments that `learn` takes.
+pub(crate) fn learn_syntax() -> &'static Syntax
+    ensures { app_for result.now ≡ learn_app }
+{
+    &LEARN
+}
 
 /// The file of the system and its kind, where one of the two is named.
 fn source_of<'a>(setup: Option<&'a str>, table: Option<&'a str>) -> Option<(Source, &'a str)>
@@ -133,6 +140,6 @@ pub fn learn_arguments(alloc: Global, arguments: &[String]) -> Result<LearnArgum
     ensures ok { IfOk result (λ a. learn_values (texts arguments.now) ≡ Some a) }
     ensures refused { result ≡ Err Stop.Usage → learn_values (texts arguments.now) ≡ None }
 {
-    let matches = read_matches(alloc, &LEARN, arguments)?;
+    let matches = read_matches(alloc, learn_syntax(), arguments)?;
     values_of(alloc, &matches)
 }

@@ -2,7 +2,8 @@
 ghost use Rattle.std.specs.Prelude.{◌≡◌, Some, None, Err, IfOk};
 ghost use Rattle.clap.specs.Words.{found_of, rows_of};
 ghost use Rattle.lw_top.specs.CommandLine.{texts};
-ghost use Rattle.lw_top.specs.RecheckCommand.{recheck_values, values_in};
+ghost use Rattle.lw_top.specs.Options.{app_for};
+ghost use Rattle.lw_top.specs.RecheckCommand.{recheck_app, recheck_values, values_in};
 ghost use Rattle.lw_top.specs.declared.values.ArgumentStop.{ArgumentStop as Stop};
 
 use crate::ArgumentStop;
@@ -13,11 +14,17 @@ use clap::ArgMatches;
 use lw_recheck::RecheckArguments;
 use std::alloc::Global;
 
-/// The command `recheck`.
 static RECHECK: Syntax = Syntax {
     command: "recheck",
     arguments: &[Argument::Required("setup"), Argument::Required("answers")],
 };
+
+/// The arguments that `recheck` takes.
+fn recheck_syntax() -> &'static Syntax
+    ensures { app_for result.now ≡ recheck_app }
+{
+    &RECHECK
+}
 
 /// The values that clap found.
 fn values_of(alloc: Global, matches: &ArgMatches) -> Result<RecheckArguments, ArgumentStop>
@@ -37,6 +44,6 @@ pub fn recheck_arguments(
     ensures ok { IfOk result (λ v. recheck_values (texts arguments.now) ≡ Some v) }
     ensures refused { result ≡ Err Stop.Usage → recheck_values (texts arguments.now) ≡ None }
 {
-    let matches = read_matches(alloc, &RECHECK, arguments)?;
+    let matches = read_matches(alloc, recheck_syntax(), arguments)?;
     values_of(alloc, &matches)
 }

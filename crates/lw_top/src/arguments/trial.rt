@@ -2,7 +2,8 @@
 ghost use Rattle.std.specs.Prelude.{◌≡◌, Some, None, Err, IfOk};
 ghost use Rattle.clap.specs.Words.{found_of, rows_of};
 ghost use Rattle.lw_top.specs.CommandLine.{texts};
-ghost use Rattle.lw_top.specs.TrialCommand.{trial_values, values_in};
+ghost use Rattle.lw_top.specs.Options.{app_for};
+ghost use Rattle.lw_top.specs.TrialCommand.{trial_app, trial_values, values_in};
 ghost use Rattle.lw_top.specs.declared.values.ArgumentStop.{ArgumentStop as Stop};
 
 use crate::ArgumentStop;
@@ -14,7 +15,6 @@ use clap::ArgMatches;
 use lw_trial::TrialArguments;
 use std::alloc::Global;
 
-/// The command `trial`.
 static TRIAL: Syntax = Syntax {
     command: "trial",
     arguments: &[
@@ -25,6 +25,13 @@ static TRIAL: Syntax = Syntax {
         Argument::TextOr("learner", "table"),
     ],
 };
+
+/// The arguments that `trial` takes.
+fn trial_syntax() -> &'static Syntax
+    ensures { app_for result.now ≡ trial_app }
+{
+    &TRIAL
+}
 
 /// The values that clap found.
 fn values_of(matches: &ArgMatches) -> Result<TrialArguments, ArgumentStop>
@@ -54,6 +61,6 @@ pub fn trial_arguments(alloc: Global, arguments: &[String]) -> Result<TrialArgum
     ensures ok { IfOk result (λ a. trial_values (texts arguments.now) ≡ Some a) }
     ensures refused { result ≡ Err Stop.Usage → trial_values (texts arguments.now) ≡ None }
 {
-    let matches = read_matches(alloc, &TRIAL, arguments)?;
+    let matches = read_matches(alloc, trial_syntax(), arguments)?;
     values_of(&matches)
 }
