@@ -13,7 +13,7 @@ use crate::LearnArguments;
 use crate::asking::read_worded;
 use crate::ending::finish;
 use crate::learning::learn_system;
-use crate::logging::{log_end, log_stop, log_unread, say_log, unread_text};
+use crate::logging::{log_end, log_stop, log_unread, open_log, say_log, unread_text};
 use crate::refusing::end_unread;
 use crate::task::{Task, WordedTask};
 use lw_log::Log;
@@ -145,9 +145,7 @@ pub fn learn<
         ((E.state world.old.err).faults ≤ (E.state world.new.err).faults) }
     ensures input { world.new.input ≡ world.old.input }
 {
-    if let Some(name) = arguments.log() {
-        world.log.open(name);
-    }
+    open_log(arguments, &mut world.log);
     let end = learn_logged(rt, alloc, arguments, world);
     say_log(arguments, &mut world.log, &mut world.err);
     end

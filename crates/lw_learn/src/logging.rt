@@ -106,6 +106,13 @@ pub(crate) fn log_unread<L: LogFile>(end: &End, text: Result<String, NoMemory>, 
     }
 }
 
+/// Opens the log, where one is named.
+pub(crate) fn open_log<L: LogFile>(arguments: &LearnArguments, log: &mut Log<L>) {
+    if let Some(name) = arguments.log() {
+        log.open(name);
+    }
+}
+
 /// Says on `err` that a log that is named isn't open, so that it isn't whole.
 pub(crate) fn say_log<L: LogFile, E: Sink>(arguments: &LearnArguments, log: &Log<L>, err: &mut E)
     ensures { SaysLog arguments.now.log log.now.state (E.state err.old) (E.state err.new) }
