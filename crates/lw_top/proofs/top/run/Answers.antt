@@ -29,7 +29,7 @@ returns-in-Learn-clause-ran g c =
     let taken : ¬ (c.learn.result.outcome ≡ Usage) = search rules in
     record {
       status = c.learn.ensures.status;
-      ran = subst (λ (call : Option CallValues). Runs call before now c.learn.result) (sym here) (record { ran = c.learn.ensures.run; input = refl });
+      ran = subst (λ (call : Option CallValues). Runs call before now c.learn.result) (sym here) (record { ran = c.learn.ensures.run; input = ap (λ i. I.state i) c.learn.ensures.input });
       usage = λ usage. absurd (taken usage);
       counts = search rules;
     }
@@ -179,6 +179,7 @@ returns-in-Err-clause-ran g c =
     let O = g.O.Sink in
     let E = g.E.Sink in
     let words = texts c.args.arguments.now in
+    let w = c.args.world.now in
     let end = c.refuse_arguments.result in
     let none : c.in-Err.stop ≡ stop.Usage → call_of words ≡ None = λ u. c.in-Err.ensures.refused (ap (λ (s : ArgumentStop). Err s) u) in
     record {
