@@ -1,12 +1,9 @@
 -- Calls of `ask` for whose arguments there was no memory.
-use Rattle.std.proofs.Common.{◌≡◌, List, ℕ, [], inl, inr, refl, sym, subst}
+use Rattle.std.proofs.Common.{◌≡◌, List, ℕ, [], inl, inr, refl}
 use Rattle.lw_outside.specs.Links.{SpawnerState}
 use Rattle.lw_outside.specs.Files.{FilesState}
 use Rattle.lw_outside.specs.Streams.{SinkState}
-use Rattle.lw_report.specs.Text.{text_of}
-use Rattle.lw_report.specs.Writing.{TakesAll, TakesSome, said_text}
 use Rattle.lw_report.specs.declared.«end».End.{End}
-use Rattle.lw_report.specs.declared.outcome.Outcome.{Outcome}
 use Rattle.lw_report.specs.declared.outcome.Outcome.TheVariants.{NoMemory}
 use Rattle.lw_system.specs.Finding.{IsNoSystemWith}
 use Rattle.lw_system.specs.declared.source.Source.{Source}

@@ -1,9 +1,8 @@
 -- Calls for whose arguments there was no memory.
-use Rattle.std.proofs.Common.{◌≡◌, ◌⊎◌, List, ℕ, [], ◌∷◌, Bool, true, false, codes, Option, Some, None, IfSome, option_map, inl, inr, refl, sym, ap, ◌∙◌, subst, append-nil}
+use Rattle.std.proofs.Common.{◌≡◌, ◌⊎◌, List, ℕ, [], ◌∷◌, Bool, true, false, codes, Option, Some, None, option_map, inl, inr, refl, sym, ap, ◌∙◌, subst}
 use Rattle.std.specs.Prelude.{if◌then◌else◌}
 use Rattle.std.specs.Str.{bytes_eq}
 use Rattle.std.proofs.lemmas.Bool.{true≢false}
-use Rattle.lw_words.specs.declared.kept.KeptAnswer.{KeptAnswer}
 use Rattle.lw_outside.specs.declared.links.StartFailure.{StartFailure}
 use Rattle.lw_outside.specs.Links.{SpawnerState}
 use Rattle.lw_outside.specs.Files.{FilesState}

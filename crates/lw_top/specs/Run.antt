@@ -1,5 +1,5 @@
 -- What a call of the program did, by the call that its arguments make.
-use Rattle.std.specs.Prelude.{◌≡◌, ◌⊎◌, ℕ, List, [], Bool, false, codes, Option, Some, None}
+use Rattle.std.specs.Prelude.{◌≡◌, ◌⊎◌, ℕ, List, [], Option, Some, None}
 use Rattle.lw_words.specs.Cause.{CountedFault}
 use Rattle.lw_outside.specs.declared.links.StartFailure.{StartFailure}
 use Rattle.lw_report.specs.Ends.{IsWithoutLearner}

@@ -1,4 +1,4 @@
-use Rattle.std.proofs.Common.{◌≡◌, ◌∙◌, rules, Err, List, ℕ, Option, Some, None, string_bytes, sym, ap, refl, subst}
+use Rattle.std.proofs.Common.{◌≡◌, rules, Err, List, ℕ, Option, Some, None, string_bytes, sym, ap, refl, subst}
 use Rattle.lw_report.specs.declared.outcome.Outcome.TheVariants.{Usage}
 use Rattle.lw_check.specs.CheckRun.{IsCheckRun}
 use Rattle.lw_compare.specs.CompareRun.{IsCompareRun}
