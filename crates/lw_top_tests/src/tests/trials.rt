@@ -66,7 +66,10 @@ fn two_hundred_states_at_any_number_of_workers(rt: HostRuntime) {
     let one = two_hundred(&rt, rt.alloc(), "1");
     for workers in ["2", "8"] {
         let other = two_hundred(&rt, rt.alloc(), workers);
-        assert!(rt; other.out.taken() == one.out.taken(), "{workers} workers");
+        assert!(rt;
+            other.world.out.taken() == one.world.out.taken(),
+            "{workers} workers"
+        );
     }
 }
 
