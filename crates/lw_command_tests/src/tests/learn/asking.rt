@@ -239,3 +239,52 @@ fn words_are_asked_first_and_steps_are_logged(rt: HostRuntime) {
         check(rt, rt.alloc(), row);
     }
 }
+
+/// A setup that names the table `t`, and has a member that a setup doesn't know.
+const HINTED: &str = "{\"table\":\"t\",\"outpts\":[]}";
+
+/// The arguments of a learning by the setup `m`, with a log.
+fn by_setup(rt: &impl Abort, alloc: Global) -> LearnArguments {
+    let settings = Settings {
+        workers: 1,
+        kind: Kind::Table,
+        extra: 0,
+        max_states: 8,
+    };
+    let files = LearnFiles {
+        model: None,
+        answers: None,
+        prior: None,
+        kept: None,
+        words: None,
+        log: named(rt, alloc, "l", true),
+    };
+    LearnArguments::new(Source::Setup, string(rt, alloc, "m"), settings, None, files)
+}
+
+/// Whether the first line of a log is this one.
+fn begins_with(log: &MemoryLog, wanted: &str) -> bool {
+    match log.lines().first() {
+        Some(line) => line.as_slice() == wanted.as_bytes(),
+        None => false,
+    }
+}
+
+/// The log of a learning by that setup, which ends well.
+fn hinted<R: Abort + Threads + Wait + Sync + Copy + Drop>(rt: R, alloc: Global) -> MemoryLog {
+    let mut files = Vec::new(alloc);
+    push_file(&rt, alloc, &mut files, "m", HINTED);
+    push_file(&rt, alloc, &mut files, "t", TWO);
+    let files = MemoryFiles::new(alloc, files, Vec::new(alloc)).expect(&rt, "memory");
+    let children = no_children(&rt, alloc);
+    let mut outside = outside_of(&rt, alloc, files, children, MemoryLog::new(alloc));
+    let status = call(rt, alloc, &by_setup(&rt, alloc), &mut outside).status;
+    assert!(rt; status == 0);
+    outside.log.into_file()
+}
+
+#[test]
+fn a_log_begins_with_the_member_that_the_setup_does_not_know(rt: HostRuntime) {
+    let log = hinted(rt, rt.alloc());
+    assert!(rt; begins_with(&log, "unknown member \"outpts\" in setup\n"));
+}
