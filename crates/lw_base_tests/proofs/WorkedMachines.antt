@@ -2,8 +2,7 @@
 use Rattle.std.proofs.Common.{◌≡◌, ◌≢◌, ℕ, zero, suc, ◌<◌, List, [], ◌∷◌, refl, ap, arith, lit<, get_or}
 use Rattle.std.proofs.lemmas.List.Elements.{All-from_recursion}
 use Rattle.lw_words.specs.Word.{IsWord}
-use Rattle.lw_mealy.specs.Machine.{after, next}
-use Rattle.lw_mealy.specs.Minimal.{IsMinimal, Reached, Differ}
+use Rattle.lw_mealy.specs.Machine.{after, next, IsMinimal, Reached, Differ}
 use Rattle.lw_mealy.specs.Worked.{one, with_equal_states, ring}
 
 with_equal_states_next : (q x : ℕ) → q < 3 → next with_equal_states q x < 3

@@ -3,8 +3,7 @@ use Rattle.std.proofs.Common.{◌≡◌, ◌≢◌, ℕ, zero, suc, ◌+◌, ◌
 use Rattle.std.specs.List.{All}
 use Rattle.std.proofs.lemmas.Bool.{cases_lt}
 use Rattle.std.proofs.lemmas.List.{length_push, get_or_push, get_or_append_left, length-take-le, get_or-take, ext_get_or, take-take}
-use Rattle.lw_words.specs.Answer.{Answer, answer_at, IsWhole}
-use Rattle.lw_words.specs.Word.{IsPrefix}
+use Rattle.lw_words.specs.Word.{Answer, answer_at, IsWhole, IsPrefix}
 use Rattle.lw_cache.specs.Clash.{Clash, IsClear, IsClearAfter}
 use Rattle.lw_cache.specs.FirstClash.{ClashesFirst, SameKnown}
 use Rattle.lw_cache.specs.bodies.Trie.{word_of, IsTrie, no_answer, last_out, AreAnswered}

@@ -3,7 +3,7 @@ use Rattle.std.proofs.Common.{◌≡◌, ◌≢◌, ℕ, ◌<◌, ◌≤◌, ◌
 use Rattle.std.specs.Bool.{⊤}
 use Rattle.std.proofs.lemmas.Bool.{false≢true, cases_order, cases_eq}
 use Rattle.std.proofs.lemmas.List.{take_all, length-map}
-use Rattle.lw_words.specs.Answer.{answer_of, answers_of}
+use Rattle.lw_words.specs.Word.{answer_of, answers_of}
 use Rattle.lw_words.specs.declared.kept.KeptAnswer.{KeptAnswer}
 use Rattle.lw_cache.specs.Caching.{Claim, claim_of, IsClaimOf, IsClaimedBy, IsUnused, without_claim}
 use Rattle.lw_cache.specs.Clash.{IsClearAfter}

@@ -2,7 +2,7 @@
 use Rattle.std.proofs.Common.{◌≡◌, ℕ, zero, suc, ◌+◌, ◌<◌, ◌≤◌, ⊎_elim, List, [], length, take, get_or, ap, sym, ◌∙◌, subst, arith}
 use Rattle.std.proofs.lemmas.Bool.{cases_lt}
 use Rattle.std.proofs.lemmas.List.{get_or-take}
-use Rattle.lw_words.specs.Answer.{Answer, answer_at}
+use Rattle.lw_words.specs.Word.{Answer, answer_at}
 use Rattle.lw_mealy.specs.Machine.{Rows, answer}
 use Rattle.lw_mealy.proofs.WordLemmas.{out-take}
 use Rattle.lw_cache.specs.Clash.{Clash, IsClearAfter, IsClear, ClearIsUnclashed, AllAreClear, GivenNeverClash}

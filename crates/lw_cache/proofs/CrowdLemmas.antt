@@ -5,11 +5,9 @@ use Rattle.std.proofs.Math.Seq.{drop-append_seam, take-append_seam}
 use Rattle.std.proofs.lemmas.Bool.{cases_lt}
 use Rattle.std.proofs.lemmas.List.{length-map, length-append, get_or-map, get_or_default, get_or_append_left}
 use Rattle.std.proofs.lemmas.List.Elements.{All-get_or, All-from_get_or}
-use Rattle.lw_words.specs.Answer.{Answer, AreAnswers, answer_at}
-use Rattle.lw_words.specs.Word.{IsWord, IsPrefix}
+use Rattle.lw_words.specs.Word.{Answer, AreAnswers, answer_at, IsWord, IsPrefix}
 use Rattle.lw_words.proofs.Pigeonhole.{no_more_than}
-use Rattle.lw_mealy.specs.Machine.{Rows, IsMachine, after, out, answer}
-use Rattle.lw_mealy.specs.Gives.{Gives}
+use Rattle.lw_mealy.specs.Machine.{Rows, IsMachine, after, out, answer, Gives}
 use Rattle.lw_mealy.proofs.WordLemmas.{after_below, length-out, out-append, out-take}
 use Rattle.lw_cache.specs.Clash.{IsClear}
 use Rattle.lw_cache.specs.Known.{Reads}

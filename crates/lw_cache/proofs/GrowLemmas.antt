@@ -1,8 +1,7 @@
 -- A list of answers that grows at its end.
 use Rattle.std.proofs.Common.{◌≡◌, ℕ, zero, suc, ◌<◌, ◌≤◌, ◌↔◌, inl, inr, ⊎_elim, List, [], ◌++◌, length, take, sym, ap, ◌∙◌, subst, arith}
 use Rattle.std.proofs.lemmas.List.{get_or_append_left, length-append}
-use Rattle.lw_words.specs.Answer.{Answer, answer_at}
-use Rattle.lw_words.specs.Word.{IsPrefix}
+use Rattle.lw_words.specs.Word.{Answer, answer_at, IsPrefix}
 use Rattle.lw_cache.specs.Clash.{Clash, IsClearAfter, IsClear, ClearStays}
 use Rattle.lw_cache.specs.Known.{Reads, ReadsStay}
 use Rattle.lw_cache.specs.Crowd.{Separates, Apart, CrowdStays}

@@ -2,7 +2,7 @@
 use Rattle.std.proofs.Common.{◌≡◌, ℕ, ◌<◌, ◌≤◌, List, [], ◌∷◌, ◌++◌, length, Option, Some, None, Result, Ok, Err, IfNone, IfSome, IfErr, OnOk, OnErr, IsOk, MatchOption, ap, sym, ◌∙◌, subst, arith}
 use Rattle.std.specs.Bool.{⊤}
 use Rattle.std.proofs.lemmas.Bool.{false≢true}
-use Rattle.lw_words.specs.Answer.{answer_of, answers_of}
+use Rattle.lw_words.specs.Word.{answer_of, answers_of}
 use Rattle.lw_words.specs.declared.kept.KeptAnswer.{KeptAnswer}
 use Rattle.lw_cache.specs.Caching.{Caching}
 use Rattle.lw_cache.specs.Clash.{IsClearAfter}

@@ -2,8 +2,7 @@
 use Rattle.std.proofs.Common.{◌≡◌, ℕ, zero, suc, ◌+◌, ◌<◌, ◌≤◌, ◌⊎◌, inl, inr, ⊎_elim, List, [], length, take, get_or, refl, ap, sym, ◌∙◌, subst, arith}
 use Rattle.std.proofs.lemmas.Bool.{cases_eq, cases_order}
 use Rattle.std.proofs.lemmas.List.{length-append, take-append-le, take_more_same}
-use Rattle.lw_words.specs.Answer.{Answer, AreAnswers, answer_at}
-use Rattle.lw_words.specs.Word.{IsPrefix}
+use Rattle.lw_words.specs.Word.{Answer, AreAnswers, answer_at, IsPrefix}
 use Rattle.lw_cache.specs.Clash.{Clash, IsClear}
 use Rattle.lw_cache.specs.Known.{Reads, KnownIsRead, ReadsOnce}
 use Rattle.lw_cache.proofs.ClashLemmas.{unclashed_after}

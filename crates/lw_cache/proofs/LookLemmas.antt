@@ -1,8 +1,7 @@
 -- What is looked up in a cache, as contracts see it.
 use Rattle.std.proofs.Common.{◌≡◌, ◌≢◌, ℕ, ◌<◌, ◌≤◌, inr, ⊎_elim, List, [], length, take, get_or, slice_get, Some, ap, sym, ◌∙◌, subst, arith}
 use Rattle.std.proofs.lemmas.List.{get_or_default}
-use Rattle.lw_words.specs.Answer.{Answer, answer_at, answer_of, answers_of}
-use Rattle.lw_words.specs.Word.{IsPrefix}
+use Rattle.lw_words.specs.Word.{Answer, answer_at, answer_of, answers_of, IsPrefix}
 use Rattle.lw_words.specs.declared.kept.KeptAnswer.{KeptAnswer}
 use Rattle.lw_cache.specs.Caching.{Caching}
 use Rattle.lw_cache.specs.Clash.{IsClear}

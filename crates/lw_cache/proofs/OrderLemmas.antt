@@ -7,7 +7,7 @@ use Rattle.std.specs.Cmp.Lexicographic.{slice_cmp}
 use Rattle.std.specs.Ordering.{ordering_then}
 use Rattle.std.specs.declared.cmp.Ordering.{Ordering}
 use Rattle.std.specs.declared.cmp.Ordering.TheVariants.{Less, Equal, Greater}
-use Rattle.lw_words.specs.Shortlex.{shortlex_cmp}
+use Rattle.lw_words.specs.Word.{shortlex_cmp}
 use Rattle.lw_cache.specs.bodies.Trie.{spell, word_of, IsTrie}
 use Rattle.lw_cache.specs.bodies.Upward.{AreLengths}
 use Rattle.lw_cache.specs.declared.node.Node.{Node}

@@ -6,8 +6,7 @@ use Rattle.std.proofs.lemmas.List.{get_or-take, get_or-map, get_or_append_left, 
 use Rattle.std.proofs.lemmas.Slice.Eq.{bytes_eq-Decides}
 use Rattle.std.specs.Str.{bytes_eq}
 use Rattle.std.proofs.lemmas.Option.{get_or_from_slice_get}
-use Rattle.lw_words.specs.Answer.{Answer, answer_at, answer_of, answers_of}
-use Rattle.lw_words.specs.Word.{IsPrefix}
+use Rattle.lw_words.specs.Word.{Answer, answer_at, answer_of, answers_of, IsPrefix}
 use Rattle.lw_words.specs.declared.kept.KeptAnswer.{KeptAnswer}
 use Rattle.lw_cache.specs.Clash.{Clash, ClashAt, IsClear, IsClearAfter}
 use Rattle.lw_cache.specs.Known.{IsKnown}

@@ -3,9 +3,8 @@ use Rattle.std.proofs.Common.{◌≡◌, ℕ, ◌<◌, ◌≤◌, inl, inr, ⊎_
 use Rattle.std.proofs.Math.Seq.{drop-append_seam, take-append_seam}
 use Rattle.std.proofs.lemmas.List.{length-append, length-take-le, map-append, take-append-drop, take-take, take_all}
 use Rattle.std.proofs.lemmas.List.Elements.{All-nil, All-take}
-use Rattle.lw_words.specs.Answer.{Answer, AreAnswers, answer_at, answer_of, answers_of}
+use Rattle.lw_words.specs.Word.{Answer, AreAnswers, answer_at, answer_of, answers_of, IsWord, IsPrefix}
 use Rattle.lw_words.specs.declared.kept.KeptAnswer.{KeptAnswer}
-use Rattle.lw_words.specs.Word.{IsWord, IsPrefix}
 use Rattle.lw_mealy.specs.Machine.{Rows, after, out, answer}
 use Rattle.lw_mealy.proofs.WordLemmas.{length-out, out-append}
 use Rattle.lw_cache.specs.Clash.{IsClear}

@@ -2,7 +2,7 @@
 use Rattle.std.proofs.Common.{◌≡◌, ◌≢◌, ℕ, ◌+◌, ◌<◌, ◌≤◌, ◌⊎◌, inl, inr, ⊎_elim, not, ◌==◌, List, [], ◌∷◌, ◌++◌, length, set, refl, ap, sym, ◌∙◌, subst, arith}
 use Rattle.std.proofs.lemmas.Bool.{cases_eq, cases_lt, cases_order}
 use Rattle.std.proofs.lemmas.List.{length-set, length_push, get_or_append_left, get_or_push, map_push}
-use Rattle.lw_words.specs.Answer.{Answer, answers_of}
+use Rattle.lw_words.specs.Word.{Answer, answers_of}
 use Rattle.lw_words.specs.declared.kept.KeptAnswer.{KeptAnswer}
 use Rattle.lw_cache.specs.Caching.{Claim, claim_of, without_claim}
 use Rattle.lw_cache.specs.bodies.Trie.{node_at, word_of, held_at, claims_of, IsChildOf, IsTrie, IsLeast, AreLeast, AreAnswered, IsStored, no_claim}

@@ -7,7 +7,7 @@ use Rattle.std.proofs.lemmas.List.Quantifiers.{all_pairs_push}
 use Rattle.std.specs.declared.cmp.Ordering.TheVariants.{Less, Equal}
 use Rattle.std.proofs.lemmas.Cmp.{tied_itself}
 use Rattle.lw_words.proofs.Orders.{is_order}
-use Rattle.lw_words.specs.Shortlex.{shortlex_cmp}
+use Rattle.lw_words.specs.Word.{shortlex_cmp}
 use Rattle.lw_mealy.specs.Machine.{Rows, after, next, output}
 use Rattle.lw_mealy.proofs.WordLemmas.{after-append}
 use Rattle.lw_cache.specs.bodies.Trie.{word_of, IsTrie, no_answer}

@@ -9,9 +9,7 @@ use Rattle.std.specs.declared.cmp.Ordering.TheVariants.{Less}
 use Rattle.std.proofs.lemmas.Bool.{cases_eq, cases_lt}
 use Rattle.std.proofs.lemmas.List.{length-take-le, get_or-take, get_or_push, get_or_append_left, take_all, take_more_same}
 use Rattle.lw_words.proofs.Orders.{is_order}
-use Rattle.lw_words.specs.Answer.{answer_at, answers_of}
-use Rattle.lw_words.specs.Shortlex.{shortlex_cmp}
-use Rattle.lw_words.specs.Word.{IsPrefix, IsWord}
+use Rattle.lw_words.specs.Word.{answer_at, answers_of, shortlex_cmp, IsPrefix, IsWord}
 use Rattle.lw_words.specs.declared.kept.KeptAnswer.{KeptAnswer}
 use Rattle.lw_mealy.specs.Machine.{Rows, after, output, out, answer}
 use Rattle.lw_mealy.proofs.WordLemmas.{length-out, out-append, out-take}

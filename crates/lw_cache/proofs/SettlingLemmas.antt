@@ -2,9 +2,8 @@
 use Rattle.std.proofs.Common.{◌≡◌, ℕ, ◌<◌, List, ◌++◌, length, Option, Some, None, Result, Ok, Err, OnOk, IsErrAnd, Bool, [], refl, ap, sym, ◌∙◌, subst, append-nil, append_assoc}
 use Rattle.std.proofs.lemmas.List.Elements.{All-append, All-map, All-nil}
 use Rattle.std.specs.List.{All}
-use Rattle.lw_words.specs.Answer.{AreAnswers, IsAnswer, answer_of, answers_of}
+use Rattle.lw_words.specs.Word.{AreAnswers, IsAnswer, answer_of, answers_of, IsWord}
 use Rattle.lw_words.specs.declared.kept.KeptAnswer.{KeptAnswer}
-use Rattle.lw_words.specs.Word.{IsWord}
 use Rattle.lw_mealy.specs.Machine.{Rows}
 use Rattle.lw_mealy.specs.Origin.{Origin}
 use Rattle.lw_cache.specs.Against.{Differs}

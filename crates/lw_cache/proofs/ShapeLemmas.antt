@@ -1,7 +1,6 @@
 -- Nodes that keep their place in the trie.
 use Rattle.std.proofs.Common.{◌≡◌, ℕ, ◌<◌, inl, inr, ⊎_elim, List, ap, sym, ◌∙◌, subst, arith}
-use Rattle.lw_words.specs.Answer.{Answer, answer_at}
-use Rattle.lw_words.specs.Word.{IsPrefix}
+use Rattle.lw_words.specs.Word.{Answer, answer_at, IsPrefix}
 use Rattle.lw_cache.specs.Clash.{IsClear}
 use Rattle.lw_cache.specs.bodies.Trie.{word_of, IsChildOf, IsNewest, IsTrie, AreLeast, AreEnds, AreAnswered, last_out, held_at}
 use Rattle.lw_cache.specs.declared.node.Node.{Node}

@@ -3,7 +3,7 @@ use Rattle.std.proofs.Common.{◌≡◌, ◌≢◌, ℕ, ◌<◌, ◌≤◌, Lis
 use Rattle.std.specs.List.{All}
 use Rattle.std.proofs.lemmas.List.{map_push, take_all}
 use Rattle.std.proofs.lemmas.List.Elements.{All-push}
-use Rattle.lw_words.specs.Answer.{Answer, answer_of, answers_of, IsWhole}
+use Rattle.lw_words.specs.Word.{Answer, answer_of, answers_of, IsWhole}
 use Rattle.lw_words.specs.declared.kept.KeptAnswer.{KeptAnswer}
 use Rattle.lw_cache.specs.Clash.{IsClearAfter}
 use Rattle.lw_cache.specs.FirstClash.{SameKnown}

@@ -1,8 +1,7 @@
 -- The known words on which a machine answers otherwise.
 use Rattle.std.specs.Prelude.{◌≢◌, List, ℕ, Option, Some, None}
 use Rattle.std.specs.declared.cmp.Ordering.TheVariants.{Less}
-use Rattle.lw_words.specs.Answer.{Answer}
-use Rattle.lw_words.specs.Shortlex.{shortlex_cmp}
+use Rattle.lw_words.specs.Word.{Answer, shortlex_cmp}
 use Rattle.lw_mealy.specs.Machine.{Rows, answer}
 use Rattle.lw_cache.specs.Known.{Reads}
 

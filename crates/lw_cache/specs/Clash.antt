@@ -1,9 +1,8 @@
 -- Answers that no one machine gives, and the answers that stay when, from the front on, those that clash are left out.
 use Rattle.std.specs.Prelude.{◌≡◌, ◌≢◌, ℕ, zero, suc, ◌+◌, ◌<◌, ◌↔◌, List, ◌++◌, length, take, slice_index_or}
 use Rattle.std.specs.List.{AllPairs}
-use Rattle.lw_words.specs.Answer.{Answer, answer_at}
-use Rattle.lw_mealy.specs.Machine.{Rows}
-use Rattle.lw_mealy.specs.Gives.{Gives}
+use Rattle.lw_words.specs.Word.{Answer, answer_at}
+use Rattle.lw_mealy.specs.Machine.{Rows, Gives}
 
 -- both words are longer than the place, their letters agree up to and with it, and their outputs agree before it and
 -- differ at it

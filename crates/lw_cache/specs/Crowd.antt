@@ -2,9 +2,8 @@
 -- apartness as in Vaandrager, Garhewal, Rot and Wissmann (2022).
 use Rattle.std.specs.Prelude.{◌≢◌, ℕ, ◌≤◌, List, ◌++◌, length, drop}
 use Rattle.std.specs.List.{AllPairs}
-use Rattle.lw_words.specs.Answer.{Answer, AreAnswers}
-use Rattle.lw_mealy.specs.Machine.{Rows, IsMachine}
-use Rattle.lw_mealy.specs.Gives.{Gives}
+use Rattle.lw_words.specs.Word.{Answer, AreAnswers}
+use Rattle.lw_mealy.specs.Machine.{Rows, IsMachine, Gives}
 use Rattle.lw_cache.specs.Known.{Reads}
 
 -- both words followed by the suffix are known, and their outputs on the suffix differ

@@ -1,8 +1,7 @@
 -- Where a model has to be split, by what is known. Source: the splitters of Rivest and Schapire (1993).
 use Rattle.std.specs.Prelude.{◌≡◌, ◌≢◌, ℕ, ◌<◌, List, [], ◌∷◌, ◌++◌, length, slice_index_or}
 use Rattle.std.specs.List.{All}
-use Rattle.lw_words.specs.Answer.{Answer}
-use Rattle.lw_words.specs.Word.{IsWord}
+use Rattle.lw_words.specs.Word.{Answer, IsWord}
 use Rattle.lw_mealy.specs.Machine.{Rows, next, after, answer}
 use Rattle.lw_cache.specs.Crowd.{Separates}
 use Rattle.lw_cache.specs.Known.{Reads}

@@ -1,7 +1,6 @@
 -- How a new answer clashes with those before it.
 use Rattle.std.specs.Prelude.{◌≡◌, ◌↔◌, ℕ, ◌+◌, ◌≤◌, List, ◌∷◌, [], ◌++◌, length, take}
-use Rattle.lw_words.specs.Answer.{Answer, answer_at, answer_of, answers_of}
-use Rattle.lw_words.specs.Word.{IsPrefix}
+use Rattle.lw_words.specs.Word.{Answer, answer_at, answer_of, answers_of, IsPrefix}
 use Rattle.lw_cache.specs.Clash.{ClashAt, IsClear}
 use Rattle.lw_cache.specs.Known.{IsKnown}
 use Rattle.lw_words.specs.declared.kept.KeptAnswer.{KeptAnswer}

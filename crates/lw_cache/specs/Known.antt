@@ -1,8 +1,7 @@
 -- What a list of answers says of a word: what its clear answers say. Source: the query cache of a learner, as in LearnLib
 -- (Isberner, Howar, Steffen 2015); clear answers are this project's.
 use Rattle.std.specs.Prelude.{◌≡◌, ◌⊎◌, ◌↔◌, ℕ, List, [], ◌++◌, length, take}
-use Rattle.lw_words.specs.Answer.{Answer, AreAnswers, answer_at}
-use Rattle.lw_words.specs.Word.{IsPrefix}
+use Rattle.lw_words.specs.Word.{Answer, AreAnswers, answer_at, IsPrefix}
 use Rattle.lw_cache.specs.Clash.{IsClear}
 
 -- the word is empty, or a prefix of a clear answer's word

@@ -1,6 +1,6 @@
 -- What the plain body keeps: for each answer whether it is clear.
 use Rattle.std.specs.Prelude.{◌≡◌, ◌↔◌, ℕ, ◌<◌, Bool, true, false, List, length, slice_index_or}
-use Rattle.lw_words.specs.Answer.{Answer}
+use Rattle.lw_words.specs.Word.{Answer}
 use Rattle.lw_cache.specs.Clash.{IsClear}
 
 -- one flag for each of the first n answers, true exactly where it is clear

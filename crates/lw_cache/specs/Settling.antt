@@ -1,8 +1,7 @@
 -- What an oracle is, what settling a batch does, and what the layers above leave of an oracle.
 use Rattle.std.specs.Prelude.{◌≡◌, ℕ, ◌<◌, List, ◌++◌, length, map, Option, Some, None, Result, Ok, Err, OnOk, option_and_then, slice_get, Contains, Bool, true, ⊤}
 use Rattle.std.specs.List.{All}
-use Rattle.lw_words.specs.Answer.{Answer, answer_of, answers_of, IsAnswer}
-use Rattle.lw_words.specs.Word.{IsWord}
+use Rattle.lw_words.specs.Word.{Answer, answer_of, answers_of, IsAnswer, IsWord}
 use Rattle.lw_words.specs.declared.kept.KeptAnswer.{KeptAnswer}
 use Rattle.lw_mealy.specs.Machine.{Rows, answer}
 use Rattle.lw_mealy.specs.Origin.{Origin}

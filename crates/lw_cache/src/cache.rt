@@ -1,8 +1,7 @@
 //! The cache: what was answered, what is being asked, and how any word stands.
 ghost use Rattle.std.specs.Prelude.{◌≡◌, ℕ, ◌+◌, ◌<◌, ◌≤◌, List, [], ◌∷◌, ◌++◌, length, IfOk, OnOk, OnErr, IfErr, MatchOption, IfNone, IfSome, IsOk, Err, vec_len, vec_capacity};
 ghost use Rattle.std.specs.List.{All};
-ghost use Rattle.lw_words.specs.Answer.{answer_of, answers_of, IsWhole};
-ghost use Rattle.lw_words.specs.Word.{IsWord};
+ghost use Rattle.lw_words.specs.Word.{answer_of, answers_of, IsWhole, IsWord};
 ghost use Rattle.lw_cache.specs.Against.{DiffersFirst};
 ghost use Rattle.lw_cache.specs.Caching.{Caching, kept_answer, claim_of, IsClaimOf, IsUnused, without_claim};
 ghost use Rattle.lw_cache.specs.Clash.{IsClearAfter};

@@ -1,8 +1,7 @@
 //! A plain, slow body that computes the definitions from the list of kept answers.
 ghost use Rattle.std.specs.Prelude.{◌≡◌, ◌↔◌, ℕ, ◌<◌, ◌≤◌, true, length, IfNone, IfSome, IfOk, false};
 ghost use Rattle.std.specs.List.{All};
-ghost use Rattle.lw_words.specs.Word.{IsPrefix};
-ghost use Rattle.lw_words.specs.Answer.{answer_at, answer_of, answers_of, IsWhole};
+ghost use Rattle.lw_words.specs.Word.{IsPrefix, answer_at, answer_of, answers_of, IsWhole};
 ghost use Rattle.lw_cache.specs.Clash.{Clash, ClashAt, IsClear, IsClearAfter};
 ghost use Rattle.lw_cache.specs.Known.{IsKnown};
 ghost use Rattle.lw_cache.specs.Plain.{AreFlags};

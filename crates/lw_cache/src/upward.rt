@@ -1,6 +1,6 @@
 //! Going up from nodes: the lengths of their words, their order, and the words themselves.
 ghost use Rattle.std.specs.Prelude.{◌≡◌, ◌+◌, ◌<◌, ◌≤◌, List, length, IfOk, IfSome, OnOk};
-ghost use Rattle.lw_words.specs.Shortlex.{shortlex_cmp};
+ghost use Rattle.lw_words.specs.Word.{shortlex_cmp};
 ghost use Rattle.lw_cache.specs.bodies.Trie.{node_at, word_of, IsTrie, no_answer};
 ghost use Rattle.lw_cache.specs.bodies.Upward.{word_of_some, AreLengths, IsEarlierOf};
 

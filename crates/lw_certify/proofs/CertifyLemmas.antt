@@ -6,14 +6,13 @@ use Rattle.std.proofs.lemmas.List.{length-map, length-append, length-drop, get_o
 use Rattle.std.proofs.Math.Seq.{get_or-append_seam}
 use Rattle.std.proofs.lemmas.List.Elements.{All-get_or, All-append, All-nil}
 use Rattle.std.proofs.lemmas.Option.{get_or_from_slice_get}
-use Rattle.lw_words.specs.Answer.{Answer, answer_of, answers_of, answer_at}
+use Rattle.lw_words.specs.Word.{Answer, answer_of, answers_of, answer_at}
 use Rattle.lw_words.specs.First.{FailsFirst}
 use Rattle.lw_words.specs.declared.kept.KeptAnswer.{KeptAnswer}
 use Rattle.lw_words.proofs.Lists.{within-map_more}
-use Rattle.lw_mealy.specs.Machine.{Rows, IsMachine, answer}
-use Rattle.lw_mealy.specs.Minimal.{IsMinimal}
+use Rattle.lw_mealy.specs.Machine.{Rows, IsMachine, answer, IsMinimal}
 use Rattle.lw_mealy.specs.Difference.{DifferFirst}
-use Rattle.lw_separate.specs.Least.{IsLeastAccess, IsAccessWord, AreAccessWords, AreLeastAccess}
+use Rattle.lw_separate.specs.Canonical.{IsLeastAccess, IsAccessWord, AreAccessWords, AreLeastAccess}
 use Rattle.lw_separate.specs.FirstAlike.{AnyTwoDiffer}
 use Rattle.lw_cache.specs.Known.{IsKnown}
 use Rattle.lw_words.specs.declared.memory.NoMemory.{NoMemory}

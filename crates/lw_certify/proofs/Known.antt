@@ -1,8 +1,7 @@
 -- What machines that give the same answers answer to known words.
 use Rattle.std.proofs.Common.{◌≡◌, ℕ, List, sym, ◌∙◌}
-use Rattle.lw_words.specs.Answer.{Answer}
-use Rattle.lw_mealy.specs.Machine.{Rows, answer}
-use Rattle.lw_mealy.specs.Gives.{Gives}
+use Rattle.lw_words.specs.Word.{Answer}
+use Rattle.lw_mealy.specs.Machine.{Rows, answer, Gives}
 use Rattle.lw_cache.specs.Known.{IsKnown, Reads}
 use Rattle.lw_cache.proofs.KnownLemmas.{known_is_read}
 use Rattle.lw_cache.proofs.CrowdLemmas.{reads_given}

@@ -4,11 +4,9 @@ use Rattle.std.specs.List.{All}
 use Rattle.std.proofs.lemmas.Bool.{cases_order}
 use Rattle.std.proofs.lemmas.List.{get_or-take}
 use Rattle.std.proofs.lemmas.List.Elements.{All-get_or}
-use Rattle.lw_words.specs.Answer.{Answer, answer_at}
+use Rattle.lw_words.specs.Word.{Answer, answer_at}
 use Rattle.lw_words.specs.First.{FailsFirst}
-use Rattle.lw_mealy.specs.Machine.{Rows, answer}
-use Rattle.lw_mealy.specs.Minimal.{IsMinimal}
-use Rattle.lw_mealy.specs.Gives.{Gives}
+use Rattle.lw_mealy.specs.Machine.{Rows, answer, IsMinimal, Gives}
 use Rattle.lw_mealy.specs.Difference.{DifferFirst}
 use Rattle.lw_separate.specs.FirstAlike.{AreFirstAlike}
 use Rattle.lw_separate.specs.Separators.{Earlier}

@@ -4,10 +4,9 @@ use Rattle.std.specs.List.{All, AllByRecursion}
 use Rattle.std.proofs.lemmas.Bool.{cases_order}
 use Rattle.std.proofs.lemmas.List.Elements.{All-get_or, All-nil, recursion_from_All, All-from_recursion}
 use Rattle.std.proofs.Math.Nat.{mul-le-mul_right}
-use Rattle.lw_words.specs.Answer.{Answer}
-use Rattle.lw_mealy.specs.Machine.{Rows, IsMachine, out}
-use Rattle.lw_mealy.specs.Gives.{Gives}
-use Rattle.lw_separate.specs.Least.{IsLeastAccess, AreLeastAccess}
+use Rattle.lw_words.specs.Word.{Answer}
+use Rattle.lw_mealy.specs.Machine.{Rows, IsMachine, out, Gives}
+use Rattle.lw_separate.specs.Canonical.{IsLeastAccess, AreLeastAccess}
 use Rattle.lw_separate.specs.Separators.{IsSeparators}
 use Rattle.lw_separate.proofs.Before.{of_cases}
 use Rattle.lw_suite.specs.Size.{powers}

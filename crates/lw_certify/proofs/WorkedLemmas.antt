@@ -2,10 +2,8 @@
 use Rattle.std.proofs.Common.{◌≡◌, ℕ, ◌<◌, List, [], ◌∷◌, length, get_or, refl, ap, arith, lit<, lit≤}
 use Rattle.std.specs.List.{All}
 use Rattle.std.proofs.lemmas.List.Elements.{All-from_recursion}
-use Rattle.lw_words.specs.Answer.{Answer}
-use Rattle.lw_words.specs.Word.{IsWord}
-use Rattle.lw_mealy.specs.Machine.{Row, IsMachine, answer}
-use Rattle.lw_mealy.specs.Gives.{Gives}
+use Rattle.lw_words.specs.Word.{Answer, IsWord}
+use Rattle.lw_mealy.specs.Machine.{Row, IsMachine, answer, Gives}
 use Rattle.lw_mealy.specs.Worked.{one, counter_of_three}
 use Rattle.lw_certify.specs.Sure.{Sure}
 use Rattle.lw_certify.specs.Worked.{AsWorked, seven_letters, two_letters}

@@ -1,11 +1,9 @@
 -- What a model and kept answers come to: the first of six that applies.
 use Rattle.std.specs.Prelude.{◌≡◌, ℕ, ◌<◌, ◌≤◌, List, length, slice_index_or, []}
 use Rattle.std.specs.List.{All}
-use Rattle.lw_words.specs.Answer.{Answer, answer_at}
+use Rattle.lw_words.specs.Word.{Answer, answer_at}
 use Rattle.lw_words.specs.First.{FailsFirst}
-use Rattle.lw_mealy.specs.Machine.{Rows, IsMachine, answer}
-use Rattle.lw_mealy.specs.Minimal.{Reached, IsMinimal}
-use Rattle.lw_mealy.specs.Gives.{Gives}
+use Rattle.lw_mealy.specs.Machine.{Rows, IsMachine, answer, Reached, IsMinimal, Gives}
 use Rattle.lw_mealy.specs.Difference.{DifferFirst}
 use Rattle.lw_separate.specs.FirstAlike.{AreFirstAlike}
 use Rattle.lw_suite.specs.Size.{suite_size, greatest_suite}

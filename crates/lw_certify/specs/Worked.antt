@@ -1,8 +1,7 @@
 -- Worked by hand: answers that a machine gives, and answers with a gap.
 use Rattle.std.specs.Prelude.{List, [], ◌∷◌}
-use Rattle.lw_words.specs.Answer.{Answer}
-use Rattle.lw_mealy.specs.Machine.{IsMachine}
-use Rattle.lw_mealy.specs.Gives.{Gives}
+use Rattle.lw_words.specs.Word.{Answer}
+use Rattle.lw_mealy.specs.Machine.{IsMachine, Gives}
 use Rattle.lw_mealy.specs.Worked.{one, counter_of_three}
 use Rattle.lw_certify.specs.Sure.{Sure}
 

@@ -1,12 +1,9 @@
 //! The verdict on a model and kept answers.
 ghost use Rattle.std.specs.Prelude.{◌≡◌, ℕ, ◌≤◌, length, map, IfOk, OnOk, IfNone, IfSome, Ok};
 ghost use Rattle.std.specs.List.{All};
-ghost use Rattle.lw_words.specs.Answer.{answers_of, IsWhole};
-ghost use Rattle.lw_words.specs.Word.{IsWord};
-ghost use Rattle.lw_mealy.specs.Gives.{Gives};
-ghost use Rattle.lw_mealy.specs.Limits.{IsWithinLimits};
-ghost use Rattle.lw_mealy.specs.Minimal.{IsMinimal};
-ghost use Rattle.lw_separate.specs.Least.{AreLeastAccess};
+ghost use Rattle.lw_words.specs.Word.{answers_of, IsWhole, IsWord};
+ghost use Rattle.lw_mealy.specs.Machine.{Gives, IsWithinLimits, IsMinimal};
+ghost use Rattle.lw_separate.specs.Canonical.{AreLeastAccess};
 ghost use Rattle.lw_certify.specs.Sure.{Sure};
 ghost use Rattle.lw_certify.specs.Verdict.{IsVerdict, IsFirstUnreached, AllReached, DiffersAt};
 ghost use Rattle.lw_certify.specs.bodies.Access.{IsAccess};

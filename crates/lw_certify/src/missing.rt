@@ -1,7 +1,7 @@
 //! The first word of a suite that isn't known.
 ghost use Rattle.std.specs.Prelude.{◌≡◌, true, false, IfOk, IfNone, IfSome};
 ghost use Rattle.std.specs.List.{All};
-ghost use Rattle.lw_words.specs.Answer.{answers_of};
+ghost use Rattle.lw_words.specs.Word.{answers_of};
 ghost use Rattle.lw_words.specs.First.{FailsFirst};
 ghost use Rattle.lw_cache.specs.Known.{IsKnown};
 ghost use Rattle.lw_certify.specs.bodies.Stages.{IsFirstUnknown};

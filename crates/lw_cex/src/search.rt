@@ -1,8 +1,7 @@
 //! The binary search for the place at which a counterexample is cut.
 ghost use Rattle.std.specs.Prelude.{◌≡◌, ◌<◌, [], ◌∷◌, ◌+◌, length, IfOk};
 ghost use Rattle.std.specs.List.{All};
-ghost use Rattle.lw_words.specs.Answer.{answer_of, answers_of, IsAnswer};
-ghost use Rattle.lw_words.specs.Word.{IsWord};
+ghost use Rattle.lw_words.specs.Word.{answer_of, answers_of, IsAnswer, IsWord};
 ghost use Rattle.lw_cache.specs.Cut.{AreAccess};
 ghost use Rattle.lw_cache.specs.Known.{IsKnown};
 ghost use Rattle.lw_cache.specs.Settling.{Keeps, GainsAnswers, MayAsk, Leaves, asked_stop};

@@ -1,7 +1,6 @@
 //! Where a model has to be split.
 ghost use Rattle.std.specs.Prelude.{◌≡◌, ◌<◌, length, IfOk};
-ghost use Rattle.lw_words.specs.Answer.{answers_of};
-ghost use Rattle.lw_words.specs.Word.{IsWord};
+ghost use Rattle.lw_words.specs.Word.{answers_of, IsWord};
 ghost use Rattle.lw_cache.specs.Against.{Differs};
 ghost use Rattle.lw_cache.specs.Cut.{AreAccess, StepsAreRead, IsCut};
 ghost use Rattle.lw_cache.specs.Settling.{MayAsk, Leaves, asked_stop};

@@ -2,8 +2,7 @@
 use Rattle.std.proofs.Common.{◌≡◌, ℕ, ◌+◌, ◌<◌, ◌≤◌, ◌⊎◌, ⊎_elim, List, [], ◌++◌, length, take, drop, min, get_or, sym, ap, ◌∙◌, subst, arith}
 use Rattle.std.proofs.lemmas.Bool.{cases_order}
 use Rattle.std.proofs.lemmas.List.{length-take, get_or-take, take-append-drop, take_all}
-use Rattle.lw_words.specs.Answer.{Answer, answer_at, answers_of}
-use Rattle.lw_words.specs.Word.{IsPrefix}
+use Rattle.lw_words.specs.Word.{Answer, answer_at, answers_of, IsPrefix}
 use Rattle.lw_cache.specs.Clash.{ClashAt, NothingClashes}
 use Rattle.lw_cache.specs.FirstClash.{ClashesFirst}
 use Rattle.lw_cache.specs.declared.stops.Clash.{Clash as Found}

@@ -1,6 +1,6 @@
 -- How the command ends.
 use Rattle.std.proofs.Common.{◌≡◌, ◌⊎◌, inl, inr, ⊎_elim, ℕ, List, length, Option, Some, None, refl, sym, ap, ◌∙◌, subst, arith}
-use Rattle.lw_words.specs.Answer.{answers_of}
+use Rattle.lw_words.specs.Word.{answers_of}
 use Rattle.lw_words.specs.Cause.{CountedFault}
 use Rattle.lw_mealy.specs.Machine.{IsMachine}
 use Rattle.lw_json.specs.AnswersFile.{IsAnswersFile, SameAnswers}

@@ -1,8 +1,7 @@
 //! What a model and answers come to.
 ghost use Rattle.std.specs.Prelude.{◌≡◌, ◌≤◌, ◌⊎◌, true, false};
 ghost use Rattle.std.specs.List.{All};
-ghost use Rattle.lw_words.specs.Answer.{answers_of};
-ghost use Rattle.lw_words.specs.Word.{IsWord};
+ghost use Rattle.lw_words.specs.Word.{answers_of, IsWord};
 ghost use Rattle.lw_check.specs.Decision.{IsDecision, SameNames, pair_of};
 ghost use Rattle.lw_check.specs.Naming.{NamesOutputs};
 ghost use Rattle.lw_check.specs.bodies.Verdicts.{HasOutcome, outcome_of};

@@ -1,13 +1,12 @@
 -- What comes of a learning over children.
 use Rattle.std.specs.Prelude.{◌≡◌, ◌⊎◌, ℕ, ◌<◌, ◌≤◌, List, [], length, slice_index_or, Option, Some, None, Result, IfOk, IfErr, OnOk}
 use Rattle.std.specs.List.{All}
-use Rattle.lw_words.specs.Answer.{Answer, AreAnswers, answers_of}
+use Rattle.lw_words.specs.Word.{Answer, AreAnswers, answers_of}
 use Rattle.lw_words.specs.Cause.{CountedFault}
 use Rattle.lw_words.specs.declared.kept.KeptAnswer.{KeptAnswer}
 use Rattle.lw_words.specs.declared.stop.SulStop.{SulStop}
 use Rattle.lw_words.specs.declared.stop.SulStop.TheVariants.{Failed}
-use Rattle.lw_mealy.specs.Gives.{Gives}
-use Rattle.lw_mealy.specs.Machine.{Rows}
+use Rattle.lw_mealy.specs.Machine.{Gives, Rows}
 use Rattle.lw_outside.specs.Links.{LinkState, Transcript, SpawnerState}
 use Rattle.lw_cache.specs.declared.stops.AskStop.TheVariants as ask
 use Rattle.lw_desk.specs.Ending.{CameFirst, ComeUp}

@@ -1,6 +1,6 @@
 -- Sessions of children, before anything was asked and at their end.
 use Rattle.std.specs.Prelude.{◌≡◌, ℕ, ◌+◌, ◌<◌, ◌≤◌, List, [], ◌∷◌, ◌++◌, length, map, replicate, slice_index_or, Bool, false, Option, Some, None, Result, IfOk, IfErr}
-use Rattle.lw_words.specs.Answer.{answers_of}
+use Rattle.lw_words.specs.Word.{answers_of}
 use Rattle.lw_words.specs.Name.{AllDiffer}
 use Rattle.lw_words.specs.declared.kept.KeptAnswer.{KeptAnswer}
 use Rattle.std.specs.List.{All}
@@ -15,8 +15,7 @@ use Rattle.lw_rounds.specs.declared.learner.Kind.{Kind}
 use Rattle.lw_rounds.specs.declared.stops.LearnStop.{LearnStop}
 use Rattle.lw_workers.specs.Leaving.{HasLearned}
 use Rattle.lw_line.specs.Causes.{StopIsCounted, IsTranscriptOf}
-use Rattle.lw_line.specs.LineState.{AreFree, AreToldIfFree, IsNaming}
-use Rattle.lw_line.specs.LineState.{LineState, told_runs}
+use Rattle.lw_line.specs.LineState.{AreFree, AreToldIfFree, IsNaming, LineState, told_runs}
 use Rattle.lw_system.specs.NewLines.{new_line}
 
 -- what is seen of a session of a child, by the number of its link

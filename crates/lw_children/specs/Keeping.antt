@@ -1,7 +1,7 @@
 -- What is kept of a learning over children: the runs that went over their links.
 use Rattle.std.specs.Prelude.{◌≡◌, ◌⊎◌, ℕ, ◌<◌, List, ◌++◌, length, slice_index_or, Bool, Option, Some, None}
 use Rattle.std.specs.List.{All, range_with_len}
-use Rattle.lw_words.specs.Answer.{AreAnswers, answers_of}
+use Rattle.lw_words.specs.Word.{AreAnswers, answers_of}
 use Rattle.lw_words.specs.declared.kept.KeptAnswer.{KeptAnswer}
 use Rattle.lw_sul.specs.declared.runs.Run.{Run}
 use Rattle.lw_outside.specs.Links.{LinkState, Transcript}

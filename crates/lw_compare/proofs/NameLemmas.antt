@@ -10,8 +10,7 @@ use Rattle.std.proofs.lemmas.Option.{slice_get-get_or, slice_get_within, get_or_
 use Rattle.lw_words.specs.Name.{IsNames, number_of}
 use Rattle.lw_words.proofs.NumberLemmas.{name_at_number, number_at_place}
 use Rattle.lw_words.specs.Word.{IsWord}
-use Rattle.lw_mealy.specs.Limits.{IsWithinLimits, MealyMachine}
-use Rattle.lw_mealy.specs.Machine.{Rows, cell, next, out, output}
+use Rattle.lw_mealy.specs.Machine.{IsWithinLimits, MealyMachine, Rows, cell, next, out, output}
 use Rattle.lw_mealy.proofs.RowLemmas.{output_below, target_below}
 use Rattle.lw_json.specs.declared.machine.Machine.{Machine}
 use Rattle.lw_compare.specs.Comparing.{lacking, names_of_word, translated}

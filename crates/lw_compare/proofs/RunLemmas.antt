@@ -16,8 +16,7 @@ use Rattle.lw_report.specs.declared.outcome.Outcome.{Outcome}
 use Rattle.lw_report.specs.declared.outcome.Outcome.TheVariants.{Compared, NoMemory, SinkFault}
 use Rattle.lw_compare.specs.CompareRun.{ComesTo, EndsModelsRead, EndsUnread, IsCompareRun, text}
 use Rattle.lw_words.specs.Word.{IsWord}
-use Rattle.lw_mealy.specs.Limits.{MealyMachine}
-use Rattle.lw_mealy.specs.Machine.{answer}
+use Rattle.lw_mealy.specs.Machine.{MealyMachine, answer}
 use Rattle.lw_report.specs.declared.comparison.Difference.{Difference}
 use Rattle.lw_compare.specs.Comparing.{ModelsAgreeOn, IsLeastDifference, lacking, reply, second_reply, names_of_word, translated}
 use Rattle.lw_compare.specs.Decision.{IsComparison}

@@ -4,8 +4,7 @@ use Rattle.std.specs.Prelude.{◌≡◌, ℕ, List, [], map, is_none, slice_inde
 use Rattle.std.specs.List.{filter}
 use Rattle.std.specs.declared.cmp.Ordering.TheVariants.{Less}
 use Rattle.lw_words.specs.Name.{number_of}
-use Rattle.lw_words.specs.Shortlex.{shortlex_cmp}
-use Rattle.lw_words.specs.Word.{IsWord}
+use Rattle.lw_words.specs.Word.{shortlex_cmp, IsWord}
 use Rattle.lw_mealy.specs.Machine.{answer}
 use Rattle.lw_json.specs.declared.machine.Machine.{Machine}
 

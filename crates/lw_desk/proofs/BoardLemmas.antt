@@ -4,8 +4,7 @@ use Rattle.std.proofs.lemmas.Bool.{false≢true, cases_eq}
 use Rattle.std.proofs.lemmas.List.{get_or-map, get_or_default, get_or_append_left, length-append, get_or-set_other, drop_more, length-map, length-set, map_push, nil_from_length}
 use Rattle.std.proofs.lemmas.List.Elements.{All-head, All-tail, All-push, All-weaker, All-filter, All-contains, Contains-get_or, Contains-push_cases, Contains-push, Contains-append_left}
 use Rattle.std.proofs.lemmas.List.Sums.{sum_by-cons}
-use Rattle.lw_words.specs.Answer.{answers_of}
-use Rattle.lw_words.specs.Word.{IsPrefix}
+use Rattle.lw_words.specs.Word.{answers_of, IsPrefix}
 use Rattle.lw_words.specs.declared.kept.KeptAnswer.{KeptAnswer}
 use Rattle.lw_cache.specs.Caching.{Claim, claim_of, claim_at, IsClaimOf, IsClaimedBy, IsUnused, without_claim}
 use Rattle.lw_cache.specs.Known.{IsKnown}

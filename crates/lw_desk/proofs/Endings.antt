@@ -1,8 +1,7 @@
 -- What a history of a desk has come to.
 use Rattle.std.proofs.Common.{◌≡◌, ◌⊎◌, inl, inr, ⊎_elim, ℕ, ◌<◌, List, [], ◌∷◌, ◌++◌, length, map, get_or, Contains, All, true, None, refl, ap, sym, ◌∙◌, subst, append_assoc, append-nil, ◌-◌}
 use Rattle.std.proofs.lemmas.List.{append_cancel_left, get_or_default}
-use Rattle.lw_words.specs.Answer.{answers_of}
-use Rattle.lw_words.specs.Word.{IsPrefix}
+use Rattle.lw_words.specs.Word.{answers_of, IsPrefix}
 use Rattle.lw_words.specs.declared.kept.KeptAnswer.{KeptAnswer}
 use Rattle.lw_cache.specs.Asked.{IsAsked}
 use Rattle.lw_cache.specs.Known.{IsKnown}

@@ -1,10 +1,9 @@
 -- What the calls of a board do, as steps of a desk.
-use Rattle.std.proofs.Common.{◌≡◌, ◌⊎◌, inl, inr, ⊎_elim, ℕ, ◌-◌, ◌<◌, ◌≤◌, ◌==◌, not, List, [], ◌∷◌, ◌++◌, length, map, filter, Contains, Bool, true, false, Option, Some, None, Result, Ok, Err, OnOk, IfErr, refl, ap, sym, ◌∙◌, subst, arith}
+use Rattle.std.proofs.Common.{◌≡◌, ◌⊎◌, inl, inr, ⊎_elim, ℕ, ◌-◌, ◌<◌, ◌≤◌, ◌==◌, not, List, [], ◌∷◌, ◌++◌, length, map, filter, Contains, Bool, true, false, Option, Some, None, Result, Ok, Err, OnOk, IfErr, refl, ap, sym, ◌∙◌, subst, arith, cond, get_or}
 use Rattle.std.specs.Bool.{⊤}
 use Rattle.std.proofs.lemmas.List.{map_push, length-map, length-append, get_or-map, get_or_default}
-use Rattle.lw_words.specs.Answer.{answer_of, answers_of}
+use Rattle.lw_words.specs.Word.{answer_of, answers_of, IsPrefix}
 use Rattle.lw_words.specs.Name.{AllDiffer}
-use Rattle.lw_words.specs.Word.{IsPrefix}
 use Rattle.lw_words.specs.declared.kept.KeptAnswer.{KeptAnswer}
 use Rattle.lw_cache.specs.Caching.{Claim}
 use Rattle.lw_cache.specs.Clash.{IsClearAfter}
@@ -15,14 +14,12 @@ use Rattle.lw_cache.specs.declared.stops.AskStop.TheVariants as Ask
 use Rattle.lw_cache.specs.declared.stops.Clash.{Clash}
 use Rattle.lw_cache.proofs.GainLemmas.{known_new}
 use Rattle.lw_names.specs.Naming.{Naming, bring}
-use Rattle.lw_desk.specs.Step.{Claimed, DeskState, word_at_place, IsCovered, ComesBefore, IsFirstFree, NothingToTake, IsLeft, AreLeft, CountsLeft, ActorTakesAll, ActorGives, GivesAll, StopsBy, after_take, after_give, after_fail, kept_of, without_place, without_places, first_stop, stop_of}
+use Rattle.lw_desk.specs.Step.{Claimed, DeskState, word_at_place, IsCovered, ComesBefore, IsFirstFree, NothingToTake, IsLeft, AreLeft, CountsLeft, ActorTakesAll, ActorGives, GivesAll, StopsBy, after_take, after_give, after_fail, kept_of, without_place, without_places, first_stop, stop_of, after_done}
 use Rattle.lw_desk.specs.bodies.Board.{BoardState, Agrees, IsTaken, AreApart, AreHeld, BeginsOne, Waits, numbers_of, IsBoard, stop_after, without_number, without_numbers}
 use Rattle.lw_desk.specs.declared.ask.Give.{Give}
 use Rattle.lw_desk.specs.declared.ask.Failed.{Failed}
-use Rattle.std.proofs.Common.{cond, get_or}
 use Rattle.std.proofs.lemmas.List.Elements.{All-contains, Contains-get_or}
 use Rattle.lw_desk.specs.lemmas.StepLemmas.{done_only, prefix_whole}
-use Rattle.lw_desk.specs.Step.{after_done}
 use Rattle.lw_names.proofs.Members.{in_filter, In, in_contains, contains_in, in_map, in_mapped}
 use Rattle.lw_desk.specs.lemmas.CoverLemmas.{some_none, prefix_of_prefix}
 use Rattle.lw_desk.proofs.BoardLemmas.{map-filter, taken_prefix, prefix_alike, whole_words, whole_pairs}

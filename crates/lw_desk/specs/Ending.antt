@@ -1,6 +1,6 @@
 -- What a desk leaves: which runs the kept answers are, by names, and which answer of a clash came first.
 use Rattle.std.specs.Prelude.{ℕ, ◌<◌, ◌≤◌, ◌==◌, List, length, map, filter, take, Contains}
-use Rattle.lw_words.specs.Answer.{answer_at, answers_of}
+use Rattle.lw_words.specs.Word.{answer_at, answers_of}
 use Rattle.lw_words.specs.declared.kept.KeptAnswer.{KeptAnswer}
 use Rattle.lw_names.specs.Names.{name_at, named}
 use Rattle.lw_cache.specs.Clash.{IsClear}

@@ -7,7 +7,7 @@ use Rattle.json.proofs.Found.{Some_inj}
 use Rattle.lw_words.specs.Name.{IsNames, RepeatsFirst}
 use Rattle.lw_words.specs.declared.names.NamesFault.{NamesFault}
 use Rattle.lw_words.specs.declared.names.NamesFault.TheVariants.{Empty, TooMany, BadName, Repeated, NoMemory}
-use Rattle.lw_mealy.specs.Limits.{MealyMachine, IsWithinLimits}
+use Rattle.lw_mealy.specs.Machine.{MealyMachine, IsWithinLimits}
 use Rattle.lw_mealy.specs.declared.fault.MealyFault.{MealyFault}
 use Rattle.lw_mealy.specs.declared.fault.MealyFault.TheVariants as mealy
 use Rattle.lw_json.specs.Each.{each_of}

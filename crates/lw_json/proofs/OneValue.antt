@@ -2,8 +2,7 @@
 use Rattle.std.proofs.Common.{◌≡◌, ℕ, List, length, codes, sym, ap, ap₂, ◌∙◌}
 use Rattle.json.proofs.Found.{Some_inj}
 use Rattle.serde_json.specs.Data.{Data}
-use Rattle.lw_mealy.specs.Machine.{Rows}
-use Rattle.lw_mealy.specs.Limits.{MealyMachine, mealy_of}
+use Rattle.lw_mealy.specs.Machine.{Rows, MealyMachine, mealy_of}
 use Rattle.lw_json.specs.MachineFile.{NamedRow, WrittenMachine, SaysMachine, SpellsMachine, IsMachineFile, SameMachine, numbered_rows, rows_at}
 use Rattle.lw_json.specs.Members.{texts_at}
 use Rattle.lw_json.specs.declared.machine.Machine.{Machine}

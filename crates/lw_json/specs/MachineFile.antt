@@ -3,8 +3,7 @@ use Rattle.std.specs.Prelude.{◌≡◌, ℕ, ◌≤◌, List, [], ◌∷◌, le
 use Rattle.serde_json.specs.Data.{Data}
 use Rattle.serde_json.specs.Find.{as_number, as_str, as_u64}
 use Rattle.lw_words.specs.Name.{IsNames, number_of}
-use Rattle.lw_mealy.specs.Machine.{Rows}
-use Rattle.lw_mealy.specs.Limits.{IsWithinLimits}
+use Rattle.lw_mealy.specs.Machine.{Rows, IsWithinLimits}
 use Rattle.lw_json.specs.Each.{each_of}
 use Rattle.lw_json.specs.Members.{IsJson, array_of, list_at, texts_at}
 use Rattle.lw_json.specs.declared.machine.Machine.{Machine}

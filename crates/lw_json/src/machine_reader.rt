@@ -4,7 +4,7 @@ ghost use Rattle.std.specs.Prelude.{◌≡◌, List, ℕ, ◌+◌, ◌≤◌, If
 ghost use Rattle.serde_json.specs.View.{view};
 ghost use Rattle.lw_words.specs.First.{FailsFirst};
 ghost use Rattle.lw_words.specs.Name.{IsNames};
-ghost use Rattle.lw_mealy.specs.Limits.{mealy_of, IsWithinLimits};
+ghost use Rattle.lw_mealy.specs.Machine.{mealy_of, IsWithinLimits};
 ghost use Rattle.lw_json.specs.Each.{each_of};
 ghost use Rattle.lw_json.specs.Fault.{first_failing};
 ghost use Rattle.lw_json.specs.MachineFile.{AreInputs, cell_of, row_of, rows_at, numbered_cell, numbered_rows, SaysMachine, SpellsMachine, IsMachineFile, SameMachine};

@@ -3,8 +3,7 @@ use Rattle.std.proofs.Common.{◌≡◌, ℕ, ◌<◌, ◌≤◌, List, [], ◌+
 use Rattle.std.specs.List.{All}
 use Rattle.std.proofs.lemmas.List.{get_or-map, length-map}
 use Rattle.std.proofs.lemmas.List.Elements.{All-append}
-use Rattle.lw_words.specs.Answer.{Answer, AreAnswers, IsAnswer, answer_of, answers_of}
-use Rattle.lw_words.specs.Word.{IsWord}
+use Rattle.lw_words.specs.Word.{Answer, AreAnswers, IsAnswer, answer_of, answers_of, IsWord}
 use Rattle.lw_words.specs.declared.kept.KeptAnswer.{KeptAnswer}
 use Rattle.lw_json.specs.KeptOver.{AreKeptOver}
 use Rattle.lw_json.specs.declared.machine.Machine.{Machine}

@@ -1,13 +1,12 @@
 -- How a call of `learn` ends.
 use Rattle.std.specs.Prelude.{◌≡◌, ◌≢◌, ◌⊎◌, ℕ, ◌≤◌, List, [], ◌∷◌, ◌++◌, length, Option, Some, None, Result, Ok, Err, IfErr, IfSome, option_map, option_and_then}
 use Rattle.std.specs.List.{All}
-use Rattle.lw_words.specs.Answer.{answers_of}
+use Rattle.lw_words.specs.Word.{answers_of}
 use Rattle.lw_words.specs.Cause.{CountedFault}
 use Rattle.lw_words.specs.declared.kept.KeptAnswer.{KeptAnswer}
 use Rattle.lw_cache.specs.Clash.{NothingClashes}
 use Rattle.lw_names.specs.Naming.{Naming}
-use Rattle.lw_mealy.specs.Gives.{Gives}
-use Rattle.lw_mealy.specs.Machine.{Rows}
+use Rattle.lw_mealy.specs.Machine.{Gives, Rows}
 use Rattle.lw_outside.specs.Files.{File, FilesState}
 use Rattle.lw_outside.specs.Links.{LinkState, SpawnerState}
 use Rattle.lw_rounds.specs.Learner.{refinements_of}

@@ -4,8 +4,7 @@ use Rattle.std.specs.List.{All}
 use Rattle.std.proofs.lemmas.List.{get_or-append_right, get_or-drop, get_or-map, length-map, length-take-le, map-set}
 use Rattle.std.proofs.lemmas.List.Edits.{map_over_more}
 use Rattle.std.proofs.lemmas.List.Elements.{All-get_or, All-map}
-use Rattle.lw_mealy.specs.Limits.{MealyMachine, mealy_of, IsWithinLimits}
-use Rattle.lw_mealy.specs.Machine.{Row, Rows}
+use Rattle.lw_mealy.specs.Machine.{MealyMachine, mealy_of, IsWithinLimits, Row, Rows}
 use Rattle.lw_mealy.specs.Renumbering.{renumbered_cell, renumbered_cells, renumbered_rows, AllRenumber}
 
 -- in a list whose front was changed, what stands behind the front is as it was

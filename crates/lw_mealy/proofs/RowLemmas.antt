@@ -1,14 +1,12 @@
 -- Rows of a machine, read by place from the vectors that hold them.
 use Rattle.std.proofs.Common.{◌≡◌, ℕ, ◌<◌, List, [], length, get_or, map, subst, sym, ◌∙◌, ap}
-use Rattle.std.specs.List.{All}
+use Rattle.std.specs.List.{All, AllWithin}
 use Rattle.std.proofs.lemmas.List.Elements.{All-get_or}
 use Rattle.std.proofs.lemmas.List.{get_or-map, get_or_default, length-map}
-use Rattle.std.specs.List.{AllWithin}
 use Rattle.lw_words.specs.First.{FailsFirst}
 use Rattle.lw_words.proofs.Lists.{read-map}
 use Rattle.lw_mealy.specs.Fault.{CellFailsFirst}
-use Rattle.lw_mealy.specs.Machine.{Row, Rows, IsMachine, row, cell}
-use Rattle.lw_mealy.specs.Limits.{MealyMachine, IsWithinLimits}
+use Rattle.lw_mealy.specs.Machine.{Row, Rows, IsMachine, row, cell, MealyMachine, IsWithinLimits}
 
 -- what a machine keeps of each row
 abbrev IsRow : ℕ → ℕ → Row → Type 0

@@ -1,11 +1,7 @@
 pub mod Difference
-pub mod Equal
 pub mod Fault
-pub mod Gives
 pub mod Machine
-pub mod Minimal
 pub mod Origin
 pub mod CellHalf
-pub mod Limits
 pub mod Renumbering
 pub mod Worked

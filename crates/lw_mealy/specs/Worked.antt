@@ -1,7 +1,6 @@
 -- Four machines by hand, and what the definitions say of them.
 use Rattle.std.specs.Prelude.{◌≡◌, [], ◌∷◌}
-use Rattle.lw_mealy.specs.Machine.{Rows, after, answer, out}
-use Rattle.lw_mealy.specs.Minimal.{IsMinimal, Reached}
+use Rattle.lw_mealy.specs.Machine.{Rows, after, answer, out, IsMinimal, Reached}
 
 -- one state that answers 0
 abbrev pub one : Rows

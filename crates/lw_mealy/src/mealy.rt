@@ -3,9 +3,8 @@ ghost use Rattle.std.specs.Prelude.{◌≡◌, ℕ, ◌<◌, ◌≤◌, List, le
 ghost use Rattle.std.specs.List.{All};
 ghost use Rattle.lw_words.specs.First.{FailsFirst};
 ghost use Rattle.lw_words.specs.Word.{IsWord};
-ghost use Rattle.lw_mealy.specs.Machine.{Rows, IsMachine, after, out, answer, cell, row};
+ghost use Rattle.lw_mealy.specs.Machine.{Rows, IsMachine, after, out, answer, cell, row, MealyMachine, mealy_of, IsWithinLimits, AnswersBelow};
 ghost use Rattle.lw_mealy.specs.CellHalf.{IsBelow};
-ghost use Rattle.lw_mealy.specs.Limits.{MealyMachine, mealy_of, IsWithinLimits, AnswersBelow};
 ghost use Rattle.lw_mealy.specs.Difference.{DifferFirst};
 ghost use Rattle.lw_mealy.specs.declared.fault.MealyFault.{MealyFault as Fault};
 ghost use Rattle.lw_mealy.specs.Fault.{RowsHaveFault, IsCounted, IsSquare, TargetsAreStates, CellFailsFirst};
@@ -31,7 +30,7 @@ pub struct Mealy {
 
 impl Model for Mealy {
     ghost use Rattle.std.specs.Prelude.{map};
-    ghost use Rattle.lw_mealy.specs.Limits.{MealyMachine, mealy_of, IsWithinLimits};
+    ghost use Rattle.lw_mealy.specs.Machine.{MealyMachine, mealy_of, IsWithinLimits};
 
     ghost Value = { MealyMachine };
 

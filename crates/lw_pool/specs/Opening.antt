@@ -1,7 +1,7 @@
 -- Which sessions may make a pool.
 use Rattle.std.specs.Prelude.{◌≡◌, ℕ, ◌<◌, List, [], length, slice_index_or, None}
 use Rattle.std.specs.List.{All}
-use Rattle.lw_words.specs.Answer.{answer_of, IsAnswer}
+use Rattle.lw_words.specs.Word.{answer_of, IsAnswer}
 use Rattle.lw_words.specs.declared.kept.KeptAnswer.{KeptAnswer}
 use Rattle.lw_sul.specs.SessionState.{SessionState}
 use Rattle.lw_sul.specs.System.{SulState}

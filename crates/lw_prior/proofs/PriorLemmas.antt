@@ -4,10 +4,9 @@ use Rattle.std.specs.List.{All}
 use Rattle.std.proofs.lemmas.List.{length-map, length-take, map-id, map_more, get_or-map, get_or_default, take_more}
 use Rattle.std.proofs.lemmas.List.Elements.{All-head, All-tail, All-push}
 use Rattle.std.proofs.lemmas.Option.{none-some, slice_get_within, get_or_from_slice_get}
-use Rattle.lw_words.specs.Answer.{answer_of, answers_of, IsAnswer, IsWhole}
+use Rattle.lw_words.specs.Word.{answer_of, answers_of, IsAnswer, IsWhole, IsWord}
 use Rattle.lw_words.specs.Name.{AllDiffer, number_of}
 use Rattle.lw_words.specs.Renumbering.{renumbered, renumbered_answer, renumbered_answers}
-use Rattle.lw_words.specs.Word.{IsWord}
 use Rattle.lw_words.specs.declared.kept.KeptAnswer.{KeptAnswer}
 use Rattle.lw_words.proofs.NumberLemmas.{name_at_number}
 use Rattle.lw_names.specs.Names.{name_at}

@@ -1,6 +1,6 @@
 -- The first two answers, in the order of a list, that no one machine gives.
 use Rattle.std.specs.Prelude.{◌<◌, List, length, take}
-use Rattle.lw_words.specs.Answer.{Answer, answer_at}
+use Rattle.lw_words.specs.Word.{Answer, answer_at}
 use Rattle.lw_cache.specs.Clash.{NothingClashes}
 use Rattle.lw_cache.specs.FirstClash.{ClashesFirst}
 use Rattle.lw_cache.specs.declared.stops.Clash.{Clash}

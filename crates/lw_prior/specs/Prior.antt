@@ -1,6 +1,6 @@
 -- The answers of an earlier call, as those that a learning begins with.
 use Rattle.std.specs.Prelude.{ℕ, ◌+◌, List, [], ◌∷◌, map, Option, None, Some}
-use Rattle.lw_words.specs.Answer.{Answer}
+use Rattle.lw_words.specs.Word.{Answer}
 use Rattle.lw_words.specs.declared.kept.KeptAnswer.{KeptAnswer}
 use Rattle.lw_names.specs.Names.{name_at}
 use Rattle.lw_cache.specs.Clash.{NothingClashes}

@@ -1,7 +1,7 @@
 //! Answers, kept one after the other.
 ghost use Rattle.std.specs.Prelude.{◌≡◌, [], ◌∷◌, ◌++◌, length, IfOk, OnOk};
 ghost use Rattle.std.specs.List.{All};
-ghost use Rattle.lw_words.specs.Answer.{answers_of, IsWhole};
+ghost use Rattle.lw_words.specs.Word.{answers_of, IsWhole};
 ghost use Rattle.lw_cache.specs.Caching.{kept_answer};
 ghost use Rattle.lw_prior.specs.Prior.{HasFirstClash};
 

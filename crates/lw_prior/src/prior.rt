@@ -1,7 +1,7 @@
 //! The answers of a file, by the names of a system.
 ghost use Rattle.std.specs.Prelude.{◌≡◌, ◌<◌, [], length, map, Contains, IfOk, OnOk, Err, None};
 ghost use Rattle.std.specs.List.{All};
-ghost use Rattle.lw_words.specs.Answer.{answers_of, IsWhole};
+ghost use Rattle.lw_words.specs.Word.{answers_of, IsWhole};
 ghost use Rattle.lw_words.specs.Renumbering.{renumbered_answers};
 ghost use Rattle.lw_names.specs.Naming.{number_in};
 ghost use Rattle.lw_pool.specs.Opening.{MayBegin};

@@ -2,7 +2,7 @@
 -- those of the runs are numbered by names of their own, and are compared by these.
 use Rattle.std.specs.Prelude.{◌≡◌, ℕ, ◌<◌, ◌≤◌, List, [], ◌∷◌, ◌++◌, length, map, take, Option, Some, None, Result, Ok, Err, ◌≢◌, slice_index_or}
 use Rattle.std.specs.List.{All}
-use Rattle.lw_words.specs.Answer.{answer_at, answers_of, Answer}
+use Rattle.lw_words.specs.Word.{answer_at, answers_of, Answer}
 use Rattle.lw_words.specs.declared.kept.KeptAnswer.{KeptAnswer}
 use Rattle.lw_words.specs.declared.stop.RunStop.{RunStop}
 use Rattle.lw_words.specs.declared.stop.RunStop.TheVariants.{Sul}

@@ -1,8 +1,7 @@
 -- Renamed answers: what clashes, what is clear, known and read, and what is a crowd.
 use Rattle.std.proofs.Common.{◌≡◌, ℕ, zero, suc, ◌<◌, ◌↔◌, inl, inr, ⊎_elim, List, [], ◌∷◌, ◌++◌, length, take, drop, get_or, map, refl, ap, sym, ◌∙◌, subst, subst₂, arith}
 use Rattle.std.proofs.lemmas.List.{length-map, take-map, drop-map, get_or-map}
-use Rattle.lw_words.specs.Answer.{Answer, AreAnswers, IsWhole, answer_at}
-use Rattle.lw_words.specs.Word.{IsPrefix}
+use Rattle.lw_words.specs.Word.{Answer, AreAnswers, IsWhole, answer_at, IsPrefix}
 use Rattle.lw_cache.specs.Clash.{Clash, NothingClashes, IsClearAfter, IsClear}
 use Rattle.lw_cache.specs.Known.{IsKnown, Reads}
 use Rattle.lw_cache.specs.Crowd.{Apart, IsCrowd}

@@ -3,12 +3,11 @@ use Rattle.std.proofs.Common.{◌≡◌, ℕ, ◌<◌, ◌≤◌, ⊎_elim, List
 use Rattle.std.specs.List.{All}
 use Rattle.std.proofs.lemmas.Bool.{cases_lt}
 use Rattle.std.proofs.lemmas.List.Elements.{All-head, All-tail, All-map}
-use Rattle.lw_words.specs.Answer.{Answer, AreAnswers, answers_of}
+use Rattle.lw_words.specs.Word.{Answer, AreAnswers, answers_of}
 use Rattle.lw_words.specs.Renumbering.{renumbered_answers}
 use Rattle.lw_words.specs.declared.kept.KeptAnswer.{KeptAnswer}
 use Rattle.lw_cache.specs.Clash.{NothingClashes}
-use Rattle.lw_mealy.specs.Limits.{MealyMachine, mealy_of, IsWithinLimits, AnswersBelow}
-use Rattle.lw_mealy.specs.Machine.{Rows}
+use Rattle.lw_mealy.specs.Machine.{MealyMachine, mealy_of, IsWithinLimits, AnswersBelow, Rows}
 use Rattle.lw_mealy.specs.Renumbering.{renumbered_cell, renumbered_cells, renumbered_rows}
 use Rattle.lw_rounds.specs.Learned.{IsLearned, StopsAs}
 use Rattle.lw_rounds.proofs.LawLemmas.{model_is_least}

@@ -3,12 +3,8 @@ use Rattle.std.proofs.Common.{◌≡◌, ◌≢◌, ℕ, zero, suc, ◌<◌, Lis
 use Rattle.std.specs.List.{All}
 use Rattle.std.proofs.lemmas.List.{length-map}
 use Rattle.std.proofs.lemmas.List.Elements.{All-head, All-tail, All-map}
-use Rattle.lw_words.specs.Answer.{Answer, AreAnswers}
-use Rattle.lw_words.specs.Word.{IsWord}
-use Rattle.lw_mealy.specs.Machine.{Row, Rows, IsMachine, row, next, output, after, out, answer}
-use Rattle.lw_mealy.specs.Gives.{Gives}
-use Rattle.lw_mealy.specs.Equal.{Equal}
-use Rattle.lw_mealy.specs.Minimal.{Reached, IsMinimal}
+use Rattle.lw_words.specs.Word.{Answer, AreAnswers, IsWord}
+use Rattle.lw_mealy.specs.Machine.{Row, Rows, IsMachine, row, next, output, after, out, answer, Gives, Equal, Reached, IsMinimal}
 use Rattle.lw_mealy.proofs.RowLemmas.{is_row, target_below}
 use Rattle.lw_renumber.specs.Renaming.{Renames, renamed_cell, renamed_row, renamed_rows, renamed_answer, renamed_answers}
 

@@ -4,13 +4,9 @@ use Rattle.std.specs.List.{All}
 use Rattle.std.proofs.lemmas.Bool.Decides.{Decides-ltb}
 use Rattle.std.proofs.lemmas.List.{get_or-append-add}
 use Rattle.std.proofs.lemmas.List.Elements.{All-map, All-from_get_or, All-append, All-cons, All-nil, All-head, All-tail}
-use Rattle.lw_words.specs.Answer.{Answer, AreAnswers, answer_of, answers_of}
+use Rattle.lw_words.specs.Word.{Answer, AreAnswers, answer_of, answers_of, IsWord}
 use Rattle.lw_words.specs.declared.kept.KeptAnswer.{KeptAnswer}
-use Rattle.lw_words.specs.Word.{IsWord}
-use Rattle.lw_mealy.specs.Machine.{Rows, IsMachine, row, output, after, out, answer}
-use Rattle.lw_mealy.specs.Gives.{Gives}
-use Rattle.lw_mealy.specs.Equal.{Equal}
-use Rattle.lw_mealy.specs.Limits.{MealyMachine, AnswersBelow}
+use Rattle.lw_mealy.specs.Machine.{Rows, IsMachine, row, output, after, out, answer, Gives, Equal, MealyMachine, AnswersBelow}
 use Rattle.lw_mealy.proofs.RowLemmas.{is_row}
 use Rattle.lw_mealy.proofs.WordLemmas.{out-append, length-out}
 use Rattle.lw_rounds.specs.Learned.{IsCertified, IsLearned}

@@ -1,10 +1,8 @@
 -- Renamed machines: their least words, their separators and their suites are the same.
 use Rattle.std.proofs.Common.{ℕ, ◌<◌, List, [], length, get_or, sym, ◌∙◌, subst, arith}
-use Rattle.lw_words.specs.Answer.{Answer, AreAnswers}
-use Rattle.lw_words.specs.Word.{IsWord}
+use Rattle.lw_words.specs.Word.{Answer, AreAnswers, IsWord}
 use Rattle.lw_mealy.specs.Machine.{Rows, IsMachine}
-use Rattle.lw_separate.specs.Canonical.{IsCanonical}
-use Rattle.lw_separate.specs.Least.{IsLeastAccess, IsLeastSeparating, AreLeastAccess}
+use Rattle.lw_separate.specs.Canonical.{IsCanonical, IsLeastAccess, IsLeastSeparating, AreLeastAccess}
 use Rattle.lw_separate.specs.Separators.{IsSeparators, IsPair}
 use Rattle.lw_suite.specs.Suite.{IsSuite}
 use Rattle.lw_certify.specs.Verdict.{SuiteIsKnown}

@@ -1,9 +1,7 @@
 -- What the renamed answers are worth.
 use Rattle.std.proofs.Common.{ℕ, ◌+◌, ◌≤◌, List, length, sym, subst, arith}
-use Rattle.lw_words.specs.Answer.{Answer, AreAnswers}
-use Rattle.lw_mealy.specs.Machine.{Rows, IsMachine}
-use Rattle.lw_mealy.specs.Gives.{Gives}
-use Rattle.lw_mealy.specs.Equal.{Equal}
+use Rattle.lw_words.specs.Word.{Answer, AreAnswers}
+use Rattle.lw_mealy.specs.Machine.{Rows, IsMachine, Gives, Equal}
 use Rattle.lw_certify.specs.Sure.{Sure}
 use Rattle.lw_certify.specs.Verdict.{IsVerdict}
 use Rattle.lw_certify.specs.declared.verdict.Verdict.TheVariants as verdict

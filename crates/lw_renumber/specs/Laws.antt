@@ -1,10 +1,7 @@
 -- That outputs under other names change nothing of what was learned.
 use Rattle.std.specs.Prelude.{◌≡◌, ℕ, ◌≤◌, ◌↔◌, List, length, map}
-use Rattle.lw_words.specs.Answer.{Answer, AreAnswers, IsWhole}
-use Rattle.lw_words.specs.Word.{IsWord}
-use Rattle.lw_mealy.specs.Machine.{Rows, IsMachine, answer}
-use Rattle.lw_mealy.specs.Gives.{Gives}
-use Rattle.lw_mealy.specs.Limits.{MealyMachine, mealy_of, AnswersBelow}
+use Rattle.lw_words.specs.Word.{Answer, AreAnswers, IsWhole, IsWord}
+use Rattle.lw_mealy.specs.Machine.{Rows, IsMachine, answer, Gives, MealyMachine, mealy_of, AnswersBelow}
 use Rattle.lw_cache.specs.Clash.{Clash, NothingClashes, IsClear}
 use Rattle.lw_cache.specs.Crowd.{IsCrowd}
 use Rattle.lw_cache.specs.Known.{IsKnown, Reads}

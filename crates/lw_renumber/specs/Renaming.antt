@@ -1,7 +1,7 @@
 -- Outputs under other names: what a bijection of the numbers makes of rows and of answers.
 use Rattle.std.specs.Prelude.{◌≡◌, ℕ, ◌<◌, List, map}
 use Rattle.std.specs.List.{All}
-use Rattle.lw_words.specs.Answer.{Answer}
+use Rattle.lw_words.specs.Word.{Answer}
 use Rattle.lw_mealy.specs.Machine.{Row, Rows}
 
 -- g takes back what f does, and f what g does

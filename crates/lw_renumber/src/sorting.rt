@@ -2,10 +2,9 @@
 ghost use Rattle.std.specs.Prelude.{◌≡◌, ◌≤◌, length, is_some, true, IfOk};
 ghost use Rattle.std.specs.List.{All};
 ghost use Rattle.std.specs.List.Sorted.{IsPermutation};
-ghost use Rattle.lw_words.specs.Answer.{answers_of};
+ghost use Rattle.lw_words.specs.Word.{answers_of, IsWord};
 ghost use Rattle.lw_words.specs.Renumbering.{renumbered_answers};
-ghost use Rattle.lw_words.specs.Word.{IsWord};
-ghost use Rattle.lw_mealy.specs.Limits.{AnswersBelow};
+ghost use Rattle.lw_mealy.specs.Machine.{AnswersBelow};
 ghost use Rattle.lw_desk.specs.Ending.{ComeUp};
 ghost use Rattle.lw_names.specs.Naming.{AreSorted};
 ghost use Rattle.lw_renumber.specs.Sorting.{MapsWithin, HasSorted, outs_named, renumbered_learned};

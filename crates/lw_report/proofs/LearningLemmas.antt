@@ -1,10 +1,8 @@
 -- What the end of a learning says, from what the learning answered, and what its own stops come to.
 use Rattle.std.proofs.Common.{◌≡◌, ℕ, List, [], ◌∷◌, Some, Result, Ok, Err, IfOk, length, map, refl, ap, ap₂, subst, sym, ◌∙◌}
 use Rattle.std.proofs.lemmas.List.{length-map}
-use Rattle.lw_words.specs.Answer.{Answer, AreAnswers, answers_of}
-use Rattle.lw_mealy.specs.Gives.{Gives}
-use Rattle.lw_mealy.specs.Limits.{MealyMachine, mealy_of}
-use Rattle.lw_mealy.specs.Machine.{Row, Rows}
+use Rattle.lw_words.specs.Word.{Answer, AreAnswers, answers_of}
+use Rattle.lw_mealy.specs.Machine.{Gives, MealyMachine, mealy_of, Row, Rows}
 use Rattle.lw_cache.specs.declared.stops.AskStop.{AskStop}
 use Rattle.lw_cache.specs.declared.stops.AskStop.TheVariants as ask
 use Rattle.lw_rounds.specs.Learned.{IsCertified, IsLearned, IsReadOff, IsTooLarge}

@@ -1,7 +1,7 @@
 -- Texts that take no memory.
 use Rattle.std.proofs.Common.{◌≡◌, ℕ, List, Option, Some, None, IfNone, IfSome, refl}
 use Rattle.std.specs.Prelude.{unwrap_or}
-use Rattle.lw_mealy.specs.Limits.{MealyMachine}
+use Rattle.lw_mealy.specs.Machine.{MealyMachine}
 use Rattle.lw_json.specs.declared.fault.JsonFault.{JsonFault}
 use Rattle.lw_cache.specs.declared.stops.Clash.{Clash}
 use Rattle.lw_certify.specs.declared.verdict.Verdict.{Verdict}

@@ -1,13 +1,11 @@
 -- What the end of a learning says, of a learner of a kind and a system over a inputs and b outputs, with k extra states and at most so many states.
 use Rattle.std.specs.Prelude.{◌≡◌, ℕ, ◌+◌, ◌≤◌, List, length, Some}
-use Rattle.lw_words.specs.Answer.{Answer, answers_of}
+use Rattle.lw_words.specs.Word.{Answer, answers_of}
 use Rattle.lw_words.specs.declared.stop.SulStop.{SulStop}
 use Rattle.lw_words.specs.declared.stop.SulStop.TheVariants as sul
 use Rattle.lw_cache.specs.declared.stops.AskStop.{AskStop}
 use Rattle.lw_cache.specs.declared.stops.AskStop.TheVariants as ask
-use Rattle.lw_mealy.specs.Gives.{Gives}
-use Rattle.lw_mealy.specs.Limits.{MealyMachine}
-use Rattle.lw_mealy.specs.Machine.{Rows, IsMachine}
+use Rattle.lw_mealy.specs.Machine.{Gives, MealyMachine, Rows, IsMachine}
 use Rattle.lw_separate.specs.Canonical.{IsCanonical}
 use Rattle.lw_rounds.specs.Learned.{IsCertified, IsReadOff, IsTooLarge}
 use Rattle.lw_rounds.specs.Learner.{refinements_of}

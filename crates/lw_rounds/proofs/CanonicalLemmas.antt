@@ -3,12 +3,9 @@ use Rattle.std.proofs.Common.{◌≡◌, ◌≢◌, ℕ, ◌<◌, ◌≤◌, Lis
 use Rattle.std.specs.List.{All, AllPairs}
 use Rattle.std.proofs.lemmas.List.{length-map, get_or-map, get_or_default}
 use Rattle.std.proofs.lemmas.List.Elements.{All-from_get_or}
-use Rattle.lw_words.specs.Answer.{Answer, AreAnswers}
-use Rattle.lw_words.specs.Word.{IsWord}
+use Rattle.lw_words.specs.Word.{Answer, AreAnswers, IsWord}
 use Rattle.lw_words.proofs.Pigeonhole.{no_more_than}
-use Rattle.lw_mealy.specs.Machine.{Rows, IsMachine, after}
-use Rattle.lw_mealy.specs.Equal.{Equal}
-use Rattle.lw_mealy.specs.Gives.{Gives}
+use Rattle.lw_mealy.specs.Machine.{Rows, IsMachine, after, Equal, Gives}
 use Rattle.lw_mealy.proofs.WordLemmas.{after_below}
 use Rattle.lw_separate.specs.Canonical.{IsCanonical}
 use Rattle.lw_separate.proofs.UniqueLemmas.{together}

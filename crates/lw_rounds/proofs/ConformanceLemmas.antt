@@ -3,11 +3,9 @@ use Rattle.std.proofs.Common.{◌≡◌, refl, ℕ, ◌+◌, ◌<◌, ⊎_elim, 
 use Rattle.std.specs.List.{All, AllWithin}
 use Rattle.std.proofs.lemmas.List.{length-append, length-map, length-take, map-append, get_or-append-add, take-append-drop}
 use Rattle.std.proofs.lemmas.List.Elements.{All-nil, All-append, All-map, All-weaker, All-contains, All-get_or, All-from_get_or, All-drop}
-use Rattle.lw_words.specs.Answer.{Answer, AreAnswers, answer_at, answer_of, answers_of}
-use Rattle.lw_words.specs.Word.{IsWord}
+use Rattle.lw_words.specs.Word.{Answer, AreAnswers, answer_at, answer_of, answers_of, IsWord}
 use Rattle.lw_words.specs.declared.kept.KeptAnswer.{KeptAnswer}
-use Rattle.lw_mealy.specs.Machine.{Rows, answer}
-use Rattle.lw_mealy.specs.Gives.{Gives}
+use Rattle.lw_mealy.specs.Machine.{Rows, answer, Gives}
 use Rattle.lw_separate.proofs.CrowdLemmas.{same_or_not}
 use Rattle.lw_cache.specs.Against.{DiffersFirst}
 use Rattle.lw_cache.specs.Clash.{NothingClashes}

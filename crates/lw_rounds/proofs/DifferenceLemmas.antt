@@ -1,7 +1,7 @@
 -- The shortest front of a known word on which a machine differs.
 use Rattle.std.proofs.Common.{◌≡◌, ℕ, ◌+◌, ◌<◌, ◌≤◌, List, length, take, drop, get_or, ap, sym, ◌∙◌, subst, arith}
 use Rattle.std.proofs.lemmas.List.{length-take-le, get_or-take, take-append-drop}
-use Rattle.lw_words.specs.Answer.{Answer}
+use Rattle.lw_words.specs.Word.{Answer}
 use Rattle.lw_mealy.specs.Machine.{Rows, answer}
 use Rattle.lw_mealy.specs.Difference.{DifferFirst}
 use Rattle.lw_mealy.proofs.WordLemmas.{length-out, out-take}

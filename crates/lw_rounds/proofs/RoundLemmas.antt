@@ -1,9 +1,7 @@
 -- What is so of an oracle and a learner between the rounds.
 use Rattle.std.proofs.Common.{◌≡◌, ℕ, ◌<◌, ◌≤◌, List, length, None, Result, Ok, Err, OnOk, IfErr, IsErrAnd, refl, sym, ◌∙◌, subst, subst₂, arith}
-use Rattle.lw_words.specs.Answer.{Answer, AreAnswers, answers_of}
-use Rattle.lw_mealy.specs.Gives.{Gives}
-use Rattle.lw_mealy.specs.Limits.{MealyMachine}
-use Rattle.lw_mealy.specs.Machine.{IsMachine, Rows}
+use Rattle.lw_words.specs.Word.{Answer, AreAnswers, answers_of}
+use Rattle.lw_mealy.specs.Machine.{Gives, MealyMachine, IsMachine, Rows}
 use Rattle.lw_cache.specs.Clash.{NothingClashes}
 use Rattle.lw_cache.specs.Settling.{OracleState, Leaves, grown_stop}
 use Rattle.lw_cache.specs.declared.stops.GrowStop.{GrowStop}

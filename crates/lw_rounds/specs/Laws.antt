@@ -1,9 +1,7 @@
 -- What the answers of a learning mean for the machines that give the kept answers.
 use Rattle.std.specs.Prelude.{ℕ, ◌+◌, ◌<◌, ◌≤◌, List, length}
-use Rattle.lw_words.specs.Answer.{Answer, AreAnswers}
-use Rattle.lw_mealy.specs.Gives.{Gives}
-use Rattle.lw_mealy.specs.Limits.{MealyMachine}
-use Rattle.lw_mealy.specs.Machine.{Rows, IsMachine}
+use Rattle.lw_words.specs.Word.{Answer, AreAnswers}
+use Rattle.lw_mealy.specs.Machine.{Gives, MealyMachine, Rows, IsMachine}
 use Rattle.lw_separate.specs.Canonical.{IsCanonical}
 use Rattle.lw_suite.specs.Size.{suite_size, greatest_suite}
 use Rattle.lw_rounds.specs.declared.learner.Kind.{Kind}

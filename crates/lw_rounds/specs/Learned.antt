@@ -1,10 +1,8 @@
 -- What a learning says by its answer. Source: the learner of Angluin (1987), whose equivalence query is here the W-method of
 -- Vasilevskii (1973) and Chow (1978).
 use Rattle.std.specs.Prelude.{◌≡◌, ℕ, ◌+◌, ◌<◌, ◌≤◌, List, length}
-use Rattle.lw_words.specs.Answer.{Answer}
-use Rattle.lw_mealy.specs.Gives.{Gives}
-use Rattle.lw_mealy.specs.Limits.{MealyMachine, IsWithinLimits}
-use Rattle.lw_mealy.specs.Machine.{Rows}
+use Rattle.lw_words.specs.Word.{Answer}
+use Rattle.lw_mealy.specs.Machine.{Gives, MealyMachine, IsWithinLimits, Rows}
 use Rattle.lw_cache.specs.Crowd.{IsCrowd}
 use Rattle.lw_separate.specs.Canonical.{IsCanonical}
 use Rattle.lw_suite.specs.Size.{suite_size, greatest_suite}

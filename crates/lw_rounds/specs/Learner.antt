@@ -1,6 +1,6 @@
 -- What an observation table and a discrimination tree have in common: the learner that a model is read off.
 use Rattle.std.specs.Prelude.{◌≡◌, ℕ, List}
-use Rattle.lw_words.specs.Answer.{Answer}
+use Rattle.lw_words.specs.Word.{Answer}
 use Rattle.lw_mealy.specs.Machine.{Rows}
 use Rattle.lw_table.specs.Table as table
 use Rattle.lw_tree.specs.Tree as tree

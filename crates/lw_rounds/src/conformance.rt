@@ -1,9 +1,8 @@
 //! The words of a suite are settled until the hypothesis differs on one.
 ghost use Rattle.std.specs.Prelude.{◌≡◌, ◌<◌, ◌^◌, length, IfOk};
 ghost use Rattle.std.specs.List.{All};
-ghost use Rattle.lw_words.specs.Answer.{answers_of};
-ghost use Rattle.lw_words.specs.Word.{IsWord};
-ghost use Rattle.lw_mealy.specs.Gives.{Gives};
+ghost use Rattle.lw_words.specs.Word.{answers_of, IsWord};
+ghost use Rattle.lw_mealy.specs.Machine.{Gives};
 ghost use Rattle.lw_cache.specs.Clash.{NothingClashes};
 ghost use Rattle.lw_cache.specs.Settling.{Keeps, MayAsk, Leaves, asked_stop};
 ghost use Rattle.lw_rounds.specs.bodies.Conformance.{FindsFirst, Comes};

@@ -1,8 +1,7 @@
 //! Where a model differs from what is read.
 ghost use Rattle.std.specs.Prelude.{◌≡◌, ◌≤◌, IfOk, length, true};
 ghost use Rattle.std.specs.List.{All, AllWithin};
-ghost use Rattle.lw_words.specs.Answer.{answer_of, answers_of, IsAnswer};
-ghost use Rattle.lw_words.specs.Word.{IsWord};
+ghost use Rattle.lw_words.specs.Word.{answer_of, answers_of, IsAnswer, IsWord};
 ghost use Rattle.lw_cache.specs.Known.{IsKnown};
 ghost use Rattle.lw_mealy.specs.Machine.{answer};
 ghost use Rattle.lw_rounds.specs.bodies.Conformance.{FindsShortest, FindsFirst};

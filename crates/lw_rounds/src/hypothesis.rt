@@ -1,9 +1,8 @@
 //! The test of a hypothesis by the words of its suite, then by the certificate.
 ghost use Rattle.std.specs.Prelude.{◌≡◌, ◌≤◌, length, IfOk, IfErr};
 ghost use Rattle.std.specs.List.{All};
-ghost use Rattle.lw_words.specs.Answer.{answers_of};
-ghost use Rattle.lw_words.specs.Word.{IsWord};
-ghost use Rattle.lw_mealy.specs.Gives.{Gives};
+ghost use Rattle.lw_words.specs.Word.{answers_of, IsWord};
+ghost use Rattle.lw_mealy.specs.Machine.{Gives};
 ghost use Rattle.lw_cache.specs.Clash.{NothingClashes};
 ghost use Rattle.lw_cache.specs.Settling.{Keeps, MayAsk, Leaves};
 ghost use Rattle.lw_separate.specs.Canonical.{IsCanonical};

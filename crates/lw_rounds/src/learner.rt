@@ -1,8 +1,7 @@
 //! The learner that a model is read off: an observation table or a discrimination tree.
 ghost use Rattle.std.specs.Prelude.{◌≡◌, ◌<◌, ◌≤◌, length, IfOk, OnOk};
-ghost use Rattle.lw_words.specs.Answer.{answers_of};
-ghost use Rattle.lw_mealy.specs.Gives.{Gives};
-ghost use Rattle.lw_mealy.specs.Machine.{Rows};
+ghost use Rattle.lw_words.specs.Word.{answers_of};
+ghost use Rattle.lw_mealy.specs.Machine.{Gives, Rows};
 ghost use Rattle.lw_cache.specs.Cut.{IsCut};
 ghost use Rattle.lw_cache.specs.Settling.{Keeps, MayAsk, Leaves, grown_stop};
 ghost use Rattle.lw_settle.specs.declared.settling.Settled.TheVariants.{NoBlock};

@@ -1,6 +1,6 @@
 //! The learning of a model over an oracle.
 ghost use Rattle.std.specs.Prelude.{◌≡◌, ◌≤◌, IfOk, IfErr};
-ghost use Rattle.lw_words.specs.Answer.{answers_of};
+ghost use Rattle.lw_words.specs.Word.{answers_of};
 ghost use Rattle.lw_cache.specs.Clash.{NothingClashes};
 ghost use Rattle.lw_cache.specs.Settling.{MayAsk, Leaves};
 ghost use Rattle.lw_rounds.specs.Learned.{IsLearned, StopsAs};

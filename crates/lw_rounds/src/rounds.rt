@@ -1,7 +1,7 @@
 //! The rounds: the machine of a learner is tested, and a difference refines the learner.
 ghost use Rattle.std.specs.Prelude.{◌≡◌, IfOk, IfErr, OnOk, MatchOption};
-ghost use Rattle.lw_words.specs.Answer.{answers_of};
-ghost use Rattle.lw_mealy.specs.Gives.{Gives};
+ghost use Rattle.lw_words.specs.Word.{answers_of};
+ghost use Rattle.lw_mealy.specs.Machine.{Gives};
 ghost use Rattle.lw_cache.specs.Against.{Differs};
 ghost use Rattle.lw_cache.specs.Settling.{Leaves, grown_stop};
 ghost use Rattle.lw_rounds.specs.Learner.{inputs_of, outputs_of, most_of, HasNoTemporary, IsMachineOf};

@@ -3,11 +3,9 @@ use Rattle.std.proofs.Common.{◌≡◌, ℕ, ◌<◌, inl, ⊎_elim, List, [], 
 use Rattle.std.proofs.lemmas.List.Elements.{All-tail, All-head}
 use Rattle.std.proofs.lemmas.List.{get_or_append_left}
 use Rattle.lw_words.specs.Word.{IsWord}
-use Rattle.lw_mealy.specs.Machine.{Rows, after}
-use Rattle.lw_mealy.specs.Minimal.{Reached}
-use Rattle.lw_separate.specs.bodies.Search.{AtMost}
-use Rattle.lw_separate.specs.Least.{IsLeastAccess}
-use Rattle.lw_separate.specs.bodies.Search.{IsSearch}
+use Rattle.lw_mealy.specs.Machine.{Rows, after, Reached}
+use Rattle.lw_separate.specs.bodies.Search.{AtMost, IsSearch}
+use Rattle.lw_separate.specs.Canonical.{IsLeastAccess}
 use Rattle.lw_separate.proofs.Before.{at_most_trans, at_most_push, at_most_not_behind}
 use Rattle.lw_separate.proofs.SearchLemmas.{last_or_before, length-push, at_end}
 

@@ -6,7 +6,7 @@ use Rattle.std.specs.Cmp.Lexicographic.{slice_cmp}
 use Rattle.std.specs.declared.cmp.Ordering.{Ordering}
 use Rattle.std.specs.declared.cmp.Ordering.TheVariants.{Less, Equal, Greater}
 use Rattle.std.proofs.lemmas.Cmp.{ranked, by_ranked, tied_itself}
-use Rattle.lw_words.specs.Shortlex.{shortlex_cmp}
+use Rattle.lw_words.specs.Word.{shortlex_cmp}
 use Rattle.lw_words.proofs.Orders.{is_order}
 use Rattle.lw_separate.specs.bodies.Search.{Before, AtMost}
 

@@ -3,11 +3,9 @@ use Rattle.std.proofs.Common.{◌≡◌, ◌≢◌, ℕ, ◌<◌, ◌⊎◌, ⊎
 use Rattle.std.proofs.lemmas.List.Elements.{All-tail, All-head}
 use Rattle.std.proofs.lemmas.Bool.{cases_order}
 use Rattle.lw_words.specs.Word.{IsWord}
-use Rattle.lw_mealy.specs.Machine.{Rows, after, out, next, output, cell}
-use Rattle.lw_mealy.specs.Minimal.{Differ}
-use Rattle.lw_separate.specs.Canonical.{IsCanonical}
+use Rattle.lw_mealy.specs.Machine.{Rows, after, out, next, output, cell, Differ}
+use Rattle.lw_separate.specs.Canonical.{IsCanonical, IsLeastAccess}
 use Rattle.lw_separate.specs.bodies.Renaming.{StandsFor, Merges, Renames, renamed, NamesPlaces}
-use Rattle.lw_separate.specs.Least.{IsLeastAccess}
 use Rattle.lw_separate.specs.bodies.Search.{IsSearch}
 use Rattle.lw_separate.proofs.AccessLemmas.{one_word, least_word}
 

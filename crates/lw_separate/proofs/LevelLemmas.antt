@@ -4,8 +4,7 @@ use Rattle.std.proofs.lemmas.List.{get_or_past, get_or-replicate, length-replica
 use Rattle.std.proofs.lemmas.Bool.{cases_lt, cases_order}
 use Rattle.std.proofs.lemmas.List.Elements.{All-cons, All-tail, All-head, All-nil}
 use Rattle.lw_words.specs.Word.{IsWord}
-use Rattle.lw_mealy.specs.Machine.{Rows, IsMachine, next, output, out}
-use Rattle.lw_mealy.specs.Minimal.{Differ}
+use Rattle.lw_mealy.specs.Machine.{Rows, IsMachine, next, output, out, Differ}
 use Rattle.lw_mealy.proofs.RowLemmas.{target_below}
 use Rattle.lw_separate.specs.bodies.Levels.{AgreeUpTo, DifferWithin, AreClassesOf, MeetsAt, PartsAt, NoLetter, GoApart, AreRefined, AreLevels}
 use Rattle.lw_separate.specs.bodies.Renaming.{NamesStates}

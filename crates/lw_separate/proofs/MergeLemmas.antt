@@ -1,8 +1,7 @@
 -- The names that merging and numbering give, and what they say of the states.
 use Rattle.std.proofs.Common.{◌≡◌, ◌≢◌, ℕ, ◌<◌, ◌≤◌, ◌⊎◌, ⊎_elim, List, length, get_or, Option, Some, None, Result, Ok, Err, IfOk, refl, ap, sym, ◌∙◌, arith, subst}
 use Rattle.std.proofs.lemmas.Bool.{cases_order}
-use Rattle.lw_mealy.specs.Machine.{Rows, IsMachine, next, cell}
-use Rattle.lw_mealy.specs.Minimal.{IsMinimal, Differ}
+use Rattle.lw_mealy.specs.Machine.{Rows, IsMachine, next, cell, IsMinimal, Differ}
 use Rattle.lw_mealy.proofs.RowLemmas.{target_below}
 use Rattle.lw_separate.specs.bodies.Renaming.{StandsFor, Merges, CanRename, Renames, renamed, IsAllStates, NamesStates, NamesPlaces}
 use Rattle.lw_separate.specs.bodies.Search.{IsSearch}

@@ -3,7 +3,7 @@ use Rattle.std.proofs.Common.{◌≡◌, ℕ, zero, suc, ◌<◌, ◌≤◌, ◌
 use Rattle.std.proofs.lemmas.List.{ext_get_or, get_or_past}
 use Rattle.std.proofs.lemmas.Bool.{cases_lt, cases_order}
 use Rattle.lw_mealy.specs.Machine.{Rows}
-use Rattle.lw_separate.specs.Least.{LeastWord, IsLeastSeparating, OneAccessWord, OneSeparatingWord, OneLeastAccess}
+use Rattle.lw_separate.specs.Canonical.{LeastWord, IsLeastSeparating, OneAccessWord, OneSeparatingWord, OneLeastAccess}
 use Rattle.lw_separate.specs.Separators.{Earlier, AgreeOn, IsSeparators, OneSeparators}
 use Rattle.lw_separate.proofs.Before.{neither_before}
 

@@ -5,7 +5,7 @@ use Rattle.std.proofs.lemmas.List.Elements.{All-cons, All-tail, All-head}
 use Rattle.lw_words.specs.Word.{IsWord}
 use Rattle.lw_mealy.specs.Machine.{Rows, IsMachine, next, output, out}
 use Rattle.lw_mealy.proofs.RowLemmas.{target_below}
-use Rattle.lw_separate.specs.Least.{SeparatesStates, IsLeastSeparating}
+use Rattle.lw_separate.specs.Canonical.{SeparatesStates, IsLeastSeparating}
 use Rattle.lw_separate.specs.bodies.Levels.{AgreeUpTo, AreApartBy, AreClassesOf, MeetsAt, IsFirstLetter}
 use Rattle.lw_separate.specs.bodies.Search.{AtMost}
 use Rattle.lw_separate.proofs.Before.{of_cases, at_most_cons, at_most_not_behind, not_behind_at_most}

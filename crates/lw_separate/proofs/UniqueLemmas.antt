@@ -4,9 +4,7 @@ use Rattle.std.proofs.lemmas.List.{append_cancel_left, ext_get_or}
 use Rattle.std.proofs.lemmas.List.Elements.{All-append, All-cons, All-nil}
 use Rattle.std.proofs.lemmas.Bool.{cases_order}
 use Rattle.lw_words.specs.Word.{IsWord}
-use Rattle.lw_mealy.specs.Machine.{Rows, IsMachine, after, out, next, output, cell}
-use Rattle.lw_mealy.specs.Minimal.{IsMinimal}
-use Rattle.lw_mealy.specs.Equal.{Equal}
+use Rattle.lw_mealy.specs.Machine.{Rows, IsMachine, after, out, next, output, cell, IsMinimal, Equal}
 use Rattle.lw_mealy.proofs.RowLemmas.{target_below, is_row}
 use Rattle.lw_mealy.proofs.WordLemmas.{after-append, after_below, out-append}
 use Rattle.lw_separate.specs.bodies.Search.{Before}

@@ -3,7 +3,7 @@ use Rattle.std.proofs.Common.{◌≡◌, ◌≢◌, ℕ, ◌+◌, ◌<◌, ◌�
 use Rattle.std.proofs.lemmas.List.{get_or_append_left}
 use Rattle.std.proofs.lemmas.Bool.{cases_lt}
 use Rattle.lw_mealy.specs.Machine.{Rows, out}
-use Rattle.lw_separate.specs.Least.{IsLeastSeparating}
+use Rattle.lw_separate.specs.Canonical.{IsLeastSeparating}
 use Rattle.lw_separate.specs.Separators.{Earlier, SplitAt, IsSeparators}
 use Rattle.lw_separate.specs.bodies.Walk.{SeparatesUpTo, Splits}
 use Rattle.lw_separate.specs.bodies.Classes.{AreClasses, OwnClasses}

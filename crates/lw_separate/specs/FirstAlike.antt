@@ -1,8 +1,7 @@
 -- The first pair of states that agree on all words.
 -- Source: the equivalence of states of Moore (1956).
 use Rattle.std.specs.Prelude.{ℕ, ◌<◌, length, Option, MatchOption}
-use Rattle.lw_mealy.specs.Machine.{Rows}
-use Rattle.lw_mealy.specs.Minimal.{Differ}
+use Rattle.lw_mealy.specs.Machine.{Rows, Differ}
 use Rattle.lw_separate.specs.Separators.{Earlier}
 
 -- two states p < q that agree on all words;

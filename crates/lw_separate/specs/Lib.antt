@@ -1,5 +1,4 @@
 pub mod Canonical
 pub mod FirstAlike
-pub mod Least
 pub mod Separators
 pub mod bodies

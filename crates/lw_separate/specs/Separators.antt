@@ -2,7 +2,7 @@
 -- Source: the set W of Vasilevskii (1973) and Chow (1978).
 use Rattle.std.specs.Prelude.{◌≡◌, ◌≢◌, ℕ, ◌<◌, ◌⊎◌, List, [], length, slice_index_or}
 use Rattle.lw_mealy.specs.Machine.{Rows, out}
-use Rattle.lw_separate.specs.Least.{IsLeastSeparating}
+use Rattle.lw_separate.specs.Canonical.{IsLeastSeparating}
 
 -- the first pair of states comes before the second: by the first state, then by the second
 abbrev pub Earlier : ℕ × ℕ → ℕ × ℕ → Type 0

@@ -1,8 +1,7 @@
 //! The least words that lead to the states, by one breadth-first search.
 ghost use Rattle.std.specs.Prelude.{◌≡◌, ℕ, ◌+◌, ◌<◌, length, IfOk, OnOk};
-ghost use Rattle.lw_mealy.specs.Limits.{MealyMachine, IsWithinLimits};
-ghost use Rattle.lw_mealy.specs.Minimal.{IsMinimal};
-ghost use Rattle.lw_separate.specs.Least.{IsAccessWord, AreAccessWords, AreLeastAccess};
+ghost use Rattle.lw_mealy.specs.Machine.{MealyMachine, IsWithinLimits, IsMinimal};
+ghost use Rattle.lw_separate.specs.Canonical.{IsAccessWord, AreAccessWords, AreLeastAccess};
 ghost use Rattle.lw_separate.specs.bodies.Searched.{Searched};
 
 use lw_mealy::Mealy;

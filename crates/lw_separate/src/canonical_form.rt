@@ -1,7 +1,6 @@
 //! The canonical form of a machine: equal states are merged, and the states that are reached are numbered.
 ghost use Rattle.std.specs.Prelude.{◌≡◌, ℕ, ◌*◌, ◌<◌, length, slice_index, IfOk, OnOk};
-ghost use Rattle.lw_mealy.specs.Minimal.{IsMinimal};
-ghost use Rattle.lw_mealy.specs.Limits.{IsWithinLimits};
+ghost use Rattle.lw_mealy.specs.Machine.{IsMinimal, IsWithinLimits};
 ghost use Rattle.lw_separate.specs.Canonical.{IsCanonical};
 ghost use Rattle.lw_separate.specs.bodies.Renaming.{Merges, Numbers, NamesPlaces, IsAllStates};
 

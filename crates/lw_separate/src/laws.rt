@@ -1,6 +1,5 @@
 //! Laws about the definitions alone, with no code: what the calls answer is there, and is one.
-ghost use Rattle.lw_separate.specs.Canonical.{OneCanonical, SomeCanonical};
-ghost use Rattle.lw_separate.specs.Least.{OneAccessWord, OneSeparatingWord, OneLeastAccess};
+ghost use Rattle.lw_separate.specs.Canonical.{OneCanonical, SomeCanonical, OneAccessWord, OneSeparatingWord, OneLeastAccess};
 ghost use Rattle.lw_separate.specs.Separators.{OneSeparators};
 
 /// Two canonical machines of one machine are one.

@@ -1,6 +1,6 @@
 //! A machine with its states renamed.
 ghost use Rattle.std.specs.Prelude.{◌≡◌, ℕ, ◌<◌, length, map, IfOk};
-ghost use Rattle.lw_mealy.specs.Limits.{IsWithinLimits};
+ghost use Rattle.lw_mealy.specs.Machine.{IsWithinLimits};
 ghost use Rattle.lw_separate.specs.bodies.Renaming.{CanRename, Renames, RenamesRow, RenamesRows};
 
 use lw_mealy::{Mealy, MealyFault};

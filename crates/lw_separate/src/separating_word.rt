@@ -1,6 +1,6 @@
 //! The least word that separates two states, read off the levels letter by letter.
 ghost use Rattle.std.specs.Prelude.{◌≡◌, ◌≢◌, ℕ, ◌<◌, ◌≤◌, length, slice_index, IfOk};
-ghost use Rattle.lw_separate.specs.Least.{IsLeastSeparating, IsSeparatingWord};
+ghost use Rattle.lw_separate.specs.Canonical.{IsLeastSeparating, IsSeparatingWord};
 ghost use Rattle.lw_separate.specs.bodies.Levelled.{LevelsOf};
 ghost use Rattle.lw_separate.specs.bodies.Levels.{AreApartBy};
 

@@ -1,7 +1,7 @@
 //! The words that separate all states of a machine.
 ghost use Rattle.std.specs.Prelude.{ℕ, ◌+◌, ◌<◌, length, map, IfOk, OnOk};
 ghost use Rattle.std.specs.Bool.{OnTrue};
-ghost use Rattle.lw_mealy.specs.Minimal.{IsMinimal};
+ghost use Rattle.lw_mealy.specs.Machine.{IsMinimal};
 ghost use Rattle.lw_separate.specs.bodies.Levelled.{LevelsOf};
 ghost use Rattle.lw_separate.specs.bodies.Columns.{AreColumns};
 ghost use Rattle.lw_separate.specs.bodies.Classes.{AreClasses, OwnClasses};

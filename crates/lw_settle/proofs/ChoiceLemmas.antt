@@ -4,7 +4,7 @@ use Rattle.std.specs.List.{All}
 use Rattle.std.proofs.lemmas.Bool.{cases_eq, cases_lt}
 use Rattle.std.proofs.lemmas.List.{length-append, drop-drop}
 use Rattle.std.proofs.lemmas.List.Elements.{All-cons, All-nil, All-contains, All-from_get_or, Contains-get_or}
-use Rattle.lw_words.specs.Answer.{Answer}
+use Rattle.lw_words.specs.Word.{Answer}
 use Rattle.lw_mealy.specs.Machine.{Rows, next, output}
 use Rattle.lw_cache.specs.Crowd.{Separates}
 use Rattle.lw_cache.specs.Cut.{word_at}

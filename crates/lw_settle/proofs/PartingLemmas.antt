@@ -3,10 +3,8 @@ use Rattle.std.proofs.Common.{◌≡◌, ◌≢◌, ◌⊎◌, inl, inr, ⊎_eli
 use Rattle.std.proofs.Math.Seq.{drop-append_seam}
 use Rattle.std.proofs.lemmas.Bool.{cases_lt, cases_eq}
 use Rattle.std.proofs.lemmas.List.Elements.{All-head, All-tail}
-use Rattle.lw_words.specs.Answer.{Answer}
-use Rattle.lw_words.specs.Word.{IsWord}
-use Rattle.lw_mealy.specs.Gives.{Gives}
-use Rattle.lw_mealy.specs.Machine.{Rows, next, output, after, out}
+use Rattle.lw_words.specs.Word.{Answer, IsWord}
+use Rattle.lw_mealy.specs.Machine.{Gives, Rows, next, output, after, out}
 use Rattle.lw_mealy.proofs.WordLemmas.{length-out, out-append}
 use Rattle.lw_cache.specs.Cut.{word_at}
 use Rattle.lw_cache.proofs.CrowdLemmas.{reads_given}

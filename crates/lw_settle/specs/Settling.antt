@@ -1,9 +1,8 @@
 -- What settling a block of a discrimination tree does, and that there is always one to settle. Source: Isberner, Howar and
 -- Steffen (2014).
 use Rattle.std.specs.Prelude.{◌≡◌, ◌≢◌, ◌⊎◌, ℕ, ◌<◌, List, Result, OnOk, OnErr, IfOk}
-use Rattle.lw_words.specs.Answer.{Answer}
-use Rattle.lw_mealy.specs.Gives.{Gives}
-use Rattle.lw_mealy.specs.Machine.{Rows, next, output}
+use Rattle.lw_words.specs.Word.{Answer}
+use Rattle.lw_mealy.specs.Machine.{Gives, Rows, next, output}
 use Rattle.lw_cache.specs.declared.stops.GrowStop.{GrowStop}
 use Rattle.lw_tree.specs.Blocks.{IsBlock, IsMember, AreOfOneClass, HasFinal}
 use Rattle.lw_tree.specs.Grown.{HasGrown, TellsCrowd}

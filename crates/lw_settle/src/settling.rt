@@ -1,8 +1,7 @@
 //! Settling a block.
 ghost use Rattle.std.specs.Prelude.{◌≡◌, IfOk, MatchOption};
-ghost use Rattle.lw_words.specs.Answer.{answers_of};
-ghost use Rattle.lw_mealy.specs.Gives.{Gives};
-ghost use Rattle.lw_mealy.specs.Machine.{Rows};
+ghost use Rattle.lw_words.specs.Word.{answers_of};
+ghost use Rattle.lw_mealy.specs.Machine.{Gives, Rows};
 ghost use Rattle.lw_cache.specs.Settling.{MayAsk, Leaves, grown_stop};
 ghost use Rattle.lw_settle.specs.Settling.{HasSettledBlock};
 ghost use Rattle.lw_settle.specs.bodies.Parting.{NothingIsParted, IsReplacement};

@@ -5,7 +5,7 @@ use Rattle.std.proofs.lemmas.List.Elements.{All-nil, All-cons, All-head, All-tai
 use Rattle.std.proofs.lemmas.List.FromFn.{length-range_with_len, get_or-range_with_len}
 use Rattle.lw_words.specs.Word.{IsWord}
 use Rattle.lw_mealy.specs.Machine.{Rows}
-use Rattle.lw_separate.specs.Least.{AreLeastAccess}
+use Rattle.lw_separate.specs.Canonical.{AreLeastAccess}
 use Rattle.lw_separate.specs.Separators.{IsSeparators}
 use Rattle.lw_suite.specs.Suite.{each_with, words_of_length, words_up_to, suite_of, SuiteIsOfWords}
 

@@ -1,10 +1,10 @@
 //! A suite that gives its words in chunks.
 ghost use Rattle.std.specs.Prelude.{◌≡◌, ℕ, ◌≢◌, ◌↔◌, ◌<◌, ◌≤◌, ◌+◌, ◌*◌, List, [], ◌∷◌, ◌++◌, length, take, drop, map, true, Err, IfOk, IfErr, OnOk, OnErr, slice_index_or};
-ghost use Rattle.lw_mealy.specs.Minimal.{IsMinimal};
+ghost use Rattle.lw_mealy.specs.Machine.{IsMinimal};
 ghost use Rattle.lw_suite.specs.Size.{powers, suite_size, greatest_suite};
 ghost use Rattle.lw_suite.specs.Suite.{IsSuite, suite_of, words_up_to};
 ghost use Rattle.lw_suite.specs.bodies.Places.{all_words, ends, number_of, IsPlace};
-ghost use Rattle.lw_separate.specs.Least.{AreLeastAccess};
+ghost use Rattle.lw_separate.specs.Canonical.{AreLeastAccess};
 ghost use Rattle.lw_separate.specs.Separators.{IsSeparators};
 ghost use Rattle.lw_suite.specs.declared.suite.SuiteFault.{SuiteFault as Fault};
 

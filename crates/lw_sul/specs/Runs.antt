@@ -1,6 +1,6 @@
 -- The runs of a system.
 use Rattle.std.specs.Prelude.{ℕ, List, [], ◌∷◌, ◌++◌, map}
-use Rattle.lw_words.specs.Answer.{Answer}
+use Rattle.lw_words.specs.Word.{Answer}
 use Rattle.lw_sul.specs.declared.runs.Run.{Run}
 
 -- a run with one step more

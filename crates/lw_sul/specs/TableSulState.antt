@@ -1,6 +1,6 @@
 -- A table system: its machine, the state that it is in and the names of its outputs.
 use Rattle.std.specs.Prelude.{ℕ, List, length, true, false, Some, None}
-use Rattle.lw_mealy.specs.Limits.{MealyMachine}
+use Rattle.lw_mealy.specs.Machine.{MealyMachine}
 use Rattle.lw_sul.specs.System.{SulState}
 
 pub record TableSulState : Type 0 where

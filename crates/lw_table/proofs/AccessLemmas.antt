@@ -5,8 +5,7 @@ use Rattle.std.proofs.Math.Seq.{get_or-append_seam}
 use Rattle.std.proofs.lemmas.Bool.{cases_lt}
 use Rattle.std.proofs.lemmas.List.{length-append, length-replicate, get_or-append_right, get_or_past}
 use Rattle.std.proofs.lemmas.List.Elements.{All-append, All-push, All-replicate, All-nil}
-use Rattle.lw_words.specs.Answer.{Answer}
-use Rattle.lw_words.specs.Word.{IsWord}
+use Rattle.lw_words.specs.Word.{Answer, IsWord}
 use Rattle.lw_cache.specs.Cut.{word_at}
 use Rattle.lw_table.specs.Grown.{HasGrown}
 use Rattle.lw_table.specs.Table.{TableState, row_number, row_at, home_at, access_row, IsTable, IsRow, IsHome, Extends, RowIsRead, CellsAreRead}

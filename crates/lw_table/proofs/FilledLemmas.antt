@@ -6,8 +6,7 @@ use Rattle.std.proofs.Math.Seq.{take-append_seam}
 use Rattle.std.proofs.lemmas.Bool.{cases_lt}
 use Rattle.std.proofs.lemmas.List.{length-append, length-drop, get_or_past}
 use Rattle.std.proofs.lemmas.List.Elements.{All-drop, All-take, All-nil, All-from_get_or}
-use Rattle.lw_words.specs.Answer.{Answer, AreAnswers, answer_at}
-use Rattle.lw_words.specs.Word.{IsWord, IsPrefix}
+use Rattle.lw_words.specs.Word.{Answer, AreAnswers, answer_at, IsWord, IsPrefix}
 use Rattle.lw_cache.specs.Clash.{IsClear}
 use Rattle.lw_cache.specs.Cut.{word_at}
 use Rattle.lw_cache.specs.Known.{Reads}

@@ -7,8 +7,7 @@ use Rattle.std.proofs.lemmas.Bool.{cases_lt}
 use Rattle.std.proofs.lemmas.Bool.Decides.{Decides-eqb}
 use Rattle.std.proofs.lemmas.List.{length-append, length-map, length-take-le, get_or-map, get_or-take, ext_get_or, get_or-append_right, map-append}
 use Rattle.std.proofs.lemmas.List.Elements.{All-append, All-from_get_or, All-replicate}
-use Rattle.lw_words.specs.Answer.{Answer, AreAnswers}
-use Rattle.lw_words.specs.Word.{IsWord}
+use Rattle.lw_words.specs.Word.{Answer, AreAnswers, IsWord}
 use Rattle.lw_table.specs.Grown.{HasGrown}
 use Rattle.lw_table.specs.Table.{TableState, row_at, access_row, IsTable, IsRow, CellsAreRead}
 use Rattle.lw_table.specs.bodies.Classes.{row_of}

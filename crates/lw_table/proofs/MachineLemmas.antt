@@ -2,10 +2,9 @@
 use Rattle.std.proofs.Common.{◌≡◌, ℕ, zero, suc, ◌<◌, inl, inr, ⊎_elim, List, [], ◌∷◌, ◌++◌, length, take, drop, get_or, ap, ap₂, sym, ◌∙◌, subst, arith, append_assoc}
 use Rattle.std.proofs.lemmas.List.{ext_get_or, take-append-drop, take-take, length-append, nil_from_length}
 use Rattle.std.proofs.lemmas.List.Elements.{All-get_or}
-use Rattle.lw_words.specs.Answer.{Answer, AreAnswers, answer_at}
+use Rattle.lw_words.specs.Word.{Answer, AreAnswers, answer_at, IsPrefix}
 use Rattle.lw_mealy.specs.Machine.{Row, Rows, row, cell, next, output, after, answer}
 use Rattle.lw_mealy.proofs.WordLemmas.{after-append, out-append}
-use Rattle.lw_words.specs.Word.{IsPrefix}
 use Rattle.lw_cache.specs.Clash.{IsClear}
 use Rattle.lw_cache.specs.Cut.{word_at, AreAccess, StepsAreRead}
 use Rattle.lw_cache.specs.Known.{Reads}

@@ -7,8 +7,7 @@ use Rattle.std.proofs.lemmas.Bool.{cases_lt}
 use Rattle.std.proofs.lemmas.List.{length-append}
 use Rattle.std.proofs.lemmas.List.Elements.{All-from_get_or}
 use Rattle.lw_words.specs.Word.{IsWord}
-use Rattle.lw_mealy.specs.Limits.{IsWithinLimits, mealy_of}
-use Rattle.lw_mealy.specs.Machine.{Row, Rows, next, output}
+use Rattle.lw_mealy.specs.Machine.{IsWithinLimits, mealy_of, Row, Rows, next, output}
 use Rattle.lw_cache.specs.Cut.{word_at}
 use Rattle.lw_table.specs.Table.{TableState, home_at, access_row, IsTable, IsClosedTable, IsMachineOf}
 use Rattle.lw_table.specs.Laws.{HasMachine}

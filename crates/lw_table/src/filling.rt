@@ -1,8 +1,7 @@
 //! Cells that aren't filled: their words, and what is known of them.
 ghost use Rattle.std.specs.Prelude.{◌≡◌, ◌≢◌, ℕ, ◌+◌, ◌*◌, ◌<◌, ◌≤◌, ◌^◌, List, ◌++◌, length, IfOk, OnOk, Contains};
 ghost use Rattle.std.specs.List.{All, AllPairs};
-ghost use Rattle.lw_words.specs.Answer.{AreAnswers, answers_of};
-ghost use Rattle.lw_words.specs.Word.{IsWord};
+ghost use Rattle.lw_words.specs.Word.{AreAnswers, answers_of, IsWord};
 ghost use Rattle.lw_cache.specs.Known.{IsKnown};
 ghost use Rattle.lw_table.specs.bodies.Classes.{row_of};
 ghost use Rattle.lw_table.specs.bodies.Rows.{IsRowWord, class_at, cells_at};

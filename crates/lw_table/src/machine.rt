@@ -1,6 +1,6 @@
 //! The machine of a closed table.
 ghost use Rattle.std.specs.Prelude.{◌≡◌, ◌<◌, length, map, IfOk};
-ghost use Rattle.lw_mealy.specs.Limits.{IsWithinLimits, mealy_of};
+ghost use Rattle.lw_mealy.specs.Machine.{IsWithinLimits, mealy_of};
 ghost use Rattle.lw_table.specs.Table.{access_row, IsClosedTable, IsMachineOf};
 ghost use Rattle.lw_table.specs.bodies.Classes.{AreSingles};
 ghost use Rattle.lw_table.specs.bodies.Transitions.{AreTransitions};

@@ -2,8 +2,7 @@
 ghost use Rattle.std.specs.Prelude.{◌≡◌, ◌≢◌, ℕ, ◌+◌, ◌*◌, ◌<◌, ◌≤◌, List, [], ◌++◌, length, map, take, replicate, nat_eq, Some, vec_len, vec_capacity, OnOk, OnErr, IfOk, MatchOption};
 ghost use Rattle.std.specs.HashMap.{get, spare, Updates};
 ghost use Rattle.std.specs.List.{All, AllPairs};
-ghost use Rattle.lw_words.specs.Answer.{Answer, answers_of};
-ghost use Rattle.lw_words.specs.Word.{IsWord};
+ghost use Rattle.lw_words.specs.Word.{Answer, answers_of, IsWord};
 ghost use Rattle.lw_cache.specs.Settling.{Keeps, MayAsk, Leaves, asked_stop};
 ghost use Rattle.lw_table.specs.Grown.{HasGrown};
 ghost use Rattle.lw_table.specs.Table.{row_at, home_at, access_row, IsTable, CellsAreRead};

@@ -1,7 +1,7 @@
 -- Nodes above others, where each live node but the root has its branch.
 use Rattle.std.proofs.Common.{◌≡◌, ◌≢◌, ◌⊎◌, inl, inr, ⊎_elim, ℕ, zero, suc, ◌<◌, ◌≤◌, List, refl, ap, sym, ◌∙◌, subst, arith}
 use Rattle.std.proofs.lemmas.Bool.{cases_lt, cases_eq}
-use Rattle.lw_words.specs.Answer.{Answer}
+use Rattle.lw_words.specs.Word.{Answer}
 use Rattle.lw_tree.specs.Tree.{IsLive, IsInner, IsFinal, IsBranch, discriminator, IsOnWayWithin, IsOnWay, IsAbove, Tells, Agrees}
 use Rattle.lw_tree.specs.bodies.Sprouts.{IsUnder}
 use Rattle.lw_tree.specs.declared.nodes.Node.{Node}

@@ -2,8 +2,7 @@
 use Rattle.std.proofs.Common.{◌≡◌, ◌≢◌, ◌⊎◌, inl, inr, ⊎_elim, ℕ, zero, suc, ◌<◌, ◌≤◌, Bool, true, false, true≢false, List, [], ◌∷◌, ◌++◌, length, map, if◌then◌else◌, refl, ap, sym, ◌∙◌, subst, subst₂, append-nil, arith}
 use Rattle.std.proofs.lemmas.Bool.{cases_lt, cases_eq}
 use Rattle.std.proofs.lemmas.List.{length-append, length-set, length-map, get_or-map}
-use Rattle.lw_words.specs.Answer.{Answer}
-use Rattle.lw_words.specs.Word.{IsWord}
+use Rattle.lw_words.specs.Word.{Answer, IsWord}
 use Rattle.lw_cache.specs.Cut.{word_at}
 use Rattle.lw_tree.specs.Blocks.{IsMember, MayReplace}
 use Rattle.lw_tree.specs.Tree.{TreeState, no_node, node_at, leaf_at, discriminator, is_temporary, IsLive, IsInner, IsFinal, IsBranch, HasTail, HasTwo, IsTree, IsOnWayWithin, IsOnWay, Tells, Agrees, BranchesAreRead}

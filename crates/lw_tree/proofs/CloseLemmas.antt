@@ -2,7 +2,7 @@
 use Rattle.std.proofs.Common.{◌≡◌, inl, inr, ℕ, zero, suc, ◌+◌, ◌<◌, Bool, true, false, if◌then◌else◌, List, [], ◌∷◌, ◌++◌, length, set, refl, ap, sym, ◌∙◌, subst, arith, Result, Ok, Err, IsErrAnd, append_assoc}
 use Rattle.std.specs.Bool.{⊤}
 use Rattle.std.proofs.lemmas.List.{length-append}
-use Rattle.lw_words.specs.Answer.{Answer}
+use Rattle.lw_words.specs.Word.{Answer}
 use Rattle.lw_cache.specs.Settling.{OracleState, Leaves, grown_stop}
 use Rattle.lw_cache.specs.declared.stops.AskStop.{AskStop}
 use Rattle.lw_cache.specs.declared.stops.GrowStop.{GrowStop}

@@ -1,6 +1,6 @@
 -- What the calls give by which a node of a sprout becomes what it is to be, taken together.
 use Rattle.std.proofs.Common.{◌≡◌, ℕ, ◌+◌, ◌<◌, Bool, List, length, get_or, set, ap, sym, ◌∙◌, subst, subst₂}
-use Rattle.lw_words.specs.Answer.{Answer, AreAnswers}
+use Rattle.lw_words.specs.Word.{Answer, AreAnswers}
 use Rattle.lw_tree.specs.Tree.{TreeState, node_at, leaf_at, IsTree, BranchesAreRead}
 use Rattle.lw_tree.specs.bodies.Sprouts.{IsLowest, IsSproutOf, IsOpenOf, CanPart}
 use Rattle.lw_tree.specs.bodies.Steps.{inner_node}

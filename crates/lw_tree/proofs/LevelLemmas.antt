@@ -3,7 +3,7 @@ use Rattle.std.proofs.Common.{◌≡◌, ⊎_elim, ℕ, ◌+◌, ◌*◌, ◌<�
 use Rattle.std.proofs.Math.Nat.{mul-le-mul_right}
 use Rattle.std.proofs.lemmas.Bool.{cases_lt, cases_eq, false_from_ne_true}
 use Rattle.std.proofs.lemmas.List.{get_or_default, get_or_past}
-use Rattle.lw_words.specs.Answer.{Answer}
+use Rattle.lw_words.specs.Word.{Answer}
 use Rattle.lw_tree.specs.Tree.{TreeState, IsTree, BranchesAreRead, node_at, place_at, is_open}
 use Rattle.lw_tree.specs.Grown.{MovesOn}
 use Rattle.lw_tree.specs.bodies.Arrivals.{AreOpen}

@@ -1,7 +1,7 @@
 -- The lowest node above some leaves.
 use Rattle.std.proofs.Common.{◌≡◌, ◌≢◌, ◌⊎◌, inl, inr, ⊎_elim, ℕ, zero, suc, ◌+◌, ◌<◌, ◌≤◌, Bool, List, ◌++◌, length, ap, sym, ◌∙◌, subst, arith}
 use Rattle.std.proofs.lemmas.Bool.{cases_lt, cases_eq}
-use Rattle.lw_words.specs.Answer.{Answer, AreAnswers}
+use Rattle.lw_words.specs.Word.{Answer, AreAnswers}
 use Rattle.lw_cache.specs.Cut.{word_at}
 use Rattle.lw_cache.specs.Known.{IsKnown}
 use Rattle.lw_cache.proofs.KnownLemmas.{known_is_read}

@@ -6,9 +6,8 @@ use Rattle.std.proofs.Math.Seq.{get_or-append_seam}
 use Rattle.std.proofs.lemmas.Bool.{cases_lt}
 use Rattle.std.proofs.lemmas.List.{length-append, ext_get_or, take-append-drop}
 use Rattle.std.proofs.lemmas.List.Elements.{All-get_or, All-from_get_or}
-use Rattle.lw_words.specs.Answer.{Answer, AreAnswers}
-use Rattle.lw_mealy.specs.Limits.{IsWithinLimits, mealy_of}
-use Rattle.lw_mealy.specs.Machine.{Row, Rows, row, cell, next, output, after, answer}
+use Rattle.lw_words.specs.Word.{Answer, AreAnswers}
+use Rattle.lw_mealy.specs.Machine.{IsWithinLimits, mealy_of, Row, Rows, row, cell, next, output, after, answer}
 use Rattle.lw_mealy.proofs.WordLemmas.{after-append, out-append}
 use Rattle.lw_cache.specs.Cut.{word_at, StepsAreRead}
 use Rattle.lw_cache.specs.Known.{Reads}

@@ -3,10 +3,9 @@ use Rattle.std.proofs.Common.{◌≡◌, ⊎_elim, ℕ, zero, suc, ◌+◌, ◌*
 use Rattle.std.specs.Prelude.{min}
 use Rattle.std.proofs.Math.Nat.{mul-le-mul_right}
 use Rattle.std.proofs.lemmas.Bool.{cases_lt}
-use Rattle.lw_words.specs.Answer.{Answer}
-use Rattle.lw_tree.specs.Grown.{HasGrown}
+use Rattle.lw_words.specs.Word.{Answer}
+use Rattle.lw_tree.specs.Grown.{HasGrown, MovesOn, HasMoved}
 use Rattle.lw_tree.specs.Tree.{TreeState, node_at, place_at, is_open, IsTree, HasOpen}
-use Rattle.lw_tree.specs.Grown.{MovesOn, HasMoved}
 use Rattle.lw_tree.specs.declared.nodes.Node.{Node}
 use Rattle.lw_tree.specs.declared.transitions.Place.{Place}
 use Rattle.lw_tree.proofs.GrownLemmas.{access_longer}

@@ -1,7 +1,7 @@
 -- What the calls of a replacement give, taken together.
 use Rattle.std.proofs.Common.{◌≡◌, ℕ, ◌+◌, ◌^◌, ◌<◌, Bool, Ok, List, ◌++◌, length, map, refl, ap, ap₂, sym, ◌∙◌, subst, arith}
 use Rattle.std.proofs.lemmas.List.{length-map, get_or_append_left}
-use Rattle.lw_words.specs.Answer.{Answer}
+use Rattle.lw_words.specs.Word.{Answer}
 use Rattle.lw_words.specs.declared.memory.NoMemory.{NoMemory}
 use Rattle.lw_tree.specs.Blocks.{MayReplace, HasReplaced}
 use Rattle.lw_tree.specs.Tree.{TreeState, node_at, no_node, IsTree, BranchesAreRead}

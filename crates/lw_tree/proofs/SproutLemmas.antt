@@ -1,8 +1,7 @@
 -- What a node of a sprout becomes.
 use Rattle.std.proofs.Common.{◌≡◌, ◌≢◌, ℕ, ◌+◌, ◌<◌, Bool, List, [], ◌++◌, length, set, refl, ap, sym, ◌∙◌, subst, arith}
 use Rattle.std.proofs.lemmas.List.{length-append, get_or-append-add, set-append_right}
-use Rattle.lw_words.specs.Answer.{Answer, AreAnswers}
-use Rattle.lw_words.specs.Word.{IsWord}
+use Rattle.lw_words.specs.Word.{Answer, AreAnswers, IsWord}
 use Rattle.lw_tree.specs.Tree.{TreeState, no_node, node_at, leaf_at, discriminator, IsLive, IsInner, IsTree, BranchesAreRead}
 use Rattle.lw_tree.specs.bodies.Sprouts.{IsLowest, IsSprout, IsOpen, CanPart}
 use Rattle.lw_tree.specs.bodies.Steps.{inner_node}

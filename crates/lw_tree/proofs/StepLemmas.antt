@@ -2,8 +2,7 @@
 use Rattle.std.proofs.Common.{◌≡◌, ◌≢◌, ℕ, ◌+◌, ◌*◌, ◌<◌, Bool, false, List, [], ◌∷◌, ◌++◌, length, drop, get_or, Some, None, Result, Ok, Err, IsErrAnd, refl, ap, sym, ◌∙◌, subst}
 use Rattle.std.specs.List.{All}
 use Rattle.std.proofs.lemmas.List.Elements.{All-map}
-use Rattle.lw_words.specs.Answer.{Answer, AreAnswers, answer_of, answers_of}
-use Rattle.lw_words.specs.Word.{IsWord}
+use Rattle.lw_words.specs.Word.{Answer, AreAnswers, answer_of, answers_of, IsWord}
 use Rattle.lw_mealy.specs.Machine.{Rows, next, output}
 use Rattle.lw_cache.specs.Cut.{word_at, IsCut}
 use Rattle.lw_cache.specs.declared.cut.Cut.{Cut}

@@ -1,7 +1,7 @@
 -- What the machine of a closed tree is.
 use Rattle.std.specs.Prelude.{◌≡◌, ℕ, ◌<◌, List, ◌++◌, length}
 use Rattle.std.specs.List.{All}
-use Rattle.lw_words.specs.Answer.{Answer, AreAnswers}
+use Rattle.lw_words.specs.Word.{Answer, AreAnswers}
 use Rattle.lw_mealy.specs.Machine.{Rows}
 use Rattle.lw_cache.specs.Crowd.{IsCrowd}
 use Rattle.lw_cache.specs.Cut.{AreAccess, StepsAreRead}

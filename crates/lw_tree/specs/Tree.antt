@@ -3,8 +3,7 @@
 -- Isberner, Howar and Steffen (2014).
 use Rattle.std.specs.Prelude.{◌≡◌, ◌≢◌, ◌⊎◌, ℕ, zero, suc, ◌+◌, ◌*◌, ◌^◌, ◌<◌, ◌≤◌, Bool, true, false, ◌||◌, List, [], ◌∷◌, ◌++◌, length, replicate, drop, slice_index_or, Some, None, IsSome, is_none, if◌then◌else◌}
 use Rattle.std.specs.List.{All}
-use Rattle.lw_words.specs.Answer.{Answer}
-use Rattle.lw_words.specs.Word.{IsWord}
+use Rattle.lw_words.specs.Word.{Answer, IsWord}
 use Rattle.lw_mealy.specs.Machine.{Rows, next, output}
 use Rattle.lw_cache.specs.Cut.{word_at}
 use Rattle.lw_cache.specs.Known.{Reads}

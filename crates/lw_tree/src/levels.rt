@@ -1,16 +1,14 @@
 //! Sifting by levels: all transitions that have no target take one step down the discrimination tree.
 ghost use Rattle.std.specs.Prelude.{◌≡◌, ℕ, ◌+◌, ◌*◌, ◌^◌, ◌<◌, ◌≤◌, List, [], ◌∷◌, ◌++◌, length, Contains, IfOk, IfErr, OnOk, true, false};
 ghost use Rattle.std.specs.List.{All};
-ghost use Rattle.lw_words.specs.Answer.{Answer, AreAnswers, answers_of};
-ghost use Rattle.lw_words.specs.Word.{IsWord};
+ghost use Rattle.lw_words.specs.Word.{Answer, AreAnswers, answers_of, IsWord};
 ghost use Rattle.lw_cache.specs.Known.{IsKnown};
 ghost use Rattle.lw_cache.specs.Settling.{Keeps, MayAsk, Leaves, grown_stop};
-ghost use Rattle.lw_tree.specs.Grown.{HasGrown, KeepsDiscriminators, HasLevelled, HasClosed, TellsCrowd};
+ghost use Rattle.lw_tree.specs.Grown.{HasGrown, KeepsDiscriminators, HasLevelled, HasClosed, TellsCrowd, HasMoved, MovesOn};
 ghost use Rattle.lw_cache.specs.declared.stops.GrowStop.TheVariants.{Crowd};
 ghost use Rattle.lw_tree.specs.Tree.{IsTree, BranchesAreRead, HasOpen, IsClosed, IsInner, IsLive, discriminator, is_open, node_at, place_at};
 ghost use Rattle.lw_tree.specs.bodies.Arrivals.{AreOpen};
 ghost use Rattle.lw_tree.specs.bodies.Steps.{IsRead, IsOwn, HasStepped};
-ghost use Rattle.lw_tree.specs.Grown.{HasMoved, MovesOn};
 ghost use Rattle.lw_tree.specs.bodies.Transitions.{IsTransition, IsAsked, AreAsked, word_of, place_by, content_by, is_open_by};
 
 use crate::DiscriminationTree;

@@ -1,7 +1,6 @@
 //! The machine of a closed tree.
 ghost use Rattle.std.specs.Prelude.{◌≡◌, ◌<◌, length, map, IfOk, MatchOption};
-ghost use Rattle.lw_mealy.specs.Limits.{IsWithinLimits, mealy_of};
-ghost use Rattle.lw_mealy.specs.Machine.{Rows, next, output};
+ghost use Rattle.lw_mealy.specs.Machine.{IsWithinLimits, mealy_of, Rows, next, output};
 ghost use Rattle.lw_tree.specs.Tree.{IsClosed, IsMachineOf};
 ghost use Rattle.lw_tree.specs.bodies.Transitions.{AreSteps, IsStep, IsTransition};
 

@@ -1,6 +1,6 @@
 //! Replacing the root of a block by a final node.
 ghost use Rattle.std.specs.Prelude.{◌≡◌, ℕ, ◌<◌, length, map, slice_set, IfOk};
-ghost use Rattle.lw_words.specs.Answer.{AreAnswers, answers_of};
+ghost use Rattle.lw_words.specs.Word.{AreAnswers, answers_of};
 ghost use Rattle.lw_tree.specs.Blocks.{MayReplace, HasReplaced};
 ghost use Rattle.lw_tree.specs.Tree.{BranchesAreRead, place_at};
 ghost use Rattle.lw_tree.specs.bodies.Sprouts.{lifted_place, edge_number, AreEdgePlaces};

@@ -1,6 +1,6 @@
 //! Splitting a leaf by a cut.
 ghost use Rattle.std.specs.Prelude.{◌≡◌, ◌≢◌, ℕ, ◌+◌, ◌<◌, List, length, IfOk, IfErr, OnOk, OnErr};
-ghost use Rattle.lw_words.specs.Answer.{AreAnswers, answers_of};
+ghost use Rattle.lw_words.specs.Word.{AreAnswers, answers_of};
 ghost use Rattle.lw_mealy.specs.Machine.{Rows};
 ghost use Rattle.lw_cache.specs.Cut.{IsCut};
 ghost use Rattle.lw_cache.specs.Settling.{MayAsk, Leaves, grown_stop};

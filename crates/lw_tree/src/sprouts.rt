@@ -1,6 +1,6 @@
 //! What is to stand below the root of a block once that is replaced, made beside the tree.
 ghost use Rattle.std.specs.Prelude.{◌≡◌, ◌≢◌, ℕ, ◌+◌, ◌^◌, ◌<◌, ◌≤◌, List, length, map, MatchOption, OnOk, IfOk};
-ghost use Rattle.lw_words.specs.Answer.{AreAnswers, answers_of};
+ghost use Rattle.lw_words.specs.Word.{AreAnswers, answers_of};
 ghost use Rattle.lw_tree.specs.Blocks.{MayReplace};
 ghost use Rattle.lw_tree.specs.Tree.{BranchesAreRead, node_at, leaf_at, IsLive};
 ghost use Rattle.lw_tree.specs.declared.nodes.Node.{Node};

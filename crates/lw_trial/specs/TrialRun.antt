@@ -1,8 +1,8 @@
 -- What a call of `trial` did, for callers: all that its contract says, in one record.
 use Rattle.std.specs.Prelude.{◌≡◌, ◌≢◌, ◌↔◌, ℕ, ◌<◌, ◌≤◌, List, [], ◌∷◌, length, codes, true, None, Some, IfSome}
-use Rattle.lw_words.specs.Answer.{answers_of}
+use Rattle.lw_words.specs.Word.{answers_of}
 use Rattle.lw_words.specs.Cause.{CountedFault}
-use Rattle.lw_mealy.specs.Limits.{MealyMachine, mealy_of}
+use Rattle.lw_mealy.specs.Machine.{MealyMachine, mealy_of}
 use Rattle.lw_separate.specs.Canonical.{IsCanonical}
 use Rattle.lw_suite.specs.Size.{suite_size, greatest_suite}
 use Rattle.lw_names.specs.Naming.{Naming}

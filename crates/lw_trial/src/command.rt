@@ -1,7 +1,7 @@
 //! The command.
 ghost use Rattle.std.specs.Prelude.{◌≡◌, ◌≤◌, ◌<◌, [], IfOk, None, Some};
-ghost use Rattle.lw_words.specs.Answer.{answers_of};
-ghost use Rattle.lw_mealy.specs.Limits.{IsWithinLimits};
+ghost use Rattle.lw_words.specs.Word.{answers_of};
+ghost use Rattle.lw_mealy.specs.Machine.{IsWithinLimits};
 ghost use Rattle.lw_rounds.specs.Learned.{IsLearned};
 ghost use Rattle.lw_rounds.specs.Learner.{refinements_of};
 ghost use Rattle.lw_suite.specs.Size.{suite_size, greatest_suite};

@@ -1,7 +1,6 @@
 //! Whether a model is the canonical form of a machine.
 ghost use Rattle.std.specs.Prelude.{◌≡◌, ◌≢◌, ◌<◌, ◌↔◌, length, true, false, IfOk};
-ghost use Rattle.lw_mealy.specs.Limits.{IsWithinLimits};
-ghost use Rattle.lw_mealy.specs.Machine.{row};
+ghost use Rattle.lw_mealy.specs.Machine.{IsWithinLimits, row};
 ghost use Rattle.lw_separate.specs.Canonical.{IsCanonical};
 
 use lw_mealy::Mealy;

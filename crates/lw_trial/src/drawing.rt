@@ -1,7 +1,7 @@
 //! Machines that are drawn by a number.
 ghost use Rattle.std.specs.Prelude.{◌≡◌, ℕ, ◌+◌, ◌*◌, ◌-◌, ◌%◌, ◌<◌, ◌≤◌, map, nat_eq, if◌then◌else◌, IfOk, OnOk};
 ghost use Rattle.std.specs.List.{range_with_len};
-ghost use Rattle.lw_mealy.specs.Limits.{IsWithinLimits, mealy_of};
+ghost use Rattle.lw_mealy.specs.Machine.{IsWithinLimits, mealy_of};
 ghost use Rattle.lw_wordlist.specs.Drawn.{after_draws, draw_at};
 ghost use Rattle.lw_trial.specs.Drawn.{drawn_cell, drawn_rows};
 

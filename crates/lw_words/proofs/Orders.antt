@@ -6,7 +6,7 @@ use Rattle.std.specs.declared.cmp.Ordering.TheVariants.{Less, Equal, Greater}
 use Rattle.std.specs.Cmp.Lexicographic.{slice_cmp}
 use Rattle.std.specs.FinMap.{slice_cmp-IsAntisymmetric, nat_cmp-IsAntisymmetric}
 use Rattle.std.proofs.lemmas.Cmp.{then_total, on_total, nat_cmp_total, nat_list_cmp_total}
-use Rattle.lw_words.specs.Shortlex.{IsOrderOfWords}
+use Rattle.lw_words.specs.Word.{IsOrderOfWords}
 
 second-equal : (r s : Ordering) → ordering_then r s ≡ Equal → s ≡ Equal
 second-equal r s = elim r as (λ r. ordering_then r s ≡ Equal → s ≡ Equal) [

@@ -1,6 +1,14 @@
--- Words. Source: the usual ones of formal languages, as in Hopcroft and Ullman (1979).
-use Rattle.std.specs.Prelude.{◌≡◌, ℕ, ◌<◌, List, ◌++◌}
+-- Words, their order, and answers.
+use Rattle.std.specs.Prelude.{◌≡◌, ℕ, ◌<◌, List, ◌++◌, length, [], map, slice_index_or}
 use Rattle.std.specs.List.{All}
+use Rattle.std.specs.Ordering.{nat_cmp, ordering_then}
+use Rattle.std.specs.declared.cmp.Ordering.{Ordering}
+use Rattle.std.specs.Cmp.{IsTotalOrder}
+use Rattle.std.specs.declared.cmp.Ordering.TheVariants.{Equal}
+use Rattle.std.specs.Cmp.Lexicographic.{slice_cmp}
+use Rattle.lw_words.specs.declared.kept.KeptAnswer.{KeptAnswer}
+
+-- Words. Source: the usual ones of formal languages, as in Hopcroft and Ullman (1979).
 
 -- a word over a letters: a list of numbers below a
 abbrev pub IsWord : ℕ → List ℕ → Type 0
@@ -9,3 +17,43 @@ IsWord a w = All (λ x. x < a) w
 -- w is u, followed by some word
 abbrev pub IsPrefix : List ℕ → List ℕ → Type 0
 IsPrefix u w = (v : List ℕ) × (w ≡ u ++ v)
+
+-- The shortlex order of words. Source: length plus lexicographic order, as in Sipser (1996).
+
+-- the shorter word first, then by the first different letter
+abbrev pub shortlex_cmp : List ℕ → List ℕ → Ordering
+shortlex_cmp a b = ordering_then (nat_cmp (length a) (length b)) (slice_cmp nat_cmp a b)
+
+-- shortlex is a total order in which only equal words are equal
+abbrev pub IsOrderOfWords : Type 0
+IsOrderOfWords = IsTotalOrder shortlex_cmp × ((a b : List ℕ) → shortlex_cmp a b ≡ Equal → a ≡ b)
+
+-- Answers: a word and the outputs that came, one for each letter. Source: the queries of Angluin (1987), with outputs as in Niese (2003).
+
+pub record Answer : Type 0 where
+  pub word : List ℕ
+  pub outs : List ℕ
+
+-- what was answered to which word, without where it came from
+abbrev pub answer_of : KeptAnswer → Answer
+answer_of k = record { word = k.word; outs = k.outs }
+
+-- the answers of a list of kept answers, in its order
+abbrev pub answers_of : List KeptAnswer → List Answer
+answers_of kept = map answer_of kept
+
+-- one output for each letter
+abbrev pub IsWhole : Answer → Type 0
+IsWhole k = length k.outs ≡ length k.word
+
+-- a word over a letters with as many outputs
+abbrev pub IsAnswer : ℕ → Answer → Type 0
+IsAnswer a k = IsWord a k.word × IsWhole k
+
+-- answers to words over a letters
+abbrev pub AreAnswers : ℕ → List Answer → Type 0
+AreAnswers a ks = All (IsAnswer a) ks
+
+-- the answer with this number; past the end, the answer to the empty word
+abbrev pub answer_at : List Answer → ℕ → Answer
+answer_at ks i = slice_index_or ks i (record { word = []; outs = [] })

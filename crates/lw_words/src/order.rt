@@ -1,6 +1,6 @@
 //! Shortlex order.
 ghost use Rattle.std.specs.Prelude.{◌≡◌};
-ghost use Rattle.lw_words.specs.Shortlex.{shortlex_cmp, IsOrderOfWords};
+ghost use Rattle.lw_words.specs.Word.{shortlex_cmp, IsOrderOfWords};
 
 use crate::Word;
 use std::cmp::Ordering;

@@ -2,8 +2,7 @@
 use Rattle.std.proofs.Common.{◌≡◌, inl, inr, ℕ, ◌<◌, List, [], ◌++◌, length, map, All, get_or, Result, Ok, Err, OnOk, ap, sym, ◌∙◌, subst}
 use Rattle.std.proofs.lemmas.List.{get_or-map, length-map}
 use Rattle.std.proofs.lemmas.List.Elements.{Contains-get_or, Contains-append_left}
-use Rattle.lw_words.specs.Answer.{Answer, answer_of, answers_of}
-use Rattle.lw_words.specs.Word.{IsPrefix}
+use Rattle.lw_words.specs.Word.{Answer, answer_of, answers_of, IsPrefix}
 use Rattle.lw_words.specs.declared.kept.KeptAnswer.{KeptAnswer}
 use Rattle.lw_cache.specs.Known.{IsKnown}
 use Rattle.lw_workers.specs.Asking.{WordIsAnswered, AnswersWords}

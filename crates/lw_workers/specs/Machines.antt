@@ -1,12 +1,9 @@
 -- What comes of a learning of a machine that stands in for a system, by instances of it.
 use Rattle.std.specs.Prelude.{◌≡◌, ℕ, ◌<◌, ◌≤◌, ◌==◌, List, ◌++◌, length, map, filter, Result, Ok, Err}
 use Rattle.std.specs.List.{All, range_with_len}
-use Rattle.lw_words.specs.Answer.{AreAnswers, answers_of}
-use Rattle.lw_words.specs.Word.{IsWord}
+use Rattle.lw_words.specs.Word.{AreAnswers, answers_of, IsWord}
 use Rattle.lw_words.specs.declared.kept.KeptAnswer.{KeptAnswer}
-use Rattle.lw_mealy.specs.Gives.{Gives}
-use Rattle.lw_mealy.specs.Limits.{MealyMachine}
-use Rattle.lw_mealy.specs.Machine.{Rows, IsMachine}
+use Rattle.lw_mealy.specs.Machine.{Gives, MealyMachine, Rows, IsMachine}
 use Rattle.lw_cache.specs.declared.stops.AskStop.TheVariants as ask
 use Rattle.lw_desk.specs.Ending.{CameFirst}
 use Rattle.lw_pool.specs.Pool.{AskedOnce}

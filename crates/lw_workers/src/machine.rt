@@ -1,10 +1,8 @@
 //! The learning of a machine that stands in for a system, over instances of it.
 ghost use Rattle.std.specs.Prelude.{◌≡◌, ◌<◌, ◌^◌, IfOk, IfErr, OnOk, [], length, None};
 ghost use Rattle.std.specs.List.{All};
-ghost use Rattle.lw_words.specs.Answer.{answers_of};
-ghost use Rattle.lw_words.specs.Word.{IsWord};
-ghost use Rattle.lw_mealy.specs.Gives.{Gives};
-ghost use Rattle.lw_mealy.specs.Machine.{Rows};
+ghost use Rattle.lw_words.specs.Word.{answers_of, IsWord};
+ghost use Rattle.lw_mealy.specs.Machine.{Gives, Rows};
 ghost use Rattle.lw_cache.specs.Clash.{NothingClashes};
 ghost use Rattle.lw_pool.specs.Opening.{MayBegin};
 ghost use Rattle.lw_rounds.specs.Learned.{IsLearned, StopsAs};

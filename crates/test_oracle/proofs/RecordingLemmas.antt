@@ -3,11 +3,9 @@ use Rattle.std.proofs.Common.{◌≡◌, ℕ, ◌+◌, ◌<◌, inr, ⊎_elim, L
 use Rattle.std.specs.List.{All}
 use Rattle.std.proofs.Math.Seq.{drop-append_seam}
 use Rattle.std.proofs.lemmas.List.Elements.{All-nil, All-cons, All-head, All-tail, All-push, All-more, All-weaker, All-drop}
-use Rattle.lw_words.specs.Answer.{answer_of, answers_of, IsAnswer}
-use Rattle.lw_words.specs.Word.{IsWord}
+use Rattle.lw_words.specs.Word.{answer_of, answers_of, IsAnswer, IsWord}
 use Rattle.lw_words.specs.declared.kept.KeptAnswer.{KeptAnswer}
-use Rattle.lw_mealy.specs.Limits.{MealyMachine, IsWithinLimits}
-use Rattle.lw_mealy.specs.Machine.{out, output, next, answer}
+use Rattle.lw_mealy.specs.Machine.{MealyMachine, IsWithinLimits, out, output, next, answer}
 use Rattle.lw_mealy.proofs.RowLemmas.{target_below, output_below}
 use Rattle.lw_mealy.proofs.WordLemmas.{length-out}
 use Rattle.lw_cache.specs.Caching.{kept_answer}

@@ -2,7 +2,7 @@
 use Rattle.std.specs.Prelude.{◌≡◌, ◌⊎◌, ℕ, ◌<◌, List, [], ◌∷◌, ◌++◌, Option, Some, None, Bool, false}
 use Rattle.std.specs.List.{All}
 use Rattle.lw_words.specs.declared.kept.KeptAnswer.{KeptAnswer}
-use Rattle.lw_mealy.specs.Limits.{MealyMachine}
+use Rattle.lw_mealy.specs.Machine.{MealyMachine}
 use Rattle.lw_mealy.specs.Origin.{Origin}
 use Rattle.lw_cache.specs.Settling.{OracleState, KeepsAnswers}
 use Rattle.lw_cache.specs.declared.stops.AskStop.{AskStop}

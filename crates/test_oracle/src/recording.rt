@@ -1,8 +1,7 @@
 //! A machine that answers one word after another, and keeps the batches that it was asked.
 ghost use Rattle.std.specs.Prelude.{◌≡◌, ◌^◌, ◌<◌, List, [], length, OnOk, None, false};
 ghost use Rattle.std.specs.List.{All};
-ghost use Rattle.lw_words.specs.Answer.{answers_of};
-ghost use Rattle.lw_words.specs.Word.{IsWord};
+ghost use Rattle.lw_words.specs.Word.{answers_of, IsWord};
 ghost use Rattle.lw_cache.specs.Clash.{NothingClashes};
 ghost use Rattle.lw_cache.specs.Known.{IsKnown};
 ghost use Rattle.lw_cache.specs.Settling.{GainsAnswers};

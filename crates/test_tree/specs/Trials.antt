@@ -1,6 +1,6 @@
 -- An oracle and a closed tree over what it knows.
 use Rattle.std.specs.Prelude.{◌≡◌}
-use Rattle.lw_words.specs.Answer.{answers_of}
+use Rattle.lw_words.specs.Word.{answers_of}
 use Rattle.lw_cache.specs.Settling.{OracleState, MayAsk}
 use Rattle.lw_tree.specs.Tree.{TreeState, BranchesAreRead, IsClosed}
 

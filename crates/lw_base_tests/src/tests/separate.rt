@@ -1,6 +1,6 @@
 //! The calls on worked, drawn and greatest machines, beside the plain body.
 ghost use Rattle.std.specs.Prelude.{◌<◌, ◌≤◌, length};
-ghost use Rattle.lw_mealy.specs.Minimal.{IsMinimal};
+ghost use Rattle.lw_mealy.specs.Machine.{IsMinimal};
 
 use lw_mealy::Mealy;
 use lw_separate::{

@@ -2,7 +2,7 @@
 use Rattle.std.specs.Prelude.{◌≡◌, ◌≢◌, ◌⊎◌, ◌↔◌, ℕ, ◌<◌, List, length, Contains, Option, Some, None, slice_index}
 use Rattle.std.specs.declared.cmp.Ordering.TheVariants.{Less}
 use Rattle.lw_words.specs.Name.{AllDiffer}
-use Rattle.lw_words.specs.Shortlex.{shortlex_cmp}
+use Rattle.lw_words.specs.Word.{shortlex_cmp}
 use Rattle.lw_mealy.specs.Machine.{Rows, after, output}
 use Rattle.lw_cache.specs.bodies.Trie.{word_of, no_answer, no_claim}
 use Rattle.lw_cache.specs.declared.node.Node.{Node}

@@ -1,8 +1,7 @@
 -- The nodes of the trie, and what they tell of answers and claims.
 use Rattle.std.specs.Prelude.{◌≡◌, ◌≢◌, ◌⊎◌, ℕ, zero, suc, ◌-◌, ◌<◌, ◌≤◌, List, [], ◌∷◌, ◌++◌, length, map, slice_index_or}
 use Rattle.std.specs.List.{All}
-use Rattle.lw_words.specs.Answer.{Answer, answer_at, answers_of, IsWhole}
-use Rattle.lw_words.specs.Word.{IsPrefix}
+use Rattle.lw_words.specs.Word.{Answer, answer_at, answers_of, IsWhole, IsPrefix}
 use Rattle.lw_words.specs.declared.kept.KeptAnswer.{KeptAnswer}
 use Rattle.lw_cache.specs.Caching.{Claim}
 use Rattle.lw_cache.specs.Clash.{IsClear}

@@ -1,7 +1,7 @@
 -- Nodes by the lengths and the order of their words.
 use Rattle.std.specs.Prelude.{◌≡◌, ◌≢◌, ◌⊎◌, ℕ, ◌<◌, List, length, slice_index, Option, Some, None, option_map}
 use Rattle.std.specs.declared.cmp.Ordering.TheVariants.{Less}
-use Rattle.lw_words.specs.Shortlex.{shortlex_cmp}
+use Rattle.lw_words.specs.Word.{shortlex_cmp}
 use Rattle.lw_cache.specs.bodies.Trie.{word_of}
 use Rattle.lw_cache.specs.declared.node.Node.{Node}
 

@@ -1,7 +1,7 @@
 -- What a search for access words comes to.
 use Rattle.std.specs.Prelude.{ℕ}
 use Rattle.lw_mealy.specs.Machine.{Rows}
-use Rattle.lw_separate.specs.Least.{AreLeastAccess}
+use Rattle.lw_separate.specs.Canonical.{AreLeastAccess}
 use Rattle.lw_certify.specs.Verdict.{IsFirstUnreached}
 use Rattle.lw_certify.specs.declared.certificate.Access.{Access}
 use Rattle.lw_certify.specs.declared.certificate.Access.TheVariants.{Words, Unreached}

@@ -1,7 +1,7 @@
 -- The first word of a list that isn't known, stage by stage.
 use Rattle.std.specs.Prelude.{◌≡◌, ℕ, List, [], slice_index_or, Option, MatchOption}
 use Rattle.std.specs.List.{All}
-use Rattle.lw_words.specs.Answer.{Answer}
+use Rattle.lw_words.specs.Word.{Answer}
 use Rattle.lw_words.specs.First.{FailsFirst}
 use Rattle.lw_cache.specs.Known.{IsKnown}
 

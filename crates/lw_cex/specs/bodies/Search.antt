@@ -1,6 +1,6 @@
 -- The search for the place at which a counterexample is cut.
 use Rattle.std.specs.Prelude.{◌≡◌, ℕ, ◌+◌, ◌<◌, ◌≤◌, List, length, take, drop, slice_index_or, Bool, true, false}
-use Rattle.lw_words.specs.Answer.{Answer}
+use Rattle.lw_words.specs.Word.{Answer}
 use Rattle.lw_mealy.specs.Machine.{Rows, after, next, answer}
 use Rattle.lw_cache.specs.Against.{Differs}
 use Rattle.lw_cache.specs.Known.{Reads}

@@ -2,8 +2,7 @@
 use Rattle.std.specs.Prelude.{◌≡◌, ℕ, ◌+◌, ◌*◌, ◌/◌, ◌%◌, ◌<◌, List, [], length, map, slice_index_or, Option, None}
 use Rattle.std.specs.List.{range_with_len}
 use Rattle.lw_words.specs.Name.{IsNames, number_of}
-use Rattle.lw_mealy.specs.Limits.{IsWithinLimits}
-use Rattle.lw_mealy.specs.Machine.{Row, Rows, next, output}
+use Rattle.lw_mealy.specs.Machine.{IsWithinLimits, Row, Rows, next, output}
 use Rattle.lw_json.specs.declared.machine.Machine.{Machine}
 use Rattle.lw_compare.specs.Comparing.{SameInputs, number_or_zero}
 

@@ -4,8 +4,7 @@ use Rattle.std.specs.List.{All, AllPairs}
 use Rattle.std.specs.Ordering.{nat_cmp, ordering_then}
 use Rattle.std.specs.Cmp.Lexicographic.{slice_cmp}
 use Rattle.std.specs.declared.cmp.Ordering.{Ordering}
-use Rattle.lw_words.specs.Answer.{answers_of}
-use Rattle.lw_words.specs.Word.{IsPrefix}
+use Rattle.lw_words.specs.Word.{answers_of, IsPrefix}
 use Rattle.lw_words.specs.declared.kept.KeptAnswer.{KeptAnswer}
 use Rattle.lw_cache.specs.Known.{IsKnown}
 use Rattle.lw_desk.specs.Step.{word_at_place}

@@ -1,7 +1,7 @@
 //! What no clause says: that the calls succeed, and clashes and known words by hand.
 ghost use Rattle.std.specs.Prelude.{◌≡◌, length, List, [], ◌∷◌, ◌<◌};
 ghost use Rattle.std.specs.List.{All};
-ghost use Rattle.lw_words.specs.Answer.{answer_of, answers_of, IsWhole};
+ghost use Rattle.lw_words.specs.Word.{answer_of, answers_of, IsWhole};
 ghost use Rattle.lw_cache.specs.Caching.{claim_of};
 ghost use Rattle.lw_cache.specs.Plain.{AreFlags};
 

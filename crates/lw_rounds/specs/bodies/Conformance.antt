@@ -1,9 +1,8 @@
 -- Whether a machine's outputs on words are what is read of them.
 use Rattle.std.specs.Prelude.{◌≡◌, ℕ, ◌+◌, ◌<◌, List, length, take, Option, MatchOption}
 use Rattle.std.specs.List.{All, AllWithin}
-use Rattle.lw_words.specs.Answer.{Answer}
-use Rattle.lw_mealy.specs.Machine.{Rows, answer}
-use Rattle.lw_mealy.specs.Gives.{Gives}
+use Rattle.lw_words.specs.Word.{Answer}
+use Rattle.lw_mealy.specs.Machine.{Rows, answer, Gives}
 use Rattle.lw_cache.specs.Against.{Differs}
 use Rattle.lw_cache.specs.Cut.{word_at}
 use Rattle.lw_cache.specs.Known.{IsKnown, Reads}

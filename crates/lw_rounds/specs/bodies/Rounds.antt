@@ -1,7 +1,7 @@
 -- The rounds: what is so of an oracle and a learner between them, and what a test comes to.
 use Rattle.std.specs.Prelude.{◌≡◌, ℕ, ◌+◌, ◌-◌, ◌<◌, ◌≤◌, List, length, Result, OnOk, IfErr}
-use Rattle.lw_words.specs.Answer.{Answer, answers_of}
-use Rattle.lw_mealy.specs.Limits.{MealyMachine}
+use Rattle.lw_words.specs.Word.{Answer, answers_of}
+use Rattle.lw_mealy.specs.Machine.{MealyMachine}
 use Rattle.lw_cache.specs.Against.{Differs}
 use Rattle.lw_cache.specs.Clash.{NothingClashes}
 use Rattle.lw_cache.specs.Crowd.{IsCrowd}

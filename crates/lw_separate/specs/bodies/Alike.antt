@@ -1,7 +1,6 @@
 -- States that agree on all words.
 use Rattle.std.specs.Prelude.{ℕ, ◌<◌, length, Option, MatchOption}
-use Rattle.lw_mealy.specs.Machine.{Rows}
-use Rattle.lw_mealy.specs.Minimal.{Differ}
+use Rattle.lw_mealy.specs.Machine.{Rows, Differ}
 
 -- the least state after p that agrees with it on all words
 pub record IsNextAlike (a : ℕ) (m : Rows) (p q : ℕ) : Type 0 where

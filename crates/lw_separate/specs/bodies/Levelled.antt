@@ -1,6 +1,6 @@
 -- What the levels of a machine are.
 use Rattle.std.specs.Prelude.{map}
-use Rattle.lw_mealy.specs.Limits.{MealyMachine}
+use Rattle.lw_mealy.specs.Machine.{MealyMachine}
 use Rattle.lw_separate.specs.declared.levels.Levels.{Levels}
 use Rattle.lw_separate.specs.bodies.Levels.{AreLevels}
 

@@ -1,9 +1,7 @@
 -- A machine with its states renamed: how equal states are merged and how states are numbered.
-use Rattle.std.specs.Prelude.{◌≡◌, ℕ, ◌<◌, ◌≤◌, List, [], length, slice_index, slice_index_or}
-use Rattle.std.specs.Prelude.{Option, Some, None}
+use Rattle.std.specs.Prelude.{◌≡◌, ℕ, ◌<◌, ◌≤◌, List, [], length, slice_index, slice_index_or, Option, Some, None}
 use Rattle.lw_words.specs.Word.{IsWord}
-use Rattle.lw_mealy.specs.Machine.{Rows, IsMachine, out, next, output, cell}
-use Rattle.lw_mealy.specs.Minimal.{Differ}
+use Rattle.lw_mealy.specs.Machine.{Rows, IsMachine, out, next, output, cell, Differ}
 use Rattle.lw_separate.specs.Canonical.{IsCanonical}
 
 -- r is the least state that agrees with q on all words

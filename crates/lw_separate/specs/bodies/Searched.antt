@@ -1,6 +1,6 @@
 -- What a search has found of a machine.
 use Rattle.std.specs.Prelude.{ℕ}
-use Rattle.lw_mealy.specs.Limits.{MealyMachine}
+use Rattle.lw_mealy.specs.Machine.{MealyMachine}
 use Rattle.lw_separate.specs.declared.access.Search.{Search}
 use Rattle.lw_separate.specs.bodies.Search.{IsSearch}
 

@@ -3,7 +3,7 @@ mod names;
 
 ghost use Rattle.std.specs.Prelude.{◌≤◌, ◌<◌};
 ghost use Rattle.std.specs.List.{All};
-ghost use Rattle.lw_mealy.specs.Limits.{AnswersBelow};
+ghost use Rattle.lw_mealy.specs.Machine.{AnswersBelow};
 
 use crate::tests::renumber::names::{falling, turning};
 use lw_cache::AskStop;

@@ -1,8 +1,7 @@
 -- How a block that a letter parts is found, and its new discriminator.
 use Rattle.std.specs.Prelude.{◌≡◌, ◌≢◌, ◌⊎◌, ℕ, ◌<◌, ◌≤◌, List, ◌++◌, length, slice_index_or, Contains}
 use Rattle.std.specs.List.{All}
-use Rattle.lw_words.specs.Answer.{Answer}
-use Rattle.lw_words.specs.Word.{IsWord}
+use Rattle.lw_words.specs.Word.{Answer, IsWord}
 use Rattle.lw_mealy.specs.Machine.{Rows, next, output}
 use Rattle.lw_cache.specs.Cut.{word_at}
 use Rattle.lw_tree.specs.Blocks.{IsMember, IsBlock, AreOfOneClass, AreTold}

@@ -1,6 +1,6 @@
 -- A leaf that is split by a cut.
 use Rattle.std.specs.Prelude.{ℕ, List}
-use Rattle.lw_words.specs.Answer.{Answer}
+use Rattle.lw_words.specs.Word.{Answer}
 use Rattle.lw_cache.specs.Cut.{word_at}
 use Rattle.lw_cache.specs.declared.cut.Cut.{Cut}
 use Rattle.lw_tree.specs.Tree.{TreeState, Tells}

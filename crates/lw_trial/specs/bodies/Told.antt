@@ -1,6 +1,6 @@
 -- What is told of a model that was learned of a machine.
 use Rattle.std.specs.Prelude.{◌≡◌, ◌↔◌, ℕ, length, true}
-use Rattle.lw_mealy.specs.Limits.{MealyMachine}
+use Rattle.lw_mealy.specs.Machine.{MealyMachine}
 use Rattle.lw_separate.specs.Canonical.{IsCanonical}
 use Rattle.lw_report.specs.declared.outcome.Tried.{Tried}
 use Rattle.lw_trial.specs.Arguments.{TrialValues}

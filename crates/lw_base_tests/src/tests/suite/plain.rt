@@ -1,5 +1,5 @@
 //! The suite as one list, made level by level.
-ghost use Rattle.lw_mealy.specs.Minimal.{IsMinimal};
+ghost use Rattle.lw_mealy.specs.Machine.{IsMinimal};
 
 use lw_mealy::Mealy;
 use lw_separate::{canonical, least_access, separators};

@@ -1,4 +1,4 @@
-use Rattle.lw_words.specs.Answer.{answer_of}
+use Rattle.lw_words.specs.Word.{answer_of}
 use Rattle.lw_cache.proofs.PlainLemmas.{AgreeTo}
 use Rattle.lw_cache.proofs.plain.clash.Given as goal
 

@@ -1,5 +1,5 @@
 use Rattle.std.proofs.Common.{rules, ◌≡◌, ℕ, ◌<◌, true, false, List, length, get_or, sym, ◌∙◌, subst, arith}
-use Rattle.lw_words.specs.Answer.{Answer, answer_at, answer_of, answers_of}
+use Rattle.lw_words.specs.Word.{Answer, answer_at, answer_of, answers_of}
 use Rattle.lw_cache.specs.Clash.{Clash, IsClear}
 use Rattle.lw_cache.proofs.ClashLemmas.{unclashed_after}
 use Rattle.lw_cache.proofs.PlainLemmas.{kept_at, kept_count, clear_more}

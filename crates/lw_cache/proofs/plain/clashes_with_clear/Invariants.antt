@@ -1,4 +1,4 @@
-use Rattle.lw_words.specs.Answer.{answer_of, answers_of}
+use Rattle.lw_words.specs.Word.{answer_of, answers_of}
 use Rattle.lw_cache.specs.Clash.{IsClearAfter}
 use Rattle.lw_cache.proofs.plain.clashes_with_clear.Given as goal
 

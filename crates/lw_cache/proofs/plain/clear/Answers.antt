@@ -1,5 +1,5 @@
 use Rattle.std.proofs.Common.{rules, ◌≡◌, ℕ, ◌+◌, ◌<◌, Bool, not, List, [], ◌∷◌, ◌++◌, length, subst, arith}
-use Rattle.lw_words.specs.Answer.{Answer, answer_at, answer_of, answers_of, IsWhole}
+use Rattle.lw_words.specs.Word.{Answer, answer_at, answer_of, answers_of, IsWhole}
 use Rattle.lw_cache.specs.Plain.{AreFlags}
 use Rattle.lw_cache.proofs.PlainLemmas.{kept_at, kept_count, flag_next}
 use Rattle.lw_cache.proofs.plain.clear.Goals as goal

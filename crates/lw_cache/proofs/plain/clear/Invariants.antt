@@ -1,4 +1,4 @@
-use Rattle.lw_words.specs.Answer.{answers_of}
+use Rattle.lw_words.specs.Word.{answers_of}
 use Rattle.lw_cache.specs.Plain.{AreFlags}
 use Rattle.lw_cache.proofs.plain.clear.Given as goal
 

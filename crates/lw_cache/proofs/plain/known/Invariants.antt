@@ -1,6 +1,5 @@
 use Rattle.std.proofs.Common.{ℕ, ◌<◌}
-use Rattle.lw_words.specs.Answer.{answer_at, answers_of}
-use Rattle.lw_words.specs.Word.{IsPrefix}
+use Rattle.lw_words.specs.Word.{answer_at, answers_of, IsPrefix}
 use Rattle.lw_cache.specs.Clash.{IsClear}
 use Rattle.lw_cache.proofs.plain.known.Given as goal
 

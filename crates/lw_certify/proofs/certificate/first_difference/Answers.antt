@@ -1,6 +1,5 @@
 use Rattle.std.proofs.Common.{◌≡◌, sym, arith}
-use Rattle.lw_words.specs.Answer.{IsWhole}
-use Rattle.lw_words.specs.Word.{IsWord}
+use Rattle.lw_words.specs.Word.{IsWhole, IsWord}
 use Rattle.lw_mealy.specs.Machine.{answer}
 use Rattle.lw_certify.proofs.CertifyLemmas.{at_number, number_more, differs_at}
 use Rattle.lw_certify.proofs.certificate.first_difference.Goals as goal

@@ -1,5 +1,5 @@
 use Rattle.std.proofs.Common.{List, ℕ, Some, None, length, refl, sym, ap, ◌∙◌, [], subst, arith}
-use Rattle.lw_words.specs.Answer.{answers_of}
+use Rattle.lw_words.specs.Word.{answers_of}
 use Rattle.lw_words.specs.First.{FailsFirst}
 use Rattle.lw_cache.specs.Known.{IsKnown}
 use Rattle.lw_certify.proofs.CertifyLemmas.{found_here, found_later, none_left, nothing_left, fewer, element_is}

@@ -1,5 +1,5 @@
 use Rattle.std.proofs.Common.{List, ℕ, Option, length}
-use Rattle.lw_words.specs.Answer.{answers_of}
+use Rattle.lw_words.specs.Word.{answers_of}
 use Rattle.lw_certify.specs.bodies.Stages.{IsFirstUnknown}
 use Rattle.lw_certify.proofs.missing.first_missing.Given as goal
 

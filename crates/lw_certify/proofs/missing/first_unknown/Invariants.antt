@@ -1,5 +1,5 @@
 use Rattle.std.specs.List.{AllWithin}
-use Rattle.lw_words.specs.Answer.{answers_of}
+use Rattle.lw_words.specs.Word.{answers_of}
 use Rattle.lw_cache.specs.Known.{IsKnown}
 use Rattle.lw_certify.proofs.missing.first_unknown.Given as goal
 

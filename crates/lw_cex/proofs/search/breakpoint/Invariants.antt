@@ -1,5 +1,5 @@
 use Rattle.std.proofs.Common.{None, ◌-◌}
-use Rattle.lw_words.specs.Answer.{answers_of}
+use Rattle.lw_words.specs.Word.{answers_of}
 use Rattle.lw_cache.specs.Settling.{Leaves}
 use Rattle.lw_cex.specs.Probe.{AsksProbes}
 use Rattle.lw_cex.specs.bodies.Search.{IsBetween}

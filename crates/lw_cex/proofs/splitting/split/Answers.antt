@@ -1,5 +1,5 @@
 use Rattle.std.proofs.Common.{arith, sym, ◌∙◌}
-use Rattle.lw_words.specs.Answer.{answers_of}
+use Rattle.lw_words.specs.Word.{answers_of}
 use Rattle.lw_cex.proofs.SearchLemmas.{starts, some_letter, steps_more, cut_is}
 use Rattle.lw_cache.proofs.SettlingLemmas.{kept_are_answers, differs_is_word}
 use Rattle.lw_cex.proofs.splitting.split.Goals as goal

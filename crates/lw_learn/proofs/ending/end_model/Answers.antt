@@ -1,5 +1,5 @@
 use Rattle.std.proofs.Common.{◌∙◌, Some, ap}
-use Rattle.lw_mealy.specs.Limits.{MealyMachine}
+use Rattle.lw_mealy.specs.Machine.{MealyMachine}
 use Rattle.lw_learn.proofs.RunLemmas.{told_left, told_written}
 use Rattle.lw_learn.proofs.ending.end_model.Goals as goal
 

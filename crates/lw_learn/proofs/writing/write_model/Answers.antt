@@ -1,5 +1,5 @@
 use Rattle.std.proofs.Common.{◌≡◌, ◌∙◌, List, ℕ, Option, Err, ap, subst, sym}
-use Rattle.lw_mealy.specs.Limits.{MealyMachine}
+use Rattle.lw_mealy.specs.Machine.{MealyMachine}
 use Rattle.lw_outside.specs.Files.{Call}
 use Rattle.lw_json.specs.MachineText.{written_text}
 use Rattle.lw_report.specs.Stops.{tell_outcome}

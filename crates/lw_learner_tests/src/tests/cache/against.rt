@@ -1,8 +1,7 @@
 //! Where a machine differs first: at the shortest word, and of equally long ones at the first by its letters.
 ghost use Rattle.std.specs.Prelude.{◌≡◌, [], true};
 ghost use Rattle.std.specs.List.{All};
-ghost use Rattle.lw_words.specs.Answer.{answers_of};
-ghost use Rattle.lw_words.specs.Word.{IsWord};
+ghost use Rattle.lw_words.specs.Word.{answers_of, IsWord};
 
 use super::word;
 use lw_cache::Cache;

@@ -1,7 +1,7 @@
 //! A tree over a machine that is asked, which is split and settled.
 ghost use Rattle.std.specs.Prelude.{◌≡◌, OnOk, true};
 ghost use Rattle.std.specs.List.{All};
-ghost use Rattle.lw_words.specs.Answer.{answer_of, IsAnswer};
+ghost use Rattle.lw_words.specs.Word.{answer_of, IsAnswer};
 ghost use Rattle.lw_mealy.specs.Machine.{answer};
 ghost use Rattle.test_tree.specs.Trials.{IsReady};
 

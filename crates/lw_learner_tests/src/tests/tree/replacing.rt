@@ -1,6 +1,6 @@
 //! The root of a block that is replaced, worked by hand.
 ghost use Rattle.std.specs.Prelude.{◌≡◌, ◌≢◌, ◌<◌, List, [], ◌∷◌, length, true};
-ghost use Rattle.lw_words.specs.Answer.{Answer, answers_of};
+ghost use Rattle.lw_words.specs.Word.{Answer, answers_of};
 ghost use Rattle.lw_mealy.specs.Machine.{Rows, output};
 ghost use Rattle.lw_tree.specs.Blocks.{MayReplace};
 ghost use Rattle.lw_tree.specs.Grown.{HasGrown};

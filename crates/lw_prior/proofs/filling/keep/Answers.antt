@@ -1,5 +1,5 @@
 use Rattle.std.proofs.Common.{sym, subst}
-use Rattle.lw_words.specs.Answer.{answers_of}
+use Rattle.lw_words.specs.Word.{answers_of}
 use Rattle.lw_cache.specs.Caching.{kept_answer}
 use Rattle.lw_prior.specs.Prior.{HasFirstClash}
 use Rattle.lw_prior.proofs.FillLemmas.{so_far_ok, so_far_err, stopped}

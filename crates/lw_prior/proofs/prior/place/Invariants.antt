@@ -1,5 +1,5 @@
 use Rattle.std.proofs.Common.{◌≡◌, [], take}
-use Rattle.lw_words.specs.Answer.{answers_of}
+use Rattle.lw_words.specs.Word.{answers_of}
 use Rattle.lw_prior.specs.Prior.{HasFirstClash}
 use Rattle.lw_prior.specs.bodies.Placed.{placed_from}
 use Rattle.lw_prior.proofs.prior.place.Given as goal

@@ -1,6 +1,6 @@
 use Rattle.std.proofs.Common.{List, length, sym, ◌∙◌, subst}
 use Rattle.std.specs.List.{All}
-use Rattle.lw_words.specs.Answer.{answers_of, IsWhole}
+use Rattle.lw_words.specs.Word.{answers_of, IsWhole}
 use Rattle.lw_words.specs.declared.kept.KeptAnswer.{KeptAnswer}
 use Rattle.lw_prior.proofs.PriorLemmas.{prior_kept, may_begin, whole_renumbered}
 use Rattle.lw_prior.proofs.prior.prior_of.Goals as goal

@@ -1,8 +1,7 @@
 use Rattle.std.proofs.Common.{List, ℕ, None, rules, sym, refl, ◌∙◌, subst, arith}
 use Rattle.std.specs.List.{All}
 use Rattle.std.proofs.lemmas.List.Elements.{All-take}
-use Rattle.lw_words.specs.Word.{IsWord}
-use Rattle.lw_words.specs.Answer.{answers_of}
+use Rattle.lw_words.specs.Word.{IsWord, answers_of}
 use Rattle.lw_cache.proofs.SettlingLemmas.{leaves_handed, leaves_nothing, leaves_then}
 use Rattle.lw_certify.proofs.CertifyLemmas.{fewer}
 use Rattle.lw_rounds.proofs.ConformanceLemmas.{few_in_chunk, settled_more, settled_none}

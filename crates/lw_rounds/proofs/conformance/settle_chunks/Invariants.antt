@@ -1,5 +1,5 @@
 use Rattle.std.proofs.Common.{None, length}
-use Rattle.lw_words.specs.Answer.{answers_of}
+use Rattle.lw_words.specs.Word.{answers_of}
 use Rattle.lw_cache.specs.Settling.{Leaves}
 use Rattle.lw_rounds.proofs.ConformanceLemmas.{HasSettled}
 use Rattle.lw_rounds.proofs.conformance.settle_chunks.Given as goal

@@ -1,5 +1,5 @@
 use Rattle.std.specs.List.{AllWithin}
-use Rattle.lw_words.specs.Answer.{answers_of}
+use Rattle.lw_words.specs.Word.{answers_of}
 use Rattle.lw_rounds.specs.bodies.Conformance.{AgreesOn}
 use Rattle.lw_rounds.proofs.difference.first_difference.Given as goal
 

@@ -1,6 +1,6 @@
 use Rattle.std.proofs.Common.{sym, arith}
 use Rattle.std.proofs.lemmas.List.Elements.{All-map}
-use Rattle.lw_words.specs.Answer.{answer_of, answers_of, IsAnswer, AreAnswers}
+use Rattle.lw_words.specs.Word.{answer_of, answers_of, IsAnswer, AreAnswers}
 use Rattle.lw_mealy.proofs.WordLemmas.{length-out}
 use Rattle.lw_cache.proofs.ReadLemmas.{read_length}
 use Rattle.lw_rounds.proofs.DifferenceLemmas.{is_shortest}

@@ -1,4 +1,4 @@
-use Rattle.lw_words.specs.Answer.{answers_of}
+use Rattle.lw_words.specs.Word.{answers_of}
 use Rattle.lw_certify.specs.declared.verdict.Verdict.TheVariants.{Sure}
 use Rattle.lw_certify.proofs.OneVerdict.{one_verdict}
 use Rattle.lw_rounds.proofs.hypothesis.certified.Goals as goal

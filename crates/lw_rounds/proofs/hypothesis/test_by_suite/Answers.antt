@@ -1,5 +1,5 @@
 use Rattle.std.proofs.Common.{length, Err, ap, sym, subst}
-use Rattle.lw_words.specs.Answer.{answers_of}
+use Rattle.lw_words.specs.Word.{answers_of}
 use Rattle.lw_cache.specs.Settling.{Leaves}
 use Rattle.lw_cache.proofs.SettlingLemmas.{kept_are_answers, leaves_nothing}
 use Rattle.lw_rounds.specs.Stops.{learn_stop}

@@ -1,6 +1,6 @@
 use Rattle.std.proofs.Common.{rules, refl}
-use Rattle.lw_words.specs.Answer.{answers_of}
-use Rattle.lw_mealy.specs.Limits.{MealyMachine}
+use Rattle.lw_words.specs.Word.{answers_of}
+use Rattle.lw_mealy.specs.Machine.{MealyMachine}
 use Rattle.lw_rounds.specs.Learned.{StopsAs}
 use Rattle.lw_rounds.proofs.StopLemmas.{leaves_learn_handed}
 use Rattle.lw_rounds.proofs.RoundLemmas.{told_stops, learned_from, new_as, stops_from}

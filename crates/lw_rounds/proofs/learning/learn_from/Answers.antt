@@ -1,7 +1,7 @@
 use Rattle.std.proofs.Common.{List, Result, Ok, Err, IfOk, IfErr, ℕ, rules}
 use Rattle.std.specs.Prelude.{⊤}
-use Rattle.lw_words.specs.Answer.{Answer, answers_of}
-use Rattle.lw_mealy.specs.Limits.{MealyMachine}
+use Rattle.lw_words.specs.Word.{Answer, answers_of}
+use Rattle.lw_mealy.specs.Machine.{MealyMachine}
 use Rattle.lw_cache.proofs.SettlingLemmas.{leaves_then}
 use Rattle.lw_rounds.specs.Learner.{inputs_of, outputs_of, most_of}
 use Rattle.lw_rounds.specs.Stops.{of_growth, learn_stop}

@@ -1,5 +1,5 @@
 use Rattle.std.proofs.Common.{List, ℕ, None, Ok, rules, sym, subst}
-use Rattle.lw_words.specs.Answer.{answers_of}
+use Rattle.lw_words.specs.Word.{answers_of}
 use Rattle.lw_cache.specs.Cut.{AreAccess, StepsAreRead}
 use Rattle.lw_cache.proofs.SettlingLemmas.{kept_are_answers, leaves_then}
 use Rattle.lw_rounds.specs.Learner.{inputs_of, access_of}

@@ -1,5 +1,5 @@
 use Rattle.std.proofs.Common.{None, rules}
-use Rattle.lw_words.specs.Answer.{answers_of}
+use Rattle.lw_words.specs.Word.{answers_of}
 use Rattle.std.specs.Prelude.{⊤}
 use Rattle.lw_cache.proofs.SettlingLemmas.{leaves_then}
 use Rattle.lw_rounds.specs.Learner.{inputs_of, outputs_of, most_of}

@@ -1,8 +1,8 @@
 use Rattle.std.proofs.Common.{List, None, Ok, ◌∙◌, sym, subst, rules}
 use Rattle.std.specs.Prelude.{⊤}
-use Rattle.lw_words.specs.Answer.{answers_of}
+use Rattle.lw_words.specs.Word.{answers_of}
 use Rattle.lw_words.specs.declared.kept.KeptAnswer.{KeptAnswer}
-use Rattle.lw_mealy.specs.Gives.{Gives}
+use Rattle.lw_mealy.specs.Machine.{Gives}
 use Rattle.lw_cache.specs.Against.{DiffersFirst}
 use Rattle.lw_cache.specs.Settling.{OracleState}
 use Rattle.lw_cache.proofs.SettlingLemmas.{kept_are_answers, leaves_then}

@@ -1,6 +1,6 @@
 use Rattle.std.proofs.Common.{Option, None, rules}
-use Rattle.lw_words.specs.Answer.{answers_of}
-use Rattle.lw_mealy.specs.Limits.{MealyMachine}
+use Rattle.lw_words.specs.Word.{answers_of}
+use Rattle.lw_mealy.specs.Machine.{MealyMachine}
 use Rattle.lw_cache.proofs.SettlingLemmas.{leaves_then}
 use Rattle.lw_rounds.specs.bodies.Rounds.{StopsFrom}
 use Rattle.lw_rounds.proofs.RoundLemmas.{alike_then, stops_alike, told_stops}

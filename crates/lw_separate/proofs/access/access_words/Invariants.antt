@@ -1,5 +1,5 @@
 use Rattle.std.proofs.Common.{◌≡◌, ◌<◌, ℕ, length, None, get_or}
-use Rattle.lw_separate.specs.Least.{IsAccessWord}
+use Rattle.lw_separate.specs.Canonical.{IsAccessWord}
 use Rattle.lw_separate.proofs.access.access_words.Given as goal
 
 abbrev pub invariant-loop-q : goal.invariant-loop-q

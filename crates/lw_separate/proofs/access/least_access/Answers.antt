@@ -1,5 +1,5 @@
 use Rattle.std.proofs.Common.{arith, ◌<◌, ℕ, List, [], Option, length, get_or, ap, sym, subst}
-use Rattle.lw_separate.specs.Least.{IsAccessWord, IsLeastAccess}
+use Rattle.lw_separate.specs.Canonical.{IsAccessWord, IsLeastAccess}
 use Rattle.lw_separate.proofs.AccessLemmas.{pushed}
 use Rattle.lw_separate.proofs.SearchLemmas.{length-push}
 use Rattle.lw_separate.proofs.access.least_access.Goals as goal

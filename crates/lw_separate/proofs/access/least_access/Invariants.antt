@@ -1,5 +1,5 @@
 use Rattle.std.proofs.Common.{◌≡◌, ◌<◌, ℕ, [], length, get_or}
-use Rattle.lw_separate.specs.Least.{IsLeastAccess}
+use Rattle.lw_separate.specs.Canonical.{IsLeastAccess}
 use Rattle.lw_separate.proofs.access.least_access.Given as goal
 
 abbrev pub invariant-loop-q : goal.invariant-loop-q

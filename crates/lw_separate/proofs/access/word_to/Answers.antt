@@ -1,6 +1,6 @@
 use Rattle.std.proofs.Common.{◌≡◌, ◌∙◌, ◌<◌, ℕ, List, [], length, Some, None, get_or, sym, ap, arith, subst}
 use Rattle.std.proofs.lemmas.List.{get_or_default}
-use Rattle.lw_separate.specs.Least.{IsLeastAccess}
+use Rattle.lw_separate.specs.Canonical.{IsLeastAccess}
 use Rattle.lw_separate.proofs.SearchLemmas.{option_seen}
 use Rattle.lw_separate.proofs.AccessLemmas.{word_of_place, unreached}
 use Rattle.lw_separate.proofs.access.word_to.Goals as goal

@@ -1,5 +1,5 @@
 use Rattle.std.proofs.Common.{rules, ℕ, ◌≡◌, ◌≢◌, ◌<◌, ⊎_elim, get_or, sym, subst, arith}
-use Rattle.lw_mealy.specs.Minimal.{Differ}
+use Rattle.lw_mealy.specs.Machine.{Differ}
 use Rattle.lw_separate.proofs.SearchLemmas.{last_or_before}
 use Rattle.lw_separate.proofs.MergeLemmas.{two_names_differ}
 use Rattle.lw_separate.proofs.alike_states.alike_after.Goals as goal

@@ -1,5 +1,5 @@
 use Rattle.std.proofs.Common.{◌<◌, ℕ}
-use Rattle.lw_mealy.specs.Minimal.{Differ}
+use Rattle.lw_mealy.specs.Machine.{Differ}
 use Rattle.lw_separate.proofs.alike_states.alike_after.Given as goal
 
 abbrev pub invariant-loop-q : goal.invariant-loop-q

@@ -1,5 +1,5 @@
 use Rattle.std.proofs.Common.{ℕ, ◌≡◌, ◌<◌, ⊎_elim, sym, subst, arith}
-use Rattle.lw_mealy.specs.Minimal.{Differ}
+use Rattle.lw_mealy.specs.Machine.{Differ}
 use Rattle.lw_separate.specs.bodies.Alike.{LaterDiffer}
 use Rattle.lw_separate.proofs.SearchLemmas.{last_or_before}
 use Rattle.lw_separate.proofs.alike_states.first_alike.Goals as goal

@@ -1,5 +1,5 @@
 use Rattle.std.proofs.Common.{◌<◌, ℕ, length}
-use Rattle.lw_mealy.specs.Minimal.{Differ}
+use Rattle.lw_mealy.specs.Machine.{Differ}
 use Rattle.lw_separate.proofs.alike_states.first_alike.Given as goal
 
 abbrev pub invariant-loop-p : goal.invariant-loop-p

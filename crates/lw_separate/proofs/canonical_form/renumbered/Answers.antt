@@ -1,5 +1,5 @@
 use Rattle.std.proofs.Common.{ℕ, sym, subst}
-use Rattle.lw_mealy.specs.Minimal.{IsMinimal}
+use Rattle.lw_mealy.specs.Machine.{IsMinimal}
 use Rattle.lw_separate.specs.Canonical.{IsCanonical}
 use Rattle.lw_separate.proofs.MergeLemmas.{merges_itself}
 use Rattle.lw_separate.proofs.canonical_form.renumbered.Goals as goal

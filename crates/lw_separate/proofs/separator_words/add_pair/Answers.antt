@@ -1,7 +1,7 @@
 use Rattle.std.proofs.Common.{rules, ◌≡◌, ◌≢◌, ◌<◌, ◌+◌, ℕ, List, Option, false, length, get_or, sym, subst, arith, ap, ◌∙◌}
 use Rattle.std.proofs.lemmas.List.{get_or_default}
 use Rattle.lw_separate.specs.bodies.Classes.{AreClasses}
-use Rattle.lw_separate.specs.Least.{IsLeastSeparating, IsSeparatingWord}
+use Rattle.lw_separate.specs.Canonical.{IsLeastSeparating, IsSeparatingWord}
 use Rattle.lw_separate.specs.bodies.Walk.{SeparatesUpTo, Splits}
 use Rattle.lw_separate.proofs.ClassLemmas.{split_by_class, alike_by_class, classes_push}
 use Rattle.lw_separate.proofs.WalkLemmas.{pair_split, pair_added}

@@ -1,6 +1,6 @@
 //! Learnings of machines, worked by hand, with pools of one to sixteen instances: the model, and what the instances answered.
 ghost use Rattle.std.specs.Prelude.{◌≡◌, [], length, None};
-ghost use Rattle.lw_words.specs.Answer.{answers_of};
+ghost use Rattle.lw_words.specs.Word.{answers_of};
 ghost use Rattle.lw_cache.specs.Clash.{NothingClashes};
 ghost use Rattle.lw_pool.specs.Opening.{MayBegin};
 

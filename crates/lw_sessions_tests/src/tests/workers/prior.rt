@@ -1,6 +1,6 @@
 //! Learnings of a counter of three that begin with an answer that was kept before.
 ghost use Rattle.std.specs.Prelude.{◌≡◌, []};
-ghost use Rattle.lw_words.specs.Answer.{answers_of};
+ghost use Rattle.lw_words.specs.Word.{answers_of};
 ghost use Rattle.lw_cache.specs.Clash.{NothingClashes};
 ghost use Rattle.lw_pool.specs.Opening.{MayBegin};
 

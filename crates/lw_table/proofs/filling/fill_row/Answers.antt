@@ -1,7 +1,7 @@
 use Rattle.std.proofs.Common.{rules, ◌≡◌, ◌++◌, ◌∷◌, [], ap, sym, List, ℕ, length, subst, arith}
 use Rattle.std.proofs.lemmas.List.{length-append}
 use Rattle.std.proofs.lemmas.Option.{get_or_from_slice_get}
-use Rattle.lw_words.specs.Answer.{answers_of}
+use Rattle.lw_words.specs.Word.{answers_of}
 use Rattle.lw_cache.specs.Cut.{word_at}
 use Rattle.lw_cache.specs.Known.{IsKnown}
 use Rattle.lw_table.specs.bodies.Classes.{row_of}

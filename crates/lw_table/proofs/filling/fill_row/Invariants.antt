@@ -1,6 +1,6 @@
 use Rattle.std.proofs.Common.{◌≡◌, ◌≢◌, ◌<◌, ℕ, List, ◌++◌, length}
 use Rattle.std.specs.List.{AllPairs}
-use Rattle.lw_words.specs.Answer.{answers_of}
+use Rattle.lw_words.specs.Word.{answers_of}
 use Rattle.lw_table.specs.bodies.Classes.{row_of}
 use Rattle.lw_table.specs.bodies.Filling.{GoesOn}
 use Rattle.lw_table.proofs.filling.fill_row.Given as goal

@@ -1,5 +1,5 @@
 use Rattle.std.proofs.Common.{rules, List, refl, sym, subst}
-use Rattle.lw_words.specs.Answer.{AreAnswers, answers_of}
+use Rattle.lw_words.specs.Word.{AreAnswers, answers_of}
 use Rattle.lw_words.specs.declared.kept.KeptAnswer.{KeptAnswer}
 use Rattle.lw_cache.specs.Known.{IsKnown}
 use Rattle.lw_cache.proofs.SettlingLemmas.{kept_are_answers, leaves_nothing, leaves_own}

@@ -1,5 +1,5 @@
 use Rattle.std.proofs.Common.{sym, subst}
-use Rattle.lw_mealy.specs.Limits.{IsWithinLimits}
+use Rattle.lw_mealy.specs.Machine.{IsWithinLimits}
 use Rattle.lw_trial.proofs.DrawnLemmas.{drawn_within}
 use Rattle.lw_trial.proofs.command.draw.Goals as goal
 

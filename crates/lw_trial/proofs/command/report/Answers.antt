@@ -1,6 +1,6 @@
 use Rattle.std.proofs.Common.{◌≢◌, ◌∙◌, Err, Some, ap, length, subst}
 use Rattle.lw_names.specs.Naming.{Naming}
-use Rattle.lw_mealy.specs.Limits.{MealyMachine}
+use Rattle.lw_mealy.specs.Machine.{MealyMachine}
 use Rattle.lw_rounds.specs.Learner.{refinements_of}
 use Rattle.lw_report.specs.Outcomes.{StandsOrWants}
 use Rattle.lw_report.specs.Text.{trial_lines}

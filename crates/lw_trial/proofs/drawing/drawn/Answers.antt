@@ -1,8 +1,7 @@
 use Rattle.std.proofs.Common.{rules, ◌≡◌, ◌∷◌, [], ℕ, map, ap, sym, ◌∙◌, subst, arith}
 use Rattle.std.specs.List.{range_with_len}
 use Rattle.std.proofs.lemmas.List.{map-append}
-use Rattle.lw_mealy.specs.Limits.{IsWithinLimits, mealy_of}
-use Rattle.lw_mealy.specs.Machine.{Rows}
+use Rattle.lw_mealy.specs.Machine.{IsWithinLimits, mealy_of, Rows}
 use Rattle.lw_wordlist.specs.Drawn.{seeded}
 use Rattle.lw_trial.specs.Drawn.{words_before, drawn_row, drawn_rows}
 use Rattle.lw_wordlist.proofs.DrawLemmas.{none_yet}

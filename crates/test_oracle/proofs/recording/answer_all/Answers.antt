@@ -1,7 +1,7 @@
 use Rattle.std.proofs.Common.{◌≡◌, ℕ, List, [], get_or, subst, sym, ◌∙◌}
 use Rattle.std.specs.List.{All}
 use Rattle.std.proofs.lemmas.List.{get_or_default, take_all}
-use Rattle.lw_words.specs.Answer.{answers_of}
+use Rattle.lw_words.specs.Word.{answers_of}
 use Rattle.lw_cache.specs.Known.{IsKnown}
 use Rattle.test_oracle.proofs.RecordingLemmas.{gains_more, known_more}
 use Rattle.test_oracle.proofs.recording.answer_all.Goals as goal

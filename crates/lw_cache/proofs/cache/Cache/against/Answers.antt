@@ -1,17 +1,15 @@
 use Rattle.std.proofs.Common.{◌≤◌, List, length, Option, Result, Ok, Err, IfOk, subst, sym, ap, arith, ℕ}
 use Rattle.std.specs.List.{All}
-use Rattle.lw_words.specs.Answer.{answers_of}
-use Rattle.lw_words.specs.Word.{IsWord}
+use Rattle.lw_words.specs.Word.{answers_of, IsWord}
 use Rattle.lw_words.specs.declared.kept.KeptAnswer.{KeptAnswer}
 use Rattle.lw_words.specs.declared.memory.NoMemory.{NoMemory}
 use Rattle.lw_mealy.specs.Machine.{Rows}
 use Rattle.lw_cache.specs.Against.{DiffersFirst}
 use Rattle.lw_cache.specs.Caching.{Caching}
-use Rattle.lw_cache.specs.bodies.Trie.{node_at, IsStored}
+use Rattle.lw_cache.specs.bodies.Trie.{node_at, IsStored, no_answer}
 use Rattle.lw_cache.specs.bodies.Scanning.{AreLetters, IsFirstTo}
 use Rattle.lw_cache.specs.declared.node.Node.{Node}
 use Rattle.lw_cache.specs.declared.node.Held.{Held}
-use Rattle.lw_cache.specs.bodies.Trie.{no_answer}
 use Rattle.lw_cache.proofs.SeenLemmas.{letters_of, differs_first}
 use Rattle.lw_cache.proofs.cache.Cache.against.Goals as goal
 

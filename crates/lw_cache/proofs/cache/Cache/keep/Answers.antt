@@ -1,5 +1,5 @@
 use Rattle.std.proofs.Common.{List, [], ◌∷◌, ◌++◌, subst, ap, ◌∙◌}
-use Rattle.lw_words.specs.Answer.{answer_of, answers_of}
+use Rattle.lw_words.specs.Word.{answer_of, answers_of}
 use Rattle.lw_words.specs.declared.kept.KeptAnswer.{KeptAnswer}
 use Rattle.lw_cache.specs.Caching.{kept_answer}
 use Rattle.lw_cache.specs.FirstClash.{ClashesFirst, SameKnown}

@@ -1,5 +1,5 @@
 use Rattle.std.proofs.Common.{List, length, subst, ap, arith}
-use Rattle.lw_words.specs.Answer.{answers_of}
+use Rattle.lw_words.specs.Word.{answers_of}
 use Rattle.lw_words.specs.declared.kept.KeptAnswer.{KeptAnswer}
 use Rattle.lw_cache.specs.Caching.{Claim, Caching}
 use Rattle.lw_cache.specs.Standing.{CountsNoted}

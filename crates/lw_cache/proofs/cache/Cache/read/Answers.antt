@@ -1,5 +1,5 @@
 use Rattle.std.proofs.Common.{◌≡◌, ◌≤◌, length, arith, subst, take, ap, sym, ◌∙◌, List, ℕ}
-use Rattle.lw_words.specs.Answer.{answers_of}
+use Rattle.lw_words.specs.Word.{answers_of}
 use Rattle.lw_cache.specs.Known.{Reads}
 use Rattle.lw_cache.proofs.LookLemmas.{here, look_missing, unknown_seen, answer_seen, outputs_seen}
 use Rattle.lw_cache.proofs.cache.Cache.read.Goals as goal

@@ -1,6 +1,6 @@
 use Rattle.std.proofs.Common.{◌≡◌, ◌<◌, ℕ, List, [], ◌∷◌, ◌++◌, length, map, drop, set, Contains, Option, ap, sym, ◌∙◌, subst, arith}
 use Rattle.std.proofs.lemmas.List.{get_or_read, length-map}
-use Rattle.lw_words.specs.Answer.{answers_of, answer_of}
+use Rattle.lw_words.specs.Word.{answers_of, answer_of}
 use Rattle.lw_words.specs.declared.kept.KeptAnswer.{KeptAnswer}
 use Rattle.lw_cache.specs.Caching.{IsClaimOf, kept_answer}
 use Rattle.lw_cache.specs.Known.{IsKnown}

@@ -1,6 +1,6 @@
 use Rattle.std.proofs.Common.{◌≡◌, ◌<◌, ◌+◌, ℕ, List, [], length, map, drop, get_or, None, refl, ap, sym, ◌∙◌, subst, arith}
 use Rattle.std.proofs.lemmas.List.{get_or_read, length-drop, map_push}
-use Rattle.lw_words.specs.Answer.{answers_of}
+use Rattle.lw_words.specs.Word.{answers_of}
 use Rattle.lw_cache.specs.Caching.{Claim, claim_of}
 use Rattle.lw_cache.specs.Standing.{Stands}
 use Rattle.lw_cache.specs.declared.known.Known.TheVariants.{No}

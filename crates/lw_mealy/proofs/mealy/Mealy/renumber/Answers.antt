@@ -1,7 +1,6 @@
 use Rattle.std.proofs.Common.{map, ap, subst, sym, ◌∙◌, arith}
 use Rattle.std.proofs.lemmas.List.{take_at}
-use Rattle.lw_mealy.specs.Limits.{MealyMachine, mealy_of, IsWithinLimits}
-use Rattle.lw_mealy.specs.Machine.{Rows}
+use Rattle.lw_mealy.specs.Machine.{MealyMachine, mealy_of, IsWithinLimits, Rows}
 use Rattle.lw_mealy.specs.Renumbering.{renumbered_rows, AllRenumber}
 use Rattle.lw_mealy.proofs.RenumberLemmas.{renumbered_within}
 use Rattle.lw_mealy.proofs.mealy.Mealy.renumber.Goals as goal

@@ -1,6 +1,5 @@
 use Rattle.std.proofs.Common.{rules, ◌≡◌, ◌∙◌, ◌<◌, ℕ, List, length, map, ap, subst, arith, get_or, sym}
-use Rattle.lw_mealy.specs.Machine.{cell}
-use Rattle.lw_mealy.specs.Limits.{MealyMachine, IsWithinLimits}
+use Rattle.lw_mealy.specs.Machine.{cell, MealyMachine, IsWithinLimits}
 use Rattle.lw_mealy.proofs.RowLemmas.{is_row, read_row, read_cell, target_below, output_below}
 use Rattle.lw_mealy.proofs.mealy.Mealy.step.Goals as goal
 

@@ -1,10 +1,9 @@
-use Rattle.std.proofs.Common.{sym, subst}
-use Rattle.lw_words.specs.Answer.{answers_of}
+use Rattle.std.proofs.Common.{sym, subst, Ok, IfOk}
+use Rattle.lw_words.specs.Word.{answers_of}
 use Rattle.lw_rounds.specs.declared.learner.Learner.{Learner}
 use Rattle.lw_rounds.specs.declared.learner.Learner.TheVariants.{Tree}
 use Rattle.lw_rounds.specs.bodies.Rounds.{Grows, SettlesBlock}
 use Rattle.lw_rounds.proofs.LearnerLemmas.{table_stays, tree_grows, settled_finals, tree_settles}
-use Rattle.std.proofs.Common.{Ok, IfOk}
 use Rattle.lw_rounds.specs.Learner.{IsLearner, IsRead, IsClosedLearner}
 use Rattle.lw_settle.specs.declared.settling.Settled.{Settled}
 use Rattle.lw_settle.specs.declared.settling.Settled.TheVariants.{NoBlock}

@@ -1,5 +1,5 @@
 use Rattle.std.proofs.Common.{◌≡◌, None, Result, Ok, Err, OnOk, refl}
-use Rattle.lw_words.specs.Answer.{answers_of}
+use Rattle.lw_words.specs.Word.{answers_of}
 use Rattle.lw_cache.specs.Clash.{NothingClashes}
 use Rattle.lw_rounds.specs.Stops.{learn_stop}
 use Rattle.lw_rounds.specs.declared.learned.Learned.{Learned}

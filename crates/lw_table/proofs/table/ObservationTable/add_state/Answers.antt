@@ -1,6 +1,6 @@
 use Rattle.std.proofs.Common.{ap, rules, ◌≡◌, ℕ, ◌<◌, List, [], ◌∷◌, length, sym, ◌∙◌, subst}
 use Rattle.std.proofs.lemmas.List.{length-append}
-use Rattle.lw_words.specs.Answer.{answers_of}
+use Rattle.lw_words.specs.Word.{answers_of}
 use Rattle.lw_cache.proofs.SettlingLemmas.{leaves_nothing, leaves_grown_own}
 use Rattle.lw_table.specs.Grown.{HasGrown}
 use Rattle.lw_table.specs.Table.{TableState, home_at, IsTable, CellsAreRead}

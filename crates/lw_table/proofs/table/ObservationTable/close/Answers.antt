@@ -1,6 +1,6 @@
 use Rattle.std.proofs.Common.{rules, length, None, Err, ◌∙◌}
 use Rattle.std.specs.Bool.{⊤}
-use Rattle.lw_words.specs.Answer.{answers_of}
+use Rattle.lw_words.specs.Word.{answers_of}
 use Rattle.lw_cache.specs.Settling.{grown_stop}
 use Rattle.lw_cache.proofs.SettlingLemmas.{leaves_then}
 use Rattle.lw_table.proofs.CloseLemmas.{states_then, states_more, rows_left, has_closed, stopped_closed, handed_closed, handed_leaves}

@@ -1,5 +1,5 @@
 use Rattle.std.proofs.Common.{◌≡◌, ◌≤◌, ◌-◌, length, None}
-use Rattle.lw_words.specs.Answer.{answers_of}
+use Rattle.lw_words.specs.Word.{answers_of}
 use Rattle.lw_cache.specs.Settling.{Leaves}
 use Rattle.lw_table.specs.Grown.{HasGrown}
 use Rattle.lw_table.specs.bodies.Growing.{AreFull, HaveStates}

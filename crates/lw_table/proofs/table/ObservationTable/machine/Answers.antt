@@ -1,6 +1,6 @@
 use Rattle.std.proofs.Common.{rules, ◌≡◌, ℕ, [], ◌∷◌, length, map, ap, sym, ◌∙◌, subst}
 use Rattle.std.proofs.lemmas.List.{map-append}
-use Rattle.lw_mealy.specs.Limits.{IsWithinLimits, mealy_of}
+use Rattle.lw_mealy.specs.Machine.{IsWithinLimits, mealy_of}
 use Rattle.lw_table.specs.Table.{TableState, IsTable}
 use Rattle.lw_table.specs.bodies.Transitions.{AreStates}
 use Rattle.lw_table.proofs.TransitionLemmas.{states_more, within_limits}

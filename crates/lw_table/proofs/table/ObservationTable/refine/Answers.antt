@@ -1,5 +1,5 @@
 use Rattle.std.proofs.Common.{rules, Err, Ok, sym, ◌∙◌, subst}
-use Rattle.lw_words.specs.Answer.{AreAnswers, answers_of}
+use Rattle.lw_words.specs.Word.{AreAnswers, answers_of}
 use Rattle.lw_cache.specs.declared.stops.AskStop.TheVariants.{NoMemory}
 use Rattle.lw_cache.specs.declared.stops.GrowStop.TheVariants.{Ask}
 use Rattle.lw_cache.proofs.SettlingLemmas.{kept_are_answers, leaves_nothing, leaves_grown_own}

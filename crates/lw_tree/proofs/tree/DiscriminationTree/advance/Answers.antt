@@ -1,5 +1,5 @@
 use Rattle.std.proofs.Common.{◌≡◌, ◌+◌, ◌*◌, inl, ℕ, List, [], ◌∷◌, ◌++◌, length, true, false, sym, ◌∙◌, ap, ap₂, subst}
-use Rattle.lw_words.specs.Answer.{answers_of}
+use Rattle.lw_words.specs.Word.{answers_of}
 use Rattle.lw_cache.specs.Cut.{word_at}
 use Rattle.lw_cache.specs.Known.{IsKnown}
 use Rattle.lw_tree.specs.Tree.{TreeState, node_at, IsTree, IsInner, Tells, Agrees, discriminator, is_inner}

@@ -1,5 +1,5 @@
 use Rattle.std.proofs.Common.{rules, ◌≡◌, ◌+◌, ◌*◌, ◌<◌, ◌≤◌, ℕ, length, get_or, sym, ◌∙◌, ap, subst, arith}
-use Rattle.lw_words.specs.Answer.{answers_of}
+use Rattle.lw_words.specs.Word.{answers_of}
 use Rattle.lw_cache.specs.Known.{IsKnown}
 use Rattle.lw_tree.specs.Tree.{TreeState, IsTree}
 use Rattle.lw_tree.specs.bodies.Transitions.{IsTransition}

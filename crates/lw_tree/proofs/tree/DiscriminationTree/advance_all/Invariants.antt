@@ -1,4 +1,4 @@
-use Rattle.lw_words.specs.Answer.{answers_of}
+use Rattle.lw_words.specs.Word.{answers_of}
 use Rattle.lw_tree.specs.bodies.Steps.{HasSifted}
 use Rattle.lw_tree.proofs.LevelLemmas.{number_from}
 use Rattle.lw_tree.proofs.tree.DiscriminationTree.advance_all.Given as goal

@@ -1,5 +1,5 @@
 use Rattle.std.proofs.Common.{rules, ◌^◌, Bool, true≢false, Err, None, refl, sym, ◌∙◌, subst}
-use Rattle.lw_words.specs.Answer.{answers_of}
+use Rattle.lw_words.specs.Word.{answers_of}
 use Rattle.lw_cache.specs.Settling.{grown_stop}
 use Rattle.lw_cache.proofs.SettlingLemmas.{leaves_nothing, leaves_then}
 use Rattle.lw_tree.specs.Tree.{TreeState, IsTree}

@@ -1,5 +1,5 @@
 use Rattle.std.proofs.Common.{None}
-use Rattle.lw_words.specs.Answer.{answers_of}
+use Rattle.lw_words.specs.Word.{answers_of}
 use Rattle.lw_cache.specs.Settling.{Leaves}
 use Rattle.lw_tree.specs.Grown.{HasGrown, KeepsDiscriminators}
 use Rattle.lw_tree.proofs.MeasureLemmas.{measure}

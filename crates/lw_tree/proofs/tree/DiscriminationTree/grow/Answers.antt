@@ -1,5 +1,5 @@
 use Rattle.std.proofs.Common.{rules, ◌≡◌, ◌+◌, ◌<◌, List, ◌++◌, length, subst, arith}
-use Rattle.lw_words.specs.Answer.{answers_of}
+use Rattle.lw_words.specs.Word.{answers_of}
 use Rattle.lw_tree.specs.Tree.{TreeState}
 use Rattle.lw_tree.specs.bodies.Sprouts.{IsSprout}
 use Rattle.lw_tree.specs.declared.nodes.Node.{Node}

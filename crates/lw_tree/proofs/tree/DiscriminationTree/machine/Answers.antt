@@ -1,6 +1,6 @@
 use Rattle.std.proofs.Common.{rules, ◌≡◌, ℕ, List, [], ◌∷◌, ◌++◌, length, map, Result, Ok, Err, IfOk, ap, sym, ◌∙◌, subst}
 use Rattle.std.proofs.lemmas.List.{map-append}
-use Rattle.lw_mealy.specs.Limits.{mealy_of}
+use Rattle.lw_mealy.specs.Machine.{mealy_of}
 use Rattle.lw_tree.specs.Tree.{TreeState, IsTree, IsMachineOf}
 use Rattle.lw_tree.specs.bodies.Nodes.{tree_of}
 use Rattle.lw_tree.specs.bodies.Transitions.{AreStates}

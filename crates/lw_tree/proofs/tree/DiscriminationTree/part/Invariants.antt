@@ -1,5 +1,5 @@
 use Rattle.std.proofs.Common.{◌≡◌, ℕ, ◌≤◌, List, ◌++◌, length}
-use Rattle.lw_words.specs.Answer.{answers_of}
+use Rattle.lw_words.specs.Word.{answers_of}
 use Rattle.lw_tree.specs.Tree.{leaf_at}
 use Rattle.lw_tree.specs.bodies.Sprouts.{IsOpen}
 use Rattle.lw_tree.specs.declared.nodes.Node.{Node}

@@ -1,8 +1,7 @@
 use Rattle.std.proofs.Common.{rules, List, Option, Err, sym, ◌∙◌, ap, subst}
 use Rattle.std.specs.List.{All}
 use Rattle.std.specs.Bool.{⊤}
-use Rattle.lw_words.specs.Answer.{AreAnswers, answers_of}
-use Rattle.lw_words.specs.Word.{IsWord}
+use Rattle.lw_words.specs.Word.{AreAnswers, answers_of, IsWord}
 use Rattle.lw_words.specs.declared.kept.KeptAnswer.{KeptAnswer}
 use Rattle.lw_cache.specs.Settling.{asked_stop, Leaves}
 use Rattle.lw_cache.specs.declared.stops.AskStop.{AskStop}

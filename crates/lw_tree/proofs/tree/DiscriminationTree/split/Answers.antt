@@ -1,11 +1,10 @@
 use Rattle.std.proofs.Common.{rules, List, Err, sym, subst}
 use Rattle.std.specs.Bool.{⊤}
-use Rattle.lw_words.specs.Answer.{AreAnswers, answers_of}
+use Rattle.lw_words.specs.Word.{AreAnswers, answers_of}
 use Rattle.lw_words.specs.declared.kept.KeptAnswer.{KeptAnswer}
 use Rattle.lw_cache.proofs.SettlingLemmas.{leaves_nothing}
-use Rattle.lw_tree.specs.Grown.{HasGrown, TellsCrowd}
+use Rattle.lw_tree.specs.Grown.{HasGrown, TellsCrowd, cut_word}
 use Rattle.lw_tree.specs.Tree.{TreeState}
-use Rattle.lw_tree.specs.Grown.{cut_word}
 use Rattle.lw_tree.proofs.CloseLemmas.{has_split, not_all_split, not_split, room_to_count}
 use Rattle.lw_tree.proofs.StepLemmas.{kept_words, leaves_after}
 use Rattle.lw_tree.proofs.tree.DiscriminationTree.split.Goals as goal

@@ -1,5 +1,5 @@
 use Rattle.std.proofs.Common.{rules, ◌≡◌, ℕ, List, [], ◌∷◌, ◌++◌, length, sym, ◌∙◌, ap, subst}
-use Rattle.lw_words.specs.Answer.{answers_of}
+use Rattle.lw_words.specs.Word.{answers_of}
 use Rattle.lw_tree.specs.Grown.{cut_word, HasGrown, IsSplit}
 use Rattle.lw_tree.specs.Tree.{TreeState, IsTree}
 use Rattle.lw_tree.specs.bodies.Cuts.{edge_of}

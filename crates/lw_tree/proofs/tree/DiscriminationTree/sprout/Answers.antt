@@ -1,5 +1,5 @@
 use Rattle.std.proofs.Common.{◌≡◌, ℕ, List, [], length, sym, subst}
-use Rattle.lw_words.specs.Answer.{answers_of}
+use Rattle.lw_words.specs.Word.{answers_of}
 use Rattle.lw_tree.specs.Tree.{TreeState, IsTree}
 use Rattle.lw_tree.specs.bodies.Sprouts.{CanPart, replaced_root}
 use Rattle.lw_tree.specs.declared.nodes.Node.{Node}

@@ -1,6 +1,6 @@
 use Rattle.std.proofs.Common.{◌≡◌, ◌<◌, inl, inr, List, ℕ, [], ◌++◌, length, sym, ◌∙◌, ap, subst}
 use Rattle.std.proofs.lemmas.Option.{get_or_from_slice_get}
-use Rattle.lw_words.specs.Answer.{Answer, answers_of}
+use Rattle.lw_words.specs.Word.{Answer, answers_of}
 use Rattle.lw_mealy.specs.Machine.{output}
 use Rattle.lw_cache.specs.Cut.{word_at}
 use Rattle.lw_cache.specs.Known.{IsKnown, Reads}

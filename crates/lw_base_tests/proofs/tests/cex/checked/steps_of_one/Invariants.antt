@@ -1,5 +1,5 @@
 use Rattle.std.proofs.Common.{ℕ, ◌<◌, [], ◌∷◌, ◌++◌}
-use Rattle.lw_words.specs.Answer.{answers_of}
+use Rattle.lw_words.specs.Word.{answers_of}
 use Rattle.lw_mealy.specs.Machine.{answer}
 use Rattle.lw_cache.specs.Known.{Reads}
 use Rattle.lw_base_tests.proofs.tests.cex.checked.steps_of_one.Given as goal

@@ -1,6 +1,6 @@
 use Rattle.std.proofs.Common.{sym}
 use Rattle.std.proofs.lemmas.List.Elements.{All-map}
-use Rattle.lw_words.specs.Answer.{answer_of, answers_of, IsAnswer, AreAnswers}
+use Rattle.lw_words.specs.Word.{answer_of, answers_of, IsAnswer, AreAnswers}
 use Rattle.lw_cache.specs.Known.{Reads}
 use Rattle.lw_cache.proofs.ReadLemmas.{read_length}
 use Rattle.lw_base_tests.proofs.tests.cex.checked.tells.Goals as goal

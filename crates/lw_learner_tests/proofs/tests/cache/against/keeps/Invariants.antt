@@ -1,7 +1,6 @@
 use Rattle.std.proofs.Common.{◌≡◌, []}
 use Rattle.std.specs.List.{All}
-use Rattle.lw_words.specs.Answer.{answers_of}
-use Rattle.lw_words.specs.Word.{IsWord}
+use Rattle.lw_words.specs.Word.{answers_of, IsWord}
 use Rattle.lw_learner_tests.proofs.tests.cache.against.keeps.Given as goal
 
 abbrev pub invariant-loop-letters : goal.invariant-loop-letters

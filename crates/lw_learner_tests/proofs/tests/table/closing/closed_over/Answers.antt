@@ -1,5 +1,5 @@
 use Rattle.std.proofs.Common.{sym, subst}
-use Rattle.lw_words.specs.Answer.{answers_of}
+use Rattle.lw_words.specs.Word.{answers_of}
 use Rattle.lw_table.specs.Table.{TableState, CellsAreRead}
 use Rattle.lw_table.proofs.NewLemmas.{new_is_read}
 use Rattle.lw_learner_tests.proofs.tests.table.closing.closed_over.Goals as goal
