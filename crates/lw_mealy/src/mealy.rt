@@ -190,6 +190,19 @@ impl Mealy {
         })
     }
 
+    /// The machine of rows that are known to be complete and within the limits; they are not looked at again. Takes no memory.
+    pub fn of_rows(alloc: Global, inputs: u16, outputs: u16, rows: Vec<Vec<(u16, u16)>>) -> Mealy
+        requires { IsWithinLimits (mealy_of inputs outputs (map (λ r. r.items) rows.items)) }
+        ensures { result ≡ mealy_of inputs outputs (map (λ r. r.items) rows.items) }
+    {
+        Mealy {
+            inputs,
+            outputs,
+            rows,
+            alloc,
+        }
+    }
+
     /// The initial state, which is 0. Takes no memory.
     pub fn initial(&self) -> u16
         ensures value { result ≡ 0 }

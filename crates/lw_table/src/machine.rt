@@ -1,31 +1,13 @@
 //! The machine of a closed table.
-ghost use Rattle.std.specs.Prelude.{◌≡◌, ◌<◌, length, map, IfOk};
-ghost use Rattle.lw_mealy.specs.Machine.{IsWithinLimits, mealy_of};
+ghost use Rattle.std.specs.Prelude.{◌≡◌, ◌<◌, length, IfOk};
 ghost use Rattle.lw_table.specs.Table.{access_row, IsClosedTable, IsMachineOf};
 ghost use Rattle.lw_table.specs.bodies.Classes.{AreSingles};
 ghost use Rattle.lw_table.specs.bodies.Transitions.{AreTransitions};
 
 use crate::ObservationTable;
-use lw_mealy::{Mealy, MealyFault};
+use lw_mealy::Mealy;
 use lw_words::NoMemory;
 use std::alloc::Global;
-
-/// The machine of these rows.
-fn machine_of(
-    alloc: Global,
-    inputs: u16,
-    outputs: u16,
-    rows: Vec<Vec<(u16, u16)>>,
-) -> Result<Mealy, NoMemory>
-    requires { IsWithinLimits (mealy_of inputs outputs (map (λ r. r.items) rows.items)) }
-    ensures { IfOk result (λ m. m ≡ mealy_of inputs outputs (map (λ r. r.items) rows.items)) }
-{
-    match Mealy::new(alloc, inputs, outputs, rows) {
-        Ok(mealy) => Ok(mealy),
-        Err(MealyFault::NoMemory) => Err(NoMemory),
-        Err(_) => unreachable!(),
-    }
-}
 
 impl ObservationTable {
     /// The output of a state at each letter.
@@ -72,6 +54,6 @@ impl ObservationTable {
         for state in 0..self.access.len() {
             rows.push(self.transitions(state)?)?;
         }
-        machine_of(self.alloc, self.inputs, self.outputs, rows)
+        Ok(Mealy::of_rows(self.alloc, self.inputs, self.outputs, rows))
     }
 }

@@ -1,32 +1,15 @@
 //! The machine of a closed tree.
-ghost use Rattle.std.specs.Prelude.{◌≡◌, ◌<◌, length, map, IfOk, MatchOption};
-ghost use Rattle.lw_mealy.specs.Machine.{IsWithinLimits, mealy_of, Rows, next, output};
+ghost use Rattle.std.specs.Prelude.{◌≡◌, ◌<◌, length, IfOk, MatchOption};
+ghost use Rattle.lw_mealy.specs.Machine.{Rows, next, output};
 ghost use Rattle.lw_tree.specs.Tree.{IsClosed, IsMachineOf};
 ghost use Rattle.lw_tree.specs.bodies.Transitions.{AreSteps, IsStep, IsTransition};
 
 use crate::DiscriminationTree;
 use crate::nodes::Content;
 use crate::transitions::Edge;
-use lw_mealy::{Mealy, MealyFault};
+use lw_mealy::Mealy;
 use lw_words::NoMemory;
 use std::alloc::Global;
-
-/// The machine of these rows.
-fn machine_of(
-    alloc: Global,
-    inputs: u16,
-    outputs: u16,
-    rows: Vec<Vec<(u16, u16)>>,
-) -> Result<Mealy, NoMemory>
-    requires { IsWithinLimits (mealy_of inputs outputs (map (λ r. r.items) rows.items)) }
-    ensures { IfOk result (λ m. m ≡ mealy_of inputs outputs (map (λ r. r.items) rows.items)) }
-{
-    match Mealy::new(alloc, inputs, outputs, rows) {
-        Ok(mealy) => Ok(mealy),
-        Err(MealyFault::NoMemory) => Err(NoMemory),
-        Err(_) => unreachable!(),
-    }
-}
 
 impl DiscriminationTree {
     /// The target and the output of a transition.
@@ -86,6 +69,6 @@ impl DiscriminationTree {
         for state in 0..self.access.len() {
             rows.push(self.steps(state as u16)?)?;
         }
-        machine_of(self.alloc, self.inputs, self.outputs, rows)
+        Ok(Mealy::of_rows(self.alloc, self.inputs, self.outputs, rows))
     }
 }

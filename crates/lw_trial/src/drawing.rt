@@ -1,11 +1,11 @@
 //! Machines that are drawn by a number.
 ghost use Rattle.std.specs.Prelude.{◌≡◌, ℕ, ◌+◌, ◌*◌, ◌-◌, ◌%◌, ◌<◌, ◌≤◌, map, nat_eq, if◌then◌else◌, IfOk, OnOk};
 ghost use Rattle.std.specs.List.{range_with_len};
-ghost use Rattle.lw_mealy.specs.Machine.{IsWithinLimits, mealy_of};
+ghost use Rattle.lw_mealy.specs.Machine.{mealy_of};
 ghost use Rattle.lw_wordlist.specs.Drawn.{after_draws, draw_at};
 ghost use Rattle.lw_trial.specs.Drawn.{drawn_cell, drawn_rows};
 
-use lw_mealy::{Mealy, MealyFault};
+use lw_mealy::Mealy;
 use lw_wordlist::Generator;
 use lw_words::NoMemory;
 use std::alloc::Global;
@@ -55,23 +55,6 @@ fn drawn_state(
     Ok(row)
 }
 
-/// The machine of these rows.
-fn machine_of(
-    alloc: Global,
-    inputs: u16,
-    outputs: u16,
-    rows: Vec<Vec<(u16, u16)>>,
-) -> Result<Mealy, NoMemory>
-    requires { IsWithinLimits (mealy_of inputs outputs (map (λ r. r.items) rows.items)) }
-    ensures { IfOk result (λ m. m ≡ mealy_of inputs outputs (map (λ r. r.items) rows.items)) }
-{
-    match Mealy::new(alloc, inputs, outputs, rows) {
-        Ok(mealy) => Ok(mealy),
-        Err(MealyFault::NoMemory) => Err(NoMemory),
-        Err(_) => unreachable!(),
-    }
-}
-
 /// A machine of so many states and inputs and two outputs, drawn by a seed. Letter 0 goes round the states, and has output 1 at
 /// the last alone; targets and outputs of the other letters are the numbers of the seed's generator.
 ///
@@ -87,5 +70,5 @@ pub fn drawn(alloc: Global, states: u16, inputs: u16, seed: u64) -> Result<Mealy
     for state in 0..states {
         rows.push(drawn_state(alloc, &mut random, states, inputs, state)?)?;
     }
-    machine_of(alloc, inputs, 2, rows)
+    Ok(Mealy::of_rows(alloc, inputs, 2, rows))
 }

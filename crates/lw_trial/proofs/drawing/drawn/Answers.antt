@@ -24,8 +24,8 @@ loop-state-preserved c =
       random = rows_words (seeded c.args.seed) l.random c.drawn_state.new.random c.args.inputs l.state l.invariant.random c.in_ok-drawn_state.ensures.random;
     }
 
-pub machine_of-requires : goal.machine_of-requires
-machine_of-requires c =
+pub of_rows-requires : goal.of_rows-requires
+of_rows-requires c =
     let l = c.loop-state in
     let past : l.state ≡ c.args.states = search rules in
     let all : map (λ r. r.items) l.rows.items ≡ drawn_rows c.args.states c.args.inputs c.args.seed = l.invariant.rows ∙ ap (λ (n : ℕ). map (drawn_row (seeded c.args.seed) c.args.states c.args.inputs) (range_with_len 0 n)) past in

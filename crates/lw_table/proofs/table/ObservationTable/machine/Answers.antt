@@ -13,8 +13,8 @@ loop-state-preserved c =
     states_more c.args.self.now l.state row.items (map (λ r. r.items) l.rows.items) (map (λ r. r.items) c.push.new.self.items) l.invariant c.in_ok-transitions.ensures
     (ap (map (λ r. r.items)) c.in_ok-push.ensures.items ∙ map-append (λ r. r.items) l.rows.items (row ∷ []))
 
-pub machine_of-requires : goal.machine_of-requires
-machine_of-requires c =
+pub of_rows-requires : goal.of_rows-requires
+of_rows-requires c =
     let l = c.loop-state in
     let t : TableState = c.args.self.now in
     let table : IsTable t = subst (λ (u : TableState). IsTable u) c.self.view_is c.self.invariant.0 in

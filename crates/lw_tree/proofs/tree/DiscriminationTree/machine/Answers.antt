@@ -1,16 +1,11 @@
-use Rattle.std.proofs.Common.{rules, ◌≡◌, ℕ, List, [], ◌∷◌, ◌++◌, length, map, Result, Ok, Err, IfOk, ap, sym, ◌∙◌, subst}
+use Rattle.std.proofs.Common.{rules, ◌≡◌, ℕ, List, [], ◌∷◌, ◌++◌, length, map, ap, sym, ◌∙◌, subst}
 use Rattle.std.proofs.lemmas.List.{map-append}
-use Rattle.lw_mealy.specs.Machine.{mealy_of}
+use Rattle.lw_mealy.specs.Machine.{MealyMachine}
 use Rattle.lw_tree.specs.Tree.{TreeState, IsTree, IsMachineOf}
 use Rattle.lw_tree.specs.bodies.Nodes.{tree_of}
 use Rattle.lw_tree.specs.bodies.Transitions.{AreStates}
 use Rattle.lw_tree.proofs.MachineLemmas.{states_more, is_machine_of, within_limits}
 use Rattle.lw_tree.proofs.tree.DiscriminationTree.machine.Goals as goal
-
--- what is so of the value that a result has, if it has one
-if_made : {X E : Type 0} (P : X → Type 0) (made : X) (result : Result X E) → P made → IfOk result (λ x. x ≡ made) → IfOk result P
-if_made P made (Ok x) holds is = subst P (sym is) holds
-if_made P made (Err e) holds is = tt
 
 pub loop-state-preserved : goal.loop-state-preserved
 loop-state-preserved c =
@@ -19,8 +14,8 @@ loop-state-preserved c =
     states_more c.args.self.now l.state c.in_ok-steps.field-0.items (map (λ r. r.items) l.rows.items) (map (λ r. r.items) c.push.new.self.items) l.invariant c.in_ok-steps.ensures
     (ap (λ (rs : List _). map (λ r. r.items) rs) grown ∙ map-append (λ r. r.items) l.rows.items (c.in_ok-steps.field-0 ∷ []))
 
-pub machine_of-requires : goal.machine_of-requires
-machine_of-requires c =
+pub of_rows-requires : goal.of_rows-requires
+of_rows-requires c =
     let l = c.loop-state in
     let s = c.self.inside in
     let rows = map (λ r. r.items) l.rows.items in
@@ -39,9 +34,9 @@ returns c =
     let g : IsTree u = subst (λ (v : TreeState). IsTree v) c.self.view_is c.self.invariant.tree in
     let count : l.state ≡ length u.access = done ∙ ap (λ (v : TreeState). length v.access) c.self.view_is in
     let all : AreStates u (length u.access) rows = subst (λ (n : ℕ). AreStates u n rows) count l.invariant in
-    let made = mealy_of s.inputs s.outputs rows in
+    let is = c.of_rows.ensures in
     record {
-      value = if_made (λ m. IsMachineOf u m.rows) made c.machine_of.result (is_machine_of u rows g all) c.machine_of.ensures;
-      inputs = if_made (λ m. m.inputs ≡ u.inputs) made c.machine_of.result (ap (λ (v : TreeState). v.inputs) c.self.view_is) c.machine_of.ensures;
-      outputs = if_made (λ m. m.outputs ≡ u.outputs) made c.machine_of.result (ap (λ (v : TreeState). v.outputs) c.self.view_is) c.machine_of.ensures;
+      value = subst (λ (m : MealyMachine). IsMachineOf u m.rows) (sym is) (is_machine_of u rows g all);
+      inputs = ap (λ (m : MealyMachine). m.inputs) is ∙ ap (λ (v : TreeState). v.inputs) c.self.view_is;
+      outputs = ap (λ (m : MealyMachine). m.outputs) is ∙ ap (λ (v : TreeState). v.outputs) c.self.view_is;
     }
