@@ -1,11 +1,12 @@
 -- The suite of the W-method: words that tell a machine from every other of at most so many states more.
 -- Source: Vasilevskii (1973) and Chow (1978); the order of the words is this project's.
-use Rattle.std.specs.Prelude.{◌≡◌, ℕ, zero, suc, ◌+◌, List, [], ◌∷◌, ◌++◌, map}
+use Rattle.std.specs.Prelude.{◌≡◌, ℕ, zero, suc, ◌+◌, ◌≤◌, List, [], ◌∷◌, ◌++◌, length, map}
 use Rattle.std.specs.List.{All, flat_map, range_with_len}
 use Rattle.lw_words.specs.Word.{IsWord}
 use Rattle.lw_mealy.specs.Machine.{Rows}
 use Rattle.lw_separate.specs.Canonical.{AreLeastAccess}
 use Rattle.lw_separate.specs.Separators.{IsSeparators}
+use Rattle.lw_suite.specs.Size.{suite_size}
 
 -- each of the first list with each of the second, by the first, then by the second
 abbrev pub each_with : {X Y Z : Type 0} → (X → Y → Z) → List X → List Y → List Z
@@ -41,3 +42,7 @@ OneSuite = (a : ℕ) (m : Rows) (k : ℕ) (s t : List (List ℕ)) → IsSuite a 
 -- the words of a machine's suite are words over its letters
 abbrev pub SuiteIsOfWords : Type 0
 SuiteIsOfWords = (a : ℕ) (m : Rows) (k : ℕ) (suite : List (List ℕ)) → IsSuite a m k suite → All (IsWord a) suite
+
+-- the words of a machine's suite are at most as many as its size says
+abbrev pub SuiteIsCounted : Type 0
+SuiteIsCounted = (a : ℕ) (m : Rows) (k : ℕ) (suite : List (List ℕ)) → IsSuite a m k suite → length suite ≤ suite_size (length m) a k
