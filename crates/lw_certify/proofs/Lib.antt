@@ -1,9 +1,12 @@
 pub mod CertifyLemmas
 pub mod Cover
+pub mod CoverLemmas
 pub mod Known
+pub mod Meets
 pub mod OneVerdict
 pub mod Pigeon
 pub mod Runs
+pub mod SuiteLemmas
 pub mod SureLemmas
-pub mod Walk
+pub mod Tells
 pub mod WorkedLemmas

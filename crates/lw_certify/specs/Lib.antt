@@ -1,3 +1,4 @@
+pub mod Covers
 pub mod Sure
 pub mod Verdict
 pub mod Worked

@@ -17,5 +17,7 @@ pub record AsWorked : Type 0 where
   pub machine : IsMachine 1 counter_of_three
   -- a machine gives the answers, so what is sure of them is said of at least that machine
   pub given : Gives counter_of_three seven_letters
+  -- and they fix the counter among all machines of at most five states
+  pub fixed : Sure 1 counter_of_three seven_letters 2
   -- the machine of one state gives the two letters too, and the counter is a machine of two states more
   pub gap : ¬ Sure 1 one two_letters 2

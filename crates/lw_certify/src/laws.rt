@@ -1,13 +1,24 @@
 //! Laws about the definitions alone, with no code.
+ghost use Rattle.lw_certify.specs.Covers.{CoversIsSure, SuiteCovers};
 ghost use Rattle.lw_certify.specs.Verdict.{OneVerdict, SureIsSure};
 ghost use Rattle.lw_certify.specs.Worked.{AsWorked};
+
+/// Answers that cover a machine fix it, whatever suite they came by (Dorofeeva, El-Fakih and Koufareva 2005).
+pub fn covers_is_sure()
+    ensures { CoversIsSure }
+{}
+
+/// Where all words of the W-method's suite are known, the answers cover the machine.
+pub fn suite_covers()
+    ensures { SuiteCovers }
+{}
 
 /// The completeness of the W-method (Vasilevskii 1973, Chow 1978).
 pub fn sure_is_sure()
     ensures { SureIsSure }
 {}
 
-/// What `Sure` says isn't empty: a machine gives the answers of a worked case, and two letters leave a gap.
+/// What `Sure` says isn't empty: it holds of the answers of a worked case, which a machine gives, and two letters leave a gap.
 pub fn sure_is_not_vacuous()
     ensures { AsWorked }
 {}

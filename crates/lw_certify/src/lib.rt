@@ -7,5 +7,7 @@ mod missing;
 mod verdict;
 
 pub use certificate::certify;
-pub use laws::{sure_is_not_vacuous, sure_is_sure, verdict_is_unique};
+pub use laws::{
+    covers_is_sure, suite_covers, sure_is_not_vacuous, sure_is_sure, verdict_is_unique,
+};
 pub use verdict::Verdict;
