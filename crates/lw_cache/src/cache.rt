@@ -210,8 +210,8 @@ impl Cache {
     /// Keeps an answer to a word that was not claimed.
     ///
     /// # Errors
-    /// `Clash` exactly where the answer clashes with a clear one. It is kept all the same, and nothing more is known.
-    /// `NoMemory` where memory ran out; nothing changed then.
+    /// `Clash` exactly where the answer clashes with a clear one. It is kept all the same, and nothing more is known; room for the
+    /// other answers is as it was. `NoMemory` where memory ran out; nothing changed then.
     pub fn keep(&mut self, word: Word, outs: Word, instance: u32, run: u64) -> Result<(), KeepStop>
         requires lengths { length outs ≡ length word }
         requires unclaimed { self.old.claims ≡ [] }
@@ -222,8 +222,8 @@ impl Cache {
         ensures err { IfErr result (StopsKeeping self.old self.new
             (kept_answer instance run word outs)) }
         ensures claims { self.new.claims ≡ [] }
-        ensures room { OnOk result ((self.old.words ≤ self.new.words + 1) ×
-            (self.old.letters ≤ self.new.letters + length word)) }
+        ensures room { (self.old.words ≤ self.new.words + 1) ×
+            (self.old.letters ≤ self.new.letters + length word) }
     {
         if self.reserve(1, word.len()).is_err() {
             return Err(KeepStop::NoMemory);
