@@ -1,5 +1,5 @@
 -- A pool before a batch and after it.
-use Rattle.std.proofs.Common.{◌≡◌, inr, ⊎_elim, ℕ, ◌<◌, ◌≤◌, ◌||◌, List, [], ◌∷◌, ◌++◌, length, map, All, Bool, true, false, Option, Some, None, is_some, Result, Ok, Err, OnOk, slice_index_or, option_and_then, take, drop, refl, ap, sym, ◌∙◌, subst, subst₂, arith, append-nil}
+use Rattle.std.proofs.Common.{◌≡◌, ◌⊎◌, inl, inr, ⊎_elim, ℕ, ◌<◌, ◌≤◌, ◌||◌, List, [], ◌∷◌, ◌++◌, length, map, All, Bool, true, false, Option, Some, None, is_some, Result, Ok, Err, OnOk, slice_index_or, option_and_then, take, drop, refl, ap, sym, ◌∙◌, subst, subst₂, arith, append-nil}
 use Rattle.std.specs.Bool.{⊤}
 use Rattle.std.proofs.lemmas.Bool.{true≢false, false≢true}
 use Rattle.lw_words.specs.Word.{answer_of, answers_of, IsWhole, IsWord}
@@ -29,7 +29,7 @@ use Rattle.lw_sul.specs.SessionState.{SessionState}
 use Rattle.lw_sul.specs.declared.runs.Run.{Run}
 use Rattle.std.proofs.lemmas.List.{get_or-map, length-map}
 use Rattle.std.proofs.lemmas.Option.{slice_get_past}
-use Rattle.lw_pool.specs.Settling.{GainsSome, HasSettled}
+use Rattle.lw_pool.specs.Settling.{GainsSome, HasSettled, IsPutOff, IsWorkedOff, desk_of}
 use Rattle.lw_pool.specs.Sharing.{oracle_of, declared_by}
 use Rattle.lw_pool.specs.declared.hands.Hand.{Hand}
 use Rattle.lw_pool.specs.declared.parts.Parts.{Parts}
@@ -97,6 +97,7 @@ module _ {S : Type 0} (batch : List (List ℕ)) where
     stop = told;
     refused = was_refused refused refl;
     sticks = λ no. refl;
+    history = λ may. once_more e told may;
     new = λ may c same. absurd (not_again may c (err_is e (Clash c) (Err e) refl same));
     first = λ may c same. absurd (not_again may c (err_is e (Clash c) (Err e) refl same));
     sessions = refl;
@@ -112,6 +113,14 @@ module _ {S : Type 0} (batch : List (List ℕ)) where
     where
       not_again : MayAsk stop → (c : _) → e ≡ Clash c → ⊥
       not_again may c same = subst MayAsk (told ∙ ap (λ (x : AskStop). Some x) same) may
+
+      again : PoolState S
+      again = pool_of hands naming prior kept stop refused inputs outputs
+
+      once_more : (x : AskStop) → stop ≡ Some x → MayAsk stop → IsWorkedOff batch again again ⊎ IsPutOff again again
+      once_more NoMemory is may = inr (record { kept = refl; naming = refl; stop = is })
+      once_more (Clash c) is may = absurd (subst MayAsk is may)
+      once_more (Sul i x) is may = absurd (subst MayAsk is may)
 
       was_refused : (r : Bool) → refused ≡ r → refused ≡ true
       was_refused true same = same
@@ -219,6 +228,7 @@ module _ {S : Type 0} (batch : List (List ℕ)) where
         stop = told;
         refused = again_is ∙ refused_is refused stop result told;
         sticks = λ no. absurd (no may);
+        history = λ m. inr (record { kept = n.kept; naming = n.names; stop = n.memory });
         new = λ m c same. absurd (false≢true (ap is_clash (sym n.memory ∙ stop_told result told (Clash c) same)));
         first = λ m c same. absurd (false≢true (ap is_clash (sym n.memory ∙ stop_told result told (Clash c) same)));
         sessions = ap (λ (hs : List (Hand S)). length (seen_in hs)) n.hands;
@@ -247,6 +257,7 @@ module _ {S : Type 0} (batch : List (List ℕ)) where
         stop = told;
         refused = again_is ∙ refused_is refused stop result told;
         sticks = λ no. absurd (no may);
+        history = λ m. inl (record { entries = w.entries; state = w.state; replays = replayed; kept = w.kept; naming = w.names; stop = w.stop_is });
         new = λ m c same. run_new w c (sym w.stop_is ∙ stop_told result told (Clash c) same);
         first = λ m c same. subst (λ (l : List KeptAnswer). AreClear l (length parts.cache.kept) c.second) (sym w.kept) (run_first w c (sym w.stop_is ∙ stop_told result told (Clash c) same));
         sessions = long w;
@@ -260,6 +271,12 @@ module _ {S : Type 0} (batch : List (List ℕ)) where
         prior = refl;
       }
         where
+          -- as many actors as hands
+          replayed : Replays (desk_of (pool_of hands parts.names prior parts.cache.kept was refused inputs outputs) batch) (opened (desk_of (pool_of hands parts.names prior parts.cache.kept was refused inputs outputs) batch)) w.entries w.state
+          replayed =
+              subst (λ (n : ℕ). let d : DeskOpening = record { kept = parts.cache.kept; naming = parts.names; batch = batch; actors = n } in Replays d (opened d) w.entries w.state)
+              (sym (length-map hands (λ h. h.worker))) w.replays
+
           on_ok : (r : Result ⊤ AskStop) → TellsStop r stop → (P : Type 0) → (w.state.stop ≡ None → P) → OnOk r P
           on_ok (Ok x) t P p = p (sym w.stop_is ∙ t)
           on_ok (Err e) t P p = tt

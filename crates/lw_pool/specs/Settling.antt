@@ -1,5 +1,5 @@
 -- What settling a batch brings to a pool.
-use Rattle.std.specs.Prelude.{◌≡◌, ℕ, ◌<◌, ◌≤◌, List, ◌++◌, length, map, None, is_some, Result, Err, OnOk, ⊤}
+use Rattle.std.specs.Prelude.{◌≡◌, ◌⊎◌, ℕ, ◌<◌, ◌≤◌, List, ◌++◌, length, map, Some, None, is_some, Result, Err, OnOk, ⊤}
 use Rattle.std.specs.List.{All}
 use Rattle.lw_words.specs.Word.{answers_of}
 use Rattle.lw_words.specs.Name.{AllDiffer}
@@ -10,9 +10,14 @@ use Rattle.lw_cache.specs.Known.{IsKnown}
 use Rattle.lw_cache.specs.Settling.{GainsExactly, TellsStop, MayAsk, refused_after}
 use Rattle.lw_cache.specs.declared.stops.Clash.{Clash}
 use Rattle.lw_cache.specs.declared.stops.AskStop.{AskStop}
-use Rattle.lw_cache.specs.declared.stops.AskStop.TheVariants as Ask
+use Rattle.lw_cache.specs.declared.stops.AskStop.TheVariants as stopped
 use Rattle.lw_names.specs.Names.{IsGrown}
+use Rattle.lw_turn.specs.declared.shared.Entry.{Entry}
 use Rattle.lw_desk.specs.Ending.{AreClear}
+use Rattle.lw_desk.specs.History.{DeskOpening, Replays, opened}
+use Rattle.lw_desk.specs.Step.{DeskState}
+use Rattle.lw_desk.specs.declared.ask.Ask.{Ask}
+use Rattle.lw_desk.specs.declared.ask.Reply.{Reply}
 use Rattle.lw_pool.specs.Pool.{PoolState, WentOn, seen_at, seen_of, origins_of}
 use Rattle.lw_pool.specs.Standing.{PoolStands}
 
@@ -22,6 +27,26 @@ pub record GainsSome (batch : List (List ℕ)) (before now : List KeptAnswer) : 
   pub at_end : now ≡ before ++ gained
   pub asked : All (λ k. IsAsked batch (answers_of before) k.word) gained
   pub once : AllDiffer (map (λ k. k.word) gained)
+
+-- what the desk of a batch begins with
+abbrev pub desk_of : {S : Type 0} → PoolState S → List (List ℕ) → DeskOpening
+desk_of p batch = record { kept = p.kept; naming = p.naming; batch = batch; actors = length p.members }
+
+-- a batch was worked off at one desk: the entries of its history, each in turn, lead to the kept answers, the names and the stop,
+-- which so is the first one of the batch
+pub record IsWorkedOff {S : Type 0} (batch : List (List ℕ)) (before now : PoolState S) : Type 0 where
+  pub entries : List (Entry Ask Reply)
+  pub state : DeskState
+  pub replays : Replays (desk_of before batch) (opened (desk_of before batch)) entries state
+  pub kept : now.kept ≡ state.kept
+  pub naming : now.naming ≡ state.naming
+  pub stop : now.stop ≡ state.stop
+
+-- a batch was not begun, since there was no memory for it
+pub record IsPutOff {S : Type 0} (before now : PoolState S) : Type 0 where
+  pub kept : now.kept ≡ before.kept
+  pub naming : now.naming ≡ before.naming
+  pub stop : now.stop ≡ Some stopped.NoMemory
 
 -- a pool once it has settled a batch, or was refused
 pub record HasSettled {S : Type 0} (batch : List (List ℕ)) (before now : PoolState S) (result : Result ⊤ AskStop) : Type 0 where
@@ -39,8 +64,9 @@ pub record HasSettled {S : Type 0} (batch : List (List ℕ)) (before now : PoolS
   pub stop : TellsStop result now.stop
   pub refused : now.refused ≡ refused_after before.refused result
   pub sticks : ¬ MayAsk before.stop → now ≡ before
-  pub new : MayAsk before.stop → (c : Clash) → result ≡ Err (Ask.Clash c) → length before.kept ≤ c.second
-  pub first : MayAsk before.stop → (c : Clash) → result ≡ Err (Ask.Clash c) → AreClear now.kept (length before.kept) c.second
+  pub history : MayAsk before.stop → IsWorkedOff batch before now ⊎ IsPutOff before now
+  pub new : MayAsk before.stop → (c : Clash) → result ≡ Err (stopped.Clash c) → length before.kept ≤ c.second
+  pub first : MayAsk before.stop → (c : Clash) → result ≡ Err (stopped.Clash c) → AreClear now.kept (length before.kept) c.second
   -- the sessions have gone on; names only came to their end, and stay declared or free
   pub sessions : length (seen_of now) ≡ length (seen_of before)
   pub went_on : (i : ℕ) → i < length (seen_of before) → WentOn (seen_at (seen_of before) i) (seen_at (seen_of now) i)
