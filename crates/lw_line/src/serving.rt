@@ -106,6 +106,8 @@ fn answer<O: Sink>(
     ensures failed { result ≡ Err Fault.SinkFault → CountedFault (O.state sink.old).faults
         (O.state sink.new).faults }
     ensures quiet { OnOk result ((O.state sink.new).faults ≡ (O.state sink.old).faults) }
+    ensures bad { (line : ℕ) → result ≡ Err (Fault.BadLine line) →
+        (O.state sink.new).faults ≡ (O.state sink.old).faults }
     ensures counts { (O.state sink.old).faults ≤ (O.state sink.new).faults }
     ensures state { child.new < length m.now.mealy.rows }
 {
@@ -142,6 +144,9 @@ fn serve_line<I: Source, O: Sink>(
         (I.state source.new).ends }
     ensures quiet { OnOk result (((I.state source.new).faults ≡ (I.state source.old).faults) ×
         ((O.state sink.new).faults ≡ (O.state sink.old).faults)) }
+    ensures bad { (line : ℕ) → result ≡ Err (Fault.BadLine line) →
+        ((I.state source.new).faults ≡ (I.state source.old).faults) ×
+        ((O.state sink.new).faults ≡ (O.state sink.old).faults) }
     ensures counts { ((I.state source.old).faults ≤ (I.state source.new).faults) ×
         ((I.state source.old).ends ≤ (I.state source.new).ends) ×
         ((O.state sink.old).faults ≤ (O.state sink.new).faults) }
@@ -174,6 +179,9 @@ pub fn serve<I: Source, O: Sink>(
     ensures limit { IfOk result (λ s. s.cause ≡ Cause.Limit → s.lines ≡ 4294967295) }
     ensures quiet { OnOk result (((I.state source.new).faults ≡ (I.state source.old).faults) ×
         ((O.state sink.new).faults ≡ (O.state sink.old).faults)) }
+    ensures bad { (line : ℕ) → result ≡ Err (Fault.BadLine line) →
+        ((I.state source.new).faults ≡ (I.state source.old).faults) ×
+        ((O.state sink.new).faults ≡ (O.state sink.old).faults) }
     ensures counts { ((I.state source.old).faults ≤ (I.state source.new).faults) ×
         ((I.state source.old).ends ≤ (I.state source.new).ends) ×
         ((O.state sink.old).faults ≤ (O.state sink.new).faults) }

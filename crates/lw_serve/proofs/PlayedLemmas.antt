@@ -40,6 +40,18 @@ done_is (Err fault.SourceFault) s e = let wrong : SourceFault ≡ Served s = e i
 done_is (Err fault.SinkFault) s e = let wrong : SinkFault ≡ Served s = e in absurd (cc)
 done_is (Err (fault.BadLine n)) s e = let wrong : BadAsk n ≡ Served s = e in absurd (cc)
 
+bad_is : (served : Result Done ServeFault) (n : ℕ) → served_outcome served ≡ BadAsk n → served ≡ Err (fault.BadLine n)
+bad_is (Ok s) n e = let wrong : Served s ≡ BadAsk n = e in absurd (cc)
+bad_is (Err fault.SourceFault) n e = let wrong : SourceFault ≡ BadAsk n = e in absurd (cc)
+bad_is (Err fault.SinkFault) n e = let wrong : SinkFault ≡ BadAsk n = e in absurd (cc)
+bad_is (Err (fault.BadLine k)) n e = let both : BadAsk k ≡ BadAsk n = e in let same : k ≡ n = cc in ap (λ (i : ℕ). Err (fault.BadLine i)) same
+
+no_memory_is : (served : Result Done ServeFault) → served_outcome served ≡ NoMemory → ⊥
+no_memory_is (Ok s) e = let wrong : Served s ≡ NoMemory = e in absurd (cc)
+no_memory_is (Err fault.SourceFault) e = let wrong : SourceFault ≡ NoMemory = e in absurd (cc)
+no_memory_is (Err fault.SinkFault) e = let wrong : SinkFault ≡ NoMemory = e in absurd (cc)
+no_memory_is (Err (fault.BadLine n)) e = let wrong : BadAsk n ≡ NoMemory = e in absurd (cc)
+
 plays_here : (m : Machine) (input : Option (List ℕ)) (served : Result Done ServeFault) (before now : Option (List ℕ)) → Plays m input served before now → PlaysTo m input (served_outcome served) before now
 plays_here m input (Ok s) before now is = is
 plays_here m input (Err fault.SourceFault) before now is = is
@@ -93,5 +105,7 @@ module _ (m : Machine) (i j : SourceState) (o p : SinkState) (outcome : Outcome)
     sink = λ e. is.sink (by_served (λ x. x ≡ SinkFault → is.served ≡ Err fault.SinkFault) is.served outcome is.comes (sink_is is.served) (λ n _ w. let wrong : NoMemory ≡ SinkFault = w in absurd (cc)) e);
     ended = λ s e. is.ended s (done_of s e);
     limit = λ s e. is.limit s (done_of s e);
+    bad = λ n e. is.bad n (by_served (λ x. x ≡ BadAsk n → is.served ≡ Err (fault.BadLine n)) is.served outcome is.comes (bad_is is.served n) (λ k _ w. let wrong : NoMemory ≡ BadAsk n = w in absurd (cc)) e);
+    memory = λ e. let k = by_served (λ x. x ≡ NoMemory → (n : ℕ) × (is.served ≡ Err (fault.BadLine n))) is.served outcome is.comes (λ w. absurd (no_memory_is is.served w)) (λ n same w. (n, same)) e in is.bad k.0 k.1;
     quiet = λ s e. is.quiet s (done_of s e);
   }

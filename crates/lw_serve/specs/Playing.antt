@@ -29,5 +29,8 @@ pub record IsPlayed (m : Machine) (input_before input_now : SourceState) (out_be
       CountedFault input_before.ends input_now.ends
   pub limit : (served : Done) → outcome ≡ Served served → served.cause ≡ Limit →
       served.lines ≡ 4294967295
+  -- a bad line, or memory that ran out for its text, comes only where neither stream counted a fault
+  pub bad : (number : ℕ) → outcome ≡ BadAsk number → (input_now.faults ≡ input_before.faults) × (out_now.faults ≡ out_before.faults)
+  pub memory : outcome ≡ NoMemory → (input_now.faults ≡ input_before.faults) × (out_now.faults ≡ out_before.faults)
   pub quiet : (served : Done) → outcome ≡ Served served → (input_now.faults ≡ input_before.faults) ×
       (out_now.faults ≡ out_before.faults)

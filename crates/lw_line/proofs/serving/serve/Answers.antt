@@ -6,7 +6,7 @@ use Rattle.lw_line.specs.Serving.{Plays}
 use Rattle.lw_line.specs.declared.serving.Served.{Served}
 use Rattle.lw_line.specs.declared.serving.ServedCause.TheVariants.{Limit}
 use Rattle.lw_line.specs.declared.serving.ServeFault.{ServeFault}
-use Rattle.lw_line.specs.declared.serving.ServeFault.TheVariants.{SourceFault}
+use Rattle.lw_line.specs.declared.serving.ServeFault.TheVariants.{BadLine, SourceFault}
 use Rattle.lw_line.specs.declared.serving.Turn.{Turn}
 use Rattle.lw_line.specs.declared.serving.Turn.TheVariants.{Answered, Quit, Ended}
 use Rattle.lw_line.specs.bodies.Playing.{Serves, Turns}
@@ -107,6 +107,15 @@ returns-in_err-serve_line-clause-source g c =
       subst (λ (k : ℕ). CountedFault k (I.state after.source).faults) was.invariant.source_quiet (c.in_err-serve_line.ensures.source (ap (λ (e : ServeFault). Err e) at)),
       source_goes_on m (I.state c.args.source.now).left (I.state was.source).left was.inbox was.child n (O.state c.args.sink.now).taken (O.state was.sink).taken after.inbox after.child (n + 1) (I.state after.source).left (O.state after.sink).taken fault was.invariant.serves below c.in_err-serve_line.ensures.turns at,
     )
+
+pub returns-in_err-serve_line-clause-bad : goal.returns-in_err-serve_line-clause-bad
+returns-in_err-serve_line-clause-bad g c line same =
+    let was = c.loop-lines in
+    let fault : ServeFault = c.in_err-serve_line.field-0.0 in
+    let is : c.from_residual.result ≡ Err fault = handed_on c.from_residual.result fault c.from_residual.ensures.1 in
+    let at : fault ≡ BadLine line = cc in
+    let quiet = c.in_err-serve_line.ensures.bad line (ap (λ (e : ServeFault). Err e) at) in
+    (quiet.0 ∙ was.invariant.source_quiet, quiet.1 ∙ was.invariant.sink_quiet)
 
 pub returns-clause-plays : goal.returns-clause-plays
 returns-clause-plays g c =
