@@ -1,9 +1,9 @@
 -- A child that was started by itself, and a start that gave no child.
 use Rattle.std.proofs.Common.{◌≡◌, ◌∙◌, ℕ, ◌+◌, ◌<◌, ◌≤◌, List, [], ◌∷◌, ◌++◌, map, Contains, get_or, Option, Some, None, inl, inr, refl, ap, sym, subst, arith, append-nil}
 use Rattle.std.specs.List.{All}
-use Rattle.std.proofs.lemmas.List.Elements.{All-map}
+use Rattle.std.proofs.lemmas.List.Elements.{All-from_recursion, All-map, All-nil}
 use Rattle.lw_words.specs.Cause.{CountedFault}
-use Rattle.lw_outside.specs.Links.{LinkState, with_start, SpawnerState}
+use Rattle.lw_outside.specs.Links.{IsUntouched, LinkState, with_start, SpawnerState}
 use Rattle.lw_outside.specs.declared.links.StartStop.{StartStop}
 use Rattle.lw_outside.specs.declared.links.StartStop.TheVariants as start
 use Rattle.lw_system.specs.Spawners.{HasNotStarted, StartsLinks, StartsAndRetires, with_starts}
@@ -43,6 +43,7 @@ not_started words b z start.Failed started retired counts failed memory =
         each = inr (omega arith, why.0);
       };
       few = omega arith;
+      untouched = All-nil (λ r. IsUntouched r.transcript);
       failed = λ _. (refl, why.0);
     }
 not_started words b z start.NoMemory started retired counts failed memory = record {
@@ -57,6 +58,7 @@ not_started words b z start.NoMemory started retired counts failed memory = reco
     each = inl refl;
   };
   few = omega arith;
+  untouched = All-nil (λ r. IsUntouched r.transcript);
   failed = λ e. let wrong : start.NoMemory ≡ start.Failed = e in absurd (cc);
 }
 
@@ -64,12 +66,13 @@ not_started words b z start.NoMemory started retired counts failed memory = reco
 pub nothing_started : (words : List (List ℕ)) (b : SpawnerState) → HasNotStarted words b b start.NoMemory
 nothing_started words b = not_started words b b start.NoMemory refl refl (omega arith) (λ e. let wrong : start.NoMemory ≡ start.Failed = e in absurd (cc)) (λ _. refl)
 
--- a link for whose system there was no memory
-pub link_given_up : (words : List (List ℕ)) (b m z : SpawnerState) (link : LinkState) → StartsLinks words b m 1 → link.number ≡ b.started → z.started ≡ m.started → z.retired ≡ m.retired ++ link ∷ [] → z.faults ≡ m.faults → z.commands ≡ m.commands → HasNotStarted words b z start.NoMemory
-link_given_up words b m z link starts number started retired faults commands = record {
+-- a link for whose system there was no memory, over which nothing went
+pub link_given_up : (words : List (List ℕ)) (b m z : SpawnerState) (link : LinkState) → IsUntouched link.transcript → StartsLinks words b m 1 → link.number ≡ b.started → z.started ≡ m.started → z.retired ≡ m.retired ++ link ∷ [] → z.faults ≡ m.faults → z.commands ≡ m.commands → HasNotStarted words b z start.NoMemory
+link_given_up words b m z link fresh starts number started retired faults commands = record {
   links = link ∷ [];
   spawner = started_one words b m z link starts number started retired faults commands;
   few = omega arith;
+  untouched = All-from_recursion (λ r. IsUntouched r.transcript) (link ∷ []) (fresh, tt);
   failed = λ e. let wrong : start.NoMemory ≡ start.Failed = e in absurd (cc);
 }
 

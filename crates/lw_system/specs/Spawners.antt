@@ -1,7 +1,8 @@
 -- What a call leaves of a spawner.
 use Rattle.std.specs.Prelude.{◌≡◌, ◌⊎◌, ℕ, ◌+◌, ◌<◌, ◌≤◌, List, [], ◌++◌, length, slice_index_or, replicate, Option, option_map}
+use Rattle.std.specs.List.{All}
 use Rattle.lw_words.specs.Cause.{CountedFault}
-use Rattle.lw_outside.specs.Links.{LinkState, SpawnerState}
+use Rattle.lw_outside.specs.Links.{IsUntouched, LinkState, SpawnerState}
 use Rattle.lw_outside.specs.declared.links.StartStop.{StartStop}
 use Rattle.lw_outside.specs.declared.links.StartStop.TheVariants as start
 
@@ -39,9 +40,10 @@ pub record StartsSome (words : List (List ℕ)) (before now : SpawnerState) (lin
   pub each : (starts ≡ links) ⊎ ((starts ≡ links + 1) × CountedFault before.faults now.faults)
 
 -- no child was asked: none was started, since a start failed or memory ran out; or memory ran out once one was, which was
--- retired
+-- retired, and nothing went over its link
 pub record HasNotStarted (words : List (List ℕ)) (before now : SpawnerState) (stop : StartStop) : Type 0 where
   pub links : List LinkState
   pub spawner : StartsAndRetires words before now links
   pub few : length links ≤ 1
+  pub untouched : All (λ r. IsUntouched r.transcript) links
   pub failed : stop ≡ start.Failed → (links ≡ []) × CountedFault before.faults now.faults

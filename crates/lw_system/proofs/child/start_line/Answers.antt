@@ -1,6 +1,6 @@
 use Rattle.std.proofs.Common.{◌∙◌, ◌<◌, Err, List, map, string_bytes, ap, subst, sym}
 use Rattle.std.specs.List.{All}
-use Rattle.lw_outside.specs.Links.{LinkState}
+use Rattle.lw_outside.specs.Links.{IsUntouched, LinkState}
 use Rattle.lw_outside.specs.declared.links.StartStop.{StartStop}
 use Rattle.lw_system.proofs.StartLemmas.{is_unretired, link_given_up, not_started}
 use Rattle.lw_system.proofs.child.start_line.Goals as goal
@@ -42,5 +42,6 @@ returns-in-Err-line_over-clause-err g c =
     let was = c.in-Ok.ensures in
     let ended = c.retire.ensures in
     link_given_up words b m z (L.state link)
+    (subst (λ x. IsUntouched (L.state x).transcript) (sym c.in-Err-line_over.ensures.back) was.unused.2)
     (record { started = was.one_more; retired = c.start.ensures.retired; faults = was.quiet; commands = was.ok })
     (ap (λ x. (L.state x).number) c.in-Err-line_over.ensures.back ∙ was.number) ended.started ended.retired ended.faults ended.commands
