@@ -24,7 +24,7 @@ module _ (a : AskValues) (f g : FilesState) (b z : SpawnerState) (o p e m d : Si
         why = why;
         kept = kept;
         hint = hint;
-        m = m;
+        err_hinted = m;
         came = inl (record { system = s; reads = found.read.ok; made = found.read.made; quiet = found.read.quiet; told = found.told; asks = asks });
         hinted = hinted;
         ended = ended;
@@ -40,7 +40,7 @@ module _ (a : AskValues) (f g : FilesState) (b z : SpawnerState) (o p e m d : Si
         why = why;
         kept = kept;
         hint = hint;
-        m = m;
+        err_hinted = m;
         came = inr (record { stop = stop; outcome = outcome; cause = found.err; nothing = none; unstarted = unstarted; unput = unput });
         hinted = hinted;
         ended = ended;

@@ -114,13 +114,13 @@ pub record IsEnd (why : Outcome) (kept : List KeptAnswer) (err_before err_now : 
       TakesAll (said_text None None kept 0 end.outcome) err_before.taken err_now.taken
   pub part : TakesSome (said_text None None kept 0 end.outcome) err_before.taken err_now.taken
 
--- a call with these arguments changed files, a spawner, `out` and `err` so, and came to the end; `err` was m once the hint was put, and before anything was asked
+-- a call with these arguments changed files, a spawner, `out` and `err` so, and came to the end; the hint stands first on `err`
 pub record IsAskRun (a : AskValues) (files_before files_now : FilesState) (spawner_before spawner_now : SpawnerState) (out_before out_now err_before err_now : SinkState) (end : End) : Type 0 where
   pub why : Outcome
   pub kept : List KeptAnswer
   pub hint : List ℕ
-  pub m : SinkState
+  pub err_hinted : SinkState
   pub came : HasSystem a files_before files_now spawner_before spawner_now out_before out_now hint kept why ⊎ HasNoSystem a files_before files_now spawner_before spawner_now out_before out_now hint kept why
-  pub hinted : TakesHint hint err_before m
-  pub ended : IsEnd why kept m err_now end
+  pub hinted : TakesHint hint err_before err_hinted
+  pub ended : IsEnd why kept err_hinted err_now end
   pub holds : files_now.holds ≡ files_before.holds

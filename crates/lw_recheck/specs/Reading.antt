@@ -18,12 +18,12 @@ use Rattle.lw_system.specs.declared.source.Source.TheVariants as source
 use Rattle.lw_system.specs.declared.system.System.{System}
 use Rattle.lw_recheck.specs.declared.reading.Task.{Task}
 
--- the files say a system, by reads of which none failed, before which they were f and after which they are m
-pub record IsBehind (setup : List ℕ) (files_before m : FilesState) (system : System) : Type 0 where
-  pub reads : ReadsSystem source.Setup setup files_before.holds files_before.reads m.reads system
-  pub made : MadeReads files_before m []
-  pub quiet : m.faults ≡ files_before.faults
-  pub same : m.holds ≡ files_before.holds
+-- the files say a system, by reads of which none failed
+pub record IsBehind (setup : List ℕ) (files_before files_now : FilesState) (system : System) : Type 0 where
+  pub reads : ReadsSystem source.Setup setup files_before.holds files_before.reads files_now.reads system
+  pub made : MadeReads files_before files_now []
+  pub quiet : files_now.faults ≡ files_before.faults
+  pub same : files_now.holds ≡ files_before.holds
 
 -- the files say no system
 pub record ReadsNoSystem (setup : List ℕ) (files_before files_now : FilesState) (outcome : Outcome) : Type 0 where
