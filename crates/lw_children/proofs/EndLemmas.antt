@@ -1,5 +1,5 @@
 -- What comes of a learning over children, however it ended.
-use Rattle.std.proofs.Common.{◌≡◌, ⊎_elim, ℕ, ◌+◌, ◌-◌, ◌<◌, ◌≤◌, List, [], ◌∷◌, ◌++◌, length, map, get_or, Option, Some, None, Result, Ok, Err, IfOk, IfErr, OnOk, false, inl, inr, refl, ap, sym, ◌∙◌, subst, subst₂, append_assoc, append-nil, arith}
+use Rattle.std.proofs.Common.{◌≡◌, ◌⊎◌, ⊎_elim, ℕ, ◌+◌, ◌-◌, ◌<◌, ◌≤◌, List, [], ◌∷◌, ◌++◌, length, map, get_or, Option, Some, None, Result, Ok, Err, IfOk, IfErr, OnOk, false, inl, inr, refl, ap, sym, ◌∙◌, subst, subst₂, append_assoc, append-nil, arith}
 use Rattle.std.specs.List.{All}
 use Rattle.std.proofs.lemmas.Bool.{cases_lt}
 use Rattle.std.proofs.lemmas.List.{get_or_append_left, get_or-append_right, length-append}
@@ -30,7 +30,7 @@ use Rattle.lw_rounds.specs.declared.stops.LearnStop.{LearnStop}
 use Rattle.lw_rounds.specs.declared.stops.LearnStop.TheVariants as learn
 use Rattle.lw_workers.specs.Leaving.{HasLearned}
 use Rattle.lw_workers.proofs.MachineLemmas.{no_clash_came, reached}
-use Rattle.lw_children.specs.Children.{IsCausedBy, IsOfChildren, IsSound, LeavesNothing}
+use Rattle.lw_children.specs.Children.{IsCausedBy, IsOfChildren, IsSound, IsUncounted, LeavesNothing, SaysBadLine}
 use Rattle.lw_system.specs.Told.{IsStopped}
 use Rattle.lw_line.specs.Causes.{IsTranscriptOf}
 use Rattle.lw_children.specs.Keeping.{KeepsChildren}
@@ -207,6 +207,7 @@ module _ (kind : Kind) (words letters : List (List ℕ)) (outputs : Option (List
         stops = tt;
         causes = tt;
         reached = λ m within gives quiet sound. refl;
+        counted = λ m within gives quiet uncounted. inl refl;
       })))
 
   pub not_started : (n : ℕ) (learned : Result Learned LearnStop) (kept : List KeptAnswer) (names : List (List ℕ)) → learned ≡ Err (learn.Ask (ask.Sul n sul.Failed)) → kept ≡ prior → names ≡ naming.names → n < workers → length links ≡ n → CountedFault before.faults now.faults → IsOfChildren kind words letters outputs workers k most prior before now learned kept names
@@ -225,6 +226,7 @@ module _ (kind : Kind) (words letters : List (List ℕ)) (outputs : Option (List
         stops = tt;
         causes = (lt, inl (refl, count, failed));
         reached = λ m within gives quiet sound. absurd (quiet failed);
+        counted = λ m within gives quiet uncounted. absurd (quiet failed);
       })))
 
 -- the links of sessions that were made, and one more, may be retired
@@ -408,6 +410,22 @@ module _ {L : Type 0} (kind : Kind) (state : L → LinkState) (words letters : L
   own_stop m gives sound (Err (learn.Crowd ws)) told = tt
   own_stop m gives sound (Err (learn.TooLarge model n)) told = tt
 
+  -- a child whose link counted nothing can only have said a bad line
+  bad_line : (i : ℕ) (stop : SulStop) (link : LinkState) → i < workers → IsUncounted link → IsStopped outputs stop link → SaysBadLine workers (Err (learn.Ask (ask.Sul i stop)))
+  bad_line i sul.Failed link lt uncounted why = absurd (uncounted.faults why)
+  bad_line i (sul.BadLine line) link lt uncounted why = lt
+  bad_line i sul.Gone link lt uncounted why = absurd (uncounted.ends why.0)
+
+  own_or_bad : (m : Rows) → Gives m (answers_of left.kept) → All IsUncounted links → (r : Result Learned LearnStop) → LeavesStop (learn_stop r) left.stop → IfErr r IsOwnStop ⊎ SaysBadLine workers r
+  own_or_bad m gives uncounted (Ok l) told = inl tt
+  own_or_bad m gives uncounted (Err (learn.Ask (ask.Sul i s))) told =
+      let why = stopped_there i s (subst (IsStopOf (seen_of left) left.kept) told ended.learned.stands.why) in
+      inr (bad_line i s (get_or links i no_link) (omega (arith, why.0, all_links)) (uncounted i no_link why.0) (why.1 no_link))
+  own_or_bad m gives uncounted (Err (learn.Ask (ask.Clash c))) told = absurd (no_clash_came m left.kept c gives (subst (IsStopOf (seen_of left) left.kept) told ended.learned.stands.why))
+  own_or_bad m gives uncounted (Err (learn.Ask ask.NoMemory)) told = inl refl
+  own_or_bad m gives uncounted (Err (learn.Crowd ws)) told = inl tt
+  own_or_bad m gives uncounted (Err (learn.TooLarge model n)) told = inl tt
+
   words_are : AreAnswers (length letters) (answers_of left.kept)
   words_are = subst (λ (n : ℕ). AreAnswers n (answers_of left.kept)) (ended.learned.leaves.same.inputs ∙ inputs_is) (All-map (IsAnswer left.inputs) answer_of left.kept ended.learned.stands.keeps.answers)
 
@@ -435,6 +453,11 @@ module _ {L : Type 0} (kind : Kind) (state : L → LinkState) (words letters : L
     causes = caused learned ended.learned.leaves.told;
     reached = λ m within gives quiet sound.
         reached kind (length letters) (count_of outputs) k most (answers_of left.kept) learned least none large words_are ok_is stops_are (own_stop m gives sound learned ended.learned.leaves.told) m within gives;
+    counted = λ m within gives quiet uncounted.
+        ⊎_elim
+        (λ (own : IfErr learned IsOwnStop). inl (reached kind (length letters) (count_of outputs) k most (answers_of left.kept) learned least none large words_are ok_is stops_are own m within gives))
+        (λ (bad : SaysBadLine workers learned). inr bad)
+        (own_or_bad m gives uncounted learned ended.learned.leaves.told);
   }
     where
       always : (P : Type 0) (r : Result Learned LearnStop) → P → OnOk r P

@@ -1,5 +1,5 @@
 -- What the sorting of names leaves of a learning over children.
-use Rattle.std.proofs.Common.{◌≡◌, ℕ, zero, suc, ◌+◌, ◌<◌, ◌==◌, List, [], ◌∷◌, length, map, filter, take, get_or, Bool, true, false, cond, Option, Some, None, Result, Ok, Err, IfErr, OnOk, inl, refl, ap, ap₂, sym, ◌∙◌, subst, subst₂, append-nil, arith}
+use Rattle.std.proofs.Common.{◌≡◌, ◌⊎◌, ⊎_elim, ℕ, zero, suc, ◌+◌, ◌<◌, ◌==◌, List, [], ◌∷◌, length, map, filter, take, get_or, Bool, true, false, cond, Option, Some, None, Result, Ok, Err, IfErr, OnOk, inl, refl, ap, ap₂, sym, ◌∙◌, subst, subst₂, append-nil, arith}
 use Rattle.std.specs.List.{All, range_with_len}
 use Rattle.std.proofs.lemmas.List.{get_or-map, length-map, take-map}
 use Rattle.std.proofs.lemmas.List.Elements.{All-map, All-take}
@@ -29,7 +29,7 @@ use Rattle.lw_renumber.proofs.LawLemmas.{renamed_is_clear, renamed_is_known}
 use Rattle.lw_renumber.proofs.MachineLemmas.{is_machine, states_same, told_apart}
 use Rattle.lw_renumber.proofs.SureLemmas.{gives_back}
 use Rattle.lw_workers.specs.Machines.{IsReached, IsWithin, run_numbers}
-use Rattle.lw_children.specs.Children.{IsCausedBy, IsOfChildren, IsOfCommand, IsOfFree, LeavesNothing}
+use Rattle.lw_children.specs.Children.{IsCausedBy, IsOfChildren, IsOfCommand, IsOfFree, LeavesNothing, SaysBadLine}
 use Rattle.lw_system.specs.Told.{IfTold}
 use Rattle.lw_children.specs.Crews.{first_naming}
 use Rattle.lw_children.specs.Keeping.{KeepsChildren, KeepsTold, KeepsWhole}
@@ -197,6 +197,10 @@ reached_stays : (n outputs : ℕ) (f : ℕ → ℕ) (own : Result Learned LearnS
 reached_stays n outputs f (Ok l) is = is
 reached_stays n outputs f (Err stop) is = is
 
+counted_stays : (n outputs workers : ℕ) (f : ℕ → ℕ) (own : Result Learned LearnStop) → IsReached n own ⊎ SaysBadLine workers own → IsReached n (renamed_learned outputs f own) ⊎ SaysBadLine workers (renamed_learned outputs f own)
+counted_stays n outputs workers f (Ok l) is = ⊎_elim (λ (few : IsReached n (Ok l)). inl few) (λ (bad : SaysBadLine workers (Ok l)). absurd bad) is
+counted_stays n outputs workers f (Err stop) is = is
+
 all_stays : (P : Type 0) (outputs : ℕ) (f : ℕ → ℕ) (own : Result Learned LearnStop) → OnOk own P → OnOk (renamed_learned outputs f own) P
 all_stays P outputs f (Ok l) is = is
 all_stays P outputs f (Err stop) is = tt
@@ -252,6 +256,13 @@ module _ (kind : Kind) (words letters : List (List ℕ)) (workers k most : ℕ) 
             (of.reached (renamed_rows has.g m) (within_stays has.g a k most m within)
             (gives_back has.f has.g a m (answers_of was) r are within.machine (subst (λ (ks : List Answer). Gives m ks) has.answers gives))
             quiet sound)));
+        counted = λ m within gives quiet uncounted.
+            subst (λ (l : Result Learned LearnStop). IsReached (length m) l ⊎ SaysBadLine workers l) (sym has.renamed)
+            (counted_stays (length m) (length names) workers has.f own
+            (subst (λ (n : ℕ). IsReached n own ⊎ SaysBadLine workers own) (states_same has.g m)
+            (of.counted (renamed_rows has.g m) (within_stays has.g a k most m within)
+            (gives_back has.f has.g a m (answers_of was) r are within.machine (subst (λ (ks : List Answer). Gives m ks) has.answers gives))
+            quiet uncounted)));
       }
 
   pub sorted_free : (kept : List KeptAnswer) → kept ≡ renumbered_answers to was → ComeUp kept names → All (λ k. IsWord (length names) k.outs) kept → outs_named names kept ≡ outs_named own_names was → HasSorted to own_names names (answers_of was) (answers_of kept) own learned → IsOfFree kind words letters workers k most before now learned kept names
@@ -319,6 +330,7 @@ none_free kind words letters workers k most before = record {
   stops = tt;
   causes = tt;
   reached = λ m within gives quiet sound. refl;
+  counted = λ m within gives quiet uncounted. inl refl;
 }
 
 pub not_begun : (kind : Kind) (words letters : List (List ℕ)) (workers k most : ℕ) (before : SpawnerState) (learned : Result Learned LearnStop) (kept : List KeptAnswer) (naming : Naming) → learned ≡ Err (learn.Ask ask.NoMemory) → kept ≡ [] → naming ≡ first_naming None → IsOfFree kind words letters workers k most before before learned kept naming.names

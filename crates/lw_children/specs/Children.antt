@@ -1,11 +1,11 @@
 -- What comes of a learning over children.
-use Rattle.std.specs.Prelude.{◌≡◌, ◌⊎◌, ℕ, ◌<◌, ◌≤◌, List, [], length, slice_index_or, Option, Some, None, Result, IfOk, IfErr, OnOk}
+use Rattle.std.specs.Prelude.{◌≡◌, ◌⊎◌, ℕ, ◌<◌, ◌≤◌, List, [], length, slice_index_or, Option, Some, None, Result, Ok, Err, IfOk, IfErr, OnOk}
 use Rattle.std.specs.List.{All}
 use Rattle.lw_words.specs.Word.{Answer, AreAnswers, answers_of}
 use Rattle.lw_words.specs.Cause.{CountedFault}
 use Rattle.lw_words.specs.declared.kept.KeptAnswer.{KeptAnswer}
 use Rattle.lw_words.specs.declared.stop.SulStop.{SulStop}
-use Rattle.lw_words.specs.declared.stop.SulStop.TheVariants.{Failed}
+use Rattle.lw_words.specs.declared.stop.SulStop.TheVariants.{BadLine, Failed, Gone}
 use Rattle.lw_mealy.specs.Machine.{Gives, Rows}
 use Rattle.lw_outside.specs.Links.{LinkState, Transcript, SpawnerState}
 use Rattle.lw_cache.specs.declared.stops.AskStop.TheVariants as ask
@@ -45,6 +45,22 @@ pub record IsSound (outputs : Option (List (List ℕ))) (link : LinkState) : Typ
   pub told : link.transcript ≡ Some transcript
   pub good : (line : List ℕ) → ¬ HasRefused outputs line transcript
 
+-- a link counted neither a fault nor an end, whether or not it tells what went over it
+pub record IsUncounted (link : LinkState) : Type 0 where
+  pub faults : ¬ CountedFault 0 link.faults
+  pub ends : ¬ CountedFault 0 link.ends
+
+-- one of so many instances said a bad line
+abbrev pub SaysBadLine : ℕ → Result Learned LearnStop → Type 0
+SaysBadLine workers (Ok l) = ⊥
+SaysBadLine workers (Err (learn.Ask (ask.Sul i Failed))) = ⊥
+SaysBadLine workers (Err (learn.Ask (ask.Sul i (BadLine line)))) = i < workers
+SaysBadLine workers (Err (learn.Ask (ask.Sul i Gone))) = ⊥
+SaysBadLine workers (Err (learn.Ask (ask.Clash clash))) = ⊥
+SaysBadLine workers (Err (learn.Ask ask.NoMemory)) = ⊥
+SaysBadLine workers (Err (learn.Crowd words)) = ⊥
+SaysBadLine workers (Err (learn.TooLarge model number)) = ⊥
+
 -- nothing is left out of what the transcripts of these links tell
 abbrev pub LeavesNothing : (letters : List (List ℕ)) (outputs : Option (List (List ℕ))) (names : List (List ℕ)) (since : List KeptAnswer) → List LinkState → Type 0
 LeavesNothing letters outputs names since links = (i : ℕ) (d : LinkState) → i < length links → IfTold (KeepsWhole letters outputs names i since) (slice_index_or links i d).transcript
@@ -71,6 +87,10 @@ pub record IsOfChildren (kind : Kind) (words letters : List (List ℕ)) (outputs
   pub reached : (m : Rows) → IsWithin (length letters) k most m → Gives m (answers_of kept) →
       ¬ CountedFault before.faults now.faults → All (IsSound outputs) links →
       IsReached (length m) learned
+  -- where nothing was counted, told or not, one comes so, or an instance said a bad line
+  pub counted : (m : Rows) → IsWithin (length letters) k most m → Gives m (answers_of kept) →
+      ¬ CountedFault before.faults now.faults → All IsUncounted links →
+      IsReached (length m) learned ⊎ SaysBadLine workers learned
 
 -- the same where outputs weren't declared, with the names sorted by bytes in the end: the kept answers and the model have their
 -- new numbers
@@ -98,6 +118,9 @@ pub record IsOfFree (kind : Kind) (words letters : List (List ℕ)) (workers k m
   pub reached : (m : Rows) → IsWithin (length letters) k most m → Gives m (answers_of kept) →
       ¬ CountedFault before.faults now.faults → All (IsSound None) links →
       IsReached (length m) learned
+  pub counted : (m : Rows) → IsWithin (length letters) k most m → Gives m (answers_of kept) →
+      ¬ CountedFault before.faults now.faults → All IsUncounted links →
+      IsReached (length m) learned ⊎ SaysBadLine workers learned
 
 -- a learning over children by a command, whose outputs were declared or not; prior answers come with declared ones alone
 abbrev pub IsOfCommand : Kind → (words letters : List (List ℕ)) → Option (List (List ℕ)) → (workers k most : ℕ) → List KeptAnswer → (before now : SpawnerState) → Result Learned LearnStop → List KeptAnswer → List (List ℕ) → Type 0
