@@ -19,11 +19,11 @@ use Rattle.lw_rounds.specs.declared.stops.LearnStop.TheVariants as learn
 use Rattle.lw_workers.specs.Machines.{IsReached, IsWithin}
 use Rattle.lw_outside.specs.Files.{File, FilesState}
 use Rattle.lw_outside.specs.Links.{LinkState, SpawnerState}
-use Rattle.lw_children.specs.Children.{IsOfCommand, IsSound}
+use Rattle.lw_children.specs.Children.{IsOfCommand, IsSound, IsUncounted, SaysBadLine}
 use Rattle.lw_outside.specs.Streams.{SinkState}
 use Rattle.lw_report.specs.Ends.{IsWithoutLearner}
 use Rattle.lw_report.specs.Learnings.{HasModel, learn_outcome}
-use Rattle.lw_report.specs.Outcomes.{StandsOrWants}
+use Rattle.lw_report.specs.Outcomes.{HasOwnText, StandsOrWants}
 use Rattle.lw_report.specs.Text.{names_of, text_of}
 use Rattle.lw_report.specs.Writing.{TakesAll, TakesSome, said_text}
 use Rattle.lw_report.specs.declared.«end».End.{End}
@@ -41,9 +41,9 @@ use Rattle.lw_json.specs.MachineText.{written_text}
 use Rattle.lw_json.specs.declared.machine.Machine.{Machine}
 use Rattle.lw_report.specs.declared.stops.TellStop.TheVariants as tell
 use Rattle.lw_system.specs.NewLines.{count_of}
-use Rattle.lw_learn.specs.Ending.{Carries, EndsLearned, EndsRead, EndsUnread, IsEndOf, IsSoundSystem, IsToldOf, end_outputs}
+use Rattle.lw_learn.specs.Ending.{Carries, EndsLearned, EndsRead, EndsUnread, IsEndOf, IsSoundSystem, IsToldOf, IsUncountedSystem, end_outputs}
 use Rattle.lw_learn.specs.Findings.{IsOfSystem, LearningStopsBy}
-use Rattle.lw_learn.specs.Outcomes.{HasFiles, HasModelFile, IsLearnedOutcome, IsReachedOutcome, ModelIsTold}
+use Rattle.lw_learn.specs.Outcomes.{HasFiles, HasModelFile, IsBadLine, IsLearnedOutcome, IsReachedOutcome, ModelIsTold}
 use Rattle.lw_learn.specs.Saving.{HasSaved, IsKeptWritten, IsSaved, IsTextWritten, KeptStand, MayTell, saved_outcome}
 use Rattle.lw_system.specs.Systems.{declared_of, letters_of}
 use Rattle.lw_learn.specs.Writing.{NothingFailed, StaysBesides, TakesInTurn, WritesFiles, WritesModel, WritesOut, model_line}
@@ -189,6 +189,30 @@ reached_system : (a : LearnValues) (s : System) (prior : List KeptAnswer) (b z :
 reached_system a (Table m) prior b z learned kept names r found sound within gives = found.1.reached r within gives
 reached_system a (Children c) prior b z learned kept names r found sound within gives = reached_command a.learner c.words c.inputs c.outputs a.workers a.extra a.max_states prior b z learned kept names r found sound.0 sound.1 within gives
 
+-- the same where links needn't tell what went over them
+counted_command : (kind : Kind) (words letters : List (List ℕ)) (outputs : Option (List (List ℕ))) (workers k most : ℕ) (prior : List KeptAnswer) (b z : SpawnerState) (learned : Result Found LearnStop) (kept : List KeptAnswer) (names : List (List ℕ)) (r : Rows) → IsOfCommand kind words letters outputs workers k most prior b z learned kept names
+    → (¬ CountedFault b.faults z.faults) → ((links : List LinkState) → z.retired ≡ b.retired ++ links → All IsUncounted links) → IsWithin (length letters) k most r → Gives r (answers_of kept) → IsReached (length r) learned ⊎ SaysBadLine workers learned
+counted_command kind words letters None workers k most prior b z learned kept names r is quiet uncounted within gives = let free = is.1 in free.counted r within gives quiet (uncounted free.links free.spawner.retired)
+counted_command kind words letters (Some outputs) workers k most prior b z learned kept names r is quiet uncounted within gives = is.1.counted r within gives quiet (uncounted is.1.links is.1.spawner.retired)
+
+counted_system : (a : LearnValues) (s : System) (prior : List KeptAnswer) (b z : SpawnerState) (learned : Result Found LearnStop) (kept : List KeptAnswer) (names : List (List ℕ)) (r : Rows) → IsOfSystem a s prior b z learned kept names → IsUncountedSystem s b z → IsWithin (length (letters_of s)) a.extra a.max_states r → Gives r (answers_of kept) → IsReached (length r) learned ⊎ SaysBadLine a.workers learned
+counted_system a (Table m) prior b z learned kept names r found uncounted within gives = inl (found.1.reached r within gives)
+counted_system a (Children c) prior b z learned kept names r found uncounted within gives = counted_command a.learner c.words c.inputs c.outputs a.workers a.extra a.max_states prior b z learned kept names r found uncounted.0 uncounted.1 within gives
+
+-- an instance that said a bad line is told, or memory ran out
+bad_line_told : (n workers : ℕ) (stop : LearnStop) (outcome : Outcome) → SaysBadLine workers (Err stop) → StandsOrWants (learn_outcome stop) outcome → IsReachedOutcome n outcome ⊎ IsBadLine workers outcome
+bad_line_told n workers (learn.Ask (ask.Sul i sul.Failed)) outcome bad stands = absurd bad
+bad_line_told n workers (learn.Ask (ask.Sul i (sul.BadLine line))) outcome bad stands =
+    ⊎_elim
+    (λ (is : outcome ≡ BadLine i line). inr (subst (IsBadLine workers) (sym is) bad))
+    (λ (wants : HasOwnText (BadLine i line) × (outcome ≡ NoMemory)). inl (subst (IsReachedOutcome n) (sym wants.1) tt))
+    stands
+bad_line_told n workers (learn.Ask (ask.Sul i sul.Gone)) outcome bad stands = absurd bad
+bad_line_told n workers (learn.Ask (ask.Clash clash)) outcome bad stands = absurd bad
+bad_line_told n workers (learn.Ask ask.NoMemory) outcome bad stands = absurd bad
+bad_line_told n workers (learn.Crowd words) outcome bad stands = absurd bad
+bad_line_told n workers (learn.TooLarge model number) outcome bad stands = absurd bad
+
 -- a count of faults that rose, seen from before and from later
 min_from : (f m g most : ℕ) → f ≤ m → min (m + 1) most ≤ g → min (f + 1) most ≤ g
 min_from f m g most few counted =
@@ -237,25 +261,36 @@ end_of a s naming learned kept was f m g o p e d end saved told = record {
   counts = (le_trans saved.counts told.counts.0, told.counts.1, told.counts.2);
 }
 
--- so a call comes to a model, or runs out of memory
-pub reached_end : (a : LearnValues) (s : System) (prior : List KeptAnswer) (naming : Naming) (learned : Result Found LearnStop) (kept : List KeptAnswer) (f g : FilesState) (b z : SpawnerState) (o p e d : SinkState) (end : End) → IsOfSystem a s prior b z learned kept naming.names → IsEndOf a s naming learned kept f g o p e d end
-    → (r : Rows) → NothingFailed (f.faults, g.faults) (o.faults, p.faults) (e.faults, d.faults) → IsSoundSystem s b z → IsWithin (length (letters_of s)) a.extra a.max_states r → Gives r (answers_of end.kept.answers) → IsReachedOutcome (length r) end.outcome
-reached_end a s prior naming learned kept f g b z o p e d end found whole r none sound within gives =
-    by learned (reached_system a s prior b z learned kept naming.names r found sound within (subst (λ (ks : List KeptAnswer). Gives r (answers_of ks)) whole.told.kept_is gives)) whole.told.carries
-  where
-    unfailed : (role : Role) → end.outcome ≡ FileFault role → ⊥
-    unfailed role is =
-        elim (kept_or role) as (λ _. ⊥) [
-          | inl other ↦ none.of_files (counted_from f.faults whole.between.faults g.faults whole.saved.counts (whole.told.file_fault role is other))
-          | inr same ↦ none.of_files (counted_to f.faults whole.between.faults g.faults (failed_counted a.kept (letters_of s) naming.names kept f whole.between whole.was whole.saved.written (whole.told.may.failed (is ∙ ap (λ (r : Role). FileFault r) same))) whole.told.counts.0)
-        ]
+-- so a call comes to a model, or runs out of memory, or an instance said a bad line
+module _ (a : LearnValues) (s : System) (prior : List KeptAnswer) (naming : Naming) (learned : Result Found LearnStop) (kept : List KeptAnswer) (f g : FilesState) (b z : SpawnerState) (o p e d : SinkState) (end : End) (found : IsOfSystem a s prior b z learned kept naming.names) (whole : IsEndOf a s naming learned kept f g o p e d end) (r : Rows) (none : NothingFailed (f.faults, g.faults) (o.faults, p.faults) (e.faults, d.faults)) where
+  unfailed : (role : Role) → end.outcome ≡ FileFault role → ⊥
+  unfailed role is =
+      elim (kept_or role) as (λ _. ⊥) [
+        | inl other ↦ none.of_files (counted_from f.faults whole.between.faults g.faults whole.saved.counts (whole.told.file_fault role is other))
+        | inr same ↦ none.of_files (counted_to f.faults whole.between.faults g.faults (failed_counted a.kept (letters_of s) naming.names kept f whole.between whole.was whole.saved.written (whole.told.may.failed (is ∙ ap (λ (r : Role). FileFault r) same))) whole.told.counts.0)
+      ]
 
-    by : (x : Result Found LearnStop) → IsReached (length r) x → Carries x end → IsReachedOutcome (length r) end.outcome
-    by (Ok l) few carries =
-        told_reached (length r) l.model (refinements_of l.learner) end.outcome few carries.3
-        (λ is. ⊎_elim (λ (x : CountedFault o.faults p.faults). none.of_out x) (λ (x : CountedFault e.faults d.faults). none.of_err x) (whole.told.sink_fault is))
-        unfailed
-    by (Err stop) is carries = stands_as (IsReachedOutcome (length r)) (learn_outcome stop) end.outcome carries.2 (reached_stop (length r) stop is) tt
+  reached_by : (x : Result Found LearnStop) → IsReached (length r) x → Carries x end → IsReachedOutcome (length r) end.outcome
+  reached_by (Ok l) few carries =
+      told_reached (length r) l.model (refinements_of l.learner) end.outcome few carries.3
+      (λ is. ⊎_elim (λ (x : CountedFault o.faults p.faults). none.of_out x) (λ (x : CountedFault e.faults d.faults). none.of_err x) (whole.told.sink_fault is))
+      unfailed
+  reached_by (Err stop) is carries = stands_as (IsReachedOutcome (length r)) (learn_outcome stop) end.outcome carries.2 (reached_stop (length r) stop is) tt
+
+  bad_by : (x : Result Found LearnStop) → SaysBadLine a.workers x → Carries x end → IsReachedOutcome (length r) end.outcome ⊎ IsBadLine a.workers end.outcome
+  bad_by (Ok l) bad carries = absurd bad
+  bad_by (Err stop) bad carries = bad_line_told (length r) a.workers stop end.outcome bad carries.2
+
+  pub reached_end : IsSoundSystem s b z → IsWithin (length (letters_of s)) a.extra a.max_states r → Gives r (answers_of end.kept.answers) → IsReachedOutcome (length r) end.outcome
+  reached_end sound within gives =
+      reached_by learned (reached_system a s prior b z learned kept naming.names r found sound within (subst (λ (ks : List KeptAnswer). Gives r (answers_of ks)) whole.told.kept_is gives)) whole.told.carries
+
+  pub counted_end : IsUncountedSystem s b z → IsWithin (length (letters_of s)) a.extra a.max_states r → Gives r (answers_of end.kept.answers) → IsReachedOutcome (length r) end.outcome ⊎ IsBadLine a.workers end.outcome
+  counted_end uncounted within gives =
+      ⊎_elim
+      (λ (few : IsReached (length r) learned). inl (reached_by learned few whole.told.carries))
+      (λ (bad : SaysBadLine a.workers learned). bad_by learned bad whole.told.carries)
+      (counted_system a s prior b z learned kept naming.names r found uncounted within (subst (λ (ks : List KeptAnswer). Gives r (answers_of ks)) whole.told.kept_is gives))
 
 -- and has the model that was learned
 pub model_end : (kind : Kind) (a b k most : ℕ) (learned : Result Found LearnStop) (kept : List KeptAnswer) (end : End) → IfOk learned (GivesModel kind a b k most kept) → end.kept.answers ≡ kept → Carries learned end → IfSome end.model (HasModel kind a b k most end)
@@ -381,6 +416,7 @@ ends_learned a s prior naming learned kept f g b z o p e d end found gives stops
   model = model_end a.learner (length (letters_of s)) (length naming.names) a.extra a.max_states learned kept end gives whole.told.kept_is whole.told.carries;
   stops = subst (λ (ks : List KeptAnswer). IfErr learned (LearningStopsBy (length (letters_of s)) (count_of (declared_of s)) a.extra a.max_states (answers_of ks))) (sym whole.told.kept_is) stops;
   reached = reached_end a s prior naming learned kept f g b z o p e d end found whole;
+  counted = counted_end a s prior naming learned kept f g b z o p e d end found whole;
   told = subst (λ (ks : List KeptAnswer). IsEndOf a s naming learned ks f g o p e d end) (sym whole.told.kept_is) whole;
 }
 

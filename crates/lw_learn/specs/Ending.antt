@@ -14,7 +14,7 @@ use Rattle.lw_rounds.specs.declared.learned.Learned.{Learned as Found}
 use Rattle.lw_rounds.specs.declared.stops.LearnStop.{LearnStop}
 use Rattle.lw_workers.specs.Asking.{AnswersWords}
 use Rattle.lw_workers.specs.Machines.{IsWithin}
-use Rattle.lw_children.specs.Children.{IsSound}
+use Rattle.lw_children.specs.Children.{IsSound, IsUncounted}
 use Rattle.lw_system.specs.NewLines.{count_of}
 use Rattle.lw_outside.specs.Streams.{SinkState}
 use Rattle.lw_report.specs.Ends.{IsWithoutLearner}
@@ -25,18 +25,18 @@ use Rattle.lw_report.specs.Writing.{TakesAll, TakesSome, said_text}
 use Rattle.lw_report.specs.declared.«end».End.{End}
 use Rattle.lw_report.specs.declared.outcome.Outcome.TheVariants.{FileFault, NoMemory, SinkFault}
 use Rattle.lw_report.specs.declared.role.Role.{Role}
-use Rattle.lw_report.specs.declared.role.Role.TheVariants.{Answers, Kept, Model}
+use Rattle.lw_report.specs.declared.role.Role.TheVariants.{Kept}
 use Rattle.lw_learn.specs.Arguments.{LearnValues}
 use Rattle.lw_learn.specs.Asking.{IsWordlessTask, SaysWords}
 use Rattle.lw_learn.specs.Calls.{MadeWrites}
 use Rattle.lw_learn.specs.Findings.{IsOfSystem, LearningStopsBy}
-use Rattle.lw_learn.specs.Outcomes.{IsLearnedOutcome, IsReachedOutcome, ModelIsTold}
+use Rattle.lw_learn.specs.Outcomes.{IsBadLine, IsLearnedOutcome, IsReachedOutcome, ModelIsTold}
 use Rattle.lw_learn.specs.Saving.{HasSaved, IsSaved, KeptStand, MayTell}
 use Rattle.lw_learn.specs.Tasks.{ReadsTask}
 use Rattle.lw_system.specs.Systems.{declared_of, letters_of}
 use Rattle.lw_learn.specs.Unread.{IsUnreadAs, names_read}
 use Rattle.lw_system.specs.Reads.{MadeReads}
-use Rattle.lw_learn.specs.Writing.{NothingFailed, StaysBesides, TakesInTurn, WritesModel, model_line}
+use Rattle.lw_learn.specs.Writing.{CountsStay, IsWritable, NothingFailed, StaysBesides, TakesInTurn, WritesModel, model_line}
 use Rattle.lw_learn.specs.declared.saving.Saved.{Saved}
 use Rattle.lw_learn.specs.declared.saving.Saved.TheVariants as saving
 use Rattle.lw_system.specs.declared.system.System.{System}
@@ -93,11 +93,9 @@ pub record IsToldOf (a : LearnValues) (s : System) (naming : Naming) (learned : 
   pub in_turn : TakesInTurn (model_line (letters_of s) naming.names kept a.extra end.model
       end.refinements) (text_of (letters_of s) naming.names kept a.extra end.outcome) err_before.taken
       err_now.taken
-  pub quiet : IsLearnedOutcome end.outcome → (files_now.faults ≡ files_before.faults) × (out_now.faults ≡ out_before.faults) ×
-      (err_now.faults ≡ err_before.faults)
+  pub quiet : IsLearnedOutcome end.outcome → CountsStay files_before files_now out_before out_now err_before err_now
   -- a write that failed, of a file that is named or of a stream; or the kept answers' file failed before
-  pub role : (r : Role) → end.outcome ≡ FileFault r → ((r ≡ Model) × (a.model ≢ None)) ⊎
-      (((r ≡ Answers) × (a.answers ≢ None)) ⊎ (r ≡ Kept))
+  pub role : (r : Role) → end.outcome ≡ FileFault r → IsWritable a r
   pub file_fault : (r : Role) → end.outcome ≡ FileFault r → r ≢ Kept →
       CountedFault files_before.faults files_now.faults
   pub sink_fault : end.outcome ≡ SinkFault → CountedFault out_before.faults out_now.faults ⊎
@@ -123,6 +121,11 @@ abbrev pub IsSoundSystem : System → SpawnerState → SpawnerState → Type 0
 IsSoundSystem (Table m) before now = Unit {0}
 IsSoundSystem (Children c) before now = (¬ CountedFault before.faults now.faults) × ((links : List LinkState) → now.retired ≡ before.retired ++ links → All (IsSound c.outputs) links)
 
+-- no start failed, and no link that was retired counted a fault or an end
+abbrev pub IsUncountedSystem : System → SpawnerState → SpawnerState → Type 0
+IsUncountedSystem (Table m) before now = Unit {0}
+IsUncountedSystem (Children c) before now = (¬ CountedFault before.faults now.faults) × ((links : List LinkState) → now.retired ≡ before.retired ++ links → All IsUncounted links)
+
 -- a system was learned behind prior answers
 pub record EndsLearned (a : LearnValues) (s : System) (prior : List KeptAnswer) (files_before files_now : FilesState) (spawner_before spawner_now : SpawnerState) (out_before out_now : SinkState) (err_before err_now : SinkState) (end : End) : Type 0 where
   -- what was learned, the kept answers, the children, and why there is no model where there is none
@@ -143,6 +146,14 @@ pub record EndsLearned (a : LearnValues) (s : System) (prior : List KeptAnswer) 
       → IsWithin (length (letters_of s)) a.extra a.max_states r
       → Gives r (answers_of end.kept.answers)
       → IsReachedOutcome (length r) end.outcome
+  -- where links needn't tell what went over them, and nothing was counted, one comes so, or an instance said a bad line
+  pub counted :
+      (r : Rows)
+      → NothingFailed (files_before.faults, files_now.faults) (out_before.faults, out_now.faults) (err_before.faults, err_now.faults)
+      → IsUncountedSystem s spawner_before spawner_now
+      → IsWithin (length (letters_of s)) a.extra a.max_states r
+      → Gives r (answers_of end.kept.answers)
+      → IsReachedOutcome (length r) end.outcome ⊎ IsBadLine a.workers end.outcome
   pub told : IsEndOf a s naming learned end.kept.answers files_before files_now out_before out_now err_before err_now end
 
 -- the files say a system, prior answers and words that are asked first, and the system was learned; where there is a model each

@@ -4,7 +4,7 @@ use Rattle.lw_mealy.specs.Machine.{MealyMachine}
 use Rattle.lw_report.specs.Stops.{tell_outcome}
 use Rattle.lw_report.specs.declared.stops.TellStop.{TellStop}
 use Rattle.lw_report.specs.declared.outcome.Outcome.{Outcome}
-use Rattle.lw_report.specs.declared.outcome.Outcome.TheVariants.{Learned, NoMemory, FileFault, SinkFault}
+use Rattle.lw_report.specs.declared.outcome.Outcome.TheVariants.{BadLine, Learned, NoMemory, FileFault, SinkFault}
 use Rattle.lw_report.specs.declared.role.Role.TheVariants.{Model, Answers, Kept}
 
 -- what writing a model out comes to
@@ -50,6 +50,11 @@ IsBehindOut _ = ⊥
 abbrev pub IsLearnedOutcome : Outcome → Type 0
 IsLearnedOutcome (Learned model refinements) = Unit {0}
 IsLearnedOutcome _ = ⊥
+
+-- one of so many instances said a bad line
+abbrev pub IsBadLine : ℕ → Outcome → Type 0
+IsBadLine workers (BadLine instance line) = instance < workers
+IsBadLine workers _ = ⊥
 
 -- a model is told that came within fewer than n refinements, or memory ran out
 abbrev pub IsReachedOutcome : ℕ → Outcome → Type 0

@@ -12,7 +12,7 @@ use Rattle.lw_learn.specs.Writing.{StaysBesides}
 use Rattle.lw_learn.specs.declared.saving.Saved.{Saved}
 use Rattle.lw_learn.specs.declared.saving.Saved.TheVariants as saving
 
--- files were f and are g: the bytes were written under the name, or that failed, or memory ran out before it
+-- the bytes were written under the name, or that failed, or memory ran out before it
 abbrev pub IsWritten : List ℕ → (bytes : List ℕ) → (files_before files_now : FilesState) → Saved → Type 0
 IsWritten name bytes files_before files_now saving.Stand = Holds files_now.holds name bytes × (files_now.calls ≡ noted (write_call name false) files_before.calls) × (files_now.faults ≡ files_before.faults)
 IsWritten name bytes files_before files_now saving.Failed = (files_now.calls ≡ noted (write_call name true) files_before.calls) × CountedFault files_before.faults files_now.faults

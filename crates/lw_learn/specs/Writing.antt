@@ -1,5 +1,5 @@
 -- What `learn` writes: to files, to `out` and to `err`.
-use Rattle.std.specs.Prelude.{◌≡◌, ◌≢◌, ℕ, List, [], Option, Some, None}
+use Rattle.std.specs.Prelude.{◌≡◌, ◌≢◌, ◌⊎◌, ℕ, List, [], Option, Some, None}
 use Rattle.lw_words.specs.Cause.{CountedFault}
 use Rattle.lw_words.specs.declared.kept.KeptAnswer.{KeptAnswer}
 use Rattle.lw_mealy.specs.Machine.{MealyMachine}
@@ -9,11 +9,14 @@ use Rattle.lw_json.specs.declared.machine.Machine.{Machine}
 use Rattle.lw_learn.specs.Arguments.{LearnValues}
 use Rattle.lw_learn.specs.Calls.{MadeWrites}
 use Rattle.lw_learn.specs.Outcomes.{HasFiles, HasModelFile, IsBeforeOut, IsBehindOut}
-use Rattle.lw_outside.specs.Files.{Call, File, Holds, file_at}
+use Rattle.lw_outside.specs.Files.{Call, File, FilesState, Holds, file_at}
+use Rattle.lw_outside.specs.Streams.{SinkState}
 use Rattle.lw_report.specs.Text.{text_of}
 use Rattle.lw_report.specs.Writing.{TakesAll, TakesSome}
 use Rattle.lw_report.specs.declared.outcome.Outcome.{Outcome}
 use Rattle.lw_report.specs.declared.outcome.Outcome.TheVariants.{SinkFault, Learned}
+use Rattle.lw_report.specs.declared.role.Role.{Role}
+use Rattle.lw_report.specs.declared.role.Role.TheVariants.{Answers, Kept, Model}
 
 -- the text goes to the stream where no file is named for it, and nothing does where one is
 abbrev pub PutsAll : Option (List ℕ) → List ℕ → Option (List ℕ) → Option (List ℕ) → Type 0
@@ -67,10 +70,23 @@ pub record WritesModel (a : LearnValues) (kept : List KeptAnswer) (outcome : Out
   pub answers : HasFiles outcome → AnswersStand a.answers holds model kept
   pub out : WritesOut a.model (written_text model) outcome taken faults
 
+-- the text of an outcome under a machine's names
+abbrev pub told_text : Machine → List KeptAnswer → ℕ → Outcome → List ℕ
+told_text m kept extra outcome = text_of m.inputs m.outputs kept extra outcome
+
+-- the file in this role is one that the call writes: a file for the model, or for the answers, is named; or it is the kept answers'
+abbrev pub IsWritable : LearnValues → Role → Type 0
+IsWritable a role = ((role ≡ Model) × (a.model ≢ None)) ⊎ (((role ≡ Answers) × (a.answers ≢ None)) ⊎ (role ≡ Kept))
+
 -- the line about a model, or nothing where there is none
 abbrev pub model_line : (inputs outputs : List (List ℕ)) → List KeptAnswer → ℕ → Option MealyMachine → ℕ → List ℕ
 model_line inputs outputs kept extra None refinements = []
 model_line inputs outputs kept extra (Some h) refinements = text_of inputs outputs kept extra (Learned h refinements)
+
+-- no count of faults rose, of the files, the output and the error stream
+abbrev pub CountsStay : (files_before files_now : FilesState) (out_before out_now err_before err_now : SinkState) → Type 0
+CountsStay files_before files_now out_before out_now err_before err_now =
+    (files_now.faults ≡ files_before.faults) × (out_now.faults ≡ out_before.faults) × (err_now.faults ≡ err_before.faults)
 
 -- one text was taken in part, then the other
 pub record TakesInTurn (first second : List ℕ) (before now : Option (List ℕ)) : Type 0 where

@@ -11,12 +11,12 @@ ghost use Rattle.lw_report.specs.Text.{names_of as names_said, text_of};
 ghost use Rattle.lw_report.specs.Writing.{TakesAll, TakesSome};
 ghost use Rattle.lw_report.specs.declared.outcome.Outcome.{Outcome as Came};
 ghost use Rattle.lw_report.specs.declared.role.Role.{Role as Part};
-ghost use Rattle.lw_report.specs.declared.role.Role.TheVariants.{Answers as AnswersRole, Kept as KeptRole, Model as ModelRole};
+ghost use Rattle.lw_report.specs.declared.role.Role.TheVariants.{Kept as KeptRole};
 ghost use Rattle.lw_learn.specs.Ending.{IsEndOf, IsToldOf, end_outputs};
 ghost use Rattle.lw_learn.specs.Outcomes.{IsLearnedOutcome, ModelIsTold};
 ghost use Rattle.lw_learn.specs.Saving.{MayTell};
 ghost use Rattle.lw_system.specs.Systems.{declared_of, letters_of};
-ghost use Rattle.lw_learn.specs.Writing.{StaysBesides, TakesInTurn, WritesFiles, WritesOut};
+ghost use Rattle.lw_learn.specs.Writing.{CountsStay, IsWritable, StaysBesides, TakesInTurn, WritesFiles, WritesOut, told_text};
 ghost use Rattle.lw_learn.specs.declared.saving.Saved.TheVariants as Was;
 
 use crate::naming::names_of;
@@ -70,8 +70,7 @@ fn write_out<F: Files, O: Sink, E: Sink>(
     ensures beside { StaysBesides arguments.now.model arguments.now.answers None
         (F.state files.old).holds (F.state files.new).holds }
     ensures role { (role : Part) → result.outcome ≡ Came.FileFault role →
-        ((role ≡ ModelRole) × (arguments.now.model ≢ None)) ⊎
-        (((role ≡ AnswersRole) × (arguments.now.answers ≢ None)) ⊎ (role ≡ KeptRole)) }
+        IsWritable arguments.now role }
     ensures failed { (role : Part) → result.outcome ≡ Came.FileFault role → role ≢ KeptRole →
         CountedFault (F.state files.old).faults (F.state files.new).faults }
     ensures may { MayTell model.saved result.outcome }
@@ -79,20 +78,16 @@ fn write_out<F: Files, O: Sink, E: Sink>(
         (O.state out.new).faults ⊎ CountedFault (E.state err.old).faults
         (E.state err.new).faults }
     ensures said { ¬ CountedFault (E.state err.old).faults (E.state err.new).faults →
-        TakesAll (text_of model.machine.inputs model.machine.outputs
-        model.kept.answers arguments.now.extra
-        result.outcome) (E.state err.old).taken (E.state err.new).taken }
-    ensures part { TakesInTurn (text_of model.machine.inputs model.machine.outputs
-        model.kept.answers arguments.now.extra
+        TakesAll (told_text model.machine model.kept.answers arguments.now.extra result.outcome)
+        (E.state err.old).taken (E.state err.new).taken }
+    ensures part { TakesInTurn (told_text model.machine model.kept.answers arguments.now.extra
         (Came.Learned model.machine.mealy (refinements_of model.learner)))
-        (text_of model.machine.inputs model.machine.outputs
-        model.kept.answers arguments.now.extra result.outcome)
+        (told_text model.machine model.kept.answers arguments.now.extra result.outcome)
         (E.state err.old).taken (E.state err.new).taken }
     ensures reads { (F.state files.new).reads ≡ (F.state files.old).reads }
     ensures quiet { IsLearnedOutcome result.outcome →
-        ((F.state files.new).faults ≡ (F.state files.old).faults) ×
-        ((O.state out.new).faults ≡ (O.state out.old).faults) ×
-        ((E.state err.new).faults ≡ (E.state err.old).faults) }
+        CountsStay (F.state files.old) (F.state files.new) (O.state out.old) (O.state out.new)
+        (E.state err.old) (E.state err.new) }
     ensures counts { ((F.state files.old).faults ≤ (F.state files.new).faults) ×
         ((O.state out.old).faults ≤ (O.state out.new).faults) ×
         ((E.state err.old).faults ≤ (E.state err.new).faults) }

@@ -15,7 +15,7 @@ ghost use Rattle.lw_system.specs.Reads.{gained};
 ghost use Rattle.lw_learn.specs.Outcomes.{ModelIsTold, IsLearnedOutcome, told_outcome};
 ghost use Rattle.lw_learn.specs.Saving.{MayTell};
 ghost use Rattle.lw_learn.specs.declared.saving.Saved.TheVariants as Was;
-ghost use Rattle.lw_learn.specs.Writing.{PutsAll, PutsSome, StandsInFile, StaysBesides, TakesInTurn, WritesFiles, WritesOut};
+ghost use Rattle.lw_learn.specs.Writing.{CountsStay, IsWritable, PutsAll, PutsSome, StandsInFile, StaysBesides, TakesInTurn, WritesFiles, WritesOut, told_text};
 
 use crate::{LearnArguments, Saved};
 use lw_json::{Machine, answers_text, machine_text};
@@ -263,8 +263,7 @@ fn write_model<F: Files, O: Sink, E: Sink>(
     ensures beside { StaysBesides arguments.now.model arguments.now.answers None
         (F.state files.old).holds (F.state files.new).holds }
     ensures role { (role : Part) → result ≡ Err (Stop.File role) →
-        ((role ≡ ModelRole) × (arguments.now.model ≢ None)) ⊎
-        (((role ≡ AnswersRole) × (arguments.now.answers ≢ None)) ⊎ (role ≡ KeptRole)) }
+        IsWritable arguments.now role }
     ensures failed { (role : Part) → result ≡ Err (Stop.File role) → role ≢ KeptRole →
         CountedFault (F.state files.old).faults (F.state files.new).faults }
     ensures stood { OnOk result (model.now.saved ≡ Was.Stand) }
@@ -274,20 +273,17 @@ fn write_model<F: Files, O: Sink, E: Sink>(
         (O.state out.new).faults ⊎ CountedFault (E.state err.old).faults
         (E.state err.new).faults }
     ensures line { OnOk result
-        (TakesAll (text_of model.now.machine.inputs model.now.machine.outputs
-        model.now.kept.answers arguments.now.extra
+        (TakesAll (told_text model.now.machine model.now.kept.answers arguments.now.extra
         (Came.Learned model.now.machine.mealy refinements)) (E.state err.old).taken
         (E.state err.new).taken) }
-    ensures line_part { TakesSome (text_of model.now.machine.inputs model.now.machine.outputs
-        model.now.kept.answers arguments.now.extra
-        (Came.Learned model.now.machine.mealy refinements)) (E.state err.old).taken
-        (E.state err.new).taken }
+    ensures line_part { TakesSome (told_text model.now.machine model.now.kept.answers
+        arguments.now.extra (Came.Learned model.now.machine.mealy refinements))
+        (E.state err.old).taken (E.state err.new).taken }
     ensures unsaid { OnErr result (¬ CountedFault (E.state err.old).faults
         (E.state err.new).faults → (E.state err.new).taken ≡ (E.state err.old).taken) }
     ensures reads { (F.state files.new).reads ≡ (F.state files.old).reads }
-    ensures quiet { OnOk result (((F.state files.new).faults ≡ (F.state files.old).faults) ×
-        ((O.state out.new).faults ≡ (O.state out.old).faults) ×
-        ((E.state err.new).faults ≡ (E.state err.old).faults)) }
+    ensures quiet { OnOk result (CountsStay (F.state files.old) (F.state files.new)
+        (O.state out.old) (O.state out.new) (E.state err.old) (E.state err.new)) }
     ensures counts { ((F.state files.old).faults ≤ (F.state files.new).faults) ×
         ((O.state out.old).faults ≤ (O.state out.new).faults) ×
         ((E.state err.old).faults ≤ (E.state err.new).faults) }
@@ -324,8 +320,7 @@ pub(crate) fn tell_model<F: Files, O: Sink, E: Sink>(
     ensures beside { StaysBesides arguments.now.model arguments.now.answers None
         (F.state files.old).holds (F.state files.new).holds }
     ensures role { (role : Part) → result ≡ Came.FileFault role →
-        ((role ≡ ModelRole) × (arguments.now.model ≢ None)) ⊎
-        (((role ≡ AnswersRole) × (arguments.now.answers ≢ None)) ⊎ (role ≡ KeptRole)) }
+        IsWritable arguments.now role }
     ensures failed { (role : Part) → result ≡ Came.FileFault role → role ≢ KeptRole →
         CountedFault (F.state files.old).faults (F.state files.new).faults }
     ensures may { MayTell model.now.saved result }
@@ -333,20 +328,16 @@ pub(crate) fn tell_model<F: Files, O: Sink, E: Sink>(
         (O.state out.new).faults ⊎ CountedFault (E.state err.old).faults
         (E.state err.new).faults }
     ensures said { ¬ CountedFault (E.state err.old).faults (E.state err.new).faults →
-        TakesAll (text_of model.now.machine.inputs model.now.machine.outputs
-        model.now.kept.answers arguments.now.extra result) (E.state err.old).taken
-        (E.state err.new).taken }
-    ensures part { TakesInTurn (text_of model.now.machine.inputs model.now.machine.outputs
-        model.now.kept.answers arguments.now.extra
-        (Came.Learned model.now.machine.mealy refinements))
-        (text_of model.now.machine.inputs model.now.machine.outputs
-        model.now.kept.answers arguments.now.extra result) (E.state err.old).taken
-        (E.state err.new).taken }
+        TakesAll (told_text model.now.machine model.now.kept.answers arguments.now.extra result)
+        (E.state err.old).taken (E.state err.new).taken }
+    ensures part { TakesInTurn (told_text model.now.machine model.now.kept.answers
+        arguments.now.extra (Came.Learned model.now.machine.mealy refinements))
+        (told_text model.now.machine model.now.kept.answers arguments.now.extra result)
+        (E.state err.old).taken (E.state err.new).taken }
     ensures reads { (F.state files.new).reads ≡ (F.state files.old).reads }
     ensures quiet { IsLearnedOutcome result →
-        ((F.state files.new).faults ≡ (F.state files.old).faults) ×
-        ((O.state out.new).faults ≡ (O.state out.old).faults) ×
-        ((E.state err.new).faults ≡ (E.state err.old).faults) }
+        CountsStay (F.state files.old) (F.state files.new) (O.state out.old) (O.state out.new)
+        (E.state err.old) (E.state err.new) }
     ensures counts { ((F.state files.old).faults ≤ (F.state files.new).faults) ×
         ((O.state out.old).faults ≤ (O.state out.new).faults) ×
         ((E.state err.old).faults ≤ (E.state err.new).faults) }

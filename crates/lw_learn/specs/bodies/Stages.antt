@@ -29,7 +29,7 @@ use Rattle.lw_system.specs.declared.system.System.{System}
 use Rattle.lw_learn.specs.declared.task.Task.{Task}
 use Rattle.lw_learn.specs.declared.task.WordedTask.{WordedTask}
 
--- files were f and are g: what was to be read says the result, by reads that all gave bytes and counted no fault; or else it is
+-- what was to be read says the result, by reads that all gave bytes and counted no fault; or else it is
 -- why nothing can be learned
 pub record IsStage {T : Type 0} (a : LearnValues) (files_before files_now : FilesState) (Says : T → Type 0) (result : Result T UnreadState) : Type 0 where
   pub ok : IfOk result Says
