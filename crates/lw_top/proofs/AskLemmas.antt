@@ -25,7 +25,7 @@ wanted_ask a f b o e d end out r = record {
   why = NoMemory;
   kept = [];
   hint = [];
-  m = e;
+  err_hinted = e;
   came = inr (record { stop = record { file = a.source; stop = stop.NoMemory }; outcome = refl; cause = nothing_read a.source a.system f; nothing = refl; unstarted = refl; unput = refl });
   hinted = no_hint e;
   ended = record {

@@ -3,6 +3,7 @@ pub mod AskLemmas
 pub mod CommandLemmas
 pub mod CompareLemmas
 pub mod OptionLemmas
+pub mod PromiseLemmas
 pub mod RecheckLemmas
 pub mod RunLemmas
 pub mod ValueLemmas

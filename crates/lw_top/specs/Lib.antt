@@ -6,6 +6,7 @@ pub mod CompareCommand
 pub mod FilePairs
 pub mod LearnCommand
 pub mod Options
+pub mod Promises
 pub mod RecheckCommand
 pub mod Run
 pub mod ServeCommand

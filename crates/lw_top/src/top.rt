@@ -2,7 +2,9 @@
 ghost use Rattle.std.specs.Prelude.{◌≡◌, ◌≤◌, codes, false};
 ghost use Rattle.lw_report.specs.Outcomes.{status_of};
 ghost use Rattle.lw_report.specs.declared.outcome.Outcome.{Outcome as Came};
+ghost use Rattle.lw_top.specs.Call.{call_of};
 ghost use Rattle.lw_top.specs.CommandLine.{is_command, texts};
+ghost use Rattle.lw_top.specs.Promises.{KeptAreRuns, LearnedIsRight, ModelIsReached, YesIsRight};
 ghost use Rattle.lw_top.specs.Run.{IsRun, TellsOutcome, argument_outcome};
 ghost use Rattle.lw_top.specs.World.{seen};
 
@@ -52,10 +54,8 @@ pub fn without_arguments<E: Sink>(alloc: Global, err: &mut E) -> End
     refuse_arguments(alloc, ArgumentStop::NoMemory, err)
 }
 
-/// All that the program does. `arguments` are those of the command line, without the program's own name; the first names the
-/// command. Each command has its own contract; a call whose arguments aren't taken touches nothing but `err`, and
-/// the log that arguments of `learn` name. Nothing but `learn` writes to a log. May wait for a child and for a turn of its workers, and `serve` for its input.
-pub fn run<
+/// What `run` does, by the command that the arguments name.
+fn run_call<
     R: Threads + Wait + Sync + Drop,
     F: Files,
     P: Spawner,
@@ -97,4 +97,34 @@ pub fn run<
         Call::Compare(pair) => compare(alloc, pair.first(), pair.second(), files, out, err),
         Call::Recheck(values) => recheck(alloc, &values, files, spawner, out, err),
     }
+}
+
+/// All that the program does. `arguments` are those of the command line, without the program's own name; the first names the
+/// command. Each command has its own contract; a call whose arguments aren't taken touches nothing but `err`, and
+/// the log that arguments of `learn` name. Nothing but `learn` writes to a log. May wait for a child and for a turn of its workers, and `serve` for its input.
+pub fn run<
+    R: Threads + Wait + Sync + Drop,
+    F: Files,
+    P: Spawner,
+    I: Source,
+    O: Sink,
+    E: Sink,
+    L: LogFile,
+>(rt: R, alloc: Global, arguments: &[String], world: &mut World<F, P, I, O, E, Log<L>>) -> End
+    ensures learned { LearnedIsRight (call_of (texts arguments.now)) result }
+    ensures yes { YesIsRight (call_of (texts arguments.now)) (F.state world.old.files)
+        (F.state world.new.files) result }
+    ensures kept { KeptAreRuns (call_of (texts arguments.now))
+        (seen F.state P.state I.state O.state E.state (λ l. l.state) world.old)
+        (seen F.state P.state I.state O.state E.state (λ l. l.state) world.new) result }
+    ensures reached { ModelIsReached (call_of (texts arguments.now))
+        (seen F.state P.state I.state O.state E.state (λ l. l.state) world.old)
+        (seen F.state P.state I.state O.state E.state (λ l. l.state) world.new) result }
+    ensures ran { IsRun (texts arguments.now)
+        (seen F.state P.state I.state O.state E.state (λ l. l.state) world.old)
+        (seen F.state P.state I.state O.state E.state (λ l. l.state) world.new) result }
+    ensures unlogged { is_command (codes "learn") (texts arguments.now) ≡ false →
+        world.new.log ≡ world.old.log }
+{
+    run_call(rt, alloc, arguments, world)
 }

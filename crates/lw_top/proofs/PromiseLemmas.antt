@@ -1,0 +1,316 @@
+-- The promises, from what each command did.
+use Rattle.std.proofs.Common.{◌≡◌, ◌⊎◌, inl, inr, ⊎_elim, ℕ, ◌≤◌, List, [], length, Option, Some, None, IfSome, Result, Ok, Err, refl, sym, ap, ◌∙◌, subst, arith}
+use Rattle.lw_words.specs.Word.{answers_of}
+use Rattle.lw_words.specs.Cause.{CountedFault}
+use Rattle.lw_words.specs.declared.kept.KeptAnswer.{KeptAnswer}
+use Rattle.lw_words.specs.declared.stop.SulStop.TheVariants as sul
+use Rattle.lw_mealy.specs.Machine.{MealyMachine, Rows, IsMinimal}
+use Rattle.lw_separate.specs.Canonical.{IsCanonical}
+use Rattle.lw_certify.specs.Sure.{Sure}
+use Rattle.lw_cache.specs.declared.stops.AskStop.TheVariants as ask
+use Rattle.lw_json.specs.AnswersFile.{IsAnswersFile}
+use Rattle.lw_json.specs.MachineFile.{IsMachineFile}
+use Rattle.lw_outside.specs.Files.{File, FilesState}
+use Rattle.lw_outside.specs.Links.{LinkState, SpawnerState}
+use Rattle.lw_outside.specs.Streams.{SinkState}
+use Rattle.lw_log.specs.declared.log.LogState.{LogState}
+use Rattle.lw_log.specs.declared.log.LogState.TheVariants.{Closed, Open, Failed}
+use Rattle.lw_rounds.specs.Learner.{refinements_of}
+use Rattle.lw_rounds.specs.declared.learned.Learned.{Learned as Found}
+use Rattle.lw_rounds.specs.declared.learner.Kind.{Kind}
+use Rattle.lw_rounds.specs.declared.stops.LearnStop.{LearnStop}
+use Rattle.lw_rounds.specs.declared.stops.LearnStop.TheVariants as learn
+use Rattle.lw_children.specs.Children.{IsOfCommand}
+use Rattle.lw_children.specs.Keeping.{KeepsChildren}
+use Rattle.lw_system.specs.Spawners.{StartsAndRetires}
+use Rattle.lw_system.specs.Systems.{letters_of}
+use Rattle.lw_system.specs.declared.system.System.{System}
+use Rattle.lw_system.specs.declared.system.System.TheVariants as system
+use Rattle.lw_report.specs.Learnings.{HasModel, learn_outcome}
+use Rattle.lw_report.specs.Outcomes.{StandsOrWants}
+use Rattle.lw_report.specs.declared.«end».End.{End}
+use Rattle.lw_report.specs.declared.outcome.Outcome.{Outcome}
+use Rattle.lw_report.specs.declared.outcome.Outcome.TheVariants.{Learned, Trial, Yes, Served, No, Usage, BadFile, Alphabets, FileTooLong, Nondeterministic, NoMemory, SulFailed, Gone, BadLine, BadAsk, TooManyStates, SuiteTooLarge, FileFault, SourceFault, SinkFault, Compared, Asked, Rechecked, UnknownLetter, Unstarted}
+use Rattle.lw_check.specs.CheckRun.{IsCheckRun}
+use Rattle.lw_check.specs.Decision.{Pair}
+use Rattle.lw_learn.specs.Arguments.{LearnValues}
+use Rattle.lw_learn.specs.Asking.{IsWordless, IsWordlessTask}
+use Rattle.lw_learn.specs.Ending.{Carries, EndsRead, EndsUnread}
+use Rattle.lw_learn.specs.Findings.{IsOfSystem}
+use Rattle.lw_learn.specs.LearnRun.{IsLearnRun, SaysLog}
+use Rattle.lw_learn.specs.Outcomes.{IsLearnedOutcome, ModelIsTold}
+use Rattle.lw_learn.specs.Tasks.{ReadsTask}
+use Rattle.lw_learn.specs.Unread.{IsUnreadAs, IsUnreadBy}
+use Rattle.lw_learn.specs.Writing.{NothingFailed}
+use Rattle.lw_recheck.specs.RecheckRun.{HasAskedSystem, HasNone, IsRecheckRun}
+use Rattle.lw_trial.specs.TrialRun.{IsTrialOutcome, IsTrialRun}
+use Rattle.lw_top.specs.Call.{CallValues, Learn, Check, Trial as TrialCall, Serve, Ask, Compare, Recheck}
+use Rattle.lw_top.specs.CheckCommand.{CheckValues}
+use Rattle.lw_top.specs.Promises.{AnswersFixModel, AsksNothing, HandsModel, IsBeforeAsking, KeepsLearned, KeepsLinks, KeepsPrior, KeepsSystem, KeptAreRuns, LearnedIsRight, ModelIsReached, ModelIsRight, ReachesModel, YesIsRight}
+use Rattle.lw_top.specs.Run.{Runs}
+use Rattle.lw_top.specs.World.{WorldState}
+
+if_some : {X : Type 0} (P Q : X → Type 0) (o : Option X) → ((x : X) → P x → Q x) → IfSome o P → IfSome o Q
+if_some P Q None each holds = tt
+if_some P Q (Some x) each holds = each x holds
+
+-- what is certified is right
+right : (kind : Kind) (a b k most : ℕ) (end : End) (h : MealyMachine) → HasModel kind a b k most end h → ModelIsRight k (answers_of end.kept.answers) h
+right kind a b k most end h has =
+    let c = has.certified in
+    record {
+      complete = c.complete;
+      minimal = subst (λ (n : ℕ). IsMinimal n h.rows) (sym c.inputs) c.verdict.0;
+      canonical = subst (λ (n : ℕ). IsCanonical n h.rows h.rows) (sym c.inputs) c.canonical;
+      gives = c.verdict.1;
+      sure = subst (λ (n : ℕ). Sure n h.rows (answers_of end.kept.answers) k) (sym c.inputs) c.sure;
+    }
+
+-- no stop is told as a model
+not_learned : (stop : LearnStop) → ¬ IsLearnedOutcome (learn_outcome stop)
+not_learned (learn.Ask (ask.Clash clash)) is = is
+not_learned (learn.Ask (ask.Sul i sul.Failed)) is = is
+not_learned (learn.Ask (ask.Sul i (sul.BadLine line))) is = is
+not_learned (learn.Ask (ask.Sul i sul.Gone)) is = is
+not_learned (learn.Ask ask.NoMemory) is = is
+not_learned (learn.Crowd words) is = is
+not_learned (learn.TooLarge model number) is = is
+
+not_wanted : (why outcome : Outcome) → StandsOrWants why outcome → ¬ IsLearnedOutcome why → ¬ IsLearnedOutcome outcome
+not_wanted why outcome (inl is) not learned = not (subst IsLearnedOutcome is learned)
+not_wanted why outcome (inr wants) not learned = subst IsLearnedOutcome wants.1 learned
+
+carried : (learned : Result Found LearnStop) (end : End) → Carries learned end → (h : MealyMachine) (refinements : ℕ) → end.outcome ≡ Learned h refinements → end.model ≡ Some h
+carried (Ok l) end c h refinements is =
+    let told = subst (ModelIsTold l.model (refinements_of l.learner)) is c.3 in
+    c.0 ∙ ap (λ (m : MealyMachine). Some m) (sym told.0)
+carried (Err stop) end c h refinements is = absurd (not_wanted (learn_outcome stop) end.outcome c.2 (not_learned stop) (subst IsLearnedOutcome (sym is) tt))
+
+-- why no learning began, and what is kept then
+module _ (a : LearnValues) (f g : FilesState) (read : Option System) (kept : List KeptAnswer) where
+  unread_by : (outcome : Outcome) → IsUnreadBy a f g read kept outcome → IsBeforeAsking outcome × KeepsPrior a f kept
+  unread_by (BadFile role fault) is = (tt, inl is.5)
+  unread_by (FileTooLong role) is = (tt, inl is.4)
+  unread_by (FileFault role) is = (tt, inl is.4)
+  unread_by (Alphabets role) is = (tt, inl is.3)
+  unread_by (Nondeterministic clash) is = (tt, inr (is.0, g.reads, is.2))
+  unread_by NoMemory is = (tt, inl is.1)
+  unread_by (UnknownLetter word place) is = absurd is
+  unread_by (Learned model refinements) is = absurd is
+  unread_by (Trial tried) is = absurd is
+  unread_by (Yes states) is = absurd is
+  unread_by (Served served) is = absurd is
+  unread_by (No v) is = absurd is
+  unread_by Usage is = absurd is
+  unread_by (SulFailed i) is = absurd is
+  unread_by (Gone i) is = absurd is
+  unread_by (BadLine i line) is = absurd is
+  unread_by (BadAsk number) is = absurd is
+  unread_by (TooManyStates words) is = absurd is
+  unread_by (SuiteTooLarge states number) is = absurd is
+  unread_by SourceFault is = absurd is
+  unread_by SinkFault is = absurd is
+  unread_by (Compared c) is = absurd is
+  unread_by Asked is = absurd is
+  unread_by (Rechecked answers) is = absurd is
+  unread_by (Unstarted cause) is = absurd is
+
+  unread_as : (outcome : Outcome) → IsUnreadAs a f g read kept outcome → IsBeforeAsking outcome × KeepsPrior a f kept
+  unread_as outcome (inl is) = unread_by outcome is
+  unread_as outcome (inr wants) = (subst IsBeforeAsking (sym wants.0) tt, (unread_by wants.1.0 wants.1.1).1)
+
+wordless_kind : (file : Option (List ℕ)) (letters : List (List ℕ)) (f g : FilesState) (outcome : Outcome) → IsWordless file letters f g outcome → IsBeforeAsking outcome
+wordless_kind file letters f g (FileFault role) is = tt
+wordless_kind file letters f g (FileTooLong role) is = tt
+wordless_kind file letters f g (UnknownLetter word place) is = tt
+wordless_kind file letters f g NoMemory is = tt
+wordless_kind file letters f g (BadFile role fault) is = absurd is
+wordless_kind file letters f g (Alphabets role) is = absurd is
+wordless_kind file letters f g (Nondeterministic clash) is = absurd is
+wordless_kind file letters f g (Learned model refinements) is = absurd is
+wordless_kind file letters f g (Trial tried) is = absurd is
+wordless_kind file letters f g (Yes states) is = absurd is
+wordless_kind file letters f g (Served served) is = absurd is
+wordless_kind file letters f g (No v) is = absurd is
+wordless_kind file letters f g Usage is = absurd is
+wordless_kind file letters f g (SulFailed i) is = absurd is
+wordless_kind file letters f g (Gone i) is = absurd is
+wordless_kind file letters f g (BadLine i line) is = absurd is
+wordless_kind file letters f g (BadAsk number) is = absurd is
+wordless_kind file letters f g (TooManyStates words) is = absurd is
+wordless_kind file letters f g (SuiteTooLarge states number) is = absurd is
+wordless_kind file letters f g SourceFault is = absurd is
+wordless_kind file letters f g SinkFault is = absurd is
+wordless_kind file letters f g (Compared c) is = absurd is
+wordless_kind file letters f g Asked is = absurd is
+wordless_kind file letters f g (Rechecked answers) is = absurd is
+wordless_kind file letters f g (Unstarted cause) is = absurd is
+
+wordless : (a : LearnValues) (f g : FilesState) (read : Option System) (kept : List KeptAnswer) (outcome : Outcome) → IsWordlessTask a f g read kept outcome → IsBeforeAsking outcome × KeepsPrior a f kept
+wordless a f g read kept outcome w = (
+  ⊎_elim
+      (λ (is : outcome ≡ w.why). subst IsBeforeAsking (sym is) (wordless_kind a.words (letters_of w.system) w.between g w.why w.because))
+      (λ (is : outcome ≡ NoMemory). subst IsBeforeAsking (sym is) tt)
+      w.told,
+  inr (w.system, w.between.reads, w.task),
+)
+
+-- what is kept of children
+module _ (kind : Kind) (words letters : List (List ℕ)) (workers k most : ℕ) (prior : List KeptAnswer) (before now : SpawnerState) (learned : Result Found LearnStop) (kept : List KeptAnswer) (names : List (List ℕ)) where
+  keeps_links : (outputs : Option (List (List ℕ))) → IsOfCommand kind words letters outputs workers k most prior before now learned kept names
+      → (links : List LinkState) × StartsAndRetires words before now links × KeepsChildren letters outputs names prior kept links
+  keeps_links None is =
+      let of = is.1 in
+      (of.links, of.spawner, subst (λ (p : List KeptAnswer). KeepsChildren letters None names p kept of.links) (sym is.0) of.keeps)
+  keeps_links (Some outputs) is = let of = is.1 in (of.links, of.spawner, of.keeps)
+
+keeps_system : (a : LearnValues) (s : System) (prior : List KeptAnswer) (before now : SpawnerState) (learned : Result Found LearnStop) (kept : List KeptAnswer) (names : List (List ℕ)) → IsOfSystem a s prior before now learned kept names → KeepsSystem a.workers s prior before now kept
+keeps_system a (system.Table m) prior before now learned kept names is = (is.0, is.1.keeps)
+keeps_system a (system.Children c) prior before now learned kept names is =
+    let of = keeps_links a.learner c.words c.inputs a.workers a.extra a.max_states prior before now learned kept names c.outputs is in
+    record { links = of.0; spawner = of.1; names = names; runs = of.2 }
+
+below : (x y z : ℕ) → x ≤ y → y ≤ z → x ≤ z
+below x y z one two = omega (arith, one, two)
+
+-- what a log puts only adds to the count of faults
+log_counts : (name : Option (List ℕ)) (log : LogState) (before now : SinkState) → SaysLog name log before now → before.faults ≤ now.faults
+log_counts None log before now is = let e : now.faults ≡ before.faults = ap (λ (s : SinkState). s.faults) is in omega (arith, e)
+log_counts (Some name) Open before now is = let e : now.faults ≡ before.faults = ap (λ (s : SinkState). s.faults) is in omega (arith, e)
+log_counts (Some name) Closed before now is = is.counts
+log_counts (Some name) Failed before now is = is.counts
+
+module _ (a : LearnValues) (before now : WorldState) (end : End) (run : IsLearnRun a before.files now.files before.spawner now.spawner before.out now.out before.err now.err now.log end) where
+  abbrev Unread : Type 0
+  Unread = EndsUnread a before.files now.files before.spawner now.spawner before.out now.out before.err run.told end
+
+  abbrev Read : Type 0
+  Read = EndsRead a before.files now.files before.spawner now.spawner before.out now.out before.err run.told end
+
+  rises : run.told.faults ≤ now.err.faults
+  rises =
+      ⊎_elim
+      (λ (says : SaysLog a.log now.log run.told now.err). log_counts a.log now.log run.told now.err says)
+      (λ (wants : (end.outcome ≡ NoMemory) × (now.err ≡ run.told)). let e : now.err.faults ≡ run.told.faults = ap (λ (s : SinkState). s.faults) wants.1 in omega (arith, e))
+      run.log
+
+  why : (u : Unread) → IsBeforeAsking end.outcome × KeepsPrior a before.files end.kept.answers
+  why u =
+      ⊎_elim
+      (λ (is : IsUnreadAs a before.files u.between u.read end.kept.answers end.outcome). unread_as a before.files u.between u.read end.kept.answers end.outcome is)
+      (λ (is : IsWordlessTask a before.files u.between u.read end.kept.answers end.outcome). wordless a before.files u.between u.read end.kept.answers end.outcome is)
+      u.cause
+
+  nothing : Unread → AsksNothing a before now end
+  nothing u = let w = why u in record { outcome = w.0; model = u.model; unstarted = u.unstarted; kept = w.1 }
+
+  hands : HandsModel a.extra end
+  hands = ⊎_elim (λ (u : Unread). of_unread u) (λ (r : Read). of_read r) run.ends
+    where
+      of_unread : Unread → HandsModel a.extra end
+      of_unread u = record {
+        told = λ h refinements is. absurd (subst IsBeforeAsking is (why u).0);
+        right = subst (λ (o : Option MealyMachine). IfSome o (ModelIsRight a.extra (answers_of end.kept.answers))) (sym u.model) tt;
+      }
+
+      of_read : Read → HandsModel a.extra end
+      of_read r = record {
+        told = carried r.learned.learned end r.learned.told.told.carries;
+        right = if_some _ (ModelIsRight a.extra (answers_of end.kept.answers)) end.model (λ h has. right a.learner (length (letters_of r.system)) (length r.learned.naming.names) a.extra a.max_states end h has) r.learned.model;
+      }
+
+  keeps : KeepsLearned a before now end ⊎ AsksNothing a before now end
+  keeps = ⊎_elim (λ (u : Unread). inr (nothing u)) (λ (r : Read). inl (of_read r)) run.ends
+    where
+      of_read : Read → KeepsLearned a before now end
+      of_read r = record {
+        system = r.system;
+        prior = r.prior;
+        between = r.between;
+        task = r.task;
+        keeps = keeps_system a r.system r.prior before.spawner now.spawner r.learned.learned end.kept.answers r.learned.naming.names r.learned.found;
+      }
+
+  reaches : ReachesModel a before now end ⊎ AsksNothing a before now end
+  reaches = ⊎_elim (λ (u : Unread). inr (nothing u)) (λ (r : Read). inl (of_read r)) run.ends
+    where
+      of_read : Read → ReachesModel a before now end
+      of_read r = record {
+        system = r.system;
+        reached = λ m none sound within gives. r.learned.reached m (none_failed none) sound within gives;
+        counted = λ m none uncounted within gives. r.learned.counted m (none_failed none) uncounted within gives;
+      }
+        where
+          none_failed : NothingFailed (before.files.faults, now.files.faults) (before.out.faults, now.out.faults) (before.err.faults, now.err.faults) → NothingFailed (r.middle.faults, now.files.faults) (before.out.faults, now.out.faults) (before.err.faults, run.told.faults)
+          none_failed none = record {
+            of_files = subst (λ (n : ℕ). ¬ CountedFault n now.files.faults) (sym r.quiet) none.of_files;
+            of_out = none.of_out;
+            of_err = λ counted. none.of_err (below _ run.told.faults now.err.faults counted rises);
+          }
+
+-- of `trial`
+tried : (v : _) (out_before out_now err_before err_now : SinkState) (end : End) → IsTrialRun v out_before out_now err_before err_now end → HandsModel 1 end
+tried v out_before out_now err_before err_now end run = record {
+  told = λ h refinements is. absurd (subst IsTrialOutcome is run.kinds);
+  right = if_some _ (ModelIsRight 1 (answers_of end.kept.answers)) end.model (λ h has. right v.learner v.inputs 2 1 1024 end h has) run.model;
+}
+
+rechecked : (a : _) (f g : FilesState) (b z : SpawnerState) (o p e d : SinkState) (end : End) → IsRecheckRun a f g b z o p e d end → end.model ≡ None
+rechecked a f g b z o p e d end run =
+    ⊎_elim
+    (λ (asked : HasAskedSystem a f g b z o p e d end). asked.asks.ended.bare.model)
+    (λ (none : HasNone a f g b z o p e d end). none.bare.model)
+    run.came
+
+module _ (before now : WorldState) (end : End) where
+  pub learned : (call : Option CallValues) → Runs call before now end → LearnedIsRight call end
+  learned None r = r.ended.model
+  learned (Some (Learn a)) r = hands a before now end r.ran
+  learned (Some (Check a)) r = r.ran.no_model
+  learned (Some (TrialCall a)) r = tried a before.out now.out before.err now.err end r.ran
+  learned (Some (Serve model)) r = r.ran.no_model
+  learned (Some (Ask a)) r = r.ran.ended.model
+  learned (Some (Compare models)) r = r.ran.no_model
+  learned (Some (Recheck a)) r = rechecked a before.files now.files before.spawner now.spawner before.out now.out before.err now.err end r.ran
+
+  fixes : (a : CheckValues) → IsCheckRun a.model a.answers a.extra before.files now.files before.out now.out before.err now.err end → (states : ℕ) → end.outcome ≡ Yes states → AnswersFixModel a before.files now.files
+  fixes a run states is =
+      let s = run.sure states is in
+      record {
+        model = s.1.machine;
+        answers = s.1.read_answers;
+        between = s.1.middle;
+        model_file = s.1.model_file;
+        answers_file = s.1.answers_file;
+        sure = subst (λ (p : Pair). Sure p.mealy.inputs p.mealy.rows (answers_of p.kept) a.extra) s.1.pair s.2;
+      }
+
+  pub yes : (call : Option CallValues) → Runs call before now end → YesIsRight call before.files now.files end
+  yes None r = tt
+  yes (Some (Learn a)) r = tt
+  yes (Some (Check a)) r = fixes a r.ran
+  yes (Some (TrialCall a)) r = tt
+  yes (Some (Serve model)) r = tt
+  yes (Some (Ask a)) r = tt
+  yes (Some (Compare models)) r = tt
+  yes (Some (Recheck a)) r = tt
+
+  pub kept : (call : Option CallValues) → Runs call before now end → KeptAreRuns call before now end
+  kept None r = tt
+  kept (Some (Learn a)) r = keeps a before now end r.ran
+  kept (Some (Check a)) r = tt
+  kept (Some (TrialCall a)) r = r.ran.kept
+  kept (Some (Serve model)) r = tt
+  kept (Some (Ask a)) r = tt
+  kept (Some (Compare models)) r = tt
+  kept (Some (Recheck a)) r = tt
+
+  pub reached : (call : Option CallValues) → Runs call before now end → ModelIsReached call before now end
+  reached None r = tt
+  reached (Some (Learn a)) r = reaches a before now end r.ran
+  reached (Some (Check a)) r = tt
+  reached (Some (TrialCall a)) r = r.ran.reached
+  reached (Some (Serve model)) r = tt
+  reached (Some (Ask a)) r = tt
+  reached (Some (Compare models)) r = tt
+  reached (Some (Recheck a)) r = tt

@@ -1,0 +1,149 @@
+-- What the program promises, a sentence each: clauses of `run`, by the call that its arguments make.
+use Rattle.std.specs.Prelude.{◌≡◌, ◌⊎◌, ℕ, ◌≤◌, List, [], length, Option, Some, None, IfSome}
+use Rattle.lw_words.specs.Word.{Answer, answers_of}
+use Rattle.lw_words.specs.Cause.{CountedFault}
+use Rattle.lw_words.specs.declared.kept.KeptAnswer.{KeptAnswer}
+use Rattle.lw_mealy.specs.Machine.{Gives, MealyMachine, IsWithinLimits, Rows, IsMinimal}
+use Rattle.lw_separate.specs.Canonical.{IsCanonical}
+use Rattle.lw_suite.specs.Size.{greatest_suite, suite_size}
+use Rattle.lw_certify.specs.Sure.{Sure}
+use Rattle.lw_json.specs.AnswersFile.{IsAnswersFile}
+use Rattle.lw_json.specs.MachineFile.{IsMachineFile}
+use Rattle.lw_json.specs.declared.answers.Answers.{Answers}
+use Rattle.lw_json.specs.declared.machine.Machine.{Machine}
+use Rattle.lw_json.specs.declared.setup.Command.{Command}
+use Rattle.lw_outside.specs.Files.{File, FilesState}
+use Rattle.lw_outside.specs.Links.{LinkState, SpawnerState}
+use Rattle.lw_system.specs.Reading.{ReadsFile}
+use Rattle.lw_system.specs.Spawners.{StartsAndRetires}
+use Rattle.lw_system.specs.Systems.{letters_of}
+use Rattle.lw_system.specs.declared.system.System.{System}
+use Rattle.lw_system.specs.declared.system.System.TheVariants as system
+use Rattle.lw_workers.specs.Machines.{IsWithin, KeepsRuns}
+use Rattle.lw_children.specs.Keeping.{KeepsChildren}
+use Rattle.lw_report.specs.declared.«end».End.{End}
+use Rattle.lw_report.specs.declared.outcome.Outcome.{Outcome}
+use Rattle.lw_report.specs.declared.outcome.Outcome.TheVariants.{Alphabets, BadFile, FileFault, FileTooLong, Learned, NoMemory, Nondeterministic, UnknownLetter, Yes}
+use Rattle.lw_learn.specs.Arguments.{LearnValues}
+use Rattle.lw_learn.specs.Ending.{IsSoundSystem, IsUncountedSystem}
+use Rattle.lw_learn.specs.Outcomes.{IsBadLine, IsReachedOutcome}
+use Rattle.lw_learn.specs.Tasks.{ReadsTask}
+use Rattle.lw_learn.specs.Writing.{NothingFailed}
+use Rattle.lw_trial.specs.TrialRun.{IsReachedTrial, drawn_machine}
+use Rattle.lw_top.specs.Call.{CallValues, Learn, Check, Trial, Serve, Ask, Compare, Recheck}
+use Rattle.lw_top.specs.CheckCommand.{CheckValues}
+use Rattle.lw_top.specs.World.{WorldState}
+
+-- a model is complete, minimal and in canonical form, and gives the answers; and every machine of at most k states more that
+-- gives them equals it on all words
+pub record ModelIsRight (k : ℕ) (ks : List Answer) (h : MealyMachine) : Type 0 where
+  pub complete : IsWithinLimits h
+  pub minimal : IsMinimal h.inputs h.rows
+  pub canonical : IsCanonical h.inputs h.rows h.rows
+  pub gives : Gives h.rows ks
+  pub sure : Sure h.inputs h.rows ks k
+
+-- the model that is told is the one that is handed back, and that is right by the kept answers
+pub record HandsModel (k : ℕ) (end : End) : Type 0 where
+  pub told : (h : MealyMachine) (refinements : ℕ) → end.outcome ≡ Learned h refinements → end.model ≡ Some h
+  pub right : IfSome end.model (ModelIsRight k (answers_of end.kept.answers))
+
+-- a learned model is right, of `learn` for the extra states of its arguments, and of `trial` for one; other calls have none
+abbrev pub LearnedIsRight : Option CallValues → End → Type 0
+LearnedIsRight (Some (Learn a)) end = HandsModel a.extra end
+LearnedIsRight (Some (Trial a)) end = HandsModel 1 end
+LearnedIsRight (Some (Check a)) end = end.model ≡ None
+LearnedIsRight (Some (Serve model)) end = end.model ≡ None
+LearnedIsRight (Some (Ask a)) end = end.model ≡ None
+LearnedIsRight (Some (Compare models)) end = end.model ≡ None
+LearnedIsRight (Some (Recheck a)) end = end.model ≡ None
+LearnedIsRight None end = end.model ≡ None
+
+-- a model and answers are those of the two files as they were read, one after the other; and every machine of at most so many
+-- states more than the model that gives the answers equals it on all words
+pub record AnswersFixModel (a : CheckValues) (before now : FilesState) : Type 0 where
+  pub model : Machine
+  pub answers : Answers
+  pub between : List File
+  pub model_file : ReadsFile IsMachineFile a.model before.holds before.reads between model
+  pub answers_file : ReadsFile IsAnswersFile a.answers before.holds between now.reads answers
+  pub sure : Sure model.mealy.inputs model.mealy.rows (answers_of answers.kept.answers) a.extra
+
+-- a yes is right
+abbrev pub YesIsRight : Option CallValues → FilesState → FilesState → End → Type 0
+YesIsRight (Some (Check a)) before now end = (states : ℕ) → end.outcome ≡ Yes states → AnswersFixModel a before now
+YesIsRight _ before now end = Unit {0}
+
+-- what is kept of children, behind prior answers: one link for each that was started, all retired in that order; and what went
+-- over each, where it tells that
+pub record KeepsLinks (c : Command) (prior : List KeptAnswer) (before now : SpawnerState) (kept : List KeptAnswer) : Type 0 where
+  pub links : List LinkState
+  pub spawner : StartsAndRetires c.words before now links
+  pub names : List (List ℕ)
+  pub runs : KeepsChildren c.inputs c.outputs names prior kept links
+
+-- what is kept of a system: the runs of instances of a table's machine, or of children
+abbrev pub KeepsSystem : ℕ → System → (prior : List KeptAnswer) → (before now : SpawnerState) → (kept : List KeptAnswer) → Type 0
+KeepsSystem workers (system.Table m) prior before now kept = (now ≡ before) × KeepsRuns m.mealy workers prior kept
+KeepsSystem workers (system.Children c) prior before now kept = KeepsLinks c prior before now kept
+
+-- the files said a system and earlier answers, and it was learned; the kept answers are these and its runs
+pub record KeepsLearned (a : LearnValues) (before now : WorldState) (end : End) : Type 0 where
+  pub system : System
+  pub prior : List KeptAnswer
+  pub between : List File
+  pub task : ReadsTask a before.files.holds before.files.reads between system prior
+  pub keeps : KeepsSystem a.workers system prior before.spawner now.spawner end.kept.answers
+
+-- a file was refused, earlier answers clash, or memory ran out
+abbrev pub IsBeforeAsking : Outcome → Type 0
+IsBeforeAsking (BadFile role fault) = Unit {0}
+IsBeforeAsking (Alphabets role) = Unit {0}
+IsBeforeAsking (FileTooLong role) = Unit {0}
+IsBeforeAsking (FileFault role) = Unit {0}
+IsBeforeAsking (UnknownLetter word place) = Unit {0}
+IsBeforeAsking (Nondeterministic clash) = Unit {0}
+IsBeforeAsking NoMemory = Unit {0}
+IsBeforeAsking _ = ⊥
+
+-- nothing is kept, or the earlier answers that the files said
+abbrev pub KeepsPrior : LearnValues → FilesState → List KeptAnswer → Type 0
+KeepsPrior a before kept = (kept ≡ []) ⊎ ((s : System) × (between : List File) × ReadsTask a before.holds before.reads between s kept)
+
+-- so nothing was asked, no child started, and nothing learned
+pub record AsksNothing (a : LearnValues) (before now : WorldState) (end : End) : Type 0 where
+  pub outcome : IsBeforeAsking end.outcome
+  pub model : end.model ≡ None
+  pub unstarted : now.spawner ≡ before.spawner
+  pub kept : KeepsPrior a before.files end.kept.answers
+
+-- the kept answers are exactly the finished runs of the instances, behind those of a file of earlier answers
+abbrev pub KeptAreRuns : Option CallValues → WorldState → WorldState → End → Type 0
+KeptAreRuns (Some (Learn a)) before now end = KeepsLearned a before now end ⊎ AsksNothing a before now end
+KeptAreRuns (Some (Trial a)) before now end = KeepsRuns (drawn_machine a) a.workers [] end.kept.answers
+KeptAreRuns _ before now end = Unit {0}
+
+-- of the system that was learned: where no file, stream or start of a child failed, and some machine of n states that gives the
+-- kept answers is within the limits, a model comes within n - 1 refinements, or memory runs out, wherever each link tells that nothing
+-- bad went over it; and where no link counted a fault or an end, told or not, one comes so, or an instance said a bad line
+pub record ReachesModel (a : LearnValues) (before now : WorldState) (end : End) : Type 0 where
+  pub system : System
+  pub reached : (m : Rows)
+      → NothingFailed (before.files.faults, now.files.faults) (before.out.faults, now.out.faults) (before.err.faults, now.err.faults)
+      → IsSoundSystem system before.spawner now.spawner
+      → IsWithin (length (letters_of system)) a.extra a.max_states m
+      → Gives m (answers_of end.kept.answers)
+      → IsReachedOutcome (length m) end.outcome
+  pub counted : (m : Rows)
+      → NothingFailed (before.files.faults, now.files.faults) (before.out.faults, now.out.faults) (before.err.faults, now.err.faults)
+      → IsUncountedSystem system before.spawner now.spawner
+      → IsWithin (length (letters_of system)) a.extra a.max_states m
+      → Gives m (answers_of end.kept.answers)
+      → IsReachedOutcome (length m) end.outcome ⊎ IsBadLine a.workers end.outcome
+
+-- a model is reached, of `trial` where the suite of the drawn machine isn't too large
+abbrev pub ModelIsReached : Option CallValues → WorldState → WorldState → End → Type 0
+ModelIsReached (Some (Learn a)) before now end = ReachesModel a before now end ⊎ AsksNothing a before now end
+ModelIsReached (Some (Trial a)) before now end =
+    suite_size a.states a.inputs 1 ≤ greatest_suite → ¬ CountedFault before.out.faults now.out.faults → ¬ CountedFault before.err.faults now.err.faults → IsReachedTrial a.states end.outcome
+ModelIsReached _ before now end = Unit {0}
