@@ -4,9 +4,10 @@ use Rattle.std.proofs.lemmas.Bool.{cases_order}
 use Rattle.lw_mealy.specs.Machine.{Rows, IsMachine, next, output}
 use Rattle.lw_separate.specs.bodies.Levels.{AreClassesOf, MeetsAt, PartsAt, StayTogether, GoApart, IsLeastTogether, AreRefined}
 use Rattle.lw_separate.specs.bodies.Renaming.{NamesStates}
-use Rattle.lw_separate.proofs.SearchLemmas.{last_or_before, length-push}
+use Rattle.lw_separate.proofs.SearchLemmas.{length-push}
 use Rattle.lw_separate.proofs.AccessLemmas.{pushed}
 use Rattle.lw_separate.proofs.CrowdLemmas.{same_or_not}
+use Rattle.lw_separate.proofs.Decided.{first_below}
 use Rattle.lw_separate.proofs.LevelLemmas.{refined_classes, refined_rises, settled, total, total_below, total_less, one_class}
 
 -- a list of what there is for each number below n
@@ -16,22 +17,6 @@ collected {X} P d (suc n) each =
     let r = collected P d n (λ k lt. each k (omega arith)) in
     let x = each n (omega arith) in
     (r.0 ++ x.0 ∷ [], omega (arith, length-push r.0 x.0, r.1), pushed P r.0 x.0 d r.2 (subst (λ (k : ℕ). P k x.0) (sym r.1) x.1))
-
--- the least number below n of which P holds, or Q holds of all
-abbrev FirstBelow : (ℕ → Type 0) → (ℕ → Type 0) → ℕ → Type 0
-FirstBelow P Q n = ((x : ℕ) × (x < n) × P x × ((y : ℕ) → y < x → Q y)) ⊎ ((y : ℕ) → y < n → Q y)
-
-first_below : (P Q : ℕ → Type 0) (n : ℕ) → ((x : ℕ) → x < n → P x ⊎ Q x) → FirstBelow P Q n
-first_below P Q zero each = inr (λ y lt. absurd (omega arith))
-first_below P Q (suc n) each =
-    ⊎_elim
-    (λ (f : (x : ℕ) × (x < n) × P x × ((y : ℕ) → y < x → Q y)). inl (f.0, omega (arith, f.1), f.2, f.3))
-    (λ (none : (y : ℕ) → y < n → Q y).
-    ⊎_elim
-    (λ (here : P n). inl (n, omega arith, here, none))
-    (λ (here : Q n). inr (λ y lt. ⊎_elim (λ (l : y < n). none y l) (λ (s : y ≡ n). subst Q (sym s) here) (last_or_before y n (omega arith))))
-    (each n (omega arith)))
-    (first_below P Q n (λ x lt. each x (omega arith)))
 
 equal_or_not : (j k : ℕ) → (j ≡ k) ⊎ (j ≢ k)
 equal_or_not j k = ⊎_elim (λ (s : j ≡ k). inl s) (λ (o : (j < k) ⊎ (k < j)). inr (λ s. ⊎_elim (λ (l : j < k). omega arith) (λ (l : k < j). omega arith) o)) (cases_order j k)

@@ -7,7 +7,7 @@ use Rattle.lw_mealy.specs.Machine.{Rows, IsMachine, next}
 use Rattle.lw_separate.specs.bodies.Search.{IsSearch}
 use Rattle.lw_separate.proofs.SearchLemmas.{word_done, letter_known, letter_found, length-push}
 
-known_or_new : (o : Option ℕ) → ((k : ℕ) × (o ≡ Some k)) ⊎ (o ≡ None)
+pub known_or_new : (o : Option ℕ) → ((k : ℕ) × (o ≡ Some k)) ⊎ (o ≡ None)
 known_or_new None = inr refl
 known_or_new (Some k) = inl (k, refl)
 

@@ -4,9 +4,14 @@ pub mod CanonicalLemmas
 pub mod ClassLemmas
 pub mod ColumnLemmas
 pub mod CrowdLemmas
+pub mod Decided
 pub mod Existence
+pub mod ExistenceAccess
+pub mod ExistenceAlike
 pub mod ExistenceLevels
 pub mod ExistenceSearch
+pub mod ExistenceWalk
+pub mod ExistenceWords
 pub mod LevelLemmas
 pub mod MergeLemmas
 pub mod OneLemmas

@@ -59,6 +59,11 @@ abbrev pub OneLeastAccess : Type 0
 OneLeastAccess = (a : ℕ) (m : Rows) (u v : List (List ℕ))
     → AreLeastAccess a m u → AreLeastAccess a m v → u ≡ v
 
+-- a machine whose states are all reached has a list of least access words
+abbrev pub SomeLeastAccess : Type 0
+SomeLeastAccess = (a : ℕ) (m : Rows) → IsMachine a m
+    → ((q : ℕ) → q < length m → Reached a m q) → (list : List (List ℕ)) × AreLeastAccess a m list
+
 -- The canonical form of a machine: minimal, and numbered breadth first in letter order.
 -- Source: Moore (1956).
 

@@ -1,7 +1,7 @@
 -- The words that separate all states of a machine.
 -- Source: the set W of Vasilevskii (1973) and Chow (1978).
 use Rattle.std.specs.Prelude.{◌≡◌, ◌≢◌, ℕ, ◌<◌, ◌⊎◌, List, [], length, slice_index_or}
-use Rattle.lw_mealy.specs.Machine.{Rows, out}
+use Rattle.lw_mealy.specs.Machine.{Rows, out, Differ}
 use Rattle.lw_separate.specs.Canonical.{IsLeastSeparating}
 
 -- the first pair of states comes before the second: by the first state, then by the second
@@ -45,3 +45,9 @@ pub record IsSeparators (a : ℕ) (m : Rows) (list : List (List ℕ)) : Type 0 w
 abbrev pub OneSeparators : Type 0
 OneSeparators = (a : ℕ) (m : Rows) (u v : List (List ℕ))
     → IsSeparators a m u → IsSeparators a m v → u ≡ v
+
+-- where any two states differ there is such a list
+abbrev pub SomeSeparators : Type 0
+SomeSeparators = (a : ℕ) (m : Rows)
+    → ((p q : ℕ) → p < q → q < length m → Differ a m p q)
+    → (list : List (List ℕ)) × IsSeparators a m list

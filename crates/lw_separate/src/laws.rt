@@ -1,6 +1,6 @@
 //! Laws about the definitions alone, with no code: what the calls answer is there, and is one.
-ghost use Rattle.lw_separate.specs.Canonical.{OneCanonical, SomeCanonical, OneAccessWord, OneSeparatingWord, OneLeastAccess};
-ghost use Rattle.lw_separate.specs.Separators.{OneSeparators};
+ghost use Rattle.lw_separate.specs.Canonical.{OneCanonical, SomeCanonical, OneAccessWord, OneSeparatingWord, OneLeastAccess, SomeLeastAccess};
+ghost use Rattle.lw_separate.specs.Separators.{OneSeparators, SomeSeparators};
 
 /// Two canonical machines of one machine are one.
 pub fn canonical_is_unique()
@@ -28,7 +28,17 @@ pub fn least_access_is_unique()
     ensures { OneLeastAccess }
 {}
 
+/// A machine whose states are all reached has a list of the least access words.
+pub fn least_access_exists()
+    ensures { SomeLeastAccess }
+{}
+
 /// Two lists of separators of a machine are one.
 pub fn separators_are_unique()
     ensures { OneSeparators }
+{}
+
+/// A machine any two of whose states differ has a list of separators.
+pub fn separators_exist()
+    ensures { SomeSeparators }
 {}

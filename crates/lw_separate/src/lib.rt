@@ -16,8 +16,8 @@ pub use access::{access_words, least_access};
 pub use alike_states::first_alike;
 pub use canonical_form::{canonical, renumbered};
 pub use laws::{
-    access_word_is_unique, canonical_exists, canonical_is_unique, least_access_is_unique,
-    separating_word_is_unique, separators_are_unique,
+    access_word_is_unique, canonical_exists, canonical_is_unique, least_access_exists,
+    least_access_is_unique, separating_word_is_unique, separators_are_unique, separators_exist,
 };
 pub use separating_word::separating;
 pub use separator_words::separators;

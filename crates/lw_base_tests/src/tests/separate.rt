@@ -5,8 +5,8 @@ ghost use Rattle.lw_mealy.specs.Machine.{IsMinimal};
 use lw_mealy::Mealy;
 use lw_separate::{
     access_word_is_unique, access_words, canonical, canonical_exists, canonical_is_unique,
-    first_alike, least_access, least_access_is_unique, renumbered, separating,
-    separating_word_is_unique, separators, separators_are_unique,
+    first_alike, least_access, least_access_exists, least_access_is_unique, renumbered, separating,
+    separating_word_is_unique, separators, separators_are_unique, separators_exist,
 };
 use lw_words::{Word, Words};
 use rand_core::SeedableRng;
@@ -105,7 +105,9 @@ fn calls_the_laws() {
     access_word_is_unique();
     separating_word_is_unique();
     least_access_is_unique();
+    least_access_exists();
     separators_are_unique();
+    separators_exist();
 }
 
 /// A chain of states that tells its last state alone.
