@@ -3,7 +3,7 @@
 use Rattle.std.specs.Prelude.{◌≡◌, ℕ, zero, suc, ◌+◌, ◌≤◌, List, [], ◌∷◌, ◌++◌, length, map}
 use Rattle.std.specs.List.{All, flat_map, range_with_len}
 use Rattle.lw_words.specs.Word.{IsWord}
-use Rattle.lw_mealy.specs.Machine.{Rows}
+use Rattle.lw_mealy.specs.Machine.{Rows, IsMachine, IsMinimal}
 use Rattle.lw_separate.specs.Canonical.{AreLeastAccess}
 use Rattle.lw_separate.specs.Separators.{IsSeparators}
 use Rattle.lw_suite.specs.Size.{suite_size}
@@ -38,6 +38,11 @@ pub record IsSuite (a : ℕ) (m : Rows) (k : ℕ) (suite : List (List ℕ)) : Ty
 -- a machine has one suite at most
 abbrev pub OneSuite : Type 0
 OneSuite = (a : ℕ) (m : Rows) (k : ℕ) (s t : List (List ℕ)) → IsSuite a m k s → IsSuite a m k t → s ≡ t
+
+-- a minimal machine has a suite for each number of extra states
+abbrev pub SomeSuite : Type 0
+SomeSuite = (a : ℕ) (m : Rows) (k : ℕ) → IsMachine a m → IsMinimal a m
+    → (suite : List (List ℕ)) × IsSuite a m k suite
 
 -- the words of a machine's suite are words over its letters
 abbrev pub SuiteIsOfWords : Type 0

@@ -8,6 +8,6 @@ mod places;
 mod size;
 mod suite;
 
-pub use laws::{suite_is_counted, suite_is_of_words, suite_is_unique};
+pub use laws::{suite_exists, suite_is_counted, suite_is_of_words, suite_is_unique};
 pub use size::{GREATEST_SUITE, suite_size};
 pub use suite::{CHUNK, Suite, SuiteFault};

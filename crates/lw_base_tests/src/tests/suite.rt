@@ -6,7 +6,7 @@ mod plain;
 use crate::tests::{machine, of_one_letter, of_one_state};
 use lw_mealy::Mealy;
 use lw_separate::canonical;
-use lw_suite::{Suite, SuiteFault, suite_is_of_words, suite_is_unique, suite_size};
+use lw_suite::{Suite, SuiteFault, suite_exists, suite_is_of_words, suite_is_unique, suite_size};
 use lw_words::{Word, Words};
 use rand_core::SeedableRng;
 use rand_core::utils::NextWord;
@@ -72,6 +72,7 @@ fn a_suite_in_three_chunks(rt: HostRuntime) {
 #[test]
 fn laws_have_no_code() {
     suite_is_unique();
+    suite_exists();
     suite_is_of_words();
 }
 
