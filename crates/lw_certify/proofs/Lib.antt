@@ -1,6 +1,8 @@
 pub mod CertifyLemmas
 pub mod Cover
 pub mod CoverLemmas
+pub mod Decides
+pub mod ExistenceVerdict
 pub mod Known
 pub mod Meets
 pub mod OneVerdict

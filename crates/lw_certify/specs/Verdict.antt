@@ -1,7 +1,7 @@
 -- What a model and kept answers come to: the first of six that applies.
 use Rattle.std.specs.Prelude.{◌≡◌, ℕ, ◌<◌, ◌≤◌, List, length, slice_index_or, []}
 use Rattle.std.specs.List.{All}
-use Rattle.lw_words.specs.Word.{Answer, answer_at}
+use Rattle.lw_words.specs.Word.{Answer, answer_at, IsWhole}
 use Rattle.lw_words.specs.First.{FailsFirst}
 use Rattle.lw_mealy.specs.Machine.{Rows, IsMachine, answer, Reached, IsMinimal, Gives}
 use Rattle.lw_mealy.specs.Difference.{DifferFirst}
@@ -57,3 +57,8 @@ SureIsSure = (a : ℕ) (h : Rows) (ks : List Answer) (k : ℕ) → IsMachine a h
 -- a machine and answers have one verdict at most
 abbrev pub OneVerdict : Type 0
 OneVerdict = (a : ℕ) (h : Rows) (ks : List Answer) (k : ℕ) (v w : Verdict) → IsVerdict a h ks k v → IsVerdict a h ks k w → v ≡ w
+
+-- a machine and answers with an output for each letter have a verdict
+abbrev pub SomeVerdict : Type 0
+SomeVerdict = (a : ℕ) (h : Rows) (ks : List Answer) (k : ℕ) → IsMachine a h → All IsWhole ks
+    → (v : Verdict) × IsVerdict a h ks k v

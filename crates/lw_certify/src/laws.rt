@@ -1,7 +1,9 @@
 //! Laws about the definitions alone, with no code.
 ghost use Rattle.lw_certify.specs.Covers.{CoversIsSure, SuiteCovers};
-ghost use Rattle.lw_certify.specs.Verdict.{OneVerdict, SureIsSure};
+ghost use Rattle.lw_certify.specs.Verdict.{OneVerdict, SomeVerdict, SureIsSure};
 ghost use Rattle.lw_certify.specs.Worked.{AsWorked};
+
+use lw_suite::suite_exists;
 
 /// Answers that cover a machine fix it, whatever suite they came by (Dorofeeva, El-Fakih and Koufareva 2005).
 pub fn covers_is_sure()
@@ -27,3 +29,10 @@ pub fn sure_is_not_vacuous()
 pub fn verdict_is_unique()
     ensures { OneVerdict }
 {}
+
+/// A machine and answers with an output for each letter have a verdict, whatever their numbers.
+pub fn verdict_exists()
+    ensures { SomeVerdict }
+{
+    suite_exists();
+}

@@ -8,6 +8,7 @@ mod verdict;
 
 pub use certificate::certify;
 pub use laws::{
-    covers_is_sure, suite_covers, sure_is_not_vacuous, sure_is_sure, verdict_is_unique,
+    covers_is_sure, suite_covers, sure_is_not_vacuous, sure_is_sure, verdict_exists,
+    verdict_is_unique,
 };
 pub use verdict::Verdict;

@@ -3,7 +3,9 @@ ghost use Rattle.std.specs.Prelude.{◌≤◌};
 
 use crate::tests::{of_one_letter, of_one_state};
 use lw_cache::Cache;
-use lw_certify::{Verdict, certify, sure_is_not_vacuous, sure_is_sure, verdict_is_unique};
+use lw_certify::{
+    Verdict, certify, sure_is_not_vacuous, sure_is_sure, verdict_exists, verdict_is_unique,
+};
 use lw_mealy::Mealy;
 use std::alloc::Global;
 use std::process::Abort;
@@ -63,4 +65,5 @@ fn models_that_nothing_makes_sure(rt: HostRuntime) {
     sure_is_sure();
     sure_is_not_vacuous();
     verdict_is_unique();
+    verdict_exists();
 }
