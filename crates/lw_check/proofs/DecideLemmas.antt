@@ -33,10 +33,10 @@ clash_within ks c n f lt none =
 clash_not_nothing : (ks : List Answer) (c : Found) → IsFirstClash ks c → NothingClashes ks → ⊥
 clash_not_nothing ks c f none = clash_within ks c (length ks) f f.within (rw (take_all (length ks) ks (omega arith)) none)
 
-begins_with : (k l : Answer) (p : ℕ) → ClashAt k l p → IsPrefix (take (p + 1) l.word) k.word
+pub begins_with : (k l : Answer) (p : ℕ) → ClashAt k l p → IsPrefix (take (p + 1) l.word) k.word
 begins_with k l p c = (drop (p + 1) k.word, sym (take-append-drop (p + 1) k.word) ∙ ap (λ (u : List ℕ). u ++ drop (p + 1) k.word) c.letters)
 
-abbrev found_of : ℕ → ℕ → ℕ → Found
+abbrev pub found_of : ℕ → ℕ → ℕ → Found
 found_of first second place = record { first = first; second = second; place = place }
 
 one_clash : (ks : List Answer) (c d : Found) → IsFirstClash ks c → IsFirstClash ks d → c ≡ d

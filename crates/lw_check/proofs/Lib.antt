@@ -1,4 +1,5 @@
 pub mod DecideLemmas
 pub mod EndLemmas
+pub mod ExistenceClash
 pub mod OverLemmas
 pub mod ReadLemmas

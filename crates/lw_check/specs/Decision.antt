@@ -1,8 +1,8 @@
 -- What a model and answers with their names come to.
 use Rattle.std.specs.Prelude.{◌≡◌, ℕ, List, length}
-use Rattle.lw_words.specs.Word.{answers_of}
+use Rattle.lw_words.specs.Word.{AreAnswers, answers_of}
 use Rattle.lw_words.specs.declared.kept.KeptAnswer.{KeptAnswer}
-use Rattle.lw_mealy.specs.Machine.{MealyMachine}
+use Rattle.lw_mealy.specs.Machine.{MealyMachine, IsMachine}
 use Rattle.lw_json.specs.declared.machine.Machine.{Machine}
 use Rattle.lw_json.specs.declared.answers.Answers.{Answers as Given}
 use Rattle.lw_cache.specs.Clash.{NothingClashes}
@@ -51,6 +51,12 @@ IsDecision p extra _ = ⊥
 -- a pair comes to one outcome at most
 abbrev pub OneDecision : Type 0
 OneDecision = (p : Pair) (extra : ℕ) (one two : Outcome) → IsDecision p extra one → IsDecision p extra two → one ≡ two
+
+-- a machine and answers over the letters that they name come to an outcome
+abbrev pub SomeDecision : Type 0
+SomeDecision = (p : Pair) (extra : ℕ) → IsMachine p.mealy.inputs p.mealy.rows
+    → AreAnswers (length p.answer_inputs) (answers_of p.kept)
+    → (outcome : Outcome) × IsDecision p extra outcome
 
 -- an outcome of this kind
 abbrev pub IsDecided : Outcome → Type 0

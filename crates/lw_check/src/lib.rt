@@ -8,4 +8,4 @@ mod reading;
 mod telling;
 
 pub use checking::check;
-pub use laws::decision_is_unique;
+pub use laws::{decision_exists, decision_is_unique};

@@ -1,6 +1,6 @@
 //! The rows worked by hand, over files and streams in memory.
 use crate::tests::memory::{files, sink};
-use lw_check::{check, decision_is_unique};
+use lw_check::{check, decision_exists, decision_is_unique};
 use lw_outside::{MemoryFiles, MemorySink};
 use std::alloc::Global;
 use std::process::Abort;
@@ -156,6 +156,7 @@ static NOT_MINIMAL: [Case; 2] = [
 fn models_that_are_not_minimal(rt: HostRuntime) {
     check_all(&rt, rt.alloc(), &NOT_MINIMAL);
     decision_is_unique();
+    decision_exists();
 }
 
 /// Two answers that contradict each other.
