@@ -3,6 +3,7 @@ mod ClaimLemmas
 pub mod ClashLemmas
 pub mod CrowdLemmas
 mod ExtendLemmas
+mod FirstLemmas
 pub mod GainLemmas
 pub mod GrowLemmas
 mod HeldLemmas

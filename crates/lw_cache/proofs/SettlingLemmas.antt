@@ -1,5 +1,5 @@
 -- What a caller leaves of an oracle, from one settling to the next.
-use Rattle.std.proofs.Common.{◌≡◌, ℕ, ◌<◌, List, ◌++◌, length, Option, Some, None, Result, Ok, Err, OnOk, IsErrAnd, Bool, [], refl, ap, sym, ◌∙◌, subst, append-nil, append_assoc}
+use Rattle.std.proofs.Common.{◌≡◌, ℕ, ◌<◌, List, ◌++◌, length, Option, Some, None, Result, Ok, Err, OnOk, IfErr, IsErrAnd, Bool, [], refl, ap, sym, ◌∙◌, subst, append-nil, append_assoc}
 use Rattle.std.proofs.lemmas.List.Elements.{All-append, All-map, All-nil}
 use Rattle.std.specs.List.{All}
 use Rattle.lw_words.specs.Word.{AreAnswers, IsAnswer, answer_of, answers_of, IsWord}
@@ -8,12 +8,13 @@ use Rattle.lw_mealy.specs.Machine.{Rows}
 use Rattle.lw_mealy.specs.Origin.{Origin}
 use Rattle.lw_cache.specs.Against.{Differs}
 use Rattle.lw_cache.specs.Clash.{NothingClashes}
-use Rattle.lw_cache.specs.Settling.{OracleState, IsSame, Keeps, Settles, TellsStop, refused_after, MayAsk, LeavesStop, asked_stop, grown_stop, Leaves}
+use Rattle.lw_cache.specs.Settling.{OracleState, IsSame, Keeps, Settles, TellsStop, refused_after, MayAsk, LeavesStop, asked_stop, grown_stop, IsSettleCause, IsStopCause, Leaves}
 use Rattle.std.specs.Prelude.{⊤}
 use Rattle.lw_cache.specs.declared.stops.AskStop.{AskStop}
 use Rattle.lw_cache.specs.declared.stops.AskStop.TheVariants.{Sul, Clash, NoMemory}
 use Rattle.lw_cache.specs.declared.stops.GrowStop.{GrowStop}
 use Rattle.lw_cache.specs.declared.stops.GrowStop.TheVariants.{Ask}
+use Rattle.lw_cache.proofs.FirstLemmas.{new_is_first}
 use Rattle.lw_cache.proofs.ReadLemmas.{read_is_word}
 
 pub same_then : (a b c : OracleState) → IsSame a b → IsSame b c → IsSame a c
@@ -39,6 +40,7 @@ leaves_then a b c stop first next =
       told = next.told;
       refused = λ none. next.refused none ∙ first.refused refl;
       unclashed = λ none nothing. next.unclashed none (first.unclashed refl nothing);
+      cause = λ may nothing. next.cause first.told (first.unclashed refl nothing);
     }
 
 -- an oracle's kept answers are answers over its inputs
@@ -61,6 +63,7 @@ leaves_nothing o keeps may =
       told = may;
       refused = λ none. refl;
       unclashed = λ none nothing. nothing;
+      cause = λ _ nothing. tt;
     }
 
 -- a settling alone
@@ -78,6 +81,12 @@ settled_unclashed : (result : Result ⊤ AskStop) (P : Type 0) → OnOk result P
 settled_unclashed (Ok _) P is none = is
 settled_unclashed (Err stop) P is none = cc
 
+settled_cause : (before now : OracleState) (result : Result ⊤ AskStop) (gained : List KeptAnswer) → now.kept ≡ before.kept ++ gained → IfErr result (IsSettleCause before now) → NothingClashes (answers_of before.kept) → IsStopCause now (asked_stop result)
+settled_cause before now (Ok _) gained grown cause nothing = tt
+settled_cause before now (Err (Sul instance stop)) gained grown cause nothing = cause
+settled_cause before now (Err (Clash clash)) gained grown cause nothing = new_is_first before.kept gained now.kept clash grown nothing cause
+settled_cause before now (Err NoMemory) gained grown cause nothing = tt
+
 pub leaves_settled : (batch : List (List ℕ)) (before now : OracleState) (result : Result ⊤ AskStop) → Settles batch before now result → Leaves before now (asked_stop result)
 leaves_settled batch before now result s =
     record {
@@ -89,6 +98,7 @@ leaves_settled batch before now result s =
       told = settled_stop result now.stop s.stop;
       refused = λ none. settled_refused result before.refused now.refused s.refused none;
       unclashed = λ none. settled_unclashed result (NothingClashes (answers_of before.kept) → NothingClashes (answers_of now.kept)) s.unclashed none;
+      cause = λ may nothing. settled_cause before now result s.gains.gained s.gains.at_end (s.cause may) nothing;
     }
 
 -- after answers alone, this call's own out of memory
@@ -103,6 +113,7 @@ leaves_short before now leaves =
       told = leaves.told;
       refused = λ none. cc;
       unclashed = λ none. cc;
+      cause = λ may nothing. tt;
     }
 
 own_stop : {X : Type 0} (result : Result X AskStop) → IsErrAnd result (λ e. e ≡ NoMemory) → asked_stop result ≡ Some NoMemory

@@ -1,7 +1,7 @@
 -- How a new answer clashes with those before it.
-use Rattle.std.specs.Prelude.{◌≡◌, ◌↔◌, ℕ, ◌+◌, ◌≤◌, List, ◌∷◌, [], ◌++◌, length, take}
+use Rattle.std.specs.Prelude.{◌≡◌, ◌↔◌, ℕ, ◌+◌, ◌<◌, ◌≤◌, List, ◌∷◌, [], ◌++◌, length, take}
 use Rattle.lw_words.specs.Word.{Answer, answer_at, answer_of, answers_of, IsPrefix}
-use Rattle.lw_cache.specs.Clash.{ClashAt, IsClear}
+use Rattle.lw_cache.specs.Clash.{ClashAt, IsClear, NothingClashes}
 use Rattle.lw_cache.specs.Known.{IsKnown}
 use Rattle.lw_words.specs.declared.kept.KeptAnswer.{KeptAnswer}
 use Rattle.lw_cache.specs.Caching.{Caching}
@@ -17,6 +17,28 @@ pub record ClashesFirst (ks : List Answer) (k : Answer) (clash : Clash) : Type 0
   pub here : ClashAt (answer_at ks clash.first) k clash.place
   pub place : (i place : ℕ) → IsClear ks i → ClashAt (answer_at ks i) k place → clash.place ≤ place
   pub first : (i : ℕ) → IsClear ks i → IsPrefix (take (clash.place + 1) k.word) (answer_at ks i).word → clash.first ≤ i
+
+-- the first two answers, in the order of a list, that no one machine gives: nothing clashes before the second of the two, and it
+-- clashes with the first of those before it, at the first place
+pub record IsFirstClash (ks : List Answer) (clash : Clash) : Type 0 where
+  pub within : clash.second < length ks
+  pub before : NothingClashes (take clash.second ks)
+  pub here : ClashesFirst (take clash.second ks) (answer_at ks clash.second) clash
+
+-- the second answer of the clash clashed with those that were kept before it
+pub record CameFirst (kept : List KeptAnswer) (clash : Clash) : Type 0 where
+  pub within : clash.second < length kept
+  pub came : ClashesFirst (answers_of (take clash.second kept)) (answer_at (answers_of kept) clash.second) clash
+
+-- the answers from the first of these numbers on, and before the second, are clear
+abbrev pub AreClear : List KeptAnswer → ℕ → ℕ → Type 0
+AreClear kept first end = (i : ℕ) → first ≤ i → i < end → IsClear (answers_of kept) i
+
+-- a clash of an answer that came behind so many, and the first of those that isn't clear
+pub record IsNewClash (count : ℕ) (kept : List KeptAnswer) (clash : Clash) : Type 0 where
+  pub new : count ≤ clash.second
+  pub came : CameFirst kept clash
+  pub clear : AreClear kept count clash.second
 
 -- the same words are known
 abbrev pub SameKnown : List Answer → List Answer → Type 0

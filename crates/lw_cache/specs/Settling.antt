@@ -1,12 +1,14 @@
 -- What an oracle is, what settling a batch does, and what the layers above leave of an oracle.
-use Rattle.std.specs.Prelude.{◌≡◌, ℕ, ◌<◌, List, ◌++◌, length, map, Option, Some, None, Result, Ok, Err, OnOk, option_and_then, slice_get, Contains, Bool, true, ⊤}
+use Rattle.std.specs.Prelude.{◌≡◌, ℕ, ◌<◌, List, ◌++◌, length, map, Option, Some, None, Result, Ok, Err, OnOk, IfErr, option_and_then, slice_get, slice_index_or, Contains, Bool, true, ⊤}
 use Rattle.std.specs.List.{All}
 use Rattle.lw_words.specs.Word.{Answer, answer_of, answers_of, IsAnswer, IsWord}
 use Rattle.lw_words.specs.declared.kept.KeptAnswer.{KeptAnswer}
+use Rattle.lw_words.specs.declared.stop.SulStop.{SulStop}
 use Rattle.lw_mealy.specs.Machine.{Rows, answer}
 use Rattle.lw_mealy.specs.Origin.{Origin}
 use Rattle.lw_cache.specs.Asked.{AreAsked}
 use Rattle.lw_cache.specs.Clash.{NothingClashes}
+use Rattle.lw_cache.specs.FirstClash.{IsFirstClash, IsNewClash}
 use Rattle.lw_cache.specs.Known.{IsKnown}
 use Rattle.lw_cache.specs.declared.stops.AskStop.{AskStop}
 use Rattle.lw_cache.specs.declared.stops.AskStop.TheVariants.{Sul, Clash, NoMemory}
@@ -14,15 +16,16 @@ use Rattle.lw_cache.specs.declared.stops.GrowStop.{GrowStop}
 use Rattle.lw_cache.specs.declared.stops.GrowStop.TheVariants.{Ask, Crowd}
 
 -- the numbers of inputs and outputs; the names of the outputs, or None where there are none or a settling may bring more;
--- the kept answers; where the runs of the instances come from, by instance; the refusal of the last settling, or None where
--- that was answered Ok or there was none; whether one was ever refused; and whether a settling asks exactly the words that
--- have to be asked, each once
+-- the kept answers; where the runs of the instances come from, by instance; why an instance stopped, or None where it didn't;
+-- the refusal of the last settling, or None where that was answered Ok or there was none; whether one was ever refused; and
+-- whether a settling asks exactly the words that have to be asked, each once
 pub record OracleState : Type 0 where
   pub inputs : ℕ
   pub outputs : ℕ
   pub names : Option (List (List ℕ))
   pub kept : List KeptAnswer
   pub origins : List Origin
+  pub stopped : List (Option SulStop)
   pub stop : Option AskStop
   pub refused : Bool
   pub exact : Bool
@@ -76,6 +79,23 @@ abbrev pub refused_after : Bool → Result ⊤ AskStop → Bool
 refused_after refused (Ok _) = refused
 refused_after refused (Err _) = true
 
+-- the stop is neither a system's nor a clash, so an oracle that tells it may be asked again
+abbrev pub MayAsk : Option AskStop → Type 0
+MayAsk None = Unit {0}
+MayAsk (Some (Sul instance stop)) = ⊥
+MayAsk (Some (Clash clash)) = ⊥
+MayAsk (Some NoMemory) = Unit {0}
+
+-- this instance of an oracle has stopped so
+abbrev pub InstanceHasStopped : OracleState → ℕ → SulStop → Type 0
+InstanceHasStopped o instance stop = (instance < length o.origins) × (slice_index_or o.stopped instance None ≡ Some stop)
+
+-- why a settling stopped: an instance did, or an answer that was gained clashed, the first of those that did
+abbrev pub IsSettleCause : (before now : OracleState) → AskStop → Type 0
+IsSettleCause before now (Sul instance stop) = InstanceHasStopped now instance stop
+IsSettleCause before now (Clash clash) = IsNewClash (length before.kept) now.kept clash
+IsSettleCause before now NoMemory = Unit {0}
+
 -- an oracle once it has settled a batch, or was refused; the answers that it gained are runs of its instances
 pub record Settles (batch : List (List ℕ)) (before now : OracleState) (result : Result ⊤ AskStop) : Type 0 where
   pub known : OnOk result (All (IsKnown (answers_of now.kept)) batch)
@@ -85,15 +105,9 @@ pub record Settles (batch : List (List ℕ)) (before now : OracleState) (result 
   pub exactly : OnOk result (before.exact ≡ true → GainsExactly batch before.kept now.kept)
   pub keeps : Keeps now
   pub stop : TellsStop result now.stop
+  pub cause : MayAsk before.stop → IfErr result (IsSettleCause before now)
   pub refused : now.refused ≡ refused_after before.refused result
   pub same : IsSame before now
-
--- the stop is neither a system's nor a clash, so an oracle that tells it may be asked again
-abbrev pub MayAsk : Option AskStop → Type 0
-MayAsk None = Unit {0}
-MayAsk (Some (Sul instance stop)) = ⊥
-MayAsk (Some (Clash clash)) = ⊥
-MayAsk (Some NoMemory) = Unit {0}
 
 -- what a call of a layer above leaves as its oracle's stop, by the stop that the call answers, or None where it answers
 -- anything else: a system's stop or a clash is the oracle's, and after all else the oracle may be asked again
@@ -113,8 +127,16 @@ grown_stop (Ok x) = None
 grown_stop (Err (Ask stop)) = Some stop
 grown_stop (Err (Crowd words)) = None
 
+-- the cause of that stop: an instance stopped, or the first two of all kept answers that no one machine gives
+abbrev pub IsStopCause : OracleState → Option AskStop → Type 0
+IsStopCause o None = Unit {0}
+IsStopCause o (Some (Sul instance stop)) = InstanceHasStopped o instance stop
+IsStopCause o (Some (Clash clash)) = IsFirstClash (answers_of o.kept) clash
+IsStopCause o (Some NoMemory) = Unit {0}
+
 -- what a call of a layer above leaves of its oracle, by that stop: more answers at the end of those it kept, each a run of an
--- instance; where no stop is answered, none was refused, and no clash came
+-- instance; where no stop is answered, none was refused, and no clash came; and a stop has its cause, where the oracle might be
+-- asked and nothing that it kept clashed
 pub record Leaves (before now : OracleState) (stop : Option AskStop) : Type 0 where
   pub gained : List KeptAnswer
   pub at_end : now.kept ≡ before.kept ++ gained
@@ -124,3 +146,4 @@ pub record Leaves (before now : OracleState) (stop : Option AskStop) : Type 0 wh
   pub told : LeavesStop stop now.stop
   pub refused : stop ≡ None → now.refused ≡ before.refused
   pub unclashed : stop ≡ None → NothingClashes (answers_of before.kept) → NothingClashes (answers_of now.kept)
+  pub cause : MayAsk before.stop → NothingClashes (answers_of before.kept) → IsStopCause now stop

@@ -35,7 +35,7 @@ pub fn is_as_read(cache: &Cache, model: &Mealy, word: &Word) -> Result<bool, NoM
     Ok(model.agrees(word, &outs).is_none())
 }
 
-#[tactic(auto, using(lw_cache::proofs::SettlingLemmas::leaves_nothing, lw_cache::proofs::SettlingLemmas::leaves_own))]
+#[tactic(auto, using(lw_cache::proofs::SettlingLemmas::leaves_nothing, lw_cache::proofs::SettlingLemmas::leaves_own, lw_cache::proofs::SettlingLemmas::leaves_settled))]
 /// Settles a word, and tells whether the model's answer to it is what is read then.
 fn is_as_settled<O: Oracle>(
     oracle: &mut O,

@@ -4,12 +4,11 @@ use Rattle.std.proofs.lemmas.Bool.{cases_order}
 use Rattle.std.proofs.lemmas.List.{length-take, get_or-take, take-append-drop, take_all}
 use Rattle.lw_words.specs.Word.{Answer, answer_at, answers_of, IsPrefix}
 use Rattle.lw_cache.specs.Clash.{ClashAt, NothingClashes}
-use Rattle.lw_cache.specs.FirstClash.{ClashesFirst}
+use Rattle.lw_cache.specs.FirstClash.{ClashesFirst, IsFirstClash}
 use Rattle.lw_cache.specs.declared.stops.Clash.{Clash as Found}
 use Rattle.lw_certify.specs.declared.verdict.Verdict.{Verdict}
 use Rattle.lw_certify.specs.declared.verdict.Verdict.TheVariants as verdict
 use Rattle.lw_certify.proofs.OneVerdict.{one_verdict}
-use Rattle.lw_prior.specs.FirstClash.{IsFirstClash}
 use Rattle.lw_check.specs.Decision.{Pair, SameNames, HasVerdict, IsNo, IsDecision, OneDecision}
 use Rattle.lw_report.specs.declared.role.Role.{Role}
 use Rattle.lw_report.specs.declared.role.Role.TheVariants.{Answers}

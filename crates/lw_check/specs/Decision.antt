@@ -9,7 +9,7 @@ use Rattle.lw_cache.specs.Clash.{NothingClashes}
 use Rattle.lw_certify.specs.Verdict.{IsVerdict}
 use Rattle.lw_certify.specs.declared.verdict.Verdict.{Verdict}
 use Rattle.lw_certify.specs.declared.verdict.Verdict.TheVariants as verdict
-use Rattle.lw_prior.specs.FirstClash.{IsFirstClash}
+use Rattle.lw_cache.specs.FirstClash.{IsFirstClash}
 use Rattle.lw_report.specs.declared.role.Role.TheVariants.{Answers}
 use Rattle.lw_report.specs.declared.outcome.Outcome.{Outcome}
 use Rattle.lw_report.specs.declared.outcome.Outcome.TheVariants.{Yes, No, Alphabets, Nondeterministic, SuiteTooLarge}

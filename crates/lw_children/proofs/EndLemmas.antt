@@ -16,10 +16,12 @@ use Rattle.lw_sul.specs.SessionState.{SessionState, IsJournal}
 use Rattle.lw_outside.specs.Links.{LinkState, Transcript, IsUntouched, SpawnerState}
 use Rattle.lw_cache.specs.declared.stops.AskStop.{AskStop}
 use Rattle.lw_cache.specs.declared.stops.AskStop.TheVariants as ask
-use Rattle.lw_cache.specs.Settling.{LeavesStop}
+use Rattle.lw_cache.specs.Clash.{NothingClashes}
+use Rattle.lw_cache.specs.Settling.{IsStopCause, LeavesStop, MayAsk}
 use Rattle.lw_names.specs.Naming.{Naming}
 use Rattle.lw_desk.specs.Ending.{kept_runs}
 use Rattle.lw_pool.specs.Opening.{MayBegin}
+use Rattle.lw_pool.specs.Sharing.{oracle_of}
 use Rattle.lw_pool.specs.Pool.{AskedOnce, IsStopOf, PoolState, Seen, journal_runs, seen_at, seen_of}
 use Rattle.lw_rounds.specs.Laws.{ModelIsLeast, TooManyIsNone, TooLargeForAll}
 use Rattle.lw_rounds.specs.Learned.{IsLearned, StopsAs}
@@ -29,7 +31,7 @@ use Rattle.lw_rounds.specs.declared.learner.Kind.{Kind}
 use Rattle.lw_rounds.specs.declared.stops.LearnStop.{LearnStop}
 use Rattle.lw_rounds.specs.declared.stops.LearnStop.TheVariants as learn
 use Rattle.lw_workers.specs.Leaving.{HasLearned}
-use Rattle.lw_workers.proofs.MachineLemmas.{no_clash_came, reached}
+use Rattle.lw_workers.proofs.MachineLemmas.{no_first_clash, reached}
 use Rattle.lw_children.specs.Children.{IsCausedBy, IsOfChildren, IsSound, IsUncounted, LeavesNothing, SaysBadLine}
 use Rattle.lw_system.specs.Told.{IsStopped}
 use Rattle.lw_line.specs.Causes.{IsTranscriptOf}
@@ -328,7 +330,7 @@ module _ {L : Type 0} (state : L → LinkState) (words letters : List (List ℕ)
 
 -- a learning over a pool of children that were all started
 module _ {L : Type 0} (kind : Kind) (state : L → LinkState) (words letters : List (List ℕ)) (outputs : Option (List (List ℕ))) (workers k most : ℕ) (prior : List KeptAnswer) (before mid now : SpawnerState) (sessions : List (SessionState (LineState L))) (new : AreNewSessions state letters outputs before.started sessions) (starts : StartsLinks words before mid workers) (count : length sessions ≡ workers)
-    (pool : PoolState (LineState L)) (members : map (child_member state) sessions ≡ pool.members) (naming_is : pool.naming ≡ first_naming outputs) (prior_is : pool.prior ≡ prior) (inputs_is : pool.inputs ≡ length letters) (outputs_is : pool.outputs ≡ count_of outputs) (unrefused : pool.refused ≡ false)
+    (pool : PoolState (LineState L)) (members : map (child_member state) sessions ≡ pool.members) (naming_is : pool.naming ≡ first_naming outputs) (prior_is : pool.prior ≡ prior) (inputs_is : pool.inputs ≡ length letters) (outputs_is : pool.outputs ≡ count_of outputs) (unrefused : pool.refused ≡ false) (may : MayAsk pool.stop) (nothing : NothingClashes (answers_of pool.kept))
     (learned : Result Learned LearnStop) (kept : List KeptAnswer) (naming : Naming) (ended : HasRetired kind state k most pool mid now learned kept naming) where
   abbrev left : PoolState (LineState L)
   left = ended.left
@@ -390,25 +392,25 @@ module _ {L : Type 0} (kind : Kind) (state : L → LinkState) (words letters : L
             (ap (λ (x : Seen). x.stop) (sym (seen_there state later left ended.members i s within)) ∙ why.1),
       )
 
-  caused : (r : Result Learned LearnStop) → LeavesStop (learn_stop r) left.stop → IfErr r (IsCausedBy outputs workers before now links left.kept)
-  caused (Ok l) told = tt
-  caused (Err (learn.Ask (ask.Sul i s))) told =
+  caused : (r : Result Learned LearnStop) → LeavesStop (learn_stop r) left.stop → IsStopCause (oracle_of left) (learn_stop r) → IfErr r (IsCausedBy outputs workers before now links left.kept)
+  caused (Ok l) told cause = tt
+  caused (Err (learn.Ask (ask.Sul i s))) told cause =
       let why = stopped_there i s (subst (IsStopOf (seen_of left) left.kept) told ended.learned.stands.why) in
       (omega (arith, why.0, all_links), inr why)
-  caused (Err (learn.Ask (ask.Clash c))) told = subst (IsStopOf (seen_of left) left.kept) told ended.learned.stands.why
-  caused (Err (learn.Ask ask.NoMemory)) told = tt
-  caused (Err (learn.Crowd ws)) told = tt
-  caused (Err (learn.TooLarge model n)) told = tt
+  caused (Err (learn.Ask (ask.Clash c))) told cause = cause
+  caused (Err (learn.Ask ask.NoMemory)) told cause = tt
+  caused (Err (learn.Crowd ws)) told cause = tt
+  caused (Err (learn.TooLarge model n)) told cause = tt
 
-  own_stop : (m : Rows) → Gives m (answers_of left.kept) → All (IsSound outputs) links → (r : Result Learned LearnStop) → LeavesStop (learn_stop r) left.stop → IfErr r IsOwnStop
-  own_stop m gives sound (Ok l) told = tt
-  own_stop m gives sound (Err (learn.Ask (ask.Sul i s))) told =
+  own_stop : (m : Rows) → Gives m (answers_of left.kept) → All (IsSound outputs) links → (r : Result Learned LearnStop) → LeavesStop (learn_stop r) left.stop → IsStopCause (oracle_of left) (learn_stop r) → IfErr r IsOwnStop
+  own_stop m gives sound (Ok l) told cause = tt
+  own_stop m gives sound (Err (learn.Ask (ask.Sul i s))) told cause =
       let why = stopped_there i s (subst (IsStopOf (seen_of left) left.kept) told ended.learned.stands.why) in
       absurd (sound_goes_on outputs (get_or links i no_link) s (sound i no_link why.0) (why.1 no_link))
-  own_stop m gives sound (Err (learn.Ask (ask.Clash c))) told = absurd (no_clash_came m left.kept c gives (subst (IsStopOf (seen_of left) left.kept) told ended.learned.stands.why))
-  own_stop m gives sound (Err (learn.Ask ask.NoMemory)) told = refl
-  own_stop m gives sound (Err (learn.Crowd ws)) told = tt
-  own_stop m gives sound (Err (learn.TooLarge model n)) told = tt
+  own_stop m gives sound (Err (learn.Ask (ask.Clash c))) told cause = absurd (no_first_clash m (answers_of left.kept) c gives cause)
+  own_stop m gives sound (Err (learn.Ask ask.NoMemory)) told cause = refl
+  own_stop m gives sound (Err (learn.Crowd ws)) told cause = tt
+  own_stop m gives sound (Err (learn.TooLarge model n)) told cause = tt
 
   -- a child whose link counted nothing can only have said a bad line
   bad_line : (i : ℕ) (stop : SulStop) (link : LinkState) → i < workers → IsUncounted link → IsStopped outputs stop link → SaysBadLine workers (Err (learn.Ask (ask.Sul i stop)))
@@ -416,15 +418,18 @@ module _ {L : Type 0} (kind : Kind) (state : L → LinkState) (words letters : L
   bad_line i (sul.BadLine line) link lt uncounted why = lt
   bad_line i sul.Gone link lt uncounted why = absurd (uncounted.ends why.0)
 
-  own_or_bad : (m : Rows) → Gives m (answers_of left.kept) → All IsUncounted links → (r : Result Learned LearnStop) → LeavesStop (learn_stop r) left.stop → IfErr r IsOwnStop ⊎ SaysBadLine workers r
-  own_or_bad m gives uncounted (Ok l) told = inl tt
-  own_or_bad m gives uncounted (Err (learn.Ask (ask.Sul i s))) told =
+  own_or_bad : (m : Rows) → Gives m (answers_of left.kept) → All IsUncounted links → (r : Result Learned LearnStop) → LeavesStop (learn_stop r) left.stop → IsStopCause (oracle_of left) (learn_stop r) → IfErr r IsOwnStop ⊎ SaysBadLine workers r
+  own_or_bad m gives uncounted (Ok l) told cause = inl tt
+  own_or_bad m gives uncounted (Err (learn.Ask (ask.Sul i s))) told cause =
       let why = stopped_there i s (subst (IsStopOf (seen_of left) left.kept) told ended.learned.stands.why) in
       inr (bad_line i s (get_or links i no_link) (omega (arith, why.0, all_links)) (uncounted i no_link why.0) (why.1 no_link))
-  own_or_bad m gives uncounted (Err (learn.Ask (ask.Clash c))) told = absurd (no_clash_came m left.kept c gives (subst (IsStopOf (seen_of left) left.kept) told ended.learned.stands.why))
-  own_or_bad m gives uncounted (Err (learn.Ask ask.NoMemory)) told = inl refl
-  own_or_bad m gives uncounted (Err (learn.Crowd ws)) told = inl tt
-  own_or_bad m gives uncounted (Err (learn.TooLarge model n)) told = inl tt
+  own_or_bad m gives uncounted (Err (learn.Ask (ask.Clash c))) told cause = absurd (no_first_clash m (answers_of left.kept) c gives cause)
+  own_or_bad m gives uncounted (Err (learn.Ask ask.NoMemory)) told cause = inl refl
+  own_or_bad m gives uncounted (Err (learn.Crowd ws)) told cause = inl tt
+  own_or_bad m gives uncounted (Err (learn.TooLarge model n)) told cause = inl tt
+
+  cause_is : IsStopCause (oracle_of left) (learn_stop learned)
+  cause_is = ended.learned.leaves.cause may nothing
 
   words_are : AreAnswers (length letters) (answers_of left.kept)
   words_are = subst (λ (n : ℕ). AreAnswers n (answers_of left.kept)) (ended.learned.leaves.same.inputs ∙ inputs_is) (All-map (IsAnswer left.inputs) answer_of left.kept ended.learned.stands.keeps.answers)
@@ -450,14 +455,14 @@ module _ {L : Type 0} (kind : Kind) (state : L → LinkState) (words letters : L
     whole = whole_learned learned ended.learned.leaves.refused;
     ok = ok_is;
     stops = stops_are;
-    causes = caused learned ended.learned.leaves.told;
+    causes = caused learned ended.learned.leaves.told cause_is;
     reached = λ m within gives quiet sound.
-        reached kind (length letters) (count_of outputs) k most (answers_of left.kept) learned least none large words_are ok_is stops_are (own_stop m gives sound learned ended.learned.leaves.told) m within gives;
+        reached kind (length letters) (count_of outputs) k most (answers_of left.kept) learned least none large words_are ok_is stops_are (own_stop m gives sound learned ended.learned.leaves.told cause_is) m within gives;
     counted = λ m within gives quiet uncounted.
         ⊎_elim
         (λ (own : IfErr learned IsOwnStop). inl (reached kind (length letters) (count_of outputs) k most (answers_of left.kept) learned least none large words_are ok_is stops_are own m within gives))
         (λ (bad : SaysBadLine workers learned). inr bad)
-        (own_or_bad m gives uncounted learned ended.learned.leaves.told);
+        (own_or_bad m gives uncounted learned ended.learned.leaves.told cause_is);
   }
     where
       always : (P : Type 0) (r : Result Learned LearnStop) → P → OnOk r P

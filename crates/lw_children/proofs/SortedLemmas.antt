@@ -9,13 +9,13 @@ use Rattle.lw_words.specs.declared.kept.KeptAnswer.{KeptAnswer}
 use Rattle.lw_mealy.specs.Machine.{Gives, Rows}
 use Rattle.lw_names.specs.Names.{named}
 use Rattle.lw_cache.specs.Clash.{ClashAt, IsClear, NothingClashes}
-use Rattle.lw_cache.specs.FirstClash.{ClashesFirst}
+use Rattle.lw_cache.specs.FirstClash.{ClashesFirst, IsFirstClash}
 use Rattle.lw_cache.specs.Known.{IsKnown}
 use Rattle.lw_cache.specs.declared.stops.AskStop.TheVariants as ask
 use Rattle.lw_cache.specs.declared.stops.Clash.{Clash}
 use Rattle.lw_outside.specs.Links.{LinkState, Transcript, SpawnerState}
 use Rattle.lw_names.specs.Naming.{AreSorted, Naming}
-use Rattle.lw_desk.specs.Ending.{CameFirst, ComeUp, NamedRun, kept_runs}
+use Rattle.lw_desk.specs.Ending.{ComeUp, NamedRun, kept_runs}
 use Rattle.lw_pool.specs.Opening.{MayBegin}
 use Rattle.lw_pool.specs.Pool.{AskedOnce}
 use Rattle.lw_pool.specs.Sharing.{declared_by}
@@ -25,7 +25,7 @@ use Rattle.lw_rounds.specs.declared.stops.LearnStop.{LearnStop}
 use Rattle.lw_rounds.specs.declared.stops.LearnStop.TheVariants as learn
 use Rattle.lw_renumber.specs.Renaming.{Renames, renamed_answer, renamed_answers, renamed_rows}
 use Rattle.lw_renumber.specs.Sorting.{HasSorted, outs_named, renamed_learned}
-use Rattle.lw_renumber.proofs.LawLemmas.{renamed_is_clear, renamed_is_known}
+use Rattle.lw_renumber.proofs.LawLemmas.{renamed_is_clear, renamed_is_known, renamed_never_clash}
 use Rattle.lw_renumber.proofs.MachineLemmas.{is_machine, states_same, told_apart}
 use Rattle.lw_renumber.proofs.SureLemmas.{gives_back}
 use Rattle.lw_workers.specs.Machines.{IsReached, IsWithin, run_numbers}
@@ -152,15 +152,17 @@ module _ (f g : ℕ → ℕ) (r : Renames f g) (a : ℕ) (to : List ℕ) (was : 
       ((renamed_is_known f g a (answers_of (take i was)) (get_or was i d).word r (front_are i)).0
       (subst₂ (λ (ks : List Answer) (k : KeptAnswer). IsKnown ks k.word) (front i) (get_or-map (renumbered_answer to) was i d d lt') known))
 
-  first_stays : (c : Clash) → CameFirst was c → CameFirst now c
-  first_stays c came =
-      let blank : Answer = record { word = []; outs = [] } in
-      let long : length (answers_of was) ≡ length was = length-map was answer_of in
-      let whole : IsWhole (answer_at (answers_of was) c.second) = (are c.second blank (subst (λ (s : ℕ). c.second < s) (sym long) came.within)).1 in
+  first_stays : (c : Clash) → IsFirstClash (answers_of was) c → IsFirstClash (answers_of now) c
+  first_stays c is =
+      let ks : List Answer = answers_of was in
+      let whole : IsWhole (answer_at ks c.second) = (are c.second (record { word = []; outs = [] }) is.within).1 in
+      let front_is : take c.second (answers_of now) ≡ renamed_answers f (take c.second ks) = ap (take c.second) same ∙ take-map (renamed_answer f) c.second ks in
+      let front_of : AreAnswers a (take c.second ks) = All-take (IsAnswer a) c.second ks are in
       record {
-        within = subst (λ (s : ℕ). c.second < s) (sym as_long) came.within;
-        came = subst₂ (λ (ks : List Answer) (k : Answer). ClashesFirst ks k c) (sym (front c.second)) (sym (ap (λ (ks : List Answer). answer_at ks c.second) same ∙ at f (answers_of was) c.second))
-            (first_clash_stays f g r a (answers_of (take c.second was)) (answer_at (answers_of was) c.second) c (front_are c.second) whole came.came);
+        within = subst (λ (s : ℕ). c.second < s) (sym (ap (λ (l : List Answer). length l) same ∙ length-map ks (renamed_answer f))) is.within;
+        before = subst NothingClashes (sym front_is) (renamed_never_clash f g a (take c.second ks) r front_of is.before);
+        here = subst₂ (λ (l : List Answer) (k : Answer). ClashesFirst l k c) (sym front_is) (sym (ap (λ (l : List Answer). answer_at l c.second) same ∙ at f ks c.second))
+            (first_clash_stays f g r a (take c.second ks) (answer_at ks c.second) c front_of whole is.here);
       }
 
   cause_stays : (workers : ℕ) (before later : SpawnerState) (links : List LinkState) (stop : LearnStop) → IsCausedBy None workers before later links was stop → IsCausedBy None workers before later links now stop

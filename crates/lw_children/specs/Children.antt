@@ -8,8 +8,9 @@ use Rattle.lw_words.specs.declared.stop.SulStop.{SulStop}
 use Rattle.lw_words.specs.declared.stop.SulStop.TheVariants.{BadLine, Failed, Gone}
 use Rattle.lw_mealy.specs.Machine.{Gives, Rows}
 use Rattle.lw_outside.specs.Links.{LinkState, Transcript, SpawnerState}
+use Rattle.lw_cache.specs.FirstClash.{IsFirstClash}
 use Rattle.lw_cache.specs.declared.stops.AskStop.TheVariants as ask
-use Rattle.lw_desk.specs.Ending.{CameFirst, ComeUp}
+use Rattle.lw_desk.specs.Ending.{ComeUp}
 use Rattle.lw_names.specs.Naming.{AreSorted}
 use Rattle.lw_renumber.specs.Sorting.{HasSorted}
 use Rattle.lw_rounds.specs.Learned.{IsLearned, StopsAs}
@@ -32,7 +33,7 @@ IsChildStop outputs before now links i stop =
 -- what bears out why a learning over children stopped
 abbrev pub IsCausedBy : Option (List (List ℕ)) → ℕ → SpawnerState → SpawnerState → List LinkState → List KeptAnswer → LearnStop → Type 0
 IsCausedBy outputs workers before now links kept (learn.Ask (ask.Sul i stop)) = (i < workers) × IsChildStop outputs before now links i stop
-IsCausedBy outputs workers before now links kept (learn.Ask (ask.Clash clash)) = CameFirst kept clash
+IsCausedBy outputs workers before now links kept (learn.Ask (ask.Clash clash)) = IsFirstClash (answers_of kept) clash
 IsCausedBy outputs workers before now links kept (learn.Ask ask.NoMemory) = Unit {0}
 IsCausedBy outputs workers before now links kept (learn.Crowd words) = Unit {0}
 IsCausedBy outputs workers before now links kept (learn.TooLarge model number) = Unit {0}

@@ -1,5 +1,5 @@
 -- Sessions of children, before anything was asked and at their end.
-use Rattle.std.specs.Prelude.{◌≡◌, ℕ, ◌+◌, ◌<◌, ◌≤◌, List, [], ◌∷◌, ◌++◌, length, map, replicate, slice_index_or, Bool, false, Option, Some, None, Result, IfOk, IfErr}
+use Rattle.std.specs.Prelude.{◌≡◌, ℕ, ◌+◌, ◌<◌, ◌≤◌, List, [], ◌∷◌, ◌++◌, length, map, replicate, slice_index_or, Bool, Option, Some, None, Result, IfOk, IfErr}
 use Rattle.lw_words.specs.Word.{answers_of}
 use Rattle.lw_words.specs.Name.{AllDiffer}
 use Rattle.lw_words.specs.declared.kept.KeptAnswer.{KeptAnswer}

@@ -1,5 +1,5 @@
 -- What a batch needs, word by word, and in order.
-use Rattle.std.proofs.Common.{◌≡◌, ◌≢◌, ◌⊎◌, inl, inr, ⊎_elim, ℕ, zero, suc, ◌+◌, ◌<◌, ◌≤◌, List, [], ◌∷◌, ◌++◌, length, get_or, drop, All, AllPairs, Contains, Bool, false, cond, eqb, refl, ap, sym, ◌∙◌, subst, arith, Ordering, Less, Equal, Greater, true, is_lt, nat_cmp}
+use Rattle.std.proofs.Common.{◌≡◌, ◌≢◌, ◌⊎◌, inl, inr, ⊎_elim, ℕ, ◌+◌, ◌<◌, ◌≤◌, List, [], ◌∷◌, ◌++◌, length, get_or, drop, All, AllPairs, Contains, Bool, false, cond, eqb, refl, ap, sym, ◌∙◌, subst, arith, Ordering, Less, Equal, Greater, true, is_lt, nat_cmp}
 use Rattle.std.specs.List.{sum_by, sum, starts_with}
 use Rattle.std.specs.Prelude.{IsTrue, ◌↔◌}
 use Rattle.std.specs.Cmp.{unsigned_Decides, IsStrictWeakOrder, IsTotalOrder}
@@ -21,7 +21,7 @@ use Rattle.lw_cache.specs.Known.{IsKnown}
 use Rattle.lw_cache.specs.Standing.{Stands}
 use Rattle.lw_cache.specs.declared.known.Known.{Known}
 use Rattle.lw_cache.specs.declared.known.Known.TheVariants.{Yes, Pending, No}
-use Rattle.lw_names.proofs.Pairs.{pairs_first, pairs_rest, pairs_of}
+use Rattle.lw_names.proofs.Pairs.{pairs_first, pairs_rest}
 use Rattle.lw_desk.specs.Step.{word_at_place, ComesBefore}
 use Rattle.lw_desk.specs.bodies.Board.{AreInOrder, AreWhole, IsAtHand, letters_of}
 use Rattle.lw_desk.specs.bodies.Gathering.{IsGathered, IsUpTo, by_words, StandsBefore, AreByWords, BeginsNext, AreWholeOf, NotAfter, ComeBefore, IsReady}

@@ -9,7 +9,7 @@ use Rattle.lw_words.specs.declared.stop.SulStop.TheVariants.{Failed as SulFailed
 use Rattle.lw_words.specs.declared.stop.RunStop.{RunStop}
 use Rattle.lw_words.specs.declared.stop.RunStop.TheVariants as Run
 use Rattle.lw_cache.specs.Clash.{IsClear, IsClearAfter}
-use Rattle.lw_cache.specs.FirstClash.{ClashesFirst}
+use Rattle.lw_cache.specs.FirstClash.{AreClear, CameFirst, ClashesFirst, IsNewClash}
 use Rattle.lw_cache.specs.declared.stops.Clash.{Clash}
 use Rattle.lw_cache.specs.declared.stops.AskStop.{AskStop}
 use Rattle.lw_cache.specs.declared.stops.AskStop.TheVariants as Stop
@@ -19,7 +19,6 @@ use Rattle.lw_turn.specs.declared.shared.Entry.{Entry}
 use Rattle.lw_names.specs.Naming.{bring}
 use Rattle.lw_desk.specs.Step.{DeskState, GivesAll, StopsBy, kept_of, after_fail, first_stop, stop_of}
 use Rattle.lw_desk.specs.History.{DeskOpening, opened, Replays}
-use Rattle.lw_desk.specs.Ending.{CameFirst, AreClear}
 use Rattle.lw_desk.specs.bodies.Outcome.{StopIs}
 use Rattle.lw_desk.specs.declared.ask.Ask.{Ask}
 use Rattle.lw_desk.specs.declared.ask.Reply.{Reply}
@@ -102,7 +101,7 @@ module _ (o : DeskOpening) where
 
   -- a clash that is told is one of an answer that came since
   abbrev CameSince : List KeptAnswer → Clash → Type 0
-  CameSince kept c = (length o.kept ≤ c.second) × CameFirst kept c × AreClear kept (length o.kept) c.second
+  CameSince kept c = IsNewClash (length o.kept) kept c
 
   -- and until a stop all that came are clear
   abbrev ClashIs : List KeptAnswer → Option AskStop → Type 0
@@ -155,14 +154,14 @@ module _ (o : DeskOpening) where
       clash_in (Some Stop.NoMemory) d = d
 
       from : (was : Option AskStop) → StopsBy was (answers_of kept) (answer_of k) now → ((c : Clash) → was ≡ Some (Stop.Clash c) → CameSince kept c) → (was ≡ None → AreClear kept (length o.kept) (length kept)) → (c : Clash) → now ≡ Some (Stop.Clash c) → CameSince (kept ++ k ∷ []) c
-      from (Some x) b i clear c told = let r : CameSince kept c = i c (sym b ∙ told) in (r.0, came_before kept k c r.1, still_clear kept k (length o.kept) c.second r.2)
+      from (Some x) b i clear c told = let r : CameSince kept c = i c (sym b ∙ told) in record { new = r.new; came = came_before kept k c r.came; clear = still_clear kept k (length o.kept) c.second r.clear }
       from None b i clear c told =
           ⊎_elim
           (λ (r : IsClearAfter (answers_of kept) (length (answers_of kept)) (answer_of k) × (now ≡ None)). absurd (some_none (Stop.Clash c) (sym told ∙ r.1)))
           (λ (r : (clash : Clash) × ClashesFirst (answers_of kept) (answer_of k) clash × (now ≡ Some (Stop.Clash clash))).
           let first : ClashesFirst (answers_of kept) (answer_of k) c = subst (ClashesFirst (answers_of kept) (answer_of k)) (ap (λ (o : Option AskStop). clash_in o c) (sym r.2 ∙ told)) r.1 in
           let here : length kept ≡ c.second = omega (arith, first.second, length-map kept answer_of) in
-          (omega (arith, is.0, here), came_now kept k c first, still_clear kept k (length o.kept) c.second (subst (AreClear kept (length o.kept)) here (clear refl))))
+          record { new = omega (arith, is.0, here); came = came_now kept k c first; clear = still_clear kept k (length o.kept) c.second (subst (AreClear kept (length o.kept)) here (clear refl)) })
           b
 
       all_clear : (was : Option AskStop) → StopsBy was (answers_of kept) (answer_of k) now → (was ≡ None → AreClear kept (length o.kept) (length kept)) → now ≡ None → AreClear (kept ++ k ∷ []) (length o.kept) (length (kept ++ k ∷ []))

@@ -1,11 +1,7 @@
--- What a desk leaves: which runs the kept answers are, by names, and which answer of a clash came first.
-use Rattle.std.specs.Prelude.{ℕ, ◌<◌, ◌≤◌, ◌==◌, List, length, map, filter, take, Contains}
-use Rattle.lw_words.specs.Word.{answer_at, answers_of}
+-- What a desk leaves: which runs the kept answers are, by names.
+use Rattle.std.specs.Prelude.{ℕ, ◌<◌, ◌==◌, List, length, map, filter, Contains}
 use Rattle.lw_words.specs.declared.kept.KeptAnswer.{KeptAnswer}
 use Rattle.lw_names.specs.Names.{name_at, named}
-use Rattle.lw_cache.specs.Clash.{IsClear}
-use Rattle.lw_cache.specs.FirstClash.{ClashesFirst}
-use Rattle.lw_cache.specs.declared.stops.Clash.{Clash}
 use Rattle.lw_names.specs.Naming.{Naming, IsFree, own_names}
 
 -- a run, its word and its outputs by their names
@@ -21,15 +17,6 @@ kept_runs names instance kept = map (λ k. record { run = k.run; word = k.word; 
 -- each name that an instance's own numbers stand for is in the shared list
 abbrev pub IsShared : Naming → Type 0
 IsShared naming = (instance y : ℕ) → y < length (own_names naming instance) → Contains naming.names (name_at (own_names naming instance) y)
-
--- the second answer of the clash came when those before it were kept, and so clashed first
-pub record CameFirst (kept : List KeptAnswer) (c : Clash) : Type 0 where
-  pub within : c.second < length kept
-  pub came : ClashesFirst (answers_of (take c.second kept)) (answer_at (answers_of kept) c.second) c
-
--- the answers from the first of these numbers on, and before the second, are clear
-abbrev pub AreClear : List KeptAnswer → ℕ → ℕ → Type 0
-AreClear kept first end = (i : ℕ) → first ≤ i → i < end → IsClear (answers_of kept) i
 
 -- each of these names came up in a kept answer: its number is one of the answer's outputs
 abbrev pub ComeUp : List KeptAnswer → List (List ℕ) → Type 0

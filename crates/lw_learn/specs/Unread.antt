@@ -13,7 +13,7 @@ use Rattle.lw_json.specs.declared.answers.Answers.{Answers}
 use Rattle.lw_json.specs.declared.fault.JsonFault.{JsonFault}
 use Rattle.lw_json.specs.declared.setup.Setup.TheVariants as setup
 use Rattle.lw_outside.specs.Files.{File, HoldsLong, read_call, FilesState}
-use Rattle.lw_prior.specs.FirstClash.{IsFirstClash}
+use Rattle.lw_cache.specs.FirstClash.{IsFirstClash}
 use Rattle.lw_system.specs.Reading.{ReadsBadFile, ReadsFile}
 use Rattle.lw_report.specs.declared.outcome.Outcome.{Outcome}
 use Rattle.lw_report.specs.declared.outcome.Outcome.TheVariants.{Alphabets, BadFile, FileFault, FileTooLong, NoMemory, Nondeterministic}

@@ -18,6 +18,7 @@ use Rattle.lw_names.proofs.NameLemmas.{number_of-name_at}
 use Rattle.lw_words.specs.Name.{AllDiffer, number_of}
 use Rattle.lw_sul.specs.declared.runs.Run.{Run}
 use Rattle.lw_cache.specs.Asked.{IsAsked}
+use Rattle.lw_cache.specs.FirstClash.{IsNewClash}
 use Rattle.lw_cache.specs.Known.{IsKnown}
 use Rattle.lw_cache.specs.Settling.{KeepsAnswers, IsOf, told_machine}
 use Rattle.lw_cache.specs.declared.stops.AskStop.{AskStop}
@@ -26,7 +27,7 @@ use Rattle.lw_turn.specs.History.{entries_of}
 use Rattle.lw_names.specs.Naming.{Naming, own_by, own_names, HasLists}
 use Rattle.lw_desk.specs.Step.{DeskState, word_at_place}
 use Rattle.lw_desk.specs.History.{DeskOpening, opened, Seat, seat_in, seat_after, seat_from, seat_of, actor_of, Replays, names_given}
-use Rattle.lw_desk.specs.Ending.{NamedRun, kept_runs, AreClear}
+use Rattle.lw_desk.specs.Ending.{NamedRun, kept_runs}
 use Rattle.lw_desk.specs.bodies.Outcome.{given_runs, gives_of, Brought, Settled, FailedBy, StopIs, FreshFrom}
 use Rattle.lw_desk.specs.declared.ask.Ask.{Ask}
 use Rattle.lw_desk.specs.declared.ask.Reply.{Reply}
@@ -332,14 +333,11 @@ module _ (o : DeskOpening) (es : List (Entry Ask Reply)) (start now : List Seen)
           where
             within : (i : ℕ) (x : Entry Ask Reply) → In x (entries_of i es) → i < length start
             within i x j = ⊎_elim (λ (lt : i < length start). lt) (λ (le : length start ≤ i). absurd (subst (In x) (others i le) j)) (cases_lt i (length start))
-        by (Some (Stop.Clash c)) e = (told.clash c e).1
+        by (Some (Stop.Clash c)) e = (told.clash c e).came
         by (Some Stop.NoMemory) e = tt
 
-    pub new_end : (c : Clash) → t.stop ≡ Some (Stop.Clash c) → length o.kept ≤ c.second
-    new_end c e = ((stop_is o t es r).clash c e).0
-
-    pub first_end : (c : Clash) → t.stop ≡ Some (Stop.Clash c) → AreClear t.kept (length o.kept) c.second
-    first_end c e = ((stop_is o t es r).clash c e).2
+    pub clash_end : (c : Clash) → t.stop ≡ Some (Stop.Clash c) → IsNewClash (length o.kept) t.kept c
+    clash_end c e = (stop_is o t es r).clash c e
 
     -- the names, and how each session went on
     pub names_end : IsGrown o.naming.names t.naming.names

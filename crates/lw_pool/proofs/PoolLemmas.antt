@@ -1,13 +1,14 @@
 -- A pool before a batch and after it.
-use Rattle.std.proofs.Common.{◌≡◌, ◌⊎◌, inl, inr, ⊎_elim, ℕ, ◌<◌, ◌≤◌, ◌||◌, List, [], ◌∷◌, ◌++◌, length, map, All, Bool, true, false, Option, Some, None, is_some, Result, Ok, Err, OnOk, slice_index_or, option_and_then, take, drop, refl, ap, sym, ◌∙◌, subst, subst₂, arith, append-nil}
+use Rattle.std.proofs.Common.{◌≡◌, ◌⊎◌, inl, inr, ⊎_elim, ℕ, ◌<◌, ◌≤◌, ◌||◌, List, [], ◌∷◌, ◌++◌, length, map, All, Bool, true, false, Option, Some, None, is_some, Result, Ok, Err, OnOk, IfErr, slice_index_or, option_and_then, take, drop, refl, ap, sym, ◌∙◌, subst, subst₂, arith, append-nil}
 use Rattle.std.specs.Bool.{⊤}
 use Rattle.std.proofs.lemmas.Bool.{true≢false, false≢true}
 use Rattle.lw_words.specs.Word.{answer_of, answers_of, IsWhole, IsWord}
 use Rattle.lw_words.specs.Name.{AllDiffer}
 use Rattle.lw_words.specs.declared.kept.KeptAnswer.{KeptAnswer}
 use Rattle.lw_cache.specs.Clash.{NothingClashes}
+use Rattle.lw_cache.specs.FirstClash.{IsNewClash}
 use Rattle.lw_cache.specs.Known.{IsKnown}
-use Rattle.lw_cache.specs.Settling.{GainsExactly, TellsStop, Settles, MayAsk, refused_after, IsOf, told_machine}
+use Rattle.lw_cache.specs.Settling.{GainsExactly, TellsStop, Settles, IsSettleCause, MayAsk, refused_after, IsOf, told_machine}
 use Rattle.lw_cache.specs.declared.stops.AskStop.{AskStop}
 use Rattle.lw_cache.specs.declared.stops.AskStop.TheVariants.{Sul, Clash, NoMemory}
 use Rattle.lw_names.specs.Names.{IsGrown}
@@ -20,7 +21,7 @@ use Rattle.lw_desk.specs.declared.ask.Reply.{Reply}
 use Rattle.lw_names.specs.Naming.{Naming, own_names, HasLists}
 use Rattle.lw_desk.specs.Step.{DeskState}
 use Rattle.lw_desk.specs.History.{DeskOpening, opened, Replays}
-use Rattle.lw_desk.specs.Ending.{IsShared, FreeComeUp, AreClear}
+use Rattle.lw_desk.specs.Ending.{IsShared, FreeComeUp}
 use Rattle.lw_desk.specs.bodies.Outcome.{Brought, Settled}
 use Rattle.lw_pool.specs.Pool.{Seen, Member, WentOn, PoolState, nobody, seen_at, seen_of, origins_of, journal_runs, IsStopOf}
 use Rattle.lw_pool.specs.Opening.{MayBegin, MayJoin}
@@ -38,7 +39,7 @@ use Rattle.lw_pool.specs.bodies.Running.{opening_of, AreWhole, NotBegun, WasRun,
 use Rattle.lw_pool.specs.Standing.{IsPoolMember, IsPool}
 use Rattle.lw_pool.specs.bodies.Engaged.{IsReady}
 use Rattle.lw_pool.specs.Fitting.{FitsBy}
-use Rattle.lw_pool.proofs.BatchLemmas.{b, end_idle, pool_end, settled_end, origins_end, new_end, first_end, names_end, kinds, declared_end, went_on_end}
+use Rattle.lw_pool.proofs.BatchLemmas.{b, end_idle, pool_end, settled_end, origins_end, clash_end, names_end, kinds, declared_end, went_on_end}
 use Rattle.lw_pool.proofs.GiveLemmas.{went_on_not}
 use Rattle.lw_pool.proofs.JournalLemmas.{grown_not}
 use Rattle.lw_pool.proofs.HandLemmas.{seen_in, seen_here, seen_long, taken_all, worked_seen}
@@ -98,8 +99,7 @@ module _ {S : Type 0} (batch : List (List ℕ)) where
     refused = was_refused refused refl;
     sticks = λ no. refl;
     history = λ may. once_more e told may;
-    new = λ may c same. absurd (not_again may c (err_is e (Clash c) (Err e) refl same));
-    first = λ may c same. absurd (not_again may c (err_is e (Clash c) (Err e) refl same));
+    clash = λ may c same. absurd (not_again may c (err_is e (Clash c) (Err e) refl same));
     sessions = refl;
     went_on = λ i lt. went_on_not (seen_at (seen_in hands) i);
     names = grown_not naming.names;
@@ -189,11 +189,8 @@ module _ {S : Type 0} (batch : List (List ℕ)) where
           (subst (λ (n : Naming). length n.names ≤ 4096) w.names whole.few)
           (subst (λ (n : Naming). AllDiffer n.names) w.names whole.differ) none
 
-      run_new : (c : _) → w.state.stop ≡ Some (Clash c) → length parts.cache.kept ≤ c.second
-      run_new = new_end o w.entries (seen_in hands) (seen_in after) long crew lists worked others prior was refused inputs outputs is w.state w.replays
-
-      run_first : (c : _) → w.state.stop ≡ Some (Clash c) → AreClear w.state.kept (length parts.cache.kept) c.second
-      run_first = first_end o w.entries (seen_in hands) (seen_in after) long crew lists worked others prior was refused inputs outputs is w.state w.replays
+      run_clash : (c : _) → w.state.stop ≡ Some (Clash c) → IsNewClash (length parts.cache.kept) w.state.kept c
+      run_clash = clash_end o w.entries (seen_in hands) (seen_in after) long crew lists worked others prior was refused inputs outputs is w.state w.replays
 
       run_went_on : (i : ℕ) → i < length (seen_in hands) → WentOn (seen_at (seen_in hands) i) (seen_at (seen_in after) i)
       run_went_on = went_on_end o w.entries (seen_in hands) (seen_in after) long crew lists worked others prior was refused inputs outputs is w.state w.replays
@@ -229,8 +226,7 @@ module _ {S : Type 0} (batch : List (List ℕ)) where
         refused = again_is ∙ refused_is refused stop result told;
         sticks = λ no. absurd (no may);
         history = λ m. inr (record { kept = n.kept; naming = n.names; stop = n.memory });
-        new = λ m c same. absurd (false≢true (ap is_clash (sym n.memory ∙ stop_told result told (Clash c) same)));
-        first = λ m c same. absurd (false≢true (ap is_clash (sym n.memory ∙ stop_told result told (Clash c) same)));
+        clash = λ m c same. absurd (false≢true (ap is_clash (sym n.memory ∙ stop_told result told (Clash c) same)));
         sessions = ap (λ (hs : List (Hand S)). length (seen_in hs)) n.hands;
         went_on = λ i lt. subst (λ (hs : List (Hand S)). WentOn (seen_at (seen_in hands) i) (seen_at (seen_in hs) i)) (sym n.hands) (went_on_not (seen_at (seen_in hands) i));
         names = subst (λ (x : Naming). IsGrown parts.names.names x.names) (sym n.names) (grown_not parts.names.names);
@@ -258,8 +254,7 @@ module _ {S : Type 0} (batch : List (List ℕ)) where
         refused = again_is ∙ refused_is refused stop result told;
         sticks = λ no. absurd (no may);
         history = λ m. inl (record { entries = w.entries; state = w.state; replays = replayed; kept = w.kept; naming = w.names; stop = w.stop_is });
-        new = λ m c same. run_new w c (sym w.stop_is ∙ stop_told result told (Clash c) same);
-        first = λ m c same. subst (λ (l : List KeptAnswer). AreClear l (length parts.cache.kept) c.second) (sym w.kept) (run_first w c (sym w.stop_is ∙ stop_told result told (Clash c) same));
+        clash = λ m c same. subst (λ (l : List KeptAnswer). IsNewClash (length parts.cache.kept) l c) (sym w.kept) (run_clash w c (sym w.stop_is ∙ stop_told result told (Clash c) same));
         sessions = long w;
         went_on = run_went_on w;
         names = subst (λ (x : Naming). IsGrown parts.names.names x.names) (sym w.names) (run_names w);
@@ -417,6 +412,7 @@ oracle_settled batch before now result h = record {
   exactly = exactly result h.exactly;
   keeps = h.stands.keeps;
   stop = h.stop;
+  cause = λ may. cause result h.stop (h.clash may);
   refused = h.refused;
   same = record { inputs = h.inputs; outputs = h.outputs; names = same_declared before.naming now.naming h.kind h.declared; origins = h.origins; exact = refl };
 }
@@ -424,3 +420,14 @@ oracle_settled batch before now result h = record {
     exactly : (r : Result ⊤ AskStop) → OnOk r (GainsExactly batch before.kept now.kept) → OnOk r (true ≡ true → GainsExactly batch before.kept now.kept)
     exactly (Ok x) g = λ same. g
     exactly (Err e) g = tt
+
+    -- a system's stop is that of its session
+    cause : (r : Result ⊤ AskStop) → TellsStop r now.stop → ((c : _) → r ≡ Err (Clash c) → IsNewClash (length before.kept) now.kept c) → IfErr r (IsSettleCause (oracle_of before) (oracle_of now))
+    cause (Ok x) told clash = tt
+    cause (Err (Sul i stop)) told clash =
+        let why = subst (IsStopOf (seen_of now) now.kept) told h.stands.why in (
+          subst (λ (n : ℕ). i < n) (sym (length-map (seen_of now) (λ (s : Seen). s.origin))) why.0,
+          get_or-map (λ (s : Seen). s.stop) (seen_of now) i nobody None why.0 ∙ why.1,
+        )
+    cause (Err (Clash c)) told clash = clash c refl
+    cause (Err NoMemory) told clash = tt

@@ -8,11 +8,12 @@ use Rattle.lw_mealy.specs.Origin.{Origin}
 use Rattle.lw_names.specs.Names.{named, IsGrown}
 use Rattle.lw_sul.specs.SessionState.{SessionState}
 use Rattle.lw_sul.specs.declared.runs.Run.{Run}
+use Rattle.lw_cache.specs.FirstClash.{CameFirst}
 use Rattle.lw_cache.specs.Known.{IsKnown}
 use Rattle.lw_cache.specs.declared.stops.AskStop.{AskStop}
 use Rattle.lw_cache.specs.declared.stops.AskStop.TheVariants as Ask
 use Rattle.lw_names.specs.Naming.{Naming}
-use Rattle.lw_desk.specs.Ending.{NamedRun, CameFirst, kept_runs}
+use Rattle.lw_desk.specs.Ending.{NamedRun, kept_runs}
 
 -- what a session's system tells, and its journal
 pub record Seen : Type 0 where

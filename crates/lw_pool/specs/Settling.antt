@@ -1,11 +1,12 @@
 -- What settling a batch brings to a pool.
-use Rattle.std.specs.Prelude.{◌≡◌, ◌⊎◌, ℕ, ◌<◌, ◌≤◌, List, ◌++◌, length, map, Some, None, is_some, Result, Err, OnOk, ⊤}
+use Rattle.std.specs.Prelude.{◌≡◌, ◌⊎◌, ℕ, ◌<◌, List, ◌++◌, length, map, Some, None, is_some, Result, Err, OnOk, ⊤}
 use Rattle.std.specs.List.{All}
 use Rattle.lw_words.specs.Word.{answers_of}
 use Rattle.lw_words.specs.Name.{AllDiffer}
 use Rattle.lw_words.specs.declared.kept.KeptAnswer.{KeptAnswer}
 use Rattle.lw_cache.specs.Asked.{IsAsked}
 use Rattle.lw_cache.specs.Clash.{NothingClashes}
+use Rattle.lw_cache.specs.FirstClash.{IsNewClash}
 use Rattle.lw_cache.specs.Known.{IsKnown}
 use Rattle.lw_cache.specs.Settling.{GainsExactly, TellsStop, MayAsk, refused_after}
 use Rattle.lw_cache.specs.declared.stops.Clash.{Clash}
@@ -13,7 +14,6 @@ use Rattle.lw_cache.specs.declared.stops.AskStop.{AskStop}
 use Rattle.lw_cache.specs.declared.stops.AskStop.TheVariants as stopped
 use Rattle.lw_names.specs.Names.{IsGrown}
 use Rattle.lw_turn.specs.declared.shared.Entry.{Entry}
-use Rattle.lw_desk.specs.Ending.{AreClear}
 use Rattle.lw_desk.specs.History.{DeskOpening, Replays, opened}
 use Rattle.lw_desk.specs.Step.{DeskState}
 use Rattle.lw_desk.specs.declared.ask.Ask.{Ask}
@@ -65,8 +65,7 @@ pub record HasSettled {S : Type 0} (batch : List (List ℕ)) (before now : PoolS
   pub refused : now.refused ≡ refused_after before.refused result
   pub sticks : ¬ MayAsk before.stop → now ≡ before
   pub history : MayAsk before.stop → IsWorkedOff batch before now ⊎ IsPutOff before now
-  pub new : MayAsk before.stop → (c : Clash) → result ≡ Err (stopped.Clash c) → length before.kept ≤ c.second
-  pub first : MayAsk before.stop → (c : Clash) → result ≡ Err (stopped.Clash c) → AreClear now.kept (length before.kept) c.second
+  pub clash : MayAsk before.stop → (c : Clash) → result ≡ Err (stopped.Clash c) → IsNewClash (length before.kept) now.kept c
   -- the sessions have gone on; names only came to their end, and stay declared or free
   pub sessions : length (seen_of now) ≡ length (seen_of before)
   pub went_on : (i : ℕ) → i < length (seen_of before) → WentOn (seen_at (seen_of before) i) (seen_at (seen_of now) i)

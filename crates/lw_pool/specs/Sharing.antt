@@ -1,5 +1,5 @@
 -- A pool as an oracle, by a call that settles it.
-use Rattle.std.specs.Prelude.{ℕ, ◌<◌, ◌^◌, List, length, true, Option, Some, None, Result, ⊤}
+use Rattle.std.specs.Prelude.{ℕ, ◌<◌, ◌^◌, List, length, map, true, Option, Some, None, Result, ⊤}
 use Rattle.std.specs.Fn.{Shared}
 use Rattle.std.specs.List.{All}
 use denote.Ref.{Bor, MutBor}
@@ -15,7 +15,7 @@ declared_by names None = Some names
 declared_by names (Some brought) = None
 
 abbrev pub oracle_of : {S : Type 0} → PoolState S → OracleState
-oracle_of p = record { inputs = p.inputs; outputs = p.outputs; names = declared_by p.naming.names p.naming.brought; kept = p.kept; origins = origins_of (seen_of p); stop = p.stop; refused = p.refused; exact = true }
+oracle_of p = record { inputs = p.inputs; outputs = p.outputs; names = declared_by p.naming.names p.naming.brought; kept = p.kept; origins = origins_of (seen_of p); stopped = map (λ s. s.stop) (seen_of p); stop = p.stop; refused = p.refused; exact = true }
 
 -- the call may be made with each batch of fewer than 2^32 words over the inputs, and settles it
 pub record SettlesBatches {P F : Type 0} (state : P → OracleState) (g : Shared F (MutBor P × (Bor (List (List ℕ)) × Unit {0})) (Result ⊤ AskStop × (MutBor P × Unit {0}))) (call : F) : Type 0 where

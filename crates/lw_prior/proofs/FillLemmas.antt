@@ -10,12 +10,11 @@ use Rattle.lw_words.specs.Word.{Answer, answer_of, answers_of, answer_at, IsWhol
 use Rattle.lw_words.specs.declared.kept.KeptAnswer.{KeptAnswer}
 use Rattle.lw_cache.specs.Caching.{Caching}
 use Rattle.lw_cache.specs.Clash.{Clash, NothingClashes, IsClearAfter}
-use Rattle.lw_cache.specs.FirstClash.{ClashesFirst, StopsKeeping}
+use Rattle.lw_cache.specs.FirstClash.{ClashesFirst, IsFirstClash, StopsKeeping}
 use Rattle.lw_cache.specs.declared.stops.KeepStop.{KeepStop}
 use Rattle.lw_cache.specs.declared.stops.KeepStop.TheVariants as Stopped
 use Rattle.lw_cache.specs.declared.stops.Clash.{Clash as Found}
 use Rattle.lw_cache.proofs.ClashLemmas.{all_are_clear, unclashed_after}
-use Rattle.lw_prior.specs.FirstClash.{IsFirstClash}
 use Rattle.lw_prior.specs.Prior.{HasFirstClash}
 
 abbrev blank : Answer

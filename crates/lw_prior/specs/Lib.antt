@@ -1,3 +1,2 @@
-pub mod FirstClash
 pub mod Prior
 pub mod bodies

@@ -6,7 +6,7 @@ use Rattle.lw_names.specs.Names.{name_at}
 use Rattle.lw_cache.specs.Clash.{NothingClashes}
 use Rattle.lw_cache.specs.declared.stops.Clash.{Clash}
 use Rattle.lw_names.specs.Naming.{number_in}
-use Rattle.lw_prior.specs.FirstClash.{IsFirstClash}
+use Rattle.lw_cache.specs.FirstClash.{IsFirstClash}
 
 -- an answer under the instance 16 and this run, its outputs by the numbers that their names have in another list
 abbrev pub prior_answer : ℕ → (own names : List (List ℕ)) → KeptAnswer → KeptAnswer

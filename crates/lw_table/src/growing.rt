@@ -46,6 +46,7 @@ impl ObservationTable {
         Ok(words)
     }
 
+    #[tactic(auto, using(lw_cache::proofs::SettlingLemmas::leaves_nothing))]
     /// Makes the word of a row an access word, and fills the cells of its extensions.
     fn add_state<O: Oracle>(&mut self, oracle: &mut O, row: usize) -> Result<(), GrowStop>
         requires can { O.can_settle oracle.old }

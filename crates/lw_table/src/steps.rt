@@ -21,6 +21,7 @@ use lw_words::{NoMemory, Word, Words};
 use std::alloc::Global;
 use std::collections::HashMap;
 
+#[tactic(auto, using(lw_cache::proofs::SettlingLemmas::leaves_settled))]
 /// Asks for the cells that aren't filled, of the rows from one on: these rows, with their cells filled.
 fn answered<O: Oracle>(
     oracle: &mut O,

@@ -1,20 +1,20 @@
 -- What comes of a learning of a machine: no stop but the learning's own, and a model where the limits allow one.
-use Rattle.std.proofs.Common.{◌≡◌, ℕ, zero, suc, ◌<◌, List, [], ◌∷◌, length, map, take, Option, None, Result, Ok, Err, IfOk, IfErr, is_some, get_or-take, refl, ap, sym, ◌∙◌, subst, subst₂, arith}
+use Rattle.std.proofs.Common.{◌≡◌, ℕ, zero, suc, ◌<◌, List, [], ◌∷◌, length, map, None, Result, Ok, Err, IfOk, IfErr, is_some, get_or-take, refl, ap, sym, ◌∙◌, subst, subst₂, arith}
 use Rattle.std.proofs.lemmas.Bool.{false≢true}
-use Rattle.std.proofs.lemmas.List.{length-map, length-take-le, take-map}
-use Rattle.lw_words.specs.Word.{Answer, AreAnswers, answer_at, answer_of, answers_of}
+use Rattle.std.proofs.lemmas.List.{length-take-le}
+use Rattle.lw_words.specs.Word.{Answer, AreAnswers, answer_at, answers_of}
 use Rattle.lw_words.specs.declared.kept.KeptAnswer.{KeptAnswer}
 use Rattle.lw_mealy.specs.Machine.{Gives, MealyMachine, Rows}
 use Rattle.lw_sul.specs.SessionState.{SessionState}
-use Rattle.lw_cache.specs.Clash.{ClashAt}
-use Rattle.lw_cache.specs.Settling.{LeavesStop}
-use Rattle.lw_cache.specs.declared.stops.AskStop.{AskStop}
+use Rattle.lw_cache.specs.Clash.{ClashAt, NothingClashes}
+use Rattle.lw_cache.specs.FirstClash.{IsFirstClash}
+use Rattle.lw_cache.specs.Settling.{IsStopCause, LeavesStop, MayAsk}
 use Rattle.lw_cache.specs.declared.stops.AskStop.TheVariants as ask
 use Rattle.lw_cache.specs.declared.stops.Clash.{Clash}
 use Rattle.lw_cache.proofs.ClashLemmas.{given_never_clash}
-use Rattle.lw_desk.specs.Ending.{CameFirst}
 use Rattle.lw_names.specs.Naming.{Naming}
-use Rattle.lw_pool.specs.Pool.{Seen, Member, PoolState, IsStopOf, seen_at, seen_of}
+use Rattle.lw_pool.specs.Pool.{Member, PoolState, IsStopOf, seen_at, seen_of}
+use Rattle.lw_pool.specs.Sharing.{oracle_of}
 use Rattle.lw_rounds.specs.Laws.{ModelIsLeast, TooManyIsNone, TooLargeForAll}
 use Rattle.lw_rounds.specs.Learned.{IsLearned, StopsAs}
 use Rattle.lw_rounds.specs.Stops.{learn_stop, IsOwnStop}
@@ -27,32 +27,28 @@ use Rattle.lw_workers.specs.Machines.{IsMachineStop, KeepsRuns, IsReached, IsWit
 use Rattle.lw_workers.specs.bodies.Instances.{IsPoolOf}
 use Rattle.lw_workers.proofs.RunLemmas.{keeps_runs}
 
--- of answers that a machine gives, none clashed with those before it
-pub no_clash_came : (m : Rows) (kept : List KeptAnswer) (c : Clash) → Gives m (answers_of kept) → ¬ CameFirst kept c
-no_clash_came m kept c gives came =
+-- of answers that a machine gives, there are no first two that clash
+pub no_first_clash : (m : Rows) (ks : List Answer) (c : Clash) → Gives m ks → ¬ IsFirstClash ks c
+no_first_clash m ks c gives is =
     let none : Answer = record { word = []; outs = [] } in
-    let long : length (answers_of (take c.second kept)) ≡ length (take c.second kept) = length-map (take c.second kept) answer_of in
-    let before : c.first < c.second = omega (arith, came.came.clear.0, long, length-take-le c.second kept (omega (arith, came.within))) in
-    let within : c.second < length (answers_of kept) = omega (arith, came.within, length-map kept answer_of) in
-    let one : answer_at (answers_of (take c.second kept)) c.first ≡ answer_at (answers_of kept) c.first =
-    ap (λ (ks : List Answer). answer_at ks c.first) (sym (take-map answer_of c.second kept))
-    ∙ get_or-take c.second (answers_of kept) c.first none before in
-    given_never_clash m (answers_of kept) gives c.first c.second none before within (c.place, subst (λ (k : Answer). ClashAt k (answer_at (answers_of kept) c.second) c.place) one came.came.here)
+    let before : c.first < c.second = omega (arith, is.here.clear.0, length-take-le c.second ks (omega (arith, is.within))) in
+    given_never_clash m ks gives c.first c.second none before is.within
+    (c.place, subst (λ (k : Answer). ClashAt k (answer_at ks c.second) c.place) (get_or-take c.second ks c.first none before) is.here.here)
 
--- where no system stops, a stop is out of memory or a clash that came
-module _ (seen : List Seen) (kept : List KeptAnswer) (never : (i : ℕ) → (seen_at seen i).stop ≡ None) where
-  learn_caused : (r : Result Learned LearnStop) (now : Option AskStop) → IsStopOf seen kept now → LeavesStop (learn_stop r) now → IfErr r (IsMachineStop kept)
-  learn_caused (Ok l) now why left = tt
-  learn_caused (Err (learn.Ask (ask.Sul i s))) now why left = let stopped = subst (IsStopOf seen kept) left why in absurd (false≢true (ap is_some (sym (never i) ∙ stopped.1)))
-  learn_caused (Err (learn.Ask (ask.Clash c))) now why left = subst (IsStopOf seen kept) left why
-  learn_caused (Err (learn.Ask ask.NoMemory)) now why left = tt
-  learn_caused (Err (learn.Crowd words)) now why left = tt
-  learn_caused (Err (learn.TooLarge model number)) now why left = tt
+-- where no system stops, a stop is out of memory or the first clash
+module _ {S : Type 0} (now : PoolState S) (never : (i : ℕ) → (seen_at (seen_of now) i).stop ≡ None) where
+  learn_caused : (r : Result Learned LearnStop) → IsStopOf (seen_of now) now.kept now.stop → LeavesStop (learn_stop r) now.stop → IsStopCause (oracle_of now) (learn_stop r) → IfErr r (IsMachineStop now.kept)
+  learn_caused (Ok l) why left cause = tt
+  learn_caused (Err (learn.Ask (ask.Sul i s))) why left cause = let stopped = subst (IsStopOf (seen_of now) now.kept) left why in absurd (false≢true (ap is_some (sym (never i) ∙ stopped.1)))
+  learn_caused (Err (learn.Ask (ask.Clash c))) why left cause = cause
+  learn_caused (Err (learn.Ask ask.NoMemory)) why left cause = tt
+  learn_caused (Err (learn.Crowd words)) why left cause = tt
+  learn_caused (Err (learn.TooLarge model number)) why left cause = tt
 
 -- and where a machine gives the answers, it is no clash
 pub own_stop : (m : Rows) (kept : List KeptAnswer) → Gives m (answers_of kept) → (stop : LearnStop) → IsMachineStop kept stop → IsOwnStop stop
 own_stop m kept gives (learn.Ask (ask.Sul i s)) caused = absurd caused
-own_stop m kept gives (learn.Ask (ask.Clash c)) caused = absurd (no_clash_came m kept c gives caused)
+own_stop m kept gives (learn.Ask (ask.Clash c)) caused = absurd (no_first_clash m (answers_of kept) c gives caused)
 own_stop m kept gives (learn.Ask ask.NoMemory) caused = refl
 own_stop m kept gives (learn.Crowd words) caused = tt
 own_stop m kept gives (learn.TooLarge model number) caused = tt
@@ -88,16 +84,17 @@ pub record HasEnded (kind : Kind) (t : MealyMachine) (workers k most : ℕ) (pri
   pub runs : KeepsRuns t workers prior kept
 
 pub has_ended : {S : Type 0} (kind : Kind) (t : MealyMachine) (workers k most : ℕ) (names : Naming) (prior : List KeptAnswer) (before now : PoolState S) (learned : Result Learned LearnStop) (kept : List KeptAnswer) → ModelIsLeast → TooManyIsNone → TooLargeForAll
-    → IsPoolOf t workers names prior before → HasLearned before now (learn_stop learned)
+    → IsPoolOf t workers names prior before → NothingClashes (answers_of prior) → HasLearned before now (learn_stop learned)
     → ((i : ℕ) → (seen_at (seen_of now) i).stop ≡ None)
     → IfOk learned (λ l. IsLearned kind before.inputs before.outputs k most (answers_of now.kept) l.model l.learner)
     → IfErr learned (StopsAs before.inputs before.outputs k most (answers_of now.kept))
     → kept ≡ now.kept → HasEnded kind t workers k most prior learned kept
-has_ended kind t workers k most names prior before now learned kept least none large is left never ok stops same =
+has_ended kind t workers k most names prior before now learned kept least none large is nothing left never ok stops same =
     let runs : KeepsRuns t workers prior now.kept = keeps_runs t workers names prior before now (learn_stop learned) is left in
     let ok_of = subst₂ (λ (a b : ℕ). IfOk learned (λ l. IsLearned kind a b k most (answers_of now.kept) l.model l.learner)) is.inputs is.outputs ok in
     let stops_of = subst₂ (λ (a b : ℕ). IfErr learned (StopsAs a b k most (answers_of now.kept))) is.inputs is.outputs stops in
-    let caused_of = learn_caused (seen_of now) now.kept never learned now.stop left.stands.why left.leaves.told in
+    let cause = left.leaves.cause (subst MayAsk (sym is.stop) tt) (subst (λ (ks : List KeptAnswer). NothingClashes (answers_of ks)) (sym is.kept) nothing) in
+    let caused_of = learn_caused now never learned left.stands.why left.leaves.told cause in
     subst (HasEnded kind t workers k most prior learned) (sym same) (record {
       ok = ok_of;
       stops = stops_of;

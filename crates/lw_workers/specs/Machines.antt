@@ -4,8 +4,8 @@ use Rattle.std.specs.List.{All, range_with_len}
 use Rattle.lw_words.specs.Word.{AreAnswers, answers_of, IsWord}
 use Rattle.lw_words.specs.declared.kept.KeptAnswer.{KeptAnswer}
 use Rattle.lw_mealy.specs.Machine.{Gives, MealyMachine, Rows, IsMachine}
+use Rattle.lw_cache.specs.FirstClash.{IsFirstClash}
 use Rattle.lw_cache.specs.declared.stops.AskStop.TheVariants as ask
-use Rattle.lw_desk.specs.Ending.{CameFirst}
 use Rattle.lw_pool.specs.Pool.{AskedOnce}
 use Rattle.lw_suite.specs.Size.{suite_size, greatest_suite}
 use Rattle.lw_rounds.specs.Learner.{refinements_of}
@@ -30,11 +30,11 @@ pub record KeepsRuns (t : MealyMachine) (instances : ℕ) (prior kept : List Kep
   pub gives : Gives t.rows (answers_of since)
   pub once : AskedOnce prior kept
 
--- why a learning of a machine stopped, by the kept answers: no instance stops; a clash is that of an answer that clashed with
--- those kept before it, which takes a prior answer that isn't the machine's
+-- why a learning of a machine stopped, by the kept answers: no instance stops; a clash is that of the first two of them that no
+-- one machine gives, which takes a prior answer that isn't the machine's
 abbrev pub IsMachineStop : List KeptAnswer → LearnStop → Type 0
 IsMachineStop kept (learn.Ask (ask.Sul instance stop)) = ⊥
-IsMachineStop kept (learn.Ask (ask.Clash c)) = CameFirst kept c
+IsMachineStop kept (learn.Ask (ask.Clash c)) = IsFirstClash (answers_of kept) c
 IsMachineStop kept (learn.Ask ask.NoMemory) = Unit {0}
 IsMachineStop kept (learn.Crowd words) = Unit {0}
 IsMachineStop kept (learn.TooLarge model number) = Unit {0}

@@ -29,6 +29,7 @@ state_of t = record {
   names = None;
   kept = t.kept;
   origins = oracle_origins t.machine;
+  stopped = None ∷ [];
   stop = t.stop;
   refused = t.refused;
   exact = false;

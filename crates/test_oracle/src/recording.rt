@@ -1,10 +1,11 @@
 //! A machine that answers one word after another, and keeps the batches that it was asked.
-ghost use Rattle.std.specs.Prelude.{◌≡◌, ◌^◌, ◌<◌, List, [], length, OnOk, None, false};
+ghost use Rattle.std.specs.Prelude.{◌≡◌, ◌^◌, ◌<◌, List, [], length, IfErr, OnOk, None, false};
 ghost use Rattle.std.specs.List.{All};
 ghost use Rattle.lw_words.specs.Word.{answers_of, IsWord};
 ghost use Rattle.lw_cache.specs.Clash.{NothingClashes};
 ghost use Rattle.lw_cache.specs.Known.{IsKnown};
 ghost use Rattle.lw_cache.specs.Settling.{GainsAnswers};
+ghost use Rattle.lw_cache.specs.declared.stops.AskStop.TheVariants.{NoMemory as Short};
 ghost use Rattle.test_oracle.specs.Recording.{KeepsOf, HasAskedOracle};
 
 use lw_cache::{AskStop, Cache, KeepStop, Known, Oracle};
@@ -102,7 +103,7 @@ fn record(alloc: Global, batches: &mut Vec<Words>, batch: &[Word]) -> Result<(),
     Ok(())
 }
 
-/// Lets the machine answer a word that isn't known.
+/// Lets the machine answer a word that isn't known. Its answers never clash, so it stops only where memory runs out.
 fn answer_one(m: &Mealy, cache: &mut Cache, w: &Word) -> Result<(), AskStop>
     requires letters { IsWord m.now.inputs w.now }
     requires unclaimed { cache.old.claims ≡ [] }
@@ -112,6 +113,7 @@ fn answer_one(m: &Mealy, cache: &mut Cache, w: &Word) -> Result<(), AskStop>
     ensures unclashed { OnOk result (NothingClashes (answers_of cache.old.kept) →
         NothingClashes (answers_of cache.new.kept)) }
     ensures claims { cache.new.claims ≡ [] }
+    ensures short { IfErr result (λ stop. stop ≡ Short) }
 {
     let _ = m.inputs();
     if let Known::Yes = cache.known(w) {
@@ -138,6 +140,7 @@ fn answer_all(m: &Mealy, cache: &mut Cache, batch: &[Word]) -> Result<(), AskSto
     ensures unclashed { OnOk result (NothingClashes (answers_of cache.old.kept) →
         NothingClashes (answers_of cache.new.kept)) }
     ensures claims { cache.new.claims ≡ [] }
+    ensures short { IfErr result (λ stop. stop ≡ Short) }
 {
     for w in batch {
         answer_one(m, cache, w)?;
@@ -163,6 +166,7 @@ fn record_and_answer(
     ensures unclashed { OnOk result (NothingClashes (answers_of cache.old.kept) →
         NothingClashes (answers_of cache.new.kept)) }
     ensures claims { cache.new.claims ≡ [] }
+    ensures short { IfErr result (λ stop. stop ≡ Short) }
 {
     let is_refused = refuses == Some(batches.len());
     record(alloc, batches, batch)?;

@@ -1,5 +1,5 @@
 -- What a history of a desk has come to: which words were answered, which instance's runs the answers are, and why it stopped.
-use Rattle.std.specs.Prelude.{◌≡◌, ℕ, ◌<◌, ◌≤◌, List, [], ◌∷◌, ◌++◌, length, map, Some, None, Contains}
+use Rattle.std.specs.Prelude.{◌≡◌, ℕ, ◌<◌, List, [], ◌∷◌, ◌++◌, length, map, Some, None, Contains}
 use Rattle.std.specs.List.{All}
 use Rattle.lw_words.specs.Word.{answers_of}
 use Rattle.lw_words.specs.Name.{AllDiffer}
@@ -9,6 +9,7 @@ use Rattle.lw_words.specs.declared.stop.RunStop.TheVariants as Run
 use Rattle.lw_names.specs.Names.{named}
 use Rattle.lw_cache.specs.Asked.{IsAsked, AreAsked}
 use Rattle.lw_cache.specs.Clash.{NothingClashes}
+use Rattle.lw_cache.specs.FirstClash.{IsNewClash}
 use Rattle.lw_cache.specs.Known.{IsKnown}
 use Rattle.lw_cache.specs.declared.stops.Clash.{Clash}
 use Rattle.lw_cache.specs.declared.stops.AskStop.TheVariants as Ask
@@ -17,7 +18,7 @@ use Rattle.lw_turn.specs.History.{entries_of}
 use Rattle.lw_names.specs.Naming.{own_names}
 use Rattle.lw_desk.specs.Step.{DeskState, word_at_place}
 use Rattle.lw_desk.specs.History.{DeskOpening}
-use Rattle.lw_desk.specs.Ending.{NamedRun, kept_runs, CameFirst, AreClear}
+use Rattle.lw_desk.specs.Ending.{NamedRun, kept_runs}
 use Rattle.lw_desk.specs.declared.ask.Ask.{Ask}
 use Rattle.lw_desk.specs.declared.ask.Reply.{Reply}
 use Rattle.lw_desk.specs.declared.ask.Give.{Give}
@@ -64,4 +65,4 @@ FailedBy es actor stop = (e : Entry Ask Reply) × Contains es e × (e.actor ≡ 
 -- that clashes with a clear one
 pub record StopIs (o : DeskOpening) (es : List (Entry Ask Reply)) (t : DeskState) : Type 0 where
   pub sul : (actor : ℕ) (stop : SulStop) → t.stop ≡ Some (Ask.Sul actor stop) → FailedBy es actor stop
-  pub clash : (c : Clash) → t.stop ≡ Some (Ask.Clash c) → (length o.kept ≤ c.second) × CameFirst t.kept c × AreClear t.kept (length o.kept) c.second
+  pub clash : (c : Clash) → t.stop ≡ Some (Ask.Clash c) → IsNewClash (length o.kept) t.kept c

@@ -10,7 +10,7 @@ use Rattle.lw_json.specs.declared.answers.Answers.{Answers}
 use Rattle.lw_outside.specs.Files.{File, FilesState}
 use Rattle.lw_wordlist.specs.Lines.{lines_in}
 use Rattle.lw_wordlist.specs.Words.{IsFirstUnknown}
-use Rattle.lw_prior.specs.FirstClash.{IsFirstClash}
+use Rattle.lw_cache.specs.FirstClash.{IsFirstClash}
 use Rattle.lw_prior.specs.Prior.{prior_answers}
 use Rattle.lw_system.specs.Reading.{ReadsFile}
 use Rattle.lw_report.specs.declared.outcome.Outcome.{Outcome}

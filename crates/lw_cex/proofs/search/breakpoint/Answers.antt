@@ -1,7 +1,15 @@
 use Rattle.std.proofs.Common.{None, rules}
 use Rattle.lw_cex.proofs.SearchLemmas.{asks_then, lower_half, upper_half}
-use Rattle.lw_cache.proofs.SettlingLemmas.{leaves_handed, leaves_then}
+use Rattle.lw_cache.proofs.SettlingLemmas.{leaves_handed, leaves_nothing, leaves_then}
 use Rattle.lw_cex.proofs.search.breakpoint.Goals as goal
+
+pub loop-high-init : goal.loop-high-init
+loop-high-init g c = record {
+  between = search rules;
+  asks = search rules;
+  leaves = leaves_nothing (g.O.Oracle.state c.args.oracle.now) c.requires.keeps c.requires.may;
+  can = c.requires.can;
+}
 
 pub returns-in_err-agrees_at-clause-asks : goal.returns-in_err-agrees_at-clause-asks
 returns-in_err-agrees_at-clause-asks g c =

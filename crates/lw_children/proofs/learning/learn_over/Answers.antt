@@ -1,8 +1,9 @@
-use Rattle.std.proofs.Common.{◌∙◌, ℕ, ap, sym, subst, subst₂, arith, length, List, Result, Err}
+use Rattle.std.proofs.Common.{◌∙◌, ℕ, ap, sym, subst, subst₂, arith, length, List, Result, Err, OnOk}
 use Rattle.std.specs.List.{All}
 use Rattle.lw_words.specs.Word.{answers_of, IsWord}
 use Rattle.lw_words.specs.declared.kept.KeptAnswer.{KeptAnswer}
 use Rattle.lw_cache.specs.Clash.{NothingClashes}
+use Rattle.lw_cache.specs.Settling.{MayAsk}
 use Rattle.lw_names.specs.Naming.{Naming}
 use Rattle.lw_desk.specs.Ending.{IsShared}
 use Rattle.lw_pool.specs.Sharing.{declared_by}
@@ -10,6 +11,7 @@ use Rattle.lw_rounds.specs.declared.learned.Learned.{Learned}
 use Rattle.lw_rounds.specs.declared.stops.LearnStop.{LearnStop}
 use Rattle.lw_children.proofs.AskedLemmas.{asked_never, cut_never}
 use Rattle.lw_children.proofs.ComingUp.{came_up_as, first_come_up}
+use Rattle.lw_workers.specs.Asking.{AnswersWords}
 use Rattle.lw_children.proofs.EndLemmas.{all_linked, begun_linked, begun_pool, given_up, of_pool, refused_pool}
 use Rattle.lw_children.proofs.PoolLemmas.{children_join, first_lists, first_shared}
 use Rattle.lw_children.proofs.learning.learn_over.Goals as goal
@@ -45,7 +47,7 @@ pub retire_all-requires-clause-linked : goal.retire_all-requires-clause-linked
 retire_all-requires-clause-linked g c κs within = all_linked g.P.Link.Link.state c.args.command.now.words c.args.command.now.inputs c.args.command.now.outputs c.args.settings.workers (g.P.Spawner.state c.args.spawner.now) (g.P.Spawner.state c.start_all.new.spawner) c.in-Ok.sessions.items c.in-Ok.ensures.made c.in-Ok.ensures.all c.in-Ok.ensures.count c.in-Err-new.sessions.items (ap (λ v. v.items) c.in-Err-new.ensures.back.0)
 
 pub returns-in-Ok-new-clause-found : goal.returns-in-Ok-new-clause-found
-returns-in-Ok-new-clause-found g c = of_pool c.args.settings.kind g.P.Link.Link.state c.args.command.now.words c.args.command.now.inputs c.args.command.now.outputs c.args.settings.workers c.args.settings.extra c.args.settings.max_states c.args.start.cache.kept (g.P.Spawner.state c.args.spawner.now) (g.P.Spawner.state c.start_all.new.spawner) (g.P.Spawner.state c.learn_and_retire.new.spawner) c.in-Ok.sessions.items c.in-Ok.ensures.made.new c.in-Ok.ensures.all c.in-Ok.ensures.count c.in-Ok-new.pool (sym c.in-Ok-new.ensures.members) (c.in-Ok-new.ensures.begun.0 ∙ c.requires.named) c.in-Ok-new.ensures.begun.1 (c.in-Ok-new.ensures.numbers.0 ∙ c.len-inputs.ensures.value) (c.in-Ok-new.ensures.numbers.1 ∙ c.count_outputs-outputs.ensures.count) c.in-Ok-new.ensures.begun.4 c.learn_and_retire.result.learned c.learn_and_retire.result.kept.answers c.learn_and_retire.result.names c.learn_and_retire.ensures.ended c.model_is_least.ensures c.too_many_is_none.ensures c.too_large_for_all.ensures
+returns-in-Ok-new-clause-found g c = of_pool c.args.settings.kind g.P.Link.Link.state c.args.command.now.words c.args.command.now.inputs c.args.command.now.outputs c.args.settings.workers c.args.settings.extra c.args.settings.max_states c.args.start.cache.kept (g.P.Spawner.state c.args.spawner.now) (g.P.Spawner.state c.start_all.new.spawner) (g.P.Spawner.state c.learn_and_retire.new.spawner) c.in-Ok.sessions.items c.in-Ok.ensures.made.new c.in-Ok.ensures.all c.in-Ok.ensures.count c.in-Ok-new.pool (sym c.in-Ok-new.ensures.members) (c.in-Ok-new.ensures.begun.0 ∙ c.requires.named) c.in-Ok-new.ensures.begun.1 (c.in-Ok-new.ensures.numbers.0 ∙ c.len-inputs.ensures.value) (c.in-Ok-new.ensures.numbers.1 ∙ c.count_outputs-outputs.ensures.count) c.in-Ok-new.ensures.begun.4 (subst MayAsk (sym c.in-Ok-new.ensures.begun.3) tt) (subst (λ (ks : List KeptAnswer). NothingClashes (answers_of ks)) (sym c.in-Ok-new.ensures.begun.2) c.requires.nothing) c.learn_and_retire.result.learned c.learn_and_retire.result.kept.answers c.learn_and_retire.result.names c.learn_and_retire.ensures.ended c.model_is_least.ensures c.too_many_is_none.ensures c.too_large_for_all.ensures
 
 pub returns-clause-found : goal.returns-clause-found
 returns-clause-found g c = refused_pool g.P.Link.Link.state c.args.command.now.words c.args.command.now.inputs c.args.command.now.outputs c.args.settings.workers (g.P.Spawner.state c.args.spawner.now) (g.P.Spawner.state c.start_all.new.spawner) c.in-Ok.sessions.items c.in-Ok.ensures.made c.in-Ok.ensures.all c.in-Ok.ensures.count c.args.settings.kind c.args.settings.extra c.args.settings.max_states c.args.start.cache.kept (g.P.Spawner.state c.retire_all.new.spawner) c.args.start.names c.in-Err-new.sessions.items c.requires.prior (ap (λ v. v.items) c.in-Err-new.ensures.back.0) c.retire_all.ensures (Err c.from.result) c.into_kept.result.answers c.in-Err-new.names.names (ap (λ (e : LearnStop). let r : Result Learned LearnStop = Err e in r) c.from.ensures) (c.into_kept.ensures ∙ ap (λ k. k.kept) c.in-Err-new.ensures.back.2) (ap (λ (n : Naming). n.names) c.in-Err-new.ensures.back.1)
@@ -77,3 +79,7 @@ returns-in-Err-clause-asked g c = asked_never c.args.start.words c.give_up.resul
 
 pub returns-in-Err-clause-cut : goal.returns-in-Err-clause-cut
 returns-in-Err-clause-cut g c = cut_never c.give_up.result.learned c.give_up.result.cut c.give_up.ensures.cut
+
+pub returns-in-Ok-new-clause-asked : goal.returns-in-Ok-new-clause-asked
+returns-in-Ok-new-clause-asked g c =
+    subst (λ (words : List (List ℕ)). OnOk c.learn_and_retire.result.learned (AnswersWords words c.learn_and_retire.result.kept.answers)) c.as_slice.ensures c.learn_and_retire.ensures.asked

@@ -1,7 +1,7 @@
 use Rattle.std.proofs.Common.{Option, None, rules}
 use Rattle.lw_words.specs.Word.{answers_of}
 use Rattle.lw_mealy.specs.Machine.{MealyMachine}
-use Rattle.lw_cache.proofs.SettlingLemmas.{leaves_then}
+use Rattle.lw_cache.proofs.SettlingLemmas.{leaves_nothing, leaves_then}
 use Rattle.lw_rounds.specs.bodies.Rounds.{StopsFrom}
 use Rattle.lw_rounds.proofs.RoundLemmas.{alike_then, stops_alike, told_stops}
 use Rattle.lw_rounds.proofs.StopLemmas.{leaves_learn_handed}
@@ -22,6 +22,15 @@ returns-in_err-model-clause-stops g c =
     let ks = answers_of (g.O.Oracle.state c.round.new.oracle).kept in
     let stop = c.in_err-model.field-0.0 in
     told_stops (StopsFrom l c.args.settings.extra ks) stop c.from_residual.result (search rules) (stops_alike l c.loop-model.learner c.args.settings.extra ks stop c.loop-model.invariant.alike c.in_err-model.ensures.stops)
+
+pub loop-model-init : goal.loop-model-init
+loop-model-init g c =
+    record {
+      ready = c.requires.ready;
+      alike = search rules;
+      leaves = leaves_nothing (g.O.Oracle.state c.args.oracle.now) c.requires.ready.keeps c.requires.ready.may;
+      can = c.requires.can;
+    }
 
 pub loop-model-preserved : goal.loop-model-preserved
 loop-model-preserved g c =

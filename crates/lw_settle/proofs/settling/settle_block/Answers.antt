@@ -8,7 +8,7 @@ use Rattle.lw_cache.specs.Settling.{Leaves, asked_stop, grown_stop}
 use Rattle.lw_cache.specs.declared.stops.AskStop.{AskStop}
 use Rattle.lw_cache.specs.declared.stops.AskStop.TheVariants.{NoMemory}
 use Rattle.lw_cache.specs.declared.stops.GrowStop.TheVariants.{Ask}
-use Rattle.lw_cache.proofs.SettlingLemmas.{leaves_nothing, leaves_settled, leaves_grown_own, leaves_then}
+use Rattle.lw_cache.proofs.SettlingLemmas.{leaves_nothing, leaves_settled, leaves_grown_handed, leaves_grown_own, leaves_then}
 use Rattle.lw_tree.specs.Blocks.{MayReplace}
 use Rattle.lw_tree.specs.Tree.{TreeState, BranchesAreRead}
 use Rattle.lw_tree.proofs.BranchLemmas.{branches_more}
@@ -133,3 +133,13 @@ returns-clause-leaves g c =
     let p = g.O.Oracle.state c.close.new.oracle in
     let settled : Leaves o n None = subst (λ (stop : Option AskStop). Leaves o n stop) (ap asked_stop c.in_ok-settle.was) (leaves_settled c.as_slice.result.now o n c.settle.result c.settle.ensures.settles) in
     leaves_then o n p None settled c.in_ok-close.ensures.leaves
+
+pub returns-in_default-clause-leaves : goal.returns-in_default-clause-leaves
+returns-in_default-clause-leaves g c = leaves_nothing (g.O.Oracle.state c.args.oracle.now) c.cache.ensures.keeps c.requires.may
+
+pub returns-in_err-settle-clause-leaves : goal.returns-in_err-settle-clause-leaves
+returns-in_err-settle-clause-leaves g c =
+    let o = g.O.Oracle.state c.args.oracle.now in
+    let n = g.O.Oracle.state c.settle.new.self in
+    leaves_grown_handed o n c.in_err-settle.field-0.0 c.from_residual-in_err-settle.result
+    (subst (λ (stop : Option AskStop). Leaves o n stop) (ap asked_stop c.in_err-settle.was) (leaves_settled c.as_slice.result.now o n c.settle.result c.settle.ensures.settles)) (search rules)

@@ -7,7 +7,7 @@ use Rattle.lw_cache.specs.Settling.{asked_stop, Leaves}
 use Rattle.lw_cache.specs.declared.stops.AskStop.{AskStop}
 use Rattle.lw_tree.specs.Grown.{HasGrown, TellsCrowd}
 use Rattle.lw_cache.specs.declared.stops.AskStop.TheVariants.{NoMemory}
-use Rattle.lw_cache.proofs.SettlingLemmas.{leaves_nothing, leaves_settled, leaves_grown_own}
+use Rattle.lw_cache.proofs.SettlingLemmas.{leaves_nothing, leaves_settled, leaves_grown_handed, leaves_grown_own}
 use Rattle.lw_tree.specs.Tree.{TreeState, BranchesAreRead}
 use Rattle.lw_tree.proofs.BranchLemmas.{branches_more}
 use Rattle.lw_tree.proofs.CloseLemmas.{stopped_level, not_levelled}
@@ -79,3 +79,16 @@ returns-in_err-advance_all-clause-leaves g c =
     let n = g.O.Oracle.state c.settle.new.self in
     let stop = c.in_err-advance_all.field-0.0 in
     leaves_after o n stop c.from_residual-in_err-advance_all.result (subst (λ (stop : Option AskStop). Leaves o n stop) (ap asked_stop c.in_ok-settle.was) (leaves_settled c.as_slice.result.now o n c.settle.result c.settle.ensures.settles)) c.in_err-advance_all.ensures.own (search rules)
+
+pub returns-in_err-settle-clause-leaves : goal.returns-in_err-settle-clause-leaves
+returns-in_err-settle-clause-leaves g c =
+    let o = g.O.Oracle.state c.args.oracle.now in
+    let n = g.O.Oracle.state c.settle.new.self in
+    leaves_grown_handed o n c.in_err-settle.field-0.0 c.from_residual-in_err-settle.result
+    (subst (λ (stop : Option AskStop). Leaves o n stop) (ap asked_stop c.in_err-settle.was) (leaves_settled c.as_slice.result.now o n c.settle.result c.settle.ensures.settles)) (search rules)
+
+pub returns-clause-leaves : goal.returns-clause-leaves
+returns-clause-leaves g c =
+    let o = g.O.Oracle.state c.args.oracle.now in
+    let n = g.O.Oracle.state c.settle.new.self in
+    subst (λ (stop : Option AskStop). Leaves o n stop) (ap asked_stop c.in_ok-settle.was) (leaves_settled c.as_slice.result.now o n c.settle.result c.settle.ensures.settles)

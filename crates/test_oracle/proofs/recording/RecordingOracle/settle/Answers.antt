@@ -3,7 +3,7 @@ use Rattle.std.proofs.lemmas.Bool.{false≢true}
 use Rattle.lw_cache.specs.Settling.{Settles}
 use Rattle.test_oracle.specs.Recording.{RecordingState, state_of}
 use Rattle.test_oracle.specs.contracts.recording.Recording.{the_view}
-use Rattle.test_oracle.proofs.RecordingLemmas.{gained_own}
+use Rattle.test_oracle.proofs.RecordingLemmas.{gained_own, short_cause}
 use Rattle.test_oracle.proofs.recording.RecordingOracle.settle.Goals as goal
 
 pub returns-in-Ok-clause-settles : goal.returns-in-Ok-clause-settles
@@ -19,6 +19,7 @@ returns-in-Ok-clause-settles c =
       exactly = λ exact. absurd (false≢true exact);
       keeps = c.record_and_answer.ensures.keeps.answers;
       stop = refl;
+      cause = λ may. tt;
       refused = refl;
       same = record { inputs = refl; outputs = refl; names = refl; origins = refl; exact = refl };
     })
@@ -36,6 +37,7 @@ returns-in-Err-clause-settles c =
       exactly = tt;
       keeps = c.record_and_answer.ensures.keeps.answers;
       stop = ap Some c.copy.ensures;
+      cause = λ may. short_cause (state_of (the_view c.self.inside)) (state_of (record (the_view c.self.inside) { kept = c.record_and_answer.new.cache.kept; stop = Some c.copy.result; refused = true })) c.in-Err.stop c.in-Err.ensures.short;
       refused = refl;
       same = record { inputs = refl; outputs = refl; names = refl; origins = refl; exact = refl };
     })
