@@ -151,10 +151,10 @@ tree_settles t u (Ok Replaced) settled = one_more t u settled.1
 tree_settles t u (Err stop) settled = tt
 
 -- a split leaves them
-pub split_finals : (word suffix : List ℕ) (t u : TreeState) (result : Result ⊤ GrowStop) → OnOk result (tree.IsSplit word suffix t u) → OnErr result ((u ≡ t) ⊎ tree.IsSplit word suffix t u) → finals_of (Tree t) ≤ finals_of (Tree u)
-split_finals word suffix t u (Ok _) split left = as_many_finals t u split.finals
-split_finals word suffix t u (Err stop) split (inl same) = as_many_finals t u (ap (λ (s : TreeState). final_discriminators s.nodes) same)
-split_finals word suffix t u (Err stop) split (inr is) = as_many_finals t u is.finals
+pub split_finals : (word suffix : List ℕ) (leaf : ℕ) (t u : TreeState) (result : Result ⊤ GrowStop) → OnOk result (tree.IsSplit word suffix leaf t u) → OnErr result ((u ≡ t) ⊎ tree.IsSplit word suffix leaf t u) → finals_of (Tree t) ≤ finals_of (Tree u)
+split_finals word suffix leaf t u (Ok _) split left = as_many_finals t u split.finals
+split_finals word suffix leaf t u (Err stop) split (inl same) = as_many_finals t u (ap (λ (s : TreeState). final_discriminators s.nodes) same)
+split_finals word suffix leaf t u (Err stop) split (inr is) = as_many_finals t u is.finals
 
 pub few_finals : (l : Learner) → IsLearner l → finals_of l < most_of l
 few_finals (Table t) is = is.most.0

@@ -1,18 +1,20 @@
 -- What settling a block leaves of a tree.
-use Rattle.std.proofs.Common.{◌≡◌, ◌⊎◌, inl, inr, ⊎_elim, ℕ, ◌^◌, ◌<◌, ◌≤◌, List, ◌++◌, length, Contains, Result, Ok, Err, IsErrAnd, refl, sym, ◌∙◌, subst, arith}
+use Rattle.std.proofs.Common.{◌≡◌, ◌⊎◌, inl, inr, ⊎_elim, ℕ, ◌^◌, ◌<◌, ◌≤◌, List, ◌++◌, length, Contains, Result, Ok, Err, IsErrAnd, refl, ap, sym, ◌∙◌, subst, arith}
 use Rattle.std.specs.Bool.{⊤}
 use Rattle.std.specs.List.{All}
 use Rattle.std.proofs.lemmas.Bool.{cases_lt}
 use Rattle.std.proofs.lemmas.List.Elements.{All-contains}
 use Rattle.lw_words.specs.Word.{Answer}
+use Rattle.lw_words.specs.declared.memory.NoMemory.{NoMemory}
 use Rattle.lw_mealy.specs.Machine.{Gives, Rows}
 use Rattle.lw_cache.specs.Cut.{word_at}
 use Rattle.lw_cache.specs.Known.{IsKnown}
 use Rattle.lw_cache.specs.declared.stops.GrowStop.{GrowStop}
-use Rattle.lw_tree.specs.Blocks.{IsBlock, MayReplace, HasFinal}
-use Rattle.lw_tree.specs.Grown.{HasGrown, KeepsDiscriminators, TellsCrowd, HasClosed}
-use Rattle.lw_tree.specs.Tree.{TreeState, temporaries, IsTree, BranchesAreRead, IsClosed, IsMachineOf}
-use Rattle.lw_tree.proofs.CloseLemmas.{handed_stop, crowd_too}
+use Rattle.lw_tree.specs.Blocks.{IsBlock, MayReplace, HasReplaced}
+use Rattle.lw_tree.specs.Grown.{HasGrown, KeepsTree, TellsCrowd, HasClosed}
+use Rattle.lw_tree.specs.Tree.{TreeState, temporaries, IsLive, IsTree, BranchesAreRead, IsClosed, IsMachineOf}
+use Rattle.lw_tree.specs.declared.nodes.Node.{Node}
+use Rattle.lw_tree.proofs.CloseLemmas.{handed_stop, crowd_too, outside_then}
 use Rattle.lw_tree.proofs.GrownLemmas.{not_grown, grown_then}
 use Rattle.lw_settle.specs.Settling.{IsReplaced, HasSettledBlock}
 use Rattle.lw_settle.specs.bodies.Parting.{AreMembers, IsReplacement, AreWordsOf, NothingIsParted}
@@ -48,23 +50,39 @@ not_settled ks t now stop result grown same left crowd is =
 pub untouched : (ks : List Answer) (t now : TreeState) (stop : GrowStop) (result : Result Settled GrowStop) → now ≡ t → IsTree t → BranchesAreRead ks t → TellsCrowd {X = ⊤} ks t (Err stop) → IsErrAnd result (λ e. e ≡ stop) → HasSettledBlock ks t now result
 untouched ks t now stop result same g read crowd is = subst (λ (u : TreeState). HasSettledBlock ks t u result) (sym same) (not_settled ks t t stop result (not_grown ks t g read) refl (inl refl) crowd is)
 
--- a replaced node stays while the tree is closed
-final_then : (word : List ℕ) (r : ℕ) (t middle now : TreeState) → IsBlock t r → HasFinal word t middle → KeepsDiscriminators middle now → IsReplaced t now
-final_then word r t middle now block final keeps = (r, word, block, record { front = final.front; back = final.back; were = final.were; are = keeps.finals ∙ final.are })
+-- a closed tree in which the root of a block was replaced
+pub record HasBlock (first : List Answer) (word : List ℕ) (r : ℕ) (t middle : TreeState) : Type 0 where
+  pub tree : IsTree t
+  pub closed : IsClosed t
+  pub block : IsBlock t r
+  pub replaced : HasReplaced {E = NoMemory} first r word t middle (Ok tt)
+
+-- a replaced node stays while the tree is closed again
+final_then : (first : List Answer) (word : List ℕ) (r : ℕ) (t middle now : TreeState) → HasBlock first word r t middle → KeepsTree middle now → IsReplaced t now
+final_then first word r t middle now has keeps =
+    let root = has.replaced.root in
+    let final = has.replaced.replaced in (
+      r,
+      word,
+      has.block,
+      record { front = final.front; back = final.back; were = final.were; are = keeps.finals ∙ final.are },
+      ap (λ (n : Node). n.content) (keeps.nodes r (subst IsLive (sym root) tt)) ∙ root,
+      outside_then r word t middle now has.tree has.closed has.block.temporary root has.replaced.outside keeps,
+    )
 
 -- where the closing was refused
-pub not_closed_then : (first ks : List Answer) (word : List ℕ) (r : ℕ) (t middle now : TreeState) (stop : GrowStop) (result : Result Settled GrowStop) → IsBlock t r → HasGrown first t middle → HasFinal word t middle → middle.refinements ≡ t.refinements → HasClosed ks middle now (Err stop) → IsErrAnd result (λ e. e ≡ stop) → HasSettledBlock ks t now result
-not_closed_then first ks word r t middle now stop result block one final same done is =
-    not_settled ks t now stop result (grown_then first ks t middle now one done.grown) (done.keeps.refinements ∙ same) (inr (final_then word r t middle now block final done.keeps)) done.crowd is
+pub not_closed_then : (first ks : List Answer) (word : List ℕ) (r : ℕ) (t middle now : TreeState) (stop : GrowStop) (result : Result Settled GrowStop) → HasBlock first word r t middle → HasClosed ks middle now (Err stop) → IsErrAnd result (λ e. e ≡ stop) → HasSettledBlock ks t now result
+not_closed_then first ks word r t middle now stop result has done is =
+    not_settled ks t now stop result (grown_then first ks t middle now has.replaced.grown done.grown) (done.keeps.refinements ∙ has.replaced.refinements) (inr (final_then first word r t middle now has done.keeps)) done.crowd is
 
-pub all_settled : (first ks : List Answer) (word : List ℕ) (r : ℕ) (t middle now : TreeState) → IsBlock t r → HasGrown first t middle → HasFinal word t middle → middle.refinements ≡ t.refinements → HasClosed ks middle now (Ok tt) → HasSettledBlock ks t now (Ok Replaced)
-all_settled first ks word r t middle now block one final same done =
+pub all_settled : (first ks : List Answer) (word : List ℕ) (r : ℕ) (t middle now : TreeState) → HasBlock first word r t middle → HasClosed ks middle now (Ok tt) → HasSettledBlock ks t now (Ok Replaced)
+all_settled first ks word r t middle now has done =
     record {
-      grown = grown_then first ks t middle now one done.grown;
+      grown = grown_then first ks t middle now has.replaced.grown done.grown;
       closed = done.closed;
-      settled = (temporary_counts t.nodes r block.temporary, final_then word r t middle now block final done.keeps);
+      settled = (temporary_counts t.nodes r has.block.temporary, final_then first word r t middle now has done.keeps);
       left = tt;
-      refinements = done.keeps.refinements ∙ same;
+      refinements = done.keeps.refinements ∙ has.replaced.refinements;
       crowd = λ words told. cc;
     }
 

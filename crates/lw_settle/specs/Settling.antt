@@ -1,12 +1,13 @@
 -- What settling a block of a discrimination tree does, and that there is always one to settle. Source: Isberner, Howar and
 -- Steffen (2014).
-use Rattle.std.specs.Prelude.{◌≡◌, ◌≢◌, ◌⊎◌, ℕ, ◌<◌, List, Result, OnOk, OnErr, IfOk}
+use Rattle.std.specs.Prelude.{◌≡◌, ◌≢◌, ◌⊎◌, ℕ, ◌<◌, false, List, Result, OnOk, OnErr, IfOk}
 use Rattle.lw_words.specs.Word.{Answer}
 use Rattle.lw_mealy.specs.Machine.{Gives, Rows, next, output}
 use Rattle.lw_cache.specs.declared.stops.GrowStop.{GrowStop}
-use Rattle.lw_tree.specs.Blocks.{IsBlock, IsMember, AreOfOneClass, HasFinal}
+use Rattle.lw_tree.specs.Blocks.{IsBlock, IsMember, AreOfOneClass, HasFinal, KeepsOutside}
 use Rattle.lw_tree.specs.Grown.{HasGrown, TellsCrowd}
-use Rattle.lw_tree.specs.Tree.{TreeState, temporaries, IsTree, BranchesAreRead, IsClosed, IsMachineOf}
+use Rattle.lw_tree.specs.Tree.{TreeState, node_at, temporaries, IsTree, BranchesAreRead, IsClosed, IsMachineOf}
+use Rattle.lw_tree.specs.declared.nodes.Content.TheVariants.{Discriminator}
 use Rattle.lw_settle.specs.declared.settling.Settled.{Settled}
 use Rattle.lw_settle.specs.declared.settling.Settled.TheVariants.{NoBlock, Replaced}
 
@@ -24,9 +25,10 @@ pub record IsParted (t : TreeState) (m : Rows) (r letter : ℕ) : Type 0 where
 abbrev pub SomeBlockIsParted : Type 0
 SomeBlockIsParted = (ks : List Answer) (t : TreeState) (m : Rows) → IsTree t → BranchesAreRead ks t → IsClosed t → IsMachineOf t m → Gives m ks → 0 < temporaries t.nodes → (r letter : ℕ) × IsParted t m r letter
 
--- the root of a block gave way to a final node, of some word; the final nodes that there were stay
+-- the root of a block is a final node now, of some word; the final nodes that there were stay, and so does what isn't below that
+-- root
 abbrev pub IsReplaced : TreeState → TreeState → Type 0
-IsReplaced before now = (r : ℕ) × (word : List ℕ) × IsBlock before r × HasFinal word before now
+IsReplaced before now = (r : ℕ) × (word : List ℕ) × IsBlock before r × HasFinal word before now × ((node_at now.nodes r).content ≡ Discriminator word false) × KeepsOutside r before now
 
 -- what is answered: no node was temporary, and nothing was done; or one was replaced
 abbrev pub IsSettled : TreeState → TreeState → Settled → Type 0

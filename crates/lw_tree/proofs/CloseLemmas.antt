@@ -1,7 +1,7 @@
 -- Trees that are sifted, closed and split: what each call leaves.
-use Rattle.std.proofs.Common.{◌≡◌, inl, inr, ℕ, zero, suc, ◌+◌, ◌<◌, Bool, true, false, if◌then◌else◌, List, [], ◌∷◌, ◌++◌, length, set, refl, ap, sym, ◌∙◌, subst, arith, Result, Ok, Err, IsErrAnd, append_assoc}
+use Rattle.std.proofs.Common.{◌≡◌, ◌≢◌, inl, inr, ℕ, zero, suc, ◌+◌, ◌*◌, ◌<◌, Bool, true, false, true≢false, if◌then◌else◌, List, [], ◌∷◌, ◌++◌, length, set, refl, ap, sym, ◌∙◌, subst, arith, Result, Ok, Err, IsErrAnd, append_assoc}
 use Rattle.std.specs.Bool.{⊤}
-use Rattle.std.proofs.lemmas.List.{length-append}
+use Rattle.std.proofs.lemmas.List.{length-append, length-set}
 use Rattle.lw_words.specs.Word.{Answer}
 use Rattle.lw_cache.specs.Settling.{OracleState, Leaves, grown_stop}
 use Rattle.lw_cache.specs.declared.stops.AskStop.{AskStop}
@@ -9,15 +9,21 @@ use Rattle.lw_cache.specs.declared.stops.GrowStop.{GrowStop}
 use Rattle.lw_cache.specs.declared.stops.GrowStop.TheVariants.{Ask, Crowd}
 use Rattle.lw_cache.specs.Cut.{word_at}
 use Rattle.lw_tree.specs.bodies.Transitions.{place_by}
-use Rattle.lw_tree.specs.Grown.{HasGrown, KeepsDiscriminators, TellsCrowd, HasMoved, HasLevelled, HasClosed, IsSplit, HasSplit}
-use Rattle.lw_tree.specs.Tree.{TreeState, node_at, leaf_at, IsLive, IsTree, BranchesAreRead, IsClosed, HasOpen, discriminators, final_discriminators, temporaries, is_temporary, words_of, final_words_of}
-use Rattle.lw_tree.specs.bodies.Steps.{leaf_below, inner_node, lowered, split_tree, refined_once}
+use Rattle.lw_tree.specs.Blocks.{KeepsOutside}
+use Rattle.lw_tree.specs.Grown.{HasGrown, KeepsTree, TellsCrowd, HasMoved, HasLevelled, HasClosed, IsSplit, HasSplit}
+use Rattle.lw_tree.specs.Tree.{TreeState, no_node, node_at, leaf_at, place_at, edge_at, IsLive, IsInner, IsTree, BranchesAreRead, is_open, IsClosed, HasOpen, discriminators, final_discriminators, temporaries, is_temporary, words_of, final_words_of}
+use Rattle.lw_tree.specs.bodies.Steps.{placed, leaf_below, inner_node, moved_edge, lowered, IsNextSplit, split_tree, refined_once}
 use Rattle.lw_tree.specs.declared.nodes.Node.{Node}
 use Rattle.lw_tree.specs.declared.nodes.Content.{Content}
-use Rattle.lw_tree.specs.declared.nodes.Content.TheVariants.{State}
+use Rattle.lw_tree.specs.declared.nodes.Content.TheVariants.{State, Discriminator}
 use Rattle.lw_tree.specs.declared.transitions.Edge.{Edge}
-use Rattle.lw_tree.proofs.GrownLemmas.{keeps_same, not_grown, grown_then, no_crowd, access_longer, discriminators_leaf, finals_leaf, temporaries_leaf}
-use Rattle.lw_tree.proofs.NodeLemmas.{live_within}
+use Rattle.lw_tree.specs.declared.transitions.Place.{Place}
+use Rattle.lw_tree.proofs.ClassLemmas.{temporary_is_inner}
+use Rattle.lw_tree.proofs.GrownLemmas.{same_open, still_live, keeps_same, not_grown, grown_then, no_crowd, access_longer, discriminators_leaf, finals_leaf, temporaries_leaf}
+use Rattle.lw_tree.proofs.LowerLemmas.{moved_other, length-moved_edge, edge_inside}
+use Rattle.lw_tree.proofs.NodeLemmas.{Updates, pushed, written, live_within}
+use Rattle.lw_tree.proofs.PlaceLemmas.{inner_open, set_and_more}
+use Rattle.lw_tree.proofs.ShapeLemmas.{shape_of, all_places, place_inside}
 
 -- a stop that is handed on
 pub handed_stop : {X : Type 0} (stop : GrowStop) (result : Result X GrowStop) → IsErrAnd result (λ e. e ≡ stop) → result ≡ Err stop
@@ -38,10 +44,10 @@ stop_of d (Err e) = e
 pub crowd_too : {X Y : Type 0} (ks : List Answer) (t : TreeState) (stop : GrowStop) → TellsCrowd {X = X} ks t (Err stop) → TellsCrowd {X = Y} ks t (Err stop)
 crowd_too {X} {Y} ks t stop crowd words same = crowd words (ap (λ (r : Result Y GrowStop). Err (stop_of stop r)) same)
 
-pub levelled : (ks : List Answer) (before now : TreeState) (is_left : Bool) → HasGrown ks before now → KeepsDiscriminators before now → (is_left ≡ false → IsClosed now) → (is_left ≡ true → HasOpen now) → HasMoved before now → HasLevelled ks before now (Ok is_left)
+pub levelled : (ks : List Answer) (before now : TreeState) (is_left : Bool) → HasGrown ks before now → KeepsTree before now → (is_left ≡ false → IsClosed now) → (is_left ≡ true → HasOpen now) → HasMoved before now → HasLevelled ks before now (Ok is_left)
 levelled ks before now is_left grown keeps closed open_left moved = record { grown = grown; keeps = keeps; closed = closed; left = open_left; moved = moved; crowd = λ words told. cc }
 
-pub not_levelled : (ks : List Answer) (before now : TreeState) (stop : GrowStop) (result : Result Bool GrowStop) → HasGrown ks before now → KeepsDiscriminators before now → TellsCrowd {X = ⊤} ks now (Err stop) → IsErrAnd result (λ e. e ≡ stop) → HasLevelled ks before now result
+pub not_levelled : (ks : List Answer) (before now : TreeState) (stop : GrowStop) (result : Result Bool GrowStop) → HasGrown ks before now → KeepsTree before now → TellsCrowd {X = ⊤} ks now (Err stop) → IsErrAnd result (λ e. e ≡ stop) → HasLevelled ks before now result
 not_levelled ks before now stop result grown keeps crowd is =
     subst (HasLevelled ks before now) (sym (handed_stop stop result is)) (record { grown = grown; keeps = keeps; closed = tt; left = tt; moved = tt; crowd = λ words same. crowd words (ap (λ (r : Result Bool GrowStop). Err (stop_of stop r)) same) })
 
@@ -49,11 +55,31 @@ not_levelled ks before now stop result grown keeps crowd is =
 pub stopped_level : (ks : List Answer) (t : TreeState) (stop : AskStop) (result : Result Bool GrowStop) → IsTree t → BranchesAreRead ks t → IsErrAnd result (λ e. e ≡ Ask stop) → HasLevelled ks t t result
 stopped_level ks t stop result tree read is = not_levelled ks t t (Ask stop) result (not_grown ks t tree read) (keeps_same t) (no_crowd ks t stop) is
 
-pub has_closed : (ks : List Answer) (before now : TreeState) → HasGrown ks before now → KeepsDiscriminators before now → IsClosed now → HasClosed ks before now (Ok tt)
+pub has_closed : (ks : List Answer) (before now : TreeState) → HasGrown ks before now → KeepsTree before now → IsClosed now → HasClosed ks before now (Ok tt)
 has_closed ks before now grown keeps closed = record { grown = grown; keeps = keeps; closed = closed; crowd = λ words told. cc }
 
-pub not_closed : (ks : List Answer) (before now : TreeState) (stop : GrowStop) (result : Result ⊤ GrowStop) → HasGrown ks before now → KeepsDiscriminators before now → TellsCrowd {X = ⊤} ks now (Err stop) → IsErrAnd result (λ e. e ≡ stop) → HasClosed ks before now result
+pub not_closed : (ks : List Answer) (before now : TreeState) (stop : GrowStop) (result : Result ⊤ GrowStop) → HasGrown ks before now → KeepsTree before now → TellsCrowd {X = ⊤} ks now (Err stop) → IsErrAnd result (λ e. e ≡ stop) → HasClosed ks before now result
 not_closed ks before now stop result grown keeps crowd is = subst (HasClosed ks before now) (sym (handed_stop stop result is)) (record { grown = grown; keeps = keeps; closed = tt; crowd = crowd })
+
+-- what isn't below a final node stays while a tree is closed that was closed before
+pub outside_then : (r : ℕ) (word : List ℕ) (t middle now : TreeState) → IsTree t → IsClosed t → is_temporary (node_at t.nodes r).content ≡ true → (node_at middle.nodes r).content ≡ Discriminator word false → KeepsOutside r t middle → KeepsTree middle now → KeepsOutside r t now
+outside_then r word t middle now g closed temporary root outside keeps =
+    let stays = keeps.nodes r (subst IsLive (sym root) tt) in
+    record {
+      parent = ap (λ (m : Node). m.parent) stays ∙ outside.parent;
+      branch = ap (λ (m : Node). m.branch) stays ∙ outside.branch;
+      nodes = λ n other not_below live.
+          let was = outside.nodes n other not_below live in
+          keeps.nodes n (still_live (node_at middle.nodes n) (node_at t.nodes n) was live) ∙ was;
+      places = λ k lt not_below.
+          let was = outside.places k lt not_below in
+          let target = closed k lt in
+          let node = outside.nodes (place_at t.places k).node (at_leaf k target) not_below (g.places k lt).live in
+          keeps.targets k (same_open t middle k node was ∙ target) ∙ was;
+    }
+  where
+    at_leaf : (k : ℕ) → is_open (node_at t.nodes) (place_at t.places k) ≡ false → (place_at t.places k).node ≢ r
+    at_leaf k target same = true≢false (sym (inner_open (node_at t.nodes) (place_at t.places k) (subst (λ (n : ℕ). IsInner (node_at t.nodes n).content) (sym same) (temporary_is_inner (node_at t.nodes r).content temporary))) ∙ target)
 
 -- a leaf that became temporary is one discriminator more
 word_more : (nodes : List Node) (leaf q : ℕ) (suffix : List ℕ) → leaf < length nodes → (node_at nodes leaf).content ≡ State q
@@ -83,20 +109,48 @@ count_more (n ∷ nodes) (suc leaf) q suffix lt is =
     let r = count_more nodes leaf q suffix (omega (arith, lt)) is in
     omega (arith, r)
 
-module _ (t : TreeState) (edge : Edge) (output q : ℕ) (suffix old new : List ℕ) (g : IsTree t) (target : q < length t.access) where
+module _ (t : TreeState) (edge : Edge) (output q : ℕ) (suffix old new : List ℕ) (g : IsTree t) (next : IsNextSplit t edge output q suffix old new) where
   abbrev leaf : ℕ
   leaf = leaf_at t.leaves q
+
+  abbrev split : TreeState
+  split = split_tree t edge output q suffix old new
 
   abbrev first : List Node
   first = set t.nodes leaf (inner_node (node_at t.nodes leaf) suffix)
 
   is_leaf : (node_at t.nodes leaf).content ≡ State q
-  is_leaf = g.leaves.leaves q target
+  is_leaf = g.leaves.leaves q next.target
 
   inside : leaf < length t.nodes
   inside = live_within t.nodes leaf (subst IsLive (sym is_leaf) tt)
 
-  pub is_split : IsSplit (word_at t.access edge.state ++ edge.letter ∷ []) suffix t (split_tree t edge output q suffix old new)
+  written_leaf : Updates (node_at t.nodes) (node_at first) leaf (inner_node (node_at t.nodes leaf) suffix)
+  written_leaf = written t.nodes leaf (inner_node (node_at t.nodes leaf) suffix) no_node inside
+
+  -- the two new leaves come behind all nodes
+  old_node : (n : ℕ) → n < length t.nodes → node_at split.nodes n ≡ node_at first n
+  old_node n lt =
+      let long = length-set t.nodes leaf (inner_node (node_at t.nodes leaf) suffix) in
+      let longer = length-append first (leaf_below leaf old q ∷ []) in
+      (pushed (first ++ leaf_below leaf old q ∷ []) (leaf_below (place_by (lowered t q suffix old) edge).node new (length t.access)) no_node).others n (λ same. omega (arith, same, longer, long, lt))
+      ∙ (pushed first (leaf_below leaf old q) no_node).others n (λ same. omega (arith, same, long, lt))
+
+  split_leaf : node_at split.nodes leaf ≡ inner_node (node_at t.nodes leaf) suffix
+  split_leaf = old_node leaf inside ∙ written_leaf.here
+
+  -- just two transitions are put elsewhere, and both stood at the leaf
+  split_target : (k : ℕ) → (place_at t.places k).node ≢ leaf → place_at split.places k ≡ place_at t.places k
+  split_target k other =
+      let reached : Edge = edge_at t.spanning q in
+      let moved : List Place = moved_edge t.inputs t.places reached q (length t.nodes) in
+      let number : ℕ = edge.state * t.inputs + edge.letter in
+      let within : number < length moved = subst (λ (n : ℕ). number < n) (sym (length-moved_edge t.inputs t.places reached (length t.nodes) q)) (place_inside t (shape_of t g) edge next.from) in
+      (set_and_more moved number t.inputs (placed output (length (lowered t q suffix old).nodes)) within).others k (λ same. other (ap (λ (n : ℕ). (place_at t.places n).node) same ∙ next.there))
+      ∙ moved_other t.inputs t.places reached (length t.nodes) q k (edge_inside t q suffix old (shape_of t g) next.target next.letters next.some next.old_size)
+      (λ some same. other (ap (λ (n : ℕ). (place_at t.places n).node) same ∙ (g.edges q some next.target).target))
+
+  pub is_split : IsSplit (word_at t.access edge.state ++ edge.letter ∷ []) suffix leaf t split
   is_split =
       let w = word_more t.nodes leaf q suffix inside is_leaf in
       let long = length-append t.access ((word_at t.access edge.state ++ edge.letter ∷ []) ∷ []) in
@@ -110,11 +164,17 @@ module _ (t : TreeState) (edge : Edge) (output q : ℕ) (suffix old new : List �
         discriminators_are = discriminators_leaf (first ++ leaf_below leaf old q ∷ []) (place_by (lowered t q suffix old) edge).node new (length t.access) ∙ (discriminators_leaf first leaf old q ∙ w.3);
         finals = finals_leaf (first ++ leaf_below leaf old q ∷ []) (place_by (lowered t q suffix old) edge).node new (length t.access) ∙ (finals_leaf first leaf old q ∙ same_finals t.nodes leaf q suffix inside is_leaf);
         temporary = temporaries_leaf (first ++ leaf_below leaf old q ∷ []) (place_by (lowered t q suffix old) edge).node new (length t.access) ∙ (temporaries_leaf first leaf old q ∙ count_more t.nodes leaf q suffix inside is_leaf);
+        parent = ap (λ (m : Node). m.parent) split_leaf;
+        branch = ap (λ (m : Node). m.branch) split_leaf;
+        content = ap (λ (m : Node). m.content) split_leaf;
+        nodes = λ n other live. old_node n (live_within t.nodes n live) ∙ written_leaf.others n other;
+        targets = λ k other closed. split_target k other;
       }
 
 -- a split tree that was closed, all or in part
-pub split_then : (ks : List Answer) (word suffix : List ℕ) (t middle now : TreeState) → IsSplit word suffix t middle → HasGrown ks middle now → KeepsDiscriminators middle now → IsSplit word suffix t now
-split_then ks word suffix t middle now split grown keeps =
+pub split_then : (ks : List Answer) (word suffix : List ℕ) (leaf : ℕ) (t middle now : TreeState) → IsTree t → IsSplit word suffix leaf t middle → HasGrown ks middle now → KeepsTree middle now → IsSplit word suffix leaf t now
+split_then ks word suffix leaf t middle now g split grown keeps =
+    let stays = keeps.nodes leaf (subst IsLive (sym split.content) tt) in
     record {
       more = split.more ++ grown.more;
       access = grown.access ∙ (ap (λ (words : List (List ℕ)). words ++ grown.more) split.access ∙ append_assoc t.access (word ∷ split.more) grown.more);
@@ -125,24 +185,49 @@ split_then ks word suffix t middle now split grown keeps =
       discriminators_are = keeps.discriminators_are ∙ split.discriminators_are;
       finals = keeps.finals ∙ split.finals;
       temporary = keeps.temporary ∙ split.temporary;
+      parent = ap (λ (m : Node). m.parent) stays ∙ split.parent;
+      branch = ap (λ (m : Node). m.branch) stays ∙ split.branch;
+      content = ap (λ (m : Node). m.content) stays ∙ split.content;
+      nodes = λ n other live.
+          let was = split.nodes n other live in
+          keeps.nodes n (still_live (node_at middle.nodes n) (node_at t.nodes n) was live) ∙ was;
+      targets = λ k other closed.
+          let was = split.targets k other closed in
+          let node = split.nodes (place_at t.places k).node other (all_places t (shape_of t g) k).live in
+          keeps.targets k (same_open t middle k node was ∙ closed) ∙ was;
     }
 
-pub room_to_count : (ks : List Answer) (word suffix : List ℕ) (t middle now : TreeState) → IsTree t → IsSplit word suffix t middle → middle.refinements ≡ t.refinements → HasGrown ks middle now → KeepsDiscriminators middle now → now.refinements + 1 < length now.access
-room_to_count ks word suffix t middle now g split same grown keeps =
-    let s = (split_then ks word suffix t middle now split grown keeps).states in
+pub room_to_count : (ks : List Answer) (word suffix : List ℕ) (leaf : ℕ) (t middle now : TreeState) → IsTree t → IsSplit word suffix leaf t middle → middle.refinements ≡ t.refinements → HasGrown ks middle now → KeepsTree middle now → now.refinements + 1 < length now.access
+room_to_count ks word suffix leaf t middle now g split same grown keeps =
+    let s = (split_then ks word suffix leaf t middle now g split grown keeps).states in
     let r = g.refined in
     let k = keeps.refinements in
     omega (arith, s, r, k, same)
 
-pub has_split : (first ks : List Answer) (word suffix : List ℕ) (t middle now last : TreeState) → HasGrown first t middle → IsSplit word suffix t middle → middle.refinements ≡ t.refinements → HasClosed ks middle now (Ok tt) → last ≡ refined_once now → IsTree last → HasSplit ks word suffix t last (Ok tt)
-has_split first ks word suffix t middle now last one split same done is tree =
+pub has_split : (first ks : List Answer) (word suffix : List ℕ) (leaf : ℕ) (t middle now last : TreeState) → IsTree t → HasGrown first t middle → IsSplit word suffix leaf t middle → middle.refinements ≡ t.refinements → HasClosed ks middle now (Ok tt) → last ≡ refined_once now → IsTree last → HasSplit ks word suffix leaf t last (Ok tt)
+has_split first ks word suffix leaf t middle now last g one split same done is tree =
     let grown = grown_then first ks t middle now one done.grown in
-    let s = split_then ks word suffix t middle now split done.grown done.keeps in
-    subst (λ (u : TreeState). HasSplit ks word suffix t u (Ok tt)) (sym is)
+    let s = split_then ks word suffix leaf t middle now g split done.grown done.keeps in
+    subst (λ (u : TreeState). HasSplit ks word suffix leaf t u (Ok tt)) (sym is)
     (record {
       grown = record { inputs = grown.inputs; outputs = grown.outputs; most = grown.most; more = grown.more; access = grown.access; tree = subst (λ (u : TreeState). IsTree u) is tree; read = record { outs = grown.read.outs; transitions = grown.read.transitions; access = grown.read.access } };
       closed = done.closed;
-      split = record { more = s.more; access = s.access; states = s.states; front = s.front; back = s.back; discriminators_were = s.discriminators_were; discriminators_are = s.discriminators_are; finals = s.finals; temporary = s.temporary };
+      split = record {
+        more = s.more;
+        access = s.access;
+        states = s.states;
+        front = s.front;
+        back = s.back;
+        discriminators_were = s.discriminators_were;
+        discriminators_are = s.discriminators_are;
+        finals = s.finals;
+        temporary = s.temporary;
+        parent = s.parent;
+        branch = s.branch;
+        content = s.content;
+        nodes = s.nodes;
+        targets = s.targets;
+      };
       left = tt;
       refined = ap (λ (n : ℕ). n + 1) (done.keeps.refinements ∙ same);
       refused = tt;
@@ -150,21 +235,21 @@ has_split first ks word suffix t middle now last one split same done is tree =
     })
 
 -- where the closing was refused
-pub not_all_split : (first ks : List Answer) (word suffix : List ℕ) (t middle now : TreeState) (stop : GrowStop) (result : Result ⊤ GrowStop) → HasGrown first t middle → IsSplit word suffix t middle → middle.refinements ≡ t.refinements → HasClosed ks middle now (Err stop) → IsErrAnd result (λ e. e ≡ stop) → HasSplit ks word suffix t now result
-not_all_split first ks word suffix t middle now stop result one split same done is =
-    subst (HasSplit ks word suffix t now) (sym (handed_stop stop result is))
+pub not_all_split : (first ks : List Answer) (word suffix : List ℕ) (leaf : ℕ) (t middle now : TreeState) (stop : GrowStop) (result : Result ⊤ GrowStop) → IsTree t → HasGrown first t middle → IsSplit word suffix leaf t middle → middle.refinements ≡ t.refinements → HasClosed ks middle now (Err stop) → IsErrAnd result (λ e. e ≡ stop) → HasSplit ks word suffix leaf t now result
+not_all_split first ks word suffix leaf t middle now stop result g one split same done is =
+    subst (HasSplit ks word suffix leaf t now) (sym (handed_stop stop result is))
     (record {
       grown = grown_then first ks t middle now one done.grown;
       closed = tt;
       split = tt;
-      left = inr (split_then ks word suffix t middle now split done.grown done.keeps);
+      left = inr (split_then ks word suffix leaf t middle now g split done.grown done.keeps);
       refined = tt;
       refused = done.keeps.refinements ∙ same;
       crowd = done.crowd;
     })
 
 -- where nothing was split
-pub not_split : (ks : List Answer) (word suffix : List ℕ) (t now : TreeState) (stop : GrowStop) (result : Result ⊤ GrowStop) → HasGrown ks t now → now ≡ t → TellsCrowd {X = ⊤} ks now (Err stop) → IsErrAnd result (λ e. e ≡ stop) → HasSplit ks word suffix t now result
-not_split ks word suffix t now stop result grown same crowd is =
-    subst (HasSplit ks word suffix t now) (sym (handed_stop stop result is))
+pub not_split : (ks : List Answer) (word suffix : List ℕ) (leaf : ℕ) (t now : TreeState) (stop : GrowStop) (result : Result ⊤ GrowStop) → HasGrown ks t now → now ≡ t → TellsCrowd {X = ⊤} ks now (Err stop) → IsErrAnd result (λ e. e ≡ stop) → HasSplit ks word suffix leaf t now result
+not_split ks word suffix leaf t now stop result grown same crowd is =
+    subst (HasSplit ks word suffix leaf t now) (sym (handed_stop stop result is))
     (record { grown = grown; closed = tt; split = tt; left = inl same; refined = tt; refused = ap (λ (u : TreeState). u.refinements) same; crowd = crowd })

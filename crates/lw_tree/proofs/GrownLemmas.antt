@@ -1,5 +1,5 @@
 -- What a tree gains, from one step to the next.
-use Rattle.std.proofs.Common.{◌≡◌, ◌≢◌, ◌⊎◌, inl, inr, ⊎_elim, ℕ, ◌+◌, ◌*◌, ◌<◌, ◌≤◌, Bool, true, false, true≢false, if◌then◌else◌, List, [], ◌∷◌, ◌++◌, length, Result, Ok, Err, refl, ap, ap₂, sym, ◌∙◌, subst, arith, append-nil, append_assoc}
+use Rattle.std.proofs.Common.{◌≡◌, ◌≢◌, ◌⊎◌, ⊎_elim, ℕ, ◌+◌, ◌*◌, ◌<◌, ◌≤◌, Bool, true, false, true≢false, if◌then◌else◌, List, [], ◌∷◌, ◌++◌, length, Result, Ok, Err, refl, ap, ap₂, sym, ◌∙◌, subst, arith, append-nil, append_assoc}
 use Rattle.std.proofs.Math.ListN.{get_or-append}
 use Rattle.std.proofs.Math.Nat.{mul-le-mul_right}
 use Rattle.std.proofs.lemmas.Bool.{cases_lt, cases_eq}
@@ -10,7 +10,7 @@ use Rattle.lw_cache.specs.declared.stops.GrowStop.{GrowStop}
 use Rattle.lw_cache.specs.declared.stops.GrowStop.TheVariants.{Ask, Crowd}
 use Rattle.lw_cache.specs.Crowd.{IsCrowd}
 use Rattle.lw_cache.specs.Cut.{word_at}
-use Rattle.lw_tree.specs.Grown.{HasGrown, KeepsDiscriminators, IsCrowdOf, TellsCrowd, MovesOn, HasMoved}
+use Rattle.lw_tree.specs.Grown.{HasGrown, KeepsTree, IsCrowdOf, TellsCrowd, MovesOn, HasMoved}
 use Rattle.lw_tree.specs.Tree.{TreeState, node_at, place_at, IsLive, IsTree, Tells, Agrees, BranchesAreRead, discriminator, discriminators, final_discriminators, temporaries, is_temporary, words_of, final_words_of, is_open, is_inner}
 use Rattle.lw_tree.specs.bodies.Steps.{placed, with_place, leaf_below, with_state, IsNextState, IsRead, HasStepped, HasSifted}
 use Rattle.lw_tree.specs.bodies.Transitions.{IsTransition, word_of, place_by, content_by, is_open_by, IsAsked}
@@ -21,12 +21,41 @@ use Rattle.lw_tree.specs.declared.transitions.Edge.{Edge}
 use Rattle.lw_tree.proofs.NodeLemmas.{Updates}
 use Rattle.lw_tree.proofs.ShapeLemmas.{shape_of, all_places, place_update, node_stays, node_update, places_update}
 use Rattle.lw_tree.proofs.BranchLemmas.{placed_read, state_read}
+use Rattle.lw_tree.proofs.PlaceLemmas.{inner_open}
 
-pub keeps_same : (t : TreeState) → KeepsDiscriminators t t
-keeps_same t = record { discriminators_are = refl; finals = refl; temporary = refl; refinements = refl }
+-- where a place and its node are as before, so is whether it is open
+pub same_open : (before now : TreeState) (k : ℕ) → node_at now.nodes (place_at before.places k).node ≡ node_at before.nodes (place_at before.places k).node → place_at now.places k ≡ place_at before.places k
+    → is_open (node_at now.nodes) (place_at now.places k) ≡ is_open (node_at before.nodes) (place_at before.places k)
+same_open before now k node at =
+    let b : Place = place_at before.places k in
+    let whole : is_open (node_at now.nodes) b ≡ is_open (node_at before.nodes) b = ap (λ (m : Node). open_with b m) node in
+    ap (is_open (node_at now.nodes)) at ∙ whole
+  where
+    open_with : Place → Node → Bool
+    open_with p m = is_open (λ _. m) p
 
-pub keeps_and_keeps : (a b c : TreeState) → KeepsDiscriminators a b → KeepsDiscriminators b c → KeepsDiscriminators a c
-keeps_and_keeps a b c one two = record { discriminators_are = two.discriminators_are ∙ one.discriminators_are; finals = two.finals ∙ one.finals; temporary = two.temporary ∙ one.temporary; refinements = two.refinements ∙ one.refinements }
+-- a live node is live where it is as it was
+pub still_live : (m n : Node) → m ≡ n → IsLive n.content → IsLive m.content
+still_live m n same live = subst (λ (k : Node). IsLive k.content) (sym same) live
+
+pub keeps_same : (t : TreeState) → KeepsTree t t
+keeps_same t = record { nodes = λ n live. refl; targets = λ k closed. refl; discriminators_are = refl; finals = refl; temporary = refl; refinements = refl }
+
+pub keeps_and_keeps : (a b c : TreeState) → IsTree a → KeepsTree a b → KeepsTree b c → KeepsTree a c
+keeps_and_keeps a b c g one two =
+    record {
+      nodes = λ n live.
+          let was = one.nodes n live in
+          two.nodes n (still_live (node_at b.nodes n) (node_at a.nodes n) was live) ∙ was;
+      targets = λ k closed.
+          let was = one.targets k closed in
+          let node = one.nodes (place_at a.places k).node (all_places a (shape_of a g) k).live in
+          two.targets k (same_open a b k node was ∙ closed) ∙ was;
+      discriminators_are = two.discriminators_are ∙ one.discriminators_are;
+      finals = two.finals ∙ one.finals;
+      temporary = two.temporary ∙ one.temporary;
+      refinements = two.refinements ∙ one.refinements;
+    }
 
 -- where nothing came
 pub not_grown : (ks : List Answer) (t : TreeState) → IsTree t → BranchesAreRead ks t → HasGrown ks t t
@@ -85,7 +114,11 @@ temporaries_leaf (n ∷ nodes) parent branch q = ap (λ (k : ℕ). (if is_tempor
 
 -- steps of one transition
 pub not_stepped : (ks : List Answer) (t : TreeState) (edge : Edge) → IsTree t → BranchesAreRead ks t → HasStepped ks t edge t
-not_stepped ks t edge tree read = record { grown = not_grown ks t tree read; keeps = keeps_same t; nodes = λ n live. refl; others = λ k lt other. refl }
+not_stepped ks t edge tree read = record { grown = not_grown ks t tree read; keeps = keeps_same t; others = λ k lt other. refl }
+
+-- a transition that has a target is none that has none
+pub other_than_open : (t : TreeState) (edge : Edge) (k : ℕ) → is_open_by t edge ≡ true → is_open (node_at t.nodes) (place_at t.places k) ≡ false → k ≢ edge.state * t.inputs + edge.letter
+other_than_open t edge k stands closed same = true≢false (sym stands ∙ (ap (λ (j : ℕ). is_open (node_at t.nodes) (place_at t.places j)) (sym same) ∙ closed))
 
 module _ (ks : List Answer) (t : TreeState) (edge : Edge) (output n : ℕ) (g : IsTree t) (from : IsTransition t edge) (stands : is_open_by t edge ≡ true) (below : output < t.outputs) (live : IsLive (node_at t.nodes n).content) where
   abbrev placed_tree : TreeState
@@ -98,8 +131,7 @@ module _ (ks : List Answer) (t : TreeState) (edge : Edge) (output n : ℕ) (g : 
   placed_stepped tree read out agrees =
       record {
         grown = record { inputs = refl; outputs = refl; most = refl; more = []; access = sym (append-nil t.access); tree = tree; read = placed_read ks t edge output n (shape_of t g) from stands below live read out agrees };
-        keeps = record { discriminators_are = refl; finals = refl; temporary = refl; refinements = refl };
-        nodes = λ m is. refl;
+        keeps = record { nodes = λ m is. refl; targets = λ k closed. place_now.others k (other_than_open t edge k stands closed); discriminators_are = refl; finals = refl; temporary = refl; refinements = refl };
         others = λ k lt other. place_now.others k other;
       }
 
@@ -126,8 +158,14 @@ module _ (ks : List Answer) (t : TreeState) (edge : Edge) (output : ℕ) (branch
   state_stepped tree read =
       record {
         grown = record { inputs = refl; outputs = refl; most = refl; more = word_of t edge ∷ []; access = refl; tree = tree; read = state_read ks t edge output branch (shape_of t g) next read };
-        keeps = record { discriminators_are = discriminators_leaf t.nodes (place_by t edge).node branch (length t.access); finals = finals_leaf t.nodes (place_by t edge).node branch (length t.access); temporary = temporaries_leaf t.nodes (place_by t edge).node branch (length t.access); refinements = refl };
-        nodes = λ m live. node_stays t edge output branch (shape_of t g) next m live;
+        keeps = record {
+          nodes = λ m live. node_stays t edge output branch (shape_of t g) next m live;
+          targets = λ k closed. state_place.others k (other_than_open t edge k (inner_open (node_at t.nodes) (place_by t edge) next.inner) closed);
+          discriminators_are = discriminators_leaf t.nodes (place_by t edge).node branch (length t.access);
+          finals = finals_leaf t.nodes (place_by t edge).node branch (length t.access);
+          temporary = temporaries_leaf t.nodes (place_by t edge).node branch (length t.access);
+          refinements = refl;
+        };
         others = λ k lt other. state_place.others k other;
       }
 
@@ -155,32 +193,16 @@ places_longer ks before now g grown =
 pub words_stay : (ks : List Answer) (before now : TreeState) → HasGrown ks before now → (q : ℕ) → q < length before.access → word_at now.access q ≡ word_at before.access q
 words_stay ks before now grown q lt = ap (λ (l : List (List ℕ)). word_at l q) grown.access ∙ get_or-append before.access grown.more [] q lt
 
--- where a place and its node are as before, so is whether it is open
-same_open : (before now : TreeState) (k : ℕ) → IsLive (node_at before.nodes (place_at before.places k).node).content → ((n : ℕ) → IsLive (node_at before.nodes n).content → node_at now.nodes n ≡ node_at before.nodes n) → place_at now.places k ≡ place_at before.places k
-    → is_open (node_at now.nodes) (place_at now.places k) ≡ is_open (node_at before.nodes) (place_at before.places k)
-same_open before now k live nodes at =
-    let b : Place = place_at before.places k in
-    let whole : is_open (node_at now.nodes) b ≡ is_open (node_at before.nodes) b = ap (λ (m : Node). open_with b m) (nodes b.node live) in
-    ap (is_open (node_at now.nodes)) at ∙ whole
-  where
-    open_with : Place → Node → Bool
-    open_with p m = is_open (λ _. m) p
-
 module _ (ks : List Answer) (before : TreeState) (to : ℕ) (now after : TreeState) (edge : Edge) (g : IsTree before) (sifted : HasSifted ks before to now) (is_next : to ≡ edge.state * now.inputs + edge.letter) (inside : to < length before.places)
     (stepped : HasStepped ks now edge after) where
-  node_live : (k : ℕ) → IsLive (node_at before.nodes (place_at before.places k).node).content
-  node_live k = (all_places before (shape_of before g) k).live
+  node_still : (k : ℕ) → node_at now.nodes (place_at before.places k).node ≡ node_at before.nodes (place_at before.places k).node
+  node_still k = sifted.keeps.nodes (place_at before.places k).node (all_places before (shape_of before g) k).live
 
-  now_live : (k : ℕ) → IsLive (node_at now.nodes (place_at now.places k).node).content
-  now_live k = (all_places now (shape_of now sifted.grown.tree) k).live
+  node_then : (k : ℕ) → node_at after.nodes (place_at now.places k).node ≡ node_at now.nodes (place_at now.places k).node
+  node_then k = stepped.keeps.nodes (place_at now.places k).node (all_places now (shape_of now sifted.grown.tree) k).live
 
   longer : length before.places ≤ length now.places
   longer = places_longer ks before now g sifted.grown
-
-  nodes_still : (n : ℕ) → IsLive (node_at before.nodes n).content → node_at after.nodes n ≡ node_at before.nodes n
-  nodes_still n live =
-      let was = sifted.nodes n live in
-      stepped.nodes n (subst (λ (m : Node). IsLive m.content) (sym was) live) ∙ was
 
   other_place : (k : ℕ) → k < length before.places → k ≢ to → place_at after.places k ≡ place_at now.places k
   other_place k lt other = stepped.others k (omega (arith, lt, longer)) (λ same. other (same ∙ sym is_next))
@@ -189,8 +211,7 @@ module _ (ks : List Answer) (before : TreeState) (to : ℕ) (now after : TreeSta
   sifted_more moves =
       record {
         grown = grown_then ks ks before now after sifted.grown stepped.grown;
-        keeps = keeps_and_keeps before now after sifted.keeps stepped.keeps;
-        nodes = nodes_still;
+        keeps = keeps_and_keeps before now after g sifted.keeps stepped.keeps;
         left = λ k le lt. other_place k lt (λ same. omega (arith, same, le)) ∙ sifted.left k (omega (arith, le)) lt;
         moved = λ k below lt. ⊎_elim
             (λ (same : k ≡ to). λ is.
@@ -199,28 +220,22 @@ module _ (ks : List Answer) (before : TreeState) (to : ℕ) (now after : TreeSta
             let stood : is_open (node_at now.nodes) (place_at now.places to) ≡ true = ap (λ (j : ℕ). is_open (node_at now.nodes) (place_at now.places j)) is_next ∙ m.0 in
             let lower : (place_at now.places to).node < (place_at after.places to).node = subst (λ (j : ℕ). (place_at now.places j).node < (place_at after.places j).node) (sym is_next) m.1 in
             subst (λ (j : ℕ). (is_open (node_at before.nodes) (place_at before.places j) ≡ true) × ((place_at before.places j).node < (place_at after.places j).node)) (sym same)
-            (sym (same_open before now to (node_live to) sifted.nodes at) ∙ stood, subst (λ (p : Place). p.node < (place_at after.places to).node) at lower))
+            (sym (same_open before now to (node_still to) at) ∙ stood, subst (λ (p : Place). p.node < (place_at after.places to).node) at lower))
             (λ (other : k ≢ to). λ is.
             let at = other_place k lt other in
-            let m = sifted.moved k (⊎_elim (λ (lt : k < to). lt) (λ (le : to ≤ k). absurd (other (omega (arith, le, below)))) (cases_lt k to)) lt (sym (same_open now after k (now_live k) stepped.nodes at) ∙ is) in
+            let m = sifted.moved k (⊎_elim (λ (lt : k < to). lt) (λ (le : to ≤ k). absurd (other (omega (arith, le, below)))) (cases_lt k to)) lt (sym (same_open now after k (node_then k) at) ∙ is) in
             (m.0, subst (λ (p : Place). (place_at before.places k).node < p.node) (sym at) m.1))
             (cases_eq k to);
       }
 
-  pub sifted_grown : HasGrown ks before after
-  sifted_grown = grown_then ks ks before now after sifted.grown stepped.grown
-
-  pub sifted_keeps : KeepsDiscriminators before after
-  sifted_keeps = keeps_and_keeps before now after sifted.keeps stepped.keeps
-
 -- before any transition
 pub sifted_none : (ks : List Answer) (t : TreeState) → IsTree t → BranchesAreRead ks t → HasSifted ks t 0 t
 sifted_none ks t tree read =
-    record { grown = not_grown ks t tree read; keeps = keeps_same t; nodes = λ n live. refl; left = λ k le lt. refl; moved = λ k lt. absurd (omega (arith, lt)) }
+    record { grown = not_grown ks t tree read; keeps = keeps_same t; left = λ k le lt. refl; moved = λ k lt. absurd (omega (arith, lt)) }
 
 -- a transition that has not taken its step is as open as before
 pub still_open : (ks : List Answer) (before : TreeState) (to : ℕ) (now : TreeState) (k : ℕ) → IsTree before → HasSifted ks before to now → to ≤ k → k < length before.places → is_open (node_at now.nodes) (place_at now.places k) ≡ is_open (node_at before.nodes) (place_at before.places k)
-still_open ks before to now k g sifted le lt = same_open before now k (all_places before (shape_of before g) k).live sifted.nodes (sifted.left k le lt)
+still_open ks before to now k g sifted le lt = same_open before now k (sifted.keeps.nodes (place_at before.places k).node (all_places before (shape_of before g) k).live) (sifted.left k le lt)
 
 -- transitions that have a target stay where they are
 pub sifted_past : (ks : List Answer) (before : TreeState) (to upto : ℕ) (now : TreeState) → IsTree before → HasSifted ks before to now → to ≤ upto → ((k : ℕ) → to ≤ k → k < upto → is_open (node_at before.nodes) (place_at before.places k) ≡ false) → HasSifted ks before upto now
@@ -228,7 +243,6 @@ sifted_past ks before to upto now g sifted le closed =
     record {
       grown = sifted.grown;
       keeps = sifted.keeps;
-      nodes = sifted.nodes;
       left = λ k ge lt. sifted.left k (omega (arith, ge, le)) lt;
       moved = λ k below lt. ⊎_elim
           (λ (done : k < to). sifted.moved k done lt)
@@ -237,26 +251,19 @@ sifted_past ks before to upto now g sifted le closed =
     }
 
 -- after all
-pub sifted_all : (ks : List Answer) (before : TreeState) (to : ℕ) (now : TreeState) → IsTree before → length before.places ≤ to → HasSifted ks before to now → HasMoved before now
-sifted_all ks before to now g past sifted =
-    ⊎_elim
-    (λ (more : length before.access < length now.access). inl more)
-    (λ (le : length now.access ≤ length before.access).
-    let same : length now.access ≡ length before.access = (let ge = access_longer ks before now sifted.grown in omega (arith, le, ge)) in
-    let count : length now.places ≡ length before.places = sifted.grown.tree.each_place ∙ (ap₂ (λ (x y : ℕ). x * y) same sifted.grown.inputs ∙ sym g.each_place) in
-    inr (λ k lt. sifted.moved k (omega (arith, lt, count, past)) (omega (arith, lt, count))))
-    (cases_lt (length before.access) (length now.access))
+pub sifted_all : (ks : List Answer) (before : TreeState) (to : ℕ) (now : TreeState) → length before.places ≤ to → HasSifted ks before to now → HasMoved before now
+sifted_all ks before to now past sifted k lt = sifted.moved k (omega (arith, lt, past)) lt
 
 -- the words that an open transition is asked by stay the same
 pub asked_still : (P : List ℕ → Type 0) (ks : List Answer) (before : TreeState) (to : ℕ) (now : TreeState) (edge : Edge) → IsTree before → HasSifted ks before to now → IsTransition before edge → to ≤ edge.state * before.inputs + edge.letter → edge.state * before.inputs + edge.letter < length before.places → IsAsked P before edge → IsAsked P now edge
 asked_still P ks before to now edge g sifted from le inside asked stands =
     let same : edge.state * now.inputs + edge.letter ≡ edge.state * before.inputs + edge.letter = ap (λ (a : ℕ). edge.state * a + edge.letter) sifted.grown.inputs in
     let k : ℕ = edge.state * before.inputs + edge.letter in
-    let live : IsLive (node_at before.nodes (place_at before.places k).node).content = (all_places before (shape_of before g) k).live in
+    let node = sifted.keeps.nodes (place_at before.places k).node (all_places before (shape_of before g) k).live in
     let at : place_at now.places k ≡ place_at before.places k = sifted.left k le inside in
     let place : place_by now edge ≡ place_by before edge = ap (place_at now.places) same ∙ at in
     let word : word_of now edge ≡ word_of before edge = ap (λ (w : List ℕ). w ++ edge.letter ∷ []) (words_stay ks before now sifted.grown edge.state from.0) in
-    let content : content_by now edge ≡ content_by before edge = ap (λ (p : Place). (node_at now.nodes p.node).content) place ∙ ap (λ (m : Node). m.content) (sifted.nodes (place_at before.places k).node live) in
-    let was : is_open_by before edge ≡ true = sym (same_open before now k live sifted.nodes at) ∙ (ap (λ (j : ℕ). is_open (node_at now.nodes) (place_at now.places j)) (sym same) ∙ stands) in
+    let content : content_by now edge ≡ content_by before edge = ap (λ (p : Place). (node_at now.nodes p.node).content) place ∙ ap (λ (m : Node). m.content) node in
+    let was : is_open_by before edge ≡ true = sym (same_open before now k node at) ∙ (ap (λ (j : ℕ). is_open (node_at now.nodes) (place_at now.places j)) (sym same) ∙ stands) in
     let r = asked was in
     (subst P (sym word) r.0, subst P (sym (ap₂ (λ (w : List ℕ) (c : Content). w ++ discriminator c) word content)) r.1)

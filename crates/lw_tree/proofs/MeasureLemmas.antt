@@ -73,8 +73,9 @@ module _ (top : ℕ) (ks : List Answer) (before now : TreeState) (grown : HasGro
       let inside = live_within now.nodes (place_at now.places k).node (all_places now (shape_of now grown.tree) k).live in
       omega (arith, inside, bounded)
 
-  by_places : ((k : ℕ) → k < length now.places → MovesOn before now k) → length before.places ≡ length now.places → lowest top (node_at before.nodes) before.places < lowest top (node_at now.nodes) now.places
-  by_places moves count =
+  by_places : length before.places ≡ length now.places → lowest top (node_at before.nodes) before.places < lowest top (node_at now.nodes) now.places
+  by_places count =
+      let moves : (k : ℕ) → k < length now.places → MovesOn before now k = λ k lt. moved k (subst (λ (n : ℕ). k < n) (sym count) lt) in
       let one = moves left.0 left.1 left.2 in
       let low = lowest_le top (node_at before.nodes) before.places left.0 (subst (λ (n : ℕ). left.0 < n) (sym count) left.1) one.0 in
       let further = one.1 in
@@ -94,16 +95,11 @@ module _ (top : ℕ) (ks : List Answer) (before now : TreeState) (grown : HasGro
       ⊎_elim
       (λ (more : length before.access < length now.access).
       closer_by_state (before.most - length before.access) (now.most - length now.access) top (lowest top (node_at before.nodes) before.places) (lowest top (node_at now.nodes) now.places) (omega (arith, more, few, most)))
-      (λ (moves : (k : ℕ) → k < length now.places → MovesOn before now k).
-      ⊎_elim
-      (λ (more : length before.access < length now.access).
-      closer_by_state (before.most - length before.access) (now.most - length now.access) top (lowest top (node_at before.nodes) before.places) (lowest top (node_at now.nodes) now.places) (omega (arith, more, few, most)))
       (λ (le : length now.access ≤ length before.access).
       let same : length now.access ≡ length before.access = omega (arith, le, ge) in
       let count : length before.places ≡ length now.places = sym (grown.tree.each_place ∙ (ap (λ (x : ℕ). x * now.inputs) same ∙ (ap (λ (y : ℕ). length before.access * y) grown.inputs ∙ sym g.each_place))) in
-      closer_by_node (before.most - length before.access) (now.most - length now.access) top (lowest top (node_at before.nodes) before.places) (lowest top (node_at now.nodes) now.places) (omega (arith, same, most)) (by_places moves count) (lowest_top top (node_at now.nodes) now.places))
-      (cases_lt (length before.access) (length now.access)))
-      moved
+      closer_by_node (before.most - length before.access) (now.most - length now.access) top (lowest top (node_at before.nodes) before.places) (lowest top (node_at now.nodes) now.places) (omega (arith, same, most)) (by_places count) (lowest_top top (node_at now.nodes) now.places))
+      (cases_lt (length before.access) (length now.access))
 
 abbrev pub measure : TreeState → ℕ
 measure t = measure_by (2 ^ 32) t

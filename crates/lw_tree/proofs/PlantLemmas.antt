@@ -1,12 +1,12 @@
 -- The tree in which a sprout stands below a root.
-use Rattle.std.proofs.Common.{◌≡◌, ◌≢◌, ◌⊎◌, inl, inr, ⊎_elim, ℕ, zero, suc, ◌+◌, ◌*◌, ◌^◌, ◌<◌, ◌≤◌, Bool, true, false, List, [], ◌∷◌, ◌++◌, length, map, IsSome, Ok, refl, ap, ap₂, sym, ◌∙◌, subst, append_assoc, append-nil, arith}
+use Rattle.std.proofs.Common.{◌≡◌, ◌≢◌, ◌⊎◌, inl, inr, ⊎_elim, ℕ, zero, suc, ◌+◌, ◌*◌, ◌^◌, ◌<◌, ◌≤◌, Bool, true, false, true≢false, List, [], ◌∷◌, ◌++◌, length, map, Option, IsSome, Ok, refl, ap, ap₂, sym, ◌∙◌, subst, append_assoc, append-nil, arith}
 use Rattle.std.proofs.Math.ListN.{get_or-append}
 use Rattle.std.proofs.lemmas.List.{length-append, length-map, get_or-map, get_or-append-add}
 use Rattle.lw_words.specs.Word.{Answer}
 use Rattle.lw_cache.specs.Cut.{word_at}
-use Rattle.lw_tree.specs.Blocks.{MayReplace, HasFinal, HasReplaced}
+use Rattle.lw_tree.specs.Blocks.{MayReplace, HasFinal, StandsBelow, KeepsOutside, OutputsStay, HasReplaced}
 use Rattle.lw_tree.specs.Grown.{HasGrown}
-use Rattle.lw_tree.specs.Tree.{TreeState, no_node, no_place, node_at, place_at, leaf_at, edge_at, place_of, final_words_of, final_discriminators, IsLive, IsFinal, AreNodes, AreLeaves, IsEdge, IsPlace, IsTree, Agrees, BranchesAreRead}
+use Rattle.lw_tree.specs.Tree.{TreeState, no_node, no_place, node_at, place_at, leaf_at, edge_at, place_of, final_words_of, final_discriminators, is_temporary, IsLive, IsFinal, AreNodes, AreLeaves, IsEdge, IsPlace, IsTree, Agrees, BranchesAreRead}
 use Rattle.lw_tree.specs.bodies.Nodes.{AreLower}
 use Rattle.lw_tree.specs.bodies.Sprouts.{AreMarks, mark_at, lifted, lifted_place, IsSprout, IsCleared, edge_number, AreEdgePlaces}
 use Rattle.lw_tree.specs.declared.nodes.Node.{Node}
@@ -15,7 +15,7 @@ use Rattle.lw_tree.specs.declared.nodes.Content.TheVariants.{State, Discriminato
 use Rattle.lw_tree.specs.declared.transitions.Place.{Place}
 use Rattle.lw_tree.specs.declared.transitions.Edge.{Edge}
 use Rattle.lw_tree.proofs.AboveLemmas.{agrees_still, final_up}
-use Rattle.lw_tree.proofs.ClearedLemmas.{marked_or_not, temporary_plain, base_branched, lifted_agrees, lifted_live}
+use Rattle.lw_tree.proofs.ClearedLemmas.{marked_or_not, lifted_no, temporary_plain, base_branched, lifted_agrees, lifted_live}
 use Rattle.lw_tree.proofs.NodeLemmas.{live_within}
 use Rattle.lw_tree.proofs.PlaceLemmas.{one_transition, number_within}
 use Rattle.lw_tree.proofs.WayLemmas.{KeepsNodes, inner_is_live}
@@ -41,8 +41,23 @@ same_edge_places a spanning own_spanning leaves own_leaves places own_places now
     subst (λ (l : List Place). AreEdgePlaces a own_spanning own_leaves (length own_leaves) l now) three
     (subst (λ (l : List ℕ). AreEdgePlaces a own_spanning l (length l) places now) two (subst (λ (l : List Edge). AreEdgePlaces a l leaves (length leaves) places now) one e))
 
-pub replaced_ok : {E : Type 0} (ks : List Answer) (r : ℕ) (word : List ℕ) (before now : TreeState) → HasGrown ks before now → HasFinal word before now → (node_at now.nodes r).content ≡ Discriminator word false → now.access ≡ before.access → now.refinements ≡ before.refinements → HasReplaced {E = E} ks r word before now (Ok tt)
-replaced_ok ks r word before now grown replaced root access refinements = record { grown = grown; replaced = replaced; root = root; access = access; refinements = refinements; left = tt }
+pub replaced_ok : {E : Type 0} (ks : List Answer) (r : ℕ) (word : List ℕ) (before now : TreeState) → HasGrown ks before now → HasFinal word before now → (node_at now.nodes r).content ≡ Discriminator word false → KeepsOutside r before now → OutputsStay before now → now.access ≡ before.access → now.refinements ≡ before.refinements → HasReplaced {E = E} ks r word before now (Ok tt)
+replaced_ok ks r word before now grown replaced root outside outputs access refinements = record { grown = grown; replaced = replaced; root = root; outside = outside; outputs = outputs; access = access; refinements = refinements; left = tt }
+
+abbrev node_of : ℕ → List ℕ → Content → Node
+node_of parent branch content = record { parent = parent; branch = branch; content = content }
+
+abbrev place_with : Option ℕ → ℕ → Place
+place_with output node = record { output = output; node = node }
+
+-- nodes, and places, with the same parts
+same_node : (m n : Node) → m.parent ≡ n.parent → m.branch ≡ n.branch → m.content ≡ n.content → m ≡ n
+same_node m n parent branch content =
+    ap (λ (p : ℕ). node_of p m.branch m.content) parent
+    ∙ (ap (λ (b : List ℕ). node_of n.parent b m.content) branch ∙ ap (λ (c : Content). node_of n.parent n.branch c) content)
+
+same_place : (p q : Place) → p.output ≡ q.output → p.node ≡ q.node → p ≡ q
+same_place p q output node = ap (λ (o : Option ℕ). place_with o p.node) output ∙ ap (λ (n : ℕ). place_with q.output n) node
 
 module _ (ks : List Answer) (t : TreeState) (r : ℕ) (word : List ℕ) (marks : List Bool) (base more : List Node) (stand : List ℕ) (placed : List Place) (g : IsTree t) (read : BranchesAreRead ks t) (may : MayReplace ks t r word) (are : AreMarks (node_at t.nodes) r marks) (each : length marks ≡ length t.nodes)
     (clear : IsCleared (node_at t.nodes) (node_at base) r word marks) (long : length base ≡ length t.nodes) (few : length t.nodes + length more < 2 ^ 32) (s : IsSprout ks t.inputs t.access (length t.nodes) (base ++ more) stand (length t.nodes + length more))
@@ -194,6 +209,53 @@ module _ (ks : List Answer) (t : TreeState) (r : ℕ) (word : List ℕ) (marks :
 
   pub planted_grown : HasGrown ks t after
   planted_grown = record { inputs = refl; outputs = refl; most = refl; more = []; access = sym (append-nil t.access); tree = planted_tree; read = planted_read }
+
+  -- a node that isn't below the root isn't marked
+  unmarked : (n : ℕ) → ¬ (StandsBelow (node_at t.nodes) r n) → mark_at marks n ≡ false
+  unmarked n not_below =
+      ⊎_elim
+      (λ (yes : mark_at marks n ≡ true). let u = are.sound n yes in let lt = u.0 in absurd (not_below (λ same. omega (arith, same, lt), u.2)))
+      (λ (none : mark_at marks n ≡ false). none)
+      (marked_or_not (mark_at marks n))
+
+  root_stays : now r ≡ node_at base r
+  root_stays = stays r (subst IsLive (sym clear.root) tt)
+
+  outside_node : (n : ℕ) → n ≢ r → ¬ (StandsBelow (node_at t.nodes) r n) → IsLive (node_at t.nodes n).content → now n ≡ node_at t.nodes n
+  outside_node n other not_below live =
+      let content = clear.kept n other (unmarked n not_below) in
+      stays n (subst IsLive (sym content) live) ∙ same_node (node_at base n) (node_at t.nodes n) (clear.parent n) (clear.branch n) content
+
+  leaf_not_root : (q : ℕ) → q < length t.access → leaf_at t.leaves q ≢ r
+  leaf_not_root q lt same = true≢false (sym may.block.temporary ∙ ap is_temporary (ap (λ (n : ℕ). (node_at t.nodes n).content) (sym same) ∙ g.leaves.leaves q lt))
+
+  -- a state whose leaf isn't below the root has the same leaf
+  outside_leaf : (q : ℕ) → q < length t.access → ¬ (StandsBelow (node_at t.nodes) r (leaf_at t.leaves q)) → leaf_at stand q ≡ leaf_at t.leaves q
+  outside_leaf q lt not_below =
+      let was = g.leaves.leaves q lt in
+      let same = outside_node (leaf_at t.leaves q) (leaf_not_root q lt) not_below (subst IsLive (sym was) tt) in
+      (s.standing.states (leaf_at t.leaves q) q (ap (λ (k : Node). k.content) same ∙ was)).1
+
+  outside_place : (k : ℕ) → k < length t.places → ¬ (StandsBelow (node_at t.nodes) r (place_at t.places k).node) → (place_at placed k).node ≡ (place_at t.places k).node
+  outside_place k lt not_below =
+      ⊎_elim
+      (λ (same : (place_at placed k).node ≡ lifted marks r (place_at t.places k).node). same ∙ lifted_no marks r (place_at t.places k).node (unmarked (place_at t.places k).node not_below))
+      (λ (moved : (q : ℕ) × (0 < q) × (q < length t.access) × (edge_number t.inputs t.spanning q ≡ k) × ((place_at placed k).node ≡ leaf_at stand q)).
+      let there : (place_at t.places k).node ≡ leaf_at t.leaves moved.0 = ap (λ (j : ℕ). (place_at t.places j).node) (sym moved.3) ∙ (g.edges moved.0 moved.1 moved.2).target in
+      moved.4 ∙ (outside_leaf moved.0 moved.2 (subst (λ (n : ℕ). ¬ (StandsBelow (node_at t.nodes) r n)) there not_below) ∙ sym there))
+      (place_cases k lt)
+
+  pub planted_outside : KeepsOutside r t after
+  planted_outside =
+      record {
+        parent = ap (λ (k : Node). k.parent) root_stays ∙ clear.parent r;
+        branch = ap (λ (k : Node). k.branch) root_stays ∙ clear.branch r;
+        nodes = outside_node;
+        places = λ k lt not_below. same_place (place_at placed k) (place_at t.places k) (output_at k lt) (outside_place k lt not_below);
+      }
+
+  pub planted_outputs : OutputsStay t after
+  planted_outputs = output_at
 
   pub planted_lower : AreLower (base ++ more)
   planted_lower n some live = (s.standing.shape.branches n some live).lower

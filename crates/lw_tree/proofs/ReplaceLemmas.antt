@@ -11,7 +11,7 @@ use Rattle.lw_tree.specs.declared.nodes.Node.{Node}
 use Rattle.lw_tree.specs.declared.transitions.Edge.{Edge}
 use Rattle.lw_tree.specs.declared.transitions.Place.{Place}
 use Rattle.lw_tree.proofs.ClearedLemmas.{replaced_long, replaced_clears, block_inside}
-use Rattle.lw_tree.proofs.PlantLemmas.{planted, edge_within, same_edge_places, replaced_ok, planted_tree, planted_grown, planted_final}
+use Rattle.lw_tree.proofs.PlantLemmas.{planted, edge_within, same_edge_places, replaced_ok, planted_tree, planted_grown, planted_outside, planted_outputs, planted_final}
 
 -- a block's nodes are marked, and what is to stand below its root is made
 pub record IsPlanting (ks : List Answer) (t : TreeState) (r : ℕ) (word : List ℕ) (marks : List Bool) (more : List Node) (stand : List ℕ) : Type 0 where
@@ -114,4 +114,6 @@ module _ {ks : List Answer} {t : TreeState} {r : ℕ} {word : List ℕ} {marks :
           subst (λ (l : List Node). HasReplaced {E = NoMemory} ks r word t (planted t l stand placed) (Ok tt)) (sym nodes_are)
           (replaced_ok ks r word t (planted t (base ++ more) stand placed) (planted_grown ks t r word marks base more stand placed p.tree p.read p.may p.are p.each p.clear p.long p.few p.sprout edges)
           (planted_final ks t r word marks base more stand (length t.nodes + length more) p.tree p.may p.are p.clear p.long p.inside p.sprout placed)
-          (ap (λ (n : Node). n.content) (get_or_append_left base more no_node r (subst (λ (n : ℕ). r < n) (sym p.long) p.inside)) ∙ p.clear.root) refl refl)
+          (ap (λ (n : Node). n.content) (get_or_append_left base more no_node r (subst (λ (n : ℕ). r < n) (sym p.long) p.inside)) ∙ p.clear.root)
+          (planted_outside ks t r word marks base more stand placed p.tree p.read p.may p.are p.each p.clear p.long p.few p.sprout edges)
+          (planted_outputs ks t r word marks base more stand placed p.tree p.read p.may p.are p.each p.clear p.long p.few p.sprout edges) refl refl)

@@ -1,11 +1,11 @@
 -- The classes of a tree's states, and how the root of a block is replaced. Source: Isberner, Howar and Steffen (2014).
-use Rattle.std.specs.Prelude.{◌≡◌, ℕ, ◌<◌, true, false, List, ◌∷◌, ◌++◌, length, Result, OnOk, OnErr, ⊤}
+use Rattle.std.specs.Prelude.{◌≡◌, ◌≢◌, ℕ, ◌<◌, true, false, List, ◌∷◌, ◌++◌, length, Result, OnOk, OnErr, ⊤}
 use Rattle.lw_words.specs.Word.{Answer, IsWord}
 use Rattle.lw_cache.specs.Crowd.{Separates}
 use Rattle.lw_cache.specs.Cut.{word_at}
 use Rattle.lw_cache.specs.Known.{IsKnown}
 use Rattle.lw_tree.specs.Grown.{HasGrown}
-use Rattle.lw_tree.specs.Tree.{TreeState, node_at, leaf_at, final_discriminators, is_temporary, IsLive, IsFinal, HasTail, IsAbove}
+use Rattle.lw_tree.specs.Tree.{TreeState, node_at, place_at, leaf_at, final_discriminators, is_temporary, IsLive, IsFinal, HasTail, IsAbove}
 use Rattle.lw_tree.specs.declared.nodes.Node.{Node}
 use Rattle.lw_tree.specs.declared.nodes.Content.TheVariants.{Discriminator}
 
@@ -59,11 +59,29 @@ pub record HasFinal (word : List ℕ) (before now : TreeState) : Type 0 where
   pub were : final_discriminators before.nodes ≡ front ++ back
   pub are : final_discriminators now.nodes ≡ front ++ word ∷ back
 
+-- the second node is below the first
+abbrev pub StandsBelow : (ℕ → Node) → ℕ → ℕ → Type 0
+StandsBelow node m n = (m ≢ n) × IsAbove node m n
+
+-- a node keeps its parent and branch; a node at which something stood, and that is neither this one nor below it, is as it was; so
+-- is each transition that stood at no node below it
+pub record KeepsOutside (r : ℕ) (before now : TreeState) : Type 0 where
+  pub parent : (node_at now.nodes r).parent ≡ (node_at before.nodes r).parent
+  pub branch : (node_at now.nodes r).branch ≡ (node_at before.nodes r).branch
+  pub nodes : (n : ℕ) → n ≢ r → ¬ (StandsBelow (node_at before.nodes) r n) → IsLive (node_at before.nodes n).content → node_at now.nodes n ≡ node_at before.nodes n
+  pub places : (k : ℕ) → k < length before.places → ¬ (StandsBelow (node_at before.nodes) r (place_at before.places k).node) → place_at now.places k ≡ place_at before.places k
+
+-- each transition has the output that it had, if any
+abbrev pub OutputsStay : TreeState → TreeState → Type 0
+OutputsStay before now = (k : ℕ) → k < length before.places → (place_at now.places k).output ≡ (place_at before.places k).output
+
 -- a tree once the root r of a block was to be replaced: it is final now
 pub record HasReplaced {E : Type 0} (ks : List Answer) (r : ℕ) (word : List ℕ) (before now : TreeState) (result : Result ⊤ E) : Type 0 where
   pub grown : OnOk result (HasGrown ks before now)
   pub replaced : OnOk result (HasFinal word before now)
   pub root : OnOk result ((node_at now.nodes r).content ≡ Discriminator word false)
+  pub outside : OnOk result (KeepsOutside r before now)
+  pub outputs : OnOk result (OutputsStay before now)
   pub access : OnOk result (now.access ≡ before.access)
   pub refinements : OnOk result (now.refinements ≡ before.refinements)
   pub left : OnErr result (now ≡ before)

@@ -1,12 +1,13 @@
 -- What a call that asks leaves of a tree.
-use Rattle.std.specs.Prelude.{◌≡◌, ◌⊎◌, ℕ, ◌+◌, ◌<◌, List, [], ◌∷◌, ◌++◌, length, Bool, true, false, Result, Err, OnOk, OnErr, IfOk, ⊤}
+use Rattle.std.specs.Prelude.{◌≡◌, ◌≢◌, ◌⊎◌, ℕ, ◌+◌, ◌<◌, List, [], ◌∷◌, ◌++◌, length, Bool, true, false, Result, Err, OnOk, OnErr, IfOk, ⊤}
 use Rattle.lw_words.specs.Word.{Answer}
 use Rattle.lw_cache.specs.Crowd.{IsCrowd}
 use Rattle.lw_cache.specs.Cut.{word_at}
 use Rattle.lw_cache.specs.declared.cut.Cut.{Cut}
 use Rattle.lw_cache.specs.declared.stops.GrowStop.{GrowStop}
 use Rattle.lw_cache.specs.declared.stops.GrowStop.TheVariants.{Crowd}
-use Rattle.lw_tree.specs.Tree.{TreeState, discriminators, final_discriminators, temporaries, is_open, node_at, place_at, IsTree, BranchesAreRead, IsClosed, HasOpen}
+use Rattle.lw_tree.specs.Tree.{TreeState, discriminators, final_discriminators, temporaries, is_open, node_at, place_at, IsLive, IsTree, BranchesAreRead, IsClosed, HasOpen}
+use Rattle.lw_tree.specs.declared.nodes.Content.TheVariants.{Discriminator}
 
 -- the same numbers, more access words at the end, and a tree whose branches are what the answers say
 pub record HasGrown (ks : List Answer) (before now : TreeState) : Type 0 where
@@ -18,8 +19,18 @@ pub record HasGrown (ks : List Answer) (before now : TreeState) : Type 0 where
   pub tree : IsTree now
   pub read : BranchesAreRead ks now
 
--- the discriminators and the count of refinements are as before
-pub record KeepsDiscriminators (before now : TreeState) : Type 0 where
+-- a node at which something stood is as it was
+abbrev pub NodesStay : TreeState → TreeState → Type 0
+NodesStay before now = (n : ℕ) → IsLive (node_at before.nodes n).content → node_at now.nodes n ≡ node_at before.nodes n
+
+-- a transition that had a target stands where it stood, with the same output
+abbrev pub TargetsStay : TreeState → TreeState → Type 0
+TargetsStay before now = (k : ℕ) → is_open (node_at before.nodes) (place_at before.places k) ≡ false → place_at now.places k ≡ place_at before.places k
+
+-- nodes and targets stay; the discriminators and the count of refinements are as before
+pub record KeepsTree (before now : TreeState) : Type 0 where
+  pub nodes : NodesStay before now
+  pub targets : TargetsStay before now
   pub discriminators_are : discriminators now.nodes ≡ discriminators before.nodes
   pub finals : final_discriminators now.nodes ≡ final_discriminators before.nodes
   pub temporary : temporaries now.nodes ≡ temporaries before.nodes
@@ -44,14 +55,14 @@ abbrev pub MovesOn : TreeState → TreeState → ℕ → Type 0
 MovesOn before now k = is_open (node_at now.nodes) (place_at now.places k) ≡ true
     → (is_open (node_at before.nodes) (place_at before.places k) ≡ true) × ((place_at before.places k).node < (place_at now.places k).node)
 
--- there are more states, or each transition that is without a target was so before and stood higher up
+-- that is so of each transition that there was
 abbrev pub HasMoved : TreeState → TreeState → Type 0
-HasMoved before now = (length before.access < length now.access) ⊎ ((k : ℕ) → k < length now.places → MovesOn before now k)
+HasMoved before now = (k : ℕ) → k < length before.places → MovesOn before now k
 
 -- a tree once a level was to be sifted; the answer is whether a transition is left that has no target
 pub record HasLevelled (ks : List Answer) (before now : TreeState) (result : Result Bool GrowStop) : Type 0 where
   pub grown : HasGrown ks before now
-  pub keeps : KeepsDiscriminators before now
+  pub keeps : KeepsTree before now
   pub closed : IfOk result (λ is_left. is_left ≡ false → IsClosed now)
   pub left : IfOk result (λ is_left. is_left ≡ true → HasOpen now)
   pub moved : IfOk result (λ is_left. HasMoved before now)
@@ -60,7 +71,7 @@ pub record HasLevelled (ks : List Answer) (before now : TreeState) (result : Res
 -- a tree once it was to be closed
 pub record HasClosed (ks : List Answer) (before now : TreeState) (result : Result ⊤ GrowStop) : Type 0 where
   pub grown : HasGrown ks before now
-  pub keeps : KeepsDiscriminators before now
+  pub keeps : KeepsTree before now
   pub closed : OnOk result (IsClosed now)
   pub crowd : TellsCrowd ks now result
 
@@ -68,8 +79,9 @@ pub record HasClosed (ks : List Answer) (before now : TreeState) (result : Resul
 abbrev pub cut_word : List (List ℕ) → Cut → List ℕ
 cut_word access cut = word_at access cut.state ++ cut.letter ∷ []
 
--- a leaf became a temporary node with this discriminator; the first new access word is this one
-pub record IsSplit (word suffix : List ℕ) (before now : TreeState) : Type 0 where
+-- this leaf became a temporary node with this discriminator, and keeps its parent and branch; each other node at which something
+-- stood is as it was, and so is each transition that had another leaf as its target; the first new access word is this one
+pub record IsSplit (word suffix : List ℕ) (leaf : ℕ) (before now : TreeState) : Type 0 where
   pub more : List (List ℕ)
   pub access : now.access ≡ before.access ++ word ∷ more
   pub states : length before.access < length now.access
@@ -79,14 +91,19 @@ pub record IsSplit (word suffix : List ℕ) (before now : TreeState) : Type 0 wh
   pub discriminators_are : discriminators now.nodes ≡ front ++ suffix ∷ back
   pub finals : final_discriminators now.nodes ≡ final_discriminators before.nodes
   pub temporary : temporaries now.nodes ≡ temporaries before.nodes + 1
+  pub parent : (node_at now.nodes leaf).parent ≡ (node_at before.nodes leaf).parent
+  pub branch : (node_at now.nodes leaf).branch ≡ (node_at before.nodes leaf).branch
+  pub content : (node_at now.nodes leaf).content ≡ Discriminator suffix true
+  pub nodes : (n : ℕ) → n ≢ leaf → IsLive (node_at before.nodes n).content → node_at now.nodes n ≡ node_at before.nodes n
+  pub targets : (k : ℕ) → (place_at before.places k).node ≢ leaf → is_open (node_at before.nodes) (place_at before.places k) ≡ false → place_at now.places k ≡ place_at before.places k
 
--- a tree once it was to be split with a suffix, for a new state with this access word; where it was refused, it is as before, or
--- was split and maybe not closed
-pub record HasSplit (ks : List Answer) (word suffix : List ℕ) (before now : TreeState) (result : Result ⊤ GrowStop) : Type 0 where
+-- a tree once this leaf was to be split with a suffix, for a new state with this access word; where that was refused, the tree is
+-- as before, or was split and maybe not closed
+pub record HasSplit (ks : List Answer) (word suffix : List ℕ) (leaf : ℕ) (before now : TreeState) (result : Result ⊤ GrowStop) : Type 0 where
   pub grown : HasGrown ks before now
   pub closed : OnOk result (IsClosed now)
-  pub split : OnOk result (IsSplit word suffix before now)
-  pub left : OnErr result ((now ≡ before) ⊎ IsSplit word suffix before now)
+  pub split : OnOk result (IsSplit word suffix leaf before now)
+  pub left : OnErr result ((now ≡ before) ⊎ IsSplit word suffix leaf before now)
   pub refined : OnOk result (now.refinements ≡ before.refinements + 1)
   pub refused : OnErr result (now.refinements ≡ before.refinements)
   pub crowd : TellsCrowd ks now result

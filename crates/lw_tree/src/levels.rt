@@ -4,7 +4,7 @@ ghost use Rattle.std.specs.List.{All};
 ghost use Rattle.lw_words.specs.Word.{Answer, AreAnswers, answers_of, IsWord};
 ghost use Rattle.lw_cache.specs.Known.{IsKnown};
 ghost use Rattle.lw_cache.specs.Settling.{Keeps, MayAsk, Leaves, grown_stop};
-ghost use Rattle.lw_tree.specs.Grown.{HasGrown, KeepsDiscriminators, HasLevelled, HasClosed, TellsCrowd, HasMoved, MovesOn};
+ghost use Rattle.lw_tree.specs.Grown.{HasGrown, KeepsTree, HasLevelled, HasClosed, TellsCrowd, HasMoved, MovesOn};
 ghost use Rattle.lw_cache.specs.declared.stops.GrowStop.TheVariants.{Crowd};
 ghost use Rattle.lw_tree.specs.Tree.{IsTree, BranchesAreRead, HasOpen, IsClosed, IsInner, IsLive, discriminator, is_open, node_at, place_at};
 ghost use Rattle.lw_tree.specs.bodies.Arrivals.{AreOpen};
@@ -188,7 +188,7 @@ impl DiscriminationTree {
         requires known { AreAsked (IsKnown (answers_of cache.now.kept)) self.old 0
             (length self.old.places) }
         ensures grown { HasGrown (answers_of cache.now.kept) self.old self.new }
-        ensures keeps { KeepsDiscriminators self.old self.new }
+        ensures keeps { KeepsTree self.old self.new }
         ensures moved { OnOk result (HasMoved self.old self.new) }
         ensures crowd { TellsCrowd (answers_of cache.now.kept) self.new result }
         ensures own { IfErr result IsOwn }

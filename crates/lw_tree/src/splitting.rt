@@ -5,7 +5,7 @@ ghost use Rattle.lw_mealy.specs.Machine.{Rows};
 ghost use Rattle.lw_cache.specs.Cut.{IsCut};
 ghost use Rattle.lw_cache.specs.Settling.{MayAsk, Leaves, grown_stop};
 ghost use Rattle.lw_tree.specs.Grown.{cut_word, HasGrown, IsSplit, HasSplit, TellsCrowd};
-ghost use Rattle.lw_tree.specs.Tree.{IsTree, BranchesAreRead, IsClosed, IsMachineOf};
+ghost use Rattle.lw_tree.specs.Tree.{leaf_at, IsTree, BranchesAreRead, IsClosed, IsMachineOf};
 ghost use Rattle.lw_tree.specs.bodies.Cuts.{edge_of, CanSplit};
 ghost use Rattle.lw_tree.specs.bodies.Steps.{refined_once, IsOwn};
 
@@ -41,8 +41,7 @@ impl DiscriminationTree {
         ensures was { IsTree self.old }
         ensures grown { HasGrown (answers_of cache.now.kept) self.old self.new }
         ensures split { OnOk result (IsSplit (cut_word self.old.access cut.now) cut.now.suffix
-            self.old
-            self.new) }
+            (leaf_at self.old.leaves cut.now.target) self.old self.new) }
         ensures refinements { self.new.refinements ≡ self.old.refinements }
         ensures err { OnErr result (self.new ≡ self.old) }
         ensures crowd { TellsCrowd (answers_of cache.now.kept) self.new result }
@@ -84,7 +83,8 @@ impl DiscriminationTree {
         requires cut { (m : Rows) × IsMachineOf self.old m × IsCut
             (answers_of (O.state oracle.old).kept) self.old.inputs m self.old.access cut.now }
         ensures splits { HasSplit (answers_of (O.state oracle.new).kept)
-            (cut_word self.old.access cut.now) cut.now.suffix self.old self.new result }
+            (cut_word self.old.access cut.now) cut.now.suffix
+            (leaf_at self.old.leaves cut.now.target) self.old self.new result }
         ensures leaves { Leaves (O.state oracle.old) (O.state oracle.new) (grown_stop result) }
         ensures can { O.can_settle oracle.new }
     {

@@ -5,8 +5,8 @@ use Rattle.lw_cache.specs.Cut.{word_at}
 use Rattle.lw_cache.specs.declared.stops.AskStop.TheVariants.{NoMemory}
 use Rattle.lw_cache.specs.declared.stops.GrowStop.{GrowStop}
 use Rattle.lw_cache.specs.declared.stops.GrowStop.TheVariants.{Ask, Crowd}
-use Rattle.lw_tree.specs.Grown.{HasGrown, KeepsDiscriminators, MovesOn}
-use Rattle.lw_tree.specs.Tree.{TreeState, node_at, place_at, leaf_at, edge_at, no_place, discriminator, IsLive, IsInner, BranchesAreRead, Tells}
+use Rattle.lw_tree.specs.Grown.{HasGrown, KeepsTree, MovesOn}
+use Rattle.lw_tree.specs.Tree.{TreeState, node_at, place_at, leaf_at, edge_at, no_place, discriminator, IsInner, BranchesAreRead, Tells}
 use Rattle.lw_tree.specs.bodies.Nodes.{IsChild}
 use Rattle.lw_tree.specs.bodies.Transitions.{IsTransition, word_of, place_by, content_by}
 use Rattle.lw_tree.specs.declared.nodes.Node.{Node}
@@ -91,18 +91,16 @@ pub record IsRead (ks : List Answer) (t : TreeState) (edge : Edge) (output : ℕ
   pub out : Tells ks (word_at t.access edge.state) (edge.letter ∷ []) (output ∷ [])
   pub outs : Tells ks (word_of t edge) (discriminator (content_by t edge)) branch
 
--- no node that was live changed, and of the places that there were at most this one
+-- of the places that there were at most this one changed
 pub record HasStepped (ks : List Answer) (before : TreeState) (edge : Edge) (now : TreeState) : Type 0 where
   pub grown : HasGrown ks before now
-  pub keeps : KeepsDiscriminators before now
-  pub nodes : (n : ℕ) → IsLive (node_at before.nodes n).content → node_at now.nodes n ≡ node_at before.nodes n
+  pub keeps : KeepsTree before now
   pub others : (k : ℕ) → k < length before.places → k ≢ edge.state * before.inputs + edge.letter → place_at now.places k ≡ place_at before.places k
 
 -- each transition before a number has moved on; those from it on are where they were
 pub record HasSifted (ks : List Answer) (before : TreeState) (to : ℕ) (now : TreeState) : Type 0 where
   pub grown : HasGrown ks before now
-  pub keeps : KeepsDiscriminators before now
-  pub nodes : (n : ℕ) → IsLive (node_at before.nodes n).content → node_at now.nodes n ≡ node_at before.nodes n
+  pub keeps : KeepsTree before now
   pub left : (k : ℕ) → to ≤ k → k < length before.places → place_at now.places k ≡ place_at before.places k
   pub moved : (k : ℕ) → k < to → k < length before.places → MovesOn before now k
 

@@ -105,7 +105,8 @@ returns-in_err-close-clause-settles g c =
     let is : IsReplacement t r = subst (λ (found : Option Replacement). MatchOption found (NothingIsParted t) (IsReplacement t)) c.in-Some.is c.in_ok-replacement.ensures in
     let first = answers_of c.cache-2.result.now.kept in
     let one = c.in_ok-replace.ensures in
-    not_closed_then first (answers_of p.kept) r.word r.root t c.replace.new.self c.close.new.self c.in_err-close.field-0.0 c.from_residual-in_err-close.result is.block one.grown one.replaced one.refinements c.in_err-close.ensures.closes (search rules)
+    not_closed_then first (answers_of p.kept) r.word r.root t c.replace.new.self c.close.new.self c.in_err-close.field-0.0 c.from_residual-in_err-close.result
+    (record { tree = c.access.ensures.tree; closed = c.requires.closed; block = is.block; replaced = one }) c.in_err-close.ensures.closes (search rules)
 
 pub returns-in_err-close-clause-leaves : goal.returns-in_err-close-clause-leaves
 returns-in_err-close-clause-leaves g c =
@@ -124,7 +125,8 @@ returns-clause-settles g c =
     let is : IsReplacement t r = subst (λ (found : Option Replacement). MatchOption found (NothingIsParted t) (IsReplacement t)) c.in-Some.is c.in_ok-replacement.ensures in
     let first = answers_of c.cache-2.result.now.kept in
     let one = c.in_ok-replace.ensures in
-    all_settled first (answers_of p.kept) r.word r.root t c.replace.new.self c.close.new.self is.block one.grown one.replaced one.refinements c.in_ok-close.ensures.closes
+    all_settled first (answers_of p.kept) r.word r.root t c.replace.new.self c.close.new.self
+    (record { tree = c.access.ensures.tree; closed = c.requires.closed; block = is.block; replaced = one }) c.in_ok-close.ensures.closes
 
 pub returns-clause-leaves : goal.returns-clause-leaves
 returns-clause-leaves g c =

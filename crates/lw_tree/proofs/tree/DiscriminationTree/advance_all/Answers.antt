@@ -3,7 +3,7 @@ use Rattle.lw_words.specs.Word.{answers_of}
 use Rattle.lw_cache.specs.Known.{IsKnown}
 use Rattle.lw_tree.specs.Tree.{TreeState, IsTree}
 use Rattle.lw_tree.specs.bodies.Transitions.{IsTransition}
-use Rattle.lw_tree.proofs.GrownLemmas.{access_longer, asked_still, sifted_all}
+use Rattle.lw_tree.proofs.GrownLemmas.{keeps_and_keeps, access_longer, asked_still, sifted_all}
 use Rattle.lw_tree.proofs.LevelLemmas.{number_from, number_at, number_past, few_numbers, edge_from, sifted_first, turn_stands, turn_done}
 use Rattle.lw_tree.proofs.StepLemmas.{handed_crowd}
 use Rattle.lw_tree.proofs.tree.DiscriminationTree.advance_all.Goals as goal
@@ -71,6 +71,13 @@ advance-requires-clause-known c =
     let within = c.requires.numbers.within l.number-index inside in
     asked_still (IsKnown ks) ks u (number_from u c.args.numbers.now l.number-index) l.self edge g l.invariant from (omega (arith, number, at)) (omega (arith, number, within)) (c.requires.known edge from (omega arith) (omega (arith, number, within)))
 
+pub returns-in_err-advance-clause-keeps : goal.returns-in_err-advance-clause-keeps
+returns-in_err-advance-clause-keeps c =
+    let u : TreeState = c.args.self.now in
+    let l = c.loop-number in
+    let g : IsTree u = subst (λ (v : TreeState). IsTree v) c.self.view_is c.self.invariant.tree in
+    keeps_and_keeps u l.self c.advance-in-loop-number.new.self g l.invariant.keeps c.in_err-advance.ensures.stepped.keeps
+
 pub returns-in_err-advance-clause-crowd : goal.returns-in_err-advance-clause-crowd
 returns-in_err-advance-clause-crowd c =
     handed_crowd (answers_of c.args.cache.now.kept) c.advance-in-loop-number.new.self c.in_err-advance.field-0.0 c.from_residual.result c.in_err-advance.ensures.crowd (search rules)
@@ -89,7 +96,6 @@ pub returns-clause-moved : goal.returns-clause-moved
 returns-clause-moved c =
     let u : TreeState = c.args.self.now in
     let l = c.loop-number in
-    let g : IsTree u = subst (λ (v : TreeState). IsTree v) c.self.view_is c.self.invariant.tree in
     let past : length c.args.numbers.now ≤ l.number-index = c.loop-number-test.false in
     let all = number_past u c.args.numbers.now c.requires.numbers l.number-index past in
-    sifted_all (answers_of c.args.cache.now.kept) u (number_from u c.args.numbers.now l.number-index) l.self g (omega (arith, all)) l.invariant
+    sifted_all (answers_of c.args.cache.now.kept) u (number_from u c.args.numbers.now l.number-index) l.self (omega (arith, all)) l.invariant

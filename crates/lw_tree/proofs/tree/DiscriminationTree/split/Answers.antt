@@ -4,7 +4,7 @@ use Rattle.lw_words.specs.Word.{AreAnswers, answers_of}
 use Rattle.lw_words.specs.declared.kept.KeptAnswer.{KeptAnswer}
 use Rattle.lw_cache.proofs.SettlingLemmas.{leaves_nothing}
 use Rattle.lw_tree.specs.Grown.{HasGrown, TellsCrowd, cut_word}
-use Rattle.lw_tree.specs.Tree.{TreeState}
+use Rattle.lw_tree.specs.Tree.{TreeState, leaf_at}
 use Rattle.lw_tree.proofs.CloseLemmas.{has_split, not_all_split, not_split, room_to_count}
 use Rattle.lw_tree.proofs.StepLemmas.{kept_words, leaves_after}
 use Rattle.lw_tree.proofs.tree.DiscriminationTree.split.Goals as goal
@@ -22,7 +22,7 @@ returns-in_err-split_leaf-clause-splits g c =
     let now : TreeState = c.split_leaf.new.self in
     let stop = c.in_err-split_leaf.field-0.0 in
     let done = c.in_err-split_leaf.ensures in
-    not_split (answers_of o.kept) (cut_word c.args.self.now.access c.args.cut.now) c.args.cut.now.suffix u now stop c.from_residual.result
+    not_split (answers_of o.kept) (cut_word c.args.self.now.access c.args.cut.now) c.args.cut.now.suffix (leaf_at u.leaves c.args.cut.now.target) u now stop c.from_residual.result
     (subst (λ (k : List KeptAnswer). HasGrown (answers_of k) u now) c.cache.ensures.kept done.grown) done.err
     (subst (λ (k : List KeptAnswer). TellsCrowd {X = ⊤} (answers_of k) now (Err stop)) c.cache.ensures.kept done.crowd) (search rules)
 
@@ -36,18 +36,18 @@ returns-in_err-close-clause-splits g c =
     let first = answers_of c.cache.result.now.kept in
     let ks = answers_of (g.O.Oracle.state c.close.new.oracle).kept in
     let one = c.in_ok-split_leaf.ensures in
-    not_all_split first ks (cut_word c.args.self.now.access c.args.cut.now) c.args.cut.now.suffix c.args.self.now c.split_leaf.new.self c.close.new.self c.in_err-close.field-0.0 c.from_residual-in_err-close.result one.grown one.split one.refinements c.in_err-close.ensures.closes (search rules)
+    not_all_split first ks (cut_word c.args.self.now.access c.args.cut.now) c.args.cut.now.suffix (leaf_at c.args.self.now.leaves c.args.cut.now.target) c.args.self.now c.split_leaf.new.self c.close.new.self c.in_err-close.field-0.0 c.from_residual-in_err-close.result one.was one.grown one.split one.refinements c.in_err-close.ensures.closes (search rules)
 
 pub count_refinement-requires : goal.count_refinement-requires
 count_refinement-requires g c =
     let ks = answers_of (g.O.Oracle.state c.close.new.oracle).kept in
     let one = c.in_ok-split_leaf.ensures in
     let done = c.in_ok-close.ensures.closes in
-    room_to_count ks (cut_word c.args.self.now.access c.args.cut.now) c.args.cut.now.suffix c.args.self.now c.split_leaf.new.self c.close.new.self one.was one.split one.refinements done.grown done.keeps
+    room_to_count ks (cut_word c.args.self.now.access c.args.cut.now) c.args.cut.now.suffix (leaf_at c.args.self.now.leaves c.args.cut.now.target) c.args.self.now c.split_leaf.new.self c.close.new.self one.was one.split one.refinements done.grown done.keeps
 
 pub returns-clause-splits : goal.returns-clause-splits
 returns-clause-splits g c =
     let first = answers_of c.cache.result.now.kept in
     let ks = answers_of (g.O.Oracle.state c.close.new.oracle).kept in
     let one = c.in_ok-split_leaf.ensures in
-    has_split first ks (cut_word c.args.self.now.access c.args.cut.now) c.args.cut.now.suffix c.args.self.now c.split_leaf.new.self c.close.new.self c.count_refinement.new.self one.grown one.split one.refinements c.in_ok-close.ensures.closes c.count_refinement.ensures.value c.count_refinement.ensures.tree
+    has_split first ks (cut_word c.args.self.now.access c.args.cut.now) c.args.cut.now.suffix (leaf_at c.args.self.now.leaves c.args.cut.now.target) c.args.self.now c.split_leaf.new.self c.close.new.self c.count_refinement.new.self one.was one.grown one.split one.refinements c.in_ok-close.ensures.closes c.count_refinement.ensures.value c.count_refinement.ensures.tree

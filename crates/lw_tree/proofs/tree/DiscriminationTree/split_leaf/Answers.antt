@@ -1,7 +1,7 @@
 use Rattle.std.proofs.Common.{rules, ◌≡◌, ℕ, List, [], ◌∷◌, ◌++◌, length, sym, ◌∙◌, ap, subst}
 use Rattle.lw_words.specs.Word.{answers_of}
 use Rattle.lw_tree.specs.Grown.{cut_word, HasGrown, IsSplit}
-use Rattle.lw_tree.specs.Tree.{TreeState, IsTree}
+use Rattle.lw_tree.specs.Tree.{TreeState, leaf_at, IsTree}
 use Rattle.lw_tree.specs.bodies.Cuts.{edge_of}
 use Rattle.lw_tree.specs.bodies.Steps.{IsNextSplit, split_tree}
 use Rattle.lw_tree.specs.declared.transitions.Edge.{Edge}
@@ -68,7 +68,7 @@ returns c =
     record {
       was = g;
       grown = subst (HasGrown ks u) (sym made) (split_grown ks u edge can.output cut.target cut.suffix c.in_ok-old.old c.in_ok-old.new g can.next tree c.requires.read can.old_told can.new_told);
-      split = subst (IsSplit (cut_word u.access cut) cut.suffix u) (sym made) (is_split u edge can.output cut.target cut.suffix c.in_ok-old.old c.in_ok-old.new g can.next.target);
+      split = subst (IsSplit (cut_word u.access cut) cut.suffix (leaf_at u.leaves cut.target) u) (sym made) (is_split u edge can.output cut.target cut.suffix c.in_ok-old.old c.in_ok-old.new g can.next);
       refinements = ap (λ (v : TreeState). v.refinements) made;
       err = tt;
       crowd = λ words told. cc;
