@@ -202,3 +202,23 @@ module _ (node now : ℕ → Node) (b : HaveBranches node) (keeps : KeepsNodes n
       let content : (now (now m).parent).content ≡ (node (node m).parent).content = ap (λ (p : ℕ). (now p).content) parent ∙ keeps.inner (node m).parent (b m r.0 r.1).inner in
       subst (λ (c : Content). Tells ks word (discriminator c) (now m).branch) (sym content)
       (subst (λ (x : List ℕ). Tells ks word (discriminator (node (node m).parent).content) x) (sym (keeps.branch m r.1)) (agrees m was))
+
+-- where live nodes keep their parents, what is above a live node stays so
+module _ (node now : ℕ → Node) (b : HaveBranches node) (parent : (n : ℕ) → IsLive (node n).content → (now n).parent ≡ (node n).parent) where
+  way_stays : (steps m n : ℕ) → IsLive (node n).content → IsOnWayWithin steps node m n → IsOnWayWithin steps now m n
+  way_stays zero m n live on = on
+  way_stays (suc steps) m n live on =
+      let some = on.0 in (
+        some,
+        ⊎_elim
+            (λ (here : m ≡ n). inl here)
+            (λ (above : IsOnWayWithin steps node m (node n).parent). inr (subst (IsOnWayWithin steps now m) (sym (parent n live)) (way_stays steps m (node n).parent (parent_live node b n some live) above)))
+            on.1,
+      )
+
+  pub above_stays : (m n : ℕ) → IsLive (node n).content → IsAbove node m n → IsAbove now m n
+  above_stays m n live above = ⊎_elim (λ (root : m ≡ 0). inl root) (λ (on : IsOnWay node m n). inr (way_stays n m n live on)) above
+
+-- a node is above those just below it
+pub above_child : (node : ℕ → Node) (b : HaveBranches node) (m n : ℕ) → 0 < n → IsLive (node n).content → (node n).parent ≡ m → IsAbove node m n
+above_child node b m n some live up = above_down node b m n some live (subst (λ (k : ℕ). IsAbove node m k) (sym up) (above_here node b m))

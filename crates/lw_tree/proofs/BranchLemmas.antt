@@ -20,7 +20,7 @@ use Rattle.lw_tree.proofs.PartLemmas.{crowd_of_leaves}
 use Rattle.lw_tree.proofs.NodeLemmas.{Updates, live_within}
 use Rattle.lw_tree.proofs.PlaceLemmas.{one_transition, past_place, unasked_at}
 use Rattle.lw_tree.proofs.ShapeLemmas.{IsShaped, shape_of, all_places, place_inside, leaf_live, same_output, place_update, state_nodes, state_keeps, node_update, new_live, word_stays, new_word, new_leaf, leaf_stays, places_update, at_last, state_shape}
-use Rattle.lw_tree.proofs.LowerLemmas.{moved_output, moved_here, moved_other, lower_nodes, lower_keeps, leaf_update, new_live as lowered_live, leaf_written, edge_inside, lower_leaf, lower_shape, split_next, at_discriminator}
+use Rattle.lw_tree.proofs.LowerLemmas.{moved_output, moved_here, moved_other, lower_nodes, lower_keeps, leaf_update, new_live as lowered_live, leaf_written, edge_inside, lower_leaf, lower_shape, same_place, split_next, at_discriminator}
 
 -- what was read stays so where answers come
 tells_more : (ks more : List Answer) (word suffix outs : List ℕ) → Tells ks word suffix outs → Tells (ks ++ more) word suffix outs
@@ -243,6 +243,7 @@ module _ (ks : List Answer) (t : TreeState) (edge : Edge) (output q : ℕ) (suff
         branches = lower_read ks t q suffix old g next.target next.letters next.some next.old_size read told_old;
         out = read.outs edge.state edge.letter output next.from.0 next.from.1 next.known;
         outs = subst (λ (c : Content). Tells ks (word_of t edge) (discriminator c) new) (sym (at_discriminator t edge output q suffix old new g next)) told_new;
+        same = λ y is. same_output y output (sym is ∙ (ap (λ (p : Place). p.output) (same_place t edge output q suffix old new g next) ∙ next.known));
       }
 
   pub split_shape : IsShaped (split_tree t edge output q suffix old new)

@@ -1,5 +1,5 @@
 -- What a tree gains, from one step to the next.
-use Rattle.std.proofs.Common.{◌≡◌, ◌≢◌, ◌⊎◌, ⊎_elim, ℕ, ◌+◌, ◌*◌, ◌<◌, ◌≤◌, Bool, true, false, true≢false, if◌then◌else◌, List, [], ◌∷◌, ◌++◌, length, Result, Ok, Err, refl, ap, ap₂, sym, ◌∙◌, subst, arith, append-nil, append_assoc}
+use Rattle.std.proofs.Common.{◌≡◌, ◌≢◌, ◌⊎◌, inl, inr, ⊎_elim, ℕ, zero, suc, ◌+◌, ◌*◌, ◌<◌, ◌≤◌, Bool, true, false, true≢false, if◌then◌else◌, List, [], ◌∷◌, ◌++◌, length, Some, Result, Ok, Err, refl, ap, ap₂, sym, ◌∙◌, subst, arith, append-nil, append_assoc}
 use Rattle.std.proofs.Math.ListN.{get_or-append}
 use Rattle.std.proofs.Math.Nat.{mul-le-mul_right}
 use Rattle.std.proofs.lemmas.Bool.{cases_lt, cases_eq}
@@ -10,16 +10,17 @@ use Rattle.lw_cache.specs.declared.stops.GrowStop.{GrowStop}
 use Rattle.lw_cache.specs.declared.stops.GrowStop.TheVariants.{Ask, Crowd}
 use Rattle.lw_cache.specs.Crowd.{IsCrowd}
 use Rattle.lw_cache.specs.Cut.{word_at}
-use Rattle.lw_tree.specs.Grown.{HasGrown, KeepsTree, IsCrowdOf, TellsCrowd, MovesOn, HasMoved}
-use Rattle.lw_tree.specs.Tree.{TreeState, node_at, place_at, IsLive, IsTree, Tells, Agrees, BranchesAreRead, discriminator, discriminators, final_discriminators, temporaries, is_temporary, words_of, final_words_of, is_open, is_inner}
+use Rattle.lw_tree.specs.Grown.{HasGrown, NodesStay, PlacesDescend, KeepsTree, IsCrowdOf, TellsCrowd, MovesOn, HasMoved, StepsOnce, AllStepOnce}
+use Rattle.lw_tree.specs.Tree.{TreeState, node_at, place_at, IsLive, IsAbove, IsTree, Tells, Agrees, BranchesAreRead, discriminator, discriminators, final_discriminators, temporaries, is_temporary, words_of, final_words_of, is_open, is_inner}
 use Rattle.lw_tree.specs.bodies.Steps.{placed, with_place, leaf_below, with_state, IsNextState, IsRead, HasStepped, HasSifted}
 use Rattle.lw_tree.specs.bodies.Transitions.{IsTransition, word_of, place_by, content_by, is_open_by, IsAsked}
 use Rattle.lw_tree.specs.declared.nodes.Node.{Node}
 use Rattle.lw_tree.specs.declared.nodes.Content.{Content}
 use Rattle.lw_tree.specs.declared.transitions.Place.{Place}
 use Rattle.lw_tree.specs.declared.transitions.Edge.{Edge}
-use Rattle.lw_tree.proofs.NodeLemmas.{Updates}
-use Rattle.lw_tree.proofs.ShapeLemmas.{shape_of, all_places, place_update, node_stays, node_update, places_update}
+use Rattle.lw_tree.proofs.AboveLemmas.{above_stays, above_trans, above_child}
+use Rattle.lw_tree.proofs.NodeLemmas.{Updates, everywhere, live_within}
+use Rattle.lw_tree.proofs.ShapeLemmas.{IsShaped, shape_of, all_places, place_update, node_stays, node_update, places_update, state_nodes, new_live}
 use Rattle.lw_tree.proofs.BranchLemmas.{placed_read, state_read}
 use Rattle.lw_tree.proofs.PlaceLemmas.{inner_open}
 
@@ -38,11 +39,24 @@ same_open before now k node at =
 pub still_live : (m n : Node) → m ≡ n → IsLive n.content → IsLive m.content
 still_live m n same live = subst (λ (k : Node). IsLive k.content) (sym same) live
 
-pub keeps_same : (t : TreeState) → KeepsTree t t
-keeps_same t = record { nodes = λ n live. refl; targets = λ k closed. refl; discriminators_are = refl; finals = refl; temporary = refl; refinements = refl }
+pub above_itself : (node : ℕ → Node) (n : ℕ) → IsAbove node n n
+above_itself node zero = inl refl
+above_itself node (suc n) = inr (omega arith, inl refl)
 
-pub keeps_and_keeps : (a b c : TreeState) → IsTree a → KeepsTree a b → KeepsTree b c → KeepsTree a c
-keeps_and_keeps a b c g one two =
+pub keeps_same : (t : TreeState) → KeepsTree t t
+keeps_same t = record { nodes = λ n live. refl; targets = λ k closed. refl; descends = λ k. above_itself (node_at t.nodes) (place_at t.places k).node; outputs = λ k y is. is; discriminators_are = refl; finals = refl; temporary = refl; refinements = refl }
+
+-- places that went down twice
+pub descends_then : (a b c : TreeState) → IsTree b → IsTree c → NodesStay b c → PlacesDescend a b → PlacesDescend b c → PlacesDescend a c
+descends_then a b c gb gc stay one two k =
+    let from : ℕ = (place_at a.places k).node in
+    let middle : ℕ = (place_at b.places k).node in
+    let to : ℕ = (place_at c.places k).node in
+    let up = above_stays (node_at b.nodes) (node_at c.nodes) gb.nodes.branches (λ n live. ap (λ (m : Node). m.parent) (stay n live)) from middle (all_places b (shape_of b gb) k).live (one k) in
+    above_trans (node_at c.nodes) gc.nodes.branches from middle to (all_places c (shape_of c gc) k).live up (two k)
+
+pub keeps_and_keeps : (a b c : TreeState) → IsTree a → IsTree b → IsTree c → KeepsTree a b → KeepsTree b c → KeepsTree a c
+keeps_and_keeps a b c g gb gc one two =
     record {
       nodes = λ n live.
           let was = one.nodes n live in
@@ -51,6 +65,8 @@ keeps_and_keeps a b c g one two =
           let was = one.targets k closed in
           let node = one.nodes (place_at a.places k).node (all_places a (shape_of a g) k).live in
           two.targets k (same_open a b k node was ∙ closed) ∙ was;
+      descends = descends_then a b c gb gc two.nodes one.descends two.descends;
+      outputs = λ k y is. two.outputs k y (one.outputs k y is);
       discriminators_are = two.discriminators_are ∙ one.discriminators_are;
       finals = two.finals ∙ one.finals;
       temporary = two.temporary ∙ one.temporary;
@@ -114,7 +130,7 @@ temporaries_leaf (n ∷ nodes) parent branch q = ap (λ (k : ℕ). (if is_tempor
 
 -- steps of one transition
 pub not_stepped : (ks : List Answer) (t : TreeState) (edge : Edge) → IsTree t → BranchesAreRead ks t → HasStepped ks t edge t
-not_stepped ks t edge tree read = record { grown = not_grown ks t tree read; keeps = keeps_same t; others = λ k lt other. refl }
+not_stepped ks t edge tree read = record { grown = not_grown ks t tree read; keeps = keeps_same t; others = λ k lt other. refl; steps = inl refl }
 
 -- a transition that has a target is none that has none
 pub other_than_open : (t : TreeState) (edge : Edge) (k : ℕ) → is_open_by t edge ≡ true → is_open (node_at t.nodes) (place_at t.places k) ≡ false → k ≢ edge.state * t.inputs + edge.letter
@@ -127,12 +143,29 @@ module _ (ks : List Answer) (t : TreeState) (edge : Edge) (output n : ℕ) (g : 
   place_now : Updates (place_at t.places) (place_at placed_tree.places) (edge.state * t.inputs + edge.letter) (placed output n)
   place_now = place_update t edge output n (shape_of t g) from stands below live
 
-  pub placed_stepped : IsTree placed_tree → BranchesAreRead ks t → Tells ks (word_at t.access edge.state) (edge.letter ∷ []) (output ∷ []) → Agrees ks (node_at t.nodes) (word_of t edge) n → HasStepped ks t edge placed_tree
-  placed_stepped tree read out agrees =
+  placed_below : (n ≡ (place_by t edge).node) ⊎ ((0 < n) × ((node_at t.nodes n).parent ≡ (place_by t edge).node)) → IsAbove (node_at t.nodes) (place_by t edge).node n
+  placed_below to =
+      ⊎_elim
+      (λ (stays : n ≡ (place_by t edge).node). subst (λ (m : ℕ). IsAbove (node_at t.nodes) (place_by t edge).node m) (sym stays) (above_itself (node_at t.nodes) (place_by t edge).node))
+      (λ (down : (0 < n) × ((node_at t.nodes n).parent ≡ (place_by t edge).node)). above_child (node_at t.nodes) g.nodes.branches (place_by t edge).node n down.0 live down.1)
+      to
+
+  pub placed_stepped : IsTree placed_tree → BranchesAreRead ks t → Tells ks (word_at t.access edge.state) (edge.letter ∷ []) (output ∷ []) → Agrees ks (node_at t.nodes) (word_of t edge) n → ((y : ℕ) → (place_by t edge).output ≡ Some y → y ≡ output) → (n ≡ (place_by t edge).node) ⊎ ((0 < n) × ((node_at t.nodes n).parent ≡ (place_by t edge).node)) → HasStepped ks t edge placed_tree
+  placed_stepped tree read out agrees same to =
       record {
         grown = record { inputs = refl; outputs = refl; most = refl; more = []; access = sym (append-nil t.access); tree = tree; read = placed_read ks t edge output n (shape_of t g) from stands below live read out agrees };
-        keeps = record { nodes = λ m is. refl; targets = λ k closed. place_now.others k (other_than_open t edge k stands closed); discriminators_are = refl; finals = refl; temporary = refl; refinements = refl };
+        keeps = record {
+          nodes = λ m is. refl;
+          targets = λ k closed. place_now.others k (other_than_open t edge k stands closed);
+          descends = everywhere (place_at t.places) (place_at placed_tree.places) (edge.state * t.inputs + edge.letter) (placed output n) (λ k p. IsAbove (node_at t.nodes) (place_at t.places k).node p.node) place_now (placed_below to) (λ k other. above_itself (node_at t.nodes) (place_at t.places k).node);
+          outputs = everywhere (place_at t.places) (place_at placed_tree.places) (edge.state * t.inputs + edge.letter) (placed output n) (λ k p. (y : ℕ) → (place_at t.places k).output ≡ Some y → p.output ≡ Some y) place_now (λ y is. ap Some (sym (same y is))) (λ k other y is. is);
+          discriminators_are = refl;
+          finals = refl;
+          temporary = refl;
+          refinements = refl;
+        };
         others = λ k lt other. place_now.others k other;
+        steps = subst (λ (p : Place). (p.node ≡ (place_by t edge).node) ⊎ ((0 < p.node) × ((node_at t.nodes p.node).parent ≡ (place_by t edge).node))) (sym place_now.here) to;
       }
 
   -- at a leaf it has a target; at another node it stands lower
@@ -146,6 +179,16 @@ module _ (ks : List Answer) (t : TreeState) (edge : Edge) (output n : ℕ) (g : 
         (λ (lt : (place_by t edge).node < n). subst (λ (m : ℕ). (place_by t edge).node < m) (sym (ap (λ (p : Place). p.node) place_now.here)) lt)
         to,
   )
+
+-- a state more puts no transition higher up
+pub state_descends : (t : TreeState) (edge : Edge) (output : ℕ) (branch : List ℕ) → IsShaped t → IsNextState t edge output branch → PlacesDescend t (with_state t edge output branch)
+state_descends t edge output branch s next =
+    let now : ℕ → Node = node_at (with_state t edge output branch).nodes in
+    let branches = (state_nodes t edge output branch s next).branches in
+    let made = (node_update t edge output branch s next).here in
+    everywhere (place_at t.places) (place_at (with_state t edge output branch).places) (edge.state * t.inputs + edge.letter) (placed output (length t.nodes)) (λ k p. IsAbove now (place_at t.places k).node p.node) (places_update t edge output branch s next)
+    (above_child now branches (place_by t edge).node (length t.nodes) (live_within t.nodes 0 s.nodes.root) (new_live t edge output branch s next) (ap (λ (m : Node). m.parent) made))
+    (λ k other. above_itself now (place_at t.places k).node)
 
 module _ (ks : List Answer) (t : TreeState) (edge : Edge) (output : ℕ) (branch : List ℕ) (g : IsTree t) (next : IsNextState t edge output branch) where
   abbrev state_tree : TreeState
@@ -161,12 +204,15 @@ module _ (ks : List Answer) (t : TreeState) (edge : Edge) (output : ℕ) (branch
         keeps = record {
           nodes = λ m live. node_stays t edge output branch (shape_of t g) next m live;
           targets = λ k closed. state_place.others k (other_than_open t edge k (inner_open (node_at t.nodes) (place_by t edge) next.inner) closed);
+          descends = state_descends t edge output branch (shape_of t g) next;
+          outputs = everywhere (place_at t.places) (place_at state_tree.places) (edge.state * t.inputs + edge.letter) (placed output (length t.nodes)) (λ k p. (y : ℕ) → (place_at t.places k).output ≡ Some y → p.output ≡ Some y) state_place (λ y is. ap Some (sym (read.same y is))) (λ k other y is. is);
           discriminators_are = discriminators_leaf t.nodes (place_by t edge).node branch (length t.access);
           finals = finals_leaf t.nodes (place_by t edge).node branch (length t.access);
           temporary = temporaries_leaf t.nodes (place_by t edge).node branch (length t.access);
           refinements = refl;
         };
         others = λ k lt other. state_place.others k other;
+        steps = subst (λ (p : Place). (p.node ≡ (place_by t edge).node) ⊎ ((0 < p.node) × ((node_at state_tree.nodes p.node).parent ≡ (place_by t edge).node))) (sym state_place.here) (inr (live_within t.nodes 0 g.nodes.root, ap (λ (m : Node). m.parent) (node_update t edge output branch (shape_of t g) next).here));
       }
 
   pub state_moves : MovesOn t state_tree (edge.state * t.inputs + edge.letter)
@@ -207,11 +253,30 @@ module _ (ks : List Answer) (before : TreeState) (to : ℕ) (now after : TreeSta
   other_place : (k : ℕ) → k < length before.places → k ≢ to → place_at after.places k ≡ place_at now.places k
   other_place k lt other = stepped.others k (omega (arith, lt, longer)) (λ same. other (same ∙ sym is_next))
 
+  -- whether or not the step was the last one
+  pub steps_more : AllStepOnce before after
+  steps_more k lt =
+      ⊎_elim
+      (λ (same : k ≡ to).
+      let at : place_at now.places to ≡ place_at before.places to = sifted.left to (omega arith) inside in
+      let step : StepsOnce now after to = subst (StepsOnce now after) (sym is_next) stepped.steps in
+      subst (StepsOnce before after) (sym same) (subst (λ (p : Place). ((place_at after.places to).node ≡ p.node) ⊎ ((0 < (place_at after.places to).node) × ((node_at after.nodes (place_at after.places to).node).parent ≡ p.node))) at step))
+      (λ (other : k ≢ to).
+      let at = other_place k lt other in
+      let up : (node_at after.nodes (place_at now.places k).node).parent ≡ (node_at now.nodes (place_at now.places k).node).parent = ap (λ (m : Node). m.parent) (node_then k) in
+      subst (λ (p : Place). (p.node ≡ (place_at before.places k).node) ⊎ ((0 < p.node) × ((node_at after.nodes p.node).parent ≡ (place_at before.places k).node))) (sym at)
+      (⊎_elim
+      (λ (stays : (place_at now.places k).node ≡ (place_at before.places k).node). inl stays)
+      (λ (down : (0 < (place_at now.places k).node) × ((node_at now.nodes (place_at now.places k).node).parent ≡ (place_at before.places k).node)). inr (down.0, up ∙ down.1))
+      (sifted.steps k lt)))
+      (cases_eq k to)
+
   pub sifted_more : MovesOn now after (edge.state * now.inputs + edge.letter) → HasSifted ks before (to + 1) after
   sifted_more moves =
       record {
         grown = grown_then ks ks before now after sifted.grown stepped.grown;
-        keeps = keeps_and_keeps before now after g sifted.keeps stepped.keeps;
+        keeps = keeps_and_keeps before now after g sifted.grown.tree stepped.grown.tree sifted.keeps stepped.keeps;
+        steps = steps_more;
         left = λ k le lt. other_place k lt (λ same. omega (arith, same, le)) ∙ sifted.left k (omega (arith, le)) lt;
         moved = λ k below lt. ⊎_elim
             (λ (same : k ≡ to). λ is.
@@ -231,7 +296,7 @@ module _ (ks : List Answer) (before : TreeState) (to : ℕ) (now after : TreeSta
 -- before any transition
 pub sifted_none : (ks : List Answer) (t : TreeState) → IsTree t → BranchesAreRead ks t → HasSifted ks t 0 t
 sifted_none ks t tree read =
-    record { grown = not_grown ks t tree read; keeps = keeps_same t; left = λ k le lt. refl; moved = λ k lt. absurd (omega (arith, lt)) }
+    record { grown = not_grown ks t tree read; keeps = keeps_same t; steps = λ k lt. inl refl; left = λ k le lt. refl; moved = λ k lt. absurd (omega (arith, lt)) }
 
 -- a transition that has not taken its step is as open as before
 pub still_open : (ks : List Answer) (before : TreeState) (to : ℕ) (now : TreeState) (k : ℕ) → IsTree before → HasSifted ks before to now → to ≤ k → k < length before.places → is_open (node_at now.nodes) (place_at now.places k) ≡ is_open (node_at before.nodes) (place_at before.places k)
@@ -243,6 +308,7 @@ sifted_past ks before to upto now g sifted le closed =
     record {
       grown = sifted.grown;
       keeps = sifted.keeps;
+      steps = sifted.steps;
       left = λ k ge lt. sifted.left k (omega (arith, ge, le)) lt;
       moved = λ k below lt. ⊎_elim
           (λ (done : k < to). sifted.moved k done lt)

@@ -5,12 +5,12 @@ use Rattle.std.proofs.lemmas.Bool.{cases_lt, cases_eq, false_from_ne_true}
 use Rattle.std.proofs.lemmas.List.{get_or_default, get_or_past}
 use Rattle.lw_words.specs.Word.{Answer}
 use Rattle.lw_tree.specs.Tree.{TreeState, IsTree, BranchesAreRead, node_at, place_at, is_open}
-use Rattle.lw_tree.specs.Grown.{MovesOn}
+use Rattle.lw_tree.specs.Grown.{MovesOn, AllStepOnce}
 use Rattle.lw_tree.specs.bodies.Arrivals.{AreOpen}
 use Rattle.lw_tree.specs.bodies.Steps.{HasSifted, HasStepped}
 use Rattle.lw_tree.specs.bodies.Transitions.{IsTransition, AreAsked, is_open_by}
 use Rattle.lw_tree.specs.declared.transitions.Edge.{Edge}
-use Rattle.lw_tree.proofs.GrownLemmas.{still_open, sifted_more, sifted_none, sifted_past}
+use Rattle.lw_tree.proofs.GrownLemmas.{still_open, steps_more, sifted_more, sifted_none, sifted_past}
 use Rattle.lw_tree.proofs.ListingLemmas.{asked_past}
 
 -- the number at a place of the list; past its end how many transitions there are
@@ -106,6 +106,13 @@ module _ (t : TreeState) (numbers : List ℕ) (o : AreOpen t numbers) where
     turn_stands =
         let here = number_at i lt in
         subst (λ (k : ℕ). is_open (node_at now.nodes) (place_at now.places k) ≡ true) at (still_open ks t (number_from t numbers i) now (get_or numbers i 0) g sifted (omega (arith, here)) (o.within i lt) ∙ o.stands i lt)
+
+    -- the steps so far, with this one
+    pub turn_steps : (after : TreeState) → HasStepped ks now edge after → AllStepOnce t after
+    turn_steps after stepped =
+        let here = number_at i lt in
+        let within = o.within i lt in
+        steps_more ks t (number_from t numbers i) now after edge g sifted (here ∙ at) (omega (arith, here, within)) stepped
 
     pub turn_done : (after : TreeState) → HasStepped ks now edge after → MovesOn now after (edge.state * now.inputs + edge.letter) → HasSifted ks t (number_from t numbers (i + 1)) after
     turn_done after stepped moved =

@@ -4,7 +4,8 @@ use Rattle.std.proofs.lemmas.Bool.{cases_lt, cases_eq}
 use Rattle.std.proofs.lemmas.List.{length-append, length-set}
 use Rattle.lw_words.specs.Word.{IsWord}
 use Rattle.lw_cache.specs.Cut.{word_at}
-use Rattle.lw_tree.specs.Tree.{TreeState, no_node, no_place, node_at, place_at, leaf_at, edge_at, place_of, IsLive, IsInner, HasTwo, AreLeaves, IsEdge, IsPlace, discriminator}
+use Rattle.lw_tree.specs.Tree.{TreeState, no_node, no_place, node_at, place_at, leaf_at, edge_at, place_of, IsLive, IsInner, HasTwo, AreLeaves, IsEdge, IsPlace, IsAbove, discriminator}
+use Rattle.lw_tree.specs.Grown.{PlacesDescend}
 use Rattle.lw_tree.specs.bodies.Nodes.{IsChild}
 use Rattle.lw_tree.specs.bodies.Sprouts.{AreBranched}
 use Rattle.lw_tree.specs.bodies.Steps.{leaf_below, IsNextState, moved_edge, inner_node, lowered, IsNextSplit, split_tree}
@@ -14,6 +15,7 @@ use Rattle.lw_tree.specs.declared.nodes.Content.{Content}
 use Rattle.lw_tree.specs.declared.nodes.Content.TheVariants.{State, Discriminator}
 use Rattle.lw_tree.specs.declared.transitions.Place.{Place}
 use Rattle.lw_tree.specs.declared.transitions.Edge.{Edge}
+use Rattle.lw_tree.proofs.AboveLemmas.{above_here, above_child}
 use Rattle.lw_tree.proofs.WayLemmas.{KeepsNodes}
 use Rattle.lw_tree.proofs.NodeLemmas.{Updates, everywhere, pushed, written, live_within, leaf_keeps, inner_was, with_leaf, two_stay, lowered_keeps, live_still, lowered_nodes, lowered_childless}
 use Rattle.lw_tree.proofs.PlaceLemmas.{one_transition, number_within}
@@ -240,6 +242,25 @@ module _ (t : TreeState) (q : ℕ) (suffix branch : List ℕ) (g : IsShaped t) (
         each_place = length-moved_edge t.inputs t.places edge new q ∙ g.each_place;
         places = λ k lt. lower_place k;
       }
+
+  -- the transition by which the state was reached goes down to its new leaf, and no other one goes anywhere
+  pub lower_descends : PlacesDescend t after
+  lower_descends k =
+      ⊎_elim
+      (λ (zero_q : q ≡ 0). here k (ap (λ (m : Place). m.node) (moved_other t.inputs t.places edge new q k edge_inside (λ some. absurd (omega (arith, some, zero_q))))))
+      (λ (other_q : q ≢ 0).
+      let some : 0 < q = ⊎_elim (λ (lt : 0 < q). lt) (λ (le : q ≤ 0). absurd (other_q (omega (arith, le)))) (cases_lt 0 q) in
+      ⊎_elim
+      (λ (same : k ≡ number_of_edge).
+      let stood : (place_at t.places k).node ≡ leaf = ap (λ (n : ℕ). (place_at t.places n).node) same ∙ (g.edges q some target).target in
+      let stands : (place_at after.places k).node ≡ new = ap (λ (n : ℕ). (place_at after.places n).node) same ∙ moved_here t.inputs t.places edge new q some (edge_inside some) in
+      subst (λ (n : ℕ). IsAbove now n (place_at after.places k).node) (sym stood) (subst (λ (n : ℕ). IsAbove now leaf n) (sym stands) (above_child now lower_nodes.branches leaf new some_nodes new_live new_parent)))
+      (λ (other : k ≢ number_of_edge). here k (ap (λ (m : Place). m.node) (moved_other t.inputs t.places edge new q k edge_inside (λ _. other))))
+      (cases_eq k number_of_edge))
+      (cases_eq q 0)
+    where
+      here : (k : ℕ) → (place_at after.places k).node ≡ (place_at t.places k).node → IsAbove now (place_at t.places k).node (place_at after.places k).node
+      here k stays = subst (λ (n : ℕ). IsAbove now (place_at t.places k).node n) (sym stays) (above_here now lower_nodes.branches (place_at t.places k).node)
 
   pub lower_count : length after.nodes ≡ new + 1
   lower_count = length-append middle_nodes (leaf_below leaf branch q ∷ []) ∙ ap (λ (n : ℕ). n + 1) middle_size

@@ -1,15 +1,17 @@
 -- Where the ways to two nodes part.
-use Rattle.std.proofs.Common.{◌≡◌, ◌≢◌, ◌⊎◌, inl, inr, ⊎_elim, ℕ, zero, suc, ◌+◌, ◌<◌, ◌≤◌, List, [], length, get_or, ap, sym, ◌∙◌, subst, arith}
+use Rattle.std.proofs.Common.{◌≡◌, ◌≢◌, ◌⊎◌, inl, inr, ⊎_elim, ℕ, zero, suc, ◌+◌, ◌<◌, ◌≤◌, List, [], ◌++◌, length, drop, get_or, ap, sym, ◌∙◌, subst, arith}
 use Rattle.std.proofs.lemmas.Bool.{cases_lt, cases_eq}
 use Rattle.std.proofs.lemmas.List.{get_or_default}
-use Rattle.lw_words.specs.Word.{Answer}
+use Rattle.lw_words.specs.Word.{Answer, AreAnswers}
 use Rattle.lw_cache.specs.Crowd.{Separates, IsCrowd}
 use Rattle.lw_cache.specs.Cut.{word_at}
-use Rattle.lw_tree.specs.Tree.{IsLive, IsInner, AreLeaves, discriminator, IsOnWay, Tells, Agrees}
+use Rattle.lw_cache.proofs.KnownLemmas.{reads_once}
+use Rattle.lw_tree.specs.Tree.{IsLive, IsInner, AreLeaves, discriminator, IsOnWay, IsAbove, Tells, Agrees}
 use Rattle.lw_tree.specs.bodies.Sprouts.{AreBranched}
 use Rattle.lw_tree.specs.declared.nodes.Node.{Node}
 use Rattle.lw_tree.specs.declared.nodes.Content.{Content}
 use Rattle.lw_tree.specs.declared.nodes.Content.TheVariants.{State, Discriminator, Gone}
+use Rattle.lw_tree.proofs.ClassLemmas.{parent_above}
 use Rattle.lw_tree.proofs.WayLemmas.{live_parent, on_way_here, on_way_down, on_way_live}
 
 -- different branches of one node lead to the two
@@ -112,6 +114,25 @@ module _ (a : ℕ) (node : ℕ → Node) (g : AreBranched a node) where
         discriminator (node (node x.one).parent).content,
         record { one = one.0; other = other.0; one_read = one.1; other_read = other.1; differ = λ e. x.differ (one.2 ∙ (e ∙ sym other.2)) },
       )
+
+-- a word that agrees with the ways to a node and to a leaf goes by that node to that leaf, or the other way round; and there is
+-- no node below a leaf
+pub agreeing_above : (a : ℕ) (node : ℕ → Node) (g : AreBranched a node) (letters : ℕ) (ks : List Answer) → AreAnswers letters ks → (m n q : ℕ) (word : List ℕ) → IsLive (node m).content → (node n).content ≡ State q → m ≢ n → Agrees ks node word m → Agrees ks node word n → IsAbove node m n
+agreeing_above a node g letters ks are m n q word live_m leaf differ to_m to_n = of (lie_below a node g (suc (m + n)) m n (omega arith) (omega arith) differ live_m live_n)
+  where
+    live_n : IsLive (node n).content
+    live_n = subst IsLive (sym leaf) tt
+
+    of : Lie node m n → IsAbove node m n
+    of (above x) =
+        let r = on_way_live a node g x.child n live_n x.to in
+        subst (λ (k : ℕ). IsAbove node k n) x.below (parent_above a node g x.child n r.0 live_n (inr x.to))
+    of (below x) = absurd (leaf_is_last a node g q n m leaf live_m x)
+    of (parted x) =
+        let one = to_m x.one x.to_one in
+        let other = subst (λ (k : ℕ). Tells ks word (discriminator (node k).content) (node x.other).branch) (sym x.same) (to_n x.other x.to_other) in
+        let outs = reads_once letters ks (word ++ discriminator (node (node x.one).parent).content) one.0 other.0 are one.1 other.1 in
+        absurd (x.differ (one.2 ∙ (ap (drop (length word)) outs ∙ sym other.2)))
 
 -- the access words of states whose leaves they agree with the ways to
 pub crowd_of_leaves : (a : ℕ) (ks : List Answer) (node : ℕ → Node) (leaf : ℕ → ℕ) (access : List (List ℕ)) → AreBranched a node → AreLeaves (length access) node leaf → ((q : ℕ) → q < length access → Agrees ks node (word_at access q) (leaf q)) → IsCrowd ks access

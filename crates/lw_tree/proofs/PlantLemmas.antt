@@ -1,10 +1,11 @@
 -- The tree in which a sprout stands below a root.
 use Rattle.std.proofs.Common.{◌≡◌, ◌≢◌, ◌⊎◌, inl, inr, ⊎_elim, ℕ, zero, suc, ◌+◌, ◌*◌, ◌^◌, ◌<◌, ◌≤◌, Bool, true, false, true≢false, List, [], ◌∷◌, ◌++◌, length, map, Option, IsSome, Ok, refl, ap, ap₂, sym, ◌∙◌, subst, append_assoc, append-nil, arith}
+use Rattle.std.proofs.lemmas.Bool.{cases_lt}
 use Rattle.std.proofs.Math.ListN.{get_or-append}
 use Rattle.std.proofs.lemmas.List.{length-append, length-map, get_or-map, get_or-append-add}
-use Rattle.lw_words.specs.Word.{Answer}
+use Rattle.lw_words.specs.Word.{Answer, AreAnswers}
 use Rattle.lw_cache.specs.Cut.{word_at}
-use Rattle.lw_tree.specs.Blocks.{MayReplace, HasFinal, StandsBelow, KeepsOutside, OutputsStay, HasReplaced}
+use Rattle.lw_tree.specs.Blocks.{MayReplace, HasFinal, StandsBelow, KeepsOutside, GathersInside, HaveSameOutputs, HasReplaced}
 use Rattle.lw_tree.specs.Grown.{HasGrown}
 use Rattle.lw_tree.specs.Tree.{TreeState, no_node, no_place, node_at, place_at, leaf_at, edge_at, place_of, final_words_of, final_discriminators, is_temporary, IsLive, IsFinal, AreNodes, AreLeaves, IsEdge, IsPlace, IsTree, Agrees, BranchesAreRead}
 use Rattle.lw_tree.specs.bodies.Nodes.{AreLower}
@@ -14,15 +15,21 @@ use Rattle.lw_tree.specs.declared.nodes.Content.{Content}
 use Rattle.lw_tree.specs.declared.nodes.Content.TheVariants.{State, Discriminator, Gone}
 use Rattle.lw_tree.specs.declared.transitions.Place.{Place}
 use Rattle.lw_tree.specs.declared.transitions.Edge.{Edge}
-use Rattle.lw_tree.proofs.AboveLemmas.{agrees_still, final_up}
-use Rattle.lw_tree.proofs.ClearedLemmas.{marked_or_not, lifted_no, temporary_plain, base_branched, lifted_agrees, lifted_live}
+use Rattle.lw_tree.proofs.AboveLemmas.{above_le, agrees_still, final_up}
+use Rattle.lw_tree.proofs.ClearedLemmas.{marked_or_not, under_marked, lifted_yes, lifted_no, temporary_plain, base_branched, lifted_agrees, lifted_live}
 use Rattle.lw_tree.proofs.NodeLemmas.{live_within}
+use Rattle.lw_tree.proofs.PartLemmas.{agreeing_above}
 use Rattle.lw_tree.proofs.PlaceLemmas.{one_transition, number_within}
 use Rattle.lw_tree.proofs.WayLemmas.{KeepsNodes, inner_is_live}
 
 -- a tree with other nodes, leaves and places
 abbrev pub planted : TreeState → List Node → List ℕ → List Place → TreeState
 planted t nodes leaves places = record (t) { nodes = nodes; leaves = leaves; places = places }
+
+abbrev is_state : Content → Bool
+is_state (State q) = true
+is_state (Discriminator word temporary) = false
+is_state Gone = false
 
 abbrev pub state_of : Content → ℕ
 state_of (State q) = q
@@ -41,8 +48,8 @@ same_edge_places a spanning own_spanning leaves own_leaves places own_places now
     subst (λ (l : List Place). AreEdgePlaces a own_spanning own_leaves (length own_leaves) l now) three
     (subst (λ (l : List ℕ). AreEdgePlaces a own_spanning l (length l) places now) two (subst (λ (l : List Edge). AreEdgePlaces a l leaves (length leaves) places now) one e))
 
-pub replaced_ok : {E : Type 0} (ks : List Answer) (r : ℕ) (word : List ℕ) (before now : TreeState) → HasGrown ks before now → HasFinal word before now → (node_at now.nodes r).content ≡ Discriminator word false → KeepsOutside r before now → OutputsStay before now → now.access ≡ before.access → now.refinements ≡ before.refinements → HasReplaced {E = E} ks r word before now (Ok tt)
-replaced_ok ks r word before now grown replaced root outside outputs access refinements = record { grown = grown; replaced = replaced; root = root; outside = outside; outputs = outputs; access = access; refinements = refinements; left = tt }
+pub replaced_ok : {E : Type 0} (ks : List Answer) (r : ℕ) (word : List ℕ) (before now : TreeState) → HasGrown ks before now → HasFinal word before now → (node_at now.nodes r).content ≡ Discriminator word false → KeepsOutside r before now → GathersInside r before now → HaveSameOutputs before now → now.access ≡ before.access → now.refinements ≡ before.refinements → HasReplaced {E = E} ks r word before now (Ok tt)
+replaced_ok ks r word before now grown replaced root outside inside outputs access refinements = record { grown = grown; replaced = replaced; root = root; outside = outside; inside = inside; outputs = outputs; access = access; refinements = refinements; left = tt }
 
 abbrev node_of : ℕ → List ℕ → Content → Node
 node_of parent branch content = record { parent = parent; branch = branch; content = content }
@@ -254,8 +261,36 @@ module _ (ks : List Answer) (t : TreeState) (r : ℕ) (word : List ℕ) (marks :
         places = λ k lt not_below. same_place (place_at placed k) (place_at t.places k) (output_at k lt) (outside_place k lt not_below);
       }
 
-  pub planted_outputs : OutputsStay t after
+  pub planted_outputs : HaveSameOutputs t after
   planted_outputs = output_at
+
+  -- a node that is below the root is marked
+  marked : (n : ℕ) → IsLive (node_at t.nodes n).content → StandsBelow (node_at t.nodes) r n → mark_at marks n ≡ true
+  marked n live below =
+      let le = above_le (node_at t.nodes) g.nodes.branches r n live below.1 in
+      under_marked ks t r word marks base g may are each clear n (⊎_elim (λ (lt : r < n). lt) (λ (ge : n ≤ r). absurd (below.0 (omega (arith, le, ge)))) (cases_lt r n), live, below.1)
+
+  -- a state whose leaf was below the root has its leaf below it
+  inside_leaf : AreAnswers t.inputs ks → (q : ℕ) → q < length t.access → StandsBelow (node_at t.nodes) r (leaf_at t.leaves q) → StandsBelow now r (leaf_at stand q)
+  inside_leaf answers q lt below =
+      let was = g.leaves.leaves q lt in
+      let is : (now (leaf_at stand q)).content ≡ State q = settled q lt in
+      let live : IsLive (node_at t.nodes (leaf_at t.leaves q)).content = subst IsLive (sym was) tt in
+      let root : (now r).content ≡ Discriminator word false = ap (λ (k : Node). k.content) root_stays ∙ clear.root in
+      let differ : r ≢ leaf_at stand q = λ same. true≢false (sym (ap is_state is) ∙ (ap (λ (n : ℕ). is_state (now n).content) (sym same) ∙ ap is_state root)) in
+      let up : lifted marks r (leaf_at t.leaves q) ≡ r = lifted_yes marks r (leaf_at t.leaves q) (marked (leaf_at t.leaves q) live below) in
+      let to_root : Agrees ks now (word_at t.access q) r = subst (Agrees ks now (word_at t.access q)) up (base_agrees (word_at t.access q) (leaf_at t.leaves q) live (read.access q lt)) in
+      (differ, agreeing_above t.inputs now s.standing.shape t.inputs ks answers r (leaf_at stand q) q (word_at t.access q) (subst IsLive (sym root) tt) is differ to_root (s.standing.agrees q lt))
+
+  pub planted_inside : AreAnswers t.inputs ks → GathersInside r t after
+  planted_inside answers =
+      record {
+        leaves = inside_leaf answers;
+        places = λ k lt below. ⊎_elim
+            (λ (same : (place_at placed k).node ≡ lifted marks r (place_at t.places k).node). inl (same ∙ lifted_yes marks r (place_at t.places k).node (marked (place_at t.places k).node (g.places k lt).live below)))
+            (λ (moved : (q : ℕ) × (0 < q) × (q < length t.access) × (edge_number t.inputs t.spanning q ≡ k) × ((place_at placed k).node ≡ leaf_at stand q)). inr (moved.0, (moved.1, moved.2, moved.3), moved.4))
+            (place_cases k lt);
+      }
 
   pub planted_lower : AreLower (base ++ more)
   planted_lower n some live = (s.standing.shape.branches n some live).lower

@@ -1,7 +1,7 @@
 -- What the calls of a replacement give, taken together.
 use Rattle.std.proofs.Common.{◌≡◌, ℕ, ◌+◌, ◌^◌, ◌<◌, Bool, Ok, List, ◌++◌, length, map, refl, ap, ap₂, sym, ◌∙◌, subst, arith}
 use Rattle.std.proofs.lemmas.List.{length-map, get_or_append_left}
-use Rattle.lw_words.specs.Word.{Answer}
+use Rattle.lw_words.specs.Word.{Answer, AreAnswers}
 use Rattle.lw_words.specs.declared.memory.NoMemory.{NoMemory}
 use Rattle.lw_tree.specs.Blocks.{MayReplace, HasReplaced}
 use Rattle.lw_tree.specs.Tree.{TreeState, node_at, no_node, IsTree, BranchesAreRead}
@@ -11,11 +11,12 @@ use Rattle.lw_tree.specs.declared.nodes.Node.{Node}
 use Rattle.lw_tree.specs.declared.transitions.Edge.{Edge}
 use Rattle.lw_tree.specs.declared.transitions.Place.{Place}
 use Rattle.lw_tree.proofs.ClearedLemmas.{replaced_long, replaced_clears, block_inside}
-use Rattle.lw_tree.proofs.PlantLemmas.{planted, edge_within, same_edge_places, replaced_ok, planted_tree, planted_grown, planted_outside, planted_outputs, planted_final}
+use Rattle.lw_tree.proofs.PlantLemmas.{planted, edge_within, same_edge_places, replaced_ok, planted_tree, planted_grown, planted_outside, planted_inside, planted_outputs, planted_final}
 
 -- a block's nodes are marked, and what is to stand below its root is made
 pub record IsPlanting (ks : List Answer) (t : TreeState) (r : ℕ) (word : List ℕ) (marks : List Bool) (more : List Node) (stand : List ℕ) : Type 0 where
   pub tree : IsTree t
+  pub answers : AreAnswers t.inputs ks
   pub read : BranchesAreRead ks t
   pub may : MayReplace ks t r word
   pub are : AreMarks (node_at t.nodes) r marks
@@ -26,16 +27,17 @@ pub record IsPlanting (ks : List Answer) (t : TreeState) (r : ℕ) (word : List 
   pub long : length (replaced_root t.nodes r word marks) ≡ length t.nodes
   pub sprout : IsSproutOf ks t (replaced_root t.nodes r word marks) more stand (length t.nodes + length more)
 
-pub planting : {own t : TreeState} {ks : List Answer} {r : ℕ} {word : List ℕ} {marks seen : List Bool} {more : List Node} {stand : List ℕ} → own ≡ t → IsTree own → BranchesAreRead ks t → MayReplace ks t r word → AreMarks (node_at t.nodes) r marks → length marks ≡ length t.nodes → seen ≡ marks
+pub planting : {own t : TreeState} {ks : List Answer} {r : ℕ} {word : List ℕ} {marks seen : List Bool} {more : List Node} {stand : List ℕ} → own ≡ t → IsTree own → AreAnswers t.inputs ks → BranchesAreRead ks t → MayReplace ks t r word → AreMarks (node_at t.nodes) r marks → length marks ≡ length t.nodes → seen ≡ marks
     → length t.nodes + length more < 2 ^ 32
     → ((base : List Node) → length base ≡ length t.nodes → IsCleared (node_at t.nodes) (node_at base) r word seen → IsSproutOf ks t base more stand (length t.nodes + length more)) → IsPlanting ks t r word marks more stand
-planting {t = t} {ks = ks} {r = r} {word = word} {marks = marks} view g read may are each same few grown =
+planting {t = t} {ks = ks} {r = r} {word = word} {marks = marks} view g answers read may are each same few grown =
     let base : List Node = replaced_root t.nodes r word marks in
     let inside = block_inside ks t r word may in
     let clear = replaced_clears t.nodes r word marks inside in
     let long = replaced_long t.nodes r word marks in
     record {
       tree = subst (λ (v : TreeState). IsTree v) view g;
+      answers = answers;
       read = read;
       may = may;
       are = are;
@@ -116,4 +118,5 @@ module _ {ks : List Answer} {t : TreeState} {r : ℕ} {word : List ℕ} {marks :
           (planted_final ks t r word marks base more stand (length t.nodes + length more) p.tree p.may p.are p.clear p.long p.inside p.sprout placed)
           (ap (λ (n : Node). n.content) (get_or_append_left base more no_node r (subst (λ (n : ℕ). r < n) (sym p.long) p.inside)) ∙ p.clear.root)
           (planted_outside ks t r word marks base more stand placed p.tree p.read p.may p.are p.each p.clear p.long p.few p.sprout edges)
+          (planted_inside ks t r word marks base more stand placed p.tree p.read p.may p.are p.each p.clear p.long p.few p.sprout edges p.answers)
           (planted_outputs ks t r word marks base more stand placed p.tree p.read p.may p.are p.each p.clear p.long p.few p.sprout edges) refl refl)

@@ -313,6 +313,9 @@ module _ (t : TreeState) (edge : Edge) (output : ℕ) (branch : List ℕ) (g : I
       (record { live = new_live; below = λ y e. subst (λ (z : ℕ). z < t.outputs) (same_output output y e) next.below })
       (λ k other. let p = all_places t g k in record { live = live_stays (place_at t.places k).node p.live; below = p.below })
 
+  pub state_place_live : (k : ℕ) → IsLive (now (place_at after.places k).node).content
+  state_place_live k = (state_places k).live
+
   pub state_shape : IsShaped after
   state_shape =
       record {

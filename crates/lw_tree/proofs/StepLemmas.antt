@@ -1,5 +1,5 @@
 -- One step of a transition, and the split by a cut.
-use Rattle.std.proofs.Common.{◌≡◌, ◌≢◌, ℕ, ◌+◌, ◌*◌, ◌<◌, Bool, false, List, [], ◌∷◌, ◌++◌, length, drop, get_or, Some, None, Result, Ok, Err, IsErrAnd, refl, ap, sym, ◌∙◌, subst}
+use Rattle.std.proofs.Common.{◌≡◌, ◌≢◌, inr, ℕ, ◌+◌, ◌*◌, ◌<◌, Bool, false, List, [], ◌∷◌, ◌++◌, length, drop, get_or, Some, None, Result, Ok, Err, IsErrAnd, refl, ap, sym, ◌∙◌, subst}
 use Rattle.std.specs.List.{All}
 use Rattle.std.proofs.lemmas.List.Elements.{All-map}
 use Rattle.lw_words.specs.Word.{Answer, AreAnswers, answer_of, answers_of, IsWord}
@@ -46,7 +46,18 @@ child_stepped ks t edge output branch n g from inner below is tree read =
     agrees_below t.inputs (node_at t.nodes) (shape_of t g).nodes ks (word_of t edge) n child.0 child.1
     (subst (λ (p : ℕ). Agrees ks (node_at t.nodes) (word_of t edge) p) (sym up) (read.branches.transitions edge.state edge.letter from.0 from.1))
     (subst (λ (p : ℕ). Tells ks (word_of t edge) (discriminator (node_at t.nodes p).content) (node_at t.nodes n).branch) (sym up) (subst (λ (b : List ℕ). Tells ks (word_of t edge) (discriminator (content_by t edge)) b) (sym is.1) read.outs)) in
-    placed_stepped ks t edge output n g from (inner_open (node_at t.nodes) (place_by t edge) inner) below child.1 tree read.branches read.out agrees
+    placed_stepped ks t edge output n g from (inner_open (node_at t.nodes) (place_by t edge) inner) below child.1 tree read.branches read.out agrees read.same (inr (child.0, child.2))
+
+-- an output that a transition has is what is read
+pub output_once : (ks : List Answer) (t : TreeState) (edge : Edge) (output : ℕ) → AreAnswers t.inputs ks → BranchesAreRead ks t → IsTransition t edge → Tells ks (word_at t.access edge.state) (edge.letter ∷ []) (output ∷ []) → (y : ℕ) → (place_by t edge).output ≡ Some y → y ≡ output
+output_once ks t edge output are read from told y is =
+    let word : List ℕ = word_at t.access edge.state in
+    let was = read.outs edge.state edge.letter y from.0 from.1 is in
+    let outs = reads_once t.inputs ks (word ++ edge.letter ∷ []) was.0 told.0 are was.1 told.1 in
+    ap first_of (was.2 ∙ (ap (drop (length word)) outs ∙ sym told.2))
+  where
+    first_of : List ℕ → ℕ
+    first_of ys = get_or ys 0 0
 
 pub not_inner : (c : Content) → ((word : List ℕ) (temporary : Bool) → c ≡ Discriminator word temporary → ⊥) → is_inner c ≡ false
 not_inner (State q) other = refl

@@ -1,11 +1,11 @@
 -- The classes of a tree's states, and how the root of a block is replaced. Source: Isberner, Howar and Steffen (2014).
-use Rattle.std.specs.Prelude.{◌≡◌, ◌≢◌, ℕ, ◌<◌, true, false, List, ◌∷◌, ◌++◌, length, Result, OnOk, OnErr, ⊤}
+use Rattle.std.specs.Prelude.{◌≡◌, ◌≢◌, ◌⊎◌, ℕ, ◌+◌, ◌*◌, ◌<◌, true, false, List, ◌∷◌, ◌++◌, length, Result, OnOk, OnErr, ⊤}
 use Rattle.lw_words.specs.Word.{Answer, IsWord}
 use Rattle.lw_cache.specs.Crowd.{Separates}
 use Rattle.lw_cache.specs.Cut.{word_at}
 use Rattle.lw_cache.specs.Known.{IsKnown}
 use Rattle.lw_tree.specs.Grown.{HasGrown}
-use Rattle.lw_tree.specs.Tree.{TreeState, node_at, place_at, leaf_at, final_discriminators, is_temporary, IsLive, IsFinal, HasTail, IsAbove}
+use Rattle.lw_tree.specs.Tree.{TreeState, node_at, place_at, leaf_at, edge_at, final_discriminators, is_temporary, IsLive, IsFinal, HasTail, IsAbove}
 use Rattle.lw_tree.specs.declared.nodes.Node.{Node}
 use Rattle.lw_tree.specs.declared.nodes.Content.TheVariants.{Discriminator}
 
@@ -71,9 +71,31 @@ pub record KeepsOutside (r : ℕ) (before now : TreeState) : Type 0 where
   pub nodes : (n : ℕ) → n ≢ r → ¬ (StandsBelow (node_at before.nodes) r n) → IsLive (node_at before.nodes n).content → node_at now.nodes n ≡ node_at before.nodes n
   pub places : (k : ℕ) → k < length before.places → ¬ (StandsBelow (node_at before.nodes) r (place_at before.places k).node) → place_at now.places k ≡ place_at before.places k
 
--- each transition has the output that it had, if any
-abbrev pub OutputsStay : TreeState → TreeState → Type 0
-OutputsStay before now = (k : ℕ) → k < length before.places → (place_at now.places k).output ≡ (place_at before.places k).output
+-- the state was reached by the transition with this number
+abbrev pub IsReachedBy : TreeState → ℕ → ℕ → Type 0
+IsReachedBy t q k = (0 < q) × (q < length t.access) × ((edge_at t.spanning q).state * t.inputs + (edge_at t.spanning q).letter ≡ k)
+
+-- the transition stands at the leaf of the state that was reached by it
+abbrev pub StandsAtItsState : TreeState → TreeState → ℕ → Type 0
+StandsAtItsState before now k = (q : ℕ) × IsReachedBy before q k × ((place_at now.places k).node ≡ leaf_at now.leaves q)
+
+-- a state whose leaf was below a node has its leaf below that node
+abbrev pub LeavesStayInside : ℕ → TreeState → TreeState → Type 0
+LeavesStayInside r before now = (q : ℕ) → q < length before.access → StandsBelow (node_at before.nodes) r (leaf_at before.leaves q) → StandsBelow (node_at now.nodes) r (leaf_at now.leaves q)
+
+-- each transition that stood below a node stands at it, but for those that states were reached by: these stand at their states
+pub record GathersInside (r : ℕ) (before now : TreeState) : Type 0 where
+  pub leaves : LeavesStayInside r before now
+  pub places : (k : ℕ) → k < length before.places → StandsBelow (node_at before.nodes) r (place_at before.places k).node → ((place_at now.places k).node ≡ r) ⊎ StandsAtItsState before now k
+
+-- each transition that stood below a node stands at it or below it
+pub record StaysInside (r : ℕ) (before now : TreeState) : Type 0 where
+  pub leaves : LeavesStayInside r before now
+  pub places : (k : ℕ) → k < length before.places → StandsBelow (node_at before.nodes) r (place_at before.places k).node → IsAbove (node_at now.nodes) r (place_at now.places k).node
+
+-- each transition has the output that it had, if any, and no other one
+abbrev pub HaveSameOutputs : TreeState → TreeState → Type 0
+HaveSameOutputs before now = (k : ℕ) → k < length before.places → (place_at now.places k).output ≡ (place_at before.places k).output
 
 -- a tree once the root r of a block was to be replaced: it is final now
 pub record HasReplaced {E : Type 0} (ks : List Answer) (r : ℕ) (word : List ℕ) (before now : TreeState) (result : Result ⊤ E) : Type 0 where
@@ -81,7 +103,8 @@ pub record HasReplaced {E : Type 0} (ks : List Answer) (r : ℕ) (word : List �
   pub replaced : OnOk result (HasFinal word before now)
   pub root : OnOk result ((node_at now.nodes r).content ≡ Discriminator word false)
   pub outside : OnOk result (KeepsOutside r before now)
-  pub outputs : OnOk result (OutputsStay before now)
+  pub inside : OnOk result (GathersInside r before now)
+  pub outputs : OnOk result (HaveSameOutputs before now)
   pub access : OnOk result (now.access ≡ before.access)
   pub refinements : OnOk result (now.refinements ≡ before.refinements)
   pub left : OnErr result (now ≡ before)

@@ -1,12 +1,12 @@
 -- What a call that asks leaves of a tree.
-use Rattle.std.specs.Prelude.{◌≡◌, ◌≢◌, ◌⊎◌, ℕ, ◌+◌, ◌<◌, List, [], ◌∷◌, ◌++◌, length, Bool, true, false, Result, Err, OnOk, OnErr, IfOk, ⊤}
+use Rattle.std.specs.Prelude.{◌≡◌, ◌≢◌, ◌⊎◌, ℕ, ◌+◌, ◌<◌, List, [], ◌∷◌, ◌++◌, length, Bool, true, false, Some, Result, Err, OnOk, OnErr, IfOk, ⊤}
 use Rattle.lw_words.specs.Word.{Answer}
 use Rattle.lw_cache.specs.Crowd.{IsCrowd}
 use Rattle.lw_cache.specs.Cut.{word_at}
 use Rattle.lw_cache.specs.declared.cut.Cut.{Cut}
 use Rattle.lw_cache.specs.declared.stops.GrowStop.{GrowStop}
 use Rattle.lw_cache.specs.declared.stops.GrowStop.TheVariants.{Crowd}
-use Rattle.lw_tree.specs.Tree.{TreeState, discriminators, final_discriminators, temporaries, is_open, node_at, place_at, IsLive, IsTree, BranchesAreRead, IsClosed, HasOpen}
+use Rattle.lw_tree.specs.Tree.{TreeState, discriminators, final_discriminators, temporaries, is_open, node_at, place_at, IsLive, IsAbove, IsTree, BranchesAreRead, IsClosed, HasOpen}
 use Rattle.lw_tree.specs.declared.nodes.Content.TheVariants.{Discriminator}
 
 -- the same numbers, more access words at the end, and a tree whose branches are what the answers say
@@ -27,10 +27,21 @@ NodesStay before now = (n : ℕ) → IsLive (node_at before.nodes n).content →
 abbrev pub TargetsStay : TreeState → TreeState → Type 0
 TargetsStay before now = (k : ℕ) → is_open (node_at before.nodes) (place_at before.places k) ≡ false → place_at now.places k ≡ place_at before.places k
 
--- nodes and targets stay; the discriminators and the count of refinements are as before
+-- each transition stands where it stood, or below
+abbrev pub PlacesDescend : TreeState → TreeState → Type 0
+PlacesDescend before now = (k : ℕ) → IsAbove (node_at now.nodes) (place_at before.places k).node (place_at now.places k).node
+
+-- an output that a transition had stays
+abbrev pub OutputsStay : TreeState → TreeState → Type 0
+OutputsStay before now = (k y : ℕ) → (place_at before.places k).output ≡ Some y → (place_at now.places k).output ≡ Some y
+
+-- nodes, targets and outputs stay, and no transition stands higher up; the discriminators and the count of refinements are as
+-- before
 pub record KeepsTree (before now : TreeState) : Type 0 where
   pub nodes : NodesStay before now
   pub targets : TargetsStay before now
+  pub descends : PlacesDescend before now
+  pub outputs : OutputsStay before now
   pub discriminators_are : discriminators now.nodes ≡ discriminators before.nodes
   pub finals : final_discriminators now.nodes ≡ final_discriminators before.nodes
   pub temporary : temporaries now.nodes ≡ temporaries before.nodes
@@ -59,10 +70,20 @@ MovesOn before now k = is_open (node_at now.nodes) (place_at now.places k) ≡ t
 abbrev pub HasMoved : TreeState → TreeState → Type 0
 HasMoved before now = (k : ℕ) → k < length before.places → MovesOn before now k
 
+-- a transition stands where it stood, or at a node just below
+abbrev pub StepsOnce : TreeState → TreeState → ℕ → Type 0
+StepsOnce before now k = ((place_at now.places k).node ≡ (place_at before.places k).node)
+    ⊎ ((0 < (place_at now.places k).node) × ((node_at now.nodes (place_at now.places k).node).parent ≡ (place_at before.places k).node))
+
+-- that is so of each transition that there was
+abbrev pub AllStepOnce : TreeState → TreeState → Type 0
+AllStepOnce before now = (k : ℕ) → k < length before.places → StepsOnce before now k
+
 -- a tree once a level was to be sifted; the answer is whether a transition is left that has no target
 pub record HasLevelled (ks : List Answer) (before now : TreeState) (result : Result Bool GrowStop) : Type 0 where
   pub grown : HasGrown ks before now
   pub keeps : KeepsTree before now
+  pub steps : AllStepOnce before now
   pub closed : IfOk result (λ is_left. is_left ≡ false → IsClosed now)
   pub left : IfOk result (λ is_left. is_left ≡ true → HasOpen now)
   pub moved : IfOk result (λ is_left. HasMoved before now)
@@ -80,7 +101,8 @@ abbrev pub cut_word : List (List ℕ) → Cut → List ℕ
 cut_word access cut = word_at access cut.state ++ cut.letter ∷ []
 
 -- this leaf became a temporary node with this discriminator, and keeps its parent and branch; each other node at which something
--- stood is as it was, and so is each transition that had another leaf as its target; the first new access word is this one
+-- stood is as it was, and so is each transition that had another leaf as its target; each transition stands where it stood or
+-- below, with the output that it had, if any; the first new access word is this one
 pub record IsSplit (word suffix : List ℕ) (leaf : ℕ) (before now : TreeState) : Type 0 where
   pub more : List (List ℕ)
   pub access : now.access ≡ before.access ++ word ∷ more
@@ -96,6 +118,8 @@ pub record IsSplit (word suffix : List ℕ) (leaf : ℕ) (before now : TreeState
   pub content : (node_at now.nodes leaf).content ≡ Discriminator suffix true
   pub nodes : (n : ℕ) → n ≢ leaf → IsLive (node_at before.nodes n).content → node_at now.nodes n ≡ node_at before.nodes n
   pub targets : (k : ℕ) → (place_at before.places k).node ≢ leaf → is_open (node_at before.nodes) (place_at before.places k) ≡ false → place_at now.places k ≡ place_at before.places k
+  pub descends : PlacesDescend before now
+  pub outputs : OutputsStay before now
 
 -- a tree once this leaf was to be split with a suffix, for a new state with this access word; where that was refused, the tree is
 -- as before, or was split and maybe not closed

@@ -4,7 +4,7 @@ ghost use Rattle.std.specs.List.{All};
 ghost use Rattle.lw_words.specs.Word.{Answer, AreAnswers, answers_of, IsWord};
 ghost use Rattle.lw_cache.specs.Known.{IsKnown};
 ghost use Rattle.lw_cache.specs.Settling.{Keeps, MayAsk, Leaves, grown_stop};
-ghost use Rattle.lw_tree.specs.Grown.{HasGrown, KeepsTree, HasLevelled, HasClosed, TellsCrowd, HasMoved, MovesOn};
+ghost use Rattle.lw_tree.specs.Grown.{HasGrown, KeepsTree, AllStepOnce, HasLevelled, HasClosed, TellsCrowd, HasMoved, MovesOn};
 ghost use Rattle.lw_cache.specs.declared.stops.GrowStop.TheVariants.{Crowd};
 ghost use Rattle.lw_tree.specs.Tree.{IsTree, BranchesAreRead, HasOpen, IsClosed, IsInner, IsLive, discriminator, is_open, node_at, place_at};
 ghost use Rattle.lw_tree.specs.bodies.Arrivals.{AreOpen};
@@ -189,6 +189,7 @@ impl DiscriminationTree {
             (length self.old.places) }
         ensures grown { HasGrown (answers_of cache.now.kept) self.old self.new }
         ensures keeps { KeepsTree self.old self.new }
+        ensures steps { AllStepOnce self.old self.new }
         ensures moved { OnOk result (HasMoved self.old self.new) }
         ensures crowd { TellsCrowd (answers_of cache.now.kept) self.new result }
         ensures own { IfErr result IsOwn }
@@ -227,8 +228,9 @@ impl DiscriminationTree {
     /// Answers whether transitions are left that have no target.
     ///
     /// # Errors
-    /// The stop of the oracle, or out of memory; or the words of a crowd, where a state more than may be would be needed. The
-    /// tree stays as it was after the last transition that took its step, and a later call goes on from there.
+    /// The stop of the oracle, or out of memory; or the words of a crowd, where a state more than may be would be needed. Each
+    /// transition then stands where it stood or one step below, and keeps its target and its output, where it had them; a later
+    /// call goes on from there.
     pub fn sift_level<O: Oracle>(&mut self, oracle: &mut O) -> Result<bool, GrowStop>
         requires can { O.can_settle oracle.old }
         requires may { MayAsk (O.state oracle.old).stop }
@@ -248,7 +250,7 @@ impl DiscriminationTree {
     /// Sifts levels until each transition has a target. Where each has one, nothing is asked.
     ///
     /// # Errors
-    /// As `sift_level`.
+    /// As `sift_level`; a transition may stand several steps below where it stood.
     pub fn close<O: Oracle>(&mut self, oracle: &mut O) -> Result<(), GrowStop>
         requires can { O.can_settle oracle.old }
         requires may { MayAsk (O.state oracle.old).stop }

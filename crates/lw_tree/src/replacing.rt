@@ -61,9 +61,9 @@ fn place_edges(places: &mut Vec<Place>, inputs: u16, spanning: &[Edge], leaves: 
 }
 
 impl DiscriminationTree {
-    /// Puts a final node with this discriminator in the place of a block's root. Below it stands, for each of the members'
-    /// output words, what the block had of those members, with nodes of one child left out; and the transitions into the
-    /// members stand at it, but for those that they were reached by.
+    /// Puts a final node with this discriminator in the place of a block's root. The members' leaves stay below it. The
+    /// transitions that stood below it stand at it, but for those that states were reached by, which stand at these states'
+    /// leaves; each keeps its output.
     ///
     /// # Errors
     /// Only where memory runs out; the tree is then as before.
@@ -73,6 +73,8 @@ impl DiscriminationTree {
         requires may { MayReplace (answers_of cache.now.kept) self.old root word }
         ensures { HasReplaced (answers_of cache.now.kept) root word self.old self.new result }
     {
+        // Below the root comes, for each of the members' output words, what the block had of those members, with nodes of one
+        // child left out.
         let below = self.below(root)?;
         let sprout = self.sprout(cache, root, &word, &below)?;
         let mut places = lifted_places(self.alloc, &self.places, root, &below)?;

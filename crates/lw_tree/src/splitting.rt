@@ -69,10 +69,11 @@ impl DiscriminationTree {
         self.refinements += 1;
     }
 
-    /// Splits the leaf of a cut's target with the suffix, and closes the tree again.
+    /// Splits the leaf of a cut's target with the suffix, and closes the tree again. The transitions that stood at the leaf stand
+    /// below it then.
     ///
     /// # Errors
-    /// As `close`. Where the leaf was split, `close` goes on from there.
+    /// As `close`. The tree is as before, or the leaf was split, and `close` goes on from there.
     pub fn split<O: Oracle>(&mut self, oracle: &mut O, cut: &Cut) -> Result<(), GrowStop>
         requires can { O.can_settle oracle.old }
         requires may { MayAsk (O.state oracle.old).stop }

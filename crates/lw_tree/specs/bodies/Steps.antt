@@ -5,7 +5,7 @@ use Rattle.lw_cache.specs.Cut.{word_at}
 use Rattle.lw_cache.specs.declared.stops.AskStop.TheVariants.{NoMemory}
 use Rattle.lw_cache.specs.declared.stops.GrowStop.{GrowStop}
 use Rattle.lw_cache.specs.declared.stops.GrowStop.TheVariants.{Ask, Crowd}
-use Rattle.lw_tree.specs.Grown.{HasGrown, KeepsTree, MovesOn}
+use Rattle.lw_tree.specs.Grown.{HasGrown, KeepsTree, MovesOn, StepsOnce, AllStepOnce}
 use Rattle.lw_tree.specs.Tree.{TreeState, node_at, place_at, leaf_at, edge_at, no_place, discriminator, IsInner, BranchesAreRead, Tells}
 use Rattle.lw_tree.specs.bodies.Nodes.{IsChild}
 use Rattle.lw_tree.specs.bodies.Transitions.{IsTransition, word_of, place_by, content_by}
@@ -85,22 +85,26 @@ pub record IsNextSplit (t : TreeState) (edge : Edge) (output q : ℕ) (suffix ol
 abbrev pub split_tree : TreeState → Edge → ℕ → ℕ → List ℕ → List ℕ → List ℕ → TreeState
 split_tree t edge output q suffix old new = with_state (lowered t q suffix old) edge output new
 
--- the branches of a tree are read, and a transition's output and its outputs on the discriminator where it stands are so too
+-- the branches of a tree are read, and a transition's output and its outputs on the discriminator where it stands are so too; an
+-- output that it had is this one
 pub record IsRead (ks : List Answer) (t : TreeState) (edge : Edge) (output : ℕ) (branch : List ℕ) : Type 0 where
   pub branches : BranchesAreRead ks t
   pub out : Tells ks (word_at t.access edge.state) (edge.letter ∷ []) (output ∷ [])
   pub outs : Tells ks (word_of t edge) (discriminator (content_by t edge)) branch
+  pub same : (y : ℕ) → (place_by t edge).output ≡ Some y → y ≡ output
 
--- of the places that there were at most this one changed
+-- of the places that there were at most this one changed, by one step
 pub record HasStepped (ks : List Answer) (before : TreeState) (edge : Edge) (now : TreeState) : Type 0 where
   pub grown : HasGrown ks before now
   pub keeps : KeepsTree before now
   pub others : (k : ℕ) → k < length before.places → k ≢ edge.state * before.inputs + edge.letter → place_at now.places k ≡ place_at before.places k
+  pub steps : StepsOnce before now (edge.state * before.inputs + edge.letter)
 
 -- each transition before a number has moved on; those from it on are where they were
 pub record HasSifted (ks : List Answer) (before : TreeState) (to : ℕ) (now : TreeState) : Type 0 where
   pub grown : HasGrown ks before now
   pub keeps : KeepsTree before now
+  pub steps : AllStepOnce before now
   pub left : (k : ℕ) → to ≤ k → k < length before.places → place_at now.places k ≡ place_at before.places k
   pub moved : (k : ℕ) → k < to → k < length before.places → MovesOn before now k
 

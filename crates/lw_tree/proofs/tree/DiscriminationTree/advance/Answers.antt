@@ -10,7 +10,7 @@ use Rattle.lw_tree.specs.declared.nodes.Content.{Content}
 use Rattle.lw_tree.specs.declared.nodes.Content.TheVariants.{Discriminator}
 use Rattle.lw_tree.specs.declared.transitions.Place.{Place}
 use Rattle.lw_tree.proofs.GrownLemmas.{not_stepped, placed_stepped, placed_moves}
-use Rattle.lw_tree.proofs.StepLemmas.{not_inner}
+use Rattle.lw_tree.proofs.StepLemmas.{not_inner, output_once}
 use Rattle.lw_tree.proofs.tree.DiscriminationTree.advance.Goals as goal
 
 pub returns-in_err-word-clause-stepped : goal.returns-in_err-word-clause-stepped
@@ -50,7 +50,7 @@ returns-in_default c =
     let value : c.place.new.self ≡ with_place u edge output n = c.place.ensures.value in
     let out : Tells ks (word_at u.access edge.state) (edge.letter ∷ []) (output ∷ []) = c.in_ok-output.ensures.tells (word_at u.access edge.state) edge.letter c.in_ok-word.ensures.value in
     let agrees : Agrees ks (node_at u.nodes) (word_of u edge) n = subst (Agrees ks (node_at u.nodes) (word_of u edge)) (sym place) (c.requires.read.transitions edge.state edge.letter c.requires.edge.0 c.requires.edge.1) in
-    let stepped = placed_stepped ks u edge output n g c.requires.edge stands below live (subst (λ (v : TreeState). IsTree v) value c.place.ensures.tree) c.requires.read out agrees in
+    let stepped = placed_stepped ks u edge output n g c.requires.edge stands below live (subst (λ (v : TreeState). IsTree v) value c.place.ensures.tree) c.requires.read out agrees (output_once ks u edge output c.requires.answers c.requires.read c.requires.edge out) (inl place) in
     record {
       stepped = subst (HasStepped ks u edge) (sym value) stepped;
       moved = subst (λ (v : TreeState). MovesOn u v (edge.state * u.inputs + edge.letter)) (sym value) (placed_moves ks u edge output n g c.requires.edge stands below live (inl leaf));
@@ -91,6 +91,7 @@ read_so c =
       branches = c.requires.read;
       out = c.in_ok-output.ensures.tells (word_at u.access edge.state) edge.letter c.in_ok-word.ensures.value;
       outs = subst (λ (d : List ℕ). Tells ks (word_of u edge) d c.in_ok-branch.branch) (ap discriminator (sym content)) (subst (λ (w : List ℕ). Tells ks w c.in-Discriminator.suffix c.in_ok-branch.branch) c.in_ok-word.ensures.value c.in_ok-branch.ensures.tells);
+      same = output_once ks u edge c.in_ok-output.output c.requires.answers c.requires.read c.requires.edge (c.in_ok-output.ensures.tells (word_at u.access edge.state) edge.letter c.in_ok-word.ensures.value);
     }
 
 pub returns : goal.returns

@@ -4,7 +4,7 @@ use Rattle.lw_cache.specs.Known.{IsKnown}
 use Rattle.lw_tree.specs.Tree.{TreeState, IsTree}
 use Rattle.lw_tree.specs.bodies.Transitions.{IsTransition}
 use Rattle.lw_tree.proofs.GrownLemmas.{keeps_and_keeps, access_longer, asked_still, sifted_all}
-use Rattle.lw_tree.proofs.LevelLemmas.{number_from, number_at, number_past, few_numbers, edge_from, sifted_first, turn_stands, turn_done}
+use Rattle.lw_tree.proofs.LevelLemmas.{number_from, number_at, number_past, few_numbers, edge_from, sifted_first, turn_stands, turn_steps, turn_done}
 use Rattle.lw_tree.proofs.StepLemmas.{handed_crowd}
 use Rattle.lw_tree.proofs.tree.DiscriminationTree.advance_all.Goals as goal
 
@@ -76,7 +76,17 @@ returns-in_err-advance-clause-keeps c =
     let u : TreeState = c.args.self.now in
     let l = c.loop-number in
     let g : IsTree u = subst (λ (v : TreeState). IsTree v) c.self.view_is c.self.invariant.tree in
-    keeps_and_keeps u l.self c.advance-in-loop-number.new.self g l.invariant.keeps c.in_err-advance.ensures.stepped.keeps
+    keeps_and_keeps u l.self c.advance-in-loop-number.new.self g l.invariant.grown.tree c.in_err-advance.ensures.stepped.grown.tree l.invariant.keeps c.in_err-advance.ensures.stepped.keeps
+
+pub returns-in_err-advance-clause-steps : goal.returns-in_err-advance-clause-steps
+returns-in_err-advance-clause-steps c =
+    let u : TreeState = c.args.self.now in
+    let l = c.loop-number in
+    let edge = c.with_number.result in
+    let g : IsTree u = subst (λ (v : TreeState). IsTree v) c.self.view_is c.self.invariant.tree in
+    let inside : l.number-index < length c.args.numbers.now = c.loop-number-test.true in
+    let number : get_or c.args.numbers.now l.number-index 0 ≡ edge.state * l.self.inputs + edge.letter = c.with_number.ensures.number ∙ ap (λ (v : TreeState). edge.state * v.inputs + edge.letter) c.advance.view_is in
+    turn_steps u c.args.numbers.now c.requires.numbers (answers_of c.args.cache.now.kept) l.self l.number-index inside g l.invariant edge number c.advance-in-loop-number.new.self c.in_err-advance.ensures.stepped
 
 pub returns-in_err-advance-clause-crowd : goal.returns-in_err-advance-clause-crowd
 returns-in_err-advance-clause-crowd c =

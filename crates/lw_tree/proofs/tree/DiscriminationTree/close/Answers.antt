@@ -27,7 +27,7 @@ returns-in_err-sift-clause-closes g c =
     let done = c.in_err-sift.ensures.levels in
     let stop = c.in_err-sift.field-0.0 in
     not_closed ks c.args.self.now c.sift.new.self stop c.from_residual.result
-    (grown_then (answers_of (g.O.Oracle.state l.oracle).kept) ks c.args.self.now l.self c.sift.new.self l.invariant.grown done.grown) (keeps_and_keeps c.args.self.now l.self c.sift.new.self tree l.invariant.keeps done.keeps)
+    (grown_then (answers_of (g.O.Oracle.state l.oracle).kept) ks c.args.self.now l.self c.sift.new.self l.invariant.grown done.grown) (keeps_and_keeps c.args.self.now l.self c.sift.new.self tree l.invariant.grown.tree done.grown.tree l.invariant.keeps done.keeps)
     (crowd_too ks c.sift.new.self stop done.crowd) (search rules)
 
 pub returns-in_err-sift-clause-leaves : goal.returns-in_err-sift-clause-leaves
@@ -54,7 +54,7 @@ loop-preserved g c =
     let done = c.in_ok-sift.ensures.levels in
     record {
       grown = grown_then (answers_of (g.O.Oracle.state l.oracle).kept) (answers_of n.kept) c.args.self.now l.self c.sift.new.self l.invariant.grown done.grown;
-      keeps = keeps_and_keeps c.args.self.now l.self c.sift.new.self tree l.invariant.keeps done.keeps;
+      keeps = keeps_and_keeps c.args.self.now l.self c.sift.new.self tree l.invariant.grown.tree done.grown.tree l.invariant.keeps done.keeps;
       leaves = leaves_then o (g.O.Oracle.state l.oracle) n None l.invariant.leaves c.in_ok-sift.ensures.leaves;
       can = c.in_ok-sift.ensures.can;
     }
@@ -67,7 +67,7 @@ returns g c =
     let done = c.in_ok-sift.ensures.levels in
     let grown = grown_then (answers_of (g.O.Oracle.state l.oracle).kept) ks c.args.self.now l.self c.sift.new.self l.invariant.grown done.grown in
     record {
-      closes = has_closed ks c.args.self.now c.sift.new.self grown (keeps_and_keeps c.args.self.now l.self c.sift.new.self tree l.invariant.keeps done.keeps) (done.closed c.if-branch.false);
+      closes = has_closed ks c.args.self.now c.sift.new.self grown (keeps_and_keeps c.args.self.now l.self c.sift.new.self tree l.invariant.grown.tree done.grown.tree l.invariant.keeps done.keeps) (done.closed c.if-branch.false);
       unasked = λ is. let left = c.has_open.ensures.open (search rules) in absurd (true≢false (sym left.2 ∙ is left.0 left.1));
       leaves = leaves_then (g.O.Oracle.state c.args.oracle.now) (g.O.Oracle.state l.oracle) (g.O.Oracle.state c.sift.new.oracle) None l.invariant.leaves c.in_ok-sift.ensures.leaves;
       can = c.in_ok-sift.ensures.can;

@@ -13,31 +13,31 @@ use Rattle.lw_tree.proofs.tree.DiscriminationTree.replace.Goals as goal
 
 pub place_edges-requires-clause-some : goal.place_edges-requires-clause-some
 place_edges-requires-clause-some c =
-    let p = planting c.self.view_is c.self.invariant.tree c.requires.read c.requires.may c.in_ok-below.ensures.marks c.in_ok-below.ensures.size c.deref.ensures.value c.in_ok-sprout.ensures.few c.in_ok-sprout.ensures.grown in
+    let p = planting c.self.view_is c.self.invariant.tree c.requires.answers c.requires.read c.requires.may c.in_ok-below.ensures.marks c.in_ok-below.ensures.size c.deref.ensures.value c.in_ok-sprout.ensures.few c.in_ok-sprout.ensures.grown in
     let h = at_hand c.args.root c.self.view_is c.deref-2.ensures.value c.deref-3.ensures.value c.in_ok-places.ensures c.deref-4.ensures.value c.deref-5.ensures.value in
     leaves_some p h
 
 pub place_edges-requires-clause-each : goal.place_edges-requires-clause-each
 place_edges-requires-clause-each c =
-    let p = planting c.self.view_is c.self.invariant.tree c.requires.read c.requires.may c.in_ok-below.ensures.marks c.in_ok-below.ensures.size c.deref.ensures.value c.in_ok-sprout.ensures.few c.in_ok-sprout.ensures.grown in
+    let p = planting c.self.view_is c.self.invariant.tree c.requires.answers c.requires.read c.requires.may c.in_ok-below.ensures.marks c.in_ok-below.ensures.size c.deref.ensures.value c.in_ok-sprout.ensures.few c.in_ok-sprout.ensures.grown in
     let h = at_hand c.args.root c.self.view_is c.deref-2.ensures.value c.deref-3.ensures.value c.in_ok-places.ensures c.deref-4.ensures.value c.deref-5.ensures.value in
     edges_each p h
 
 pub place_edges-requires-clause-within : goal.place_edges-requires-clause-within
 place_edges-requires-clause-within c =
-    let p = planting c.self.view_is c.self.invariant.tree c.requires.read c.requires.may c.in_ok-below.ensures.marks c.in_ok-below.ensures.size c.deref.ensures.value c.in_ok-sprout.ensures.few c.in_ok-sprout.ensures.grown in
+    let p = planting c.self.view_is c.self.invariant.tree c.requires.answers c.requires.read c.requires.may c.in_ok-below.ensures.marks c.in_ok-below.ensures.size c.deref.ensures.value c.in_ok-sprout.ensures.few c.in_ok-sprout.ensures.grown in
     let h = at_hand c.args.root c.self.view_is c.deref-2.ensures.value c.deref-3.ensures.value c.in_ok-places.ensures c.deref-4.ensures.value c.deref-5.ensures.value in
     edges_within p h
 
 pub replace-requires-clause-lower : goal.replace-requires-clause-lower
 replace-requires-clause-lower c =
-    let p = planting c.self.view_is c.self.invariant.tree c.requires.read c.requires.may c.in_ok-below.ensures.marks c.in_ok-below.ensures.size c.deref.ensures.value c.in_ok-sprout.ensures.few c.in_ok-sprout.ensures.grown in
+    let p = planting c.self.view_is c.self.invariant.tree c.requires.answers c.requires.read c.requires.may c.in_ok-below.ensures.marks c.in_ok-below.ensures.size c.deref.ensures.value c.in_ok-sprout.ensures.few c.in_ok-sprout.ensures.grown in
     replaced_lower p c.self.view_is c.in_ok-reserve.ensures.items c.deref-6.ensures.value
 
 pub fill-requires : goal.fill-requires
 fill-requires c =
     let s = c.self.inside in
-    let p = planting c.self.view_is c.self.invariant.tree c.requires.read c.requires.may c.in_ok-below.ensures.marks c.in_ok-below.ensures.size c.deref.ensures.value c.in_ok-sprout.ensures.few c.in_ok-sprout.ensures.grown in
+    let p = planting c.self.view_is c.self.invariant.tree c.requires.answers c.requires.read c.requires.may c.in_ok-below.ensures.marks c.in_ok-below.ensures.size c.deref.ensures.value c.in_ok-sprout.ensures.few c.in_ok-sprout.ensures.grown in
     let h = at_hand c.args.root c.self.view_is c.deref-2.ensures.value c.deref-3.ensures.value c.in_ok-places.ensures c.deref-4.ensures.value c.deref-5.ensures.value in
     let nodes = c.replace.ensures ∙ replaced_nodes p c.self.view_is c.in_ok-reserve.ensures.items c.deref-6.ensures.value in
     let t : TreeState = planted (tree_of s.inputs s.outputs s.most s.access s.nodes.items s.leaves.items s.places.items s.spanning.items s.refinements) c.replace.new.self.items c.in_ok-sprout.sprout.leaves.items c.place_edges.new.places.items in
@@ -56,7 +56,7 @@ fill-requires c =
 pub invariant_of-self-2 : goal.invariant_of-self-2
 invariant_of-self-2 c =
     let s = c.self.inside in
-    let p = planting c.self.view_is c.self.invariant.tree c.requires.read c.requires.may c.in_ok-below.ensures.marks c.in_ok-below.ensures.size c.deref.ensures.value c.in_ok-sprout.ensures.few c.in_ok-sprout.ensures.grown in
+    let p = planting c.self.view_is c.self.invariant.tree c.requires.answers c.requires.read c.requires.may c.in_ok-below.ensures.marks c.in_ok-below.ensures.size c.deref.ensures.value c.in_ok-sprout.ensures.few c.in_ok-sprout.ensures.grown in
     let h = at_hand c.args.root c.self.view_is c.deref-2.ensures.value c.deref-3.ensures.value c.in_ok-places.ensures c.deref-4.ensures.value c.deref-5.ensures.value in
     let nodes = c.replace.ensures ∙ replaced_nodes p c.self.view_is c.in_ok-reserve.ensures.items c.deref-6.ensures.value in
     let t : TreeState = planted (tree_of s.inputs s.outputs s.most s.access s.nodes.items s.leaves.items s.places.items s.spanning.items s.refinements) c.replace.new.self.items c.in_ok-sprout.sprout.leaves.items c.place_edges.new.places.items in
@@ -71,7 +71,7 @@ invariant_of-self-2 c =
 
 pub returns : goal.returns
 returns c =
-    let p = planting c.self.view_is c.self.invariant.tree c.requires.read c.requires.may c.in_ok-below.ensures.marks c.in_ok-below.ensures.size c.deref.ensures.value c.in_ok-sprout.ensures.few c.in_ok-sprout.ensures.grown in
+    let p = planting c.self.view_is c.self.invariant.tree c.requires.answers c.requires.read c.requires.may c.in_ok-below.ensures.marks c.in_ok-below.ensures.size c.deref.ensures.value c.in_ok-sprout.ensures.few c.in_ok-sprout.ensures.grown in
     let h = at_hand c.args.root c.self.view_is c.deref-2.ensures.value c.deref-3.ensures.value c.in_ok-places.ensures c.deref-4.ensures.value c.deref-5.ensures.value in
     let nodes = c.replace.ensures ∙ replaced_nodes p c.self.view_is c.in_ok-reserve.ensures.items c.deref-6.ensures.value in
     subst (λ (v : TreeState). HasReplaced {E = NoMemory} (answers_of c.args.cache.now.kept) c.args.root c.args.word c.args.self.now (planted v c.replace.new.self.items c.in_ok-sprout.sprout.leaves.items c.place_edges.new.places.items) (Ok tt)) (sym c.self.view_is)

@@ -70,7 +70,7 @@ returns-in_err-advance_all-clause-levels g c =
     let done = c.in_err-advance_all.ensures in
     let u : TreeState = c.args.self.now in
     not_levelled (answers_of n.kept) u c.advance_all.new.self stop c.from_residual-in_err-advance_all.result
-    (subst (λ (k : List KeptAnswer). HasGrown (answers_of k) u c.advance_all.new.self) c.cache.ensures.kept done.grown) done.keeps
+    (subst (λ (k : List KeptAnswer). HasGrown (answers_of k) u c.advance_all.new.self) c.cache.ensures.kept done.grown) done.keeps done.steps
     (subst (λ (k : List KeptAnswer). TellsCrowd {X = ⊤} (answers_of k) c.advance_all.new.self (Err stop)) c.cache.ensures.kept done.crowd) (search rules)
 
 pub returns-in_err-advance_all-clause-leaves : goal.returns-in_err-advance_all-clause-leaves
