@@ -134,9 +134,9 @@ as_many_finals t u is = let e : length (final_discriminators u.nodes) ≡ length
 -- a settling adds one
 one_more : (t u : TreeState) → IsReplaced t u → finals_of (Tree t) < finals_of (Tree u)
 one_more t u is =
-    let has = is.3 in
+    let has = is.final in
     let were : length (final_discriminators t.nodes) ≡ length has.front + length has.back = ap length has.were ∙ length-append has.front has.back in
-    let are : length (final_discriminators u.nodes) ≡ length has.front + suc (length has.back) = ap length has.are ∙ length-append has.front (is.1 ∷ has.back) in
+    let are : length (final_discriminators u.nodes) ≡ length has.front + suc (length has.back) = ap length has.are ∙ length-append has.front (is.word ∷ has.back) in
     omega (arith, were, are)
 
 pub settled_finals : (ks : List Answer) (t u : TreeState) (result : Result Settled GrowStop) → IfOk result (IsSettled t u) → OnErr result ((u ≡ t) ⊎ IsReplaced t u) → finals_of (Tree t) ≤ finals_of (Tree u)

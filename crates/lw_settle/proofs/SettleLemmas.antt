@@ -14,8 +14,8 @@ use Rattle.lw_tree.specs.Blocks.{IsBlock, MayReplace, HasReplaced}
 use Rattle.lw_tree.specs.Grown.{HasGrown, KeepsTree, TellsCrowd, HasClosed}
 use Rattle.lw_tree.specs.Tree.{TreeState, temporaries, IsLive, IsTree, BranchesAreRead, IsClosed, IsMachineOf}
 use Rattle.lw_tree.specs.declared.nodes.Node.{Node}
-use Rattle.lw_tree.proofs.CloseLemmas.{handed_stop, crowd_too, outside_then}
-use Rattle.lw_tree.proofs.GrownLemmas.{not_grown, grown_then}
+use Rattle.lw_tree.proofs.CloseLemmas.{handed_stop, crowd_too, outside_then, inside_then, outputs_then}
+use Rattle.lw_tree.proofs.GrownLemmas.{not_grown, grown_then, places_longer}
 use Rattle.lw_settle.specs.Settling.{IsReplaced, HasSettledBlock}
 use Rattle.lw_settle.specs.bodies.Parting.{AreMembers, IsReplacement, AreWordsOf, NothingIsParted}
 use Rattle.lw_settle.specs.declared.settling.Replacement.{Replacement}
@@ -58,29 +58,33 @@ pub record HasBlock (first : List Answer) (word : List ℕ) (r : ℕ) (t middle 
   pub replaced : HasReplaced {E = NoMemory} first r word t middle (Ok tt)
 
 -- a replaced node stays while the tree is closed again
-final_then : (first : List Answer) (word : List ℕ) (r : ℕ) (t middle now : TreeState) → HasBlock first word r t middle → KeepsTree middle now → IsReplaced t now
-final_then first word r t middle now has keeps =
+final_then : (first ks : List Answer) (word : List ℕ) (r : ℕ) (t middle now : TreeState) → HasBlock first word r t middle → HasGrown ks middle now → KeepsTree middle now → IsReplaced t now
+final_then first ks word r t middle now has grown keeps =
     let root = has.replaced.root in
-    let final = has.replaced.replaced in (
-      r,
-      word,
-      has.block,
-      record { front = final.front; back = final.back; were = final.were; are = keeps.finals ∙ final.are },
-      ap (λ (n : Node). n.content) (keeps.nodes r (subst IsLive (sym root) tt)) ∙ root,
-      outside_then r word t middle now has.tree has.closed has.block.temporary root has.replaced.outside keeps,
-    )
+    let final = has.replaced.replaced in
+    let half = has.replaced.grown in
+    record {
+      root = r;
+      word = word;
+      block = has.block;
+      final = record { front = final.front; back = final.back; were = final.were; are = keeps.finals ∙ final.are };
+      content = ap (λ (n : Node). n.content) (keeps.nodes r (subst IsLive (sym root) tt)) ∙ root;
+      outside = outside_then r word t middle now has.tree has.closed has.block.temporary root has.replaced.outside keeps;
+      inside = inside_then r t middle now has.tree half.tree grown.tree has.replaced.access (places_longer first t middle has.tree half) has.replaced.inside keeps;
+      outputs = outputs_then t middle now has.replaced.outputs keeps.outputs;
+    }
 
 -- where the closing was refused
 pub not_closed_then : (first ks : List Answer) (word : List ℕ) (r : ℕ) (t middle now : TreeState) (stop : GrowStop) (result : Result Settled GrowStop) → HasBlock first word r t middle → HasClosed ks middle now (Err stop) → IsErrAnd result (λ e. e ≡ stop) → HasSettledBlock ks t now result
 not_closed_then first ks word r t middle now stop result has done is =
-    not_settled ks t now stop result (grown_then first ks t middle now has.replaced.grown done.grown) (done.keeps.refinements ∙ has.replaced.refinements) (inr (final_then first word r t middle now has done.keeps)) done.crowd is
+    not_settled ks t now stop result (grown_then first ks t middle now has.replaced.grown done.grown) (done.keeps.refinements ∙ has.replaced.refinements) (inr (final_then first ks word r t middle now has done.grown done.keeps)) done.crowd is
 
 pub all_settled : (first ks : List Answer) (word : List ℕ) (r : ℕ) (t middle now : TreeState) → HasBlock first word r t middle → HasClosed ks middle now (Ok tt) → HasSettledBlock ks t now (Ok Replaced)
 all_settled first ks word r t middle now has done =
     record {
       grown = grown_then first ks t middle now has.replaced.grown done.grown;
       closed = done.closed;
-      settled = (temporary_counts t.nodes r has.block.temporary, final_then first word r t middle now has done.keeps);
+      settled = (temporary_counts t.nodes r has.block.temporary, final_then first ks word r t middle now has done.grown done.keeps);
       left = tt;
       refinements = done.keeps.refinements ∙ has.replaced.refinements;
       crowd = λ words told. cc;

@@ -4,8 +4,8 @@ use Rattle.std.specs.Prelude.{◌≡◌, ◌≢◌, ◌⊎◌, ℕ, ◌<◌, fal
 use Rattle.lw_words.specs.Word.{Answer}
 use Rattle.lw_mealy.specs.Machine.{Gives, Rows, next, output}
 use Rattle.lw_cache.specs.declared.stops.GrowStop.{GrowStop}
-use Rattle.lw_tree.specs.Blocks.{IsBlock, IsMember, AreOfOneClass, HasFinal, KeepsOutside}
-use Rattle.lw_tree.specs.Grown.{HasGrown, TellsCrowd}
+use Rattle.lw_tree.specs.Blocks.{IsBlock, IsMember, AreOfOneClass, HasFinal, KeepsOutside, StaysInside}
+use Rattle.lw_tree.specs.Grown.{HasGrown, OutputsStay, TellsCrowd}
 use Rattle.lw_tree.specs.Tree.{TreeState, node_at, temporaries, IsTree, BranchesAreRead, IsClosed, IsMachineOf}
 use Rattle.lw_tree.specs.declared.nodes.Content.TheVariants.{Discriminator}
 use Rattle.lw_settle.specs.declared.settling.Settled.{Settled}
@@ -26,9 +26,16 @@ abbrev pub SomeBlockIsParted : Type 0
 SomeBlockIsParted = (ks : List Answer) (t : TreeState) (m : Rows) → IsTree t → BranchesAreRead ks t → IsClosed t → IsMachineOf t m → Gives m ks → 0 < temporaries t.nodes → (r letter : ℕ) × IsParted t m r letter
 
 -- the root of a block is a final node now, of some word; the final nodes that there were stay, and so does what isn't below that
--- root
-abbrev pub IsReplaced : TreeState → TreeState → Type 0
-IsReplaced before now = (r : ℕ) × (word : List ℕ) × IsBlock before r × HasFinal word before now × ((node_at now.nodes r).content ≡ Discriminator word false) × KeepsOutside r before now
+-- root; what stood below it stands at it or below it, and each output that there was stays
+pub record IsReplaced (before now : TreeState) : Type 0 where
+  pub root : ℕ
+  pub word : List ℕ
+  pub block : IsBlock before root
+  pub final : HasFinal word before now
+  pub content : (node_at now.nodes root).content ≡ Discriminator word false
+  pub outside : KeepsOutside root before now
+  pub inside : StaysInside root before now
+  pub outputs : OutputsStay before now
 
 -- what is answered: no node was temporary, and nothing was done; or one was replaced
 abbrev pub IsSettled : TreeState → TreeState → Settled → Type 0
