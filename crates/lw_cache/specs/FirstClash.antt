@@ -26,7 +26,7 @@ pub record IsFirstClash (ks : List Answer) (clash : Clash) : Type 0 where
   pub here : ClashesFirst (take clash.second ks) (answer_at ks clash.second) clash
 
 -- the second answer of the clash clashed with those that were kept before it
-pub record CameFirst (kept : List KeptAnswer) (clash : Clash) : Type 0 where
+pub record ClashedWhenKept (kept : List KeptAnswer) (clash : Clash) : Type 0 where
   pub within : clash.second < length kept
   pub came : ClashesFirst (answers_of (take clash.second kept)) (answer_at (answers_of kept) clash.second) clash
 
@@ -37,7 +37,7 @@ AreClear kept first end = (i : ℕ) → first ≤ i → i < end → IsClear (ans
 -- a clash of an answer that came behind so many, and the first of those that isn't clear
 pub record IsNewClash (count : ℕ) (kept : List KeptAnswer) (clash : Clash) : Type 0 where
   pub new : count ≤ clash.second
-  pub came : CameFirst kept clash
+  pub came : ClashedWhenKept kept clash
   pub clear : AreClear kept count clash.second
 
 -- the same words are known

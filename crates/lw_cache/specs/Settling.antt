@@ -1,5 +1,5 @@
 -- What an oracle is, what settling a batch does, and what the layers above leave of an oracle.
-use Rattle.std.specs.Prelude.{◌≡◌, ℕ, ◌<◌, List, ◌++◌, length, map, Option, Some, None, Result, Ok, Err, OnOk, IfErr, option_and_then, slice_get, slice_index_or, Contains, Bool, true, ⊤}
+use Rattle.std.specs.Prelude.{◌≡◌, ℕ, ◌<◌, List, ◌++◌, length, map, Option, Some, None, Result, Ok, Err, OnOk, IfErr, option_and_then, slice_get, slice_index_or, Contains, Bool, true, false, ⊤}
 use Rattle.std.specs.List.{All}
 use Rattle.lw_words.specs.Word.{Answer, answer_of, answers_of, IsAnswer, IsWord}
 use Rattle.lw_words.specs.declared.kept.KeptAnswer.{KeptAnswer}
@@ -63,6 +63,12 @@ pub record GainsAnswers (batch : List (List ℕ)) (before now : List KeptAnswer)
   pub at_end : now ≡ before ++ gained
   pub of_batch : All (λ k. Contains batch k.word) gained
 
+-- the kept answers gain some at their end, each to a word of this kind
+pub record GainsOnly (Asked : List ℕ → Type 0) (before now : List KeptAnswer) : Type 0 where
+  pub gained : List KeptAnswer
+  pub at_end : now ≡ before ++ gained
+  pub each : All (λ k. Asked k.word) gained
+
 -- the words of the answers that are gained are exactly those that had to be asked, each once
 pub record GainsExactly (batch : List (List ℕ)) (before now : List KeptAnswer) : Type 0 where
   pub gained : List KeptAnswer
@@ -90,6 +96,16 @@ MayAsk (Some NoMemory) = Unit {0}
 abbrev pub InstanceHasStopped : OracleState → ℕ → SulStop → Type 0
 InstanceHasStopped o instance stop = (instance < length o.origins) × (slice_index_or o.stopped instance None ≡ Some stop)
 
+-- no instance of an oracle has stopped
+abbrev pub NoneStopped : OracleState → Type 0
+NoneStopped o = (i : ℕ) → slice_index_or o.stopped i None ≡ None
+
+-- an instance that has stopped stays so; and while nothing is refused, none stops
+pub record StopsStay (before now : OracleState) : Type 0 where
+  pub count : length now.stopped ≡ length before.stopped
+  pub stay : (i : ℕ) (stop : SulStop) → slice_index_or before.stopped i None ≡ Some stop → slice_index_or now.stopped i None ≡ Some stop
+  pub unrefused : before.refused ≡ false → now.refused ≡ false → NoneStopped before → NoneStopped now
+
 -- why a settling stopped: an instance did, or an answer that was gained clashed, the first of those that did
 abbrev pub IsSettleCause : (before now : OracleState) → AskStop → Type 0
 IsSettleCause before now (Sul instance stop) = InstanceHasStopped now instance stop
@@ -107,6 +123,7 @@ pub record Settles (batch : List (List ℕ)) (before now : OracleState) (result 
   pub stop : TellsStop result now.stop
   pub cause : MayAsk before.stop → IfErr result (IsSettleCause before now)
   pub refused : now.refused ≡ refused_after before.refused result
+  pub stops : StopsStay before now
   pub same : IsSame before now
 
 -- what a call of a layer above leaves as its oracle's stop, by the stop that the call answers, or None where it answers
@@ -127,16 +144,17 @@ grown_stop (Ok x) = None
 grown_stop (Err (Ask stop)) = Some stop
 grown_stop (Err (Crowd words)) = None
 
--- the cause of that stop: an instance stopped, or the first two of all kept answers that no one machine gives
-abbrev pub IsStopCause : OracleState → Option AskStop → Type 0
-IsStopCause o None = Unit {0}
-IsStopCause o (Some (Sul instance stop)) = InstanceHasStopped o instance stop
-IsStopCause o (Some (Clash clash)) = IsFirstClash (answers_of o.kept) clash
-IsStopCause o (Some NoMemory) = Unit {0}
+-- the cause of that stop: an instance stopped; or, where nothing clashed before, the first two of all kept answers that no one
+-- machine gives
+abbrev pub IsStopCause : (before now : OracleState) → Option AskStop → Type 0
+IsStopCause before now None = Unit {0}
+IsStopCause before now (Some (Sul instance stop)) = InstanceHasStopped now instance stop
+IsStopCause before now (Some (Clash clash)) = NothingClashes (answers_of before.kept) → IsFirstClash (answers_of now.kept) clash
+IsStopCause before now (Some NoMemory) = Unit {0}
 
 -- what a call of a layer above leaves of its oracle, by that stop: more answers at the end of those it kept, each a run of an
 -- instance; where no stop is answered, none was refused, and no clash came; and a stop has its cause, where the oracle might be
--- asked and nothing that it kept clashed
+-- asked
 pub record Leaves (before now : OracleState) (stop : Option AskStop) : Type 0 where
   pub gained : List KeptAnswer
   pub at_end : now.kept ≡ before.kept ++ gained
@@ -144,6 +162,7 @@ pub record Leaves (before now : OracleState) (stop : Option AskStop) : Type 0 wh
   pub keeps : Keeps now
   pub same : IsSame before now
   pub told : LeavesStop stop now.stop
+  pub stops : StopsStay before now
   pub refused : stop ≡ None → now.refused ≡ before.refused
   pub unclashed : stop ≡ None → NothingClashes (answers_of before.kept) → NothingClashes (answers_of now.kept)
-  pub cause : MayAsk before.stop → NothingClashes (answers_of before.kept) → IsStopCause now stop
+  pub cause : MayAsk before.stop → IsStopCause before now stop

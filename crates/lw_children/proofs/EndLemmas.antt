@@ -392,22 +392,22 @@ module _ {L : Type 0} (kind : Kind) (state : L → LinkState) (words letters : L
             (ap (λ (x : Seen). x.stop) (sym (seen_there state later left ended.members i s within)) ∙ why.1),
       )
 
-  caused : (r : Result Learned LearnStop) → LeavesStop (learn_stop r) left.stop → IsStopCause (oracle_of left) (learn_stop r) → IfErr r (IsCausedBy outputs workers before now links left.kept)
+  caused : (r : Result Learned LearnStop) → LeavesStop (learn_stop r) left.stop → IsStopCause (oracle_of pool) (oracle_of left) (learn_stop r) → IfErr r (IsCausedBy outputs workers before now links left.kept)
   caused (Ok l) told cause = tt
   caused (Err (learn.Ask (ask.Sul i s))) told cause =
       let why = stopped_there i s (subst (IsStopOf (seen_of left) left.kept) told ended.learned.stands.why) in
       (omega (arith, why.0, all_links), inr why)
-  caused (Err (learn.Ask (ask.Clash c))) told cause = cause
+  caused (Err (learn.Ask (ask.Clash c))) told cause = cause nothing
   caused (Err (learn.Ask ask.NoMemory)) told cause = tt
   caused (Err (learn.Crowd ws)) told cause = tt
   caused (Err (learn.TooLarge model n)) told cause = tt
 
-  own_stop : (m : Rows) → Gives m (answers_of left.kept) → All (IsSound outputs) links → (r : Result Learned LearnStop) → LeavesStop (learn_stop r) left.stop → IsStopCause (oracle_of left) (learn_stop r) → IfErr r IsOwnStop
+  own_stop : (m : Rows) → Gives m (answers_of left.kept) → All (IsSound outputs) links → (r : Result Learned LearnStop) → LeavesStop (learn_stop r) left.stop → IsStopCause (oracle_of pool) (oracle_of left) (learn_stop r) → IfErr r IsOwnStop
   own_stop m gives sound (Ok l) told cause = tt
   own_stop m gives sound (Err (learn.Ask (ask.Sul i s))) told cause =
       let why = stopped_there i s (subst (IsStopOf (seen_of left) left.kept) told ended.learned.stands.why) in
       absurd (sound_goes_on outputs (get_or links i no_link) s (sound i no_link why.0) (why.1 no_link))
-  own_stop m gives sound (Err (learn.Ask (ask.Clash c))) told cause = absurd (no_first_clash m (answers_of left.kept) c gives cause)
+  own_stop m gives sound (Err (learn.Ask (ask.Clash c))) told cause = absurd (no_first_clash m (answers_of left.kept) c gives (cause nothing))
   own_stop m gives sound (Err (learn.Ask ask.NoMemory)) told cause = refl
   own_stop m gives sound (Err (learn.Crowd ws)) told cause = tt
   own_stop m gives sound (Err (learn.TooLarge model n)) told cause = tt
@@ -418,18 +418,18 @@ module _ {L : Type 0} (kind : Kind) (state : L → LinkState) (words letters : L
   bad_line i (sul.BadLine line) link lt uncounted why = lt
   bad_line i sul.Gone link lt uncounted why = absurd (uncounted.ends why.0)
 
-  own_or_bad : (m : Rows) → Gives m (answers_of left.kept) → All IsUncounted links → (r : Result Learned LearnStop) → LeavesStop (learn_stop r) left.stop → IsStopCause (oracle_of left) (learn_stop r) → IfErr r IsOwnStop ⊎ SaysBadLine workers r
+  own_or_bad : (m : Rows) → Gives m (answers_of left.kept) → All IsUncounted links → (r : Result Learned LearnStop) → LeavesStop (learn_stop r) left.stop → IsStopCause (oracle_of pool) (oracle_of left) (learn_stop r) → IfErr r IsOwnStop ⊎ SaysBadLine workers r
   own_or_bad m gives uncounted (Ok l) told cause = inl tt
   own_or_bad m gives uncounted (Err (learn.Ask (ask.Sul i s))) told cause =
       let why = stopped_there i s (subst (IsStopOf (seen_of left) left.kept) told ended.learned.stands.why) in
       inr (bad_line i s (get_or links i no_link) (omega (arith, why.0, all_links)) (uncounted i no_link why.0) (why.1 no_link))
-  own_or_bad m gives uncounted (Err (learn.Ask (ask.Clash c))) told cause = absurd (no_first_clash m (answers_of left.kept) c gives cause)
+  own_or_bad m gives uncounted (Err (learn.Ask (ask.Clash c))) told cause = absurd (no_first_clash m (answers_of left.kept) c gives (cause nothing))
   own_or_bad m gives uncounted (Err (learn.Ask ask.NoMemory)) told cause = inl refl
   own_or_bad m gives uncounted (Err (learn.Crowd ws)) told cause = inl tt
   own_or_bad m gives uncounted (Err (learn.TooLarge model n)) told cause = inl tt
 
-  cause_is : IsStopCause (oracle_of left) (learn_stop learned)
-  cause_is = ended.learned.leaves.cause may nothing
+  cause_is : IsStopCause (oracle_of pool) (oracle_of left) (learn_stop learned)
+  cause_is = ended.learned.leaves.cause may
 
   words_are : AreAnswers (length letters) (answers_of left.kept)
   words_are = subst (λ (n : ℕ). AreAnswers n (answers_of left.kept)) (ended.learned.leaves.same.inputs ∙ inputs_is) (All-map (IsAnswer left.inputs) answer_of left.kept ended.learned.stands.keeps.answers)

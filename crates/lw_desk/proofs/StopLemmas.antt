@@ -9,7 +9,7 @@ use Rattle.lw_words.specs.declared.stop.SulStop.TheVariants.{Failed as SulFailed
 use Rattle.lw_words.specs.declared.stop.RunStop.{RunStop}
 use Rattle.lw_words.specs.declared.stop.RunStop.TheVariants as Run
 use Rattle.lw_cache.specs.Clash.{IsClear, IsClearAfter}
-use Rattle.lw_cache.specs.FirstClash.{AreClear, CameFirst, ClashesFirst, IsNewClash}
+use Rattle.lw_cache.specs.FirstClash.{AreClear, ClashedWhenKept, ClashesFirst, IsNewClash}
 use Rattle.lw_cache.specs.declared.stops.Clash.{Clash}
 use Rattle.lw_cache.specs.declared.stops.AskStop.{AskStop}
 use Rattle.lw_cache.specs.declared.stops.AskStop.TheVariants as Stop
@@ -128,13 +128,13 @@ module _ (o : DeskOpening) where
   answer_stays : (kept : List KeptAnswer) (k : KeptAnswer) (n : ℕ) → n < length kept → answer_at (answers_of (kept ++ k ∷ [])) n ≡ answer_at (answers_of kept) n
   answer_stays kept k n lt = ap (λ (ks : List Answer). answer_at ks n) (map_push answer_of kept k) ∙ at_kept (answers_of kept) (answer_of k) n (omega (arith, lt, length-map kept answer_of))
 
-  came_before : (kept : List KeptAnswer) (k : KeptAnswer) (c : Clash) → CameFirst kept c → CameFirst (kept ++ k ∷ []) c
+  came_before : (kept : List KeptAnswer) (k : KeptAnswer) (c : Clash) → ClashedWhenKept kept c → ClashedWhenKept (kept ++ k ∷ []) c
   came_before kept k c was = record {
     within = omega (arith, was.within, length_push kept k);
     came = subst₂ (λ (ks : List KeptAnswer) (a : Answer). ClashesFirst (answers_of ks) a c) (sym (front_stays kept k c.second (omega (arith, was.within)))) (sym (answer_stays kept k c.second was.within)) was.came;
   }
 
-  came_now : (kept : List KeptAnswer) (k : KeptAnswer) (c : Clash) → ClashesFirst (answers_of kept) (answer_of k) c → CameFirst (kept ++ k ∷ []) c
+  came_now : (kept : List KeptAnswer) (k : KeptAnswer) (c : Clash) → ClashesFirst (answers_of kept) (answer_of k) c → ClashedWhenKept (kept ++ k ∷ []) c
   came_now kept k c first =
       let here : c.second ≡ length kept = first.second ∙ length-map kept answer_of in
       let last : answer_at (answers_of (kept ++ k ∷ [])) c.second ≡ answer_of k = ap₂ answer_at (map_push answer_of kept k) first.second ∙ at_last (answers_of kept) (answer_of k) in

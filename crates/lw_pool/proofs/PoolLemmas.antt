@@ -1,14 +1,15 @@
 -- A pool before a batch and after it.
-use Rattle.std.proofs.Common.{◌≡◌, ◌⊎◌, inl, inr, ⊎_elim, ℕ, ◌<◌, ◌≤◌, ◌||◌, List, [], ◌∷◌, ◌++◌, length, map, All, Bool, true, false, Option, Some, None, is_some, Result, Ok, Err, OnOk, IfErr, slice_index_or, option_and_then, take, drop, refl, ap, sym, ◌∙◌, subst, subst₂, arith, append-nil}
+use Rattle.std.proofs.Common.{◌≡◌, ◌⊎◌, inl, inr, ⊎_elim, ℕ, zero, suc, ◌<◌, ◌≤◌, ◌||◌, List, [], ◌∷◌, ◌++◌, length, map, All, Bool, true, false, Option, Some, None, is_some, Result, Ok, Err, OnOk, IfErr, slice_index_or, option_and_then, take, drop, refl, ap, sym, ◌∙◌, subst, subst₂, arith, append-nil}
 use Rattle.std.specs.Bool.{⊤}
 use Rattle.std.proofs.lemmas.Bool.{true≢false, false≢true}
 use Rattle.lw_words.specs.Word.{answer_of, answers_of, IsWhole, IsWord}
 use Rattle.lw_words.specs.Name.{AllDiffer}
 use Rattle.lw_words.specs.declared.kept.KeptAnswer.{KeptAnswer}
+use Rattle.lw_words.specs.declared.stop.SulStop.{SulStop}
 use Rattle.lw_cache.specs.Clash.{NothingClashes}
 use Rattle.lw_cache.specs.FirstClash.{IsNewClash}
 use Rattle.lw_cache.specs.Known.{IsKnown}
-use Rattle.lw_cache.specs.Settling.{GainsExactly, TellsStop, Settles, IsSettleCause, MayAsk, refused_after, IsOf, told_machine}
+use Rattle.lw_cache.specs.Settling.{GainsExactly, TellsStop, Settles, IsSettleCause, MayAsk, StopsStay, refused_after, IsOf, told_machine}
 use Rattle.lw_cache.specs.declared.stops.AskStop.{AskStop}
 use Rattle.lw_cache.specs.declared.stops.AskStop.TheVariants.{Sul, Clash, NoMemory}
 use Rattle.lw_names.specs.Names.{IsGrown}
@@ -402,6 +403,32 @@ same_declared before now kind same = by before.brought refl now.brought refl
     by (Some x) e None f = absurd (false≢true (ap is_some (sym f) ∙ (kind ∙ ap is_some e)))
     by (Some x) e (Some y) f = refl
 
+-- why a session stopped, by its number, also past the last one
+stop_at : (seen : List Seen) (i : ℕ) → slice_index_or (map (λ (s : Seen). s.stop) seen) i None ≡ (seen_at seen i).stop
+stop_at [] i = refl
+stop_at (s ∷ ss) zero = refl
+stop_at (s ∷ ss) (suc i) = stop_at ss i
+
+stopped_is_within : (seen : List Seen) (i : ℕ) (stop : SulStop) → (seen_at seen i).stop ≡ Some stop → i < length seen
+stopped_is_within [] i stop is = absurd (false≢true (ap is_some is))
+stopped_is_within (s ∷ ss) zero stop is = omega arith
+stopped_is_within (s ∷ ss) (suc i) stop is = let lt = stopped_is_within ss i stop is in omega arith
+
+none_past : (seen : List Seen) → ((i : ℕ) → i < length seen → (seen_at seen i).stop ≡ None) → (i : ℕ) → (seen_at seen i).stop ≡ None
+none_past [] none i = refl
+none_past (s ∷ ss) none zero = none 0 (omega arith)
+none_past (s ∷ ss) none (suc i) = none_past ss (λ j lt. none (suc j) (omega (arith, lt))) i
+
+stops_settled : {S : Type 0} (batch : List (List ℕ)) (before now : PoolState S) (result : Result ⊤ AskStop) → HasSettled batch before now result → StopsStay (oracle_of before) (oracle_of now)
+stops_settled batch before now result h = record {
+  count = length-map (seen_of now) (λ (s : Seen). s.stop) ∙ (h.sessions ∙ sym (length-map (seen_of before) (λ (s : Seen). s.stop)));
+  stay = λ i stop is.
+      let was : (seen_at (seen_of before) i).stop ≡ Some stop = sym (stop_at (seen_of before) i) ∙ is in
+      let same : seen_at (seen_of now) i ≡ seen_at (seen_of before) i = (h.went_on i (stopped_is_within (seen_of before) i stop was)).stopped stop was in
+      stop_at (seen_of now) i ∙ (ap (λ (s : Seen). s.stop) same ∙ was);
+  unrefused = λ was is none i. stop_at (seen_of now) i ∙ none_past (seen_of now) (h.stands.unrefused is).1 i;
+}
+
 -- what settles a pool settles the oracle that it is
 pub oracle_settled : {S : Type 0} (batch : List (List ℕ)) (before now : PoolState S) (result : Result ⊤ AskStop) → HasSettled batch before now result → Settles batch (oracle_of before) (oracle_of now) result
 oracle_settled batch before now result h = record {
@@ -414,6 +441,7 @@ oracle_settled batch before now result h = record {
   stop = h.stop;
   cause = λ may. cause result h.stop (h.clash may);
   refused = h.refused;
+  stops = stops_settled batch before now result h;
   same = record { inputs = h.inputs; outputs = h.outputs; names = same_declared before.naming now.naming h.kind h.declared; origins = h.origins; exact = refl };
 }
   where

@@ -8,7 +8,7 @@ use Rattle.lw_mealy.specs.Origin.{Origin}
 use Rattle.lw_names.specs.Names.{named, IsGrown}
 use Rattle.lw_sul.specs.SessionState.{SessionState}
 use Rattle.lw_sul.specs.declared.runs.Run.{Run}
-use Rattle.lw_cache.specs.FirstClash.{CameFirst}
+use Rattle.lw_cache.specs.FirstClash.{ClashedWhenKept}
 use Rattle.lw_cache.specs.Known.{IsKnown}
 use Rattle.lw_cache.specs.declared.stops.AskStop.{AskStop}
 use Rattle.lw_cache.specs.declared.stops.AskStop.TheVariants as Ask
@@ -93,7 +93,7 @@ AskedOnce prior kept = (i : ℕ) (d : KeptAnswer) → length prior ≤ i → i <
 abbrev pub IsStopOf : List Seen → List KeptAnswer → Option AskStop → Type 0
 IsStopOf seen kept None = Unit {0}
 IsStopOf seen kept (Some (Ask.Sul i stop)) = (i < length seen) × ((seen_at seen i).stop ≡ Some stop)
-IsStopOf seen kept (Some (Ask.Clash c)) = CameFirst kept c
+IsStopOf seen kept (Some (Ask.Clash c)) = ClashedWhenKept kept c
 IsStopOf seen kept (Some Ask.NoMemory) = Unit {0}
 
 abbrev pub origins_of : List Seen → List Origin

@@ -36,11 +36,11 @@ no_first_clash m ks c gives is =
     (c.place, subst (λ (k : Answer). ClashAt k (answer_at ks c.second) c.place) (get_or-take c.second ks c.first none before) is.here.here)
 
 -- where no system stops, a stop is out of memory or the first clash
-module _ {S : Type 0} (now : PoolState S) (never : (i : ℕ) → (seen_at (seen_of now) i).stop ≡ None) where
-  learn_caused : (r : Result Learned LearnStop) → IsStopOf (seen_of now) now.kept now.stop → LeavesStop (learn_stop r) now.stop → IsStopCause (oracle_of now) (learn_stop r) → IfErr r (IsMachineStop now.kept)
+module _ {S : Type 0} (before now : PoolState S) (nothing : NothingClashes (answers_of before.kept)) (never : (i : ℕ) → (seen_at (seen_of now) i).stop ≡ None) where
+  learn_caused : (r : Result Learned LearnStop) → IsStopOf (seen_of now) now.kept now.stop → LeavesStop (learn_stop r) now.stop → IsStopCause (oracle_of before) (oracle_of now) (learn_stop r) → IfErr r (IsMachineStop now.kept)
   learn_caused (Ok l) why left cause = tt
   learn_caused (Err (learn.Ask (ask.Sul i s))) why left cause = let stopped = subst (IsStopOf (seen_of now) now.kept) left why in absurd (false≢true (ap is_some (sym (never i) ∙ stopped.1)))
-  learn_caused (Err (learn.Ask (ask.Clash c))) why left cause = cause
+  learn_caused (Err (learn.Ask (ask.Clash c))) why left cause = cause nothing
   learn_caused (Err (learn.Ask ask.NoMemory)) why left cause = tt
   learn_caused (Err (learn.Crowd words)) why left cause = tt
   learn_caused (Err (learn.TooLarge model number)) why left cause = tt
@@ -93,8 +93,9 @@ has_ended kind t workers k most names prior before now learned kept least none l
     let runs : KeepsRuns t workers prior now.kept = keeps_runs t workers names prior before now (learn_stop learned) is left in
     let ok_of = subst₂ (λ (a b : ℕ). IfOk learned (λ l. IsLearned kind a b k most (answers_of now.kept) l.model l.learner)) is.inputs is.outputs ok in
     let stops_of = subst₂ (λ (a b : ℕ). IfErr learned (StopsAs a b k most (answers_of now.kept))) is.inputs is.outputs stops in
-    let cause = left.leaves.cause (subst MayAsk (sym is.stop) tt) (subst (λ (ks : List KeptAnswer). NothingClashes (answers_of ks)) (sym is.kept) nothing) in
-    let caused_of = learn_caused now never learned left.stands.why left.leaves.told cause in
+    let cause = left.leaves.cause (subst MayAsk (sym is.stop) tt) in
+    let clear = subst (λ (ks : List KeptAnswer). NothingClashes (answers_of ks)) (sym is.kept) nothing in
+    let caused_of = learn_caused before now clear never learned left.stands.why left.leaves.told cause in
     subst (HasEnded kind t workers k most prior learned) (sym same) (record {
       ok = ok_of;
       stops = stops_of;

@@ -21,6 +21,7 @@ returns-in-Ok-clause-settles c =
       stop = refl;
       cause = λ may. tt;
       refused = refl;
+      stops = record { count = refl; stay = λ i stop is. is; unrefused = λ was is none. none };
       same = record { inputs = refl; outputs = refl; names = refl; origins = refl; exact = refl };
     })
 
@@ -39,5 +40,6 @@ returns-in-Err-clause-settles c =
       stop = ap Some c.copy.ensures;
       cause = λ may. short_cause (state_of (the_view c.self.inside)) (state_of (record (the_view c.self.inside) { kept = c.record_and_answer.new.cache.kept; stop = Some c.copy.result; refused = true })) c.in-Err.stop c.in-Err.ensures.short;
       refused = refl;
+      stops = record { count = refl; stay = λ i stop is. is; unrefused = λ was is none. none };
       same = record { inputs = refl; outputs = refl; names = refl; origins = refl; exact = refl };
     })
