@@ -1,5 +1,6 @@
 mod AboveLemmas
 mod ArrivalLemmas
+pub mod AskedLemmas
 mod LevelLemmas
 mod ListedLemmas
 pub mod BranchLemmas

@@ -4,7 +4,7 @@ use Rattle.std.specs.List.{All}
 use Rattle.std.proofs.Math.Seq.{get_or-append_seam}
 use Rattle.std.proofs.lemmas.Bool.{cases_lt}
 use Rattle.std.proofs.lemmas.List.{length-append}
-use Rattle.std.proofs.lemmas.List.Elements.{All-push, Contains-append_left}
+use Rattle.std.proofs.lemmas.List.Elements.{All-push, All-contains, Contains-append_left}
 use Rattle.lw_words.specs.Word.{IsWord}
 use Rattle.lw_tree.specs.Tree.{TreeState, IsInner, discriminator, is_open, node_at, place_at}
 use Rattle.lw_tree.specs.bodies.Transitions.{IsTransition, IsAsked, AreAsked, word_of, content_by}
@@ -63,3 +63,9 @@ asked_past P t to upto asked closed other from ge lt stands =
     (λ (below : other.state * t.inputs + other.letter < to). asked other from ge below stands)
     (λ (above : to ≤ other.state * t.inputs + other.letter). absurd (true≢false (sym stands ∙ closed (other.state * t.inputs + other.letter) above lt)))
     (cases_lt (other.state * t.inputs + other.letter) to)
+
+-- where all words are known, so are those that transitions are asked by
+pub asked_by_all : (P : List ℕ → Type 0) (t : TreeState) (from to : ℕ) (words : List (List ℕ)) → All P words → AreAsked (Contains words) t from to → AreAsked P t from to
+asked_by_all P t from to words all asked edge is ge lt stands =
+    let r = asked edge is ge lt stands in
+    (All-contains P words (word_of t edge) all r.0, All-contains P words (word_of t edge ++ discriminator (content_by t edge)) all r.1)

@@ -1,12 +1,12 @@
 -- What a call that asks leaves of a tree.
-use Rattle.std.specs.Prelude.{◌≡◌, ◌≢◌, ◌⊎◌, ℕ, ◌+◌, ◌<◌, List, [], ◌∷◌, ◌++◌, length, Bool, true, false, Some, Result, Err, OnOk, OnErr, IfOk, ⊤}
+use Rattle.std.specs.Prelude.{◌≡◌, ◌≢◌, ◌⊎◌, ℕ, ◌+◌, ◌<◌, List, [], ◌∷◌, ◌++◌, length, Bool, true, false, Some, Result, Err, OnOk, OnErr, IfOk, Contains, ⊤}
 use Rattle.lw_words.specs.Word.{Answer}
 use Rattle.lw_cache.specs.Crowd.{IsCrowd}
 use Rattle.lw_cache.specs.Cut.{word_at}
 use Rattle.lw_cache.specs.declared.cut.Cut.{Cut}
 use Rattle.lw_cache.specs.declared.stops.GrowStop.{GrowStop}
 use Rattle.lw_cache.specs.declared.stops.GrowStop.TheVariants.{Crowd}
-use Rattle.lw_tree.specs.Tree.{TreeState, discriminators, final_discriminators, temporaries, is_open, node_at, place_at, IsLive, IsAbove, IsTree, BranchesAreRead, IsClosed, HasOpen}
+use Rattle.lw_tree.specs.Tree.{TreeState, discriminator, discriminators, final_discriminators, temporaries, is_open, node_at, place_at, place_of, IsLive, IsAbove, IsTree, BranchesAreRead, IsClosed, HasOpen}
 use Rattle.lw_tree.specs.declared.nodes.Content.TheVariants.{Discriminator}
 
 -- the same numbers, more access words at the end, and a tree whose branches are what the answers say
@@ -46,6 +46,27 @@ pub record KeepsTree (before now : TreeState) : Type 0 where
   pub finals : final_discriminators now.nodes ≡ final_discriminators before.nodes
   pub temporary : temporaries now.nodes ≡ temporaries before.nodes
   pub refinements : now.refinements ≡ before.refinements
+
+-- a word by which a level is asked: that of a transition that has no target, or that followed by the discriminator where it stands
+pub record IsLevelWord (t : TreeState) (word : List ℕ) : Type 0 where
+  pub state : ℕ
+  pub letter : ℕ
+  pub suffix : List ℕ
+  pub from : state < length t.access
+  pub small : letter < t.inputs
+  pub stands : is_open (node_at t.nodes) (place_of t.inputs t.places state letter) ≡ true
+  pub told : (suffix ≡ []) ⊎ (suffix ≡ discriminator (node_at t.nodes (place_of t.inputs t.places state letter).node).content)
+  pub word_is : word ≡ word_at t.access state ++ letter ∷ suffix
+
+-- a word by which a tree is sifted: an access word and a letter, or these followed by a discriminator
+pub record IsSifted (t : TreeState) (word : List ℕ) : Type 0 where
+  pub state : ℕ
+  pub letter : ℕ
+  pub suffix : List ℕ
+  pub from : state < length t.access
+  pub small : letter < t.inputs
+  pub told : (suffix ≡ []) ⊎ Contains (discriminators t.nodes) suffix
+  pub word_is : word ≡ word_at t.access state ++ letter ∷ suffix
 
 -- the words are as many as there may be states, and one more; they are the access words and one of them with a letter more; and
 -- any two are apart

@@ -3,8 +3,8 @@ ghost use Rattle.std.specs.Prelude.{◌≡◌, ℕ, ◌+◌, ◌*◌, ◌^◌, �
 ghost use Rattle.std.specs.List.{All};
 ghost use Rattle.lw_words.specs.Word.{Answer, AreAnswers, answers_of, IsWord};
 ghost use Rattle.lw_cache.specs.Known.{IsKnown};
-ghost use Rattle.lw_cache.specs.Settling.{Keeps, MayAsk, Leaves, grown_stop};
-ghost use Rattle.lw_tree.specs.Grown.{HasGrown, KeepsTree, AllStepOnce, HasLevelled, HasClosed, TellsCrowd, HasMoved, MovesOn};
+ghost use Rattle.lw_cache.specs.Settling.{GainsOnly, Keeps, MayAsk, Leaves, grown_stop};
+ghost use Rattle.lw_tree.specs.Grown.{HasGrown, IsLevelWord, IsSifted, KeepsTree, AllStepOnce, HasLevelled, HasClosed, TellsCrowd, HasMoved, MovesOn};
 ghost use Rattle.lw_cache.specs.declared.stops.GrowStop.TheVariants.{Crowd};
 ghost use Rattle.lw_tree.specs.Tree.{IsTree, BranchesAreRead, HasOpen, IsClosed, IsInner, IsLive, discriminator, is_open, node_at, place_at};
 ghost use Rattle.lw_tree.specs.bodies.Arrivals.{AreOpen};
@@ -73,6 +73,8 @@ impl DiscriminationTree {
         ensures asked { OnOk result (IsAsked (Contains words.new) self.now edge) }
         ensures letters { All (IsWord self.now.inputs) words.old →
             All (IsWord self.now.inputs) words.new }
+        ensures level { OnOk result (is_open_by self.now edge ≡ true →
+            All (IsLevelWord self.now) words.old → All (IsLevelWord self.now) words.new) }
     {
         let word = self.extension(edge)?;
         if let Content::Discriminator { word: suffix, .. } = self.content_of(edge) {
@@ -91,6 +93,7 @@ impl DiscriminationTree {
         ensures asked { IfOk result (λ words. AreAsked (Contains words) self.now 0
             (length self.now.places)) }
         ensures letters { IfOk result (All (IsWord self.now.inputs)) }
+        ensures level { IfOk result (All (IsLevelWord self.now)) }
         ensures small { IfOk result (λ words. length words < 2 ^ 32) }
     {
         let mut words = Words::new(self.alloc);
@@ -212,6 +215,8 @@ impl DiscriminationTree {
         requires read { BranchesAreRead (answers_of (O.state oracle.old).kept) self.old }
         ensures levels { HasLevelled (answers_of (O.state oracle.new).kept) self.old self.new
             result }
+        ensures asks { GainsOnly (IsLevelWord self.old) (O.state oracle.old).kept
+            (O.state oracle.new).kept }
         ensures leaves { Leaves (O.state oracle.old) (O.state oracle.new) (grown_stop result) }
         ensures can { O.can_settle oracle.new }
     {
@@ -239,6 +244,8 @@ impl DiscriminationTree {
         requires read { BranchesAreRead (answers_of (O.state oracle.old).kept) self.old }
         ensures levels { HasLevelled (answers_of (O.state oracle.new).kept) self.old self.new
             result }
+        ensures asks { GainsOnly (IsLevelWord self.old) (O.state oracle.old).kept
+            (O.state oracle.new).kept }
         ensures leaves { Leaves (O.state oracle.old) (O.state oracle.new) (grown_stop result) }
         ensures can { O.can_settle oracle.new }
     {
@@ -258,6 +265,8 @@ impl DiscriminationTree {
         requires outputs { self.old.outputs ≡ (O.state oracle.old).outputs }
         requires read { BranchesAreRead (answers_of (O.state oracle.old).kept) self.old }
         ensures closes { HasClosed (answers_of (O.state oracle.new).kept) self.old self.new result }
+        ensures asks { GainsOnly (IsSifted self.new) (O.state oracle.old).kept
+            (O.state oracle.new).kept }
         ensures unasked { IsClosed self.old → O.state oracle.new ≡ O.state oracle.old }
         ensures leaves { Leaves (O.state oracle.old) (O.state oracle.new) (grown_stop result) }
         ensures can { O.can_settle oracle.new }

@@ -3,8 +3,8 @@ ghost use Rattle.std.specs.Prelude.{◌≡◌, ◌≢◌, ℕ, ◌+◌, ◌<◌,
 ghost use Rattle.lw_words.specs.Word.{AreAnswers, answers_of};
 ghost use Rattle.lw_mealy.specs.Machine.{Rows};
 ghost use Rattle.lw_cache.specs.Cut.{IsCut};
-ghost use Rattle.lw_cache.specs.Settling.{MayAsk, Leaves, grown_stop};
-ghost use Rattle.lw_tree.specs.Grown.{cut_word, HasGrown, IsSplit, HasSplit, TellsCrowd};
+ghost use Rattle.lw_cache.specs.Settling.{GainsOnly, MayAsk, Leaves, grown_stop};
+ghost use Rattle.lw_tree.specs.Grown.{cut_word, HasGrown, IsSplit, HasSplit, IsSifted, TellsCrowd};
 ghost use Rattle.lw_tree.specs.Tree.{leaf_at, IsTree, BranchesAreRead, IsClosed, IsMachineOf};
 ghost use Rattle.lw_tree.specs.bodies.Cuts.{edge_of, CanSplit};
 ghost use Rattle.lw_tree.specs.bodies.Steps.{refined_once, IsOwn};
@@ -86,6 +86,8 @@ impl DiscriminationTree {
         ensures splits { HasSplit (answers_of (O.state oracle.new).kept)
             (cut_word self.old.access cut.now) cut.now.suffix
             (leaf_at self.old.leaves cut.now.target) self.old self.new result }
+        ensures asks { GainsOnly (IsSifted self.new) (O.state oracle.old).kept
+            (O.state oracle.new).kept }
         ensures leaves { Leaves (O.state oracle.old) (O.state oracle.new) (grown_stop result) }
         ensures can { O.can_settle oracle.new }
     {

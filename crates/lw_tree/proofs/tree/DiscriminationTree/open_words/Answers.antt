@@ -1,5 +1,8 @@
-use Rattle.std.proofs.Common.{rules, ◌≡◌, ◌+◌, ◌*◌, ◌<◌, ◌≤◌, ℕ, length, get_or, Contains, sym, ◌∙◌, subst}
-use Rattle.lw_tree.specs.Tree.{TreeState, IsTree}
+use Rattle.std.proofs.Common.{rules, ◌≡◌, ◌+◌, ◌*◌, ◌<◌, ◌≤◌, ℕ, true, length, get_or, Contains, sym, ◌∙◌, subst}
+use Rattle.std.specs.List.{All}
+use Rattle.std.proofs.lemmas.List.Elements.{All-nil}
+use Rattle.lw_tree.specs.Grown.{IsLevelWord}
+use Rattle.lw_tree.specs.Tree.{TreeState, IsTree, is_open, node_at, place_at}
 use Rattle.lw_tree.specs.bodies.Transitions.{IsTransition, AreAsked}
 use Rattle.lw_tree.proofs.LevelLemmas.{number_from, number_at, number_past, asked_first, asked_next, few_numbers, edge_from}
 use Rattle.lw_tree.proofs.ListingLemmas.{asked_more}
@@ -10,6 +13,7 @@ loop-number-init c =
     record {
       asked = asked_first c.args.self.now c.args.numbers.now c.requires.numbers (Contains c.new-words.result);
       letters = search rules;
+      level = subst (All (IsLevelWord c.args.self.now)) (sym (c.new-words.ensures)) (All-nil (IsLevelWord c.args.self.now));
     }
 
 pub with_number-edge-requires : goal.with_number-edge-requires
@@ -42,6 +46,7 @@ loop-number-preserved c =
       asked = asked_next u numbers o (Contains c.add_words.new.words) i inside
           (asked_more u l.words c.add_words.new.words (number_from u numbers i) edge c.in_ok-add_words.ensures.more l.invariant.asked (number_at u numbers o i inside ∙ number) from c.in_ok-add_words.ensures.asked);
       letters = c.in_ok-add_words.ensures.letters l.invariant.letters;
+      level = c.in_ok-add_words.ensures.level (subst (λ (k : ℕ). is_open (node_at u.nodes) (place_at u.places k) ≡ true) number (o.stands i inside)) l.invariant.level;
     }
 
 pub returns-clause-asked : goal.returns-clause-asked

@@ -1,14 +1,17 @@
-use Rattle.std.proofs.Common.{rules, List, Option, Err, sym, ◌∙◌, ap, subst}
+use Rattle.std.proofs.Common.{rules, ℕ, List, length, Option, Err, sym, ◌∙◌, ap, subst}
 use Rattle.std.specs.List.{All}
 use Rattle.std.specs.Bool.{⊤}
 use Rattle.lw_words.specs.Word.{AreAnswers, answers_of, IsWord}
 use Rattle.lw_words.specs.declared.kept.KeptAnswer.{KeptAnswer}
+use Rattle.lw_cache.specs.Known.{IsKnown}
 use Rattle.lw_cache.specs.Settling.{asked_stop, Leaves}
 use Rattle.lw_cache.specs.declared.stops.AskStop.{AskStop}
-use Rattle.lw_tree.specs.Grown.{HasGrown, TellsCrowd}
+use Rattle.lw_tree.specs.Grown.{HasGrown, IsLevelWord, TellsCrowd}
 use Rattle.lw_cache.specs.declared.stops.AskStop.TheVariants.{NoMemory}
-use Rattle.lw_cache.proofs.SettlingLemmas.{leaves_nothing, leaves_settled, leaves_grown_handed, leaves_grown_own}
+use Rattle.lw_cache.proofs.SettlingLemmas.{leaves_nothing, leaves_settled, leaves_grown_handed, leaves_grown_own, gains_none, gains_of_batch}
 use Rattle.lw_tree.specs.Tree.{TreeState, BranchesAreRead}
+use Rattle.lw_tree.specs.bodies.Transitions.{AreAsked}
+use Rattle.lw_tree.proofs.ListingLemmas.{asked_by_all}
 use Rattle.lw_tree.proofs.BranchLemmas.{branches_more}
 use Rattle.lw_tree.proofs.CloseLemmas.{stopped_level, not_levelled}
 use Rattle.lw_tree.proofs.StepLemmas.{kept_words, leaves_after}
@@ -63,6 +66,15 @@ advance_all-requires-clause-read g c =
     let settles = c.in_ok-settle.ensures.settles in
     subst (λ (k : List KeptAnswer). BranchesAreRead (answers_of k) c.args.self.now) (sym c.cache.ensures.kept) (branches_more o.kept settles.gains.gained n.kept c.args.self.now settles.gains.at_end c.requires.read)
 
+pub advance_all-requires-clause-known : goal.advance_all-requires-clause-known
+advance_all-requires-clause-known g c =
+    let u : TreeState = c.args.self.now in
+    let n = g.O.Oracle.state c.settle.new.self in
+    let batch : List (List ℕ) = c.in_ok-batch.batch in
+    let known : All (IsKnown (answers_of n.kept)) batch = subst (All (IsKnown (answers_of n.kept))) c.as_slice.ensures c.in_ok-settle.ensures.settles.known in
+    subst (λ (k : List KeptAnswer). AreAsked (IsKnown (answers_of k)) u 0 (length u.places)) (sym c.cache.ensures.kept)
+    (asked_by_all (IsKnown (answers_of n.kept)) u 0 (length u.places) batch known c.in_ok-batch.ensures.asked)
+
 pub returns-in_err-advance_all-clause-levels : goal.returns-in_err-advance_all-clause-levels
 returns-in_err-advance_all-clause-levels g c =
     let n = g.O.Oracle.state c.settle.new.self in
@@ -92,3 +104,24 @@ returns-clause-leaves g c =
     let o = g.O.Oracle.state c.args.oracle.now in
     let n = g.O.Oracle.state c.settle.new.self in
     subst (λ (stop : Option AskStop). Leaves o n stop) (ap asked_stop c.in_ok-settle.was) (leaves_settled c.as_slice.result.now o n c.settle.result c.settle.ensures.settles)
+
+pub returns-in_err-numbers-clause-asks : goal.returns-in_err-numbers-clause-asks
+returns-in_err-numbers-clause-asks g c = gains_none (IsLevelWord c.args.self.now) (g.O.Oracle.state c.args.oracle.now).kept
+
+pub returns-in_err-batch-clause-asks : goal.returns-in_err-batch-clause-asks
+returns-in_err-batch-clause-asks g c = gains_none (IsLevelWord c.args.self.now) (g.O.Oracle.state c.args.oracle.now).kept
+
+pub returns-in_err-settle-clause-asks : goal.returns-in_err-settle-clause-asks
+returns-in_err-settle-clause-asks g c =
+    gains_of_batch (IsLevelWord c.args.self.now) c.as_slice.result.now (g.O.Oracle.state c.args.oracle.now).kept (g.O.Oracle.state c.settle.new.self).kept
+    (subst (All (IsLevelWord c.args.self.now)) (sym c.as_slice.ensures) c.in_ok-batch.ensures.level) c.settle.ensures.settles.gains
+
+pub returns-in_err-advance_all-clause-asks : goal.returns-in_err-advance_all-clause-asks
+returns-in_err-advance_all-clause-asks g c =
+    gains_of_batch (IsLevelWord c.args.self.now) c.as_slice.result.now (g.O.Oracle.state c.args.oracle.now).kept (g.O.Oracle.state c.settle.new.self).kept
+    (subst (All (IsLevelWord c.args.self.now)) (sym c.as_slice.ensures) c.in_ok-batch.ensures.level) c.settle.ensures.settles.gains
+
+pub returns-clause-asks : goal.returns-clause-asks
+returns-clause-asks g c =
+    gains_of_batch (IsLevelWord c.args.self.now) c.as_slice.result.now (g.O.Oracle.state c.args.oracle.now).kept (g.O.Oracle.state c.settle.new.self).kept
+    (subst (All (IsLevelWord c.args.self.now)) (sym c.as_slice.ensures) c.in_ok-batch.ensures.level) c.settle.ensures.settles.gains

@@ -2,9 +2,10 @@ use Rattle.std.proofs.Common.{rules, List, Err, sym, subst}
 use Rattle.std.specs.Bool.{⊤}
 use Rattle.lw_words.specs.Word.{AreAnswers, answers_of}
 use Rattle.lw_words.specs.declared.kept.KeptAnswer.{KeptAnswer}
-use Rattle.lw_cache.proofs.SettlingLemmas.{leaves_nothing}
-use Rattle.lw_tree.specs.Grown.{HasGrown, TellsCrowd, cut_word}
+use Rattle.lw_cache.proofs.SettlingLemmas.{leaves_nothing, gains_none}
+use Rattle.lw_tree.specs.Grown.{HasGrown, TellsCrowd, cut_word, IsSifted}
 use Rattle.lw_tree.specs.Tree.{TreeState, leaf_at}
+use Rattle.lw_tree.proofs.AskedLemmas.{gains_refined}
 use Rattle.lw_tree.proofs.CloseLemmas.{has_split, not_all_split, not_split, room_to_count}
 use Rattle.lw_tree.proofs.StepLemmas.{kept_words, leaves_after}
 use Rattle.lw_tree.proofs.tree.DiscriminationTree.split.Goals as goal
@@ -51,3 +52,12 @@ returns-clause-splits g c =
     let ks = answers_of (g.O.Oracle.state c.close.new.oracle).kept in
     let one = c.in_ok-split_leaf.ensures in
     has_split first ks (cut_word c.args.self.now.access c.args.cut.now) c.args.cut.now.suffix (leaf_at c.args.self.now.leaves c.args.cut.now.target) c.args.self.now c.split_leaf.new.self c.close.new.self c.count_refinement.new.self one.was one.grown one.split one.refinements c.in_ok-close.ensures.closes c.count_refinement.ensures.value c.count_refinement.ensures.tree
+
+pub returns-in_err-split_leaf-clause-asks : goal.returns-in_err-split_leaf-clause-asks
+returns-in_err-split_leaf-clause-asks g c = gains_none (IsSifted c.split_leaf.new.self) (g.O.Oracle.state c.args.oracle.now).kept
+
+pub returns-in_err-close-clause-asks : goal.returns-in_err-close-clause-asks
+returns-in_err-close-clause-asks g c = c.in_err-close.ensures.asks
+
+pub returns-clause-asks : goal.returns-clause-asks
+returns-clause-asks g c = gains_refined c.close.new.self c.count_refinement.new.self (g.O.Oracle.state c.args.oracle.now).kept (g.O.Oracle.state c.close.new.oracle).kept c.count_refinement.ensures.value c.in_ok-close.ensures.asks
