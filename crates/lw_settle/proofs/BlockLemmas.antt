@@ -5,7 +5,7 @@ use Rattle.std.proofs.Math.ListN.{get_or-append}
 use Rattle.std.proofs.Math.Seq.{get_or-append_seam}
 use Rattle.std.proofs.lemmas.Bool.{cases_lt, cases_eq}
 use Rattle.std.proofs.lemmas.List.{length-append, length-set, get_or-set_same, get_or-set_other, get_or_default}
-use Rattle.std.proofs.lemmas.List.Elements.{All-push, All-weaker, All-append, All-get_or, All-contains, All-from_all_within, AllWithin-none, AllWithin-more, Contains-push, Contains-append_left}
+use Rattle.std.proofs.lemmas.List.Elements.{All-push, All-weaker, All-append, All-get_or, All-contains, All-from_all_within, AllWithin-none, AllWithin-more, Contains-push, Contains-get_or, Contains-append_left}
 use Rattle.std.proofs.lemmas.Option.{get_or_from_slice_get}
 use Rattle.std.specs.Prelude.{slice_get}
 use Rattle.lw_words.specs.Word.{IsWord}
@@ -262,6 +262,7 @@ pub record AreWordsTo (t : TreeState) (states : List ℕ) (suffix : List ℕ) (n
   pub count : length words ≡ n
   pub letters : All (IsWord t.inputs) words
   pub asked : AllWithin (λ q. Contains words (word_at t.access q ++ suffix)) states 0 n
+  pub only : All (λ w. (q : ℕ) × Contains states q × (w ≡ word_at t.access q ++ suffix)) words
 
 pub words_more : (t : TreeState) (states suffix : List ℕ) (n : ℕ) (word : List ℕ) (words now : List (List ℕ)) → IsTree t → n < length states → get_or states n 0 < length t.access → IsWord t.inputs suffix → word ≡ word_at t.access (get_or states n 0) ++ suffix → now ≡ words ++ word ∷ [] → AreWordsTo t states suffix n words → AreWordsTo t states suffix (n + 1) now
 words_more t states suffix n word words now g lt within letters is grown were =
@@ -272,4 +273,5 @@ words_more t states suffix n word words now g lt within letters is grown were =
       asked = AllWithin-more (λ q. Contains (words ++ word ∷ []) (word_at t.access q ++ suffix)) states 0 n
           (λ k d low high. Contains-append_left words (word ∷ []) (word_at t.access (get_or states k d) ++ suffix) (were.asked k d low high))
           (λ d. subst (λ (q : ℕ). Contains (words ++ word ∷ []) (word_at t.access q ++ suffix)) (get_or_default states n 0 d lt) (subst (Contains (words ++ word ∷ [])) is (Contains-push words word)));
+      only = All-push (λ w. (q : ℕ) × Contains states q × (w ≡ word_at t.access q ++ suffix)) words word were.only (get_or states n 0, Contains-get_or states n 0 lt, is);
     })

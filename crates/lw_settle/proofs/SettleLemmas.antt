@@ -3,21 +3,25 @@ use Rattle.std.proofs.Common.{◌≡◌, ◌⊎◌, inl, inr, ⊎_elim, ℕ, ◌
 use Rattle.std.specs.Bool.{⊤}
 use Rattle.std.specs.List.{All}
 use Rattle.std.proofs.lemmas.Bool.{cases_lt}
-use Rattle.std.proofs.lemmas.List.Elements.{All-contains}
+use Rattle.std.proofs.lemmas.List.Elements.{All-contains, All-weaker}
 use Rattle.lw_words.specs.Word.{Answer}
+use Rattle.lw_words.specs.declared.kept.KeptAnswer.{KeptAnswer}
 use Rattle.lw_words.specs.declared.memory.NoMemory.{NoMemory}
 use Rattle.lw_mealy.specs.Machine.{Gives, Rows}
 use Rattle.lw_cache.specs.Cut.{word_at}
 use Rattle.lw_cache.specs.Known.{IsKnown}
+use Rattle.lw_cache.specs.Settling.{GainsAnswers, GainsOnly}
 use Rattle.lw_cache.specs.declared.stops.GrowStop.{GrowStop}
-use Rattle.lw_tree.specs.Blocks.{IsBlock, MayReplace, HasReplaced}
-use Rattle.lw_tree.specs.Grown.{HasGrown, KeepsTree, TellsCrowd, HasClosed}
-use Rattle.lw_tree.specs.Tree.{TreeState, temporaries, IsLive, IsTree, BranchesAreRead, IsClosed, IsMachineOf}
+use Rattle.lw_cache.proofs.SettlingLemmas.{gains_then, gains_of_batch}
+use Rattle.lw_tree.specs.Blocks.{IsBlock, IsMember, MayReplace, HasReplaced}
+use Rattle.lw_tree.specs.Grown.{HasGrown, IsSifted, KeepsTree, TellsCrowd, HasClosed}
+use Rattle.lw_tree.specs.Tree.{TreeState, discriminators, final_discriminators, temporaries, IsLive, IsTree, BranchesAreRead, IsClosed, IsMachineOf}
 use Rattle.lw_tree.specs.declared.nodes.Node.{Node}
+use Rattle.lw_tree.proofs.AskedLemmas.{final_is_told, final_stays, tail_sifted}
 use Rattle.lw_tree.proofs.CloseLemmas.{handed_stop, crowd_too, outside_then, inside_then, outputs_then}
 use Rattle.lw_tree.proofs.GrownLemmas.{not_grown, grown_then, places_longer}
 use Rattle.lw_settle.specs.Settling.{IsReplaced, HasSettledBlock}
-use Rattle.lw_settle.specs.bodies.Parting.{AreMembers, IsReplacement, AreWordsOf, NothingIsParted}
+use Rattle.lw_settle.specs.bodies.Parting.{AreMembers, IsChosen, IsReplacement, AreWordsOf, NothingIsParted}
 use Rattle.lw_settle.specs.declared.settling.Replacement.{Replacement}
 use Rattle.lw_settle.specs.declared.settling.Settled.{Settled}
 use Rattle.lw_settle.specs.declared.settling.Settled.TheVariants.{NoBlock, Replaced}
@@ -101,6 +105,34 @@ may_replace ks t replacement words read is are known =
           (All-contains (λ p. Contains words (word_at t.access p ++ replacement.word)) replacement.members.items q are.asked (is.members.each q member));
       told = is.chosen.told ks read;
     }
+
+-- the words of the members are those by which a tree is sifted that has each final discriminator still
+members_sifted : (ks : List Answer) (t now : TreeState) (r : ℕ) (members suffix : List ℕ) (words : List (List ℕ)) → HasGrown ks t now → ((s : List ℕ) → Contains (final_discriminators t.nodes) s → Contains (discriminators now.nodes) s) → AreMembers t r members → IsChosen t r suffix → AreWordsOf t members suffix words → All (IsSifted now) words
+members_sifted ks t now r members suffix words grown stays are chosen of =
+    All-weaker (λ (w : List ℕ). (q : ℕ) × Contains members q × (w ≡ word_at t.access q ++ suffix)) (IsSifted now)
+    (λ (w : List ℕ) (is : (q : ℕ) × Contains members q × (w ≡ word_at t.access q ++ suffix)).
+    let member = All-contains (IsMember t r) members is.0 are.all is.1 in
+    subst (IsSifted now) (sym is.2) (tail_sifted ks t now grown stays is.0 suffix member.0 chosen.letters chosen.tail))
+    words of.only
+
+-- what was asked before a node was replaced
+replaced_sifted : (ks : List Answer) (t now : TreeState) (replacement : Replacement) (words : List (List ℕ)) → HasGrown ks t now → IsReplaced t now → IsReplacement t replacement → AreWordsOf t replacement.members.items replacement.word words → All (IsSifted now) words
+replaced_sifted ks t now replacement words grown replaced is are = members_sifted ks t now replacement.root replacement.members.items replacement.word words grown (final_stays replaced.word t now replaced.final) is.members is.chosen are
+
+-- and where none was
+unreplaced_sifted : (ks : List Answer) (t : TreeState) (replacement : Replacement) (words : List (List ℕ)) → IsTree t → BranchesAreRead ks t → IsReplacement t replacement → AreWordsOf t replacement.members.items replacement.word words → All (IsSifted t) words
+unreplaced_sifted ks t replacement words g read is are = members_sifted ks t t replacement.root replacement.members.items replacement.word words (not_grown ks t g read) (final_is_told t.nodes) is.members is.chosen are
+
+-- what was asked where the tree is as before
+pub asked_before : (ks : List Answer) (t : TreeState) (replacement : Replacement) (words seen : List (List ℕ)) (a b : List KeptAnswer) → IsTree t → BranchesAreRead ks t → IsReplacement t replacement → AreWordsOf t replacement.members.items replacement.word words → seen ≡ words → GainsAnswers seen a b → GainsOnly (IsSifted t) a b
+asked_before ks t replacement words seen a b g read is are same gains = gains_of_batch (IsSifted t) seen a b (subst (All (IsSifted t)) (sym same) (unreplaced_sifted ks t replacement words g read is are)) gains
+
+-- and where a node was replaced, and the tree was to be closed
+pub asked_all : (first ks : List Answer) (t middle now : TreeState) (replacement : Replacement) (words seen : List (List ℕ)) (a b c : List KeptAnswer) → HasBlock first replacement.word replacement.root t middle → HasGrown ks middle now → KeepsTree middle now → IsReplacement t replacement → AreWordsOf t replacement.members.items replacement.word words → seen ≡ words → GainsAnswers seen a b
+    → GainsOnly (IsSifted now) b c → GainsOnly (IsSifted now) a c
+asked_all first ks t middle now replacement words seen a b c has grown keeps is are same gains more =
+    let sifted = replaced_sifted ks t now replacement words (grown_then first ks t middle now has.replaced.grown grown) (final_then first ks replacement.word replacement.root t middle now has grown keeps) is are in
+    gains_then (IsSifted now) a b c (gains_of_batch (IsSifted now) seen a b (subst (All (IsSifted now)) (sym same) sifted) gains) more
 
 -- the words are few
 pub few_words : (t : TreeState) (r : ℕ) (members suffix : List ℕ) (words : List (List ℕ)) → IsTree t → AreMembers t r members → AreWordsOf t members suffix words → length words < 2 ^ 32

@@ -2,10 +2,11 @@
 ghost use Rattle.std.specs.Prelude.{◌≡◌, IfOk, MatchOption};
 ghost use Rattle.lw_words.specs.Word.{answers_of};
 ghost use Rattle.lw_mealy.specs.Machine.{Gives, Rows};
-ghost use Rattle.lw_cache.specs.Settling.{MayAsk, Leaves, grown_stop};
+ghost use Rattle.lw_cache.specs.Settling.{GainsOnly, MayAsk, Leaves, grown_stop};
 ghost use Rattle.lw_settle.specs.Settling.{HasSettledBlock};
 ghost use Rattle.lw_settle.specs.bodies.Parting.{NothingIsParted, IsReplacement};
 ghost use Rattle.lw_settle.specs.declared.settling.Settled.TheVariants.{NoBlock};
+ghost use Rattle.lw_tree.specs.Grown.{IsSifted};
 ghost use Rattle.lw_tree.specs.Tree.{BranchesAreRead, IsClosed, IsMachineOf};
 
 use crate::classes::{class_roots, least_states, members_of};
@@ -80,6 +81,8 @@ pub fn settle_block<O: Oracle>(
         (answers_of (O.state oracle.old).kept) }
     ensures settles { HasSettledBlock (answers_of (O.state oracle.new).kept) tree.old tree.new
         result }
+    ensures asks { GainsOnly (IsSifted tree.new) (O.state oracle.old).kept
+        (O.state oracle.new).kept }
     ensures unasked { IfOk result (λ s. s ≡ NoBlock → O.state oracle.new ≡ O.state oracle.old) }
     ensures leaves { Leaves (O.state oracle.old) (O.state oracle.new) (grown_stop result) }
     ensures can { O.can_settle oracle.new }

@@ -86,3 +86,4 @@ pub record AreWordsOf (t : TreeState) (states : List ℕ) (suffix : List ℕ) (w
   pub count : length words ≡ length states
   pub letters : All (IsWord t.inputs) words
   pub asked : All (λ q. Contains words (word_at t.access q ++ suffix)) states
+  pub only : All (λ w. (q : ℕ) × Contains states q × (w ≡ word_at t.access q ++ suffix)) words

@@ -4,12 +4,13 @@ use Rattle.std.specs.List.{All}
 use Rattle.lw_words.specs.Word.{AreAnswers, answers_of}
 use Rattle.lw_words.specs.declared.kept.KeptAnswer.{KeptAnswer}
 use Rattle.lw_cache.specs.Known.{IsKnown}
-use Rattle.lw_cache.specs.Settling.{Leaves, asked_stop, grown_stop}
+use Rattle.lw_cache.specs.Settling.{Leaves, GainsOnly, asked_stop, grown_stop}
 use Rattle.lw_cache.specs.declared.stops.AskStop.{AskStop}
 use Rattle.lw_cache.specs.declared.stops.AskStop.TheVariants.{NoMemory}
 use Rattle.lw_cache.specs.declared.stops.GrowStop.TheVariants.{Ask}
-use Rattle.lw_cache.proofs.SettlingLemmas.{leaves_nothing, leaves_settled, leaves_grown_handed, leaves_grown_own, leaves_then}
+use Rattle.lw_cache.proofs.SettlingLemmas.{leaves_nothing, leaves_settled, leaves_grown_handed, leaves_grown_own, leaves_then, gains_none}
 use Rattle.lw_tree.specs.Blocks.{MayReplace}
+use Rattle.lw_tree.specs.Grown.{IsSifted}
 use Rattle.lw_tree.specs.Tree.{TreeState, BranchesAreRead}
 use Rattle.lw_tree.proofs.BranchLemmas.{branches_more}
 use Rattle.lw_tree.proofs.CloseLemmas.{handed_leaves}
@@ -17,7 +18,7 @@ use Rattle.lw_tree.proofs.GrownLemmas.{no_crowd}
 use Rattle.lw_tree.proofs.StepLemmas.{kept_words}
 use Rattle.lw_settle.specs.bodies.Parting.{NothingIsParted, IsReplacement, AreWordsOf}
 use Rattle.lw_settle.specs.declared.settling.Replacement.{Replacement}
-use Rattle.lw_settle.proofs.SettleLemmas.{nothing_settled, untouched, not_closed_then, all_settled, may_replace, few_words}
+use Rattle.lw_settle.proofs.SettleLemmas.{asked_before, asked_all, nothing_settled, untouched, not_closed_then, all_settled, may_replace, few_words}
 use Rattle.lw_settle.proofs.settling.settle_block.Goals as goal
 
 pub returns-in_err-replacement-clause-leaves : goal.returns-in_err-replacement-clause-leaves
@@ -145,3 +146,62 @@ returns-in_err-settle-clause-leaves g c =
     let n = g.O.Oracle.state c.settle.new.self in
     leaves_grown_handed o n c.in_err-settle.field-0.0 c.from_residual-in_err-settle.result
     (subst (λ (stop : Option AskStop). Leaves o n stop) (ap asked_stop c.in_err-settle.was) (leaves_settled c.as_slice.result.now o n c.settle.result c.settle.ensures.settles)) (search rules)
+
+pub returns-in_err-replacement-clause-asks : goal.returns-in_err-replacement-clause-asks
+returns-in_err-replacement-clause-asks g c = gains_none (IsSifted c.args.tree.now) (g.O.Oracle.state c.args.oracle.now).kept
+
+pub returns-in_default-clause-asks : goal.returns-in_default-clause-asks
+returns-in_default-clause-asks g c = gains_none (IsSifted c.args.tree.now) (g.O.Oracle.state c.args.oracle.now).kept
+
+pub returns-in_err-batch-clause-asks : goal.returns-in_err-batch-clause-asks
+returns-in_err-batch-clause-asks g c = gains_none (IsSifted c.args.tree.now) (g.O.Oracle.state c.args.oracle.now).kept
+
+pub returns-in_err-settle-clause-asks : goal.returns-in_err-settle-clause-asks
+returns-in_err-settle-clause-asks g c =
+    let t : TreeState = c.args.tree.now in
+    let r : Replacement = c.in-Some.replacement in
+    let is : IsReplacement t r = subst (λ (found : Option Replacement). MatchOption found (NothingIsParted t) (IsReplacement t)) c.in-Some.is c.in_ok-replacement.ensures in
+    let batch : List (List ℕ) = c.in_ok-batch.batch in
+    let words : AreWordsOf t r.members.items r.word batch = subst (λ (l : List ℕ). AreWordsOf t l r.word batch) c.deref.ensures.value c.in_ok-batch.ensures in
+    let a = (g.O.Oracle.state c.args.oracle.now).kept in
+    let b = (g.O.Oracle.state c.settle.new.self).kept in
+    asked_before (answers_of a) t r batch c.as_slice.result.now a b c.access.ensures.tree c.requires.read is words c.as_slice.ensures c.settle.ensures.settles.gains
+
+pub returns-in_err-replace-clause-asks : goal.returns-in_err-replace-clause-asks
+returns-in_err-replace-clause-asks g c =
+    let t : TreeState = c.args.tree.now in
+    let r : Replacement = c.in-Some.replacement in
+    let is : IsReplacement t r = subst (λ (found : Option Replacement). MatchOption found (NothingIsParted t) (IsReplacement t)) c.in-Some.is c.in_ok-replacement.ensures in
+    let batch : List (List ℕ) = c.in_ok-batch.batch in
+    let words : AreWordsOf t r.members.items r.word batch = subst (λ (l : List ℕ). AreWordsOf t l r.word batch) c.deref.ensures.value c.in_ok-batch.ensures in
+    let a = (g.O.Oracle.state c.args.oracle.now).kept in
+    let b = (g.O.Oracle.state c.settle.new.self).kept in
+    subst (λ (u : TreeState). GainsOnly (IsSifted u) a b) (sym c.in_err-replace.ensures.left) (asked_before (answers_of a) t r batch c.as_slice.result.now a b c.access.ensures.tree c.requires.read is words c.as_slice.ensures c.settle.ensures.settles.gains)
+
+pub returns-in_err-close-clause-asks : goal.returns-in_err-close-clause-asks
+returns-in_err-close-clause-asks g c =
+    let t : TreeState = c.args.tree.now in
+    let r : Replacement = c.in-Some.replacement in
+    let is : IsReplacement t r = subst (λ (found : Option Replacement). MatchOption found (NothingIsParted t) (IsReplacement t)) c.in-Some.is c.in_ok-replacement.ensures in
+    let batch : List (List ℕ) = c.in_ok-batch.batch in
+    let words : AreWordsOf t r.members.items r.word batch = subst (λ (l : List ℕ). AreWordsOf t l r.word batch) c.deref.ensures.value c.in_ok-batch.ensures in
+    let a = (g.O.Oracle.state c.args.oracle.now).kept in
+    let b = (g.O.Oracle.state c.settle.new.self).kept in
+    let p = (g.O.Oracle.state c.close.new.oracle).kept in
+    let done = c.in_err-close.ensures in
+    asked_all (answers_of c.cache-2.result.now.kept) (answers_of p) t c.replace.new.self c.close.new.self r batch c.as_slice.result.now a b p
+    (record { tree = c.access.ensures.tree; closed = c.requires.closed; block = is.block; replaced = c.in_ok-replace.ensures }) done.closes.grown done.closes.keeps is words c.as_slice.ensures c.settle.ensures.settles.gains done.asks
+
+pub returns-clause-asks : goal.returns-clause-asks
+returns-clause-asks g c =
+    let t : TreeState = c.args.tree.now in
+    let r : Replacement = c.in-Some.replacement in
+    let is : IsReplacement t r = subst (λ (found : Option Replacement). MatchOption found (NothingIsParted t) (IsReplacement t)) c.in-Some.is c.in_ok-replacement.ensures in
+    let batch : List (List ℕ) = c.in_ok-batch.batch in
+    let words : AreWordsOf t r.members.items r.word batch = subst (λ (l : List ℕ). AreWordsOf t l r.word batch) c.deref.ensures.value c.in_ok-batch.ensures in
+    let a = (g.O.Oracle.state c.args.oracle.now).kept in
+    let b = (g.O.Oracle.state c.settle.new.self).kept in
+    let p = (g.O.Oracle.state c.close.new.oracle).kept in
+    let done = c.in_ok-close.ensures in
+    asked_all (answers_of c.cache-2.result.now.kept) (answers_of p) t c.replace.new.self c.close.new.self r batch c.as_slice.result.now a b p
+    (record { tree = c.access.ensures.tree; closed = c.requires.closed; block = is.block; replaced = c.in_ok-replace.ensures }) done.closes.grown done.closes.keeps is words c.as_slice.ensures c.settle.ensures.settles.gains done.asks
