@@ -1,4 +1,5 @@
 mod AccessLemmas
+mod AskLemmas
 pub mod CellLemmas
 mod CloseLemmas
 mod FillLemmas

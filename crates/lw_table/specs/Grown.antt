@@ -1,5 +1,5 @@
 -- What a call that asks leaves of a table.
-use Rattle.std.specs.Prelude.{◌≡◌, ◌⊎◌, ℕ, ◌+◌, ◌<◌, ◌≤◌, List, [], ◌∷◌, ◌++◌, length, Result, Err, OnOk, OnErr, ⊤}
+use Rattle.std.specs.Prelude.{◌≡◌, ◌⊎◌, ℕ, ◌+◌, ◌<◌, ◌≤◌, List, [], ◌∷◌, ◌++◌, length, Contains, Result, Err, OnOk, OnErr, ⊤}
 use Rattle.lw_words.specs.Word.{Answer}
 use Rattle.lw_cache.specs.Crowd.{IsCrowd}
 use Rattle.lw_cache.specs.Cut.{word_at}
@@ -37,6 +37,22 @@ pub record IsCrowdOf (ks : List Answer) (t : TableState) (words : List (List ℕ
 
 abbrev pub TellsCrowd : List Answer → TableState → Result ⊤ GrowStop → Type 0
 TellsCrowd ks now result = (words : List (List ℕ)) → result ≡ Err (Crowd words) → IsCrowdOf ks now words
+
+-- the word of a row: the empty one, or an access word followed by a letter, as each other access word is
+abbrev pub IsWordOfRow : ℕ → List (List ℕ) → List ℕ → Type 0
+IsWordOfRow a access w = (w ≡ []) ⊎ ((q : ℕ) × (x : ℕ) × (q < length access) × (x < a) × (w ≡ word_at access q ++ x ∷ []))
+
+-- the word of a cell, over so many letters, by the access words and the suffixes: that of a row, followed by a suffix
+pub record IsCellWord (a : ℕ) (access suffixes : List (List ℕ)) (w : List ℕ) : Type 0 where
+  pub row : List ℕ
+  pub suffix : List ℕ
+  pub of_row : IsWordOfRow a access row
+  pub in_table : Contains suffixes suffix
+  pub word : w ≡ row ++ suffix
+
+-- the word of a cell of a table
+abbrev pub IsCellWordOf : TableState → List ℕ → Type 0
+IsCellWordOf t w = IsCellWord t.inputs t.access t.suffixes w
 
 -- a table once it was to be closed
 pub record HasClosed (ks : List Answer) (before now : TableState) (result : Result ⊤ GrowStop) : Type 0 where

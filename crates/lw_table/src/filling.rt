@@ -3,6 +3,7 @@ ghost use Rattle.std.specs.Prelude.{◌≡◌, ◌≢◌, ℕ, ◌+◌, ◌*◌,
 ghost use Rattle.std.specs.List.{All, AllPairs};
 ghost use Rattle.lw_words.specs.Word.{AreAnswers, answers_of, IsWord};
 ghost use Rattle.lw_cache.specs.Known.{IsKnown};
+ghost use Rattle.lw_table.specs.Grown.{IsCellWord, IsWordOfRow};
 ghost use Rattle.lw_table.specs.bodies.Classes.{row_of};
 ghost use Rattle.lw_table.specs.bodies.Rows.{IsRowWord, class_at, cells_at};
 ghost use Rattle.lw_table.specs.bodies.Filling.{EachCell, EachRow, IsCellOf, GoesOn, GoOn};
@@ -26,6 +27,9 @@ pub(crate) fn add_cells(
         (length suffixes.now)) }
     ensures letters { (a : ℕ) → IsWord a word.now → All (IsWord a) suffixes.now →
         All (IsWord a) words.old → All (IsWord a) words.new }
+    ensures cells { (a : ℕ) (access : List (List ℕ)) → IsWordOfRow a access word.now →
+        All (IsCellWord a access suffixes.now) words.old →
+        All (IsCellWord a access suffixes.now) words.new }
 {
     for cell in from..suffixes.len() {
         words.push(join(word, suffixes.get(cell))?)?;
@@ -100,6 +104,7 @@ pub(crate) fn unfilled(
     ensures each { IfOk result (λ words. EachRow (Contains words) inputs access.now suffixes.now
         rows.now first (length rows.now)) }
     ensures letters { IfOk result (All (IsWord inputs)) }
+    ensures cells { IfOk result (All (IsCellWord inputs access.now suffixes.now)) }
     ensures small { IfOk result (λ words. length words < 2 ^ 32) }
 {
     let mut words = Words::new(alloc);

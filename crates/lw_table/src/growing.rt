@@ -2,9 +2,9 @@
 ghost use Rattle.std.specs.Prelude.{◌≡◌, ◌≢◌, ℕ, ◌+◌, ◌<◌, ◌≤◌, List, ◌∷◌, [], ◌++◌, length, IfOk, IfSome, IfNone, OnOk};
 ghost use Rattle.lw_words.specs.Word.{answers_of};
 ghost use Rattle.lw_cache.specs.Cut.{IsCut};
-ghost use Rattle.lw_cache.specs.Settling.{Keeps, MayAsk, Leaves, grown_stop};
+ghost use Rattle.lw_cache.specs.Settling.{Keeps, MayAsk, GainsOnly, Leaves, grown_stop};
 ghost use Rattle.lw_mealy.specs.Machine.{Rows};
-ghost use Rattle.lw_table.specs.Grown.{HasGrown, TellsCrowd, HasClosed, HasRefined};
+ghost use Rattle.lw_table.specs.Grown.{HasGrown, TellsCrowd, IsCellWordOf, HasClosed, HasRefined};
 ghost use Rattle.lw_table.specs.Table.{row_at, access_row, IsTable, CellsAreRead, IsClosedTable, IsMachineOf};
 ghost use Rattle.lw_table.specs.bodies.Growing.{AreFull, HasState, HaveStates, refined_once};
 ghost use Rattle.lw_table.specs.bodies.Rows.{IsRowWord};
@@ -66,6 +66,8 @@ impl ObservationTable {
         ensures suffixes { self.new.suffixes ≡ self.old.suffixes }
         ensures refinements { self.new.refinements ≡ self.old.refinements }
         ensures crowd { TellsCrowd (answers_of (O.state oracle.new).kept) self.new result }
+        ensures asks { GainsOnly (IsCellWordOf self.new) (O.state oracle.old).kept
+            (O.state oracle.new).kept }
         ensures leaves { Leaves (O.state oracle.old) (O.state oracle.new) (grown_stop result) }
         ensures can { O.can_settle oracle.new }
     {
@@ -77,7 +79,8 @@ impl ObservationTable {
         Ok(self.fill_new(oracle, first)?)
     }
 
-    /// Asks until each cell is filled and each extension has the row of an access word (Angluin 1987).
+    /// Asks until each cell is filled and each extension has the row of an access word (Angluin 1987). Each word that it asks is
+    /// that of a cell.
     ///
     /// # Errors
     /// The stop of the oracle, or out of memory; or the words of a crowd, where an access word more than may be would be
@@ -89,6 +92,8 @@ impl ObservationTable {
         requires outputs { self.old.outputs ≡ (O.state oracle.old).outputs }
         requires read { CellsAreRead (answers_of (O.state oracle.old).kept) self.old }
         ensures closes { HasClosed (answers_of (O.state oracle.new).kept) self.old self.new result }
+        ensures asks { GainsOnly (IsCellWordOf self.new) (O.state oracle.old).kept
+            (O.state oracle.new).kept }
         ensures leaves { Leaves (O.state oracle.old) (O.state oracle.new) (grown_stop result) }
         ensures can { O.can_settle oracle.new }
     {
@@ -112,7 +117,7 @@ impl ObservationTable {
         self.refinements += 1;
     }
 
-    /// Adds the suffix of a cut of the table's machine, and closes the table again.
+    /// Adds the suffix of a cut of the table's machine, and closes the table again; it asks what `close` asks.
     ///
     /// # Errors
     /// As `close`. Where the suffix was added, `close` goes on from there.
@@ -127,6 +132,8 @@ impl ObservationTable {
             (answers_of (O.state oracle.old).kept) self.old.inputs m self.old.access cut.now }
         ensures refines { HasRefined (answers_of (O.state oracle.new).kept) cut.now.suffix self.old
             self.new result }
+        ensures asks { GainsOnly (IsCellWordOf self.new) (O.state oracle.old).kept
+            (O.state oracle.new).kept }
         ensures leaves { Leaves (O.state oracle.old) (O.state oracle.new) (grown_stop result) }
         ensures can { O.can_settle oracle.new }
     {

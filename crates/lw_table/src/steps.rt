@@ -3,8 +3,8 @@ ghost use Rattle.std.specs.Prelude.{◌≡◌, ◌≢◌, ℕ, ◌+◌, ◌*◌,
 ghost use Rattle.std.specs.HashMap.{get, spare, Updates};
 ghost use Rattle.std.specs.List.{All, AllPairs};
 ghost use Rattle.lw_words.specs.Word.{Answer, answers_of, IsWord};
-ghost use Rattle.lw_cache.specs.Settling.{Keeps, MayAsk, Leaves, asked_stop};
-ghost use Rattle.lw_table.specs.Grown.{HasGrown};
+ghost use Rattle.lw_cache.specs.Settling.{Keeps, MayAsk, GainsOnly, Leaves, asked_stop};
+ghost use Rattle.lw_table.specs.Grown.{HasGrown, IsCellWord, IsCellWordOf};
 ghost use Rattle.lw_table.specs.Table.{row_at, home_at, access_row, IsTable, CellsAreRead};
 ghost use Rattle.lw_table.specs.bodies.Classes.{row_of};
 ghost use Rattle.lw_table.specs.bodies.Filling.{GoOn};
@@ -50,6 +50,8 @@ fn answered<O: Oracle>(
     ensures all { IfOk result (λ filled. first + length filled.items ≡ length rows.now) }
     ensures go_on { IfOk result (λ filled. GoOn (answers_of (O.state oracle.new).kept) inputs
         access.now suffixes.now classes.old rows.now first classes.new filled.items) }
+    ensures asks { GainsOnly (IsCellWord inputs access.now suffixes.now)
+        (O.state oracle.old).kept (O.state oracle.new).kept }
     ensures leaves { Leaves (O.state oracle.old) (O.state oracle.new) (asked_stop result) }
     ensures can { O.can_settle oracle.new }
 {
@@ -108,6 +110,8 @@ impl ObservationTable {
         ensures grown { HasGrown (answers_of (O.state oracle.new).kept) self.old self.new }
         ensures cells { ChangesCells self.old self.new }
         ensures full { OnOk result (AreFull self.new) }
+        ensures asks { GainsOnly (IsCellWordOf self.new) (O.state oracle.old).kept
+            (O.state oracle.new).kept }
         ensures leaves { Leaves (O.state oracle.old) (O.state oracle.new) (asked_stop result) }
         ensures can { O.can_settle oracle.new }
     {
@@ -138,6 +142,8 @@ impl ObservationTable {
         ensures grown { HasGrown (answers_of (O.state oracle.new).kept) self.old self.new }
         ensures cells { ChangesCells self.old self.new }
         ensures full { OnOk result (AreFull self.new) }
+        ensures asks { GainsOnly (IsCellWordOf self.new) (O.state oracle.old).kept
+            (O.state oracle.new).kept }
         ensures leaves { Leaves (O.state oracle.old) (O.state oracle.new) (asked_stop result) }
         ensures can { O.can_settle oracle.new }
     {

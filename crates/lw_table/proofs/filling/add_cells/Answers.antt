@@ -1,6 +1,7 @@
 use Rattle.std.proofs.Common.{rules, ◌≡◌, ◌++◌, ◌∷◌, [], sym}
 use Rattle.std.proofs.lemmas.Option.{get_or_from_slice_get}
 use Rattle.lw_cache.specs.Cut.{word_at}
+use Rattle.lw_table.proofs.AskLemmas.{cell_word_more}
 use Rattle.lw_table.proofs.FillLemmas.{cell_added, letters_added, more_then}
 use Rattle.lw_table.proofs.filling.add_cells.Goals as goal
 
@@ -14,5 +15,6 @@ loop-cell-preserved c =
     record {
       more = more_then c.args.words.now l.words c.push.new.self (asked ∷ []) l.invariant.more grown;
       each = cell_added l.words c.push.new.self c.args.suffixes.now c.args.word.now asked c.args.from l.cell grown is l.invariant.each;
+      cells = λ a access of_row was. cell_word_more a access c.args.suffixes.now l.words c.push.new.self c.args.word.now (word_at c.args.suffixes.now l.cell) asked of_row (search rules) is grown (l.invariant.cells a access of_row was);
       letters = λ a letters each was. letters_added l.words c.push.new.self c.args.suffixes.now c.args.word.now asked a l.cell grown is (search rules) letters each (l.invariant.letters a letters each was);
     }

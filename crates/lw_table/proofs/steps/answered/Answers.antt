@@ -3,6 +3,7 @@ use Rattle.lw_words.specs.Word.{AreAnswers, answers_of}
 use Rattle.lw_words.specs.declared.kept.KeptAnswer.{KeptAnswer}
 use Rattle.lw_cache.specs.Known.{IsKnown}
 use Rattle.lw_cache.proofs.SettlingLemmas.{kept_are_answers, leaves_nothing, leaves_own}
+use Rattle.lw_table.proofs.AskLemmas.{asked_cells}
 use Rattle.lw_table.proofs.FillLemmas.{rows_known}
 use Rattle.lw_table.proofs.steps.answered.Goals as goal
 
@@ -19,3 +20,15 @@ fill_rows-requires-clause-answers g c =
 pub fill_rows-requires-clause-known : goal.fill_rows-requires-clause-known
 fill_rows-requires-clause-known g c =
     rows_known (IsKnown (answers_of c.cache-cache.result.now.kept)) c.in_ok-batch.batch c.args.inputs c.args.access.now c.args.suffixes.now c.args.rows.now c.args.first _ c.in_ok-batch.ensures.each (search rules)
+
+pub returns-in_err-settle-clause-asks : goal.returns-in_err-settle-clause-asks
+returns-in_err-settle-clause-asks g c =
+    asked_cells c.args.inputs c.args.access.now c.args.suffixes.now c.in_ok-batch.batch _ (g.O.Oracle.state c.args.oracle.now).kept (g.O.Oracle.state c.settle.new.self).kept c.in_ok-batch.ensures.cells (search rules) c.settle.ensures.settles.gains
+
+pub returns-in_err-fill_rows-clause-asks : goal.returns-in_err-fill_rows-clause-asks
+returns-in_err-fill_rows-clause-asks g c =
+    asked_cells c.args.inputs c.args.access.now c.args.suffixes.now c.in_ok-batch.batch _ (g.O.Oracle.state c.args.oracle.now).kept (g.O.Oracle.state c.settle.new.self).kept c.in_ok-batch.ensures.cells (search rules) c.settle.ensures.settles.gains
+
+pub returns-clause-asks : goal.returns-clause-asks
+returns-clause-asks g c =
+    asked_cells c.args.inputs c.args.access.now c.args.suffixes.now c.in_ok-batch.batch _ (g.O.Oracle.state c.args.oracle.now).kept (g.O.Oracle.state c.settle.new.self).kept c.in_ok-batch.ensures.cells (search rules) c.settle.ensures.settles.gains

@@ -111,6 +111,7 @@ returns g c =
       suffixes = ap (λ (u : TableState). u.suffixes) cells ∙ ap (λ (u : TableState). u.suffixes) added.is;
       refinements = ap (λ (u : TableState). u.refinements) cells ∙ ap (λ (u : TableState). u.refinements) added.is;
       crowd = λ words told. cc;
+      asks = c.fill_new.ensures.asks;
       leaves = c.in_ok-fill_new.ensures.leaves;
       can = c.in_ok-fill_new.ensures.can;
     }

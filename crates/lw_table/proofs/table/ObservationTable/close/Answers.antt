@@ -3,6 +3,7 @@ use Rattle.std.specs.Bool.{⊤}
 use Rattle.lw_words.specs.Word.{answers_of}
 use Rattle.lw_cache.specs.Settling.{grown_stop}
 use Rattle.lw_cache.proofs.SettlingLemmas.{leaves_then}
+use Rattle.lw_table.proofs.AskLemmas.{asks_then}
 use Rattle.lw_table.proofs.CloseLemmas.{states_then, states_more, rows_left, has_closed, stopped_closed, handed_closed, handed_leaves}
 use Rattle.lw_table.proofs.GrownLemmas.{grown_then}
 use Rattle.lw_table.proofs.table.ObservationTable.close.Goals as goal
@@ -24,6 +25,12 @@ returns-in_err-add_state-clause-leaves g c =
     handed_leaves o n c.in_err-add_state.field-0.0 c.from_residual-in_err-add_state.result
     (leaves_then o (g.O.Oracle.state l.oracle) n (grown_stop {X = ⊤} (Err c.in_err-add_state.field-0.0)) l.invariant.leaves c.in_err-add_state.ensures.leaves) (search rules)
 
+pub returns-in_err-add_state-clause-asks : goal.returns-in_err-add_state-clause-asks
+returns-in_err-add_state-clause-asks g c =
+    let l = c.loop-row in
+    let done = c.in_err-add_state.ensures in
+    asks_then l.self c.add_state.new.self done.grown.more (g.O.Oracle.state c.args.oracle.now).kept (g.O.Oracle.state l.oracle).kept (g.O.Oracle.state c.add_state.new.oracle).kept done.grown.inputs done.grown.access done.suffixes l.invariant.asks done.asks
+
 pub loop-row-preserved : goal.loop-row-preserved
 loop-row-preserved g c =
     let l = c.loop-row in
@@ -38,6 +45,7 @@ loop-row-preserved g c =
       from = rows_left ks l.self c.add_state.new.self l.invariant.grown.table done.grown l.invariant.full done.full done.suffixes c.in-Some.row inside.1;
       suffixes = done.suffixes ∙ l.invariant.suffixes;
       refinements = done.refinements ∙ l.invariant.refinements;
+      asks = asks_then l.self c.add_state.new.self done.grown.more (g.O.Oracle.state c.args.oracle.now).kept (g.O.Oracle.state l.oracle).kept (g.O.Oracle.state c.add_state.new.oracle).kept done.grown.inputs done.grown.access done.suffixes l.invariant.asks done.asks;
       leaves = leaves_then (g.O.Oracle.state c.args.oracle.now) (g.O.Oracle.state l.oracle) (g.O.Oracle.state c.add_state.new.oracle) None l.invariant.leaves done.leaves;
       can = c.add_state.ensures.can;
     }

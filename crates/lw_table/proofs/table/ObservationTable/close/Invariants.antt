@@ -1,7 +1,7 @@
 use Rattle.std.proofs.Common.{◌≡◌, ◌≤◌, ◌-◌, length, None}
 use Rattle.lw_words.specs.Word.{answers_of}
-use Rattle.lw_cache.specs.Settling.{Leaves}
-use Rattle.lw_table.specs.Grown.{HasGrown}
+use Rattle.lw_cache.specs.Settling.{GainsOnly, Leaves}
+use Rattle.lw_table.specs.Grown.{HasGrown, IsCellWordOf}
 use Rattle.lw_table.specs.bodies.Growing.{AreFull, HaveStates}
 use Rattle.lw_table.proofs.table.ObservationTable.close.Given as goal
 
@@ -13,6 +13,7 @@ invariant-loop-row g l = record {
   from : l.from ≤ length l.self.cells;
   suffixes : l.self.suffixes ≡ l.fn.self.suffixes;
   refinements : l.self.refinements ≡ l.fn.self.refinements;
+  asks : GainsOnly (IsCellWordOf l.self) (g.O.Oracle.state l.fn.oracle).kept (g.O.Oracle.state l.oracle).kept;
   leaves : Leaves (g.O.Oracle.state l.fn.oracle) (g.O.Oracle.state l.oracle) None;
   can : g.O.Oracle.can_settle l.oracle;
 }
