@@ -16,6 +16,7 @@ use Rattle.lw_separate.specs.Canonical.{IsLeastAccess, IsAccessWord, AreAccessWo
 use Rattle.lw_separate.specs.FirstAlike.{AnyTwoDiffer}
 use Rattle.lw_cache.specs.Known.{IsKnown}
 use Rattle.lw_words.specs.declared.memory.NoMemory.{NoMemory}
+use Rattle.lw_suite.specs.declared.method.Method.{Method}
 use Rattle.lw_certify.specs.Sure.{Sure}
 use Rattle.lw_certify.specs.Verdict.{IsFirstUnreached, AllReached, DiffersAt, IsVerdict}
 use Rattle.lw_certify.specs.bodies.Access.{IsAccess}
@@ -167,8 +168,8 @@ fewer n (x ∷ xs) rest pos some is =
     let e : length rest ≡ length (drop n (x ∷ xs)) = ap length is in
     omega arith
 
-pub sure_verdict : (a : ℕ) (h : Rows) (ks : List Answer) (k : ℕ) (r : Result Verdict NoMemory) → IsMachine a h → IfOk r (IsVerdict a h ks k) → r ≡ Ok verdict.Sure → Sure a h ks k
-sure_verdict a h ks k r machine v is = sure_is_sure a h ks k machine (subst (λ (s : Result Verdict NoMemory). IfOk s (IsVerdict a h ks k)) is v)
+pub sure_verdict : (method : Method) (a : ℕ) (h : Rows) (ks : List Answer) (k : ℕ) (r : Result Verdict NoMemory) → IsMachine a h → IfOk r (IsVerdict method a h ks k) → r ≡ Ok verdict.Sure → Sure a h ks k
+sure_verdict method a h ks k r machine v is = sure_is_sure method a h ks k machine (subst (λ (s : Result Verdict NoMemory). IfOk s (IsVerdict method a h ks k)) is v)
 
 pub nothing_left : (b : Bool) (left : List (List ℕ)) → b ≡ false → ((b ≡ true) ↔ (left ≢ [])) → left ≡ []
 nothing_left b [] is more = refl

@@ -6,9 +6,11 @@ use Rattle.lw_words.specs.Word.{Answer, IsWord}
 use Rattle.lw_mealy.specs.Machine.{Rows, IsMachine, Gives, IsMinimal}
 use Rattle.lw_separate.specs.Canonical.{AreLeastAccess}
 use Rattle.lw_suite.specs.Suite.{words_up_to, suite_of}
+use Rattle.lw_suite.specs.declared.method.Method.{Method}
+use Rattle.lw_suite.specs.declared.method.Method.TheVariants.{W}
 use Rattle.lw_cache.specs.Known.{IsKnown}
 use Rattle.lw_certify.specs.Covers.{KnownApart, ApartWhereDifferent, Covers, CoversIsSure, SuiteCovers}
-use Rattle.lw_certify.specs.Verdict.{SuiteIsKnown}
+use Rattle.lw_certify.specs.Verdict.{AreEnoughBy}
 use Rattle.lw_certify.proofs.Cover.{Over, Apart, IsAccess, IsToldApart}
 use Rattle.lw_certify.proofs.Known.{same_on_known}
 use Rattle.lw_certify.proofs.Meets.{all_alike}
@@ -69,12 +71,14 @@ covers_is_sure a h ks k machine c m machine_m few given_m w is =
     all_alike a h m (at a h c.access machine c.least) k (IsKnown ks) machine machine_m few (is_access a h c.access machine c.least) (told_of a h c.access machine c.least ks k c refl)
     (λ u known. same_on_known m h ks u given_m c.gives known) w (recursion_from_All (λ x. x < a) w is)
 
-pub suite_covers : SuiteCovers
-suite_covers a h ks k machine v =
-    let s : SuiteIsKnown a h ks k = v.3 in
+enough_covers : (method : Method) (a : ℕ) (h : Rows) (ks : List Answer) (k : ℕ) → IsMachine a h → IsMinimal a h → Gives h ks → AreEnoughBy method a h ks k → Covers a h ks k
+enough_covers W a h ks k machine minimal gives s =
     let access : List (List ℕ) = s.whole.access in
     let known : All (IsKnown ks) (suite_of access (words_up_to a (k + 1)) s.whole.ends) = subst (All (IsKnown ks)) s.whole.words s.known in
     covers_of a h access machine s.whole.least ks k
     (w_tells a h (at a h access machine s.whole.least) s.whole.ends k (IsKnown ks) machine (is_access a h access machine s.whole.least)
     (told_by_suite a h access s.whole.ends s.whole.least s.whole.separating ks k known))
-    v.0 v.1
+    minimal gives
+
+pub suite_covers : SuiteCovers
+suite_covers method a h ks k machine v = enough_covers method a h ks k machine v.0 v.1 v.3

@@ -1,19 +1,22 @@
 -- The steps of a verdict: each applies, or what the next ones ask for holds.
-use Rattle.std.proofs.Common.{◌≡◌, ◌≢◌, ℕ, ◌<◌, ◌⊎◌, inl, inr, ⊎_elim, List, [], length, take, min, get_or, sym, ◌∙◌, arith}
+use Rattle.std.proofs.Common.{◌≡◌, ◌≢◌, ℕ, ◌<◌, ◌⊎◌, inl, inr, ⊎_elim, List, [], length, take, min, get_or, refl, sym, ◌∙◌, arith}
 use Rattle.std.specs.List.{All}
 use Rattle.std.proofs.lemmas.Bool.{cases_eq}
 use Rattle.std.proofs.lemmas.List.{ext_get_or, get_or-take, length-take}
 use Rattle.lw_words.specs.First.{FailsFirst}
 use Rattle.lw_words.specs.Word.{Answer, answer_at, IsWhole}
 use Rattle.lw_mealy.specs.Difference.{DifferFirst}
-use Rattle.lw_mealy.specs.Machine.{Rows, IsMachine, answer, Reached, Gives}
+use Rattle.lw_mealy.specs.Machine.{Rows, IsMachine, IsMinimal, answer, Reached, Gives}
 use Rattle.lw_mealy.proofs.WordLemmas.{length-out}
 use Rattle.lw_cache.specs.Known.{IsKnown}
 use Rattle.lw_separate.specs.Canonical.{IsLeastAccess}
 use Rattle.lw_separate.proofs.CrowdLemmas.{same_or_not}
 use Rattle.lw_separate.proofs.Decided.{first_below, turned, all_or_first}
 use Rattle.lw_separate.proofs.ExistenceAccess.{least_or_unreached}
-use Rattle.lw_certify.specs.Verdict.{IsFirstUnreached, AllReached, DiffersAt}
+use Rattle.lw_suite.specs.Suite.{SomeSuite}
+use Rattle.lw_suite.specs.declared.method.Method.{Method}
+use Rattle.lw_suite.specs.declared.method.Method.TheVariants.{W}
+use Rattle.lw_certify.specs.Verdict.{IsFirstUnreached, AllReached, DiffersAt, IsMissingBy, AreEnoughBy}
 use Rattle.lw_certify.proofs.Decides.{decides_known}
 
 module _ (a : ℕ) (h : Rows) (machine : IsMachine a h) where
@@ -60,5 +63,14 @@ differs_or_gives h ks whole =
     inl (f.0, d.0, record { first = f.1; here = d.1 }))
     (all_or_first (λ k. answer h k.word ≡ k.outs) ks blank (λ k. same_or_not (answer h k.word) k.outs))
 
-pub known_or_missing : (ks : List Answer) (words : List (List ℕ)) → All (IsKnown ks) words ⊎ ((number : ℕ) × FailsFirst (IsKnown ks) words number)
+known_or_missing : (ks : List Answer) (words : List (List ℕ)) → All (IsKnown ks) words ⊎ ((number : ℕ) × FailsFirst (IsKnown ks) words number)
 known_or_missing ks words = all_or_first (IsKnown ks) words [] (λ w. decides_known ks w)
+
+-- the answers are enough by a method, or a word is the missing one
+pub enough_or_missing : (method : Method) (a : ℕ) (h : Rows) (ks : List Answer) (k : ℕ) → SomeSuite → IsMachine a h → IsMinimal a h → AreEnoughBy method a h ks k ⊎ ((word : List ℕ) × IsMissingBy method a h ks k word)
+enough_or_missing W a h ks k some machine minimal =
+    let suite = some a h k machine minimal in
+    ⊎_elim
+    (λ (known : All (IsKnown ks) suite.0). inl (record { suite = suite.0; whole = suite.1; known = known }))
+    (λ (f : (number : ℕ) × FailsFirst (IsKnown ks) suite.0 number). inr (get_or suite.0 f.0 [], record { suite = suite.0; whole = suite.1; number = f.0; first = f.1; here = refl }))
+    (known_or_missing ks suite.0)

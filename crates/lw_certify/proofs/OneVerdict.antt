@@ -12,7 +12,9 @@ use Rattle.lw_separate.specs.FirstAlike.{AreFirstAlike}
 use Rattle.lw_separate.specs.Separators.{Earlier}
 use Rattle.lw_suite.proofs.SuiteLemmas.{one_suite}
 use Rattle.lw_cache.specs.Known.{IsKnown}
-use Rattle.lw_certify.specs.Verdict.{OneVerdict, IsFirstUnreached, AllReached, DiffersAt, IsFirstMissing, SuiteIsKnown}
+use Rattle.lw_suite.specs.declared.method.Method.{Method}
+use Rattle.lw_suite.specs.declared.method.Method.TheVariants.{W}
+use Rattle.lw_certify.specs.Verdict.{OneVerdict, IsFirstUnreached, AllReached, DiffersAt, IsFirstMissing, SuiteIsKnown, IsMissingBy, AreEnoughBy}
 use Rattle.lw_certify.specs.declared.verdict.Verdict.TheVariants.{Unreached, Alike, Differs, TooLarge, Missing, Sure}
 
 -- two first places at which something fails are one
@@ -82,40 +84,46 @@ module _ (a : ℕ) (h : Rows) where
       let s : f.suite ≡ g.suite = one_suite a h k f.suite g.suite f.whole g.whole in
       first_not_all (IsKnown ks) g.suite [] f.number (subst (λ (xs : List (List ℕ)). FailsFirst (IsKnown ks) xs f.number) s f.first) g.known
 
+one_missing_by : (method : Method) (a : ℕ) (h : Rows) (ks : List Answer) (k : ℕ) (u v : List ℕ) → IsMissingBy method a h ks k u → IsMissingBy method a h ks k v → u ≡ v
+one_missing_by W a h ks k u v f g = one_missing a h ks k u v f g
+
+missing_not_enough : (method : Method) (a : ℕ) (h : Rows) (ks : List Answer) (k : ℕ) (u : List ℕ) → IsMissingBy method a h ks k u → AreEnoughBy method a h ks k → ⊥
+missing_not_enough W a h ks k u f g = missing_not_covered a h ks k u f g
+
 pub one_verdict : OneVerdict
-one_verdict a h ks k (Unreached p) (Unreached q) f g = ap (λ (n : ℕ). Unreached n) (one_unreached a h p q f g)
-one_verdict a h ks k (Unreached p) (Alike r s) f g = absurd (not_reached a h p f g.0)
-one_verdict a h ks k (Unreached p) (Differs i q) f g = absurd (not_minimal a h p f g.0)
-one_verdict a h ks k (Unreached p) (TooLarge n) f g = absurd (not_minimal a h p f g.0)
-one_verdict a h ks k (Unreached p) (Missing w) f g = absurd (not_minimal a h p f g.0)
-one_verdict a h ks k (Unreached p) Sure f g = absurd (not_minimal a h p f g.0)
-one_verdict a h ks k (Alike p q) (Unreached r) f g = absurd (not_reached a h r g f.0)
-one_verdict a h ks k (Alike p q) (Alike r s) f g = let e = one_alike a h p q r s f.1 g.1 in ap₂ (λ (m n : ℕ). Alike m n) e.0 e.1
-one_verdict a h ks k (Alike p q) (Differs i r) f g = absurd (alike_not_minimal a h p q f.1 g.0)
-one_verdict a h ks k (Alike p q) (TooLarge n) f g = absurd (alike_not_minimal a h p q f.1 g.0)
-one_verdict a h ks k (Alike p q) (Missing w) f g = absurd (alike_not_minimal a h p q f.1 g.0)
-one_verdict a h ks k (Alike p q) Sure f g = absurd (alike_not_minimal a h p q f.1 g.0)
-one_verdict a h ks k (Differs i p) (Unreached q) f g = absurd (not_minimal a h q g f.0)
-one_verdict a h ks k (Differs i p) (Alike r s) f g = absurd (alike_not_minimal a h r s g.1 f.0)
-one_verdict a h ks k (Differs i p) (Differs j q) f g = let e = one_difference a h ks i p j q f.1 g.1 in ap₂ (λ (m n : ℕ). Differs m n) e.0 e.1
-one_verdict a h ks k (Differs i p) (TooLarge n) f g = absurd (differs_not_given a h ks i p f.1 g.1)
-one_verdict a h ks k (Differs i p) (Missing w) f g = absurd (differs_not_given a h ks i p f.1 g.1)
-one_verdict a h ks k (Differs i p) Sure f g = absurd (differs_not_given a h ks i p f.1 g.1)
-one_verdict a h ks k (TooLarge m) (Unreached q) f g = absurd (not_minimal a h q g f.0)
-one_verdict a h ks k (TooLarge m) (Alike r s) f g = absurd (alike_not_minimal a h r s g.1 f.0)
-one_verdict a h ks k (TooLarge m) (Differs j q) f g = absurd (differs_not_given a h ks j q g.1 f.1)
-one_verdict a h ks k (TooLarge m) (TooLarge n) f g = ap (λ (s : ℕ). TooLarge s) (f.3 ∙ sym g.3)
-one_verdict a h ks k (TooLarge m) (Missing w) f g = let big = f.2 in let is = f.3 in let small = g.2 in absurd (omega arith)
-one_verdict a h ks k (TooLarge m) Sure f g = let big = f.2 in let is = f.3 in let small = g.2 in absurd (omega arith)
-one_verdict a h ks k (Missing u) (Unreached q) f g = absurd (not_minimal a h q g f.0)
-one_verdict a h ks k (Missing u) (Alike r s) f g = absurd (alike_not_minimal a h r s g.1 f.0)
-one_verdict a h ks k (Missing u) (Differs j q) f g = absurd (differs_not_given a h ks j q g.1 f.1)
-one_verdict a h ks k (Missing u) (TooLarge n) f g = let big = g.2 in let is = g.3 in let small = f.2 in absurd (omega arith)
-one_verdict a h ks k (Missing u) (Missing v) f g = ap (λ (w : List ℕ). Missing w) (one_missing a h ks k u v f.3 g.3)
-one_verdict a h ks k (Missing u) Sure f g = absurd (missing_not_covered a h ks k u f.3 g.3)
-one_verdict a h ks k Sure (Unreached q) f g = absurd (not_minimal a h q g f.0)
-one_verdict a h ks k Sure (Alike r s) f g = absurd (alike_not_minimal a h r s g.1 f.0)
-one_verdict a h ks k Sure (Differs j q) f g = absurd (differs_not_given a h ks j q g.1 f.1)
-one_verdict a h ks k Sure (TooLarge n) f g = let big = g.2 in let is = g.3 in let small = f.2 in absurd (omega arith)
-one_verdict a h ks k Sure (Missing v) f g = absurd (missing_not_covered a h ks k v g.3 f.3)
-one_verdict a h ks k Sure Sure f g = refl
+one_verdict method a h ks k (Unreached p) (Unreached q) f g = ap (λ (n : ℕ). Unreached n) (one_unreached a h p q f g)
+one_verdict method a h ks k (Unreached p) (Alike r s) f g = absurd (not_reached a h p f g.0)
+one_verdict method a h ks k (Unreached p) (Differs i q) f g = absurd (not_minimal a h p f g.0)
+one_verdict method a h ks k (Unreached p) (TooLarge n) f g = absurd (not_minimal a h p f g.0)
+one_verdict method a h ks k (Unreached p) (Missing w) f g = absurd (not_minimal a h p f g.0)
+one_verdict method a h ks k (Unreached p) Sure f g = absurd (not_minimal a h p f g.0)
+one_verdict method a h ks k (Alike p q) (Unreached r) f g = absurd (not_reached a h r g f.0)
+one_verdict method a h ks k (Alike p q) (Alike r s) f g = let e = one_alike a h p q r s f.1 g.1 in ap₂ (λ (m n : ℕ). Alike m n) e.0 e.1
+one_verdict method a h ks k (Alike p q) (Differs i r) f g = absurd (alike_not_minimal a h p q f.1 g.0)
+one_verdict method a h ks k (Alike p q) (TooLarge n) f g = absurd (alike_not_minimal a h p q f.1 g.0)
+one_verdict method a h ks k (Alike p q) (Missing w) f g = absurd (alike_not_minimal a h p q f.1 g.0)
+one_verdict method a h ks k (Alike p q) Sure f g = absurd (alike_not_minimal a h p q f.1 g.0)
+one_verdict method a h ks k (Differs i p) (Unreached q) f g = absurd (not_minimal a h q g f.0)
+one_verdict method a h ks k (Differs i p) (Alike r s) f g = absurd (alike_not_minimal a h r s g.1 f.0)
+one_verdict method a h ks k (Differs i p) (Differs j q) f g = let e = one_difference a h ks i p j q f.1 g.1 in ap₂ (λ (m n : ℕ). Differs m n) e.0 e.1
+one_verdict method a h ks k (Differs i p) (TooLarge n) f g = absurd (differs_not_given a h ks i p f.1 g.1)
+one_verdict method a h ks k (Differs i p) (Missing w) f g = absurd (differs_not_given a h ks i p f.1 g.1)
+one_verdict method a h ks k (Differs i p) Sure f g = absurd (differs_not_given a h ks i p f.1 g.1)
+one_verdict method a h ks k (TooLarge m) (Unreached q) f g = absurd (not_minimal a h q g f.0)
+one_verdict method a h ks k (TooLarge m) (Alike r s) f g = absurd (alike_not_minimal a h r s g.1 f.0)
+one_verdict method a h ks k (TooLarge m) (Differs j q) f g = absurd (differs_not_given a h ks j q g.1 f.1)
+one_verdict method a h ks k (TooLarge m) (TooLarge n) f g = ap (λ (s : ℕ). TooLarge s) (f.3 ∙ sym g.3)
+one_verdict method a h ks k (TooLarge m) (Missing w) f g = let big = f.2 in let is = f.3 in let small = g.2 in absurd (omega arith)
+one_verdict method a h ks k (TooLarge m) Sure f g = let big = f.2 in let is = f.3 in let small = g.2 in absurd (omega arith)
+one_verdict method a h ks k (Missing u) (Unreached q) f g = absurd (not_minimal a h q g f.0)
+one_verdict method a h ks k (Missing u) (Alike r s) f g = absurd (alike_not_minimal a h r s g.1 f.0)
+one_verdict method a h ks k (Missing u) (Differs j q) f g = absurd (differs_not_given a h ks j q g.1 f.1)
+one_verdict method a h ks k (Missing u) (TooLarge n) f g = let big = g.2 in let is = g.3 in let small = f.2 in absurd (omega arith)
+one_verdict method a h ks k (Missing u) (Missing v) f g = ap (λ (w : List ℕ). Missing w) (one_missing_by method a h ks k u v f.3 g.3)
+one_verdict method a h ks k (Missing u) Sure f g = absurd (missing_not_enough method a h ks k u f.3 g.3)
+one_verdict method a h ks k Sure (Unreached q) f g = absurd (not_minimal a h q g f.0)
+one_verdict method a h ks k Sure (Alike r s) f g = absurd (alike_not_minimal a h r s g.1 f.0)
+one_verdict method a h ks k Sure (Differs j q) f g = absurd (differs_not_given a h ks j q g.1 f.1)
+one_verdict method a h ks k Sure (TooLarge n) f g = let big = g.2 in let is = g.3 in let small = f.2 in absurd (omega arith)
+one_verdict method a h ks k Sure (Missing v) f g = absurd (missing_not_enough method a h ks k v g.3 f.3)
+one_verdict method a h ks k Sure Sure f g = refl

@@ -3,6 +3,7 @@ use Rattle.std.specs.Prelude.{◌≡◌, ◌≢◌, ℕ, ◌+◌, ◌<◌, ◌�
 use Rattle.lw_words.specs.Word.{Answer, IsWord}
 use Rattle.lw_mealy.specs.Machine.{Rows, IsMachine, after, out, IsMinimal, Gives}
 use Rattle.lw_separate.specs.Canonical.{AreLeastAccess}
+use Rattle.lw_suite.specs.declared.method.Method.{Method}
 use Rattle.lw_cache.specs.Known.{IsKnown}
 use Rattle.lw_certify.specs.Sure.{Sure}
 use Rattle.lw_certify.specs.Verdict.{IsVerdict}
@@ -36,6 +37,6 @@ pub record Covers (a : ℕ) (h : Rows) (ks : List Answer) (k : ℕ) : Type 0 whe
 abbrev pub CoversIsSure : Type 0
 CoversIsSure = (a : ℕ) (h : Rows) (ks : List Answer) (k : ℕ) → IsMachine a h → Covers a h ks k → Sure a h ks k
 
--- where each word of the suite is known, the answers cover the machine
+-- where the answers are enough by a method, they cover the machine
 abbrev pub SuiteCovers : Type 0
-SuiteCovers = (a : ℕ) (h : Rows) (ks : List Answer) (k : ℕ) → IsMachine a h → IsVerdict a h ks k verdict.Sure → Covers a h ks k
+SuiteCovers = (method : Method) (a : ℕ) (h : Rows) (ks : List Answer) (k : ℕ) → IsMachine a h → IsVerdict method a h ks k verdict.Sure → Covers a h ks k

@@ -8,6 +8,8 @@ use Rattle.lw_mealy.specs.Difference.{DifferFirst}
 use Rattle.lw_separate.specs.FirstAlike.{AreFirstAlike}
 use Rattle.lw_suite.specs.Size.{suite_size, greatest_suite}
 use Rattle.lw_suite.specs.Suite.{IsSuite}
+use Rattle.lw_suite.specs.declared.method.Method.{Method}
+use Rattle.lw_suite.specs.declared.method.Method.TheVariants.{W}
 use Rattle.lw_cache.specs.Known.{IsKnown}
 use Rattle.lw_certify.specs.Sure.{Sure}
 use Rattle.lw_certify.specs.declared.verdict.Verdict.{Verdict}
@@ -41,24 +43,31 @@ pub record SuiteIsKnown (a : ℕ) (h : Rows) (ks : List Answer) (k : ℕ) : Type
   pub whole : IsSuite a h k suite
   pub known : All (IsKnown ks) suite
 
--- what each verdict says; each comes where none before it does
-abbrev pub IsVerdict : ℕ → Rows → List Answer → ℕ → Verdict → Type 0
-IsVerdict a h ks k (verdict.Unreached state) = IsFirstUnreached a h state
-IsVerdict a h ks k (verdict.Alike p q) = AllReached a h × AreFirstAlike a h (p, q)
-IsVerdict a h ks k (verdict.Differs number place) = IsMinimal a h × DiffersAt h ks number place
-IsVerdict a h ks k (verdict.TooLarge size) = IsMinimal a h × Gives h ks × (greatest_suite < size) × (size ≡ suite_size (length h) a k)
-IsVerdict a h ks k (verdict.Missing word) = IsMinimal a h × Gives h ks × (suite_size (length h) a k ≤ greatest_suite) × IsFirstMissing a h ks k word
-IsVerdict a h ks k verdict.Sure = IsMinimal a h × Gives h ks × (suite_size (length h) a k ≤ greatest_suite) × SuiteIsKnown a h ks k
+-- the word is the one that is missing, by how suites are made; and the answers are enough. A further method says these two
+abbrev pub IsMissingBy : Method → ℕ → Rows → List Answer → ℕ → List ℕ → Type 0
+IsMissingBy W a h ks k word = IsFirstMissing a h ks k word
 
--- the completeness of the W-method: where the verdict is that the answers suffice, they do
+abbrev pub AreEnoughBy : Method → ℕ → Rows → List Answer → ℕ → Type 0
+AreEnoughBy W a h ks k = SuiteIsKnown a h ks k
+
+-- what each verdict says, by how suites are made; each comes where none before it does
+abbrev pub IsVerdict : Method → ℕ → Rows → List Answer → ℕ → Verdict → Type 0
+IsVerdict method a h ks k (verdict.Unreached state) = IsFirstUnreached a h state
+IsVerdict method a h ks k (verdict.Alike p q) = AllReached a h × AreFirstAlike a h (p, q)
+IsVerdict method a h ks k (verdict.Differs number place) = IsMinimal a h × DiffersAt h ks number place
+IsVerdict method a h ks k (verdict.TooLarge size) = IsMinimal a h × Gives h ks × (greatest_suite < size) × (size ≡ suite_size (length h) a k)
+IsVerdict method a h ks k (verdict.Missing word) = IsMinimal a h × Gives h ks × (suite_size (length h) a k ≤ greatest_suite) × IsMissingBy method a h ks k word
+IsVerdict method a h ks k verdict.Sure = IsMinimal a h × Gives h ks × (suite_size (length h) a k ≤ greatest_suite) × AreEnoughBy method a h ks k
+
+-- the completeness of each method: where the verdict is that the answers suffice, they do
 abbrev pub SureIsSure : Type 0
-SureIsSure = (a : ℕ) (h : Rows) (ks : List Answer) (k : ℕ) → IsMachine a h → IsVerdict a h ks k verdict.Sure → Sure a h ks k
+SureIsSure = (method : Method) (a : ℕ) (h : Rows) (ks : List Answer) (k : ℕ) → IsMachine a h → IsVerdict method a h ks k verdict.Sure → Sure a h ks k
 
 -- a machine and answers have one verdict at most
 abbrev pub OneVerdict : Type 0
-OneVerdict = (a : ℕ) (h : Rows) (ks : List Answer) (k : ℕ) (v w : Verdict) → IsVerdict a h ks k v → IsVerdict a h ks k w → v ≡ w
+OneVerdict = (method : Method) (a : ℕ) (h : Rows) (ks : List Answer) (k : ℕ) (v w : Verdict) → IsVerdict method a h ks k v → IsVerdict method a h ks k w → v ≡ w
 
 -- a machine and answers with an output for each letter have a verdict
 abbrev pub SomeVerdict : Type 0
-SomeVerdict = (a : ℕ) (h : Rows) (ks : List Answer) (k : ℕ) → IsMachine a h → All IsWhole ks
-    → (v : Verdict) × IsVerdict a h ks k v
+SomeVerdict = (method : Method) (a : ℕ) (h : Rows) (ks : List Answer) (k : ℕ) → IsMachine a h → All IsWhole ks
+    → (v : Verdict) × IsVerdict method a h ks k v

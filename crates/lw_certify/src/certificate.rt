@@ -8,13 +8,14 @@ ghost use Rattle.lw_certify.specs.Sure.{Sure};
 ghost use Rattle.lw_certify.specs.Verdict.{IsVerdict, IsFirstUnreached, AllReached, DiffersAt};
 ghost use Rattle.lw_certify.specs.bodies.Access.{IsAccess};
 ghost use Rattle.lw_certify.specs.declared.verdict.Verdict.{Verdict as Came};
+ghost use Rattle.lw_suite.specs.declared.method.Method.TheVariants as by;
 
 use crate::Verdict;
 use crate::missing::first_missing;
 use lw_cache::Cache;
 use lw_mealy::Mealy;
 use lw_separate::{access_words, first_alike};
-use lw_suite::{Suite, SuiteFault};
+use lw_suite::{Method, Suite, SuiteFault};
 use lw_words::{Kept, NoMemory, Words};
 use std::alloc::Global;
 
@@ -58,8 +59,8 @@ fn first_difference(h: &Mealy, kept: &Kept) -> Option<(usize, usize)>
     None
 }
 
-/// The verdict on a minimal model that gives the kept answers: whether they answer its suite.
-fn certify_suite(
+/// The verdict by the W-method on a minimal model that gives the kept answers: whether they answer its suite.
+fn certify_words(
     alloc: Global,
     h: &Mealy,
     cache: &Cache,
@@ -70,31 +71,59 @@ fn certify_suite(
     requires minimal { IsMinimal h.now.inputs h.now.rows }
     requires least { AreLeastAccess h.now.inputs h.now.rows access }
     requires given { Gives h.now.rows (answers_of cache.now.kept) }
-    ensures verdict { IfOk result (IsVerdict h.now.inputs h.now.rows
+    ensures verdict { IfOk result (IsVerdict by.W h.now.inputs h.now.rows
         (answers_of cache.now.kept) extra) }
 {
-    let suite = match Suite::with_access(alloc, h, access, extra) {
+    let mut suite = match Suite::with_access(alloc, h, access, extra) {
         Ok(suite) => suite,
         Err(SuiteFault::TooLarge(size)) => return Ok(Verdict::TooLarge(size)),
         Err(SuiteFault::NoMemory) => return Err(NoMemory),
     };
-    match first_missing(alloc, cache, suite)? {
+    match first_missing(alloc, cache, &mut suite)? {
         Some(word) => Ok(Verdict::Missing(word)),
         None => Ok(Verdict::Sure),
     }
 }
 
-/// The verdict on a model and the kept answers of a cache, for `extra` states more: the first that applies of
-/// an unreached state, two states that agree on all words, an answer that the model doesn't give, a suite that is too
-/// large, a word of the suite that isn't known, and `Sure`. Finds the access words, the first alike pair and the separating
-/// words once, and holds one chunk of the suite at a time (Vasilevskii 1973, Chow 1978).
+/// The verdict by a method on a minimal model that gives the kept answers: whether they are enough.
+fn certify_suite(
+    alloc: Global,
+    h: &Mealy,
+    cache: &Cache,
+    access: Words,
+    extra: u8,
+    method: Method,
+) -> Result<Verdict, NoMemory>
+    requires few { extra ≤ 4 }
+    requires minimal { IsMinimal h.now.inputs h.now.rows }
+    requires least { AreLeastAccess h.now.inputs h.now.rows access }
+    requires given { Gives h.now.rows (answers_of cache.now.kept) }
+    ensures verdict { IfOk result (IsVerdict method h.now.inputs h.now.rows
+        (answers_of cache.now.kept) extra) }
+{
+    match method {
+        Method::W => certify_words(alloc, h, cache, access, extra),
+    }
+}
+
+/// The verdict on a model and the kept answers of a cache, for `extra` states more, with suites that are made so: the first
+/// that applies of an unreached state, two states that agree on all words, an answer that the model doesn't give, a suite that
+/// is too large, a word that is missing, and `Sure`. By the W-method the missing word is the first of the suite that isn't
+/// known; the access words, the first alike pair and the separating words are found once, and one chunk of the suite is
+/// held at a time (Vasilevskii 1973, Chow 1978).
 ///
 /// # Errors
 /// Only where memory runs out.
-pub fn certify(alloc: Global, h: &Mealy, cache: &Cache, extra: u8) -> Result<Verdict, NoMemory>
+pub fn certify(
+    alloc: Global,
+    h: &Mealy,
+    cache: &Cache,
+    extra: u8,
+    method: Method,
+) -> Result<Verdict, NoMemory>
     requires few { extra ≤ 4 }
     requires letters { All (λ k. IsWord h.now.inputs k.word) (answers_of cache.now.kept) }
-    ensures verdict { IfOk result (IsVerdict h.now.inputs h.now.rows
+    ensures verdict { IfOk result (IsVerdict method h.now.inputs h.now.rows
         (answers_of cache.now.kept) extra) }
     ensures sure { result ≡ Ok Came.Sure →
         Sure h.now.inputs h.now.rows (answers_of cache.now.kept) extra }
@@ -109,5 +138,5 @@ pub fn certify(alloc: Global, h: &Mealy, cache: &Cache, extra: u8) -> Result<Ver
     if let Some((answer, place)) = first_difference(h, cache.kept()) {
         return Ok(Verdict::Differs { answer, place });
     }
-    certify_suite(alloc, h, cache, access, extra)
+    certify_suite(alloc, h, cache, access, extra, method)
 }

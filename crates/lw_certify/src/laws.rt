@@ -10,12 +10,12 @@ pub fn covers_is_sure()
     ensures { CoversIsSure }
 {}
 
-/// Where all words of the W-method's suite are known, the answers cover the machine.
+/// Where answers are enough by a method, they cover the machine: by the W-method where all words of its suite are known.
 pub fn suite_covers()
     ensures { SuiteCovers }
 {}
 
-/// The completeness of the W-method (Vasilevskii 1973, Chow 1978).
+/// The completeness of each method: of the W-method, Vasilevskii (1973) and Chow (1978).
 pub fn sure_is_sure()
     ensures { SureIsSure }
 {}
@@ -25,12 +25,12 @@ pub fn sure_is_not_vacuous()
     ensures { AsWorked }
 {}
 
-/// Two verdicts on one model and the same answers are one.
+/// Two verdicts by one method on one model and the same answers are one.
 pub fn verdict_is_unique()
     ensures { OneVerdict }
 {}
 
-/// A machine and answers with an output for each letter have a verdict, whatever their numbers.
+/// A machine and answers with an output for each letter have a verdict by each method, whatever their numbers.
 pub fn verdict_exists()
     ensures { SomeVerdict }
 {

@@ -1,4 +1,4 @@
-//! The first word of a suite that isn't known.
+//! The first of some words that isn't known.
 ghost use Rattle.std.specs.Prelude.{◌≡◌, true, false, IfOk, IfNone, IfSome};
 ghost use Rattle.std.specs.List.{All};
 ghost use Rattle.lw_words.specs.Word.{answers_of};
@@ -7,7 +7,7 @@ ghost use Rattle.lw_cache.specs.Known.{IsKnown};
 ghost use Rattle.lw_certify.specs.bodies.Stages.{IsFirstUnknown};
 
 use lw_cache::{Cache, Known};
-use lw_suite::Suite;
+use lw_suite::Chunks;
 use lw_words::{NoMemory, Word};
 use std::alloc::Global;
 
@@ -35,15 +35,14 @@ fn first_unknown(cache: &Cache, words: &[Word]) -> Option<usize>
     None
 }
 
-/// The first word that is left of a suite and isn't known. Holds one chunk at a time.
-pub(crate) fn first_missing(
+/// The first word that is left and isn't known. Holds one chunk at a time.
+pub(crate) fn first_missing<S: Chunks>(
     alloc: Global,
     cache: &Cache,
-    suite: Suite,
+    suite: &mut S,
 ) -> Result<Option<Word>, NoMemory>
-    ensures { IfOk result (IsFirstUnknown (answers_of cache.now.kept) suite) }
+    ensures { IfOk result (IsFirstUnknown (answers_of cache.now.kept) (S.left suite.old)) }
 {
-    let mut suite = suite;
     let mut chunk = Vec::new(alloc);
     while suite.next_chunk(&mut chunk)? {
         if let Some(place) = first_unknown(cache, &chunk) {

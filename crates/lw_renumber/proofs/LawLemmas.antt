@@ -2,7 +2,7 @@
 use Rattle.std.proofs.Common.{◌≡◌, ℕ, ◌≤◌, refl, ap, sym, ◌∙◌, subst}
 use Rattle.lw_mealy.specs.Machine.{IsMachine, MealyMachine, mealy_of, IsWithinLimits, AnswersBelow}
 use Rattle.lw_suite.specs.Size.{suite_size}
-use Rattle.lw_renumber.specs.Laws.{RenamedClashes, RenamedNeverClash, RenamedIsClear, RenamedIsCanonical, RenamedIsSuite, RenamedIsSure, RenamedAnswers, RenamedGives, RenamedIsKnown, RenamedIsRead, RenamedIsCrowd, RenamedIsCertified, RenamedIsLeast, RenamedIsTooMany, RenamedIsTooLarge}
+use Rattle.lw_renumber.specs.Laws.{RenamedClashes, RenamedNeverClash, RenamedIsClear, RenamedIsCanonical, RenamedIsSuite, RenamedIsSure, RenamedAnswers, RenamedGives, RenamedIsKnown, RenamedIsRead, RenamedIsCrowd, RenamedIsCertified, RenamedIsEnough, RenamedIsLeast, RenamedIsTooMany, RenamedIsTooLarge}
 use Rattle.lw_renumber.specs.Renaming.{renamed_rows}
 use Rattle.lw_renumber.proofs.ClashLemmas.{never_clash, clash_too, clash_back, clear_stays, known_stays, read_renamed, crowd_stays}
 use Rattle.lw_renumber.proofs.MachineLemmas.{answer_is, states_same, is_machine, gives_too}
@@ -29,9 +29,12 @@ renamed_is_certified f g a b c k ks model r are is small below =
       outputs = refl;
       complete = within_too f a c model is.inputs is.complete small below;
       canonical = canonical_too f g a model.rows model.rows r machine is.canonical;
-      verdict = verdict_too f g a model.rows ks k r machine are is.verdict;
+      gives = gives_too f a model.rows ks machine are is.gives;
       sure = sure_too f g a model.rows ks k r machine are is.sure;
     }
+
+pub renamed_is_enough : RenamedIsEnough
+renamed_is_enough f g method a c k ks model r are machine enough = verdict_too f g method a model.rows ks k r machine are enough
 
 pub renamed_is_least : RenamedIsLeast
 renamed_is_least f g a n ks r are none m machine gives =

@@ -72,7 +72,7 @@ module _ (a b k n : ℕ) (ks : List Answer) (model : MealyMachine) (are : AreAns
   same =
       let s = states_same (raised n) h in
       is.sure other (is_machine (raised n) a h machine) (omega (arith, s))
-      (subst (λ (l : List Answer). Gives other l) (raised_answers n ks below) (gives_too (raised n) a h ks machine are is.verdict.1))
+      (subst (λ (l : List Answer). Gives other l) (raised_answers n ks below) (gives_too (raised n) a h ks machine are is.gives))
 
   each_below : (q x : ℕ) → q < length h → x < a → output h q x < n
   each_below q x lt le =

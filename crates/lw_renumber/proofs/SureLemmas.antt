@@ -3,9 +3,11 @@ use Rattle.std.proofs.Common.{ℕ, ◌+◌, ◌≤◌, List, length, sym, subst,
 use Rattle.lw_words.specs.Word.{Answer, AreAnswers}
 use Rattle.lw_mealy.specs.Machine.{Rows, IsMachine, Gives, Equal}
 use Rattle.lw_certify.specs.Sure.{Sure}
-use Rattle.lw_certify.specs.Verdict.{IsVerdict}
+use Rattle.lw_certify.specs.Verdict.{AreEnoughBy, IsVerdict}
 use Rattle.lw_certify.specs.declared.verdict.Verdict.TheVariants as verdict
 use Rattle.lw_suite.specs.Size.{suite_size, greatest_suite}
+use Rattle.lw_suite.specs.declared.method.Method.{Method}
+use Rattle.lw_suite.specs.declared.method.Method.TheVariants.{W}
 use Rattle.lw_renumber.specs.Renaming.{Renames, renamed_rows, renamed_answers}
 use Rattle.lw_renumber.proofs.MachineLemmas.{turned, answers_back, rows_back, states_same, is_machine, gives_too, answers_too, equal_too, minimal_too}
 use Rattle.lw_renumber.proofs.SuiteLemmas.{covered_too}
@@ -25,12 +27,17 @@ sure_too f g a h ks k r own are sure m machine few gives =
     subst (λ (o : Rows). Equal a o (renamed_rows f h)) (rows_back g f (turned f g r) m)
     (equal_too f a (renamed_rows g m) h (is_machine g a m machine) own same)
 
-pub verdict_too : (f g : ℕ → ℕ) (a : ℕ) (h : Rows) (ks : List Answer) (k : ℕ) → Renames f g → IsMachine a h → AreAnswers a ks
-    → IsVerdict a h ks k verdict.Sure → IsVerdict a (renamed_rows f h) (renamed_answers f ks) k verdict.Sure
-verdict_too f g a h ks k r machine are is =
+-- answers that are enough by a method are so renamed
+enough_too : (f g : ℕ → ℕ) (method : Method) (a : ℕ) (h : Rows) (ks : List Answer) (k : ℕ) → Renames f g → IsMachine a h → AreAnswers a ks
+    → AreEnoughBy method a h ks k → AreEnoughBy method a (renamed_rows f h) (renamed_answers f ks) k
+enough_too f g W a h ks k r machine are is = covered_too f g r a h machine ks k are is
+
+pub verdict_too : (f g : ℕ → ℕ) (method : Method) (a : ℕ) (h : Rows) (ks : List Answer) (k : ℕ) → Renames f g → IsMachine a h → AreAnswers a ks
+    → IsVerdict method a h ks k verdict.Sure → IsVerdict method a (renamed_rows f h) (renamed_answers f ks) k verdict.Sure
+verdict_too f g method a h ks k r machine are is =
     let n = states_same f h in (
       minimal_too f g a h r machine is.0,
       gives_too f a h ks machine are is.1,
       subst (λ (s : ℕ). suite_size s a k ≤ greatest_suite) (sym n) is.2,
-      covered_too f g r a h machine ks k are is.3,
+      enough_too f g method a h ks k r machine are is.3,
     )

@@ -7,8 +7,9 @@ use Rattle.lw_cache.specs.Crowd.{IsCrowd}
 use Rattle.lw_cache.specs.Known.{IsKnown, Reads}
 use Rattle.lw_separate.specs.Canonical.{IsCanonical}
 use Rattle.lw_suite.specs.Suite.{IsSuite}
+use Rattle.lw_suite.specs.declared.method.Method.{Method}
 use Rattle.lw_certify.specs.Sure.{Sure}
-use Rattle.lw_rounds.specs.Learned.{IsCertified, IsTooMany, IsTooLarge}
+use Rattle.lw_rounds.specs.Learned.{IsCertified, IsEnoughFor, IsTooMany, IsTooLarge}
 use Rattle.lw_renumber.specs.Renaming.{Renames, renamed_rows, renamed_answer, renamed_answers, OutsBelow}
 
 -- a machine's answers, renamed, are those of the renamed machine
@@ -77,6 +78,12 @@ RenamedIsCertified = (f g : ℕ → ℕ) (a b c k : ℕ) (ks : List Answer) (mod
     → Renames f g → AreAnswers a ks → IsCertified a b k ks model
     → (1 ≤ c) × (c ≤ 4096) → AnswersBelow c (renamed_rows f model.rows)
     → IsCertified a c k (renamed_answers f ks) (mealy_of a c (renamed_rows f model.rows))
+
+-- answers that are enough for a model by a method are, renamed, enough for the renamed model
+abbrev pub RenamedIsEnough : Type 0
+RenamedIsEnough = (f g : ℕ → ℕ) (method : Method) (a c k : ℕ) (ks : List Answer) (model : MealyMachine)
+    → Renames f g → AreAnswers a ks → IsMachine a model.rows → IsEnoughFor method a k ks model
+    → IsEnoughFor method a k (renamed_answers f ks) (mealy_of a c (renamed_rows f model.rows))
 
 -- where no machine of fewer than n states gives the answers, none gives the renamed answers
 abbrev pub RenamedIsLeast : Type 0

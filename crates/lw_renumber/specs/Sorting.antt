@@ -6,7 +6,8 @@ use Rattle.lw_cache.specs.Clash.{NothingClashes}
 use Rattle.lw_mealy.specs.Machine.{Gives, MealyMachine, mealy_of, Rows, IsMachine}
 use Rattle.lw_mealy.specs.Renumbering.{renumbered_rows}
 use Rattle.lw_names.specs.Names.{name_at, named}
-use Rattle.lw_rounds.specs.Learned.{IsCertified, IsLearned, IsTooMany, IsTooLarge, StopsAs}
+use Rattle.lw_suite.specs.declared.method.Method.{Method}
+use Rattle.lw_rounds.specs.Learned.{IsCertified, IsEnoughFor, IsLearned, IsTooMany, IsTooLarge, StopsAs}
 use Rattle.lw_rounds.specs.declared.learned.Learned.{Learned}
 use Rattle.lw_rounds.specs.declared.learner.Kind.{Kind}
 use Rattle.lw_rounds.specs.declared.stops.LearnStop.{LearnStop}
@@ -71,5 +72,8 @@ pub record HasSorted (to : List ℕ) (before now : List (List ℕ)) (ks more : L
   pub learned : (kind : Kind) (a b k most : ℕ) → AreAnswers a ks
       → IfOk was (λ l. IsLearned kind a b k most ks l.model l.learner)
       → IfOk is (λ l. IsCertifiedLeast a (length now) k more l.model)
+  pub enough : (method : Method) (a k : ℕ) → AreAnswers a ks
+      → IfOk was (λ l. IsMachine a l.model.rows × IsEnoughFor method a k ks l.model)
+      → IfOk is (λ l. IsEnoughFor method a k more l.model)
   pub stopped : (a b k most : ℕ) → AreAnswers a ks → IfErr was (StopsAs a b k most ks)
       → IfErr is (StillStops a k most f more)

@@ -10,7 +10,7 @@ pub use laws::{
     renamed_is_known, renamed_is_read, renamed_never_clash,
 };
 pub use model_laws::{
-    outputs_occur, renamed_is_canonical, renamed_is_certified, renamed_is_least, renamed_is_suite,
-    renamed_is_sure, renamed_is_too_large, renamed_is_too_many,
+    outputs_occur, renamed_is_canonical, renamed_is_certified, renamed_is_enough, renamed_is_least,
+    renamed_is_suite, renamed_is_sure, renamed_is_too_large, renamed_is_too_many,
 };
 pub use sorting::sort_outputs;

@@ -1,5 +1,5 @@
 //! Outputs under other names change nothing of what was learned. Each law is a function with no code, whose contract is the law.
-ghost use Rattle.lw_renumber.specs.Laws.{RenamedIsCanonical, RenamedIsSuite, RenamedIsSure, RenamedIsCertified, RenamedIsLeast, RenamedIsTooMany, RenamedIsTooLarge, OutputsOccur};
+ghost use Rattle.lw_renumber.specs.Laws.{RenamedIsCanonical, RenamedIsSuite, RenamedIsSure, RenamedIsCertified, RenamedIsEnough, RenamedIsLeast, RenamedIsTooMany, RenamedIsTooLarge, OutputsOccur};
 
 /// The canonical form of a machine, renamed, is that of the renamed machine.
 pub fn renamed_is_canonical()
@@ -19,6 +19,11 @@ pub fn renamed_is_sure()
 /// A certified model, renamed, is certified by the renamed answers, with any number of outputs that is enough for it.
 pub fn renamed_is_certified()
     ensures { RenamedIsCertified }
+{}
+
+/// Answers that are enough for a model by a method are, renamed, enough for the renamed model.
+pub fn renamed_is_enough()
+    ensures { RenamedIsEnough }
 {}
 
 /// Where no machine of fewer states gives the answers, none gives them renamed.

@@ -9,7 +9,8 @@ use Rattle.lw_cache.specs.declared.stops.GrowStop.TheVariants as grow
 use Rattle.lw_cache.proofs.SettlingLemmas.{kept_are_answers}
 use Rattle.lw_separate.specs.Canonical.{IsCanonical}
 use Rattle.lw_suite.specs.Size.{suite_size}
-use Rattle.lw_rounds.specs.Learned.{IsCertified, IsLearned, StopsAs}
+use Rattle.lw_suite.specs.declared.method.Method.{Method}
+use Rattle.lw_rounds.specs.Learned.{IsCertified, IsEnoughFor, IsLearned, StopsAs}
 use Rattle.lw_rounds.specs.Learner.{kind_of, inputs_of, outputs_of, most_of, access_of, refinements_of, HasNoTemporary, IsLearner, IsMachineOf}
 use Rattle.lw_rounds.specs.Stops.{of_growth}
 use Rattle.lw_rounds.specs.declared.learner.Kind.{Kind}
@@ -57,8 +58,8 @@ growth_as a b k most ks (grow.Crowd words) is = is
 pub alike_then : (l m n : Learner) → IsAlike l m → IsAlike m n → IsAlike l n
 alike_then l m n first next = record { kind = next.kind ∙ first.kind; inputs = next.inputs ∙ first.inputs; outputs = next.outputs ∙ first.outputs; most = next.most ∙ first.most }
 
-module _ (o : OracleState) (l : Learner) (h model : MealyMachine) (k : ℕ) (ready : IsReady o l) (settled : HasNoTemporary l) (of : IsMachineOf l h.rows) (machine : IsMachine h.inputs h.rows) (inputs : h.inputs ≡ inputs_of l) (outputs : h.outputs ≡ outputs_of l)
-    (sure : IsSureOf h k (answers_of o.kept) model) where
+module _ (o : OracleState) (l : Learner) (h model : MealyMachine) (method : Method) (k : ℕ) (ready : IsReady o l) (settled : HasNoTemporary l) (of : IsMachineOf l h.rows) (machine : IsMachine h.inputs h.rows) (inputs : h.inputs ≡ inputs_of l) (outputs : h.outputs ≡ outputs_of l)
+    (sure : IsSureOf h method k (answers_of o.kept) model) where
   certified : IsCertified (inputs_of l) (outputs_of l) k (answers_of o.kept) model
   certified = subst₂ (λ (a b : ℕ). IsCertified a b k (answers_of o.kept) model) inputs outputs sure.certified
 
@@ -66,13 +67,13 @@ module _ (o : OracleState) (l : Learner) (h model : MealyMachine) (k : ℕ) (rea
   answers = kept_are_answers o h.inputs (inputs ∙ ready.inputs) ready.keeps
 
   gives : Gives h.rows (answers_of o.kept)
-  gives = equal_gives h.inputs h.rows model.rows (answers_of o.kept) (λ w letters. sym (sure.canonical.equal w letters)) answers sure.certified.verdict.1
+  gives = equal_gives h.inputs h.rows model.rows (answers_of o.kept) (λ w letters. sym (sure.canonical.equal w letters)) answers sure.certified.gives
 
   each : length (access_of l) ≡ length model.rows
   each = as_many h.inputs h.rows model.rows machine sure.canonical (answers_of o.kept) (access_of l) answers gives (access_is_crowd (answers_of o.kept) l ready.learner ready.read) (sym (states_are l h.rows of))
 
-  pub is_learned : IsLearnedFrom l k (answers_of o.kept) model l
-  is_learned =
+  learned : IsLearned (kind_of l) (inputs_of l) (outputs_of l) k (most_of l) (answers_of o.kept) model l
+  learned =
       record {
         certified = certified;
         carried = record {
@@ -93,12 +94,18 @@ module _ (o : OracleState) (l : Learner) (h model : MealyMachine) (k : ℕ) (rea
         };
       }
 
+  pub is_learned : IsLearnedFrom l method k (answers_of o.kept) model l
+  is_learned = record { learned = learned; enough = subst (λ (a : ℕ). IsEnoughFor method a k (answers_of o.kept) model) inputs sure.enough }
+
 -- what is learned, said of the numbers of a learner alike
-pub learned_alike : (l m n : Learner) (k : ℕ) (ks : List Answer) (model : MealyMachine) → IsAlike l m → IsLearnedFrom m k ks model n → IsLearnedFrom l k ks model n
-learned_alike l m n k ks model alike is =
-    subst (λ (x : Kind). IsLearned x (inputs_of l) (outputs_of l) k (most_of l) ks model n) alike.kind
-    (subst (λ (x : ℕ). IsLearned (kind_of m) (inputs_of l) (outputs_of l) k x ks model n) alike.most
-    (subst₂ (λ (a b : ℕ). IsLearned (kind_of m) a b k (most_of m) ks model n) alike.inputs alike.outputs is))
+pub learned_alike : (l m n : Learner) (method : Method) (k : ℕ) (ks : List Answer) (model : MealyMachine) → IsAlike l m → IsLearnedFrom m method k ks model n → IsLearnedFrom l method k ks model n
+learned_alike l m n method k ks model alike is =
+    record {
+      learned = subst (λ (x : Kind). IsLearned x (inputs_of l) (outputs_of l) k (most_of l) ks model n) alike.kind
+          (subst (λ (x : ℕ). IsLearned (kind_of m) (inputs_of l) (outputs_of l) k x ks model n) alike.most
+          (subst₂ (λ (a b : ℕ). IsLearned (kind_of m) a b k (most_of m) ks model n) alike.inputs alike.outputs is.learned));
+      enough = subst (λ (a : ℕ). IsEnoughFor method a k ks model) alike.inputs is.enough;
+    }
 
 pub stops_alike : (l m : Learner) (k : ℕ) (ks : List Answer) (stop : LearnStop) → IsAlike l m → StopsFrom m k ks stop → StopsFrom l k ks stop
 stops_alike l m k ks stop alike is =
@@ -157,8 +164,12 @@ closing_stops kind a b k most ks l stop new is = growth_as a b k most ks stop (s
 pub stops_from : (kind : Kind) (a b k most : ℕ) (ks : List Answer) (l m : Learner) (stop : LearnStop) → IsNew kind a b most l → IsAlike l m → StopsFrom m k ks stop → StopsAs a b k most ks stop
 stops_from kind a b k most ks l m stop new alike is = new_alike kind a b k most ks l stop new (stops_alike l m k ks stop alike is)
 
-pub learned_from : (kind : Kind) (a b k most : ℕ) (ks : List Answer) (l m n : Learner) (model : MealyMachine) → IsNew kind a b most l → IsAlike l m → IsLearnedFrom m k ks model n → IsLearned kind a b k most ks model n
-learned_from kind a b k most ks l m n model new alike is =
+pub learned_from : (kind : Kind) (method : Method) (a b k most : ℕ) (ks : List Answer) (l m n : Learner) (model : MealyMachine) → IsNew kind a b most l → IsAlike l m → IsLearnedFrom m method k ks model n → IsLearned kind a b k most ks model n
+learned_from kind method a b k most ks l m n model new alike is =
     subst (λ (x : Kind). IsLearned x a b k most ks model n) new.of_kind
     (subst (λ (x : ℕ). IsLearned (kind_of l) a b k x ks model n) new.limit
-    (subst₂ (λ (x y : ℕ). IsLearned (kind_of l) x y k (most_of l) ks model n) new.inputs new.outputs (learned_alike l m n k ks model alike is)))
+    (subst₂ (λ (x y : ℕ). IsLearned (kind_of l) x y k (most_of l) ks model n) new.inputs new.outputs (learned_alike l m n method k ks model alike is).learned))
+
+pub enough_from : (kind : Kind) (method : Method) (a b k most : ℕ) (ks : List Answer) (l m n : Learner) (model : MealyMachine) → IsNew kind a b most l → IsAlike l m → IsLearnedFrom m method k ks model n → IsEnoughFor method a k ks model
+enough_from kind method a b k most ks l m n model new alike is =
+    subst (λ (x : ℕ). IsEnoughFor method x k ks model) new.inputs (learned_alike l m n method k ks model alike is).enough

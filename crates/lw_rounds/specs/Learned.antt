@@ -1,4 +1,4 @@
--- What a learning says by its answer. Source: the learner of Angluin (1987), whose equivalence query is here the W-method of
+-- What a learning says by its answer. Source: the learner of Angluin (1987), whose equivalence query is here a suite, as that of
 -- Vasilevskii (1973) and Chow (1978).
 use Rattle.std.specs.Prelude.{◌≡◌, ℕ, ◌+◌, ◌<◌, ◌≤◌, List, length}
 use Rattle.lw_words.specs.Word.{Answer}
@@ -6,6 +6,7 @@ use Rattle.lw_mealy.specs.Machine.{Gives, MealyMachine, IsWithinLimits, Rows}
 use Rattle.lw_cache.specs.Crowd.{IsCrowd}
 use Rattle.lw_separate.specs.Canonical.{IsCanonical}
 use Rattle.lw_suite.specs.Size.{suite_size, greatest_suite}
+use Rattle.lw_suite.specs.declared.method.Method.{Method}
 use Rattle.lw_certify.specs.Sure.{Sure}
 use Rattle.lw_certify.specs.Verdict.{IsVerdict}
 use Rattle.lw_certify.specs.declared.verdict.Verdict.TheVariants as verdict
@@ -15,15 +16,18 @@ use Rattle.lw_rounds.specs.declared.learner.Learner.{Learner}
 use Rattle.lw_rounds.specs.declared.stops.LearnStop.{LearnStop}
 use Rattle.lw_rounds.specs.declared.stops.LearnStop.TheVariants as learn
 
--- the model is canonical, and the answers fix it among all machines of at most k states more: the verdict on it, and what that
--- means
+-- the model is canonical and gives the answers, and they fix it among all machines of at most k states more
 pub record IsCertified (a b k : ℕ) (ks : List Answer) (model : MealyMachine) : Type 0 where
   pub inputs : model.inputs ≡ a
   pub outputs : model.outputs ≡ b
   pub complete : IsWithinLimits model
   pub canonical : IsCanonical a model.rows model.rows
-  pub verdict : IsVerdict a model.rows ks k verdict.Sure
+  pub gives : Gives model.rows ks
   pub sure : Sure a model.rows ks k
+
+-- the answers are enough for the model by the suites that are made so: this is the verdict on it for k extra states
+abbrev pub IsEnoughFor : Method → ℕ → ℕ → List Answer → MealyMachine → Type 0
+IsEnoughFor method a k ks model = IsVerdict method a model.rows ks k verdict.Sure
 
 -- the learner is of the kind that was asked for; it is closed, a tree without temporary nodes; the rows are the canonical form
 -- of its machine, and its access words are a crowd of as many words

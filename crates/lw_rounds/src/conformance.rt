@@ -12,7 +12,7 @@ use crate::watcher::Account;
 use crate::{Phase, Watcher};
 use lw_cache::{AskStop, Oracle};
 use lw_mealy::Mealy;
-use lw_suite::Suite;
+use lw_suite::Chunks;
 use lw_words::Word;
 use std::alloc::Global;
 
@@ -48,10 +48,10 @@ fn settle_words<O: Oracle>(
 }
 
 /// Settles what is left of a suite, chunk by chunk, until the hypothesis differs.
-fn settle_chunks<O: Oracle, W: Watcher>(
+fn settle_chunks<O: Oracle, S: Chunks, W: Watcher>(
     oracle: &mut O,
     hypothesis: &Mealy,
-    suite: &mut Suite,
+    suite: &mut S,
     chunk: &mut Vec<Word>,
     account: &mut Account<'_, W>,
 ) -> Result<Option<Word>, AskStop>
@@ -60,10 +60,10 @@ fn settle_chunks<O: Oracle, W: Watcher>(
     requires keeps { Keeps (O.state oracle.old) }
     requires nothing { NothingClashes (answers_of (O.state oracle.old).kept) }
     requires inputs { hypothesis.now.inputs ≡ (O.state oracle.old).inputs }
-    requires letters { All (IsWord hypothesis.now.inputs) suite.old }
+    requires letters { All (IsWord hypothesis.now.inputs) (S.left suite.old) }
     requires gives { Gives hypothesis.now.rows (answers_of (O.state oracle.old).kept) }
     ensures comes { IfOk result (Comes hypothesis.now.rows (answers_of (O.state oracle.new).kept)
-        suite.old) }
+        (S.left suite.old)) }
     ensures leaves { Leaves (O.state oracle.old) (O.state oracle.new) (asked_stop result) }
     ensures can { O.can_settle oracle.new }
 {
@@ -78,11 +78,11 @@ fn settle_chunks<O: Oracle, W: Watcher>(
 }
 
 /// Settles a suite, chunk by chunk, until the hypothesis differs.
-pub fn settle_suite<O: Oracle, W: Watcher>(
+pub fn settle_suite<O: Oracle, S: Chunks, W: Watcher>(
     oracle: &mut O,
     alloc: Global,
     hypothesis: &Mealy,
-    suite: Suite,
+    suite: &mut S,
     account: &mut Account<'_, W>,
 ) -> Result<Option<Word>, AskStop>
     requires can { O.can_settle oracle.old }
@@ -90,14 +90,13 @@ pub fn settle_suite<O: Oracle, W: Watcher>(
     requires keeps { Keeps (O.state oracle.old) }
     requires nothing { NothingClashes (answers_of (O.state oracle.old).kept) }
     requires inputs { hypothesis.now.inputs ≡ (O.state oracle.old).inputs }
-    requires letters { All (IsWord hypothesis.now.inputs) suite }
+    requires letters { All (IsWord hypothesis.now.inputs) (S.left suite.old) }
     requires gives { Gives hypothesis.now.rows (answers_of (O.state oracle.old).kept) }
     ensures comes { IfOk result (Comes hypothesis.now.rows (answers_of (O.state oracle.new).kept)
-        suite) }
+        (S.left suite.old)) }
     ensures leaves { Leaves (O.state oracle.old) (O.state oracle.new) (asked_stop result) }
     ensures can { O.can_settle oracle.new }
 {
-    let mut suite = suite;
     let mut chunk = Vec::new(alloc);
-    settle_chunks(oracle, hypothesis, &mut suite, &mut chunk, account)
+    settle_chunks(oracle, hypothesis, suite, &mut chunk, account)
 }

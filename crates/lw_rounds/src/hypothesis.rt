@@ -7,10 +7,8 @@ ghost use Rattle.lw_cache.specs.Clash.{NothingClashes};
 ghost use Rattle.lw_cache.specs.Settling.{Keeps, MayAsk, Leaves};
 ghost use Rattle.lw_separate.specs.Canonical.{IsCanonical};
 ghost use Rattle.lw_suite.specs.Size.{suite_size, greatest_suite};
-ghost use Rattle.lw_suite.specs.Suite.{IsSuite};
-ghost use Rattle.lw_certify.specs.Verdict.{IsVerdict};
-ghost use Rattle.lw_certify.specs.declared.verdict.Verdict.{Verdict as Came};
-ghost use Rattle.lw_rounds.specs.Learned.{IsCertified};
+ghost use Rattle.lw_suite.specs.Suite.{IsSuiteBy};
+ghost use Rattle.lw_rounds.specs.Learned.{IsCertified, IsEnoughFor};
 ghost use Rattle.lw_rounds.specs.Learner.{IsRead, HasNoTemporary, IsMachineOf};
 ghost use Rattle.lw_rounds.specs.Stops.{learn_stop};
 ghost use Rattle.lw_rounds.specs.bodies.Rounds.{IsTested, StopsTest, of_fault};
@@ -22,7 +20,7 @@ use lw_cache::{AskStop, Cache, Oracle};
 use lw_certify::{Verdict, certify};
 use lw_mealy::Mealy;
 use lw_separate::canonical;
-use lw_suite::{Suite, SuiteFault};
+use lw_suite::{Chunks, Method, Suite, SuiteFault};
 use lw_words::{NoMemory, Word};
 use std::alloc::Global;
 
@@ -44,15 +42,15 @@ fn certified(
 ) -> Result<Mealy, NoMemory>
     requires letters { All (λ k. IsWord model.inputs k.word) (answers_of cache.now.kept) }
     requires canonical { IsCanonical model.inputs model.rows model.rows }
-    requires sure { IsVerdict model.inputs model.rows (answers_of cache.now.kept) settings.extra
-        Came.Sure }
+    requires enough { IsEnoughFor settings.suite model.inputs settings.extra
+        (answers_of cache.now.kept) model }
     ensures value { IfOk result (λ m. m ≡ model) }
     ensures certified { IfOk result (IsCertified model.inputs model.outputs settings.extra
         (answers_of cache.now.kept)) }
 {
     // The model tells that it is within the limits.
     let _ = model.inputs();
-    let verdict = certify(alloc, &model, cache, settings.extra)?;
+    let verdict = certify(alloc, &model, cache, settings.extra, settings.suite)?;
     match verdict {
         Verdict::Sure => Ok(model),
         _ => unreachable!(),
@@ -60,12 +58,12 @@ fn certified(
 }
 
 /// Settles the suite of a model, which is the canonical form of the hypothesis.
-fn settle_and_certify<O: Oracle, W: Watcher>(
+fn settle_and_certify<O: Oracle, S: Chunks, W: Watcher>(
     oracle: &mut O,
     alloc: Global,
     hypothesis: &Mealy,
     model: Mealy,
-    suite: Suite,
+    suite: &mut S,
     settings: Settings,
     account: &mut Account<'_, W>,
 ) -> Result<Tested, LearnStop>
@@ -78,10 +76,11 @@ fn settle_and_certify<O: Oracle, W: Watcher>(
     requires alphabets { (model.inputs ≡ hypothesis.now.inputs) ×
         (model.outputs ≡ hypothesis.now.outputs) }
     requires canonical { IsCanonical hypothesis.now.inputs hypothesis.now.rows model.rows }
-    requires suite { IsSuite model.inputs model.rows settings.extra suite }
+    requires suite { IsSuiteBy settings.suite model.inputs model.rows settings.extra
+        (S.left suite.old) }
     requires size { suite_size (length model.rows) model.inputs settings.extra ≤
         greatest_suite }
-    ensures tested { IfOk result (IsTested hypothesis.now settings.extra
+    ensures tested { IfOk result (IsTested hypothesis.now settings.suite settings.extra
         (answers_of (O.state oracle.new).kept)) }
     ensures stops { IfErr result (StopsTest hypothesis.now.inputs hypothesis.now.outputs
         settings.extra (length hypothesis.now.rows) (answers_of (O.state oracle.new).kept)) }
@@ -125,7 +124,7 @@ pub fn test_by_suite<O: Oracle, W: Watcher>(
     requires machine { IsMachineOf learner.now hypothesis.now.rows }
     requires read { IsRead (answers_of (O.state oracle.old).kept) learner.now }
     requires settled { HasNoTemporary learner.now }
-    ensures tested { IfOk result (IsTested hypothesis.now settings.extra
+    ensures tested { IfOk result (IsTested hypothesis.now settings.suite settings.extra
         (answers_of (O.state oracle.new).kept)) }
     ensures stops { IfErr result (StopsTest hypothesis.now.inputs hypothesis.now.outputs
         settings.extra (length hypothesis.now.rows) (answers_of (O.state oracle.new).kept)) }
@@ -136,8 +135,12 @@ pub fn test_by_suite<O: Oracle, W: Watcher>(
     let _ = learner.access();
     let _ = hypothesis.inputs();
     let model = canonical(alloc, hypothesis)?;
-    match Suite::new(alloc, &model, settings.extra) {
-        Ok(suite) => settle_and_certify(oracle, alloc, hypothesis, model, suite, settings, account),
-        Err(fault) => Err(without_suite(model, fault)),
+    match settings.suite {
+        Method::W => match Suite::new(alloc, &model, settings.extra) {
+            Ok(mut suite) => settle_and_certify(
+                oracle, alloc, hypothesis, model, &mut suite, settings, account,
+            ),
+            Err(fault) => Err(without_suite(model, fault)),
+        },
     }
 }

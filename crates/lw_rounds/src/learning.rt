@@ -3,7 +3,7 @@ ghost use Rattle.std.specs.Prelude.{◌≡◌, ◌≤◌, IfOk, IfErr};
 ghost use Rattle.lw_words.specs.Word.{answers_of};
 ghost use Rattle.lw_cache.specs.Clash.{NothingClashes};
 ghost use Rattle.lw_cache.specs.Settling.{MayAsk, Leaves};
-ghost use Rattle.lw_rounds.specs.Learned.{IsLearned, StopsAs};
+ghost use Rattle.lw_rounds.specs.Learned.{IsEnoughFor, IsLearned, StopsAs};
 ghost use Rattle.lw_rounds.specs.Learner.{inputs_of, outputs_of, IsRead};
 ghost use Rattle.lw_rounds.specs.Stops.{learn_stop};
 ghost use Rattle.lw_rounds.specs.bodies.Rounds.{IsLearnedFrom, StopsFrom};
@@ -29,7 +29,7 @@ fn learn_from<O: Oracle, W: Watcher>(
     requires inputs { inputs_of learner.old ≡ (O.state oracle.old).inputs }
     requires outputs { outputs_of learner.old ≡ (O.state oracle.old).outputs }
     requires read { IsRead (answers_of (O.state oracle.old).kept) learner.old }
-    ensures learned { IfOk result (λ model. IsLearnedFrom learner.old settings.extra
+    ensures learned { IfOk result (λ model. IsLearnedFrom learner.old settings.suite settings.extra
         (answers_of (O.state oracle.new).kept) model learner.new) }
     ensures stops { IfErr result (StopsFrom learner.old settings.extra
         (answers_of (O.state oracle.new).kept)) }
@@ -45,7 +45,8 @@ fn learn_from<O: Oracle, W: Watcher>(
 #[tactic(auto, using(lw_cache::proofs::SettlingLemmas::leaves_nothing, crate::proofs::StopLemmas::leaves_learn_own))]
 /// A model of the system behind an oracle, which every machine of at most the extra states more that gives the kept answers
 /// equals: a learner of the kind is closed and its machine tested, until nothing known and no word of its suite tells it
-/// apart (Angluin 1987, or Isberner, Howar and Steffen 2014, with the suite of Vasilevskii 1973 and Chow 1978).
+/// apart (Angluin 1987, or Isberner, Howar and Steffen 2014, with a suite that is made as the settings say, as that of
+/// Vasilevskii 1973 and Chow 1978).
 ///
 /// The watcher is told of the first closing, of each chunk of a suite, of each refinement with the closing that it makes, and of
 /// each settling that replaced a block.
@@ -67,6 +68,8 @@ pub fn learn<O: Oracle, W: Watcher>(
     ensures learned { IfOk result (λ l. IsLearned settings.kind (O.state oracle.old).inputs
         (O.state oracle.old).outputs settings.extra settings.max_states
         (answers_of (O.state oracle.new).kept) l.model l.learner) }
+    ensures enough { IfOk result (λ l. IsEnoughFor settings.suite (O.state oracle.old).inputs
+        settings.extra (answers_of (O.state oracle.new).kept) l.model) }
     ensures stops { IfErr result (StopsAs (O.state oracle.old).inputs
         (O.state oracle.old).outputs settings.extra settings.max_states
         (answers_of (O.state oracle.new).kept)) }

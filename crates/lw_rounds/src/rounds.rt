@@ -65,7 +65,7 @@ fn round_by_suite<O: Oracle, W: Watcher>(
     ensures ready { OnOk result (IsReady (O.state oracle.new) learner.new) }
     ensures alike { IsAlike learner.old learner.new }
     ensures goes { IfOk result (λ found. MatchOption found (GoesOn learner.old learner.new)
-        (λ model. IsLearnedFrom learner.old settings.extra
+        (λ model. IsLearnedFrom learner.old settings.suite settings.extra
         (answers_of (O.state oracle.new).kept) model learner.new)) }
     ensures stops { IfErr result (StopsFrom learner.old settings.extra
         (answers_of (O.state oracle.new).kept)) }
@@ -101,7 +101,7 @@ fn round_with<O: Oracle, W: Watcher>(
     ensures ready { OnOk result (IsReady (O.state oracle.new) learner.new) }
     ensures alike { IsAlike learner.old learner.new }
     ensures goes { IfOk result (λ found. MatchOption found (GoesOn learner.old learner.new)
-        (λ model. IsLearnedFrom learner.old settings.extra
+        (λ model. IsLearnedFrom learner.old settings.suite settings.extra
         (answers_of (O.state oracle.new).kept) model learner.new)) }
     ensures stops { IfErr result (StopsFrom learner.old settings.extra
         (answers_of (O.state oracle.new).kept)) }
@@ -135,7 +135,7 @@ fn round<O: Oracle, W: Watcher>(
     ensures ready { OnOk result (IsReady (O.state oracle.new) learner.new) }
     ensures alike { IsAlike learner.old learner.new }
     ensures goes { IfOk result (λ found. MatchOption found (GoesOn learner.old learner.new)
-        (λ model. IsLearnedFrom learner.old settings.extra
+        (λ model. IsLearnedFrom learner.old settings.suite settings.extra
         (answers_of (O.state oracle.new).kept) model learner.new)) }
     ensures stops { IfErr result (StopsFrom learner.old settings.extra
         (answers_of (O.state oracle.new).kept)) }
@@ -158,7 +158,7 @@ pub fn rounds<O: Oracle, W: Watcher>(
 ) -> Result<Mealy, LearnStop>
     requires can { O.can_settle oracle.old }
     requires ready { IsReady (O.state oracle.old) learner.old }
-    ensures learned { IfOk result (λ model. IsLearnedFrom learner.old settings.extra
+    ensures learned { IfOk result (λ model. IsLearnedFrom learner.old settings.suite settings.extra
         (answers_of (O.state oracle.new).kept) model learner.new) }
     ensures stops { IfErr result (StopsFrom learner.old settings.extra
         (answers_of (O.state oracle.new).kept)) }

@@ -1,16 +1,18 @@
-//! The numbers of a learning, and its kind.
+//! The numbers of a learning, its kind, and how its suites are made.
 ghost use Rattle.std.specs.Prelude.{◌≤◌};
 
 use crate::Kind;
+use lw_suite::Method;
 
 /// What a learning is to keep to: how many instances of the system it may ask, the kind of its learner, how many states more than
-/// the model a machine may have for which the model is sure, and how many states the model may have.
+/// the model a machine may have for which the model is sure, how many states the model may have, and how its suites are made.
 #[derive(Clone, Copy, Debug, PartialEq, Eq)]
 pub struct Settings {
     pub workers: u8,
     pub kind: Kind,
     pub extra: u8,
     pub max_states: u16,
+    pub suite: Method,
     pub ghost workers_in_range: { (1 ≤ workers) × (workers ≤ 16) },
     pub ghost extra_in_range: { extra ≤ 4 },
     pub ghost states_in_range: { (1 ≤ max_states) × (max_states ≤ 1024) },
@@ -22,10 +24,16 @@ impl Settings {
 
     /// The settings of these values, or None where one is out of its range: 1 to 16 workers, 0 to 4 extra states, and 1 to 1,024
     /// states.
-    pub fn new(workers: u8, kind: Kind, extra: u8, max_states: u16) -> Option<Settings>
+    pub fn new(
+        workers: u8,
+        kind: Kind,
+        extra: u8,
+        max_states: u16,
+        suite: Method,
+    ) -> Option<Settings>
         ensures { MatchOption result (¬ AreInRange workers extra max_states)
             (λ s. (s.workers ≡ workers) × (s.kind ≡ kind) × (s.extra ≡ extra)
-            × (s.max_states ≡ max_states)) }
+            × (s.max_states ≡ max_states) × (s.suite ≡ suite)) }
     {
         if workers < 1 || workers > 16 || extra > 4 || max_states < 1 || max_states > 1024 {
             return None;
@@ -35,6 +43,7 @@ impl Settings {
             kind,
             extra,
             max_states,
+            suite,
         })
     }
 }

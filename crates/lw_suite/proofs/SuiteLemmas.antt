@@ -1,12 +1,12 @@
 -- A machine has one suite, of at most as many words as its size says.
-use Rattle.std.proofs.Common.{◌≡◌, ℕ, suc, ◌+◌, ◌*◌, ◌<◌, ◌≤◌, inl, ⊎_elim, List, [], ◌∷◌, ◌++◌, length, refl, sym, ap, ap₂, ◌∙◌, arith}
+use Rattle.std.proofs.Common.{◌≡◌, ℕ, suc, ◌+◌, ◌*◌, ◌<◌, ◌≤◌, inl, ⊎_elim, List, [], ◌∷◌, ◌++◌, length, sym, ap, ap₂, ◌∙◌, arith}
 use Rattle.std.proofs.Math.Nat.{mul-le-mul_right}
 use Rattle.std.proofs.lemmas.Bool.{cases_lt}
 use Rattle.lw_mealy.specs.Machine.{Rows}
 use Rattle.lw_separate.specs.Separators.{IsSeparators}
 use Rattle.lw_separate.proofs.CrowdLemmas.{fewer_words}
 use Rattle.lw_separate.proofs.OneLemmas.{one_least_access, one_separators}
-use Rattle.lw_suite.specs.Size.{powers, suite_size}
+use Rattle.lw_suite.specs.Size.{powers}
 use Rattle.lw_suite.specs.Suite.{OneSuite, SuiteIsCounted, each_with, suite_of, words_up_to}
 use Rattle.lw_suite.proofs.EachLemmas.{length-each}
 use Rattle.lw_suite.proofs.SizeLemmas.{length-words_up_to}

@@ -7,6 +7,8 @@ use Rattle.lw_mealy.specs.Machine.{Rows, IsMachine, IsMinimal}
 use Rattle.lw_separate.specs.Canonical.{AreLeastAccess}
 use Rattle.lw_separate.specs.Separators.{IsSeparators}
 use Rattle.lw_suite.specs.Size.{suite_size}
+use Rattle.lw_suite.specs.declared.method.Method.{Method}
+use Rattle.lw_suite.specs.declared.method.Method.TheVariants.{W}
 
 -- each of the first list with each of the second, by the first, then by the second
 abbrev pub each_with : {X Y Z : Type 0} → (X → Y → Z) → List X → List Y → List Z
@@ -34,6 +36,10 @@ pub record IsSuite (a : ℕ) (m : Rows) (k : ℕ) (suite : List (List ℕ)) : Ty
   pub least : AreLeastAccess a m access
   pub separating : IsSeparators a m ends
   pub words : suite ≡ suite_of access (words_up_to a (k + 1)) ends
+
+-- the suite of a machine for k extra states, by how suites are made
+abbrev pub IsSuiteBy : Method → ℕ → Rows → ℕ → List (List ℕ) → Type 0
+IsSuiteBy W a m k suite = IsSuite a m k suite
 
 -- a machine has one suite at most
 abbrev pub OneSuite : Type 0

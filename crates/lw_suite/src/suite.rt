@@ -8,6 +8,7 @@ ghost use Rattle.lw_separate.specs.Canonical.{AreLeastAccess};
 ghost use Rattle.lw_separate.specs.Separators.{IsSeparators};
 ghost use Rattle.lw_suite.specs.declared.suite.SuiteFault.{SuiteFault as Fault};
 
+use crate::Chunks;
 use crate::parts::{Parts, Place};
 use crate::places::{end_at, front_at, number, put, step, word_count};
 use crate::size::{GREATEST_SUITE, middle_count, suite_size};
@@ -202,5 +203,13 @@ impl Suite {
                 Err(NoMemory)
             }
         }
+    }
+}
+
+impl Chunks for Suite {
+    ghost left = { λ words. words };
+
+    fn next_chunk(&mut self, chunk: &mut Vec<Word>) -> Result<bool, NoMemory> {
+        Suite::next_chunk(self, chunk)
     }
 }

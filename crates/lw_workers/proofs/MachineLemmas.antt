@@ -15,8 +15,9 @@ use Rattle.lw_cache.proofs.ClashLemmas.{given_never_clash}
 use Rattle.lw_names.specs.Naming.{Naming}
 use Rattle.lw_pool.specs.Pool.{Member, PoolState, IsStopOf, seen_at, seen_of}
 use Rattle.lw_pool.specs.Sharing.{oracle_of}
+use Rattle.lw_suite.specs.declared.method.Method.{Method}
 use Rattle.lw_rounds.specs.Laws.{ModelIsLeast, TooManyIsNone, TooLargeForAll}
-use Rattle.lw_rounds.specs.Learned.{IsLearned, StopsAs}
+use Rattle.lw_rounds.specs.Learned.{IsEnoughFor, IsLearned, StopsAs}
 use Rattle.lw_rounds.specs.Stops.{learn_stop, IsOwnStop}
 use Rattle.lw_rounds.specs.declared.learned.Learned.{Learned}
 use Rattle.lw_rounds.specs.declared.learner.Kind.{Kind}
@@ -74,6 +75,10 @@ reached kind a b k most ks (Err (learn.Ask stop)) least none large are learned s
 reached kind a b k most ks (Err (learn.Crowd words)) least none large are learned stops own m within gives = none a most ks words are stops m within.machine within.few gives
 reached kind a b k most ks (Err (learn.TooLarge model number)) least none large are learned stops own m within gives =
     omega (arith, large a b k most ks model number are stops m within.machine gives, within.small)
+
+-- answers that are enough are so under other names for the number of letters and for what is kept
+pub enough_as : (method : Method) (a b k : ℕ) (one two : List KeptAnswer) (r : Result Learned LearnStop) → a ≡ b → one ≡ two → IfOk r (λ l. IsEnoughFor method a k (answers_of one) l.model) → IfOk r (λ l. IsEnoughFor method b k (answers_of two) l.model)
+enough_as method a b k one two r inputs kept enough = subst₂ (λ (n : ℕ) (ks : List KeptAnswer). IfOk r (λ l. IsEnoughFor method n k (answers_of ks) l.model)) inputs kept enough
 
 -- what a learning of a machine answers, and what its instances answered
 pub record HasEnded (kind : Kind) (t : MealyMachine) (workers k most : ℕ) (prior : List KeptAnswer) (learned : Result Learned LearnStop) (kept : List KeptAnswer) : Type 0 where

@@ -4,7 +4,7 @@ ghost use Rattle.std.specs.List.{All};
 ghost use Rattle.lw_words.specs.Word.{answers_of, IsWord};
 ghost use Rattle.lw_cache.specs.Clash.{NothingClashes};
 ghost use Rattle.lw_cache.specs.Settling.{MayAsk, Leaves, asked_stop};
-ghost use Rattle.lw_rounds.specs.Learned.{IsLearned, StopsAs};
+ghost use Rattle.lw_rounds.specs.Learned.{IsEnoughFor, IsLearned, StopsAs};
 ghost use Rattle.lw_rounds.specs.Stops.{learn_stop};
 ghost use Rattle.lw_workers.specs.Asking.{AnswersWords};
 
@@ -69,6 +69,8 @@ pub fn learn_after<O: Oracle, W: Watcher>(
     ensures learned { IfOk result (λ l. IsLearned settings.kind (O.state oracle.old).inputs
         (O.state oracle.old).outputs settings.extra settings.max_states
         (answers_of (O.state oracle.new).kept) l.model l.learner) }
+    ensures enough { IfOk result (λ l. IsEnoughFor settings.suite (O.state oracle.old).inputs
+        settings.extra (answers_of (O.state oracle.new).kept) l.model) }
     ensures stops { IfErr result (StopsAs (O.state oracle.old).inputs
         (O.state oracle.old).outputs settings.extra settings.max_states
         (answers_of (O.state oracle.new).kept)) }

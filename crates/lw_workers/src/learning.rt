@@ -5,7 +5,7 @@ ghost use Rattle.lw_words.specs.Word.{answers_of, IsWord};
 ghost use Rattle.lw_cache.specs.Clash.{NothingClashes};
 ghost use Rattle.lw_cache.specs.Settling.{MayAsk};
 ghost use Rattle.lw_pool.specs.Settling.{HasSettled};
-ghost use Rattle.lw_rounds.specs.Learned.{IsLearned, StopsAs};
+ghost use Rattle.lw_rounds.specs.Learned.{IsEnoughFor, IsLearned, StopsAs};
 ghost use Rattle.lw_rounds.specs.Stops.{learn_stop};
 ghost use Rattle.lw_workers.specs.Asking.{AnswersWords};
 ghost use Rattle.lw_workers.specs.Leaving.{HasLearned};
@@ -46,6 +46,8 @@ pub fn learn_with<S: Sul + Send, R: Threads + Wait + Sync, W: Watcher>(
     ensures learned { IfOk result.learned (λ l. IsLearned settings.kind pool.inputs
         pool.outputs settings.extra settings.max_states (answers_of result.pool.kept) l.model
         l.learner) }
+    ensures enough { IfOk result.learned (λ l. IsEnoughFor settings.suite pool.inputs
+        settings.extra (answers_of result.pool.kept) l.model) }
     ensures stops { IfErr result.learned (StopsAs pool.inputs pool.outputs settings.extra
         settings.max_states (answers_of result.pool.kept)) }
     ensures leaves { HasLearned pool result.pool (learn_stop result.learned) }

@@ -5,7 +5,7 @@ ghost use Rattle.lw_words.specs.Word.{answers_of, IsWord};
 ghost use Rattle.lw_mealy.specs.Machine.{Gives, Rows};
 ghost use Rattle.lw_cache.specs.Clash.{NothingClashes};
 ghost use Rattle.lw_pool.specs.Opening.{MayBegin};
-ghost use Rattle.lw_rounds.specs.Learned.{IsLearned, StopsAs};
+ghost use Rattle.lw_rounds.specs.Learned.{IsEnoughFor, IsLearned, StopsAs};
 ghost use Rattle.lw_workers.specs.Asking.{AnswersWords};
 ghost use Rattle.lw_workers.specs.Machines.{IsMachineStop, KeepsRuns, IsReached, IsWithin};
 ghost use Rattle.lw_workers.specs.bodies.Instances.{AreInstances, IsPoolOf};
@@ -97,6 +97,8 @@ pub fn learn_machine<R: Threads + Wait + Sync + Drop, W: Watcher>(
     ensures learned { IfOk result.learned (λ l. IsLearned settings.kind system.now.inputs
         system.now.outputs settings.extra settings.max_states (answers_of result.kept.answers)
         l.model l.learner) }
+    ensures enough { IfOk result.learned (λ l. IsEnoughFor settings.suite system.now.inputs
+        settings.extra (answers_of result.kept.answers) l.model) }
     ensures stops { IfErr result.learned (StopsAs system.now.inputs system.now.outputs
         settings.extra settings.max_states (answers_of result.kept.answers)) }
     ensures caused { IfErr result.learned (IsMachineStop result.kept.answers) }

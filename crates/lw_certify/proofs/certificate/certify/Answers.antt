@@ -22,4 +22,4 @@ certify_suite-requires-clause-minimal c =
     minimal c.args.h.now.inputs c.args.h.now.rows c.in-Words.words words (subst (IsFirstAlike c.args.h.now.inputs c.args.h.now.rows) c.in_default.is c.in_ok-p.ensures)
 
 pub returns-clause-sure : goal.returns-clause-sure
-returns-clause-sure c = sure_verdict c.args.h.now.inputs c.args.h.now.rows (answers_of c.args.cache.now.kept) c.args.extra c.certify_suite.result c.in_ok-words.ensures.complete.machine c.certify_suite.ensures.verdict
+returns-clause-sure c = sure_verdict c.args.method c.args.h.now.inputs c.args.h.now.rows (answers_of c.args.cache.now.kept) c.args.extra c.certify_suite.result c.in_ok-words.ensures.complete.machine c.certify_suite.ensures.verdict

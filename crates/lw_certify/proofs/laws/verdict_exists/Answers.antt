@@ -1,19 +1,16 @@
-use Rattle.std.proofs.Common.{ℕ, ◌<◌, ◌≤◌, ⊎_elim, [], length, get_or, refl}
-use Rattle.std.specs.List.{All}
+use Rattle.std.proofs.Common.{ℕ, List, ◌<◌, ◌≤◌, ⊎_elim, length, refl}
 use Rattle.std.proofs.lemmas.Bool.{cases_lt}
-use Rattle.lw_words.specs.First.{FailsFirst}
 use Rattle.lw_mealy.specs.Machine.{IsMinimal, Gives}
-use Rattle.lw_cache.specs.Known.{IsKnown}
 use Rattle.lw_separate.specs.FirstAlike.{AreFirstAlike, AnyTwoDiffer}
 use Rattle.lw_separate.proofs.ExistenceAlike.{first_alike_or_none}
 use Rattle.lw_suite.specs.Size.{suite_size, greatest_suite}
-use Rattle.lw_certify.specs.Verdict.{IsFirstUnreached, AllReached, DiffersAt}
+use Rattle.lw_certify.specs.Verdict.{IsFirstUnreached, AllReached, DiffersAt, IsMissingBy, AreEnoughBy}
 use Rattle.lw_certify.specs.declared.verdict.Verdict.TheVariants as verdict
-use Rattle.lw_certify.proofs.ExistenceVerdict.{unreached_or_all_reached, differs_or_gives, known_or_missing}
+use Rattle.lw_certify.proofs.ExistenceVerdict.{unreached_or_all_reached, differs_or_gives, enough_or_missing}
 use Rattle.lw_certify.proofs.laws.verdict_exists.Goals as goal
 
 pub returns : goal.returns
-returns c a h ks k machine whole =
+returns c method a h ks k machine whole =
     ⊎_elim
     (λ (f : (q : ℕ) × IsFirstUnreached a h q). (verdict.Unreached f.0, f.1))
     (λ (reached : AllReached a h).
@@ -27,14 +24,10 @@ returns c a h ks k machine whole =
     ⊎_elim
     (λ (large : greatest_suite < suite_size (length h) a k). (verdict.TooLarge (suite_size (length h) a k), (minimal, given, large, refl)))
     (λ (small : suite_size (length h) a k ≤ greatest_suite).
-    let suite = c.suite_exists.ensures a h k machine minimal in
     ⊎_elim
-    (λ (known : All (IsKnown ks) suite.0). (verdict.Sure, (minimal, given, small, record { suite = suite.0; whole = suite.1; known = known })))
-    (λ (f : (number : ℕ) × FailsFirst (IsKnown ks) suite.0 number). (
-      verdict.Missing (get_or suite.0 f.0 []),
-      (minimal, given, small, record { suite = suite.0; whole = suite.1; number = f.0; first = f.1; here = refl }),
-    ))
-    (known_or_missing ks suite.0))
+    (λ (enough : AreEnoughBy method a h ks k). (verdict.Sure, (minimal, given, small, enough)))
+    (λ (f : (word : List ℕ) × IsMissingBy method a h ks k word). (verdict.Missing f.0, (minimal, given, small, f.1)))
+    (enough_or_missing method a h ks k c.suite_exists.ensures machine minimal))
     (cases_lt greatest_suite (suite_size (length h) a k)))
     (differs_or_gives h ks whole))
     (first_alike_or_none a h machine))

@@ -11,7 +11,7 @@ pub loop-oracle-init : goal.loop-oracle-init
 loop-oracle-init g c =
     let before = g.O.Oracle.state c.args.oracle.now in
     record {
-      settled = settled_none c.args.hypothesis.now.inputs c.args.hypothesis.now.rows (answers_of before.kept) c.args.suite.now c.requires.gives c.requires.letters;
+      settled = settled_none c.args.hypothesis.now.inputs c.args.hypothesis.now.rows (answers_of before.kept) (g.S.Chunks.left c.args.suite.now) c.requires.gives c.requires.letters;
       leaves = leaves_nothing before c.requires.keeps c.requires.may;
       can = c.requires.can;
     }
@@ -22,10 +22,10 @@ settle_words-requires-clause-nothing g c = c.loop-oracle.invariant.leaves.unclas
 pub settle_words-requires-clause-letters : goal.settle_words-requires-clause-letters
 settle_words-requires-clause-letters g c =
     let a = c.args.hypothesis.now.inputs in
-    subst (λ (words : List (List ℕ)). All (IsWord a) words) (sym (c.as_slice.ensures.value ∙ c.in_ok-next_chunk.ensures.chunk)) (All-take (IsWord a) 512 c.loop-oracle.suite c.loop-oracle.invariant.settled.letters)
+    subst (λ (words : List (List ℕ)). All (IsWord a) words) (sym (c.as_slice.ensures.value ∙ c.in_ok-next_chunk.ensures.chunk)) (All-take (IsWord a) 512 (g.S.Chunks.left c.loop-oracle.suite) c.loop-oracle.invariant.settled.letters)
 
 pub settle_words-requires-clause-few : goal.settle_words-requires-clause-few
-settle_words-requires-clause-few g c = few_in_chunk c.as_slice.result.now c.loop-oracle.suite (c.as_slice.ensures.value ∙ c.in_ok-next_chunk.ensures.chunk)
+settle_words-requires-clause-few g c = few_in_chunk c.as_slice.result.now (g.S.Chunks.left c.loop-oracle.suite) (c.as_slice.ensures.value ∙ c.in_ok-next_chunk.ensures.chunk)
 
 pub returns-in_err-found-clause-leaves : goal.returns-in_err-found-clause-leaves
 returns-in_err-found-clause-leaves g c =
@@ -37,7 +37,7 @@ returns-in-Some-clause-leaves g c =
     leaves_then (g.O.Oracle.state c.args.oracle.now) (g.O.Oracle.state c.loop-oracle.oracle) (g.O.Oracle.state c.settle_words.new.oracle) None c.loop-oracle.invariant.leaves c.in_ok-found.ensures.leaves
 
 pub loop-oracle-smaller : goal.loop-oracle-smaller
-loop-oracle-smaller g c = fewer 512 c.loop-oracle.suite c.next_chunk.new.self (omega arith) (c.in_ok-next_chunk.ensures.more.0 c.if-branch.true) c.in_ok-next_chunk.ensures.left
+loop-oracle-smaller g c = fewer 512 (g.S.Chunks.left c.loop-oracle.suite) (g.S.Chunks.left c.next_chunk.new.self) (omega arith) (c.in_ok-next_chunk.ensures.more.0 c.if-branch.true) c.in_ok-next_chunk.ensures.rest
 
 pub loop-oracle-preserved : goal.loop-oracle-preserved
 loop-oracle-preserved g c =
@@ -47,8 +47,8 @@ loop-oracle-preserved g c =
     let h = c.args.hypothesis.now.rows in
     let leaves = c.in_ok-found.ensures.leaves in
     record {
-      settled = settled_more c.args.hypothesis.now.inputs h before.kept leaves.gained now.kept c.args.suite.now c.loop-oracle.suite c.as_slice.result.now c.next_chunk.new.self 512 leaves.at_end
-          (c.as_slice.ensures.value ∙ c.in_ok-next_chunk.ensures.chunk) c.in_ok-next_chunk.ensures.left c.loop-oracle.invariant.settled (rw c.in_default.is at c.in_ok-found.ensures.comes);
+      settled = settled_more c.args.hypothesis.now.inputs h before.kept leaves.gained now.kept (g.S.Chunks.left c.args.suite.now) (g.S.Chunks.left c.loop-oracle.suite) c.as_slice.result.now (g.S.Chunks.left c.next_chunk.new.self) 512 leaves.at_end
+          (c.as_slice.ensures.value ∙ c.in_ok-next_chunk.ensures.chunk) c.in_ok-next_chunk.ensures.rest c.loop-oracle.invariant.settled (rw c.in_default.is at c.in_ok-found.ensures.comes);
       leaves = leaves_then start before now None c.loop-oracle.invariant.leaves leaves;
       can = c.settle_words.ensures.can;
     }

@@ -1,29 +1,28 @@
 use Rattle.std.proofs.Common.{ℕ, List, sym, ◌∙◌, subst}
 use Rattle.lw_words.specs.Word.{answers_of}
 use Rattle.lw_words.specs.declared.kept.KeptAnswer.{KeptAnswer}
-use Rattle.lw_certify.specs.Verdict.{IsVerdict}
-use Rattle.lw_certify.specs.declared.verdict.Verdict.TheVariants.{Sure}
 use Rattle.lw_cache.proofs.SettlingLemmas.{kept_are_answers}
 use Rattle.lw_separate.specs.Canonical.{IsCanonical}
+use Rattle.lw_rounds.specs.Learned.{IsEnoughFor}
 use Rattle.lw_rounds.proofs.CanonicalLemmas.{of_itself}
 use Rattle.lw_rounds.proofs.HypothesisLemmas.{suite_words, kept_words, passes_sure}
 use Rattle.lw_rounds.proofs.hypothesis.settle_and_certify.Goals as goal
 
 pub settle_suite-requires-clause-letters : goal.settle_suite-requires-clause-letters
-settle_suite-requires-clause-letters g c = suite_words c.args.hypothesis.now.inputs c.args.model.inputs c.args.model.rows c.args.settings.extra c.args.suite c.requires.alphabets.0 c.requires.suite
+settle_suite-requires-clause-letters g c = suite_words c.args.settings.suite c.args.hypothesis.now.inputs c.args.model.inputs c.args.model.rows c.args.settings.extra (g.S.Chunks.left c.args.suite.now) c.requires.alphabets.0 c.requires.suite
 
 pub certified-requires-clause-letters : goal.certified-requires-clause-letters
 certified-requires-clause-letters g c =
     let leaves = c.in_ok-found.ensures.leaves in
     kept_words (g.O.Oracle.state c.settle_suite.new.oracle) c.args.model.inputs c.cache.result.now.kept (c.requires.alphabets.0 ∙ (c.requires.inputs ∙ sym leaves.same.inputs)) c.cache.ensures.kept leaves.keeps
 
-pub certified-requires-clause-sure : goal.certified-requires-clause-sure
-certified-requires-clause-sure g c =
+pub certified-requires-clause-enough : goal.certified-requires-clause-enough
+certified-requires-clause-enough g c =
     let now = g.O.Oracle.state c.settle_suite.new.oracle in
     let a = c.args.hypothesis.now.inputs in
     let leaves = c.in_ok-found.ensures.leaves in
-    subst (λ (kept : List KeptAnswer). IsVerdict c.args.model.inputs c.args.model.rows (answers_of kept) c.args.settings.extra Sure) (sym c.cache.ensures.kept)
-    (passes_sure a c.args.model.inputs c.args.hypothesis.now.rows c.args.model.rows (answers_of now.kept) c.args.settings.extra c.args.suite c.requires.alphabets.0 c.requires.canonical
+    subst (λ (kept : List KeptAnswer). IsEnoughFor c.args.settings.suite c.args.model.inputs c.args.settings.extra (answers_of kept) c.args.model) (sym c.cache.ensures.kept)
+    (passes_sure c.args.settings.suite a c.args.model.inputs c.args.hypothesis.now.rows c.args.model.rows (answers_of now.kept) c.args.settings.extra (g.S.Chunks.left c.args.suite.now) c.requires.alphabets.0 c.requires.canonical
     (kept_are_answers now a (c.requires.inputs ∙ sym leaves.same.inputs) leaves.keeps) c.requires.suite c.requires.size (rw c.in-None.is at c.in_ok-found.ensures.comes))
 
 pub certified-requires-clause-canonical : goal.certified-requires-clause-canonical

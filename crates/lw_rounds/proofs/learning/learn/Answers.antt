@@ -3,7 +3,7 @@ use Rattle.lw_words.specs.Word.{answers_of}
 use Rattle.lw_mealy.specs.Machine.{MealyMachine}
 use Rattle.lw_rounds.specs.Learned.{StopsAs}
 use Rattle.lw_rounds.proofs.StopLemmas.{leaves_learn_handed}
-use Rattle.lw_rounds.proofs.RoundLemmas.{told_stops, learned_from, new_as, stops_from}
+use Rattle.lw_rounds.proofs.RoundLemmas.{told_stops, enough_from, learned_from, new_as, stops_from}
 use Rattle.lw_rounds.proofs.learning.learn.Goals as goal
 
 pub learn_from-requires-clause-read : goal.learn_from-requires-clause-read
@@ -29,4 +29,12 @@ returns-clause-learned g c =
     let l = c.in_ok-learner.learner in
     let o = g.O.Oracle.state c.args.oracle.now in
     let new = new_as c.args.settings.kind c.inputs-inputs.result c.outputs-outputs.result o.inputs o.outputs c.args.settings.max_states l c.inputs-inputs.ensures c.outputs-outputs.ensures c.in_ok-learner.ensures in
-    learned_from c.args.settings.kind o.inputs o.outputs c.args.settings.extra c.args.settings.max_states ks l l c.learn_from.new.learner c.in_ok-model.model new (record { kind = refl; inputs = refl; outputs = refl; most = refl }) c.in_ok-model.ensures.learned
+    learned_from c.args.settings.kind c.args.settings.suite o.inputs o.outputs c.args.settings.extra c.args.settings.max_states ks l l c.learn_from.new.learner c.in_ok-model.model new (record { kind = refl; inputs = refl; outputs = refl; most = refl }) c.in_ok-model.ensures.learned
+
+pub returns-clause-enough : goal.returns-clause-enough
+returns-clause-enough g c =
+    let ks = answers_of (g.O.Oracle.state c.learn_from.new.oracle).kept in
+    let l = c.in_ok-learner.learner in
+    let o = g.O.Oracle.state c.args.oracle.now in
+    let new = new_as c.args.settings.kind c.inputs-inputs.result c.outputs-outputs.result o.inputs o.outputs c.args.settings.max_states l c.inputs-inputs.ensures c.outputs-outputs.ensures c.in_ok-learner.ensures in
+    enough_from c.args.settings.kind c.args.settings.suite o.inputs o.outputs c.args.settings.extra c.args.settings.max_states ks l l c.learn_from.new.learner c.in_ok-model.model new (record { kind = refl; inputs = refl; outputs = refl; most = refl }) c.in_ok-model.ensures.learned

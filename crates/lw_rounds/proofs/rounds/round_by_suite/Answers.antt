@@ -29,7 +29,7 @@ returns-in-Sure-clause-goes g c =
     let before = g.O.Oracle.state c.args.oracle.now in
     let now = g.O.Oracle.state c.test_by_suite.new.oracle in
     let l = c.args.learner.now in
-    is_learned now l c.args.hypothesis.now c.in-Sure.model c.args.settings.extra (ready_more before now l c.in_ok-word.ensures.leaves c.requires.ready) c.requires.settled
+    is_learned now l c.args.hypothesis.now c.in-Sure.model c.args.settings.suite c.args.settings.extra (ready_more before now l c.in_ok-word.ensures.leaves c.requires.ready) c.requires.settled
     c.requires.machine c.inputs.ensures.complete.machine c.requires.inputs c.requires.outputs (rw c.in-Sure.is at c.in_ok-word.ensures.tested)
 
 pub returns-in_err-refine-in-Differs-clause-stops : goal.returns-in_err-refine-in-Differs-clause-stops

@@ -2,6 +2,7 @@ use Rattle.std.proofs.Common.{refl}
 use Rattle.lw_cache.proofs.SettlingLemmas.{leaves_then}
 use Rattle.lw_rounds.specs.Stops.{learn_stop}
 use Rattle.lw_workers.specs.Asking.{AnswersWords}
+use Rattle.lw_workers.proofs.MachineLemmas.{enough_as}
 use Rattle.lw_workers.proofs.AskingLemmas.{are_answered_more, when_ok}
 use Rattle.lw_workers.proofs.asking.learn_after.Goals as goal
 
@@ -18,3 +19,10 @@ returns-clause-asked g c =
 pub returns-clause-leaves : goal.returns-clause-leaves
 returns-clause-leaves g c =
     leaves_then (g.O.Oracle.state c.args.oracle.now) (g.O.Oracle.state c.settle_named.new.oracle) (g.O.Oracle.state c.learn.new.oracle) (learn_stop c.learn.result) c.in_ok-settle_named.ensures.leaves c.learn.ensures.leaves
+
+pub returns-clause-enough : goal.returns-clause-enough
+returns-clause-enough g c =
+    let before = g.O.Oracle.state c.args.oracle.now in
+    let between = g.O.Oracle.state c.settle_named.new.oracle in
+    let now = g.O.Oracle.state c.learn.new.oracle in
+    enough_as c.args.settings.suite between.inputs before.inputs c.args.settings.extra now.kept now.kept c.learn.result c.in_ok-settle_named.ensures.leaves.same.inputs refl c.learn.ensures.enough

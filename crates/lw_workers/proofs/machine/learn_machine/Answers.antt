@@ -7,7 +7,7 @@ use Rattle.lw_rounds.specs.Stops.{learn_stop}
 use Rattle.lw_workers.specs.Asking.{AnswersWords}
 use Rattle.lw_workers.specs.Machines.{KeepsRuns}
 use Rattle.lw_workers.proofs.InstanceLemmas.{member}
-use Rattle.lw_workers.proofs.MachineLemmas.{has_ended, never_stopped}
+use Rattle.lw_workers.proofs.MachineLemmas.{enough_as, has_ended, never_stopped}
 use Rattle.lw_workers.proofs.RunLemmas.{keeps_naming, keeps_prior}
 use Rattle.lw_workers.proofs.machine.learn_machine.Goals as goal
 
@@ -17,6 +17,12 @@ returns-clause-learned g c =
     let parts = c.into_parts-left.ensures in
     let never = never_stopped member _ _ parts.sessions (λ s. refl) in
     (has_ended c.args.settings.kind c.args.system.now c.args.settings.workers c.args.settings.extra c.args.settings.max_states c.args.start.names c.args.start.cache.kept c.in-Ok.pool c.learn_with-learned.result.pool c.learn_with-learned.result.learned c.into_kept-2.result.answers c.model_is_least.ensures c.too_many_is_none.ensures c.too_large_for_all.ensures c.in-Ok.ensures.pool c.requires.nothing learned.leaves never learned.learned learned.stops (c.into_kept-2.ensures ∙ parts.cache.0)).ok
+
+pub returns-clause-enough : goal.returns-clause-enough
+returns-clause-enough g c =
+    let learned = c.learn_with-learned.ensures in
+    let parts = c.into_parts-left.ensures in
+    enough_as c.args.settings.suite c.in-Ok.pool.inputs c.args.system.now.inputs c.args.settings.extra c.learn_with-learned.result.pool.kept c.into_kept-2.result.answers c.learn_with-learned.result.learned c.in-Ok.ensures.pool.inputs (sym (c.into_kept-2.ensures ∙ parts.cache.0)) learned.enough
 
 pub returns-clause-stops : goal.returns-clause-stops
 returns-clause-stops g c =
