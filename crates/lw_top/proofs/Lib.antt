@@ -1,3 +1,4 @@
+pub mod CauseLemmas
 pub mod CheckLemmas
 pub mod AskLemmas
 pub mod CommandLemmas

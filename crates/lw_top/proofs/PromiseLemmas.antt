@@ -1,16 +1,14 @@
 -- The promises, from what each command did.
-use Rattle.std.proofs.Common.{◌≡◌, ◌⊎◌, inl, inr, ⊎_elim, ℕ, ◌≤◌, List, [], length, Option, Some, None, IfSome, Result, Ok, Err, refl, sym, ap, ◌∙◌, subst, arith}
+use Rattle.std.proofs.Common.{◌≡◌, ◌⊎◌, inl, inr, ⊎_elim, ℕ, ◌≤◌, List, length, Option, Some, None, IfSome, Result, Ok, Err, sym, ap, ◌∙◌, subst, arith}
 use Rattle.lw_words.specs.Word.{answers_of}
 use Rattle.lw_words.specs.Cause.{CountedFault}
 use Rattle.lw_words.specs.declared.kept.KeptAnswer.{KeptAnswer}
 use Rattle.lw_words.specs.declared.stop.SulStop.TheVariants as sul
-use Rattle.lw_mealy.specs.Machine.{MealyMachine, Rows, IsMinimal}
+use Rattle.lw_mealy.specs.Machine.{MealyMachine, IsMinimal}
 use Rattle.lw_separate.specs.Canonical.{IsCanonical}
 use Rattle.lw_certify.specs.Sure.{Sure}
 use Rattle.lw_cache.specs.declared.stops.AskStop.TheVariants as ask
-use Rattle.lw_json.specs.AnswersFile.{IsAnswersFile}
-use Rattle.lw_json.specs.MachineFile.{IsMachineFile}
-use Rattle.lw_outside.specs.Files.{File, FilesState}
+use Rattle.lw_outside.specs.Files.{FilesState}
 use Rattle.lw_outside.specs.Links.{LinkState, SpawnerState}
 use Rattle.lw_outside.specs.Streams.{SinkState}
 use Rattle.lw_log.specs.declared.log.LogState.{LogState}
@@ -39,14 +37,13 @@ use Rattle.lw_learn.specs.Ending.{Carries, EndsRead, EndsUnread}
 use Rattle.lw_learn.specs.Findings.{IsOfSystem}
 use Rattle.lw_learn.specs.LearnRun.{IsLearnRun, SaysLog}
 use Rattle.lw_learn.specs.Outcomes.{IsLearnedOutcome, ModelIsTold}
-use Rattle.lw_learn.specs.Tasks.{ReadsTask}
 use Rattle.lw_learn.specs.Unread.{IsUnreadAs, IsUnreadBy}
 use Rattle.lw_learn.specs.Writing.{NothingFailed}
 use Rattle.lw_recheck.specs.RecheckRun.{HasAskedSystem, HasNone, IsRecheckRun}
 use Rattle.lw_trial.specs.TrialRun.{IsTrialOutcome, IsTrialRun}
 use Rattle.lw_top.specs.Call.{CallValues, Learn, Check, Trial as TrialCall, Serve, Ask, Compare, Recheck}
 use Rattle.lw_top.specs.CheckCommand.{CheckValues}
-use Rattle.lw_top.specs.Promises.{AnswersFixModel, AsksNothing, HandsModel, IsBeforeAsking, KeepsLearned, KeepsLinks, KeepsPrior, KeepsSystem, KeptAreRuns, LearnedIsRight, ModelIsReached, ModelIsRight, ReachesModel, YesIsRight}
+use Rattle.lw_top.specs.Promises.{AnswersFixModel, AsksNothing, HandsModel, IsBeforeAsking, KeepsLearned, KeepsPrior, KeepsSystem, KeptAreRuns, LearnedIsRight, ModelIsReached, ModelIsRight, ReachesModel, YesIsRight}
 use Rattle.lw_top.specs.Run.{Runs}
 use Rattle.lw_top.specs.World.{WorldState}
 
@@ -174,7 +171,7 @@ below : (x y z : ℕ) → x ≤ y → y ≤ z → x ≤ z
 below x y z one two = omega (arith, one, two)
 
 -- what a log puts only adds to the count of faults
-log_counts : (name : Option (List ℕ)) (log : LogState) (before now : SinkState) → SaysLog name log before now → before.faults ≤ now.faults
+pub log_counts : (name : Option (List ℕ)) (log : LogState) (before now : SinkState) → SaysLog name log before now → before.faults ≤ now.faults
 log_counts None log before now is = let e : now.faults ≡ before.faults = ap (λ (s : SinkState). s.faults) is in omega (arith, e)
 log_counts (Some name) Open before now is = let e : now.faults ≡ before.faults = ap (λ (s : SinkState). s.faults) is in omega (arith, e)
 log_counts (Some name) Closed before now is = is.counts

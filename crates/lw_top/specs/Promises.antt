@@ -1,12 +1,17 @@
 -- What the program promises, a sentence each: clauses of `run`, by the call that its arguments make.
-use Rattle.std.specs.Prelude.{◌≡◌, ◌⊎◌, ℕ, ◌≤◌, List, [], length, Option, Some, None, IfSome}
-use Rattle.lw_words.specs.Word.{Answer, answers_of}
+use Rattle.std.specs.Prelude.{◌≡◌, ◌⊎◌, ℕ, ◌<◌, ◌≤◌, List, [], ◌++◌, length, Option, Some, None, IfSome}
+use Rattle.lw_words.specs.Word.{Answer, answer_at, answers_of}
 use Rattle.lw_words.specs.Cause.{CountedFault}
 use Rattle.lw_words.specs.declared.kept.KeptAnswer.{KeptAnswer}
+use Rattle.lw_words.specs.declared.stop.SulStop.{SulStop}
 use Rattle.lw_mealy.specs.Machine.{Gives, MealyMachine, IsWithinLimits, Rows, IsMinimal}
 use Rattle.lw_separate.specs.Canonical.{IsCanonical}
 use Rattle.lw_suite.specs.Size.{greatest_suite, suite_size}
+use Rattle.lw_cache.specs.Clash.{ClashAt}
+use Rattle.lw_cache.specs.FirstClash.{IsFirstClash}
+use Rattle.lw_cache.specs.declared.stops.Clash.{Clash}
 use Rattle.lw_certify.specs.Sure.{Sure}
+use Rattle.lw_rounds.specs.Learned.{IsTooMany}
 use Rattle.lw_json.specs.AnswersFile.{IsAnswersFile}
 use Rattle.lw_json.specs.MachineFile.{IsMachineFile}
 use Rattle.lw_json.specs.declared.answers.Answers.{Answers}
@@ -14,21 +19,26 @@ use Rattle.lw_json.specs.declared.machine.Machine.{Machine}
 use Rattle.lw_json.specs.declared.setup.Command.{Command}
 use Rattle.lw_outside.specs.Files.{File, FilesState}
 use Rattle.lw_outside.specs.Links.{LinkState, SpawnerState}
+use Rattle.lw_outside.specs.declared.links.StartFailure.{StartFailure}
 use Rattle.lw_system.specs.Reading.{ReadsFile}
 use Rattle.lw_system.specs.Spawners.{StartsAndRetires}
-use Rattle.lw_system.specs.Systems.{letters_of}
+use Rattle.lw_system.specs.Systems.{ReadsSystem, declared_of, letters_of}
 use Rattle.lw_system.specs.declared.system.System.{System}
 use Rattle.lw_system.specs.declared.system.System.TheVariants as system
 use Rattle.lw_workers.specs.Machines.{IsWithin, KeepsRuns}
+use Rattle.lw_children.specs.Children.{IsChildStop}
 use Rattle.lw_children.specs.Keeping.{KeepsChildren}
+use Rattle.lw_report.specs.Learnings.{system_outcome}
 use Rattle.lw_report.specs.declared.«end».End.{End}
 use Rattle.lw_report.specs.declared.outcome.Outcome.{Outcome}
-use Rattle.lw_report.specs.declared.outcome.Outcome.TheVariants.{Alphabets, BadFile, FileFault, FileTooLong, Learned, NoMemory, Nondeterministic, UnknownLetter, Yes}
+use Rattle.lw_report.specs.declared.outcome.Outcome.TheVariants.{Alphabets, BadFile, FileFault, FileTooLong, Learned, NoMemory, Nondeterministic, SinkFault, SourceFault, SuiteTooLarge, TooManyStates, UnknownLetter, Unstarted, Usage, Yes}
+use Rattle.lw_report.specs.declared.role.Role.{Role}
 use Rattle.lw_learn.specs.Arguments.{LearnValues}
 use Rattle.lw_learn.specs.Ending.{IsSoundSystem, IsUncountedSystem}
 use Rattle.lw_learn.specs.Outcomes.{IsBadLine, IsReachedOutcome}
 use Rattle.lw_learn.specs.Tasks.{ReadsTask}
 use Rattle.lw_learn.specs.Writing.{NothingFailed}
+use Rattle.lw_recheck.specs.Reading.{ReadsBoth}
 use Rattle.lw_trial.specs.TrialRun.{IsReachedTrial, drawn_machine}
 use Rattle.lw_top.specs.Call.{CallValues, Learn, Check, Trial, Serve, Ask, Compare, Recheck}
 use Rattle.lw_top.specs.CheckCommand.{CheckValues}
@@ -147,3 +157,48 @@ ModelIsReached (Some (Learn a)) before now end = ReachesModel a before now end �
 ModelIsReached (Some (Trial a)) before now end =
     suite_size a.states a.inputs 1 ≤ greatest_suite → ¬ CountedFault before.out.faults now.out.faults → ¬ CountedFault before.err.faults now.err.faults → IsReachedTrial a.states end.outcome
 ModelIsReached _ before now end = Unit {0}
+
+-- a fault that is told was counted: of the files, of the input, of a stream, or of a start, whose cause is what the spawner tells
+pub record FaultsAreCounted (before now : WorldState) (outcome : Outcome) : Type 0 where
+  pub file : (role : Role) → outcome ≡ FileFault role → CountedFault before.files.faults now.files.faults
+  pub source : outcome ≡ SourceFault → CountedFault before.input.faults now.input.faults
+  pub sink : outcome ≡ SinkFault → CountedFault before.out.faults now.out.faults ⊎ CountedFault before.err.faults now.err.faults
+  pub start : (cause : StartFailure) → outcome ≡ Unstarted cause → CountedFault before.spawner.faults now.spawner.faults × (cause ≡ now.spawner.cause)
+
+-- the files say this system
+abbrev pub SaysSystem : Option CallValues → FilesState → System → Type 0
+SaysSystem (Some (Learn a)) files s = (prior : List KeptAnswer) × (between : List File) × ReadsTask a files.holds files.reads between s prior
+SaysSystem (Some (Ask a)) files s = (between : List File) × ReadsSystem a.source a.system files.holds files.reads between s
+SaysSystem (Some (Recheck a)) files s = (answers : Answers) × (between : List File) × ReadsBoth a.setup a.answers files.holds files.reads between s answers
+SaysSystem _ files s = ⊥
+
+-- an instance of the system that the files say stopped so: it could not be started, or its link, one of those that were retired, tells that
+pub record InstanceStopped (call : Option CallValues) (before now : WorldState) (instance : ℕ) (stop : SulStop) : Type 0 where
+  pub system : System
+  pub says : SaysSystem call before.files system
+  pub links : List LinkState
+  pub retired : now.spawner.retired ≡ before.spawner.retired ++ links
+  pub why : IsChildStop (declared_of system) before.spawner now.spawner links instance stop
+
+-- the clash of two kept answers: the first one, but that `recheck` tells the one of an answer that came otherwise
+abbrev pub IsClashOf : Option CallValues → List Answer → Clash → Type 0
+IsClashOf (Some (Recheck a)) kept clash = ClashAt (answer_at kept clash.first) (answer_at kept clash.second) clash.place
+IsClashOf _ kept clash = IsFirstClash kept clash
+
+-- words that are too many, of which any two are apart: one more than there may be states
+abbrev pub IsCrowdFor : Option CallValues → List Answer → List (List ℕ) → Type 0
+IsCrowdFor (Some (Learn a)) kept words = IsTooMany a.max_states kept words
+IsCrowdFor _ kept words = ⊥
+
+-- what is told of the kept answers, of a suite or of an instance is so
+pub record FindingsHold (call : Option CallValues) (before now : WorldState) (end : End) : Type 0 where
+  pub clash : (c : Clash) → end.outcome ≡ Nondeterministic c → IsClashOf call (answers_of end.kept.answers) c
+  pub crowd : (words : List (List ℕ)) → end.outcome ≡ TooManyStates words → IsCrowdFor call (answers_of end.kept.answers) words
+  pub suite : (states number : ℕ) → end.outcome ≡ SuiteTooLarge states number → greatest_suite < number
+  pub stopped : (instance : ℕ) (stop : SulStop) → end.outcome ≡ system_outcome instance stop → InstanceStopped call before now instance stop
+
+-- an outcome tells its cause
+pub record CausesAreTold (call : Option CallValues) (before now : WorldState) (end : End) : Type 0 where
+  pub usage : end.outcome ≡ Usage → call ≡ None
+  pub faults : FaultsAreCounted before now end.outcome
+  pub findings : FindingsHold call before now end

@@ -4,7 +4,7 @@ ghost use Rattle.lw_report.specs.Outcomes.{status_of};
 ghost use Rattle.lw_report.specs.declared.outcome.Outcome.{Outcome as Came};
 ghost use Rattle.lw_top.specs.Call.{call_of};
 ghost use Rattle.lw_top.specs.CommandLine.{is_command, texts};
-ghost use Rattle.lw_top.specs.Promises.{KeptAreRuns, LearnedIsRight, ModelIsReached, YesIsRight};
+ghost use Rattle.lw_top.specs.Promises.{CausesAreTold, KeptAreRuns, LearnedIsRight, ModelIsReached, YesIsRight};
 ghost use Rattle.lw_top.specs.Run.{IsRun, TellsOutcome, argument_outcome};
 ghost use Rattle.lw_top.specs.World.{seen};
 
@@ -118,6 +118,9 @@ pub fn run<
         (seen F.state P.state I.state O.state E.state (λ l. l.state) world.old)
         (seen F.state P.state I.state O.state E.state (λ l. l.state) world.new) result }
     ensures reached { ModelIsReached (call_of (texts arguments.now))
+        (seen F.state P.state I.state O.state E.state (λ l. l.state) world.old)
+        (seen F.state P.state I.state O.state E.state (λ l. l.state) world.new) result }
+    ensures causes { CausesAreTold (call_of (texts arguments.now))
         (seen F.state P.state I.state O.state E.state (λ l. l.state) world.old)
         (seen F.state P.state I.state O.state E.state (λ l. l.state) world.new) result }
     ensures ran { IsRun (texts arguments.now)
