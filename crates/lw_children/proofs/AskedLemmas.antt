@@ -1,7 +1,10 @@
 -- What is asked before a learning stays answered, and what was cut off stays so, when names are sorted.
-use Rattle.std.proofs.Common.{◌≡◌, ℕ, List, [], ◌∷◌, map, Option, Some, None, Result, Ok, Err, OnOk, IfSome, refl, ap, sym, ◌∙◌, subst}
+use Rattle.std.proofs.Common.{◌≡◌, ℕ, List, [], ◌∷◌, map, Option, Some, None, Result, Ok, Err, IfOk, OnOk, IfSome, refl, ap, sym, ◌∙◌, subst}
+use Rattle.lw_words.specs.Word.{answers_of}
 use Rattle.lw_words.specs.Renumbering.{renumbered_answers}
 use Rattle.lw_words.specs.declared.kept.KeptAnswer.{KeptAnswer}
+use Rattle.lw_suite.specs.declared.method.Method.{Method}
+use Rattle.lw_rounds.specs.Learned.{IsEnoughFor}
 use Rattle.lw_rounds.specs.declared.learned.Learned.{Learned}
 use Rattle.lw_rounds.specs.declared.stops.LearnStop.{LearnStop}
 use Rattle.lw_renumber.specs.Sorting.{renamed_learned}
@@ -28,7 +31,11 @@ asked_sorted words to n f was is ks ls same kept asked =
 pub asked_kept : (words : List (List ℕ)) (r : Result Learned LearnStop) (ks ls : List KeptAnswer) → ls ≡ ks → OnOk r (AnswersWords words ks) → OnOk r (AnswersWords words ls)
 asked_kept words r ks ls kept asked = subst (λ (l : List KeptAnswer). OnOk r (AnswersWords words l)) (sym kept) asked
 
--- where a learning stopped nothing is said of words
+-- where a learning stopped there is no model that answers are enough for
+pub enough_never : (method : Method) (a k : ℕ) (r : Result Learned LearnStop) (stop : LearnStop) (ks : List KeptAnswer) → r ≡ Err stop → IfOk r (λ l. IsEnoughFor method a k (answers_of ks) l.model)
+enough_never method a k r stop ks is = subst (λ (r : Result Learned LearnStop). IfOk r (λ l. IsEnoughFor method a k (answers_of ks) l.model)) (sym is) tt
+
+-- nor is anything said of words
 pub asked_never : (words : List (List ℕ)) (r : Result Learned LearnStop) (stop : LearnStop) (ks : List KeptAnswer) → r ≡ Err stop → OnOk r (AnswersWords words ks)
 asked_never words r stop ks is = subst (λ (r : Result Learned LearnStop). OnOk r (AnswersWords words ks)) (sym is) tt
 

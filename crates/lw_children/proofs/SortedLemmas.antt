@@ -1,12 +1,12 @@
 -- What the sorting of names leaves of a learning over children.
-use Rattle.std.proofs.Common.{◌≡◌, ◌⊎◌, ⊎_elim, ℕ, zero, suc, ◌+◌, ◌<◌, ◌==◌, List, [], ◌∷◌, length, map, filter, take, get_or, Bool, true, false, cond, Option, Some, None, Result, Ok, Err, IfErr, OnOk, inl, refl, ap, ap₂, sym, ◌∙◌, subst, subst₂, append-nil, arith}
+use Rattle.std.proofs.Common.{◌≡◌, ◌⊎◌, ⊎_elim, ℕ, zero, suc, ◌+◌, ◌<◌, ◌==◌, List, [], ◌∷◌, length, map, filter, take, get_or, Bool, true, false, cond, Option, Some, None, Result, Ok, Err, IfOk, IfErr, OnOk, inl, refl, ap, ap₂, sym, ◌∙◌, subst, subst₂, append-nil, arith}
 use Rattle.std.specs.List.{All, range_with_len}
 use Rattle.std.proofs.lemmas.List.{get_or-map, length-map, take-map}
 use Rattle.std.proofs.lemmas.List.Elements.{All-map, All-take}
 use Rattle.lw_words.specs.Word.{Answer, AreAnswers, IsAnswer, IsWhole, answer_at, answer_of, answers_of, IsPrefix, IsWord}
 use Rattle.lw_words.specs.Renumbering.{renumbered, renumbered_answer, renumbered_answers}
 use Rattle.lw_words.specs.declared.kept.KeptAnswer.{KeptAnswer}
-use Rattle.lw_mealy.specs.Machine.{Gives, Rows}
+use Rattle.lw_mealy.specs.Machine.{Gives, IsMachine, Rows}
 use Rattle.lw_names.specs.Names.{named}
 use Rattle.lw_cache.specs.Clash.{ClashAt, IsClear, NothingClashes}
 use Rattle.lw_cache.specs.FirstClash.{ClashesFirst, IsFirstClash}
@@ -19,6 +19,8 @@ use Rattle.lw_desk.specs.Ending.{ComeUp, NamedRun, kept_runs}
 use Rattle.lw_pool.specs.Opening.{MayBegin}
 use Rattle.lw_pool.specs.Pool.{AskedOnce}
 use Rattle.lw_pool.specs.Sharing.{declared_by}
+use Rattle.lw_suite.specs.declared.method.Method.{Method}
+use Rattle.lw_rounds.specs.Learned.{IsEnoughFor, IsLearned}
 use Rattle.lw_rounds.specs.declared.learned.Learned.{Learned}
 use Rattle.lw_rounds.specs.declared.learner.Kind.{Kind}
 use Rattle.lw_rounds.specs.declared.stops.LearnStop.{LearnStop}
@@ -290,6 +292,7 @@ none_sorted = record {
   nothing = λ a are nothing. nothing;
   renamed = refl;
   learned = λ kind a b k most are is. tt;
+  enough = λ method a k are is. tt;
   stopped = λ a b k most are is. tt;
 }
 
@@ -377,3 +380,12 @@ module _ (kind : Kind) (words letters : List (List ℕ)) (outputs : Option (List
 -- a learning that began with nothing kept, over outputs that weren't declared
 pub without_outputs : (kind : Kind) (words letters : List (List ℕ)) (outputs : Option (List (List ℕ))) (workers k most : ℕ) (prior : List KeptAnswer) (before now : SpawnerState) (learned : Result Learned LearnStop) (kept : List KeptAnswer) (names : List (List ℕ)) → outputs ≡ None → prior ≡ [] → IsOfChildren kind words letters outputs workers k most prior before now learned kept names → IsOfChildren kind words letters None workers k most [] before now learned kept names
 without_outputs kind words letters outputs workers k most prior before now learned kept names none empty of = subst₂ (λ (o : Option (List (List ℕ))) (ks : List KeptAnswer). IsOfChildren kind words letters o workers k most ks before now learned kept names) none empty of
+
+-- the answers are enough for the model, by the new numbers too
+pub enough_sorted : (method : Method) (kind : Kind) (a b k most : ℕ) (to : List ℕ) (before now : List (List ℕ)) (ks more : List Answer) (was is : Result Learned LearnStop) → HasSorted to before now ks more was is → AreAnswers a ks
+    → IfOk was (λ l. IsLearned kind a b k most ks l.model l.learner) → IfOk was (λ l. IsEnoughFor method a k ks l.model) → IfOk is (λ l. IsEnoughFor method a k more l.model)
+enough_sorted method kind a b k most to before now ks more was is sorted are learned enough = sorted.enough method a k are (both was learned enough)
+  where
+    both : (r : Result Learned LearnStop) → IfOk r (λ l. IsLearned kind a b k most ks l.model l.learner) → IfOk r (λ l. IsEnoughFor method a k ks l.model) → IfOk r (λ l. IsMachine a l.model.rows × IsEnoughFor method a k ks l.model)
+    both (Ok l) of is_enough = (of.certified.canonical.machine, is_enough)
+    both (Err stop) of is_enough = tt

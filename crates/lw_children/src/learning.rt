@@ -1,5 +1,5 @@
 //! A learning over children, from their starts to their ends.
-ghost use Rattle.std.specs.Prelude.{◌≡◌, ◌<◌, ◌≤◌, ◌^◌, [], length, Err, None, IfSome, OnOk};
+ghost use Rattle.std.specs.Prelude.{◌≡◌, ◌<◌, ◌≤◌, ◌^◌, [], length, Err, None, IfOk, IfSome, OnOk};
 ghost use Rattle.std.specs.List.{All};
 ghost use Rattle.lw_words.specs.Word.{answers_of, IsWord};
 ghost use Rattle.lw_cache.specs.Clash.{NothingClashes};
@@ -7,6 +7,7 @@ ghost use Rattle.lw_cache.specs.Settling.{MayAsk};
 ghost use Rattle.lw_desk.specs.Ending.{FreeComeUp};
 ghost use Rattle.lw_pool.specs.Opening.{MayBegin};
 ghost use Rattle.lw_pool.specs.Sharing.{declared_by};
+ghost use Rattle.lw_rounds.specs.Learned.{IsEnoughFor};
 ghost use Rattle.lw_workers.specs.Asking.{AnswersWords};
 ghost use Rattle.lw_children.specs.Children.{IsOfChildren};
 ghost use Rattle.lw_children.specs.Crews.{AreLinkedWith, HasRetired, IsChildrenPool, RetiresWith, first_naming};
@@ -106,6 +107,8 @@ fn learn_and_retire<P: Spawner, R: Threads + Wait + Sync + Drop, W: Watcher>(
     requires children { IsChildrenPool P.Link.state (P.state spawner.old) pool }
     ensures asked { OnOk result.learned (AnswersWords words.now result.kept.answers) }
     ensures cut { IfSome result.cut (λ run. IsStopOfInstance run.instance result.learned) }
+    ensures enough { IfOk result.learned (λ l. IsEnoughFor settings.suite pool.inputs
+        settings.extra (answers_of result.kept.answers) l.model) }
     ensures ended { HasRetired settings.kind P.Link.state settings.extra settings.max_states
         pool (P.state spawner.old) (P.state spawner.new) result.learned result.kept.answers
         result.names }
@@ -146,6 +149,8 @@ pub(crate) fn learn_over<P: Spawner, R: Threads + Wait + Sync + Drop, W: Watcher
         command.now.outputs settings.workers settings.extra settings.max_states start.cache.kept
         (P.state spawner.old) (P.state spawner.new) result.learned result.kept.answers
         result.names.names }
+    ensures enough { IfOk result.learned (λ l. IsEnoughFor settings.suite
+        (length command.now.inputs) settings.extra (answers_of result.kept.answers) l.model) }
     ensures sharing { declared_by result.names.names result.names.brought ≡
         declared_by start.names.names start.names.brought }
     ensures come_up { FreeComeUp result.kept.answers result.names }

@@ -4,6 +4,7 @@ ghost use Rattle.std.specs.List.{All};
 ghost use Rattle.lw_words.specs.Word.{answers_of, IsWord};
 ghost use Rattle.lw_cache.specs.Clash.{NothingClashes};
 ghost use Rattle.lw_pool.specs.Opening.{MayBegin};
+ghost use Rattle.lw_rounds.specs.Learned.{IsEnoughFor};
 ghost use Rattle.lw_workers.specs.Asking.{AnswersWords};
 ghost use Rattle.lw_children.specs.Children.{IsOfCommand, IsOfFree};
 ghost use Rattle.lw_children.specs.Crews.{first_naming};
@@ -51,6 +52,8 @@ fn learn_free<P: Spawner, R: Threads + Wait + Sync + Drop, W: Watcher>(
     requires named_few { length start.words < 2 ^ 32 }
     ensures asked { OnOk result.learned (AnswersWords start.words result.kept.answers) }
     ensures cut { IfSome result.cut (λ run. IsStopOfInstance run.instance result.learned) }
+    ensures enough { IfOk result.learned (λ l. IsEnoughFor settings.suite
+        (length command.now.inputs) settings.extra (answers_of result.kept.answers) l.model) }
     ensures found { IsOfFree settings.kind command.now.words command.now.inputs
         settings.workers settings.extra settings.max_states (P.state spawner.old)
         (P.state spawner.new) result.learned result.kept.answers result.names.names }
@@ -104,6 +107,8 @@ pub fn learn_children<P: Spawner, R: Threads + Wait + Sync + Drop, W: Watcher>(
     requires named_few { length start.words < 2 ^ 32 }
     ensures asked { OnOk result.learned (AnswersWords start.words result.kept.answers) }
     ensures cut { IfSome result.cut (λ run. IsStopOfInstance run.instance result.learned) }
+    ensures enough { IfOk result.learned (λ l. IsEnoughFor settings.suite
+        (length command.now.inputs) settings.extra (answers_of result.kept.answers) l.model) }
     ensures found { IsOfCommand settings.kind command.now.words command.now.inputs
         command.now.outputs settings.workers settings.extra settings.max_states start.cache.kept
         (P.state spawner.old) (P.state spawner.new) result.learned result.kept.answers

@@ -7,7 +7,8 @@ use Rattle.lw_cache.specs.declared.stops.AskStop.{AskStop}
 use Rattle.lw_cache.specs.declared.stops.AskStop.TheVariants as ask
 use Rattle.lw_mealy.specs.Machine.{Gives, MealyMachine, Rows, IsMachine}
 use Rattle.lw_separate.specs.Canonical.{IsCanonical}
-use Rattle.lw_rounds.specs.Learned.{IsCertified, IsReadOff, IsTooLarge}
+use Rattle.lw_suite.specs.declared.method.Method.{Method}
+use Rattle.lw_rounds.specs.Learned.{IsCertified, IsEnoughFor, IsReadOff, IsTooLarge}
 use Rattle.lw_rounds.specs.Learner.{refinements_of}
 use Rattle.lw_rounds.specs.declared.learner.Kind.{Kind}
 use Rattle.lw_rounds.specs.declared.learner.Learner.{Learner}
@@ -33,10 +34,12 @@ pub record IsReadOffAs (kind : Kind) (a most : ℕ) (ks : List Answer) (rows : R
   pub read_off : IsReadOff kind a count most own_answers own_rows learner
 
 -- the end has this model, and the kept answers fix it
-pub record HasModel (kind : Kind) (a b k most : ℕ) (end : End) (h : MealyMachine) : Type 0 where
+pub record HasModel (kind : Kind) (method : Method) (a b k most : ℕ) (end : End) (h : MealyMachine) : Type 0 where
   -- complete, within the limits and in canonical form; it gives the kept answers; and every machine of at most k states more
   -- that gives them does on every word what the model does
   pub certified : IsCertified a b k (answers_of end.kept.answers) h
+  -- the verdict on it, by the suites that were asked for, is that the answers are enough
+  pub enough : IsEnoughFor method a k (answers_of end.kept.answers) h
   -- so it is the canonical form of each such machine
   pub canonical : (m : Rows) → IsMachine a m → length m ≤ length h.rows + k →
       Gives m (answers_of end.kept.answers) → IsCanonical a m h.rows

@@ -1,5 +1,6 @@
-use Rattle.std.proofs.Common.{◌∙◌}
+use Rattle.std.proofs.Common.{◌∙◌, refl, sym}
 use Rattle.lw_rounds.specs.Stops.{learn_stop}
+use Rattle.lw_workers.proofs.MachineLemmas.{enough_as}
 use Rattle.lw_children.proofs.AskedLemmas.{asked_kept}
 use Rattle.lw_children.proofs.EndLemmas.{later_linked}
 use Rattle.lw_children.proofs.learning.learn_and_retire.Goals as goal
@@ -11,3 +12,7 @@ retire_all-requires-clause-linked g c κs within =
 pub returns-clause-asked : goal.returns-clause-asked
 returns-clause-asked g c =
     asked_kept c.args.words.now c.learn_with-learned.result.learned c.learn_with-learned.result.pool.kept c.into_kept.result.answers (c.into_kept.ensures ∙ c.into_parts-sessions.ensures.cache.0) c.learn_with-learned.ensures.asked
+
+pub returns-clause-enough : goal.returns-clause-enough
+returns-clause-enough g c =
+    enough_as c.args.settings.suite c.args.pool.inputs c.args.pool.inputs c.args.settings.extra c.learn_with-learned.result.pool.kept c.into_kept.result.answers c.learn_with-learned.result.learned refl (sym (c.into_kept.ensures ∙ c.into_parts-sessions.ensures.cache.0)) c.learn_with-learned.ensures.enough

@@ -1,4 +1,4 @@
-use Rattle.std.proofs.Common.{◌∙◌, ℕ, ap, sym, subst, subst₂, arith, length, List, Result, Err, OnOk}
+use Rattle.std.proofs.Common.{◌∙◌, ℕ, ap, refl, sym, subst, subst₂, arith, length, List, Result, Err, OnOk}
 use Rattle.std.specs.List.{All}
 use Rattle.lw_words.specs.Word.{answers_of, IsWord}
 use Rattle.lw_words.specs.declared.kept.KeptAnswer.{KeptAnswer}
@@ -9,7 +9,8 @@ use Rattle.lw_desk.specs.Ending.{IsShared}
 use Rattle.lw_pool.specs.Sharing.{declared_by}
 use Rattle.lw_rounds.specs.declared.learned.Learned.{Learned}
 use Rattle.lw_rounds.specs.declared.stops.LearnStop.{LearnStop}
-use Rattle.lw_children.proofs.AskedLemmas.{asked_never, cut_never}
+use Rattle.lw_workers.proofs.MachineLemmas.{enough_as}
+use Rattle.lw_children.proofs.AskedLemmas.{asked_never, cut_never, enough_never}
 use Rattle.lw_children.proofs.ComingUp.{came_up_as, first_come_up}
 use Rattle.lw_workers.specs.Asking.{AnswersWords}
 use Rattle.lw_children.proofs.EndLemmas.{all_linked, begun_linked, begun_pool, given_up, of_pool, refused_pool}
@@ -83,3 +84,11 @@ returns-in-Err-clause-cut g c = cut_never c.give_up.result.learned c.give_up.res
 pub returns-in-Ok-new-clause-asked : goal.returns-in-Ok-new-clause-asked
 returns-in-Ok-new-clause-asked g c =
     subst (λ (words : List (List ℕ)). OnOk c.learn_and_retire.result.learned (AnswersWords words c.learn_and_retire.result.kept.answers)) c.as_slice.ensures c.learn_and_retire.ensures.asked
+
+pub returns-in-Err-clause-enough : goal.returns-in-Err-clause-enough
+returns-in-Err-clause-enough g c = enough_never c.args.settings.suite (length c.args.command.now.inputs) c.args.settings.extra c.give_up.result.learned _ c.give_up.result.kept.answers c.give_up.ensures.learned
+
+pub returns-in-Ok-new-clause-enough : goal.returns-in-Ok-new-clause-enough
+returns-in-Ok-new-clause-enough g c =
+    let kept = c.learn_and_retire.result.kept.answers in
+    enough_as c.args.settings.suite c.in-Ok-new.pool.inputs (length c.args.command.now.inputs) c.args.settings.extra kept kept c.learn_and_retire.result.learned (c.in-Ok-new.ensures.numbers.0 ∙ c.len-inputs.ensures.value) refl c.learn_and_retire.ensures.enough

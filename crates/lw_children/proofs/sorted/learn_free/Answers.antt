@@ -6,7 +6,7 @@ use Rattle.lw_renumber.proofs.OccurLemmas.{kept_below, learned_below}
 use Rattle.lw_system.specs.NewLines.{count_of}
 use Rattle.lw_children.proofs.AskedLemmas.{asked_sorted, cut_sorted}
 use Rattle.lw_children.proofs.ComingUp.{came_up_undeclared}
-use Rattle.lw_children.proofs.SortedLemmas.{not_begun, sorted_free, without_outputs}
+use Rattle.lw_children.proofs.SortedLemmas.{enough_sorted, not_begun, sorted_free, without_outputs}
 use Rattle.lw_children.proofs.sorted.learn_free.Goals as goal
 
 pub returns-in-Err-clause-found : goal.returns-in-Err-clause-found
@@ -44,3 +44,11 @@ returns-clause-cut g c =
     let s = c.sort_outputs.new in
     let stays = c.sort_outputs.ensures.stays in
     cut_sorted (length s.names.names) stays.f was.learned s.learned was.cut stays.renamed c.learn_over-learned.ensures.cut
+
+pub returns-clause-enough : goal.returns-clause-enough
+returns-clause-enough g c =
+    let was = c.learn_over-learned.result in
+    let found = c.learn_over-learned.ensures.found in
+    let s = c.sort_outputs.new in
+    enough_sorted c.args.settings.suite c.args.settings.kind (length c.args.command.now.inputs) (count_of c.args.command.now.outputs) c.args.settings.extra c.args.settings.max_states s.to was.names.names s.names.names (answers_of was.kept.answers) (answers_of s.kept.answers) was.learned s.learned
+    c.sort_outputs.ensures.stays found.keeps.words found.ok c.learn_over-learned.ensures.enough
