@@ -166,16 +166,16 @@ pub record FaultsAreCounted (before now : WorldState) (outcome : Outcome) : Type
   pub start : (cause : StartFailure) → outcome ≡ Unstarted cause → CountedFault before.spawner.faults now.spawner.faults × (cause ≡ now.spawner.cause)
 
 -- the files say this system
-abbrev pub SaysSystem : Option CallValues → FilesState → System → Type 0
-SaysSystem (Some (Learn a)) files s = (prior : List KeptAnswer) × (between : List File) × ReadsTask a files.holds files.reads between s prior
-SaysSystem (Some (Ask a)) files s = (between : List File) × ReadsSystem a.source a.system files.holds files.reads between s
-SaysSystem (Some (Recheck a)) files s = (answers : Answers) × (between : List File) × ReadsBoth a.setup a.answers files.holds files.reads between s answers
-SaysSystem _ files s = ⊥
+abbrev pub FilesSaySystem : Option CallValues → FilesState → System → Type 0
+FilesSaySystem (Some (Learn a)) files s = (prior : List KeptAnswer) × (between : List File) × ReadsTask a files.holds files.reads between s prior
+FilesSaySystem (Some (Ask a)) files s = (between : List File) × ReadsSystem a.source a.system files.holds files.reads between s
+FilesSaySystem (Some (Recheck a)) files s = (answers : Answers) × (between : List File) × ReadsBoth a.setup a.answers files.holds files.reads between s answers
+FilesSaySystem _ files s = ⊥
 
 -- an instance of the system that the files say stopped so: it could not be started, or its link, one of those that were retired, tells that
 pub record InstanceStopped (call : Option CallValues) (before now : WorldState) (instance : ℕ) (stop : SulStop) : Type 0 where
   pub system : System
-  pub says : SaysSystem call before.files system
+  pub says : FilesSaySystem call before.files system
   pub links : List LinkState
   pub retired : now.spawner.retired ≡ before.spawner.retired ++ links
   pub why : IsChildStop (declared_of system) before.spawner now.spawner links instance stop
