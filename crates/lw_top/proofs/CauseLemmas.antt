@@ -19,6 +19,7 @@ use Rattle.lw_rounds.specs.declared.stops.LearnStop.{LearnStop}
 use Rattle.lw_rounds.specs.declared.stops.LearnStop.TheVariants as learn
 use Rattle.lw_workers.specs.Machines.{IsMachineStop}
 use Rattle.lw_children.specs.Children.{IsCausedBy, IsChildStop, IsOfCommand}
+use Rattle.lw_json.specs.declared.machine.Machine.{Machine}
 use Rattle.lw_outside.specs.Files.{FilesState}
 use Rattle.lw_outside.specs.Links.{LinkState, SpawnerState}
 use Rattle.lw_outside.specs.Streams.{SinkState}
@@ -52,7 +53,7 @@ use Rattle.lw_wordlist.specs.declared.words.WordStop.TheVariants as word
 use Rattle.lw_ask.specs.declared.stop.AskingStop.{AskingStop}
 use Rattle.lw_ask.specs.declared.stop.AskingStop.TheVariants as asking
 use Rattle.lw_check.specs.CheckRun.{IsCheckRun}
-use Rattle.lw_check.specs.Decision.{IsDecision}
+use Rattle.lw_check.specs.Decision.{IsDecision, Pair}
 use Rattle.lw_check.specs.Ending as check
 use Rattle.lw_check.specs.Reading as checked
 use Rattle.lw_compare.specs.CompareRun as compare
@@ -158,15 +159,15 @@ stands why outcome x (inr wants) is other = absurd (other (sym wants.1 ∙ is))
 
 -- arguments that weren't taken
 module _ (before now : WorldState) (end : End) where
-  abbrev call_untaken : Option CallValues
-  call_untaken = None
+  refused_never : ArgumentsAreRefused before now end → (x : Outcome) → end.outcome ≡ x → Usage ≢ x → NoMemory ≢ x → ⊥
+  refused_never r x is usage memory = ⊎_elim (λ (e : end.outcome ≡ Usage). usage (sym e ∙ is)) (λ (e : end.outcome ≡ NoMemory). memory (sym e ∙ is)) r.outcome
 
   refused_faults : ArgumentsAreRefused before now end → FaultsAreCounted before now end.outcome
   refused_faults r = record {
-    file = λ role is. ⊎_elim (λ (e : end.outcome ≡ Usage). cc) (λ (e : end.outcome ≡ NoMemory). cc) r.outcome;
-    source = λ is. ⊎_elim (λ (e : end.outcome ≡ Usage). cc) (λ (e : end.outcome ≡ NoMemory). cc) r.outcome;
-    sink = λ is. ⊎_elim (λ (e : end.outcome ≡ Usage). cc) (λ (e : end.outcome ≡ NoMemory). cc) r.outcome;
-    start = λ cause is. ⊎_elim (λ (e : end.outcome ≡ Usage). cc) (λ (e : end.outcome ≡ NoMemory). cc) r.outcome;
+    file = λ role is. absurd (refused_never r _ is (λ e. cc) (λ e. cc));
+    source = λ is. absurd (refused_never r _ is (λ e. cc) (λ e. cc));
+    sink = λ is. absurd (refused_never r _ is (λ e. cc) (λ e. cc));
+    start = λ cause is. absurd (refused_never r _ is (λ e. cc) (λ e. cc));
   }
 
   refused_stop : ArgumentsAreRefused before now end → (i : ℕ) (s : SulStop) → ¬ (end.outcome ≡ system_outcome i s)
@@ -178,9 +179,9 @@ module _ (before now : WorldState) (end : End) where
 
   refused_findings : ArgumentsAreRefused before now end → FindingsHold None before now end
   refused_findings r = record {
-    clash = λ clash is. ⊎_elim (λ (e : end.outcome ≡ Usage). cc) (λ (e : end.outcome ≡ NoMemory). cc) r.outcome;
-    crowd = λ words is. ⊎_elim (λ (e : end.outcome ≡ Usage). cc) (λ (e : end.outcome ≡ NoMemory). cc) r.outcome;
-    suite = λ states number is. ⊎_elim (λ (e : end.outcome ≡ Usage). cc) (λ (e : end.outcome ≡ NoMemory). cc) r.outcome;
+    clash = λ clash is. absurd (refused_never r _ is (λ e. cc) (λ e. cc));
+    crowd = λ words is. absurd (refused_never r _ is (λ e. cc) (λ e. cc));
+    suite = λ states number is. absurd (refused_never r _ is (λ e. cc) (λ e. cc));
     stopped = λ i s is. absurd (refused_stop r i s is);
   }
 
@@ -213,23 +214,27 @@ module _ (a : CheckValues) (before now : WorldState) (end : End) (ran : IsCheckR
       (⊎_elim (λ (e : end.outcome ≡ NoMemory). absurd (memory (sym e ∙ is))) (λ s. absurd (sink (sym s.0 ∙ is))))
       r.comes
 
+  -- an outcome that comes of neither
+  checks_never : (x : Outcome) → end.outcome ≡ x → NoMemory ≢ x → SinkFault ≢ x → ¬ checked.IsUnread a.model a.answers before.files now.files x → ((p : Pair) → ¬ IsDecision p a.extra x) → ⊥
+  checks_never x is memory sink unread decision = ⊎_elim (λ (u : Unread). unread (unread_as u x is)) (λ (r : PairRead). decision r.pair (decides r x is memory sink)) ran.ended
+
   checks_stop : (i : ℕ) (s : SulStop) → ¬ (end.outcome ≡ system_outcome i s)
-  checks_stop i sul.Failed is = ⊎_elim (λ (u : Unread). unread_as u _ is) (λ (r : PairRead). decides r _ is (λ e. cc) (λ e. cc)) ran.ended
-  checks_stop i (sul.BadLine line) is = ⊎_elim (λ (u : Unread). unread_as u _ is) (λ (r : PairRead). decides r _ is (λ e. cc) (λ e. cc)) ran.ended
-  checks_stop i sul.Gone is = ⊎_elim (λ (u : Unread). unread_as u _ is) (λ (r : PairRead). decides r _ is (λ e. cc) (λ e. cc)) ran.ended
+  checks_stop i sul.Failed is = checks_never _ is (λ e. cc) (λ e. cc) (λ k. k) (λ p k. k)
+  checks_stop i (sul.BadLine line) is = checks_never _ is (λ e. cc) (λ e. cc) (λ k. k) (λ p k. k)
+  checks_stop i sul.Gone is = checks_never _ is (λ e. cc) (λ e. cc) (λ k. k) (λ p k. k)
 
   checks_causes : CausesAreTold (Some (Check a)) before now end
   checks_causes = record {
-    usage = λ is. absurd (⊎_elim (λ (u : Unread). unread_as u _ is) (λ (r : PairRead). decides r _ is (λ e. cc) (λ e. cc)) ran.ended);
+    usage = λ is. absurd (checks_never _ is (λ e. cc) (λ e. cc) (λ k. k) (λ p k. k));
     faults = record {
       file = λ role is. ⊎_elim (λ (u : Unread). unread_file role (unread_as u _ is)) (λ (r : PairRead). absurd (decides r _ is (λ e. cc) (λ e. cc))) ran.ended;
-      source = λ is. absurd (⊎_elim (λ (u : Unread). unread_as u _ is) (λ (r : PairRead). decides r _ is (λ e. cc) (λ e. cc)) ran.ended);
+      source = λ is. absurd (checks_never _ is (λ e. cc) (λ e. cc) (λ k. k) (λ p k. k));
       sink = λ is.
           ⊎_elim
           (λ (u : Unread). absurd (unread_as u _ is))
           (λ (r : PairRead). ⊎_elim (λ (d : IsDecision r.pair a.extra end.outcome). absurd (subst (IsDecision r.pair a.extra) is d)) (⊎_elim (λ (e : end.outcome ≡ NoMemory). cc) (λ s. inl s.1)) r.comes)
           ran.ended;
-      start = λ cause is. absurd (⊎_elim (λ (u : Unread). unread_as u _ is) (λ (r : PairRead). decides r _ is (λ e. cc) (λ e. cc)) ran.ended);
+      start = λ cause is. absurd (checks_never _ is (λ e. cc) (λ e. cc) (λ k. k) (λ p k. k));
     };
     findings = record {
       clash = λ clash is.
@@ -237,7 +242,7 @@ module _ (a : CheckValues) (before now : WorldState) (end : End) (ran : IsCheckR
           (λ (u : Unread). absurd (unread_as u _ is))
           (λ (r : PairRead). subst (λ (ks : List KeptAnswer). IsFirstClash (answers_of ks) clash) (sym r.kept_all) (decides r _ is (λ e. cc) (λ e. cc)).1)
           ran.ended;
-      crowd = λ words is. absurd (⊎_elim (λ (u : Unread). unread_as u _ is) (λ (r : PairRead). decides r _ is (λ e. cc) (λ e. cc)) ran.ended);
+      crowd = λ words is. absurd (checks_never _ is (λ e. cc) (λ e. cc) (λ k. k) (λ p k. k));
       suite = λ states number is.
           ⊎_elim
           (λ (u : Unread). absurd (unread_as u _ is))
@@ -288,24 +293,27 @@ module _ (model : List ℕ) (before now : WorldState) (end : End) (ran : serve.I
   plays : (p : Played) (x : Outcome) → end.outcome ≡ x → PlaysTo p.machine before.input.left x before.out.taken now.out.taken
   plays p x is = subst (λ (o : Outcome). PlaysTo p.machine before.input.left o before.out.taken now.out.taken) is p.played.plays
 
+  serves_never : (x : Outcome) → end.outcome ≡ x → ¬ served.IsUnread x → ((m : Machine) → ¬ PlaysTo m before.input.left x before.out.taken now.out.taken) → ⊥
+  serves_never x is unread play = ⊎_elim (λ (u : Unserved). unread (unserved u x is)) (λ (p : Played). play p.machine (plays p x is)) ran.ended
+
   serves_stop : (i : ℕ) (s : SulStop) → ¬ (end.outcome ≡ system_outcome i s)
-  serves_stop i sul.Failed is = ⊎_elim (λ (u : Unserved). unserved u _ is) (λ (p : Played). plays p _ is) ran.ended
-  serves_stop i (sul.BadLine line) is = ⊎_elim (λ (u : Unserved). unserved u _ is) (λ (p : Played). plays p _ is) ran.ended
-  serves_stop i sul.Gone is = ⊎_elim (λ (u : Unserved). unserved u _ is) (λ (p : Played). plays p _ is) ran.ended
+  serves_stop i sul.Failed is = serves_never _ is (λ k. k) (λ m k. k)
+  serves_stop i (sul.BadLine line) is = serves_never _ is (λ k. k) (λ m k. k)
+  serves_stop i sul.Gone is = serves_never _ is (λ k. k) (λ m k. k)
 
   serves_causes : CausesAreTold (Some (Serve model)) before now end
   serves_causes = record {
-    usage = λ is. absurd (⊎_elim (λ (u : Unserved). unserved u _ is) (λ (p : Played). plays p _ is) ran.ended);
+    usage = λ is. absurd (serves_never _ is (λ k. k) (λ m k. k));
     faults = record {
       file = λ role is. (ran.file_fault role is).1;
       source = λ is. ⊎_elim (λ (u : Unserved). absurd (unserved u _ is)) (λ (p : Played). (p.played.source is).0) ran.ended;
       sink = λ is. inl (⊎_elim (λ (u : Unserved). absurd (unserved u _ is)) (λ (p : Played). p.played.sink is) ran.ended);
-      start = λ cause is. absurd (⊎_elim (λ (u : Unserved). unserved u _ is) (λ (p : Played). plays p _ is) ran.ended);
+      start = λ cause is. absurd (serves_never _ is (λ k. k) (λ m k. k));
     };
     findings = record {
-      clash = λ clash is. absurd (⊎_elim (λ (u : Unserved). unserved u _ is) (λ (p : Played). plays p _ is) ran.ended);
-      crowd = λ words is. absurd (⊎_elim (λ (u : Unserved). unserved u _ is) (λ (p : Played). plays p _ is) ran.ended);
-      suite = λ states number is. absurd (⊎_elim (λ (u : Unserved). unserved u _ is) (λ (p : Played). plays p _ is) ran.ended);
+      clash = λ clash is. absurd (serves_never _ is (λ k. k) (λ m k. k));
+      crowd = λ words is. absurd (serves_never _ is (λ k. k) (λ m k. k));
+      suite = λ states number is. absurd (serves_never _ is (λ k. k) (λ m k. k));
       stopped = λ i s is. absurd (serves_stop i s is);
     };
   }
@@ -344,28 +352,31 @@ module _ (a : PairValues) (before now : WorldState) (end : End) (ran : compare.I
       (⊎_elim (λ (e : end.outcome ≡ NoMemory). subst IsCompared (sym e ∙ is) tt) (λ s. subst IsCompared (sym s.0 ∙ is) tt))
       r.comes
 
+  compares_never : (x : Outcome) → end.outcome ≡ x → ¬ compared.IsUnread a.first a.second before.files now.files x → ¬ IsCompared x → ⊥
+  compares_never x is unread none = ⊎_elim (λ (u : Uncompared). unread (uncompared u x is)) (λ (r : ModelsRead). none (compares r x is)) ran.ended
+
   compares_stop : (i : ℕ) (s : SulStop) → ¬ (end.outcome ≡ system_outcome i s)
-  compares_stop i sul.Failed is = ⊎_elim (λ (u : Uncompared). uncompared u _ is) (λ (r : ModelsRead). compares r _ is) ran.ended
-  compares_stop i (sul.BadLine line) is = ⊎_elim (λ (u : Uncompared). uncompared u _ is) (λ (r : ModelsRead). compares r _ is) ran.ended
-  compares_stop i sul.Gone is = ⊎_elim (λ (u : Uncompared). uncompared u _ is) (λ (r : ModelsRead). compares r _ is) ran.ended
+  compares_stop i sul.Failed is = compares_never _ is (λ k. k) (λ k. k)
+  compares_stop i (sul.BadLine line) is = compares_never _ is (λ k. k) (λ k. k)
+  compares_stop i sul.Gone is = compares_never _ is (λ k. k) (λ k. k)
 
   compares_causes : CausesAreTold (Some (Compare a)) before now end
   compares_causes = record {
-    usage = λ is. absurd (⊎_elim (λ (u : Uncompared). uncompared u _ is) (λ (r : ModelsRead). compares r _ is) ran.ended);
+    usage = λ is. absurd (compares_never _ is (λ k. k) (λ k. k));
     faults = record {
       file = λ role is. ⊎_elim (λ (u : Uncompared). uncompared_file role (uncompared u _ is)) (λ (r : ModelsRead). absurd (compares r _ is)) ran.ended;
-      source = λ is. absurd (⊎_elim (λ (u : Uncompared). uncompared u _ is) (λ (r : ModelsRead). compares r _ is) ran.ended);
+      source = λ is. absurd (compares_never _ is (λ k. k) (λ k. k));
       sink = λ is.
           ⊎_elim
           (λ (u : Uncompared). absurd (uncompared u _ is))
           (λ (r : ModelsRead). ⊎_elim (λ c. let e = c.2 in cc) (⊎_elim (λ (e : end.outcome ≡ NoMemory). cc) (λ s. inl s.1)) r.comes)
           ran.ended;
-      start = λ cause is. absurd (⊎_elim (λ (u : Uncompared). uncompared u _ is) (λ (r : ModelsRead). compares r _ is) ran.ended);
+      start = λ cause is. absurd (compares_never _ is (λ k. k) (λ k. k));
     };
     findings = record {
-      clash = λ clash is. absurd (⊎_elim (λ (u : Uncompared). uncompared u _ is) (λ (r : ModelsRead). compares r _ is) ran.ended);
-      crowd = λ words is. absurd (⊎_elim (λ (u : Uncompared). uncompared u _ is) (λ (r : ModelsRead). compares r _ is) ran.ended);
-      suite = λ states number is. absurd (⊎_elim (λ (u : Uncompared). uncompared u _ is) (λ (r : ModelsRead). compares r _ is) ran.ended);
+      clash = λ clash is. absurd (compares_never _ is (λ k. k) (λ k. k));
+      crowd = λ words is. absurd (compares_never _ is (λ k. k) (λ k. k));
+      suite = λ states number is. absurd (compares_never _ is (λ k. k) (λ k. k));
       stopped = λ i s is. absurd (compares_stop i s is);
     };
   }
