@@ -1,5 +1,5 @@
 -- That an outcome tells its cause, from what each command did.
-use Rattle.std.proofs.Common.{◌≡◌, ◌≢◌, ◌⊎◌, inl, inr, ⊎_elim, ℕ, zero, suc, ◌<◌, ◌≤◌, List, [], ◌∷◌, ◌++◌, length, Option, Some, None, Result, Ok, Err, IfErr, refl, sym, ap, ◌∙◌, subst, arith}
+use Rattle.std.proofs.Common.{◌≡◌, ◌≢◌, ◌⊎◌, inl, inr, ⊎_elim, ℕ, ◌<◌, ◌≤◌, List, [], ◌∷◌, ◌++◌, length, Option, Some, None, Result, Ok, Err, IfErr, refl, sym, ap, ◌∙◌, subst, arith, subst₂}
 use Rattle.lw_words.specs.Word.{Answer, answer_at, answer_of, answers_of}
 use Rattle.lw_words.specs.Cause.{CountedFault}
 use Rattle.lw_words.specs.declared.kept.KeptAnswer.{KeptAnswer}
@@ -11,7 +11,7 @@ use Rattle.lw_cache.specs.Clash.{ClashAt}
 use Rattle.lw_cache.specs.FirstClash.{IsFirstClash}
 use Rattle.lw_cache.specs.declared.stops.AskStop.TheVariants as ask
 use Rattle.lw_cache.specs.declared.stops.Clash.{Clash}
-use Rattle.lw_suite.specs.Size.{greatest_suite}
+use Rattle.lw_suite.specs.Size.{greatest_suite, suite_size}
 use Rattle.lw_rounds.specs.Learned.{IsTooMany}
 use Rattle.lw_rounds.specs.Learner.{refinements_of}
 use Rattle.lw_rounds.specs.declared.learned.Learned.{Learned as Found}
@@ -38,7 +38,7 @@ use Rattle.lw_outside.specs.declared.links.StartStop.TheVariants as start
 use Rattle.lw_system.specs.declared.stops.SystemStop.{SystemStop}
 use Rattle.lw_system.specs.declared.system.System.{System}
 use Rattle.lw_system.specs.declared.system.System.TheVariants as system
-use Rattle.lw_report.specs.Learnings.{learn_outcome, system_outcome}
+use Rattle.lw_report.specs.Learnings.{HasLargeSuite, learn_outcome, system_outcome}
 use Rattle.lw_report.specs.Outcomes.{StandsOrWants}
 use Rattle.lw_report.specs.Stops.{read_outcome, role_of, start_outcome, unread_outcome}
 use Rattle.lw_report.specs.declared.«end».End.{End}
@@ -79,10 +79,10 @@ use Rattle.lw_trial.specs.TrialRun.{IsTrialOutcome, IsTrialRun}
 use Rattle.lw_top.specs.Call.{CallValues, Learn, Check, Trial as TrialCall, Serve, Ask, Compare, Recheck}
 use Rattle.lw_top.specs.CheckCommand.{CheckValues}
 use Rattle.lw_top.specs.FilePairs.{PairValues}
-use Rattle.lw_top.specs.Promises.{CausesAreTold, FaultsAreCounted, FindingsHold, InstanceStopped}
+use Rattle.lw_top.specs.Promises.{CausesAreTold, FaultsAreCounted, FindingsHold, InstanceStopped, LargeForSystem}
 use Rattle.lw_top.specs.Run.{ArgumentsAreRefused, Runs, TellsCause}
 use Rattle.lw_top.specs.World.{WorldState}
-use Rattle.lw_top.proofs.PromiseLemmas.{log_counts}
+use Rattle.lw_top.proofs.PromiseLemmas.{log_counts, task_of}
 
 -- a count that rose still has, once more is counted or less was before
 counted_later : (x y z : ℕ) → CountedFault x y → y ≤ z → CountedFault x z
@@ -246,7 +246,19 @@ module _ (a : CheckValues) (before now : WorldState) (end : End) (ran : IsCheckR
       suite = λ states number is.
           ⊎_elim
           (λ (u : Unread). absurd (unread_as u _ is))
-          (λ (r : PairRead). (decides r _ is (λ e. cc) (λ e. cc)).0.2.2)
+          (λ (r : PairRead).
+          let d = decides r _ is (λ e. cc) (λ e. cc) in
+          record {
+            model = r.read.machine;
+            answers = r.read.read_answers;
+            between = r.read.middle;
+            model_file = r.read.model_file;
+            answers_file = r.read.answers_file;
+            large =
+                subst
+                (λ (p : Pair). (states ≡ length p.mealy.rows) × (number ≡ suite_size states p.mealy.inputs a.extra) × (greatest_suite < number))
+                r.read.pair (d.1, d.0.2.3 ∙ ap (λ (n : ℕ). suite_size n r.pair.mealy.inputs a.extra) (sym d.1), d.0.2.2);
+          })
           ran.ended;
       stopped = λ i s is. absurd (checks_stop i s is);
     };
@@ -274,7 +286,7 @@ module _ (v : _) (before now : WorldState) (end : End) (ran : IsTrialRun v befor
     findings = record {
       clash = λ clash is. absurd (trial_is _ is);
       crowd = λ words is. absurd (trial_is _ is);
-      suite = λ states number is. (ran.suite states number is).large.large;
+      suite = ran.suite;
       stopped = λ i s is. absurd (trials_stop i s is);
     };
   }
@@ -436,7 +448,7 @@ pub record AskedSystem (s : System) (b z : SpawnerState) (o p : SinkState) (why 
   kind : IsCome why ⊎ IsStart why
   sink : why ≡ SinkFault → CountedFault o.faults p.faults
   start : (cause : StartFailure) → why ≡ Unstarted cause → CountedFault b.faults z.faults
-  stopped : (i : ℕ) (stop : SulStop) → why ≡ system_outcome i stop → (links : List LinkState) × (z.retired ≡ b.retired ++ links) × IsChildStop (declared_of s) b z links i stop
+  stopped : (i : ℕ) (stop : SulStop) → why ≡ system_outcome i stop → (links : List LinkState) × (i < 1) × (z.retired ≡ b.retired ++ links) × IsChildStop (declared_of s) b z links i stop
 
 asked_system : (s : System) (words : List (List ℕ)) (b z : SpawnerState) (o p : SinkState) (kept : List KeptAnswer) (why : Outcome) → AsksSystem s words b z o p kept why → AskedSystem s b z o p why
 asked_system (system.Table m) words b z o p kept why is =
@@ -452,7 +464,7 @@ asked_system (system.Children c) words b z o p kept why (inl r) =
       kind = inl (subst IsCome (sym r.outcome) (come_is r.came));
       sink = λ e. r.asks.put.refused (sink_came r.came (sym r.outcome ∙ e));
       start = λ cause e. absurd (subst IsCome (sym r.outcome ∙ e) (come_is r.came));
-      stopped = λ i stop e. let came = stop_came r.came i stop (sym r.outcome ∙ e) in (r.asks.link ∷ [], r.asks.spawner.retired, one_link c.outputs b z r.asks.link i stop came.0 (r.asks.cause stop came.1));
+      stopped = λ i stop e. let came = stop_came r.came i stop (sym r.outcome ∙ e) in (r.asks.link ∷ [], omega (arith, came.0), r.asks.spawner.retired, one_link c.outputs b z r.asks.link i stop came.0 (r.asks.cause stop came.1));
     }
 asked_system (system.Children c) words b z o p kept why (inr r) =
     record {
@@ -512,7 +524,7 @@ module _ (a : _) (before now : WorldState) (end : End) (ran : IsAskRun a before.
       asked_texts s (InstanceStopped (Some (Ask a)) before now i stop)
       (λ r.
       let w = r.stopped i stop (ask_why _ is other) in
-      record { system = s.system; says = (now.files.reads, s.reads); links = w.0; retired = w.1; why = w.2 })
+      record { system = s.system; says = s.reads; within = w.1; links = w.0; retired = w.2; why = w.3 })
       (λ w. absurd (unspelled_not (unspelled s w _ is other))))
       (λ (n : NoSystem). absurd (reading (ask_read n _ is other)))
       ran.came
@@ -586,38 +598,28 @@ again_stop n (Ok (Some clash)) i s e = absurd (subst IsStop (sym e) (stop_is i s
 again_stop n (Err (run.Sul t)) i s e = let same = same_stop 0 i t s e in (sym same.0, ap (λ (u : SulStop). Err (run.Sul u)) same.1)
 again_stop n (Err run.NoMemory) i s e = absurd (subst IsStop (sym e) (stop_is i s))
 
--- answers, and one more behind them
-kept_front : (ks : List KeptAnswer) (x : KeptAnswer) (i : ℕ) → i < length ks → answer_at (answers_of (ks ++ x ∷ [])) i ≡ answer_at (answers_of ks) i
-kept_front [] x i lt = absurd (omega (arith, lt))
-kept_front (k ∷ ks) x zero lt = refl
-kept_front (k ∷ ks) x (suc i) lt = kept_front ks x i (omega (arith, lt))
+-- answers, and behind them one that clashes with one of them
+abbrev HasClash : (answers kept : List KeptAnswer) → Clash → Type 0
+HasClash answers kept clash =
+    (last : KeptAnswer)
+    × (kept ≡ answers ++ last ∷ [])
+    × (clash.first < length answers)
+    × (clash.second ≡ length answers)
+    × ClashAt (answer_at (answers_of answers) clash.first) (answer_of last) clash.place
 
-kept_last : (ks : List KeptAnswer) (x : KeptAnswer) → answer_at (answers_of (ks ++ x ∷ [])) (length ks) ≡ answer_of x
-kept_last [] x = refl
-kept_last (k ∷ ks) x = kept_last ks x
-
-clash_in : (ks kept : List KeptAnswer) (x : KeptAnswer) (clash : Clash) → kept ≡ ks ++ x ∷ [] → clash.first < length ks → clash.second ≡ length ks → ClashAt (answer_at (answers_of ks) clash.first) (answer_of x) clash.place
-    → ClashAt (answer_at (answers_of kept) clash.first) (answer_at (answers_of kept) clash.second) clash.place
-clash_in ks kept x clash is lt second here =
-    subst (λ (l : List KeptAnswer). ClashAt (answer_at (answers_of l) clash.first) (answer_at (answers_of l) clash.second) clash.place) (sym is)
-    (subst (λ (n : ℕ). ClashAt (answer_at (answers_of (ks ++ x ∷ [])) clash.first) (answer_at (answers_of (ks ++ x ∷ [])) n) clash.place) (sym second)
-    (subst (λ (one : Answer). ClashAt one (answer_at (answers_of (ks ++ x ∷ [])) (length ks)) clash.place) (sym (kept_front ks x clash.first lt))
-    (subst (λ (other : Answer). ClashAt (answer_at (answers_of ks) clash.first) other clash.place) (sym (kept_last ks x)) here)))
-
-again_clash : (machine : _) (outputs : List (List ℕ)) (answers : List KeptAnswer) (names : List (List ℕ)) (runs : _) (shown : List (List ℕ)) (kept : List KeptAnswer) (c : Result (Option Clash) RunStop) (clash : Clash) → HasRechecked machine outputs answers names runs shown kept c → c ≡ Ok (Some clash)
-    → ClashAt (answer_at (answers_of kept) clash.first) (answer_at (answers_of kept) clash.second) clash.place
+again_clash : (machine : _) (outputs : List (List ℕ)) (answers : List KeptAnswer) (names : List (List ℕ)) (runs : _) (shown : List (List ℕ)) (kept : List KeptAnswer) (c : Result (Option Clash) RunStop) (clash : Clash) → HasRechecked machine outputs answers names runs shown kept c → c ≡ Ok (Some clash) → HasClash answers kept clash
 again_clash machine outputs answers names runs shown kept c clash has is =
     let w = subst (HasRechecked machine outputs answers names runs shown kept) is has in
-    clash_in answers kept (record { instance = 0; run = clash.first; word = w.last.word; outs = w.outs }) clash w.kept_is w.within w.second w.here
+    (record { instance = 0; run = clash.first; word = w.last.word; outs = w.outs }, w.kept_is, w.within, w.second, w.here)
 
 -- a system that was asked again: what its outcome comes from
-pub record RecheckedSystem (s : System) (b z : SpawnerState) (kept : List KeptAnswer) (why : Outcome) : Type 0 where
+pub record RecheckedSystem (s : System) (answers : List KeptAnswer) (b z : SpawnerState) (kept : List KeptAnswer) (why : Outcome) : Type 0 where
   kind : IsAgain why ⊎ IsStart why
-  clash : (c : Clash) → why ≡ Nondeterministic c → ClashAt (answer_at (answers_of kept) c.first) (answer_at (answers_of kept) c.second) c.place
+  clash : (c : Clash) → why ≡ Nondeterministic c → HasClash answers kept c
   start : (cause : StartFailure) → why ≡ Unstarted cause → CountedFault b.faults z.faults
-  stopped : (i : ℕ) (stop : SulStop) → why ≡ system_outcome i stop → (links : List LinkState) × (z.retired ≡ b.retired ++ links) × IsChildStop (declared_of s) b z links i stop
+  stopped : (i : ℕ) (stop : SulStop) → why ≡ system_outcome i stop → (links : List LinkState) × (i < 1) × (z.retired ≡ b.retired ++ links) × IsChildStop (declared_of s) b z links i stop
 
-rechecked_system : (s : System) (outputs : List (List ℕ)) (answers : List KeptAnswer) (b z : SpawnerState) (shown : Option (List (List ℕ))) (kept : List KeptAnswer) (why : Outcome) → RechecksSystem s outputs answers b z shown kept why → RecheckedSystem s b z kept why
+rechecked_system : (s : System) (outputs : List (List ℕ)) (answers : List KeptAnswer) (b z : SpawnerState) (shown : Option (List (List ℕ))) (kept : List KeptAnswer) (why : Outcome) → RechecksSystem s outputs answers b z shown kept why → RecheckedSystem s answers b z kept why
 rechecked_system (system.Table m) outputs answers b z shown kept why is =
     let r = is.1 in
     record {
@@ -631,7 +633,7 @@ rechecked_system (system.Children c) outputs answers b z shown kept why (inl r) 
       kind = inl (subst IsAgain (sym r.outcome) (again_is (length answers) r.came));
       clash = λ clash e. again_clash _ outputs answers _ _ r.names kept r.came clash r.asks.has (clash_came (length answers) r.came clash (sym r.outcome ∙ e));
       start = λ cause e. absurd (subst IsAgain (sym r.outcome ∙ e) (again_is (length answers) r.came));
-      stopped = λ i stop e. let came = again_stop (length answers) r.came i stop (sym r.outcome ∙ e) in (r.asks.link ∷ [], r.asks.spawner.retired, one_link c.outputs b z r.asks.link i stop came.0 (r.asks.cause stop came.1));
+      stopped = λ i stop e. let came = again_stop (length answers) r.came i stop (sym r.outcome ∙ e) in (r.asks.link ∷ [], omega (arith, came.0), r.asks.spawner.retired, one_link c.outputs b z r.asks.link i stop came.0 (r.asks.cause stop came.1));
     }
 rechecked_system (system.Children c) outputs answers b z shown kept why (inr r) =
     record {
@@ -707,7 +709,7 @@ module _ (a : _) (before now : WorldState) (end : End) (ran : IsRecheckRun a bef
   nothing_is : (n : Nothing) (x : Outcome) → end.outcome ≡ x → NoMemory ≢ x → IsNone x
   nothing_is n x is other = subst IsNone (stands n.why end.outcome x n.told.outcome is other) (none_is a.setup a.answers before.files now.files n.why n.cause)
 
-  of_system : (s : AskedAgain) → RecheckedSystem s.system before.spawner now.spawner s.asks.kept s.asks.why
+  of_system : (s : AskedAgain) → RecheckedSystem s.system s.answers.kept.answers before.spawner now.spawner s.asks.kept s.asks.why
   of_system s = rechecked_system s.system s.answers.outputs s.answers.kept.answers before.spawner now.spawner s.asks.shown s.asks.kept s.asks.why s.asks.asks
 
   told_why : (s : AskedAgain) → (end.outcome ≡ NoMemory) ⊎ ((end.outcome ≡ s.asks.why) ⊎ ((end.outcome ≡ SinkFault) × CountedFault before.out.faults now.out.faults))
@@ -731,7 +733,7 @@ module _ (a : _) (before now : WorldState) (end : End) (ran : IsRecheckRun a bef
       ⊎_elim
       (λ (s : AskedAgain).
       let w = (of_system s).stopped i stop (again_why s _ is memory sink) in
-      record { system = s.system; says = (s.answers, now.files.reads, s.reads); links = w.0; retired = w.1; why = w.2 })
+      record { system = s.system; says = (s.answers, s.reads); within = w.1; links = w.0; retired = w.2; why = w.3 })
       (λ (n : Nothing). absurd (none (nothing_is n _ is memory)))
       ran.came
 
@@ -773,7 +775,9 @@ module _ (a : _) (before now : WorldState) (end : End) (ran : IsRecheckRun a bef
     findings = record {
       clash = λ clash is.
           ⊎_elim
-          (λ (s : AskedAgain). subst (λ (ks : List KeptAnswer). ClashAt (answer_at (answers_of ks) clash.first) (answer_at (answers_of ks) clash.second) clash.place) (sym s.asks.ended.bare.kept_is) ((of_system s).clash clash (again_why s _ is (λ e. cc) (λ e. cc))))
+          (λ (s : AskedAgain).
+          let w = (of_system s).clash clash (again_why s _ is (λ e. cc) (λ e. cc)) in
+          record { system = s.system; answers = s.answers; reads = s.reads; last = w.0; kept_is = s.asks.ended.bare.kept_is ∙ w.1; clashes = (w.2, w.3, w.4) })
           (λ (n : Nothing). absurd (nothing_is n _ is (λ e. cc)))
           ran.came;
       crowd = λ words is. absurd (recheck_never _ is (λ e. cc) (λ e. cc) (λ k. k) (λ k. k) (λ k. k));
@@ -821,14 +825,17 @@ crowd_stop (learn.Ask ask.NoMemory) words e = cc
 crowd_stop (learn.Crowd others) words e = cc
 crowd_stop (learn.TooLarge model number) words e = cc
 
-large_stop : (a b k most : ℕ) (ks : List Answer) (stop : LearnStop) (states number : ℕ) → learn_outcome stop ≡ SuiteTooLarge states number → LearningStopsBy a b k most ks stop → greatest_suite < number
+large_stop : (a b k most : ℕ) (ks : List Answer) (stop : LearnStop) (states number : ℕ) → learn_outcome stop ≡ SuiteTooLarge states number → LearningStopsBy a b k most ks stop → HasLargeSuite a b k most ks states number
 large_stop a b k most ks (learn.Ask (ask.Clash found)) states number e by = cc
 large_stop a b k most ks (learn.Ask (ask.Sul i sul.Failed)) states number e by = cc
 large_stop a b k most ks (learn.Ask (ask.Sul i (sul.BadLine line))) states number e by = cc
 large_stop a b k most ks (learn.Ask (ask.Sul i sul.Gone)) states number e by = cc
 large_stop a b k most ks (learn.Ask ask.NoMemory) states number e by = cc
 large_stop a b k most ks (learn.Crowd words) states number e by = cc
-large_stop a b k most ks (learn.TooLarge model size) states number e by = let same : size ≡ number = cc in subst (λ (n : ℕ). greatest_suite < n) same by.large.large
+large_stop a b k most ks (learn.TooLarge model size) states number e by =
+    let many : length model.rows ≡ states = cc in
+    let same : size ≡ number = cc in
+    subst₂ (λ (n s : ℕ). HasLargeSuite a b k most ks n s) many same by
 
 system_stop : (stop : LearnStop) (i : ℕ) (s : SulStop) → learn_outcome stop ≡ system_outcome i s → stop ≡ learn.Ask (ask.Sul i s)
 system_stop (learn.Ask (ask.Clash found)) i s e = absurd (subst IsStop (sym e) (stop_is i s))
@@ -847,13 +854,13 @@ found_clash a (system.Children c) prior b z learned kept names clash is e = by c
     by (Some outputs) of = subst (λ (r : Result Found LearnStop). IfErr r (IsCausedBy (Some outputs) a.workers b z of.1.links kept)) e of.1.causes
 
 found_stop : (a : LearnValues) (s : System) (prior : List KeptAnswer) (b z : SpawnerState) (learned : Result Found LearnStop) (kept : List KeptAnswer) (names : List (List ℕ)) (i : ℕ) (stop : SulStop) → IsOfSystem a s prior b z learned kept names → learned ≡ Err (learn.Ask (ask.Sul i stop))
-    → (links : List LinkState) × (z.retired ≡ b.retired ++ links) × IsChildStop (declared_of s) b z links i stop
+    → (links : List LinkState) × (i < a.workers) × (z.retired ≡ b.retired ++ links) × IsChildStop (declared_of s) b z links i stop
 found_stop a (system.Table m) prior b z learned kept names i stop is e = absurd (subst (λ (r : Result Found LearnStop). IfErr r (IsMachineStop kept)) e is.1.causes)
 found_stop a (system.Children c) prior b z learned kept names i stop is e = by c.outputs is
   where
-    by : (outputs : Option (List (List ℕ))) → IsOfCommand a.learner c.words c.inputs outputs a.workers a.extra a.max_states prior b z learned kept names → (links : List LinkState) × (z.retired ≡ b.retired ++ links) × IsChildStop outputs b z links i stop
-    by None of = (of.1.links, of.1.spawner.retired, (subst (λ (r : Result Found LearnStop). IfErr r (IsCausedBy None a.workers b z of.1.links kept)) e of.1.causes).1)
-    by (Some outputs) of = (of.1.links, of.1.spawner.retired, (subst (λ (r : Result Found LearnStop). IfErr r (IsCausedBy (Some outputs) a.workers b z of.1.links kept)) e of.1.causes).1)
+    by : (outputs : Option (List (List ℕ))) → IsOfCommand a.learner c.words c.inputs outputs a.workers a.extra a.max_states prior b z learned kept names → (links : List LinkState) × (i < a.workers) × (z.retired ≡ b.retired ++ links) × IsChildStop outputs b z links i stop
+    by None of = let why = subst (λ (r : Result Found LearnStop). IfErr r (IsCausedBy None a.workers b z of.1.links kept)) e of.1.causes in (of.1.links, why.0, of.1.spawner.retired, why.1)
+    by (Some outputs) of = let why = subst (λ (r : Result Found LearnStop). IfErr r (IsCausedBy (Some outputs) a.workers b z of.1.links kept)) e of.1.causes in (of.1.links, why.0, of.1.spawner.retired, why.1)
 
 -- the kept answers' file that could not be written was counted
 saved_counts : (file : Option (List ℕ)) (inputs outputs : List (List ℕ)) (kept : List KeptAnswer) (f g : FilesState) → IsKeptWritten file inputs outputs kept f g saving.Failed → CountedFault f.faults g.faults
@@ -965,15 +972,23 @@ module _ (a : LearnValues) (before now : WorldState) (end : End) (ran : IsLearnR
       stopped_by (IsTooMany a.max_states (answers_of end.kept.answers) words) _ is (λ e. cc) (λ u by. absurd by) (λ u w by. absurd by) (λ l by. absurd by)
       (λ r stop same e. subst (λ (l : Result Found LearnStop). IfErr l (LearningStopsBy (length (letters_of r.system)) (count_of (declared_of r.system)) a.extra a.max_states (answers_of end.kept.answers))) (same ∙ ap (λ (s : LearnStop). Err s) (crowd_stop stop words e)) r.learned.stops)
 
-  learn_suite : (states number : ℕ) → end.outcome ≡ SuiteTooLarge states number → greatest_suite < number
+  learn_suite : (states number : ℕ) → end.outcome ≡ SuiteTooLarge states number → LargeForSystem a before.files now.files end.kept.answers states number
   learn_suite states number is =
-      stopped_by (greatest_suite < number) _ is (λ e. cc) (λ u by. absurd by) (λ u w by. absurd by) (λ l by. absurd by)
-      (λ r stop same e. large_stop (length (letters_of r.system)) (count_of (declared_of r.system)) a.extra a.max_states (answers_of end.kept.answers) stop states number e (subst (λ (l : Result Found LearnStop). IfErr l (LearningStopsBy (length (letters_of r.system)) (count_of (declared_of r.system)) a.extra a.max_states (answers_of end.kept.answers))) same r.learned.stops))
+      stopped_by (LargeForSystem a before.files now.files end.kept.answers states number) _ is (λ e. cc) (λ u by. absurd by) (λ u w by. absurd by) (λ l by. absurd by)
+      (λ r stop same e.
+      record {
+        system = r.system;
+        prior = r.prior;
+        task = task_of a before now end ran.told r;
+        large =
+            large_stop (length (letters_of r.system)) (count_of (declared_of r.system)) a.extra a.max_states (answers_of end.kept.answers) stop states number e
+            (subst (λ (l : Result Found LearnStop). IfErr l (LearningStopsBy (length (letters_of r.system)) (count_of (declared_of r.system)) a.extra a.max_states (answers_of end.kept.answers))) same r.learned.stops);
+      })
 
   stopped_so : (i : ℕ) (s : SulStop) (r : LearnedSystem) (stop : LearnStop) → r.learned.learned ≡ Err stop → learn_outcome stop ≡ system_outcome i s → InstanceStopped (Some (Learn a)) before now i s
   stopped_so i s r stop same e =
       let w = found_stop a r.system r.prior before.spawner now.spawner r.learned.learned end.kept.answers r.learned.naming.names i s r.learned.found (same ∙ ap (λ (t : LearnStop). Err t) (system_stop stop i s e)) in
-      record { system = r.system; says = (r.prior, r.between, r.task); links = w.0; retired = w.1; why = w.2 }
+      record { system = r.system; says = (r.prior, task_of a before now end ran.told r); within = w.1; links = w.0; retired = w.2; why = w.3 }
 
   learn_stops : (i : ℕ) (s : SulStop) → end.outcome ≡ system_outcome i s → InstanceStopped (Some (Learn a)) before now i s
   learn_stops i sul.Failed is = stopped_by (InstanceStopped (Some (Learn a)) before now i sul.Failed) _ is (λ e. cc) (λ u by. absurd by) (λ u w by. absurd by) (λ l by. absurd by) (stopped_so i sul.Failed)

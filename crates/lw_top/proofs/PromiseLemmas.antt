@@ -1,5 +1,5 @@
 -- The promises, from what each command did.
-use Rattle.std.proofs.Common.{◌≡◌, ◌⊎◌, inl, inr, ⊎_elim, ℕ, ◌≤◌, List, length, Option, Some, None, IfSome, Result, Ok, Err, sym, ap, ◌∙◌, subst, arith}
+use Rattle.std.proofs.Common.{◌≡◌, ◌⊎◌, inl, inr, ⊎_elim, ℕ, ◌≤◌, List, length, Option, Some, None, IfSome, Result, Ok, Err, sym, ap, ◌∙◌, subst, arith, [], ◌∷◌, ◌++◌, append-nil}
 use Rattle.lw_words.specs.Word.{answers_of}
 use Rattle.lw_words.specs.Cause.{CountedFault}
 use Rattle.lw_words.specs.declared.kept.KeptAnswer.{KeptAnswer}
@@ -8,7 +8,7 @@ use Rattle.lw_mealy.specs.Machine.{MealyMachine, IsMinimal}
 use Rattle.lw_separate.specs.Canonical.{IsCanonical}
 use Rattle.lw_certify.specs.Sure.{Sure}
 use Rattle.lw_cache.specs.declared.stops.AskStop.TheVariants as ask
-use Rattle.lw_outside.specs.Files.{FilesState}
+use Rattle.lw_outside.specs.Files.{File, FilesState}
 use Rattle.lw_outside.specs.Links.{LinkState, SpawnerState}
 use Rattle.lw_outside.specs.Streams.{SinkState}
 use Rattle.lw_log.specs.declared.log.LogState.{LogState}
@@ -32,7 +32,7 @@ use Rattle.lw_report.specs.declared.outcome.Outcome.TheVariants.{Learned, Trial,
 use Rattle.lw_check.specs.CheckRun.{IsCheckRun}
 use Rattle.lw_check.specs.Decision.{Pair}
 use Rattle.lw_learn.specs.Arguments.{LearnValues}
-use Rattle.lw_learn.specs.Asking.{IsWordless, IsWordlessTask}
+use Rattle.lw_learn.specs.Asking.{IsWordless, IsWordlessTask, ReadsWords}
 use Rattle.lw_learn.specs.Ending.{Carries, EndsRead, EndsUnread}
 use Rattle.lw_learn.specs.Findings.{IsOfSystem}
 use Rattle.lw_learn.specs.LearnRun.{IsLearnRun, SaysLog}
@@ -43,7 +43,7 @@ use Rattle.lw_recheck.specs.RecheckRun.{HasAskedSystem, HasNone, IsRecheckRun}
 use Rattle.lw_trial.specs.TrialRun.{IsTrialOutcome, IsTrialRun}
 use Rattle.lw_top.specs.Call.{CallValues, Learn, Check, Trial as TrialCall, Serve, Ask, Compare, Recheck}
 use Rattle.lw_top.specs.CheckCommand.{CheckValues}
-use Rattle.lw_top.specs.Promises.{AnswersFixModel, AsksNothing, HandsModel, IsBeforeAsking, KeepsLearned, KeepsPrior, KeepsSystem, KeptAreRuns, LearnedIsRight, ModelIsReached, ModelIsRight, ReachesModel, YesIsRight}
+use Rattle.lw_top.specs.Promises.{AnswersFixModel, AsksNothing, HandsModel, IsBeforeAsking, KeepsLearned, KeepsPrior, KeepsSystem, KeptAreRuns, LearnedIsRight, ModelIsReached, ModelIsRight, ReachesModel, SaysTask, YesIsRight}
 use Rattle.lw_top.specs.Run.{Runs}
 use Rattle.lw_top.specs.World.{WorldState}
 
@@ -177,6 +177,17 @@ log_counts (Some name) Open before now is = let e : now.faults ≡ before.faults
 log_counts (Some name) Closed before now is = is.counts
 log_counts (Some name) Failed before now is = is.counts
 
+-- the words that are asked first are read behind all else
+words_read : (file : Option (List ℕ)) (letters : List (List ℕ)) (holds : Option (List File)) (before after : List File) (words : List (List ℕ)) → ReadsWords file letters holds before after words → (more : List File) × (after ≡ before ++ more)
+words_read None letters holds before after words is = ([], is.0 ∙ sym (append-nil before))
+words_read (Some name) letters holds before after words is = (_ ∷ [], is.read.given)
+
+module _ (a : LearnValues) (before now : WorldState) (end : End) where
+  pub task_of : (told : SinkState) (r : EndsRead a before.files now.files before.spawner now.spawner before.out now.out before.err told end) → SaysTask a before.files now.files r.system r.prior
+  task_of told r =
+      let more = words_read a.words (letters_of r.system) before.files.holds r.between r.middle.reads r.asked.named r.asked.read in
+      record { between = r.between; more = more.0; task = r.task; reads = r.learned.told.told.reads ∙ (r.learned.told.saved.reads ∙ more.1) }
+
 module _ (a : LearnValues) (before now : WorldState) (end : End) (run : IsLearnRun a before.files now.files before.spawner now.spawner before.out now.out before.err now.err now.log end) where
   abbrev Unread : Type 0
   Unread = EndsUnread a before.files now.files before.spawner now.spawner before.out now.out before.err run.told end
@@ -223,8 +234,7 @@ module _ (a : LearnValues) (before now : WorldState) (end : End) (run : IsLearnR
       of_read r = record {
         system = r.system;
         prior = r.prior;
-        between = r.between;
-        task = r.task;
+        task = task_of a before now end run.told r;
         keeps = keeps_system a r.system r.prior before.spawner now.spawner r.learned.learned end.kept.answers r.learned.naming.names r.learned.found;
       }
 
@@ -234,6 +244,8 @@ module _ (a : LearnValues) (before now : WorldState) (end : End) (run : IsLearnR
       of_read : Read → ReachesModel a before now end
       of_read r = record {
         system = r.system;
+        prior = r.prior;
+        task = task_of a before now end run.told r;
         reached = λ m none sound within gives. r.learned.reached m (none_failed none) sound within gives;
         counted = λ m none uncounted within gives. r.learned.counted m (none_failed none) uncounted within gives;
       }

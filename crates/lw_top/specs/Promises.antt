@@ -1,6 +1,6 @@
 -- What the program promises, a sentence each: clauses of `run`, by the call that its arguments make.
-use Rattle.std.specs.Prelude.{◌≡◌, ◌⊎◌, ℕ, ◌<◌, ◌≤◌, List, [], ◌++◌, length, Option, Some, None, IfSome}
-use Rattle.lw_words.specs.Word.{Answer, answer_at, answers_of}
+use Rattle.std.specs.Prelude.{◌≡◌, ◌⊎◌, ℕ, ◌<◌, ◌≤◌, List, [], ◌∷◌, ◌++◌, length, Option, Some, None, IfSome}
+use Rattle.lw_words.specs.Word.{Answer, answer_at, answer_of, answers_of}
 use Rattle.lw_words.specs.Cause.{CountedFault}
 use Rattle.lw_words.specs.declared.kept.KeptAnswer.{KeptAnswer}
 use Rattle.lw_words.specs.declared.stop.SulStop.{SulStop}
@@ -20,6 +20,7 @@ use Rattle.lw_json.specs.declared.setup.Command.{Command}
 use Rattle.lw_outside.specs.Files.{File, FilesState}
 use Rattle.lw_outside.specs.Links.{LinkState, SpawnerState}
 use Rattle.lw_outside.specs.declared.links.StartFailure.{StartFailure}
+use Rattle.lw_system.specs.NewLines.{count_of}
 use Rattle.lw_system.specs.Reading.{ReadsFile}
 use Rattle.lw_system.specs.Spawners.{StartsAndRetires}
 use Rattle.lw_system.specs.Systems.{ReadsSystem, declared_of, letters_of}
@@ -28,7 +29,7 @@ use Rattle.lw_system.specs.declared.system.System.TheVariants as system
 use Rattle.lw_workers.specs.Machines.{IsWithin, KeepsRuns}
 use Rattle.lw_children.specs.Children.{IsChildStop}
 use Rattle.lw_children.specs.Keeping.{KeepsChildren}
-use Rattle.lw_report.specs.Learnings.{system_outcome}
+use Rattle.lw_report.specs.Learnings.{HasLargeSuite, system_outcome}
 use Rattle.lw_report.specs.declared.«end».End.{End}
 use Rattle.lw_report.specs.declared.outcome.Outcome.{Outcome}
 use Rattle.lw_report.specs.declared.outcome.Outcome.TheVariants.{Alphabets, BadFile, FileFault, FileTooLong, Learned, NoMemory, Nondeterministic, SinkFault, SourceFault, SuiteTooLarge, TooManyStates, UnknownLetter, Unstarted, Usage, Yes}
@@ -38,6 +39,7 @@ use Rattle.lw_learn.specs.Ending.{IsSoundSystem, IsUncountedSystem}
 use Rattle.lw_learn.specs.Outcomes.{IsBadLine, IsReachedOutcome}
 use Rattle.lw_learn.specs.Tasks.{ReadsTask}
 use Rattle.lw_learn.specs.Writing.{NothingFailed}
+use Rattle.lw_recheck.specs.Arguments.{RecheckValues}
 use Rattle.lw_recheck.specs.Reading.{ReadsBoth}
 use Rattle.lw_trial.specs.TrialRun.{IsReachedTrial, drawn_machine}
 use Rattle.lw_top.specs.Call.{CallValues, Learn, Check, Trial, Serve, Ask, Compare, Recheck}
@@ -97,12 +99,18 @@ abbrev pub KeepsSystem : ℕ → System → (prior : List KeptAnswer) → (befor
 KeepsSystem workers (system.Table m) prior before now kept = (now ≡ before) × KeepsRuns m.mealy workers prior kept
 KeepsSystem workers (system.Children c) prior before now kept = KeepsLinks c prior before now kept
 
+-- the bytes that the call read say this system and these earlier answers; it may have read more behind them
+pub record SaysTask (a : LearnValues) (before now : FilesState) (s : System) (prior : List KeptAnswer) : Type 0 where
+  pub between : List File
+  pub more : List File
+  pub task : ReadsTask a before.holds before.reads between s prior
+  pub reads : now.reads ≡ between ++ more
+
 -- the files said a system and earlier answers, and it was learned; the kept answers are these and its runs
 pub record KeepsLearned (a : LearnValues) (before now : WorldState) (end : End) : Type 0 where
   pub system : System
   pub prior : List KeptAnswer
-  pub between : List File
-  pub task : ReadsTask a before.files.holds before.files.reads between system prior
+  pub task : SaysTask a before.files now.files system prior
   pub keeps : KeepsSystem a.workers system prior before.spawner now.spawner end.kept.answers
 
 -- a file was refused, earlier answers clash, or memory ran out
@@ -138,6 +146,8 @@ KeptAreRuns _ before now end = Unit {0}
 -- bad went over it; and where no link counted a fault or an end, told or not, one comes so, or an instance said a bad line
 pub record ReachesModel (a : LearnValues) (before now : WorldState) (end : End) : Type 0 where
   pub system : System
+  pub prior : List KeptAnswer
+  pub task : SaysTask a before.files now.files system prior
   pub reached : (m : Rows)
       → NothingFailed (before.files.faults, now.files.faults) (before.out.faults, now.out.faults) (before.err.faults, now.err.faults)
       → IsSoundSystem system before.spawner now.spawner
@@ -165,36 +175,75 @@ pub record FaultsAreCounted (before now : WorldState) (outcome : Outcome) : Type
   pub sink : outcome ≡ SinkFault → CountedFault before.out.faults now.out.faults ⊎ CountedFault before.err.faults now.err.faults
   pub start : (cause : StartFailure) → outcome ≡ Unstarted cause → CountedFault before.spawner.faults now.spawner.faults × (cause ≡ now.spawner.cause)
 
--- the files say this system
-abbrev pub FilesSaySystem : Option CallValues → FilesState → System → Type 0
-FilesSaySystem (Some (Learn a)) files s = (prior : List KeptAnswer) × (between : List File) × ReadsTask a files.holds files.reads between s prior
-FilesSaySystem (Some (Ask a)) files s = (between : List File) × ReadsSystem a.source a.system files.holds files.reads between s
-FilesSaySystem (Some (Recheck a)) files s = (answers : Answers) × (between : List File) × ReadsBoth a.setup a.answers files.holds files.reads between s answers
-FilesSaySystem _ files s = ⊥
+-- the bytes that the call read say this system
+abbrev pub FilesSaySystem : Option CallValues → (before now : FilesState) → System → Type 0
+FilesSaySystem (Some (Learn a)) before now s = (prior : List KeptAnswer) × SaysTask a before now s prior
+FilesSaySystem (Some (Ask a)) before now s = ReadsSystem a.source a.system before.holds before.reads now.reads s
+FilesSaySystem (Some (Recheck a)) before now s = (answers : Answers) × ReadsBoth a.setup a.answers before.holds before.reads now.reads s answers
+FilesSaySystem _ before now s = ⊥
 
--- an instance of the system that the files say stopped so: it could not be started, or its link, one of those that were retired, tells that
+-- how many instances a call may ask
+abbrev pub workers_of : Option CallValues → ℕ
+workers_of (Some (Learn a)) = a.workers
+workers_of _ = 1
+
+-- an instance of the system that the files say stopped so: it could not be started, or its link, one of those that were retired, says
+-- that, where it tells what went over it
 pub record InstanceStopped (call : Option CallValues) (before now : WorldState) (instance : ℕ) (stop : SulStop) : Type 0 where
   pub system : System
-  pub says : FilesSaySystem call before.files system
+  pub says : FilesSaySystem call before.files now.files system
+  pub within : instance < workers_of call
   pub links : List LinkState
   pub retired : now.spawner.retired ≡ before.spawner.retired ++ links
   pub why : IsChildStop (declared_of system) before.spawner now.spawner links instance stop
 
--- the clash of two kept answers: the first one, but that `recheck` tells the one of an answer that came otherwise
-abbrev pub IsClashOf : Option CallValues → List Answer → Clash → Type 0
-IsClashOf (Some (Recheck a)) kept clash = ClashAt (answer_at kept clash.first) (answer_at kept clash.second) clash.place
-IsClashOf _ kept clash = IsFirstClash kept clash
+-- the answers of the file are kept, and behind them one that came otherwise: it clashes with one of them
+pub record CameOtherwise (a : RecheckValues) (before now : FilesState) (kept : List KeptAnswer) (clash : Clash) : Type 0 where
+  pub system : System
+  pub answers : Answers
+  pub reads : ReadsBoth a.setup a.answers before.holds before.reads now.reads system answers
+  pub last : KeptAnswer
+  pub kept_is : kept ≡ answers.kept.answers ++ last ∷ []
+  pub clashes : (clash.first < length answers.kept.answers) × (clash.second ≡ length answers.kept.answers) × ClashAt (answer_at (answers_of answers.kept.answers) clash.first) (answer_of last) clash.place
+
+-- a clash of two kept answers: the first one, or that of an answer of `recheck` which came otherwise
+abbrev pub IsClashOf : Option CallValues → (before now : FilesState) → List KeptAnswer → Clash → Type 0
+IsClashOf (Some (Recheck a)) before now kept clash = CameOtherwise a before now kept clash
+IsClashOf _ before now kept clash = IsFirstClash (answers_of kept) clash
 
 -- words that are too many, of which any two are apart: one more than there may be states
 abbrev pub IsCrowdFor : Option CallValues → List Answer → List (List ℕ) → Type 0
 IsCrowdFor (Some (Learn a)) kept words = IsTooMany a.max_states kept words
 IsCrowdFor _ kept words = ⊥
 
+-- no machine of fewer states than these gives the kept answers of a system, and the suite of one with so many is too large
+pub record LargeForSystem (a : LearnValues) (before now : FilesState) (kept : List KeptAnswer) (states number : ℕ) : Type 0 where
+  pub system : System
+  pub prior : List KeptAnswer
+  pub task : SaysTask a before now system prior
+  pub large : HasLargeSuite (length (letters_of system)) (count_of (declared_of system)) a.extra a.max_states (answers_of kept) states number
+
+-- the suite of the model that was read is too large
+pub record LargeForModel (a : CheckValues) (before now : FilesState) (states number : ℕ) : Type 0 where
+  pub model : Machine
+  pub answers : Answers
+  pub between : List File
+  pub model_file : ReadsFile IsMachineFile a.model before.holds before.reads between model
+  pub answers_file : ReadsFile IsAnswersFile a.answers before.holds between now.reads answers
+  pub large : (states ≡ length model.mealy.rows) × (number ≡ suite_size states model.mealy.inputs a.extra) × (greatest_suite < number)
+
+-- a suite that is too large, by the call
+abbrev pub IsLargeFor : Option CallValues → (before now : FilesState) → List KeptAnswer → (states number : ℕ) → Type 0
+IsLargeFor (Some (Learn a)) before now kept states number = LargeForSystem a before now kept states number
+IsLargeFor (Some (Check a)) before now kept states number = LargeForModel a before now states number
+IsLargeFor (Some (Trial v)) before now kept states number = HasLargeSuite v.inputs 2 1 1024 (answers_of kept) states number
+IsLargeFor _ before now kept states number = ⊥
+
 -- what is told of the kept answers, of a suite or of an instance is so
 pub record FindingsHold (call : Option CallValues) (before now : WorldState) (end : End) : Type 0 where
-  pub clash : (c : Clash) → end.outcome ≡ Nondeterministic c → IsClashOf call (answers_of end.kept.answers) c
+  pub clash : (c : Clash) → end.outcome ≡ Nondeterministic c → IsClashOf call before.files now.files end.kept.answers c
   pub crowd : (words : List (List ℕ)) → end.outcome ≡ TooManyStates words → IsCrowdFor call (answers_of end.kept.answers) words
-  pub suite : (states number : ℕ) → end.outcome ≡ SuiteTooLarge states number → greatest_suite < number
+  pub suite : (states number : ℕ) → end.outcome ≡ SuiteTooLarge states number → IsLargeFor call before.files now.files end.kept.answers states number
   pub stopped : (instance : ℕ) (stop : SulStop) → end.outcome ≡ system_outcome instance stop → InstanceStopped call before now instance stop
 
 -- an outcome tells its cause
