@@ -6,6 +6,7 @@ use Rattle.lw_words.specs.Word.{Answer, answer_at, answers_of, IsPrefix}
 use Rattle.lw_cache.specs.Clash.{ClashAt, NothingClashes}
 use Rattle.lw_cache.specs.FirstClash.{ClashesFirst, IsFirstClash}
 use Rattle.lw_cache.specs.declared.stops.Clash.{Clash as Found}
+use Rattle.lw_suite.specs.declared.method.Method.{Method}
 use Rattle.lw_certify.specs.declared.verdict.Verdict.{Verdict}
 use Rattle.lw_certify.specs.declared.verdict.Verdict.TheVariants as verdict
 use Rattle.lw_certify.proofs.OneVerdict.{one_verdict}
@@ -54,11 +55,11 @@ one_clash ks c d f g =
     let first : c.first ≡ d.first = omega arith in
     ap (λ (n : ℕ). found_of n c.second c.place) first ∙ (ap (λ (n : ℕ). found_of d.first n c.place) second ∙ ap (λ (n : ℕ). found_of d.first d.second n) place)
 
-module _ (p : Pair) (extra : ℕ) where
-  same_verdict : (v w : Verdict) → HasVerdict p extra v → HasVerdict p extra w → v ≡ w
-  same_verdict v w f g = one_verdict p.mealy.inputs p.mealy.rows (answers_of p.kept) extra v w f.2 g.2
+module _ (method : Method) (p : Pair) (extra : ℕ) where
+  same_verdict : (v w : Verdict) → HasVerdict method p extra v → HasVerdict method p extra w → v ≡ w
+  same_verdict v w f g = one_verdict method p.mealy.inputs p.mealy.rows (answers_of p.kept) extra v w f.2 g.2
 
-  yes_is : (n : ℕ) (two : Outcome) → IsDecision p extra (Yes n) → IsDecision p extra two → Yes n ≡ two
+  yes_is : (n : ℕ) (two : Outcome) → IsDecision method p extra (Yes n) → IsDecision method p extra two → Yes n ≡ two
   yes_is n (Yes m) f g = ap (λ (s : ℕ). Yes s) (f.1 ∙ sym g.1)
   yes_is n (No v) f g = absurd (subst IsNo (sym (same_verdict verdict.Sure v f.0 g.0)) g.1)
   yes_is n (Alphabets role) f g = absurd (g.1 f.0.0)
@@ -85,7 +86,7 @@ module _ (p : Pair) (extra : ℕ) where
   yes_is n (FileFault r) f g = absurd g
   yes_is n SinkFault f g = absurd g
 
-  no_is : (v : Verdict) (two : Outcome) → IsDecision p extra (No v) → IsDecision p extra two → No v ≡ two
+  no_is : (v : Verdict) (two : Outcome) → IsDecision method p extra (No v) → IsDecision method p extra two → No v ≡ two
   no_is v (Yes m) f g = absurd (subst IsNo (same_verdict v verdict.Sure f.0 g.0) f.1)
   no_is v (No w) f g = ap (λ (u : Verdict). No u) (same_verdict v w f.0 g.0)
   no_is v (Alphabets role) f g = absurd (g.1 f.0.0)
@@ -112,7 +113,7 @@ module _ (p : Pair) (extra : ℕ) where
   no_is v (FileFault r) f g = absurd g
   no_is v SinkFault f g = absurd g
 
-  suite_is : (n s : ℕ) (two : Outcome) → IsDecision p extra (SuiteTooLarge n s) → IsDecision p extra two → SuiteTooLarge n s ≡ two
+  suite_is : (n s : ℕ) (two : Outcome) → IsDecision method p extra (SuiteTooLarge n s) → IsDecision method p extra two → SuiteTooLarge n s ≡ two
   suite_is n s (Yes m) f g = let e : verdict.TooLarge s ≡ verdict.Sure = same_verdict (verdict.TooLarge s) verdict.Sure f.0 g.0 in absurd (cc)
   suite_is n s (No v) f g = absurd (subst IsNo (sym (same_verdict (verdict.TooLarge s) v f.0 g.0)) g.1)
   suite_is n s (Alphabets role) f g = absurd (g.1 f.0.0)
@@ -142,7 +143,7 @@ module _ (p : Pair) (extra : ℕ) where
   suite_is n s (FileFault r) f g = absurd g
   suite_is n s SinkFault f g = absurd g
 
-  other_names_is : (two : Outcome) → ¬ SameNames p → IsDecision p extra two → Alphabets Answers ≡ two
+  other_names_is : (two : Outcome) → ¬ SameNames p → IsDecision method p extra two → Alphabets Answers ≡ two
   other_names_is (Yes m) f g = absurd (f g.0.0)
   other_names_is (No v) f g = absurd (f g.0.0)
   other_names_is (Alphabets role) f g = ap (λ (r : Role). Alphabets r) (sym g.0)
@@ -169,7 +170,7 @@ module _ (p : Pair) (extra : ℕ) where
   other_names_is (FileFault r) f g = absurd g
   other_names_is SinkFault f g = absurd g
 
-  clash_is : (c : Found) (two : Outcome) → IsDecision p extra (Nondeterministic c) → IsDecision p extra two → Nondeterministic c ≡ two
+  clash_is : (c : Found) (two : Outcome) → IsDecision method p extra (Nondeterministic c) → IsDecision method p extra two → Nondeterministic c ≡ two
   clash_is c (Yes m) f g = absurd (clash_not_nothing (answers_of p.kept) c f.1 g.0.1)
   clash_is c (No v) f g = absurd (clash_not_nothing (answers_of p.kept) c f.1 g.0.1)
   clash_is c (Alphabets role) f g = absurd (g.1 f.0)
@@ -197,28 +198,28 @@ module _ (p : Pair) (extra : ℕ) where
   clash_is c SinkFault f g = absurd g
 
 pub one_decision : OneDecision
-one_decision p extra (Yes n) two f g = yes_is p extra n two f g
-one_decision p extra (No v) two f g = no_is p extra v two f g
-one_decision p extra (Alphabets role) two f g = ap (λ (r : Role). Alphabets r) f.0 ∙ other_names_is p extra two f.1 g
-one_decision p extra (Nondeterministic c) two f g = clash_is p extra c two f g
-one_decision p extra (SuiteTooLarge n s) two f g = suite_is p extra n s two f g
-one_decision p extra (Learned h r) two f g = absurd f
-one_decision p extra (Trial tried) two f g = absurd f
-one_decision p extra Usage two f g = absurd f
-one_decision p extra (Served served) two f g = absurd f
-one_decision p extra (SulFailed instance) two f g = absurd f
-one_decision p extra (Gone instance) two f g = absurd f
-one_decision p extra (BadLine instance line) two f g = absurd f
-one_decision p extra (BadAsk number) two f g = absurd f
-one_decision p extra SourceFault two f g = absurd f
-one_decision p extra (Compared comparison) two f g = absurd f
-one_decision p extra Asked two f g = absurd f
-one_decision p extra (Rechecked count) two f g = absurd f
-one_decision p extra (UnknownLetter w place) two f g = absurd f
-one_decision p extra (Unstarted cause) two f g = absurd f
-one_decision p extra (BadFile r b) two f g = absurd f
-one_decision p extra (FileTooLong r) two f g = absurd f
-one_decision p extra NoMemory two f g = absurd f
-one_decision p extra (TooManyStates ws) two f g = absurd f
-one_decision p extra (FileFault r) two f g = absurd f
-one_decision p extra SinkFault two f g = absurd f
+one_decision method p extra (Yes n) two f g = yes_is method p extra n two f g
+one_decision method p extra (No v) two f g = no_is method p extra v two f g
+one_decision method p extra (Alphabets role) two f g = ap (λ (r : Role). Alphabets r) f.0 ∙ other_names_is method p extra two f.1 g
+one_decision method p extra (Nondeterministic c) two f g = clash_is method p extra c two f g
+one_decision method p extra (SuiteTooLarge n s) two f g = suite_is method p extra n s two f g
+one_decision method p extra (Learned h r) two f g = absurd f
+one_decision method p extra (Trial tried) two f g = absurd f
+one_decision method p extra Usage two f g = absurd f
+one_decision method p extra (Served served) two f g = absurd f
+one_decision method p extra (SulFailed instance) two f g = absurd f
+one_decision method p extra (Gone instance) two f g = absurd f
+one_decision method p extra (BadLine instance line) two f g = absurd f
+one_decision method p extra (BadAsk number) two f g = absurd f
+one_decision method p extra SourceFault two f g = absurd f
+one_decision method p extra (Compared comparison) two f g = absurd f
+one_decision method p extra Asked two f g = absurd f
+one_decision method p extra (Rechecked count) two f g = absurd f
+one_decision method p extra (UnknownLetter w place) two f g = absurd f
+one_decision method p extra (Unstarted cause) two f g = absurd f
+one_decision method p extra (BadFile r b) two f g = absurd f
+one_decision method p extra (FileTooLong r) two f g = absurd f
+one_decision method p extra NoMemory two f g = absurd f
+one_decision method p extra (TooManyStates ws) two f g = absurd f
+one_decision method p extra (FileFault r) two f g = absurd f
+one_decision method p extra SinkFault two f g = absurd f

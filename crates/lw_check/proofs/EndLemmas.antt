@@ -11,6 +11,7 @@ use Rattle.lw_json.proofs.OneValue.{one_value}
 use Rattle.lw_json.proofs.OneAnswers.{one_answers}
 use Rattle.lw_outside.specs.Files.{File, Holds, HoldsLong, file_at, FilesState}
 use Rattle.lw_certify.specs.Sure.{Sure}
+use Rattle.lw_suite.specs.declared.method.Method.{Method}
 use Rattle.lw_certify.proofs.SureLemmas.{sure_is_sure}
 use Rattle.lw_report.specs.Outcomes.{HasOwnText, StandsOrWants}
 use Rattle.lw_report.specs.Text.{text_of}
@@ -28,16 +29,16 @@ use Rattle.lw_check.specs.Reading.{IsUnread, ReadsPair}
 use Rattle.lw_check.specs.Telling.{OutcomeIsTold}
 use Rattle.lw_check.proofs.DecideLemmas.{one_decision}
 
-pub comes_to : (p : Pair) (extra : ℕ) (out now : SinkState) (decision outcome : Outcome) → (decision ≡ NoMemory) ⊎ IsDecision p extra decision → OutcomeIsTold decision outcome
-    → (outcome ≡ SinkFault → ¬ (decision ≡ SinkFault) → CountedFault out.faults now.faults) → TakesSome (text_of p.inputs p.outputs p.kept extra decision) out.taken now.taken → ComesTo p extra out now outcome
-comes_to p extra out now decision outcome decided told counted some =
+pub comes_to : (method : Method) (p : Pair) (extra : ℕ) (out now : SinkState) (decision outcome : Outcome) → (decision ≡ NoMemory) ⊎ IsDecision method p extra decision → OutcomeIsTold decision outcome
+    → (outcome ≡ SinkFault → ¬ (decision ≡ SinkFault) → CountedFault out.faults now.faults) → TakesSome (text_of p.inputs p.outputs p.kept extra decision) out.taken now.taken → ComesTo method p extra out now outcome
+comes_to method p extra out now decision outcome decided told counted some =
     ⊎_elim
-    (λ (stands : outcome ≡ decision). ⊎_elim (λ (none : decision ≡ NoMemory). inr (inl (stands ∙ none))) (λ (d : IsDecision p extra decision). inl (subst (IsDecision p extra) (sym stands) d)) decided)
+    (λ (stands : outcome ≡ decision). ⊎_elim (λ (none : decision ≡ NoMemory). inr (inl (stands ∙ none))) (λ (d : IsDecision method p extra decision). inl (subst (IsDecision method p extra) (sym stands) d)) decided)
     (λ (r : (outcome ≡ NoMemory) ⊎ (IsYesOrNo decision × (outcome ≡ SinkFault))). ⊎_elim
     (λ (none : outcome ≡ NoMemory). inr (inl none))
     (λ (s : IsYesOrNo decision × (outcome ≡ SinkFault)). ⊎_elim
     (λ (none : decision ≡ NoMemory). absurd (subst IsYesOrNo none s.0))
-    (λ (d : IsDecision p extra decision). inr (inr (s.1, counted s.1 (λ e. subst IsYesOrNo e s.0), (decision, s.0, d, some))))
+    (λ (d : IsDecision method p extra decision). inr (inr (s.1, counted s.1 (λ e. subst IsYesOrNo e s.0), (decision, s.0, d, some))))
     decided)
     r)
     told
@@ -166,27 +167,27 @@ exact_unread model answers before now m a decision SinkFault u tm ta = absurd u
 same_pair : (m n : Machine) (a b : Answers) → SameMachine m n → SameAnswers a b → pair_of m a ≡ pair_of n b
 same_pair m n a b sm sa = cc (sm.inputs, sm.outputs, sm.mealy, sa.inputs, sa.outputs, sa.answers)
 
-pub exact_read : (model answers : List ℕ) (before now : FilesState) (p : Pair) (extra : ℕ) (out out_now : SinkState) (m : Machine) (a : Answers) (decision outcome : Outcome) → ReadsPair model answers before now p → ComesTo p extra out out_now outcome
-    → TellsFile IsMachineFile before.holds model m → TellsFile IsAnswersFile before.holds answers a → IsDecision (pair_of m a) extra decision → DecidesAs decision outcome
-exact_read model answers before now p extra out out_now m a decision outcome r comes tm ta d =
+pub exact_read : (method : Method) (model answers : List ℕ) (before now : FilesState) (p : Pair) (extra : ℕ) (out out_now : SinkState) (m : Machine) (a : Answers) (decision outcome : Outcome) → ReadsPair model answers before now p → ComesTo method p extra out out_now outcome
+    → TellsFile IsMachineFile before.holds model m → TellsFile IsAnswersFile before.holds answers a → IsDecision method (pair_of m a) extra decision → DecidesAs decision outcome
+exact_read method model answers before now p extra out out_now m a decision outcome r comes tm ta d =
     let fm : IsMachineFile r.model_file.bytes m = told_file IsMachineFile model m before.holds r.model_file.bytes tm r.model_file.read.held in
     let fa : IsAnswersFile r.answers_file.bytes a = told_file IsAnswersFile answers a before.holds r.answers_file.bytes ta r.answers_file.read.held in
     let e : pair_of m a ≡ p = same_pair m r.machine a r.read_answers (one_value r.model_file.bytes m r.machine fm r.model_file.file) (one_answers r.answers_file.bytes a r.read_answers fa r.answers_file.file) ∙ sym r.pair in
-    let d' : IsDecision p extra decision = subst (λ (q : Pair). IsDecision q extra decision) e d in
+    let d' : IsDecision method p extra decision = subst (λ (q : Pair). IsDecision method q extra decision) e d in
     ⊎_elim
-    (λ (o : IsDecision p extra outcome). inl (one_decision p extra outcome decision o d'))
-    (λ (s : (outcome ≡ NoMemory) ⊎ ((outcome ≡ SinkFault) × CountedFault out.faults out_now.faults × ((t : Outcome) × IsYesOrNo t × IsDecision p extra t × TakesSome (text_of p.inputs p.outputs p.kept extra t) out.taken out_now.taken))). ⊎_elim
+    (λ (o : IsDecision method p extra outcome). inl (one_decision method p extra outcome decision o d'))
+    (λ (s : (outcome ≡ NoMemory) ⊎ ((outcome ≡ SinkFault) × CountedFault out.faults out_now.faults × ((t : Outcome) × IsYesOrNo t × IsDecision method p extra t × TakesSome (text_of p.inputs p.outputs p.kept extra t) out.taken out_now.taken))). ⊎_elim
     (λ (none : outcome ≡ NoMemory). inr (inl none))
-    (λ (f : (outcome ≡ SinkFault) × CountedFault out.faults out_now.faults × ((t : Outcome) × IsYesOrNo t × IsDecision p extra t × TakesSome (text_of p.inputs p.outputs p.kept extra t) out.taken out_now.taken)). inr (inr (inl f.0)))
+    (λ (f : (outcome ≡ SinkFault) × CountedFault out.faults out_now.faults × ((t : Outcome) × IsYesOrNo t × IsDecision method p extra t × TakesSome (text_of p.inputs p.outputs p.kept extra t) out.taken out_now.taken)). inr (inr (inl f.0)))
     s)
     comes
 
-pub yes_is_sure : (p : Pair) (extra : ℕ) (out out_now : SinkState) (states : ℕ) (outcome : Outcome) → IsMachine p.mealy.inputs p.mealy.rows → ComesTo p extra out out_now outcome → outcome ≡ Yes states → Sure p.mealy.inputs p.mealy.rows (answers_of p.kept) extra
-yes_is_sure p extra out out_now states outcome machine comes is =
+pub yes_is_sure : (method : Method) (p : Pair) (extra : ℕ) (out out_now : SinkState) (states : ℕ) (outcome : Outcome) → IsMachine p.mealy.inputs p.mealy.rows → ComesTo method p extra out out_now outcome → outcome ≡ Yes states → Sure p.mealy.inputs p.mealy.rows (answers_of p.kept) extra
+yes_is_sure method p extra out out_now states outcome machine comes is =
     ⊎_elim
-    (λ (o : IsDecision p extra outcome). let d : IsDecision p extra (Yes states) = subst (IsDecision p extra) is o in sure_is_sure p.mealy.inputs p.mealy.rows (answers_of p.kept) extra machine d.0.2)
-    (λ (s : (outcome ≡ NoMemory) ⊎ ((outcome ≡ SinkFault) × CountedFault out.faults out_now.faults × ((t : Outcome) × IsYesOrNo t × IsDecision p extra t × TakesSome (text_of p.inputs p.outputs p.kept extra t) out.taken out_now.taken))). ⊎_elim
+    (λ (o : IsDecision method p extra outcome). let d : IsDecision method p extra (Yes states) = subst (IsDecision method p extra) is o in sure_is_sure method p.mealy.inputs p.mealy.rows (answers_of p.kept) extra machine d.0.2)
+    (λ (s : (outcome ≡ NoMemory) ⊎ ((outcome ≡ SinkFault) × CountedFault out.faults out_now.faults × ((t : Outcome) × IsYesOrNo t × IsDecision method p extra t × TakesSome (text_of p.inputs p.outputs p.kept extra t) out.taken out_now.taken))). ⊎_elim
     (λ (none : outcome ≡ NoMemory). let no : NoMemory ≡ Yes states = sym none ∙ is in absurd (cc))
-    (λ (f : (outcome ≡ SinkFault) × CountedFault out.faults out_now.faults × ((t : Outcome) × IsYesOrNo t × IsDecision p extra t × TakesSome (text_of p.inputs p.outputs p.kept extra t) out.taken out_now.taken)). let no : SinkFault ≡ Yes states = sym f.0 ∙ is in absurd (cc))
+    (λ (f : (outcome ≡ SinkFault) × CountedFault out.faults out_now.faults × ((t : Outcome) × IsYesOrNo t × IsDecision method p extra t × TakesSome (text_of p.inputs p.outputs p.kept extra t) out.taken out_now.taken)). let no : SinkFault ≡ Yes states = sym f.0 ∙ is in absurd (cc))
     s)
     comes

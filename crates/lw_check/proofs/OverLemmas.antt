@@ -8,6 +8,7 @@ use Rattle.lw_json.specs.KeptOver.{AreKeptOver}
 use Rattle.lw_cache.specs.Clash.{NothingClashes}
 use Rattle.lw_certify.specs.declared.verdict.Verdict.{Verdict}
 use Rattle.lw_certify.specs.declared.verdict.Verdict.TheVariants as verdict
+use Rattle.lw_suite.specs.declared.method.Method.{Method}
 use Rattle.lw_certify.specs.Verdict.{IsVerdict}
 use Rattle.lw_check.specs.Decision.{Pair, SameNames, IsDecision}
 use Rattle.lw_check.specs.bodies.Verdicts.{HasOutcome, outcome_of}
@@ -29,12 +30,12 @@ pub all_words : (a b c : ℕ) (ks kept : List KeptAnswer) → AreKeptOver a b ks
 all_words a b c ks kept over e is = rw (is, ← e) (all_answers (λ k. IsWord a k.word) ks (λ i d lt. (over i d lt).word))
 
 -- the decision of a verdict
-pub decided : (p : Pair) (extra : ℕ) (kept : List KeptAnswer) (outcome : Outcome) → SameNames p → NothingClashes (answers_of p.kept) → kept ≡ p.kept → HasOutcome p.mealy (answers_of kept) extra outcome → IsDecision p extra outcome
-decided p extra kept outcome names none is (v, has, comes) =
-    let has' : IsVerdict p.mealy.inputs p.mealy.rows (answers_of p.kept) extra v = subst (λ (l : List KeptAnswer). IsVerdict p.mealy.inputs p.mealy.rows (answers_of l) extra v) is has in
+pub decided : (method : Method) (p : Pair) (extra : ℕ) (kept : List KeptAnswer) (outcome : Outcome) → SameNames p → NothingClashes (answers_of p.kept) → kept ≡ p.kept → HasOutcome method p.mealy (answers_of kept) extra outcome → IsDecision method p extra outcome
+decided method p extra kept outcome names none is (v, has, comes) =
+    let has' : IsVerdict method p.mealy.inputs p.mealy.rows (answers_of p.kept) extra v = subst (λ (l : List KeptAnswer). IsVerdict method p.mealy.inputs p.mealy.rows (answers_of l) extra v) is has in
     rw comes (of_verdict v has')
   where
-    of_verdict : (v : Verdict) → IsVerdict p.mealy.inputs p.mealy.rows (answers_of p.kept) extra v → IsDecision p extra (outcome_of (length p.mealy.rows) v)
+    of_verdict : (v : Verdict) → IsVerdict method p.mealy.inputs p.mealy.rows (answers_of p.kept) extra v → IsDecision method p extra (outcome_of (length p.mealy.rows) v)
     of_verdict (verdict.Unreached q) h = ((names, none, h), tt)
     of_verdict (verdict.Alike q r) h = ((names, none, h), tt)
     of_verdict (verdict.Differs i q) h = ((names, none, h), tt)
@@ -42,6 +43,6 @@ decided p extra kept outcome names none is (v, has, comes) =
     of_verdict (verdict.Missing w) h = ((names, none, h), tt)
     of_verdict verdict.Sure h = ((names, none, h), refl)
 
-pub decided_or : (p : Pair) (extra : ℕ) (kept : List KeptAnswer) (outcome : Outcome) → SameNames p → NothingClashes (answers_of p.kept) → kept ≡ p.kept → (outcome ≡ NoMemory) ⊎ HasOutcome p.mealy (answers_of kept) extra outcome
-    → (outcome ≡ NoMemory) ⊎ IsDecision p extra outcome
-decided_or p extra kept outcome names none is told = ⊎_elim (λ (e : outcome ≡ NoMemory). inl e) (λ (h : HasOutcome p.mealy (answers_of kept) extra outcome). inr (decided p extra kept outcome names none is h)) told
+pub decided_or : (method : Method) (p : Pair) (extra : ℕ) (kept : List KeptAnswer) (outcome : Outcome) → SameNames p → NothingClashes (answers_of p.kept) → kept ≡ p.kept → (outcome ≡ NoMemory) ⊎ HasOutcome method p.mealy (answers_of kept) extra outcome
+    → (outcome ≡ NoMemory) ⊎ IsDecision method p extra outcome
+decided_or method p extra kept outcome names none is told = ⊎_elim (λ (e : outcome ≡ NoMemory). inl e) (λ (h : HasOutcome method p.mealy (answers_of kept) extra outcome). inr (decided method p extra kept outcome names none is h)) told

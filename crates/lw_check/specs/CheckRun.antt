@@ -5,6 +5,7 @@ use Rattle.lw_json.specs.AnswersFile.{IsAnswersFile}
 use Rattle.lw_json.specs.MachineFile.{IsMachineFile}
 use Rattle.lw_json.specs.declared.answers.Answers.{Answers}
 use Rattle.lw_json.specs.declared.machine.Machine.{Machine}
+use Rattle.lw_suite.specs.declared.method.Method.{Method}
 use Rattle.lw_certify.specs.Sure.{Sure}
 use Rattle.lw_check.specs.Decision.{IsDecision, Pair, pair_of}
 use Rattle.lw_check.specs.Ending.{DecidesAs, EndsPairRead, EndsUnread}
@@ -18,18 +19,18 @@ use Rattle.lw_report.specs.declared.outcome.Outcome.{Outcome}
 use Rattle.lw_report.specs.declared.outcome.Outcome.TheVariants.{Yes}
 
 -- a call with these arguments changed files, `out` and `err` so, and came to the end
-pub record IsCheckRun (model answers : List ℕ) (extra : ℕ) (files_before files_now : FilesState) (out_before out_now : SinkState) (err_before err_now : SinkState) (end : End) : Type 0 where
+pub record IsCheckRun (method : Method) (model answers : List ℕ) (extra : ℕ) (files_before files_now : FilesState) (out_before out_now : SinkState) (err_before err_now : SinkState) (end : End) : Type 0 where
   pub no_model : end.model ≡ None
   pub no_learner : IsWithoutLearner end
   pub untouched : files_now.holds ≡ files_before.holds
   pub ended : EndsUnread model answers files_before files_now extra out_before out_now err_before err_now end.outcome end.kept.answers end.outputs ⊎
-      EndsPairRead model answers files_before files_now extra out_before out_now err_before err_now end.outcome end.kept.answers end.outputs
+      EndsPairRead method model answers files_before files_now extra out_before out_now err_before err_now end.outcome end.kept.answers end.outputs
   -- where both files are told, the outcome is their one decision, but that memory, a file or a stream may fail
   pub exact :
       (m : Machine) (a : Answers) (decision : Outcome)
       → TellsFile IsMachineFile files_before.holds model m
       → TellsFile IsAnswersFile files_before.holds answers a
-      → IsDecision (pair_of m a) extra decision
+      → IsDecision method (pair_of m a) extra decision
       → DecidesAs decision end.outcome
   -- a yes implies that every machine of at most so many states more that gives the answers equals the model
   pub sure : (states : ℕ) → end.outcome ≡ Yes states → (pair : Pair) ×

@@ -6,6 +6,7 @@ use Rattle.lw_mealy.specs.Machine.{MealyMachine, IsMachine}
 use Rattle.lw_json.specs.declared.machine.Machine.{Machine}
 use Rattle.lw_json.specs.declared.answers.Answers.{Answers as Given}
 use Rattle.lw_cache.specs.Clash.{NothingClashes}
+use Rattle.lw_suite.specs.declared.method.Method.{Method}
 use Rattle.lw_certify.specs.Verdict.{IsVerdict}
 use Rattle.lw_certify.specs.declared.verdict.Verdict.{Verdict}
 use Rattle.lw_certify.specs.declared.verdict.Verdict.TheVariants as verdict
@@ -29,9 +30,9 @@ pair_of m a = record { inputs = m.inputs; outputs = m.outputs; mealy = m.mealy; 
 abbrev pub SameNames : Pair → Type 0
 SameNames p = (p.answer_inputs ≡ p.inputs) × (p.answer_outputs ≡ p.outputs)
 
--- the names are the same, nothing clashes, and this is the verdict
-abbrev pub HasVerdict : Pair → ℕ → Verdict → Type 0
-HasVerdict p extra v = SameNames p × NothingClashes (answers_of p.kept) × IsVerdict p.mealy.inputs p.mealy.rows (answers_of p.kept) extra v
+-- the names are the same, nothing clashes, and this is the verdict by the method
+abbrev pub HasVerdict : Method → Pair → ℕ → Verdict → Type 0
+HasVerdict method p extra v = SameNames p × NothingClashes (answers_of p.kept) × IsVerdict method p.mealy.inputs p.mealy.rows (answers_of p.kept) extra v
 
 -- neither too large nor sure
 abbrev pub IsNo : Verdict → Type 0
@@ -40,23 +41,23 @@ IsNo verdict.Sure = ⊥
 IsNo _ = Unit {0}
 
 -- what the pair comes to: the first that applies of other names, two answers that clash, and the verdict
-abbrev pub IsDecision : Pair → ℕ → Outcome → Type 0
-IsDecision p extra (Alphabets role) = (role ≡ Answers) × (¬ SameNames p)
-IsDecision p extra (Nondeterministic clash) = SameNames p × IsFirstClash (answers_of p.kept) clash
-IsDecision p extra (Yes states) = HasVerdict p extra verdict.Sure × (states ≡ length p.mealy.rows)
-IsDecision p extra (No v) = HasVerdict p extra v × IsNo v
-IsDecision p extra (SuiteTooLarge states number) = HasVerdict p extra (verdict.TooLarge number) × (states ≡ length p.mealy.rows)
-IsDecision p extra _ = ⊥
+abbrev pub IsDecision : Method → Pair → ℕ → Outcome → Type 0
+IsDecision method p extra (Alphabets role) = (role ≡ Answers) × (¬ SameNames p)
+IsDecision method p extra (Nondeterministic clash) = SameNames p × IsFirstClash (answers_of p.kept) clash
+IsDecision method p extra (Yes states) = HasVerdict method p extra verdict.Sure × (states ≡ length p.mealy.rows)
+IsDecision method p extra (No v) = HasVerdict method p extra v × IsNo v
+IsDecision method p extra (SuiteTooLarge states number) = HasVerdict method p extra (verdict.TooLarge number) × (states ≡ length p.mealy.rows)
+IsDecision method p extra _ = ⊥
 
--- a pair comes to one outcome at most
+-- a pair comes to one outcome at most, by each method
 abbrev pub OneDecision : Type 0
-OneDecision = (p : Pair) (extra : ℕ) (one two : Outcome) → IsDecision p extra one → IsDecision p extra two → one ≡ two
+OneDecision = (method : Method) (p : Pair) (extra : ℕ) (one two : Outcome) → IsDecision method p extra one → IsDecision method p extra two → one ≡ two
 
 -- a machine and answers over the letters that they name come to an outcome
 abbrev pub SomeDecision : Type 0
-SomeDecision = (p : Pair) (extra : ℕ) → IsMachine p.mealy.inputs p.mealy.rows
+SomeDecision = (method : Method) (p : Pair) (extra : ℕ) → IsMachine p.mealy.inputs p.mealy.rows
     → AreAnswers (length p.answer_inputs) (answers_of p.kept)
-    → (outcome : Outcome) × IsDecision p extra outcome
+    → (outcome : Outcome) × IsDecision method p extra outcome
 
 -- an outcome of this kind
 abbrev pub IsDecided : Outcome → Type 0

@@ -3,6 +3,7 @@ use Rattle.std.specs.Prelude.{◌≡◌, ◌≢◌, ◌⊎◌, ℕ, List, [], Op
 use Rattle.lw_words.specs.Cause.{CountedFault}
 use Rattle.lw_words.specs.declared.kept.KeptAnswer.{KeptAnswer}
 use Rattle.lw_names.specs.Naming.{Naming}
+use Rattle.lw_suite.specs.declared.method.Method.{Method}
 use Rattle.lw_check.specs.Naming.{NamesOutputs}
 use Rattle.lw_check.specs.Decision.{IsYesOrNo, IsDecision, Pair}
 use Rattle.lw_check.specs.Reading.{IsUnread, ReadsPair}
@@ -24,21 +25,21 @@ pub record EndsUnread (model answers : List ℕ) (before now : FilesState) (extr
       TakesAll (text_of [] [] [] extra outcome) err.taken err_now.taken
   pub said_part : TakesSome (text_of [] [] [] extra outcome) err.taken err_now.taken
 
--- what the pair comes to; or memory ran out, or a stream refused a yes or a no
-abbrev pub ComesTo : Pair → ℕ → SinkState → SinkState → Outcome → Type 0
-ComesTo pair extra out out_now outcome =
-    IsDecision pair extra outcome
+-- what the pair comes to by the method; or memory ran out, or a stream refused a yes or a no
+abbrev pub ComesTo : Method → Pair → ℕ → SinkState → SinkState → Outcome → Type 0
+ComesTo method pair extra out out_now outcome =
+    IsDecision method pair extra outcome
     ⊎ ((outcome ≡ NoMemory)
-    ⊎ ((outcome ≡ SinkFault) × CountedFault out.faults out_now.faults × ((decision : Outcome) × IsYesOrNo decision × IsDecision pair extra decision × TakesSome (text_of pair.inputs pair.outputs pair.kept extra decision) out.taken out_now.taken)))
+    ⊎ ((outcome ≡ SinkFault) × CountedFault out.faults out_now.faults × ((decision : Outcome) × IsYesOrNo decision × IsDecision method pair extra decision × TakesSome (text_of pair.inputs pair.outputs pair.kept extra decision) out.taken out_now.taken)))
 
 -- a pair was read: its answers are kept, and its outputs are named; a yes or a no is put to `out`, without a fault, and nothing to `err`; of any other
 -- outcome but a fault of a stream nothing is put to `out`, and its text goes to `err`, whole where that counts no fault
-pub record EndsPairRead (model answers : List ℕ) (before now : FilesState) (extra : ℕ) (out out_now err err_now : SinkState) (outcome : Outcome) (kept : List KeptAnswer) (outputs : Option Naming) : Type 0 where
+pub record EndsPairRead (method : Method) (model answers : List ℕ) (before now : FilesState) (extra : ℕ) (out out_now err err_now : SinkState) (outcome : Outcome) (kept : List KeptAnswer) (outputs : Option Naming) : Type 0 where
   pub pair : Pair
   pub read : ReadsPair model answers before now pair
   pub kept_all : kept ≡ pair.kept
   pub named : NamesOutputs pair outcome outputs
-  pub comes : ComesTo pair extra out out_now outcome
+  pub comes : ComesTo method pair extra out out_now outcome
   pub quiet : IsYesOrNo outcome → (out_now.faults ≡ out.faults) × (err_now.faults ≡ err.faults)
   pub written : IsYesOrNo outcome → TakesAll
       (text_of pair.inputs pair.outputs pair.kept extra outcome) out.taken out_now.taken ×

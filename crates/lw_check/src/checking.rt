@@ -26,6 +26,7 @@ use crate::telling::tell;
 use lw_json::{Answers, Machine};
 use lw_outside::{Files, Sink};
 use lw_report::{End, UNSAID, refuse};
+use lw_suite::Method;
 use lw_words::Kept;
 use std::alloc::Global;
 
@@ -35,6 +36,7 @@ fn finish<O: Sink, E: Sink>(
     machine: Machine,
     answers: Answers,
     extra: u8,
+    method: Method,
     out: &mut O,
     err: &mut E,
 ) -> End
@@ -45,8 +47,8 @@ fn finish<O: Sink, E: Sink>(
     ensures kept { result.kept.answers ≡ answers.kept.answers }
     ensures outputs { NamesOutputs (pair_of machine answers) result.outcome result.outputs }
     ensures complete { IsWithinLimits machine.mealy }
-    ensures comes { ComesTo (pair_of machine answers) extra (O.state out.old) (O.state out.new)
-        result.outcome }
+    ensures comes { ComesTo method (pair_of machine answers) extra (O.state out.old)
+        (O.state out.new) result.outcome }
     ensures written { IsYesOrNo result.outcome →
         TakesAll (text_of machine.inputs machine.outputs answers.kept.answers extra
         result.outcome) (O.state out.old).taken (O.state out.new).taken ×
@@ -70,27 +72,29 @@ fn finish<O: Sink, E: Sink>(
     let Decided {
         outcome: decision,
         outputs,
-    } = decide(alloc, &machine, &answers, extra);
+    } = decide(alloc, &machine, &answers, extra, method);
     let outcome = tell(alloc, decision, &machine, &answers.kept, extra, out, err);
     End::new(outcome, answers.kept, outputs)
 }
 
 /// `check MODEL ANSWERS [--extra K]`: whether the answers of a file fix the model of a file among all machines of at most
-/// `extra` states more. Reads the model file, then the answers file; puts a yes or a no to `out`, and the text of every other
+/// `extra` states more, by the suite of the method. Reads the model file, then the answers file; puts a yes or a no to `out`, and the text of every other
 /// outcome to `err`.
 pub fn check<F: Files, O: Sink, E: Sink>(
     alloc: Global,
     model: &str,
     answers: &str,
     extra: u8,
+    method: Method,
     files: &mut F,
     out: &mut O,
     err: &mut E,
 ) -> End
     requires few { extra ≤ 4 }
     ensures status { result.status ≡ status_of result.outcome }
-    ensures ran { IsCheckRun model.now answers.now extra (F.state files.old) (F.state files.new)
-        (O.state out.old) (O.state out.new) (E.state err.old) (E.state err.new) result }
+    ensures ran { IsCheckRun method model.now answers.now extra (F.state files.old)
+        (F.state files.new) (O.state out.old) (O.state out.new) (E.state err.old) (E.state err.new)
+        result }
     ensures counts { ((F.state files.old).faults ≤ (F.state files.new).faults) ×
         ((O.state out.old).faults ≤ (O.state out.new).faults) ×
         ((E.state err.old).faults ≤ (E.state err.new).faults) }
@@ -101,5 +105,5 @@ pub fn check<F: Files, O: Sink, E: Sink>(
             return refuse(alloc, outcome, UNSAID, Kept::new(alloc), None, extra, err);
         }
     };
-    finish(alloc, machine, answers, extra, out, err)
+    finish(alloc, machine, answers, extra, method, out, err)
 }

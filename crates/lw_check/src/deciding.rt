@@ -14,6 +14,7 @@ use lw_json::{Answers, Machine};
 use lw_names::OutNames;
 use lw_prior::{Prior, fill};
 use lw_report::{Outcome, Role};
+use lw_suite::Method;
 use std::alloc::Global;
 
 /// What a model and answers come to, and the names of their outputs, where they share them.
@@ -34,15 +35,15 @@ fn verdict_outcome(states: u16, verdict: Verdict) -> Outcome
     }
 }
 
-/// The outcome of a model and answers of which nothing clashes.
-fn certified(alloc: Global, machine: &Machine, cache: &Cache, extra: u8) -> Outcome
+/// The outcome by a method of a model and answers of which nothing clashes.
+fn certified(alloc: Global, machine: &Machine, cache: &Cache, extra: u8, method: Method) -> Outcome
     requires few { extra ≤ 4 }
     requires letters { All (λ k. IsWord machine.now.mealy.inputs k.word)
         (answers_of cache.now.kept) }
     ensures { (result ≡ Came.NoMemory) ⊎
-        HasOutcome machine.now.mealy (answers_of cache.now.kept) extra result }
+        HasOutcome method machine.now.mealy (answers_of cache.now.kept) extra result }
 {
-    match certify(alloc, &machine.mealy, cache, extra) {
+    match certify(alloc, &machine.mealy, cache, extra, method) {
         Ok(verdict) => verdict_outcome(machine.mealy.states(), verdict),
         Err(_) => Outcome::NoMemory,
     }
@@ -66,38 +67,51 @@ fn outcome_of_filled(
     answers: &Answers,
     filled: &Prior,
     extra: u8,
+    method: Method,
 ) -> Outcome
     requires few { extra ≤ 4 }
     requires names { SameNames (pair_of machine.now answers.now) }
     requires kept { filled.now.cache.kept ≡ answers.now.kept.answers }
     requires clash { HasFirstClash (answers_of filled.now.cache.kept) filled.now.clash }
     ensures { (result ≡ Came.NoMemory) ⊎
-        IsDecision (pair_of machine.now answers.now) extra result }
+        IsDecision method (pair_of machine.now answers.now) extra result }
 {
     match filled.clash {
         Some(clash) => Outcome::Nondeterministic(clash),
-        None => certified(alloc, machine, &filled.cache, extra),
+        None => certified(alloc, machine, &filled.cache, extra, method),
     }
 }
 
 /// What a model and answers of the same names come to.
-fn decide_alike(alloc: Global, machine: &Machine, answers: &Answers, extra: u8) -> Outcome
+fn decide_alike(
+    alloc: Global,
+    machine: &Machine,
+    answers: &Answers,
+    extra: u8,
+    method: Method,
+) -> Outcome
     requires few { extra ≤ 4 }
     requires names { SameNames (pair_of machine.now answers.now) }
     ensures { (result ≡ Came.NoMemory) ⊎
-        IsDecision (pair_of machine.now answers.now) extra result }
+        IsDecision method (pair_of machine.now answers.now) extra result }
 {
     match fill(alloc, &answers.kept) {
-        Ok(filled) => outcome_of_filled(alloc, machine, answers, &filled, extra),
+        Ok(filled) => outcome_of_filled(alloc, machine, answers, &filled, extra, method),
         Err(_) => Outcome::NoMemory,
     }
 }
 
 /// What a model and answers come to, and the names of their outputs.
-pub(crate) fn decide(alloc: Global, machine: &Machine, answers: &Answers, extra: u8) -> Decided
+pub(crate) fn decide(
+    alloc: Global,
+    machine: &Machine,
+    answers: &Answers,
+    extra: u8,
+    method: Method,
+) -> Decided
     requires few { extra ≤ 4 }
     ensures decided { (result.outcome ≡ Came.NoMemory) ⊎
-        IsDecision (pair_of machine.now answers.now) extra result.outcome }
+        IsDecision method (pair_of machine.now answers.now) extra result.outcome }
     ensures named { NamesOutputs (pair_of machine.now answers.now) result.outcome result.outputs }
 {
     let Ok(outputs) = OutNames::declared(alloc, &answers.outputs) else {
@@ -113,7 +127,7 @@ pub(crate) fn decide(alloc: Global, machine: &Machine, answers: &Answers, extra:
         };
     }
     Decided {
-        outcome: decide_alike(alloc, machine, answers, extra),
+        outcome: decide_alike(alloc, machine, answers, extra, method),
         outputs: Some(outputs),
     }
 }

@@ -12,6 +12,7 @@ use Rattle.lw_names.specs.Naming.{Naming}
 use Rattle.lw_mealy.specs.Machine.{Gives, MealyMachine, Rows}
 use Rattle.lw_rounds.specs.Learner.{refinements_of}
 use Rattle.lw_rounds.specs.declared.learned.Learned.{Learned as Found}
+use Rattle.lw_suite.specs.declared.method.Method.{Method}
 use Rattle.lw_rounds.specs.declared.learner.Kind.{Kind}
 use Rattle.lw_rounds.specs.declared.learner.Learner.{Learner}
 use Rattle.lw_rounds.specs.declared.stops.LearnStop.{LearnStop}
@@ -293,9 +294,9 @@ module _ (a : LearnValues) (s : System) (prior : List KeptAnswer) (naming : Nami
       (counted_system a s prior b z learned kept naming.names r found uncounted within (subst (λ (ks : List KeptAnswer). Gives r (answers_of ks)) whole.told.kept_is gives))
 
 -- and has the model that was learned
-pub model_end : (kind : Kind) (a b k most : ℕ) (learned : Result Found LearnStop) (kept : List KeptAnswer) (end : End) → IfOk learned (GivesModel kind a b k most kept) → end.kept.answers ≡ kept → Carries learned end → IfSome end.model (HasModel kind a b k most end)
-model_end kind a b k most (Ok l) kept end gives same carries = subst (λ (m : Option MealyMachine). IfSome m (HasModel kind a b k most end)) (sym carries.0) (gives end same carries.1 carries.2)
-model_end kind a b k most (Err stop) kept end gives same carries = subst (λ (m : Option MealyMachine). IfSome m (HasModel kind a b k most end)) (sym carries.0) tt
+pub model_end : (kind : Kind) (method : Method) (a b k most : ℕ) (learned : Result Found LearnStop) (kept : List KeptAnswer) (end : End) → IfOk learned (GivesModel kind method a b k most kept) → end.kept.answers ≡ kept → Carries learned end → IfSome end.model (HasModel kind method a b k most end)
+model_end kind method a b k most (Ok l) kept end gives same carries = subst (λ (m : Option MealyMachine). IfSome m (HasModel kind method a b k most end)) (sym carries.0) (gives end same carries.1 carries.2)
+model_end kind method a b k most (Err stop) kept end gives same carries = subst (λ (m : Option MealyMachine). IfSome m (HasModel kind method a b k most end)) (sym carries.0) tt
 
 -- what writing a model out came to
 pub record HasWritten (a : LearnValues) (m : Machine) (learner : Learner) (kept : List KeptAnswer) (was : Saved) (f g : FilesState) (o p : SinkState) (e d : SinkState) (end : End) : Type 0 where
@@ -407,13 +408,13 @@ told_left a s naming l kept was f o e d end few sizes wants model learner refine
     text = sym (ap (λ (x : Outcome). text_of (letters_of s) naming.names kept a.extra x) wants)
 
 -- what was found of a system, and told
-pub ends_learned : (a : LearnValues) (s : System) (prior : List KeptAnswer) (naming : Naming) (learned : Result Found LearnStop) (kept : List KeptAnswer) (f g : FilesState) (b z : SpawnerState) (o p e d : SinkState) (end : End) → IsOfSystem a s prior b z learned kept naming.names → IfOk learned (GivesModel a.learner (length (letters_of s)) (length naming.names) a.extra a.max_states kept)
+pub ends_learned : (a : LearnValues) (s : System) (prior : List KeptAnswer) (naming : Naming) (learned : Result Found LearnStop) (kept : List KeptAnswer) (f g : FilesState) (b z : SpawnerState) (o p e d : SinkState) (end : End) → IsOfSystem a s prior b z learned kept naming.names → IfOk learned (GivesModel a.learner a.suite (length (letters_of s)) (length naming.names) a.extra a.max_states kept)
     → IfErr learned (LearningStopsBy (length (letters_of s)) (count_of (declared_of s)) a.extra a.max_states (answers_of kept)) → IsEndOf a s naming learned kept f g o p e d end → EndsLearned a s prior f g b z o p e d end
 ends_learned a s prior naming learned kept f g b z o p e d end found gives stops whole = record {
   naming = naming;
   learned = learned;
   found = subst (λ (ks : List KeptAnswer). IsOfSystem a s prior b z learned ks naming.names) (sym whole.told.kept_is) found;
-  model = model_end a.learner (length (letters_of s)) (length naming.names) a.extra a.max_states learned kept end gives whole.told.kept_is whole.told.carries;
+  model = model_end a.learner a.suite (length (letters_of s)) (length naming.names) a.extra a.max_states learned kept end gives whole.told.kept_is whole.told.carries;
   stops = subst (λ (ks : List KeptAnswer). IfErr learned (LearningStopsBy (length (letters_of s)) (count_of (declared_of s)) a.extra a.max_states (answers_of ks))) (sym whole.told.kept_is) stops;
   reached = reached_end a s prior naming learned kept f g b z o p e d end found whole;
   counted = counted_end a s prior naming learned kept f g b z o p e d end found whole;

@@ -133,8 +133,8 @@ pub record EndsLearned (a : LearnValues) (s : System) (prior : List KeptAnswer) 
   pub learned : Result Found LearnStop
   pub found : IsOfSystem a s prior spawner_before spawner_now learned end.kept.answers naming.names
   -- the model, and what it is worth
-  pub model : IfSome end.model (HasModel a.learner (length (letters_of s)) (length naming.names)
-      a.extra a.max_states end)
+  pub model : IfSome end.model (HasModel a.learner a.suite (length (letters_of s))
+      (length naming.names) a.extra a.max_states end)
   pub stops : IfErr learned (LearningStopsBy (length (letters_of s)) (count_of (declared_of s)) a.extra
       a.max_states (answers_of end.kept.answers))
   -- where nothing outside was wrong, and a machine of n states that gives the answers is within the limits, a model comes within

@@ -50,6 +50,7 @@ impl Model for LearnArguments {
       extra = a.settings.extra;
       learner = a.settings.kind;
       max_states = a.settings.max_states;
+      suite = a.settings.suite;
       model = option_map (λ s. string_bytes s) a.files.model;
       answers = option_map (λ s. string_bytes s) a.files.answers;
       prior = option_map (λ s. string_bytes s) a.files.prior;
@@ -66,6 +67,7 @@ impl Model for LearnArguments {
       extra = a.settings.extra;
       learner = a.settings.kind;
       max_states = a.settings.max_states;
+      suite = a.settings.suite;
       model = option_map (λ s. string_bytes s) a.files.model;
       answers = option_map (λ s. string_bytes s) a.files.answers;
       prior = option_map (λ s. string_bytes s) a.files.prior;
@@ -93,6 +95,7 @@ impl LearnArguments {
           extra = settings.extra;
           learner = settings.kind;
           max_states = settings.max_states;
+          suite = settings.suite;
           model = option_map (λ s. string_bytes s) files.model;
           answers = option_map (λ s. string_bytes s) files.answers;
           prior = option_map (λ s. string_bytes s) files.prior;
@@ -131,6 +134,7 @@ impl LearnArguments {
         ensures kind { result.kind ≡ self.now.learner }
         ensures extra { result.extra ≡ self.now.extra }
         ensures states { result.max_states ≡ self.now.max_states }
+        ensures suite { result.suite ≡ self.now.suite }
     {
         self.settings
     }

@@ -8,6 +8,7 @@ ghost use Rattle.lw_pool.specs.Opening.{MayBegin};
 ghost use Rattle.lw_workers.specs.Asking.{AnswersWords};
 ghost use Rattle.lw_system.specs.NewLines.{count_of};
 ghost use Rattle.lw_children.specs.Children.{IsOfCommand};
+ghost use Rattle.lw_rounds.specs.Learned.{IsEnoughFor};
 ghost use Rattle.lw_learn.specs.Findings.{IsOfInstances, IsOfSystem, LearningStopsBy};
 ghost use Rattle.lw_system.specs.declared.system.System.TheVariants as Of;
 ghost use Rattle.lw_system.specs.Systems.{declared_of, letters_of};
@@ -38,6 +39,8 @@ fn learn_table<R: Threads + Wait + Sync + Drop, W: Watcher>(
     requires batch { length start.words < 2 ^ 32 }
     ensures found { IsOfInstances arguments.now machine.now start.cache.kept result.learned
         result.kept.answers result.names.names }
+    ensures enough { IfOk result.learned (λ l. IsEnoughFor arguments.now.suite
+        (length machine.now.inputs) arguments.now.extra (answers_of result.kept.answers) l.model) }
     ensures asked { OnOk result.learned (AnswersWords start.words result.kept.answers) }
     ensures few { arguments.now.workers ≤ 16 }
 {
@@ -70,6 +73,8 @@ fn learn_command<P: Spawner, R: Threads + Wait + Sync + Drop, W: Watcher>(
         command.now.outputs arguments.now.workers arguments.now.extra arguments.now.max_states
         start.cache.kept (P.state spawner.old) (P.state spawner.new) result.learned
         result.kept.answers result.names.names }
+    ensures enough { IfOk result.learned (λ l. IsEnoughFor arguments.now.suite
+        (length command.now.inputs) arguments.now.extra (answers_of result.kept.answers) l.model) }
     ensures asked { OnOk result.learned (AnswersWords start.words result.kept.answers) }
     ensures few { arguments.now.workers ≤ 16 }
 {
@@ -93,7 +98,7 @@ pub(crate) fn learn_system<P: Spawner, R: Threads + Wait + Sync + Drop, W: Watch
     ensures found { IsOfSystem arguments.now system.now start.cache.kept (P.state spawner.old)
         (P.state spawner.new) result.learned result.kept.answers result.names.names }
     ensures model { IfOk result.learned
-        (GivesModel arguments.now.learner (length (letters_of system.now))
+        (GivesModel arguments.now.learner arguments.now.suite (length (letters_of system.now))
         (length result.names.names) arguments.now.extra arguments.now.max_states
         result.kept.answers) }
     ensures sizes { IfOk result.learned (λ l.

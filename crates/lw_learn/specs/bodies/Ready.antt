@@ -8,6 +8,7 @@ use Rattle.lw_names.specs.Naming.{Naming}
 use Rattle.lw_pool.specs.Opening.{MayBegin}
 use Rattle.lw_rounds.specs.Learner.{refinements_of}
 use Rattle.lw_rounds.specs.declared.learned.Learned.{Learned}
+use Rattle.lw_suite.specs.declared.method.Method.{Method}
 use Rattle.lw_rounds.specs.declared.learner.Kind.{Kind}
 use Rattle.lw_children.specs.Crews.{first_naming}
 use Rattle.lw_system.specs.NewLines.{count_of}
@@ -27,6 +28,6 @@ pub record IsReady (s : System) (naming : Naming) (cache : Caching) : Type 0 whe
   pub free : declared_of s ≡ None → cache.kept ≡ []
 
 -- an end with these answers that carries what was learned has its model
-abbrev pub GivesModel : (kind : Kind) (a b k most : ℕ) → List KeptAnswer → Learned → Type 0
-GivesModel kind a b k most kept l =
-    (end : End) → end.kept.answers ≡ kept → end.learner ≡ Some l.learner → end.refinements ≡ refinements_of l.learner → HasModel kind a b k most end l.model
+abbrev pub GivesModel : (kind : Kind) (method : Method) (a b k most : ℕ) → List KeptAnswer → Learned → Type 0
+GivesModel kind method a b k most kept l =
+    (end : End) → end.kept.answers ≡ kept → end.learner ≡ Some l.learner → end.refinements ≡ refinements_of l.learner → HasModel kind method a b k most end l.model

@@ -57,8 +57,8 @@ returns-clause-ran g c = record {
       let O = g.O.Sink in
       let before = F.state c.args.files.now in
       let now = F.state c.read_pair.new.files in
-      exact_read c.args.model.now c.args.answers.now before now _ c.args.extra (O.state c.args.out.now) (O.state c.finish.new.out) m a decision c.finish.result.outcome c.in-Ok.ensures.ok c.finish.ensures.comes tm ta d;
+      exact_read c.args.method c.args.model.now c.args.answers.now before now _ c.args.extra (O.state c.args.out.now) (O.state c.finish.new.out) m a decision c.finish.result.outcome c.in-Ok.ensures.ok c.finish.ensures.comes tm ta d;
   sure = λ states is.
       let O = g.O.Sink in
-      (pair_of c.in-Ok.read.machine c.in-Ok.read.answers, c.in-Ok.ensures.ok, yes_is_sure (pair_of c.in-Ok.read.machine c.in-Ok.read.answers) c.args.extra (O.state c.args.out.now) (O.state c.finish.new.out) states c.finish.result.outcome c.finish.ensures.complete.machine c.finish.ensures.comes is);
+      (pair_of c.in-Ok.read.machine c.in-Ok.read.answers, c.in-Ok.ensures.ok, yes_is_sure c.args.method (pair_of c.in-Ok.read.machine c.in-Ok.read.answers) c.args.extra (O.state c.args.out.now) (O.state c.finish.new.out) states c.finish.result.outcome c.finish.ensures.complete.machine c.finish.ensures.comes is);
 }

@@ -6,7 +6,7 @@ pub returns-clause-comes : goal.returns-clause-comes
 returns-clause-comes g c =
     let O = g.O.Sink in
     rw c.new.ensures.outcome
-    (comes_to (pair_of c.args.machine c.args.answers) c.args.extra (O.state c.args.out.now) (O.state c.tell-outcome.new.out) c.decide-decision.result.outcome c.tell-outcome.result c.decide-decision.ensures.decided c.tell-outcome.ensures.outcome c.tell-outcome.ensures.refused c.tell-outcome.ensures.part)
+    (comes_to c.args.method (pair_of c.args.machine c.args.answers) c.args.extra (O.state c.args.out.now) (O.state c.tell-outcome.new.out) c.decide-decision.result.outcome c.tell-outcome.result c.decide-decision.ensures.decided c.tell-outcome.ensures.outcome c.tell-outcome.ensures.refused c.tell-outcome.ensures.part)
 
 pub returns-clause-said_part : goal.returns-clause-said_part
 returns-clause-said_part g c = rw c.new.ensures.outcome c.tell-outcome.ensures.said_part

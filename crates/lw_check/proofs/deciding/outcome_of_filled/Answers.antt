@@ -13,4 +13,4 @@ certified-requires-clause-letters c = all_words _ _ _ c.args.answers.now.kept.an
 pub returns-in-None : goal.returns-in-None
 returns-in-None c =
     let none = subst (HasFirstClash (answers_of c.args.filled.now.cache.kept)) c.in-None.is c.requires.clash in
-    decided_or (pair_of c.args.machine.now c.args.answers.now) c.args.extra c.args.filled.now.cache.kept c.certified.result c.requires.names (subst (λ (ks : List KeptAnswer). NothingClashes (answers_of ks)) c.requires.kept none) c.requires.kept c.certified.ensures
+    decided_or c.args.method (pair_of c.args.machine.now c.args.answers.now) c.args.extra c.args.filled.now.cache.kept c.certified.result c.requires.names (subst (λ (ks : List KeptAnswer). NothingClashes (answers_of ks)) c.requires.kept none) c.requires.kept c.certified.ensures

@@ -1,5 +1,9 @@
-use Rattle.std.proofs.Common.{◌≡◌, ◌∙◌, List, Ok, Err, IfSome, Option, Result, Some, ap, refl, subst, sym}
+use Rattle.std.proofs.Common.{◌≡◌, ◌∙◌, List, Ok, Err, IfOk, IfSome, Option, Result, Some, ap, refl, subst, sym}
+use Rattle.lw_words.specs.Word.{answers_of}
 use Rattle.lw_words.specs.declared.kept.KeptAnswer.{KeptAnswer}
+use Rattle.lw_mealy.specs.Machine.{MealyMachine}
+use Rattle.lw_suite.specs.declared.method.Method.TheVariants.{W}
+use Rattle.lw_rounds.specs.Learned.{IsEnoughFor}
 use Rattle.lw_names.specs.Naming.{Naming}
 use Rattle.lw_workers.specs.Machines.{KeepsRuns}
 use Rattle.lw_rounds.specs.declared.learned.Learned.{Learned}
@@ -24,6 +28,12 @@ report-requires-clause-reached g c =
     } in
     let ok = subst (λ (r : Result Learned LearnStop). HasCome c.args.drawn.now.machine c.workers.result kept r) c.in-Ok.is all in
     few_refinements v kept c.in-Ok.learned (of_drawn v c.args.drawn.now.machine c.workers.result kept (Ok c.in-Ok.learned) c.requires.machine c.workers.ensures.value ok)
+
+pub report-requires-clause-enough : goal.report-requires-clause-enough
+report-requires-clause-enough g c =
+    let kept = c.learn_machine-learned.result.kept.answers in
+    subst (λ (m : MealyMachine). IsEnoughFor W m.inputs 1 (answers_of kept) c.in-Ok.learned.model) c.requires.machine
+    (subst (λ (r : Result Learned LearnStop). IfOk r (λ l. IsEnoughFor W c.args.drawn.now.machine.inputs 1 (answers_of kept) l.model)) c.in-Ok.is c.learn_machine-learned.ensures.enough)
 
 pub returns-in-Err-clause-ran : goal.returns-in-Err-clause-ran
 returns-in-Err-clause-ran g c =

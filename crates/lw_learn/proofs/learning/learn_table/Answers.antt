@@ -1,0 +1,8 @@
+use Rattle.std.proofs.Common.{length}
+use Rattle.lw_learn.proofs.FoundLemmas.{enough_for}
+use Rattle.lw_learn.proofs.learning.learn_table.Goals as goal
+
+pub returns-clause-enough : goal.returns-clause-enough
+returns-clause-enough g c =
+    let s = c.settings-settings in
+    enough_for s.result.suite c.args.arguments.now.suite c.args.machine.now.mealy.inputs (length c.args.machine.now.inputs) s.result.extra c.args.arguments.now.extra c.learn_machine.result.kept.answers c.learn_machine.result.learned s.ensures.suite c.args.machine.now.named.0 s.ensures.extra c.learn_machine.ensures.enough
