@@ -186,12 +186,12 @@ module _ (before now : WorldState) (end : End) where
   }
 
 -- `check`
-module _ (a : CheckValues) (before now : WorldState) (end : End) (ran : IsCheckRun a.model a.answers a.extra before.files now.files before.out now.out before.err now.err end) where
+module _ (a : CheckValues) (before now : WorldState) (end : End) (ran : IsCheckRun a.suite a.model a.answers a.extra before.files now.files before.out now.out before.err now.err end) where
   abbrev Unread : Type 0
   Unread = check.EndsUnread a.model a.answers before.files now.files a.extra before.out now.out before.err now.err end.outcome end.kept.answers end.outputs
 
   abbrev PairRead : Type 0
-  PairRead = check.EndsPairRead a.model a.answers before.files now.files a.extra before.out now.out before.err now.err end.outcome end.kept.answers end.outputs
+  PairRead = check.EndsPairRead a.suite a.model a.answers before.files now.files a.extra before.out now.out before.err now.err end.outcome end.kept.answers end.outputs
 
   unread_as : (u : Unread) (x : Outcome) → end.outcome ≡ x → checked.IsUnread a.model a.answers before.files now.files x
   unread_as u x is = subst (checked.IsUnread a.model a.answers before.files now.files) is u.cause
@@ -207,15 +207,15 @@ module _ (a : CheckValues) (before now : WorldState) (end : End) (ran : IsCheckR
   unread_file role.Kept is = absurd is
 
   -- an outcome that is neither out of memory nor a fault of a stream is the decision
-  decides : (r : PairRead) (x : Outcome) → end.outcome ≡ x → NoMemory ≢ x → SinkFault ≢ x → IsDecision r.pair a.extra x
+  decides : (r : PairRead) (x : Outcome) → end.outcome ≡ x → NoMemory ≢ x → SinkFault ≢ x → IsDecision a.suite r.pair a.extra x
   decides r x is memory sink =
       ⊎_elim
-      (λ (d : IsDecision r.pair a.extra end.outcome). subst (IsDecision r.pair a.extra) is d)
+      (λ (d : IsDecision a.suite r.pair a.extra end.outcome). subst (IsDecision a.suite r.pair a.extra) is d)
       (⊎_elim (λ (e : end.outcome ≡ NoMemory). absurd (memory (sym e ∙ is))) (λ s. absurd (sink (sym s.0 ∙ is))))
       r.comes
 
   -- an outcome that comes of neither
-  checks_never : (x : Outcome) → end.outcome ≡ x → NoMemory ≢ x → SinkFault ≢ x → ¬ checked.IsUnread a.model a.answers before.files now.files x → ((p : Pair) → ¬ IsDecision p a.extra x) → ⊥
+  checks_never : (x : Outcome) → end.outcome ≡ x → NoMemory ≢ x → SinkFault ≢ x → ¬ checked.IsUnread a.model a.answers before.files now.files x → ((p : Pair) → ¬ IsDecision a.suite p a.extra x) → ⊥
   checks_never x is memory sink unread decision = ⊎_elim (λ (u : Unread). unread (unread_as u x is)) (λ (r : PairRead). decision r.pair (decides r x is memory sink)) ran.ended
 
   checks_stop : (i : ℕ) (s : SulStop) → ¬ (end.outcome ≡ system_outcome i s)
@@ -232,7 +232,7 @@ module _ (a : CheckValues) (before now : WorldState) (end : End) (ran : IsCheckR
       sink = λ is.
           ⊎_elim
           (λ (u : Unread). absurd (unread_as u _ is))
-          (λ (r : PairRead). ⊎_elim (λ (d : IsDecision r.pair a.extra end.outcome). absurd (subst (IsDecision r.pair a.extra) is d)) (⊎_elim (λ (e : end.outcome ≡ NoMemory). cc) (λ s. inl s.1)) r.comes)
+          (λ (r : PairRead). ⊎_elim (λ (d : IsDecision a.suite r.pair a.extra end.outcome). absurd (subst (IsDecision a.suite r.pair a.extra) is d)) (⊎_elim (λ (e : end.outcome ≡ NoMemory). cc) (λ s. inl s.1)) r.comes)
           ran.ended;
       start = λ cause is. absurd (checks_never _ is (λ e. cc) (λ e. cc) (λ k. k) (λ p k. k));
     };
