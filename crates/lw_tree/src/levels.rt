@@ -220,6 +220,7 @@ impl DiscriminationTree {
         ensures leaves { Leaves (O.state oracle.old) (O.state oracle.new) (grown_stop result) }
         ensures can { O.can_settle oracle.new }
     {
+        // All are asked in one batch.
         let numbers = self.open_numbers()?;
         let batch = self.open_words(&numbers)?;
         oracle.settle(batch.as_slice())?;
@@ -227,8 +228,8 @@ impl DiscriminationTree {
         Ok(self.has_open())
     }
 
-    /// Sifts a level: all transitions that have no target are asked in one batch, take their outputs, and go one step down the
-    /// discrimination tree. Where there is no child for what was answered, it is the leaf of a new state.
+    /// Sifts a level: each transition that has no target takes its output, and goes one step down the discrimination tree. No
+    /// word is asked but those of these transitions, each maybe followed by the discriminator where the transition stands.
     ///
     /// Answers whether transitions are left that have no target.
     ///
