@@ -84,13 +84,13 @@ carried (Ok l) end c h refinements is =
 carried (Err stop) end c h refinements is = absurd (not_wanted (learn_outcome stop) end.outcome c.2 (not_learned stop) (subst IsLearnedOutcome (sym is) tt))
 
 -- why no learning began, and what is kept then
-module _ (a : LearnValues) (f g : FilesState) (read : Option System) (kept : List KeptAnswer) where
-  unread_by : (outcome : Outcome) → IsUnreadBy a f g read kept outcome → IsBeforeAsking outcome × KeepsPrior a f kept
+module _ (a : LearnValues) (f g now : FilesState) (read : Option System) (kept : List KeptAnswer) (saved : now.reads ≡ g.reads) where
+  unread_by : (outcome : Outcome) → IsUnreadBy a f g read kept outcome → IsBeforeAsking outcome × KeepsPrior a f now kept
   unread_by (BadFile role fault) is = (tt, inl is.5)
   unread_by (FileTooLong role) is = (tt, inl is.4)
   unread_by (FileFault role) is = (tt, inl is.4)
   unread_by (Alphabets role) is = (tt, inl is.3)
-  unread_by (Nondeterministic clash) is = (tt, inr (is.0, g.reads, is.2))
+  unread_by (Nondeterministic clash) is = (tt, inr (is.0, record { between = g.reads; more = []; task = is.2; reads = saved ∙ sym (append-nil g.reads) }))
   unread_by NoMemory is = (tt, inl is.1)
   unread_by (UnknownLetter word place) is = absurd is
   unread_by (Learned model refinements) is = absurd is
@@ -112,15 +112,15 @@ module _ (a : LearnValues) (f g : FilesState) (read : Option System) (kept : Lis
   unread_by (Rechecked answers) is = absurd is
   unread_by (Unstarted cause) is = absurd is
 
-  unread_as : (outcome : Outcome) → IsUnreadAs a f g read kept outcome → IsBeforeAsking outcome × KeepsPrior a f kept
+  unread_as : (outcome : Outcome) → IsUnreadAs a f g read kept outcome → IsBeforeAsking outcome × KeepsPrior a f now kept
   unread_as outcome (inl is) = unread_by outcome is
   unread_as outcome (inr wants) = (subst IsBeforeAsking (sym wants.0) tt, (unread_by wants.1.0 wants.1.1).1)
 
-wordless_kind : (file : Option (List ℕ)) (letters : List (List ℕ)) (f g : FilesState) (outcome : Outcome) → IsWordless file letters f g outcome → IsBeforeAsking outcome
-wordless_kind file letters f g (FileFault role) is = tt
-wordless_kind file letters f g (FileTooLong role) is = tt
-wordless_kind file letters f g (UnknownLetter word place) is = tt
-wordless_kind file letters f g NoMemory is = tt
+wordless_kind : (file : Option (List ℕ)) (letters : List (List ℕ)) (f g : FilesState) (outcome : Outcome) → IsWordless file letters f g outcome → IsBeforeAsking outcome × ((more : List File) × (g.reads ≡ f.reads ++ more))
+wordless_kind file letters f g (FileFault role) is = (tt, ([], is.1.3 ∙ sym (append-nil f.reads)))
+wordless_kind file letters f g (FileTooLong role) is = (tt, ([], is.1.3 ∙ sym (append-nil f.reads)))
+wordless_kind file letters f g (UnknownLetter word place) is = (tt, (_ ∷ [], is.2.read.given))
+wordless_kind file letters f g NoMemory is = (tt, (is.0.0, is.0.1))
 wordless_kind file letters f g (BadFile role fault) is = absurd is
 wordless_kind file letters f g (Alphabets role) is = absurd is
 wordless_kind file letters f g (Nondeterministic clash) is = absurd is
@@ -143,14 +143,15 @@ wordless_kind file letters f g Asked is = absurd is
 wordless_kind file letters f g (Rechecked answers) is = absurd is
 wordless_kind file letters f g (Unstarted cause) is = absurd is
 
-wordless : (a : LearnValues) (f g : FilesState) (read : Option System) (kept : List KeptAnswer) (outcome : Outcome) → IsWordlessTask a f g read kept outcome → IsBeforeAsking outcome × KeepsPrior a f kept
-wordless a f g read kept outcome w = (
-  ⊎_elim
-      (λ (is : outcome ≡ w.why). subst IsBeforeAsking (sym is) (wordless_kind a.words (letters_of w.system) w.between g w.why w.because))
-      (λ (is : outcome ≡ NoMemory). subst IsBeforeAsking (sym is) tt)
-      w.told,
-  inr (w.system, w.between.reads, w.task),
-)
+wordless : (a : LearnValues) (f g now : FilesState) (read : Option System) (kept : List KeptAnswer) (outcome : Outcome) → now.reads ≡ g.reads → IsWordlessTask a f g read kept outcome → IsBeforeAsking outcome × KeepsPrior a f now kept
+wordless a f g now read kept outcome saved w =
+    let kind = wordless_kind a.words (letters_of w.system) w.between g w.why w.because in (
+      ⊎_elim
+          (λ (is : outcome ≡ w.why). subst IsBeforeAsking (sym is) kind.0)
+          (λ (is : outcome ≡ NoMemory). subst IsBeforeAsking (sym is) tt)
+          w.told,
+      inr (w.system, record { between = w.between.reads; more = kind.1.0; task = w.task; reads = saved ∙ kind.1.1 }),
+    )
 
 -- what is kept of children
 module _ (kind : Kind) (words letters : List (List ℕ)) (workers k most : ℕ) (prior : List KeptAnswer) (before now : SpawnerState) (learned : Result Found LearnStop) (kept : List KeptAnswer) (names : List (List ℕ)) where
@@ -202,11 +203,11 @@ module _ (a : LearnValues) (before now : WorldState) (end : End) (run : IsLearnR
       (λ (wants : (end.outcome ≡ NoMemory) × (now.err ≡ run.told)). let e : now.err.faults ≡ run.told.faults = ap (λ (s : SinkState). s.faults) wants.1 in omega (arith, e))
       run.log
 
-  why : (u : Unread) → IsBeforeAsking end.outcome × KeepsPrior a before.files end.kept.answers
+  why : (u : Unread) → IsBeforeAsking end.outcome × KeepsPrior a before.files now.files end.kept.answers
   why u =
       ⊎_elim
-      (λ (is : IsUnreadAs a before.files u.between u.read end.kept.answers end.outcome). unread_as a before.files u.between u.read end.kept.answers end.outcome is)
-      (λ (is : IsWordlessTask a before.files u.between u.read end.kept.answers end.outcome). wordless a before.files u.between u.read end.kept.answers end.outcome is)
+      (λ (is : IsUnreadAs a before.files u.between u.read end.kept.answers end.outcome). unread_as a before.files u.between now.files u.read end.kept.answers u.saved.saved.reads end.outcome is)
+      (λ (is : IsWordlessTask a before.files u.between u.read end.kept.answers end.outcome). wordless a before.files u.between now.files u.read end.kept.answers end.outcome u.saved.saved.reads is)
       u.cause
 
   nothing : Unread → AsksNothing a before now end

@@ -124,16 +124,16 @@ IsBeforeAsking (Nondeterministic clash) = Unit {0}
 IsBeforeAsking NoMemory = Unit {0}
 IsBeforeAsking _ = ⊥
 
--- nothing is kept, or the earlier answers that the files said
-abbrev pub KeepsPrior : LearnValues → FilesState → List KeptAnswer → Type 0
-KeepsPrior a before kept = (kept ≡ []) ⊎ ((s : System) × (between : List File) × ReadsTask a before.holds before.reads between s kept)
+-- nothing is kept, or the earlier answers that the bytes which were read say
+abbrev pub KeepsPrior : LearnValues → (before now : FilesState) → List KeptAnswer → Type 0
+KeepsPrior a before now kept = (kept ≡ []) ⊎ ((s : System) × SaysTask a before now s kept)
 
 -- so nothing was asked, no child started, and nothing learned
 pub record AsksNothing (a : LearnValues) (before now : WorldState) (end : End) : Type 0 where
   pub outcome : IsBeforeAsking end.outcome
   pub model : end.model ≡ None
   pub unstarted : now.spawner ≡ before.spawner
-  pub kept : KeepsPrior a before.files end.kept.answers
+  pub kept : KeepsPrior a before.files now.files end.kept.answers
 
 -- the kept answers are exactly the finished runs of the instances, behind those of a file of earlier answers
 abbrev pub KeptAreRuns : Option CallValues → WorldState → WorldState → End → Type 0
@@ -182,7 +182,7 @@ FilesSaySystem (Some (Ask a)) before now s = ReadsSystem a.source a.system befor
 FilesSaySystem (Some (Recheck a)) before now s = (answers : Answers) × ReadsBoth a.setup a.answers before.holds before.reads now.reads s answers
 FilesSaySystem _ before now s = ⊥
 
--- how many instances a call may ask
+-- how many instances of the system that files say a call may ask, where it asks any
 abbrev pub workers_of : Option CallValues → ℕ
 workers_of (Some (Learn a)) = a.workers
 workers_of _ = 1
