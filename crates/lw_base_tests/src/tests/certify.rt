@@ -7,6 +7,7 @@ use lw_certify::{
     Verdict, certify, sure_is_not_vacuous, sure_is_sure, verdict_exists, verdict_is_unique,
 };
 use lw_mealy::Mealy;
+use lw_suite::Method;
 use std::alloc::Global;
 use std::process::Abort;
 
@@ -14,7 +15,7 @@ use std::process::Abort;
 fn verdict(rt: &impl Abort, alloc: Global, m: &Mealy, extra: u8) -> Verdict
     requires { extra ≤ 4 }
 {
-    certify(alloc, m, &Cache::new(alloc), extra).expect(rt, "memory")
+    certify(alloc, m, &Cache::new(alloc), extra, Method::W).expect(rt, "memory")
 }
 
 /// The verdict on the machine of these rows over one letter.

@@ -2,6 +2,7 @@
 use crate::tests::memory::{files, sink};
 use lw_check::{check, decision_exists, decision_is_unique};
 use lw_outside::{MemoryFiles, MemorySink};
+use lw_suite::Method;
 use std::alloc::Global;
 use std::process::Abort;
 
@@ -83,6 +84,7 @@ fn status(alloc: Global, extra: u8, outside: &mut Outside) -> u8 {
         "m",
         "k",
         extra.min(4),
+        Method::W,
         &mut outside.files,
         &mut outside.out,
         &mut outside.err,

@@ -7,6 +7,7 @@ use lw_log::{Log, MemoryLog};
 use lw_outside::{MemoryFiles, MemorySink, MemorySpawner, World};
 use lw_report::{End, Outcome};
 use lw_rounds::{Kind, Learner, Settings};
+use lw_suite::Method;
 use lw_system::Source;
 use std::alloc::Global;
 use std::process::Abort;
@@ -218,6 +219,7 @@ fn limited<R: Abort + Threads + Wait + Sync + Copy + Drop>(
         kind: Kind::Table,
         extra: 1,
         max_states,
+        suite: Method::W,
     };
     let arguments = bare(Source::Table, string(&rt, alloc, "m"), settings);
     call(rt, alloc, &arguments, outside)
@@ -234,6 +236,7 @@ fn told<R: Abort + Threads + Wait + Sync + Copy + Drop>(
         kind: Kind::Table,
         extra: 0,
         max_states: 8,
+        suite: Method::W,
     };
     let arguments = bare(Source::Setup, string(&rt, alloc, "m"), settings);
     call(rt, alloc, &arguments, outside)

@@ -10,6 +10,7 @@ use lw_learn::{Drawn, LearnArguments, LearnFiles};
 use lw_log::MemoryLog;
 use lw_outside::MemoryFiles;
 use lw_rounds::{Kind, Settings};
+use lw_suite::Method;
 use lw_system::Source;
 use std::alloc::Global;
 use std::process::Abort;
@@ -60,6 +61,7 @@ fn arguments(rt: &impl Abort, alloc: Global, row: &Row) -> LearnArguments
         kind: Kind::Table,
         extra: row.extra,
         max_states: 8,
+        suite: Method::W,
     };
     let files = LearnFiles {
         model: None,
@@ -250,6 +252,7 @@ fn by_setup(rt: &impl Abort, alloc: Global) -> LearnArguments {
         kind: Kind::Table,
         extra: 0,
         max_states: 8,
+        suite: Method::W,
     };
     let files = LearnFiles {
         model: None,

@@ -10,6 +10,7 @@ use lw_learn::{LearnArguments, LearnFiles};
 use lw_log::MemoryLog;
 use lw_outside::{MemoryFiles, MemorySpawner};
 use lw_rounds::{Kind, Settings};
+use lw_suite::Method;
 use lw_system::Source;
 use std::alloc::Global;
 use std::process::Abort;
@@ -84,6 +85,7 @@ fn arguments(rt: &impl Abort, alloc: Global, row: &Row) -> LearnArguments
         kind: Kind::Table,
         extra: row.extra,
         max_states: row.max_states,
+        suite: Method::W,
     };
     let files = LearnFiles {
         model: named(rt, alloc, "h", row.to_files),

@@ -10,6 +10,7 @@ use lw_cache::Cache;
 use lw_mealy::Mealy;
 use lw_names::OutNames;
 use lw_rounds::{Kind, LearnStop, Settings, Unwatched};
+use lw_suite::Method;
 use lw_words::{Names, Words};
 use lw_workers::{LearningOutcome, Start, learn_machine};
 use std::alloc::Global;
@@ -49,7 +50,9 @@ fn learned_by<R: Abort + Threads + Wait + Sync + Copy + Drop>(
 ) -> LearningOutcome
     requires named { length names.now ≡ system.now.outputs }
 {
-    let settings = Settings::new(workers, Kind::Table, extra, max_states).expect(&rt, "settings");
+    let settings = Settings::new(workers, Kind::Table, extra, max_states, Method::W).expect(
+        &rt, "settings",
+    );
     let start = Start {
         names: OutNames::declared(alloc, names).expect(&rt, "memory"),
         cache: Cache::new(alloc),
