@@ -16,6 +16,8 @@ use Rattle.lw_log.specs.declared.log.LogState.TheVariants.{Closed, Open, Failed}
 use Rattle.lw_rounds.specs.Learner.{refinements_of}
 use Rattle.lw_rounds.specs.declared.learned.Learned.{Learned as Found}
 use Rattle.lw_rounds.specs.declared.learner.Kind.{Kind}
+use Rattle.lw_suite.specs.declared.method.Method.{Method}
+use Rattle.lw_suite.specs.declared.method.Method.TheVariants.{W}
 use Rattle.lw_rounds.specs.declared.stops.LearnStop.{LearnStop}
 use Rattle.lw_rounds.specs.declared.stops.LearnStop.TheVariants as learn
 use Rattle.lw_children.specs.Children.{IsOfCommand}
@@ -52,14 +54,14 @@ if_some P Q None each holds = tt
 if_some P Q (Some x) each holds = each x holds
 
 -- what is certified is right
-right : (kind : Kind) (a b k most : ℕ) (end : End) (h : MealyMachine) → HasModel kind a b k most end h → ModelIsRight k (answers_of end.kept.answers) h
-right kind a b k most end h has =
+right : (kind : Kind) (method : Method) (a b k most : ℕ) (end : End) (h : MealyMachine) → HasModel kind method a b k most end h → ModelIsRight k (answers_of end.kept.answers) h
+right kind method a b k most end h has =
     let c = has.certified in
     record {
       complete = c.complete;
-      minimal = subst (λ (n : ℕ). IsMinimal n h.rows) (sym c.inputs) c.verdict.0;
+      minimal = subst (λ (n : ℕ). IsMinimal n h.rows) (sym c.inputs) c.canonical.minimal;
       canonical = subst (λ (n : ℕ). IsCanonical n h.rows h.rows) (sym c.inputs) c.canonical;
-      gives = c.verdict.1;
+      gives = c.gives;
       sure = subst (λ (n : ℕ). Sure n h.rows (answers_of end.kept.answers) k) (sym c.inputs) c.sure;
     }
 
@@ -225,7 +227,7 @@ module _ (a : LearnValues) (before now : WorldState) (end : End) (run : IsLearnR
       of_read : Read → HandsModel a.extra end
       of_read r = record {
         told = carried r.learned.learned end r.learned.told.told.carries;
-        right = if_some _ (ModelIsRight a.extra (answers_of end.kept.answers)) end.model (λ h has. right a.learner (length (letters_of r.system)) (length r.learned.naming.names) a.extra a.max_states end h has) r.learned.model;
+        right = if_some _ (ModelIsRight a.extra (answers_of end.kept.answers)) end.model (λ h has. right a.learner a.suite (length (letters_of r.system)) (length r.learned.naming.names) a.extra a.max_states end h has) r.learned.model;
       }
 
   keeps : KeepsLearned a before now end ⊎ AsksNothing a before now end
@@ -262,7 +264,7 @@ module _ (a : LearnValues) (before now : WorldState) (end : End) (run : IsLearnR
 tried : (v : _) (out_before out_now err_before err_now : SinkState) (end : End) → IsTrialRun v out_before out_now err_before err_now end → HandsModel 1 end
 tried v out_before out_now err_before err_now end run = record {
   told = λ h refinements is. absurd (subst IsTrialOutcome is run.kinds);
-  right = if_some _ (ModelIsRight 1 (answers_of end.kept.answers)) end.model (λ h has. right v.learner v.inputs 2 1 1024 end h has) run.model;
+  right = if_some _ (ModelIsRight 1 (answers_of end.kept.answers)) end.model (λ h has. right v.learner W v.inputs 2 1 1024 end h has) run.model;
 }
 
 rechecked : (a : _) (f g : FilesState) (b z : SpawnerState) (o p e d : SinkState) (end : End) → IsRecheckRun a f g b z o p e d end → end.model ≡ None
@@ -283,7 +285,7 @@ module _ (before now : WorldState) (end : End) where
   learned (Some (Compare models)) r = r.ran.no_model
   learned (Some (Recheck a)) r = rechecked a before.files now.files before.spawner now.spawner before.out now.out before.err now.err end r.ran
 
-  fixes : (a : CheckValues) → IsCheckRun a.model a.answers a.extra before.files now.files before.out now.out before.err now.err end → (states : ℕ) → end.outcome ≡ Yes states → AnswersFixModel a before.files now.files
+  fixes : (a : CheckValues) → IsCheckRun a.suite a.model a.answers a.extra before.files now.files before.out now.out before.err now.err end → (states : ℕ) → end.outcome ≡ Yes states → AnswersFixModel a before.files now.files
   fixes a run states is =
       let s = run.sure states is in
       record {

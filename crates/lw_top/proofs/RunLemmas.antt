@@ -128,7 +128,7 @@ module _ (f : FilesState) (b : SpawnerState) (i : SourceState) (o e d : SinkStat
   pub wanted : (call : Option CallValues) → end.outcome ≡ NoMemory → ((c : CallValues) → call ≡ Some c → IsOther c → s ≡ l) → Runs call (states f b i o e l) (states f b i o d s) end
   wanted None out same = record { outcome = inr out; files = refl; spawner = refl; input = refl; out = refl; ended = ended }
   wanted (Some (Learn a)) out same = record { ran = wanted_run a f b o e d s end out ended; input = refl }
-  wanted (Some (Check a)) out same = record { ran = wanted_check a.model a.answers a.extra f o e d end out ended; spawner = refl; input = refl; log = same (Check a) refl tt }
+  wanted (Some (Check a)) out same = record { ran = wanted_check a.suite a.model a.answers a.extra f o e d end out ended; spawner = refl; input = refl; log = same (Check a) refl tt }
   wanted (Some (Trial a)) out same = record { ran = wanted_trial a f o e d end out ended; files = refl; spawner = refl; input = refl; log = same (Trial a) refl tt }
   wanted (Some (Serve m)) out same = record { ran = wanted_serve m f i o e d end out ended; spawner = refl; log = same (Serve m) refl tt }
   wanted (Some (Ask a)) out same = record { ran = wanted_ask a f b o e d end out ended; cause = λ cause came. no_cause b end.outcome cause out came; input = refl; log = same (Ask a) refl tt }

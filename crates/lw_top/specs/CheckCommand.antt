@@ -1,15 +1,18 @@
 -- The command `check` as clap sees it, and what arguments that it takes say.
 use Rattle.std.specs.Prelude.{ℕ, List, [], ◌∷◌, codes, Option, Some, None}
 use Rattle.clap.specs.Words.{App, Row, first_of}
+use Rattle.lw_suite.specs.declared.method.Method.{Method}
+use Rattle.lw_suite.specs.declared.method.Method.TheVariants.{W}
 use Rattle.lw_top.specs.CommandLine.{number_given, values_taken}
 use Rattle.lw_top.specs.Options.{app_with, number_option, required_argument}
 use Rattle.lw_top.specs.declared.ranges.TheConstants.{EXTRA}
 
--- the values of the arguments of `check`: the model file, the answers file and the extra states
+-- the values of the arguments of `check`: the model file, the answers file, the extra states and how suites are made
 pub record CheckValues : Type 0 where
   pub model : List ℕ
   pub answers : List ℕ
   pub extra : ℕ
+  pub suite : Method
 
 -- check MODEL ANSWERS [--extra K]
 abbrev pub check_app : App
@@ -23,7 +26,7 @@ abbrev pub values_from : Option (List ℕ) → Option (List ℕ) → Option ℕ 
 values_from None answers extra = None
 values_from (Some model) None extra = None
 values_from (Some model) (Some answers) None = None
-values_from (Some model) (Some answers) (Some extra) = Some (record { model = model; answers = answers; extra = extra })
+values_from (Some model) (Some answers) (Some extra) = Some (record { model = model; answers = answers; extra = extra; suite = W })
 
 abbrev pub values_in : List Row → Option CheckValues
 values_in rows = values_from (first_of (codes "model") rows) (first_of (codes "answers") rows) (number_given (codes "extra") EXTRA rows)

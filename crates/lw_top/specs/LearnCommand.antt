@@ -3,6 +3,8 @@ use Rattle.std.specs.Prelude.{ℕ, List, [], ◌∷◌, codes, Option, Some, Non
 use Rattle.clap.specs.Words.{App, Row, first_of}
 use Rattle.lw_rounds.specs.declared.learner.Kind.{Kind}
 use Rattle.lw_rounds.specs.declared.settings.Settings.{Settings}
+use Rattle.lw_suite.specs.declared.method.Method.{Method}
+use Rattle.lw_suite.specs.declared.method.Method.TheVariants.{W}
 use Rattle.lw_learn.specs.Arguments.{LearnValues}
 use Rattle.lw_learn.specs.declared.arguments.Drawn.{Drawn}
 use Rattle.lw_learn.specs.declared.arguments.LearnFiles.{LearnFiles}
@@ -58,17 +60,18 @@ pub record SettingValues : Type 0 where
   pub extra : ℕ
   pub learner : Kind
   pub max_states : ℕ
+  pub suite : Method
 
 abbrev pub setting_values : Settings → SettingValues
-setting_values s = record { workers = s.workers; extra = s.extra; learner = s.kind; max_states = s.max_states }
+setting_values s = record { workers = s.workers; extra = s.extra; learner = s.kind; max_states = s.max_states; suite = s.suite }
 
--- the settings, where the numbers are in their ranges and the learner is of a kind
+-- the settings, where the numbers are in their ranges and the learner is of a kind; suites are made by the W-method
 abbrev pub settings_from : (workers extra : Option ℕ) → Option Kind → (max_states : Option ℕ) → Option SettingValues
 settings_from None extra learner max_states = None
 settings_from (Some workers) None learner max_states = None
 settings_from (Some workers) (Some extra) None max_states = None
 settings_from (Some workers) (Some extra) (Some learner) None = None
-settings_from (Some workers) (Some extra) (Some learner) (Some max_states) = Some (record { workers = workers; extra = extra; learner = learner; max_states = max_states })
+settings_from (Some workers) (Some extra) (Some learner) (Some max_states) = Some (record { workers = workers; extra = extra; learner = learner; max_states = max_states; suite = W })
 
 abbrev pub settings_in : List Row → Option SettingValues
 settings_in rows =
@@ -118,6 +121,7 @@ values_from (Some system) (Some settings) (Some drawn) files =
       extra = settings.extra;
       learner = settings.learner;
       max_states = settings.max_states;
+      suite = settings.suite;
       model = files.model;
       answers = files.answers;
       prior = files.prior;

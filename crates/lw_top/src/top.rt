@@ -89,7 +89,16 @@ fn run_call<
         Call::Learn(values) => learn(rt, alloc, &values, world),
         Call::Check(values) => {
             let (model, answers) = (values.model(), values.answers());
-            check(alloc, model, answers, values.extra(), files, out, err)
+            check(
+                alloc,
+                model,
+                answers,
+                values.extra(),
+                values.suite(),
+                files,
+                out,
+                err,
+            )
         }
         Call::Trial(values) => trial(rt, alloc, &values, out, err),
         Call::Serve(model) => serve(alloc, model.as_str(), files, input, out, err),

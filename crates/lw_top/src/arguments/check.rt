@@ -12,15 +12,17 @@ use crate::options::{Argument, Syntax};
 use crate::ranges::EXTRA;
 use crate::values::{number_at, required_text_at};
 use clap::ArgMatches;
+use lw_suite::Method;
 use std::alloc::Global;
 use std::marker::Model;
 
-/// The values of the arguments of `check`: the model file, the answers file and the extra states.
+/// The values of the arguments of `check`: the model file, the answers file, the extra states and how suites are made.
 #[derive(Drop)]
 pub struct CheckArguments {
     model: String,
     answers: String,
     extra: u8,
+    suite: Method,
 }
 
 impl Model for CheckArguments {
@@ -33,6 +35,7 @@ impl Model for CheckArguments {
       model = string_bytes a.model;
       answers = string_bytes a.answers;
       extra = a.extra;
+      suite = a.suite;
     } };
 
     ghost invariant = { λ a. a.extra ≤ 4 };
@@ -40,18 +43,20 @@ impl Model for CheckArguments {
 
 impl CheckArguments {
     /// These values, which are within their limits.
-    pub fn new(model: String, answers: String, extra: u8) -> CheckArguments
+    pub fn new(model: String, answers: String, extra: u8, suite: Method) -> CheckArguments
         requires { extra ≤ 4 }
         ensures { result ≡ record {
           model = string_bytes model;
           answers = string_bytes answers;
           extra = extra;
+          suite = suite;
         } }
     {
         CheckArguments {
             model,
             answers,
             extra,
+            suite,
         }
     }
 
@@ -72,6 +77,12 @@ impl CheckArguments {
         ensures limit { result ≤ 4 }
     {
         self.extra
+    }
+
+    pub fn suite(&self) -> Method
+        ensures { result ≡ self.now.suite }
+    {
+        self.suite
     }
 }
 
@@ -101,7 +112,7 @@ fn values_of(alloc: Global, matches: &ArgMatches) -> Result<CheckArguments, Argu
     };
     let model = required_text_at(alloc, matches, "model")?;
     let answers = required_text_at(alloc, matches, "answers")?;
-    Ok(CheckArguments::new(model, answers, extra as u8))
+    Ok(CheckArguments::new(model, answers, extra as u8, Method::W))
 }
 
 /// Reads the arguments of `check`, of which the first is the command.

@@ -15,6 +15,7 @@ use crate::values::{kind_at, number_at, str_at, text_at};
 use clap::ArgMatches;
 use lw_learn::{Drawn, LearnArguments, LearnFiles};
 use lw_rounds::Settings;
+use lw_suite::Method;
 use lw_system::Source;
 use std::alloc::{AllocError, Global};
 
@@ -70,7 +71,8 @@ fn source_at(alloc: Global, matches: &ArgMatches) -> Result<(Source, String), Ar
     }
 }
 
-/// The settings of the learning, where each number is in its range and the learner is of a kind.
+/// The settings of the learning, where each number is in its range and the learner is of a kind; suites are made by the
+/// W-method.
 fn settings_at(matches: &ArgMatches) -> Option<Settings>
     ensures { option_map setting_values result ≡ settings_in (rows_of (found_of matches.now)) }
 {
@@ -83,6 +85,7 @@ fn settings_at(matches: &ArgMatches) -> Option<Settings>
         kind,
         extra: extra as u8,
         max_states: max_states as u16,
+        suite: Method::W,
     })
 }
 

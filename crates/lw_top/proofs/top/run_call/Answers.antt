@@ -55,7 +55,7 @@ returns-in-Check-clause-ran g c =
     let here = subst (λ (call : Call). call_of words ≡ Some (values_of call)) c.in-Check.is is in
     let taken : ¬ (c.check.result.outcome ≡ Usage) = search rules in
     let v = c.in-Check.values in
-    let ran : IsCheckRun v.model v.answers v.extra before.files now.files before.out now.out before.err now.err c.check.result = search rules in
+    let ran : IsCheckRun v.suite v.model v.answers v.extra before.files now.files before.out now.out before.err now.err c.check.result = search rules in
     record {
       status = c.check.ensures.status;
       ran = subst (λ (call : Option CallValues). Runs call before now c.check.result) (sym here) (record { ran = ran; spawner = refl; input = refl; log = refl });
