@@ -22,6 +22,7 @@ check_app = app_with (codes "check")
     ∷ number_option (codes "extra") EXTRA (codes "1")
     ∷ [])
 
+-- the values, where all are given; suites are made by the W-method
 abbrev pub values_from : Option (List ℕ) → Option (List ℕ) → Option ℕ → Option CheckValues
 values_from None answers extra = None
 values_from (Some model) None extra = None

@@ -89,16 +89,8 @@ fn run_call<
         Call::Learn(values) => learn(rt, alloc, &values, world),
         Call::Check(values) => {
             let (model, answers) = (values.model(), values.answers());
-            check(
-                alloc,
-                model,
-                answers,
-                values.extra(),
-                values.suite(),
-                files,
-                out,
-                err,
-            )
+            let (extra, method) = (values.extra(), values.suite());
+            check(alloc, model, answers, extra, method, files, out, err)
         }
         Call::Trial(values) => trial(rt, alloc, &values, out, err),
         Call::Serve(model) => serve(alloc, model.as_str(), files, input, out, err),
