@@ -35,8 +35,8 @@ pub asks_stays : (before now : TableState) (more : List (List ℕ)) (was is : Li
 asks_stays before now more was is inputs access suffixes asks =
     gains_wider (IsCellWordOf before) (IsCellWordOf now) was is
     (λ w cell.
-      subst (λ (a : ℕ). IsCellWord a now.access now.suffixes w) (sym inputs)
-      (subst₂ (λ (l s : List (List ℕ)). IsCellWord before.inputs l s w) (sym access) (sym suffixes) (stays_cell_word before.inputs before.access more before.suffixes w cell)))
+    subst (λ (a : ℕ). IsCellWord a now.access now.suffixes w) (sym inputs)
+    (subst₂ (λ (l s : List (List ℕ)). IsCellWord before.inputs l s w) (sym access) (sym suffixes) (stays_cell_word before.inputs before.access more before.suffixes w cell)))
     asks
 
 pub asks_then : (before now : TableState) (more : List (List ℕ)) (was mid is : List KeptAnswer) → now.inputs ≡ before.inputs → now.access ≡ before.access ++ more → now.suffixes ≡ before.suffixes
