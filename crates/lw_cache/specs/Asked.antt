@@ -1,7 +1,6 @@
 -- The words of a batch that have to be asked.
 use Rattle.std.specs.Prelude.{◌≡◌, ◌↔◌, ℕ, List, Contains}
-use Rattle.lw_words.specs.Word.{Answer, IsPrefix}
-use Rattle.lw_words.specs.Name.{AllDiffer}
+use Rattle.lw_words.specs.Word.{Answer, IsPrefix, AllDiffer}
 use Rattle.lw_cache.specs.Known.{IsKnown}
 
 -- a word of the batch that isn't known, and that no other word of the batch begins with

@@ -100,7 +100,7 @@ InstanceHasStopped o instance stop = (instance < length o.origins) × (slice_ind
 abbrev pub NoneStopped : OracleState → Type 0
 NoneStopped o = (i : ℕ) → slice_index_or o.stopped i None ≡ None
 
--- an instance that has stopped stays so; and while nothing is refused, none stops
+-- an instance that has stopped stays so; and where none had and nothing is refused, none has
 pub record StopsStay (before now : OracleState) : Type 0 where
   pub count : length now.stopped ≡ length before.stopped
   pub stay : (i : ℕ) (stop : SulStop) → slice_index_or before.stopped i None ≡ Some stop → slice_index_or now.stopped i None ≡ Some stop

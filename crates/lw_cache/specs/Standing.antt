@@ -1,7 +1,6 @@
 -- How a word stands in a cache.
 use Rattle.std.specs.Prelude.{◌≡◌, ◌⊎◌, ◌↔◌, ℕ, ◌≤◌, List, [], length, Contains}
-use Rattle.lw_words.specs.Word.{Answer}
-use Rattle.lw_words.specs.Name.{AllDiffer}
+use Rattle.lw_words.specs.Word.{Answer, AllDiffer}
 use Rattle.lw_cache.specs.Caching.{Claim, IsClaimedBy}
 use Rattle.lw_cache.specs.Known.{IsKnown}
 use Rattle.lw_cache.specs.declared.known.Known.{Known}

@@ -5,9 +5,8 @@ use Rattle.std.proofs.lemmas.List.{length-append, length-take-le}
 use Rattle.std.proofs.lemmas.List.Elements.{All-from_recursion, recursion_from_All}
 use Rattle.lw_words.specs.Word.{Answer, IsWord, IsPrefix}
 use Rattle.lw_cache.specs.Known.{IsKnown}
-use Rattle.lw_mealy.specs.Machine.{Row, IsMachine, after, answer, out, Gives}
+use Rattle.lw_mealy.specs.Machine.{Row, IsMachine, after, answer, out, Gives, Sure}
 use Rattle.lw_mealy.specs.Worked.{one, counter_of_three}
-use Rattle.lw_certify.specs.Sure.{Sure}
 use Rattle.lw_certify.specs.Worked.{AsWorked, seven_letters, two_letters}
 use Rattle.lw_certify.proofs.Cover.{Over, Apart, IsAccess, IsToldApart}
 use Rattle.lw_certify.proofs.Known.{same_on_known}

@@ -1,11 +1,10 @@
 -- When answers cover a machine. Source: Dorofeeva, El-Fakih and Koufareva (2005); by apartness, as in Vaandrager (2024).
 use Rattle.std.specs.Prelude.{◌≡◌, ◌≢◌, ℕ, ◌+◌, ◌<◌, ◌≤◌, List, [], ◌++◌, length, take, slice_index_or}
 use Rattle.lw_words.specs.Word.{Answer, IsWord}
-use Rattle.lw_mealy.specs.Machine.{Rows, IsMachine, after, out, IsMinimal, Gives}
+use Rattle.lw_mealy.specs.Machine.{Rows, IsMachine, after, out, IsMinimal, Gives, Sure}
 use Rattle.lw_separate.specs.Canonical.{AreLeastAccess}
 use Rattle.lw_suite.specs.declared.method.Method.{Method}
 use Rattle.lw_cache.specs.Known.{IsKnown}
-use Rattle.lw_certify.specs.Sure.{Sure}
 use Rattle.lw_certify.specs.Verdict.{IsVerdict}
 use Rattle.lw_certify.specs.declared.verdict.Verdict.TheVariants as verdict
 

@@ -3,7 +3,7 @@ use Rattle.std.specs.Prelude.{◌≡◌, ℕ, ◌<◌, ◌≤◌, List, length, 
 use Rattle.std.specs.List.{All}
 use Rattle.lw_words.specs.Word.{Answer, answer_at, IsWhole}
 use Rattle.lw_words.specs.First.{FailsFirst}
-use Rattle.lw_mealy.specs.Machine.{Rows, IsMachine, answer, Reached, IsMinimal, Gives}
+use Rattle.lw_mealy.specs.Machine.{Rows, IsMachine, answer, Reached, IsMinimal, Gives, Sure}
 use Rattle.lw_mealy.specs.Difference.{DifferFirst}
 use Rattle.lw_separate.specs.FirstAlike.{AreFirstAlike}
 use Rattle.lw_suite.specs.Size.{suite_size, greatest_suite}
@@ -11,7 +11,6 @@ use Rattle.lw_suite.specs.Suite.{IsSuite}
 use Rattle.lw_suite.specs.declared.method.Method.{Method}
 use Rattle.lw_suite.specs.declared.method.Method.TheVariants.{W}
 use Rattle.lw_cache.specs.Known.{IsKnown}
-use Rattle.lw_certify.specs.Sure.{Sure}
 use Rattle.lw_certify.specs.declared.verdict.Verdict.{Verdict}
 use Rattle.lw_certify.specs.declared.verdict.Verdict.TheVariants as verdict
 

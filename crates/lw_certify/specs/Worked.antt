@@ -1,9 +1,8 @@
 -- Worked by hand: answers that a machine gives, and answers with a gap.
 use Rattle.std.specs.Prelude.{List, [], ◌∷◌}
 use Rattle.lw_words.specs.Word.{Answer}
-use Rattle.lw_mealy.specs.Machine.{IsMachine, Gives}
+use Rattle.lw_mealy.specs.Machine.{IsMachine, Gives, Sure}
 use Rattle.lw_mealy.specs.Worked.{one, counter_of_three}
-use Rattle.lw_certify.specs.Sure.{Sure}
 
 -- one answer to seven letters, of which all words of the counter's suite for two extra states are prefixes
 abbrev pub seven_letters : List Answer

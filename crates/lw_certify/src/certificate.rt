@@ -2,9 +2,8 @@
 ghost use Rattle.std.specs.Prelude.{◌≡◌, ℕ, ◌≤◌, length, map, IfOk, OnOk, IfNone, IfSome, Ok};
 ghost use Rattle.std.specs.List.{All};
 ghost use Rattle.lw_words.specs.Word.{answers_of, IsWhole, IsWord};
-ghost use Rattle.lw_mealy.specs.Machine.{Gives, IsWithinLimits, IsMinimal};
+ghost use Rattle.lw_mealy.specs.Machine.{Gives, IsWithinLimits, IsMinimal, Sure};
 ghost use Rattle.lw_separate.specs.Canonical.{AreLeastAccess};
-ghost use Rattle.lw_certify.specs.Sure.{Sure};
 ghost use Rattle.lw_certify.specs.Verdict.{IsVerdict, IsFirstUnreached, AllReached, DiffersAt};
 ghost use Rattle.lw_certify.specs.bodies.Access.{IsAccess};
 ghost use Rattle.lw_certify.specs.declared.verdict.Verdict.{Verdict as Came};

@@ -2,15 +2,13 @@
 use Rattle.std.proofs.Common.{◌≡◌, ◌⊎◌, inl, inr, ⊎_elim, ℕ, List, length, Option, Some, None, refl, sym, ap, ◌∙◌, subst, arith}
 use Rattle.lw_words.specs.Word.{answers_of}
 use Rattle.lw_words.specs.Cause.{CountedFault}
-use Rattle.lw_mealy.specs.Machine.{IsMachine}
-use Rattle.lw_json.specs.AnswersFile.{IsAnswersFile, SameAnswers}
-use Rattle.lw_json.specs.MachineFile.{IsMachineFile, SameMachine}
-use Rattle.lw_json.specs.declared.answers.Answers.{Answers}
-use Rattle.lw_json.specs.declared.machine.Machine.{Machine}
+use Rattle.lw_mealy.specs.Machine.{IsMachine, Sure}
+use Rattle.lw_json.specs.Formats.{IsAnswersFile, SameAnswers, IsMachineFile, SameMachine}
+use Rattle.lw_json.specs.declared.files.Answers.{Answers}
+use Rattle.lw_json.specs.declared.files.Machine.{Machine}
 use Rattle.lw_json.proofs.OneValue.{one_value}
 use Rattle.lw_json.proofs.OneAnswers.{one_answers}
 use Rattle.lw_outside.specs.Files.{File, Holds, HoldsLong, file_at, FilesState}
-use Rattle.lw_certify.specs.Sure.{Sure}
 use Rattle.lw_suite.specs.declared.method.Method.{Method}
 use Rattle.lw_certify.proofs.SureLemmas.{sure_is_sure}
 use Rattle.lw_report.specs.Outcomes.{HasOwnText, StandsOrWants}

@@ -1,12 +1,11 @@
 -- What a call of `check` did, for callers: all that its contract says, in one record.
 use Rattle.std.specs.Prelude.{◌≡◌, ◌⊎◌, ℕ, List, None}
 use Rattle.lw_words.specs.Word.{answers_of}
-use Rattle.lw_json.specs.AnswersFile.{IsAnswersFile}
-use Rattle.lw_json.specs.MachineFile.{IsMachineFile}
-use Rattle.lw_json.specs.declared.answers.Answers.{Answers}
-use Rattle.lw_json.specs.declared.machine.Machine.{Machine}
+use Rattle.lw_json.specs.Formats.{IsAnswersFile, IsMachineFile}
+use Rattle.lw_json.specs.declared.files.Answers.{Answers}
+use Rattle.lw_json.specs.declared.files.Machine.{Machine}
 use Rattle.lw_suite.specs.declared.method.Method.{Method}
-use Rattle.lw_certify.specs.Sure.{Sure}
+use Rattle.lw_mealy.specs.Machine.{Sure}
 use Rattle.lw_check.specs.Decision.{IsDecision, Pair, pair_of}
 use Rattle.lw_check.specs.Ending.{DecidesAs, EndsPairRead, EndsUnread}
 use Rattle.lw_system.specs.Reading.{TellsFile}

@@ -3,8 +3,8 @@ use Rattle.std.specs.Prelude.{◌≡◌, ℕ, List, length}
 use Rattle.lw_words.specs.Word.{AreAnswers, answers_of}
 use Rattle.lw_words.specs.declared.kept.KeptAnswer.{KeptAnswer}
 use Rattle.lw_mealy.specs.Machine.{MealyMachine, IsMachine}
-use Rattle.lw_json.specs.declared.machine.Machine.{Machine}
-use Rattle.lw_json.specs.declared.answers.Answers.{Answers as Given}
+use Rattle.lw_json.specs.declared.files.Machine.{Machine}
+use Rattle.lw_json.specs.declared.files.Answers.{Answers as Given}
 use Rattle.lw_cache.specs.Clash.{NothingClashes}
 use Rattle.lw_suite.specs.declared.method.Method.{Method}
 use Rattle.lw_certify.specs.Verdict.{IsVerdict}

@@ -2,13 +2,12 @@
 use Rattle.std.specs.Prelude.{◌≡◌, ◌⊎◌, ℕ, ◌≤◌, List, length, Bool, true, false, Option, Some, None}
 use Rattle.lw_words.specs.Cause.{CountedFault}
 use Rattle.lw_json.specs.AnswersFault.{HasAnswersFault}
-use Rattle.lw_json.specs.AnswersFile.{IsAnswersFile}
-use Rattle.lw_json.specs.MachineFile.{IsMachineFile}
+use Rattle.lw_json.specs.Formats.{IsAnswersFile, IsMachineFile}
 use Rattle.lw_json.specs.MachineFault.{HasMachineFault}
-use Rattle.lw_json.specs.declared.machine.Machine.{Machine}
-use Rattle.lw_json.specs.declared.answers.Answers.{Answers}
-use Rattle.lw_outside.specs.Files.{Call, File, HoldsLong, file_at, longest_file, noted, read_call, FilesState}
-use Rattle.lw_system.specs.Reading.{ReadsFile, ReadsBadFile}
+use Rattle.lw_json.specs.declared.files.Machine.{Machine}
+use Rattle.lw_json.specs.declared.files.Answers.{Answers}
+use Rattle.lw_outside.specs.Files.{Call, File, HoldsLong, file_at, longest_file, noted, read_call, FilesState, ReadsFile}
+use Rattle.lw_system.specs.Reading.{ReadsBadFile}
 use Rattle.lw_report.specs.declared.role.Role.TheVariants.{Model, Answers as Answered}
 use Rattle.lw_report.specs.declared.outcome.Outcome.{Outcome}
 use Rattle.lw_report.specs.declared.outcome.Outcome.TheVariants.{BadFile, FileTooLong, FileFault, NoMemory}

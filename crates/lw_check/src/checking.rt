@@ -1,9 +1,8 @@
 //! The command.
-ghost use Rattle.std.specs.Prelude.{◌≡◌, ◌≢◌, ◌⊎◌, ◌≤◌, ℕ, None};
-ghost use Rattle.lw_json.specs.AnswersFile.{IsAnswersFile};
-ghost use Rattle.lw_json.specs.MachineFile.{IsMachineFile};
-ghost use Rattle.lw_json.specs.declared.answers.Answers.{Answers as Given};
-ghost use Rattle.lw_json.specs.declared.machine.Machine.{Machine as Model};
+ghost use Rattle.std.specs.Prelude.{◌≡◌, ◌≢◌, ◌⊎◌, ◌≤◌, ℕ, None, string_bytes};
+ghost use Rattle.lw_json.specs.Formats.{IsAnswersFile, IsMachineFile};
+ghost use Rattle.lw_json.specs.declared.files.Answers.{Answers as Given};
+ghost use Rattle.lw_json.specs.declared.files.Machine.{Machine as Model};
 ghost use Rattle.lw_check.specs.Decision.{IsYesOrNo, IsDecision, Pair, pair_of};
 ghost use Rattle.lw_words.specs.Cause.{CountedFault};
 ghost use Rattle.lw_report.specs.Text.{text_of};
@@ -13,13 +12,13 @@ ghost use Rattle.lw_check.specs.CheckRun.{IsCheckRun};
 ghost use Rattle.lw_check.specs.Ending.{ComesTo, DecidesAs, EndsPairRead, EndsUnread};
 ghost use Rattle.lw_system.specs.Reading.{TellsFile};
 ghost use Rattle.lw_check.specs.Reading.{ReadsPair};
-ghost use Rattle.lw_mealy.specs.Machine.{IsWithinLimits};
-ghost use Rattle.lw_certify.specs.Sure.{Sure};
+ghost use Rattle.lw_mealy.specs.Machine.{IsWithinLimits, Sure};
 ghost use Rattle.lw_words.specs.Word.{answers_of};
 ghost use Rattle.lw_report.specs.Ends.{IsWithoutLearner};
 ghost use Rattle.lw_report.specs.Outcomes.{status_of};
 ghost use Rattle.lw_report.specs.declared.outcome.Outcome.{Outcome as Came};
 
+use crate::CheckArguments;
 use crate::deciding::{Decided, decide};
 use crate::reading::{Read, read_pair};
 use crate::telling::tell;
@@ -77,33 +76,32 @@ fn finish<O: Sink, E: Sink>(
     End::new(outcome, answers.kept, outputs)
 }
 
-/// `check MODEL ANSWERS [--extra K]`: whether the answers of a file fix the model of a file among all machines of at most
-/// `extra` states more, by the suite of the method. Reads the model file, then the answers file; puts a yes or a no to `out`, and the text of every other
-/// outcome to `err`.
+/// `check MODEL ANSWERS [--extra K]`: whether the answers of a file fix the model of a file among all machines of at most so many
+/// states more, by the suite of the method. Reads the model file, then the answers file; puts a yes or a no to `out`, and the text
+/// of every other outcome to `err`.
 pub fn check<F: Files, O: Sink, E: Sink>(
     alloc: Global,
-    model: &str,
-    answers: &str,
-    extra: u8,
-    method: Method,
+    arguments: &CheckArguments,
     files: &mut F,
     out: &mut O,
     err: &mut E,
 ) -> End
-    requires few { extra ≤ 4 }
     ensures status { result.status ≡ status_of result.outcome }
-    ensures ran { IsCheckRun method model.now answers.now extra (F.state files.old)
+    ensures ran { IsCheckRun arguments.now.suite (string_bytes arguments.now.model)
+        (string_bytes arguments.now.answers) arguments.now.extra (F.state files.old)
         (F.state files.new) (O.state out.old) (O.state out.new) (E.state err.old) (E.state err.new)
         result }
     ensures counts { ((F.state files.old).faults ≤ (F.state files.new).faults) ×
         ((O.state out.old).faults ≤ (O.state out.new).faults) ×
         ((E.state err.old).faults ≤ (E.state err.new).faults) }
 {
-    let Read { machine, answers } = match read_pair(alloc, files, model, answers) {
+    let Read { machine, answers } = match read_pair(alloc, files, arguments) {
         Ok(read) => read,
         Err(outcome) => {
-            return refuse(alloc, outcome, UNSAID, Kept::new(alloc), None, extra, err);
+            let kept = Kept::new(alloc);
+            return refuse(alloc, outcome, UNSAID, kept, None, arguments.extra, err);
         }
     };
+    let (extra, method) = (arguments.extra, arguments.suite);
     finish(alloc, machine, answers, extra, method, out, err)
 }

@@ -1,8 +1,9 @@
 //! The two files of the command.
-ghost use Rattle.std.specs.Prelude.{◌≡◌, ◌≤◌, IfOk, IfErr};
+ghost use Rattle.std.specs.Prelude.{◌≡◌, ◌≤◌, IfOk, IfErr, string_bytes};
 ghost use Rattle.lw_check.specs.Decision.{pair_of};
 ghost use Rattle.lw_check.specs.Reading.{IsUnread, ReadsPair};
 
+use crate::CheckArguments;
 use lw_json::{Answers, Machine};
 use lw_outside::Files;
 use lw_report::{Outcome, Role, read_outcome};
@@ -20,21 +21,21 @@ pub(crate) struct Read {
 pub(crate) fn read_pair<F: Files>(
     alloc: Global,
     files: &mut F,
-    model: &str,
-    answers: &str,
+    arguments: &CheckArguments,
 ) -> Result<Read, Outcome>
-    ensures ok { IfOk result (λ read. ReadsPair model.now answers.now (F.state files.old)
-        (F.state files.new) (pair_of read.machine read.answers)) }
-    ensures err { IfErr result (IsUnread model.now answers.now (F.state files.old)
-        (F.state files.new)) }
+    ensures ok { IfOk result (λ read. ReadsPair (string_bytes arguments.now.model)
+        (string_bytes arguments.now.answers) (F.state files.old) (F.state files.new)
+        (pair_of read.machine read.answers)) }
+    ensures err { IfErr result (IsUnread (string_bytes arguments.now.model)
+        (string_bytes arguments.now.answers) (F.state files.old) (F.state files.new)) }
     ensures counts { (F.state files.old).faults ≤ (F.state files.new).faults }
     ensures same { (F.state files.new).holds ≡ (F.state files.old).holds }
 {
-    let machine = match read_machine_file(alloc, files, model) {
+    let machine = match read_machine_file(alloc, files, arguments.model.as_str()) {
         Ok(machine) => machine,
         Err(stop) => return Err(read_outcome(stop, Role::Model)),
     };
-    match read_answers_file(alloc, files, answers) {
+    match read_answers_file(alloc, files, arguments.answers.as_str()) {
         Ok(answers) => Ok(Read { machine, answers }),
         Err(stop) => Err(read_outcome(stop, Role::Answers)),
     }

@@ -4,9 +4,8 @@ use Rattle.std.specs.List.{All}
 use Rattle.std.proofs.lemmas.Bool.{cases_lt}
 use Rattle.std.proofs.lemmas.List.{get_or_append_left, get_or-append_right, length-append}
 use Rattle.std.proofs.lemmas.List.Elements.{All-map}
-use Rattle.lw_words.specs.Word.{AreAnswers, IsAnswer, answer_of, answers_of}
+use Rattle.lw_words.specs.Word.{AreAnswers, IsAnswer, answer_of, answers_of, AllDiffer}
 use Rattle.lw_words.specs.Cause.{CountedFault}
-use Rattle.lw_words.specs.Name.{AllDiffer}
 use Rattle.lw_words.specs.declared.kept.KeptAnswer.{KeptAnswer}
 use Rattle.lw_words.specs.declared.stop.SulStop.{SulStop}
 use Rattle.lw_words.specs.declared.stop.SulStop.TheVariants as sul

@@ -1,7 +1,6 @@
 -- Sessions of children, before anything was asked and at their end.
 use Rattle.std.specs.Prelude.{◌≡◌, ℕ, ◌+◌, ◌<◌, ◌≤◌, List, [], ◌∷◌, ◌++◌, length, map, replicate, slice_index_or, Bool, Option, Some, None, Result, IfOk, IfErr}
-use Rattle.lw_words.specs.Word.{answers_of}
-use Rattle.lw_words.specs.Name.{AllDiffer}
+use Rattle.lw_words.specs.Word.{answers_of, AllDiffer}
 use Rattle.lw_words.specs.declared.kept.KeptAnswer.{KeptAnswer}
 use Rattle.std.specs.List.{All}
 use Rattle.lw_sul.specs.SessionState.{SessionState, IsJournal}

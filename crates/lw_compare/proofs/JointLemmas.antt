@@ -6,12 +6,11 @@ use Rattle.std.proofs.lemmas.List.Elements.{All-head, All-tail, All-map}
 use Rattle.std.proofs.lemmas.List.FromFn.{length-range_with_len, get_or-range_with_len, length-map-range_with_len, get_or-map-range_with_len}
 use Rattle.std.proofs.lemmas.Nat.{div-mul-add, mod-mul-add, div-add-mod'}
 use Rattle.std.proofs.Math.Nat.{mod-lt, div-lt_iff_lt-mul, mul-le-mul_right}
-use Rattle.lw_words.specs.Word.{IsWord}
-use Rattle.lw_words.specs.Name.{number_of}
+use Rattle.lw_words.specs.Word.{IsWord, number_of}
 use Rattle.lw_mealy.specs.Machine.{Row, Rows, IsMachine, row, cell, next, output, after, out, answer}
 use Rattle.lw_mealy.proofs.RowLemmas.{target_below}
 use Rattle.lw_mealy.proofs.WordLemmas.{after-append, out-append, after_below}
-use Rattle.lw_json.specs.declared.machine.Machine.{Machine}
+use Rattle.lw_json.specs.declared.files.Machine.{Machine}
 use Rattle.lw_compare.specs.Comparing.{ModelsAgreeOn, number_or_zero, reply, second_reply, names_of_word, translated}
 use Rattle.lw_compare.specs.bodies.Joint.{AgreeAt, joint, joint_next, joint_row, letter_in}
 

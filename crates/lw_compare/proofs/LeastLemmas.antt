@@ -6,7 +6,7 @@ use Rattle.std.specs.List.{All}
 use Rattle.lw_words.specs.Word.{IsWord}
 use Rattle.lw_mealy.specs.Machine.{IsMachine, after}
 use Rattle.lw_mealy.proofs.WordLemmas.{after-append}
-use Rattle.lw_json.specs.declared.machine.Machine.{Machine}
+use Rattle.lw_json.specs.declared.files.Machine.{Machine}
 use Rattle.lw_separate.specs.bodies.Search.{AtMost, Before, Closed}
 use Rattle.lw_separate.proofs.Before.{at_most_push, at_most_trans, before_apart, before_last, before_next, before_trans, of_cases}
 use Rattle.lw_compare.specs.Comparing.{Agree, ModelsAgreeOn, IsLeastDifference}

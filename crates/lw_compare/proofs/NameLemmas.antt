@@ -7,12 +7,11 @@ use Rattle.std.proofs.lemmas.Bool.Decides.{Decides-eqb}
 use Rattle.std.proofs.lemmas.List.{get_or_default, get_or-map, length-map, map-append, take_all, take_more}
 use Rattle.std.proofs.lemmas.List.Elements.{All-cons, All-head, All-tail, filter_more}
 use Rattle.std.proofs.lemmas.Option.{slice_get-get_or, slice_get_within, get_or_from_slice_get}
-use Rattle.lw_words.specs.Name.{IsNames, number_of}
+use Rattle.lw_words.specs.Word.{IsNames, number_of, IsWord}
 use Rattle.lw_words.proofs.NumberLemmas.{name_at_number, number_at_place}
-use Rattle.lw_words.specs.Word.{IsWord}
 use Rattle.lw_mealy.specs.Machine.{IsWithinLimits, MealyMachine, Rows, cell, next, out, output}
 use Rattle.lw_mealy.proofs.RowLemmas.{output_below, target_below}
-use Rattle.lw_json.specs.declared.machine.Machine.{Machine}
+use Rattle.lw_json.specs.declared.files.Machine.{Machine}
 use Rattle.lw_compare.specs.Comparing.{lacking, names_of_word, translated}
 use Rattle.lw_compare.specs.bodies.Joint.{AgreeAt, IsDictionary, letter_in}
 use Rattle.lw_compare.proofs.JointLemmas.{of_pair}

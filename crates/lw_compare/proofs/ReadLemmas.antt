@@ -2,12 +2,12 @@
 use Rattle.std.proofs.Common.{◌≡◌, ◌⊎◌, ⊎_elim, inl, inr, ℕ, ◌<◌, ◌≤◌, List, length, true, false, Option, Some, None, refl, ap, sym, subst, arith}
 use Rattle.lw_words.specs.Cause.{CountedFault}
 use Rattle.lw_json.specs.MachineFault.{HasMachineFault}
-use Rattle.lw_json.specs.MachineFile.{IsMachineFile}
-use Rattle.lw_json.specs.declared.machine.Machine.{Machine}
+use Rattle.lw_json.specs.Formats.{IsMachineFile}
+use Rattle.lw_json.specs.declared.files.Machine.{Machine}
 use Rattle.lw_json.specs.declared.fault.JsonFault.{JsonFault}
-use Rattle.lw_outside.specs.Files.{File, Holds, HoldsLong, file_at, longest_file, FilesState}
+use Rattle.lw_outside.specs.Files.{File, Holds, HoldsLong, file_at, longest_file, FilesState, ReadsFile}
 use Rattle.lw_report.specs.Outcomes.{HasOwnText, StandsOrWants}
-use Rattle.lw_system.specs.Reading.{ReadsFile, ReadsBadFile}
+use Rattle.lw_system.specs.Reading.{ReadsBadFile}
 use Rattle.lw_report.specs.Stops.{read_outcome}
 use Rattle.lw_system.specs.declared.stops.ReadStop.{ReadStop}
 use Rattle.lw_system.specs.declared.stops.ReadStop.TheVariants as stop

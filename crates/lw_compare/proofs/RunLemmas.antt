@@ -1,8 +1,8 @@
 -- Calls of `compare`, by whether both models were read.
 use Rattle.std.proofs.Common.{◌≡◌, ◌≢◌, ◌⊎◌, ⊎_elim, inl, inr, ℕ, List, [], None, refl, ap, ap₂, sym, ◌∙◌, subst}
 use Rattle.lw_words.specs.Cause.{CountedFault}
-use Rattle.lw_json.specs.MachineFile.{IsMachineFile, SameMachine}
-use Rattle.lw_json.specs.declared.machine.Machine.{Machine}
+use Rattle.lw_json.specs.Formats.{IsMachineFile, SameMachine}
+use Rattle.lw_json.specs.declared.files.Machine.{Machine}
 use Rattle.lw_json.proofs.OneValue.{one_value}
 use Rattle.lw_report.specs.Ends.{IsWithoutLearner}
 use Rattle.lw_report.specs.Outcomes.{StandsOrWants}

@@ -1,6 +1,6 @@
 -- Two models compare in one way at most.
 use Rattle.std.proofs.Common.{◌≡◌, ℕ, List, refl, ap, ap₂, sym, ◌∙◌}
-use Rattle.lw_json.specs.declared.machine.Machine.{Machine}
+use Rattle.lw_json.specs.declared.files.Machine.{Machine}
 use Rattle.lw_report.specs.declared.comparison.Comparison.{Comparison}
 use Rattle.lw_report.specs.declared.comparison.Comparison.TheVariants.{Equal, Differ, OtherInputs}
 use Rattle.lw_report.specs.declared.comparison.Difference.{Difference}

@@ -1,7 +1,7 @@
 -- What a call of `compare` did, for callers: all that its contract says, in one record.
 use Rattle.std.specs.Prelude.{◌≡◌, ◌≢◌, ◌⊎◌, ℕ, List, [], None}
 use Rattle.lw_words.specs.Cause.{CountedFault}
-use Rattle.lw_json.specs.declared.machine.Machine.{Machine}
+use Rattle.lw_json.specs.declared.files.Machine.{Machine}
 use Rattle.lw_report.specs.Ends.{IsWithoutLearner}
 use Rattle.lw_outside.specs.Files.{FilesState}
 use Rattle.lw_outside.specs.Streams.{SinkState}

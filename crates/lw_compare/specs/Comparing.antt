@@ -3,10 +3,9 @@
 use Rattle.std.specs.Prelude.{◌≡◌, ℕ, List, [], map, is_none, slice_index_or, unwrap_or}
 use Rattle.std.specs.List.{filter}
 use Rattle.std.specs.declared.cmp.Ordering.TheVariants.{Less}
-use Rattle.lw_words.specs.Name.{number_of}
-use Rattle.lw_words.specs.Word.{shortlex_cmp, IsWord}
+use Rattle.lw_words.specs.Word.{number_of, shortlex_cmp, IsWord}
 use Rattle.lw_mealy.specs.Machine.{answer}
-use Rattle.lw_json.specs.declared.machine.Machine.{Machine}
+use Rattle.lw_json.specs.declared.files.Machine.{Machine}
 
 -- the names that stand at these numbers
 abbrev pub names_of_word : List (List ℕ) → List ℕ → List (List ℕ)

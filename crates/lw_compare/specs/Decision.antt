@@ -1,6 +1,6 @@
 -- How two models compare.
 use Rattle.std.specs.Prelude.{◌≡◌, ℕ, List}
-use Rattle.lw_json.specs.declared.machine.Machine.{Machine}
+use Rattle.lw_json.specs.declared.files.Machine.{Machine}
 use Rattle.lw_report.specs.declared.comparison.Comparison.{Comparison}
 use Rattle.lw_report.specs.declared.comparison.Comparison.TheVariants.{Equal, Differ, OtherInputs}
 use Rattle.lw_report.specs.declared.comparison.Difference.{Difference}

@@ -1,11 +1,11 @@
 -- What the command read: the file of the first model, then that of the second.
 use Rattle.std.specs.Prelude.{◌≡◌, ◌⊎◌, ℕ, ◌<◌, ◌≤◌, List, length, Bool, true, false, Option, Some, None}
 use Rattle.lw_words.specs.Cause.{CountedFault}
-use Rattle.lw_json.specs.MachineFile.{IsMachineFile}
+use Rattle.lw_json.specs.Formats.{IsMachineFile}
 use Rattle.lw_json.specs.MachineFault.{HasMachineFault}
-use Rattle.lw_json.specs.declared.machine.Machine.{Machine}
-use Rattle.lw_outside.specs.Files.{Call, File, HoldsLong, file_at, longest_file, noted, read_call, FilesState}
-use Rattle.lw_system.specs.Reading.{ReadsBadFile, ReadsFile, TellsBad, TellsFile}
+use Rattle.lw_json.specs.declared.files.Machine.{Machine}
+use Rattle.lw_outside.specs.Files.{Call, File, HoldsLong, file_at, longest_file, noted, read_call, FilesState, ReadsFile}
+use Rattle.lw_system.specs.Reading.{ReadsBadFile, TellsBad, TellsFile}
 use Rattle.lw_report.specs.declared.role.Role.TheVariants.{Model, Second}
 use Rattle.lw_report.specs.declared.outcome.Outcome.{Outcome}
 use Rattle.lw_report.specs.declared.outcome.Outcome.TheVariants.{BadFile, FileTooLong, FileFault, NoMemory}

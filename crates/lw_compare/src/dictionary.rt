@@ -1,6 +1,6 @@
 //! The names of a model as another one numbers them.
 ghost use Rattle.std.specs.Prelude.{◌≡◌, [], ◌∷◌, ◌++◌, cond, is_none, map, string_bytes, IfOk, OnOk};
-ghost use Rattle.lw_words.specs.Name.{number_of};
+ghost use Rattle.lw_words.specs.Word.{number_of};
 ghost use Rattle.lw_compare.specs.Comparing.{SameInputs, lacking};
 ghost use Rattle.lw_compare.specs.bodies.Joint.{AreLetters, AreNumbers, IsDictionary};
 

@@ -1,7 +1,6 @@
 -- The steps of a desk: what an actor takes of a batch, gives and fails.
 use Rattle.std.specs.Prelude.{◌≡◌, ◌⊎◌, ◌↔◌, ℕ, ◌-◌, ◌<◌, ◌==◌, not, List, [], ◌∷◌, ◌++◌, length, filter, slice_index_or, Contains, Bool, true, false, Option, Some, None}
-use Rattle.lw_words.specs.Word.{Answer, answer_of, answers_of, IsPrefix}
-use Rattle.lw_words.specs.Name.{AllDiffer}
+use Rattle.lw_words.specs.Word.{Answer, answer_of, answers_of, IsPrefix, AllDiffer}
 use Rattle.lw_words.specs.declared.kept.KeptAnswer.{KeptAnswer}
 use Rattle.lw_words.specs.declared.stop.RunStop.{RunStop}
 use Rattle.lw_words.specs.declared.stop.RunStop.TheVariants as Run

@@ -1,10 +1,9 @@
 -- The first fault of an answers file, from what its parts told.
 use Rattle.lw_words.specs.First.{FailsFirst}
-use Rattle.lw_words.specs.Name.{IsNames}
-use Rattle.lw_json.specs.AnswersFile.{WrittenAnswers}
+use Rattle.lw_words.specs.Word.{IsNames}
+use Rattle.lw_json.specs.Formats.{WrittenAnswers, AreInputs}
 use Rattle.lw_json.specs.AnswersFault.{AnswerHasWords, SaysAnswersFault}
 use Rattle.lw_json.specs.Fault.{IsFaultOf}
-use Rattle.lw_json.specs.MachineFile.{AreInputs}
 use Rattle.lw_json.specs.bodies.Told.{Told}
 use Rattle.lw_json.specs.declared.fault.JsonFault.{JsonFault}
 use Rattle.lw_json.specs.declared.fault.JsonFault.TheVariants.{Inputs, Outputs, BadWord}

@@ -5,15 +5,12 @@ use Rattle.std.proofs.lemmas.Bool.Decides.{Decides-ltb}
 use Rattle.std.proofs.lemmas.List.{map-id}
 use Rattle.serde_json.specs.Data.{string, depth}
 use Rattle.serde_json.specs.Written.{has_float}
-use Rattle.lw_words.specs.Name.{IsNames}
+use Rattle.lw_words.specs.Word.{IsNames}
 use Rattle.lw_words.specs.declared.kept.KeptAnswer.{KeptAnswer}
-use Rattle.lw_json.specs.AnswersFile.{WrittenAnswer, WrittenAnswers, SaysAnswers, SpellsAnswers, written_answer_of, numbered_answer}
+use Rattle.lw_json.specs.Formats.{WrittenAnswer, WrittenAnswers, SaysAnswers, SpellsAnswers, written_answer_of, numbered_answer, each_of, AreInputs, word_text}
 use Rattle.lw_json.specs.AnswersText.{IsWrittenOrder, answer_data, answers_data}
-use Rattle.lw_json.specs.Each.{each_of}
 use Rattle.lw_json.specs.KeptOver.{IsKeptOver}
-use Rattle.lw_json.specs.MachineFile.{AreInputs}
-use Rattle.lw_json.specs.WordText.{word_text}
-use Rattle.lw_json.specs.declared.answers.Answers.{Answers}
+use Rattle.lw_json.specs.declared.files.Answers.{Answers}
 use Rattle.lw_json.proofs.EachLemmas.{no_float_items}
 use Rattle.lw_json.proofs.RoundTrip.{each_of-map, read_list, read_texts, shallow}
 use Rattle.lw_json.proofs.WordTexts.{read_back}

@@ -1,17 +1,14 @@
 -- A list whose elements are read one by one, by a function that may fail.
 use Rattle.std.proofs.Common.{◌≡◌, ℕ, ◌+◌, ◌<◌, ◌≤◌, List, [], ◌∷◌, ◌++◌, false, length, map, get_or, take, drop, drop-cons, add-one, suc, append_assoc, subst, refl, ap, sym, ◌∙◌, arith, Option, Some, None, option_map, option_and_then}
-use Rattle.std.proofs.lemmas.List.{take_all, map_more, map-append}
+use Rattle.std.proofs.lemmas.List.{take_all, map_more, map-append, length-map, get_or_default}
 use Rattle.std.specs.List.{AllWithin}
-use Rattle.std.proofs.lemmas.List.{length-map, get_or_default}
 use Rattle.lw_words.specs.First.{FailsFirst}
 use Rattle.lw_words.proofs.Lists.{read-map}
 use Rattle.serde_json.specs.Data.{Data}
 use Rattle.serde_json.specs.View.{items_of}
-use Rattle.lw_json.specs.Each.{each_of}
+use Rattle.lw_json.specs.Formats.{each_of, cell_of_two, values, array_of}
 use Rattle.serde_json.specs.Find.{as_array}
 use Rattle.serde_json.specs.Written.{has_float, items_have_float}
-use Rattle.lw_json.specs.MachineFile.{cell_of_two}
-use Rattle.lw_json.specs.Members.{values, array_of}
 
 pub values-items_of : (ds : List Data) → values (items_of ds) ≡ ds
 values-items_of [] = refl

@@ -5,7 +5,7 @@ use Rattle.std.specs.declared.result.Result.{Result}
 use Rattle.std.specs.declared.result.Result.TheVariants.{Ok, Err}
 use Rattle.serde_json.specs.Data.{Data}
 use Rattle.lw_json.specs.Fault.{HasFault, first_failing}
-use Rattle.lw_json.specs.Members.{IsJson}
+use Rattle.lw_json.specs.Formats.{IsJson}
 use Rattle.lw_json.specs.bodies.Told.{Told, IsUnread}
 use Rattle.lw_json.specs.declared.fault.Field.{Field}
 use Rattle.lw_json.specs.declared.fault.JsonFault.{JsonFault}

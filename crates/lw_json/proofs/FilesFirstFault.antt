@@ -11,13 +11,10 @@ use Rattle.lw_mealy.specs.Fault as rows
 use Rattle.lw_mealy.specs.Machine.{Rows}
 use Rattle.lw_mealy.specs.declared.fault.MealyFault.{MealyFault}
 use Rattle.lw_json.specs.AnswersFault.{AnswerHasWords, SaysAnswersFault, HasAnswersFault, answers_tests}
-use Rattle.lw_json.specs.AnswersFile.{WrittenAnswer, WrittenAnswers, SaysAnswers, numbered_answer}
-use Rattle.lw_json.specs.Each.{each_of}
+use Rattle.lw_json.specs.Formats.{WrittenAnswer, WrittenAnswers, SaysAnswers, numbered_answer, each_of, NamedRow, WrittenMachine, SaysMachine, IsJson}
 use Rattle.lw_json.specs.Fault.{HasFault, HasOneFault, first_failing}
-use Rattle.lw_json.specs.KeptOver.{IsEven}
+use Rattle.lw_words.specs.Word.{IsWholeKept}
 use Rattle.lw_json.specs.MachineFault.{HasOutputIn, UnknownFirst, SaysMachineFault, HasMachineFault, machine_tests}
-use Rattle.lw_json.specs.MachineFile.{NamedRow, WrittenMachine, SaysMachine}
-use Rattle.lw_json.specs.Members.{IsJson}
 use Rattle.lw_json.specs.SetupFile.{WrittenSetup, table, command, SaysSetup, SaysSetupFault, HasSetupFault, DeclaredFault, setup_tests}
 use Rattle.lw_json.specs.declared.fault.Field.{Field}
 use Rattle.lw_json.specs.declared.fault.JsonFault.{JsonFault}
@@ -169,7 +166,7 @@ answers_one w (Lengths a) NoMemory h k n n' = absurd (n' refl)
 answers_one w (Lengths a) (Inputs b) h k n n' = absurd (names_none 64 w.inputs b h.0.0 h.0.1 k)
 answers_one w (Lengths a) (Outputs b) h k n n' = absurd (names_none 4096 w.outputs b h.1 h.1.few k.1)
 answers_one w (Lengths a) (BadWord b) h k n n' = absurd (no_bad_word w.inputs w.outputs w.answers h.2.0 b h.2.1 k.2)
-answers_one w (Lengths a) (Lengths b) h k n n' = ap (λ (x : ℕ). Lengths x) (first_one no_kept IsEven k.2.0 a b (subst (λ (l : List KeptAnswer). FailsFirst IsEven l a) (Some_inj h.2.0 k.2.0 (sym h.2.1 ∙ k.2.1)) h.2.2) k.2.2)
+answers_one w (Lengths a) (Lengths b) h k n n' = ap (λ (x : ℕ). Lengths x) (first_one no_kept IsWholeKept k.2.0 a b (subst (λ (l : List KeptAnswer). FailsFirst IsWholeKept l a) (Some_inj h.2.0 k.2.0 (sym h.2.1 ∙ k.2.1)) h.2.2) k.2.2)
 
 -- bytes, for each kind
 module _ {S : Type 0} (tests : Data → List (Field × Bool)) (Says : Data → S → Type 0) (SaysFault : S → JsonFault → Type 0) (passes : (d : Data) (s : S) → Says d s → first_failing (tests d) ≡ None)

@@ -4,25 +4,21 @@ use Rattle.std.specs.List.{All}
 use Rattle.std.proofs.lemmas.Option.{none-some}
 use Rattle.json.proofs.Found.{Some_inj}
 use Rattle.serde_json.specs.Data.{Data, null, boolean, number, string, array, object}
-use Rattle.lw_words.specs.Name.{IsNames}
+use Rattle.lw_words.specs.Word.{IsNames, IsWholeKept}
 use Rattle.lw_words.specs.declared.kept.KeptAnswer.{KeptAnswer}
 use Rattle.lw_mealy.specs.Machine.{Rows}
 use Rattle.lw_json.specs.AnswersFault.{SaysAnswersFault, HasAnswersFault, answers_tests}
-use Rattle.lw_json.specs.AnswersFile.{WrittenAnswer, WrittenAnswers, format_at, answers_in, SaysAnswers, SpellsAnswers, IsAnswersFile, numbered_answer}
-use Rattle.lw_json.specs.Each.{each_of}
+use Rattle.lw_json.specs.Formats.{WrittenAnswer, WrittenAnswers, format_at, answers_in, SaysAnswers, SpellsAnswers, IsAnswersFile, numbered_answer, each_of, NamedRow, WrittenMachine, SaysMachine, SpellsMachine, IsMachineFile, AreInputs, numbered_cell, numbered_rows, IsJson, is_object, list_at, texts_at}
 use Rattle.lw_json.specs.Fault.{HasFault, NoneIsFaulty, first_failing}
-use Rattle.lw_json.specs.KeptOver.{IsEven}
 use Rattle.lw_json.specs.MachineFault.{UnknownFirst, SaysMachineFault, HasMachineFault, machine_tests}
-use Rattle.lw_json.specs.MachineFile.{NamedRow, WrittenMachine, SaysMachine, SpellsMachine, IsMachineFile, AreInputs, numbered_cell, numbered_rows}
-use Rattle.lw_json.specs.Members.{IsJson, is_object, list_at, texts_at}
 use Rattle.lw_json.specs.SetupFile.{WrittenSetup, table, command, SaysSetup, SpellsSetup, IsSetupFile, SaysSetupFault, HasSetupFault, AreOutputs, DeclaredFault, has_member, text_at, command_at, outputs_at, setup_tests}
 use Rattle.lw_json.specs.bodies.MachineParts.{IsFaultOfRows}
-use Rattle.lw_json.specs.declared.answers.Answers.{Answers}
+use Rattle.lw_json.specs.declared.files.Answers.{Answers}
 use Rattle.lw_json.specs.declared.fault.Field.{Field}
 use Rattle.lw_json.specs.declared.fault.Field.TheVariants as field
 use Rattle.lw_json.specs.declared.fault.JsonFault.{JsonFault}
 use Rattle.lw_json.specs.declared.fault.JsonFault.TheVariants.{NotJson, Shape, Inputs, Outputs, UnknownOutput, Mealy, BadWord, Lengths, NoMemory}
-use Rattle.lw_json.specs.declared.machine.Machine.{Machine}
+use Rattle.lw_json.specs.declared.files.Machine.{Machine}
 use Rattle.lw_json.specs.declared.setup.Setup.{Setup}
 use Rattle.lw_json.specs.declared.setup.Setup.TheVariants.{Table, Command}
 use Rattle.lw_words.specs.declared.names.NamesFault.{NamesFault}
@@ -113,7 +109,7 @@ module _ (w : WrittenAnswers) (a : Answers) (s : SpellsAnswers w a) where
   lengths_none : (place : ℕ) → ¬ SaysAnswersFault w (Lengths place)
   lengths_none place h =
       let same : h.2.0 ≡ a.kept.answers = Some_inj h.2.0 a.kept.answers (sym h.2.1 ∙ answered) in
-      let even : All IsEven h.2.0 = subst (λ (l : List KeptAnswer). All IsEven l) (sym same) s.even in
+      let even : All IsWholeKept h.2.0 = subst (λ (l : List KeptAnswer). All IsWholeKept l) (sym same) s.even in
       let none : KeptAnswer = record { instance = 0; run = 0; word = []; outs = [] } in
       h.2.2.fails none (even place none h.2.2.within)
 

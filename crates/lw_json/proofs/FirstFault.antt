@@ -7,7 +7,8 @@ use Rattle.std.proofs.lemmas.Option.{slice_get-get_or}
 use Rattle.json.proofs.Found.{Some_inj}
 use Rattle.lw_words.specs.First.{FailsFirst}
 use Rattle.lw_words.specs.Name as names
-use Rattle.lw_words.specs.Name.{IsName, RepeatsFirst}
+use Rattle.lw_words.specs.Name.{RepeatsFirst}
+use Rattle.lw_words.specs.Word.{IsName}
 use Rattle.lw_words.specs.declared.names.NamesFault.{NamesFault}
 use Rattle.lw_words.specs.declared.names.NamesFault.TheVariants.{Empty, TooMany, BadName, Repeated, NoMemory}
 use Rattle.lw_mealy.specs.Fault as rows

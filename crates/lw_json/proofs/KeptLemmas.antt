@@ -4,14 +4,11 @@ use Rattle.std.specs.List.{All, slice_split}
 use Rattle.std.proofs.lemmas.List.Elements.{All-nil, All-cons}
 use Rattle.std.proofs.lemmas.Option.{none-some, slice_get_within}
 use Rattle.json.proofs.Found.{Some_inj}
-use Rattle.lw_words.specs.Name.{number_of}
-use Rattle.lw_words.specs.Word.{IsWord}
+use Rattle.lw_words.specs.Word.{number_of, IsWord, IsWholeKept}
 use Rattle.lw_words.specs.declared.kept.KeptAnswer.{KeptAnswer}
 use Rattle.lw_words.proofs.NumberLemmas.{name_at_number}
-use Rattle.lw_json.specs.AnswersFile.{WrittenAnswer, numbered_answer}
-use Rattle.lw_json.specs.Each.{each_of}
-use Rattle.lw_json.specs.KeptOver.{IsEven, AreKeptOver}
-use Rattle.lw_json.specs.WordText.{word_of}
+use Rattle.lw_json.specs.Formats.{WrittenAnswer, numbered_answer, each_of, word_of}
+use Rattle.lw_json.specs.KeptOver.{AreKeptOver}
 
 -- what a step that may fail gave
 and_then_some : {A B : Type 0} (f : A → Option B) (o : Option A) (b : B) → option_and_then f o ≡ Some b → (a : A) × (o ≡ Some a) × (f a ≡ Some b)
@@ -53,7 +50,7 @@ module _ (inputs outputs : List (List ℕ)) where
       let rest = map_some (λ o. record { instance = a.instance; run = a.run; word = first.0; outs = o }) (word_of outputs a.outs) k first.2 in
       subst (λ (k : KeptAnswer). IsOver k) rest.2 (small, is_word inputs a.word first.0 first.1, is_word outputs a.outs rest.0 rest.1)
 
-  pub are_over : {V : Type 0} (v : V → WrittenAnswer) → ((x : V) → (v x).instance ≤ 16) → (xs : List V) (kept : List KeptAnswer) → each_of (numbered_answer inputs outputs) (map v xs) ≡ Some kept → All IsEven kept
+  pub are_over : {V : Type 0} (v : V → WrittenAnswer) → ((x : V) → (v x).instance ≤ 16) → (xs : List V) (kept : List KeptAnswer) → each_of (numbered_answer inputs outputs) (map v xs) ≡ Some kept → All IsWholeKept kept
       → AreKeptOver (length inputs) (length outputs) kept
   are_over v small xs kept e even =
       let over : All IsOver kept = each_of-All v (numbered_answer inputs outputs) IsOver (λ x k is. is_over (v x) k (small x) is) xs kept e in

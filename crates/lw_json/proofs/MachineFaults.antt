@@ -1,14 +1,13 @@
 -- The first fault of a machine file, from what its parts told.
 use Rattle.std.proofs.Common.{◌≡◌, ⊎_elim, ℕ, ◌<◌, List, [], length, get_or, map, sym, subst, inl, inr, ◌∷◌, Option, Some, None, option_map, option_and_then, IsSome, refl, true≢false}
 use Rattle.std.proofs.lemmas.List.Elements.{All-nil, All-cons}
-use Rattle.lw_words.specs.Name.{IsNames, number_of}
+use Rattle.lw_words.specs.Word.{IsNames, number_of}
 use Rattle.lw_mealy.specs.Fault.{RowsHaveFault}
 use Rattle.lw_mealy.specs.Machine.{Rows}
-use Rattle.lw_json.specs.Each.{each_of}
+use Rattle.lw_json.specs.Formats.{each_of, NamedRow, WrittenMachine, AreInputs, numbered_cell, numbered_rows}
 use Rattle.std.specs.List.{All, AllWithin}
 use Rattle.lw_words.specs.First.{FailsFirst}
 use Rattle.lw_words.proofs.Lists.{read-map}
-use Rattle.lw_json.specs.MachineFile.{NamedRow, WrittenMachine, AreInputs, numbered_cell, numbered_rows}
 use Rattle.lw_json.specs.MachineFault.{HasOutputIn, SaysMachineFault}
 use Rattle.lw_json.specs.Fault.{IsFaultOf}
 use Rattle.lw_json.specs.bodies.MachineParts.{UnknownAt, IsFaultOfRows}

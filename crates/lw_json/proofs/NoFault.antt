@@ -4,13 +4,14 @@ use Rattle.std.specs.List.{All}
 use Rattle.std.proofs.lemmas.List.Elements.{All-nil, All-cons}
 use Rattle.std.proofs.lemmas.Option.{slice_get-get_or}
 use Rattle.json.proofs.Found.{Some_inj}
-use Rattle.lw_words.specs.Name.{IsNames, RepeatsFirst}
+use Rattle.lw_words.specs.Name.{RepeatsFirst}
+use Rattle.lw_words.specs.Word.{IsNames}
 use Rattle.lw_words.specs.declared.names.NamesFault.{NamesFault}
 use Rattle.lw_words.specs.declared.names.NamesFault.TheVariants.{Empty, TooMany, BadName, Repeated, NoMemory}
 use Rattle.lw_mealy.specs.Machine.{MealyMachine, IsWithinLimits}
 use Rattle.lw_mealy.specs.declared.fault.MealyFault.{MealyFault}
 use Rattle.lw_mealy.specs.declared.fault.MealyFault.TheVariants as mealy
-use Rattle.lw_json.specs.Each.{each_of}
+use Rattle.lw_json.specs.Formats.{each_of}
 use Rattle.lw_json.specs.Fault.{IsFaultOf}
 use Rattle.lw_json.specs.bodies.MachineParts.{IsFaultOfRows}
 

@@ -2,10 +2,8 @@
 use Rattle.std.proofs.Common.{◌≡◌, List, ℕ, codes, sym, ap, ap₂, ◌∙◌}
 use Rattle.json.proofs.Found.{Some_inj}
 use Rattle.serde_json.specs.Data.{Data}
-use Rattle.lw_json.specs.AnswersFile.{WrittenAnswer, WrittenAnswers, SaysAnswers, SpellsAnswers, IsAnswersFile, SameAnswers, answers_at, numbered_answer}
-use Rattle.lw_json.specs.Each.{each_of}
-use Rattle.lw_json.specs.Members.{texts_at}
-use Rattle.lw_json.specs.declared.answers.Answers.{Answers}
+use Rattle.lw_json.specs.Formats.{WrittenAnswer, WrittenAnswers, SaysAnswers, SpellsAnswers, IsAnswersFile, SameAnswers, answers_at, numbered_answer, each_of, texts_at}
+use Rattle.lw_json.specs.declared.files.Answers.{Answers}
 
 -- what two readings of one value say is the same
 pub record SameSaid (v w : WrittenAnswers) : Type 0 where

@@ -3,9 +3,8 @@ use Rattle.std.proofs.Common.{◌≡◌, ℕ, List, length, codes, sym, ap, ap�
 use Rattle.json.proofs.Found.{Some_inj}
 use Rattle.serde_json.specs.Data.{Data}
 use Rattle.lw_mealy.specs.Machine.{Rows, MealyMachine, mealy_of}
-use Rattle.lw_json.specs.MachineFile.{NamedRow, WrittenMachine, SaysMachine, SpellsMachine, IsMachineFile, SameMachine, numbered_rows, rows_at}
-use Rattle.lw_json.specs.Members.{texts_at}
-use Rattle.lw_json.specs.declared.machine.Machine.{Machine}
+use Rattle.lw_json.specs.Formats.{NamedRow, WrittenMachine, SaysMachine, SpellsMachine, IsMachineFile, SameMachine, numbered_rows, rows_at, texts_at}
+use Rattle.lw_json.specs.declared.files.Machine.{Machine}
 
 same_table : (s t : MealyMachine) → s.inputs ≡ t.inputs → s.outputs ≡ t.outputs → s.rows ≡ t.rows → s ≡ t
 same_table s t i o r = ap (λ (a : ℕ). mealy_of a s.outputs s.rows) i ∙ (ap (λ (b : ℕ). mealy_of t.inputs b s.rows) o ∙ ap (λ (q : Rows). mealy_of t.inputs t.outputs q) r)

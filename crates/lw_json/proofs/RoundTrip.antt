@@ -7,14 +7,12 @@ use Rattle.std.proofs.lemmas.Option.{slice_get-get_or}
 use Rattle.serde_json.specs.Data.{Data, string, array, depth, items_depth}
 use Rattle.serde_json.specs.View.{items_of}
 use Rattle.serde_json.specs.Find.{as_str}
-use Rattle.lw_words.specs.Name.{AllDiffer, number_of}
+use Rattle.lw_words.specs.Word.{AllDiffer, number_of}
 use Rattle.lw_words.proofs.NumberLemmas.{number_at_place}
 use Rattle.lw_mealy.specs.Machine.{Row, Rows}
-use Rattle.lw_json.specs.Each.{each_of}
-use Rattle.lw_json.specs.MachineFile.{WrittenMachine, SaysMachine, SpellsMachine, IsNamed, cell_of, row_of, numbered_cell, numbered_rows}
-use Rattle.lw_json.specs.Members.{array_of}
+use Rattle.lw_json.specs.Formats.{each_of, WrittenMachine, SaysMachine, SpellsMachine, IsNamed, cell_of, row_of, numbered_cell, numbered_rows, array_of}
 use Rattle.lw_json.specs.MachineText.{texts_data, cell_data, row_data, rows_data, machine_data}
-use Rattle.lw_json.specs.declared.machine.Machine.{Machine}
+use Rattle.lw_json.specs.declared.files.Machine.{Machine}
 use Rattle.lw_json.proofs.EachLemmas.{values-items_of}
 
 -- a list that is written by f is read by g, element by element

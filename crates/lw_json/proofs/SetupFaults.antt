@@ -1,7 +1,7 @@
 -- The first fault of a setup file, from what its parts told.
 use Rattle.std.proofs.Common.{List, ℕ, Option}
 use Rattle.lw_json.specs.Fault.{IsFaultOf}
-use Rattle.lw_json.specs.MachineFile.{AreInputs}
+use Rattle.lw_json.specs.Formats.{AreInputs}
 use Rattle.lw_json.specs.SetupFile.{command, DeclaredFault, SaysSetupFault}
 use Rattle.lw_json.specs.bodies.Told.{Told}
 use Rattle.lw_json.specs.declared.fault.JsonFault.{JsonFault}

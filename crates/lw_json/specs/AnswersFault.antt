@@ -2,14 +2,10 @@
 use Rattle.std.specs.Prelude.{◌≡◌, ℕ, List, [], ◌∷◌, Bool, Some, is_some, IsSome, codes}
 use Rattle.serde_json.specs.Data.{Data}
 use Rattle.lw_words.specs.First.{FailsFirst}
-use Rattle.lw_words.specs.Name.{IsNames}
+use Rattle.lw_words.specs.Word.{IsNames, IsWholeKept}
 use Rattle.lw_words.specs.declared.kept.KeptAnswer.{KeptAnswer}
-use Rattle.lw_json.specs.AnswersFile.{WrittenAnswer, WrittenAnswers, SaysAnswers, answers_at, format_at, numbered_answer}
-use Rattle.lw_json.specs.Each.{each_of}
+use Rattle.lw_json.specs.Formats.{WrittenAnswer, WrittenAnswers, SaysAnswers, answers_at, format_at, numbered_answer, each_of, AreInputs, is_object, texts_at}
 use Rattle.lw_json.specs.Fault.{IsFaultOf, HasFault}
-use Rattle.lw_json.specs.KeptOver.{IsEven}
-use Rattle.lw_json.specs.MachineFile.{AreInputs}
-use Rattle.lw_json.specs.Members.{is_object, texts_at}
 use Rattle.lw_json.specs.declared.fault.Field.{Field}
 use Rattle.lw_json.specs.declared.fault.Field.TheVariants as field
 use Rattle.lw_json.specs.declared.fault.JsonFault.{JsonFault}
@@ -31,7 +27,7 @@ AnswerHasWords inputs outputs a = IsSome (numbered_answer inputs outputs a)
 
 -- the answers are words, and this one is the first whose two words have different lengths
 abbrev pub IsUneven : List (List ℕ) → List (List ℕ) → List WrittenAnswer → ℕ → Type 0
-IsUneven inputs outputs answers place = (kept : List KeptAnswer) × (each_of (numbered_answer inputs outputs) answers ≡ Some kept) × FailsFirst IsEven kept place
+IsUneven inputs outputs answers place = (kept : List KeptAnswer) × (each_of (numbered_answer inputs outputs) answers ≡ Some kept) × FailsFirst IsWholeKept kept place
 
 -- what the members of an answers file say has this fault first
 abbrev pub SaysAnswersFault : WrittenAnswers → JsonFault → Type 0

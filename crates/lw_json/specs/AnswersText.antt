@@ -8,10 +8,9 @@ use Rattle.serde_json.specs.View.{items_of}
 use Rattle.serde_json.specs.Written.{compact_text}
 use Rattle.lw_words.specs.Word.{shortlex_cmp}
 use Rattle.lw_words.specs.declared.kept.KeptAnswer.{KeptAnswer}
-use Rattle.lw_json.specs.AnswersFile.{IsAnswersFile}
+use Rattle.lw_json.specs.Formats.{IsAnswersFile, word_text}
 use Rattle.lw_json.specs.MachineText.{texts_data}
-use Rattle.lw_json.specs.WordText.{word_text}
-use Rattle.lw_json.specs.declared.answers.Answers.{Answers}
+use Rattle.lw_json.specs.declared.files.Answers.{Answers}
 
 -- the shortlex order of the words, then the instances, then the runs
 abbrev pub answer_cmp : KeptAnswer → KeptAnswer → Ordering

@@ -4,7 +4,7 @@ use Rattle.serde_json.specs.Data.{Data}
 use Rattle.lw_words.specs.Name as names
 use Rattle.lw_words.specs.declared.names.NamesFault.{NamesFault}
 use Rattle.lw_words.specs.declared.names.NamesFault.TheVariants as names_fault
-use Rattle.lw_json.specs.Members.{IsJson}
+use Rattle.lw_json.specs.Formats.{IsJson}
 use Rattle.lw_json.specs.declared.fault.Field.{Field}
 use Rattle.lw_json.specs.declared.fault.JsonFault.{JsonFault}
 use Rattle.lw_json.specs.declared.fault.JsonFault.TheVariants.{NotJson, Shape, Inputs, Outputs, UnknownOutput, Mealy, BadWord, Lengths, NoMemory}

@@ -1,15 +1,11 @@
 pub mod AnswersFault
-pub mod AnswersFile
 pub mod AnswersText
-pub mod Each
 pub mod Fault
 pub mod FitNames
+pub mod Formats
 pub mod Hint
 pub mod KeptOver
 pub mod MachineFault
-pub mod MachineFile
 pub mod MachineText
-pub mod Members
 pub mod SetupFile
-pub mod WordText
 pub mod bodies

@@ -3,13 +3,12 @@ use Rattle.std.specs.Prelude.{◌≡◌, ◌≢◌, ℕ, List, [], ◌∷◌, Bo
 use Rattle.std.specs.List.{All}
 use Rattle.serde_json.specs.Data.{Data}
 use Rattle.lw_words.specs.First.{FailsFirst}
-use Rattle.lw_words.specs.Name.{IsNames, number_of}
+use Rattle.lw_words.specs.Word.{IsNames, number_of}
 use Rattle.lw_mealy.specs.Fault as mealy
 use Rattle.lw_mealy.specs.Machine.{Rows}
 use Rattle.lw_mealy.specs.declared.fault.MealyFault.TheVariants as mealy_fault
 use Rattle.lw_json.specs.Fault.{IsFaultOf, HasFault}
-use Rattle.lw_json.specs.Members.{is_object, texts_at}
-use Rattle.lw_json.specs.MachineFile.{NamedRow, WrittenMachine, SaysMachine, AreInputs, rows_at, numbered_rows}
+use Rattle.lw_json.specs.Formats.{is_object, texts_at, NamedRow, WrittenMachine, SaysMachine, AreInputs, rows_at, numbered_rows}
 use Rattle.lw_json.specs.declared.fault.Field.{Field}
 use Rattle.lw_json.specs.declared.fault.Field.TheVariants as field
 use Rattle.lw_json.specs.declared.fault.JsonFault.{JsonFault}

@@ -4,7 +4,7 @@ use Rattle.serde_json.specs.Data.{Data, array, string, number, unsigned, object,
 use Rattle.serde_json.specs.View.{items_of}
 use Rattle.serde_json.specs.Written.{compact_text}
 use Rattle.lw_mealy.specs.Machine.{Row, Rows}
-use Rattle.lw_json.specs.declared.machine.Machine.{Machine}
+use Rattle.lw_json.specs.declared.files.Machine.{Machine}
 
 abbrev pub texts_data : List (List ℕ) → Data
 texts_data texts = array (items_of (map string texts))

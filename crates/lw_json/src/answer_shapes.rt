@@ -2,8 +2,7 @@
 
 ghost use Rattle.std.specs.Prelude.{◌≡◌, ◌≤◌, IfOk, IfSome, Some, map, option_map};
 ghost use Rattle.serde_json.specs.View.{view};
-ghost use Rattle.lw_json.specs.AnswersFile.{pair_of_texts, pairs_from, written_answer_of, instance_of, format_at, answers_at};
-ghost use Rattle.lw_json.specs.Each.{each_of};
+ghost use Rattle.lw_json.specs.Formats.{pair_of_texts, pairs_from, written_answer_of, instance_of, format_at, answers_at, each_of};
 ghost use Rattle.lw_json.specs.bodies.Found.{FindsAnswers};
 ghost use Rattle.lw_json.specs.bodies.AnswersParts.{said_answer};
 

@@ -4,16 +4,13 @@ ghost use Rattle.std.specs.Prelude.{◌≡◌, IfOk, IfErr, IfSome, IfNone, Some
 ghost use Rattle.std.specs.List.{All};
 ghost use Rattle.serde_json.specs.View.{view};
 ghost use Rattle.lw_words.specs.First.{FailsFirst};
-ghost use Rattle.lw_words.specs.Name.{IsNames};
-ghost use Rattle.lw_json.specs.AnswersFile.{numbered_answer, SaysAnswers, SpellsAnswers, IsAnswersFile, SameAnswers};
+ghost use Rattle.lw_words.specs.Word.{IsNames, IsWholeKept};
+ghost use Rattle.lw_json.specs.Formats.{numbered_answer, SaysAnswers, SpellsAnswers, IsAnswersFile, SameAnswers, each_of, AreInputs};
 ghost use Rattle.lw_json.specs.AnswersFault.{answers_tests, AnswerHasWords, SaysAnswersFault, HasAnswersFault};
-ghost use Rattle.lw_json.specs.Each.{each_of};
 ghost use Rattle.lw_json.specs.Fault.{first_failing};
-ghost use Rattle.lw_json.specs.KeptOver.{IsEven};
-ghost use Rattle.lw_json.specs.MachineFile.{AreInputs};
 ghost use Rattle.lw_json.specs.bodies.AnswersParts.{said_answer, said_answers, written};
 ghost use Rattle.lw_json.specs.bodies.Told.{Told, IsMisshapen};
-ghost use Rattle.lw_json.specs.declared.answers.Answers.{Answers as Read};
+ghost use Rattle.lw_json.specs.declared.files.Answers.{Answers as Read};
 ghost use Rattle.lw_json.specs.declared.fault.JsonFault.{JsonFault as Fault};
 
 use crate::answer_shapes::{answers_member, format};
@@ -111,8 +108,8 @@ fn kept_all(
 
 /// The first answer whose two words have different lengths.
 fn first_uneven(kept: &Kept) -> Option<usize>
-    ensures none { IfNone result (All IsEven kept.now.answers) }
-    ensures some { IfSome result (FailsFirst IsEven kept.now.answers) }
+    ensures none { IfNone result (All IsWholeKept kept.now.answers) }
+    ensures some { IfSome result (FailsFirst IsWholeKept kept.now.answers) }
 {
     for place in 0..kept.len() {
         let answer = kept.get(place);
@@ -135,7 +132,7 @@ fn kept_even(
     ensures ok { IfOk result
         (λ kept. each_of (numbered_answer inputs.now outputs.now) (map said_answer answers.now)
         ≡ Some kept.answers) }
-    ensures even { IfOk result (λ kept. All IsEven kept.answers) }
+    ensures even { IfOk result (λ kept. All IsWholeKept kept.answers) }
     ensures err { IfErr result
         (SaysAnswersFault (written inputs.now outputs.now (map said_answer answers.now))) }
 {

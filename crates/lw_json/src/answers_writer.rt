@@ -3,7 +3,7 @@
 ghost use Rattle.std.specs.Prelude.{◌≡◌, ◌≤◌, length, map, IfOk, OnOk};
 ghost use Rattle.std.specs.List.Sorted.{IsPermutation};
 ghost use Rattle.serde_json.specs.View.{view};
-ghost use Rattle.lw_words.specs.Name.{IsNames};
+ghost use Rattle.lw_words.specs.Word.{IsNames};
 ghost use Rattle.lw_json.specs.AnswersText.{answer_cmp, answer_data, list_data, answers_data, IsWrittenOrder, IsAnswersText, IsReadInOrder};
 ghost use Rattle.lw_json.specs.KeptOver.{IsKeptOver, AreKeptOver};
 

@@ -1,11 +1,10 @@
 //! Laws over the grammars and the written order, with no code.
 
 ghost use Rattle.lw_json.specs.AnswersFault.{HasAnswersFault};
-ghost use Rattle.lw_json.specs.AnswersFile.{IsAnswersFile};
+ghost use Rattle.lw_json.specs.Formats.{IsAnswersFile, IsMachineFile};
 ghost use Rattle.lw_json.specs.AnswersText.{HaveOneOrder};
 ghost use Rattle.lw_json.specs.Fault.{HasOneFault, NoneIsFaulty};
 ghost use Rattle.lw_json.specs.MachineFault.{HasMachineFault};
-ghost use Rattle.lw_json.specs.MachineFile.{IsMachineFile};
 ghost use Rattle.lw_json.specs.SetupFile.{IsSetupFile, HasSetupFault};
 
 /// Bytes that are in the grammar of a kind of file have no fault of that kind.

@@ -2,13 +2,12 @@
 #![tactic(auto)]
 
 mod answer_shapes;
-mod answers;
 mod answers_reader;
 mod answers_writer;
 mod fault;
+mod files;
 mod hint;
 mod laws;
-mod machine;
 mod machine_reader;
 mod machine_writer;
 mod members;
@@ -19,13 +18,12 @@ mod values;
 mod word_reader;
 mod word_writer;
 
-pub use answers::Answers;
 pub use answers_reader::read_answers;
 pub use answers_writer::answers_text;
 pub use fault::{Field, JsonFault};
+pub use files::{Answers, Machine};
 pub use hint::SetupFile;
 pub use laws::{a_first_fault_is_one, answers_have_one_order, files_have_no_fault};
-pub use machine::Machine;
 pub use machine_reader::read_machine;
 pub use machine_writer::machine_text;
 pub use setup::{Command, Setup, Text, Texts};

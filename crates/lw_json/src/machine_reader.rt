@@ -3,17 +3,16 @@
 ghost use Rattle.std.specs.Prelude.{◌≡◌, List, ℕ, ◌+◌, ◌≤◌, IfOk, IfErr, Some, length, map, string_bytes, option_map};
 ghost use Rattle.serde_json.specs.View.{view};
 ghost use Rattle.lw_words.specs.First.{FailsFirst};
-ghost use Rattle.lw_words.specs.Name.{IsNames};
+ghost use Rattle.lw_words.specs.Word.{IsNames};
 ghost use Rattle.lw_mealy.specs.Machine.{mealy_of, IsWithinLimits};
-ghost use Rattle.lw_json.specs.Each.{each_of};
+ghost use Rattle.lw_json.specs.Formats.{each_of, AreInputs, cell_of, row_of, rows_at, numbered_cell, numbered_rows, SaysMachine, SpellsMachine, IsMachineFile, SameMachine};
 ghost use Rattle.lw_json.specs.Fault.{first_failing};
-ghost use Rattle.lw_json.specs.MachineFile.{AreInputs, cell_of, row_of, rows_at, numbered_cell, numbered_rows, SaysMachine, SpellsMachine, IsMachineFile, SameMachine};
 ghost use Rattle.lw_json.specs.MachineFault.{machine_tests, HasOutputIn, SaysMachineFault, HasMachineFault};
 ghost use Rattle.lw_json.specs.bodies.Found.{FindsRow, FindsRows, named_row};
 ghost use Rattle.lw_json.specs.bodies.MachineParts.{said_machine, written, IsFaultOfRows, UnknownAt};
 ghost use Rattle.lw_json.specs.bodies.Told.{Told, IsMisshapen};
 ghost use Rattle.lw_json.specs.declared.fault.JsonFault.{JsonFault as Fault};
-ghost use Rattle.lw_json.specs.declared.machine.Machine.{Machine as Named};
+ghost use Rattle.lw_json.specs.declared.files.Machine.{Machine as Named};
 
 use crate::members::{inputs_of, list, list_member, outputs_of, texts_member, value_of};
 use crate::{Field, JsonFault, Machine};

@@ -3,9 +3,9 @@
 ghost use Rattle.std.specs.Prelude.{◌≡◌, ◌<◌, length, IfOk, OnOk};
 ghost use Rattle.serde_json.specs.Data.{put};
 ghost use Rattle.serde_json.specs.View.{view, members_view};
-ghost use Rattle.lw_words.specs.Name.{IsNames};
+ghost use Rattle.lw_words.specs.Word.{IsNames};
 ghost use Rattle.lw_mealy.specs.Machine.{row, IsWithinLimits};
-ghost use Rattle.lw_json.specs.MachineFile.{IsNamed, IsMachineFile};
+ghost use Rattle.lw_json.specs.Formats.{IsNamed, IsMachineFile};
 ghost use Rattle.lw_json.specs.MachineText.{texts_data, cell_data, row_data, rows_data, machine_data, written_text};
 
 use crate::Machine;

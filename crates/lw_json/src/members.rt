@@ -3,11 +3,9 @@
 ghost use Rattle.std.specs.Prelude.{◌≡◌, List, ℕ, IfOk, IfErr, length, map, string_bytes, option_map};
 ghost use Rattle.serde_json.specs.View.{view};
 ghost use Rattle.serde_json.specs.Find.{as_str};
-ghost use Rattle.lw_words.specs.Name.{IsNames};
-ghost use Rattle.lw_json.specs.Each.{each_of};
+ghost use Rattle.lw_words.specs.Word.{IsNames};
+ghost use Rattle.lw_json.specs.Formats.{each_of, AreInputs, IsJson, array_of, list_at, texts_at};
 ghost use Rattle.lw_json.specs.Fault.{IsFaultOf};
-ghost use Rattle.lw_json.specs.MachineFile.{AreInputs};
-ghost use Rattle.lw_json.specs.Members.{IsJson, array_of, list_at, texts_at};
 ghost use Rattle.lw_json.specs.bodies.Found.{FindsTexts};
 ghost use Rattle.lw_json.specs.bodies.Told.{Told, IsUnread};
 ghost use Rattle.lw_json.specs.declared.fault.JsonFault.{JsonFault as Fault};

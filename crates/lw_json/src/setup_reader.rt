@@ -1,17 +1,16 @@
 //! Reads setup files: the shapes of the members, then the names.
 
-ghost use Rattle.std.specs.Prelude.{◌≡◌, List, ℕ, IfOk, IfErr, Some, true, false, map, string_bytes, option_map};
+ghost use Rattle.std.specs.Prelude.{◌≡◌, List, ℕ, IfOk, IfErr, Some, true, false, map, string_bytes, option_map, codes};
 ghost use Rattle.serde_json.specs.Data.{Data};
 ghost use Rattle.serde_json.specs.View.{view};
 ghost use Rattle.lw_json.specs.Fault.{first_failing};
 ghost use Rattle.lw_json.specs.Hint.{hint_of};
-ghost use Rattle.lw_json.specs.Members.{IsJson, is_object};
+ghost use Rattle.lw_json.specs.Formats.{IsJson, is_object};
 ghost use Rattle.lw_json.specs.SetupFile.{has_member, text_at, is_child_command, command_at, outputs_at, AreOutputs, DeclaredFault, setup_tests, SaysSetup, SpellsSetup, IsSetupFile, SaysSetupFault, HasSetupFault};
 ghost use Rattle.lw_json.specs.bodies.SetupParts.{said_setup, said_command, said_texts};
 ghost use Rattle.lw_json.specs.bodies.Told.{Told, IsMisshapen};
 ghost use Rattle.lw_json.specs.declared.fault.JsonFault.{JsonFault as Fault};
 ghost use Rattle.lw_json.specs.declared.setup.Setup.{Setup as OneSetup};
-ghost use Rattle.std.specs.Prelude.{codes};
 
 use crate::hint::hint_of;
 use crate::members::{inputs_of, outputs_of, texts_member, value_of};

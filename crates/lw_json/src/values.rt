@@ -3,7 +3,7 @@
 ghost use Rattle.std.specs.Prelude.{◌≡◌, IfOk, OnOk};
 ghost use Rattle.serde_json.specs.Data.{put};
 ghost use Rattle.serde_json.specs.View.{view, members_view};
-ghost use Rattle.lw_words.specs.Name.{IsNames};
+ghost use Rattle.lw_words.specs.Word.{IsNames};
 ghost use Rattle.lw_json.specs.MachineText.{texts_data};
 
 use lw_words::{Names, NoMemory};

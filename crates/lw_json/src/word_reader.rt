@@ -1,11 +1,9 @@
 //! Reads words: the names of their letters, with one blank between them.
 
-ghost use Rattle.std.specs.Prelude.{◌≡◌, ◌==◌, IfOk, map};
+ghost use Rattle.std.specs.Prelude.{◌≡◌, ◌==◌, IfOk, map, option_map};
 ghost use Rattle.std.specs.List.{slice_split};
-ghost use Rattle.lw_json.specs.Each.{each_of};
-ghost use Rattle.lw_json.specs.WordText.{word_of};
-ghost use Rattle.lw_words.specs.Name.{number_of};
-ghost use Rattle.std.specs.Prelude.{option_map};
+ghost use Rattle.lw_json.specs.Formats.{each_of, word_of};
+ghost use Rattle.lw_words.specs.Word.{number_of};
 
 use lw_words::{Names, NoMemory, Word};
 use std::alloc::{AllocError, Global};

@@ -5,7 +5,7 @@ ghost use Rattle.std.specs.List.{join_by};
 ghost use Rattle.serde_json.specs.Data.{string};
 ghost use Rattle.serde_json.specs.View.{view};
 ghost use Rattle.lw_words.specs.Word.{IsWord};
-ghost use Rattle.lw_json.specs.WordText.{word_text};
+ghost use Rattle.lw_json.specs.Formats.{word_text};
 
 use lw_words::{Names, NoMemory};
 use serde_json::Value;

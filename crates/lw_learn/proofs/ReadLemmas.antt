@@ -3,16 +3,15 @@ use Rattle.std.proofs.Common.{◌≡◌, ◌∙◌, ⊎_elim, ℕ, List, [], ◌
 use Rattle.lw_words.specs.Cause.{CountedFault}
 use Rattle.lw_words.specs.declared.kept.KeptAnswer.{KeptAnswer}
 use Rattle.lw_json.specs.AnswersFault.{HasAnswersFault}
-use Rattle.lw_json.specs.AnswersFile.{IsAnswersFile}
+use Rattle.lw_json.specs.Formats.{IsAnswersFile, IsMachineFile}
 use Rattle.lw_json.specs.MachineFault.{HasMachineFault}
-use Rattle.lw_json.specs.MachineFile.{IsMachineFile}
 use Rattle.lw_json.specs.SetupFile.{HasSetupFault, IsSetupFile}
-use Rattle.lw_json.specs.declared.answers.Answers.{Answers}
+use Rattle.lw_json.specs.declared.files.Answers.{Answers}
 use Rattle.lw_json.specs.declared.fault.JsonFault.{JsonFault}
 use Rattle.lw_json.specs.declared.setup.Setup.TheVariants as setup
-use Rattle.lw_outside.specs.Files.{File, HoldsLong, read_call, FilesState}
+use Rattle.lw_outside.specs.Files.{File, HoldsLong, read_call, FilesState, ReadsFile}
 use Rattle.lw_system.specs.Finding.{HasFound, IsNoSetup, IsNoSystem, IsNoTable, NamesNoTable}
-use Rattle.lw_system.specs.Reading.{HasRead, ReadsBadFile, ReadsFile}
+use Rattle.lw_system.specs.Reading.{HasRead, ReadsBadFile}
 use Rattle.lw_system.specs.Reads.{IsNotRead, MadeReads}
 use Rattle.lw_system.specs.Systems.{HasWords, letters_of}
 use Rattle.lw_system.specs.declared.source.Source.{Source}

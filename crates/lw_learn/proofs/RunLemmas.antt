@@ -39,7 +39,7 @@ use Rattle.lw_learn.specs.Arguments.{LearnValues}
 use Rattle.lw_learn.specs.Asking.{IsWordlessTask}
 use Rattle.lw_learn.specs.Calls.{MadeWrites}
 use Rattle.lw_json.specs.MachineText.{written_text}
-use Rattle.lw_json.specs.declared.machine.Machine.{Machine}
+use Rattle.lw_json.specs.declared.files.Machine.{Machine}
 use Rattle.lw_report.specs.declared.stops.TellStop.TheVariants as tell
 use Rattle.lw_system.specs.NewLines.{count_of}
 use Rattle.lw_learn.specs.Ending.{Carries, EndsLearned, EndsRead, EndsUnread, IsEndOf, IsSoundSystem, IsToldOf, IsUncountedSystem, end_outputs}

@@ -7,13 +7,12 @@ use Rattle.lw_wordlist.proofs.DrawLemmas.{drawn_are_words}
 use Rattle.lw_words.specs.Cause.{CountedFault}
 use Rattle.lw_words.specs.Word.{IsWord}
 use Rattle.lw_words.specs.declared.kept.KeptAnswer.{KeptAnswer}
-use Rattle.lw_outside.specs.Files.{File, HoldsLong, noted, read_call, FilesState}
+use Rattle.lw_outside.specs.Files.{File, HoldsLong, noted, read_call, FilesState, WasRead}
 use Rattle.lw_outside.specs.declared.files.FilesStop.{FilesStop}
 use Rattle.lw_outside.specs.declared.files.FilesStop.TheVariants as files
 use Rattle.lw_cache.specs.Caching.{Caching}
 use Rattle.lw_children.specs.Crews.{first_naming}
 use Rattle.lw_names.specs.Naming.{Naming}
-use Rattle.lw_system.specs.Reading.{WasRead}
 use Rattle.lw_report.specs.Stops.{read_outcome}
 use Rattle.lw_system.specs.Stops.{unread}
 use Rattle.lw_report.specs.declared.outcome.Outcome.{Outcome}

@@ -5,7 +5,7 @@ use Rattle.lw_words.specs.declared.kept.KeptAnswer.{KeptAnswer}
 use Rattle.lw_mealy.specs.Machine.{MealyMachine}
 use Rattle.lw_json.specs.AnswersText.{IsAnswersText}
 use Rattle.lw_json.specs.MachineText.{written_text}
-use Rattle.lw_json.specs.declared.machine.Machine.{Machine}
+use Rattle.lw_json.specs.declared.files.Machine.{Machine}
 use Rattle.lw_outside.specs.Files.{Call, File, Holds}
 use Rattle.lw_report.specs.Stops.{tell_outcome}
 use Rattle.lw_report.specs.Text.{text_of}

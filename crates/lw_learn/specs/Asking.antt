@@ -6,8 +6,7 @@ use Rattle.lw_words.specs.declared.kept.KeptAnswer.{KeptAnswer}
 use Rattle.lw_wordlist.specs.Drawn.{drawn_words}
 use Rattle.lw_wordlist.specs.Lines.{lines_in}
 use Rattle.lw_wordlist.specs.Words.{IsFirstUnknown, words_of_texts}
-use Rattle.lw_outside.specs.Files.{File, HoldsLong, read_call, FilesState}
-use Rattle.lw_system.specs.Reading.{ReadsFile, WasRead}
+use Rattle.lw_outside.specs.Files.{File, HoldsLong, read_call, FilesState, ReadsFile, WasRead}
 use Rattle.lw_report.specs.declared.outcome.Outcome.{Outcome}
 use Rattle.lw_report.specs.declared.outcome.Outcome.TheVariants.{FileFault, FileTooLong, NoMemory, UnknownLetter}
 use Rattle.lw_report.specs.declared.role.Role.TheVariants.{Words}

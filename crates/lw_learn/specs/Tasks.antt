@@ -1,11 +1,10 @@
 -- What is to be learned, by the files that were read: a system, and the answers that are there of it.
 use Rattle.std.specs.Prelude.{◌≡◌, ℕ, List, [], Option, Some, None}
 use Rattle.lw_words.specs.declared.kept.KeptAnswer.{KeptAnswer}
-use Rattle.lw_json.specs.AnswersFile.{IsAnswersFile}
-use Rattle.lw_json.specs.declared.answers.Answers.{Answers}
-use Rattle.lw_outside.specs.Files.{File}
+use Rattle.lw_json.specs.Formats.{IsAnswersFile}
+use Rattle.lw_json.specs.declared.files.Answers.{Answers}
+use Rattle.lw_outside.specs.Files.{File, ReadsFile}
 use Rattle.lw_prior.specs.Prior.{prior_answers}
-use Rattle.lw_system.specs.Reading.{ReadsFile}
 use Rattle.lw_system.specs.Systems.{FitsSystem, ReadsSystem, declared_of, or_these}
 use Rattle.lw_system.specs.declared.system.System.{System}
 use Rattle.lw_system.specs.declared.system.System.TheVariants.{Table, Children}

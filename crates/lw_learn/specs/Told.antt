@@ -1,11 +1,10 @@
 -- Files that tell what they hold: what a call of `learn` may come to by it.
 use Rattle.std.specs.Prelude.{◌≡◌, ℕ, List, Option, Some, None}
 use Rattle.lw_words.specs.Cause.{CountedFault}
-use Rattle.lw_json.specs.AnswersFile.{IsAnswersFile}
-use Rattle.lw_json.specs.MachineFile.{IsMachineFile}
+use Rattle.lw_json.specs.Formats.{IsAnswersFile, IsMachineFile}
 use Rattle.lw_json.specs.SetupFile.{IsSetupFile}
-use Rattle.lw_json.specs.declared.answers.Answers.{Answers}
-use Rattle.lw_json.specs.declared.machine.Machine.{Machine}
+use Rattle.lw_json.specs.declared.files.Answers.{Answers}
+use Rattle.lw_json.specs.declared.files.Machine.{Machine}
 use Rattle.lw_json.specs.declared.setup.Setup.{Setup}
 use Rattle.lw_json.specs.declared.setup.Setup.TheVariants as setup
 use Rattle.lw_outside.specs.Files.{File, FilesState}

@@ -5,16 +5,15 @@ use Rattle.lw_words.specs.Cause.{CountedFault}
 use Rattle.lw_words.specs.declared.kept.KeptAnswer.{KeptAnswer}
 use Rattle.lw_names.specs.Naming.{Naming}
 use Rattle.lw_json.specs.AnswersFault.{HasAnswersFault}
-use Rattle.lw_json.specs.AnswersFile.{IsAnswersFile}
+use Rattle.lw_json.specs.Formats.{IsAnswersFile, IsMachineFile}
 use Rattle.lw_json.specs.MachineFault.{HasMachineFault}
-use Rattle.lw_json.specs.MachineFile.{IsMachineFile}
 use Rattle.lw_json.specs.SetupFile.{HasSetupFault, IsSetupFile}
-use Rattle.lw_json.specs.declared.answers.Answers.{Answers}
+use Rattle.lw_json.specs.declared.files.Answers.{Answers}
 use Rattle.lw_json.specs.declared.fault.JsonFault.{JsonFault}
 use Rattle.lw_json.specs.declared.setup.Setup.TheVariants as setup
-use Rattle.lw_outside.specs.Files.{File, HoldsLong, read_call, FilesState}
+use Rattle.lw_outside.specs.Files.{File, HoldsLong, read_call, FilesState, ReadsFile}
 use Rattle.lw_cache.specs.FirstClash.{IsFirstClash}
-use Rattle.lw_system.specs.Reading.{ReadsBadFile, ReadsFile}
+use Rattle.lw_system.specs.Reading.{ReadsBadFile}
 use Rattle.lw_report.specs.declared.outcome.Outcome.{Outcome}
 use Rattle.lw_report.specs.declared.outcome.Outcome.TheVariants.{Alphabets, BadFile, FileFault, FileTooLong, NoMemory, Nondeterministic}
 use Rattle.lw_report.specs.declared.role.Role.{Role}

@@ -7,7 +7,7 @@ use Rattle.std.proofs.lemmas.Slice.Eq.{bytes_eq-Decides}
 use Rattle.std.proofs.lemmas.List.Elements.{All-append, All-weaker, All-from_recursion}
 use Rattle.std.proofs.lemmas.Option.{slice_get_within, get_or_from_slice_get}
 use Rattle.lw_words.specs.Cause.{CountedFault}
-use Rattle.lw_words.specs.Name.{IsName, AllDiffer, number_of}
+use Rattle.lw_words.specs.Word.{IsName, AllDiffer, number_of}
 use Rattle.lw_words.specs.declared.stop.SulStop.{SulStop}
 use Rattle.lw_words.specs.declared.stop.SulStop.TheVariants.{Failed, BadLine, Gone}
 use Rattle.lw_names.proofs.NameLemmas.{IsName-at}

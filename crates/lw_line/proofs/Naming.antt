@@ -1,7 +1,7 @@
 -- Numbers of names in a list that gains one.
 use Rattle.std.proofs.Common.{◌≡◌, ◌≢◌, inl, inr, ℕ, ◌+◌, ◌<◌, ◌≤◌, List, [], ◌∷◌, ◌++◌, codes, length, get_or, take, drop, Contains, Bool, true, false, cond, Option, Some, None, option_and_then, refl, ap, sym, ◌∙◌, subst, arith, length-append}
 use Rattle.std.specs.List.{All}
-use Rattle.std.specs.Str.{IsUtf8}
+use Rattle.std.specs.Str.{IsUtf8, bytes_eq}
 use Rattle.std.proofs.lemmas.Str.{IsUtf8-from_ascii}
 use Rattle.std.proofs.lemmas.Str.Ascii.{IsAscii-from_all}
 use Rattle.std.proofs.lemmas.List.{get_or_push, get_or_append_left, take-append-drop}
@@ -9,8 +9,7 @@ use Rattle.std.proofs.lemmas.Slice.Eq.{bytes_eq-Decides}
 use Rattle.std.proofs.lemmas.List.Elements.{All-push, All-weaker}
 use Rattle.std.proofs.lemmas.List.Quantifiers.{all_pairs_push}
 use Rattle.std.proofs.lemmas.Option.{slice_get-get_or, slice_get_within, get_or_from_slice_get}
-use Rattle.std.specs.Str.{bytes_eq}
-use Rattle.lw_words.specs.Name.{IsName, AllDiffer, number_of}
+use Rattle.lw_words.specs.Word.{IsName, AllDiffer, number_of}
 use Rattle.lw_words.proofs.NumberLemmas.{number_at_place, name_at_number}
 use Rattle.lw_names.proofs.NameLemmas.{lacks_name, IsName-at}
 use Rattle.lw_names.specs.Names.{AreNamed, Brings}

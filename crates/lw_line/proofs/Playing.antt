@@ -9,8 +9,8 @@ use Rattle.std.proofs.lemmas.Slice.Eq.{bytes_eq-Decides}
 use Rattle.std.proofs.lemmas.List.{take_at, take-append-le, take_min}
 use Rattle.std.proofs.Math.Seq.{take-append-add}
 use Rattle.std.proofs.lemmas.List.Elements.{All-push, All-nil}
-use Rattle.lw_words.specs.Name.{IsName}
-use Rattle.lw_json.specs.declared.machine.Machine.{Machine}
+use Rattle.lw_words.specs.Word.{IsName}
+use Rattle.lw_json.specs.declared.files.Machine.{Machine}
 use Rattle.lw_outside.specs.Lines.{Split, split_bytes, lines_of, rest_of}
 use Rattle.lw_outside.specs.Played.{Move, Answer, Quit as Quits, Refuse, Play, AtQuit, AtEnd, AtLimit, AtBadLine, PlayEnd, play_ended_at, rest_end, play_of_move, move_of, name_move, letter_move, greatest_lines, played_from, played, ended_lines}
 use Rattle.lw_outside.specs.Protocol.{bytes_behind, reset_line, quit_line}

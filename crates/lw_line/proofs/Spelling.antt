@@ -2,7 +2,7 @@
 use Rattle.std.proofs.Common.{◌≡◌, ℕ, List, [], ◌∷◌, ◌++◌, codes, length, Bool, true, false, cond, Option, Some, None, option_and_then, refl, ap, sym, ◌∙◌, append-nil, arith}
 use Rattle.std.specs.Str.{bytes_eq}
 use Rattle.std.specs.Str.Lines.{strip_carriage_return}
-use Rattle.lw_words.specs.Name.{AllDiffer, number_of}
+use Rattle.lw_words.specs.Word.{AllDiffer, number_of}
 use Rattle.lw_names.specs.Names.{Brings}
 use Rattle.lw_sul.specs.declared.runs.Run.{Run}
 use Rattle.lw_outside.specs.Protocol.{bytes_behind, reset_line}

@@ -1,6 +1,6 @@
 -- What `serve` writes and how it ends, where its input is told.
 use Rattle.std.specs.Prelude.{◌≡◌, ℕ, List, [], ◌++◌, Option, Some, None, Result, Ok, Err}
-use Rattle.lw_json.specs.declared.machine.Machine.{Machine}
+use Rattle.lw_json.specs.declared.files.Machine.{Machine}
 use Rattle.lw_outside.specs.Lines.{lines_of}
 use Rattle.lw_outside.specs.Played.{Play, PlayEnd, AtQuit, AtEnd, AtLimit, AtBadLine, played, played_from, ended_lines}
 use Rattle.lw_outside.specs.Streams.{TakesAll, TakesSome}

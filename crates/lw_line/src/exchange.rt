@@ -2,7 +2,7 @@
 ghost use Rattle.std.specs.Prelude.{◌≡◌, ◌≢◌, ◌≤◌, ◌<◌, codes, length, Some, Err, MatchOption, IfOk, OnOk, IfErr, OnErr, IfSome, List, ℕ};
 ghost use Rattle.std.specs.Str.Lines.{strip_carriage_return};
 ghost use Rattle.lw_words.specs.Cause.{CountedFault};
-ghost use Rattle.lw_words.specs.Name.{AllDiffer};
+ghost use Rattle.lw_words.specs.Word.{AllDiffer};
 ghost use Rattle.lw_words.specs.declared.stop.SulStop.{SulStop as Stop};
 ghost use Rattle.lw_outside.specs.Protocol.{in_line, ready_line, reset_line};
 ghost use Rattle.lw_names.specs.Names.{Brings};

@@ -1,5 +1,5 @@
 -- Mealy machines (Mealy 1955), and what is said of them.
-use Rattle.std.specs.Prelude.{◌≡◌, ℕ, ◌<◌, List, [], ◌∷◌, length, slice_index_or, ◌≢◌, ◌≤◌}
+use Rattle.std.specs.Prelude.{◌≡◌, ℕ, ◌<◌, List, [], ◌∷◌, length, slice_index_or, ◌≢◌, ◌≤◌, ◌+◌}
 use Rattle.std.specs.List.{All}
 use Rattle.lw_words.specs.Word.{IsWord, Answer}
 
@@ -70,6 +70,13 @@ Equal a m n = (w : List ℕ) → IsWord a w → answer m w ≡ answer n w
 -- the machine's outputs on the word of each answer are those of the answer
 abbrev pub Gives : Rows → List Answer → Type 0
 Gives m ks = All (λ k. answer m k.word ≡ k.outs) ks
+
+-- What kept answers are worth. Source: Vasilevskii (1973) and Chow (1978).
+
+-- every machine over the letters that has at most k states more than h and gives the answers equals h on all words.
+-- `Worked.antt` of lw_certify shows a machine with answers of which it holds, and answers with a gap of which it doesn't.
+abbrev pub Sure : ℕ → Rows → List Answer → ℕ → Type 0
+Sure a h ks k = (m : Rows) → IsMachine a m → length m ≤ length h + k → Gives m ks → Equal a m h
 
 -- A machine with its numbers of inputs and outputs.
 

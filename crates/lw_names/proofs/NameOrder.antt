@@ -1,6 +1,5 @@
 -- Names in the order of their bytes, and the numbers that they get by it.
-use Rattle.std.proofs.Common.{◌≡◌, ◌≢◌, ℕ, zero, suc, ◌+◌, ◌<◌, ◌≤◌, List, [], ◌∷◌, ◌++◌, length, map, take, drop, get_or, set, All, Contains, Bool, true, false, cond, Some, refl, ap, sym, ◌∙◌, subst, arith}
-use Rattle.std.proofs.Common.{Ordering, Less, Equal, Greater, is_lt, nat_cmp}
+use Rattle.std.proofs.Common.{◌≡◌, ◌≢◌, ℕ, zero, suc, ◌+◌, ◌<◌, ◌≤◌, List, [], ◌∷◌, ◌++◌, length, map, take, drop, get_or, set, All, Contains, Bool, true, false, cond, Some, refl, ap, sym, ◌∙◌, subst, arith, Ordering, Less, Equal, Greater, is_lt, nat_cmp}
 use Rattle.std.specs.List.{sum_by}
 use Rattle.std.specs.List.Sorted.{IsPermutation}
 use Rattle.std.specs.Ordering.{ordering_reverse, is_eq}
@@ -19,7 +18,7 @@ use Rattle.std.proofs.lemmas.Map.Made.{AllPairs-from_IsDistinct}
 use Rattle.std.proofs.lemmas.Map.Text.{is_eq-slice_cmp}
 use Rattle.std.proofs.lemmas.Simd.{map-map}
 use Rattle.std.proofs.lemmas.Slice.Eq.{bytes_eq-Decides}
-use Rattle.lw_words.specs.Name.{IsName, AllDiffer}
+use Rattle.lw_words.specs.Word.{IsName, AllDiffer}
 use Rattle.lw_words.specs.Renumbering.{renumbered}
 use Rattle.lw_names.specs.Names.{name_at, named}
 use Rattle.lw_names.specs.Naming.{Naming, IsBefore, AreSorted, Renumbers}

@@ -1,7 +1,7 @@
 -- The names of a system's outputs, by number, and how they grow.
 use Rattle.std.specs.Prelude.{◌≡◌, ◌⊎◌, ℕ, ◌<◌, ◌≤◌, List, [], ◌∷◌, ◌++◌, length, map, slice_index_or, Option, Some, None}
 use Rattle.std.specs.List.{All}
-use Rattle.lw_words.specs.Name.{IsName, AllDiffer, number_of}
+use Rattle.lw_words.specs.Word.{IsName, AllDiffer, number_of}
 
 -- the name with this number; past the end, the empty text
 abbrev pub name_at : List (List ℕ) → ℕ → List ℕ

@@ -4,7 +4,7 @@ use Rattle.std.specs.List.{All, AllPairs}
 use Rattle.std.specs.Ordering.{nat_cmp}
 use Rattle.std.specs.declared.cmp.Ordering.TheVariants.{Less}
 use Rattle.std.specs.Cmp.Lexicographic.{slice_cmp}
-use Rattle.lw_words.specs.Name.{IsName, AllDiffer, number_of}
+use Rattle.lw_words.specs.Word.{IsName, AllDiffer, number_of}
 use Rattle.lw_names.specs.Names.{name_at, named, with_names}
 
 -- the names, by the numbers that kept answers have; and where they are free, the names that each instance brought, by the

@@ -1,6 +1,6 @@
 //! The name of an output.
 ghost use Rattle.std.specs.Prelude.{◌≡◌, ◌↔◌, ◌<◌, length, IfSome, IfNone, IsTrue};
-ghost use Rattle.lw_words.specs.Name.{IsName};
+ghost use Rattle.lw_words.specs.Word.{IsName};
 ghost use Rattle.lw_names.specs.Names.{name_at};
 
 use lw_words::Names;
@@ -18,7 +18,7 @@ pub struct OutName {
 
 impl Model for OutName {
     ghost use Rattle.std.specs.Prelude.{ℕ, ◌≤◌, List, take};
-    ghost use Rattle.lw_words.specs.Name.{IsName};
+    ghost use Rattle.lw_words.specs.Word.{IsName};
 
     ghost Value = { List ℕ };
 

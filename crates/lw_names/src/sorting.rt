@@ -4,7 +4,7 @@ ghost use Rattle.std.specs.List.{All};
 ghost use Rattle.std.specs.List.Sorted.{IsPermutation};
 ghost use Rattle.std.specs.Ordering.{nat_cmp};
 ghost use Rattle.std.specs.Cmp.Lexicographic.{slice_cmp};
-ghost use Rattle.lw_words.specs.Name.{AllDiffer};
+ghost use Rattle.lw_words.specs.Word.{AllDiffer};
 ghost use Rattle.lw_words.specs.Renumbering.{renumbered};
 ghost use Rattle.lw_names.specs.Naming.{AreSorted};
 ghost use Rattle.lw_names.specs.bodies.OutNames.{count_before, AreRanks};

@@ -1,6 +1,6 @@
 -- What a child in memory has still to say.
 use Rattle.std.proofs.Common.{◌≡◌, ℕ, ◌+◌, ◌==◌, List, [], ◌∷◌, ◌++◌, drop, Bool, true, false, refl, ap, ◌∙◌, if◌then◌else◌}
-use Rattle.lw_json.specs.declared.machine.Machine.{Machine}
+use Rattle.lw_json.specs.declared.files.Machine.{Machine}
 use Rattle.lw_outside.specs.Lines.{lines_of, rest_of}
 use Rattle.lw_outside.specs.Played.{AtLimit, play_ended_at, ended_lines, greatest_lines, move_of, play_of_move, played_from, rest_end}
 use Rattle.lw_outside.specs.declared.served.Served.{Served}

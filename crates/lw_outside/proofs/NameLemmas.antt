@@ -5,7 +5,7 @@ use Rattle.std.proofs.lemmas.Str.{IsUtf8-from_ascii}
 use Rattle.std.proofs.lemmas.Str.Ascii.{IsAscii-from_all}
 use Rattle.std.proofs.lemmas.List.Elements.{All-get_or, All-from_get_or}
 use Rattle.std.proofs.lemmas.Option.{slice_get_within, get_or_from_slice_get}
-use Rattle.lw_words.specs.Name.{IsName, IsNames, number_of}
+use Rattle.lw_words.specs.Word.{IsName, IsNames, number_of}
 use Rattle.lw_words.proofs.NumberLemmas.{name_at_number}
 
 name_is_text : (name : List ℕ) → IsName name → IsUtf8 name

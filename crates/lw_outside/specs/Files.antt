@@ -91,3 +91,15 @@ pub record FilesWrite (name bytes : List ℕ) (before now : FilesState) (result 
   pub reads : now.reads ≡ before.reads
   pub quiet : OnOk result (now.faults ≡ before.faults)
   pub counts : before.faults ≤ now.faults
+
+-- one read gave these bytes of the named file, no more than a file may have; and they stand there, where that is told
+pub record WasRead (holds : Option (List File)) (before after : List File) (name bytes : List ℕ) : Type 0 where
+  pub given : after ≡ before ++ (name, bytes) ∷ []
+  pub short : length bytes ≤ longest_file
+  pub held : Holds holds name bytes
+
+-- the bytes that were read are the file of this value
+pub record ReadsFile {V : Type 0} (IsFile : List ℕ → V → Type 0) (name : List ℕ) (holds : Option (List File)) (before after : List File) (v : V) : Type 0 where
+  pub bytes : List ℕ
+  pub read : WasRead holds before after name bytes
+  pub file : IsFile bytes v

@@ -2,7 +2,7 @@
 -- calls were made. With an empty plan no call fails but for what the object holds.
 use Rattle.std.specs.Prelude.{◌≡◌, ℕ, ◌+◌, ◌-◌, ◌^◌, List, [], ◌∷◌, ◌++◌, length, drop, map, min, nat_eq, nat_lt, slice_get, slice_index_or, option_map, Bool, Option, Some, None, Result, Ok, Err, if◌then◌else◌}
 use Rattle.std.specs.List.{list_any}
-use Rattle.lw_json.specs.declared.machine.Machine.{Machine}
+use Rattle.lw_json.specs.declared.files.Machine.{Machine}
 use Rattle.lw_outside.specs.Links.{LinkState, SpawnerState, Transcript}
 use Rattle.lw_outside.specs.Played.{ended_lines, played}
 use Rattle.lw_outside.specs.Files.{File, Call, FilesState, file_at, longest_file}

@@ -2,9 +2,9 @@
 use Rattle.std.specs.Prelude.{◌≡◌, ℕ, ◌+◌, ◌-◌, ◌^◌, ◌<◌, ◌==◌, List, [], ◌∷◌, ◌++◌, codes, flat_map, length, slice_index_or, Option, Some, None, if◌then◌else◌}
 use Rattle.std.specs.Str.{bytes_eq}
 use Rattle.std.specs.Str.Lines.{strip_carriage_return}
-use Rattle.lw_words.specs.Name.{number_of}
+use Rattle.lw_words.specs.Word.{number_of}
 use Rattle.lw_mealy.specs.Machine.{next, output}
-use Rattle.lw_json.specs.declared.machine.Machine.{Machine}
+use Rattle.lw_json.specs.declared.files.Machine.{Machine}
 use Rattle.lw_outside.specs.declared.player.Reply.{Reply}
 use Rattle.lw_outside.specs.declared.player.Reply.TheVariants.{Ready, Out, Quit as QuitsAt, Refused}
 use Rattle.lw_outside.specs.Lines.{lines_of, rest_of}

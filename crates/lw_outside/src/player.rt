@@ -1,6 +1,6 @@
 //! What a child does that plays a machine.
 ghost use Rattle.std.specs.Prelude.{◌≡◌, ◌<◌, codes, length, option_map};
-ghost use Rattle.lw_words.specs.Name.{number_of};
+ghost use Rattle.lw_words.specs.Word.{number_of};
 ghost use Rattle.std.specs.Str.Lines.{strip_carriage_return};
 ghost use Rattle.lw_outside.specs.Played.{EndsPlay, IsMove, letter_named, move_of};
 ghost use Rattle.lw_outside.specs.Protocol.{bytes_behind};

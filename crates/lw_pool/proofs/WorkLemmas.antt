@@ -1,7 +1,7 @@
 -- How a worker's turns go on.
 use Rattle.std.proofs.Common.{◌≡◌, ◌⊎◌, inl, inr, ⊎_elim, ℕ, ◌<◌, ◌≤◌, ◌||◌, ◌↔◌, List, [], ◌∷◌, ◌++◌, length, map, Contains, All, Bool, true, false, Option, Some, None, is_some, refl, ap, ap₂, sym, ◌∙◌, subst, arith, append_assoc, append-nil, length-append}
 use Rattle.std.proofs.lemmas.Bool.{false≢true}
-use Rattle.lw_words.specs.Name.{IsName, AllDiffer}
+use Rattle.lw_words.specs.Word.{IsName, AllDiffer}
 use Rattle.lw_words.specs.declared.stop.SulStop.{SulStop}
 use Rattle.lw_words.specs.declared.stop.RunStop.{RunStop}
 use Rattle.lw_words.specs.declared.stop.RunStop.TheVariants as Run

@@ -1,8 +1,7 @@
 -- What settling a batch brings to a pool.
 use Rattle.std.specs.Prelude.{◌≡◌, ◌⊎◌, ℕ, ◌<◌, List, ◌++◌, length, map, Some, None, is_some, Result, Err, OnOk, ⊤}
 use Rattle.std.specs.List.{All}
-use Rattle.lw_words.specs.Word.{answers_of}
-use Rattle.lw_words.specs.Name.{AllDiffer}
+use Rattle.lw_words.specs.Word.{answers_of, AllDiffer}
 use Rattle.lw_words.specs.declared.kept.KeptAnswer.{KeptAnswer}
 use Rattle.lw_cache.specs.Asked.{IsAsked}
 use Rattle.lw_cache.specs.Clash.{NothingClashes}

@@ -4,8 +4,7 @@ use Rattle.std.specs.List.{All}
 use Rattle.std.proofs.lemmas.List.{length-map, length-take, map-id, map_more, get_or-map, get_or_default, take_more}
 use Rattle.std.proofs.lemmas.List.Elements.{All-head, All-tail, All-push}
 use Rattle.std.proofs.lemmas.Option.{none-some, slice_get_within, get_or_from_slice_get}
-use Rattle.lw_words.specs.Word.{answer_of, answers_of, IsAnswer, IsWhole, IsWord}
-use Rattle.lw_words.specs.Name.{AllDiffer, number_of}
+use Rattle.lw_words.specs.Word.{answer_of, answers_of, IsAnswer, IsWhole, IsWord, AllDiffer, number_of}
 use Rattle.lw_words.specs.Renumbering.{renumbered, renumbered_answer, renumbered_answers}
 use Rattle.lw_words.specs.declared.kept.KeptAnswer.{KeptAnswer}
 use Rattle.lw_words.proofs.NumberLemmas.{name_at_number}
@@ -14,9 +13,9 @@ use Rattle.lw_names.specs.Naming.{number_in}
 use Rattle.lw_names.proofs.Members.{contains_in}
 use Rattle.lw_names.proofs.Bringing.{map_agree, number_in_place}
 use Rattle.lw_names.proofs.NameNumbers.{numbered}
-use Rattle.lw_json.specs.AnswersFile.{IsAnswersFile}
+use Rattle.lw_json.specs.Formats.{IsAnswersFile}
 use Rattle.lw_json.specs.KeptOver.{IsKeptOver, AreKeptOver}
-use Rattle.lw_json.specs.declared.answers.Answers.{Answers}
+use Rattle.lw_json.specs.declared.files.Answers.{Answers}
 use Rattle.lw_pool.specs.Opening.{MayBegin}
 use Rattle.lw_json.specs.FitNames.{FitNames}
 use Rattle.lw_prior.specs.Prior.{prior_answer, prior_from, prior_answers}

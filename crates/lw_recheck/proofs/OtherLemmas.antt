@@ -3,8 +3,7 @@ use Rattle.std.proofs.Common.{◌≡◌, ◌∙◌, ℕ, ◌<◌, List, [], ◌�
 use Rattle.std.specs.List.{All}
 use Rattle.std.proofs.lemmas.List.{get_or-map, take-map}
 use Rattle.std.proofs.lemmas.List.Elements.{All-take}
-use Rattle.lw_words.specs.Word.{Answer, answer_at, answer_of, answers_of}
-use Rattle.lw_words.specs.Name.{IsNames}
+use Rattle.lw_words.specs.Word.{Answer, answer_at, answer_of, answers_of, IsNames}
 use Rattle.lw_words.specs.declared.kept.KeptAnswer.{KeptAnswer}
 use Rattle.lw_words.specs.declared.stop.RunStop.{RunStop}
 use Rattle.lw_words.specs.declared.stop.RunStop.TheVariants.{NoMemory, Sul}

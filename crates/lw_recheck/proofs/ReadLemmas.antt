@@ -3,10 +3,10 @@ use Rattle.std.proofs.Common.{◌≡◌, ◌∙◌, ℕ, List, [], Option, Some,
 use Rattle.std.specs.List.{All, Contains}
 use Rattle.std.proofs.lemmas.List.Elements.{All-contains_itself}
 use Rattle.lw_json.specs.AnswersFault.{HasAnswersFault}
-use Rattle.lw_json.specs.AnswersFile.{IsAnswersFile}
-use Rattle.lw_json.specs.declared.answers.Answers.{Answers}
-use Rattle.lw_outside.specs.Files.{File, FilesState}
-use Rattle.lw_system.specs.Reading.{HasRead, ReadsFile}
+use Rattle.lw_json.specs.Formats.{IsAnswersFile}
+use Rattle.lw_json.specs.declared.files.Answers.{Answers}
+use Rattle.lw_outside.specs.Files.{File, FilesState, ReadsFile}
+use Rattle.lw_system.specs.Reading.{HasRead}
 use Rattle.lw_report.specs.Stops.{read_outcome, unread_outcome}
 use Rattle.lw_report.specs.declared.outcome.Outcome.{Outcome}
 use Rattle.lw_report.specs.declared.outcome.Outcome.TheVariants.{Alphabets}

@@ -2,7 +2,7 @@
 -- those of the runs are numbered by names of their own, and are compared by these.
 use Rattle.std.specs.Prelude.{◌≡◌, ℕ, ◌<◌, ◌≤◌, List, [], ◌∷◌, ◌++◌, length, map, take, Option, Some, None, Result, Ok, Err, ◌≢◌, slice_index_or}
 use Rattle.std.specs.List.{All}
-use Rattle.lw_words.specs.Word.{answer_at, answers_of, Answer}
+use Rattle.lw_words.specs.Word.{answer_at, answers_of, Answer, IsNames}
 use Rattle.lw_words.specs.declared.kept.KeptAnswer.{KeptAnswer}
 use Rattle.lw_words.specs.declared.stop.RunStop.{RunStop}
 use Rattle.lw_words.specs.declared.stop.RunStop.TheVariants.{Sul}
@@ -13,7 +13,6 @@ use Rattle.lw_mealy.specs.Machine.{Rows}
 use Rattle.lw_names.specs.Names.{IsGrown, named}
 use Rattle.lw_sul.specs.Told.{Answers}
 use Rattle.lw_sul.specs.declared.runs.Run.{Run}
-use Rattle.lw_words.specs.Name.{IsNames}
 
 -- a word with its outputs by their names
 pub record SaidRun : Type 0 where

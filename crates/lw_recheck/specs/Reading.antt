@@ -1,10 +1,9 @@
 -- The reading of a setup, of the table file that it names, and of the answers that are asked again.
 use Rattle.std.specs.Prelude.{◌≡◌, ◌⊎◌, ℕ, ◌≤◌, List, [], Option, Result, IfOk, IfErr, OnOk}
 use Rattle.lw_json.specs.AnswersFault.{HasAnswersFault}
-use Rattle.lw_json.specs.AnswersFile.{IsAnswersFile}
-use Rattle.lw_json.specs.declared.answers.Answers.{Answers}
-use Rattle.lw_outside.specs.Files.{File, FilesState}
-use Rattle.lw_system.specs.Reading.{ReadsFile}
+use Rattle.lw_json.specs.Formats.{IsAnswersFile}
+use Rattle.lw_json.specs.declared.files.Answers.{Answers}
+use Rattle.lw_outside.specs.Files.{File, FilesState, ReadsFile}
 use Rattle.lw_system.specs.Finding.{IsNoSystem}
 use Rattle.lw_system.specs.declared.stops.SystemStop.{SystemStop}
 use Rattle.lw_report.specs.Stops.{unread_outcome}

@@ -1,10 +1,10 @@
 //! A session that is asked the words of answers again, up to the first that comes out otherwise.
 ghost use Rattle.std.specs.Prelude.{◌≡◌, ◌≢◌, ◌↔◌, ◌<◌, [], length, map, take, None, Some, Err, IfErr, IfOk, IfNone, IfSome, IsTrue, OnOk, OnErr};
 ghost use Rattle.std.specs.List.{All};
-ghost use Rattle.lw_words.specs.Word.{IsWord};
+ghost use Rattle.lw_words.specs.Word.{IsWord, IsWholeKept};
 ghost use Rattle.lw_words.specs.declared.stop.RunStop.{RunStop as Stopped};
 ghost use Rattle.lw_words.specs.declared.stop.SulStop.{SulStop as Reason};
-ghost use Rattle.lw_json.specs.KeptOver.{AreKeptOver, IsEven};
+ghost use Rattle.lw_json.specs.KeptOver.{AreKeptOver};
 ghost use Rattle.lw_names.specs.Names.{IsGrown, name_at, named};
 ghost use Rattle.lw_sul.specs.System.{IsSameSul};
 ghost use Rattle.lw_recheck.specs.Again.{NamesDifferAt};
@@ -76,7 +76,7 @@ fn ask_again<S: Sul>(
 ) -> Result<Option<Other>, RunStop>
     requires word { IsWord (S.state session.old.sul).inputs answer.now.word }
     requires outs { All (λ y. y < length outputs.now) answer.now.outs }
-    requires even { IsEven answer.now }
+    requires even { IsWholeKept answer.now }
     ensures ok { IfOk result (GainsOne (S.state session.old.sul).origin.machine outputs.now number
         answer.now (S.state session.old.sul).names (S.state session.new.sul).names
         session.old.journal session.new.journal) }

@@ -1,8 +1,7 @@
 -- What the renamed answers are worth.
 use Rattle.std.proofs.Common.{ℕ, ◌+◌, ◌≤◌, List, length, sym, subst, arith}
 use Rattle.lw_words.specs.Word.{Answer, AreAnswers}
-use Rattle.lw_mealy.specs.Machine.{Rows, IsMachine, Gives, Equal}
-use Rattle.lw_certify.specs.Sure.{Sure}
+use Rattle.lw_mealy.specs.Machine.{Rows, IsMachine, Gives, Equal, Sure}
 use Rattle.lw_certify.specs.Verdict.{AreEnoughBy, IsVerdict}
 use Rattle.lw_certify.specs.declared.verdict.Verdict.TheVariants as verdict
 use Rattle.lw_suite.specs.Size.{suite_size, greatest_suite}

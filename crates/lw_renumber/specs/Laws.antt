@@ -1,14 +1,13 @@
 -- That outputs under other names change nothing of what was learned.
 use Rattle.std.specs.Prelude.{◌≡◌, ℕ, ◌≤◌, ◌↔◌, List, length, map}
 use Rattle.lw_words.specs.Word.{Answer, AreAnswers, IsWhole, IsWord}
-use Rattle.lw_mealy.specs.Machine.{Rows, IsMachine, answer, Gives, MealyMachine, mealy_of, AnswersBelow}
+use Rattle.lw_mealy.specs.Machine.{Rows, IsMachine, answer, Gives, MealyMachine, mealy_of, AnswersBelow, Sure}
 use Rattle.lw_cache.specs.Clash.{Clash, NothingClashes, IsClear}
 use Rattle.lw_cache.specs.Crowd.{IsCrowd}
 use Rattle.lw_cache.specs.Known.{IsKnown, Reads}
 use Rattle.lw_separate.specs.Canonical.{IsCanonical}
 use Rattle.lw_suite.specs.Suite.{IsSuite}
 use Rattle.lw_suite.specs.declared.method.Method.{Method}
-use Rattle.lw_certify.specs.Sure.{Sure}
 use Rattle.lw_rounds.specs.Learned.{IsCertified, IsEnoughFor, IsTooMany, IsTooLarge}
 use Rattle.lw_renumber.specs.Renaming.{Renames, renamed_rows, renamed_answer, renamed_answers, OutsBelow}
 

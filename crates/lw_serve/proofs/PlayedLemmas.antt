@@ -1,6 +1,6 @@
 -- What serving a machine comes to.
 use Rattle.std.proofs.Common.{◌≡◌, ℕ, List, false, Option, Result, Ok, Err, ⊎_elim, ap, refl, subst, sym}
-use Rattle.lw_json.specs.declared.machine.Machine.{Machine}
+use Rattle.lw_json.specs.declared.files.Machine.{Machine}
 use Rattle.lw_line.specs.Serving.{Plays}
 use Rattle.lw_line.specs.declared.serving.Served.{Served as Done}
 use Rattle.lw_line.specs.declared.serving.ServeFault.{ServeFault}

@@ -1,12 +1,12 @@
 -- Reads of the model file, and what is told of them.
 use Rattle.std.proofs.Common.{◌≡◌, ℕ, ◌<◌, List, [], ◌∷◌, ◌++◌, length, true, false, Option, Some, None, sym, ◌∙◌, ap, subst, arith, length-append}
 use Rattle.std.proofs.lemmas.List.{append_cancel_left}
-use Rattle.lw_json.specs.MachineFile.{IsMachineFile}
+use Rattle.lw_json.specs.Formats.{IsMachineFile}
 use Rattle.lw_json.specs.MachineFault.{HasMachineFault}
 use Rattle.lw_json.specs.declared.fault.JsonFault.{JsonFault}
-use Rattle.lw_json.specs.declared.machine.Machine.{Machine}
-use Rattle.lw_outside.specs.Files.{Call, File, Holds, HoldsLong, file_at, longest_file, noted, read_call}
-use Rattle.lw_system.specs.Reading.{ReadsBadFile, ReadsFile}
+use Rattle.lw_json.specs.declared.files.Machine.{Machine}
+use Rattle.lw_outside.specs.Files.{Call, File, Holds, HoldsLong, file_at, longest_file, noted, read_call, ReadsFile}
+use Rattle.lw_system.specs.Reading.{ReadsBadFile}
 use Rattle.lw_serve.specs.Reading.{FilesTell, TellsFailed, TellsLong, TellsMachine, TellsNoMachine}
 
 -- a read that was answered isn't told as failed

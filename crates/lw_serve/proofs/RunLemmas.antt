@@ -1,12 +1,11 @@
 -- Calls of `serve`, by whether a machine was read.
 use Rattle.std.proofs.Common.{◌≡◌, ◌⊎◌, inl, inr, ℕ, List, [], false, None, refl, subst, sym}
 use Rattle.lw_words.specs.Cause.{CountedFault}
-use Rattle.lw_json.specs.MachineFile.{IsMachineFile}
-use Rattle.lw_json.specs.declared.machine.Machine.{Machine}
-use Rattle.lw_outside.specs.Files.{Call, noted, read_call, FilesState}
+use Rattle.lw_json.specs.Formats.{IsMachineFile}
+use Rattle.lw_json.specs.declared.files.Machine.{Machine}
+use Rattle.lw_outside.specs.Files.{Call, noted, read_call, FilesState, ReadsFile, WasRead}
 use Rattle.lw_report.specs.Ends.{IsWithoutLearner}
 use Rattle.lw_report.specs.Outcomes.{StandsOrWants}
-use Rattle.lw_system.specs.Reading.{ReadsFile, WasRead}
 use Rattle.lw_outside.specs.Streams.{SinkState, SourceState}
 use Rattle.lw_report.specs.Stops.{read_outcome}
 use Rattle.lw_report.specs.Writing.{TakesAll, TakesSome, said_text}

@@ -1,7 +1,7 @@
 -- What a machine that is served answers, by the outcome.
 use Rattle.std.specs.Prelude.{◌≡◌, ℕ, List, Option, Ok, Err}
 use Rattle.lw_words.specs.Cause.{CountedFault}
-use Rattle.lw_json.specs.declared.machine.Machine.{Machine}
+use Rattle.lw_json.specs.declared.files.Machine.{Machine}
 use Rattle.lw_line.specs.Serving.{GoesOn, Plays}
 use Rattle.lw_line.specs.declared.serving.Served.{Served as Done}
 use Rattle.lw_line.specs.declared.serving.ServedCause.TheVariants.{EndOfInput, Limit}

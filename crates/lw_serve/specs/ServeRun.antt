@@ -1,13 +1,13 @@
 -- What a call of `serve` did, for callers: all that its contract says, in one record.
 use Rattle.std.specs.Prelude.{◌≡◌, ◌⊎◌, ℕ, List, [], None}
 use Rattle.lw_words.specs.Cause.{CountedFault}
-use Rattle.lw_json.specs.MachineFile.{IsMachineFile}
+use Rattle.lw_json.specs.Formats.{IsMachineFile}
 use Rattle.lw_json.specs.MachineFault.{HasMachineFault}
 use Rattle.lw_json.specs.declared.fault.JsonFault.{JsonFault}
-use Rattle.lw_json.specs.declared.machine.Machine.{Machine}
-use Rattle.lw_outside.specs.Files.{HoldsLong, FilesState}
+use Rattle.lw_json.specs.declared.files.Machine.{Machine}
+use Rattle.lw_outside.specs.Files.{HoldsLong, FilesState, ReadsFile, WasRead}
 use Rattle.lw_report.specs.Ends.{IsWithoutLearner}
-use Rattle.lw_system.specs.Reading.{ReadsBadFile, ReadsFile, WasRead}
+use Rattle.lw_system.specs.Reading.{ReadsBadFile}
 use Rattle.lw_outside.specs.Streams.{SinkState, SourceState}
 use Rattle.lw_report.specs.Writing.{TakesAll, TakesSome, said_text}
 use Rattle.lw_report.specs.declared.«end».End.{End}

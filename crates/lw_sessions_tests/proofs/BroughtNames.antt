@@ -2,7 +2,7 @@
 use Rattle.std.proofs.Common.{◌≡◌, ℕ, zero, suc, ◌<◌, ◌≤◌, List, [], ◌∷◌, get_or, true, refl, ap, sym, ◌∙◌, arith}
 use Rattle.std.proofs.lemmas.Bool.{true≢false}
 use Rattle.std.proofs.lemmas.List.Elements.{All-nil, All-cons}
-use Rattle.lw_words.specs.Name.{IsName, AllDiffer}
+use Rattle.lw_words.specs.Word.{IsName, AllDiffer}
 use Rattle.lw_names.specs.Naming.{MayBring}
 use Rattle.lw_sessions_tests.specs.TestNames.{pair_names, turned_names}
 

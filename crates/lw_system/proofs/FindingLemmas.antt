@@ -1,15 +1,15 @@
 -- The reading of a setup or a table.
 use Rattle.std.proofs.Common.{◌≡◌, ◌∙◌, ℕ, List, [], ◌∷◌, ◌++◌, Option, Result, Ok, Err, inl, inr, refl, ap, sym, subst, arith, append_assoc, append-nil}
 use Rattle.lw_json.specs.MachineFault.{HasMachineFault}
-use Rattle.lw_json.specs.MachineFile.{IsMachineFile}
+use Rattle.lw_json.specs.Formats.{IsMachineFile}
 use Rattle.lw_json.specs.SetupFile.{HasSetupFault, IsSetupFile}
-use Rattle.lw_json.specs.declared.machine.Machine.{Machine}
+use Rattle.lw_json.specs.declared.files.Machine.{Machine}
 use Rattle.lw_json.specs.declared.setup.Command.{Command}
 use Rattle.lw_json.specs.declared.setup.Setup.{Setup}
 use Rattle.lw_json.specs.declared.setup.Setup.TheVariants as setup
-use Rattle.lw_outside.specs.Files.{File, FilesState}
+use Rattle.lw_outside.specs.Files.{File, FilesState, ReadsFile}
 use Rattle.lw_system.specs.Finding.{HasFound, IsNoSetup, IsNoTable, NamesNoTable}
-use Rattle.lw_system.specs.Reading.{HasRead, ReadsFile}
+use Rattle.lw_system.specs.Reading.{HasRead}
 use Rattle.lw_system.specs.Reads.{MadeReads}
 use Rattle.lw_system.specs.SetupHint.{TellsHint}
 use Rattle.lw_system.specs.Systems.{SaysSystem}

@@ -1,7 +1,7 @@
 -- What is told of a setup file.
 use Rattle.std.proofs.Common.{◌≡◌, ℕ, List, [], ◌∷◌, ◌++◌, Result, Ok, Err, IfOk, subst, sym}
 use Rattle.serde_json.specs.Data.{Data}
-use Rattle.lw_json.specs.Members.{IsJson}
+use Rattle.lw_json.specs.Formats.{IsJson}
 use Rattle.lw_outside.specs.Files.{File}
 use Rattle.lw_json.specs.Hint.{hint_of}
 use Rattle.lw_system.specs.SetupHint.{TellsHint}

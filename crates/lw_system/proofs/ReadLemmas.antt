@@ -2,18 +2,17 @@
 use Rattle.std.proofs.Common.{◌≡◌, ◌≢◌, List, ℕ, ◌≤◌, Bool, true, false, Err, Result, inr, refl, ap, subst, sym, ◌∙◌}
 use Rattle.std.proofs.lemmas.Bool.{false≢true}
 use Rattle.lw_json.proofs.FilesNoFault.{all_answers, machines, setups}
-use Rattle.lw_json.specs.AnswersFile.{IsAnswersFile}
+use Rattle.lw_json.specs.Formats.{IsAnswersFile, IsMachineFile}
 use Rattle.lw_json.specs.AnswersFault.{HasAnswersFault}
-use Rattle.lw_json.specs.declared.answers.Answers.{Answers}
-use Rattle.lw_json.specs.MachineFile.{IsMachineFile}
+use Rattle.lw_json.specs.declared.files.Answers.{Answers}
 use Rattle.lw_json.specs.MachineFault.{HasMachineFault}
 use Rattle.lw_json.specs.SetupFile.{HasSetupFault, IsSetupFile}
-use Rattle.lw_json.specs.declared.machine.Machine.{Machine}
+use Rattle.lw_json.specs.declared.files.Machine.{Machine}
 use Rattle.lw_json.specs.declared.setup.Setup.{Setup}
 use Rattle.lw_json.specs.declared.fault.JsonFault.{JsonFault}
 use Rattle.lw_json.specs.declared.fault.JsonFault.TheVariants.{NotJson, Shape, Inputs, Outputs, UnknownOutput, Mealy, BadWord, Lengths, NoMemory}
-use Rattle.lw_outside.specs.Files.{noted, read_call, FilesState}
-use Rattle.lw_system.specs.Reading.{HasRead, WasRead}
+use Rattle.lw_outside.specs.Files.{noted, read_call, FilesState, WasRead}
+use Rattle.lw_system.specs.Reading.{HasRead}
 use Rattle.lw_system.specs.Stops.{read_stop}
 use Rattle.lw_system.specs.declared.stops.ReadStop.{ReadStop}
 use Rattle.lw_system.specs.declared.stops.ReadStop.TheVariants.{Bad, Failed, TooLong, NoMemory as NoMemoryToRead}

@@ -2,8 +2,8 @@
 use Rattle.std.proofs.Common.{◌≡◌, ◌∙◌, ◌⊎◌, ⊎_elim, ℕ, List, [], ◌∷◌, ◌++◌, map, true, false, Option, Some, None, Result, Ok, Err, refl, ap, sym, subst, append_assoc, append-nil}
 use Rattle.std.proofs.lemmas.List.{map-append}
 use Rattle.lw_json.specs.declared.fault.JsonFault.{JsonFault}
-use Rattle.lw_outside.specs.Files.{Call, File, noted, read_call, FilesState}
-use Rattle.lw_system.specs.Reading.{HasRead, ReadsFile, WasRead}
+use Rattle.lw_outside.specs.Files.{Call, File, noted, read_call, FilesState, ReadsFile, WasRead}
+use Rattle.lw_system.specs.Reading.{HasRead}
 use Rattle.lw_system.specs.Reads.{IsNotRead, MadeReads, MadeSomeReads, gained}
 use Rattle.lw_system.specs.declared.stops.ReadStop.{ReadStop}
 use Rattle.lw_system.specs.declared.stops.ReadStop.TheVariants as stop

@@ -1,6 +1,6 @@
 -- The command of a setup that was read has words.
 use Rattle.std.proofs.Common.{◌≡◌, ℕ, ◌<◌, List, [], ◌∷◌, length, Bool, true, false, Option, Some, None, option_and_then, option_map, if◌then◌else◌, nat_lt, codes, ap, subst, sym, arith}
-use Rattle.lw_json.specs.Members.{texts_at}
+use Rattle.lw_json.specs.Formats.{texts_at}
 use Rattle.lw_json.specs.SetupFile.{IsSetupFile, SpellsSetup, WrittenSetup, command, has_member, is_child_command, outputs_at, table, text_at}
 use Rattle.lw_json.specs.declared.setup.Command.{Command}
 use Rattle.lw_json.specs.declared.setup.Setup.TheVariants as setup

@@ -1,11 +1,10 @@
 -- The reading of the file that says a system, and of the table file that a setup names.
 use Rattle.std.specs.Prelude.{◌≡◌, ◌⊎◌, ℕ, ◌≤◌, List, [], Result, IfOk, IfErr, OnOk}
 use Rattle.lw_json.specs.MachineFault.{HasMachineFault}
-use Rattle.lw_json.specs.MachineFile.{IsMachineFile}
+use Rattle.lw_json.specs.Formats.{IsMachineFile}
 use Rattle.lw_json.specs.SetupFile.{HasSetupFault, IsSetupFile}
 use Rattle.lw_json.specs.declared.setup.Setup.TheVariants as setup
-use Rattle.lw_outside.specs.Files.{File, FilesState}
-use Rattle.lw_system.specs.Reading.{ReadsFile}
+use Rattle.lw_outside.specs.Files.{File, FilesState, ReadsFile}
 use Rattle.lw_system.specs.Reads.{IsNotRead, MadeReads}
 use Rattle.lw_system.specs.SetupHint.{TellsHint}
 use Rattle.lw_system.specs.Systems.{ReadsSystem}

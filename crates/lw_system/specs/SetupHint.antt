@@ -1,7 +1,7 @@
 -- What is told of a setup file that was read.
 use Rattle.std.specs.Prelude.{◌≡◌, ℕ, List, ◌∷◌, ◌++◌, Result, Ok, Err}
 use Rattle.serde_json.specs.Data.{Data}
-use Rattle.lw_json.specs.Members.{IsJson}
+use Rattle.lw_json.specs.Formats.{IsJson}
 use Rattle.lw_json.specs.declared.setup.Setup.{Setup}
 use Rattle.lw_outside.specs.Files.{File}
 use Rattle.lw_json.specs.Hint.{hint_of}

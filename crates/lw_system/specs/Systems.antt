@@ -1,14 +1,13 @@
 -- Systems, and the files that say one.
 use Rattle.std.specs.Prelude.{◌≡◌, ℕ, ◌<◌, List, length, Option, Some, None}
 use Rattle.lw_json.specs.FitNames.{FitNames}
-use Rattle.lw_json.specs.MachineFile.{IsMachineFile}
+use Rattle.lw_json.specs.Formats.{IsMachineFile}
 use Rattle.lw_json.specs.SetupFile.{IsSetupFile}
-use Rattle.lw_json.specs.declared.answers.Answers.{Answers}
-use Rattle.lw_json.specs.declared.machine.Machine.{Machine}
+use Rattle.lw_json.specs.declared.files.Answers.{Answers}
+use Rattle.lw_json.specs.declared.files.Machine.{Machine}
 use Rattle.lw_json.specs.declared.setup.Setup.{Setup}
 use Rattle.lw_json.specs.declared.setup.Setup.TheVariants as setup
-use Rattle.lw_outside.specs.Files.{File}
-use Rattle.lw_system.specs.Reading.{ReadsFile}
+use Rattle.lw_outside.specs.Files.{File, ReadsFile}
 use Rattle.lw_system.specs.declared.source.Source.{Source}
 use Rattle.lw_system.specs.declared.source.Source.TheVariants as source
 use Rattle.lw_system.specs.declared.system.System.{System}

@@ -1,8 +1,7 @@
 //! Files that are read, each of its kind.
 ghost use Rattle.std.specs.Prelude.{IfOk};
 ghost use Rattle.lw_json.specs.AnswersFault.{HasAnswersFault};
-ghost use Rattle.lw_json.specs.AnswersFile.{IsAnswersFile};
-ghost use Rattle.lw_json.specs.MachineFile.{IsMachineFile};
+ghost use Rattle.lw_json.specs.Formats.{IsAnswersFile, IsMachineFile};
 ghost use Rattle.lw_json.specs.MachineFault.{HasMachineFault};
 ghost use Rattle.lw_json.specs.SetupFile.{HasSetupFault, IsSetupFile};
 ghost use Rattle.lw_system.specs.Reading.{HasRead};

@@ -79,8 +79,8 @@ impl ObservationTable {
         Ok(self.fill_new(oracle, first)?)
     }
 
-    /// Asks until each cell is filled and each extension has the row of an access word (Angluin 1987). Each word that it asks is
-    /// that of a cell.
+    /// Asks until each cell is filled and each extension has the row of an access word (Angluin 1987). Each answer that it gains
+    /// is to the word of a cell.
     ///
     /// # Errors
     /// The stop of the oracle, or out of memory; or the words of a crowd, where an access word more than may be would be

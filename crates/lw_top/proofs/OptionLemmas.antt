@@ -2,7 +2,7 @@
 use Rattle.std.proofs.Common.{◌≡◌, ◌∙◌, ◌<◌, ◌+◌, ℕ, List, [], ◌∷◌, ◌++◌, get_or, length, map, take, sym, ap}
 use Rattle.std.proofs.lemmas.List.{map_more}
 use Rattle.clap.specs.Words.{App, Rule, with_rule}
-use Rattle.lw_top.specs.Options.{app_with, rule_for}
+use Rattle.lw_top.specs.CommandLine.{app_with, rule_for}
 use Rattle.lw_top.specs.declared.options.Argument.{Argument}
 
 -- a command with one argument more

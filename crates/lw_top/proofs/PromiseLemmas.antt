@@ -4,9 +4,8 @@ use Rattle.lw_words.specs.Word.{answers_of}
 use Rattle.lw_words.specs.Cause.{CountedFault}
 use Rattle.lw_words.specs.declared.kept.KeptAnswer.{KeptAnswer}
 use Rattle.lw_words.specs.declared.stop.SulStop.TheVariants as sul
-use Rattle.lw_mealy.specs.Machine.{MealyMachine, IsMinimal}
+use Rattle.lw_mealy.specs.Machine.{MealyMachine, IsMinimal, Sure}
 use Rattle.lw_separate.specs.Canonical.{IsCanonical}
-use Rattle.lw_certify.specs.Sure.{Sure}
 use Rattle.lw_cache.specs.declared.stops.AskStop.TheVariants as ask
 use Rattle.lw_outside.specs.Files.{File, FilesState}
 use Rattle.lw_outside.specs.Links.{LinkState, SpawnerState}
@@ -297,7 +296,7 @@ module _ (before now : WorldState) (end : End) where
         sure = subst (λ (p : Pair). Sure p.mealy.inputs p.mealy.rows (answers_of p.kept) a.extra) s.1.pair s.2;
       }
 
-  pub yes : (call : Option CallValues) → Runs call before now end → YesIsRight call before.files now.files end
+  pub yes : (call : Option CallValues) → Runs call before now end → YesIsRight call before.files now.files end.outcome
   yes None r = tt
   yes (Some (Learn a)) r = tt
   yes (Some (Check a)) r = fixes a r.ran

@@ -3,8 +3,7 @@ use Rattle.std.specs.Prelude.{ℕ, List, [], ◌∷◌, codes, Option, Some, Non
 use Rattle.clap.specs.Words.{App, Row, all_of, first_of}
 use Rattle.lw_ask.specs.Arguments.{AskValues}
 use Rattle.lw_system.specs.declared.source.Source.TheVariants.{Setup, Table}
-use Rattle.lw_top.specs.CommandLine.{values_taken}
-use Rattle.lw_top.specs.Options.{app_with, many_arguments, text_option}
+use Rattle.lw_top.specs.CommandLine.{values_taken, app_with, many_arguments, text_option}
 
 -- ask (SETUP | --table FILE) WORD...
 abbrev pub ask_app : App

@@ -6,7 +6,7 @@ use Rattle.lw_learn.specs.Arguments.{LearnValues}
 use Rattle.lw_recheck.specs.Arguments.{RecheckValues}
 use Rattle.lw_trial.specs.Arguments.{TrialValues}
 use Rattle.lw_top.specs.AskCommand.{ask_values}
-use Rattle.lw_top.specs.CheckCommand.{CheckValues, check_values}
+use Rattle.lw_top.specs.CheckCommand.{CheckValues, check_read, check_values}
 use Rattle.lw_top.specs.CompareCommand.{compare_values}
 use Rattle.lw_top.specs.FilePairs.{PairValues}
 use Rattle.lw_top.specs.LearnCommand.{learn_values}
@@ -44,7 +44,7 @@ call_of (name ∷ words) = call_named name (name ∷ words)
 
 abbrev pub values_of : Call → CallValues
 values_of (read.Learn values) = Learn values
-values_of (read.Check values) = Check values
+values_of (read.Check values) = Check (check_read values)
 values_of (read.Trial values) = Trial values
 values_of (read.Serve model) = Serve (string_bytes model)
 values_of (read.Ask values) = Ask values

@@ -1,10 +1,10 @@
 -- The command `check` as clap sees it, and what arguments that it takes say.
-use Rattle.std.specs.Prelude.{ℕ, List, [], ◌∷◌, codes, Option, Some, None}
+use Rattle.std.specs.Prelude.{ℕ, List, [], ◌∷◌, codes, string_bytes, Option, Some, None}
 use Rattle.clap.specs.Words.{App, Row, first_of}
 use Rattle.lw_suite.specs.declared.method.Method.{Method}
 use Rattle.lw_suite.specs.declared.method.Method.TheVariants.{W}
-use Rattle.lw_top.specs.CommandLine.{number_given, values_taken}
-use Rattle.lw_top.specs.Options.{app_with, number_option, required_argument}
+use Rattle.lw_check.specs.declared.arguments.CheckArguments.{CheckArguments}
+use Rattle.lw_top.specs.CommandLine.{number_given, values_taken, app_with, number_option, required_argument}
 use Rattle.lw_top.specs.declared.ranges.TheConstants.{EXTRA}
 
 -- the values of the arguments of `check`: the model file, the answers file, the extra states and how suites are made
@@ -13,6 +13,10 @@ pub record CheckValues : Type 0 where
   pub answers : List ℕ
   pub extra : ℕ
   pub suite : Method
+
+-- the values of arguments that were read
+abbrev pub check_read : CheckArguments → CheckValues
+check_read a = record { model = string_bytes a.model; answers = string_bytes a.answers; extra = a.extra; suite = a.suite }
 
 -- check MODEL ANSWERS [--extra K]
 abbrev pub check_app : App

@@ -1,19 +1,78 @@
--- What the arguments of the command line say, over clap's meaning of a simple command.
-use Rattle.std.specs.Prelude.{ℕ, Bool, true, false, ◌&&◌, List, [], ◌∷◌, map, codes, String, string_bytes, Option, Some, None, if◌then◌else◌}
+-- The arguments of the command line: as clap sees those of a command, and what they say, over its meaning of a simple command.
+use Rattle.std.specs.Prelude.{ℕ, List, [], ◌∷◌, map, true, Some, Bool, false, ◌&&◌, codes, String, string_bytes, Option, None, if◌then◌else◌}
+use Rattle.clap.specs.Simple.{new_shape}
+use Rattle.clap.specs.Words.{App, Rule, new_app, new_rule, Row, matches_of, one_of}
+use Rattle.clap.specs.declared.builder.action.ArgAction.TheVariants.{Append, Set}
+use Rattle.clap.specs.declared.builder.value_parser.ValueParser.TheVariants.{Unsigned}
+use Rattle.lw_top.specs.declared.options.Argument.{Argument}
+use Rattle.lw_top.specs.declared.options.Argument.TheVariants as takes
+use Rattle.lw_top.specs.declared.options.Syntax.{Syntax}
+use Rattle.lw_top.specs.declared.ranges.Range.{Range}
 use Rattle.std.specs.declared.alloc.Global.{Global}
 use Rattle.std.specs.Str.{bytes_eq}
 use Rattle.std.specs.Str.Parse.{digits_value, without_leading_plus}
 use Rattle.clap.specs.Faults.{fault_of}
 use Rattle.clap.specs.Kinds.{Kinds}
-use Rattle.clap.specs.Words.{App, Row, matches_of, one_of}
 use Rattle.clap.specs.declared.error.kind.ErrorKind.{ErrorKind}
 use Rattle.clap.specs.declared.error.kind.ErrorKind.TheVariants.{OutOfMemory}
 use Rattle.lw_rounds.specs.declared.learner.Kind.{Kind}
 use Rattle.lw_rounds.specs.declared.learner.Kind.TheVariants as kind
-use Rattle.lw_top.specs.declared.ranges.Range.{Range}
 use Rattle.lw_top.specs.declared.values.ArgumentStop.{ArgumentStop}
 use Rattle.lw_top.specs.declared.values.ArgumentStop.TheVariants.{NoMemory, Usage}
 use Rattle.clap.specs.ValueTests.{is_unsigned_in}
+
+-- Arguments, as clap sees them.
+
+-- an option that takes a text
+abbrev pub text_option : List ℕ → Rule
+text_option name = record (new_rule name) { long = Some name }
+
+-- an option that takes a text, with a default
+abbrev pub default_option : List ℕ → List ℕ → Rule
+default_option name default = record (new_rule name) { long = Some name; defaults = default ∷ [] }
+
+-- an option that takes a whole number in a range, which may be left out
+abbrev pub free_number : List ℕ → Range → Rule
+free_number name range = record (new_rule name) { long = Some name; parser = Some (Unsigned range.low range.high) }
+
+-- an option that takes a whole number in a range, with a default
+abbrev pub number_option : List ℕ → Range → List ℕ → Rule
+number_option name range default = record (free_number name range) { defaults = default ∷ [] }
+
+-- an option that takes a whole number in a range, which has to be there
+abbrev pub required_number : List ℕ → Range → Rule
+required_number name range = record (free_number name range) { required = true }
+
+-- an argument without a name of an option, which has to be there
+abbrev pub required_argument : List ℕ → Rule
+required_argument name = record (new_rule name) { required = true; action = Some Set }
+
+-- an argument without a name of an option, which may be left out
+abbrev pub optional_argument : List ℕ → Rule
+optional_argument name = record (new_rule name) { action = Some Set }
+
+-- an argument without a name of an option, which may be given several times
+abbrev pub many_arguments : List ℕ → Rule
+many_arguments name = record (new_rule name) { action = Some Append }
+
+abbrev pub rule_for : Argument → Rule
+rule_for (takes.Text name) = text_option name.now
+rule_for (takes.TextOr name default) = default_option name.now default.now
+rule_for (takes.Number name range) = free_number name.now range
+rule_for (takes.NumberOr name range default) = number_option name.now range default.now
+rule_for (takes.RequiredNumber name range) = required_number name.now range
+rule_for (takes.Required name) = required_argument name.now
+rule_for (takes.Optional name) = optional_argument name.now
+rule_for (takes.Many name) = many_arguments name.now
+
+-- a command with these arguments and no others
+abbrev pub app_with : List ℕ → List Rule → App
+app_with name rules = record (new_app name) { top = record (new_shape name) { rules = rules } }
+
+abbrev pub app_for : Syntax → App
+app_for syntax = app_with syntax.command.now (map rule_for syntax.arguments.now)
+
+-- What the arguments say.
 
 abbrev pub texts : List (String Global) → List (List ℕ)
 texts = map (λ s. string_bytes s)

@@ -1,9 +1,8 @@
 -- The command `compare` as clap sees it, and what arguments that it takes say.
 use Rattle.std.specs.Prelude.{ℕ, List, [], ◌∷◌, codes, Option}
 use Rattle.clap.specs.Words.{App, Row, first_of}
-use Rattle.lw_top.specs.CommandLine.{values_taken}
+use Rattle.lw_top.specs.CommandLine.{values_taken, app_with, required_argument}
 use Rattle.lw_top.specs.FilePairs.{PairValues, pair_from}
-use Rattle.lw_top.specs.Options.{app_with, required_argument}
 
 -- compare MODEL MODEL
 abbrev pub compare_app : App

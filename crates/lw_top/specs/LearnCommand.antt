@@ -10,8 +10,7 @@ use Rattle.lw_learn.specs.declared.arguments.Drawn.{Drawn}
 use Rattle.lw_learn.specs.declared.arguments.LearnFiles.{LearnFiles}
 use Rattle.lw_system.specs.declared.source.Source.{Source}
 use Rattle.lw_system.specs.declared.source.Source.TheVariants.{Setup, Table}
-use Rattle.lw_top.specs.CommandLine.{kind_named, number_given, values_taken}
-use Rattle.lw_top.specs.Options.{app_with, default_option, free_number, number_option, optional_argument, text_option}
+use Rattle.lw_top.specs.CommandLine.{kind_named, number_given, values_taken, app_with, default_option, free_number, number_option, optional_argument, text_option}
 use Rattle.lw_top.specs.declared.ranges.TheConstants.{EXTRA, LENGTH, RANDOM, SEED, STATES, WORKERS}
 
 -- learn (SETUP | --table FILE) [--workers N] [--extra K] [--learner table|ttt] [--max-states N] [--model FILE] [--answers FILE] [--prior FILE]

@@ -5,7 +5,6 @@ pub mod CommandLine
 pub mod CompareCommand
 pub mod FilePairs
 pub mod LearnCommand
-pub mod Options
 pub mod Promises
 pub mod RecheckCommand
 pub mod Run

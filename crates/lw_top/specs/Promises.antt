@@ -4,24 +4,21 @@ use Rattle.lw_words.specs.Word.{Answer, answer_at, answer_of, answers_of}
 use Rattle.lw_words.specs.Cause.{CountedFault}
 use Rattle.lw_words.specs.declared.kept.KeptAnswer.{KeptAnswer}
 use Rattle.lw_words.specs.declared.stop.SulStop.{SulStop}
-use Rattle.lw_mealy.specs.Machine.{Gives, MealyMachine, IsWithinLimits, Rows, IsMinimal}
+use Rattle.lw_mealy.specs.Machine.{Gives, MealyMachine, IsWithinLimits, Rows, IsMinimal, Sure}
 use Rattle.lw_separate.specs.Canonical.{IsCanonical}
 use Rattle.lw_suite.specs.Size.{greatest_suite, suite_size}
 use Rattle.lw_cache.specs.Clash.{ClashAt}
 use Rattle.lw_cache.specs.FirstClash.{IsFirstClash}
 use Rattle.lw_cache.specs.declared.stops.Clash.{Clash}
-use Rattle.lw_certify.specs.Sure.{Sure}
 use Rattle.lw_rounds.specs.Learned.{IsTooMany}
-use Rattle.lw_json.specs.AnswersFile.{IsAnswersFile}
-use Rattle.lw_json.specs.MachineFile.{IsMachineFile}
-use Rattle.lw_json.specs.declared.answers.Answers.{Answers}
-use Rattle.lw_json.specs.declared.machine.Machine.{Machine}
+use Rattle.lw_json.specs.Formats.{IsAnswersFile, IsMachineFile}
+use Rattle.lw_json.specs.declared.files.Answers.{Answers}
+use Rattle.lw_json.specs.declared.files.Machine.{Machine}
 use Rattle.lw_json.specs.declared.setup.Command.{Command}
-use Rattle.lw_outside.specs.Files.{File, FilesState}
+use Rattle.lw_outside.specs.Files.{File, FilesState, ReadsFile}
 use Rattle.lw_outside.specs.Links.{LinkState, SpawnerState}
 use Rattle.lw_outside.specs.declared.links.StartFailure.{StartFailure}
 use Rattle.lw_system.specs.NewLines.{count_of}
-use Rattle.lw_system.specs.Reading.{ReadsFile}
 use Rattle.lw_system.specs.Spawners.{StartsAndRetires}
 use Rattle.lw_system.specs.Systems.{ReadsSystem, declared_of, letters_of}
 use Rattle.lw_system.specs.declared.system.System.{System}
@@ -82,9 +79,9 @@ pub record AnswersFixModel (a : CheckValues) (before now : FilesState) : Type 0 
   pub sure : Sure model.mealy.inputs model.mealy.rows (answers_of answers.kept.answers) a.extra
 
 -- a yes is right
-abbrev pub YesIsRight : Option CallValues → FilesState → FilesState → End → Type 0
-YesIsRight (Some (Check a)) before now end = (states : ℕ) → end.outcome ≡ Yes states → AnswersFixModel a before now
-YesIsRight _ before now end = Unit {0}
+abbrev pub YesIsRight : Option CallValues → (before now : FilesState) → Outcome → Type 0
+YesIsRight (Some (Check a)) before now outcome = (states : ℕ) → outcome ≡ Yes states → AnswersFixModel a before now
+YesIsRight _ before now outcome = Unit {0}
 
 -- what is kept of children, behind prior answers: one link for each that was started, all retired in that order; and what went
 -- over each, where it tells that

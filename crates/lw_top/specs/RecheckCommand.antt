@@ -2,8 +2,7 @@
 use Rattle.std.specs.Prelude.{ℕ, List, [], ◌∷◌, codes, Option, Some, None}
 use Rattle.clap.specs.Words.{App, Row, first_of}
 use Rattle.lw_recheck.specs.Arguments.{RecheckValues}
-use Rattle.lw_top.specs.CommandLine.{values_taken}
-use Rattle.lw_top.specs.Options.{app_with, required_argument}
+use Rattle.lw_top.specs.CommandLine.{values_taken, app_with, required_argument}
 
 -- recheck SETUP ANSWERS
 abbrev pub recheck_app : App

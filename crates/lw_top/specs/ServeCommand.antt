@@ -1,8 +1,7 @@
 -- The command `serve` as clap sees it, and what arguments that it takes say.
 use Rattle.std.specs.Prelude.{ℕ, List, [], ◌∷◌, codes, Option}
 use Rattle.clap.specs.Words.{App, first_of}
-use Rattle.lw_top.specs.CommandLine.{values_taken}
-use Rattle.lw_top.specs.Options.{app_with, required_argument}
+use Rattle.lw_top.specs.CommandLine.{values_taken, app_with, required_argument}
 
 -- serve MODEL
 abbrev pub serve_app : App

@@ -3,8 +3,7 @@ use Rattle.std.specs.Prelude.{ℕ, List, [], ◌∷◌, codes, Option, Some, Non
 use Rattle.clap.specs.Words.{App, Row, first_of}
 use Rattle.lw_rounds.specs.declared.learner.Kind.{Kind}
 use Rattle.lw_trial.specs.Arguments.{TrialValues}
-use Rattle.lw_top.specs.CommandLine.{kind_named, number_given, values_taken}
-use Rattle.lw_top.specs.Options.{app_with, default_option, number_option, required_number}
+use Rattle.lw_top.specs.CommandLine.{kind_named, number_given, values_taken, app_with, default_option, number_option, required_number}
 use Rattle.lw_top.specs.declared.ranges.TheConstants.{INPUTS, SEED, STATES, WORKERS}
 
 -- trial --states N --inputs A --seed S [--workers N] [--learner table|ttt]

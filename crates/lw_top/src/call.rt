@@ -5,7 +5,7 @@ ghost use Rattle.lw_top.specs.CommandLine.{texts};
 ghost use Rattle.lw_top.specs.declared.values.ArgumentStop.{ArgumentStop as Stop};
 
 use crate::arguments::ask::ask_arguments;
-use crate::arguments::check::{CheckArguments, check_arguments};
+use crate::arguments::check::check_arguments;
 use crate::arguments::compare::compare_arguments;
 use crate::arguments::learn::learn_arguments;
 use crate::arguments::recheck::recheck_arguments;
@@ -14,6 +14,7 @@ use crate::arguments::trial::trial_arguments;
 use crate::file_pair::FilePair;
 use crate::values::ArgumentStop;
 use lw_ask::AskArguments;
+use lw_check::CheckArguments;
 use lw_learn::LearnArguments;
 use lw_recheck::RecheckArguments;
 use lw_trial::TrialArguments;

@@ -12,7 +12,7 @@ mod top;
 mod values;
 
 pub use arguments::ask::ask_arguments;
-pub use arguments::check::{CheckArguments, check_arguments};
+pub use arguments::check::check_arguments;
 pub use arguments::compare::compare_arguments;
 pub use arguments::learn::learn_arguments;
 pub use arguments::recheck::recheck_arguments;

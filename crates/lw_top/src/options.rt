@@ -1,7 +1,7 @@
 //! The arguments of a command as data, and as clap takes them.
 ghost use Rattle.std.specs.Prelude.{◌≡◌, IfOk, false};
 ghost use Rattle.clap.specs.Words.{app_of, rule_of};
-ghost use Rattle.lw_top.specs.Options.{app_for, rule_for};
+ghost use Rattle.lw_top.specs.CommandLine.{app_for, rule_for};
 
 use crate::ranges::Range;
 use clap::builder::ValueParser;

@@ -87,11 +87,7 @@ fn run_call<
     } = world;
     match call {
         Call::Learn(values) => learn(rt, alloc, &values, world),
-        Call::Check(values) => {
-            let (model, answers) = (values.model(), values.answers());
-            let (extra, method) = (values.extra(), values.suite());
-            check(alloc, model, answers, extra, method, files, out, err)
-        }
+        Call::Check(values) => check(alloc, &values, files, out, err),
         Call::Trial(values) => trial(rt, alloc, &values, out, err),
         Call::Serve(model) => serve(alloc, model.as_str(), files, input, out, err),
         Call::Ask(values) => ask(alloc, &values, files, spawner, out, err),
@@ -114,7 +110,7 @@ pub fn run<
 >(rt: R, alloc: Global, arguments: &[String], world: &mut World<F, P, I, O, E, Log<L>>) -> End
     ensures learned { LearnedIsRight (call_of (texts arguments.now)) result }
     ensures yes { YesIsRight (call_of (texts arguments.now)) (F.state world.old.files)
-        (F.state world.new.files) result }
+        (F.state world.new.files) result.outcome }
     ensures kept { KeptAreRuns (call_of (texts arguments.now))
         (seen F.state P.state I.state O.state E.state (λ l. l.state) world.old)
         (seen F.state P.state I.state O.state E.state (λ l. l.state) world.new) result }

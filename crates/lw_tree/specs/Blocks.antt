@@ -83,12 +83,13 @@ StandsAtItsState before now k = (q : ℕ) × IsReachedBy before q k × ((place_a
 abbrev pub LeavesStayInside : ℕ → TreeState → TreeState → Type 0
 LeavesStayInside r before now = (q : ℕ) → q < length before.access → StandsBelow (node_at before.nodes) r (leaf_at before.leaves q) → StandsBelow (node_at now.nodes) r (leaf_at now.leaves q)
 
--- each transition that stood below a node stands at it, but for those that states were reached by: these stand at their states
+-- the states below a node stay below it; and each transition that stood below it stands at it, but for those that states were
+-- reached by: these stand at their states
 pub record GathersInside (r : ℕ) (before now : TreeState) : Type 0 where
   pub leaves : LeavesStayInside r before now
   pub places : (k : ℕ) → k < length before.places → StandsBelow (node_at before.nodes) r (place_at before.places k).node → ((place_at now.places k).node ≡ r) ⊎ StandsAtItsState before now k
 
--- each transition that stood below a node stands at it or below it
+-- the states below a node stay below it; and each transition that stood below it stands at it or below it
 pub record StaysInside (r : ℕ) (before now : TreeState) : Type 0 where
   pub leaves : LeavesStayInside r before now
   pub places : (k : ℕ) → k < length before.places → StandsBelow (node_at before.nodes) r (place_at before.places k).node → IsAbove (node_at now.nodes) r (place_at now.places k).node

@@ -228,8 +228,8 @@ impl DiscriminationTree {
         Ok(self.has_open())
     }
 
-    /// Sifts a level: each transition that has no target takes its output, and goes one step down the discrimination tree. No
-    /// word is asked but those of these transitions, each maybe followed by the discriminator where the transition stands.
+    /// Sifts a level: each transition that has no target takes its output, and goes one step down the discrimination tree. Each
+    /// answer that it gains is to the word of such a transition, or to that followed by the discriminator where the transition stands.
     ///
     /// Answers whether transitions are left that have no target.
     ///

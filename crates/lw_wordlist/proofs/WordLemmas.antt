@@ -2,7 +2,7 @@
 use Rattle.std.proofs.Common.{◌≡◌, ℕ, ◌+◌, ◌<◌, List, [], length, map, get_or, slice_get, Some, None, subst, sym}
 use Rattle.std.specs.List.{All, AllWithin, Contains}
 use Rattle.std.proofs.lemmas.Option.{get_or_from_slice_get, slice_get_within}
-use Rattle.lw_words.specs.Name.{number_of}
+use Rattle.lw_words.specs.Word.{number_of}
 use Rattle.lw_words.proofs.Lists.{read-map}
 use Rattle.lw_words.proofs.NumberLemmas.{name_at_number}
 use Rattle.lw_names.proofs.NameLemmas.{lacks_name}

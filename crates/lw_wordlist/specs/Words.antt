@@ -2,8 +2,8 @@
 use Rattle.std.specs.Prelude.{◌≡◌, ℕ, ◌+◌, ◌==◌, List, [], Bool, not, length, Option, Contains, slice_index_or, filter}
 use Rattle.std.specs.List.{All, slice_split}
 use Rattle.lw_words.specs.First.{FailsFirst}
-use Rattle.lw_words.specs.Name.{number_of}
-use Rattle.lw_json.specs.Each.{each_of}
+use Rattle.lw_words.specs.Word.{number_of}
+use Rattle.lw_json.specs.Formats.{each_of}
 
 abbrev pub is_some_text : List ℕ → Bool
 is_some_text text = not (length text == 0)

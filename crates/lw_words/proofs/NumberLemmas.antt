@@ -16,7 +16,8 @@ use Rattle.std.proofs.lemmas.Option.{slice_get-map, slice_get-get_or, slice_get_
 use Rattle.std.specs.Prelude.{String}
 use Rattle.std.specs.HashMap.{HashMap, get_by_text}
 use Rattle.std.specs.Map.{update}
-use Rattle.lw_words.specs.Name.{number_of, AllDiffer, RepeatsFirst}
+use Rattle.lw_words.specs.Name.{RepeatsFirst}
+use Rattle.lw_words.specs.Word.{number_of, AllDiffer}
 use Rattle.lw_words.specs.bodies.Numbers.{AreNumbers}
 
 -- the number that is found is the name's place

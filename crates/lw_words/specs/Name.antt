@@ -1,31 +1,10 @@
--- Lists of names, and the numbers that they give.
-use Rattle.std.specs.Prelude.{◌≡◌, ◌≢◌, ℕ, ◌<◌, ◌≤◌, List, [], take, length, position, Option, slice_get}
-use Rattle.std.specs.Str.{bytes_eq}
-use Rattle.std.specs.List.{All, AllPairs}
+-- The first fault of a list that is to be one of names.
+use Rattle.std.specs.Prelude.{◌≡◌, ℕ, ◌<◌, ◌≤◌, List, [], take, length, slice_get}
+use Rattle.std.specs.List.{All}
 use Rattle.lw_words.specs.First.{FailsFirst}
 use Rattle.lw_words.specs.declared.names.NamesFault.{NamesFault}
 use Rattle.lw_words.specs.declared.names.NamesFault.TheVariants.{Empty, TooMany, BadName, Repeated, NoMemory}
-
--- a name: 1 to 64 bytes, each printable ASCII and no blank
-pub record IsName (name : List ℕ) : Type 0 where
-  pub some : 0 < length name
-  pub short : length name ≤ 64
-  pub printable : All (λ b. (33 ≤ b) × (b ≤ 126)) name
-
--- no two of them are equal
-abbrev pub AllDiffer : List (List ℕ) → Type 0
-AllDiffer names = AllPairs (λ a b. a ≢ b) names
-
--- a list of 1 to 4,096 different names
-pub record IsNames (names : List (List ℕ)) : Type 0 where
-  pub some : 0 < length names
-  pub few : length names ≤ 4096
-  pub each : All IsName names
-  pub differ : AllDiffer names
-
--- the number of a name: its place in the list
-abbrev pub number_of : List ℕ → List (List ℕ) → Option ℕ
-number_of name names = position (bytes_eq name) names
+use Rattle.lw_words.specs.Word.{IsName, AllDiffer}
 
 -- the name at the second place stands at the first too, and those before the second differ
 pub record RepeatsFirst (names : List (List ℕ)) (first second : ℕ) : Type 0 where

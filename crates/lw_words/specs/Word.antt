@@ -1,12 +1,13 @@
--- Words, their order, and answers.
-use Rattle.std.specs.Prelude.{◌≡◌, ℕ, ◌<◌, List, ◌++◌, length, [], map, slice_index_or}
-use Rattle.std.specs.List.{All}
+-- Words, their order, names, and answers.
+use Rattle.std.specs.Prelude.{◌≡◌, ℕ, ◌<◌, List, ◌++◌, length, [], map, slice_index_or, ◌≢◌, ◌≤◌, position, Option}
+use Rattle.std.specs.List.{All, AllPairs}
 use Rattle.std.specs.Ordering.{nat_cmp, ordering_then}
 use Rattle.std.specs.declared.cmp.Ordering.{Ordering}
 use Rattle.std.specs.Cmp.{IsTotalOrder}
 use Rattle.std.specs.declared.cmp.Ordering.TheVariants.{Equal}
 use Rattle.std.specs.Cmp.Lexicographic.{slice_cmp}
 use Rattle.lw_words.specs.declared.kept.KeptAnswer.{KeptAnswer}
+use Rattle.std.specs.Str.{bytes_eq}
 
 -- Words. Source: the usual ones of formal languages, as in Hopcroft and Ullman (1979).
 
@@ -28,6 +29,29 @@ shortlex_cmp a b = ordering_then (nat_cmp (length a) (length b)) (slice_cmp nat_
 abbrev pub IsOrderOfWords : Type 0
 IsOrderOfWords = IsTotalOrder shortlex_cmp × ((a b : List ℕ) → shortlex_cmp a b ≡ Equal → a ≡ b)
 
+-- Names of letters and of outputs.
+
+-- a name: 1 to 64 bytes, each printable ASCII and no blank
+pub record IsName (name : List ℕ) : Type 0 where
+  pub some : 0 < length name
+  pub short : length name ≤ 64
+  pub printable : All (λ b. (33 ≤ b) × (b ≤ 126)) name
+
+-- no two of them are equal
+abbrev pub AllDiffer : List (List ℕ) → Type 0
+AllDiffer names = AllPairs (λ a b. a ≢ b) names
+
+-- a list of 1 to 4,096 different names
+pub record IsNames (names : List (List ℕ)) : Type 0 where
+  pub some : 0 < length names
+  pub few : length names ≤ 4096
+  pub each : All IsName names
+  pub differ : AllDiffer names
+
+-- the number of a name: its place in the list
+abbrev pub number_of : List ℕ → List (List ℕ) → Option ℕ
+number_of name names = position (bytes_eq name) names
+
 -- Answers: a word and the outputs that came, one for each letter. Source: the queries of Angluin (1987), with outputs as in Niese (2003).
 
 pub record Answer : Type 0 where
@@ -45,6 +69,10 @@ answers_of kept = map answer_of kept
 -- one output for each letter
 abbrev pub IsWhole : Answer → Type 0
 IsWhole k = length k.outs ≡ length k.word
+
+-- a kept answer with one output for each letter
+abbrev pub IsWholeKept : KeptAnswer → Type 0
+IsWholeKept k = IsWhole (answer_of k)
 
 -- a word over a letters with as many outputs
 abbrev pub IsAnswer : ℕ → Answer → Type 0

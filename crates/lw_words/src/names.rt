@@ -3,7 +3,8 @@
 ghost use Rattle.std.specs.Prelude.{◌≡◌, ℕ, ◌<◌, ◌≤◌, ◌↔◌, List, length, map, string_bytes, slice_get, Some, IfOk, OnOk, IfErr, IfSome, IfNone, IsTrue, take};
 ghost use Rattle.std.specs.List.{All};
 ghost use Rattle.lw_words.specs.First.{FailsFirst};
-ghost use Rattle.lw_words.specs.Name.{IsName, IsNames, AllDiffer, number_of, HasFault};
+ghost use Rattle.lw_words.specs.Name.{HasFault};
+ghost use Rattle.lw_words.specs.Word.{IsName, IsNames, AllDiffer, number_of};
 ghost use Rattle.lw_words.specs.bodies.Numbers.{AreNumbers};
 
 use crate::NoMemory;
@@ -66,7 +67,7 @@ pub struct Names {
 
 impl Model for Names {
     ghost use Rattle.std.specs.Prelude.{List, ℕ, map, string_bytes};
-    ghost use Rattle.lw_words.specs.Name.{IsNames};
+    ghost use Rattle.lw_words.specs.Word.{IsNames};
     ghost use Rattle.lw_words.specs.bodies.Numbers.{AreNumbers};
 
     ghost Value = { List (List ℕ) };

@@ -1,8 +1,7 @@
 -- What is seen of the nodes as they are gone through once.
 use Rattle.std.specs.Prelude.{◌≡◌, ◌≢◌, ◌⊎◌, ◌↔◌, ℕ, ◌<◌, List, length, Contains, Option, Some, None, slice_index}
 use Rattle.std.specs.declared.cmp.Ordering.TheVariants.{Less}
-use Rattle.lw_words.specs.Name.{AllDiffer}
-use Rattle.lw_words.specs.Word.{shortlex_cmp}
+use Rattle.lw_words.specs.Word.{AllDiffer, shortlex_cmp}
 use Rattle.lw_mealy.specs.Machine.{Rows, after, output}
 use Rattle.lw_cache.specs.bodies.Trie.{word_of, no_answer, no_claim}
 use Rattle.lw_cache.specs.declared.node.Node.{Node}

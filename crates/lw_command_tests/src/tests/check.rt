@@ -1,6 +1,6 @@
 //! The rows worked by hand, over files and streams in memory.
-use crate::tests::memory::{files, sink};
-use lw_check::{check, decision_exists, decision_is_unique};
+use crate::tests::memory::{files, sink, string};
+use lw_check::{CheckArguments, check, decision_exists, decision_is_unique};
 use lw_outside::{MemoryFiles, MemorySink};
 use lw_suite::Method;
 use std::alloc::Global;
@@ -77,14 +77,20 @@ fn prepare(rt: &impl Abort, alloc: Global, case: &Case) -> Outside {
     }
 }
 
+fn arguments(rt: &impl Abort, alloc: Global, extra: u8) -> CheckArguments {
+    CheckArguments {
+        model: string(rt, alloc, "m"),
+        answers: string(rt, alloc, "k"),
+        extra: extra.min(4),
+        suite: Method::W,
+    }
+}
+
 /// The exit status of a call: the clauses of `check` would weigh down each proof that calls it.
-fn status(alloc: Global, extra: u8, outside: &mut Outside) -> u8 {
+fn status(alloc: Global, arguments: &CheckArguments, outside: &mut Outside) -> u8 {
     check(
         alloc,
-        "m",
-        "k",
-        extra.min(4),
-        Method::W,
+        arguments,
         &mut outside.files,
         &mut outside.out,
         &mut outside.err,
@@ -100,7 +106,8 @@ fn check_written(rt: &impl Abort, case: &Case, outside: &Outside) {
 
 fn checks(rt: &impl Abort, alloc: Global, case: &Case) {
     let mut outside = prepare(rt, alloc, case);
-    let status = status(alloc, case.extra, &mut outside);
+    let arguments = arguments(rt, alloc, case.extra);
+    let status = status(alloc, &arguments, &mut outside);
     check_written(rt, case, &outside);
     assert!(rt; status == case.status);
 }

@@ -1,9 +1,9 @@
 -- Two models that go together, by the letters of the first one: a machine over the pairs of their states.
 use Rattle.std.specs.Prelude.{◌≡◌, ℕ, ◌+◌, ◌*◌, ◌/◌, ◌%◌, ◌<◌, List, [], length, map, slice_index_or, Option, None}
 use Rattle.std.specs.List.{range_with_len}
-use Rattle.lw_words.specs.Name.{IsNames, number_of}
+use Rattle.lw_words.specs.Word.{IsNames, number_of}
 use Rattle.lw_mealy.specs.Machine.{IsWithinLimits, Row, Rows, next, output}
-use Rattle.lw_json.specs.declared.machine.Machine.{Machine}
+use Rattle.lw_json.specs.declared.files.Machine.{Machine}
 use Rattle.lw_compare.specs.Comparing.{SameInputs, number_or_zero}
 
 -- the number of a letter in the second model

@@ -1,6 +1,6 @@
 -- What becomes of an outcome in writing out.
 use Rattle.std.specs.Prelude.{◌≡◌, ◌⊎◌}
-use Rattle.lw_json.specs.declared.machine.Machine.{Machine}
+use Rattle.lw_json.specs.declared.files.Machine.{Machine}
 use Rattle.lw_compare.specs.Decision.{IsComparison}
 use Rattle.lw_compare.specs.Outcomes.{IsAnswered}
 use Rattle.lw_report.specs.declared.comparison.Comparison.{Comparison}

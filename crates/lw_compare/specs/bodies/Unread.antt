@@ -2,16 +2,16 @@
 use Rattle.std.specs.Prelude.{◌≡◌, ◌⊎◌, ℕ, List, true, false, Option}
 use Rattle.lw_words.specs.Cause.{CountedFault}
 use Rattle.lw_json.specs.MachineFault.{HasMachineFault}
-use Rattle.lw_json.specs.MachineFile.{IsMachineFile}
+use Rattle.lw_json.specs.Formats.{IsMachineFile}
 use Rattle.lw_json.specs.declared.fault.JsonFault.{JsonFault}
-use Rattle.lw_outside.specs.Files.{Call, File, HoldsLong, noted, read_call, FilesState}
-use Rattle.lw_system.specs.Reading.{ReadsBadFile, ReadsFile}
+use Rattle.lw_outside.specs.Files.{Call, File, HoldsLong, noted, read_call, FilesState, ReadsFile}
+use Rattle.lw_system.specs.Reading.{ReadsBadFile}
 use Rattle.lw_system.specs.declared.stops.ReadStop.{ReadStop}
 use Rattle.lw_system.specs.declared.stops.ReadStop.TheVariants as stop
 use Rattle.lw_report.specs.Stops.{read_outcome}
 use Rattle.lw_report.specs.declared.outcome.Outcome.{Outcome}
 use Rattle.lw_report.specs.declared.role.Role.TheVariants.{Model, Second}
-use Rattle.lw_json.specs.declared.machine.Machine.{Machine}
+use Rattle.lw_json.specs.declared.files.Machine.{Machine}
 use Rattle.lw_compare.specs.Reading.{first_read}
 
 -- what a stop of the read of a model says of the files before and after it

@@ -1,6 +1,6 @@
 -- The walk over the pairs of states, as far as it has come.
 use Rattle.std.specs.Prelude.{◌≡◌, ℕ, ◌+◌, ◌<◌, ◌≤◌, List, [], ◌∷◌, ◌++◌, length, slice_index_or}
-use Rattle.lw_json.specs.declared.machine.Machine.{Machine}
+use Rattle.lw_json.specs.declared.files.Machine.{Machine}
 use Rattle.lw_separate.specs.bodies.Search.{IsSearch}
 use Rattle.lw_compare.specs.declared.walk.Step.{Step}
 use Rattle.lw_compare.specs.declared.walk.Walk.{Walk}

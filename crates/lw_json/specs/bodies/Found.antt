@@ -2,8 +2,7 @@
 use Rattle.std.specs.Prelude.{◌≡◌, ℕ, List, Option, Vec, String, map, option_map, string_bytes}
 use Rattle.std.specs.Borrow.{Bor}
 use Rattle.std.specs.declared.alloc.Global.{Global}
-use Rattle.lw_json.specs.AnswersFile.{WrittenAnswer}
-use Rattle.lw_json.specs.MachineFile.{NamedRow}
+use Rattle.lw_json.specs.Formats.{WrittenAnswer, NamedRow}
 use Rattle.lw_json.specs.bodies.AnswersParts.{said_answer}
 use Rattle.lw_json.specs.declared.said_answer.SaidAnswer.{SaidAnswer}
 

@@ -4,7 +4,7 @@ use Rattle.lw_mealy.specs.Fault.{RowsHaveFault}
 use Rattle.lw_mealy.specs.Machine.{Rows}
 use Rattle.lw_mealy.specs.declared.fault.MealyFault.{MealyFault}
 use Rattle.lw_mealy.specs.declared.fault.MealyFault.TheVariants as mealy_fault
-use Rattle.lw_json.specs.MachineFile.{NamedRow, WrittenMachine}
+use Rattle.lw_json.specs.Formats.{NamedRow, WrittenMachine}
 use Rattle.lw_json.specs.MachineFault.{UnknownFirst}
 use Rattle.lw_json.specs.declared.fault.JsonFault.{JsonFault}
 use Rattle.lw_json.specs.declared.fault.JsonFault.TheVariants.{UnknownOutput, NoMemory}

@@ -2,7 +2,7 @@
 use Rattle.std.specs.Prelude.{◌≡◌, ◌⊎◌, ℕ, List, Bool, Some}
 use Rattle.serde_json.specs.Data.{Data}
 use Rattle.lw_json.specs.Fault.{first_failing}
-use Rattle.lw_json.specs.Members.{IsJson}
+use Rattle.lw_json.specs.Formats.{IsJson}
 use Rattle.lw_json.specs.declared.fault.Field.{Field}
 use Rattle.lw_json.specs.declared.fault.JsonFault.{JsonFault}
 use Rattle.lw_json.specs.declared.fault.JsonFault.TheVariants.{NotJson, Shape, NoMemory}

@@ -5,14 +5,13 @@ use Rattle.std.specs.Str.Lossy.{utf8_lossy}
 use Rattle.lw_words.specs.Word.{answers_of, IsWord}
 use Rattle.lw_words.specs.declared.kept.KeptAnswer.{KeptAnswer}
 use Rattle.lw_json.specs.AnswersFault.{HasAnswersFault}
-use Rattle.lw_json.specs.AnswersFile.{IsAnswersFile}
-use Rattle.lw_json.specs.declared.answers.Answers.{Answers}
-use Rattle.lw_outside.specs.Files.{File, FilesState}
+use Rattle.lw_json.specs.Formats.{IsAnswersFile}
+use Rattle.lw_json.specs.declared.files.Answers.{Answers}
+use Rattle.lw_outside.specs.Files.{File, FilesState, ReadsFile}
 use Rattle.lw_wordlist.specs.Lines.{lines_in}
 use Rattle.lw_wordlist.specs.Words.{IsFirstUnknown}
 use Rattle.lw_cache.specs.FirstClash.{IsFirstClash}
 use Rattle.lw_prior.specs.Prior.{prior_answers}
-use Rattle.lw_system.specs.Reading.{ReadsFile}
 use Rattle.lw_report.specs.declared.outcome.Outcome.{Outcome}
 use Rattle.lw_report.specs.declared.outcome.Outcome.TheVariants.{Alphabets, NoMemory, Nondeterministic, UnknownLetter}
 use Rattle.lw_report.specs.declared.role.Role.TheVariants.{Prior}

@@ -1,7 +1,7 @@
 -- Lines that are sent over a link, and what is received for them.
 use Rattle.std.specs.Prelude.{◌≡◌, ◌≢◌, ◌⊎◌, ℕ, List, [], ◌∷◌, ◌++◌, codes, Option, None, option_map}
 use Rattle.std.specs.Str.Lines.{strip_carriage_return}
-use Rattle.lw_words.specs.Name.{IsName}
+use Rattle.lw_words.specs.Word.{IsName}
 use Rattle.lw_words.specs.declared.stop.SulStop.{SulStop}
 use Rattle.lw_words.specs.declared.stop.SulStop.TheVariants.{Failed, BadLine}
 use Rattle.lw_outside.specs.Links.{Transcript, SendsPart, sends}

@@ -1,7 +1,7 @@
 -- How far a child has come that plays a machine.
 use Rattle.std.specs.Prelude.{◌≡◌, ◌≢◌, ◌⊎◌, ℕ, ◌+◌, ◌<◌, List, [], ◌∷◌, ◌++◌, length, Option, Some, None, Result, Ok, Err}
 use Rattle.std.specs.List.{All}
-use Rattle.lw_json.specs.declared.machine.Machine.{Machine}
+use Rattle.lw_json.specs.declared.files.Machine.{Machine}
 use Rattle.lw_outside.specs.Played.{Answer, Quit as Quits, Refuse, move_of, greatest_lines, ended_lines}
 use Rattle.lw_outside.specs.Streams.{Gave, IsSpent, TakesAll, TakesSome}
 use Rattle.lw_line.specs.declared.serving.Turn.{Turn}

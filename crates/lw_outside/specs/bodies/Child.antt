@@ -1,6 +1,6 @@
 -- Children in memory, by what they have still to say.
 use Rattle.std.specs.Prelude.{◌≡◌, ℕ, ◌+◌, ◌<◌, ◌≤◌, List, [], ◌∷◌, ◌++◌, length, drop, slice_index_or, Bool, true, false, Option, Some, None}
-use Rattle.lw_json.specs.declared.machine.Machine.{Machine}
+use Rattle.lw_json.specs.declared.files.Machine.{Machine}
 use Rattle.lw_outside.specs.Lines.{lines_of, rest_of, split_bytes}
 use Rattle.lw_outside.specs.Played.{ended_lines, played_from}
 use Rattle.lw_outside.specs.Protocol.{out_line, ready_line}

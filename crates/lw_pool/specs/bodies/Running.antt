@@ -1,8 +1,7 @@
 -- What a batch leaves of the hands and of what they share.
 use Rattle.std.specs.Prelude.{◌≡◌, ◌⊎◌, ℕ, ◌≤◌, List, [], length, Option, Some}
 use Rattle.std.specs.List.{All}
-use Rattle.lw_words.specs.Word.{answers_of, IsWhole}
-use Rattle.lw_words.specs.Name.{AllDiffer}
+use Rattle.lw_words.specs.Word.{answers_of, IsWhole, AllDiffer}
 use Rattle.lw_cache.specs.declared.stops.AskStop.{AskStop}
 use Rattle.lw_cache.specs.declared.stops.AskStop.TheVariants.{NoMemory}
 use Rattle.lw_turn.specs.declared.shared.Entry.{Entry}

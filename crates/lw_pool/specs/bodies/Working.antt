@@ -1,7 +1,7 @@
 -- What a worker does with its places, and what that leaves of its session.
 use Rattle.std.specs.Prelude.{◌≡◌, ◌⊎◌, ℕ, ◌<◌, ◌≤◌, List, [], ◌∷◌, ◌++◌, length, true, Option, Some, None, is_some}
 use Rattle.std.specs.List.{All}
-use Rattle.lw_words.specs.Name.{IsName, AllDiffer}
+use Rattle.lw_words.specs.Word.{IsName, AllDiffer}
 use Rattle.lw_words.specs.declared.stop.SulStop.{SulStop}
 use Rattle.lw_words.specs.declared.stop.RunStop.{RunStop}
 use Rattle.lw_words.specs.declared.stop.RunStop.TheVariants as Run

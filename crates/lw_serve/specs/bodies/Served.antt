@@ -1,7 +1,7 @@
 -- What came of serving a machine, before and after its text was put.
 use Rattle.std.specs.Prelude.{◌≡◌, ℕ, Result, Ok, Err}
 use Rattle.lw_words.specs.Cause.{CountedFault}
-use Rattle.lw_json.specs.declared.machine.Machine.{Machine}
+use Rattle.lw_json.specs.declared.files.Machine.{Machine}
 use Rattle.lw_line.specs.Serving.{GoesOn, Plays}
 use Rattle.lw_line.specs.declared.serving.Served.{Served}
 use Rattle.lw_line.specs.declared.serving.ServedCause.TheVariants.{EndOfInput, Limit}

@@ -1,12 +1,11 @@
 -- What comes of the reading of a table file, and of what a setup says.
 use Rattle.std.specs.Prelude.{◌≡◌, ℕ, ◌≤◌, List, [], ◌++◌, Result, IfOk, IfErr, OnOk}
-use Rattle.lw_json.specs.MachineFile.{IsMachineFile}
-use Rattle.lw_json.specs.declared.machine.Machine.{Machine}
+use Rattle.lw_json.specs.Formats.{IsMachineFile}
+use Rattle.lw_json.specs.declared.files.Machine.{Machine}
 use Rattle.lw_json.specs.declared.setup.Setup.{Setup}
 use Rattle.lw_json.specs.declared.setup.Setup.TheVariants as setup
-use Rattle.lw_outside.specs.Files.{File, FilesState}
+use Rattle.lw_outside.specs.Files.{File, FilesState, ReadsFile}
 use Rattle.lw_system.specs.Finding.{IsNoTable}
-use Rattle.lw_system.specs.Reading.{ReadsFile}
 use Rattle.lw_system.specs.Reads.{MadeReads}
 use Rattle.lw_system.specs.Systems.{SaysSystem}
 use Rattle.lw_system.specs.declared.stops.SystemStop.{SystemStop}

@@ -1,8 +1,7 @@
 //! The arguments of `ask`.
 ghost use Rattle.std.specs.Prelude.{◌≡◌, [], string_bytes, map, Some, None, Err, IfOk, option_map};
 ghost use Rattle.clap.specs.Words.{found_of, rows_of};
-ghost use Rattle.lw_top.specs.CommandLine.{texts};
-ghost use Rattle.lw_top.specs.Options.{app_for};
+ghost use Rattle.lw_top.specs.CommandLine.{texts, app_for};
 ghost use Rattle.lw_top.specs.AskCommand.{ask_app, ask_values, values_from, values_in};
 ghost use Rattle.lw_top.specs.declared.values.ArgumentStop.{ArgumentStop as Stop};
 

@@ -2,8 +2,7 @@
 ghost use Rattle.std.specs.Prelude.{◌≡◌, Some, None, Err, IfOk, IfSome, option_map, string_bytes};
 ghost use Rattle.clap.specs.Words.{found_of, rows_of};
 ghost use Rattle.lw_learn.specs.Arguments.{AreFewDrawn};
-ghost use Rattle.lw_top.specs.CommandLine.{texts};
-ghost use Rattle.lw_top.specs.Options.{app_for};
+ghost use Rattle.lw_top.specs.CommandLine.{texts, app_for};
 ghost use Rattle.lw_top.specs.LearnCommand.{drawn_in, file_names, files_in, learn_app, learn_values, setting_values, settings_in, source_from, source_in, values_in};
 ghost use Rattle.lw_top.specs.declared.values.ArgumentStop.{ArgumentStop as Stop};
 

@@ -1,8 +1,7 @@
 //! The arguments of `recheck`.
 ghost use Rattle.std.specs.Prelude.{◌≡◌, Some, None, Err, IfOk};
 ghost use Rattle.clap.specs.Words.{found_of, rows_of};
-ghost use Rattle.lw_top.specs.CommandLine.{texts};
-ghost use Rattle.lw_top.specs.Options.{app_for};
+ghost use Rattle.lw_top.specs.CommandLine.{texts, app_for};
 ghost use Rattle.lw_top.specs.RecheckCommand.{recheck_app, recheck_values, values_in};
 ghost use Rattle.lw_top.specs.declared.values.ArgumentStop.{ArgumentStop as Stop};
 

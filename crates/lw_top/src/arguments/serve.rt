@@ -1,7 +1,6 @@
 //! The arguments of `serve`.
 ghost use Rattle.std.specs.Prelude.{◌≡◌, string_bytes, Some, None, Err, IfOk};
-ghost use Rattle.lw_top.specs.CommandLine.{texts};
-ghost use Rattle.lw_top.specs.Options.{app_for};
+ghost use Rattle.lw_top.specs.CommandLine.{texts, app_for};
 ghost use Rattle.lw_top.specs.ServeCommand.{serve_app, serve_values};
 ghost use Rattle.lw_top.specs.declared.values.ArgumentStop.{ArgumentStop as Stop};
 

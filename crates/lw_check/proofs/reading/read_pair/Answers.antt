@@ -1,9 +1,8 @@
 use Rattle.std.proofs.Common.{◌≡◌, ◌∙◌, ⊎_elim, inl, inr, sym, List, ℕ, Option, Err, true, false, refl, ap, subst}
-use Rattle.lw_json.specs.AnswersFile.{IsAnswersFile}
+use Rattle.lw_json.specs.Formats.{IsAnswersFile, IsMachineFile}
 use Rattle.lw_json.specs.AnswersFault.{HasAnswersFault}
-use Rattle.lw_json.specs.MachineFile.{IsMachineFile}
-use Rattle.lw_outside.specs.Files.{File, HoldsLong, noted, read_call}
-use Rattle.lw_system.specs.Reading.{ReadsFile, ReadsBadFile}
+use Rattle.lw_outside.specs.Files.{File, HoldsLong, noted, read_call, ReadsFile}
+use Rattle.lw_system.specs.Reading.{ReadsBadFile}
 use Rattle.lw_words.specs.Cause.{CountedFault}
 use Rattle.lw_system.specs.declared.stops.ReadStop.{ReadStop}
 use Rattle.lw_check.proofs.ReadLemmas.{unread_answers, unread_model}

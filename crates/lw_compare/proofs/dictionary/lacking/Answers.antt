@@ -1,6 +1,6 @@
 use Rattle.std.proofs.Common.{is_none, map, string_bytes}
 use Rattle.std.proofs.lemmas.Option.{slice_get_within}
-use Rattle.lw_words.specs.Name.{number_of}
+use Rattle.lw_words.specs.Word.{number_of}
 use Rattle.lw_compare.proofs.NameLemmas.{filter_step}
 use Rattle.lw_compare.proofs.dictionary.lacking.Goals as goal
 

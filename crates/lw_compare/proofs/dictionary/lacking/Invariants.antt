@@ -1,6 +1,6 @@
 use Rattle.std.proofs.Common.{◌≡◌, map, take, is_none, string_bytes}
 use Rattle.std.specs.List.{filter}
-use Rattle.lw_words.specs.Name.{number_of}
+use Rattle.lw_words.specs.Word.{number_of}
 use Rattle.lw_compare.proofs.dictionary.lacking.Given as goal
 
 abbrev pub invariant-loop-place : goal.invariant-loop-place

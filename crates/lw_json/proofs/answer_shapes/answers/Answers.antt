@@ -1,7 +1,7 @@
 use Rattle.std.proofs.Common.{◌∙◌, ◌∷◌, [], ap, map, option_map, sym}
 use Rattle.std.proofs.lemmas.List.{map-append}
 use Rattle.serde_json.specs.View.{view}
-use Rattle.lw_json.specs.AnswersFile.{written_answer_of}
+use Rattle.lw_json.specs.Formats.{written_answer_of}
 use Rattle.lw_json.specs.bodies.AnswersParts.{said_answer}
 use Rattle.lw_json.proofs.EachLemmas.{going_more, going_none}
 use Rattle.lw_json.proofs.answer_shapes.answers.Goals as goal

@@ -1,6 +1,6 @@
 use Rattle.std.proofs.Common.{◌≡◌, ◌++◌, drop, map, option_map}
 use Rattle.serde_json.specs.View.{view}
-use Rattle.lw_json.specs.AnswersFile.{pairs_from}
+use Rattle.lw_json.specs.Formats.{pairs_from}
 use Rattle.lw_json.specs.bodies.AnswersParts.{said_answer}
 use Rattle.lw_json.proofs.answer_shapes.pairs.Given as goal
 

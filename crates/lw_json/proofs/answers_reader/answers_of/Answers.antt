@@ -1,8 +1,6 @@
 use Rattle.std.proofs.Common.{◌≡◌, ◌∙◌, List, ℕ, ap, map, string_bytes, subst, sym, Some}
-use Rattle.lw_json.specs.AnswersFile.{WrittenAnswers, numbered_answer}
+use Rattle.lw_json.specs.Formats.{WrittenAnswers, numbered_answer, each_of, AreInputs}
 use Rattle.lw_json.specs.AnswersFault.{SaysAnswersFault}
-use Rattle.lw_json.specs.Each.{each_of}
-use Rattle.lw_json.specs.MachineFile.{AreInputs}
 use Rattle.lw_json.specs.bodies.AnswersParts.{said_answer, said_answers, written}
 use Rattle.lw_json.proofs.AnswersFaults.{inputs_fault, outputs_fault}
 use Rattle.lw_json.proofs.Faults.{handed_on}

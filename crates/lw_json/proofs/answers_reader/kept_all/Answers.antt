@@ -1,6 +1,6 @@
 use Rattle.std.proofs.Common.{◌≡◌, ◌∙◌, sym, Some, refl}
 use Rattle.lw_words.proofs.Lists.{within-map_more}
-use Rattle.lw_json.specs.AnswersFile.{numbered_answer}
+use Rattle.lw_json.specs.Formats.{numbered_answer}
 use Rattle.lw_json.specs.AnswersFault.{AnswerHasWords}
 use Rattle.lw_json.specs.bodies.AnswersParts.{said_answer}
 use Rattle.lw_json.proofs.EachLemmas.{going_more}

@@ -1,6 +1,6 @@
 use Rattle.std.proofs.Common.{drop, map}
 use Rattle.std.specs.List.{AllWithin}
-use Rattle.lw_json.specs.AnswersFile.{numbered_answer}
+use Rattle.lw_json.specs.Formats.{numbered_answer}
 use Rattle.lw_json.specs.AnswersFault.{AnswerHasWords}
 use Rattle.lw_json.specs.bodies.AnswersParts.{said_answer}
 use Rattle.lw_json.proofs.EachLemmas.{Going}

@@ -1,5 +1,5 @@
 use Rattle.std.proofs.Common.{map}
-use Rattle.lw_json.specs.AnswersFile.{WrittenAnswers}
+use Rattle.lw_json.specs.Formats.{WrittenAnswers}
 use Rattle.lw_json.specs.AnswersFault.{SaysAnswersFault}
 use Rattle.lw_json.specs.bodies.AnswersParts.{said_answer, written}
 use Rattle.lw_json.proofs.AnswersFaults.{words_fault}

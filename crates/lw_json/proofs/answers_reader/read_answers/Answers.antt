@@ -1,7 +1,7 @@
 use Rattle.serde_json.specs.View.{view}
-use Rattle.lw_json.specs.AnswersFile.{SpellsAnswers, IsAnswersFile, SameAnswers}
+use Rattle.lw_json.specs.Formats.{SpellsAnswers, IsAnswersFile, SameAnswers}
 use Rattle.lw_json.specs.bodies.AnswersParts.{said_answers}
-use Rattle.lw_json.specs.declared.answers.Answers.{Answers}
+use Rattle.lw_json.specs.declared.files.Answers.{Answers}
 use Rattle.lw_json.proofs.Faults.{value_holds}
 use Rattle.lw_json.proofs.OneAnswers.{one_answers}
 use Rattle.lw_json.proofs.answers_reader.read_answers.Goals as goal

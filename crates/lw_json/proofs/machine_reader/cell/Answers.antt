@@ -1,7 +1,7 @@
 use Rattle.std.proofs.Common.{◌∙◌, ◌<◌, ◌≤◌, ◌⊎◌, ⊎_elim, inl, inr, length, map, option_and_then, sym, ap, arith}
 use Rattle.std.proofs.lemmas.List.{length-map}
 use Rattle.serde_json.specs.View.{view}
-use Rattle.lw_json.specs.MachineFile.{cell_of_two}
+use Rattle.lw_json.specs.Formats.{cell_of_two}
 use Rattle.lw_json.proofs.EachLemmas.{short_no_pair, long_no_pair}
 use Rattle.lw_json.proofs.machine_reader.cell.Goals as goal
 use Rattle.lw_json.proofs.machine_reader.cell.Goals.{in_default-via-then-as_slice-lt2, in_default-via-else-as_slice-lt2+else-this-lt3}

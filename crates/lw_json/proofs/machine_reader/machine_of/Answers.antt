@@ -1,5 +1,5 @@
 use Rattle.std.proofs.Common.{◌≡◌, ◌∙◌, List, ℕ, ap, map, string_bytes, subst, sym, Some}
-use Rattle.lw_json.specs.MachineFile.{WrittenMachine, AreInputs, numbered_rows}
+use Rattle.lw_json.specs.Formats.{WrittenMachine, AreInputs, numbered_rows}
 use Rattle.lw_json.specs.MachineFault.{SaysMachineFault}
 use Rattle.lw_json.specs.bodies.MachineParts.{said_machine, written}
 use Rattle.lw_json.proofs.Faults.{handed_on}

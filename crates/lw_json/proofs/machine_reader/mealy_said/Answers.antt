@@ -1,6 +1,6 @@
 use Rattle.std.proofs.Common.{◌≡◌, ◌∙◌, ap, map, sym, Some}
 use Rattle.lw_mealy.specs.Machine.{MealyMachine, mealy_of}
-use Rattle.lw_json.specs.MachineFile.{WrittenMachine, numbered_rows}
+use Rattle.lw_json.specs.Formats.{WrittenMachine, numbered_rows}
 use Rattle.lw_json.specs.MachineFault.{SaysMachineFault}
 use Rattle.lw_json.specs.bodies.Found.{named_row}
 use Rattle.lw_json.specs.bodies.MachineParts.{written, IsFaultOfRows}

@@ -2,8 +2,7 @@ use Rattle.std.proofs.Common.{◌≡◌, ◌∙◌, ◌∷◌, [], ap, map, Some
 use Rattle.std.specs.List.{All}
 use Rattle.std.proofs.lemmas.List.{map-append}
 use Rattle.lw_words.proofs.Lists.{within-map_more}
-use Rattle.lw_json.specs.Each.{each_of}
-use Rattle.lw_json.specs.MachineFile.{NamedRow, numbered_cell}
+use Rattle.lw_json.specs.Formats.{each_of, NamedRow, numbered_cell}
 use Rattle.lw_json.specs.MachineFault.{HasOutputIn}
 use Rattle.lw_json.specs.bodies.MachineParts.{UnknownAt}
 use Rattle.lw_json.proofs.EachLemmas.{going_more}

@@ -1,7 +1,6 @@
 use Rattle.std.proofs.Common.{map, drop}
 use Rattle.std.specs.List.{All, AllWithin}
-use Rattle.lw_json.specs.Each.{each_of}
-use Rattle.lw_json.specs.MachineFile.{numbered_cell}
+use Rattle.lw_json.specs.Formats.{each_of, numbered_cell}
 use Rattle.lw_json.specs.MachineFault.{HasOutputIn}
 use Rattle.lw_json.proofs.EachLemmas.{Going}
 use Rattle.lw_json.proofs.machine_reader.numbered.Given as goal

@@ -1,6 +1,6 @@
 use Rattle.std.proofs.Common.{◌∙◌, ℕ, List, [], Bor, ap, sym, get_or, inr, refl, option_map, true≢false}
 use Rattle.lw_words.proofs.Lists.{within-map_more}
-use Rattle.lw_json.specs.MachineFile.{numbered_cell}
+use Rattle.lw_json.specs.Formats.{numbered_cell}
 use Rattle.lw_json.specs.MachineFault.{HasOutputIn}
 use Rattle.lw_json.proofs.EachLemmas.{going_more, fails_here, element}
 use Rattle.lw_json.proofs.machine_reader.numbered_row.Goals as goal

@@ -1,6 +1,6 @@
 use Rattle.std.proofs.Common.{map, drop}
 use Rattle.std.specs.List.{AllWithin}
-use Rattle.lw_json.specs.MachineFile.{numbered_cell}
+use Rattle.lw_json.specs.Formats.{numbered_cell}
 use Rattle.lw_json.specs.MachineFault.{HasOutputIn}
 use Rattle.lw_json.proofs.EachLemmas.{Going}
 use Rattle.lw_json.proofs.machine_reader.numbered_row.Given as goal

@@ -1,7 +1,7 @@
 use Rattle.serde_json.specs.View.{view}
-use Rattle.lw_json.specs.MachineFile.{SpellsMachine, IsMachineFile, SameMachine}
+use Rattle.lw_json.specs.Formats.{SpellsMachine, IsMachineFile, SameMachine}
 use Rattle.lw_json.specs.bodies.MachineParts.{said_machine}
-use Rattle.lw_json.specs.declared.machine.Machine.{Machine}
+use Rattle.lw_json.specs.declared.files.Machine.{Machine}
 use Rattle.lw_json.proofs.Faults.{value_holds}
 use Rattle.lw_json.proofs.OneValue.{one_value}
 use Rattle.lw_json.proofs.machine_reader.read_machine.Goals as goal

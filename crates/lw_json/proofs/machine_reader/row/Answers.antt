@@ -1,7 +1,7 @@
 use Rattle.std.proofs.Common.{◌∙◌, ◌∷◌, [], ap, sym, map}
 use Rattle.std.proofs.lemmas.List.{map-append}
 use Rattle.serde_json.specs.View.{view}
-use Rattle.lw_json.specs.MachineFile.{cell_of}
+use Rattle.lw_json.specs.Formats.{cell_of}
 use Rattle.lw_json.proofs.EachLemmas.{going_more}
 use Rattle.lw_json.proofs.machine_reader.row.Goals as goal
 

@@ -1,6 +1,6 @@
 use Rattle.std.proofs.Common.{drop, map}
 use Rattle.serde_json.specs.View.{view}
-use Rattle.lw_json.specs.MachineFile.{cell_of}
+use Rattle.lw_json.specs.Formats.{cell_of}
 use Rattle.lw_json.proofs.EachLemmas.{Going}
 use Rattle.lw_json.proofs.machine_reader.row.Given as goal
 

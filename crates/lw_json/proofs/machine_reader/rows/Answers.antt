@@ -1,7 +1,7 @@
 use Rattle.std.proofs.Common.{◌≡◌, ◌∙◌, ◌∷◌, [], ap, map, rules, Some, None}
 use Rattle.std.proofs.lemmas.List.{map-append}
 use Rattle.serde_json.specs.View.{view}
-use Rattle.lw_json.specs.MachineFile.{row_of}
+use Rattle.lw_json.specs.Formats.{row_of}
 use Rattle.lw_json.specs.bodies.Found.{named_row}
 use Rattle.lw_json.proofs.EachLemmas.{going_more, going_none}
 use Rattle.lw_json.proofs.machine_reader.rows.Goals as goal

@@ -1,6 +1,6 @@
 use Rattle.std.proofs.Common.{map, drop}
 use Rattle.serde_json.specs.View.{view}
-use Rattle.lw_json.specs.MachineFile.{row_of}
+use Rattle.lw_json.specs.Formats.{row_of}
 use Rattle.lw_json.proofs.EachLemmas.{Going}
 use Rattle.lw_json.proofs.machine_reader.rows.Given as goal
 

@@ -7,7 +7,7 @@ use Rattle.serde_json.specs.View.{view}
 use Rattle.serde_json.specs.Read.{read}
 use Rattle.serde_json.specs.Written.{compact_text, has_float}
 use Rattle.lw_json.specs.MachineText.{machine_data, cell_data, row_data}
-use Rattle.lw_json.specs.declared.machine.Machine.{Machine}
+use Rattle.lw_json.specs.declared.files.Machine.{Machine}
 use Rattle.lw_json.proofs.EachLemmas.{no_float_items}
 use Rattle.lw_json.proofs.LineFeed.{read-line_feed}
 use Rattle.lw_json.proofs.RoundTrip.{written_of, says_it, spelled, machine_depth}

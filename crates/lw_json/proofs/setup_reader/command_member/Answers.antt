@@ -1,6 +1,6 @@
 use Rattle.std.proofs.Common.{◌≡◌, ◌∙◌, List, ℕ, Bool, Some, None, false, ap, sym, map, string_bytes, codes, option_and_then, if◌then◌else◌}
 use Rattle.serde_json.specs.View.{view}
-use Rattle.lw_json.specs.Members.{texts_at}
+use Rattle.lw_json.specs.Formats.{texts_at}
 use Rattle.lw_json.specs.SetupFile.{is_child_command}
 use Rattle.lw_json.proofs.setup_reader.command_member.Goals as goal
 

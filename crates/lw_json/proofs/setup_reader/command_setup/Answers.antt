@@ -1,5 +1,5 @@
 use Rattle.std.proofs.Common.{◌∙◌, List, ℕ, Option, ap, map, option_map, string_bytes, subst}
-use Rattle.lw_json.specs.MachineFile.{AreInputs}
+use Rattle.lw_json.specs.Formats.{AreInputs}
 use Rattle.lw_json.specs.SetupFile.{WrittenSetup, SaysSetupFault, AreOutputs}
 use Rattle.lw_json.specs.bodies.SetupParts.{said_command}
 use Rattle.lw_json.proofs.Faults.{handed_on}

@@ -1,5 +1,5 @@
 use Rattle.std.proofs.Common.{◌∙◌, sym, List, ℕ, [], Bor, get_or}
-use Rattle.lw_words.specs.Name.{number_of}
+use Rattle.lw_words.specs.Word.{number_of}
 use Rattle.lw_json.proofs.EachLemmas.{going_more, going_none, element}
 use Rattle.lw_json.proofs.word_reader.letters.Goals as goal
 

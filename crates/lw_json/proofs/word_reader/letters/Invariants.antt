@@ -1,5 +1,5 @@
 use Rattle.std.proofs.Common.{drop}
-use Rattle.lw_words.specs.Name.{number_of}
+use Rattle.lw_words.specs.Word.{number_of}
 use Rattle.lw_json.proofs.EachLemmas.{Going}
 use Rattle.lw_json.proofs.word_reader.letters.Given as goal
 

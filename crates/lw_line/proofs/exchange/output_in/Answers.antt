@@ -1,5 +1,5 @@
 use Rattle.std.proofs.Common.{◌≡◌, ◌<◌, ℕ, List, length, Option, None, Some, MatchOption, IfNone, IfSome, codes, refl, subst}
-use Rattle.lw_words.specs.Name.{IsName, number_of}
+use Rattle.lw_words.specs.Word.{IsName, number_of}
 use Rattle.lw_names.specs.Names.{Brings}
 use Rattle.lw_outside.specs.Protocol.{bytes_behind, out_line}
 use Rattle.lw_line.specs.Transcripts.{number_behind}

@@ -1,5 +1,5 @@
 use Rattle.std.proofs.Common.{◌≡◌, ◌++◌, ◌∷◌, [], ℕ, List, None, ap, sym, ◌∙◌, rules}
-use Rattle.lw_words.specs.Name.{number_of}
+use Rattle.lw_words.specs.Word.{number_of}
 use Rattle.lw_line.proofs.Naming.{HasComeNew, came_new}
 use Rattle.lw_line.proofs.outputs.free_number.Goals as goal
 use Rattle.lw_line.proofs.outputs.free_number.Goals.{After-push_reserved}

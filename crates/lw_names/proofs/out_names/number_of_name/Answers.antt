@@ -1,5 +1,5 @@
 use Rattle.std.proofs.Common.{ℕ, List, sym, ap, ◌∙◌}
-use Rattle.lw_words.specs.Name.{number_of}
+use Rattle.lw_words.specs.Word.{number_of}
 use Rattle.lw_names.proofs.Bringing.{found_name}
 use Rattle.lw_names.proofs.out_names.number_of_name.Goals as goal
 

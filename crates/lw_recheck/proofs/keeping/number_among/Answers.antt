@@ -1,7 +1,7 @@
 use Rattle.std.proofs.Common.{◌≡◌, ◌∙◌, ℕ, List, rules, subst, sym}
 use Rattle.std.proofs.lemmas.Option.{slice_get_within}
 use Rattle.lw_names.proofs.NameLemmas.{is_name_at}
-use Rattle.lw_words.specs.Name.{IsName}
+use Rattle.lw_words.specs.Word.{IsName}
 use Rattle.lw_line.proofs.Naming.{name_is_text}
 use Rattle.lw_recheck.proofs.keeping.number_among.Goals as goal
 

@@ -1,6 +1,6 @@
 use Rattle.std.proofs.Common.{◌≡◌, ◌<◌, ℕ, List, length, Option, None, Some, Ok, IfOk, refl, ap, sym, subst}
 use Rattle.std.specs.List.{All}
-use Rattle.lw_words.specs.Name.{IsNames}
+use Rattle.lw_words.specs.Word.{IsNames}
 use Rattle.lw_cache.specs.declared.stops.Clash.{Clash}
 use Rattle.lw_recheck.specs.bodies.Step.{HasFound, KeepsOther}
 use Rattle.lw_recheck.specs.declared.asking.Other.{Other}

@@ -1,5 +1,5 @@
 use Rattle.std.proofs.Common.{ℕ, List, subst, sym}
-use Rattle.lw_words.specs.Name.{IsName}
+use Rattle.lw_words.specs.Word.{IsName}
 use Rattle.lw_line.proofs.Naming.{name_is_text}
 use Rattle.lw_recheck.proofs.keeping.text_of.Goals as goal
 

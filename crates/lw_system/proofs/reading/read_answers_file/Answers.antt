@@ -1,5 +1,5 @@
 use Rattle.lw_json.specs.AnswersFault.{HasAnswersFault}
-use Rattle.lw_json.specs.AnswersFile.{IsAnswersFile}
+use Rattle.lw_json.specs.Formats.{IsAnswersFile}
 use Rattle.lw_system.proofs.ReadLemmas.{has_fault, no_answers}
 use Rattle.lw_system.proofs.reading.read_answers_file.Goals as goal
 

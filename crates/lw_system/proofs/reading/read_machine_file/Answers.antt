@@ -1,5 +1,5 @@
 use Rattle.lw_json.specs.MachineFault.{HasMachineFault}
-use Rattle.lw_json.specs.MachineFile.{IsMachineFile}
+use Rattle.lw_json.specs.Formats.{IsMachineFile}
 use Rattle.lw_system.proofs.ReadLemmas.{has_fault, no_machine}
 use Rattle.lw_system.proofs.reading.read_machine_file.Goals as goal
 

@@ -2,7 +2,7 @@ use Rattle.std.proofs.Common.{◌≡◌, Some, None, codes, refl, rules, string_
 use Rattle.lw_top.specs.Call.{Learn, Check, Trial, Serve, Ask, Compare, Recheck}
 use Rattle.lw_top.specs.CommandLine.{texts}
 use Rattle.lw_top.specs.AskCommand.{ask_values}
-use Rattle.lw_top.specs.CheckCommand.{check_values}
+use Rattle.lw_top.specs.CheckCommand.{check_read, check_values}
 use Rattle.lw_top.specs.CompareCommand.{compare_values}
 use Rattle.lw_top.specs.LearnCommand.{learn_values}
 use Rattle.lw_top.specs.RecheckCommand.{recheck_values}
@@ -25,7 +25,7 @@ returns-in_err-learn_arguments-in-learn-clause-refused c usage =
 pub returns-in_ok-check_arguments-in-check-clause-ok : goal.returns-in_ok-check_arguments-in-check-clause-ok
 returns-in_ok-check_arguments-in-check-clause-ok c =
     let args = c.args.arguments.now in
-    call_is (codes "check") Check args c.in-Some.command.now c.as_str.result.now (check_values (texts args)) (Some c.in_ok-check_arguments-in-check.field-0) c.in-Some.ensures.value c.as_str.ensures.value c.in-check.is refl c.in_ok-check_arguments-in-check.ensures.ok
+    call_is (codes "check") Check args c.in-Some.command.now c.as_str.result.now (check_values (texts args)) (Some (check_read c.in_ok-check_arguments-in-check.field-0)) c.in-Some.ensures.value c.as_str.ensures.value c.in-check.is refl c.in_ok-check_arguments-in-check.ensures.ok
 
 pub returns-in_err-check_arguments-in-check-clause-refused : goal.returns-in_err-check_arguments-in-check-clause-refused
 returns-in_err-check_arguments-in-check-clause-refused c usage =

@@ -2,8 +2,7 @@ use Rattle.std.proofs.Common.{◌∙◌, ap, subst, sym}
 use Rattle.clap.specs.Words.{App}
 use Rattle.clap.specs.Kinds.{FailsBy}
 use Rattle.clap.specs.Faults.{fault_of, is_simple_and_free}
-use Rattle.lw_top.specs.CommandLine.{is_command, texts}
-use Rattle.lw_top.specs.Options.{app_for}
+use Rattle.lw_top.specs.CommandLine.{is_command, texts, app_for}
 use Rattle.lw_top.proofs.TakenLemmas.{untaken}
 use Rattle.lw_top.proofs.ValueLemmas.{faulty, stop_is}
 use Rattle.lw_top.proofs.matching.read_matches.Goals as goal

@@ -1,6 +1,5 @@
 use Rattle.std.proofs.Common.{◌≡◌, rules, Err, List, ℕ, Option, Some, None, string_bytes, sym, ap, refl, subst}
 use Rattle.lw_report.specs.declared.outcome.Outcome.TheVariants.{Usage}
-use Rattle.lw_check.specs.CheckRun.{IsCheckRun}
 use Rattle.lw_compare.specs.CompareRun.{IsCompareRun}
 use Rattle.lw_serve.specs.ServeRun.{IsServeRun}
 use Rattle.lw_top.specs.Call.{CallValues, call_of, values_of}
@@ -54,11 +53,9 @@ returns-in-Check-clause-ran g c =
     let is : call_of words ≡ Some (values_of c.in-Ok.call) = c.in-Ok.ensures.ok in
     let here = subst (λ (call : Call). call_of words ≡ Some (values_of call)) c.in-Check.is is in
     let taken : ¬ (c.check.result.outcome ≡ Usage) = search rules in
-    let v = c.in-Check.values in
-    let ran : IsCheckRun v.suite v.model v.answers v.extra before.files now.files before.out now.out before.err now.err c.check.result = search rules in
     record {
       status = c.check.ensures.status;
-      ran = subst (λ (call : Option CallValues). Runs call before now c.check.result) (sym here) (record { ran = ran; spawner = refl; input = refl; log = refl });
+      ran = subst (λ (call : Option CallValues). Runs call before now c.check.result) (sym here) (record { ran = c.check.ensures.ran; spawner = refl; input = refl; log = refl });
       usage = λ usage. absurd (taken usage);
       counts = search rules;
     }

@@ -1,8 +1,7 @@
 use Rattle.std.proofs.Common.{◌≡◌, ◌∙◌, ◌+◌, ◌<◌, ◌++◌, ◌∷◌, [], Bor, Contains, List, Some, None, ℕ, get_or, length, map, arith, subst, sym}
 use Rattle.std.proofs.lemmas.List.{length-map}
 use Rattle.std.proofs.lemmas.List.Elements.{All-from_all_within, All-push, AllWithin-upto}
-use Rattle.lw_words.specs.Name.{number_of}
-use Rattle.lw_words.specs.Word.{IsWord}
+use Rattle.lw_words.specs.Word.{number_of, IsWord}
 use Rattle.lw_words.proofs.Lists.{within-map_more}
 use Rattle.lw_json.proofs.EachLemmas.{element, fails_here, going_more}
 use Rattle.lw_wordlist.proofs.WordLemmas.{below_by, known_by, unknown_by}

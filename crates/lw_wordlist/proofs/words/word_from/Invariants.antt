@@ -1,7 +1,6 @@
 use Rattle.std.proofs.Common.{Contains, drop, length, map}
 use Rattle.std.specs.List.{AllWithin}
-use Rattle.lw_words.specs.Name.{number_of}
-use Rattle.lw_words.specs.Word.{IsWord}
+use Rattle.lw_words.specs.Word.{number_of, IsWord}
 use Rattle.lw_json.proofs.EachLemmas.{Going}
 use Rattle.lw_wordlist.proofs.words.word_from.Given as goal
 

@@ -1,5 +1,5 @@
 use Rattle.std.proofs.Common.{rules, string_bytes}
-use Rattle.lw_words.specs.Name.{IsName}
+use Rattle.lw_words.specs.Word.{IsName}
 use Rattle.lw_words.proofs.Lists.{within-map_more}
 use Rattle.lw_words.proofs.names.first_bad_name.Goals as goal
 

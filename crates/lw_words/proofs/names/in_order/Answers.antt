@@ -3,7 +3,7 @@ use Rattle.std.specs.List.{list_any}
 use Rattle.std.specs.Str.{bytes_eq}
 use Rattle.std.proofs.lemmas.Bool.{not-true, not-false}
 use Rattle.std.proofs.lemmas.List.{length-map}
-use Rattle.lw_words.specs.Name.{AllDiffer}
+use Rattle.lw_words.specs.Word.{AllDiffer}
 use Rattle.lw_words.proofs.Lists.{take-map_more, slice_get-map_at}
 use Rattle.lw_words.proofs.NumberLemmas.{added, stays, stored_at, differ_more, repeats}
 use Rattle.lw_words.proofs.names.in_order.Goals as goal

@@ -1,5 +1,5 @@
 use Rattle.std.proofs.Common.{◌≡◌, map, take, string_bytes}
-use Rattle.lw_words.specs.Name.{AllDiffer}
+use Rattle.lw_words.specs.Word.{AllDiffer}
 use Rattle.lw_words.proofs.names.in_order.Given as goal
 
 abbrev pub invariant-loop-place : goal.invariant-loop-place

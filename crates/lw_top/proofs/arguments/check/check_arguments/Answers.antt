@@ -1,6 +1,6 @@
 use Rattle.std.proofs.Common.{◌≡◌, ◌∙◌, Err, rules}
 use Rattle.lw_top.specs.CommandLine.{texts}
-use Rattle.lw_top.specs.CheckCommand.{check_app, values_in}
+use Rattle.lw_top.specs.CheckCommand.{check_app, check_read, values_in}
 use Rattle.lw_top.specs.declared.values.ArgumentStop.TheVariants.{Usage}
 use Rattle.lw_top.proofs.TakenLemmas.{say, taken_values, untaken_values}
 use Rattle.lw_top.proofs.arguments.check.check_arguments.Goals as goal
@@ -8,7 +8,7 @@ use Rattle.lw_top.proofs.arguments.check.check_arguments.Goals as goal
 pub returns-clause-ok : goal.returns-clause-ok
 returns-clause-ok c =
     let found = c.in_ok-matches.ensures in
-    say (λ v. v) c.values_of.result (taken_values check_app values_in (texts c.args.arguments.now) c.check_syntax.ensures found.found found.taken) c.values_of.ensures.ok
+    say check_read c.values_of.result (taken_values check_app values_in (texts c.args.arguments.now) c.check_syntax.ensures found.found found.taken) c.values_of.ensures.ok
 
 pub returns-clause-refused : goal.returns-clause-refused
 returns-clause-refused c usage =

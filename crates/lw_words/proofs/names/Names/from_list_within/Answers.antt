@@ -1,7 +1,7 @@
 use Rattle.std.proofs.Common.{◌≡◌, ◌<◌, sym, List, ℕ, map, length, string_bytes, arith, subst}
 use Rattle.std.proofs.lemmas.Grind.{common_steps}
 use Rattle.std.proofs.lemmas.List.{length-map}
-use Rattle.lw_words.specs.Name.{IsNames}
+use Rattle.lw_words.specs.Word.{IsNames}
 use Rattle.lw_words.specs.bodies.Numbers.{AreNumbers}
 use Rattle.lw_words.proofs.NumberLemmas.{map-AllZip_same}
 use Rattle.lw_words.proofs.names.Names.from_list_within.Goals as goal

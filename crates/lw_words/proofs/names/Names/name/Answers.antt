@@ -1,7 +1,7 @@
 use Rattle.std.proofs.Common.{◌≡◌, ◌<◌, ◌∙◌, length, map, slice_get, Some, ap, sym, subst, List, ℕ, string_bytes, arith}
 use Rattle.std.proofs.lemmas.List.{length-map}
 use Rattle.lw_words.proofs.Lists.{slice_get-map_at}
-use Rattle.lw_words.specs.Name.{IsNames}
+use Rattle.lw_words.specs.Word.{IsNames}
 use Rattle.lw_words.proofs.NumberLemmas.{number_at_place}
 use Rattle.lw_words.proofs.names.Names.name.Goals as goal
 

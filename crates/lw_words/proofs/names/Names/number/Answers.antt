@@ -1,5 +1,5 @@
 use Rattle.std.proofs.Common.{map, string_bytes, ap, ◌∙◌}
-use Rattle.lw_words.specs.Name.{number_of}
+use Rattle.lw_words.specs.Word.{number_of}
 use Rattle.lw_words.proofs.NumberLemmas.{number_found, number_stands}
 use Rattle.lw_words.proofs.names.Names.number.Goals as goal
 

@@ -1,5 +1,5 @@
 use Rattle.std.proofs.Common.{All, take}
-use Rattle.lw_words.specs.Name.{IsName, AllDiffer}
+use Rattle.lw_words.specs.Word.{IsName, AllDiffer}
 use Rattle.lw_sessions_tests.proofs.tests.desk.trial.differ.Given as goal
 
 abbrev pub invariant-loop-i : goal.invariant-loop-i

@@ -1,7 +1,0 @@
--- A function that may fail, at each element of a list.
-use Rattle.std.specs.Prelude.{List, [], ◌∷◌, Option, Some, option_map, option_and_then}
-
--- what it gives at each, or None where it fails at one
-abbrev pub each_of : {X Y : Type 0} → (X → Option Y) → List X → Option (List Y)
-each_of f [] = Some []
-each_of f (x ∷ xs) = option_and_then (λ y. option_map (λ ys. y ∷ ys) (each_of f xs)) (f x)
