@@ -2,7 +2,7 @@
 use Rattle.std.specs.Prelude.{ℕ, List, ◌++◌, codes}
 use Rattle.std.specs.List.{flat_map, join_by}
 use Rattle.lw_words.specs.declared.kept.KeptAnswer.{KeptAnswer}
-use Rattle.lw_names.specs.Names.{name_at}
+use Rattle.lw_words.specs.Word.{name_at}
 
 -- a word with its outputs, by their names, each list joined by one blank
 abbrev pub line_of : (letters names : List (List ℕ)) → (word outs : List ℕ) → List ℕ

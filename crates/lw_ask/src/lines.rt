@@ -1,8 +1,7 @@
 //! The lines of answers.
 ghost use Rattle.std.specs.Prelude.{◌≡◌, ◌<◌, ◌++◌, length, codes, OnOk, IfOk};
 ghost use Rattle.std.specs.List.{All, join_by};
-ghost use Rattle.lw_names.specs.Names.{name_at};
-ghost use Rattle.lw_words.specs.Word.{IsWord};
+ghost use Rattle.lw_words.specs.Word.{name_at, IsWord};
 ghost use Rattle.lw_ask.specs.Lines.{line_of};
 
 use lw_sul::Sul;

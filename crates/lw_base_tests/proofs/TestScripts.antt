@@ -2,8 +2,8 @@
 use Rattle.std.proofs.Common.{◌≡◌, ◌≢◌, ℕ, List, [], ◌∷◌, ◌++◌, Option, Some, None, option_map, length, take, get_or, ◌<◌, ◌≤◌, ◌+◌, inl, inr, refl, ap, sym, ◌∙◌, arith}
 use Rattle.std.proofs.lemmas.List.{get_or-take, take_more, length-take-le}
 use Rattle.std.proofs.lemmas.List.Elements.{All-take}
-use Rattle.lw_words.specs.Word.{IsName, IsNames, AllDiffer}
-use Rattle.lw_names.specs.Names.{AreNamed, Brings, name_at}
+use Rattle.lw_words.specs.Word.{IsName, IsNames, AllDiffer, name_at}
+use Rattle.lw_names.specs.Names.{AreNamed, Brings}
 use Rattle.lw_sul.specs.declared.runs.Run.{Run}
 use Rattle.lw_sul.specs.Runs.{after_reset, after_step}
 use Rattle.lw_base_tests.specs.TestScript.{after_call, runs_after, runs_of}

@@ -3,11 +3,10 @@ use Rattle.std.proofs.Common.{◌≡◌, ◌⊎◌, ⊎_elim, ℕ, zero, suc, �
 use Rattle.std.specs.List.{All, range_with_len}
 use Rattle.std.proofs.lemmas.List.{get_or-map, length-map, take-map}
 use Rattle.std.proofs.lemmas.List.Elements.{All-map, All-take}
-use Rattle.lw_words.specs.Word.{Answer, AreAnswers, IsAnswer, IsWhole, answer_at, answer_of, answers_of, IsPrefix, IsWord}
+use Rattle.lw_words.specs.Word.{Answer, AreAnswers, IsAnswer, IsWhole, answer_at, answer_of, answers_of, IsPrefix, IsWord, named}
 use Rattle.lw_words.specs.Renumbering.{renumbered, renumbered_answer, renumbered_answers}
 use Rattle.lw_words.specs.declared.kept.KeptAnswer.{KeptAnswer}
 use Rattle.lw_mealy.specs.Machine.{Gives, IsMachine, Rows}
-use Rattle.lw_names.specs.Names.{named}
 use Rattle.lw_cache.specs.Clash.{ClashAt, IsClear, NothingClashes}
 use Rattle.lw_cache.specs.FirstClash.{ClashesFirst, IsFirstClash}
 use Rattle.lw_cache.specs.Known.{IsKnown}

@@ -6,12 +6,12 @@ use Rattle.std.proofs.lemmas.List.Elements.{All-head, All-tail, All-map}
 use Rattle.std.proofs.lemmas.List.FromFn.{length-range_with_len, get_or-range_with_len, length-map-range_with_len, get_or-map-range_with_len}
 use Rattle.std.proofs.lemmas.Nat.{div-mul-add, mod-mul-add, div-add-mod'}
 use Rattle.std.proofs.Math.Nat.{mod-lt, div-lt_iff_lt-mul, mul-le-mul_right}
-use Rattle.lw_words.specs.Word.{IsWord, number_of}
+use Rattle.lw_words.specs.Word.{IsWord, number_of, number_in, named}
 use Rattle.lw_mealy.specs.Machine.{Row, Rows, IsMachine, row, cell, next, output, after, out, answer}
 use Rattle.lw_mealy.proofs.RowLemmas.{target_below}
 use Rattle.lw_mealy.proofs.WordLemmas.{after-append, out-append, after_below}
 use Rattle.lw_json.specs.declared.files.Machine.{Machine}
-use Rattle.lw_compare.specs.Comparing.{ModelsAgreeOn, number_or_zero, reply, second_reply, names_of_word, translated}
+use Rattle.lw_compare.specs.Comparing.{ModelsAgreeOn, reply, second_reply, translated}
 use Rattle.lw_compare.specs.bodies.Joint.{AgreeAt, joint, joint_next, joint_row, letter_in}
 
 -- a pair is numbered within all pairs
@@ -81,12 +81,12 @@ module _ (m n : Machine) (one : IsMachine m.mealy.inputs m.mealy.rows) (two : Is
 
   -- the outputs on a word with a letter more
   reply-push : (w : List ℕ) (x : ℕ) → reply m (w ++ x ∷ []) ≡ reply m w ++ get_or m.outputs (output m.mealy.rows (after m.mealy.rows 0 w) x) [] ∷ []
-  reply-push w x = ap (names_of_word m.outputs) (out-append m.mealy.rows 0 w (x ∷ [])) ∙ map-append (λ y. get_or m.outputs y []) (answer m.mealy.rows w) (output m.mealy.rows (after m.mealy.rows 0 w) x ∷ [])
+  reply-push w x = ap (named m.outputs) (out-append m.mealy.rows 0 w (x ∷ [])) ∙ map-append (λ y. get_or m.outputs y []) (answer m.mealy.rows w) (output m.mealy.rows (after m.mealy.rows 0 w) x ∷ [])
 
   second-push : (w : List ℕ) (x : ℕ) → second_reply m n (w ++ x ∷ []) ≡ second_reply m n w ++ get_or n.outputs (output n.mealy.rows (after n.mealy.rows 0 (translated m.inputs n.inputs w)) (letter_in m n x)) [] ∷ []
   second-push w x =
       ap (λ (v : List ℕ). reply n v) (map-append (letter_in m n) w (x ∷ []))
-      ∙ (ap (names_of_word n.outputs) (out-append n.mealy.rows 0 (translated m.inputs n.inputs w) (letter_in m n x ∷ []))
+      ∙ (ap (named n.outputs) (out-append n.mealy.rows 0 (translated m.inputs n.inputs w) (letter_in m n x ∷ []))
       ∙ map-append (λ y. get_or n.outputs y []) (answer n.mealy.rows (translated m.inputs n.inputs w)) (output n.mealy.rows (after n.mealy.rows 0 (translated m.inputs n.inputs w)) (letter_in m n x) ∷ []))
 
   -- the pair after a word from the initial states

@@ -7,12 +7,12 @@ use Rattle.std.proofs.lemmas.Bool.Decides.{Decides-eqb}
 use Rattle.std.proofs.lemmas.List.{get_or_default, get_or-map, length-map, map-append, take_all, take_more}
 use Rattle.std.proofs.lemmas.List.Elements.{All-cons, All-head, All-tail, filter_more}
 use Rattle.std.proofs.lemmas.Option.{slice_get-get_or, slice_get_within, get_or_from_slice_get}
-use Rattle.lw_words.specs.Word.{IsNames, number_of, IsWord}
+use Rattle.lw_words.specs.Word.{IsNames, number_of, IsWord, named}
 use Rattle.lw_words.proofs.NumberLemmas.{name_at_number, number_at_place}
 use Rattle.lw_mealy.specs.Machine.{IsWithinLimits, MealyMachine, Rows, cell, next, out, output}
 use Rattle.lw_mealy.proofs.RowLemmas.{output_below, target_below}
 use Rattle.lw_json.specs.declared.files.Machine.{Machine}
-use Rattle.lw_compare.specs.Comparing.{lacking, names_of_word, translated}
+use Rattle.lw_compare.specs.Comparing.{lacking, translated}
 use Rattle.lw_compare.specs.bodies.Joint.{AgreeAt, IsDictionary, letter_in}
 use Rattle.lw_compare.proofs.JointLemmas.{of_pair}
 
@@ -104,8 +104,8 @@ filter_step p xs was now i name lt at more done =
     more ∙ (ap₂ (λ (l : List (List ℕ)) (x : List ℕ). l ++ cond (p x) (x ∷ []) []) done (sym here) ∙ sym (filter_more p xs i [] lt))
 
 -- a name more that is spelled
-pub spell_step : (names : List (List ℕ)) (numbers : List ℕ) (was now : List (List ℕ)) (i n : ℕ) → i < length numbers → n ≡ get_or numbers i n → now ≡ was ++ get_or names n [] ∷ [] → was ≡ names_of_word names (take i numbers) → now ≡ names_of_word names (take (i + 1) numbers)
+pub spell_step : (names : List (List ℕ)) (numbers : List ℕ) (was now : List (List ℕ)) (i n : ℕ) → i < length numbers → n ≡ get_or numbers i n → now ≡ was ++ get_or names n [] ∷ [] → was ≡ named names (take i numbers) → now ≡ named names (take (i + 1) numbers)
 spell_step names numbers was now i n lt at more done =
     let here : n ≡ get_or numbers i 0 = at ∙ get_or_default numbers i n 0 lt in
     let front : take (i + 1) numbers ≡ take i numbers ++ get_or numbers i 0 ∷ [] = take_more numbers i 0 lt in
-    more ∙ (ap₂ (λ (l : List (List ℕ)) (x : ℕ). l ++ get_or names x [] ∷ []) done here ∙ sym (ap (names_of_word names) front ∙ map-append (λ x. get_or names x []) (take i numbers) (get_or numbers i 0 ∷ [])))
+    more ∙ (ap₂ (λ (l : List (List ℕ)) (x : ℕ). l ++ get_or names x [] ∷ []) done here ∙ sym (ap (named names) front ∙ map-append (λ x. get_or names x []) (take i numbers) (get_or numbers i 0 ∷ [])))

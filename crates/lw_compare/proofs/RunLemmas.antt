@@ -15,10 +15,10 @@ use Rattle.lw_report.specs.declared.comparison.Comparison.TheVariants.{Equal, Di
 use Rattle.lw_report.specs.declared.outcome.Outcome.{Outcome}
 use Rattle.lw_report.specs.declared.outcome.Outcome.TheVariants.{Compared, NoMemory, SinkFault}
 use Rattle.lw_compare.specs.CompareRun.{ComesTo, EndsModelsRead, EndsUnread, IsCompareRun, text}
-use Rattle.lw_words.specs.Word.{IsWord}
+use Rattle.lw_words.specs.Word.{IsWord, named}
 use Rattle.lw_mealy.specs.Machine.{MealyMachine, answer}
 use Rattle.lw_report.specs.declared.comparison.Difference.{Difference}
-use Rattle.lw_compare.specs.Comparing.{ModelsAgreeOn, IsLeastDifference, lacking, reply, second_reply, names_of_word, translated}
+use Rattle.lw_compare.specs.Comparing.{ModelsAgreeOn, IsLeastDifference, lacking, reply, second_reply, translated}
 use Rattle.lw_compare.specs.Decision.{IsComparison}
 use Rattle.lw_compare.specs.Outcomes.{ComesAs, IsAnswered, ComparesNothing, IsUntroubled, IsComparisonVerdict}
 use Rattle.lw_compare.specs.Reading.{ReadsModels, TellsModel, TellsNoModel}
@@ -55,11 +55,11 @@ made word first second = record { word = word; first = first; second = second }
 -- machines of one value compare alike
 module _ (m n k l : Machine) (one : SameMachine m k) (two : SameMachine n l) where
   reply_same : (w : List ℕ) → reply m w ≡ reply k w
-  reply_same w = ap₂ (λ (names : List (List ℕ)) (t : MealyMachine). names_of_word names (answer t.rows w)) one.outputs one.mealy
+  reply_same w = ap₂ (λ (names : List (List ℕ)) (t : MealyMachine). named names (answer t.rows w)) one.outputs one.mealy
 
   second_same : (w : List ℕ) → second_reply m n w ≡ second_reply k l w
   second_same w =
-      ap₂ (λ (names : List (List ℕ)) (t : MealyMachine). names_of_word names (answer t.rows (translated m.inputs n.inputs w))) two.outputs two.mealy
+      ap₂ (λ (names : List (List ℕ)) (t : MealyMachine). named names (answer t.rows (translated m.inputs n.inputs w))) two.outputs two.mealy
       ∙ ap₂ (λ (i j : List (List ℕ)). reply l (translated i j w)) one.inputs two.inputs
 
   agree_to : (w : List ℕ) → ModelsAgreeOn m n w → ModelsAgreeOn k l w
@@ -84,10 +84,10 @@ module _ (m n k l : Machine) (one : SameMachine m k) (two : SameMachine n l) whe
   lack_back : lacking n.inputs m.inputs ≡ lacking l.inputs k.inputs
   lack_back = ap₂ lacking two.inputs one.inputs
 
-  difference_same : (w : List ℕ) → made (names_of_word m.inputs w) (reply m w) (second_reply m n w) ≡ made (names_of_word k.inputs w) (reply k w) (second_reply k l w)
+  difference_same : (w : List ℕ) → made (named m.inputs w) (reply m w) (second_reply m n w) ≡ made (named k.inputs w) (reply k w) (second_reply k l w)
   difference_same w =
-      ap (λ (u : List (List ℕ)). made u (reply m w) (second_reply m n w)) (ap (λ (names : List (List ℕ)). names_of_word names w) one.inputs)
-      ∙ ap₂ (made (names_of_word k.inputs w)) (reply_same w) (second_same w)
+      ap (λ (u : List (List ℕ)). made u (reply m w) (second_reply m n w)) (ap (λ (names : List (List ℕ)). named names w) one.inputs)
+      ∙ ap₂ (made (named k.inputs w)) (reply_same w) (second_same w)
 
   same_machine : (c : Comparison) → IsComparison m n c → IsComparison k l c
   same_machine Equal is = ((sym lack_same ∙ is.0.0, sym lack_back ∙ is.0.1), λ w lw. agree_to w (is.1 w (word_back w lw)))

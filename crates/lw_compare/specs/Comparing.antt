@@ -3,25 +3,17 @@
 use Rattle.std.specs.Prelude.{◌≡◌, ℕ, List, [], map, is_none, slice_index_or, unwrap_or}
 use Rattle.std.specs.List.{filter}
 use Rattle.std.specs.declared.cmp.Ordering.TheVariants.{Less}
-use Rattle.lw_words.specs.Word.{number_of, shortlex_cmp, IsWord}
+use Rattle.lw_words.specs.Word.{named, number_in, number_of, shortlex_cmp, IsWord}
 use Rattle.lw_mealy.specs.Machine.{answer}
 use Rattle.lw_json.specs.declared.files.Machine.{Machine}
 
--- the names that stand at these numbers
-abbrev pub names_of_word : List (List ℕ) → List ℕ → List (List ℕ)
-names_of_word names w = map (λ x. slice_index_or names x []) w
-
--- the number of a name; 0 where it has none
-abbrev pub number_or_zero : List (List ℕ) → List ℕ → ℕ
-number_or_zero names name = unwrap_or (number_of name names) 0
-
 -- the word of the same names, by their numbers in another list
 abbrev pub translated : List (List ℕ) → List (List ℕ) → List ℕ → List ℕ
-translated names others w = map (λ x. number_or_zero others (slice_index_or names x [])) w
+translated names others w = map (λ x. number_in others (slice_index_or names x [])) w
 
 -- what a model gives for a word, by the names of its outputs
 abbrev pub reply : Machine → List ℕ → List (List ℕ)
-reply m w = names_of_word m.outputs (answer m.mealy.rows w)
+reply m w = named m.outputs (answer m.mealy.rows w)
 
 -- what the second model gives for a word of the first one's inputs
 abbrev pub second_reply : Machine → Machine → List ℕ → List (List ℕ)

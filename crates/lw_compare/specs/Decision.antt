@@ -4,11 +4,12 @@ use Rattle.lw_json.specs.declared.files.Machine.{Machine}
 use Rattle.lw_report.specs.declared.comparison.Comparison.{Comparison}
 use Rattle.lw_report.specs.declared.comparison.Comparison.TheVariants.{Equal, Differ, OtherInputs}
 use Rattle.lw_report.specs.declared.comparison.Difference.{Difference}
-use Rattle.lw_compare.specs.Comparing.{Agree, IsLeastDifference, SameInputs, lacking, reply, second_reply, names_of_word}
+use Rattle.lw_compare.specs.Comparing.{Agree, IsLeastDifference, SameInputs, lacking, reply, second_reply}
+use Rattle.lw_words.specs.Word.{named}
 
 -- a word, and what both models give for it, by their names
 abbrev pub difference_of : Machine → Machine → List ℕ → Difference
-difference_of first second w = record { word = names_of_word first.inputs w; first = reply first w; second = second_reply first second w }
+difference_of first second w = record { word = named first.inputs w; first = reply first w; second = second_reply first second w }
 
 -- equal exactly where they give the same for every word, else the least word on which they don't; where one has an input that
 -- the other one hasn't, those inputs of each

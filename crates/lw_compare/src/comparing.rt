@@ -1,8 +1,8 @@
 //! How two models compare.
 ghost use Rattle.std.specs.Prelude.{◌≡◌, ◌<◌, [], ◌∷◌, ◌++◌, length, map, slice_index_or, string_bytes, IfOk, OnOk};
 ghost use Rattle.std.specs.List.{All};
-ghost use Rattle.lw_words.specs.Word.{IsWord};
-ghost use Rattle.lw_compare.specs.Comparing.{SameInputs, reply as named_reply, names_of_word, translated};
+ghost use Rattle.lw_words.specs.Word.{IsWord, named};
+ghost use Rattle.lw_compare.specs.Comparing.{SameInputs, reply as named_reply, translated};
 ghost use Rattle.lw_compare.specs.Decision.{IsComparison, difference_of};
 ghost use Rattle.lw_compare.specs.bodies.Joint.{IsDictionary};
 
@@ -32,7 +32,7 @@ fn put_name(
 #[tactic(auto, using(crate::proofs::NameLemmas::spell_step))]
 fn spell(alloc: Global, names: &Names, numbers: &[u16]) -> Result<Texts, NoMemory>
     requires { All (λ x. x < length names.now) numbers.now }
-    ensures { IfOk result (λ texts. texts ≡ names_of_word names.now numbers.now) }
+    ensures { IfOk result (λ texts. texts ≡ named names.now numbers.now) }
 {
     let mut texts = Vec::with_capacity(alloc, numbers.len())?;
     for number in numbers {

@@ -5,11 +5,11 @@ use Rattle.std.proofs.lemmas.Bool.{true≢false, false≢true, cases_lt}
 use Rattle.std.proofs.lemmas.List.{get_or_default, get_or-append-add}
 use Rattle.std.proofs.lemmas.List.Quantifiers.{position-Some}
 use Rattle.std.proofs.lemmas.Slice.Eq.{bytes_eq-Decides}
-use Rattle.lw_words.specs.Word.{number_of}
+use Rattle.lw_words.specs.Word.{number_of, name_at, named, number_in}
 use Rattle.lw_words.specs.declared.kept.KeptAnswer.{KeptAnswer}
-use Rattle.lw_names.specs.Names.{name_at, named, added_name, with_names}
+use Rattle.lw_names.specs.Names.{added_name, with_names}
 use Rattle.lw_turn.specs.declared.shared.Entry.{Entry}
-use Rattle.lw_names.specs.Naming.{Naming, IsFree, own_names, bring, number_in, shared, MayBring, HasLists}
+use Rattle.lw_names.specs.Naming.{Naming, IsFree, own_names, bring, shared, MayBring, HasLists}
 use Rattle.lw_desk.specs.Step.{DeskState, kept_of, GivesAll}
 use Rattle.lw_desk.specs.History.{DeskOpening, opened, MayGiveAll, Makes, Replays}
 use Rattle.lw_desk.specs.Ending.{ComeUp, FreeComeUp}

@@ -2,10 +2,11 @@
 use Rattle.std.proofs.Common.{◌≡◌, inl, inr, ⊎_elim, ℕ, zero, suc, ◌+◌, ◌<◌, ◌≤◌, ◌==◌, List, [], ◌∷◌, ◌++◌, length, map, filter, Contains, All, Bool, true, false, cond, is_some, refl, ap, sym, ◌∙◌, subst, arith, append_assoc, append-nil, length-append}
 use Rattle.std.proofs.lemmas.Bool.{cases_eq, cases_lt}
 use Rattle.lw_words.specs.declared.kept.KeptAnswer.{KeptAnswer}
-use Rattle.lw_names.specs.Names.{name_at, named, with_names}
+use Rattle.lw_names.specs.Names.{with_names}
+use Rattle.lw_words.specs.Word.{name_at, named, number_in}
 use Rattle.lw_turn.specs.declared.shared.Entry.{Entry}
 use Rattle.lw_turn.specs.History.{entries_of}
-use Rattle.lw_names.specs.Naming.{Naming, own_names, bring, shared, number_in, HasLists}
+use Rattle.lw_names.specs.Naming.{Naming, own_names, bring, shared, HasLists}
 use Rattle.lw_desk.specs.Step.{DeskState, word_at_place, kept_of, ActorGives, GivesAll}
 use Rattle.lw_desk.specs.History.{DeskOpening, opened, MayGiveAll, Makes, Replays}
 use Rattle.lw_desk.specs.Ending.{NamedRun, kept_runs, IsShared}

@@ -1,7 +1,7 @@
 -- What a desk leaves: which runs the kept answers are, by names.
 use Rattle.std.specs.Prelude.{ℕ, ◌<◌, ◌==◌, List, length, map, filter, Contains}
 use Rattle.lw_words.specs.declared.kept.KeptAnswer.{KeptAnswer}
-use Rattle.lw_names.specs.Names.{name_at, named}
+use Rattle.lw_words.specs.Word.{name_at, named}
 use Rattle.lw_names.specs.Naming.{Naming, IsFree, own_names}
 
 -- a run, its word and its outputs by their names

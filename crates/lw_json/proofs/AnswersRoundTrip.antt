@@ -5,9 +5,9 @@ use Rattle.std.proofs.lemmas.Bool.Decides.{Decides-ltb}
 use Rattle.std.proofs.lemmas.List.{map-id}
 use Rattle.serde_json.specs.Data.{string, depth}
 use Rattle.serde_json.specs.Written.{has_float}
-use Rattle.lw_words.specs.Word.{IsNames}
+use Rattle.lw_words.specs.Word.{IsNames, word_text}
 use Rattle.lw_words.specs.declared.kept.KeptAnswer.{KeptAnswer}
-use Rattle.lw_json.specs.Formats.{WrittenAnswer, WrittenAnswers, SaysAnswers, SpellsAnswers, written_answer_of, numbered_answer, each_of, AreInputs, word_text}
+use Rattle.lw_json.specs.Formats.{WrittenAnswer, WrittenAnswers, SaysAnswers, SpellsAnswers, written_answer_of, numbered_answer, each_of, AreInputs}
 use Rattle.lw_json.specs.AnswersText.{IsWrittenOrder, answer_data, answers_data}
 use Rattle.lw_json.specs.KeptOver.{IsKeptOver}
 use Rattle.lw_json.specs.declared.files.Answers.{Answers}

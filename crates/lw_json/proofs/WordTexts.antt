@@ -5,9 +5,9 @@ use Rattle.std.proofs.lemmas.List.{map-id, length-append}
 use Rattle.std.proofs.lemmas.List.Elements.{All-head, All-tail}
 use Rattle.std.proofs.lemmas.List.Splits.{slice_split_none, slice_split_at}
 use Rattle.std.proofs.lemmas.Option.{slice_get-get_or}
-use Rattle.lw_words.specs.Word.{IsNames, number_of, IsWord}
+use Rattle.lw_words.specs.Word.{IsNames, number_of, IsWord, word_text}
 use Rattle.lw_words.proofs.NumberLemmas.{number_at_place}
-use Rattle.lw_json.specs.Formats.{each_of, word_of, word_text}
+use Rattle.lw_json.specs.Formats.{each_of, word_of}
 use Rattle.lw_json.proofs.RoundTrip.{each_of-map}
 use borrow.Author.Tests.{ne_eqb}
 

@@ -6,9 +6,9 @@ use Rattle.std.specs.declared.cmp.Ordering.{Ordering}
 use Rattle.serde_json.specs.Data.{Data, array, string, number, unsigned, object, member, no_members}
 use Rattle.serde_json.specs.View.{items_of}
 use Rattle.serde_json.specs.Written.{compact_text}
-use Rattle.lw_words.specs.Word.{shortlex_cmp}
+use Rattle.lw_words.specs.Word.{shortlex_cmp, word_text}
 use Rattle.lw_words.specs.declared.kept.KeptAnswer.{KeptAnswer}
-use Rattle.lw_json.specs.Formats.{IsAnswersFile, word_text}
+use Rattle.lw_json.specs.Formats.{IsAnswersFile}
 use Rattle.lw_json.specs.MachineText.{texts_data}
 use Rattle.lw_json.specs.declared.files.Answers.{Answers}
 

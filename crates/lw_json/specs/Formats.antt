@@ -1,9 +1,9 @@
 -- The grammar of machine files and of answers files, over serde_json's reading of JSON (RFC 8259).
-use Rattle.std.specs.Prelude.{List, [], ◌∷◌, Option, Some, option_map, option_and_then, ◌≡◌, ℕ, Bool, is_some, IsUtf8, ◌==◌, slice_index_or, codes, ◌≤◌, length, None, nat_lt, if◌then◌else◌, ◌+◌, ◌||◌}
+use Rattle.std.specs.Prelude.{List, [], ◌∷◌, Option, Some, option_map, option_and_then, ◌≡◌, ℕ, Bool, is_some, IsUtf8, ◌==◌, codes, ◌≤◌, length, None, nat_lt, if◌then◌else◌, ◌+◌, ◌||◌}
 use Rattle.serde_json.specs.Data.{Data, Items, no_items, item}
 use Rattle.serde_json.specs.Find.{get, as_array, as_object, as_str, as_number, as_u64}
 use Rattle.serde_json.specs.Read.{read}
-use Rattle.std.specs.List.{join_by, slice_split, All}
+use Rattle.std.specs.List.{slice_split, All}
 use Rattle.lw_words.specs.Word.{number_of, IsNames, IsWholeKept}
 use Rattle.lw_mealy.specs.Machine.{Rows, IsWithinLimits}
 use Rattle.lw_json.specs.declared.files.Machine.{Machine}
@@ -48,10 +48,6 @@ texts_at key d = option_and_then (each_of as_str) (list_at key d)
 abbrev pub word_of : List (List ℕ) → List ℕ → Option (List ℕ)
 word_of names [] = Some []
 word_of names (b ∷ text) = each_of (λ name. number_of name names) (slice_split (λ c. c == 32) (b ∷ text))
-
--- the text of a word
-abbrev pub word_text : List (List ℕ) → List ℕ → List ℕ
-word_text names word = join_by (λ letter. slice_index_or names letter []) (codes " ") word
 
 -- Machine files.
 

@@ -1,7 +1,7 @@
 //! The names of a system's outputs.
 ghost use Rattle.std.specs.Prelude.{◌≡◌, ◌+◌, ◌<◌, ◌≤◌, [], ◌∷◌, ◌++◌, length, IfOk, IfSome, IfNone, Some, None, vec_capacity};
-ghost use Rattle.lw_words.specs.Word.{AllDiffer, number_of};
-ghost use Rattle.lw_names.specs.Names.{AreNamed, Brings, name_at};
+ghost use Rattle.lw_words.specs.Word.{AllDiffer, number_of, name_at};
+ghost use Rattle.lw_names.specs.Names.{AreNamed, Brings};
 ghost use Rattle.lw_line.specs.LineState.{IsNaming};
 ghost use Rattle.lw_line.specs.bodies.Naming.{IsOutputList, naming_of};
 

@@ -3,6 +3,7 @@ use Rattle.std.specs.Prelude.{◌≡◌, ◌<◌, ◌≤◌, ℕ, Bool, List, []
 use Rattle.std.specs.Fmt.{decimal}
 use Rattle.std.specs.List.{All, flat_map, join_by}
 use Rattle.hex.specs.Hex.{encode_lower}
+use Rattle.lw_words.specs.Word.{word_text}
 use Rattle.lw_rounds.specs.declared.watcher.Phase.{Phase}
 use Rattle.lw_rounds.specs.declared.watcher.Phase.TheVariants.{Words, Table, Suite, Analysis, Settling}
 use Rattle.lw_rounds.specs.declared.watcher.Step.{Step}
@@ -23,10 +24,6 @@ counts_text states asked known refinements =
 abbrev pub step_line : Step → List ℕ
 step_line s = codes "round " ++ (decimal s.round ++ (codes " " ++ (phase_name s.phase ++ (codes ": " ++ (counts_text s.states s.asked s.known s.refinements ++ codes "\n")))))
 
--- the name of a letter
-abbrev pub name_of : List (List ℕ) → ℕ → List ℕ
-name_of names x = slice_index_or names x []
-
 -- a run that was cut before it was asked a letter
 abbrev pub cut_in_reset_line : ℕ → List ℕ
 cut_in_reset_line instance = codes "instance " ++ (decimal instance ++ codes ": cut in a reset\n")
@@ -39,7 +36,7 @@ place_line instance place names =
 -- the letters that a run was asked before it was cut, joined by one blank
 abbrev pub cut_line : ℕ → List (List ℕ) → List ℕ → List ℕ
 cut_line instance letters asked =
-    if length asked == 0 then cut_in_reset_line instance else place_line instance (length asked) (join_by (name_of letters) (codes " ") asked)
+    if length asked == 0 then cut_in_reset_line instance else place_line instance (length asked) (word_text letters asked)
 
 -- a byte that stands for itself: from a blank to a tilde, and no backslash
 abbrev pub is_plain : ℕ → Bool

@@ -1,11 +1,11 @@
 //! The lines of a log, each of which ends in a line feed.
 ghost use Rattle.std.specs.Prelude.{◌≡◌, ◌++◌, codes, length, IfOk, OnOk, string_bytes};
-ghost use Rattle.std.specs.List.{join_by};
-ghost use Rattle.lw_log.specs.Lines.{counts_text, cut_line, name_of, phase_name, place_line, received_line, rest_line, step_line};
+ghost use Rattle.lw_words.specs.Word.{word_text};
+ghost use Rattle.lw_log.specs.Lines.{counts_text, cut_line, phase_name, place_line, received_line, rest_line, step_line};
 
 use crate::escaped::put_escaped;
 use lw_rounds::{Phase, Step};
-use lw_words::{Names, NoMemory};
+use lw_words::{Names, NoMemory, put_word};
 use std::alloc::Global;
 
 fn phase_name(phase: Phase) -> &'static str
@@ -44,40 +44,13 @@ pub(crate) fn step_line(alloc: Global, step: Step) -> Result<String, NoMemory>
     Ok(format!(in alloc; "round {round} {phase}: {counts}\n")?)
 }
 
-/// The name of a letter; nothing for a number that has none.
-fn put_name(text: &mut String, letters: &Names, letter: u16) -> Result<(), NoMemory>
-    ensures { OnOk result (string_bytes text.new ≡ string_bytes text.old ++
-        name_of letters.now letter) }
-{
-    if letter < letters.len() {
-        text.push_str(letters.name(letter))?;
-    }
-    Ok(())
-}
-
-/// The names of a word's letters, joined by one blank.
-fn put_names(text: &mut String, letters: &Names, word: &[u16]) -> Result<(), NoMemory>
-    ensures { OnOk result (string_bytes text.new ≡ string_bytes text.old ++
-        join_by (name_of letters.now) (codes " ") word.now) }
-{
-    let Some((first, rest)) = word.split_first() else {
-        return Ok(());
-    };
-    put_name(text, letters, *first)?;
-    for letter in rest {
-        text.push_str(" ")?;
-        put_name(text, letters, *letter)?;
-    }
-    Ok(())
-}
-
 /// A word as its names.
 fn names_text(alloc: Global, letters: &Names, word: &[u16]) -> Result<String, NoMemory>
     ensures { IfOk result (λ text. string_bytes text ≡
-        join_by (name_of letters.now) (codes " ") word.now) }
+        word_text letters.now word.now) }
 {
     let mut text = String::new(alloc);
-    put_names(&mut text, letters, word)?;
+    put_word(&mut text, letters, word)?;
     Ok(text)
 }
 

@@ -9,10 +9,10 @@ use Rattle.std.proofs.lemmas.List.Quantifiers.{position-Some, all_pairs_push}
 use Rattle.std.proofs.lemmas.List.Sums.{sum_by-set, sum_by-le}
 use Rattle.std.proofs.lemmas.Option.{slice_get-get_or}
 use Rattle.std.proofs.lemmas.Slice.Eq.{bytes_eq-Decides}
-use Rattle.lw_words.specs.Word.{IsName, AllDiffer, number_of}
+use Rattle.lw_words.specs.Word.{IsName, AllDiffer, number_of, name_at, named, number_in}
 use Rattle.lw_words.proofs.NumberLemmas.{number_at_place}
-use Rattle.lw_names.specs.Names.{name_at, named, added_name, with_name, with_names}
-use Rattle.lw_names.specs.Naming.{Naming, own_names, own_by, bring, brought_more, number_in, shared, HasLists}
+use Rattle.lw_names.specs.Names.{added_name, with_name, with_names}
+use Rattle.lw_names.specs.Naming.{Naming, own_names, own_by, bring, brought_more, shared, HasLists}
 use Rattle.lw_names.specs.bodies.OutNames.{brought_of, HasTables, IsOutNames}
 
 -- a number that is found names the name

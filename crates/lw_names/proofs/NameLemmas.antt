@@ -10,9 +10,9 @@ use Rattle.std.proofs.lemmas.List.Quantifiers.{position-Some, all_pairs_push}
 use Rattle.std.proofs.lemmas.List.Sums.{fails_before_first}
 use Rattle.std.proofs.lemmas.Option.{slice_get-get_or, slice_get_within, get_or_from_slice_get}
 use Rattle.std.proofs.lemmas.Grind.{common_steps}
-use Rattle.lw_words.specs.Word.{IsName, number_of, AllDiffer}
+use Rattle.lw_words.specs.Word.{IsName, number_of, AllDiffer, name_at, named}
 use Rattle.lw_words.proofs.NumberLemmas.{number_at_place}
-use Rattle.lw_names.specs.Names.{name_at, named, added_name, with_name, with_names, Brings, IsGrown}
+use Rattle.lw_names.specs.Names.{added_name, with_name, with_names, Brings, IsGrown}
 
 -- the number of the name with a number is that number
 pub number_of-name_at : (names : List (List ℕ)) (y : ℕ) → AllDiffer names → y < length names → number_of (name_at names y) names ≡ Some y

@@ -9,9 +9,8 @@ use Rattle.std.proofs.lemmas.List.{get_or_append_left, get_or_default}
 use Rattle.std.proofs.lemmas.List.Sums.{fails_before_first, passes_at_first}
 use Rattle.std.proofs.lemmas.Option.{slice_get_within, get_or_from_slice_get}
 use Rattle.lw_words.proofs.NumberLemmas.{name_at_number}
-use Rattle.lw_words.specs.Word.{number_of}
-use Rattle.lw_names.specs.Names.{name_at, added_name, with_name, with_names}
-use Rattle.lw_names.specs.Naming.{number_in}
+use Rattle.lw_words.specs.Word.{number_of, name_at, number_in}
+use Rattle.lw_names.specs.Names.{added_name, with_name, with_names}
 use Rattle.lw_names.proofs.Members.{In, in_contains, contains_in, in_left, in_right}
 
 -- a name that is in the list has a number there, and the number is the name's

@@ -18,9 +18,8 @@ use Rattle.std.proofs.lemmas.Map.Made.{AllPairs-from_IsDistinct}
 use Rattle.std.proofs.lemmas.Map.Text.{is_eq-slice_cmp}
 use Rattle.std.proofs.lemmas.Simd.{map-map}
 use Rattle.std.proofs.lemmas.Slice.Eq.{bytes_eq-Decides}
-use Rattle.lw_words.specs.Word.{IsName, AllDiffer}
+use Rattle.lw_words.specs.Word.{IsName, AllDiffer, name_at, named}
 use Rattle.lw_words.specs.Renumbering.{renumbered}
-use Rattle.lw_names.specs.Names.{name_at, named}
 use Rattle.lw_names.specs.Naming.{Naming, IsBefore, AreSorted, Renumbers}
 use Rattle.lw_names.specs.bodies.OutNames.{brought_of, IsOutNames, count_before, AreRanks}
 use Rattle.lw_names.proofs.Bringing.{map_agree, naming_of}

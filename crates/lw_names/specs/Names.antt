@@ -1,15 +1,7 @@
 -- The names of a system's outputs, by number, and how they grow.
-use Rattle.std.specs.Prelude.{◌≡◌, ◌⊎◌, ℕ, ◌<◌, ◌≤◌, List, [], ◌∷◌, ◌++◌, length, map, slice_index_or, Option, Some, None}
+use Rattle.std.specs.Prelude.{◌≡◌, ◌⊎◌, ℕ, ◌<◌, ◌≤◌, List, [], ◌∷◌, ◌++◌, length, Option, Some, None}
 use Rattle.std.specs.List.{All}
 use Rattle.lw_words.specs.Word.{IsName, AllDiffer, number_of}
-
--- the name with this number; past the end, the empty text
-abbrev pub name_at : List (List ℕ) → ℕ → List ℕ
-name_at names y = slice_index_or names y []
-
--- outputs, by their names
-abbrev pub named : List (List ℕ) → List ℕ → List (List ℕ)
-named names outs = map (name_at names) outs
 
 -- the list, and at its end the name where it has no number
 abbrev pub added_name : List (List ℕ) → List ℕ → Option ℕ → List (List ℕ)

@@ -1,11 +1,11 @@
 -- The shared names of outputs, and how the outputs of instances are read by them.
-use Rattle.std.specs.Prelude.{◌≡◌, ℕ, ◌<◌, ◌≤◌, List, [], ◌++◌, length, map, slice_index_or, slice_set, Bool, true, false, Option, Some, None, unwrap_or}
+use Rattle.std.specs.Prelude.{◌≡◌, ℕ, ◌<◌, ◌≤◌, List, [], ◌++◌, length, map, slice_index_or, slice_set, Bool, true, false, Option, Some, None}
 use Rattle.std.specs.List.{All, AllPairs}
 use Rattle.std.specs.Ordering.{nat_cmp}
 use Rattle.std.specs.declared.cmp.Ordering.TheVariants.{Less}
 use Rattle.std.specs.Cmp.Lexicographic.{slice_cmp}
-use Rattle.lw_words.specs.Word.{IsName, AllDiffer, number_of}
-use Rattle.lw_names.specs.Names.{name_at, named, with_names}
+use Rattle.lw_words.specs.Word.{IsName, AllDiffer, name_at, named, number_in}
+use Rattle.lw_names.specs.Names.{with_names}
 
 -- the names, by the numbers that kept answers have; and where they are free, the names that each instance brought, by the
 -- instance's own numbers
@@ -28,10 +28,6 @@ brought_more (Some brought) instance names = Some (slice_set brought instance (s
 -- an instance brings names: the shared list gains, at its end and in order, each of them that it lacks
 abbrev pub bring : Naming → ℕ → List (List ℕ) → Naming
 bring naming instance names = record { names = with_names naming.names names; brought = brought_more naming.brought instance names }
-
--- the number of a name that is in the list
-abbrev pub number_in : List (List ℕ) → List ℕ → ℕ
-number_in names name = unwrap_or (number_of name names) 0
 
 -- an instance's outputs, by the shared numbers of their names
 abbrev pub shared : Naming → ℕ → List ℕ → List ℕ

@@ -1,7 +1,6 @@
 //! The name of an output.
 ghost use Rattle.std.specs.Prelude.{◌≡◌, ◌↔◌, ◌<◌, length, IfSome, IfNone, IsTrue};
-ghost use Rattle.lw_words.specs.Word.{IsName};
-ghost use Rattle.lw_names.specs.Names.{name_at};
+ghost use Rattle.lw_words.specs.Word.{IsName, name_at};
 
 use lw_words::Names;
 use std::marker::Model;

@@ -2,8 +2,8 @@
 ghost use Rattle.std.specs.Prelude.{◌≡◌, ℕ, ◌+◌, ◌<◌, ◌≤◌, ◌↔◌, List, [], ◌∷◌, ◌++◌, length, map, drop, slice_index, slice_index_or, replicate, IfOk, IsTrue, Some, None, true, false, is_some, vec_len, vec_capacity};
 ghost use Rattle.std.specs.List.{All};
 ghost use Rattle.std.specs.List.Sorted.{IsPermutation};
-ghost use Rattle.lw_words.specs.Word.{IsName, IsNames, AllDiffer, number_of};
-ghost use Rattle.lw_names.specs.Names.{name_at, with_name};
+ghost use Rattle.lw_words.specs.Word.{IsName, IsNames, AllDiffer, number_of, name_at};
+ghost use Rattle.lw_names.specs.Names.{with_name};
 ghost use Rattle.lw_names.specs.Naming.{Naming, own_names, bring, shared, AreSorted, Renumbers, HasLists};
 
 use crate::sorting::{rank_names, renumber_tables, sort_names};

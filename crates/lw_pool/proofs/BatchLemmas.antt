@@ -3,7 +3,7 @@ use Rattle.std.proofs.Common.{◌≡◌, ◌⊎◌, inl, inr, ⊎_elim, ℕ, zer
 use Rattle.std.proofs.lemmas.Bool.{true≢false, false≢true, cases_lt}
 use Rattle.std.proofs.lemmas.List.{get_or_append_left, length-map, get_or-map, take-append-le}
 use Rattle.std.proofs.lemmas.List.Elements.{All-append, All-head, All-tail, All-weaker}
-use Rattle.lw_words.specs.Word.{answer_of, answers_of, IsAnswer, IsWhole, IsWord, AllDiffer, number_of}
+use Rattle.lw_words.specs.Word.{answer_of, answers_of, IsAnswer, IsWhole, IsWord, AllDiffer, number_of, name_at, named}
 use Rattle.lw_words.specs.declared.kept.KeptAnswer.{KeptAnswer}
 use Rattle.lw_words.specs.declared.stop.RunStop.{RunStop}
 use Rattle.lw_words.specs.declared.stop.RunStop.TheVariants as Run
@@ -12,7 +12,7 @@ use Rattle.lw_mealy.specs.Machine.{Rows, answer}
 use Rattle.std.proofs.lemmas.Option.{slice_get-get_or}
 use Rattle.lw_cache.specs.declared.stops.AskStop.TheVariants as Stop
 use Rattle.lw_cache.specs.declared.stops.Clash.{Clash}
-use Rattle.lw_names.specs.Names.{name_at, named, IsGrown}
+use Rattle.lw_names.specs.Names.{IsGrown}
 use Rattle.lw_sul.specs.Told.{Answers}
 use Rattle.lw_names.proofs.NameLemmas.{number_of-name_at}
 use Rattle.lw_sul.specs.declared.runs.Run.{Run}

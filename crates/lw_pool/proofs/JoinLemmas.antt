@@ -4,7 +4,7 @@ use Rattle.std.proofs.lemmas.Bool.{cases_lt}
 use Rattle.std.proofs.lemmas.List.{get_or_append_left, get_or_default, length_push, get_or_push}
 use Rattle.lw_words.specs.declared.kept.KeptAnswer.{KeptAnswer}
 use Rattle.lw_sul.specs.SessionState.{SessionState}
-use Rattle.lw_names.specs.Names.{name_at}
+use Rattle.lw_words.specs.Word.{name_at}
 use Rattle.lw_names.specs.Naming.{IsFree, Naming}
 use Rattle.lw_desk.specs.Ending.{FreeComeUp, IsShared}
 use Rattle.lw_pool.specs.Pool.{Member}

@@ -1,11 +1,11 @@
 -- How a worker's turns go on.
 use Rattle.std.proofs.Common.{◌≡◌, ◌⊎◌, inl, inr, ⊎_elim, ℕ, ◌<◌, ◌≤◌, ◌||◌, ◌↔◌, List, [], ◌∷◌, ◌++◌, length, map, Contains, All, Bool, true, false, Option, Some, None, is_some, refl, ap, ap₂, sym, ◌∙◌, subst, arith, append_assoc, append-nil, length-append}
 use Rattle.std.proofs.lemmas.Bool.{false≢true}
-use Rattle.lw_words.specs.Word.{IsName, AllDiffer}
+use Rattle.lw_words.specs.Word.{IsName, AllDiffer, named}
 use Rattle.lw_words.specs.declared.stop.SulStop.{SulStop}
 use Rattle.lw_words.specs.declared.stop.RunStop.{RunStop}
 use Rattle.lw_words.specs.declared.stop.RunStop.TheVariants as Run
-use Rattle.lw_names.specs.Names.{named, with_names}
+use Rattle.lw_names.specs.Names.{with_names}
 use Rattle.lw_turn.specs.declared.shared.Entry.{Entry}
 use Rattle.lw_turn.specs.declared.view.View.{View}
 use Rattle.lw_turn.specs.Views.{IsTurned}

@@ -1,11 +1,11 @@
 -- A pool: its workers, and what it has kept of prior answers and of their runs.
 use Rattle.std.specs.Prelude.{◌≡◌, ℕ, ◌+◌, ◌<◌, ◌≤◌, List, [], ◌∷◌, ◌++◌, length, map, take, slice_index_or, Bool, Option, Some, None}
 use Rattle.std.specs.List.{All}
-use Rattle.lw_words.specs.Word.{answers_of}
+use Rattle.lw_words.specs.Word.{answers_of, named}
 use Rattle.lw_words.specs.declared.kept.KeptAnswer.{KeptAnswer}
 use Rattle.lw_words.specs.declared.stop.SulStop.{SulStop}
 use Rattle.lw_mealy.specs.Origin.{Origin}
-use Rattle.lw_names.specs.Names.{named, IsGrown}
+use Rattle.lw_names.specs.Names.{IsGrown}
 use Rattle.lw_sul.specs.SessionState.{SessionState}
 use Rattle.lw_sul.specs.declared.runs.Run.{Run}
 use Rattle.lw_cache.specs.FirstClash.{ClashedWhenKept}

@@ -4,12 +4,10 @@ use Rattle.std.specs.List.{All}
 use Rattle.std.proofs.lemmas.List.{length-map, length-take, map-id, map_more, get_or-map, get_or_default, take_more}
 use Rattle.std.proofs.lemmas.List.Elements.{All-head, All-tail, All-push}
 use Rattle.std.proofs.lemmas.Option.{none-some, slice_get_within, get_or_from_slice_get}
-use Rattle.lw_words.specs.Word.{answer_of, answers_of, IsAnswer, IsWhole, IsWord, AllDiffer, number_of}
+use Rattle.lw_words.specs.Word.{answer_of, answers_of, IsAnswer, IsWhole, IsWord, AllDiffer, number_of, name_at, number_in}
 use Rattle.lw_words.specs.Renumbering.{renumbered, renumbered_answer, renumbered_answers}
 use Rattle.lw_words.specs.declared.kept.KeptAnswer.{KeptAnswer}
 use Rattle.lw_words.proofs.NumberLemmas.{name_at_number}
-use Rattle.lw_names.specs.Names.{name_at}
-use Rattle.lw_names.specs.Naming.{number_in}
 use Rattle.lw_names.proofs.Members.{contains_in}
 use Rattle.lw_names.proofs.Bringing.{map_agree, number_in_place}
 use Rattle.lw_names.proofs.NameNumbers.{numbered}

@@ -1,11 +1,9 @@
 -- The answers of an earlier call, as those that a learning begins with.
 use Rattle.std.specs.Prelude.{ℕ, ◌+◌, List, [], ◌∷◌, map, Option, None, Some}
-use Rattle.lw_words.specs.Word.{Answer}
+use Rattle.lw_words.specs.Word.{Answer, name_at, number_in}
 use Rattle.lw_words.specs.declared.kept.KeptAnswer.{KeptAnswer}
-use Rattle.lw_names.specs.Names.{name_at}
 use Rattle.lw_cache.specs.Clash.{NothingClashes}
 use Rattle.lw_cache.specs.declared.stops.Clash.{Clash}
-use Rattle.lw_names.specs.Naming.{number_in}
 use Rattle.lw_cache.specs.FirstClash.{IsFirstClash}
 
 -- an answer under the instance 16 and this run, its outputs by the numbers that their names have in another list

@@ -1,9 +1,8 @@
 //! The answers of a file, by the names of a system.
 ghost use Rattle.std.specs.Prelude.{◌≡◌, ◌<◌, [], length, map, Contains, IfOk, OnOk, Err, None};
 ghost use Rattle.std.specs.List.{All};
-ghost use Rattle.lw_words.specs.Word.{answers_of, IsWhole};
+ghost use Rattle.lw_words.specs.Word.{answers_of, IsWhole, number_in};
 ghost use Rattle.lw_words.specs.Renumbering.{renumbered_answers};
-ghost use Rattle.lw_names.specs.Naming.{number_in};
 ghost use Rattle.lw_pool.specs.Opening.{MayBegin};
 ghost use Rattle.lw_json.specs.FitNames.{FitNames};
 ghost use Rattle.lw_prior.specs.Prior.{prior_answers, HasFirstClash};

@@ -4,12 +4,12 @@ use Rattle.std.specs.List.{All}
 use Rattle.std.proofs.lemmas.List.{get_or-map, length-map, map-append, take_all, take_more}
 use Rattle.std.proofs.lemmas.List.Elements.{All-head, All-nil, All-push, All-tail}
 use Rattle.std.proofs.lemmas.Option.{get_or_from_slice_get}
-use Rattle.lw_words.specs.Word.{Answer, answer_at, answer_of, answers_of}
+use Rattle.lw_words.specs.Word.{Answer, answer_at, answer_of, answers_of, named}
 use Rattle.lw_words.specs.declared.kept.KeptAnswer.{KeptAnswer}
 use Rattle.lw_words.specs.declared.stop.RunStop.{RunStop}
 use Rattle.lw_json.specs.KeptOver.{AreKeptOver, IsKeptOver}
 use Rattle.lw_mealy.specs.Machine.{Rows}
-use Rattle.lw_names.specs.Names.{IsGrown, named}
+use Rattle.lw_names.specs.Names.{IsGrown}
 use Rattle.lw_sul.specs.SessionState.{run_of}
 use Rattle.lw_sul.specs.Told.{Answers}
 use Rattle.lw_sul.specs.declared.runs.Run.{Run}

@@ -6,8 +6,8 @@ use Rattle.std.proofs.lemmas.Option.{get_or_from_slice_get}
 use Rattle.std.specs.List.{All}
 use Rattle.std.proofs.lemmas.List.{append-nil, get_or-map, length-map, map-append, take_all, take_more}
 use Rattle.std.proofs.lemmas.List.Elements.{All-head, All-tail}
-use Rattle.lw_words.specs.Word.{AllDiffer, number_of}
-use Rattle.lw_names.specs.Names.{IsGrown, name_at, named}
+use Rattle.lw_words.specs.Word.{AllDiffer, number_of, name_at, named}
+use Rattle.lw_names.specs.Names.{IsGrown}
 use Rattle.lw_names.proofs.NameLemmas.{number_of-name_at}
 use Rattle.lw_recheck.specs.Again.{NamesDifferAt}
 

@@ -3,7 +3,7 @@ use Rattle.std.proofs.Common.{◌≡◌, ◌∙◌, ℕ, ◌<◌, List, [], ◌�
 use Rattle.std.specs.List.{All}
 use Rattle.std.proofs.lemmas.List.{get_or-map, take-map}
 use Rattle.std.proofs.lemmas.List.Elements.{All-take}
-use Rattle.lw_words.specs.Word.{Answer, answer_at, answer_of, answers_of, IsNames}
+use Rattle.lw_words.specs.Word.{Answer, answer_at, answer_of, answers_of, IsNames, name_at, named}
 use Rattle.lw_words.specs.declared.kept.KeptAnswer.{KeptAnswer}
 use Rattle.lw_words.specs.declared.stop.RunStop.{RunStop}
 use Rattle.lw_words.specs.declared.stop.RunStop.TheVariants.{NoMemory, Sul}
@@ -12,7 +12,7 @@ use Rattle.lw_cache.specs.Clash.{ClashAt}
 use Rattle.lw_cache.specs.declared.stops.Clash.{Clash}
 use Rattle.lw_json.specs.KeptOver.{AreKeptOver}
 use Rattle.lw_mealy.specs.Machine.{Rows}
-use Rattle.lw_names.specs.Names.{IsGrown, name_at, named}
+use Rattle.lw_names.specs.Names.{IsGrown}
 use Rattle.lw_sul.specs.SessionState.{run_of}
 use Rattle.lw_sul.specs.declared.runs.Run.{Run}
 use Rattle.lw_names.proofs.NameLemmas.{named-grown}

@@ -2,7 +2,7 @@
 -- those of the runs are numbered by names of their own, and are compared by these.
 use Rattle.std.specs.Prelude.{◌≡◌, ℕ, ◌<◌, ◌≤◌, List, [], ◌∷◌, ◌++◌, length, map, take, Option, Some, None, Result, Ok, Err, ◌≢◌, slice_index_or}
 use Rattle.std.specs.List.{All}
-use Rattle.lw_words.specs.Word.{answer_at, answers_of, Answer, IsNames}
+use Rattle.lw_words.specs.Word.{answer_at, answers_of, Answer, IsNames, named}
 use Rattle.lw_words.specs.declared.kept.KeptAnswer.{KeptAnswer}
 use Rattle.lw_words.specs.declared.stop.RunStop.{RunStop}
 use Rattle.lw_words.specs.declared.stop.RunStop.TheVariants.{Sul}
@@ -10,7 +10,7 @@ use Rattle.lw_words.specs.declared.stop.SulStop.{SulStop}
 use Rattle.lw_cache.specs.Clash.{ClashAt}
 use Rattle.lw_cache.specs.declared.stops.Clash.{Clash}
 use Rattle.lw_mealy.specs.Machine.{Rows}
-use Rattle.lw_names.specs.Names.{IsGrown, named}
+use Rattle.lw_names.specs.Names.{IsGrown}
 use Rattle.lw_sul.specs.Told.{Answers}
 use Rattle.lw_sul.specs.declared.runs.Run.{Run}
 

@@ -1,11 +1,11 @@
 //! A session that is asked the words of answers again, up to the first that comes out otherwise.
 ghost use Rattle.std.specs.Prelude.{◌≡◌, ◌≢◌, ◌↔◌, ◌<◌, [], length, map, take, None, Some, Err, IfErr, IfOk, IfNone, IfSome, IsTrue, OnOk, OnErr};
 ghost use Rattle.std.specs.List.{All};
-ghost use Rattle.lw_words.specs.Word.{IsWord, IsWholeKept};
+ghost use Rattle.lw_words.specs.Word.{IsWord, IsWholeKept, name_at, named};
 ghost use Rattle.lw_words.specs.declared.stop.RunStop.{RunStop as Stopped};
 ghost use Rattle.lw_words.specs.declared.stop.SulStop.{SulStop as Reason};
 ghost use Rattle.lw_json.specs.KeptOver.{AreKeptOver};
-ghost use Rattle.lw_names.specs.Names.{IsGrown, name_at, named};
+ghost use Rattle.lw_names.specs.Names.{IsGrown};
 ghost use Rattle.lw_sul.specs.System.{IsSameSul};
 ghost use Rattle.lw_recheck.specs.Again.{NamesDifferAt};
 ghost use Rattle.lw_recheck.specs.bodies.Step.{GainsOne, GainsRun, HasFound};

@@ -1,11 +1,11 @@
 //! The run that came out otherwise, kept behind the answers.
 ghost use Rattle.std.specs.Prelude.{◌≡◌, ◌<◌, ◌∷◌, ◌++◌, [], length, map, string_bytes, None, Some, Err, IfErr, IfOk, OnOk, OnErr};
 ghost use Rattle.std.specs.List.{All};
-ghost use Rattle.lw_words.specs.Word.{answer_at, answers_of, AllDiffer, IsNames, number_of};
+ghost use Rattle.lw_words.specs.Word.{answer_at, answers_of, AllDiffer, IsNames, number_of, name_at, named};
 ghost use Rattle.lw_words.specs.declared.stop.RunStop.{RunStop as Stopped};
 ghost use Rattle.lw_words.specs.declared.stop.SulStop.{SulStop as Reason};
 ghost use Rattle.lw_json.specs.KeptOver.{AreKeptOver};
-ghost use Rattle.lw_names.specs.Names.{IsGrown, name_at, named};
+ghost use Rattle.lw_names.specs.Names.{IsGrown};
 ghost use Rattle.lw_sul.specs.System.{IsSameSul};
 ghost use Rattle.lw_recheck.specs.Again.{HasRechecked};
 ghost use Rattle.lw_recheck.specs.bodies.Step.{KeepsOther};

@@ -4,11 +4,10 @@ use Rattle.std.specs.List.{All}
 use Rattle.std.specs.List.Sorted.{IsPermutation}
 use Rattle.std.proofs.lemmas.List.Elements.{All-head, All-tail, All-map}
 use Rattle.std.proofs.lemmas.List.Sorted.{length_permutation}
-use Rattle.lw_words.specs.Word.{answers_of, AllDiffer}
+use Rattle.lw_words.specs.Word.{answers_of, AllDiffer, named}
 use Rattle.lw_words.specs.Renumbering.{renumbered, renumbered_answer, renumbered_answers}
 use Rattle.lw_words.specs.declared.kept.KeptAnswer.{KeptAnswer}
 use Rattle.lw_mealy.specs.Machine.{AnswersBelow}
-use Rattle.lw_names.specs.Names.{named}
 use Rattle.lw_desk.specs.Ending.{ComeUp}
 use Rattle.lw_names.specs.Naming.{Renumbers}
 use Rattle.lw_names.proofs.NameOrder.{differ_moved}

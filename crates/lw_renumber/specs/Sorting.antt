@@ -1,11 +1,10 @@
 -- What it leaves to sort the names of a learned system's outputs.
 use Rattle.std.specs.Prelude.{◌≡◌, ℕ, ◌<◌, ◌≤◌, List, length, map, slice_index_or, Result, Ok, Err, IfOk, IfErr}
-use Rattle.lw_words.specs.Word.{Answer, AreAnswers}
+use Rattle.lw_words.specs.Word.{Answer, AreAnswers, name_at, named}
 use Rattle.lw_words.specs.declared.kept.KeptAnswer.{KeptAnswer}
 use Rattle.lw_cache.specs.Clash.{NothingClashes}
 use Rattle.lw_mealy.specs.Machine.{Gives, MealyMachine, mealy_of, Rows, IsMachine}
 use Rattle.lw_mealy.specs.Renumbering.{renumbered_rows}
-use Rattle.lw_names.specs.Names.{name_at, named}
 use Rattle.lw_suite.specs.declared.method.Method.{Method}
 use Rattle.lw_rounds.specs.Learned.{IsCertified, IsEnoughFor, IsLearned, IsTooMany, IsTooLarge, StopsAs}
 use Rattle.lw_rounds.specs.declared.learned.Learned.{Learned}

@@ -4,6 +4,7 @@ use Rattle.std.specs.Prelude.{ℕ, Bool, List, [], ◌++◌, length, codes, slic
 use Rattle.std.specs.Fmt.{decimal}
 use Rattle.std.specs.List.{flat_map, join_by}
 use Rattle.hex.specs.Hex.{encode_lower}
+use Rattle.lw_words.specs.Word.{word_text}
 use Rattle.lw_words.specs.declared.kept.KeptAnswer.{KeptAnswer}
 use Rattle.lw_cache.specs.declared.stops.Clash.{Clash}
 use Rattle.lw_certify.specs.declared.verdict.Verdict.{Verdict}
@@ -19,13 +20,9 @@ use Rattle.lw_report.specs.declared.outcome.Outcome.{Outcome}
 use Rattle.lw_report.specs.declared.outcome.Tried.{Tried}
 use Rattle.lw_report.specs.declared.outcome.Outcome.TheVariants.{Learned, Trial, Yes, Served, No, Usage, BadFile, Alphabets, FileTooLong, Nondeterministic, NoMemory, SulFailed, Gone, BadLine, BadAsk, TooManyStates, SuiteTooLarge, FileFault, SourceFault, SinkFault, Compared, Asked, Rechecked, UnknownLetter, Unstarted}
 
--- the name of a letter
-abbrev pub letter_name : List (List ℕ) → ℕ → List ℕ
-letter_name names x = slice_index_or names x []
-
 -- a word in quotes, its names joined by one blank, on a line of its own
 abbrev pub word_line : List (List ℕ) → List ℕ → List ℕ
-word_line names w = codes "\"" ++ (join_by (letter_name names) (codes " ") w ++ codes "\"\n")
+word_line names w = codes "\"" ++ (word_text names w ++ codes "\"\n")
 
 -- a model's number of states, how often its learner was refined, the extra states, and the number of kept answers
 abbrev pub learned_line : (states refinements extra answers : ℕ) → List ℕ
@@ -80,7 +77,7 @@ abbrev pub no_line : List (List ℕ) → Verdict → List ℕ
 no_line inputs (verdict.Unreached state) = unreached_line state
 no_line inputs (verdict.Alike p q) = alike_line p q
 no_line inputs (verdict.Differs answer place) = differs_line answer place
-no_line inputs (verdict.Missing word) = codes "no: word \"" ++ (join_by (letter_name inputs) (codes " ") word ++ codes "\" is missing\n")
+no_line inputs (verdict.Missing word) = codes "no: word \"" ++ (word_text inputs word ++ codes "\" is missing\n")
 no_line inputs (verdict.TooLarge size) = codes "no\n"
 no_line inputs verdict.Sure = codes "no\n"
 
@@ -92,7 +89,7 @@ run_line inputs outputs (Some k) =
     ++ (decimal k.instance
     ++ (codes " run "
     ++ (decimal k.run
-    ++ (codes ": " ++ (join_by (letter_name inputs) (codes " ") k.word ++ (codes " / " ++ (join_by (letter_name outputs) (codes " ") k.outs ++ codes "\n")))))))
+    ++ (codes ": " ++ (word_text inputs k.word ++ (codes " / " ++ (word_text outputs k.outs ++ codes "\n")))))))
 
 -- the place at which two kept answers differ, and both
 abbrev pub clash_lines : List (List ℕ) → List (List ℕ) → List KeptAnswer → Clash → List ℕ

@@ -1,10 +1,10 @@
 //! The texts of outcomes, each of which ends in a line feed.
 ghost use Rattle.std.specs.Prelude.{◌≡◌, ℕ, List, ◌++◌, codes, IfNone, IfOk, IfSome, OnOk, option_map, length, string_bytes};
-ghost use Rattle.std.specs.List.{join_by};
 ghost use Rattle.lw_words.specs.declared.kept.KeptAnswer.{KeptAnswer as Answer};
 ghost use Rattle.lw_report.specs.Outcomes.{HasOwnText};
 ghost use Rattle.lw_report.specs.Reasons.{reason_of, role_name};
-ghost use Rattle.lw_report.specs.Text.{crowd_line, crowd_lines, letter_name, learned_line, names_line, names_of, text_of, word_line};
+ghost use Rattle.lw_report.specs.Text.{crowd_line, crowd_lines, learned_line, names_line, names_of, text_of, word_line};
+ghost use Rattle.lw_words.specs.Word.{name_at, word_text};
 
 use crate::comparison::comparison_text;
 use crate::reasons::reason;
@@ -37,7 +37,7 @@ pub(crate) const NO_MEMORY: &str = "no memory\n";
 /// The name of a letter, where a file has said the names.
 fn put_name(text: &mut String, letter: u16, names: Option<&Names>) -> Result<(), NoMemory>
     ensures { OnOk result (string_bytes text.new ≡ string_bytes text.old ++
-        letter_name (names_of (option_map (λ n. n.now) names.entry)) letter) }
+        name_at (names_of (option_map (λ n. n.now) names.entry)) letter) }
 {
     let Some(names) = names else {
         return Ok(());
@@ -56,7 +56,7 @@ pub(crate) fn put_names(
     names: Option<&Names>,
 ) -> Result<(), NoMemory>
     ensures { OnOk result (string_bytes text.new ≡ string_bytes text.old ++
-        join_by (letter_name (names_of (option_map (λ n. n.now) names.entry))) (codes " ") word.now) }
+        word_text (names_of (option_map (λ n. n.now) names.entry)) word.now) }
 {
     let Some((first, rest)) = word.split_first() else {
         return Ok(());

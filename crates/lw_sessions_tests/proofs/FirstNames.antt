@@ -2,8 +2,8 @@
 use Rattle.std.proofs.Common.{◌≡◌, ◌≢◌, ℕ, List, [], ◌+◌, ◌<◌, ◌≤◌, length, take, get_or, inl, inr, sym, ◌∙◌, refl, arith}
 use Rattle.std.proofs.lemmas.List.{get_or-take, take_more, length-take-le}
 use Rattle.std.proofs.lemmas.List.Elements.{All-take}
-use Rattle.lw_words.specs.Word.{IsName}
-use Rattle.lw_names.specs.Names.{AreNamed, Brings, name_at}
+use Rattle.lw_words.specs.Word.{IsName, name_at}
+use Rattle.lw_names.specs.Names.{AreNamed, Brings}
 
 pub first_lawful : (n : ℕ) (names : List (List ℕ)) → n ≤ length names → AreNamed (length names) names → AreNamed (length names) (take n names)
 first_lawful n names le is =

@@ -4,9 +4,9 @@ use Rattle.std.proofs.lemmas.Bool.{cases_eq, true≢false}
 use Rattle.std.proofs.lemmas.List.{get_or-set_same, get_or-set_other, get_or-take, length-set, length-take-le, take_more}
 use Rattle.std.proofs.lemmas.List.Elements.{filter-append, All-head, All-tail}
 use Rattle.std.proofs.lemmas.Option.{slice_get-get_or, get_or_from_slice_get}
-use Rattle.lw_words.specs.Word.{AllDiffer, number_of}
+use Rattle.lw_words.specs.Word.{AllDiffer, number_of, name_at, named}
 use Rattle.lw_words.proofs.NumberLemmas.{number_at_place, name_at_number, slice_get-take}
-use Rattle.lw_names.specs.Names.{name_at, named, added_name, with_name, with_names}
+use Rattle.lw_names.specs.Names.{added_name, with_name, with_names}
 use Rattle.lw_turn.specs.declared.shared.Entry.{Entry}
 use Rattle.lw_turn.specs.History.{entries_of}
 use Rattle.lw_names.specs.Naming.{own_names, HasLists}

@@ -1,14 +1,13 @@
 //! Sessions: a system that is asked words, and the journal of its finished runs.
-ghost use Rattle.std.specs.Prelude.{◌≡◌, ◌⊎◌, ◌+◌, ◌-◌, ◌<◌, ◌≤◌, List, [], ◌∷◌, ◌++◌, length, drop, min, Some, None, option_map, IfOk, OnOk, IfErr, OnErr, vec_capacity, vec_len};
+ghost use Rattle.std.specs.Prelude.{◌≡◌, ◌⊎◌, ◌+◌, ◌-◌, ◌<◌, ◌≤◌, List, [], ◌∷◌, ◌++◌, length, drop, min, Some, None, option_map, IfOk, OnOk, IfErr, OnErr, vec_capacity, vec_len, Err};
 ghost use Rattle.std.specs.List.{All};
-ghost use Rattle.lw_words.specs.Word.{IsWord};
+ghost use Rattle.lw_words.specs.Word.{IsWord, named};
 ghost use Rattle.lw_words.specs.declared.stop.SulStop.{SulStop as Stop};
-ghost use Rattle.std.specs.Prelude.{Err};
 ghost use Rattle.lw_sul.specs.SessionState.{SessionState, run_of, NoRuns, CutOff, IsJournal};
 ghost use Rattle.lw_words.specs.Cause.{CountedFault};
 ghost use Rattle.lw_sul.specs.System.{IsSameSul};
 ghost use Rattle.lw_sul.specs.Told.{Answers};
-ghost use Rattle.lw_names.specs.Names.{AreNamed, IsGrown, named, with_names};
+ghost use Rattle.lw_names.specs.Names.{AreNamed, IsGrown, with_names};
 
 use crate::Sul;
 use http_server::Log;

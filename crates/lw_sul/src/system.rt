@@ -1,6 +1,7 @@
 //! Systems that can only be reset and stepped.
 ghost use Rattle.std.specs.Prelude.{◌≡◌, ◌<◌, length, true, None};
-ghost use Rattle.lw_names.specs.Names.{AreNamed, name_at};
+ghost use Rattle.lw_names.specs.Names.{AreNamed};
+ghost use Rattle.lw_words.specs.Word.{name_at};
 ghost use Rattle.lw_sul.specs.System.{SulState, SulReset, SulStep};
 
 use lw_names::OutName;

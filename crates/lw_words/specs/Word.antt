@@ -1,6 +1,6 @@
 -- Words, their order, names, and answers.
-use Rattle.std.specs.Prelude.{◌≡◌, ℕ, ◌<◌, List, ◌++◌, length, [], map, slice_index_or, ◌≢◌, ◌≤◌, position, Option}
-use Rattle.std.specs.List.{All, AllPairs}
+use Rattle.std.specs.Prelude.{◌≡◌, ℕ, ◌<◌, List, ◌++◌, length, [], map, slice_index_or, ◌≢◌, ◌≤◌, position, Option, codes, unwrap_or}
+use Rattle.std.specs.List.{All, AllPairs, join_by}
 use Rattle.std.specs.Ordering.{nat_cmp, ordering_then}
 use Rattle.std.specs.declared.cmp.Ordering.{Ordering}
 use Rattle.std.specs.Cmp.{IsTotalOrder}
@@ -51,6 +51,22 @@ pub record IsNames (names : List (List ℕ)) : Type 0 where
 -- the number of a name: its place in the list
 abbrev pub number_of : List ℕ → List (List ℕ) → Option ℕ
 number_of name names = position (bytes_eq name) names
+
+-- the number of a name; 0 where it has none
+abbrev pub number_in : List (List ℕ) → List ℕ → ℕ
+number_in names name = unwrap_or (number_of name names) 0
+
+-- the name with this number; past the end, the empty text
+abbrev pub name_at : List (List ℕ) → ℕ → List ℕ
+name_at names x = slice_index_or names x []
+
+-- the names of a word's letters, or of outputs
+abbrev pub named : List (List ℕ) → List ℕ → List (List ℕ)
+named names w = map (name_at names) w
+
+-- the text of a word: the names of its letters, joined by one blank each
+abbrev pub word_text : List (List ℕ) → List ℕ → List ℕ
+word_text names w = join_by (name_at names) (codes " ") w
 
 -- Answers: a word and the outputs that came, one for each letter. Source: the queries of Angluin (1987), with outputs as in Niese (2003).
 

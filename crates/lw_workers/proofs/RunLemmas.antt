@@ -5,11 +5,10 @@ use Rattle.std.proofs.lemmas.List.{length-map}
 use Rattle.std.proofs.lemmas.List.Elements.{All-map, All-tail}
 use Rattle.std.proofs.lemmas.List.FromFn.{length-range_with_len}
 use Rattle.std.proofs.lemmas.Option.{none-some, same_Some, slice_get-get_or}
-use Rattle.lw_words.specs.Word.{IsAnswer, answer_of, answers_of, IsWord}
+use Rattle.lw_words.specs.Word.{IsAnswer, answer_of, answers_of, IsWord, named}
 use Rattle.lw_words.specs.declared.kept.KeptAnswer.{KeptAnswer}
 use Rattle.lw_mealy.specs.Machine.{Gives, MealyMachine, Rows, answer}
 use Rattle.lw_mealy.specs.Origin.{Origin}
-use Rattle.lw_names.specs.Names.{named}
 use Rattle.lw_sul.specs.declared.runs.Run.{Run}
 use Rattle.lw_cache.specs.Settling.{IsOf, told_machine}
 use Rattle.lw_cache.specs.declared.stops.AskStop.{AskStop}

@@ -1,14 +1,14 @@
 -- Two models that go together, by the letters of the first one: a machine over the pairs of their states.
 use Rattle.std.specs.Prelude.{◌≡◌, ℕ, ◌+◌, ◌*◌, ◌/◌, ◌%◌, ◌<◌, List, [], length, map, slice_index_or, Option, None}
 use Rattle.std.specs.List.{range_with_len}
-use Rattle.lw_words.specs.Word.{IsNames, number_of}
+use Rattle.lw_words.specs.Word.{IsNames, number_of, number_in}
 use Rattle.lw_mealy.specs.Machine.{IsWithinLimits, Row, Rows, next, output}
 use Rattle.lw_json.specs.declared.files.Machine.{Machine}
-use Rattle.lw_compare.specs.Comparing.{SameInputs, number_or_zero}
+use Rattle.lw_compare.specs.Comparing.{SameInputs}
 
 -- the number of a letter in the second model
 abbrev pub letter_in : Machine → Machine → ℕ → ℕ
-letter_in first second x = number_or_zero second.inputs (slice_index_or first.inputs x [])
+letter_in first second x = number_in second.inputs (slice_index_or first.inputs x [])
 
 -- a pair of states p and q has the number p * b + q, with b states of the second model
 abbrev pub joint_next : Machine → Machine → ℕ → ℕ → ℕ
@@ -37,7 +37,7 @@ pub record AreNumbers (names others : List (List ℕ)) (numbers : List (Option �
 -- the number of each name among others; 0 where it has none
 pub record AreLetters (names others : List (List ℕ)) (letters : List ℕ) : Type 0 where
   pub all : length letters ≡ length names
-  pub each : (k : ℕ) → k < length letters → number_or_zero others (slice_index_or names k []) ≡ slice_index_or letters k 0
+  pub each : (k : ℕ) → k < length letters → number_in others (slice_index_or names k []) ≡ slice_index_or letters k 0
 
 -- the number of each input in the second model, and of each output, where it has one; both models are within their
 -- limits, and have the same inputs

@@ -1,11 +1,10 @@
 -- What a history of a desk has come to: which words were answered, which instance's runs the answers are, and why it stopped.
 use Rattle.std.specs.Prelude.{◌≡◌, ℕ, ◌<◌, List, [], ◌∷◌, ◌++◌, length, map, Some, None, Contains}
 use Rattle.std.specs.List.{All}
-use Rattle.lw_words.specs.Word.{answers_of, AllDiffer}
+use Rattle.lw_words.specs.Word.{answers_of, AllDiffer, named}
 use Rattle.lw_words.specs.declared.kept.KeptAnswer.{KeptAnswer}
 use Rattle.lw_words.specs.declared.stop.SulStop.{SulStop}
 use Rattle.lw_words.specs.declared.stop.RunStop.TheVariants as Run
-use Rattle.lw_names.specs.Names.{named}
 use Rattle.lw_cache.specs.Asked.{IsAsked, AreAsked}
 use Rattle.lw_cache.specs.Clash.{NothingClashes}
 use Rattle.lw_cache.specs.FirstClash.{IsNewClash}

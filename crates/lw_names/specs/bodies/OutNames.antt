@@ -3,8 +3,7 @@ use Rattle.std.specs.Prelude.{◌≡◌, ℕ, ◌<◌, ◌≤◌, List, length, 
 use Rattle.std.specs.List.{All, count_by, sum_by}
 use Rattle.std.specs.Ordering.{is_lt, nat_cmp}
 use Rattle.std.specs.Cmp.Lexicographic.{slice_cmp}
-use Rattle.lw_words.specs.Word.{IsName, AllDiffer}
-use Rattle.lw_names.specs.Names.{name_at, named}
+use Rattle.lw_words.specs.Word.{IsName, AllDiffer, name_at, named}
 
 -- for free names, the names that each table's numbers stand for
 abbrev pub brought_of : Bool → List (List ℕ) → List (List ℕ) → Option (List (List (List ℕ)))

@@ -1,11 +1,11 @@
 -- What a worker does with its places, and what that leaves of its session.
 use Rattle.std.specs.Prelude.{◌≡◌, ◌⊎◌, ℕ, ◌<◌, ◌≤◌, List, [], ◌∷◌, ◌++◌, length, true, Option, Some, None, is_some}
 use Rattle.std.specs.List.{All}
-use Rattle.lw_words.specs.Word.{IsName, AllDiffer}
+use Rattle.lw_words.specs.Word.{IsName, AllDiffer, named}
 use Rattle.lw_words.specs.declared.stop.SulStop.{SulStop}
 use Rattle.lw_words.specs.declared.stop.RunStop.{RunStop}
 use Rattle.lw_words.specs.declared.stop.RunStop.TheVariants as Run
-use Rattle.lw_names.specs.Names.{named, with_names, IsGrown}
+use Rattle.lw_names.specs.Names.{with_names, IsGrown}
 use Rattle.lw_sul.specs.SessionState.{run_of}
 use Rattle.lw_sul.specs.Told.{Answers}
 use Rattle.lw_desk.specs.Step.{word_at_place}

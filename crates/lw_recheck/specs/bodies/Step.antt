@@ -1,11 +1,11 @@
 -- What comes of asking one word again, and of asking words up to the first that comes out otherwise.
 use Rattle.std.specs.Prelude.{◌≡◌, ℕ, ◌<◌, List, [], ◌∷◌, ◌++◌, length, take, Option, Some, None, Result, Ok, Err}
 use Rattle.std.specs.List.{All}
-use Rattle.lw_words.specs.Word.{answer_at, answers_of}
+use Rattle.lw_words.specs.Word.{answer_at, answers_of, named}
 use Rattle.lw_words.specs.declared.kept.KeptAnswer.{KeptAnswer}
 use Rattle.lw_words.specs.declared.stop.RunStop.{RunStop}
 use Rattle.lw_mealy.specs.Machine.{Rows}
-use Rattle.lw_names.specs.Names.{IsGrown, named}
+use Rattle.lw_names.specs.Names.{IsGrown}
 use Rattle.lw_sul.specs.SessionState.{run_of}
 use Rattle.lw_sul.specs.Told.{Answers}
 use Rattle.lw_sul.specs.declared.runs.Run.{Run}

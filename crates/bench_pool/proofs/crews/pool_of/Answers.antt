@@ -1,6 +1,6 @@
 use Rattle.std.proofs.Common.{ℕ, List, [], None, ap, sym, subst}
 use Rattle.std.proofs.lemmas.List.{get_or_default}
-use Rattle.lw_names.specs.Names.{name_at}
+use Rattle.lw_words.specs.Word.{name_at}
 use Rattle.lw_names.specs.Naming.{Naming}
 use Rattle.lw_desk.specs.Ending.{IsShared}
 use Rattle.lw_pool.proofs.JoinLemmas.{declared_come_up}

@@ -1,6 +1,6 @@
 use Rattle.std.proofs.Common.{◌≡◌, ◌++◌, take, codes}
 use Rattle.std.specs.List.{flat_map}
-use Rattle.lw_names.specs.Names.{name_at}
+use Rattle.lw_words.specs.Word.{name_at}
 use Rattle.lw_ask.proofs.lines.put_word.Given as goal
 
 abbrev pub invariant-loop-letter : goal.invariant-loop-letter

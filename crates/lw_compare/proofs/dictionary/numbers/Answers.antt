@@ -2,8 +2,7 @@ use Rattle.std.proofs.Common.{◌≡◌, ◌∙◌, ◌<◌, List, ℕ, [], leng
 use Rattle.std.proofs.lemmas.Option.{get_or_from_slice_get}
 use Rattle.lw_separate.proofs.AccessLemmas.{pushed}
 use Rattle.lw_separate.proofs.SearchLemmas.{length-push}
-use Rattle.lw_words.specs.Word.{number_of}
-use Rattle.lw_compare.specs.Comparing.{number_or_zero}
+use Rattle.lw_words.specs.Word.{number_of, number_in}
 use Rattle.lw_compare.proofs.dictionary.numbers.Goals as goal
 
 pub loop-place-preserved : goal.loop-place-preserved

@@ -2,8 +2,7 @@ use Rattle.std.proofs.Common.{◌≡◌, ℕ, ◌<◌, List, [], length, Some, N
 use Rattle.std.specs.List.{All, Contains}
 use Rattle.std.proofs.lemmas.List.{take_all}
 use Rattle.std.proofs.lemmas.Option.{get_or_from_slice_get}
-use Rattle.lw_words.specs.Word.{number_of}
-use Rattle.lw_names.specs.Names.{name_at}
+use Rattle.lw_words.specs.Word.{number_of, name_at}
 use Rattle.lw_prior.proofs.PriorLemmas.{numbers_next, among_next, not_among}
 use Rattle.lw_prior.proofs.prior.numbers_among.Goals as goal
 

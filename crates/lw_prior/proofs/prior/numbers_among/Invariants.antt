@@ -1,6 +1,6 @@
 use Rattle.std.proofs.Common.{◌≡◌, map, take}
 use Rattle.std.specs.List.{All, Contains}
-use Rattle.lw_names.specs.Naming.{number_in}
+use Rattle.lw_words.specs.Word.{number_in}
 use Rattle.lw_prior.proofs.prior.numbers_among.Given as goal
 
 abbrev pub invariant-loop-y : goal.invariant-loop-y

@@ -1,5 +1,5 @@
 use Rattle.std.proofs.Common.{◌≡◌, take}
-use Rattle.lw_names.specs.Names.{named}
+use Rattle.lw_words.specs.Word.{named}
 use Rattle.lw_recheck.proofs.asking.first_difference.Given as goal
 
 -- the names are the same so far

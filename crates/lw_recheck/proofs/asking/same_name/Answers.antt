@@ -1,6 +1,6 @@
 use Rattle.std.proofs.Common.{◌≡◌, ◌∙◌, ◌↔◌, List, ℕ, rules, subst₂, sym}
 use Rattle.std.specs.Prelude.{IsTrue}
-use Rattle.lw_names.specs.Names.{name_at}
+use Rattle.lw_words.specs.Word.{name_at}
 use Rattle.lw_names.proofs.NameLemmas.{is_name_at}
 use Rattle.lw_recheck.proofs.asking.same_name.Goals as goal
 

@@ -1,7 +1,7 @@
 use Rattle.std.proofs.Common.{◌∙◌, ◌<◌, ◌∷◌, ◌++◌, [], ℕ, List, length, ap, sym, subst}
 use Rattle.std.specs.List.{All}
 use Rattle.lw_words.specs.declared.kept.KeptAnswer.{KeptAnswer}
-use Rattle.lw_names.specs.Names.{named}
+use Rattle.lw_words.specs.Word.{named}
 use Rattle.lw_recheck.proofs.keeping.keep_other.Goals as goal
 
 pub joined-requires : goal.joined-requires

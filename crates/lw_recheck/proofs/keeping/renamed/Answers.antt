@@ -2,7 +2,7 @@ use Rattle.std.proofs.Common.{◌∙◌, ◌<◌, ◌≤◌, ℕ, List, length, 
 use Rattle.std.specs.List.{All}
 use Rattle.std.proofs.lemmas.List.{take_all}
 use Rattle.std.proofs.lemmas.List.Elements.{All-nil, All-push}
-use Rattle.lw_names.specs.Names.{named}
+use Rattle.lw_words.specs.Word.{named}
 use Rattle.lw_recheck.proofs.NameLemmas.{named_more}
 use Rattle.lw_recheck.proofs.keeping.renamed.Goals as goal
 

@@ -1,6 +1,6 @@
 use Rattle.std.proofs.Common.{◌≡◌, ◌<◌, length, take}
 use Rattle.std.specs.List.{All}
-use Rattle.lw_names.specs.Names.{named}
+use Rattle.lw_words.specs.Word.{named}
 use Rattle.lw_recheck.proofs.keeping.renamed.Given as goal
 
 abbrev pub invariant-loop-y : goal.invariant-loop-y

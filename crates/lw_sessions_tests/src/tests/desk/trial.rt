@@ -1,8 +1,8 @@
 //! Desks for tests: what an ask needs is tested when it is made.
 ghost use Rattle.std.specs.Prelude.{◌≡◌, ℕ, ◌+◌, ◌≤◌, ◌<◌, ◌||◌, true, false, List, [], ◌++◌, length, map, take, IsTrue, is_some};
 ghost use Rattle.std.specs.List.{All};
-ghost use Rattle.lw_words.specs.Word.{IsName, AllDiffer, number_of};
-ghost use Rattle.lw_names.specs.Names.{named, with_names};
+ghost use Rattle.lw_words.specs.Word.{IsName, AllDiffer, number_of, named};
+ghost use Rattle.lw_names.specs.Names.{with_names};
 ghost use Rattle.lw_names.specs.Naming.{own_names, MayBring};
 ghost use Rattle.lw_desk.specs.Step.{word_at_place};
 ghost use Rattle.lw_desk.specs.History.{MayMake, MayGiveAll, failed_places, names_given, settled_places};

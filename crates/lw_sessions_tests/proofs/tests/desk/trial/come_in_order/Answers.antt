@@ -1,6 +1,7 @@
 use Rattle.std.proofs.Common.{◌≡◌, ◌≢◌, ◌⊎◌, inl, inr, ◌+◌, ◌<◌, ℕ, List, length, take, get_or, sym, ◌∙◌, subst, arith}
 use Rattle.std.proofs.lemmas.List.{take_more}
-use Rattle.lw_names.specs.Names.{named, with_names}
+use Rattle.lw_names.specs.Names.{with_names}
+use Rattle.lw_words.specs.Word.{named}
 use Rattle.lw_sessions_tests.proofs.TestTrials.{order_more}
 use Rattle.lw_sessions_tests.proofs.tests.desk.trial.come_in_order.Goals as goal
 use Rattle.lw_sessions_tests.proofs.tests.desk.trial.come_in_order.Goals.{then-number-seen-2, else-number-seen-2}

@@ -1,8 +1,7 @@
 use Rattle.std.proofs.Common.{◌≡◌, ◌<◌, ℕ, List, [], length, take, All, None, ap, sym, ◌∙◌, subst, arith}
 use Rattle.std.proofs.lemmas.List.{get_or_read, take_all}
 use Rattle.std.proofs.lemmas.List.Elements.{All-more}
-use Rattle.lw_words.specs.Word.{IsName, AllDiffer, number_of}
-use Rattle.lw_names.specs.Names.{name_at}
+use Rattle.lw_words.specs.Word.{IsName, AllDiffer, number_of, name_at}
 use Rattle.lw_sessions_tests.proofs.TestTrials.{new_differ, none_of}
 use Rattle.lw_sessions_tests.proofs.tests.desk.trial.differ.Goals as goal
 

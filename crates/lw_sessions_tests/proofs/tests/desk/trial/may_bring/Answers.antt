@@ -1,8 +1,8 @@
 use Rattle.std.proofs.Common.{◌≡◌, ◌<◌, ◌≤◌, ℕ, List, ◌++◌, length, take, All, refl, subst, arith}
 use Rattle.std.proofs.lemmas.List.{take_at, drop_at, nil_from_length}
 use Rattle.std.proofs.lemmas.List.Elements.{All-drop}
-use Rattle.lw_words.specs.Word.{IsName, AllDiffer}
-use Rattle.lw_names.specs.Names.{named, with_names}
+use Rattle.lw_words.specs.Word.{IsName, AllDiffer, named}
+use Rattle.lw_names.specs.Names.{with_names}
 use Rattle.lw_sessions_tests.proofs.tests.desk.trial.may_bring.Goals as goal
 
 pub returns : goal.returns
