@@ -2,7 +2,7 @@
 use Rattle.std.proofs.Common.{◌≡◌, ◌⊎◌, inl, inr, ⊎_elim, ℕ, List, length, Option, Some, None, refl, sym, ap, ◌∙◌, subst, arith}
 use Rattle.lw_words.specs.Word.{answers_of}
 use Rattle.lw_words.specs.Cause.{CountedFault}
-use Rattle.lw_mealy.specs.Machine.{IsMachine, Sure}
+use Rattle.lw_mealy.specs.Machine.{IsMachine}
 use Rattle.lw_json.specs.Formats.{IsAnswersFile, SameAnswers, IsMachineFile, SameMachine}
 use Rattle.lw_json.specs.declared.files.Answers.{Answers}
 use Rattle.lw_json.specs.declared.files.Machine.{Machine}
@@ -17,7 +17,7 @@ use Rattle.lw_report.specs.Writing.{TakesSome}
 use Rattle.lw_report.specs.declared.role.Role.TheVariants as role
 use Rattle.lw_report.specs.declared.outcome.Outcome.{Outcome}
 use Rattle.lw_report.specs.declared.outcome.Outcome.TheVariants.{Learned, Trial, Yes, Served, No, Usage, BadFile, Alphabets, FileTooLong, Nondeterministic, NoMemory, SulFailed, Gone, BadLine, BadAsk, TooManyStates, SuiteTooLarge, FileFault, SourceFault, SinkFault, Compared, Asked, Rechecked, UnknownLetter, Unstarted}
-use Rattle.lw_check.specs.Decision.{IsYesOrNo, IsDecision, Pair, pair_of}
+use Rattle.lw_check.specs.Decision.{IsYesOrNo, IsDecision, IsFixed, Pair, pair_of}
 use Rattle.lw_names.specs.Naming.{Naming}
 use Rattle.lw_check.specs.Ending.{ComesTo, DecidesAs}
 use Rattle.lw_check.specs.Naming.{NamesOutputs, declared_as}
@@ -180,10 +180,18 @@ exact_read method model answers before now p extra out out_now m a decision outc
     s)
     comes
 
-pub yes_is_sure : (method : Method) (p : Pair) (extra : ℕ) (out out_now : SinkState) (states : ℕ) (outcome : Outcome) → IsMachine p.mealy.inputs p.mealy.rows → ComesTo method p extra out out_now outcome → outcome ≡ Yes states → Sure p.mealy.inputs p.mealy.rows (answers_of p.kept) extra
-yes_is_sure method p extra out out_now states outcome machine comes is =
+pub yes_is_fixed : (method : Method) (p : Pair) (extra : ℕ) (out out_now : SinkState) (states : ℕ) (outcome : Outcome) → IsMachine p.mealy.inputs p.mealy.rows → ComesTo method p extra out out_now outcome → outcome ≡ Yes states → IsFixed p extra × (states ≡ length p.mealy.rows)
+yes_is_fixed method p extra out out_now states outcome machine comes is =
     ⊎_elim
-    (λ (o : IsDecision method p extra outcome). let d : IsDecision method p extra (Yes states) = subst (IsDecision method p extra) is o in sure_is_sure method p.mealy.inputs p.mealy.rows (answers_of p.kept) extra machine d.0.2)
+    (λ (o : IsDecision method p extra outcome). let d : IsDecision method p extra (Yes states) = subst (IsDecision method p extra) is o in (
+      record {
+        names = d.0.0;
+        minimal = d.0.2.0;
+        gives = d.0.2.1;
+        sure = sure_is_sure method p.mealy.inputs p.mealy.rows (answers_of p.kept) extra machine d.0.2;
+      },
+      d.1,
+    ))
     (λ (s : (outcome ≡ NoMemory) ⊎ ((outcome ≡ SinkFault) × CountedFault out.faults out_now.faults × ((t : Outcome) × IsYesOrNo t × IsDecision method p extra t × TakesSome (text_of p.inputs p.outputs p.kept extra t) out.taken out_now.taken))). ⊎_elim
     (λ (none : outcome ≡ NoMemory). let no : NoMemory ≡ Yes states = sym none ∙ is in absurd (cc))
     (λ (f : (outcome ≡ SinkFault) × CountedFault out.faults out_now.faults × ((t : Outcome) × IsYesOrNo t × IsDecision method p extra t × TakesSome (text_of p.inputs p.outputs p.kept extra t) out.taken out_now.taken)). let no : SinkFault ≡ Yes states = sym f.0 ∙ is in absurd (cc))

@@ -1,12 +1,10 @@
 -- What a call of `check` did, for callers: all that its contract says, in one record.
-use Rattle.std.specs.Prelude.{◌≡◌, ◌⊎◌, ℕ, List, None}
-use Rattle.lw_words.specs.Word.{answers_of}
+use Rattle.std.specs.Prelude.{◌≡◌, ◌⊎◌, ℕ, List, length, None}
 use Rattle.lw_json.specs.Formats.{IsAnswersFile, IsMachineFile}
 use Rattle.lw_json.specs.declared.files.Answers.{Answers}
 use Rattle.lw_json.specs.declared.files.Machine.{Machine}
 use Rattle.lw_suite.specs.declared.method.Method.{Method}
-use Rattle.lw_mealy.specs.Machine.{Sure}
-use Rattle.lw_check.specs.Decision.{IsDecision, Pair, pair_of}
+use Rattle.lw_check.specs.Decision.{IsDecision, IsFixed, Pair, pair_of}
 use Rattle.lw_check.specs.Ending.{DecidesAs, EndsPairRead, EndsUnread}
 use Rattle.lw_system.specs.Reading.{TellsFile}
 use Rattle.lw_check.specs.Reading.{ReadsPair}
@@ -31,7 +29,6 @@ pub record IsCheckRun (method : Method) (model answers : List ℕ) (extra : ℕ)
       → TellsFile IsAnswersFile files_before.holds answers a
       → IsDecision method (pair_of m a) extra decision
       → DecidesAs decision end.outcome
-  -- a yes implies that every machine of at most so many states more that gives the answers equals the model
+  -- a yes implies that the answers fix the model, which has so many states
   pub sure : (states : ℕ) → end.outcome ≡ Yes states → (pair : Pair) ×
-      ReadsPair model answers files_before files_now pair × Sure pair.mealy.inputs pair.mealy.rows
-      (answers_of pair.kept) extra
+      ReadsPair model answers files_before files_now pair × IsFixed pair extra × (states ≡ length pair.mealy.rows)

@@ -2,7 +2,7 @@
 use Rattle.std.specs.Prelude.{◌≡◌, ℕ, List, length}
 use Rattle.lw_words.specs.Word.{AreAnswers, answers_of}
 use Rattle.lw_words.specs.declared.kept.KeptAnswer.{KeptAnswer}
-use Rattle.lw_mealy.specs.Machine.{MealyMachine, IsMachine}
+use Rattle.lw_mealy.specs.Machine.{MealyMachine, IsMachine, IsMinimal, Gives, Sure}
 use Rattle.lw_json.specs.declared.files.Machine.{Machine}
 use Rattle.lw_json.specs.declared.files.Answers.{Answers as Given}
 use Rattle.lw_cache.specs.Clash.{NothingClashes}
@@ -29,6 +29,14 @@ pair_of m a = record { inputs = m.inputs; outputs = m.outputs; mealy = m.mealy; 
 
 abbrev pub SameNames : Pair → Type 0
 SameNames p = (p.answer_inputs ≡ p.inputs) × (p.answer_outputs ≡ p.outputs)
+
+-- the answers fix the model: the names are the same, it is minimal and gives them, and every machine that gives them and has at
+-- most so many states more equals it on all words
+pub record IsFixed (p : Pair) (extra : ℕ) : Type 0 where
+  pub names : SameNames p
+  pub minimal : IsMinimal p.mealy.inputs p.mealy.rows
+  pub gives : Gives p.mealy.rows (answers_of p.kept)
+  pub sure : Sure p.mealy.inputs p.mealy.rows (answers_of p.kept) extra
 
 -- the names are the same, nothing clashes, and this is the verdict by the method
 abbrev pub HasVerdict : Method → Pair → ℕ → Verdict → Type 0

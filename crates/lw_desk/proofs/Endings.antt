@@ -9,9 +9,9 @@ use Rattle.lw_turn.specs.declared.shared.Entry.{Entry}
 use Rattle.lw_turn.specs.History.{entries_of}
 use Rattle.lw_names.specs.Naming.{Naming, own_names, HasLists}
 use Rattle.lw_desk.specs.Step.{Claimed, DeskState, word_at_place, ActorTakesAll, GivesAll, after_take, after_fail}
-use Rattle.lw_desk.specs.History.{DeskOpening, opened, Replays}
+use Rattle.lw_desk.specs.History.{DeskOpening, opened, Replays, gives_of}
 use Rattle.lw_desk.specs.Ending.{kept_runs, IsShared}
-use Rattle.lw_desk.specs.bodies.Outcome.{given_runs, gives_of, Brought, Settled}
+use Rattle.lw_desk.specs.bodies.Outcome.{given_runs, Brought, Settled}
 use Rattle.lw_desk.specs.declared.ask.Ask.{Ask}
 use Rattle.lw_desk.specs.declared.ask.Reply.{Reply}
 use Rattle.lw_names.proofs.Members.{In, in_contains, contains_in, in_either, in_map, in_mapped, is_same}

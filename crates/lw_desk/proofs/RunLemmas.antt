@@ -8,9 +8,9 @@ use Rattle.lw_turn.specs.declared.shared.Entry.{Entry}
 use Rattle.lw_turn.specs.History.{entries_of}
 use Rattle.lw_names.specs.Naming.{Naming, own_names, bring, shared, HasLists}
 use Rattle.lw_desk.specs.Step.{DeskState, word_at_place, kept_of, ActorGives, GivesAll}
-use Rattle.lw_desk.specs.History.{DeskOpening, opened, MayGiveAll, Makes, Replays}
+use Rattle.lw_desk.specs.History.{DeskOpening, opened, MayGiveAll, Makes, Replays, gives_of}
 use Rattle.lw_desk.specs.Ending.{NamedRun, kept_runs, IsShared}
-use Rattle.lw_desk.specs.bodies.Outcome.{given_runs, gives_of}
+use Rattle.lw_desk.specs.bodies.Outcome.{given_runs}
 use Rattle.lw_desk.specs.declared.ask.Ask.{Ask}
 use Rattle.lw_desk.specs.declared.ask.Reply.{Reply}
 use Rattle.lw_desk.specs.declared.ask.Give.{Give}

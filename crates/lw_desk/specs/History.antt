@@ -85,6 +85,11 @@ pub record Legal (o : DeskOpening) (es : List (Entry Ask Reply)) : Type 0 where
   pub state : DeskState
   pub replays : Replays o (opened o) es state
 
+-- all that was given in these entries
+abbrev pub gives_of : List (Entry Ask Reply) → List Give
+gives_of [] = []
+gives_of (e ∷ es) = e.ask.gives.items ++ gives_of es
+
 -- how an actor stands after an entry of its own
 abbrev pub names_given : List Give → List (List ℕ)
 names_given [] = []

@@ -25,9 +25,9 @@ use Rattle.lw_turn.specs.declared.shared.Entry.{Entry}
 use Rattle.lw_turn.specs.History.{entries_of}
 use Rattle.lw_names.specs.Naming.{Naming, own_by, own_names, HasLists}
 use Rattle.lw_desk.specs.Step.{DeskState, word_at_place}
-use Rattle.lw_desk.specs.History.{DeskOpening, opened, Seat, seat_in, seat_after, seat_from, seat_of, actor_of, Replays, names_given}
+use Rattle.lw_desk.specs.History.{DeskOpening, opened, Seat, seat_in, seat_after, seat_from, seat_of, actor_of, Replays, names_given, gives_of}
 use Rattle.lw_desk.specs.Ending.{NamedRun, kept_runs}
-use Rattle.lw_desk.specs.bodies.Outcome.{given_runs, gives_of, Brought, Settled, FailedBy, StopIs, FreshFrom}
+use Rattle.lw_desk.specs.bodies.Outcome.{given_runs, Brought, Settled, FailedBy, StopIs, FreshFrom}
 use Rattle.lw_desk.specs.declared.ask.Ask.{Ask}
 use Rattle.lw_desk.specs.declared.ask.Reply.{Reply}
 use Rattle.lw_desk.specs.declared.ask.Give.{Give}
@@ -39,7 +39,7 @@ use Rattle.lw_desk.proofs.SeatLemmas.{opened_stands, seat_after_all, replays_sta
 use Rattle.lw_desk.proofs.StopLemmas.{stop_is}
 use Rattle.lw_pool.specs.Fitting.{Fits, FitsBy}
 use Rattle.lw_pool.specs.Pool.{Seen, WentOn, nobody, seen_at, journal_runs, StandsFor, AskedOnce, IsStopOf, origins_of}
-use Rattle.lw_pool.specs.bodies.Working.{HasRefused, GivesBetween}
+use Rattle.lw_pool.specs.Working.{IsUnanswered, GivesBetween}
 use Rattle.lw_pool.specs.bodies.Engaged.{NobodyFailed}
 use Rattle.lw_pool.specs.bodies.Crew.{HasWorkedOff}
 use Rattle.lw_pool.specs.Standing.{IsPoolMember, IsPool}
@@ -116,14 +116,14 @@ module _ (o : DeskOpening) (es : List (Entry Ask Reply)) (start now : List Seen)
   end_journal i lt =
       ⊎_elim
       (λ (same : seen_at now i ≡ (worked i lt).working.mid). ap (λ (s : Seen). s.journal) same)
-      (λ (r : (stop : _) × HasRefused (worked i lt).working.mid (seen_at now i) stop × ((worked i lt).reply.places ≡ [])). r.1.journal)
+      (λ (r : (stop : _) × IsUnanswered (worked i lt).working.mid (seen_at now i) stop × ((worked i lt).reply.places ≡ [])). r.1.journal)
       (worked i lt).working.after
 
   end_grown : (i : ℕ) (lt : i < length start) → IsGrown (worked i lt).working.mid.names (seen_at now i).names
   end_grown i lt =
       ⊎_elim
       (λ (same : seen_at now i ≡ (worked i lt).working.mid). subst (λ (s : Seen). IsGrown (worked i lt).working.mid.names s.names) (sym same) (grown_not (worked i lt).working.mid.names))
-      (λ (r : (stop : _) × HasRefused (worked i lt).working.mid (seen_at now i) stop × ((worked i lt).reply.places ≡ [])). r.1.names)
+      (λ (r : (stop : _) × IsUnanswered (worked i lt).working.mid (seen_at now i) stop × ((worked i lt).reply.places ≡ [])). r.1.names)
       (worked i lt).working.after
 
   module _ (prior : List KeptAnswer) (stop0 : Option AskStop) (refused0 : Bool) (inputs outputs : ℕ) (is : IsPool start o.naming prior o.kept stop0 refused0 inputs outputs) (t : DeskState) (r : Replays o (opened o) es t) where
@@ -228,7 +228,7 @@ module _ (o : DeskOpening) (es : List (Entry Ask Reply)) (start now : List Seen)
     live_end i lt none =
         ⊎_elim
         (λ (same : seen_at now i ≡ (worked i lt).working.mid). ap (λ (s : Seen). s.names) same ∙ from_mid (ap (λ (s : Seen). s.stop) (sym same) ∙ none))
-        (λ (x : (stop : RunStop) × HasRefused (worked i lt).working.mid (seen_at now i) stop × ((worked i lt).reply.places ≡ [])). by x.0 x.1)
+        (λ (x : (stop : RunStop) × IsUnanswered (worked i lt).working.mid (seen_at now i) stop × ((worked i lt).reply.places ≡ [])). by x.0 x.1)
         (worked i lt).working.after
       where
         from_mid : (worked i lt).working.mid.stop ≡ None → (worked i lt).working.mid.names ≡ own_names t.naming i
@@ -242,7 +242,7 @@ module _ (o : DeskOpening) (es : List (Entry Ask Reply)) (start now : List Seen)
             (λ (own : (worked i lt).working.mid.names ≡ own_names t.naming i). own)
             (mid_own i lt)
 
-        by : (stop : RunStop) → HasRefused (worked i lt).working.mid (seen_at now i) stop → (seen_at now i).names ≡ own_names t.naming i
+        by : (stop : RunStop) → IsUnanswered (worked i lt).working.mid (seen_at now i) stop → (seen_at now i).names ≡ own_names t.naming i
         by (Run.Sul s) refused = absurd (false≢true (ap is_some (sym none ∙ refused.sul s refl)))
         by Run.NoMemory refused =
             let same : seen_at now i ≡ (worked i lt).working.mid = refused.memory refl in
@@ -274,7 +274,7 @@ module _ (o : DeskOpening) (es : List (Entry Ask Reply)) (start now : List Seen)
             let names : (seen_at now i).names ≡ (seen_at start i).names =
             ⊎_elim
             (λ (same : seen_at now i ≡ (worked i lt).working.mid). ap (λ (s : Seen). s.names) same ∙ mid)
-            (λ (x : (stop : RunStop) × HasRefused (worked i lt).working.mid (seen_at now i) stop × ((worked i lt).reply.places ≡ [])). refused_few (worked i lt).working.mid (seen_at now i) x.0 x.1 mid_le ∙ mid)
+            (λ (x : (stop : RunStop) × IsUnanswered (worked i lt).working.mid (seen_at now i) stop × ((worked i lt).reply.places ≡ [])). refused_few (worked i lt).working.mid (seen_at now i) x.0 x.1 mid_le ∙ mid)
             (worked i lt).working.after in
             let given : names_given (gives_of (entries_of i es)) ≡ [] = append_nothing (seen_at start i).names (names_given (gives_of (entries_of i es))) (sym (gives_names o.batch (seen_at start i) (worked i lt).working.mid (gives_of (entries_of i es)) (end_gives i lt)) ∙ mid) in
             let shared : t.naming.names ≡ o.naming.names =
@@ -371,7 +371,7 @@ module _ (o : DeskOpening) (es : List (Entry Ask Reply)) (start now : List Seen)
           let still : (worked i lt).working.mid ≡ seen_at start i = gives_stopped o.batch (seen_at start i) (worked i lt).working.mid (gives_of (entries_of i es)) x told (end_gives i lt) in
           ⊎_elim
           (λ (same : seen_at now i ≡ (worked i lt).working.mid). same)
-          (λ (f : (stop : RunStop) × HasRefused (worked i lt).working.mid (seen_at now i) stop × ((worked i lt).reply.places ≡ [])). f.1.again x (ap (λ (s : Seen). s.stop) still ∙ told))
+          (λ (f : (stop : RunStop) × IsUnanswered (worked i lt).working.mid (seen_at now i) stop × ((worked i lt).reply.places ≡ [])). f.1.again x (ap (λ (s : Seen). s.stop) still ∙ told))
           (worked i lt).working.after
           ∙ still;
     }

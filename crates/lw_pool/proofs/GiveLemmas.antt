@@ -14,7 +14,8 @@ use Rattle.lw_desk.specs.declared.ask.Ask.{Ask}
 use Rattle.lw_desk.specs.declared.ask.Give.{Give}
 use Rattle.lw_desk.specs.declared.ask.Failed.{Failed}
 use Rattle.lw_pool.specs.Pool.{Seen, Same, WentOn}
-use Rattle.lw_pool.specs.bodies.Working.{HasGiven, HasRefused, GivesBetween, FailsAfter, HasAnswered}
+use Rattle.lw_pool.specs.bodies.Working.{FailsAfter, HasAnswered}
+use Rattle.lw_pool.specs.Working.{HasGiven, IsUnanswered, GivesBetween}
 
 pub gives_both : (batch : List (List ℕ)) (was mid now : Seen) (gs hs : List Give) → GivesBetween batch was mid gs → GivesBetween batch mid now hs → GivesBetween batch was now (gs ++ hs)
 gives_both batch was mid now [] hs same rest = subst (λ (s : Seen). GivesBetween batch s now hs) same rest
@@ -40,7 +41,7 @@ gives_same batch was now [] same = subst (Same was) (sym same) (same_not was)
 gives_same batch was now (g ∷ gs) gives = same_both was gives.0 now gives.1.same (gives_same batch gives.0 now gs gives.2)
 
 -- nothing was asked, since there was no memory
-pub refused_first : (s : Seen) → HasRefused s s Rattle.lw_words.specs.declared.stop.RunStop.TheVariants.NoMemory
+pub refused_first : (s : Seen) → IsUnanswered s s Rattle.lw_words.specs.declared.stop.RunStop.TheVariants.NoMemory
 refused_first s = record {
   same = same_not s;
   journal = refl;
@@ -72,7 +73,7 @@ module _ (batch : List (List ℕ)) (held : List ℕ) (was now : Seen) (ask : Ask
   }
 
   pub answered_some : (mid : Seen) (n : ℕ) (rest : List ℕ) (stop : RunStop) → n < length held → GivesBetween batch was mid ask.gives.items → map (λ g. g.place) ask.gives.items ≡ take n held → rest ≡ drop n held → ask.failed ≡ Some (record { places = rest; stop = stop }) → ask.wanted ≡ 0
-      → HasRefused mid now stop → HasAnswered batch held was now ask
+      → IsUnanswered mid now stop → HasAnswered batch held was now ask
   answered_some mid n rest stop lt gives places left failed zero_wanted refused = record {
     places = ap (λ (f : Option Failed). map (λ (g : Give). g.place) ask.gives.items ++ failed_places f) failed
         ∙ (ap (λ (l : List ℕ). l ++ rest) places ∙ (ap (λ (l : List ℕ). take n held ++ l) left ∙ take-append-drop n held));
@@ -131,7 +132,7 @@ gives_few batch was now (g ∷ gs) gives le =
     let first : gives.0.names ≡ was.names = no_more was.names gives.0.names g.names gives.1.names (omega (arith, gives.1.few, le)) in
     gives_few batch gives.0 now gs gives.2 (omega (arith, le, gives.1.same.most, ap (λ (l : List (List ℕ)). length l) first)) ∙ first
 
-pub refused_few : (was now : Seen) (stop : RunStop) → HasRefused was now stop → was.most ≤ length was.names → now.names ≡ was.names
+pub refused_few : (was now : Seen) (stop : RunStop) → IsUnanswered was now stop → was.most ≤ length was.names → now.names ≡ was.names
 refused_few was now stop refused le =
     ⊎_elim
     (λ (same : now.names ≡ was.names). same)

@@ -13,7 +13,7 @@ use Rattle.lw_desk.specs.Ending.{NamedRun, kept_runs}
 use Rattle.lw_desk.specs.bodies.Outcome.{given_runs}
 use Rattle.lw_desk.specs.declared.ask.Give.{Give}
 use Rattle.lw_pool.specs.Pool.{Seen, journal_runs}
-use Rattle.lw_pool.specs.bodies.Working.{GivesBetween}
+use Rattle.lw_pool.specs.Working.{GivesBetween}
 
 pub grown_not : (xs : List (List ℕ)) → IsGrown xs xs
 grown_not xs = ([], sym (append-nil xs))

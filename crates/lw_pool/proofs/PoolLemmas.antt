@@ -1,10 +1,11 @@
 -- A pool before a batch and after it.
-use Rattle.std.proofs.Common.{◌≡◌, ◌⊎◌, inl, inr, ⊎_elim, ℕ, zero, suc, ◌<◌, ◌≤◌, ◌||◌, List, [], ◌∷◌, ◌++◌, length, map, All, Bool, true, false, Option, Some, None, is_some, Result, Ok, Err, OnOk, IfErr, slice_index_or, option_and_then, take, drop, refl, ap, sym, ◌∙◌, subst, subst₂, arith, append-nil}
+use Rattle.std.proofs.Common.{◌≡◌, ◌⊎◌, inl, inr, ⊎_elim, ℕ, zero, suc, Contains, ◌<◌, ◌≤◌, ◌||◌, List, [], ◌∷◌, ◌++◌, length, map, All, Bool, true, false, Option, Some, None, is_some, Result, Ok, Err, OnOk, IfErr, slice_index_or, option_and_then, take, drop, refl, ap, sym, ◌∙◌, subst, subst₂, arith, append-nil}
 use Rattle.std.specs.Bool.{⊤}
 use Rattle.std.proofs.lemmas.Bool.{true≢false, false≢true}
 use Rattle.lw_words.specs.Word.{answer_of, answers_of, IsWhole, IsWord, AllDiffer}
 use Rattle.lw_words.specs.declared.kept.KeptAnswer.{KeptAnswer}
 use Rattle.lw_words.specs.declared.stop.SulStop.{SulStop}
+use Rattle.lw_words.specs.declared.stop.RunStop.{RunStop}
 use Rattle.lw_cache.specs.Clash.{NothingClashes}
 use Rattle.lw_cache.specs.FirstClash.{IsNewClash}
 use Rattle.lw_cache.specs.Known.{IsKnown}
@@ -20,7 +21,7 @@ use Rattle.lw_desk.specs.declared.ask.Ask.{Ask}
 use Rattle.lw_desk.specs.declared.ask.Reply.{Reply}
 use Rattle.lw_names.specs.Naming.{Naming, own_names, HasLists}
 use Rattle.lw_desk.specs.Step.{DeskState}
-use Rattle.lw_desk.specs.History.{DeskOpening, opened, Replays}
+use Rattle.lw_desk.specs.History.{DeskOpening, opened, Replays, gives_of}
 use Rattle.lw_desk.specs.Ending.{IsShared, FreeComeUp}
 use Rattle.lw_desk.specs.bodies.Outcome.{Brought, Settled}
 use Rattle.lw_pool.specs.Pool.{Seen, Member, WentOn, PoolState, nobody, seen_at, seen_of, origins_of, journal_runs, IsStopOf}
@@ -30,6 +31,7 @@ use Rattle.lw_sul.specs.SessionState.{SessionState}
 use Rattle.lw_sul.specs.declared.runs.Run.{Run}
 use Rattle.std.proofs.lemmas.List.{get_or-map, length-map}
 use Rattle.std.proofs.lemmas.Option.{slice_get_past}
+use Rattle.lw_pool.specs.Working.{DidItsPart, GivesBetween, IsUnanswered}
 use Rattle.lw_pool.specs.Settling.{GainsSome, HasSettled, IsPutOff, IsWorkedOff, desk_of}
 use Rattle.lw_pool.specs.Sharing.{oracle_of, declared_by}
 use Rattle.lw_pool.specs.declared.hands.Hand.{Hand}
@@ -43,6 +45,16 @@ use Rattle.lw_pool.proofs.BatchLemmas.{b, end_idle, pool_end, settled_end, origi
 use Rattle.lw_pool.proofs.GiveLemmas.{went_on_not}
 use Rattle.lw_pool.proofs.JournalLemmas.{grown_not}
 use Rattle.lw_pool.proofs.HandLemmas.{seen_in, seen_here, seen_long, taken_all, worked_seen}
+
+-- what a session did of a batch, by its own entries
+did_its_part : (o : DeskOpening) (es : List (Entry Ask Reply)) (i : ℕ) (was now : Seen) → HasWorkedOff o es i was now → DidItsPart o.batch (entries_of i es) was now
+did_its_part o es i was now h = record {
+  answered = h.working.mid;
+  gives = subst₂ (λ (p : DeskOpening) (mine : List (Entry Ask Reply)). GivesBetween p.batch was h.working.mid (gives_of mine)) h.opening h.mine h.working.gives;
+  after = ⊎_elim (λ (same : now ≡ h.working.mid). inl same) (λ (r : (stop : RunStop) × IsUnanswered h.working.mid now stop × (h.reply.places ≡ [])). inr (r.0, r.1)) h.working.after;
+  failed = λ e f stop own. h.working.failed e f stop (subst (λ (mine : List (Entry Ask Reply)). Contains mine e) (sym h.mine) own);
+  live = λ none. h.working.live (subst (λ (mine : List (Entry Ask Reply)). All (λ e. e.ask.failed ≡ None) mine) (sym h.mine) none);
+}
 
 -- a pool as contracts see it
 abbrev pub pool_of : {S : Type 0} → List (Hand S) → Naming → List KeptAnswer → List KeptAnswer → Option AskStop → Bool → ℕ → ℕ → PoolState S
@@ -118,7 +130,7 @@ module _ {S : Type 0} (batch : List (List ℕ)) where
       again = pool_of hands naming prior kept stop refused inputs outputs
 
       once_more : (x : AskStop) → stop ≡ Some x → MayAsk stop → IsWorkedOff batch again again ⊎ IsPutOff again again
-      once_more NoMemory is may = inr (record { kept = refl; naming = refl; stop = is })
+      once_more NoMemory is may = inr (record { kept = refl; naming = refl; stop = is; sessions = refl })
       once_more (Clash c) is may = absurd (subst MayAsk is may)
       once_more (Sul i x) is may = absurd (subst MayAsk is may)
 
@@ -225,7 +237,7 @@ module _ {S : Type 0} (batch : List (List ℕ)) where
         stop = told;
         refused = again_is ∙ refused_is refused stop result told;
         sticks = λ no. absurd (no may);
-        history = λ m. inr (record { kept = n.kept; naming = n.names; stop = n.memory });
+        history = λ m. inr (record { kept = n.kept; naming = n.names; stop = n.memory; sessions = ap (λ (hs : List (Hand S)). seen_in hs) n.hands });
         clash = λ m c same. absurd (false≢true (ap is_clash (sym n.memory ∙ stop_told result told (Clash c) same)));
         sessions = ap (λ (hs : List (Hand S)). length (seen_in hs)) n.hands;
         went_on = λ i lt. subst (λ (hs : List (Hand S)). WentOn (seen_at (seen_in hands) i) (seen_at (seen_in hs) i)) (sym n.hands) (went_on_not (seen_at (seen_in hands) i));
@@ -253,7 +265,7 @@ module _ {S : Type 0} (batch : List (List ℕ)) where
         stop = told;
         refused = again_is ∙ refused_is refused stop result told;
         sticks = λ no. absurd (no may);
-        history = λ m. inl (record { entries = w.entries; state = w.state; replays = replayed; kept = w.kept; naming = w.names; stop = w.stop_is });
+        history = λ m. inl (record { entries = w.entries; state = w.state; replays = replayed; kept = w.kept; naming = w.names; stop = w.stop_is; parts = λ i lt. did_its_part (opening_of parts batch (length hands)) w.entries i _ _ (worked w i lt); others = others w });
         clash = λ m c same. subst (λ (l : List KeptAnswer). IsNewClash (length parts.cache.kept) l c) (sym w.kept) (run_clash w c (sym w.stop_is ∙ stop_told result told (Clash c) same));
         sessions = long w;
         went_on = run_went_on w;

@@ -11,8 +11,7 @@ use Rattle.lw_turn.specs.declared.view.View.{View}
 use Rattle.lw_turn.specs.Views.{IsTurned}
 use Rattle.lw_names.specs.Naming.{own_names}
 use Rattle.lw_desk.specs.Step.{DeskState, ActorTakesAll, after_fail}
-use Rattle.lw_desk.specs.History.{DeskOpening, opened, Seat, MayGiveAll, May, seat_after, seat_from, seat_of, actor_of, Makes, Replays, Legal, names_given, failed_places}
-use Rattle.lw_desk.specs.bodies.Outcome.{gives_of}
+use Rattle.lw_desk.specs.History.{DeskOpening, opened, Seat, MayGiveAll, May, seat_after, seat_from, seat_of, actor_of, Makes, Replays, Legal, names_given, failed_places, gives_of}
 use Rattle.lw_desk.specs.declared.ask.Ask.{Ask}
 use Rattle.lw_desk.specs.declared.ask.Reply.{Reply}
 use Rattle.lw_desk.specs.declared.ask.Give.{Give}
@@ -21,7 +20,8 @@ use Rattle.lw_names.proofs.Members.{In, in_contains, contains_in, in_left, in_ri
 use Rattle.lw_desk.specs.lemmas.Bounds.{AreNew, all_new, taken}
 use Rattle.lw_desk.proofs.Endings.{all_of}
 use Rattle.lw_pool.specs.Pool.{Seen}
-use Rattle.lw_pool.specs.bodies.Working.{HasGiven, HasRefused, GivesBetween, FailsAfter, HasAnswered}
+use Rattle.lw_pool.specs.bodies.Working.{FailsAfter, HasAnswered}
+use Rattle.lw_pool.specs.Working.{HasGiven, IsUnanswered, GivesBetween}
 use Rattle.lw_pool.specs.bodies.Engaged.{Working, IsReady, NobodyFailed}
 use Rattle.lw_pool.proofs.GiveLemmas.{gives_both}
 
@@ -111,7 +111,7 @@ gives_most batch was now (g ∷ gs) gives = gives_most batch gives.0 now gs give
 
 module _ (start now next : Seen) (v w : View DeskOpening Ask Reply) (reply again : Reply) (ask : Ask) (free : Bool) (is : Working start now v reply) (ready : IsReady free (own_names v.opening.naming v.number) start) (some : 0 < length reply.places) (answered : HasAnswered v.opening.batch reply.places now next ask) where
   now_is : now ≡ is.mid
-  now_is = ⊎_elim (λ (e : now ≡ is.mid). e) (λ (r : (stop : RunStop) × HasRefused is.mid now stop × (reply.places ≡ [])). absurd (omega (arith, some, ap (λ (l : List ℕ). length l) r.2))) is.after
+  now_is = ⊎_elim (λ (e : now ≡ is.mid). e) (λ (r : (stop : RunStop) × IsUnanswered is.mid now stop × (reply.places ≡ [])). absurd (omega (arith, some, ap (λ (l : List ℕ). length l) r.2))) is.after
 
   gives_now : GivesBetween v.opening.batch now answered.mid ask.gives.items
   gives_now = answered.gives
@@ -228,7 +228,7 @@ module _ (start now next : Seen) (v w : View DeskOpening Ask Reply) (reply again
       live = λ all. subst (FailsAfter answered.mid next) (nobody all).1 answered.fails;
     }
       where
-        by : (f : Option Failed) → ask.failed ≡ f → FailsAfter answered.mid next f → (next ≡ answered.mid) ⊎ ((stop : RunStop) × HasRefused answered.mid next stop × (again.places ≡ []))
+        by : (f : Option Failed) → ask.failed ≡ f → FailsAfter answered.mid next f → (next ≡ answered.mid) ⊎ ((stop : RunStop) × IsUnanswered answered.mid next stop × (again.places ≡ []))
         by None e same = inl same
         by (Some f) e refused = inr (f.stop, refused, nothing again.places refl)
           where

@@ -2,6 +2,7 @@ pub mod Fitting
 pub mod Opening
 pub mod Pool
 pub mod Settling
-pub mod Standing
 pub mod Sharing
+pub mod Standing
+pub mod Working
 pub mod bodies

@@ -1,5 +1,5 @@
 -- What settling a batch brings to a pool.
-use Rattle.std.specs.Prelude.{◌≡◌, ◌⊎◌, ℕ, ◌<◌, List, ◌++◌, length, map, Some, None, is_some, Result, Err, OnOk, ⊤}
+use Rattle.std.specs.Prelude.{◌≡◌, ◌⊎◌, ℕ, ◌<◌, ◌≤◌, List, [], ◌++◌, length, map, Some, None, is_some, Result, Err, OnOk, ⊤}
 use Rattle.std.specs.List.{All}
 use Rattle.lw_words.specs.Word.{answers_of, AllDiffer}
 use Rattle.lw_words.specs.declared.kept.KeptAnswer.{KeptAnswer}
@@ -13,12 +13,14 @@ use Rattle.lw_cache.specs.declared.stops.AskStop.{AskStop}
 use Rattle.lw_cache.specs.declared.stops.AskStop.TheVariants as stopped
 use Rattle.lw_names.specs.Names.{IsGrown}
 use Rattle.lw_turn.specs.declared.shared.Entry.{Entry}
+use Rattle.lw_turn.specs.History.{entries_of}
 use Rattle.lw_desk.specs.History.{DeskOpening, Replays, opened}
 use Rattle.lw_desk.specs.Step.{DeskState}
 use Rattle.lw_desk.specs.declared.ask.Ask.{Ask}
 use Rattle.lw_desk.specs.declared.ask.Reply.{Reply}
 use Rattle.lw_pool.specs.Pool.{PoolState, WentOn, seen_at, seen_of, origins_of}
 use Rattle.lw_pool.specs.Standing.{PoolStands}
+use Rattle.lw_pool.specs.Working.{DidItsPart}
 
 -- the kept answers gain some at their end, to words that had to be asked, each at most once
 pub record GainsSome (batch : List (List ℕ)) (before now : List KeptAnswer) : Type 0 where
@@ -32,7 +34,7 @@ abbrev pub desk_of : {S : Type 0} → PoolState S → List (List ℕ) → DeskOp
 desk_of p batch = record { kept = p.kept; naming = p.naming; batch = batch; actors = length p.members }
 
 -- a batch was worked off at one desk: the entries of its history, each in turn, lead to the kept answers, the names and the stop,
--- which so is the first one of the batch
+-- which so is the first one of the batch; and each entry is a session's, which did what its entries say
 pub record IsWorkedOff {S : Type 0} (batch : List (List ℕ)) (before now : PoolState S) : Type 0 where
   pub entries : List (Entry Ask Reply)
   pub state : DeskState
@@ -40,12 +42,15 @@ pub record IsWorkedOff {S : Type 0} (batch : List (List ℕ)) (before now : Pool
   pub kept : now.kept ≡ state.kept
   pub naming : now.naming ≡ state.naming
   pub stop : now.stop ≡ state.stop
+  pub parts : (i : ℕ) → i < length (seen_of before) → DidItsPart batch (entries_of i entries) (seen_at (seen_of before) i) (seen_at (seen_of now) i)
+  pub others : (n : ℕ) → length (seen_of before) ≤ n → entries_of n entries ≡ []
 
 -- a batch was not begun, since there was no memory for it
 pub record IsPutOff {S : Type 0} (before now : PoolState S) : Type 0 where
   pub kept : now.kept ≡ before.kept
   pub naming : now.naming ≡ before.naming
   pub stop : now.stop ≡ Some stopped.NoMemory
+  pub sessions : seen_of now ≡ seen_of before
 
 -- a pool once it has settled a batch, or was refused
 pub record HasSettled {S : Type 0} (batch : List (List ℕ)) (before now : PoolState S) (result : Result ⊤ AskStop) : Type 0 where

@@ -2,7 +2,8 @@
 ghost use Rattle.std.specs.Prelude.{◌≡◌, ◌<◌, ◌≤◌, length, Some, IfOk, IfErr};
 ghost use Rattle.std.specs.List.{All};
 ghost use Rattle.lw_words.specs.Word.{IsWord};
-ghost use Rattle.lw_pool.specs.bodies.Working.{HasGiven, HasRefused, HasAnswered};
+ghost use Rattle.lw_pool.specs.bodies.Working.{HasAnswered};
+ghost use Rattle.lw_pool.specs.Working.{HasGiven, IsUnanswered};
 
 use lw_desk::{Ask, Desk, Failed, Give, Places, Reply};
 use lw_sul::{NamedAnswer, Session, Sul};
@@ -32,7 +33,7 @@ impl<S: Sul> Worker<S> {
         requires letters { All (IsWord self.old.seen.inputs) batch.now }
         ensures place { IfOk result (λ g. g.place ≡ place) }
         ensures given { IfOk result (HasGiven batch.now self.old.seen self.new.seen) }
-        ensures refused { IfErr result (HasRefused self.old.seen self.new.seen) }
+        ensures refused { IfErr result (IsUnanswered self.old.seen self.new.seen) }
     {
         let run = self.session.runs();
         let NamedAnswer { outs, names } = self.session.ask_named(&batch[place as usize])?;

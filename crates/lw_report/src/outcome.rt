@@ -68,7 +68,7 @@ pub enum Outcome {
     BadAsk(u32),
     /// These words, one more than the limit of states, are pairwise apart.
     TooManyStates(Words),
-    /// The suite of a model of so many states would have this size.
+    /// The suite of a model of so many states may have this size.
     SuiteTooLarge { states: u16, number: u64 },
     /// The file in this role could not be read or written.
     FileFault(Role),

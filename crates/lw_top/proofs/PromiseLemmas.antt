@@ -16,7 +16,6 @@ use Rattle.lw_rounds.specs.Learner.{refinements_of}
 use Rattle.lw_rounds.specs.declared.learned.Learned.{Learned as Found}
 use Rattle.lw_rounds.specs.declared.learner.Kind.{Kind}
 use Rattle.lw_suite.specs.declared.method.Method.{Method}
-use Rattle.lw_suite.specs.declared.method.Method.TheVariants.{W}
 use Rattle.lw_rounds.specs.declared.stops.LearnStop.{LearnStop}
 use Rattle.lw_rounds.specs.declared.stops.LearnStop.TheVariants as learn
 use Rattle.lw_children.specs.Children.{IsOfCommand}
@@ -31,7 +30,7 @@ use Rattle.lw_report.specs.declared.«end».End.{End}
 use Rattle.lw_report.specs.declared.outcome.Outcome.{Outcome}
 use Rattle.lw_report.specs.declared.outcome.Outcome.TheVariants.{Learned, Trial, Yes, Served, No, Usage, BadFile, Alphabets, FileTooLong, Nondeterministic, NoMemory, SulFailed, Gone, BadLine, BadAsk, TooManyStates, SuiteTooLarge, FileFault, SourceFault, SinkFault, Compared, Asked, Rechecked, UnknownLetter, Unstarted}
 use Rattle.lw_check.specs.CheckRun.{IsCheckRun}
-use Rattle.lw_check.specs.Decision.{Pair}
+use Rattle.lw_check.specs.Decision.{IsFixed, Pair}
 use Rattle.lw_learn.specs.Arguments.{LearnValues}
 use Rattle.lw_learn.specs.Asking.{IsWordless, IsWordlessTask, ReadsWords}
 use Rattle.lw_learn.specs.Ending.{Carries, EndsRead, EndsUnread}
@@ -157,17 +156,17 @@ wordless a f g now read kept outcome saved w =
 -- what is kept of children
 module _ (kind : Kind) (words letters : List (List ℕ)) (workers k most : ℕ) (prior : List KeptAnswer) (before now : SpawnerState) (learned : Result Found LearnStop) (kept : List KeptAnswer) (names : List (List ℕ)) where
   keeps_links : (outputs : Option (List (List ℕ))) → IsOfCommand kind words letters outputs workers k most prior before now learned kept names
-      → (links : List LinkState) × StartsAndRetires words before now links × KeepsChildren letters outputs names prior kept links
+      → (links : List LinkState) × StartsAndRetires words before now links × (length links ≤ workers) × KeepsChildren letters outputs names prior kept links
   keeps_links None is =
       let of = is.1 in
-      (of.links, of.spawner, subst (λ (p : List KeptAnswer). KeepsChildren letters None names p kept of.links) (sym is.0) of.keeps)
-  keeps_links (Some outputs) is = let of = is.1 in (of.links, of.spawner, of.keeps)
+      (of.links, of.spawner, of.few, subst (λ (p : List KeptAnswer). KeepsChildren letters None names p kept of.links) (sym is.0) of.keeps)
+  keeps_links (Some outputs) is = let of = is.1 in (of.links, of.spawner, of.few, of.keeps)
 
 keeps_system : (a : LearnValues) (s : System) (prior : List KeptAnswer) (before now : SpawnerState) (learned : Result Found LearnStop) (kept : List KeptAnswer) (names : List (List ℕ)) → IsOfSystem a s prior before now learned kept names → KeepsSystem a.workers s prior before now kept
 keeps_system a (system.Table m) prior before now learned kept names is = (is.0, is.1.keeps)
 keeps_system a (system.Children c) prior before now learned kept names is =
     let of = keeps_links a.learner c.words c.inputs a.workers a.extra a.max_states prior before now learned kept names c.outputs is in
-    record { links = of.0; spawner = of.1; names = names; runs = of.2 }
+    record { links = of.0; spawner = of.1; few = of.2; names = names; runs = of.3 }
 
 below : (x y z : ℕ) → x ≤ y → y ≤ z → x ≤ z
 below x y z one two = omega (arith, one, two)
@@ -238,6 +237,7 @@ module _ (a : LearnValues) (before now : WorldState) (end : End) (run : IsLearnR
         prior = r.prior;
         task = task_of a before now end run.told r;
         keeps = keeps_system a r.system r.prior before.spawner now.spawner r.learned.learned end.kept.answers r.learned.naming.names r.learned.found;
+        letters = if_some _ (λ h. h.inputs ≡ length (letters_of r.system)) end.model (λ h has. has.certified.inputs) r.learned.model;
       }
 
   reaches : ReachesModel a before now end ⊎ AsksNothing a before now end
@@ -263,7 +263,7 @@ module _ (a : LearnValues) (before now : WorldState) (end : End) (run : IsLearnR
 tried : (v : _) (out_before out_now err_before err_now : SinkState) (end : End) → IsTrialRun v out_before out_now err_before err_now end → HandsModel 1 end
 tried v out_before out_now err_before err_now end run = record {
   told = λ h refinements is. absurd (subst IsTrialOutcome is run.kinds);
-  right = if_some _ (ModelIsRight 1 (answers_of end.kept.answers)) end.model (λ h has. right v.learner W v.inputs 2 1 1024 end h has) run.model;
+  right = if_some _ (ModelIsRight 1 (answers_of end.kept.answers)) end.model (λ h has. right v.learner v.suite v.inputs 2 1 1024 end h has) run.model;
 }
 
 rechecked : (a : _) (f g : FilesState) (b z : SpawnerState) (o p e d : SinkState) (end : End) → IsRecheckRun a f g b z o p e d end → end.model ≡ None
@@ -284,17 +284,21 @@ module _ (before now : WorldState) (end : End) where
   learned (Some (Compare models)) r = r.ran.no_model
   learned (Some (Recheck a)) r = rechecked a before.files now.files before.spawner now.spawner before.out now.out before.err now.err end r.ran
 
-  fixes : (a : CheckValues) → IsCheckRun a.suite a.model a.answers a.extra before.files now.files before.out now.out before.err now.err end → (states : ℕ) → end.outcome ≡ Yes states → AnswersFixModel a before.files now.files
+  fixes : (a : CheckValues) → IsCheckRun a.suite a.model a.answers a.extra before.files now.files before.out now.out before.err now.err end → (states : ℕ) → end.outcome ≡ Yes states → (fixed : AnswersFixModel a before.files now.files) × (states ≡ length fixed.model.mealy.rows)
   fixes a run states is =
-      let s = run.sure states is in
-      record {
-        model = s.1.machine;
-        answers = s.1.read_answers;
-        between = s.1.middle;
-        model_file = s.1.model_file;
-        answers_file = s.1.answers_file;
-        sure = subst (λ (p : Pair). Sure p.mealy.inputs p.mealy.rows (answers_of p.kept) a.extra) s.1.pair s.2;
-      }
+      let s = run.sure states is in (
+        record {
+          model = s.1.machine;
+          answers = s.1.read_answers;
+          between = s.1.middle;
+          model_file = s.1.model_file;
+          answers_file = s.1.answers_file;
+          fixed =
+              let f = subst (λ (p : Pair). IsFixed p a.extra) s.1.pair s.2 in
+              record { inputs = f.names.0; outputs = f.names.1; minimal = f.minimal; gives = f.gives; sure = f.sure };
+        },
+        s.3 ∙ ap (λ (p : Pair). length p.mealy.rows) s.1.pair,
+      )
 
   pub yes : (call : Option CallValues) → Runs call before now end → YesIsRight call before.files now.files end.outcome
   yes None r = tt
@@ -310,7 +314,7 @@ module _ (before now : WorldState) (end : End) where
   kept None r = tt
   kept (Some (Learn a)) r = keeps a before now end r.ran
   kept (Some (Check a)) r = tt
-  kept (Some (TrialCall a)) r = r.ran.kept
+  kept (Some (TrialCall a)) r = (r.ran.kept, if_some _ (λ h. h.inputs ≡ a.inputs) end.model (λ h has. has.certified.inputs) r.ran.model)
   kept (Some (Serve model)) r = tt
   kept (Some (Ask a)) r = tt
   kept (Some (Compare models)) r = tt

@@ -10,19 +10,19 @@ abbrev pub ask_app : App
 ask_app = app_with (codes "ask") (text_option (codes "table") ∷ many_arguments (codes "words") ∷ [])
 
 -- the words that are asked of a table, or behind the name of a setup: one at least
-abbrev pub values_from : (table : Option (List ℕ)) → (words : List (List ℕ)) → Option AskValues
-values_from (Some table) [] = None
-values_from (Some table) (word ∷ words) = Some (record { source = Table; system = table; words = word ∷ words })
-values_from None [] = None
-values_from None (setup ∷ words) = behind setup words
+abbrev pub ask_values_from : (table : Option (List ℕ)) → (words : List (List ℕ)) → Option AskValues
+ask_values_from (Some table) [] = None
+ask_values_from (Some table) (word ∷ words) = Some (record { source = Table; system = table; words = word ∷ words })
+ask_values_from None [] = None
+ask_values_from None (setup ∷ words) = behind setup words
   where
     behind : List ℕ → List (List ℕ) → Option AskValues
     behind setup [] = None
     behind setup (word ∷ words) = Some (record { source = Setup; system = setup; words = word ∷ words })
 
-abbrev pub values_in : List Row → Option AskValues
-values_in rows = values_from (first_of (codes "table") rows) (unwrap_or (all_of (codes "words") rows) [])
+abbrev pub ask_found : List Row → Option AskValues
+ask_found rows = ask_values_from (first_of (codes "table") rows) (unwrap_or (all_of (codes "words") rows) [])
 
 -- what the arguments say to `ask`, where they are taken
 abbrev pub ask_values : List (List ℕ) → Option AskValues
-ask_values = values_taken ask_app values_in
+ask_values = values_taken ask_app ask_found

@@ -27,15 +27,15 @@ check_app = app_with (codes "check")
     ∷ [])
 
 -- the values, where all are given; suites are made by the W-method
-abbrev pub values_from : Option (List ℕ) → Option (List ℕ) → Option ℕ → Option CheckValues
-values_from None answers extra = None
-values_from (Some model) None extra = None
-values_from (Some model) (Some answers) None = None
-values_from (Some model) (Some answers) (Some extra) = Some (record { model = model; answers = answers; extra = extra; suite = W })
+abbrev pub check_values_from : Option (List ℕ) → Option (List ℕ) → Option ℕ → Option CheckValues
+check_values_from None answers extra = None
+check_values_from (Some model) None extra = None
+check_values_from (Some model) (Some answers) None = None
+check_values_from (Some model) (Some answers) (Some extra) = Some (record { model = model; answers = answers; extra = extra; suite = W })
 
-abbrev pub values_in : List Row → Option CheckValues
-values_in rows = values_from (first_of (codes "model") rows) (first_of (codes "answers") rows) (number_given (codes "extra") EXTRA rows)
+abbrev pub check_found : List Row → Option CheckValues
+check_found rows = check_values_from (first_of (codes "model") rows) (first_of (codes "answers") rows) (number_given (codes "extra") EXTRA rows)
 
 -- what the arguments say to `check`, where they are taken
 abbrev pub check_values : List (List ℕ) → Option CheckValues
-check_values = values_taken check_app values_in
+check_values = values_taken check_app check_found

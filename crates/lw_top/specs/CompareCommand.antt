@@ -8,9 +8,9 @@ use Rattle.lw_top.specs.FilePairs.{PairValues, pair_from}
 abbrev pub compare_app : App
 compare_app = app_with (codes "compare") (required_argument (codes "first") ∷ required_argument (codes "second") ∷ [])
 
-abbrev pub values_in : List Row → Option PairValues
-values_in rows = pair_from (first_of (codes "first") rows) (first_of (codes "second") rows)
+abbrev pub compare_found : List Row → Option PairValues
+compare_found rows = pair_from (first_of (codes "first") rows) (first_of (codes "second") rows)
 
 -- the files that the arguments name to `compare`, where they are taken
 abbrev pub compare_values : List (List ℕ) → Option PairValues
-compare_values = values_taken compare_app values_in
+compare_values = values_taken compare_app compare_found

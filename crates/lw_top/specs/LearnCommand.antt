@@ -107,11 +107,11 @@ files_in rows = record {
 }
 
 -- the values, where the system's file is named and all else is there
-abbrev pub values_from : Option (Source × List ℕ) → Option SettingValues → Option (Option Drawn) → LearnFileNames → Option LearnValues
-values_from None settings drawn files = None
-values_from (Some system) None drawn files = None
-values_from (Some system) (Some settings) None files = None
-values_from (Some system) (Some settings) (Some drawn) files =
+abbrev pub learn_values_from : Option (Source × List ℕ) → Option SettingValues → Option (Option Drawn) → LearnFileNames → Option LearnValues
+learn_values_from None settings drawn files = None
+learn_values_from (Some system) None drawn files = None
+learn_values_from (Some system) (Some settings) None files = None
+learn_values_from (Some system) (Some settings) (Some drawn) files =
     Some
     (record {
       source = system.0;
@@ -130,9 +130,9 @@ values_from (Some system) (Some settings) (Some drawn) files =
       log = files.log;
     })
 
-abbrev pub values_in : List Row → Option LearnValues
-values_in rows = values_from (source_in rows) (settings_in rows) (drawn_in rows) (files_in rows)
+abbrev pub learn_found : List Row → Option LearnValues
+learn_found rows = learn_values_from (source_in rows) (settings_in rows) (drawn_in rows) (files_in rows)
 
 -- what the arguments say to `learn`, where they are taken
 abbrev pub learn_values : List (List ℕ) → Option LearnValues
-learn_values = values_taken learn_app values_in
+learn_values = values_taken learn_app learn_found

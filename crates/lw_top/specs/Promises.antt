@@ -68,33 +68,47 @@ LearnedIsRight (Some (Compare models)) end = end.model ≡ None
 LearnedIsRight (Some (Recheck a)) end = end.model ≡ None
 LearnedIsRight None end = end.model ≡ None
 
--- a model and answers are those of the two files as they were read, one after the other; and every machine of at most so many
--- states more than the model that gives the answers equals it on all words
+-- answers fix a model: the names of letters and outputs are the same, the model is minimal and gives the answers, and every machine
+-- that gives them and has at most k states more than the model equals it on all words
+pub record FixModel (m : Machine) (a : Answers) (k : ℕ) : Type 0 where
+  pub inputs : a.inputs ≡ m.inputs
+  pub outputs : a.outputs ≡ m.outputs
+  pub minimal : IsMinimal m.mealy.inputs m.mealy.rows
+  pub gives : Gives m.mealy.rows (answers_of a.kept.answers)
+  pub sure : Sure m.mealy.inputs m.mealy.rows (answers_of a.kept.answers) k
+
+-- a model and answers are those of the two files as they were read, one after the other; and the answers fix the model
 pub record AnswersFixModel (a : CheckValues) (before now : FilesState) : Type 0 where
   pub model : Machine
   pub answers : Answers
   pub between : List File
   pub model_file : ReadsFile IsMachineFile a.model before.holds before.reads between model
   pub answers_file : ReadsFile IsAnswersFile a.answers before.holds between now.reads answers
-  pub sure : Sure model.mealy.inputs model.mealy.rows (answers_of answers.kept.answers) a.extra
+  pub fixed : FixModel model answers a.extra
 
--- a yes is right
+-- a yes is right, and tells the number of the model's states
 abbrev pub YesIsRight : Option CallValues → (before now : FilesState) → Outcome → Type 0
-YesIsRight (Some (Check a)) before now outcome = (states : ℕ) → outcome ≡ Yes states → AnswersFixModel a before now
+YesIsRight (Some (Check a)) before now outcome =
+    (states : ℕ) → outcome ≡ Yes states → (fixes : AnswersFixModel a before now) × (states ≡ length fixes.model.mealy.rows)
 YesIsRight _ before now outcome = Unit {0}
 
--- what is kept of children, behind prior answers: one link for each that was started, all retired in that order; and what went
--- over each, where it tells that
-pub record KeepsLinks (c : Command) (prior : List KeptAnswer) (before now : SpawnerState) (kept : List KeptAnswer) : Type 0 where
+-- a model, where there is one, has so many letters
+abbrev pub IsOverLetters : ℕ → Option MealyMachine → Type 0
+IsOverLetters inputs model = IfSome model (λ h. h.inputs ≡ inputs)
+
+-- what is kept of children, behind prior answers: one link for each that was started, no more than workers, all retired in that
+-- order; and what went over each, where it tells that
+pub record KeepsLinks (c : Command) (workers : ℕ) (prior : List KeptAnswer) (before now : SpawnerState) (kept : List KeptAnswer) : Type 0 where
   pub links : List LinkState
   pub spawner : StartsAndRetires c.words before now links
+  pub few : length links ≤ workers
   pub names : List (List ℕ)
   pub runs : KeepsChildren c.inputs c.outputs names prior kept links
 
 -- what is kept of a system: the runs of instances of a table's machine, or of children
 abbrev pub KeepsSystem : ℕ → System → (prior : List KeptAnswer) → (before now : SpawnerState) → (kept : List KeptAnswer) → Type 0
 KeepsSystem workers (system.Table m) prior before now kept = (now ≡ before) × KeepsRuns m.mealy workers prior kept
-KeepsSystem workers (system.Children c) prior before now kept = KeepsLinks c prior before now kept
+KeepsSystem workers (system.Children c) prior before now kept = KeepsLinks c workers prior before now kept
 
 -- the bytes that the call read say this system and these earlier answers; it may have read more behind them
 pub record SaysTask (a : LearnValues) (before now : FilesState) (s : System) (prior : List KeptAnswer) : Type 0 where
@@ -103,12 +117,14 @@ pub record SaysTask (a : LearnValues) (before now : FilesState) (s : System) (pr
   pub task : ReadsTask a before.holds before.reads between s prior
   pub reads : now.reads ≡ between ++ more
 
--- the files said a system and earlier answers, and it was learned; the kept answers are these and its runs
+-- the files said a system and earlier answers, and it was learned; the kept answers are these and its runs, and a model has its
+-- letters
 pub record KeepsLearned (a : LearnValues) (before now : WorldState) (end : End) : Type 0 where
   pub system : System
   pub prior : List KeptAnswer
   pub task : SaysTask a before.files now.files system prior
   pub keeps : KeepsSystem a.workers system prior before.spawner now.spawner end.kept.answers
+  pub letters : IsOverLetters (length (letters_of system)) end.model
 
 -- a file was refused, earlier answers clash, or memory ran out
 abbrev pub IsBeforeAsking : Outcome → Type 0
@@ -125,17 +141,17 @@ IsBeforeAsking _ = ⊥
 abbrev pub KeepsPrior : LearnValues → (before now : FilesState) → List KeptAnswer → Type 0
 KeepsPrior a before now kept = (kept ≡ []) ⊎ ((s : System) × SaysTask a before now s kept)
 
--- so nothing was asked, no child started, and nothing learned
+-- so no child was started, there is no model, and nothing is kept but earlier answers
 pub record AsksNothing (a : LearnValues) (before now : WorldState) (end : End) : Type 0 where
   pub outcome : IsBeforeAsking end.outcome
   pub model : end.model ≡ None
   pub unstarted : now.spawner ≡ before.spawner
   pub kept : KeepsPrior a before.files now.files end.kept.answers
 
--- the kept answers are exactly the finished runs of the instances, behind those of a file of earlier answers
+-- the kept answers are the runs of the instances, behind those of a file of earlier answers, of `learn` and of `trial`
 abbrev pub KeptAreRuns : Option CallValues → WorldState → WorldState → End → Type 0
 KeptAreRuns (Some (Learn a)) before now end = KeepsLearned a before now end ⊎ AsksNothing a before now end
-KeptAreRuns (Some (Trial a)) before now end = KeepsRuns (drawn_machine a) a.workers [] end.kept.answers
+KeptAreRuns (Some (Trial a)) before now end = KeepsRuns (drawn_machine a) a.workers [] end.kept.answers × IsOverLetters a.inputs end.model
 KeptAreRuns _ before now end = Unit {0}
 
 -- of the system that was learned: where no file, stream or start of a child failed, and some machine of n states that gives the

@@ -13,9 +13,9 @@ recheck_from None answers = None
 recheck_from (Some setup) None = None
 recheck_from (Some setup) (Some answers) = Some (record { setup = setup; answers = answers })
 
-abbrev pub values_in : List Row → Option RecheckValues
-values_in rows = recheck_from (first_of (codes "setup") rows) (first_of (codes "answers") rows)
+abbrev pub recheck_found : List Row → Option RecheckValues
+recheck_found rows = recheck_from (first_of (codes "setup") rows) (first_of (codes "answers") rows)
 
 -- the files that the arguments name to `recheck`, where they are taken
 abbrev pub recheck_values : List (List ℕ) → Option RecheckValues
-recheck_values = values_taken recheck_app values_in
+recheck_values = values_taken recheck_app recheck_found

@@ -9,7 +9,6 @@ use Rattle.lw_words.specs.declared.kept.KeptAnswer.{KeptAnswer}
 use Rattle.lw_mealy.specs.Machine.{Gives, MealyMachine, IsWithinLimits, Rows, IsMachine}
 use Rattle.lw_cache.proofs.CrowdLemmas.{crowd_needs_states}
 use Rattle.lw_suite.specs.Size.{suite_size, greatest_suite}
-use Rattle.lw_suite.specs.declared.method.Method.TheVariants.{W}
 use Rattle.lw_rounds.specs.Learned.{IsEnoughFor, IsLearned, IsReadOff, StopsAs}
 use Rattle.lw_rounds.specs.Learner.{refinements_of}
 use Rattle.lw_rounds.specs.Stops.{IsOwnStop}
@@ -127,7 +126,7 @@ refused_run : (v : TrialValues) (o e d : SinkState) (end : End) → end.model �
 refused_run v o e d end none learner outputs is =
     let no_trial : IsTrial end.outcome → ⊥ = bare_no_trial end.outcome is.bare in
     record {
-      model = subst (λ (m : Option MealyMachine). IfSome m (HasModel v.learner W v.inputs 2 1 1024 end)) (sym none) tt;
+      model = subst (λ (m : Option MealyMachine). IfSome m (HasModel v.learner v.suite v.inputs 2 1 1024 end)) (sym none) tt;
       read_off = subst (λ (m : Option MealyMachine). IfSome m (λ h. (l : Learner) × (end.learner ≡ Some l) × IsReadOff v.learner v.inputs 2 1024 (answers_of end.kept.answers) h.rows l)) (sym none) tt;
       without = λ _. learner;
       told = λ t e. absurd (no_trial (subst IsTrial (sym e) tt));
@@ -195,18 +194,18 @@ pub record IsCarried (v : TrialValues) (end : End) (h : MealyMachine) (learner :
   pub outputs : end.outputs ≡ Some drawn_naming
   pub runs : KeepsRuns (drawn_machine v) v.workers [] kept
   pub learned : IsLearned v.learner v.inputs 2 1 1024 (answers_of kept) h learner
-  pub enough : IsEnoughFor W v.inputs 1 (answers_of kept) h
+  pub enough : IsEnoughFor v.suite v.inputs 1 (answers_of kept) h
   pub reached : suite_size v.states v.inputs 1 ≤ greatest_suite → refinements_of learner < v.states
 
 module _ (v : TrialValues) (end : End) (h : MealyMachine) (learner : Learner) (kept : List KeptAnswer) (is : IsCarried v end h learner kept) where
   keeps_runs : KeepsRuns (drawn_machine v) v.workers [] end.kept.answers
   keeps_runs = subst (KeepsRuns (drawn_machine v) v.workers []) (sym is.keeps) is.runs
 
-  carries : IfSome end.model (HasModel v.learner W v.inputs 2 1 1024 end)
+  carries : IfSome end.model (HasModel v.learner v.suite v.inputs 2 1 1024 end)
   carries =
-      let enough : IsEnoughFor W v.inputs 1 (answers_of end.kept.answers) h = subst (λ (ks : List KeptAnswer). IsEnoughFor W v.inputs 1 (answers_of ks) h) (sym is.keeps) is.enough in
+      let enough : IsEnoughFor v.suite v.inputs 1 (answers_of end.kept.answers) h = subst (λ (ks : List KeptAnswer). IsEnoughFor v.suite v.inputs 1 (answers_of ks) h) (sym is.keeps) is.enough in
       let learned : IsLearned v.learner v.inputs 2 1 1024 (answers_of end.kept.answers) h learner = subst (λ (ks : List KeptAnswer). IsLearned v.learner v.inputs 2 1 1024 (answers_of ks) h learner) (sym is.keeps) is.learned in
-      subst (λ (m : Option MealyMachine). IfSome m (HasModel v.learner W v.inputs 2 1 1024 end)) (sym is.model) (has_model v.learner W v.inputs 2 1 1024 end h learner keeps_runs.words learned enough is.carried is.counted)
+      subst (λ (m : Option MealyMachine). IfSome m (HasModel v.learner v.suite v.inputs 2 1 1024 end)) (sym is.model) (has_model v.learner v.suite v.inputs 2 1 1024 end h learner keeps_runs.words learned enough is.carried is.counted)
 
   reads_off : IfSome end.model (λ h. (l : Learner) × (end.learner ≡ Some l) × IsReadOff v.learner v.inputs 2 1024 (answers_of end.kept.answers) h.rows l)
   reads_off = subst (λ (m : Option MealyMachine). IfSome m (λ h. (l : Learner) × (end.learner ≡ Some l) × IsReadOff v.learner v.inputs 2 1024 (answers_of end.kept.answers) h.rows l)) (sym is.model) (learner, is.carried, subst (λ (ks : List KeptAnswer). IsReadOff v.learner v.inputs 2 1024 (answers_of ks) h.rows learner) (sym is.keeps) is.learned.carried)

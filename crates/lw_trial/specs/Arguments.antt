@@ -1,15 +1,17 @@
 -- The values of the arguments of `trial`, as contracts see them.
 use Rattle.std.specs.Prelude.{ℕ, ◌<◌, ◌≤◌, ◌^◌}
+use Rattle.lw_suite.specs.declared.method.Method.{Method}
 use Rattle.lw_rounds.specs.declared.learner.Kind.{Kind}
 
--- the states and inputs of the machine that is drawn, the seed that it is drawn by, the number of instances, and the kind of
--- the learner
+-- the states and inputs of the machine that is drawn, the seed that it is drawn by, the number of instances, the kind of the
+-- learner, and how suites are made
 pub record TrialValues : Type 0 where
   pub states : ℕ
   pub inputs : ℕ
   pub seed : ℕ
   pub workers : ℕ
   pub learner : Kind
+  pub suite : Method
 
 -- within their limits
 pub record AreWithinLimits (v : TrialValues) : Type 0 where

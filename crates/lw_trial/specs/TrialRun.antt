@@ -5,7 +5,6 @@ use Rattle.lw_words.specs.Cause.{CountedFault}
 use Rattle.lw_mealy.specs.Machine.{MealyMachine, mealy_of}
 use Rattle.lw_separate.specs.Canonical.{IsCanonical}
 use Rattle.lw_suite.specs.Size.{suite_size, greatest_suite}
-use Rattle.lw_suite.specs.declared.method.Method.TheVariants.{W}
 use Rattle.lw_names.specs.Naming.{Naming}
 use Rattle.lw_rounds.specs.Learned.{IsReadOff}
 use Rattle.lw_rounds.specs.declared.learner.Learner.{Learner}
@@ -65,8 +64,8 @@ IsTrial _ = ⊥
 
 -- a call with these arguments changed `out` and `err` so, and came to the end
 pub record IsTrialRun (v : TrialValues) (out_before out_now : SinkState) (err_before err_now : SinkState) (end : End) : Type 0 where
-  -- the model of the machine that was drawn, by the W-method with one extra state, and at most 1,024 states
-  pub model : IfSome end.model (HasModel v.learner W v.inputs 2 1 1024 end)
+  -- the model of the machine that was drawn, with one extra state and at most 1,024 states
+  pub model : IfSome end.model (HasModel v.learner v.suite v.inputs 2 1 1024 end)
   -- no output has another number since: the model is the canonical form of the carried learner's machine
   pub read_off : IfSome end.model (λ h. (l : Learner) × (end.learner ≡ Some l) ×
       IsReadOff v.learner v.inputs 2 1024 (answers_of end.kept.answers) h.rows l)

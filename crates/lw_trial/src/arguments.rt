@@ -2,10 +2,11 @@
 ghost use Rattle.std.specs.Prelude.{◌≡◌, ◌<◌, ◌≤◌, ◌^◌};
 
 use lw_rounds::Kind;
+use lw_suite::Method;
 use std::marker::Model;
 
 /// The values of the arguments of `trial`: the states and inputs of the machine that is drawn, the seed that it is drawn by, the
-/// number of its instances, and the kind of the learner.
+/// number of its instances, the kind of the learner, and how suites are made.
 #[derive(Drop)]
 pub struct TrialArguments {
     states: u16,
@@ -13,6 +14,7 @@ pub struct TrialArguments {
     seed: u64,
     workers: u8,
     learner: Kind,
+    suite: Method,
 }
 
 impl Model for TrialArguments {
@@ -26,6 +28,7 @@ impl Model for TrialArguments {
       seed = a.seed;
       workers = a.workers;
       learner = a.learner;
+      suite = a.suite;
     } };
 
     ghost invariant = { λ a. AreWithinLimits (record {
@@ -34,12 +37,20 @@ impl Model for TrialArguments {
       seed = a.seed;
       workers = a.workers;
       learner = a.learner;
+      suite = a.suite;
     }) };
 }
 
 impl TrialArguments {
     /// These values, which are within their limits.
-    pub fn new(states: u16, inputs: u16, seed: u64, workers: u8, learner: Kind) -> TrialArguments
+    pub fn new(
+        states: u16,
+        inputs: u16,
+        seed: u64,
+        workers: u8,
+        learner: Kind,
+        suite: Method,
+    ) -> TrialArguments
         requires states { (1 ≤ states) × (states ≤ 1024) }
         requires inputs { (1 ≤ inputs) × (inputs ≤ 64) }
         requires workers { (1 ≤ workers) × (workers ≤ 16) }
@@ -49,6 +60,7 @@ impl TrialArguments {
           seed = seed;
           workers = workers;
           learner = learner;
+          suite = suite;
         } }
     {
         TrialArguments {
@@ -57,6 +69,7 @@ impl TrialArguments {
             seed,
             workers,
             learner,
+            suite,
         }
     }
 
@@ -92,5 +105,11 @@ impl TrialArguments {
         ensures { result ≡ self.now.learner }
     {
         self.learner
+    }
+
+    pub fn suite(&self) -> Method
+        ensures { result ≡ self.now.suite }
+    {
+        self.suite
     }
 }

@@ -5,7 +5,6 @@ ghost use Rattle.lw_mealy.specs.Machine.{IsWithinLimits};
 ghost use Rattle.lw_rounds.specs.Learned.{IsEnoughFor, IsLearned};
 ghost use Rattle.lw_rounds.specs.Learner.{refinements_of};
 ghost use Rattle.lw_suite.specs.Size.{suite_size, greatest_suite};
-ghost use Rattle.lw_suite.specs.declared.method.Method.TheVariants as by;
 ghost use Rattle.lw_workers.specs.Machines.{KeepsRuns};
 ghost use Rattle.lw_report.specs.Outcomes.{status_of};
 ghost use Rattle.lw_trial.specs.TrialRun.{IsTrialRun, drawn_machine, drawn_naming, drawn_outputs};
@@ -18,7 +17,6 @@ use lw_names::OutNames;
 use lw_outside::Sink;
 use lw_report::{End, Outcome, UNSAID, learn_outcome, refuse, say};
 use lw_rounds::{Learned, Settings, Unwatched};
-use lw_suite::Method;
 use lw_words::{Kept, Names, NoMemory, Words};
 use lw_workers::{LearningOutcome, Start, learn_machine};
 use std::alloc::Global;
@@ -89,8 +87,8 @@ fn report<O: Sink, E: Sink>(
     requires machine { drawn.now.machine ≡ drawn_machine arguments.now }
     requires learned { IsLearned arguments.now.learner arguments.now.inputs 2 1 1024
         (answers_of found.kept.answers) found.learned.model found.learned.learner }
-    requires enough { IsEnoughFor by.W arguments.now.inputs 1 (answers_of found.kept.answers)
-        found.learned.model }
+    requires enough { IsEnoughFor arguments.now.suite arguments.now.inputs 1
+        (answers_of found.kept.answers) found.learned.model }
     requires kept { KeepsRuns (drawn_machine arguments.now) arguments.now.workers []
         found.kept.answers }
     requires named { found.names ≡ drawn_naming }
@@ -154,7 +152,7 @@ fn learn<R: Threads + Wait + Sync + Drop, O: Sink, E: Sink>(
         kind: arguments.learner(),
         extra: EXTRA,
         max_states: MOST_STATES,
-        suite: Method::W,
+        suite: arguments.suite(),
     };
     let LearningOutcome {
         learned,

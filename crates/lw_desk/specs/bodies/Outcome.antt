@@ -15,7 +15,7 @@ use Rattle.lw_turn.specs.declared.shared.Entry.{Entry}
 use Rattle.lw_turn.specs.History.{entries_of}
 use Rattle.lw_names.specs.Naming.{own_names}
 use Rattle.lw_desk.specs.Step.{DeskState, word_at_place}
-use Rattle.lw_desk.specs.History.{DeskOpening}
+use Rattle.lw_desk.specs.History.{DeskOpening, gives_of}
 use Rattle.lw_desk.specs.Ending.{NamedRun, kept_runs}
 use Rattle.lw_desk.specs.declared.ask.Ask.{Ask}
 use Rattle.lw_desk.specs.declared.ask.Reply.{Reply}
@@ -25,11 +25,6 @@ use Rattle.lw_desk.specs.declared.ask.Failed.{Failed}
 -- answers as an actor gives them, by the names of its own
 abbrev pub given_runs : List (List ℕ) → List (List ℕ) → List Give → List NamedRun
 given_runs batch own gs = map (λ g. record { run = g.run; word = word_at_place batch g.place; names = named own g.outs }) gs
-
--- all that was given in these entries
-abbrev pub gives_of : List (Entry Ask Reply) → List Give
-gives_of [] = []
-gives_of (e ∷ es) = e.ask.gives.items ++ gives_of es
 
 -- answers that are kept one after the other, the word of each not known before: it begins no earlier clear answer's word
 abbrev pub FreshFrom : List KeptAnswer → List KeptAnswer → Type 0

@@ -7,13 +7,12 @@ use Rattle.lw_words.specs.declared.stop.RunStop.TheVariants as Run
 use Rattle.lw_turn.specs.declared.shared.Entry.{Entry}
 use Rattle.lw_turn.specs.declared.view.View.{View}
 use Rattle.lw_names.specs.Naming.{own_names}
-use Rattle.lw_desk.specs.History.{DeskOpening, seat_of, actor_of, names_given}
-use Rattle.lw_desk.specs.bodies.Outcome.{gives_of}
+use Rattle.lw_desk.specs.History.{DeskOpening, seat_of, actor_of, names_given, gives_of}
 use Rattle.lw_desk.specs.declared.ask.Ask.{Ask}
 use Rattle.lw_desk.specs.declared.ask.Reply.{Reply}
 use Rattle.lw_desk.specs.declared.ask.Failed.{Failed}
 use Rattle.lw_pool.specs.Pool.{Seen}
-use Rattle.lw_pool.specs.bodies.Working.{GivesBetween, HasRefused}
+use Rattle.lw_pool.specs.Working.{GivesBetween, IsUnanswered}
 
 -- no own entry has failed places
 abbrev pub NobodyFailed : List (Entry Ask Reply) → Type 0
@@ -31,7 +30,7 @@ pub record Working (start now : Seen) (v : View DeskOpening Ask Reply) (reply : 
   pub within : All (λ p. p < length v.opening.batch) reply.places
   pub mid : Seen
   pub gives : GivesBetween v.opening.batch start mid (gives_of v.mine)
-  pub after : (now ≡ mid) ⊎ ((stop : RunStop) × HasRefused mid now stop × (reply.places ≡ []))
+  pub after : (now ≡ mid) ⊎ ((stop : RunStop) × IsUnanswered mid now stop × (reply.places ≡ []))
   pub failed : (e : Entry Ask Reply) (f : Failed) (stop : SulStop) → Contains v.mine e → e.ask.failed ≡ Some f → f.stop ≡ Run.Sul stop → now.stop ≡ Some stop
   pub unfailed : 0 < length reply.places → NobodyFailed v.mine
   pub live : NobodyFailed v.mine → now ≡ mid

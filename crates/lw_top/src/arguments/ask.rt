@@ -2,7 +2,7 @@
 ghost use Rattle.std.specs.Prelude.{◌≡◌, [], string_bytes, map, Some, None, Err, IfOk, option_map};
 ghost use Rattle.clap.specs.Words.{found_of, rows_of};
 ghost use Rattle.lw_top.specs.CommandLine.{texts, app_for};
-ghost use Rattle.lw_top.specs.AskCommand.{ask_app, ask_values, values_from, values_in};
+ghost use Rattle.lw_top.specs.AskCommand.{ask_app, ask_values, ask_values_from, ask_found};
 ghost use Rattle.lw_top.specs.declared.values.ArgumentStop.{ArgumentStop as Stop};
 
 use crate::ArgumentStop;
@@ -28,7 +28,7 @@ fn ask_syntax() -> &'static Syntax
 
 /// The system and its words: without a table the first of the words is the setup.
 fn ask_of(table: Option<String>, words: Vec<String>) -> Option<AskArguments>
-    ensures { result ≡ values_from (option_map (λ s. string_bytes s) table)
+    ensures { result ≡ ask_values_from (option_map (λ s. string_bytes s) table)
         (map (λ s. string_bytes s) words.items) }
 {
     let mut words = words;
@@ -47,8 +47,8 @@ fn ask_of(table: Option<String>, words: Vec<String>) -> Option<AskArguments>
 
 /// The values that clap found.
 fn values_of(alloc: Global, matches: &ArgMatches) -> Result<AskArguments, ArgumentStop>
-    ensures ok { IfOk result (λ a. values_in (rows_of (found_of matches.now)) ≡ Some a) }
-    ensures refused { result ≡ Err Stop.Usage → values_in (rows_of (found_of matches.now)) ≡ None }
+    ensures ok { IfOk result (λ a. ask_found (rows_of (found_of matches.now)) ≡ Some a) }
+    ensures refused { result ≡ Err Stop.Usage → ask_found (rows_of (found_of matches.now)) ≡ None }
 {
     let table = text_at(alloc, matches, "table")?;
     let words = texts_at(alloc, matches, "words")?;

@@ -2,7 +2,7 @@
 ghost use Rattle.std.specs.Prelude.{◌≡◌, ◌≤◌, Some, None, Err, IfOk};
 ghost use Rattle.clap.specs.Words.{found_of, rows_of};
 ghost use Rattle.lw_top.specs.CommandLine.{texts, app_for};
-ghost use Rattle.lw_top.specs.CheckCommand.{check_app, check_read, check_values, values_in};
+ghost use Rattle.lw_top.specs.CheckCommand.{check_app, check_read, check_values, check_found};
 ghost use Rattle.lw_top.specs.declared.values.ArgumentStop.{ArgumentStop as Stop};
 
 use crate::ArgumentStop;
@@ -33,8 +33,9 @@ fn check_syntax() -> &'static Syntax
 
 /// The values that clap found.
 fn values_of(alloc: Global, matches: &ArgMatches) -> Result<CheckArguments, ArgumentStop>
-    ensures ok { IfOk result (λ a. values_in (rows_of (found_of matches.now)) ≡ Some (check_read a)) }
-    ensures refused { result ≡ Err Stop.Usage → values_in (rows_of (found_of matches.now)) ≡ None }
+    ensures ok { IfOk result (λ a.
+        check_found (rows_of (found_of matches.now)) ≡ Some (check_read a)) }
+    ensures refused { result ≡ Err Stop.Usage → check_found (rows_of (found_of matches.now)) ≡ None }
 {
     let Some(extra) = number_at(matches, "extra", EXTRA) else {
         return Err(ArgumentStop::Usage);

@@ -3,7 +3,7 @@ ghost use Rattle.std.specs.Prelude.{◌≡◌, Some, None, Err, IfOk, IfSome, op
 ghost use Rattle.clap.specs.Words.{found_of, rows_of};
 ghost use Rattle.lw_learn.specs.Arguments.{AreFewDrawn};
 ghost use Rattle.lw_top.specs.CommandLine.{texts, app_for};
-ghost use Rattle.lw_top.specs.LearnCommand.{drawn_in, file_names, files_in, learn_app, learn_values, setting_values, settings_in, source_from, source_in, values_in};
+ghost use Rattle.lw_top.specs.LearnCommand.{drawn_in, file_names, files_in, learn_app, learn_values, setting_values, settings_in, source_from, source_in, learn_found};
 ghost use Rattle.lw_top.specs.declared.values.ArgumentStop.{ArgumentStop as Stop};
 
 use crate::ArgumentStop;
@@ -123,8 +123,8 @@ fn files_at(alloc: Global, matches: &ArgMatches) -> Result<LearnFiles, AllocErro
 
 /// The values that clap found, where the file of the system is named.
 fn values_of(alloc: Global, matches: &ArgMatches) -> Result<LearnArguments, ArgumentStop>
-    ensures ok { IfOk result (λ a. values_in (rows_of (found_of matches.now)) ≡ Some a) }
-    ensures refused { result ≡ Err Stop.Usage → values_in (rows_of (found_of matches.now)) ≡ None }
+    ensures ok { IfOk result (λ a. learn_found (rows_of (found_of matches.now)) ≡ Some a) }
+    ensures refused { result ≡ Err Stop.Usage → learn_found (rows_of (found_of matches.now)) ≡ None }
 {
     let Some(settings) = settings_at(matches) else {
         return Err(ArgumentStop::Usage);

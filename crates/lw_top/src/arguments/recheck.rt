@@ -2,7 +2,7 @@
 ghost use Rattle.std.specs.Prelude.{◌≡◌, Some, None, Err, IfOk};
 ghost use Rattle.clap.specs.Words.{found_of, rows_of};
 ghost use Rattle.lw_top.specs.CommandLine.{texts, app_for};
-ghost use Rattle.lw_top.specs.RecheckCommand.{recheck_app, recheck_values, values_in};
+ghost use Rattle.lw_top.specs.RecheckCommand.{recheck_app, recheck_values, recheck_found};
 ghost use Rattle.lw_top.specs.declared.values.ArgumentStop.{ArgumentStop as Stop};
 
 use crate::ArgumentStop;
@@ -27,8 +27,8 @@ fn recheck_syntax() -> &'static Syntax
 
 /// The values that clap found.
 fn values_of(alloc: Global, matches: &ArgMatches) -> Result<RecheckArguments, ArgumentStop>
-    ensures ok { IfOk result (λ v. values_in (rows_of (found_of matches.now)) ≡ Some v) }
-    ensures refused { result ≡ Err Stop.Usage → values_in (rows_of (found_of matches.now)) ≡ None }
+    ensures ok { IfOk result (λ v. recheck_found (rows_of (found_of matches.now)) ≡ Some v) }
+    ensures refused { result ≡ Err Stop.Usage → recheck_found (rows_of (found_of matches.now)) ≡ None }
 {
     let setup = required_text_at(alloc, matches, "setup")?;
     let answers = required_text_at(alloc, matches, "answers")?;

@@ -2,7 +2,7 @@
 ghost use Rattle.std.specs.Prelude.{◌≡◌, Some, None, Err, IfOk};
 ghost use Rattle.clap.specs.Words.{found_of, rows_of};
 ghost use Rattle.lw_top.specs.CommandLine.{texts, app_for};
-ghost use Rattle.lw_top.specs.TrialCommand.{trial_app, trial_values, values_in};
+ghost use Rattle.lw_top.specs.TrialCommand.{trial_app, trial_values, trial_found};
 ghost use Rattle.lw_top.specs.declared.values.ArgumentStop.{ArgumentStop as Stop};
 
 use crate::ArgumentStop;
@@ -11,6 +11,7 @@ use crate::options::{Argument, Syntax};
 use crate::ranges::{INPUTS, SEED, STATES, WORKERS};
 use crate::values::{kind_at, number_at};
 use clap::ArgMatches;
+use lw_suite::Method;
 use lw_trial::TrialArguments;
 use std::alloc::Global;
 
@@ -34,8 +35,8 @@ fn trial_syntax() -> &'static Syntax
 
 /// The values that clap found.
 fn values_of(matches: &ArgMatches) -> Result<TrialArguments, ArgumentStop>
-    ensures ok { IfOk result (λ a. values_in (rows_of (found_of matches.now)) ≡ Some a) }
-    ensures refused { result ≡ Err Stop.Usage → values_in (rows_of (found_of matches.now)) ≡ None }
+    ensures ok { IfOk result (λ a. trial_found (rows_of (found_of matches.now)) ≡ Some a) }
+    ensures refused { result ≡ Err Stop.Usage → trial_found (rows_of (found_of matches.now)) ≡ None }
 {
     let Some(states) = number_at(matches, "states", STATES) else {
         return Err(ArgumentStop::Usage);
@@ -52,7 +53,8 @@ fn values_of(matches: &ArgMatches) -> Result<TrialArguments, ArgumentStop>
     let Some(learner) = kind_at(matches, "learner") else {
         return Err(ArgumentStop::Usage);
     };
-    Ok(TrialArguments::new(states as u16, inputs as u16, seed, workers as u8, learner))
+    let (states, inputs, workers) = (states as u16, inputs as u16, workers as u8);
+    Ok(TrialArguments::new(states, inputs, seed, workers, learner, Method::W))
 }
 
 /// Reads the arguments of `trial`, of which the first is the command.

@@ -3,7 +3,7 @@ use Rattle.lw_words.specs.declared.kept.KeptAnswer.{KeptAnswer}
 use Rattle.lw_report.specs.Text.{text_of}
 use Rattle.lw_report.specs.Writing.{TakesAll, TakesSome}
 use Rattle.lw_check.specs.Decision.{pair_of}
-use Rattle.lw_check.proofs.EndLemmas.{still_unread, exact_unread, exact_read, yes_is_sure}
+use Rattle.lw_check.proofs.EndLemmas.{still_unread, exact_unread, exact_read, yes_is_fixed}
 use Rattle.lw_check.proofs.checking.check.Goals as goal
 
 pub returns-in-Err-clause-ran : goal.returns-in-Err-clause-ran
@@ -60,5 +60,5 @@ returns-clause-ran g c = record {
       exact_read c.args.arguments.now.suite (string_bytes c.args.arguments.now.model) (string_bytes c.args.arguments.now.answers) before now _ c.args.arguments.now.extra (O.state c.args.out.now) (O.state c.finish.new.out) m a decision c.finish.result.outcome c.in-Ok.ensures.ok c.finish.ensures.comes tm ta d;
   sure = λ states is.
       let O = g.O.Sink in
-      (pair_of c.in-Ok.read.machine c.in-Ok.read.answers, c.in-Ok.ensures.ok, yes_is_sure c.args.arguments.now.suite (pair_of c.in-Ok.read.machine c.in-Ok.read.answers) c.args.arguments.now.extra (O.state c.args.out.now) (O.state c.finish.new.out) states c.finish.result.outcome c.finish.ensures.complete.machine c.finish.ensures.comes is);
+      (pair_of c.in-Ok.read.machine c.in-Ok.read.answers, c.in-Ok.ensures.ok, yes_is_fixed c.args.arguments.now.suite (pair_of c.in-Ok.read.machine c.in-Ok.read.answers) c.args.arguments.now.extra (O.state c.args.out.now) (O.state c.finish.new.out) states c.finish.result.outcome c.finish.ensures.complete.machine c.finish.ensures.comes is);
 }

@@ -3,6 +3,7 @@ use crate::tests::memory::sink;
 use lw_outside::MemorySink;
 use lw_report::{End, Outcome, Tried};
 use lw_rounds::Kind;
+use lw_suite::Method;
 use lw_trial::{TrialArguments, trial};
 use lw_words::Kept;
 use std::alloc::Global;
@@ -44,7 +45,7 @@ fn arguments(
 ) -> TrialArguments {
     assert!(rt; 1 <= states && states <= 1024 && 1 <= inputs && inputs <= 64);
     assert!(rt; 1 <= workers && workers <= 16);
-    TrialArguments::new(states, inputs, seed, workers, learner)
+    TrialArguments::new(states, inputs, seed, workers, learner, Method::W)
 }
 
 /// What a trial ends with: the clauses of `trial` would weigh down each proof that calls it.

@@ -2,7 +2,7 @@ use Rattle.std.proofs.Common.{◌≡◌, ◌∙◌, List, Ok, Err, IfOk, IfSome,
 use Rattle.lw_words.specs.Word.{answers_of}
 use Rattle.lw_words.specs.declared.kept.KeptAnswer.{KeptAnswer}
 use Rattle.lw_mealy.specs.Machine.{MealyMachine}
-use Rattle.lw_suite.specs.declared.method.Method.TheVariants.{W}
+use Rattle.lw_suite.specs.declared.method.Method.{Method}
 use Rattle.lw_rounds.specs.Learned.{IsEnoughFor}
 use Rattle.lw_names.specs.Naming.{Naming}
 use Rattle.lw_workers.specs.Machines.{KeepsRuns}
@@ -32,8 +32,10 @@ report-requires-clause-reached g c =
 pub report-requires-clause-enough : goal.report-requires-clause-enough
 report-requires-clause-enough g c =
     let kept = c.learn_machine-learned.result.kept.answers in
-    subst (λ (m : MealyMachine). IsEnoughFor W m.inputs 1 (answers_of kept) c.in-Ok.learned.model) c.requires.machine
-    (subst (λ (r : Result Learned LearnStop). IfOk r (λ l. IsEnoughFor W c.args.drawn.now.machine.inputs 1 (answers_of kept) l.model)) c.in-Ok.is c.learn_machine-learned.ensures.enough)
+    let by = c.suite.result in
+    let enough = subst (λ (r : Result Learned LearnStop). IfOk r (λ l. IsEnoughFor by c.args.drawn.now.machine.inputs 1 (answers_of kept) l.model)) c.in-Ok.is c.learn_machine-learned.ensures.enough in
+    subst (λ (m : MealyMachine). IsEnoughFor c.args.arguments.now.suite m.inputs 1 (answers_of kept) c.in-Ok.learned.model) c.requires.machine
+    (subst (λ (m : Method). IsEnoughFor m c.args.drawn.now.machine.inputs 1 (answers_of kept) c.in-Ok.learned.model) c.suite.ensures enough)
 
 pub returns-in-Err-clause-ran : goal.returns-in-Err-clause-ran
 returns-in-Err-clause-ran g c =

@@ -4,7 +4,7 @@ use Rattle.std.proofs.lemmas.List.{take_all}
 use Rattle.lw_words.specs.Word.{IsWord}
 use Rattle.lw_words.specs.declared.stop.RunStop.TheVariants.{NoMemory}
 use Rattle.lw_desk.specs.declared.ask.Give.{Give}
-use Rattle.lw_pool.specs.bodies.Working.{GivesBetween}
+use Rattle.lw_pool.specs.Working.{GivesBetween}
 use Rattle.lw_pool.proofs.GiveLemmas.{gives_more, answered_all, answered_some, places_more, refused_first}
 use Rattle.lw_pool.proofs.worker.Worker.answer.Goals as goal
 

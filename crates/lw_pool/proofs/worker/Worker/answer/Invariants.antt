@@ -1,6 +1,6 @@
 use Rattle.std.proofs.Common.{◌≡◌, ◌≤◌, length, map, take, vec_len, vec_capacity}
 use Rattle.lw_desk.specs.declared.ask.Give.{Give}
-use Rattle.lw_pool.specs.bodies.Working.{GivesBetween}
+use Rattle.lw_pool.specs.Working.{GivesBetween}
 use Rattle.lw_pool.proofs.worker.Worker.answer.Given as goal
 
 abbrev pub invariant-loop-i : goal.invariant-loop-i
