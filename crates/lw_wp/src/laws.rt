@@ -1,6 +1,7 @@
 //! Laws about the definitions alone, with no code.
 ghost use Rattle.lw_wp.specs.Identification.{OneIdentification, IdentificationIdentifies};
 ghost use Rattle.lw_wp.specs.WpSuite.{OneWpSuite, SomeWpSuite, WpSuiteIsCounted, WpSuiteIsOfWords};
+ghost use Rattle.lw_wp.specs.WpTells.{WpSuiteTells};
 
 use lw_separate::{least_access_exists, separators_exist};
 
@@ -35,4 +36,9 @@ pub fn wp_suite_is_of_words()
 /// A Wp-suite has at most as many words as `suite_size` says.
 pub fn wp_suite_is_counted()
     ensures { WpSuiteIsCounted }
+{}
+
+/// A Wp-suite tells the states of its machine apart as far as answers need that are to fix it.
+pub fn wp_suite_tells()
+    ensures { WpSuiteTells }
 {}
