@@ -15,6 +15,7 @@ pub mod ExistenceWords
 pub mod LevelLemmas
 pub mod MergeLemmas
 pub mod OneLemmas
+pub mod PushLemmas
 pub mod SearchLemmas
 pub mod ShortestLemmas
 pub mod UniqueLemmas

@@ -1,4 +1,5 @@
 pub mod Canonical
 pub mod FirstAlike
 pub mod Separators
+pub mod WordClasses
 pub mod bodies

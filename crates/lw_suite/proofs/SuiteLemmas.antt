@@ -17,7 +17,7 @@ one_suite a m k s t hs ht =
     ∙ (ap₂ (λ (u v : List (List ℕ)). suite_of u (words_up_to a (k + 1)) v) (one_least_access a m hs.access ht.access hs.least ht.least) (one_separators a m hs.ends ht.ends hs.separating ht.separating)
     ∙ sym ht.words)
 
-few_ends : (a : ℕ) (m : Rows) (ends : List (List ℕ)) → IsSeparators a m ends → 0 < length m → length ends < length m
+pub few_ends : (a : ℕ) (m : Rows) (ends : List (List ℕ)) → IsSeparators a m ends → 0 < length m → length ends < length m
 few_ends a m ends s some =
     fewer_words a m (length m, length m) ends
     (record {

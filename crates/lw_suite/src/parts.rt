@@ -21,7 +21,7 @@ pub(crate) struct Parts {
 
 /// A place in a suite: the number of an access word with a middle word, and that of an end, 0 for none.
 #[derive(Clone, Copy)]
-pub(crate) struct Place {
-    pub(crate) front: u64,
-    pub(crate) end: usize,
+pub struct Place {
+    pub front: u64,
+    pub end: usize,
 }

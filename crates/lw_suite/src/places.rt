@@ -90,7 +90,7 @@ pub(crate) fn end_at(parts: &Parts, end: usize) -> &[u16]
 }
 
 /// Makes the word at this index of a chunk a front and an end, and keeps the memory of the word that was there.
-pub(crate) fn put(
+pub fn put(
     alloc: Global,
     chunk: &mut Vec<Word>,
     index: usize,

@@ -41,7 +41,7 @@ impl From<NoMemory> for SuiteFault {
 }
 
 /// Refuses a suite that is too large.
-fn check_size(m: &Mealy, extra: u8) -> Result<(), SuiteFault>
+pub fn check_size(m: &Mealy, extra: u8) -> Result<(), SuiteFault>
     requires { extra ≤ 4 }
     ensures ok { OnOk result (suite_size (length m.now.rows) m.now.inputs extra ≤ greatest_suite) }
     ensures err { IfErr result (λ fault.

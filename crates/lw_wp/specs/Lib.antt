@@ -1,0 +1,4 @@
+pub mod Identification
+pub mod WpSuite
+pub mod WpTells
+pub mod bodies
