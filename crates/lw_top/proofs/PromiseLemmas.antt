@@ -1,5 +1,5 @@
 -- The promises, from what each command did.
-use Rattle.std.proofs.Common.{◌≡◌, ◌⊎◌, inl, inr, ⊎_elim, ℕ, ◌≤◌, List, length, Option, Some, None, IfSome, Result, Ok, Err, sym, ap, ◌∙◌, subst, arith, [], ◌∷◌, ◌++◌, append-nil}
+use Rattle.std.proofs.Common.{◌≡◌, ◌⊎◌, inl, inr, ⊎_elim, ℕ, ◌≤◌, List, length, Option, Some, None, IfSome, Result, Ok, Err, refl, sym, ap, ◌∙◌, subst, arith, [], ◌∷◌, ◌++◌, append-nil}
 use Rattle.lw_words.specs.Word.{answers_of}
 use Rattle.lw_words.specs.Cause.{CountedFault}
 use Rattle.lw_words.specs.declared.kept.KeptAnswer.{KeptAnswer}
@@ -21,7 +21,7 @@ use Rattle.lw_rounds.specs.declared.stops.LearnStop.TheVariants as learn
 use Rattle.lw_children.specs.Children.{IsOfCommand}
 use Rattle.lw_children.specs.Keeping.{KeepsChildren}
 use Rattle.lw_system.specs.Spawners.{StartsAndRetires}
-use Rattle.lw_system.specs.Systems.{letters_of}
+use Rattle.lw_system.specs.Systems.{declared_of, letters_of}
 use Rattle.lw_system.specs.declared.system.System.{System}
 use Rattle.lw_system.specs.declared.system.System.TheVariants as system
 use Rattle.lw_report.specs.Learnings.{HasModel, learn_outcome}
@@ -33,7 +33,8 @@ use Rattle.lw_check.specs.CheckRun.{IsCheckRun}
 use Rattle.lw_check.specs.Decision.{IsFixed, Pair}
 use Rattle.lw_learn.specs.Arguments.{LearnValues}
 use Rattle.lw_learn.specs.Asking.{IsWordless, IsWordlessTask, ReadsWords}
-use Rattle.lw_learn.specs.Ending.{Carries, EndsRead, EndsUnread}
+use Rattle.lw_learn.specs.Ending.{Carries, EndsRead, EndsUnread, end_outputs}
+use Rattle.lw_names.specs.Naming.{Naming}
 use Rattle.lw_learn.specs.Findings.{IsOfSystem}
 use Rattle.lw_learn.specs.LearnRun.{IsLearnRun, SaysLog}
 use Rattle.lw_learn.specs.Outcomes.{IsLearnedOutcome, ModelIsTold}
@@ -153,20 +154,26 @@ wordless a f g now read kept outcome saved w =
       inr (w.system, record { between = w.between.reads; more = kind.1.0; task = w.task; reads = saved ∙ kind.1.1 }),
     )
 
+-- the names that an end hands back are those of the learning
+end_named : (declared : Option (List (List ℕ))) (kept : List KeptAnswer) (naming : Naming) (outputs : Option Naming) → outputs ≡ end_outputs declared kept naming → IfSome outputs (λ n. n.names ≡ naming.names)
+end_named (Some own) kept naming outputs is = subst (λ (o : Option Naming). IfSome o (λ n. n.names ≡ naming.names)) (sym is) refl
+end_named None [] naming outputs is = subst (λ (o : Option Naming). IfSome o (λ n. n.names ≡ naming.names)) (sym is) tt
+end_named None (k ∷ ks) naming outputs is = subst (λ (o : Option Naming). IfSome o (λ n. n.names ≡ naming.names)) (sym is) refl
+
 -- what is kept of children
 module _ (kind : Kind) (words letters : List (List ℕ)) (workers k most : ℕ) (prior : List KeptAnswer) (before now : SpawnerState) (learned : Result Found LearnStop) (kept : List KeptAnswer) (names : List (List ℕ)) where
   keeps_links : (outputs : Option (List (List ℕ))) → IsOfCommand kind words letters outputs workers k most prior before now learned kept names
-      → (links : List LinkState) × StartsAndRetires words before now links × (length links ≤ workers) × KeepsChildren letters outputs names prior kept links
+      → (links : List LinkState) × StartsAndRetires words before now links × (length links ≤ workers) × IfSome outputs (λ own. names ≡ own) × KeepsChildren letters outputs names prior kept links
   keeps_links None is =
       let of = is.1 in
-      (of.links, of.spawner, of.few, subst (λ (p : List KeptAnswer). KeepsChildren letters None names p kept of.links) (sym is.0) of.keeps)
-  keeps_links (Some outputs) is = let of = is.1 in (of.links, of.spawner, of.few, of.keeps)
+      (of.links, of.spawner, of.few, tt, subst (λ (p : List KeptAnswer). KeepsChildren letters None names p kept of.links) (sym is.0) of.keeps)
+  keeps_links (Some outputs) is = let of = is.1 in (of.links, of.spawner, of.few, is.0, of.keeps)
 
-keeps_system : (a : LearnValues) (s : System) (prior : List KeptAnswer) (before now : SpawnerState) (learned : Result Found LearnStop) (kept : List KeptAnswer) (names : List (List ℕ)) → IsOfSystem a s prior before now learned kept names → KeepsSystem a.workers s prior before now kept
-keeps_system a (system.Table m) prior before now learned kept names is = (is.0, is.1.keeps)
-keeps_system a (system.Children c) prior before now learned kept names is =
+keeps_system : (a : LearnValues) (s : System) (prior : List KeptAnswer) (before now : SpawnerState) (learned : Result Found LearnStop) (kept : List KeptAnswer) (names : List (List ℕ)) → (outputs : Option Naming) → IfSome outputs (λ naming. naming.names ≡ names) → IsOfSystem a s prior before now learned kept names → KeepsSystem a.workers s outputs prior before now kept
+keeps_system a (system.Table m) prior before now learned kept names outputs told is = (is.0, is.1.keeps)
+keeps_system a (system.Children c) prior before now learned kept names outputs told is =
     let of = keeps_links a.learner c.words c.inputs a.workers a.extra a.max_states prior before now learned kept names c.outputs is in
-    record { links = of.0; spawner = of.1; few = of.2; names = names; runs = of.3 }
+    record { links = of.0; spawner = of.1; few = of.2; names = names; named = (of.3, told); runs = of.4 }
 
 below : (x y z : ℕ) → x ≤ y → y ≤ z → x ≤ z
 below x y z one two = omega (arith, one, two)
@@ -236,7 +243,7 @@ module _ (a : LearnValues) (before now : WorldState) (end : End) (run : IsLearnR
         system = r.system;
         prior = r.prior;
         task = task_of a before now end run.told r;
-        keeps = keeps_system a r.system r.prior before.spawner now.spawner r.learned.learned end.kept.answers r.learned.naming.names r.learned.found;
+        keeps = keeps_system a r.system r.prior before.spawner now.spawner r.learned.learned end.kept.answers r.learned.naming.names end.outputs (end_named (declared_of r.system) end.kept.answers r.learned.naming end.outputs r.learned.told.told.outputs) r.learned.found;
         letters = if_some _ (λ h. h.inputs ≡ length (letters_of r.system)) end.model (λ h has. has.certified.inputs) r.learned.model;
       }
 

@@ -4,6 +4,7 @@ use Rattle.lw_words.specs.Word.{Answer, answer_at, answer_of, answers_of}
 use Rattle.lw_words.specs.Cause.{CountedFault}
 use Rattle.lw_words.specs.declared.kept.KeptAnswer.{KeptAnswer}
 use Rattle.lw_words.specs.declared.stop.SulStop.{SulStop}
+use Rattle.lw_names.specs.Naming.{Naming}
 use Rattle.lw_mealy.specs.Machine.{Gives, MealyMachine, IsWithinLimits, Rows, IsMinimal, Sure}
 use Rattle.lw_separate.specs.Canonical.{IsCanonical}
 use Rattle.lw_suite.specs.Size.{greatest_suite, suite_size}
@@ -96,19 +97,24 @@ YesIsRight _ before now outcome = Unit {0}
 abbrev pub IsOverLetters : ℕ → Option MealyMachine → Type 0
 IsOverLetters inputs model = IfSome model (λ h. h.inputs ≡ inputs)
 
+-- the names of outputs by which a call's kept answers are numbered: those that were declared, and those that it hands back
+abbrev pub AreNamesOf : (declared : Option (List (List ℕ))) → (outputs : Option Naming) → List (List ℕ) → Type 0
+AreNamesOf declared outputs names = IfSome declared (λ own. names ≡ own) × IfSome outputs (λ naming. naming.names ≡ names)
+
 -- what is kept of children, behind prior answers: one link for each that was started, no more than workers, all retired in that
 -- order; and what went over each, where it tells that
-pub record KeepsLinks (c : Command) (workers : ℕ) (prior : List KeptAnswer) (before now : SpawnerState) (kept : List KeptAnswer) : Type 0 where
+pub record KeepsLinks (c : Command) (workers : ℕ) (outputs : Option Naming) (prior : List KeptAnswer) (before now : SpawnerState) (kept : List KeptAnswer) : Type 0 where
   pub links : List LinkState
   pub spawner : StartsAndRetires c.words before now links
   pub few : length links ≤ workers
   pub names : List (List ℕ)
+  pub named : AreNamesOf c.outputs outputs names
   pub runs : KeepsChildren c.inputs c.outputs names prior kept links
 
 -- what is kept of a system: the runs of instances of a table's machine, or of children
-abbrev pub KeepsSystem : ℕ → System → (prior : List KeptAnswer) → (before now : SpawnerState) → (kept : List KeptAnswer) → Type 0
-KeepsSystem workers (system.Table m) prior before now kept = (now ≡ before) × KeepsRuns m.mealy workers prior kept
-KeepsSystem workers (system.Children c) prior before now kept = KeepsLinks c workers prior before now kept
+abbrev pub KeepsSystem : ℕ → System → Option Naming → (prior : List KeptAnswer) → (before now : SpawnerState) → (kept : List KeptAnswer) → Type 0
+KeepsSystem workers (system.Table m) outputs prior before now kept = (now ≡ before) × KeepsRuns m.mealy workers prior kept
+KeepsSystem workers (system.Children c) outputs prior before now kept = KeepsLinks c workers outputs prior before now kept
 
 -- the bytes that the call read say this system and these earlier answers; it may have read more behind them
 pub record SaysTask (a : LearnValues) (before now : FilesState) (s : System) (prior : List KeptAnswer) : Type 0 where
@@ -123,7 +129,7 @@ pub record KeepsLearned (a : LearnValues) (before now : WorldState) (end : End) 
   pub system : System
   pub prior : List KeptAnswer
   pub task : SaysTask a before.files now.files system prior
-  pub keeps : KeepsSystem a.workers system prior before.spawner now.spawner end.kept.answers
+  pub keeps : KeepsSystem a.workers system end.outputs prior before.spawner now.spawner end.kept.answers
   pub letters : IsOverLetters (length (letters_of system)) end.model
 
 -- a file was refused, earlier answers clash, or memory ran out
@@ -155,8 +161,9 @@ KeptAreRuns (Some (Trial a)) before now end = KeepsRuns (drawn_machine a) a.work
 KeptAreRuns _ before now end = Unit {0}
 
 -- of the system that was learned: where no file, stream or start of a child failed, and some machine of n states that gives the
--- kept answers is within the limits, a model comes within n - 1 refinements, or memory runs out, wherever each link tells that nothing
--- bad went over it; and where no link counted a fault or an end, told or not, one comes so, or an instance said a bad line
+-- kept answers is within the limits, a model comes within n - 1 refinements, or memory runs out, wherever each link counted no fault and
+-- no end and tells that no line came over it that is none; and where none counted one, told or not, one comes so, or an instance said a
+-- bad line
 pub record ReachesModel (a : LearnValues) (before now : WorldState) (end : End) : Type 0 where
   pub system : System
   pub prior : List KeptAnswer
