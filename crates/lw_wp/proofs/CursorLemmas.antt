@@ -18,7 +18,7 @@ use Rattle.lw_suite.proofs.SizeLemmas.{length-words_of, length-words_up_to, powe
 use Rattle.lw_wp.specs.Identification.{identification_of}
 use Rattle.lw_wp.specs.WpSuite.{wp_suite_of, IsWpSuite}
 use Rattle.lw_wp.specs.bodies.Chosen.{chosen}
-use Rattle.lw_wp.specs.bodies.Cursors.{shorter_fronts, longest_fronts, wp_fronts, block, blocks, left_from, own_of, ends_behind, AreWpParts, SplitsFront, IsWithin, IsCursor}
+use Rattle.lw_wp.specs.bodies.Cursors.{shorter_fronts, longest_fronts, wp_fronts, block, blocks, left_from, own_of, ends_behind, end_of, AreWpParts, SplitsFront, IsWithin, IsCursor}
 use Rattle.lw_wp.specs.declared.cursor.Cursor.{Cursor}
 use Rattle.lw_wp.specs.declared.parts.WpParts.{WpParts}
 use Rattle.lw_wp.proofs.FlatLemmas.{joined, next_of, next_block}
@@ -55,7 +55,7 @@ module _ (p : WpParts) where
 
   module _ (c : Cursor) (is : IsCursor p c) (some : c.place.front < length (blocks p)) where
     abbrev pub word_of : List ℕ
-    word_of = c.front ++ get_or ([] ∷ ends_behind p c.place.front c.state) c.place.end []
+    word_of = c.front ++ end_of p c
 
     words_here : length (get_or (blocks p) c.place.front []) ≡ suc (length (ends_behind p c.place.front c.state))
     words_here = ap length (is.front some) ∙ length-map ([] ∷ ends_behind p c.place.front c.state) (λ (end : List ℕ). c.front ++ end)
