@@ -10,6 +10,7 @@ mod separate;
 mod suite;
 mod sul;
 mod words;
+mod wp;
 
 use lw_mealy::Mealy;
 use lw_words::Word;

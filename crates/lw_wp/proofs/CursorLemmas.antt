@@ -18,7 +18,7 @@ use Rattle.lw_suite.proofs.SizeLemmas.{length-words_of, length-words_up_to, powe
 use Rattle.lw_wp.specs.Identification.{identification_of}
 use Rattle.lw_wp.specs.WpSuite.{wp_suite_of, IsWpSuite}
 use Rattle.lw_wp.specs.bodies.Chosen.{chosen}
-use Rattle.lw_wp.specs.bodies.Cursors.{shorter_fronts, longest_fronts, wp_fronts, block, blocks, left_from, own_of, ends_behind, AreWpParts, SplitsFront, IsWithin, IsCursor}
+use Rattle.lw_wp.specs.bodies.Cursors.{shorter_fronts, longest_fronts, wp_fronts, block, blocks, left_from, own_of, ends_behind, end_of, AreWpParts, SplitsFront, IsWithin, IsCursor}
 use Rattle.lw_wp.specs.declared.cursor.Cursor.{Cursor}
 use Rattle.lw_wp.specs.declared.parts.WpParts.{WpParts}
 use Rattle.lw_wp.proofs.FlatLemmas.{joined, next_of, next_block}
@@ -55,7 +55,7 @@ module _ (p : WpParts) where
 
   module _ (c : Cursor) (is : IsCursor p c) (some : c.place.front < length (blocks p)) where
     abbrev pub word_of : List ℕ
-    word_of = c.front ++ get_or ([] ∷ ends_behind p c.place.front c.state) c.place.end []
+    word_of = c.front ++ end_of p c
 
     words_here : length (get_or (blocks p) c.place.front []) ≡ suc (length (ends_behind p c.place.front c.state))
     words_here = ap length (is.front some) ∙ length-map ([] ∷ ends_behind p c.place.front c.state) (λ (end : List ℕ). c.front ++ end)
@@ -147,11 +147,11 @@ module _ (p : WpParts) (h : AreWpParts p) where
   up_to_more = let e : p.extra + 1 ≡ suc p.extra = omega arith in ap (words_up_to a) e
 
   -- a front with at most k letters behind an access word
-  pub split_shorter : (front : ℕ) → front < length p.access * p.shorter → (0 < p.shorter) × SplitsFront p front (front / p.shorter) (front % p.shorter)
-  split_shorter front lt =
+  pub split_shorter : (front : ℕ) → front < length (shorter_fronts p) → (0 < p.shorter) × SplitsFront p front (front / p.shorter) (front % p.shorter)
+  split_shorter front within =
+      let lt : front < length p.access * p.shorter = omega (arith, length-shorter, within) in
       let long : length (words_up_to a p.extra) ≡ p.shorter = length-words_up_to a p.extra ∙ sym h.shorter in
       let n = each_number p.access (words_up_to a p.extra) p.shorter front long lt in
-      let within : front < length (shorter_fronts p) = omega (arith, length-shorter, lt) in
       let middle : front % p.shorter < length (words_up_to a p.extra) = omega (arith, long, n.2) in (
         n.0,
         record {
@@ -165,13 +165,13 @@ module _ (p : WpParts) (h : AreWpParts p) where
       )
 
   -- a front with k + 1 letters behind one
-  pub split_longest : (front rest : ℕ) → length p.access * p.shorter ≤ front → front < length (blocks p) → rest ≡ front - length p.access * p.shorter
+  pub split_longest : (front rest : ℕ) → length (shorter_fronts p) ≤ front → front < length (blocks p) → rest ≡ front - length (shorter_fronts p)
       → (0 < p.longest) × SplitsFront p front (rest / p.longest) (p.shorter + rest % p.longest)
   split_longest front rest ge lt is =
       let long : length (words_of_length a (p.extra + 1)) ≡ p.longest = length-words_of a (p.extra + 1) ∙ sym h.longest in
       let b = length-blocks in
       let s = length-shorter in
-      let within : rest < length p.access * p.longest = omega (arith, b, lt, ge, is) in
+      let within : rest < length p.access * p.longest = omega (arith, b, s, lt, ge, is) in
       let n = each_number p.access (words_of_length a (p.extra + 1)) p.longest rest long within in
       let m = all_middles in
       let l = h.longest in
@@ -180,15 +180,13 @@ module _ (p : WpParts) (h : AreWpParts p) where
       let r : rest % p.longest < a ^ (p.extra + 1) = omega (arith, l, n.2) in
       let at : powers a (p.extra + 1) - a ^ (p.extra + 1) + rest % p.longest ≡ p.shorter + rest % p.longest = omega (arith, i, t) in
       let middle : get_or (words_up_to a (p.extra + 1)) (p.shorter + rest % p.longest) [] ≡ get_or (words_of_length a (p.extra + 1)) (rest % p.longest) [] =
-      ap (λ (k : ℕ). get_or (words_up_to a (p.extra + 1)) k []) (sym at) ∙ among a (p.extra + 1) (p.extra + 1) (rest % p.longest) (omega arith) r in
-      let past : length (shorter_fronts p) ≤ front = omega (arith, s, ge) in
-      let left : front - length p.access * p.shorter ≡ rest = sym is in (
+      ap (λ (k : ℕ). get_or (words_up_to a (p.extra + 1)) k []) (sym at) ∙ among a (p.extra + 1) (p.extra + 1) (rest % p.longest) (omega arith) r in (
         n.0,
         record {
           access_within = n.1;
           middle_within = omega (arith, m, n.2);
-          joined = get_or-append_right (shorter_fronts p) (longest_fronts p) (length p.access * p.shorter) front [] s ge
-              ∙ (ap (λ (k : ℕ). get_or (longest_fronts p) k []) left
+          joined = get_or-append_right (shorter_fronts p) (longest_fronts p) (length (shorter_fronts p)) front [] refl ge
+              ∙ (ap (λ (k : ℕ). get_or (longest_fronts p) k []) (sym is)
               ∙ (n.3 ∙ ap (λ (v : List ℕ). get_or p.access (rest / p.longest) [] ++ v) (sym middle)));
         },
       )

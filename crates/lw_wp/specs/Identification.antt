@@ -45,4 +45,5 @@ pub record Identifies (h : Rows) (among : List (List ℕ)) (q : ℕ) (list : Lis
 
 -- an identification set does what it is for
 abbrev pub IdentificationIdentifies : Type 0
-IdentificationIdentifies = (a : ℕ) (h : Rows) (among : List (List ℕ)) (q : ℕ) → IsSeparators a h among → q < length h → Identifies h among q (identification_of h among q)
+IdentificationIdentifies = (a : ℕ) (h : Rows) (among : List (List ℕ)) (q : ℕ) → IsSeparators a h among → q < length h
+    → Identifies h among q (identification_of h among q)

@@ -42,4 +42,5 @@ WpSuiteIsOfWords = (a : ℕ) (h : Rows) (k : ℕ) (suite : List (List ℕ)) → 
 
 -- they are at most as many as the suite's size says
 abbrev pub WpSuiteIsCounted : Type 0
-WpSuiteIsCounted = (a : ℕ) (h : Rows) (k : ℕ) (suite : List (List ℕ)) → IsMachine a h → IsWpSuite a h k suite → length suite ≤ suite_size (length h) a k
+WpSuiteIsCounted = (a : ℕ) (h : Rows) (k : ℕ) (suite : List (List ℕ)) → IsMachine a h → IsWpSuite a h k suite
+    → length suite ≤ suite_size (length h) a k

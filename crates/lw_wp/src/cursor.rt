@@ -3,7 +3,7 @@ ghost use Rattle.std.specs.Prelude.{◌≡◌, ◌<◌, ◌≤◌, ◌+◌, [], 
 ghost use Rattle.lw_suite.specs.Size.{powers};
 ghost use Rattle.lw_suite.specs.Suite.{words_up_to};
 ghost use Rattle.lw_wp.specs.bodies.Cursors.{AreWpParts, IsCursor, IsFrontAt, IsWithin, SplitsFront};
-ghost use Rattle.lw_wp.specs.bodies.Cursors.{blocks, ends_behind, left_from, shorter_fronts, wp_fronts};
+ghost use Rattle.lw_wp.specs.bodies.Cursors.{blocks, end_of, ends_behind, left_from, shorter_fronts, wp_fronts};
 
 use crate::parts::WpParts;
 use lw_suite::{Place, spell};
@@ -116,8 +116,7 @@ pub(crate) fn end_at<'a>(parts: &'a WpParts, cursor: &Cursor) -> &'a [u16]
     requires state { cursor.now.state < length parts.now.machine.rows }
     requires within { cursor.now.place.end ≤
         length (ends_behind parts.now cursor.now.place.front cursor.now.state) }
-    ensures { result.now ≡ slice_index_or
-        ([] ∷ ends_behind parts.now cursor.now.place.front cursor.now.state) cursor.now.place.end [] }
+    ensures { result.now ≡ end_of parts.now cursor.now }
 {
     if cursor.place.end == 0 {
         return &[];
@@ -138,9 +137,7 @@ pub(crate) fn step(parts: &WpParts, cursor: &mut Cursor) -> Result<(), NoMemory>
     requires more { cursor.old.place.front < length (blocks parts.now) }
     ensures cursor { OnOk result (IsCursor parts.now cursor.new) }
     ensures next { OnOk result (left_from parts.now cursor.old.place ≡
-        (cursor.old.front ++ slice_index_or
-        ([] ∷ ends_behind parts.now cursor.old.place.front cursor.old.state) cursor.old.place.end [])
-        ∷ left_from parts.now cursor.new.place) }
+        (cursor.old.front ++ end_of parts.now cursor.old) ∷ left_from parts.now cursor.new.place) }
 {
     let Place { front, end } = cursor.place;
     if end < end_count(parts, cursor) {

@@ -1,8 +1,8 @@
 //! The separating words of a machine, with the classes of states by their outputs on each.
 ghost use Rattle.std.specs.Prelude.{◌≡◌, ◌<◌, [], ◌∷◌, length, MatchOption, IfOk, slice_index_or};
-ghost use Rattle.std.specs.List.{list_any};
-ghost use Rattle.std.specs.List.{All};
+ghost use Rattle.std.specs.List.{All, list_any};
 ghost use Rattle.lw_mealy.specs.Machine.{IsMinimal};
+ghost use Rattle.lw_separate.specs.WordClasses.{AreClassesOn};
 ghost use Rattle.lw_wp.specs.Identification.{separates, first_separating};
 ghost use Rattle.lw_wp.specs.bodies.Chosen.{chosen, IsSeparation};
 
@@ -29,7 +29,17 @@ pub(crate) fn separation_of(alloc: Global, m: &Mealy) -> Result<Separation, NoMe
     Ok(Separation { words, classes })
 }
 
+/// The classes of states by their outputs on the word with this number.
+fn classes_on<'a>(m: &Mealy, by: &'a Separation, number: usize) -> &'a [u16]
+    requires separation { IsSeparation m.now.inputs m.now.rows by.now }
+    requires number { number < length by.now.words }
+    ensures { AreClassesOn m.now.rows (slice_index_or by.now.words number []) result.now }
+{
+    by.classes[number].as_slice()
+}
+
 /// Whether the word with this number separates two states.
+#[tactic(auto, using(crate::proofs::SeparationLemmas::separates_by))]
 fn separates(m: &Mealy, by: &Separation, number: usize, q: u16, p: u16) -> bool
     requires separation { IsSeparation m.now.inputs m.now.rows by.now }
     requires number { number < length by.now.words }
@@ -37,7 +47,7 @@ fn separates(m: &Mealy, by: &Separation, number: usize, q: u16, p: u16) -> bool
     requires second { p < length m.now.rows }
     ensures { result ≡ separates m.now.rows q p (slice_index_or by.now.words number []) }
 {
-    let classes = by.classes[number].as_slice();
+    let classes = classes_on(m, by, number);
     classes[usize::from(q)] != classes[usize::from(p)]
 }
 

@@ -112,7 +112,7 @@ impl WpSuite {
             (size ≡ suite_size (length m.now.rows) m.now.inputs extra) ×
             (greatest_suite < size) }
     {
-        check_size(m, extra)?;
+        check_size(m, extra)?; // before the access words take memory
         WpSuite::with_access(alloc, m, least_access(alloc, m)?, extra)
     }
 

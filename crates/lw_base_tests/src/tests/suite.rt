@@ -1,12 +1,14 @@
 //! Suites worked by hand, their chunks, and drawn machines beside the plain body.
 ghost use Rattle.std.specs.Prelude.{◌≤◌};
 
-mod plain;
+pub(super) mod plain;
 
 use crate::tests::{machine, of_one_letter, of_one_state};
 use lw_mealy::Mealy;
 use lw_separate::canonical;
-use lw_suite::{Suite, SuiteFault, suite_exists, suite_is_of_words, suite_is_unique, suite_size};
+use lw_suite::{
+    Chunks, Suite, SuiteFault, suite_exists, suite_is_of_words, suite_is_unique, suite_size,
+};
 use lw_words::{Word, Words};
 use rand_core::SeedableRng;
 use rand_core::utils::NextWord;
@@ -22,7 +24,12 @@ fn put_all(rt: &impl Abort, all: &mut Words, chunk: &[Word]) {
 }
 
 /// The chunks of a suite, one after the other.
-fn gather(rt: &impl Abort, alloc: Global, suite: &mut Suite, sizes: &mut Vec<usize>) -> Words {
+pub(super) fn gather(
+    rt: &impl Abort,
+    alloc: Global,
+    suite: &mut impl Chunks,
+    sizes: &mut Vec<usize>,
+) -> Words {
     let mut all = Words::new(alloc);
     let mut chunk = Vec::new(alloc);
     for _ in 0..40 {
@@ -107,7 +114,7 @@ fn a_suite_that_is_too_large(rt: HostRuntime) {
 }
 
 /// A drawn machine over two letters.
-fn drawn(rt: &impl Abort, alloc: Global, states: u16, seed: u64) -> Mealy {
+pub(super) fn drawn(rt: &impl Abort, alloc: Global, states: u16, seed: u64) -> Mealy {
     let mut numbers = Lcg128Xsl64::seed_from_u64(seed);
     let mut rows = Vec::new(alloc);
     for _ in 0..states {
@@ -123,7 +130,7 @@ fn drawn(rt: &impl Abort, alloc: Global, states: u16, seed: u64) -> Mealy {
 }
 
 /// Whether two lists have the same words.
-fn same(words: &Words, others: &Words) -> bool {
+pub(super) fn same(words: &Words, others: &Words) -> bool {
     let mut each = words.as_slice().iter().zip(others.as_slice());
     words.len() == others.len() && each.all(|(word, other)| word.as_slice() == other.as_slice())
 }

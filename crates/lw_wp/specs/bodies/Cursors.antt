@@ -46,6 +46,10 @@ own_of p state = slice_index_or (map (λ numbers. numbers.items) p.own.items) st
 abbrev pub ends_behind : WpParts → ℕ → ℕ → List (List ℕ)
 ends_behind p front state = if nat_lt front (length (shorter_fronts p)) then p.ends else chosen p.ends (own_of p state)
 
+-- what stands behind the front at a cursor: nothing, or one of these
+abbrev pub end_of : WpParts → Cursor → List ℕ
+end_of p c = slice_index_or ([] ∷ ends_behind p c.place.front c.state) c.place.end []
+
 -- what a suite is made of, for a machine whose suite isn't too large
 pub record AreWpParts (p : WpParts) : Type 0 where
   pub machine : IsMachine p.machine.inputs p.machine.rows
@@ -63,7 +67,8 @@ pub record AreWpParts (p : WpParts) : Type 0 where
 pub record SplitsFront (p : WpParts) (front access middle : ℕ) : Type 0 where
   pub access_within : access < length p.access
   pub middle_within : middle < powers p.machine.inputs (p.extra + 1)
-  pub joined : slice_index_or (wp_fronts p) front [] ≡ slice_index_or p.access access [] ++ slice_index_or (words_up_to p.machine.inputs (p.extra + 1)) middle []
+  pub joined : slice_index_or (wp_fronts p) front []
+      ≡ slice_index_or p.access access [] ++ slice_index_or (words_up_to p.machine.inputs (p.extra + 1)) middle []
 
 -- a place of a word, or the one behind the last word
 pub record IsWithin (p : WpParts) (at : Place) : Type 0 where

@@ -7,12 +7,17 @@ use lw_words::{Word, Words, join};
 use std::alloc::Global;
 use std::process::Abort;
 
-pub(super) fn put(rt: &impl Abort, words: &mut Words, word: Word) {
+pub(in crate::tests) fn put(rt: &impl Abort, words: &mut Words, word: Word) {
     assert!(rt; words.push(word).is_ok(), "memory");
 }
 
 /// Each word of a list with each letter behind it.
-fn longer(rt: &impl Abort, alloc: Global, words: &Words, inputs: u16) -> Words {
+pub(in crate::tests) fn longer(
+    rt: &impl Abort,
+    alloc: Global,
+    words: &Words,
+    inputs: u16,
+) -> Words {
     let mut all = Words::new(alloc);
     for word in words.as_slice() {
         for letter in 0..inputs {
@@ -32,7 +37,7 @@ fn put_copies(rt: &impl Abort, all: &mut Words, words: &Words) {
 }
 
 /// The words of at most so many letters.
-fn middles(rt: &impl Abort, alloc: Global, inputs: u16, longest: u8) -> Words {
+pub(in crate::tests) fn middles(rt: &impl Abort, alloc: Global, inputs: u16, longest: u8) -> Words {
     let mut all = Words::new(alloc);
     let mut level = Words::new(alloc);
     put(rt, &mut level, Word::new(alloc));
@@ -44,7 +49,7 @@ fn middles(rt: &impl Abort, alloc: Global, inputs: u16, longest: u8) -> Words {
 }
 
 /// A word with the empty word, then with each of a list.
-fn with_ends(rt: &impl Abort, all: &mut Words, front: &Word, ends: &Words) {
+pub(in crate::tests) fn with_ends(rt: &impl Abort, all: &mut Words, front: &Word, ends: &Words) {
     put(rt, all, front.copy().expect(rt, "memory"));
     for end in ends.as_slice() {
         put(rt, all, join(front, end).expect(rt, "memory"));
@@ -60,7 +65,12 @@ fn behind(rt: &impl Abort, all: &mut Words, access: &Word, middles: &Words, ends
 }
 
 /// The whole suite of a machine that is canonical.
-fn suite_of(rt: &impl Abort, alloc: Global, m: &Mealy, middles: &Words) -> Words
+pub(in crate::tests) fn suite_of(
+    rt: &impl Abort,
+    alloc: Global,
+    m: &Mealy,
+    middles: &Words,
+) -> Words
     requires { IsMinimal m.now.inputs m.now.rows }
 {
     let ends = separators(alloc, m).expect(rt, "memory");

@@ -10,6 +10,6 @@ loop-q-preserved c =
     let P : ℕ → List ℕ → Type 0 = λ k numbers. Chooses c.args.by.now.words numbers (identification_of c.args.m.now.rows c.args.by.now.words k) in
     record {
       long = search rules;
-      each = subst (λ (l : List (Vec ℕ Global)). EachOf (λ (v : Vec ℕ Global). v.items) P l) (sym c.in_ok-push.ensures.items)
+      each = subst (λ (l : List (Vec ℕ Global)). EachOf (λ (v : Vec ℕ Global). v.items) P l) (sym {A = List (Vec ℕ Global)} c.in_ok-push.ensures.items)
           (each_push (λ (v : Vec ℕ Global). v.items) P c.loop-q.own.items c.loop-q.q c.in_ok-numbers_of.field-0 h.long h.each c.in_ok-numbers_of.ensures);
     }
