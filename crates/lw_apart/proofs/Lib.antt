@@ -1,0 +1,6 @@
+pub mod ApartLemmas
+pub mod ExistenceVerdict
+pub mod Lists
+pub mod OneVerdict
+pub mod PairLemmas
+pub mod VerdictLemmas
