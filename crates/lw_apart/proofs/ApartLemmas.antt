@@ -10,7 +10,7 @@ use Rattle.lw_separate.proofs.CrowdLemmas.{same_or_not}
 use Rattle.lw_separate.proofs.Decided.{Decided, decides_like, decides_not, decides_both, decides_implies, decides_below}
 use Rattle.lw_certify.specs.Covers.{KnownApart}
 use Rattle.lw_certify.proofs.Decides.{decides_known}
-use Rattle.lw_apart.specs.Pairs.{Pair, IsKnownApart}
+use Rattle.lw_apart.specs.Pairs.{WordPair, IsKnownApart}
 
 -- a suffix on which the outputs of two states differ isn't empty, so a known word with it is a prefix of a clear answer's
 pub told_behind : (h : Rows) (ks : List Answer) (p q : ℕ) (u w : List ℕ) → IsKnown ks (u ++ w) → out h p w ≢ out h q w
@@ -64,9 +64,9 @@ module _ (h : Rows) (ks : List Answer) (u v : List ℕ) where
   pub decides_apart : Decided (KnownApart h ks u v)
   decides_apart = decides_like of_within within_of decides_within
 
-pub decides_known_apart : (h : Rows) (ks : List Answer) (pair : Pair) → Decided (IsKnownApart h ks pair)
+pub decides_known_apart : (h : Rows) (ks : List Answer) (pair : WordPair) → Decided (IsKnownApart h ks pair)
 decides_known_apart h ks pair = decides_implies (decides_not (cases_eq (after h 0 pair.0) (after h 0 pair.1))) (decides_apart h ks pair.0 pair.1)
 
 -- where it isn't so, the states differ, and the words aren't known apart
-pub open_differs : (h : Rows) (ks : List Answer) (pair : Pair) → ¬ IsKnownApart h ks pair → (after h 0 pair.0 ≢ after h 0 pair.1) × ¬ KnownApart h ks pair.0 pair.1
+pub open_differs : (h : Rows) (ks : List Answer) (pair : WordPair) → ¬ IsKnownApart h ks pair → (after h 0 pair.0 ≢ after h 0 pair.1) × ¬ KnownApart h ks pair.0 pair.1
 open_differs h ks pair not_so = (λ same. not_so (λ other. absurd (other same)), λ known. not_so (λ other. known))

@@ -1,6 +1,11 @@
 pub mod ApartLemmas
+pub mod BehindLemmas
 pub mod ExistenceVerdict
+pub mod FirstLemmas
 pub mod Lists
+pub mod MissingLemmas
 pub mod OneVerdict
 pub mod PairLemmas
+pub mod SpellingLemmas
+pub mod UnknownLemmas
 pub mod VerdictLemmas

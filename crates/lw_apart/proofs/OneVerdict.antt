@@ -12,13 +12,13 @@ use Rattle.lw_cache.specs.Known.{IsKnown}
 use Rattle.lw_certify.specs.declared.verdict.Verdict.TheVariants.{Unreached, Alike, Differs, TooLarge, Missing, Sure}
 use Rattle.lw_certify.specs.Verdict.{IsFirstUnreached, AllReached, DiffersAt}
 use Rattle.lw_certify.proofs.OneVerdict as w
-use Rattle.lw_apart.specs.Pairs.{Pair, fronts, pairs, IsKnownApart}
-use Rattle.lw_apart.specs.Verdict.{IsFirstOpen, IsWanted, IsLeastUnknown, IsWantedFirst, IsMissing, OneVerdict}
+use Rattle.lw_apart.specs.Pairs.{WordPair, fronts, pairs, IsKnownApart}
+use Rattle.lw_apart.specs.Verdict.{IsFirstOpen, IsWanted, IsLeastUnknown, IsWantedFirst, IsMissing, OneVerdictByApartness}
 use Rattle.lw_apart.proofs.Lists.{first_one, first_not_all}
 use Rattle.lw_apart.proofs.VerdictLemmas.{missing_uncovered}
 
 module _ (a : ℕ) (h : Rows) (ks : List Answer) where
-  one_wanted : (pair : Pair) (u v : List ℕ) → IsWanted a h ks pair u → IsWanted a h ks pair v → u ≡ v
+  one_wanted : (pair : WordPair) (u v : List ℕ) → IsWanted a h ks pair u → IsWanted a h ks pair v → u ≡ v
   one_wanted pair u v f g =
       let e : f.suffix ≡ g.suffix = one_separating_word a h (after h 0 pair.0) (after h 0 pair.1) f.suffix g.suffix f.least g.least in
       ⊎_elim
@@ -32,20 +32,20 @@ module _ (a : ℕ) (h : Rows) (ks : List Answer) where
       g.first)
       f.first
 
-  one_open : (list : List Pair) (e f : Pair) → IsFirstOpen h ks list e → IsFirstOpen h ks list f → e ≡ f
+  one_open : (list : List WordPair) (e f : WordPair) → IsFirstOpen h ks list e → IsFirstOpen h ks list f → e ≡ f
   one_open list e f p q =
       let n : p.number ≡ q.number = first_one (IsKnownApart h ks) list ([], []) p.number q.number p.first q.first in
       p.here ∙ (ap (λ (i : ℕ). get_or list i ([], [])) n ∙ sym q.here)
 
-  one_wanted_first : (words : List (List ℕ)) (list : List Pair) (u v : List ℕ) → IsWantedFirst a h ks words list u → IsWantedFirst a h ks words list v → u ≡ v
+  one_wanted_first : (words : List (List ℕ)) (list : List WordPair) (u v : List ℕ) → IsWantedFirst a h ks words list u → IsWantedFirst a h ks words list v → u ≡ v
   one_wanted_first words list u v f g =
       let e : f.pair ≡ g.pair = one_open list f.pair g.pair f.open_pair g.open_pair in
-      one_wanted g.pair u v (subst (λ (pair : Pair). IsWanted a h ks pair u) e f.wanted) g.wanted
+      one_wanted g.pair u v (subst (λ (pair : WordPair). IsWanted a h ks pair u) e f.wanted) g.wanted
 
   one_least_unknown : (words : List (List ℕ)) (u v : List ℕ) → IsLeastUnknown ks words u → IsLeastUnknown ks words v → u ≡ v
   one_least_unknown words u v f g = neither_before u v (g.least u f.does) (f.least v g.does)
 
-  known_not_unknown : (words : List (List ℕ)) (list : List Pair) (u v : List ℕ) → IsWantedFirst a h ks words list u → IsLeastUnknown ks words v → ⊥
+  known_not_unknown : (words : List (List ℕ)) (list : List WordPair) (u v : List ℕ) → IsWantedFirst a h ks words list u → IsLeastUnknown ks words v → ⊥
   known_not_unknown words list u v f g = g.does.1 (All-contains (IsKnown ks) words v f.known g.does.0)
 
   module _ (k : ℕ) where
@@ -55,7 +55,7 @@ module _ (a : ℕ) (h : Rows) (ks : List Answer) where
     one_missing_of : (access : List (List ℕ)) (u v : List ℕ) → MissingOf access u → MissingOf access v → u ≡ v
     one_missing_of access u v f g =
         let words : List (List ℕ) = fronts a access (k + 1) in
-        let list : List Pair = pairs a access (k + 1) in
+        let list : List WordPair = pairs a access (k + 1) in
         ⊎_elim
         (λ (r : IsLeastUnknown ks words u). ⊎_elim
         (λ (s : IsLeastUnknown ks words v). one_least_unknown words u v r s)
@@ -83,7 +83,7 @@ module _ (a : ℕ) (h : Rows) (ks : List Answer) where
 large_ends : (n size : ℕ) → greatest_suite < n → n ≡ size → size ≤ greatest_suite → ⊥
 large_ends n size big is small = omega (arith, big, is, small)
 
-pub one_verdict : OneVerdict
+pub one_verdict : OneVerdictByApartness
 one_verdict a h ks k (Unreached p) (Unreached q) f g = w.one_verdict by.W a h ks k (Unreached p) (Unreached q) f g
 one_verdict a h ks k (Unreached p) (Alike r s) f g = w.one_verdict by.W a h ks k (Unreached p) (Alike r s) f g
 one_verdict a h ks k (Unreached p) (Differs j q) f g = w.one_verdict by.W a h ks k (Unreached p) (Differs j q) f g

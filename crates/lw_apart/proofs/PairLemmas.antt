@@ -1,13 +1,17 @@
 -- What holds of all words that are to be known, and of all pairs that are to be known apart.
 use Rattle.std.proofs.Common.{◌≡◌, ℕ, zero, suc, ◌+◌, ◌-◌, ◌<◌, ◌≤◌, List, [], ◌∷◌, ◌++◌, length, map, get_or, take, subst, arith}
 use Rattle.std.specs.List.{All, flat_map, range_with_len}
-use Rattle.std.proofs.lemmas.List.Elements.{All-nil, All-cons, All-append, All-map, All-get_or, All-from_get_or, recursion_from_All}
+use Rattle.std.proofs.lemmas.List.Elements.{All-nil, All-cons, All-append, All-take, All-map, All-get_or, All-from_get_or, recursion_from_All}
 use Rattle.lw_words.specs.Word.{IsWord}
 use Rattle.lw_suite.specs.Suite.{words_of_length, words_up_to}
 use Rattle.lw_suite.proofs.SizeLemmas.{length-words_of}
 use Rattle.lw_certify.proofs.SuiteLemmas.{number_in, number_up_to}
-use Rattle.lw_apart.specs.Pairs.{Pair, fronts, with_access, along_from, along, pairs}
+use Rattle.lw_apart.specs.Pairs.{WordPair, fronts, with_access, along_from, along, pairs}
 use Rattle.lw_apart.proofs.Lists.{all_left, all_right, map_all, all_flat, flat_all, all_range, range_all}
+
+-- two words over the letters
+abbrev pub AreWords : ℕ → WordPair → Type 0
+AreWords a pair = IsWord a pair.0 × IsWord a pair.1
 
 module _ (a : ℕ) where
   pub all_words_of : (P : List ℕ → Type 0) (n : ℕ) → ((w : List ℕ) → IsWord a w → length w ≡ n → P w) → All P (words_of_length a n)
@@ -52,7 +56,10 @@ module _ (a : ℕ) where
         All-get_or (λ u. All P (map (λ v. u ++ v) (words_up_to a n))) access q [] lq (flat_all P (λ u. map (λ v. u ++ v) (words_up_to a n)) access all) in
         words_up_to_all (λ v. P (at q ++ v)) n (map_all P (λ v. at q ++ v) (words_up_to a n) here) w is le
 
-    module _ (P : Pair → Type 0) (n : ℕ) where
+    pub fronts_words : (n : ℕ) → All (IsWord a) access → All (IsWord a) (fronts a access n)
+    fronts_words n words = all_fronts (IsWord a) n (λ q w lq is le. All-append (λ x. x < a) (at q) w (All-get_or (IsWord a) access q [] lq words) is)
+
+    module _ (P : WordPair → Type 0) (n : ℕ) where
       all_along : (u w : List ℕ) → ((i j : ℕ) → 0 < i → i < j → j ≤ n → P (u ++ take i w, u ++ take j w)) → All P (along n u w)
       all_along u w each =
           all_flat P (along_from n u w) (range_with_len 1 n)
@@ -95,3 +102,10 @@ module _ (a : ℕ) where
           let here : All P (flat_map (along n (at q)) (words_of_length a n)) =
           All-get_or (λ u. All P (flat_map (along n u) (words_of_length a n))) access q [] lq (flat_all P (λ u. flat_map (along n u) (words_of_length a n)) access (ways_part all)) in
           along_all (at q) w (words_of_all (λ v. All P (along n (at q) v)) n (flat_all P (along n (at q)) (words_of_length a n) here) w is long) i j some lt le
+
+    pub pairs_words : (n : ℕ) → All (IsWord a) access → All (AreWords a) (pairs a access n)
+    pairs_words n words =
+        let word : (q : ℕ) (w : List ℕ) → q < length access → IsWord a w → IsWord a (at q ++ w) = λ q w lq is. All-append (λ x. x < a) (at q) w (All-get_or (IsWord a) access q [] lq words) is in
+        all_pairs (AreWords a) n
+        (λ p q w lp lq is le. (All-get_or (IsWord a) access p [] lp words, word q w lq is))
+        (λ q w i j lq is long some lt le. (word q (take i w) lq (All-take (λ x. x < a) i w is), word q (take j w) lq (All-take (λ x. x < a) j w is)))

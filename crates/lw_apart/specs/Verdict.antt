@@ -14,16 +14,16 @@ use Rattle.lw_certify.specs.Sure.{Sure}
 use Rattle.lw_certify.specs.Verdict.{IsFirstUnreached, AllReached, DiffersAt, IsVerdict}
 use Rattle.lw_certify.specs.declared.verdict.Verdict.{Verdict}
 use Rattle.lw_certify.specs.declared.verdict.Verdict.TheVariants as verdict
-use Rattle.lw_apart.specs.Pairs.{Pair, fronts, pairs, IsKnownApart}
+use Rattle.lw_apart.specs.Pairs.{WordPair, fronts, pairs, IsKnownApart}
 
 -- the pair is the first of the list whose words lead to different states and aren't known apart
-pub record IsFirstOpen (h : Rows) (ks : List Answer) (list : List Pair) (pair : Pair) : Type 0 where
+pub record IsFirstOpen (h : Rows) (ks : List Answer) (list : List WordPair) (pair : WordPair) : Type 0 where
   pub number : ℕ
   pub first : FailsFirst (IsKnownApart h ks) list number
   pub here : pair ≡ slice_index_or list number ([], [])
 
 -- the word is the one of a pair, with the least word behind it that separates the states of both; where that is known, the other
-pub record IsWanted (a : ℕ) (h : Rows) (ks : List Answer) (pair : Pair) (word : List ℕ) : Type 0 where
+pub record IsWanted (a : ℕ) (h : Rows) (ks : List Answer) (pair : WordPair) (word : List ℕ) : Type 0 where
   pub suffix : List ℕ
   pub least : IsLeastSeparating a h (after h 0 pair.0) (after h 0 pair.1) suffix
   pub first : ((word ≡ pair.0 ++ suffix) × ¬ IsKnown ks (pair.0 ++ suffix)) ⊎ ((word ≡ pair.1 ++ suffix) × IsKnown ks (pair.0 ++ suffix))
@@ -33,9 +33,9 @@ abbrev pub IsLeastUnknown : List Answer → List (List ℕ) → List ℕ → Typ
 IsLeastUnknown ks words = LeastWord (λ w. Contains words w × ¬ IsKnown ks w)
 
 -- all words that are to be known are known, and the word is wanted by the first pair that is open
-pub record IsWantedFirst (a : ℕ) (h : Rows) (ks : List Answer) (words : List (List ℕ)) (list : List Pair) (word : List ℕ) : Type 0 where
+pub record IsWantedFirst (a : ℕ) (h : Rows) (ks : List Answer) (words : List (List ℕ)) (list : List WordPair) (word : List ℕ) : Type 0 where
   pub known : All (IsKnown ks) words
-  pub pair : Pair
+  pub pair : WordPair
   pub open_pair : IsFirstOpen h ks list pair
   pub wanted : IsWanted a h ks pair word
 
@@ -56,8 +56,8 @@ IsVerdictByApartness a h ks k (verdict.Missing word) =
 IsVerdictByApartness a h ks k verdict.Sure = (suite_size (length h) a k ≤ greatest_suite) × Covers a h ks k
 
 -- answers of which the verdict is that they suffice fix the machine, however they came
-abbrev pub SureIsSure : Type 0
-SureIsSure = (a : ℕ) (h : Rows) (ks : List Answer) (k : ℕ) → IsMachine a h → IsVerdictByApartness a h ks k verdict.Sure → Sure a h ks k
+abbrev pub ApartnessIsSure : Type 0
+ApartnessIsSure = (a : ℕ) (h : Rows) (ks : List Answer) (k : ℕ) → IsMachine a h → IsVerdictByApartness a h ks k verdict.Sure → Sure a h ks k
 
 -- what suffices by the W-method suffices by apartness
 abbrev pub SureByWIsSure : Type 0
@@ -70,11 +70,11 @@ MissingIsUnknown = (a : ℕ) (h : Rows) (ks : List Answer) (k : ℕ) (word : Lis
     → IsVerdictByApartness a h ks k (verdict.Missing word) → ¬ IsKnown ks word
 
 -- a machine and answers have one verdict at most
-abbrev pub OneVerdict : Type 0
-OneVerdict = (a : ℕ) (h : Rows) (ks : List Answer) (k : ℕ) (v w : Verdict)
+abbrev pub OneVerdictByApartness : Type 0
+OneVerdictByApartness = (a : ℕ) (h : Rows) (ks : List Answer) (k : ℕ) (v w : Verdict)
     → IsVerdictByApartness a h ks k v → IsVerdictByApartness a h ks k w → v ≡ w
 
 -- a machine and answers with an output for each letter have a verdict
-abbrev pub SomeVerdict : Type 0
-SomeVerdict = (a : ℕ) (h : Rows) (ks : List Answer) (k : ℕ) → IsMachine a h → All IsWhole ks
+abbrev pub SomeVerdictByApartness : Type 0
+SomeVerdictByApartness = (a : ℕ) (h : Rows) (ks : List Answer) (k : ℕ) → IsMachine a h → All IsWhole ks
     → (v : Verdict) × IsVerdictByApartness a h ks k v

@@ -1,11 +1,11 @@
 //! Laws about the definitions alone, with no code.
-ghost use Rattle.lw_apart.specs.Verdict.{MissingIsUnknown, OneVerdict, SomeVerdict, SureByWIsSure, SureIsSure};
+ghost use Rattle.lw_apart.specs.Verdict.{ApartnessIsSure, MissingIsUnknown, OneVerdictByApartness, SomeVerdictByApartness, SureByWIsSure};
 
 use lw_separate::least_access_exists;
 
 /// The completeness of the certificate (Dorofeeva, El-Fakih and Koufareva 2005).
 pub fn sure_is_sure()
-    ensures { SureIsSure }
+    ensures { ApartnessIsSure }
 {}
 
 /// What suffices by the W-method suffices by apartness.
@@ -20,12 +20,12 @@ pub fn missing_is_unknown()
 
 /// Two verdicts on one model and the same answers are one.
 pub fn verdict_is_unique()
-    ensures { OneVerdict }
+    ensures { OneVerdictByApartness }
 {}
 
 /// A machine and answers with an output for each letter have a verdict, whatever their numbers.
 pub fn verdict_exists()
-    ensures { SomeVerdict }
+    ensures { SomeVerdictByApartness }
 {
     least_access_exists();
 }

@@ -13,5 +13,6 @@ mod suite;
 pub use chunks::Chunks;
 pub use laws::{suite_exists, suite_is_counted, suite_is_of_words, suite_is_unique};
 pub use method::Method;
-pub use size::{GREATEST_SUITE, suite_size};
+pub use middle::spell;
+pub use size::{GREATEST_SUITE, middle_count, suite_size};
 pub use suite::{CHUNK, Suite, SuiteFault};

@@ -42,7 +42,7 @@ fn rank_of(inputs: u16, longest: u8, number: u64) -> Rank
 
 /// Appends the word with this number among those of at most `longest` letters over so many inputs, in shortlex order.
 #[tactic(auto)]
-pub(crate) fn spell(word: &mut Word, inputs: u16, longest: u8, number: u64) -> Result<(), NoMemory>
+pub fn spell(word: &mut Word, inputs: u16, longest: u8, number: u64) -> Result<(), NoMemory>
     requires letters { inputs ≤ 64 }
     requires few { longest ≤ 5 }
     requires within { number < powers inputs longest }

@@ -7,7 +7,7 @@ pub const GREATEST_SUITE: u64 = 8_388_608;
 
 /// The number of words of at most `longest` letters over so many inputs.
 #[tactic(auto, using(crate::proofs::SizeLemmas::size_steps))]
-pub(crate) fn middle_count(inputs: u16, longest: u8) -> u64
+pub fn middle_count(inputs: u16, longest: u8) -> u64
     requires letters { inputs ≤ 64 }
     requires few { longest ≤ 5 }
     ensures { result ≡ powers inputs longest }
