@@ -16,7 +16,7 @@ use Rattle.lw_apart.specs.bodies.Behind.{AreGiven, AreBehind, PartsBehind}
 use Rattle.lw_apart.proofs.ApartLemmas.{told_behind}
 
 -- the front of a known word is known
-known_front : (ks : List Answer) (u v : List ℕ) → IsKnown ks (u ++ v) → IsKnown ks u
+pub known_front : (ks : List Answer) (u v : List ℕ) → IsKnown ks (u ++ v) → IsKnown ks u
 known_front ks u v known =
     ⊎_elim
     (λ (e : u ++ v ≡ []). inl (nil_from_length u (omega (arith, ap (λ (l : List ℕ). length l) e, length-append u v))))

@@ -1,6 +1,8 @@
 //! Whether two words are known apart.
-ghost use Rattle.std.specs.Prelude.{◌≡◌, ◌↔◌, ◌<◌, true, false, length, IfOk};
+ghost use Rattle.std.specs.Prelude.{◌≡◌, ◌≢◌, ◌↔◌, ◌<◌, true, false, length, IfOk};
 ghost use Rattle.lw_words.specs.Word.{answer_of, answers_of, IsWord, IsPrefix};
+ghost use Rattle.lw_mealy.specs.Machine.{after, IsMinimal};
+ghost use Rattle.lw_separate.specs.Canonical.{IsLeastSeparating};
 ghost use Rattle.lw_certify.specs.Covers.{KnownApart};
 ghost use Rattle.lw_apart.specs.Pairs.{IsKnownApart};
 ghost use Rattle.lw_apart.specs.bodies.Behind.{AreGiven, AreBehind, PartsBehind};
@@ -8,6 +10,7 @@ ghost use Rattle.lw_apart.specs.bodies.Behind.{AreGiven, AreBehind, PartsBehind}
 use crate::unknown::is_known;
 use lw_cache::Cache;
 use lw_mealy::Mealy;
+use lw_separate::separating;
 use lw_words::{Kept, KeptAnswer, NoMemory, Word};
 use std::alloc::Global;
 
@@ -116,4 +119,27 @@ pub(crate) fn is_open(
         return Ok(false);
     }
     Ok(!known_apart(h, cache, behind, one, other)?)
+}
+
+/// The least separating word of the states that two words lead to, which are different ones.
+pub(crate) fn separating_suffix(
+    alloc: Global,
+    h: &Mealy,
+    one: &Word,
+    other: &Word,
+) -> Result<Word, NoMemory>
+    requires minimal { IsMinimal h.now.inputs h.now.rows }
+    requires one { IsWord h.now.inputs one.now }
+    requires other { IsWord h.now.inputs other.now }
+    requires differ { after h.now.rows 0 one.now ≢ after h.now.rows 0 other.now }
+    ensures { IfOk result (IsLeastSeparating h.now.inputs h.now.rows
+        (after h.now.rows 0 one.now) (after h.now.rows 0 other.now)) }
+{
+    let p = h.after(h.initial(), one);
+    let q = h.after(h.initial(), other);
+    let found = separating(alloc, h, p, q)?;
+    let Some(suffix) = found else {
+        unreachable!();
+    };
+    Ok(suffix)
 }

@@ -10,13 +10,13 @@ ghost use Rattle.lw_certify.specs.declared.verdict.Verdict.{Verdict as Came};
 ghost use Rattle.lw_apart.specs.Verdict.{IsWanted, IsMissing, IsVerdictByApartness};
 ghost use Rattle.lw_apart.specs.bodies.Behind.{AreGiven};
 
+use crate::apart::separating_suffix;
 use crate::pairs::first_open;
 use crate::spelling::fronts_of;
 use crate::unknown::{is_known, least_unknown};
 use lw_cache::Cache;
 use lw_certify::{Verdict, certify};
 use lw_mealy::Mealy;
-use lw_separate::separating;
 use lw_suite::Method;
 use lw_words::{NoMemory, Word, join};
 use std::alloc::Global;
@@ -37,12 +37,7 @@ fn wanted(
     ensures { IfOk result (IsWanted h.now.inputs h.now.rows (answers_of cache.now.kept)
         (one.now, other.now)) }
 {
-    let p = h.after(h.initial(), one);
-    let q = h.after(h.initial(), other);
-    let found = separating(alloc, h, p, q)?;
-    let Some(suffix) = found else {
-        unreachable!();
-    };
+    let suffix = separating_suffix(alloc, h, one, other)?;
     let word = join(one, &suffix)?;
     if is_known(cache, &word) {
         return join(other, &suffix);

@@ -6,10 +6,14 @@ mod certificate;
 mod fronts;
 mod laws;
 mod pairs;
+mod plan;
+mod planning;
 mod spelling;
+mod suite;
 mod unknown;
 
 pub use certificate::certify_by_apartness;
 pub use laws::{
     missing_is_unknown, sure_by_w_is_sure, sure_is_sure, verdict_exists, verdict_is_unique,
 };
+pub use suite::HSuite;

@@ -62,7 +62,7 @@ fn first_of_fronts(
 }
 
 /// A word with the first letters of another one behind it.
-fn with_first(word: &Word, letters: &Word, count: usize) -> Result<Word, NoMemory>
+pub(crate) fn with_first(word: &Word, letters: &Word, count: usize) -> Result<Word, NoMemory>
     requires { count ≤ length letters.now }
     ensures { IfOk result (λ both. both ≡ word.now ++ take count letters.now) }
 {

@@ -1,0 +1,123 @@
+-- What completes the answers that are known.
+use Rattle.std.proofs.Common.{◌≡◌, ℕ, ◌+◌, ◌-◌, ◌<◌, ◌≤◌, ⊎_elim, inl, inr, List, [], ◌++◌, length, map, take, drop, min, get_or, refl, sym, ap, ap₂, ◌∙◌, subst, arith, ◌∷◌, slice_get, Some}
+use Rattle.std.specs.List.{All}
+use Rattle.std.proofs.lemmas.Bool.{cases_lt}
+use Rattle.std.proofs.lemmas.List.{length-append, length-map, length-drop, drop-map, get_or_append_left, get_or-map, get_or-drop, take_more}
+use Rattle.std.proofs.lemmas.List.Elements.{All-get_or}
+use Rattle.std.proofs.lemmas.Option.{get_or_from_slice_get}
+use Rattle.lw_words.specs.Word.{Answer, answer_of, answers_of, answer_at, IsPrefix}
+use Rattle.lw_words.specs.declared.kept.KeptAnswer.{KeptAnswer}
+use Rattle.lw_mealy.specs.Machine.{Rows, Gives, MealyMachine}
+use Rattle.lw_cache.specs.Caching.{Caching}
+use Rattle.lw_cache.specs.Clash.{IsClear}
+use Rattle.lw_cache.specs.Known.{IsKnown}
+use Rattle.lw_cache.proofs.ClashLemmas.{all_are_clear, given_never_clash}
+use Rattle.lw_certify.specs.Covers.{ApartWhereDifferent, Covers}
+use Rattle.lw_suite.proofs.PlaceLemmas.{chunk_is, left_is}
+use Rattle.lw_apart.specs.Completing.{Completes}
+use Rattle.lw_apart.specs.bodies.Planning.{HasGrown, words_from}
+use Rattle.lw_apart.proofs.BehindLemmas.{known_front}
+use Rattle.lw_apart.proofs.PlanLemmas.{grown_then, answers-append}
+
+-- where all known words stay known, what covers the machine goes on to cover it
+pub covers_stays : (a : ℕ) (h : Rows) (ks now : List Answer) (k : ℕ) → ((w : List ℕ) → IsKnown ks w → IsKnown now w) → Gives h now → Covers a h ks k → Covers a h now k
+covers_stays a h ks now k stays gives c =
+    let apart : (u v : List ℕ) → ApartWhereDifferent h ks u v → ApartWhereDifferent h now u v = λ u v met differ.
+    let r = met differ in
+    record { suffix = r.suffix; one = stays (u ++ r.suffix) r.one; other = stays (v ++ r.suffix) r.other; differ = r.differ } in
+    record {
+      minimal = c.minimal;
+      gives = gives;
+      access = c.access;
+      least = c.least;
+      known = λ q w lq is le. stays (get_or c.access q [] ++ w) (c.known q w lq is le);
+      apart = λ p q w lp lq is le. apart (get_or c.access p []) (get_or c.access q [] ++ w) (c.apart p q w lp lq is le);
+      along = λ q w i j lq is long some lt le. apart (get_or c.access q [] ++ take i w) (get_or c.access q [] ++ take j w) (c.along q w i j lq is long some lt le);
+    }
+
+module _ (h : Rows) (ks : List Answer) (kept : List KeptAnswer) (planned : List Answer) (is : answers_of kept ≡ ks ++ planned) (more : List Answer) (gives : Gives h (ks ++ more)) (known : All (IsKnown (ks ++ more)) (words_from (length ks) kept)) where
+  abbrev blank : Answer
+  blank = record { word = []; outs = [] }
+
+  -- an answer that was there is one of the answers that come later
+  front_at : (i : ℕ) → i < length ks → (answer_at (answers_of kept) i).word ≡ (answer_at (ks ++ more) i).word
+  front_at i lt =
+      ap (λ (list : List Answer). (answer_at list i).word) is
+      ∙ ap (λ (a : Answer). a.word) (get_or_append_left ks planned blank i lt ∙ sym (get_or_append_left ks more blank i lt))
+
+  -- and the word of one that was planned is one of the suite
+  planned_at : (i : ℕ) → length ks ≤ i → i < length kept → IsKnown (ks ++ more) (answer_at (answers_of kept) i).word
+  planned_at i ge lt =
+      let j : ℕ = i - length ks in
+      let long : length (words_from (length ks) kept) ≡ length kept - length ks = length-map (drop (length ks) kept) (λ k. k.word) ∙ length-drop (length ks) kept in
+      let here : IsKnown (ks ++ more) (get_or (words_from (length ks) kept) j []) = All-get_or (IsKnown (ks ++ more)) (words_from (length ks) kept) j [] (omega (arith, long, ge, lt)) known in
+      let some : KeptAnswer = record { instance = 0; run = 0; word = []; outs = [] } in
+      let at : length ks + j ≡ i = omega (arith, ge) in
+      let e : get_or (words_from (length ks) kept) j [] ≡ (answer_at (answers_of kept) i).word =
+      get_or-map (λ (k : KeptAnswer). k.word) (drop (length ks) kept) j some [] (omega (arith, length-drop (length ks) kept, ge, lt))
+      ∙ (ap (λ (k : KeptAnswer). k.word) (get_or-drop (length ks) kept j some ∙ ap (λ (n : ℕ). get_or kept n some) at)
+      ∙ sym (ap (λ (a : Answer). a.word) (get_or-map answer_of kept i some blank lt))) in
+      subst (IsKnown (ks ++ more)) e here
+
+  stays : (w : List ℕ) → IsKnown (answers_of kept) w → IsKnown (ks ++ more) w
+  stays w k =
+      ⊎_elim
+      (λ (e : w ≡ []). inl e)
+      (λ (r : (i : ℕ) × IsClear (answers_of kept) i × IsPrefix w (answer_at (answers_of kept) i).word).
+      ⊎_elim
+      (λ (lt : r.0 < length ks).
+      let clear : IsClear (ks ++ more) r.0 = all_are_clear (ks ++ more) (given_never_clash h (ks ++ more) gives) r.0 (omega (arith, lt, length-append ks more)) in
+      inr (r.0, clear, (r.2.0, sym (front_at r.0 lt) ∙ r.2.1)))
+      (λ (ge : length ks ≤ r.0).
+      let lt : r.0 < length kept = omega (arith, r.1.0, length-map kept answer_of) in
+      known_front (ks ++ more) w r.2.0 (subst (IsKnown (ks ++ more)) r.2.1 (planned_at r.0 ge lt)))
+      (cases_lt r.0 (length ks)))
+      k
+
+  pub completed : (a k : ℕ) → Covers a h (answers_of kept) k → Covers a h (ks ++ more) k
+  completed a k c = covers_stays a h (answers_of kept) (ks ++ more) k stays gives c
+
+pub completes : (a : ℕ) (h : Rows) (ks : List Answer) (k place : ℕ) (kept : List KeptAnswer) → place ≡ length ks → (more : List Answer) × (answers_of kept ≡ ks ++ more) → Covers a h (answers_of kept) k → Completes a h ks k (words_from place kept)
+completes a h ks k place kept at planned c more gives known =
+    completed h ks kept planned.0 planned.1 more gives (subst (λ (n : ℕ). All (IsKnown (ks ++ more)) (words_from n kept)) at known) a k c
+
+-- what a plan that was grown in two steps has behind the answers that it began with
+pub grown_behind : (m : MealyMachine) (ks : List Answer) (was mid now : Caching) → answers_of was.kept ≡ ks → HasGrown m was mid → HasGrown m mid now → (more : List Answer) × (answers_of now.kept ≡ ks ++ more)
+grown_behind m ks was mid now same f g =
+    let h = grown_then m was mid now f g in
+    (answers_of h.more, ap (λ (kept : List KeptAnswer). answers_of kept) h.kept ∙ (answers-append was.kept h.more ∙ ap (λ (list : List Answer). list ++ answers_of h.more) same))
+
+-- a chunk with the word of one answer more
+pub word_more : (kept : List KeptAnswer) (place number : ℕ) (chunk more : List (List ℕ)) (k : KeptAnswer) (word : List ℕ) → place ≤ number → number < length kept → chunk ≡ take (number - place) (words_from place kept)
+    → slice_get kept number ≡ Some k → word ≡ k.word → more ≡ chunk ++ word ∷ [] → more ≡ take (number + 1 - place) (words_from place kept)
+word_more kept place number chunk more k word ge lt was here is push =
+    let i : ℕ = number - place in
+    let up : i + 1 ≡ number + 1 - place = omega (arith, ge) in
+    let at' : place + i ≡ number = omega (arith, ge) in
+    let lt' : i < length (drop place kept) = omega (arith, length-drop place kept, ge, lt) in
+    let at : get_or (words_from place kept) i [] ≡ word =
+    get_or-map (λ (j : KeptAnswer). j.word) (drop place kept) i k [] lt'
+    ∙ (ap (λ (j : KeptAnswer). j.word) (get_or-drop place kept i k ∙ (ap (λ (n : ℕ). get_or kept n k) at' ∙ get_or_from_slice_get kept number k k here)) ∙ sym is) in
+    push
+    ∙ (ap₂ (λ (c : List (List ℕ)) (v : List ℕ). c ++ v ∷ []) was (sym at)
+    ∙ (sym (take_more (words_from place kept) i [] (omega (arith, lt', length-map (drop place kept) (λ j. j.word)))) ∙ ap (λ (n : ℕ). take n (words_from place kept)) up))
+
+-- as many answers as kept ones
+pub as_many : (read kept : List KeptAnswer) (n : ℕ) → n ≡ length read → read ≡ kept → n ≡ length (answers_of kept)
+as_many read kept n long same = omega (arith, long, ap (λ (list : List KeptAnswer). length list) same, length-map kept answer_of)
+
+-- the next words of a suite, and those that are left behind them
+module _ (kept read : List KeptAnswer) (place count long most : ℕ) (same : read ≡ kept) (all : long ≡ length read) (few : count ≡ min (long - place) most) where
+  left : long - place ≡ length kept - place
+  left = omega (arith, all, ap (λ (list : List KeptAnswer). length list) same)
+
+  pub next_words : (from : List KeptAnswer) (chunk : List (List ℕ)) → from ≡ kept → chunk ≡ take (place + count - place) (words_from place from) → chunk ≡ take most (words_from place kept)
+  next_words from chunk is put =
+      let steps : place + count - place ≡ count = omega arith in
+      chunk_is (words_from place kept) chunk count (long - place) most few (left ∙ (sym (length-drop place kept) ∙ sym (length-map (drop place kept) (λ k. k.word))))
+      (put ∙ ap₂ (λ (n : ℕ) (list : List KeptAnswer). take n (words_from place list)) steps is)
+
+  pub words_left : words_from (place + count) kept ≡ drop most (words_from place kept)
+  words_left =
+      ap (λ (list : List KeptAnswer). map (λ k. k.word) list) (left_is kept place count (long - place) most (place + count) few left refl)
+      ∙ sym (drop-map (λ (k : KeptAnswer). k.word) most (drop place kept))

@@ -1,0 +1,153 @@
+//! The suite of the H-method, in chunks.
+ghost use Rattle.std.specs.Prelude.{◌≡◌, ℕ, ◌≢◌, ◌↔◌, ◌<◌, ◌≤◌, ◌-◌, List, [], ◌++◌, length, take, drop, true, Err, IfOk, IfErr, OnOk, OnErr};
+ghost use Rattle.std.specs.List.{All};
+ghost use Rattle.lw_words.specs.Word.{Answer, answers_of, IsWord};
+ghost use Rattle.lw_mealy.specs.Machine.{Gives, IsMinimal};
+ghost use Rattle.lw_suite.specs.Size.{suite_size, greatest_suite};
+ghost use Rattle.lw_suite.specs.declared.suite.SuiteFault.{SuiteFault as Fault};
+ghost use Rattle.lw_certify.specs.Covers.{Covers};
+ghost use Rattle.lw_apart.specs.Completing.{Completes};
+ghost use Rattle.lw_apart.specs.bodies.Behind.{AreGiven};
+ghost use Rattle.lw_apart.specs.bodies.Planning.{words_from};
+
+use crate::plan::plan_of;
+use crate::planning::{plan_fronts, plan_pairs};
+use crate::spelling::fronts_of;
+use lw_cache::Cache;
+use lw_mealy::Mealy;
+use lw_suite::{CHUNK, Chunks, GREATEST_SUITE, SuiteFault, suite_size};
+use lw_words::{Kept, NoMemory, Word};
+use std::alloc::Global;
+use std::marker::Model;
+
+/// Refuses a suite that is too large.
+fn check_size(h: &Mealy, extra: u8) -> Result<(), SuiteFault>
+    requires { extra ≤ 4 }
+    ensures ok { OnOk result (suite_size (length h.now.rows) h.now.inputs extra ≤ greatest_suite) }
+    ensures err { IfErr result (λ fault.
+        (greatest_suite < suite_size (length h.now.rows) h.now.inputs extra) ×
+        (fault ≡ Fault.TooLarge (suite_size (length h.now.rows) h.now.inputs extra))) }
+{
+    let size = suite_size(h.states(), h.inputs(), extra);
+    if size > GREATEST_SUITE {
+        return Err(SuiteFault::TooLarge(size));
+    }
+    Ok(())
+}
+
+/// What is known, and behind it the words that complete it, with the machine's answers.
+fn planned(alloc: Global, h: &Mealy, cache: &Cache, extra: u8) -> Result<Cache, NoMemory>
+    requires few { extra ≤ 4 }
+    requires minimal { IsMinimal h.now.inputs h.now.rows }
+    requires size { suite_size (length h.now.rows) h.now.inputs extra ≤ greatest_suite }
+    requires given { AreGiven h.now (answers_of cache.now.kept) }
+    ensures covers { IfOk result (λ plan.
+        Covers h.now.inputs h.now.rows (answers_of plan.kept) extra) }
+    ensures more { IfOk result (λ plan. (more : List Answer) ×
+        (answers_of plan.kept ≡ answers_of cache.now.kept ++ more)) }
+{
+    let fronts = fronts_of(alloc, h, extra)?;
+    let mut plan = plan_of(alloc, h, cache)?;
+    plan_fronts(alloc, h, &mut plan, &fronts)?;
+    plan_pairs(alloc, h, &mut plan, &fronts)?;
+    Ok(plan)
+}
+
+/// Replaces the contents of a chunk by the words of the answers from a place on, and before an end.
+fn fill(kept: &Kept, chunk: &mut Vec<Word>, place: usize, end: usize) -> Result<(), NoMemory>
+    requires rising { place ≤ end }
+    requires within { end ≤ length kept.now.answers }
+    ensures { OnOk result (chunk.new.items ≡
+        take (end - place) (words_from place kept.now.answers)) }
+{
+    chunk.clear();
+    for number in place..end {
+        chunk.push(kept.get(number).word.copy()?)?;
+    }
+    Ok(())
+}
+
+/// Words that complete what is known, of which some were given. Contracts see the words that are left.
+///
+/// It keeps what is known too, and all of its words from the start.
+#[derive(Drop)]
+pub struct HSuite {
+    plan: Cache,
+    place: usize,
+}
+
+impl Model for HSuite {
+    ghost use Rattle.std.specs.Prelude.{ℕ, List, ◌≤◌, length};
+    ghost use Rattle.lw_apart.specs.bodies.Planning.{words_from};
+
+    ghost Value = { List (List ℕ) };
+
+    ghost view = { λ s. words_from s.place s.plan.kept };
+
+    ghost invariant = { λ s. s.place ≤ length s.plan.kept };
+}
+
+impl HSuite {
+    /// Words for a minimal machine that gives what is known, for `extra` states more: once they are known too, and the machine gives
+    /// them, all answers together cover it. They are each least access word with at most `extra + 1` letters behind it that isn't
+    /// known; and then, of each pair in the order of the verdict by apartness that isn't known apart, nor will be by the words
+    /// before, both words with the least separating word of their states behind them (Dorofeeva, El-Fakih and Koufareva 2005).
+    ///
+    /// # Errors
+    /// `TooLarge` with the size of the W-method's suite where that is above 8,388,608, and no memory is taken then.
+    pub fn new(alloc: Global, h: &Mealy, cache: &Cache, extra: u8) -> Result<HSuite, SuiteFault>
+        requires minimal { IsMinimal h.now.inputs h.now.rows }
+        requires few { extra ≤ 4 }
+        requires letters { All (λ k. IsWord h.now.inputs k.word) (answers_of cache.now.kept) }
+        requires given { Gives h.now.rows (answers_of cache.now.kept) }
+        ensures ok { IfOk result (Completes h.now.inputs h.now.rows (answers_of cache.now.kept)
+            extra) }
+        ensures within { OnOk result
+            (suite_size (length h.now.rows) h.now.inputs extra ≤ greatest_suite) }
+        ensures too_large { greatest_suite < suite_size (length h.now.rows) h.now.inputs extra →
+            result ≡ Err (Fault.TooLarge (suite_size (length h.now.rows) h.now.inputs extra)) }
+        ensures size { (size : ℕ) → result ≡ Err (Fault.TooLarge size) →
+            (size ≡ suite_size (length h.now.rows) h.now.inputs extra) ×
+            (greatest_suite < size) }
+    {
+        check_size(h, extra)?;
+        let plan = planned(alloc, h, cache, extra)?;
+        Ok(HSuite {
+            plan,
+            place: cache.kept().len(),
+        })
+    }
+
+    /// Replaces the contents of a chunk by the next 512 words, or by those that are left, and answers whether there were any.
+    ///
+    /// # Errors
+    /// Only where memory runs out; the suite is then as before, and the chunk is empty.
+    pub fn next_chunk(&mut self, chunk: &mut Vec<Word>) -> Result<bool, NoMemory>
+        ensures chunk { OnOk result (chunk.new.items ≡ take 512 self.old) }
+        ensures left { OnOk result (self.new ≡ drop 512 self.old) }
+        ensures more { IfOk result (λ more. (more ≡ true) ↔ (self.old ≢ [])) }
+        ensures err { OnErr result ((self.new ≡ self.old) × (chunk.new.items ≡ [])) }
+    {
+        let left = self.plan.kept().len() - self.place;
+        let count = left.min(CHUNK);
+        let end = self.place + count;
+        match fill(self.plan.kept(), chunk, self.place, end) {
+            Ok(()) => {
+                self.place = end;
+                Ok(count > 0)
+            }
+            Err(NoMemory) => {
+                chunk.clear();
+                Err(NoMemory)
+            }
+        }
+    }
+}
+
+impl Chunks for HSuite {
+    ghost left = { λ words. words };
+
+    fn next_chunk(&mut self, chunk: &mut Vec<Word>) -> Result<bool, NoMemory> {
+        HSuite::next_chunk(self, chunk)
+    }
+}
