@@ -2,8 +2,8 @@
 use Rattle.std.proofs.Common.{◌≡◌, ℕ, ◌+◌, ◌-◌, ◌<◌, ◌≤◌, ⊎_elim, inl, inr, List, [], ◌++◌, length, map, take, drop, min, get_or, refl, sym, ap, ap₂, ◌∙◌, subst, arith, ◌∷◌, slice_get, Some}
 use Rattle.std.specs.List.{All}
 use Rattle.std.proofs.lemmas.Bool.{cases_lt}
-use Rattle.std.proofs.lemmas.List.{length-append, length-map, length-drop, drop-map, get_or_append_left, get_or-map, get_or-drop, take_more}
-use Rattle.std.proofs.lemmas.List.Elements.{All-get_or}
+use Rattle.std.proofs.lemmas.List.{length-append, length-map, length-drop, drop-map, drop_at, get_or_append_left, get_or-map, get_or-drop, take_more}
+use Rattle.std.proofs.lemmas.List.Elements.{All-get_or, All-map}
 use Rattle.std.proofs.lemmas.Option.{get_or_from_slice_get}
 use Rattle.lw_words.specs.Word.{Answer, answer_of, answers_of, answer_at, IsPrefix}
 use Rattle.lw_words.specs.declared.kept.KeptAnswer.{KeptAnswer}
@@ -14,8 +14,8 @@ use Rattle.lw_cache.specs.Known.{IsKnown}
 use Rattle.lw_cache.proofs.ClashLemmas.{all_are_clear, given_never_clash}
 use Rattle.lw_certify.specs.Covers.{ApartWhereDifferent, Covers}
 use Rattle.lw_suite.proofs.PlaceLemmas.{chunk_is, left_is}
-use Rattle.lw_apart.specs.Completing.{Completes}
-use Rattle.lw_apart.specs.bodies.Planning.{HasGrown, words_from}
+use Rattle.lw_apart.specs.Completing.{AreUnknown, Completes}
+use Rattle.lw_apart.specs.bodies.Planning.{HasGrown, IsMoreThan, words_from}
 use Rattle.lw_apart.proofs.BehindLemmas.{known_front}
 use Rattle.lw_apart.proofs.PlanLemmas.{grown_then, answers-append}
 
@@ -34,6 +34,10 @@ covers_stays a h ks now k stays gives c =
       apart = λ p q w lp lq is le. apart (get_or c.access p []) (get_or c.access q [] ++ w) (c.apart p q w lp lq is le);
       along = λ q w i j lq is long some lt le. apart (get_or c.access q [] ++ take i w) (get_or c.access q [] ++ take j w) (c.along q w i j lq is long some lt le);
     }
+
+map_map : {X Y Z : Type 0} (f : X → Y) (g : Y → Z) (xs : List X) → map g (map f xs) ≡ map (λ x. g (f x)) xs
+map_map f g [] = refl
+map_map {X} {Y} {Z} f g (x ∷ xs) = ap (λ (zs : List Z). g (f x) ∷ zs) (map_map f g xs)
 
 module _ (h : Rows) (ks : List Answer) (kept : List KeptAnswer) (planned : List Answer) (is : answers_of kept ≡ ks ++ planned) (more : List Answer) (gives : Gives h (ks ++ more)) (known : All (IsKnown (ks ++ more)) (words_from (length ks) kept)) where
   abbrev blank : Answer
@@ -77,15 +81,30 @@ module _ (h : Rows) (ks : List Answer) (kept : List KeptAnswer) (planned : List 
   pub completed : (a k : ℕ) → Covers a h (answers_of kept) k → Covers a h (ks ++ more) k
   completed a k c = covers_stays a h (answers_of kept) (ks ++ more) k stays gives c
 
-pub completes : (a : ℕ) (h : Rows) (ks : List Answer) (k place : ℕ) (kept : List KeptAnswer) → place ≡ length ks → (more : List Answer) × (answers_of kept ≡ ks ++ more) → Covers a h (answers_of kept) k → Completes a h ks k (words_from place kept)
+pub completes : (a : ℕ) (h : Rows) (ks : List Answer) (k place : ℕ) (kept : List KeptAnswer) → place ≡ length ks → IsMoreThan ks kept → Covers a h (answers_of kept) k → Completes a h ks k (words_from place kept)
 completes a h ks k place kept at planned c more gives known =
-    completed h ks kept planned.0 planned.1 more gives (subst (λ (n : ℕ). All (IsKnown (ks ++ more)) (words_from n kept)) at known) a k c
+    completed h ks kept planned.more planned.is more gives (subst (λ (n : ℕ). All (IsKnown (ks ++ more)) (words_from n kept)) at known) a k c
+
+-- the words from there on are those of the answers that were planned
+words_of_more : (ks more : List Answer) (kept : List KeptAnswer) → answers_of kept ≡ ks ++ more → words_from (length ks) kept ≡ map (λ k. k.word) more
+words_of_more ks more kept is =
+    sym (map_map answer_of (λ (k : Answer). k.word) (drop (length ks) kept))
+    ∙ ap (λ (list : List Answer). map (λ k. k.word) list) (sym (drop-map answer_of (length ks) kept) ∙ (ap (drop (length ks)) is ∙ drop_at ks more (length ks) refl))
+
+pub unknown_from : (ks : List Answer) (place : ℕ) (kept : List KeptAnswer) → place ≡ length ks → IsMoreThan ks kept → AreUnknown ks (words_from place kept)
+unknown_from ks place kept at planned =
+    subst (λ (n : ℕ). AreUnknown ks (words_from n kept)) (sym at)
+    (subst (AreUnknown ks) (sym (words_of_more ks planned.more kept planned.is)) (All-map (λ w. ¬ IsKnown ks w) (λ (k : Answer). k.word) planned.more planned.new))
 
 -- what a plan that was grown in two steps has behind the answers that it began with
-pub grown_behind : (m : MealyMachine) (ks : List Answer) (was mid now : Caching) → answers_of was.kept ≡ ks → HasGrown m was mid → HasGrown m mid now → (more : List Answer) × (answers_of now.kept ≡ ks ++ more)
+pub grown_behind : (m : MealyMachine) (ks : List Answer) (was mid now : Caching) → answers_of was.kept ≡ ks → HasGrown m was mid → HasGrown m mid now → IsMoreThan ks now.kept
 grown_behind m ks was mid now same f g =
     let h = grown_then m was mid now f g in
-    (answers_of h.more, ap (λ (kept : List KeptAnswer). answers_of kept) h.kept ∙ (answers-append was.kept h.more ∙ ap (λ (list : List Answer). list ++ answers_of h.more) same))
+    record {
+      more = answers_of h.more;
+      is = ap (λ (kept : List KeptAnswer). answers_of kept) h.kept ∙ (answers-append was.kept h.more ∙ ap (λ (list : List Answer). list ++ answers_of h.more) same);
+      new = subst (λ (list : List Answer). All (λ k. ¬ IsKnown list k.word) (answers_of h.more)) same (All-map (λ (k : Answer). ¬ IsKnown (answers_of was.kept) k.word) answer_of h.more h.new);
+    }
 
 -- a chunk with the word of one answer more
 pub word_more : (kept : List KeptAnswer) (place number : ℕ) (chunk more : List (List ℕ)) (k : KeptAnswer) (word : List ℕ) → place ≤ number → number < length kept → chunk ≡ take (number - place) (words_from place kept)

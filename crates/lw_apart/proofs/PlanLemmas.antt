@@ -1,8 +1,9 @@
 -- How a plan grows.
-use Rattle.std.proofs.Common.{◌≡◌, ◌≢◌, ℕ, ◌+◌, ◌<◌, ◌≤◌, inr, List, [], ◌∷◌, ◌++◌, length, take, get_or, refl, sym, ap, ap₂, ◌∙◌, subst, arith, append-nil, append_assoc, slice_get, Some}
+use Rattle.std.proofs.Common.{◌≡◌, ◌≢◌, ℕ, ◌+◌, ◌<◌, ◌≤◌, inr, ⊎_elim, List, [], ◌∷◌, ◌++◌, length, take, get_or, refl, sym, ap, ap₂, ◌∙◌, subst, arith, append-nil, append_assoc, slice_get, Some}
 use Rattle.std.specs.List.{All, AllWithin, flat_map}
+use Rattle.std.proofs.lemmas.Bool.{cases_lt}
 use Rattle.std.proofs.lemmas.List.{length-append, length-map, map-append, get_or_push, get_or-map, take_more, take_all}
-use Rattle.std.proofs.lemmas.List.Elements.{All-nil, All-append, All-weaker, All-push, All-get_or, All-from_all_within, AllWithin-more, AllWithin-upto}
+use Rattle.std.proofs.lemmas.List.Elements.{All-nil, All-cons, All-append, All-weaker, All-push, All-get_or, All-from_all_within, AllWithin-more, AllWithin-upto}
 use Rattle.lw_words.specs.Word.{Answer, answer_of, answers_of, answer_at, IsWord}
 use Rattle.lw_words.specs.declared.kept.KeptAnswer.{KeptAnswer}
 use Rattle.std.proofs.lemmas.Option.{get_or_from_slice_get}
@@ -56,14 +57,7 @@ answers-append kept more = map-append answer_of kept more
 
 module _ (m : MealyMachine) where
   pub grown_start : (was : Caching) → IsReady m was → HasGrown m was was
-  grown_start was ready = record { ready = ready; more = []; kept = sym (append-nil was.kept) }
-
-  pub grown_then : (was mid now : Caching) → HasGrown m was mid → HasGrown m mid now → HasGrown m was now
-  grown_then was mid now f g = record {
-    ready = g.ready;
-    more = f.more ++ g.more;
-    kept = g.kept ∙ (ap (λ (ks : List KeptAnswer). ks ++ g.more) f.kept ∙ append_assoc was.kept f.more g.more);
-  }
+  grown_start was ready = record { ready = ready; more = []; kept = sym (append-nil was.kept); new = All-nil (λ k. ¬ IsKnown (answers_of was.kept) k.word) }
 
   grown_answers : (was now : Caching) (g : HasGrown m was now) → answers_of now.kept ≡ answers_of was.kept ++ answers_of g.more
   grown_answers was now g = ap (λ (ks : List KeptAnswer). answers_of ks) g.kept ∙ answers-append was.kept g.more
@@ -71,34 +65,53 @@ module _ (m : MealyMachine) where
   pub grown_known : (was now : Caching) (w : List ℕ) → HasGrown m was now → IsKnown (answers_of was.kept) w → IsKnown (answers_of now.kept) w
   grown_known was now w g known = subst (λ (ks : List Answer). IsKnown ks w) (sym (grown_answers was now g)) (known_stays (answers_of was.kept) (answers_of g.more) w known)
 
+  pub grown_then : (was mid now : Caching) → HasGrown m was mid → HasGrown m mid now → HasGrown m was now
+  grown_then was mid now f g = record {
+    ready = g.ready;
+    more = f.more ++ g.more;
+    kept = g.kept ∙ (ap (λ (ks : List KeptAnswer). ks ++ g.more) f.kept ∙ append_assoc was.kept f.more g.more);
+    new = All-append (λ k. ¬ IsKnown (answers_of was.kept) k.word) f.more g.more f.new
+        (All-weaker (λ k. ¬ IsKnown (answers_of mid.kept) k.word) (λ k. ¬ IsKnown (answers_of was.kept) k.word) (λ k unknown known. unknown (grown_known was mid k.word f known)) g.more g.new);
+  }
+
   pub grown_met : (was now : Caching) (pair : WordPair) → HasGrown m was now → IsKnownApart m.rows (answers_of was.kept) pair → IsKnownApart m.rows (answers_of now.kept) pair
   grown_met was now pair g met = subst (λ (ks : List Answer). IsKnownApart m.rows ks pair) (sym (grown_answers was now g)) (met_stays m.rows (answers_of was.kept) (answers_of g.more) pair met)
 
   -- one word more is kept
-  pub kept_grown : (was now : Caching) (k : KeptAnswer) → IsReady m now → now.kept ≡ was.kept ++ k ∷ [] → HasGrown m was now × IsKnown (answers_of now.kept) k.word
-  kept_grown was now k ready kept =
+  pub kept_grown : (was now : Caching) (k : KeptAnswer) → ¬ IsKnown (answers_of was.kept) k.word → IsReady m now → now.kept ≡ was.kept ++ k ∷ [] → HasGrown m was now × IsKnown (answers_of now.kept) k.word
+  kept_grown was now k unknown ready kept =
       let is : answers_of now.kept ≡ answers_of was.kept ++ answer_of k ∷ [] = ap (λ (ks : List KeptAnswer). answers_of ks) kept ∙ answers-append was.kept (k ∷ []) in
       let given : AreGiven m (answers_of was.kept ++ answer_of k ∷ []) = subst (AreGiven m) is ready.given in (
-        record { ready = ready; more = k ∷ []; kept = kept },
+        record {
+          ready = ready;
+          more = k ∷ [];
+          kept = kept;
+          new = All-cons (λ l. ¬ IsKnown (answers_of was.kept) l.word) k [] unknown (All-nil (λ l. ¬ IsKnown (answers_of was.kept) l.word));
+        },
         subst (λ (ks : List Answer). IsKnown ks k.word) (sym is) (last_known m (answers_of was.kept) (answer_of k) given),
       )
 
-  -- all of the first n words are known, in the plan as it has grown
-  pub record KnownTo (words : List (List ℕ)) (was now : Caching) (n : ℕ) : Type 0 where
+  -- all words from the n-th on are known, in the plan as it has grown
+  pub record KnownFrom (words : List (List ℕ)) (was now : Caching) (n : ℕ) : Type 0 where
     pub grown : HasGrown m was now
-    pub known : AllWithin (IsKnown (answers_of now.kept)) words 0 n
+    pub known : (k : ℕ) (d : List ℕ) → n ≤ k → k < length words → IsKnown (answers_of now.kept) (get_or words k d)
 
-  pub known_start : (words : List (List ℕ)) (was : Caching) → IsReady m was → KnownTo words was was 0
-  known_start words was ready = record { grown = grown_start was ready; known = λ k d ge lt. absurd (omega (arith, lt)) }
+  pub known_start : (words : List (List ℕ)) (was : Caching) (n : ℕ) → length words ≤ n → IsReady m was → KnownFrom words was was n
+  known_start words was n past ready = record { grown = grown_start was ready; known = λ k d ge lt. absurd (omega (arith, past, ge, lt)) }
 
-  pub known_more : (words : List (List ℕ)) (was mid now : Caching) (n : ℕ) (word : List ℕ) → KnownTo words was mid n → ((d : List ℕ) → get_or words n d ≡ word) → HasGrown m mid now → IsKnown (answers_of now.kept) word → KnownTo words was now (n + 1)
-  known_more words was mid now n word f is g known = record {
+  pub known_more : (words : List (List ℕ)) (was mid now : Caching) (n to : ℕ) (word : List ℕ) → KnownFrom words was mid (to + 1) → n ≡ to → ((d : List ℕ) → get_or words to d ≡ word) → HasGrown m mid now → IsKnown (answers_of now.kept) word → KnownFrom words was now n
+  known_more words was mid now n to word f at is g known = record {
     grown = grown_then was mid now f.grown g;
-    known = AllWithin-more (IsKnown (answers_of now.kept)) words 0 n (λ k d ge lt. grown_known mid now (get_or words k d) g (f.known k d ge lt)) (λ d. subst (IsKnown (answers_of now.kept)) (sym (is d)) known);
+    known = λ k d ge lt. ⊎_elim
+        (λ (above : to < k). grown_known mid now (get_or words k d) g (f.known k d (omega (arith, above)) lt))
+        (λ (le : k ≤ to).
+        let here : to ≡ k = omega (arith, le, ge, at) in
+        subst (λ (i : ℕ). IsKnown (answers_of now.kept) (get_or words i d)) here (subst (IsKnown (answers_of now.kept)) (sym (is d)) known))
+        (cases_lt to k);
   }
 
-  pub known_all : (words : List (List ℕ)) (was now : Caching) (n : ℕ) → length words ≤ n → KnownTo words was now n → All (IsKnown (answers_of now.kept)) words
-  known_all words was now n past f = All-from_all_within (IsKnown (answers_of now.kept)) words (AllWithin-upto (IsKnown (answers_of now.kept)) words 0 n (length words) past f.known)
+  pub known_all : (words : List (List ℕ)) (was now : Caching) (n : ℕ) → n ≡ 0 → KnownFrom words was now n → All (IsKnown (answers_of now.kept)) words
+  known_all words was now n none f = λ k d lt. f.known k d (omega (arith, none)) lt
 
   -- the pairs of the first n lists are known apart, in the plan as it has grown
   module _ {Y : Type 0} (g : Y → List WordPair) (ys : List Y) where

@@ -9,3 +9,7 @@ use Rattle.lw_certify.specs.Covers.{Covers}
 -- once all of the words are known too, whatever else was asked, and the machine gives all answers, they cover it for k extra states
 abbrev pub Completes : ℕ → Rows → List Answer → ℕ → List (List ℕ) → Type 0
 Completes a h ks k words = (more : List Answer) → Gives h (ks ++ more) → All (IsKnown (ks ++ more)) words → Covers a h (ks ++ more) k
+
+-- none of the words is known
+abbrev pub AreUnknown : List Answer → List (List ℕ) → Type 0
+AreUnknown ks words = All (λ w. ¬ IsKnown ks w) words

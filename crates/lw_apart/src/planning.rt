@@ -19,7 +19,7 @@ use lw_mealy::Mealy;
 use lw_words::{NoMemory, Word, Words};
 use std::alloc::Global;
 
-/// Plans each front.
+/// Plans each front, from the last one on: so a longer one makes those known that it begins with.
 pub(crate) fn plan_fronts(
     alloc: Global,
     h: &Mealy,
@@ -34,8 +34,9 @@ pub(crate) fn plan_fronts(
         (All (IsKnown (answers_of plan.new.kept)) (all_fronts fronts.now)) }
 {
     let mut front = Word::new(alloc);
-    for number in 0..front_count(fronts) {
-        spell_front(fronts, &mut front, number)?;
+    let count = front_count(fronts);
+    for passed in 0..count {
+        spell_front(fronts, &mut front, count - 1 - passed)?;
         keep_unknown(h, plan, &front)?;
     }
     Ok(())

@@ -1,14 +1,14 @@
 //! The suite of the H-method, in chunks.
-ghost use Rattle.std.specs.Prelude.{◌≡◌, ℕ, ◌≢◌, ◌↔◌, ◌<◌, ◌≤◌, ◌-◌, List, [], ◌++◌, length, take, drop, true, Err, IfOk, IfErr, OnOk, OnErr};
+ghost use Rattle.std.specs.Prelude.{◌≡◌, ℕ, ◌≢◌, ◌↔◌, ◌<◌, ◌≤◌, ◌-◌, [], length, take, drop, true, Err, IfOk, IfErr, OnOk, OnErr};
 ghost use Rattle.std.specs.List.{All};
-ghost use Rattle.lw_words.specs.Word.{Answer, answers_of, IsWord};
+ghost use Rattle.lw_words.specs.Word.{answers_of, IsWord};
 ghost use Rattle.lw_mealy.specs.Machine.{Gives, IsMinimal};
 ghost use Rattle.lw_suite.specs.Size.{suite_size, greatest_suite};
 ghost use Rattle.lw_suite.specs.declared.suite.SuiteFault.{SuiteFault as Fault};
 ghost use Rattle.lw_certify.specs.Covers.{Covers};
-ghost use Rattle.lw_apart.specs.Completing.{Completes};
+ghost use Rattle.lw_apart.specs.Completing.{AreUnknown, Completes};
 ghost use Rattle.lw_apart.specs.bodies.Behind.{AreGiven};
-ghost use Rattle.lw_apart.specs.bodies.Planning.{words_from};
+ghost use Rattle.lw_apart.specs.bodies.Planning.{IsMoreThan, words_from};
 
 use crate::plan::plan_of;
 use crate::planning::{plan_fronts, plan_pairs};
@@ -43,13 +43,12 @@ fn planned(alloc: Global, h: &Mealy, cache: &Cache, extra: u8) -> Result<Cache, 
     requires given { AreGiven h.now (answers_of cache.now.kept) }
     ensures covers { IfOk result (λ plan.
         Covers h.now.inputs h.now.rows (answers_of plan.kept) extra) }
-    ensures more { IfOk result (λ plan. (more : List Answer) ×
-        (answers_of plan.kept ≡ answers_of cache.now.kept ++ more)) }
+    ensures more { IfOk result (λ plan. IsMoreThan (answers_of cache.now.kept) plan.kept) }
 {
     let fronts = fronts_of(alloc, h, extra)?;
     let mut plan = plan_of(alloc, h, cache)?;
-    plan_fronts(alloc, h, &mut plan, &fronts)?;
     plan_pairs(alloc, h, &mut plan, &fronts)?;
+    plan_fronts(alloc, h, &mut plan, &fronts)?;
     Ok(plan)
 }
 
@@ -89,9 +88,10 @@ impl Model for HSuite {
 
 impl HSuite {
     /// Words for a minimal machine that gives what is known, for `extra` states more: once they are known too, and the machine gives
-    /// them, all answers together cover it. They are each least access word with at most `extra + 1` letters behind it that isn't
-    /// known; and then, of each pair in the order of the verdict by apartness that isn't known apart, nor will be by the words
-    /// before, both words with the least separating word of their states behind them (Dorofeeva, El-Fakih and Koufareva 2005).
+    /// them, all answers together cover it. Of each pair in the order of the verdict by apartness that isn't known apart, nor will be
+    /// by the words before, they are both words with the least separating word of their states behind them; and then each least
+    /// access word with at most `extra + 1` letters behind it that isn't known, nor will be by those, the longer ones first
+    /// (Dorofeeva, El-Fakih and Koufareva 2005).
     ///
     /// # Errors
     /// `TooLarge` with the size of the W-method's suite where that is above 8,388,608, and no memory is taken then.
@@ -102,6 +102,7 @@ impl HSuite {
         requires given { Gives h.now.rows (answers_of cache.now.kept) }
         ensures ok { IfOk result (Completes h.now.inputs h.now.rows (answers_of cache.now.kept)
             extra) }
+        ensures new { IfOk result (AreUnknown (answers_of cache.now.kept)) }
         ensures within { OnOk result
             (suite_size (length h.now.rows) h.now.inputs extra ≤ greatest_suite) }
         ensures too_large { greatest_suite < suite_size (length h.now.rows) h.now.inputs extra →
