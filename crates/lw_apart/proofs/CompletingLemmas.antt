@@ -96,15 +96,29 @@ unknown_from ks place kept at planned =
     subst (λ (n : ℕ). AreUnknown ks (words_from n kept)) (sym at)
     (subst (AreUnknown ks) (sym (words_of_more ks planned.more kept planned.is)) (All-map (λ w. ¬ IsKnown ks w) (λ (k : Answer). k.word) planned.more planned.new))
 
--- what a plan that was grown in two steps has behind the answers that it began with
-pub grown_behind : (m : MealyMachine) (ks : List Answer) (was mid now : Caching) → answers_of was.kept ≡ ks → HasGrown m was mid → HasGrown m mid now → IsMoreThan ks now.kept
-grown_behind m ks was mid now same f g =
-    let h = grown_then m was mid now f g in
+-- what a plan that has grown has behind the answers that it began with
+pub grown_more : (m : MealyMachine) (ks : List Answer) (was now : Caching) → answers_of was.kept ≡ ks → HasGrown m was now → IsMoreThan ks now.kept
+grown_more m ks was now same h =
     record {
       more = answers_of h.more;
       is = ap (λ (kept : List KeptAnswer). answers_of kept) h.kept ∙ (answers-append was.kept h.more ∙ ap (λ (list : List Answer). list ++ answers_of h.more) same);
       new = subst (λ (list : List Answer). All (λ k. ¬ IsKnown list k.word) (answers_of h.more)) same (All-map (λ (k : Answer). ¬ IsKnown (answers_of was.kept) k.word) answer_of h.more h.new);
     }
+
+pub grown_behind : (m : MealyMachine) (ks : List Answer) (was mid now : Caching) → answers_of was.kept ≡ ks → HasGrown m was mid → HasGrown m mid now → IsMoreThan ks now.kept
+grown_behind m ks was mid now same f g = grown_more m ks was now same (grown_then m was mid now f g)
+
+-- the word of the answer with a number, among those from a place on
+pub planned_word : (kept : List KeptAnswer) (place number : ℕ) (k : KeptAnswer) → place ≤ number → number < length kept → slice_get kept number ≡ Some k → (d : List ℕ) → get_or (words_from place kept) (number - place) d ≡ k.word
+planned_word kept place number k ge lt here d =
+    let i : ℕ = number - place in
+    let at : place + i ≡ number = omega (arith, ge) in
+    let lt' : i < length (drop place kept) = omega (arith, length-drop place kept, ge, lt) in
+    get_or-map (λ (j : KeptAnswer). j.word) (drop place kept) i k d lt'
+    ∙ ap (λ (j : KeptAnswer). j.word) (get_or-drop place kept i k ∙ (ap (λ (n : ℕ). get_or kept n k) at ∙ get_or_from_slice_get kept number k k here))
+
+pub count_from : (kept : List KeptAnswer) (place : ℕ) → length (words_from place kept) ≡ length kept - place
+count_from kept place = length-map (drop place kept) (λ k. k.word) ∙ length-drop place kept
 
 -- a chunk with the word of one answer more
 pub word_more : (kept : List KeptAnswer) (place number : ℕ) (chunk more : List (List ℕ)) (k : KeptAnswer) (word : List ℕ) → place ≤ number → number < length kept → chunk ≡ take (number - place) (words_from place kept)
@@ -112,14 +126,10 @@ pub word_more : (kept : List KeptAnswer) (place number : ℕ) (chunk more : List
 word_more kept place number chunk more k word ge lt was here is push =
     let i : ℕ = number - place in
     let up : i + 1 ≡ number + 1 - place = omega (arith, ge) in
-    let at' : place + i ≡ number = omega (arith, ge) in
-    let lt' : i < length (drop place kept) = omega (arith, length-drop place kept, ge, lt) in
-    let at : get_or (words_from place kept) i [] ≡ word =
-    get_or-map (λ (j : KeptAnswer). j.word) (drop place kept) i k [] lt'
-    ∙ (ap (λ (j : KeptAnswer). j.word) (get_or-drop place kept i k ∙ (ap (λ (n : ℕ). get_or kept n k) at' ∙ get_or_from_slice_get kept number k k here)) ∙ sym is) in
+    let at : get_or (words_from place kept) i [] ≡ word = planned_word kept place number k ge lt here [] ∙ sym is in
     push
     ∙ (ap₂ (λ (c : List (List ℕ)) (v : List ℕ). c ++ v ∷ []) was (sym at)
-    ∙ (sym (take_more (words_from place kept) i [] (omega (arith, lt', length-map (drop place kept) (λ j. j.word)))) ∙ ap (λ (n : ℕ). take n (words_from place kept)) up))
+    ∙ (sym (take_more (words_from place kept) i [] (omega (arith, count_from kept place, ge, lt))) ∙ ap (λ (n : ℕ). take n (words_from place kept)) up))
 
 -- as many answers as kept ones
 pub as_many : (read kept : List KeptAnswer) (n : ℕ) → n ≡ length read → read ≡ kept → n ≡ length (answers_of kept)
@@ -140,3 +150,17 @@ module _ (kept read : List KeptAnswer) (place count long most : ℕ) (same : rea
   words_left =
       ap (λ (list : List KeptAnswer). map (λ k. k.word) list) (left_is kept place count (long - place) most (place + count) few left refl)
       ∙ sym (drop-map (λ (k : KeptAnswer). k.word) most (drop place kept))
+
+-- where all planned words are known, a plan without those that others begin with covers the machine too
+pub thinner_covers : (m : MealyMachine) (ks : List Answer) (k n : ℕ) (plan ends : List KeptAnswer) → n ≡ length ks → IsMoreThan ks plan → IsMoreThan ks ends → Covers m.inputs m.rows (answers_of plan) k → Gives m.rows (answers_of ends)
+    → All (IsKnown (answers_of ends)) (words_from n plan) → Covers m.inputs m.rows (answers_of ends) k
+thinner_covers m ks k n plan ends at p e c gives known =
+    subst (λ (list : List Answer). Covers m.inputs m.rows list k) (sym e.is)
+    (completes m.inputs m.rows ks k n plan at p c e.more (subst (Gives m.rows) e.is gives) (subst (λ (list : List Answer). All (IsKnown list) (words_from n plan)) e.is known))
+
+pub kept_many : (kept : List KeptAnswer) → length kept ≡ length (answers_of kept)
+kept_many kept = sym (length-map kept answer_of)
+
+pub place_within : (ks : List Answer) (kept plan : List KeptAnswer) → answers_of kept ≡ ks → IsMoreThan ks plan → length kept ≤ length plan
+place_within ks kept plan same m =
+    omega (arith, length-map kept answer_of, ap (λ (list : List Answer). length list) same, ap (λ (list : List Answer). length list) m.is, length-append ks m.more, length-map plan answer_of)

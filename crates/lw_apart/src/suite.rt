@@ -5,12 +5,13 @@ ghost use Rattle.lw_words.specs.Word.{answers_of, IsWord};
 ghost use Rattle.lw_mealy.specs.Machine.{Gives, IsMinimal};
 ghost use Rattle.lw_suite.specs.Size.{suite_size, greatest_suite};
 ghost use Rattle.lw_suite.specs.declared.suite.SuiteFault.{SuiteFault as Fault};
+ghost use Rattle.lw_cache.specs.Known.{IsKnown};
 ghost use Rattle.lw_certify.specs.Covers.{Covers};
 ghost use Rattle.lw_apart.specs.Completing.{AreUnknown, Completes};
 ghost use Rattle.lw_apart.specs.bodies.Behind.{AreGiven};
 ghost use Rattle.lw_apart.specs.bodies.Planning.{IsMoreThan, words_from};
 
-use crate::plan::plan_of;
+use crate::plan::{keep_unknown, plan_of};
 use crate::planning::{plan_fronts, plan_pairs};
 use crate::spelling::fronts_of;
 use lw_cache::Cache;
@@ -44,12 +45,34 @@ fn planned(alloc: Global, h: &Mealy, cache: &Cache, extra: u8) -> Result<Cache, 
     ensures covers { IfOk result (λ plan.
         Covers h.now.inputs h.now.rows (answers_of plan.kept) extra) }
     ensures more { IfOk result (λ plan. IsMoreThan (answers_of cache.now.kept) plan.kept) }
+    ensures given { IfOk result (λ plan. AreGiven h.now (answers_of plan.kept)) }
 {
     let fronts = fronts_of(alloc, h, extra)?;
     let mut plan = plan_of(alloc, h, cache)?;
     plan_pairs(alloc, h, &mut plan, &fronts)?;
     plan_fronts(alloc, h, &mut plan, &fronts)?;
     Ok(plan)
+}
+
+/// What is known, and behind it the planned words that no other planned one begins with: the later ones first, since a word that
+/// was planned later may begin with an earlier one, and never the other way round.
+fn thinned(alloc: Global, h: &Mealy, cache: &Cache, plan: &Cache) -> Result<Cache, NoMemory>
+    requires known { AreGiven h.now (answers_of cache.now.kept) }
+    requires planned { AreGiven h.now (answers_of plan.now.kept) }
+    requires more { IsMoreThan (answers_of cache.now.kept) plan.now.kept }
+    ensures given { IfOk result (λ ends. AreGiven h.now (answers_of ends.kept)) }
+    ensures more { IfOk result (λ ends. IsMoreThan (answers_of cache.now.kept) ends.kept) }
+    ensures words { IfOk result (λ ends. All (IsKnown (answers_of ends.kept))
+        (words_from (length cache.now.kept) plan.now.kept)) }
+{
+    let mut ends = plan_of(alloc, h, cache)?;
+    let place = cache.kept().len();
+    let last = plan.kept().len();
+    for passed in 0..last - place {
+        let answer = plan.kept().get(last - 1 - passed);
+        keep_unknown(h, &mut ends, &answer.word)?;
+    }
+    Ok(ends)
 }
 
 /// Replaces the contents of a chunk by the words of the answers from a place on, and before an end.
@@ -71,7 +94,7 @@ fn fill(kept: &Kept, chunk: &mut Vec<Word>, place: usize, end: usize) -> Result<
 /// It keeps what is known too, and all of its words from the start.
 #[derive(Drop)]
 pub struct HSuite {
-    plan: Cache,
+    ends: Cache,
     place: usize,
 }
 
@@ -81,17 +104,17 @@ impl Model for HSuite {
 
     ghost Value = { List (List ℕ) };
 
-    ghost view = { λ s. words_from s.place s.plan.kept };
+    ghost view = { λ s. words_from s.place s.ends.kept };
 
-    ghost invariant = { λ s. s.place ≤ length s.plan.kept };
+    ghost invariant = { λ s. s.place ≤ length s.ends.kept };
 }
 
 impl HSuite {
     /// Words for a minimal machine that gives what is known, for `extra` states more: once they are known too, and the machine gives
     /// them, all answers together cover it. Of each pair in the order of the verdict by apartness that isn't known apart, nor will be
     /// by the words before, they are both words with the least separating word of their states behind them; and then each least
-    /// access word with at most `extra + 1` letters behind it that isn't known, nor will be by those, the longer ones first
-    /// (Dorofeeva, El-Fakih and Koufareva 2005).
+    /// access word with at most `extra + 1` letters behind it that isn't known, nor will be by those, the longer ones first; of all
+    /// of them those that no other one begins with (Dorofeeva, El-Fakih and Koufareva 2005).
     ///
     /// # Errors
     /// `TooLarge` with the size of the W-method's suite where that is above 8,388,608, and no memory is taken then.
@@ -113,8 +136,9 @@ impl HSuite {
     {
         check_size(h, extra)?;
         let plan = planned(alloc, h, cache, extra)?;
+        let ends = thinned(alloc, h, cache, &plan)?;
         Ok(HSuite {
-            plan,
+            ends,
             place: cache.kept().len(),
         })
     }
@@ -129,10 +153,10 @@ impl HSuite {
         ensures more { IfOk result (λ more. (more ≡ true) ↔ (self.old ≢ [])) }
         ensures err { OnErr result ((self.new ≡ self.old) × (chunk.new.items ≡ [])) }
     {
-        let left = self.plan.kept().len() - self.place;
+        let left = self.ends.kept().len() - self.place;
         let count = left.min(CHUNK);
         let end = self.place + count;
-        match fill(self.plan.kept(), chunk, self.place, end) {
+        match fill(self.ends.kept(), chunk, self.place, end) {
             Ok(()) => {
                 self.place = end;
                 Ok(count > 0)

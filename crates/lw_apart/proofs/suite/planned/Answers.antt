@@ -27,3 +27,6 @@ returns-clause-covers c =
     let g = c.in_ok-plan_fronts.ensures.grown in
     nothing_missing m.inputs m.rows (answers_of now.kept) c.args.extra f e.inputs e.longest e.least c.requires.minimal g.ready.given.given c.in_ok-plan_fronts.ensures.known
     (All-weaker (IsKnownApart m.rows (answers_of mid.kept)) (IsKnownApart m.rows (answers_of now.kept)) (λ pair met. grown_met m mid now pair g met) (pairs f.inputs f.access f.longest) p.met)
+
+pub returns-clause-given : goal.returns-clause-given
+returns-clause-given c = c.in_ok-plan_fronts.ensures.grown.ready.given
