@@ -1,0 +1,13 @@
+pub mod ApartLemmas
+pub mod BehindLemmas
+pub mod CompletingLemmas
+pub mod ExistenceVerdict
+pub mod FirstLemmas
+pub mod Lists
+pub mod MissingLemmas
+pub mod OneVerdict
+pub mod PairLemmas
+pub mod PlanLemmas
+pub mod SpellingLemmas
+pub mod UnknownLemmas
+pub mod VerdictLemmas

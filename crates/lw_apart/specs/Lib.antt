@@ -1,0 +1,4 @@
+pub mod Completing
+pub mod Pairs
+pub mod Verdict
+pub mod bodies

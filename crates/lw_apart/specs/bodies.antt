@@ -1,0 +1,4 @@
+-- What the contracts of private functions cite, and no public clause.
+pub mod Behind
+pub mod Planning
+pub mod Stages
