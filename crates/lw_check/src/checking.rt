@@ -20,7 +20,7 @@ ghost use Rattle.lw_report.specs.declared.outcome.Outcome.{Outcome as Came};
 
 use crate::CheckArguments;
 use crate::deciding::{Decided, decide};
-use crate::reading::{Read, read_pair};
+use crate::reading::{Read, read_named};
 use crate::telling::tell;
 use lw_json::{Answers, Machine};
 use lw_outside::{Files, Sink};
@@ -95,7 +95,7 @@ pub fn check<F: Files, O: Sink, E: Sink>(
         ((O.state out.old).faults ≤ (O.state out.new).faults) ×
         ((E.state err.old).faults ≤ (E.state err.new).faults) }
 {
-    let Read { machine, answers } = match read_pair(alloc, files, arguments) {
+    let Read { machine, answers } = match read_named(alloc, files, arguments) {
         Ok(read) => read,
         Err(outcome) => {
             let kept = Kept::new(alloc);

@@ -18,7 +18,31 @@ pub(crate) struct Read {
 }
 
 /// Reads the model file, then the answers file.
-pub(crate) fn read_pair<F: Files>(
+fn read_pair<F: Files>(
+    alloc: Global,
+    files: &mut F,
+    model: &str,
+    answers: &str,
+) -> Result<Read, Outcome>
+    ensures ok { IfOk result (λ read. ReadsPair model.now answers.now (F.state files.old)
+        (F.state files.new) (pair_of read.machine read.answers)) }
+    ensures err { IfErr result (IsUnread model.now answers.now (F.state files.old)
+        (F.state files.new)) }
+    ensures counts { (F.state files.old).faults ≤ (F.state files.new).faults }
+    ensures same { (F.state files.new).holds ≡ (F.state files.old).holds }
+{
+    let machine = match read_machine_file(alloc, files, model) {
+        Ok(machine) => machine,
+        Err(stop) => return Err(read_outcome(stop, Role::Model)),
+    };
+    match read_answers_file(alloc, files, answers) {
+        Ok(answers) => Ok(Read { machine, answers }),
+        Err(stop) => Err(read_outcome(stop, Role::Answers)),
+    }
+}
+
+/// Reads the files that the arguments name, the model's first.
+pub(crate) fn read_named<F: Files>(
     alloc: Global,
     files: &mut F,
     arguments: &CheckArguments,
@@ -31,12 +55,7 @@ pub(crate) fn read_pair<F: Files>(
     ensures counts { (F.state files.old).faults ≤ (F.state files.new).faults }
     ensures same { (F.state files.new).holds ≡ (F.state files.old).holds }
 {
-    let machine = match read_machine_file(alloc, files, arguments.model.as_str()) {
-        Ok(machine) => machine,
-        Err(stop) => return Err(read_outcome(stop, Role::Model)),
-    };
-    match read_answers_file(alloc, files, arguments.answers.as_str()) {
-        Ok(answers) => Ok(Read { machine, answers }),
-        Err(stop) => Err(read_outcome(stop, Role::Answers)),
-    }
+    let model = arguments.model.as_str();
+    let answers = arguments.answers.as_str();
+    read_pair(alloc, files, model, answers)
 }

@@ -14,11 +14,11 @@ returns-in-Err-clause-ran g c = record {
   ended =
       let F = g.F.Files in
       let E = g.E.Sink in
-      let none : c.refuse.result.kept.answers ≡ [] = ap (λ k. k.answers) c.refuse.ensures.kept ∙ c.new.ensures in
-      let said = subst (λ (kept : List KeptAnswer). TakesAll (text_of [] [] kept c.args.arguments.now.extra c.refuse.result.outcome) (E.state c.args.err.now).taken (E.state c.refuse.new.err).taken) c.new.ensures in
-      let part = subst (λ (kept : List KeptAnswer). TakesSome (text_of [] [] kept c.args.arguments.now.extra c.refuse.result.outcome) (E.state c.args.err.now).taken (E.state c.refuse.new.err).taken) c.new.ensures in
+      let none : c.refuse.result.kept.answers ≡ [] = ap (λ k. k.answers) c.refuse.ensures.kept ∙ c.new-kept.ensures in
+      let said = subst (λ (kept : List KeptAnswer). TakesAll (text_of [] [] kept c.args.arguments.now.extra c.refuse.result.outcome) (E.state c.args.err.now).taken (E.state c.refuse.new.err).taken) c.new-kept.ensures in
+      let part = subst (λ (kept : List KeptAnswer). TakesSome (text_of [] [] kept c.args.arguments.now.extra c.refuse.result.outcome) (E.state c.args.err.now).taken (E.state c.refuse.new.err).taken) c.new-kept.ensures in
       inl (record {
-        cause = still_unread (string_bytes c.args.arguments.now.model) (string_bytes c.args.arguments.now.answers) (F.state c.args.files.now) (F.state c.read_pair.new.files) c.in-Err.outcome c.refuse.result.outcome c.in-Err.ensures.err c.refuse.ensures.outcome;
+        cause = still_unread (string_bytes c.args.arguments.now.model) (string_bytes c.args.arguments.now.answers) (F.state c.args.files.now) (F.state c.read_named.new.files) c.in-Err.outcome c.refuse.result.outcome c.in-Err.ensures.err c.refuse.ensures.outcome;
         kept_none = none;
         unnamed = c.refuse.ensures.named;
         unwritten = refl {a = g.O.Sink.state c.args.out.now};
@@ -28,7 +28,7 @@ returns-in-Err-clause-ran g c = record {
   exact = λ m a decision tm ta d.
       let F = g.F.Files in
       let before = F.state c.args.files.now in
-      let now = F.state c.read_pair.new.files in
+      let now = F.state c.read_named.new.files in
       exact_unread (string_bytes c.args.arguments.now.model) (string_bytes c.args.arguments.now.answers) before now m a decision c.refuse.result.outcome (still_unread (string_bytes c.args.arguments.now.model) (string_bytes c.args.arguments.now.answers) before now c.in-Err.outcome c.refuse.result.outcome c.in-Err.ensures.err c.refuse.ensures.outcome) tm ta;
   sure = search rules;
 }
@@ -56,9 +56,10 @@ returns-clause-ran g c = record {
       let F = g.F.Files in
       let O = g.O.Sink in
       let before = F.state c.args.files.now in
-      let now = F.state c.read_pair.new.files in
+      let now = F.state c.read_named.new.files in
       exact_read c.args.arguments.now.suite (string_bytes c.args.arguments.now.model) (string_bytes c.args.arguments.now.answers) before now _ c.args.arguments.now.extra (O.state c.args.out.now) (O.state c.finish.new.out) m a decision c.finish.result.outcome c.in-Ok.ensures.ok c.finish.ensures.comes tm ta d;
   sure = λ states is.
       let O = g.O.Sink in
-      (pair_of c.in-Ok.read.machine c.in-Ok.read.answers, c.in-Ok.ensures.ok, yes_is_fixed c.args.arguments.now.suite (pair_of c.in-Ok.read.machine c.in-Ok.read.answers) c.args.arguments.now.extra (O.state c.args.out.now) (O.state c.finish.new.out) states c.finish.result.outcome c.finish.ensures.complete.machine c.finish.ensures.comes is);
+      let fixed = yes_is_fixed c.args.arguments.now.suite (pair_of c.in-Ok.read.machine c.in-Ok.read.answers) c.args.arguments.now.extra (O.state c.args.out.now) (O.state c.finish.new.out) states c.finish.result.outcome c.finish.ensures.complete.machine c.finish.ensures.comes is in
+      (pair_of c.in-Ok.read.machine c.in-Ok.read.answers, c.in-Ok.ensures.ok, fixed.0, fixed.1);
 }
