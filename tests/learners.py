@@ -268,9 +268,9 @@ def chunks(words):
         yield chunk
 
 
-def differing_in_suite(system, rows, letters, extra):
-    """The first word of the suite on which a machine differs from the system, cut to where it does."""
-    for chunk in chunks(suite(canonical(rows), letters, extra)):
+def differing_in_suite(system, rows, letters, extra, method):
+    """The first word of a method's suite on which a machine differs from the system, cut to where it does."""
+    for chunk in chunks(suite(canonical(rows), letters, extra, method)):
         system.settle_suite(chunk)
         for word in chunk:
             own, other = outputs_of(system.rows, 0, word), outputs_of(rows, 0, word)
@@ -294,8 +294,8 @@ def cut(system, rows, access, word):
     return state_after(rows, word[:low]), word[low], word[low + 1 :]
 
 
-def learn(learner, extra):
-    """The machine of a learner, after the rounds of a learning."""
+def learn(learner, extra, method):
+    """The machine of a learner, after the rounds of a learning with a method's suite."""
     system = learner.system
     learner.close()
     while True:
@@ -304,7 +304,7 @@ def learn(learner, extra):
         if word is None and learner.settle_block():
             continue
         if word is None:
-            word = differing_in_suite(system, machine, learner.letters, extra)
+            word = differing_in_suite(system, machine, learner.letters, extra, method)
         if word is None:
             return machine
         learner.refine(*cut(system, machine, learner.access, word))

@@ -8,8 +8,8 @@ use Rattle.lw_cache.specs.Clash.{IsClear}
 use Rattle.lw_cache.specs.Known.{IsKnown}
 use Rattle.lw_separate.proofs.CrowdLemmas.{same_or_not}
 use Rattle.lw_separate.proofs.Decided.{Decided, decides_like, decides_not, decides_both, decides_implies, decides_below}
-use Rattle.lw_certify.specs.Covers.{KnownApart}
-use Rattle.lw_certify.proofs.Decides.{decides_known}
+use Rattle.lw_apart.specs.Covers.{KnownApart}
+use Rattle.lw_apart.proofs.Decides.{decides_known}
 use Rattle.lw_apart.specs.Pairs.{WordPair, IsKnownApart}
 
 -- a suffix on which the outputs of two states differ isn't empty, so a known word with it is a prefix of a clear answer's

@@ -11,7 +11,7 @@ use Rattle.lw_mealy.specs.Machine.{Rows, after, next, output, out, cell, MealyMa
 use Rattle.lw_cache.specs.Clash.{IsClear}
 use Rattle.lw_cache.specs.Known.{IsKnown}
 use Rattle.lw_cache.proofs.ClashLemmas.{all_are_clear, given_never_clash}
-use Rattle.lw_certify.specs.Covers.{KnownApart}
+use Rattle.lw_apart.specs.Covers.{KnownApart}
 use Rattle.lw_apart.specs.bodies.Behind.{AreGiven, AreBehind, PartsBehind}
 use Rattle.lw_apart.proofs.ApartLemmas.{told_behind}
 

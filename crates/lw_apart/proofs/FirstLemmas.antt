@@ -8,8 +8,8 @@ use Rattle.lw_words.specs.Word.{Answer, IsWord}
 use Rattle.lw_words.specs.First.{FailsFirst}
 use Rattle.lw_mealy.specs.Machine.{Rows}
 use Rattle.lw_apart.specs.Pairs.{WordPair, IsKnownApart}
-use Rattle.lw_apart.specs.Verdict.{IsFirstOpen}
-use Rattle.lw_suite.specs.Suite.{words_of_length}
+use Rattle.lw_apart.specs.Missing.{IsFirstOpen}
+use Rattle.lw_chunks.specs.Middle.{words_of_length}
 use Rattle.lw_apart.specs.bodies.Stages.{FirstOpen, all_fronts}
 use Rattle.lw_apart.specs.declared.fronts.Fronts.{Fronts}
 use Rattle.lw_apart.proofs.PairLemmas.{fronts_words, all_words_of}

@@ -1,22 +1,20 @@
 -- What is missing, from the fronts that the code goes through.
-use Rattle.std.proofs.Common.{◌≡◌, ◌≢◌, ℕ, ◌+◌, inl, inr, List, [], sym, ap₂, subst, arith}
+use Rattle.std.proofs.Common.{◌≡◌, ◌≢◌, ℕ, ◌+◌, inl, inr, List, [], sym, ap₂, subst}
 use Rattle.std.specs.List.{All}
-use Rattle.std.proofs.lemmas.List.Elements.{All-get_or, All-from_get_or}
-use Rattle.lw_words.specs.Word.{Answer, IsWord}
+use Rattle.std.proofs.lemmas.List.Elements.{All-get_or}
+use Rattle.lw_words.specs.Word.{Answer}
 use Rattle.lw_mealy.specs.Machine.{Rows, IsMinimal, Gives, after}
 use Rattle.lw_separate.specs.Canonical.{AreLeastAccess}
 use Rattle.lw_cache.specs.Known.{IsKnown}
-use Rattle.lw_certify.specs.Covers.{Covers}
+use Rattle.lw_apart.specs.Covers.{Covers}
 use Rattle.lw_apart.specs.Pairs.{WordPair, fronts, pairs, IsKnownApart}
-use Rattle.lw_apart.specs.Verdict.{IsFirstOpen, IsWanted, IsLeastUnknown, IsMissing}
+use Rattle.lw_apart.specs.Missing.{IsFirstOpen, IsWanted, IsLeastUnknown, IsMissing}
 use Rattle.lw_apart.specs.bodies.Stages.{all_fronts}
 use Rattle.lw_apart.specs.declared.fronts.Fronts.{Fronts}
 use Rattle.lw_apart.proofs.ApartLemmas.{open_differs}
 use Rattle.lw_apart.proofs.PairLemmas.{AreWords, pairs_words}
 use Rattle.lw_apart.proofs.VerdictLemmas.{covered, is_open}
-
-pub access_words : (a : ℕ) (h : Rows) (access : List (List ℕ)) → AreLeastAccess a h access → All (IsWord a) access
-access_words a h access least = All-from_get_or (IsWord a) access [] (λ q lq. (least.words q (omega (arith, lq, least.each))).does.0)
+use Rattle.lw_separate.proofs.ListLemmas.{access_are_words}
 
 module _ (a : ℕ) (h : Rows) (ks : List Answer) (k : ℕ) (f : Fronts) (inputs : f.inputs ≡ a) (longest : f.longest ≡ k + 1) (least : AreLeastAccess a h f.access) where
   abbrev list : List WordPair
@@ -38,7 +36,7 @@ module _ (a : ℕ) (h : Rows) (ks : List Answer) (k : ℕ) (f : Fronts) (inputs 
   module _ (pair : WordPair) (first : IsFirstOpen h ks list pair) where
     pub pair_words : AreWords a pair
     pair_words =
-        let words : All (AreWords a) list = subst (All (AreWords a)) (sym same_pairs) (pairs_words a f.access (k + 1) (access_words a h f.access least)) in
+        let words : All (AreWords a) list = subst (All (AreWords a)) (sym same_pairs) (pairs_words a f.access (k + 1) (access_are_words a h f.access least)) in
         subst (AreWords a) (sym first.here) (All-get_or (AreWords a) list first.number ([], []) first.first.within words)
 
     pub pair_differs : after h 0 pair.0 ≢ after h 0 pair.1

@@ -3,9 +3,9 @@ use Rattle.std.proofs.Common.{◌≡◌, ℕ, zero, suc, ◌+◌, ◌-◌, ◌<�
 use Rattle.std.specs.List.{All, flat_map, range_with_len}
 use Rattle.std.proofs.lemmas.List.Elements.{All-nil, All-cons, All-append, All-take, All-map, All-get_or, All-from_get_or, recursion_from_All}
 use Rattle.lw_words.specs.Word.{IsWord}
-use Rattle.lw_suite.specs.Suite.{words_of_length, words_up_to}
-use Rattle.lw_suite.proofs.SizeLemmas.{length-words_of}
-use Rattle.lw_certify.proofs.SuiteLemmas.{number_in, number_up_to}
+use Rattle.lw_chunks.specs.Middle.{words_of_length, words_up_to}
+use Rattle.lw_chunks.proofs.SizeLemmas.{length-words_of}
+use Rattle.lw_chunks.proofs.NumberLemmas.{number_in, number_up_to}
 use Rattle.lw_apart.specs.Pairs.{WordPair, fronts, with_access, along_from, along, pairs}
 use Rattle.lw_apart.proofs.Lists.{all_left, all_right, map_all, all_flat, flat_all, all_range, range_all}
 

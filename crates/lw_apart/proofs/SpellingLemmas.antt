@@ -2,11 +2,11 @@
 use Rattle.std.proofs.Common.{◌≡◌, ℕ, suc, ◌+◌, ◌-◌, ◌*◌, ◌/◌, ◌%◌, ◌^◌, ◌<◌, ◌≤◌, List, [], ◌++◌, length, get_or, slice_get, Some, sym, ap, ap₂, ◌∙◌, arith}
 use Rattle.std.proofs.lemmas.List.{get_or-append-add}
 use Rattle.std.proofs.lemmas.Option.{get_or_from_slice_get}
-use Rattle.lw_suite.specs.Size.{powers}
-use Rattle.lw_suite.specs.Suite.{words_of_length, words_up_to}
-use Rattle.lw_suite.proofs.EachLemmas.{length-each}
-use Rattle.lw_suite.proofs.PlaceLemmas.{front_at_number}
-use Rattle.lw_suite.proofs.SizeLemmas.{length-words_of, length-words_up_to}
+use Rattle.lw_chunks.specs.Size.{powers}
+use Rattle.lw_chunks.specs.Middle.{words_of_length, words_up_to}
+use Rattle.lw_chunks.proofs.EachLemmas.{length-each}
+use Rattle.lw_chunks.proofs.FrontLemmas.{front_at_number}
+use Rattle.lw_chunks.proofs.SizeLemmas.{length-words_of, length-words_up_to}
 use Rattle.lw_apart.specs.bodies.Stages.{all_fronts}
 use Rattle.lw_apart.specs.declared.fronts.Fronts.{Fronts}
 

@@ -1,20 +1,15 @@
--- What the verdicts mean: Sure is that the answers cover the machine, and what is missing isn't known.
-use Rattle.std.proofs.Common.{◌≡◌, ℕ, ◌+◌, ◌<◌, ⊎_elim, List, [], ◌++◌, length, refl, subst, arith}
+-- That answers cover a machine, by the lists of words and pairs; and what is missing isn't known.
+use Rattle.std.proofs.Common.{◌≡◌, ℕ, ◌+◌, ◌<◌, ⊎_elim, List, [], ◌++◌, length, subst, arith}
 use Rattle.std.specs.List.{All}
 use Rattle.std.proofs.lemmas.List.Elements.{All-contains}
 use Rattle.lw_words.specs.Word.{Answer}
-use Rattle.lw_mealy.specs.Machine.{Rows, IsMachine, IsMinimal, Gives}
+use Rattle.lw_mealy.specs.Machine.{Rows, IsMinimal, Gives}
 use Rattle.lw_separate.specs.Canonical.{AreLeastAccess}
 use Rattle.lw_separate.proofs.OneLemmas.{one_least_access}
 use Rattle.lw_cache.specs.Known.{IsKnown}
-use Rattle.lw_certify.specs.Covers.{Covers}
-use Rattle.lw_certify.proofs.CoverLemmas.{covers_is_sure, suite_covers}
-use Rattle.lw_suite.specs.declared.method.Method.TheVariants.{W}
-use Rattle.lw_certify.specs.declared.verdict.Verdict.TheVariants as verdict
+use Rattle.lw_apart.specs.Covers.{Covers}
 use Rattle.lw_apart.specs.Pairs.{WordPair, fronts, pairs, IsKnownApart}
-use Rattle.lw_certify.specs.Verdict.{IsVerdict}
-use Rattle.lw_certify.specs.declared.verdict.Verdict.{Verdict}
-use Rattle.lw_apart.specs.Verdict.{IsVerdictByApartness, IsFirstOpen, IsWanted, IsLeastUnknown, IsWantedFirst, IsMissing, ApartnessIsSure, SureByWIsSure, MissingIsUnknown}
+use Rattle.lw_apart.specs.Missing.{IsFirstOpen, IsWanted, IsLeastUnknown, IsWantedFirst, IsMissing, MissingIsUnknown}
 use Rattle.lw_apart.proofs.Lists.{first_not_all}
 use Rattle.lw_apart.proofs.ApartLemmas.{open_differs}
 use Rattle.lw_apart.proofs.PairLemmas.{fronts_all, pairs_homes, pairs_ways, all_fronts, all_pairs}
@@ -71,25 +66,9 @@ wanted_unknown a h ks pair word not_so w known =
     w.first
 
 pub missing_is_unknown : MissingIsUnknown
-missing_is_unknown a h ks k word v =
-    let m = v.3 in
+missing_is_unknown a h ks k word m =
     ⊎_elim
     (λ (f : IsLeastUnknown ks (fronts a m.access (k + 1)) word). f.does.1)
     (λ (f : IsWantedFirst a h ks (fronts a m.access (k + 1)) (pairs a m.access (k + 1)) word).
     wanted_unknown a h ks f.pair word (is_open h ks (pairs a m.access (k + 1)) f.pair f.open_pair) f.wanted)
     m.missing
-
-pub sure_is_sure : ApartnessIsSure
-sure_is_sure a h ks k machine v = covers_is_sure a h ks k machine v.1
-
-pub sure_by_w_is_sure : SureByWIsSure
-sure_by_w_is_sure a h ks k machine v = (v.2, suite_covers W a h ks k machine v)
-
--- a verdict by the W-method that isn't a missing word is the one by apartness
-pub by_w : (a : ℕ) (h : Rows) (ks : List Answer) (k : ℕ) (v : Verdict) → IsMachine a h → ((word : List ℕ) → v ≡ verdict.Missing word → ⊥) → IsVerdict W a h ks k v → IsVerdictByApartness a h ks k v
-by_w a h ks k (verdict.Unreached q) machine other v = v
-by_w a h ks k (verdict.Alike p q) machine other v = v
-by_w a h ks k (verdict.Differs i p) machine other v = v
-by_w a h ks k (verdict.TooLarge size) machine other v = v
-by_w a h ks k (verdict.Missing word) machine other v = absurd (other word refl)
-by_w a h ks k verdict.Sure machine other v = sure_by_w_is_sure a h ks k machine v

@@ -1,4 +1,4 @@
-pub mod Completing
+pub mod Covers
+pub mod Missing
 pub mod Pairs
-pub mod Verdict
 pub mod bodies

@@ -4,8 +4,8 @@ use Rattle.std.specs.Prelude.{ℕ, ◌+◌, ◌-◌, List, ◌++◌, map, take}
 use Rattle.std.specs.List.{flat_map, range_with_len}
 use Rattle.lw_words.specs.Word.{Answer}
 use Rattle.lw_mealy.specs.Machine.{Rows}
-use Rattle.lw_suite.specs.Suite.{each_with, words_of_length, words_up_to}
-use Rattle.lw_certify.specs.Covers.{ApartWhereDifferent}
+use Rattle.lw_chunks.specs.Middle.{each_with, words_of_length, words_up_to}
+use Rattle.lw_apart.specs.Covers.{ApartWhereDifferent}
 
 -- each access word with at most n letters behind it: by the access word, then by the letters in shortlex order
 abbrev pub fronts : ℕ → List (List ℕ) → ℕ → List (List ℕ)

@@ -1,4 +1,3 @@
 -- What the contracts of private functions cite, and no public clause.
 pub mod Behind
-pub mod Planning
 pub mod Stages

@@ -3,7 +3,7 @@ ghost use Rattle.std.specs.Prelude.{◌≡◌, ◌≢◌, ◌↔◌, ◌<◌, tr
 ghost use Rattle.lw_words.specs.Word.{answer_of, answers_of, IsWord, IsPrefix};
 ghost use Rattle.lw_mealy.specs.Machine.{after, IsMinimal};
 ghost use Rattle.lw_separate.specs.Canonical.{IsLeastSeparating};
-ghost use Rattle.lw_certify.specs.Covers.{KnownApart};
+ghost use Rattle.lw_apart.specs.Covers.{KnownApart};
 ghost use Rattle.lw_apart.specs.Pairs.{IsKnownApart};
 ghost use Rattle.lw_apart.specs.bodies.Behind.{AreGiven, AreBehind, PartsBehind};
 

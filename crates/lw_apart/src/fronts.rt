@@ -1,6 +1,6 @@
 //! What the words that are to be known are made of.
 ghost use Rattle.std.specs.Prelude.{◌≡◌, ◌≤◌, ◌*◌, length};
-ghost use Rattle.lw_suite.specs.Size.{powers};
+ghost use Rattle.lw_chunks.specs.Size.{powers};
 
 use lw_words::Words;
 

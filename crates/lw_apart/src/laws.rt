@@ -1,16 +1,12 @@
 //! Laws about the definitions alone, with no code.
-ghost use Rattle.lw_apart.specs.Verdict.{ApartnessIsSure, MissingIsUnknown, OneVerdictByApartness, SomeVerdictByApartness, SureByWIsSure};
+ghost use Rattle.lw_apart.specs.Covers.{CoversIsSure};
+ghost use Rattle.lw_apart.specs.Missing.{CoveredOrMissing, MissingIsUncovered, MissingIsUnknown, OneMissing};
 
 use lw_separate::least_access_exists;
 
-/// The completeness of the certificate (Dorofeeva, El-Fakih and Koufareva 2005).
-pub fn sure_is_sure()
-    ensures { ApartnessIsSure }
-{}
-
-/// What suffices by the W-method suffices by apartness.
-pub fn sure_by_w_is_sure()
-    ensures { SureByWIsSure }
+/// Answers that cover a machine fix it, whatever suite they came by (Dorofeeva, El-Fakih and Koufareva 2005).
+pub fn covers_is_sure()
+    ensures { CoversIsSure }
 {}
 
 /// A word that is missing isn't known: who asks it learns something.
@@ -18,14 +14,19 @@ pub fn missing_is_unknown()
     ensures { MissingIsUnknown }
 {}
 
-/// Two verdicts on one model and the same answers are one.
-pub fn verdict_is_unique()
-    ensures { OneVerdictByApartness }
+/// At most one word is missing.
+pub fn missing_is_unique()
+    ensures { OneMissing }
 {}
 
-/// A machine and answers with an output for each letter have a verdict, whatever their numbers.
-pub fn verdict_exists()
-    ensures { SomeVerdictByApartness }
+/// Where a word is missing, the answers don't cover the machine.
+pub fn missing_is_uncovered()
+    ensures { MissingIsUncovered }
+{}
+
+/// Answers that a minimal machine gives cover it, or a word is missing.
+pub fn covered_or_missing()
+    ensures { CoveredOrMissing }
 {
     least_access_exists();
 }

@@ -1,19 +1,15 @@
-//! The certificate by apartness: whether kept answers cover a model, whichever words they came from.
+//! Answers that cover a machine, by apartness, whichever words they came from: they fix it, and else a word is missing.
 #![tactic(auto)]
 
 mod apart;
-mod certificate;
 mod fronts;
 mod laws;
+mod missing;
 mod pairs;
-mod plan;
-mod planning;
 mod spelling;
-mod suite;
 mod unknown;
 
-pub use certificate::certify_by_apartness;
 pub use laws::{
-    missing_is_unknown, sure_by_w_is_sure, sure_is_sure, verdict_exists, verdict_is_unique,
+    covered_or_missing, covers_is_sure, missing_is_uncovered, missing_is_unique, missing_is_unknown,
 };
-pub use suite::HSuite;
+pub use missing::missing_word;

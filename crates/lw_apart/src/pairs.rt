@@ -2,7 +2,7 @@
 ghost use Rattle.std.specs.Prelude.{◌≡◌, ◌<◌, ◌≤◌, ◌+◌, ◌++◌, length, take, IfOk};
 ghost use Rattle.std.specs.List.{All, flat_map};
 ghost use Rattle.lw_words.specs.Word.{answers_of, IsWord};
-ghost use Rattle.lw_suite.specs.Suite.{words_of_length};
+ghost use Rattle.lw_chunks.specs.Middle.{words_of_length};
 ghost use Rattle.lw_apart.specs.Pairs.{with_access, along_from, along, pairs};
 ghost use Rattle.lw_apart.specs.bodies.Behind.{AreGiven};
 ghost use Rattle.lw_apart.specs.bodies.Stages.{all_fronts, FirstOpen};

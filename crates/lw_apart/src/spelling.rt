@@ -2,14 +2,14 @@
 ghost use Rattle.std.specs.Prelude.{◌≡◌, ◌<◌, ◌≤◌, ◌+◌, [], length, slice_index_or, IfOk, OnOk};
 ghost use Rattle.lw_mealy.specs.Machine.{IsMinimal};
 ghost use Rattle.lw_separate.specs.Canonical.{AreLeastAccess};
-ghost use Rattle.lw_suite.specs.Size.{suite_size, greatest_suite};
-ghost use Rattle.lw_suite.specs.Suite.{words_of_length};
+ghost use Rattle.lw_chunks.specs.Size.{suite_size, greatest_suite};
+ghost use Rattle.lw_chunks.specs.Middle.{words_of_length};
 ghost use Rattle.lw_apart.specs.bodies.Stages.{all_fronts};
 
 use crate::fronts::Fronts;
+use lw_chunks::{middle_count, spell};
 use lw_mealy::Mealy;
 use lw_separate::least_access;
-use lw_suite::{middle_count, spell};
 use lw_words::{NoMemory, Word};
 use std::alloc::Global;
 

@@ -10,13 +10,20 @@ use Rattle.lw_words.specs.Word.{Answer, answer_of, answers_of, answer_at}
 use Rattle.lw_words.specs.First.{FailsFirst}
 use Rattle.lw_words.specs.declared.kept.KeptAnswer.{KeptAnswer}
 use Rattle.lw_words.proofs.Lists.{within-map_more}
-use Rattle.lw_mealy.specs.Machine.{Rows, IsMachine, answer, IsMinimal, Sure}
+use Rattle.lw_mealy.specs.Machine.{Rows, IsMachine, answer, IsMinimal, Sure, Gives}
 use Rattle.lw_mealy.specs.Difference.{DifferFirst}
 use Rattle.lw_separate.specs.Canonical.{IsLeastAccess, IsAccessWord, AreAccessWords, AreLeastAccess}
 use Rattle.lw_separate.specs.FirstAlike.{AnyTwoDiffer}
 use Rattle.lw_cache.specs.Known.{IsKnown}
 use Rattle.lw_words.specs.declared.memory.NoMemory.{NoMemory}
-use Rattle.lw_suite.specs.declared.method.Method.{Method}
+use Rattle.lw_chunks.specs.Size.{suite_size, greatest_suite}
+use Rattle.lw_chunks.specs.declared.size.SuiteFault.{SuiteFault}
+use Rattle.lw_chunks.specs.declared.size.SuiteFault.TheVariants as too
+use Rattle.lw_chunks.specs.declared.method.Method.TheVariants.{W, Wp, H}
+use Rattle.lw_suite.specs.Suite.{IsSuite}
+use Rattle.lw_wp.specs.WpSuite.{IsWpSuite}
+use Rattle.lw_certify.specs.bodies.Stages.{IsJudged, IsOfFault}
+use Rattle.lw_chunks.specs.declared.method.Method.{Method}
 use Rattle.lw_certify.specs.Verdict.{IsFirstUnreached, AllReached, DiffersAt, IsVerdict}
 use Rattle.lw_certify.specs.bodies.Access.{IsAccess}
 use Rattle.lw_certify.specs.declared.certificate.Access.{Access}

@@ -14,10 +14,12 @@ use Rattle.lw_separate.proofs.CrowdLemmas.{same_or_not}
 use Rattle.lw_separate.proofs.Decided.{first_below, turned, all_or_first}
 use Rattle.lw_separate.proofs.ExistenceAccess.{least_or_unreached}
 use Rattle.lw_suite.specs.Suite.{SomeSuite}
-use Rattle.lw_suite.specs.declared.method.Method.{Method}
-use Rattle.lw_suite.specs.declared.method.Method.TheVariants.{W}
-use Rattle.lw_certify.specs.Verdict.{IsFirstUnreached, AllReached, DiffersAt, IsMissingBy, AreEnoughBy}
-use Rattle.lw_certify.proofs.Decides.{decides_known}
+use Rattle.lw_wp.specs.WpSuite.{SomeWpSuite}
+use Rattle.lw_apart.specs.Missing.{CoveredOrMissing}
+use Rattle.lw_chunks.specs.declared.method.Method.{Method}
+use Rattle.lw_chunks.specs.declared.method.Method.TheVariants.{W, Wp, H}
+use Rattle.lw_certify.specs.Verdict.{IsFirstUnreached, AllReached, DiffersAt, IsSuiteBy, IsFirstMissing, SuiteIsKnown, IsMissingBy, AreEnoughBy}
+use Rattle.lw_apart.proofs.Decides.{decides_known}
 
 module _ (a : ℕ) (h : Rows) (machine : IsMachine a h) where
   unreached_or_reached : (q : ℕ) → (¬ Reached a h q) ⊎ Reached a h q
@@ -66,11 +68,18 @@ differs_or_gives h ks whole =
 known_or_missing : (ks : List Answer) (words : List (List ℕ)) → All (IsKnown ks) words ⊎ ((number : ℕ) × FailsFirst (IsKnown ks) words number)
 known_or_missing ks words = all_or_first (IsKnown ks) words [] (λ w. decides_known ks w)
 
+-- the answers make a suite known, or a word of it is the missing one
+module _ (method : Method) (a : ℕ) (h : Rows) (ks : List Answer) (k : ℕ) where
+  suite_known_or_missing : (suite : List (List ℕ)) → IsSuiteBy method a h k suite → SuiteIsKnown method a h ks k ⊎ ((word : List ℕ) × IsFirstMissing method a h ks k word)
+  suite_known_or_missing suite is =
+      ⊎_elim
+      (λ (known : All (IsKnown ks) suite). inl (record { suite = suite; whole = is; known = known }))
+      (λ (f : (number : ℕ) × FailsFirst (IsKnown ks) suite number). inr (get_or suite f.0 [], record { suite = suite; whole = is; number = f.0; first = f.1; here = refl }))
+      (known_or_missing ks suite)
+
 -- the answers are enough by a method, or a word is the missing one
-pub enough_or_missing : (method : Method) (a : ℕ) (h : Rows) (ks : List Answer) (k : ℕ) → SomeSuite → IsMachine a h → IsMinimal a h → AreEnoughBy method a h ks k ⊎ ((word : List ℕ) × IsMissingBy method a h ks k word)
-enough_or_missing W a h ks k some machine minimal =
-    let suite = some a h k machine minimal in
-    ⊎_elim
-    (λ (known : All (IsKnown ks) suite.0). inl (record { suite = suite.0; whole = suite.1; known = known }))
-    (λ (f : (number : ℕ) × FailsFirst (IsKnown ks) suite.0 number). inr (get_or suite.0 f.0 [], record { suite = suite.0; whole = suite.1; number = f.0; first = f.1; here = refl }))
-    (known_or_missing ks suite.0)
+pub enough_or_missing : (method : Method) (a : ℕ) (h : Rows) (ks : List Answer) (k : ℕ) → SomeSuite → SomeWpSuite → CoveredOrMissing → IsMachine a h → IsMinimal a h → Gives h ks
+    → AreEnoughBy method a h ks k ⊎ ((word : List ℕ) × IsMissingBy method a h ks k word)
+enough_or_missing W a h ks k some some_wp covered machine minimal given = let s = some a h k machine minimal in suite_known_or_missing W a h ks k s.0 s.1
+enough_or_missing Wp a h ks k some some_wp covered machine minimal given = let s = some_wp a h k machine minimal in suite_known_or_missing Wp a h ks k s.0 s.1
+enough_or_missing H a h ks k some some_wp covered machine minimal given = covered a h ks k machine minimal given

@@ -1,13 +1,7 @@
 pub mod CertifyLemmas
-pub mod Cover
-pub mod CoverLemmas
-pub mod Decides
+pub mod EnoughLemmas
 pub mod ExistenceVerdict
-pub mod Known
-pub mod Meets
 pub mod OneVerdict
-pub mod Pigeon
-pub mod Runs
 pub mod SuiteLemmas
 pub mod SureLemmas
 pub mod Tells

@@ -11,10 +11,13 @@ use Rattle.lw_mealy.specs.Difference.{DifferFirst}
 use Rattle.lw_separate.specs.FirstAlike.{AreFirstAlike}
 use Rattle.lw_separate.specs.Separators.{Earlier}
 use Rattle.lw_suite.proofs.SuiteLemmas.{one_suite}
+use Rattle.lw_wp.proofs.WpSuiteLemmas.{one_wp_suite}
+use Rattle.lw_apart.proofs.OneMissing.{one_missing as one_by_apartness}
+use Rattle.lw_apart.proofs.VerdictLemmas.{missing_uncovered}
 use Rattle.lw_cache.specs.Known.{IsKnown}
-use Rattle.lw_suite.specs.declared.method.Method.{Method}
-use Rattle.lw_suite.specs.declared.method.Method.TheVariants.{W}
-use Rattle.lw_certify.specs.Verdict.{OneVerdict, IsFirstUnreached, AllReached, DiffersAt, IsFirstMissing, SuiteIsKnown, IsMissingBy, AreEnoughBy}
+use Rattle.lw_chunks.specs.declared.method.Method.{Method}
+use Rattle.lw_chunks.specs.declared.method.Method.TheVariants.{W, Wp, H}
+use Rattle.lw_certify.specs.Verdict.{OneVerdict, IsFirstUnreached, AllReached, DiffersAt, IsFirstMissing, SuiteIsKnown, IsMissingBy, AreEnoughBy, IsSuiteBy}
 use Rattle.lw_certify.specs.declared.verdict.Verdict.TheVariants.{Unreached, Alike, Differs, TooLarge, Missing, Sure}
 
 -- two first places at which something fails are one
@@ -72,23 +75,29 @@ module _ (a : ℕ) (h : Rows) where
   differs_not_given : (ks : List Answer) (i p : ℕ) → DiffersAt h ks i p → Gives h ks → ⊥
   differs_not_given ks i p f given = first_not_all (λ k. answer h k.word ≡ k.outs) ks (record { word = []; outs = [] }) i f.first given
 
-  one_missing : (ks : List Answer) (k : ℕ) (u v : List ℕ) → IsFirstMissing a h ks k u → IsFirstMissing a h ks k v → u ≡ v
-  one_missing ks k u v f g =
-      let s : f.suite ≡ g.suite = one_suite a h k f.suite g.suite f.whole g.whole in
+-- of a method whose suite is one
+module _ (method : Method) (a : ℕ) (h : Rows) (ks : List Answer) (k : ℕ) (one : (s t : List (List ℕ)) → IsSuiteBy method a h k s → IsSuiteBy method a h k t → s ≡ t) where
+  one_missing : (u v : List ℕ) → IsFirstMissing method a h ks k u → IsFirstMissing method a h ks k v → u ≡ v
+  one_missing u v f g =
+      let s : f.suite ≡ g.suite = one f.suite g.suite f.whole g.whole in
       let f' : FailsFirst (IsKnown ks) g.suite f.number = subst (λ (xs : List (List ℕ)). FailsFirst (IsKnown ks) xs f.number) s f.first in
       let e : f.number ≡ g.number = first_one (IsKnown ks) g.suite [] f.number g.number f' g.first in
       f.here ∙ (ap₂ (λ (xs : List (List ℕ)) (n : ℕ). get_or xs n []) s e ∙ sym g.here)
 
-  missing_not_covered : (ks : List Answer) (k : ℕ) (u : List ℕ) → IsFirstMissing a h ks k u → SuiteIsKnown a h ks k → ⊥
-  missing_not_covered ks k u f g =
-      let s : f.suite ≡ g.suite = one_suite a h k f.suite g.suite f.whole g.whole in
+  missing_not_known : (u : List ℕ) → IsFirstMissing method a h ks k u → SuiteIsKnown method a h ks k → ⊥
+  missing_not_known u f g =
+      let s : f.suite ≡ g.suite = one f.suite g.suite f.whole g.whole in
       first_not_all (IsKnown ks) g.suite [] f.number (subst (λ (xs : List (List ℕ)). FailsFirst (IsKnown ks) xs f.number) s f.first) g.known
 
 one_missing_by : (method : Method) (a : ℕ) (h : Rows) (ks : List Answer) (k : ℕ) (u v : List ℕ) → IsMissingBy method a h ks k u → IsMissingBy method a h ks k v → u ≡ v
-one_missing_by W a h ks k u v f g = one_missing a h ks k u v f g
+one_missing_by W a h ks k u v f g = one_missing W a h ks k (one_suite a h k) u v f g
+one_missing_by Wp a h ks k u v f g = one_missing Wp a h ks k (one_wp_suite a h k) u v f g
+one_missing_by H a h ks k u v f g = one_by_apartness a h ks k u v f g
 
 missing_not_enough : (method : Method) (a : ℕ) (h : Rows) (ks : List Answer) (k : ℕ) (u : List ℕ) → IsMissingBy method a h ks k u → AreEnoughBy method a h ks k → ⊥
-missing_not_enough W a h ks k u f g = missing_not_covered a h ks k u f g
+missing_not_enough W a h ks k u f g = missing_not_known W a h ks k (one_suite a h k) u f g
+missing_not_enough Wp a h ks k u f g = missing_not_known Wp a h ks k (one_wp_suite a h k) u f g
+missing_not_enough H a h ks k u f g = missing_uncovered a h ks k u f g
 
 pub one_verdict : OneVerdict
 one_verdict method a h ks k (Unreached p) (Unreached q) f g = ap (λ (n : ℕ). Unreached n) (one_unreached a h p q f g)

@@ -7,8 +7,9 @@ use Rattle.std.proofs.lemmas.List.{length-take-le}
 use Rattle.std.proofs.lemmas.List.Elements.{All-contains, All-contains_itself}
 use Rattle.std.proofs.lemmas.Slice.Eq.{bytes_eq-Decides}
 use Rattle.lw_mealy.specs.Machine.{Rows, IsMachine, after, out}
-use Rattle.lw_certify.proofs.Cover.{Over, Alike, Apart, IsAccess, IsToldByWp, WTells, WpTells}
-use Rattle.lw_certify.proofs.Runs.{after_below, over_append, over_take}
+use Rattle.lw_apart.proofs.Cover.{Alike, Apart, IsAccess, IsToldByWp, WTells, WpTells}
+use Rattle.lw_chunks.proofs.NumberLemmas.{Over}
+use Rattle.lw_apart.proofs.Runs.{after_below, over_append, over_take}
 
 -- one of the words on which two states don't answer alike
 abbrev Teller : Rows → ℕ → ℕ → List (List ℕ) → Type 0

@@ -8,10 +8,11 @@ use Rattle.lw_cache.specs.Known.{IsKnown}
 use Rattle.lw_mealy.specs.Machine.{Row, IsMachine, after, answer, out, Gives, Sure}
 use Rattle.lw_mealy.specs.Worked.{one, counter_of_three}
 use Rattle.lw_certify.specs.Worked.{AsWorked, seven_letters, two_letters}
-use Rattle.lw_certify.proofs.Cover.{Over, Apart, IsAccess, IsToldApart}
-use Rattle.lw_certify.proofs.Known.{same_on_known}
-use Rattle.lw_certify.proofs.Meets.{all_alike}
-use Rattle.lw_certify.proofs.Runs.{after_below, over_append, over_take}
+use Rattle.lw_apart.proofs.Cover.{Apart, IsAccess, IsToldApart}
+use Rattle.lw_chunks.proofs.NumberLemmas.{Over}
+use Rattle.lw_apart.proofs.Known.{same_on_known}
+use Rattle.lw_apart.proofs.Meets.{all_alike}
+use Rattle.lw_apart.proofs.Runs.{after_below, over_append, over_take}
 
 one_cell : (q y : ℕ) → q < 3 → All (λ (c : ℕ × ℕ). c.0 < 3) ((q, y) ∷ [])
 one_cell q y lt = All-from_recursion (λ (c : ℕ × ℕ). c.0 < 3) ((q, y) ∷ []) (lt, tt)

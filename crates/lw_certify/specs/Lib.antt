@@ -1,4 +1,3 @@
-pub mod Covers
 pub mod Verdict
 pub mod Worked
 pub mod bodies

@@ -1,21 +1,28 @@
 //! Laws about the definitions alone, with no code.
-ghost use Rattle.lw_certify.specs.Covers.{CoversIsSure, SuiteCovers};
-ghost use Rattle.lw_certify.specs.Verdict.{OneVerdict, SomeVerdict, SureIsSure};
+ghost use Rattle.lw_certify.specs.Verdict.{EnoughCovers, OneVerdict, SomeVerdict, SuiteIsEnough, SuitesAreOfWords, SureIsSure};
 ghost use Rattle.lw_certify.specs.Worked.{AsWorked};
 
+use lw_apart::covered_or_missing;
 use lw_suite::suite_exists;
+use lw_wp::wp_suite_exists;
 
-/// Answers that cover a machine fix it, whatever suite they came by (Dorofeeva, El-Fakih and Koufareva 2005).
-pub fn covers_is_sure()
-    ensures { CoversIsSure }
+/// Where answers are enough by a method, they cover the machine: so what is enough by any is enough by the H-method.
+pub fn enough_covers()
+    ensures { EnoughCovers }
 {}
 
-/// Where answers are enough by a method, they cover the machine: by the W-method where all words of its suite are known.
-pub fn suite_covers()
-    ensures { SuiteCovers }
+/// Answers that the machine gives, and that make a suite of it known, are enough by the method that made the suite.
+pub fn suite_is_enough()
+    ensures { SuiteIsEnough }
 {}
 
-/// The completeness of each method: of the W-method, Vasilevskii (1973) and Chow (1978).
+/// The words of each suite are over the machine's letters.
+pub fn suites_are_of_words()
+    ensures { SuitesAreOfWords }
+{}
+
+/// The completeness of each method: of the W-method, Vasilevskii (1973) and Chow (1978); of the Wp-method, Fujiwara and others (1991);
+/// of the H-method, Dorofeeva, El-Fakih and Koufareva (2005).
 pub fn sure_is_sure()
     ensures { SureIsSure }
 {}
@@ -35,4 +42,6 @@ pub fn verdict_exists()
     ensures { SomeVerdict }
 {
     suite_exists();
+    wp_suite_exists();
+    covered_or_missing();
 }

@@ -8,7 +8,7 @@ mod verdict;
 
 pub use certificate::certify;
 pub use laws::{
-    covers_is_sure, suite_covers, sure_is_not_vacuous, sure_is_sure, verdict_exists,
-    verdict_is_unique,
+    enough_covers, suite_is_enough, suites_are_of_words, sure_is_not_vacuous, sure_is_sure,
+    verdict_exists, verdict_is_unique,
 };
 pub use verdict::Verdict;

@@ -7,7 +7,7 @@ ghost use Rattle.lw_cache.specs.Known.{IsKnown};
 ghost use Rattle.lw_certify.specs.bodies.Stages.{IsFirstUnknown};
 
 use lw_cache::{Cache, Known};
-use lw_suite::Chunks;
+use lw_chunks::Chunks;
 use lw_words::{NoMemory, Word};
 use std::alloc::Global;
 

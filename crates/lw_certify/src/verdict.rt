@@ -10,9 +10,9 @@ pub enum Verdict {
     Alike(u16, u16),
     /// The model doesn't give the answer with this number, the first such, from this place on.
     Differs { answer: usize, place: usize },
-    /// The suite would have this size, which is above the greatest.
+    /// The size of the W-method's suite would be this, which is above the greatest.
     TooLarge(u64),
-    /// This word of the suite isn't known, the first such.
+    /// This word isn't known: the first such of the suite, or by the H-method the first that is needed for the answers to cover the model.
     Missing(Word),
     /// None of these: the answers fix the model among all machines of at most so many states more.
     Sure,

@@ -6,7 +6,7 @@ use Rattle.lw_words.specs.Word.{Answer, answer_at, answers_of, IsPrefix}
 use Rattle.lw_cache.specs.Clash.{ClashAt, NothingClashes}
 use Rattle.lw_cache.specs.FirstClash.{ClashesFirst, IsFirstClash}
 use Rattle.lw_cache.specs.declared.stops.Clash.{Clash as Found}
-use Rattle.lw_suite.specs.declared.method.Method.{Method}
+use Rattle.lw_chunks.specs.declared.method.Method.{Method}
 use Rattle.lw_certify.specs.declared.verdict.Verdict.{Verdict}
 use Rattle.lw_certify.specs.declared.verdict.Verdict.TheVariants as verdict
 use Rattle.lw_certify.proofs.OneVerdict.{one_verdict}

@@ -9,7 +9,7 @@ use Rattle.lw_json.specs.declared.files.Machine.{Machine}
 use Rattle.lw_json.proofs.OneValue.{one_value}
 use Rattle.lw_json.proofs.OneAnswers.{one_answers}
 use Rattle.lw_outside.specs.Files.{File, Holds, HoldsLong, file_at, FilesState}
-use Rattle.lw_suite.specs.declared.method.Method.{Method}
+use Rattle.lw_chunks.specs.declared.method.Method.{Method}
 use Rattle.lw_certify.proofs.SureLemmas.{sure_is_sure}
 use Rattle.lw_report.specs.Outcomes.{HasOwnText, StandsOrWants}
 use Rattle.lw_report.specs.Text.{text_of}

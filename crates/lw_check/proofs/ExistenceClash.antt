@@ -9,7 +9,7 @@ use Rattle.lw_cache.specs.declared.stops.Clash.{Clash as Found}
 use Rattle.lw_cache.proofs.ClashLemmas.{all_are_clear}
 use Rattle.lw_cache.proofs.KnownLemmas.{prefix_long, prefix_take, reads_once}
 use Rattle.lw_separate.proofs.Decided.{Decided, first_below}
-use Rattle.lw_certify.proofs.Decides.{decides_prefix, decides_clash_at, decides_clash}
+use Rattle.lw_apart.proofs.Decides.{decides_prefix, decides_clash_at, decides_clash}
 use Rattle.lw_cache.specs.FirstClash.{IsFirstClash}
 use Rattle.lw_check.proofs.DecideLemmas.{begins_with, found_of}
 

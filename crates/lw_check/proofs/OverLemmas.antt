@@ -8,7 +8,7 @@ use Rattle.lw_json.specs.KeptOver.{AreKeptOver}
 use Rattle.lw_cache.specs.Clash.{NothingClashes}
 use Rattle.lw_certify.specs.declared.verdict.Verdict.{Verdict}
 use Rattle.lw_certify.specs.declared.verdict.Verdict.TheVariants as verdict
-use Rattle.lw_suite.specs.declared.method.Method.{Method}
+use Rattle.lw_chunks.specs.declared.method.Method.{Method}
 use Rattle.lw_certify.specs.Verdict.{IsVerdict}
 use Rattle.lw_check.specs.Decision.{Pair, SameNames, IsDecision}
 use Rattle.lw_check.specs.bodies.Verdicts.{HasOutcome, outcome_of}

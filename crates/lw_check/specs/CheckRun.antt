@@ -3,7 +3,7 @@ use Rattle.std.specs.Prelude.{◌≡◌, ◌⊎◌, ℕ, List, length, None}
 use Rattle.lw_json.specs.Formats.{IsAnswersFile, IsMachineFile}
 use Rattle.lw_json.specs.declared.files.Answers.{Answers}
 use Rattle.lw_json.specs.declared.files.Machine.{Machine}
-use Rattle.lw_suite.specs.declared.method.Method.{Method}
+use Rattle.lw_chunks.specs.declared.method.Method.{Method}
 use Rattle.lw_check.specs.Decision.{IsDecision, IsFixed, Pair, pair_of}
 use Rattle.lw_check.specs.Ending.{DecidesAs, EndsPairRead, EndsUnread}
 use Rattle.lw_system.specs.Reading.{TellsFile}

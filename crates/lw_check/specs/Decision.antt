@@ -6,7 +6,7 @@ use Rattle.lw_mealy.specs.Machine.{MealyMachine, IsMachine, IsMinimal, Gives, Su
 use Rattle.lw_json.specs.declared.files.Machine.{Machine}
 use Rattle.lw_json.specs.declared.files.Answers.{Answers as Given}
 use Rattle.lw_cache.specs.Clash.{NothingClashes}
-use Rattle.lw_suite.specs.declared.method.Method.{Method}
+use Rattle.lw_chunks.specs.declared.method.Method.{Method}
 use Rattle.lw_certify.specs.Verdict.{IsVerdict}
 use Rattle.lw_certify.specs.declared.verdict.Verdict.{Verdict}
 use Rattle.lw_certify.specs.declared.verdict.Verdict.TheVariants as verdict

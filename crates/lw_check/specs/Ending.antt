@@ -3,7 +3,7 @@ use Rattle.std.specs.Prelude.{◌≡◌, ◌≢◌, ◌⊎◌, ℕ, List, [], Op
 use Rattle.lw_words.specs.Cause.{CountedFault}
 use Rattle.lw_words.specs.declared.kept.KeptAnswer.{KeptAnswer}
 use Rattle.lw_names.specs.Naming.{Naming}
-use Rattle.lw_suite.specs.declared.method.Method.{Method}
+use Rattle.lw_chunks.specs.declared.method.Method.{Method}
 use Rattle.lw_check.specs.Naming.{NamesOutputs}
 use Rattle.lw_check.specs.Decision.{IsYesOrNo, IsDecision, Pair}
 use Rattle.lw_check.specs.Reading.{IsUnread, ReadsPair}

@@ -22,10 +22,10 @@ use crate::CheckArguments;
 use crate::deciding::{Decided, decide};
 use crate::reading::{Read, read_named};
 use crate::telling::tell;
+use lw_chunks::Method;
 use lw_json::{Answers, Machine};
 use lw_outside::{Files, Sink};
 use lw_report::{End, UNSAID, refuse};
-use lw_suite::Method;
 use lw_words::Kept;
 use std::alloc::Global;
 

@@ -10,11 +10,11 @@ ghost use Rattle.lw_report.specs.declared.outcome.Outcome.{Outcome as Came};
 
 use lw_cache::Cache;
 use lw_certify::{Verdict, certify};
+use lw_chunks::Method;
 use lw_json::{Answers, Machine};
 use lw_names::OutNames;
 use lw_prior::{Prior, fill};
 use lw_report::{Outcome, Role};
-use lw_suite::Method;
 use std::alloc::Global;
 
 /// What a model and answers come to, and the names of their outputs, where they share them.

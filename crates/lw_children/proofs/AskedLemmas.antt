@@ -3,7 +3,7 @@ use Rattle.std.proofs.Common.{◌≡◌, ℕ, List, [], ◌∷◌, map, Option, 
 use Rattle.lw_words.specs.Word.{answers_of}
 use Rattle.lw_words.specs.Renumbering.{renumbered_answers}
 use Rattle.lw_words.specs.declared.kept.KeptAnswer.{KeptAnswer}
-use Rattle.lw_suite.specs.declared.method.Method.{Method}
+use Rattle.lw_chunks.specs.declared.method.Method.{Method}
 use Rattle.lw_rounds.specs.Learned.{IsEnoughFor}
 use Rattle.lw_rounds.specs.declared.learned.Learned.{Learned}
 use Rattle.lw_rounds.specs.declared.stops.LearnStop.{LearnStop}

@@ -18,7 +18,7 @@ use Rattle.lw_desk.specs.Ending.{ComeUp, NamedRun, kept_runs}
 use Rattle.lw_pool.specs.Opening.{MayBegin}
 use Rattle.lw_pool.specs.Pool.{AskedOnce}
 use Rattle.lw_pool.specs.Sharing.{declared_by}
-use Rattle.lw_suite.specs.declared.method.Method.{Method}
+use Rattle.lw_chunks.specs.declared.method.Method.{Method}
 use Rattle.lw_rounds.specs.Learned.{IsEnoughFor, IsLearned}
 use Rattle.lw_rounds.specs.declared.learned.Learned.{Learned}
 use Rattle.lw_rounds.specs.declared.learner.Kind.{Kind}

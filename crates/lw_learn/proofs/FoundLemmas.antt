@@ -10,7 +10,7 @@ use Rattle.lw_json.specs.declared.files.Machine.{Machine}
 use Rattle.lw_outside.specs.Links.{LinkState, SpawnerState}
 use Rattle.lw_pool.specs.Pool.{ArePrior}
 use Rattle.lw_renumber.specs.Sorting.{HasSorted, StillStops}
-use Rattle.lw_suite.specs.declared.method.Method.{Method}
+use Rattle.lw_chunks.specs.declared.method.Method.{Method}
 use Rattle.lw_rounds.specs.Learned.{IsEnoughFor, IsLearned, StopsAs}
 use Rattle.lw_rounds.specs.declared.learned.Learned.{Learned}
 use Rattle.lw_rounds.specs.declared.learner.Kind.{Kind}

@@ -1,7 +1,7 @@
 -- The values of the arguments of `learn`, as contracts see them.
 use Rattle.std.specs.Prelude.{ℕ, ◌≤◌, List, Option, IfSome}
 use Rattle.lw_rounds.specs.declared.learner.Kind.{Kind}
-use Rattle.lw_suite.specs.declared.method.Method.{Method}
+use Rattle.lw_chunks.specs.declared.method.Method.{Method}
 use Rattle.lw_learn.specs.declared.arguments.Drawn.{Drawn}
 use Rattle.lw_system.specs.declared.source.Source.{Source}
 

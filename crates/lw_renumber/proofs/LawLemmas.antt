@@ -1,7 +1,7 @@
 -- What outputs under other names change of what was learned: nothing.
 use Rattle.std.proofs.Common.{◌≡◌, ℕ, ◌≤◌, refl, ap, sym, ◌∙◌, subst}
 use Rattle.lw_mealy.specs.Machine.{IsMachine, MealyMachine, mealy_of, IsWithinLimits, AnswersBelow}
-use Rattle.lw_suite.specs.Size.{suite_size}
+use Rattle.lw_chunks.specs.Size.{suite_size}
 use Rattle.lw_renumber.specs.Laws.{RenamedClashes, RenamedNeverClash, RenamedIsClear, RenamedIsCanonical, RenamedIsSuite, RenamedIsSure, RenamedAnswers, RenamedGives, RenamedIsKnown, RenamedIsRead, RenamedIsCrowd, RenamedIsCertified, RenamedIsEnough, RenamedIsLeast, RenamedIsTooMany, RenamedIsTooLarge}
 use Rattle.lw_renumber.specs.Renaming.{renamed_rows}
 use Rattle.lw_renumber.proofs.ClashLemmas.{never_clash, clash_too, clash_back, clear_stays, known_stays, read_renamed, crowd_stays}

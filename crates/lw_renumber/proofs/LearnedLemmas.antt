@@ -9,7 +9,7 @@ use Rattle.lw_words.specs.declared.kept.KeptAnswer.{KeptAnswer}
 use Rattle.lw_cache.specs.Clash.{NothingClashes}
 use Rattle.lw_mealy.specs.Machine.{IsMachine, MealyMachine, mealy_of, IsWithinLimits, AnswersBelow, Rows}
 use Rattle.lw_mealy.specs.Renumbering.{renumbered_cell, renumbered_cells, renumbered_rows}
-use Rattle.lw_suite.specs.declared.method.Method.{Method}
+use Rattle.lw_chunks.specs.declared.method.Method.{Method}
 use Rattle.lw_rounds.specs.Learned.{IsEnoughFor, IsLearned, StopsAs}
 use Rattle.lw_rounds.proofs.LawLemmas.{model_is_least}
 use Rattle.lw_rounds.specs.declared.learned.Learned.{Learned}

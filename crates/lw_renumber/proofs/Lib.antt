@@ -1,5 +1,6 @@
 mod ClashLemmas
 mod ComingUp
+mod CoverLemmas
 pub mod LawLemmas
 mod LearnedLemmas
 pub mod MachineLemmas
@@ -8,3 +9,4 @@ pub mod OccurLemmas
 mod SortLemmas
 mod SuiteLemmas
 pub mod SureLemmas
+mod WpLemmas

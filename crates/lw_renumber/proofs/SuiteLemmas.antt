@@ -5,7 +5,8 @@ use Rattle.lw_mealy.specs.Machine.{Rows, IsMachine}
 use Rattle.lw_separate.specs.Canonical.{IsCanonical, IsLeastAccess, IsLeastSeparating, AreLeastAccess}
 use Rattle.lw_separate.specs.Separators.{IsSeparators, IsPair}
 use Rattle.lw_suite.specs.Suite.{IsSuite}
-use Rattle.lw_certify.specs.Verdict.{SuiteIsKnown}
+use Rattle.lw_chunks.specs.declared.method.Method.{Method}
+use Rattle.lw_certify.specs.Verdict.{IsSuiteBy, SuiteIsKnown}
 use Rattle.lw_renumber.specs.Renaming.{Renames, renamed_rows, renamed_answers}
 use Rattle.lw_renumber.proofs.ClashLemmas.{known_stays}
 use Rattle.lw_renumber.proofs.MachineLemmas.{after_is, states_same, is_machine, equal_too, minimal_too, differ_too, agree_too}
@@ -61,12 +62,14 @@ module _ (f g : ℕ → ℕ) (r : Renames f g) (a : ℕ) (m : Rows) (machine : I
     words = is.words;
   }
 
-  pub covered_too : (ks : List Answer) (k : ℕ) → AreAnswers a ks → SuiteIsKnown a m ks k → SuiteIsKnown a (renamed_rows f m) (renamed_answers f ks) k
-  covered_too ks k are is = record {
-    suite = is.suite;
-    whole = suite_too k is.suite is.whole;
-    known = λ i d lt. (known_stays f g r a ks are (get_or is.suite i d)).1 (is.known i d lt);
-  }
+  -- a suite that is known stays so, where it is the renamed machine's too
+  module _ (method : Method) (too : (k : ℕ) (suite : List (List ℕ)) → IsSuiteBy method a m k suite → IsSuiteBy method a (renamed_rows f m) k suite) where
+    pub known_too : (ks : List Answer) (k : ℕ) → AreAnswers a ks → SuiteIsKnown method a m ks k → SuiteIsKnown method a (renamed_rows f m) (renamed_answers f ks) k
+    known_too ks k are is = record {
+      suite = is.suite;
+      whole = too k is.suite is.whole;
+      known = λ i d lt. (known_stays f g r a ks are (get_or is.suite i d)).1 (is.known i d lt);
+    }
 
 pub canonical_too : (f g : ℕ → ℕ) (a : ℕ) (m c : Rows) → Renames f g → IsMachine a m → IsCanonical a m c → IsCanonical a (renamed_rows f m) (renamed_rows f c)
 canonical_too f g a m c r machine is = record {

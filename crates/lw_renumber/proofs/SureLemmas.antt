@@ -4,12 +4,14 @@ use Rattle.lw_words.specs.Word.{Answer, AreAnswers}
 use Rattle.lw_mealy.specs.Machine.{Rows, IsMachine, Gives, Equal, Sure}
 use Rattle.lw_certify.specs.Verdict.{AreEnoughBy, IsVerdict}
 use Rattle.lw_certify.specs.declared.verdict.Verdict.TheVariants as verdict
-use Rattle.lw_suite.specs.Size.{suite_size, greatest_suite}
-use Rattle.lw_suite.specs.declared.method.Method.{Method}
-use Rattle.lw_suite.specs.declared.method.Method.TheVariants.{W}
+use Rattle.lw_chunks.specs.Size.{suite_size, greatest_suite}
+use Rattle.lw_chunks.specs.declared.method.Method.{Method}
+use Rattle.lw_chunks.specs.declared.method.Method.TheVariants.{W, Wp, H}
 use Rattle.lw_renumber.specs.Renaming.{Renames, renamed_rows, renamed_answers}
 use Rattle.lw_renumber.proofs.MachineLemmas.{turned, answers_back, rows_back, states_same, is_machine, gives_too, answers_too, equal_too, minimal_too}
-use Rattle.lw_renumber.proofs.SuiteLemmas.{covered_too}
+use Rattle.lw_renumber.proofs.CoverLemmas.{covers_too}
+use Rattle.lw_renumber.proofs.SuiteLemmas.{known_too, suite_too}
+use Rattle.lw_renumber.proofs.WpLemmas.{wp_suite_too}
 
 -- a machine that gives the renamed answers gives, renamed back, the answers
 pub gives_back : (f g : ℕ → ℕ) (a : ℕ) (m : Rows) (ks : List Answer) → Renames f g → AreAnswers a ks → IsMachine a m → Gives m (renamed_answers f ks) → Gives (renamed_rows g m) ks
@@ -29,7 +31,9 @@ sure_too f g a h ks k r own are sure m machine few gives =
 -- answers that are enough by a method are so renamed
 enough_too : (f g : ℕ → ℕ) (method : Method) (a : ℕ) (h : Rows) (ks : List Answer) (k : ℕ) → Renames f g → IsMachine a h → AreAnswers a ks
     → AreEnoughBy method a h ks k → AreEnoughBy method a (renamed_rows f h) (renamed_answers f ks) k
-enough_too f g W a h ks k r machine are is = covered_too f g r a h machine ks k are is
+enough_too f g W a h ks k r machine are is = known_too f g r a h machine W (suite_too f g r a h machine) ks k are is
+enough_too f g Wp a h ks k r machine are is = known_too f g r a h machine Wp (wp_suite_too f g r a h machine) ks k are is
+enough_too f g H a h ks k r machine are is = covers_too f g r a h ks machine are k is
 
 pub verdict_too : (f g : ℕ → ℕ) (method : Method) (a : ℕ) (h : Rows) (ks : List Answer) (k : ℕ) → Renames f g → IsMachine a h → AreAnswers a ks
     → IsVerdict method a h ks k verdict.Sure → IsVerdict method a (renamed_rows f h) (renamed_answers f ks) k verdict.Sure

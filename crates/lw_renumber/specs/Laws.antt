@@ -7,7 +7,7 @@ use Rattle.lw_cache.specs.Crowd.{IsCrowd}
 use Rattle.lw_cache.specs.Known.{IsKnown, Reads}
 use Rattle.lw_separate.specs.Canonical.{IsCanonical}
 use Rattle.lw_suite.specs.Suite.{IsSuite}
-use Rattle.lw_suite.specs.declared.method.Method.{Method}
+use Rattle.lw_chunks.specs.declared.method.Method.{Method}
 use Rattle.lw_rounds.specs.Learned.{IsCertified, IsEnoughFor, IsTooMany, IsTooLarge}
 use Rattle.lw_renumber.specs.Renaming.{Renames, renamed_rows, renamed_answer, renamed_answers, OutsBelow}
 

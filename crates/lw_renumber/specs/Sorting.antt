@@ -5,7 +5,7 @@ use Rattle.lw_words.specs.declared.kept.KeptAnswer.{KeptAnswer}
 use Rattle.lw_cache.specs.Clash.{NothingClashes}
 use Rattle.lw_mealy.specs.Machine.{Gives, MealyMachine, mealy_of, Rows, IsMachine}
 use Rattle.lw_mealy.specs.Renumbering.{renumbered_rows}
-use Rattle.lw_suite.specs.declared.method.Method.{Method}
+use Rattle.lw_chunks.specs.declared.method.Method.{Method}
 use Rattle.lw_rounds.specs.Learned.{IsCertified, IsEnoughFor, IsLearned, IsTooMany, IsTooLarge, StopsAs}
 use Rattle.lw_rounds.specs.declared.learned.Learned.{Learned}
 use Rattle.lw_rounds.specs.declared.learner.Kind.{Kind}

@@ -5,7 +5,7 @@ use Rattle.lw_words.specs.Word.{Answer, AreAnswers, answers_of}
 use Rattle.lw_mealy.specs.Machine.{Gives, MealyMachine, mealy_of, Row, Rows}
 use Rattle.lw_cache.specs.declared.stops.AskStop.{AskStop}
 use Rattle.lw_cache.specs.declared.stops.AskStop.TheVariants as ask
-use Rattle.lw_suite.specs.declared.method.Method.{Method}
+use Rattle.lw_chunks.specs.declared.method.Method.{Method}
 use Rattle.lw_rounds.specs.Learned.{IsCertified, IsEnoughFor, IsLearned, IsReadOff, IsTooLarge}
 use Rattle.lw_rounds.specs.Learner.{refinements_of}
 use Rattle.lw_rounds.specs.Stops.{IsOwnStop}

@@ -22,13 +22,13 @@ use std::alloc::Global;
 const USAGE: &str =
     "usage: learn (SETUP | --table FILE) [--workers N] [--extra K] [--learner table|ttt] [--max-states N]
              [--model FILE] [--answers FILE] [--prior FILE] [--kept FILE]
-             [--words FILE] [--random R --length L --seed S] [--log FILE]
-       check MODEL ANSWERS [--extra K]
+             [--words FILE] [--random R --length L --seed S] [--log FILE] [--suite w|wp|h]
+       check MODEL ANSWERS [--extra K] [--suite w|wp|h]
        serve MODEL
        ask (SETUP | --table FILE) WORD...
        recheck SETUP ANSWERS
        compare MODEL MODEL
-       trial --states N --inputs A --seed S [--workers N] [--learner table|ttt]
+       trial --states N --inputs A --seed S [--workers N] [--learner table|ttt] [--suite w|wp|h]
 ";
 
 /// What is written where memory runs out. Takes no memory itself.

@@ -1,50 +1,54 @@
 -- What a test comes to, by its suite.
-use Rattle.std.proofs.Common.{◌≡◌, ℕ, ◌<◌, ◌≤◌, List, length, None, Err, refl, ap, sym, ◌∙◌, subst}
+use Rattle.std.proofs.Common.{◌≡◌, ℕ, ◌<◌, ◌≤◌, List, length, None, Err, refl, ap, sym, ◌∙◌, subst, subst₂}
 use Rattle.std.specs.List.{All}
 use Rattle.lw_words.specs.Word.{Answer, AreAnswers, answers_of, IsWord}
 use Rattle.lw_words.specs.declared.kept.KeptAnswer.{KeptAnswer}
 use Rattle.lw_mealy.specs.Machine.{Gives, MealyMachine, IsWithinLimits, Rows, IsMachine, IsMinimal}
 use Rattle.lw_separate.specs.Canonical.{IsCanonical}
-use Rattle.lw_suite.specs.Size.{suite_size, greatest_suite}
-use Rattle.lw_suite.specs.Suite.{IsSuiteBy}
-use Rattle.lw_suite.specs.declared.method.Method.{Method}
-use Rattle.lw_suite.specs.declared.method.Method.TheVariants.{W}
-use Rattle.lw_suite.specs.declared.suite.SuiteFault.{SuiteFault}
-use Rattle.lw_suite.specs.declared.suite.SuiteFault.TheVariants as fault
-use Rattle.lw_suite.proofs.LetterLemmas.{suite_is_of_words}
+use Rattle.lw_chunks.specs.Size.{suite_size, greatest_suite}
+use Rattle.lw_chunks.specs.declared.method.Method.{Method}
+use Rattle.lw_chunks.specs.declared.size.SuiteFault.{SuiteFault}
+use Rattle.lw_chunks.specs.declared.size.SuiteFault.TheVariants as fault
 use Rattle.lw_cache.specs.Settling.{OracleState, Keeps, Leaves}
 use Rattle.lw_cache.proofs.SettlingLemmas.{kept_are_answers, leaves_short}
-use Rattle.lw_cache.specs.Known.{IsKnown}
-use Rattle.lw_certify.specs.Verdict.{AreEnoughBy, IsVerdict}
+use Rattle.lw_certify.specs.Verdict.{IsSuiteBy, IsVerdict}
 use Rattle.lw_certify.specs.declared.verdict.Verdict.TheVariants as verdict
-use Rattle.lw_rounds.specs.Learned.{IsTooLarge}
+use Rattle.lw_certify.proofs.EnoughLemmas.{suite_is_enough, suites_are_of_words}
+use Rattle.lw_rounds.specs.Learned.{IsCertified, IsEnoughFor, IsTooLarge}
 use Rattle.lw_rounds.specs.Stops.{learn_stop}
 use Rattle.lw_rounds.specs.bodies.Conformance.{Passes}
-use Rattle.lw_rounds.specs.bodies.Rounds.{HasCrowd, StopsTest, of_fault}
+use Rattle.lw_rounds.specs.bodies.Rounds.{HasCrowd, IsSureOf, StopsTest, of_fault}
 use Rattle.lw_rounds.proofs.CanonicalLemmas.{equal_gives, of_itself, no_more_states, as_many}
 
 -- the words of a model's suite are words over the hypothesis's letters
 pub suite_words : (method : Method) (a b : ℕ) (c : Rows) (k : ℕ) (suite : List (List ℕ)) → b ≡ a → IsSuiteBy method b c k suite → All (IsWord a) suite
-suite_words W a b c k suite same is = subst (λ (n : ℕ). All (IsWord n) suite) same (suite_is_of_words b c k suite is)
+suite_words method a b c k suite same is = subst (λ (n : ℕ). All (IsWord n) suite) same (suites_are_of_words method b c k suite is)
 
 -- what an oracle keeps, as a cache has it, are answers to words over the letters of a machine
 pub kept_words : (o : OracleState) (a : ℕ) (kept : List KeptAnswer) → a ≡ o.inputs → kept ≡ o.kept → Keeps o → All (λ k. IsWord a k.word) (answers_of kept)
 kept_words o a kept inputs is keeps =
     subst (λ (l : List KeptAnswer). All (λ k. IsWord a k.word) (answers_of l)) (sym is) (λ i d lt. (kept_are_answers o a inputs keeps i d lt).0)
 
--- where all words of the suite are known, the answers are enough
-all_known : (method : Method) (b : ℕ) (c : Rows) (ks : List Answer) (k : ℕ) (suite : List (List ℕ)) → IsSuiteBy method b c k suite → All (IsKnown ks) suite → AreEnoughBy method b c ks k
-all_known W b c ks k suite whole known = record { suite = suite; whole = whole; known = known }
-
--- and where the hypothesis gives the answers, the verdict is sure
+-- where all words of the suite are known, and the hypothesis gives the answers, the verdict is sure
 pub passes_sure : (method : Method) (a b : ℕ) (h c : Rows) (ks : List Answer) (k : ℕ) (suite : List (List ℕ)) → b ≡ a → IsCanonical a h c → AreAnswers a ks → IsSuiteBy method b c k suite → suite_size (length c) b k ≤ greatest_suite → Passes h ks suite
     → IsVerdict method b c ks k verdict.Sure
-passes_sure method a b h c ks k suite same is are whole size passes = (
-  subst (λ (n : ℕ). IsMinimal n c) (sym same) is.minimal,
-  equal_gives a c h ks is.equal are passes.gives,
-  size,
-  all_known method b c ks k suite whole passes.known,
-)
+passes_sure method a b h c ks k suite same is are whole size passes =
+    let machine : IsMachine b c = subst (λ (n : ℕ). IsMachine n c) (sym same) is.machine in
+    let minimal : IsMinimal b c = subst (λ (n : ℕ). IsMinimal n c) (sym same) is.minimal in
+    let gives : Gives c ks = equal_gives a c h ks is.equal are passes.gives in
+    (minimal, gives, size, suite_is_enough method b c ks k suite machine minimal gives whole passes.known)
+
+-- a model that is certified, for the machine that was tested
+pub sure_of : (h model same : MealyMachine) (method : Method) (k : ℕ) (ks now : List KeptAnswer) → (model.inputs ≡ h.inputs) × (model.outputs ≡ h.outputs) → same ≡ model → ks ≡ now
+    → IsCertified model.inputs model.outputs k (answers_of ks) same → IsEnoughFor method model.inputs k (answers_of ks) same → IsCanonical h.inputs h.rows model.rows → IsSureOf h method k (answers_of now) same
+sure_of h model same method k ks now alphabets is kept certified enough canonical =
+    let Sure : List KeptAnswer → MealyMachine → Type 0 = λ l m. IsSureOf h method k (answers_of l) m in
+    subst (λ (l : List KeptAnswer). Sure l same) kept
+    (record {
+      certified = subst₂ (λ (a b : ℕ). IsCertified a b k (answers_of ks) same) alphabets.0 alphabets.1 certified;
+      enough = subst (λ (a : ℕ). IsEnoughFor method a k (answers_of ks) same) alphabets.0 enough;
+      canonical = subst (λ (m : MealyMachine). IsCanonical h.inputs h.rows m.rows) (sym is) canonical;
+    })
 
 module _ (h model : MealyMachine) (ks : List Answer) (k : ℕ) (machine : IsMachine h.inputs h.rows) (inputs : model.inputs ≡ h.inputs) (outputs : model.outputs ≡ h.outputs) (complete : IsWithinLimits model)
     (is : IsCanonical h.inputs h.rows model.rows) (are : AreAnswers h.inputs ks) (gives : Gives h.rows ks) (crowd : HasCrowd ks (length h.rows)) where

@@ -1,7 +1,7 @@
 -- What the answers of a learning mean.
 use Rattle.std.proofs.Common.{ℕ, ◌+◌, ◌*◌, ◌≤◌, length, sym, subst, arith}
 use Rattle.std.proofs.Math.Nat.{mul-le-mul_right}
-use Rattle.lw_suite.specs.Size.{powers, suite_size}
+use Rattle.lw_chunks.specs.Size.{powers, suite_size}
 use Rattle.lw_cache.proofs.CrowdLemmas.{crowd_needs_states}
 use Rattle.lw_rounds.specs.Learner.{access_of}
 use Rattle.lw_rounds.specs.Laws.{ModelIsCanonical, ModelIsLeast, TooManyIsNone, TooLargeIsLeast, TooLargeForAll}

@@ -8,8 +8,8 @@ use Rattle.lw_cache.specs.declared.stops.GrowStop.{GrowStop}
 use Rattle.lw_cache.specs.declared.stops.GrowStop.TheVariants as grow
 use Rattle.lw_cache.proofs.SettlingLemmas.{kept_are_answers}
 use Rattle.lw_separate.specs.Canonical.{IsCanonical}
-use Rattle.lw_suite.specs.Size.{suite_size}
-use Rattle.lw_suite.specs.declared.method.Method.{Method}
+use Rattle.lw_chunks.specs.Size.{suite_size}
+use Rattle.lw_chunks.specs.declared.method.Method.{Method}
 use Rattle.lw_rounds.specs.Learned.{IsCertified, IsEnoughFor, IsLearned, StopsAs}
 use Rattle.lw_rounds.specs.Learner.{kind_of, inputs_of, outputs_of, most_of, access_of, refinements_of, HasNoTemporary, IsLearner, IsMachineOf}
 use Rattle.lw_rounds.specs.Stops.{of_growth}

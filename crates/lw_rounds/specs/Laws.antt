@@ -3,7 +3,7 @@ use Rattle.std.specs.Prelude.{ℕ, ◌+◌, ◌<◌, ◌≤◌, List, length}
 use Rattle.lw_words.specs.Word.{Answer, AreAnswers}
 use Rattle.lw_mealy.specs.Machine.{Gives, MealyMachine, Rows, IsMachine}
 use Rattle.lw_separate.specs.Canonical.{IsCanonical}
-use Rattle.lw_suite.specs.Size.{suite_size, greatest_suite}
+use Rattle.lw_chunks.specs.Size.{suite_size, greatest_suite}
 use Rattle.lw_rounds.specs.declared.learner.Kind.{Kind}
 use Rattle.lw_rounds.specs.declared.learner.Learner.{Learner}
 use Rattle.lw_rounds.specs.Learned.{IsCertified, IsLearned, IsTooMany, IsTooLarge}

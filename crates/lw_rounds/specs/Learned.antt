@@ -5,8 +5,8 @@ use Rattle.lw_words.specs.Word.{Answer}
 use Rattle.lw_mealy.specs.Machine.{Gives, MealyMachine, IsWithinLimits, Rows, Sure}
 use Rattle.lw_cache.specs.Crowd.{IsCrowd}
 use Rattle.lw_separate.specs.Canonical.{IsCanonical}
-use Rattle.lw_suite.specs.Size.{suite_size, greatest_suite}
-use Rattle.lw_suite.specs.declared.method.Method.{Method}
+use Rattle.lw_chunks.specs.Size.{suite_size, greatest_suite}
+use Rattle.lw_chunks.specs.declared.method.Method.{Method}
 use Rattle.lw_certify.specs.Verdict.{IsVerdict}
 use Rattle.lw_certify.specs.declared.verdict.Verdict.TheVariants as verdict
 use Rattle.lw_rounds.specs.Learner.{kind_of, inputs_of, outputs_of, most_of, access_of, refinements_of, IsLearner, IsRead, IsClosedLearner, HasNoTemporary, IsMachineOf}

@@ -11,8 +11,8 @@ use crate::difference::{first_difference, gives_from};
 use crate::watcher::Account;
 use crate::{Phase, Watcher};
 use lw_cache::{AskStop, Oracle};
+use lw_chunks::Chunks;
 use lw_mealy::Mealy;
-use lw_suite::Chunks;
 use lw_words::Word;
 use std::alloc::Global;
 

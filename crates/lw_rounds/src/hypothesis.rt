@@ -1,27 +1,30 @@
 //! The test of a hypothesis by the words of its suite, then by the certificate.
-ghost use Rattle.std.specs.Prelude.{◌≡◌, ◌≤◌, length, IfOk, IfErr};
+ghost use Rattle.std.specs.Prelude.{◌≡◌, ℕ, ◌<◌, ◌≤◌, length, Err, IfOk, IfErr, OnOk};
 ghost use Rattle.std.specs.List.{All};
 ghost use Rattle.lw_words.specs.Word.{answers_of, IsWord};
 ghost use Rattle.lw_mealy.specs.Machine.{Gives};
 ghost use Rattle.lw_cache.specs.Clash.{NothingClashes};
 ghost use Rattle.lw_cache.specs.Settling.{Keeps, MayAsk, Leaves};
 ghost use Rattle.lw_separate.specs.Canonical.{IsCanonical};
-ghost use Rattle.lw_suite.specs.Size.{suite_size, greatest_suite};
-ghost use Rattle.lw_suite.specs.Suite.{IsSuiteBy};
+ghost use Rattle.lw_chunks.specs.Size.{suite_size, greatest_suite};
+ghost use Rattle.lw_certify.specs.Verdict.{IsSuiteBy};
+ghost use Rattle.lw_chunks.specs.declared.size.SuiteFault.{SuiteFault as Fault};
 ghost use Rattle.lw_rounds.specs.Learned.{IsCertified, IsEnoughFor};
 ghost use Rattle.lw_rounds.specs.Learner.{IsRead, HasNoTemporary, IsMachineOf};
 ghost use Rattle.lw_rounds.specs.Stops.{learn_stop};
-ghost use Rattle.lw_rounds.specs.bodies.Rounds.{IsTested, StopsTest, of_fault};
+ghost use Rattle.lw_rounds.specs.bodies.Rounds.{HasCrowd, IsTested, StopsTest, of_fault};
 
 use crate::conformance::settle_suite;
 use crate::watcher::Account;
 use crate::{LearnStop, Learner, Settings, Watcher};
 use lw_cache::{AskStop, Cache, Oracle};
 use lw_certify::{Verdict, certify};
+use lw_chunks::{Chunks, Method, SuiteFault};
 use lw_mealy::Mealy;
 use lw_separate::canonical;
-use lw_suite::{Chunks, Method, Suite, SuiteFault};
+use lw_suite::Suite;
 use lw_words::{NoMemory, Word};
+use lw_wp::{HSuite, WpSuite};
 use std::alloc::Global;
 
 /// What a test comes to.
@@ -45,6 +48,8 @@ fn certified(
     requires enough { IsEnoughFor settings.suite model.inputs settings.extra
         (answers_of cache.now.kept) model }
     ensures value { IfOk result (λ m. m ≡ model) }
+    ensures enough { IfOk result (IsEnoughFor settings.suite model.inputs settings.extra
+        (answers_of cache.now.kept)) }
     ensures certified { IfOk result (IsCertified model.inputs model.outputs settings.extra
         (answers_of cache.now.kept)) }
 {
@@ -105,6 +110,53 @@ fn without_suite(model: Mealy, fault: SuiteFault) -> LearnStop
 }
 
 #[tactic(auto, using(lw_cache::proofs::SettlingLemmas::leaves_nothing, crate::proofs::StopLemmas::leaves_learn_own))]
+/// Settles the suite of a model, where it has one that isn't too large, as `settle_and_certify` does.
+fn test_with<O: Oracle, S: Chunks + Drop, W: Watcher>(
+    oracle: &mut O,
+    alloc: Global,
+    hypothesis: &Mealy,
+    model: Mealy,
+    made: Result<S, SuiteFault>,
+    settings: Settings,
+    account: &mut Account<'_, W>,
+) -> Result<Tested, LearnStop>
+    requires can { O.can_settle oracle.old }
+    requires may { MayAsk (O.state oracle.old).stop }
+    requires keeps { Keeps (O.state oracle.old) }
+    requires nothing { NothingClashes (answers_of (O.state oracle.old).kept) }
+    requires inputs { hypothesis.now.inputs ≡ (O.state oracle.old).inputs }
+    requires gives { Gives hypothesis.now.rows (answers_of (O.state oracle.old).kept) }
+    requires crowd { HasCrowd (answers_of (O.state oracle.old).kept)
+        (length hypothesis.now.rows) }
+    requires alphabets { (model.inputs ≡ hypothesis.now.inputs) ×
+        (model.outputs ≡ hypothesis.now.outputs) }
+    requires canonical { IsCanonical hypothesis.now.inputs hypothesis.now.rows model.rows }
+    requires suite { IfOk made (λ suite. IsSuiteBy settings.suite model.inputs model.rows
+        settings.extra (S.left suite)) }
+    requires size { OnOk made (suite_size (length model.rows) model.inputs settings.extra ≤
+        greatest_suite) }
+    requires large { (size : ℕ) → made ≡ Err (Fault.TooLarge size) →
+        (size ≡ suite_size (length model.rows) model.inputs settings.extra) ×
+        (greatest_suite < size) }
+    ensures tested { IfOk result (IsTested hypothesis.now settings.suite settings.extra
+        (answers_of (O.state oracle.new).kept)) }
+    ensures stops { IfErr result (StopsTest hypothesis.now.inputs hypothesis.now.outputs
+        settings.extra (length hypothesis.now.rows) (answers_of (O.state oracle.new).kept)) }
+    ensures leaves { Leaves (O.state oracle.old) (O.state oracle.new) (learn_stop result) }
+    ensures can { O.can_settle oracle.new }
+{
+    // The hypothesis and the model tell that they are machines.
+    let _ = hypothesis.inputs();
+    let _ = model.states();
+    match made {
+        Ok(mut suite) => settle_and_certify(
+            oracle, alloc, hypothesis, model, &mut suite, settings, account,
+        ),
+        Err(fault) => Err(without_suite(model, fault)),
+    }
+}
+
+#[tactic(auto, using(lw_cache::proofs::SettlingLemmas::leaves_nothing, crate::proofs::StopLemmas::leaves_learn_own))]
 /// Tests the machine of a learner, which gives the kept answers, by the suite of its canonical form. No node of a tree is
 /// temporary then.
 pub fn test_by_suite<O: Oracle, W: Watcher>(
@@ -136,11 +188,17 @@ pub fn test_by_suite<O: Oracle, W: Watcher>(
     let _ = hypothesis.inputs();
     let model = canonical(alloc, hypothesis)?;
     match settings.suite {
-        Method::W => match Suite::new(alloc, &model, settings.extra) {
-            Ok(mut suite) => settle_and_certify(
-                oracle, alloc, hypothesis, model, &mut suite, settings, account,
-            ),
-            Err(fault) => Err(without_suite(model, fault)),
-        },
+        Method::W => {
+            let made = Suite::new(alloc, &model, settings.extra);
+            test_with(oracle, alloc, hypothesis, model, made, settings, account)
+        }
+        Method::Wp => {
+            let made = WpSuite::new(alloc, &model, settings.extra);
+            test_with(oracle, alloc, hypothesis, model, made, settings, account)
+        }
+        Method::H => {
+            let made = HSuite::new(alloc, &model, settings.extra);
+            test_with(oracle, alloc, hypothesis, model, made, settings, account)
+        }
     }
 }

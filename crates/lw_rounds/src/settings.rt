@@ -2,7 +2,7 @@
 ghost use Rattle.std.specs.Prelude.{◌≤◌};
 
 use crate::Kind;
-use lw_suite::Method;
+use lw_chunks::Method;
 
 /// What a learning is to keep to: how many instances of the system it may ask, the kind of its learner, how many states more than
 /// the model a machine may have for which the model is sure, how many states the model may have, and how its suites are made.

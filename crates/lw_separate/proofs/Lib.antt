@@ -13,6 +13,7 @@ pub mod ExistenceSearch
 pub mod ExistenceWalk
 pub mod ExistenceWords
 pub mod LevelLemmas
+pub mod ListLemmas
 pub mod MergeLemmas
 pub mod OneLemmas
 pub mod PushLemmas

@@ -1,34 +1,16 @@
 -- The words at the places of a suite.
-use Rattle.std.proofs.Common.{◌≡◌, ◌≢◌, ◌↔◌, ltb, true, ℕ, ◌+◌, ◌-◌, ◌*◌, ◌/◌, ◌%◌, ◌<◌, ◌≤◌, List, [], ◌∷◌, ◌++◌, length, get_or, take, drop, min, slice_get, Some, refl, sym, ap, ap₂, ◌∙◌, arith, ⊎_elim}
+use Rattle.std.proofs.Common.{◌≡◌, ℕ, ◌+◌, ◌-◌, ◌*◌, ◌/◌, ◌%◌, ◌<◌, ◌≤◌, List, [], ◌∷◌, ◌++◌, length, get_or, take, drop, slice_get, Some, sym, ap, ap₂, ◌∙◌, arith, ⊎_elim}
 use Rattle.std.proofs.lemmas.Bool.{cases_lt}
-use Rattle.std.proofs.lemmas.Bool.Decides.{Decides-ltb}
-use Rattle.std.proofs.lemmas.List.{take_more, get_or-drop, length-drop, drop-drop, drop_all, take_all}
+use Rattle.std.proofs.lemmas.List.{take_more, get_or-drop, length-drop}
 use Rattle.std.proofs.lemmas.Option.{get_or_from_slice_get}
-use Rattle.std.proofs.lemmas.Nat.{div-add-mod'}
-use Rattle.std.proofs.Math.Nat.{mod-lt, div-lt_iff_lt-mul, mul-le-mul_right}
-use Rattle.lw_suite.specs.Size.{powers}
-use Rattle.lw_suite.specs.Suite.{each_with, words_up_to}
+use Rattle.std.proofs.Math.Nat.{mul-le-mul_right}
+use Rattle.lw_chunks.specs.Middle.{words_up_to}
 use Rattle.lw_suite.specs.bodies.Places.{fronts, ends, all_words, number_of, IsPlace, IsFront}
 use Rattle.lw_suite.specs.declared.parts.Parts.{Parts}
-use Rattle.lw_suite.specs.declared.parts.Place.{Place}
-use Rattle.lw_suite.proofs.EachLemmas.{length-each, each_at}
-use Rattle.lw_suite.proofs.SizeLemmas.{length-words_up_to}
-
-pub some_middle : (n m at : ℕ) → at < n * m → 0 < m
-some_middle n m at lt = ⊎_elim (λ (z : m < 1). let e : m ≡ 0 = omega arith in let p : n * m ≡ 0 = rw e (omega arith) in absurd (omega arith)) (λ (o : 1 ≤ m). omega arith) (cases_lt m 1)
-
--- the front with this number
-pub front_at_number : (a n m at : ℕ) (access : List (List ℕ)) → m ≡ powers a n → at < length access * m
-    → (at / m < length access) × (at % m < m) × (get_or (each_with (λ (u v : List ℕ). u ++ v) access (words_up_to a n)) at [] ≡ get_or access (at / m) [] ++ get_or (words_up_to a n) (at % m) [])
-front_at_number a n m at access counted lt =
-    let some : 0 < m = some_middle (length access) m at lt in
-    let long : length (words_up_to a n) ≡ m = length-words_up_to a n ∙ sym counted in
-    let first : at / m < length access = (div-lt_iff_lt-mul some).1 lt in
-    let second : at % m < m = mod-lt at some in
-    let e : get_or (each_with (λ (u v : List ℕ). u ++ v) access (words_up_to a n)) (at / m * m + at % m) [] ≡ get_or access (at / m) [] ++ get_or (words_up_to a n) (at % m) [] =
-    ap (λ (l : ℕ). get_or (each_with (λ (u v : List ℕ). u ++ v) access (words_up_to a n)) (at / m * l + at % m) []) (sym long)
-    ∙ each_at (λ (u v : List ℕ). u ++ v) access (words_up_to a n) (at / m) (at % m) [] [] [] first (rw long second) in
-    (first, second, ap (λ (k : ℕ). get_or (each_with (λ (u v : List ℕ). u ++ v) access (words_up_to a n)) k []) (sym (div-add-mod' at m)) ∙ e)
+use Rattle.lw_chunks.specs.declared.chunks.Place.{Place}
+use Rattle.lw_chunks.proofs.EachLemmas.{length-each, each_at}
+use Rattle.lw_chunks.proofs.SizeLemmas.{length-words_up_to}
+use Rattle.lw_chunks.proofs.FrontLemmas.{front_at_number}
 
 module _ (p : Parts) where
   pub length-fronts : length (fronts p) ≡ length p.access * p.middles
@@ -106,23 +88,3 @@ module _ (p : Parts) where
   pub stepped_front : (at : Place) → at.end < length (ends p) → length p.ends ≤ at.end → at.front < length p.access * p.middles
       → IsPlace p (record { front = at.front + 1; end = 0 }) × ((at.front + 1) * length (ends p) + 0 ≡ number_of p at + 1)
   stepped_front at lt ge some = (record { end = omega arith; within = front_within at some }, next_front at lt ge)
-
--- what is left of a list, chunk by chunk
-module _ {X : Type 0} where
-  pub chunk_is : (xs ys : List X) (count left most : ℕ) → count ≡ min left most → left ≡ length xs → ys ≡ take count xs → ys ≡ take most xs
-  chunk_is xs ys count left most c l is = ⊎_elim
-      (λ (lt : left < most). let e : count ≡ left = omega arith in is ∙ (take_all count xs (omega arith) ∙ sym (take_all most xs (omega arith))))
-      (λ (ge : most ≤ left). let e : count ≡ most = omega arith in is ∙ ap (λ (n : ℕ). take n xs) e)
-      (cases_lt left most)
-
-  pub left_is : (all : List X) (start count left most next : ℕ) → count ≡ min left most → left ≡ length all - start → next ≡ start + count → drop next all ≡ drop most (drop start all)
-  left_is all start count left most next c l is = ⊎_elim
-      (λ (lt : left < most).
-      let d : length (drop start all) ≡ length all - start = length-drop start all in
-      drop_all next all (omega arith) ∙ sym (drop_all most (drop start all) (omega arith)))
-      (λ (ge : most ≤ left). let e : next ≡ start + most = omega arith in ap (λ (n : ℕ). drop n all) e ∙ sym (drop-drop most start all))
-      (cases_lt left most)
-
-  pub some_left : (xs : List X) (count left most : ℕ) → 0 < most → count ≡ min left most → left ≡ length xs → (ltb 0 count ≡ true) ↔ (xs ≢ [])
-  some_left [] count left most pos c l = (λ t. let lt : 0 < count = (Decides-ltb 0 count).0 t in absurd (omega arith), λ n. absurd (n refl))
-  some_left (x ∷ xs) count left most pos c l = (λ t e. Prim.cc e, λ n. (Decides-ltb 0 count).1 (omega arith))

@@ -1,36 +1,20 @@
 -- A machine has one suite, of at most as many words as its size says.
-use Rattle.std.proofs.Common.{◌≡◌, ℕ, suc, ◌+◌, ◌*◌, ◌<◌, ◌≤◌, inl, ⊎_elim, List, [], ◌∷◌, ◌++◌, length, sym, ap, ap₂, ◌∙◌, arith}
+use Rattle.std.proofs.Common.{◌≡◌, ℕ, suc, ◌+◌, ◌*◌, ◌<◌, ◌≤◌, ⊎_elim, List, [], ◌∷◌, ◌++◌, length, sym, ap, ap₂, ◌∙◌, arith}
 use Rattle.std.proofs.Math.Nat.{mul-le-mul_right}
 use Rattle.std.proofs.lemmas.Bool.{cases_lt}
-use Rattle.lw_mealy.specs.Machine.{Rows}
-use Rattle.lw_separate.specs.Separators.{IsSeparators}
-use Rattle.lw_separate.proofs.CrowdLemmas.{fewer_words}
 use Rattle.lw_separate.proofs.OneLemmas.{one_least_access, one_separators}
-use Rattle.lw_suite.specs.Size.{powers}
-use Rattle.lw_suite.specs.Suite.{OneSuite, SuiteIsCounted, each_with, suite_of, words_up_to}
-use Rattle.lw_suite.proofs.EachLemmas.{length-each}
-use Rattle.lw_suite.proofs.SizeLemmas.{length-words_up_to}
+use Rattle.lw_chunks.specs.Size.{powers}
+use Rattle.lw_suite.specs.Suite.{OneSuite, SuiteIsCounted}
+use Rattle.lw_chunks.specs.Middle.{each_with, suite_of, words_up_to}
+use Rattle.lw_chunks.proofs.EachLemmas.{length-each}
+use Rattle.lw_chunks.proofs.SizeLemmas.{length-words_up_to}
+use Rattle.lw_separate.proofs.ListLemmas.{few_ends}
 
 pub one_suite : OneSuite
 one_suite a m k s t hs ht =
     hs.words
     ∙ (ap₂ (λ (u v : List (List ℕ)). suite_of u (words_up_to a (k + 1)) v) (one_least_access a m hs.access ht.access hs.least ht.least) (one_separators a m hs.ends ht.ends hs.separating ht.separating)
     ∙ sym ht.words)
-
-pub few_ends : (a : ℕ) (m : Rows) (ends : List (List ℕ)) → IsSeparators a m ends → 0 < length m → length ends < length m
-few_ends a m ends s some =
-    fewer_words a m (length m, length m) ends
-    (record {
-      pairs = s.pairs;
-      paired = s.paired;
-      states = s.states;
-      least = s.least;
-      needed = s.needed;
-      rising = s.rising;
-      before = λ i lt. let pair = s.states i lt in inl (omega (arith, pair.0, pair.1));
-      whole = λ p q lt lq earlier. s.whole p q lt lq;
-    })
-    some
 
 pub suite_is_counted : SuiteIsCounted
 suite_is_counted a m k suite is =

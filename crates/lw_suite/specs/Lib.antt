@@ -1,3 +1,2 @@
-pub mod Size
 pub mod Suite
 pub mod bodies

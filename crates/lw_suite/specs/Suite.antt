@@ -1,32 +1,13 @@
 -- The suite of the W-method: words that tell a machine from every other of at most so many states more.
 -- Source: Vasilevskii (1973) and Chow (1978); the order of the words is this project's.
-use Rattle.std.specs.Prelude.{◌≡◌, ℕ, zero, suc, ◌+◌, ◌≤◌, List, [], ◌∷◌, ◌++◌, length, map}
-use Rattle.std.specs.List.{All, flat_map, range_with_len}
+use Rattle.std.specs.Prelude.{◌≡◌, ℕ, ◌+◌, ◌≤◌, List, length}
+use Rattle.std.specs.List.{All}
 use Rattle.lw_words.specs.Word.{IsWord}
 use Rattle.lw_mealy.specs.Machine.{Rows, IsMachine, IsMinimal}
 use Rattle.lw_separate.specs.Canonical.{AreLeastAccess}
 use Rattle.lw_separate.specs.Separators.{IsSeparators}
-use Rattle.lw_suite.specs.Size.{suite_size}
-use Rattle.lw_suite.specs.declared.method.Method.{Method}
-use Rattle.lw_suite.specs.declared.method.Method.TheVariants.{W}
-
--- each of the first list with each of the second, by the first, then by the second
-abbrev pub each_with : {X Y Z : Type 0} → (X → Y → Z) → List X → List Y → List Z
-each_with f xs ys = flat_map (λ x. map (λ y. f x y) ys) xs
-
--- the words of n letters over a letters, in shortlex order
-abbrev pub words_of_length : ℕ → ℕ → List (List ℕ)
-words_of_length a zero = [] ∷ []
-words_of_length a (suc n) = each_with (λ x w. x ∷ w) (range_with_len 0 a) (words_of_length a n)
-
--- the words of at most n letters, in shortlex order
-abbrev pub words_up_to : ℕ → ℕ → List (List ℕ)
-words_up_to a zero = words_of_length a zero
-words_up_to a (suc n) = words_up_to a n ++ words_of_length a (suc n)
-
--- each access word with each middle word, and each of these with nothing and then with each word at the end
-abbrev pub suite_of : List (List ℕ) → List (List ℕ) → List (List ℕ) → List (List ℕ)
-suite_of access middles ends = each_with (λ front end. front ++ end) (each_with (λ u v. u ++ v) access middles) ([] ∷ ends)
+use Rattle.lw_chunks.specs.Middle.{suite_of, words_up_to}
+use Rattle.lw_chunks.specs.Size.{suite_size}
 
 -- the suite of a machine for k extra states: its least access words, the middle words of at most k + 1 letters,
 -- and at the end nothing or one of its separating words
@@ -36,10 +17,6 @@ pub record IsSuite (a : ℕ) (m : Rows) (k : ℕ) (suite : List (List ℕ)) : Ty
   pub least : AreLeastAccess a m access
   pub separating : IsSeparators a m ends
   pub words : suite ≡ suite_of access (words_up_to a (k + 1)) ends
-
--- the suite of a machine for k extra states, by how suites are made
-abbrev pub IsSuiteBy : Method → ℕ → Rows → ℕ → List (List ℕ) → Type 0
-IsSuiteBy W a m k suite = IsSuite a m k suite
 
 -- a machine has one suite at most
 abbrev pub OneSuite : Type 0

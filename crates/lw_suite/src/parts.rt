@@ -1,6 +1,6 @@
 //! What a suite is made of.
 ghost use Rattle.std.specs.Prelude.{◌≡◌, ◌<◌, ◌≤◌, ◌+◌, ◌*◌, length};
-ghost use Rattle.lw_suite.specs.Size.{powers};
+ghost use Rattle.lw_chunks.specs.Size.{powers};
 
 use lw_words::Words;
 
@@ -17,11 +17,4 @@ pub(crate) struct Parts {
     pub(crate) ghost counted: { middles ≡ powers inputs longest },
     pub(crate) ghost short: { length ends < 1024 },
     pub(crate) ghost bounded: { length access * middles * (1 + length ends) ≤ 8388608 },
-}
-
-/// A place in a suite: the number of an access word with a middle word, and that of an end, 0 for none.
-#[derive(Clone, Copy)]
-pub struct Place {
-    pub front: u64,
-    pub end: usize,
 }

@@ -2,10 +2,9 @@
 ghost use Rattle.std.specs.Prelude.{◌≡◌, ◌<◌, ◌≤◌, ◌+◌, ◌*◌, [], ◌∷◌, ◌++◌, length, take, IfOk, OnOk, slice_index_or};
 ghost use Rattle.lw_suite.specs.bodies.Places.{fronts, ends, number_of, IsPlace, IsFront};
 
-use crate::middle::spell;
-use crate::parts::{Parts, Place};
+use crate::parts::Parts;
+use lw_chunks::{Place, spell};
 use lw_words::{NoMemory, Word};
-use std::alloc::Global;
 
 /// The number of access words with a middle word.
 pub(crate) fn front_count(parts: &Parts) -> u64
@@ -31,7 +30,6 @@ pub(crate) fn number(parts: &Parts, place: Place) -> u64
 }
 
 /// Makes a word the front with this number: an access word and a middle word.
-
 fn spell_front(parts: &Parts, front: &mut Word, number: u64) -> Result<(), NoMemory>
     requires { number < length parts.now.access * parts.now.middles }
     ensures { OnOk result (front.new ≡ slice_index_or (fronts parts.now) number []) }
@@ -87,27 +85,4 @@ pub(crate) fn end_at(parts: &Parts, end: usize) -> &[u16]
     } else {
         parts.ends.get(end - 1).as_slice()
     }
-}
-
-/// Makes the word at this index of a chunk a front and an end, and keeps the memory of the word that was there.
-pub fn put(
-    alloc: Global,
-    chunk: &mut Vec<Word>,
-    index: usize,
-    front: &Word,
-    end: &[u16],
-) -> Result<(), NoMemory>
-    requires { index ≤ length chunk.old.items }
-    ensures word { OnOk result (take (index + 1) chunk.new.items ≡
-        take index chunk.old.items ++ (front.now ++ end.now) ∷ []) }
-    ensures long { OnOk result (index < length chunk.new.items) }
-{
-    if index == chunk.len() {
-        chunk.push(Word::new(alloc))?;
-    }
-    let word = &mut chunk[index];
-    word.clear();
-    word.extend(front.as_slice())?;
-    word.extend(end)?;
-    Ok(())
 }

@@ -1,59 +1,22 @@
 //! A suite that gives its words in chunks.
 ghost use Rattle.std.specs.Prelude.{◌≡◌, ℕ, ◌≢◌, ◌↔◌, ◌<◌, ◌≤◌, ◌+◌, ◌*◌, List, [], ◌∷◌, ◌++◌, length, take, drop, map, true, Err, IfOk, IfErr, OnOk, OnErr, slice_index_or};
 ghost use Rattle.lw_mealy.specs.Machine.{IsMinimal};
-ghost use Rattle.lw_suite.specs.Size.{powers, suite_size, greatest_suite};
-ghost use Rattle.lw_suite.specs.Suite.{IsSuite, suite_of, words_up_to};
+ghost use Rattle.lw_chunks.specs.Size.{powers, suite_size, greatest_suite};
+ghost use Rattle.lw_suite.specs.Suite.{IsSuite};
+ghost use Rattle.lw_chunks.specs.Middle.{suite_of, words_up_to};
 ghost use Rattle.lw_suite.specs.bodies.Places.{all_words, ends, number_of, IsPlace};
 ghost use Rattle.lw_separate.specs.Canonical.{AreLeastAccess};
 ghost use Rattle.lw_separate.specs.Separators.{IsSeparators};
-ghost use Rattle.lw_suite.specs.declared.suite.SuiteFault.{SuiteFault as Fault};
+ghost use Rattle.lw_chunks.specs.declared.size.SuiteFault.{SuiteFault as Fault};
 
-use crate::Chunks;
-use crate::parts::{Parts, Place};
-use crate::places::{end_at, front_at, number, put, step, word_count};
-use crate::size::{GREATEST_SUITE, middle_count, suite_size};
+use crate::parts::Parts;
+use crate::places::{end_at, front_at, number, step, word_count};
+use lw_chunks::{CHUNK, Chunks, Place, SuiteFault, check_size, middle_count, put};
 use lw_mealy::Mealy;
 use lw_separate::{least_access, separators};
 use lw_words::{NoMemory, Word, Words};
 use std::alloc::Global;
 use std::marker::Model;
-
-/// The greatest number of words of a chunk.
-pub const CHUNK: usize = 512;
-
-/// Why there is no suite.
-#[derive(Clone, Copy, Debug, PartialEq, Eq, Drop)]
-pub enum SuiteFault {
-    /// The suite would have this size, which is above the greatest.
-    TooLarge(u64),
-    NoMemory,
-}
-
-impl From<NoMemory> for SuiteFault {
-    ghost use Rattle.std.specs.Prelude.{◌≡◌};
-    ghost use Rattle.lw_suite.specs.declared.suite.SuiteFault.TheVariants.{NoMemory as Wanted};
-
-    ghost from_gives = { λ _ fault. fault ≡ Wanted };
-
-    fn from(_: NoMemory) -> SuiteFault {
-        SuiteFault::NoMemory
-    }
-}
-
-/// Refuses a suite that is too large.
-pub fn check_size(m: &Mealy, extra: u8) -> Result<(), SuiteFault>
-    requires { extra ≤ 4 }
-    ensures ok { OnOk result (suite_size (length m.now.rows) m.now.inputs extra ≤ greatest_suite) }
-    ensures err { IfErr result (λ fault.
-        (greatest_suite < suite_size (length m.now.rows) m.now.inputs extra) ×
-        (fault ≡ Fault.TooLarge (suite_size (length m.now.rows) m.now.inputs extra))) }
-{
-    let size = suite_size(m.states(), m.inputs(), extra);
-    if size > GREATEST_SUITE {
-        return Err(SuiteFault::TooLarge(size));
-    }
-    Ok(())
-}
 
 /// The parts of a machine's suite that isn't too large.
 fn parts_of(alloc: Global, m: &Mealy, access: Words, extra: u8) -> Result<Parts, NoMemory>

@@ -11,7 +11,7 @@ use Rattle.lw_cache.specs.Clash.{ClashAt}
 use Rattle.lw_cache.specs.FirstClash.{IsFirstClash}
 use Rattle.lw_cache.specs.declared.stops.AskStop.TheVariants as ask
 use Rattle.lw_cache.specs.declared.stops.Clash.{Clash}
-use Rattle.lw_suite.specs.Size.{greatest_suite, suite_size}
+use Rattle.lw_chunks.specs.Size.{greatest_suite, suite_size}
 use Rattle.lw_rounds.specs.Learned.{IsTooMany}
 use Rattle.lw_rounds.specs.Learner.{refinements_of}
 use Rattle.lw_rounds.specs.declared.learned.Learned.{Learned as Found}

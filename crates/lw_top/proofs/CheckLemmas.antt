@@ -7,7 +7,7 @@ use Rattle.lw_report.specs.Writing.{TakesAll, TakesSome}
 use Rattle.lw_report.specs.declared.«end».End.{End}
 use Rattle.lw_report.specs.declared.outcome.Outcome.{Outcome}
 use Rattle.lw_report.specs.declared.outcome.Outcome.TheVariants.{NoMemory, SinkFault, Usage, Yes}
-use Rattle.lw_suite.specs.declared.method.Method.{Method}
+use Rattle.lw_chunks.specs.declared.method.Method.{Method}
 use Rattle.lw_check.specs.CheckRun.{IsCheckRun}
 use Rattle.lw_check.specs.Decision.{IsDecision}
 use Rattle.lw_check.specs.Ending.{EndsPairRead, EndsUnread}

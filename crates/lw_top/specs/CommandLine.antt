@@ -17,6 +17,8 @@ use Rattle.clap.specs.declared.error.kind.ErrorKind.{ErrorKind}
 use Rattle.clap.specs.declared.error.kind.ErrorKind.TheVariants.{OutOfMemory}
 use Rattle.lw_rounds.specs.declared.learner.Kind.{Kind}
 use Rattle.lw_rounds.specs.declared.learner.Kind.TheVariants as kind
+use Rattle.lw_chunks.specs.declared.method.Method.{Method}
+use Rattle.lw_chunks.specs.declared.method.Method.TheVariants as by
 use Rattle.lw_top.specs.declared.values.ArgumentStop.{ArgumentStop}
 use Rattle.lw_top.specs.declared.values.ArgumentStop.TheVariants.{NoMemory, Usage}
 use Rattle.clap.specs.ValueTests.{is_unsigned_in}
@@ -107,6 +109,10 @@ number_given name range rows = number_in_range range (one_of name rows)
 -- the kind of learner that a text names
 abbrev pub kind_named : List ℕ → Option Kind
 kind_named text = if bytes_eq text (codes "table") then Some kind.Table else if bytes_eq text (codes "ttt") then Some kind.Ttt else None
+
+-- how suites are made, by the name that a text has
+abbrev pub method_named : List ℕ → Option Method
+method_named text = if bytes_eq text (codes "w") then Some by.W else if bytes_eq text (codes "wp") then Some by.Wp else if bytes_eq text (codes "h") then Some by.H else None
 
 -- why a parse failed, by the kind of its error
 abbrev pub refusal_of : ErrorKind → ArgumentStop

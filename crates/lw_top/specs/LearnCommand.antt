@@ -3,18 +3,17 @@ use Rattle.std.specs.Prelude.{ℕ, List, [], ◌∷◌, codes, Option, Some, Non
 use Rattle.clap.specs.Words.{App, Row, first_of}
 use Rattle.lw_rounds.specs.declared.learner.Kind.{Kind}
 use Rattle.lw_rounds.specs.declared.settings.Settings.{Settings}
-use Rattle.lw_suite.specs.declared.method.Method.{Method}
-use Rattle.lw_suite.specs.declared.method.Method.TheVariants.{W}
+use Rattle.lw_chunks.specs.declared.method.Method.{Method}
 use Rattle.lw_learn.specs.Arguments.{LearnValues}
 use Rattle.lw_learn.specs.declared.arguments.Drawn.{Drawn}
 use Rattle.lw_learn.specs.declared.arguments.LearnFiles.{LearnFiles}
 use Rattle.lw_system.specs.declared.source.Source.{Source}
 use Rattle.lw_system.specs.declared.source.Source.TheVariants.{Setup, Table}
-use Rattle.lw_top.specs.CommandLine.{kind_named, number_given, values_taken, app_with, default_option, free_number, number_option, optional_argument, text_option}
+use Rattle.lw_top.specs.CommandLine.{kind_named, method_named, number_given, values_taken, app_with, default_option, free_number, number_option, optional_argument, text_option}
 use Rattle.lw_top.specs.declared.ranges.TheConstants.{EXTRA, LENGTH, RANDOM, SEED, STATES, WORKERS}
 
 -- learn (SETUP | --table FILE) [--workers N] [--extra K] [--learner table|ttt] [--max-states N] [--model FILE] [--answers FILE] [--prior FILE]
--- [--kept FILE] [--words FILE] [--random R --length L --seed S] [--log FILE]
+-- [--kept FILE] [--words FILE] [--random R --length L --seed S] [--log FILE] [--suite w|wp|h]
 abbrev pub learn_app : App
 learn_app = app_with (codes "learn")
     (optional_argument (codes "setup")
@@ -32,6 +31,7 @@ learn_app = app_with (codes "learn")
     ∷ free_number (codes "length") LENGTH
     ∷ free_number (codes "seed") SEED
     ∷ text_option (codes "log")
+    ∷ default_option (codes "suite") (codes "w")
     ∷ [])
 
 -- the file of the system and its kind: one of a setup and a table, never both
@@ -64,18 +64,20 @@ pub record SettingValues : Type 0 where
 abbrev pub setting_values : Settings → SettingValues
 setting_values s = record { workers = s.workers; extra = s.extra; learner = s.kind; max_states = s.max_states; suite = s.suite }
 
--- the settings, where the numbers are in their ranges and the learner is of a kind; suites are made by the W-method
-abbrev pub settings_from : (workers extra : Option ℕ) → Option Kind → (max_states : Option ℕ) → Option SettingValues
-settings_from None extra learner max_states = None
-settings_from (Some workers) None learner max_states = None
-settings_from (Some workers) (Some extra) None max_states = None
-settings_from (Some workers) (Some extra) (Some learner) None = None
-settings_from (Some workers) (Some extra) (Some learner) (Some max_states) = Some (record { workers = workers; extra = extra; learner = learner; max_states = max_states; suite = W })
+-- the settings, where the numbers are in their ranges, the learner is of a kind, and suites are made by a method
+abbrev pub settings_from : (workers extra : Option ℕ) → Option Kind → (max_states : Option ℕ) → Option Method → Option SettingValues
+settings_from None extra learner max_states suite = None
+settings_from (Some workers) None learner max_states suite = None
+settings_from (Some workers) (Some extra) None max_states suite = None
+settings_from (Some workers) (Some extra) (Some learner) None suite = None
+settings_from (Some workers) (Some extra) (Some learner) (Some max_states) None = None
+settings_from (Some workers) (Some extra) (Some learner) (Some max_states) (Some suite) =
+    Some (record { workers = workers; extra = extra; learner = learner; max_states = max_states; suite = suite })
 
 abbrev pub settings_in : List Row → Option SettingValues
 settings_in rows =
     settings_from (number_given (codes "workers") WORKERS rows) (number_given (codes "extra") EXTRA rows) (option_and_then kind_named (first_of (codes "learner") rows))
-    (number_given (codes "max-states") STATES rows)
+    (number_given (codes "max-states") STATES rows) (option_and_then method_named (first_of (codes "suite") rows))
 
 -- the names of the other files
 pub record LearnFileNames : Type 0 where

@@ -7,7 +7,7 @@ use Rattle.lw_words.specs.declared.stop.SulStop.{SulStop}
 use Rattle.lw_names.specs.Naming.{Naming}
 use Rattle.lw_mealy.specs.Machine.{Gives, MealyMachine, IsWithinLimits, Rows, IsMinimal, Sure}
 use Rattle.lw_separate.specs.Canonical.{IsCanonical}
-use Rattle.lw_suite.specs.Size.{greatest_suite, suite_size}
+use Rattle.lw_chunks.specs.Size.{greatest_suite, suite_size}
 use Rattle.lw_cache.specs.Clash.{ClashAt}
 use Rattle.lw_cache.specs.FirstClash.{IsFirstClash}
 use Rattle.lw_cache.specs.declared.stops.Clash.{Clash}

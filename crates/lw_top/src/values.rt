@@ -2,10 +2,11 @@
 ghost use Rattle.std.specs.Prelude.{◌≡◌, ◌≤◌, ◌&&◌, [], Err, map, unwrap_or, Some, None, nat_le, if◌then◌else◌, option_and_then, option_map, IfOk, IfSome, string_bytes};
 ghost use Rattle.clap.specs.Words.{all_of, first_of, found_of, rows_of};
 ghost use Rattle.lw_top.specs.declared.values.ArgumentStop.{ArgumentStop as Stop};
-ghost use Rattle.lw_top.specs.CommandLine.{kind_named, number_given};
+ghost use Rattle.lw_top.specs.CommandLine.{kind_named, method_named, number_given};
 
 use crate::ranges::Range;
 use clap::ArgMatches;
+use lw_chunks::Method;
 use lw_report::Outcome;
 use lw_rounds::Kind;
 use std::alloc::{AllocError, Global};
@@ -149,6 +150,33 @@ pub(crate) fn kind_at(matches: &ArgMatches, id: &str) -> Option<Kind>
 {
     match str_at(matches, id) {
         Some(name) => kind_named(name),
+        None => None,
+    }
+}
+
+/// How suites are made, by this name.
+fn method_named(name: &str) -> Option<Method>
+    ensures { result ≡ method_named name.now }
+{
+    if name == "w" {
+        return Some(Method::W);
+    }
+    if name == "wp" {
+        return Some(Method::Wp);
+    }
+    if name == "h" {
+        return Some(Method::H);
+    }
+    None
+}
+
+/// How suites are made, as an argument says.
+pub(crate) fn method_at(matches: &ArgMatches, id: &str) -> Option<Method>
+    ensures { result ≡ option_and_then method_named
+        (first_of id.now (rows_of (found_of matches.now))) }
+{
+    match str_at(matches, id) {
+        Some(name) => method_named(name),
         None => None,
     }
 }

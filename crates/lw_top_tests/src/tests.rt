@@ -6,6 +6,7 @@ mod prior;
 mod refusals;
 mod rows;
 mod serving;
+mod suites;
 mod trial_arguments;
 mod trials;
 mod two_at_once;

@@ -8,7 +8,7 @@ use Rattle.lw_words.specs.Cause.{CountedFault}
 use Rattle.lw_words.specs.declared.kept.KeptAnswer.{KeptAnswer}
 use Rattle.lw_mealy.specs.Machine.{Gives, MealyMachine, IsWithinLimits, Rows, IsMachine}
 use Rattle.lw_cache.proofs.CrowdLemmas.{crowd_needs_states}
-use Rattle.lw_suite.specs.Size.{suite_size, greatest_suite}
+use Rattle.lw_chunks.specs.Size.{suite_size, greatest_suite}
 use Rattle.lw_rounds.specs.Learned.{IsEnoughFor, IsLearned, IsReadOff, StopsAs}
 use Rattle.lw_rounds.specs.Learner.{refinements_of}
 use Rattle.lw_rounds.specs.Stops.{IsOwnStop}

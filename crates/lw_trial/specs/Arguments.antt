@@ -1,6 +1,6 @@
 -- The values of the arguments of `trial`, as contracts see them.
 use Rattle.std.specs.Prelude.{ℕ, ◌<◌, ◌≤◌, ◌^◌}
-use Rattle.lw_suite.specs.declared.method.Method.{Method}
+use Rattle.lw_chunks.specs.declared.method.Method.{Method}
 use Rattle.lw_rounds.specs.declared.learner.Kind.{Kind}
 
 -- the states and inputs of the machine that is drawn, the seed that it is drawn by, the number of instances, the kind of the

@@ -4,7 +4,7 @@ use Rattle.lw_words.specs.Word.{answers_of}
 use Rattle.lw_words.specs.Cause.{CountedFault}
 use Rattle.lw_mealy.specs.Machine.{MealyMachine, mealy_of}
 use Rattle.lw_separate.specs.Canonical.{IsCanonical}
-use Rattle.lw_suite.specs.Size.{suite_size, greatest_suite}
+use Rattle.lw_chunks.specs.Size.{suite_size, greatest_suite}
 use Rattle.lw_names.specs.Naming.{Naming}
 use Rattle.lw_rounds.specs.Learned.{IsReadOff}
 use Rattle.lw_rounds.specs.declared.learner.Learner.{Learner}

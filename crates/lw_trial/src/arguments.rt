@@ -1,8 +1,8 @@
 //! The values of the arguments of `trial`.
 ghost use Rattle.std.specs.Prelude.{◌≡◌, ◌<◌, ◌≤◌, ◌^◌};
 
+use lw_chunks::Method;
 use lw_rounds::Kind;
-use lw_suite::Method;
 use std::marker::Model;
 
 /// The values of the arguments of `trial`: the states and inputs of the machine that is drawn, the seed that it is drawn by, the

@@ -4,7 +4,7 @@ ghost use Rattle.lw_words.specs.Word.{answers_of};
 ghost use Rattle.lw_mealy.specs.Machine.{IsWithinLimits};
 ghost use Rattle.lw_rounds.specs.Learned.{IsEnoughFor, IsLearned};
 ghost use Rattle.lw_rounds.specs.Learner.{refinements_of};
-ghost use Rattle.lw_suite.specs.Size.{suite_size, greatest_suite};
+ghost use Rattle.lw_chunks.specs.Size.{suite_size, greatest_suite};
 ghost use Rattle.lw_workers.specs.Machines.{KeepsRuns};
 ghost use Rattle.lw_report.specs.Outcomes.{status_of};
 ghost use Rattle.lw_trial.specs.TrialRun.{IsTrialRun, drawn_machine, drawn_naming, drawn_outputs};

@@ -15,7 +15,7 @@ use Rattle.lw_cache.proofs.ClashLemmas.{given_never_clash}
 use Rattle.lw_names.specs.Naming.{Naming}
 use Rattle.lw_pool.specs.Pool.{Member, PoolState, IsStopOf, seen_at, seen_of}
 use Rattle.lw_pool.specs.Sharing.{oracle_of}
-use Rattle.lw_suite.specs.declared.method.Method.{Method}
+use Rattle.lw_chunks.specs.declared.method.Method.{Method}
 use Rattle.lw_rounds.specs.Laws.{ModelIsLeast, TooManyIsNone, TooLargeForAll}
 use Rattle.lw_rounds.specs.Learned.{IsEnoughFor, IsLearned, StopsAs}
 use Rattle.lw_rounds.specs.Stops.{learn_stop, IsOwnStop}

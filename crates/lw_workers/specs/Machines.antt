@@ -7,7 +7,7 @@ use Rattle.lw_mealy.specs.Machine.{Gives, MealyMachine, Rows, IsMachine}
 use Rattle.lw_cache.specs.FirstClash.{IsFirstClash}
 use Rattle.lw_cache.specs.declared.stops.AskStop.TheVariants as ask
 use Rattle.lw_pool.specs.Pool.{AskedOnce}
-use Rattle.lw_suite.specs.Size.{suite_size, greatest_suite}
+use Rattle.lw_chunks.specs.Size.{suite_size, greatest_suite}
 use Rattle.lw_rounds.specs.Learner.{refinements_of}
 use Rattle.lw_rounds.specs.declared.learned.Learned.{Learned}
 use Rattle.lw_rounds.specs.declared.stops.LearnStop.{LearnStop}

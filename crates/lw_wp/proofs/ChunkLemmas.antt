@@ -1,21 +1,21 @@
--- A chunk of a Wp-suite that is filled word by word.
+-- A chunk of a suite that is filled word by word.
 use Rattle.std.proofs.Common.{◌≡◌, ℕ, ◌+◌, ◌≤◌, ◌⊎◌, inl, inr, ⊎_elim, List, [], ◌∷◌, ◌++◌, length, take, drop, sym, ap, ◌∙◌, arith, append_assoc}
 use Rattle.std.specs.List.{flat_map}
 use Rattle.std.proofs.lemmas.List.{length-take-le, drop_all}
-use Rattle.lw_suite.specs.declared.parts.Place.{Place}
+use Rattle.lw_chunks.specs.declared.chunks.Place.{Place}
 use Rattle.lw_wp.specs.bodies.Cursors.{blocks, left_from, IsCursor}
 use Rattle.lw_wp.specs.declared.cursor.Cursor.{Cursor}
-use Rattle.lw_wp.specs.declared.parts.WpParts.{WpParts}
+use Rattle.lw_wp.specs.declared.parts.Parts.{Parts}
 use Rattle.lw_wp.proofs.FlatLemmas.{chunk_of}
 
 -- so many words of the chunk are those from the first place on to before the cursor
-pub record Filled (p : WpParts) (from : Place) (index : ℕ) (c : Cursor) (chunk : List (List ℕ)) : Type 0 where
+pub record Filled (p : Parts) (from : Place) (index : ℕ) (c : Cursor) (chunk : List (List ℕ)) : Type 0 where
   pub cursor : IsCursor p c
   pub few : index ≤ 512
   pub long : index ≤ length chunk
   pub words : take index chunk ++ left_from p c.place ≡ left_from p from
 
-module _ (p : WpParts) (from : Place) (index : ℕ) where
+module _ (p : Parts) (from : Place) (index : ℕ) where
   -- one word more
   pub words_more : (old new : Cursor) (chunk more : List (List ℕ)) (w : List ℕ) → Filled p from index old chunk → left_from p old.place ≡ w ∷ left_from p new.place
       → take (index + 1) more ≡ take index chunk ++ w ∷ [] → take (index + 1) more ++ left_from p new.place ≡ left_from p from

@@ -1,7 +1,14 @@
 pub mod ChunkLemmas
 pub mod CursorLemmas
 pub mod FlatLemmas
+pub mod FrontLemmas
+pub mod GreedyLemmas
+pub mod HTableLemmas
+pub mod HTellsLemmas
 pub mod IdentificationLemmas
+pub mod MarkLemmas
+pub mod RowLemmas
 pub mod SeparationLemmas
 pub mod TellsLemmas
 pub mod WpSuiteLemmas
+pub mod WpTableLemmas

@@ -11,31 +11,31 @@ use Rattle.lw_mealy.specs.Machine.{Rows, IsMachine, after}
 use Rattle.lw_mealy.proofs.WordLemmas.{after_below}
 use Rattle.lw_separate.specs.Canonical.{AreLeastAccess}
 use Rattle.lw_separate.specs.Separators.{IsSeparators, SplitAt}
-use Rattle.lw_suite.specs.Suite.{each_with, words_of_length, words_up_to, suite_of}
-use Rattle.lw_suite.proofs.EachLemmas.{length-each, each_at}
-use Rattle.lw_suite.proofs.LetterLemmas.{joined_words}
+use Rattle.lw_chunks.specs.Middle.{each_with, words_of_length, words_up_to, suite_of}
+use Rattle.lw_chunks.proofs.EachLemmas.{length-each, each_at}
+use Rattle.lw_chunks.proofs.LetterLemmas.{joined_words}
 use Rattle.lw_wp.specs.Identification.{identification_of}
 use Rattle.lw_wp.specs.WpSuite.{with_identification, wp_suite_of}
 use Rattle.lw_wp.specs.WpTells.{TellsWhereDifferent, TellsStates, WpSuiteTells}
 use Rattle.lw_wp.proofs.IdentificationLemmas.{identification_identifies, identification_within}
 
 module _ {X : Type 0} (P : X → Type 0) where
-  all_front : (xs ys : List X) → All P (xs ++ ys) → All P xs
+  pub all_front : (xs ys : List X) → All P (xs ++ ys) → All P xs
   all_front xs ys all = subst (All P) (take_at xs ys (length xs) refl) (All-take P (length xs) (xs ++ ys) all)
 
-  all_rest : (xs ys : List X) → All P (xs ++ ys) → All P ys
+  pub all_rest : (xs ys : List X) → All P (xs ++ ys) → All P ys
   all_rest xs ys all = subst (All P) (drop_at xs ys (length xs) refl) (All-drop P (length xs) (xs ++ ys) all)
 
-  all_unmapped : {Y : Type 0} (f : Y → X) (ys : List Y) → All P (map f ys) → All (λ y. P (f y)) ys
+  pub all_unmapped : {Y : Type 0} (f : Y → X) (ys : List Y) → All P (map f ys) → All (λ y. P (f y)) ys
   all_unmapped f ys all i d lt = subst P (get_or-map f ys i d (f d) lt) (All-get_or P (map f ys) i (f d) (omega (arith, length-map ys f, lt)) all)
 
-  all_part : {Y : Type 0} (f : Y → List X) (ys : List Y) (i : ℕ) (d : Y) → i < length ys → All P (flat_map f ys) → All P (f (get_or ys i d))
+  pub all_part : {Y : Type 0} (f : Y → List X) (ys : List Y) (i : ℕ) (d : Y) → i < length ys → All P (flat_map f ys) → All P (f (get_or ys i d))
   all_part f [] i d lt all = absurd (omega arith)
   all_part f (y ∷ ys) zero d lt all = all_front (f y) (flat_map f ys) all
   all_part f (y ∷ ys) (suc i) d lt all = all_part f ys i d (omega arith) (all_rest (f y) (flat_map f ys) all)
 
 -- each with each stands among them
-contains_each : {X Y Z : Type 0} (f : X → Y → Z) (xs : List X) (ys : List Y) (x : X) (y : Y) → Contains xs x → Contains ys y → Contains (each_with f xs ys) (f x y)
+pub contains_each : {X Y Z : Type 0} (f : X → Y → Z) (xs : List X) (ys : List Y) (x : X) (y : Y) → Contains xs x → Contains ys y → Contains (each_with f xs ys) (f x y)
 contains_each {X} {Y} {Z} f xs ys x y i j =
     let up : i.0 + 1 ≤ length xs = let l = i.1 in omega (arith, l) in
     let m = mul-le-mul_right (length ys) up in
@@ -47,7 +47,7 @@ contains_each {X} {Y} {Z} f xs ys x y i j =
     )
 
 -- a word over a letters stands among those of its length, and among those of at most so many letters
-contains_words : (a : ℕ) (w : List ℕ) → IsWord a w → Contains (words_of_length a (length w)) w
+pub contains_words : (a : ℕ) (w : List ℕ) → IsWord a w → Contains (words_of_length a (length w)) w
 contains_words a [] is = (0, omega arith, refl)
 contains_words a (x ∷ w) is =
     let lt : x < a = All-head (λ (y : ℕ). y < a) x w is in
@@ -55,7 +55,7 @@ contains_words a (x ∷ w) is =
     let here : Contains (range_with_len 0 a) x = (x, omega (arith, length-range_with_len 0 a, lt), omega (arith, e)) in
     contains_each (λ (y : ℕ) (v : List ℕ). y ∷ v) (range_with_len 0 a) (words_of_length a (length w)) x w here (contains_words a w (All-tail (λ (y : ℕ). y < a) x w is))
 
-contains_up_to : (a n : ℕ) (w : List ℕ) → IsWord a w → length w ≤ n → Contains (words_up_to a n) w
+pub contains_up_to : (a n : ℕ) (w : List ℕ) → IsWord a w → length w ≤ n → Contains (words_up_to a n) w
 contains_up_to a zero w is le = let e : length w ≡ 0 = omega (arith, le) in subst (λ (n : ℕ). Contains (words_of_length a n) w) e (contains_words a w is)
 contains_up_to a (suc n) w is le =
     ⊎_elim
@@ -75,7 +75,7 @@ behind_front P ends fronts front in' all =
     (subst P (append-nil front) (All-head (λ (w : List ℕ). P (front ++ w)) [] (ends front) each), All-tail (λ (w : List ℕ). P (front ++ w)) [] (ends front) each)
 
 -- a separating word for two states, in either order
-split_both : (a : ℕ) (h : Rows) (ends : List (List ℕ)) → IsSeparators a h ends → (p q : ℕ) → p < length h → q < length h → p ≢ q → (i : ℕ) × SplitAt h ends p q i
+pub split_both : (a : ℕ) (h : Rows) (ends : List (List ℕ)) → IsSeparators a h ends → (p q : ℕ) → p < length h → q < length h → p ≢ q → (i : ℕ) × SplitAt h ends p q i
 split_both a h ends s p q lp lq n =
     ⊎_elim
     (λ (e : p ≡ q). absurd (n e))

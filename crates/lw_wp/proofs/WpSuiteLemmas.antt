@@ -8,12 +8,12 @@ use Rattle.lw_words.specs.Word.{IsWord}
 use Rattle.lw_mealy.specs.Machine.{Rows, after}
 use Rattle.lw_mealy.proofs.WordLemmas.{after_below}
 use Rattle.lw_separate.proofs.OneLemmas.{one_least_access, one_separators}
-use Rattle.lw_suite.specs.Size.{powers}
-use Rattle.lw_suite.specs.Suite.{each_with, words_of_length, words_up_to, suite_of}
-use Rattle.lw_suite.proofs.EachLemmas.{length-each}
-use Rattle.lw_suite.proofs.LetterLemmas.{all_each, joined_words, words_of_words, access_are_words, ends_are_words, suite_of_words}
-use Rattle.lw_suite.proofs.SizeLemmas.{length-words_of, length-words_up_to, powers_more}
-use Rattle.lw_suite.proofs.SuiteLemmas.{few_ends}
+use Rattle.lw_chunks.specs.Size.{powers}
+use Rattle.lw_chunks.specs.Middle.{each_with, words_of_length, words_up_to, suite_of}
+use Rattle.lw_chunks.proofs.EachLemmas.{length-each}
+use Rattle.lw_chunks.proofs.LetterLemmas.{suite_of_words, all_each, joined_words, words_of_words}
+use Rattle.lw_separate.proofs.ListLemmas.{access_are_words, ends_are_words, few_ends}
+use Rattle.lw_chunks.proofs.SizeLemmas.{length-words_of, length-words_up_to, powers_more}
 use Rattle.lw_wp.specs.Identification.{identification_of}
 use Rattle.lw_wp.specs.WpSuite.{with_identification, wp_suite_of, OneWpSuite, WpSuiteIsOfWords, WpSuiteIsCounted}
 use Rattle.lw_wp.proofs.FlatLemmas.{all_joined, joined_within}

@@ -1,3 +1,4 @@
+pub mod HSuite
 pub mod Identification
 pub mod WpSuite
 pub mod WpTells

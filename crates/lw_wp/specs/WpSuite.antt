@@ -6,8 +6,8 @@ use Rattle.lw_words.specs.Word.{IsWord}
 use Rattle.lw_mealy.specs.Machine.{Rows, IsMachine, IsMinimal, after}
 use Rattle.lw_separate.specs.Canonical.{AreLeastAccess}
 use Rattle.lw_separate.specs.Separators.{IsSeparators}
-use Rattle.lw_suite.specs.Size.{suite_size}
-use Rattle.lw_suite.specs.Suite.{each_with, words_of_length, words_up_to, suite_of}
+use Rattle.lw_chunks.specs.Size.{suite_size}
+use Rattle.lw_chunks.specs.Middle.{each_with, words_of_length, words_up_to, suite_of}
 use Rattle.lw_wp.specs.Identification.{identification_of}
 
 -- each word of a list with nothing and then with each word of the identification set of the state that it leads to

@@ -1,35 +1,33 @@
-//! Going through the words of a Wp-suite.
-ghost use Rattle.std.specs.Prelude.{◌≡◌, ◌<◌, ◌≤◌, ◌+◌, [], ◌∷◌, ◌++◌, length, IfOk, OnOk, slice_index_or};
-ghost use Rattle.lw_suite.specs.Size.{powers};
-ghost use Rattle.lw_suite.specs.Suite.{words_up_to};
-ghost use Rattle.lw_wp.specs.bodies.Cursors.{AreWpParts, IsCursor, IsFrontAt, IsWithin, SplitsFront};
-ghost use Rattle.lw_wp.specs.bodies.Cursors.{blocks, end_of, ends_behind, left_from, shorter_fronts, wp_fronts};
+//! Going through the words of a suite by a table.
+ghost use Rattle.std.specs.Prelude.{◌≡◌, ◌<◌, ◌≤◌, ◌+◌, [], ◌∷◌, ◌++◌, length, IfOk, OnOk, MatchOption, slice_index_or};
+ghost use Rattle.lw_wp.specs.bodies.Cursors.{AreParts, IsCursor, IsFrontAt, IsWithin, SpellsFront, SplitsFront, blocks, end_of, ends_behind, left_from, shorter_blocks, table_of};
+ghost use Rattle.lw_wp.specs.bodies.Tables.{row_at};
 
-use crate::parts::WpParts;
-use lw_suite::{Place, spell};
+use crate::parts::{Parts, Row};
+use lw_chunks::{Place, spell};
 use lw_words::{NoMemory, Word};
 use std::alloc::Global;
 
-/// A place in a Wp-suite with its front, an access word and a middle word, and the state to which this leads.
+/// A place in a suite with its front, an access word and a middle word, and what stands behind it.
 #[derive(Drop)]
 pub(crate) struct Cursor {
     pub(crate) place: Place,
     pub(crate) front: Word,
-    pub(crate) state: u16,
+    pub(crate) row: Row,
 }
 
 /// The number of fronts whose middle word has at most `extra` letters.
-fn shorter_count(parts: &WpParts) -> u64
-    requires { AreWpParts parts.now }
-    ensures count { result ≡ length (shorter_fronts parts.now) }
+fn shorter_count(parts: &Parts) -> u64
+    requires { AreParts parts.now }
+    ensures count { result ≡ length (shorter_blocks parts.now) }
     ensures few { result ≤ 8388608 }
 {
     parts.access.len() as u64 * parts.shorter
 }
 
 /// The number of all fronts.
-pub(crate) fn front_count(parts: &WpParts) -> u64
-    requires { AreWpParts parts.now }
+pub(crate) fn front_count(parts: &Parts) -> u64
+    requires { AreParts parts.now }
     ensures count { result ≡ length (blocks parts.now) }
     ensures few { result ≤ 8388608 }
 {
@@ -37,8 +35,8 @@ pub(crate) fn front_count(parts: &WpParts) -> u64
 }
 
 /// The number of the access word of a front, and that of its middle word among those of at most one letter more than `extra`.
-fn split_front(parts: &WpParts, front: u64) -> (usize, u64)
-    requires parts { AreWpParts parts.now }
+fn split_front(parts: &Parts, front: u64) -> (usize, u64)
+    requires parts { AreParts parts.now }
     requires front { front < length (blocks parts.now) }
     ensures { SplitsFront parts.now front result.0 result.1 }
 {
@@ -54,85 +52,102 @@ fn split_front(parts: &WpParts, front: u64) -> (usize, u64)
     }
 }
 
-/// Makes a word the front with this number.
-fn spell_front(parts: &WpParts, word: &mut Word, front: u64) -> Result<(), NoMemory>
-    requires parts { AreWpParts parts.now }
+/// Makes a word the front with this number, and answers how many letters its middle word has fewer than the longest.
+fn spell_front(parts: &Parts, word: &mut Word, front: u64) -> Result<usize, NoMemory>
+    requires parts { AreParts parts.now }
     requires front { front < length (blocks parts.now) }
-    ensures { OnOk result (word.new ≡ slice_index_or (wp_fronts parts.now) front []) }
+    ensures { IfOk result (SpellsFront parts.now front word.new) }
 {
     let (access, middle) = split_front(parts, front);
     word.clear();
     word.extend(parts.access.get(access).as_slice())?;
+    let first = word.len();
     spell(word, parts.machine.inputs(), parts.extra + 1, middle)?;
-    Ok(())
+    Ok(usize::from(parts.extra) + 1 - (word.len() - first))
 }
 
-/// Makes a word the front with this number, and answers the state to which it leads; past the last front, any state.
-fn front_at(parts: &WpParts, word: &mut Word, front: u64) -> Result<u16, NoMemory>
-    requires { AreWpParts parts.now }
-    ensures state { IfOk result (λ state. state < length parts.now.machine.rows) }
-    ensures front { IfOk result (λ state. IsFrontAt parts.now front word.new state) }
+/// Makes a word the front with this number, and answers what stands behind it; past the last front, any row.
+fn front_at(parts: &Parts, word: &mut Word, front: u64) -> Result<Row, NoMemory>
+    requires { AreParts parts.now }
+    ensures state { IfOk result (λ row. row.state < length parts.now.machine.rows) }
+    ensures front { IfOk result (IsFrontAt parts.now front word.new) }
 {
     let start = parts.machine.initial();
     if front >= front_count(parts) {
-        return Ok(start);
+        return Ok(Row {
+            state: start,
+            left: 0,
+        });
     }
-    spell_front(parts, word, front)?;
-    Ok(parts.machine.after(start, word))
+    let left = spell_front(parts, word, front)?;
+    Ok(Row {
+        state: parts.machine.after(start, word),
+        left,
+    })
 }
 
 /// The cursor at a place.
-pub(crate) fn start(alloc: Global, parts: &WpParts, place: Place) -> Result<Cursor, NoMemory>
-    requires parts { AreWpParts parts.now }
+pub(crate) fn start(alloc: Global, parts: &Parts, place: Place) -> Result<Cursor, NoMemory>
+    requires parts { AreParts parts.now }
     requires place { IsWithin parts.now place }
     ensures cursor { IfOk result (IsCursor parts.now) }
     ensures place { IfOk result (λ cursor. cursor.place ≡ place) }
 {
     let mut front = Word::new(alloc);
-    let state = front_at(parts, &mut front, place.front)?;
-    Ok(Cursor {
-        place,
-        front,
-        state,
-    })
+    let row = front_at(parts, &mut front, place.front)?;
+    Ok(Cursor { place, front, row })
 }
 
-/// The number of words that stand behind the front of a cursor, beside nothing.
-fn end_count(parts: &WpParts, cursor: &Cursor) -> usize
-    requires parts { AreWpParts parts.now }
-    requires state { cursor.now.state < length parts.now.machine.rows }
-    ensures { result ≡ length (ends_behind parts.now cursor.now.place.front cursor.now.state) }
+/// The numbers of the words that stand behind a front, beside nothing; none where all separating words do.
+fn numbers_behind(parts: &Parts, row: Row) -> Option<&[u16]>
+    requires parts { AreParts parts.now }
+    requires state { row.state < length parts.now.machine.rows }
+    ensures { MatchOption result
+        (length (slice_index_or (table_of parts.now) row.state []) ≤ row.left)
+        (λ numbers. (row.left < length (slice_index_or (table_of parts.now) row.state [])) ×
+        (numbers.now ≡ row_at (table_of parts.now) row.state row.left)) }
 {
-    if cursor.place.front < shorter_count(parts) {
-        parts.ends.len()
+    let rows = &parts.behind[usize::from(row.state)];
+    if row.left < rows.len() {
+        Some(rows[row.left].as_slice())
     } else {
-        parts.own[usize::from(cursor.state)].len()
+        None
     }
 }
 
-/// What stands behind the front at a cursor: nothing, a separating word, or one that identifies the state.
-pub(crate) fn end_at<'a>(parts: &'a WpParts, cursor: &Cursor) -> &'a [u16]
-    requires parts { AreWpParts parts.now }
-    requires state { cursor.now.state < length parts.now.machine.rows }
-    requires within { cursor.now.place.end ≤
-        length (ends_behind parts.now cursor.now.place.front cursor.now.state) }
+/// The number of words that stand behind the front of a cursor, beside nothing.
+fn end_count(parts: &Parts, cursor: &Cursor) -> usize
+    requires parts { AreParts parts.now }
+    requires state { cursor.now.row.state < length parts.now.machine.rows }
+    ensures { result ≡ length (ends_behind parts.now cursor.now.row) }
+{
+    match numbers_behind(parts, cursor.row) {
+        Some(numbers) => numbers.len(),
+        None => parts.ends.len(),
+    }
+}
+
+/// What stands behind the front at a cursor: nothing, or a separating word.
+pub(crate) fn end_at<'a>(parts: &'a Parts, cursor: &Cursor) -> &'a [u16]
+    requires parts { AreParts parts.now }
+    requires state { cursor.now.row.state < length parts.now.machine.rows }
+    requires within { cursor.now.place.end ≤ length (ends_behind parts.now cursor.now.row) }
     ensures { result.now ≡ end_of parts.now cursor.now }
 {
     if cursor.place.end == 0 {
         return &[];
     }
     let place = cursor.place.end - 1;
-    let number = if cursor.place.front < shorter_count(parts) {
-        place
-    } else {
-        usize::from(parts.own[usize::from(cursor.state)][place])
+    let number = match numbers_behind(parts, cursor.row) {
+        Some(numbers) => usize::from(numbers[place]),
+        None => place,
     };
     parts.ends.get(number).as_slice()
 }
 
 /// Goes to the next word.
-pub(crate) fn step(parts: &WpParts, cursor: &mut Cursor) -> Result<(), NoMemory>
-    requires parts { AreWpParts parts.now }
+pub(crate) fn step(parts: &Parts, cursor: &mut Cursor) -> Result<(), NoMemory>
+    requires parts { AreParts parts.now }
     requires cursor { IsCursor parts.now cursor.old }
     requires more { cursor.old.place.front < length (blocks parts.now) }
     ensures cursor { OnOk result (IsCursor parts.now cursor.new) }
@@ -147,7 +162,7 @@ pub(crate) fn step(parts: &WpParts, cursor: &mut Cursor) -> Result<(), NoMemory>
         };
         return Ok(());
     }
-    cursor.state = front_at(parts, &mut cursor.front, front + 1)?;
+    cursor.row = front_at(parts, &mut cursor.front, front + 1)?;
     cursor.place = Place {
         front: front + 1,
         end: 0,

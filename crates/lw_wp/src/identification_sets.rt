@@ -1,9 +1,10 @@
 //! The identification sets of states.
-ghost use Rattle.std.specs.Prelude.{◌≡◌, ◌+◌, ◌<◌, length, map, IfOk, OnOk};
+ghost use Rattle.std.specs.Prelude.{◌≡◌, ◌+◌, ◌<◌, [], ◌∷◌, length, map, IfOk, OnOk};
 ghost use Rattle.std.specs.List.{All};
 ghost use Rattle.lw_mealy.specs.Machine.{IsMinimal};
 ghost use Rattle.lw_wp.specs.Identification.{identification_below, identification_of, IsIdentification};
-ghost use Rattle.lw_wp.specs.bodies.Chosen.{chosen, Chooses, ChooseEach, IsSeparation};
+ghost use Rattle.lw_wp.specs.bodies.Chosen.{chosen, Chooses, IsSeparation};
+ghost use Rattle.lw_wp.specs.bodies.Tables.{IsWpTable, numbers_in};
 
 use crate::separation::{Separation, any_separates, first_separating, separation_of};
 use lw_mealy::Mealy;
@@ -49,21 +50,29 @@ fn numbers_of(alloc: Global, m: &Mealy, by: &Separation, q: u16) -> Result<Vec<u
     Ok(numbers)
 }
 
-/// For each state the numbers of the words of its identification set.
-pub(crate) fn numbers_of_each(
+/// A list of one list.
+fn alone(alloc: Global, numbers: Vec<u16>) -> Result<Vec<Vec<u16>>, NoMemory>
+    ensures { IfOk result (λ rows. map (λ row. row.items) rows.items ≡ numbers.items ∷ []) }
+{
+    let mut rows = Vec::with_capacity(alloc, 1)?;
+    rows.push(numbers)?;
+    Ok(rows)
+}
+
+/// The table of the Wp-suite: for each state the numbers of its identification set, behind the longest middle words.
+pub(crate) fn wp_table(
     alloc: Global,
     m: &Mealy,
     by: &Separation,
-) -> Result<Vec<Vec<u16>>, NoMemory>
+) -> Result<Vec<Vec<Vec<u16>>>, NoMemory>
     requires separation { IsSeparation m.now.inputs m.now.rows by.now }
-    ensures { IfOk result (λ own. ChooseEach m.now.rows by.now.words
-        (map (λ numbers. numbers.items) own.items)) }
+    ensures { IfOk result (λ table. IsWpTable m.now.rows by.now.words (numbers_in table)) }
 {
-    let mut own = Vec::with_capacity(alloc, usize::from(m.states()))?;
+    let mut table = Vec::with_capacity(alloc, usize::from(m.states()))?;
     for q in 0..m.states() {
-        own.push(numbers_of(alloc, m, by, q)?)?;
+        table.push(alone(alloc, numbers_of(alloc, m, by, q)?)?)?;
     }
-    Ok(own)
+    Ok(table)
 }
 
 /// Copies of the words with these numbers.

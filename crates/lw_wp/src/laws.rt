@@ -1,4 +1,5 @@
 //! Laws about the definitions alone, with no code.
+ghost use Rattle.lw_wp.specs.HSuite.{WpSuiteIsHSuite};
 ghost use Rattle.lw_wp.specs.Identification.{OneIdentification, IdentificationIdentifies};
 ghost use Rattle.lw_wp.specs.WpSuite.{OneWpSuite, SomeWpSuite, WpSuiteIsCounted, WpSuiteIsOfWords};
 ghost use Rattle.lw_wp.specs.WpTells.{WpSuiteTells};
@@ -41,4 +42,9 @@ pub fn wp_suite_is_counted()
 /// A Wp-suite tells the states of its machine apart as far as answers need that are to fix it.
 pub fn wp_suite_tells()
     ensures { WpSuiteTells }
+{}
+
+/// A Wp-suite is a suite of the H-method: so a minimal machine has one.
+pub fn wp_suite_is_h_suite()
+    ensures { WpSuiteIsHSuite }
 {}

@@ -30,7 +30,7 @@ pub(crate) fn separation_of(alloc: Global, m: &Mealy) -> Result<Separation, NoMe
 }
 
 /// The classes of states by their outputs on the word with this number.
-fn classes_on<'a>(m: &Mealy, by: &'a Separation, number: usize) -> &'a [u16]
+pub(crate) fn classes_on<'a>(m: &Mealy, by: &'a Separation, number: usize) -> &'a [u16]
     requires separation { IsSeparation m.now.inputs m.now.rows by.now }
     requires number { number < length by.now.words }
     ensures { AreClassesOn m.now.rows (slice_index_or by.now.words number []) result.now }
@@ -40,7 +40,7 @@ fn classes_on<'a>(m: &Mealy, by: &'a Separation, number: usize) -> &'a [u16]
 
 /// Whether the word with this number separates two states.
 #[tactic(auto, using(crate::proofs::SeparationLemmas::separates_by))]
-fn separates(m: &Mealy, by: &Separation, number: usize, q: u16, p: u16) -> bool
+pub(crate) fn separates(m: &Mealy, by: &Separation, number: usize, q: u16, p: u16) -> bool
     requires separation { IsSeparation m.now.inputs m.now.rows by.now }
     requires number { number < length by.now.words }
     requires first { q < length m.now.rows }

@@ -1,46 +1,37 @@
 //! A Wp-suite that gives its words in chunks.
-ghost use Rattle.std.specs.Prelude.{◌≡◌, ℕ, ◌≢◌, ◌↔◌, ◌<◌, ◌≤◌, ◌+◌, List, [], ◌∷◌, ◌++◌, length, take, drop, true, Err, IfOk, OnOk, OnErr};
+ghost use Rattle.std.specs.Prelude.{◌≡◌, ℕ, ◌≢◌, ◌↔◌, ◌<◌, ◌≤◌, [], length, take, drop, true, Err, IfOk, OnOk, OnErr};
 ghost use Rattle.lw_mealy.specs.Machine.{IsMinimal};
 ghost use Rattle.lw_separate.specs.Canonical.{AreLeastAccess};
-ghost use Rattle.lw_suite.specs.Size.{suite_size, greatest_suite};
-ghost use Rattle.lw_suite.specs.declared.suite.SuiteFault.{SuiteFault as Fault};
+ghost use Rattle.lw_chunks.specs.Size.{suite_size, greatest_suite};
+ghost use Rattle.lw_chunks.specs.declared.size.SuiteFault.{SuiteFault as Fault};
 ghost use Rattle.lw_wp.specs.WpSuite.{IsWpSuite};
-ghost use Rattle.lw_wp.specs.bodies.Cursors.{AreWpParts, IsWithin, left_from};
+ghost use Rattle.lw_wp.specs.bodies.Cursors.{AreParts, words_of};
 
-use crate::cursor::{end_at, front_count, start, step};
-use crate::identification_sets::numbers_of_each;
-use crate::parts::WpParts;
+use crate::identification_sets::wp_table;
+use crate::parts::{Parts, parts_by};
 use crate::separation::{Separation, separation_of};
+use crate::walk::Walk;
+use lw_chunks::{Chunks, SuiteFault, check_size};
 use lw_mealy::Mealy;
 use lw_separate::least_access;
-use lw_suite::{CHUNK, Chunks, Place, SuiteFault, check_size, middle_count, put};
 use lw_words::{NoMemory, Word, Words};
 use std::alloc::Global;
 use std::marker::Model;
 
 /// The parts of a machine's Wp-suite that isn't too large.
-fn parts_of(alloc: Global, m: &Mealy, access: Words, extra: u8) -> Result<WpParts, NoMemory>
+fn parts_of(alloc: Global, m: &Mealy, access: Words, extra: u8) -> Result<Parts, NoMemory>
     requires minimal { IsMinimal m.now.inputs m.now.rows }
     requires few { extra ≤ 4 }
     requires least { AreLeastAccess m.now.inputs m.now.rows access }
     requires size { suite_size (length m.now.rows) m.now.inputs extra ≤ greatest_suite }
-    ensures parts { IfOk result AreWpParts }
-    ensures machine { IfOk result (λ p. p.machine ≡ m.now) }
-    ensures extra { IfOk result (λ p. p.extra ≡ extra) }
+    ensures parts { IfOk result AreParts }
+    ensures words { IfOk result (λ p. IsWpSuite m.now.inputs m.now.rows extra (words_of p)) }
 {
     let by = separation_of(alloc, m)?;
-    let own = numbers_of_each(alloc, m, &by)?;
+    let table = wp_table(alloc, m, &by)?;
     let Separation { words, classes: _ } = by;
-    let shorter = middle_count(m.inputs(), extra);
-    Ok(WpParts {
-        machine: m.copy()?,
-        extra,
-        shorter,
-        longest: middle_count(m.inputs(), extra + 1) - shorter,
-        access,
-        ends: words,
-        own,
-    })
+    let parts = parts_by(m, access, extra, words, table)?;
+    Ok(parts)
 }
 
 /// The Wp-suite of a machine, of which some words were given. Contracts see the words that are left.
@@ -49,46 +40,17 @@ fn parts_of(alloc: Global, m: &Mealy, access: Words, extra: u8) -> Result<WpPart
 /// identify it; the words of the suite are made as they are asked for.
 #[derive(Drop)]
 pub struct WpSuite {
-    parts: WpParts,
-    place: Place,
-    alloc: Global,
+    walk: Walk,
 }
 
 impl Model for WpSuite {
     ghost use Rattle.std.specs.Prelude.{ℕ, List};
-    ghost use Rattle.lw_wp.specs.bodies.Cursors.{AreWpParts, IsWithin, left_from};
 
     ghost Value = { List (List ℕ) };
 
-    ghost view = { λ s. left_from s.parts s.place };
+    ghost view = { λ s. s.walk };
 
-    ghost invariant = { λ s. AreWpParts s.parts × IsWithin s.parts s.place };
-}
-
-/// Makes a chunk the next words of a Wp-suite, at most 512, and answers the place after them.
-fn fill(
-    alloc: Global,
-    parts: &WpParts,
-    place: Place,
-    chunk: &mut Vec<Word>,
-) -> Result<Place, NoMemory>
-    requires parts { AreWpParts parts.now }
-    requires place { IsWithin parts.now place }
-    ensures place { IfOk result (IsWithin parts.now) }
-    ensures words { OnOk result (chunk.new.items ≡ take 512 (left_from parts.now place)) }
-    ensures rest { IfOk result (λ next.
-        left_from parts.now next ≡ drop 512 (left_from parts.now place)) }
-{
-    let count = front_count(parts);
-    let mut cursor = start(alloc, parts, place)?;
-    let mut index = 0;
-    while index < CHUNK && cursor.place.front < count {
-        put(alloc, chunk, index, &cursor.front, end_at(parts, &cursor))?;
-        step(parts, &mut cursor)?;
-        index += 1;
-    }
-    chunk.truncate(index);
-    Ok(cursor.place)
+    ghost invariant = { λ s. Unit {0} };
 }
 
 impl WpSuite {
@@ -141,9 +103,7 @@ impl WpSuite {
         check_size(m, extra)?;
         let parts = parts_of(alloc, m, access, extra)?;
         Ok(WpSuite {
-            parts,
-            place: Place { front: 0, end: 0 },
-            alloc,
+            walk: Walk::new(alloc, parts),
         })
     }
 
@@ -158,16 +118,7 @@ impl WpSuite {
         ensures more { IfOk result (λ more. (more ≡ true) ↔ (self.old ≢ [])) }
         ensures err { OnErr result ((self.new ≡ self.old) × (chunk.new.items ≡ [])) }
     {
-        match fill(self.alloc, &self.parts, self.place, chunk) {
-            Ok(place) => {
-                self.place = place;
-                Ok(!chunk.is_empty())
-            }
-            Err(NoMemory) => {
-                chunk.clear();
-                Err(NoMemory)
-            }
-        }
+        self.walk.next_chunk(chunk)
     }
 }
 

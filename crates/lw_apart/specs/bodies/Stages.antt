@@ -6,7 +6,7 @@ use Rattle.lw_words.specs.Word.{Answer, shortlex_cmp}
 use Rattle.lw_mealy.specs.Machine.{Rows}
 use Rattle.lw_cache.specs.Known.{IsKnown}
 use Rattle.lw_apart.specs.Pairs.{WordPair, IsKnownApart, fronts as fronts_of}
-use Rattle.lw_apart.specs.Verdict.{IsFirstOpen, IsLeastUnknown}
+use Rattle.lw_apart.specs.Missing.{IsFirstOpen, IsLeastUnknown}
 use Rattle.lw_apart.specs.declared.fronts.Fronts.{Fronts}
 
 -- the access words with the words of at most so many letters behind them

@@ -4,11 +4,10 @@ ghost use Rattle.std.specs.Prelude.{◌≤◌};
 pub(super) mod plain;
 
 use crate::tests::{machine, of_one_letter, of_one_state};
+use lw_chunks::{Chunks, SuiteFault, suite_size};
 use lw_mealy::Mealy;
 use lw_separate::canonical;
-use lw_suite::{
-    Chunks, Suite, SuiteFault, suite_exists, suite_is_of_words, suite_is_unique, suite_size,
-};
+use lw_suite::{Suite, suite_exists, suite_is_of_words, suite_is_unique};
 use lw_words::{Word, Words};
 use rand_core::SeedableRng;
 use rand_core::utils::NextWord;

@@ -1,4 +1,4 @@
-//! Identification sets and Wp-suites worked by hand, and drawn machines beside the plain body.
+//! Identification sets, Wp-suites and suites of the H-method worked by hand, and drawn machines beside the plain body.
 ghost use Rattle.std.specs.Prelude.{◌≤◌};
 ghost use Rattle.lw_mealy.specs.Machine.{IsMinimal};
 
@@ -6,22 +6,27 @@ mod plain;
 
 use crate::tests::suite::{drawn, gather, same};
 use crate::tests::{machine, of_one_state, rows, word};
+use lw_chunks::SuiteFault;
 use lw_mealy::Mealy;
 use lw_separate::canonical;
-use lw_suite::SuiteFault;
 use lw_words::Words;
 use lw_wp::{
-    WpSuite, identification, identification_identifies, identification_is_unique, wp_suite_exists,
-    wp_suite_is_counted, wp_suite_is_of_words, wp_suite_is_unique, wp_suite_tells,
+    HSuite, WpSuite, identification, identification_identifies, identification_is_unique,
+    wp_suite_exists, wp_suite_is_counted, wp_suite_is_of_words, wp_suite_is_unique, wp_suite_tells,
 };
 use std::alloc::Global;
 use std::process::Abort;
 
-/// The canonical machine of three states over two letters, whose separating words are its letters.
-fn of_three_states(rt: &impl Abort, alloc: Global) -> Mealy
+/// A machine of three states over two letters, whose separating words are its letters.
+const THREE: &[&[(u16, u16)]] = &[&[(1, 0), (2, 0)], &[(1, 1), (0, 0)], &[(0, 0), (0, 1)]];
+
+/// Another one, where the second letter leads from state 1 to state 2, which is told from it by another word.
+const ONWARD: &[&[(u16, u16)]] = &[&[(1, 0), (2, 0)], &[(1, 1), (2, 0)], &[(0, 0), (0, 1)]];
+
+/// The canonical machine over two letters with these cells.
+fn of_cells(rt: &impl Abort, alloc: Global, cells: &[&[(u16, u16)]]) -> Mealy
     ensures { IsMinimal result.inputs result.rows }
 {
-    let cells: &[&[(u16, u16)]] = &[&[(1, 0), (2, 0)], &[(1, 1), (0, 0)], &[(0, 0), (0, 1)]];
     let m = machine(rt, alloc, 2, 2, rows(rt, alloc, cells));
     canonical(alloc, &m).expect(rt, "memory")
 }
@@ -53,7 +58,22 @@ fn all_words(rt: &impl Abort, alloc: Global, m: &Mealy, extra: u8, sizes: &mut V
     gather(rt, alloc, &mut suite, sizes)
 }
 
-/// The Wp-suite of the three states for no extra state, by access word.
+/// The chunks of a minimal machine's suite of the H-method, one after the other.
+fn all_h_words(
+    rt: &impl Abort,
+    alloc: Global,
+    m: &Mealy,
+    extra: u8,
+    sizes: &mut Vec<usize>,
+) -> Words
+    requires minimal { IsMinimal m.now.inputs m.now.rows }
+    requires few { extra ≤ 4 }
+{
+    let mut suite = HSuite::new(alloc, m, extra).expect(rt, "a suite");
+    gather(rt, alloc, &mut suite, sizes)
+}
+
+/// The Wp-suite of the three states for no extra state, by access word; that of the H-method has the same words.
 const WORKED: &[&[u16]] = &[
     &[],
     &[0],
@@ -81,10 +101,98 @@ const WORKED: &[&[u16]] = &[
     &[1, 1, 1],
 ];
 
+/// The H-method's suite of the other three states for one extra state. Behind a middle word of one letter stand both letters
+/// where it leads to state 0 or 1, and the second where it leads to 2; behind one of two letters both where it leads to state
+/// 0, the first where it leads to 1, and the second where it leads to 2.
+const ONWARD_WORKED: &[&[u16]] = &[
+    &[],
+    &[0],
+    &[1],
+    &[0],
+    &[0, 0],
+    &[0, 1],
+    &[1],
+    &[1, 1],
+    &[0],
+    &[0, 0],
+    &[0, 1],
+    &[0, 0],
+    &[0, 0, 0],
+    &[0, 0, 1],
+    &[0, 1],
+    &[0, 1, 1],
+    &[1],
+    &[1, 0],
+    &[1, 1],
+    &[1, 0],
+    &[1, 0, 0],
+    &[1, 0, 1],
+    &[1, 1],
+    &[1, 1, 0],
+    &[1, 1, 1],
+    &[0, 0],
+    &[0, 0, 0],
+    &[0, 1],
+    &[0, 1, 1],
+    &[1, 0],
+    &[1, 0, 0],
+    &[1, 0, 1],
+    &[1, 1],
+    &[1, 1, 0],
+    &[1, 1, 1],
+    &[0, 0, 0],
+    &[0, 0, 0, 0],
+    &[0, 0, 1],
+    &[0, 0, 1, 1],
+    &[0, 1, 0],
+    &[0, 1, 0, 0],
+    &[0, 1, 0, 1],
+    &[0, 1, 1],
+    &[0, 1, 1, 0],
+    &[0, 1, 1, 1],
+    &[1, 0, 0],
+    &[1, 0, 0, 0],
+    &[1, 0, 1],
+    &[1, 0, 1, 1],
+    &[1, 1, 0],
+    &[1, 1, 0, 0],
+    &[1, 1, 1],
+    &[1, 1, 1, 1],
+];
+
+#[test]
+fn suites_of_the_h_method_by_hand(rt: HostRuntime) {
+    let alloc = rt.alloc();
+    let three = of_cells(&rt, alloc, THREE);
+    let suite = all_h_words(&rt, alloc, &three, 0, &mut Vec::new(alloc));
+    assert!(rt; same(&suite, &words(&rt, alloc, WORKED)));
+    let onward = of_cells(&rt, alloc, ONWARD);
+    let suite = all_h_words(&rt, alloc, &onward, 1, &mut Vec::new(alloc));
+    assert!(rt; same(&suite, &words(&rt, alloc, ONWARD_WORKED)));
+}
+
+#[test]
+fn one_state_of_the_h_method_in_three_chunks(rt: HostRuntime) {
+    let alloc = rt.alloc();
+    let m = canonical(alloc, &of_one_state(&rt, alloc, 4)).expect(&rt, "memory");
+    let mut sizes = Vec::new(alloc);
+    let words = all_h_words(&rt, alloc, &m, 4, &mut sizes);
+    assert!(rt; sizes.as_slice() == [512, 512, 341].as_slice());
+    assert!(rt; words.len() == 1365);
+}
+
+#[test]
+fn a_suite_of_the_h_method_that_is_too_large(rt: HostRuntime) {
+    let alloc = rt.alloc();
+    let m = canonical(alloc, &of_one_state(&rt, alloc, 64)).expect(&rt, "memory");
+    let fault = HSuite::new(alloc, &m, 3).err();
+    assert!(rt; fault == Some(SuiteFault::TooLarge(17_043_521)));
+}
+
 #[test]
 fn three_states_by_hand(rt: HostRuntime) {
     let alloc = rt.alloc();
-    let m = of_three_states(&rt, alloc);
+    let m = of_cells(&rt, alloc, THREE);
     assert!(rt; identifies(&rt, alloc, &m, 0, &[&[0], &[1]]));
     assert!(rt; identifies(&rt, alloc, &m, 1, &[&[0]]));
     assert!(rt; identifies(&rt, alloc, &m, 2, &[&[1]]));

@@ -1,8 +1,8 @@
 //! The rows worked by hand, over files and streams in memory.
 use crate::tests::memory::{files, sink, string};
 use lw_check::{CheckArguments, check, decision_exists, decision_is_unique};
+use lw_chunks::Method;
 use lw_outside::{MemoryFiles, MemorySink};
-use lw_suite::Method;
 use std::alloc::Global;
 use std::process::Abort;
 

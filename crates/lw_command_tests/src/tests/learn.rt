@@ -2,12 +2,12 @@
 ghost use Rattle.std.specs.Prelude.{◌≤◌};
 
 use crate::tests::memory::string;
+use lw_chunks::Method;
 use lw_learn::{LearnArguments, LearnFiles, bad_is_refused, learn, told_is_learned};
 use lw_log::{Log, MemoryLog};
 use lw_outside::{MemoryFiles, MemorySink, MemorySpawner, World};
 use lw_report::{End, Outcome};
 use lw_rounds::{Kind, Learner, Settings};
-use lw_suite::Method;
 use lw_system::Source;
 use std::alloc::Global;
 use std::process::Abort;

@@ -8,7 +8,7 @@ use Rattle.lw_names.specs.Naming.{Naming}
 use Rattle.lw_pool.specs.Opening.{MayBegin}
 use Rattle.lw_rounds.specs.Learner.{refinements_of}
 use Rattle.lw_rounds.specs.declared.learned.Learned.{Learned}
-use Rattle.lw_suite.specs.declared.method.Method.{Method}
+use Rattle.lw_chunks.specs.declared.method.Method.{Method}
 use Rattle.lw_rounds.specs.declared.learner.Kind.{Kind}
 use Rattle.lw_children.specs.Crews.{first_naming}
 use Rattle.lw_system.specs.NewLines.{count_of}

@@ -10,9 +10,9 @@ use Rattle.lw_separate.specs.Canonical.{IsCanonical}
 use Rattle.lw_cache.specs.declared.stops.AskStop.TheVariants.{NoMemory}
 use Rattle.lw_cache.specs.declared.stops.GrowStop.{GrowStop}
 use Rattle.lw_cache.specs.declared.stops.GrowStop.TheVariants as grow
-use Rattle.lw_suite.specs.declared.method.Method.{Method}
-use Rattle.lw_suite.specs.declared.suite.SuiteFault.{SuiteFault}
-use Rattle.lw_suite.specs.declared.suite.SuiteFault.TheVariants as fault
+use Rattle.lw_chunks.specs.declared.method.Method.{Method}
+use Rattle.lw_chunks.specs.declared.size.SuiteFault.{SuiteFault}
+use Rattle.lw_chunks.specs.declared.size.SuiteFault.TheVariants as fault
 use Rattle.lw_settle.specs.declared.settling.Settled.{Settled}
 use Rattle.lw_settle.specs.declared.settling.Settled.TheVariants.{NoBlock, Replaced}
 use Rattle.lw_tree.specs.Tree.{final_discriminators}

@@ -7,9 +7,9 @@ ghost use Rattle.lw_cache.specs.Settling.{MayAsk};
 
 use crate::tests::workers::crews::{Refusing, pool_of};
 use lw_cache::AskStop;
+use lw_chunks::Method;
 use lw_pool::Pool;
 use lw_rounds::{Kind, LearnStop, Learned, Phase, Settings, Step, Watcher};
-use lw_suite::Method;
 use lw_words::{Kept, Word, Words};
 use lw_workers::{LearnedWith, learn_with};
 use std::alloc::Global;

@@ -1,8 +1,8 @@
 -- Places in a suite, by the number of an access word with a middle word, and the number of an end.
 use Rattle.std.specs.Prelude.{◌≡◌, ℕ, ◌+◌, ◌*◌, ◌<◌, ◌≤◌, List, [], ◌∷◌, ◌++◌, length, slice_index_or}
-use Rattle.lw_suite.specs.Suite.{each_with, words_up_to, suite_of}
+use Rattle.lw_chunks.specs.Middle.{each_with, words_up_to, suite_of}
 use Rattle.lw_suite.specs.declared.parts.Parts.{Parts}
-use Rattle.lw_suite.specs.declared.parts.Place.{Place}
+use Rattle.lw_chunks.specs.declared.chunks.Place.{Place}
 
 -- each access word with each middle word
 abbrev pub fronts : Parts → List (List ℕ)

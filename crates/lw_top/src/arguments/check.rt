@@ -9,10 +9,9 @@ use crate::ArgumentStop;
 use crate::matching::read_matches;
 use crate::options::{Argument, Syntax};
 use crate::ranges::EXTRA;
-use crate::values::{number_at, required_text_at};
+use crate::values::{method_at, number_at, required_text_at};
 use clap::ArgMatches;
 use lw_check::CheckArguments;
-use lw_suite::Method;
 use std::alloc::Global;
 
 static CHECK: Syntax = Syntax {
@@ -21,6 +20,7 @@ static CHECK: Syntax = Syntax {
         Argument::Required("model"),
         Argument::Required("answers"),
         Argument::NumberOr("extra", EXTRA, "1"),
+        Argument::TextOr("suite", "w"),
     ],
 };
 
@@ -40,13 +40,16 @@ fn values_of(alloc: Global, matches: &ArgMatches) -> Result<CheckArguments, Argu
     let Some(extra) = number_at(matches, "extra", EXTRA) else {
         return Err(ArgumentStop::Usage);
     };
+    let Some(suite) = method_at(matches, "suite") else {
+        return Err(ArgumentStop::Usage);
+    };
     let model = required_text_at(alloc, matches, "model")?;
     let answers = required_text_at(alloc, matches, "answers")?;
     Ok(CheckArguments {
         model,
         answers,
         extra: extra as u8,
-        suite: Method::W,
+        suite,
     })
 }
 

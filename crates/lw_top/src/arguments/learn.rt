@@ -10,11 +10,10 @@ use crate::ArgumentStop;
 use crate::matching::read_matches;
 use crate::options::{Argument, Syntax};
 use crate::ranges::{EXTRA, LENGTH, RANDOM, SEED, STATES, WORKERS};
-use crate::values::{kind_at, number_at, str_at, text_at};
+use crate::values::{kind_at, method_at, number_at, str_at, text_at};
 use clap::ArgMatches;
 use lw_learn::{Drawn, LearnArguments, LearnFiles};
 use lw_rounds::Settings;
-use lw_suite::Method;
 use lw_system::Source;
 use std::alloc::{AllocError, Global};
 
@@ -36,6 +35,7 @@ static LEARN: Syntax = Syntax {
         Argument::Number("length", LENGTH),
         Argument::Number("seed", SEED),
         Argument::Text("log"),
+        Argument::TextOr("suite", "w"),
     ],
 };
 
@@ -70,8 +70,7 @@ fn source_at(alloc: Global, matches: &ArgMatches) -> Result<(Source, String), Ar
     }
 }
 
-/// The settings of the learning, where each number is in its range and the learner is of a kind; suites are made by the
-/// W-method.
+/// The settings of the learning, where each number is in its range, the learner is of a kind, and suites are made by a method.
 fn settings_at(matches: &ArgMatches) -> Option<Settings>
     ensures { option_map setting_values result ≡ settings_in (rows_of (found_of matches.now)) }
 {
@@ -79,12 +78,13 @@ fn settings_at(matches: &ArgMatches) -> Option<Settings>
     let extra = number_at(matches, "extra", EXTRA)?;
     let kind = kind_at(matches, "learner")?;
     let max_states = number_at(matches, "max-states", STATES)?;
+    let suite = method_at(matches, "suite")?;
     Some(Settings {
         workers: workers as u8,
         kind,
         extra: extra as u8,
         max_states: max_states as u16,
-        suite: Method::W,
+        suite,
     })
 }
 

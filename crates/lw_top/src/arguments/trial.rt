@@ -9,9 +9,8 @@ use crate::ArgumentStop;
 use crate::matching::read_matches;
 use crate::options::{Argument, Syntax};
 use crate::ranges::{INPUTS, SEED, STATES, WORKERS};
-use crate::values::{kind_at, number_at};
+use crate::values::{kind_at, method_at, number_at};
 use clap::ArgMatches;
-use lw_suite::Method;
 use lw_trial::TrialArguments;
 use std::alloc::Global;
 
@@ -23,6 +22,7 @@ static TRIAL: Syntax = Syntax {
         Argument::RequiredNumber("seed", SEED),
         Argument::NumberOr("workers", WORKERS, "1"),
         Argument::TextOr("learner", "table"),
+        Argument::TextOr("suite", "w"),
     ],
 };
 
@@ -53,8 +53,11 @@ fn values_of(matches: &ArgMatches) -> Result<TrialArguments, ArgumentStop>
     let Some(learner) = kind_at(matches, "learner") else {
         return Err(ArgumentStop::Usage);
     };
+    let Some(suite) = method_at(matches, "suite") else {
+        return Err(ArgumentStop::Usage);
+    };
     let (states, inputs, workers) = (states as u16, inputs as u16, workers as u8);
-    Ok(TrialArguments::new(states, inputs, seed, workers, learner, Method::W))
+    Ok(TrialArguments::new(states, inputs, seed, workers, learner, suite))
 }
 
 /// Reads the arguments of `trial`, of which the first is the command.

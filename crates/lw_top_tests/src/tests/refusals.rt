@@ -9,17 +9,17 @@ use std::thread::Threads;
 pub const USAGE: &str =
     "usage: learn (SETUP | --table FILE) [--workers N] [--extra K] [--learner table|ttt] [--max-states N]
              [--model FILE] [--answers FILE] [--prior FILE] [--kept FILE]
-             [--words FILE] [--random R --length L --seed S] [--log FILE]
-       check MODEL ANSWERS [--extra K]
+             [--words FILE] [--random R --length L --seed S] [--log FILE] [--suite w|wp|h]
+       check MODEL ANSWERS [--extra K] [--suite w|wp|h]
        serve MODEL
        ask (SETUP | --table FILE) WORD...
        recheck SETUP ANSWERS
        compare MODEL MODEL
-       trial --states N --inputs A --seed S [--workers N] [--learner table|ttt]
+       trial --states N --inputs A --seed S [--workers N] [--learner table|ttt] [--suite w|wp|h]
 ";
 
 /// Arguments that are not taken.
-static REFUSED: [&[&str]; 34] = [
+static REFUSED: [&[&str]; 38] = [
     &[],
     &["learn"],
     &["learn", "--table"],
@@ -34,6 +34,10 @@ static REFUSED: [&[&str]; 34] = [
     &["learn", "--table", "m", "--learner", ""],
     &["learn", "--table", "m", "--learner"],
     &["learn", "--table", "m", "--learner=ttt", "--learner=ttt"],
+    &["learn", "--table", "m", "--suite", "x"],
+    &["learn", "--table", "m", "--suite"],
+    &["check", "m", "k", "--suite", "W"],
+    &["serve", "m", "--suite", "wp"],
     &["learn", "--table", "m", "--random", "3"],
     &["learn", "--table", "m", "--length", "3", "--seed", "1"],
     &[

@@ -4,7 +4,6 @@ use Rattle.std.specs.List.{All}
 use Rattle.lw_mealy.specs.Machine.{Rows}
 use Rattle.lw_separate.specs.Separators.{IsSeparators}
 use Rattle.lw_separate.specs.WordClasses.{AreWordClasses}
-use Rattle.lw_wp.specs.Identification.{identification_of}
 use Rattle.lw_wp.specs.declared.separation.Separation.{Separation}
 
 -- the machine's separating words, each with the classes of states by their outputs on it
@@ -21,8 +20,3 @@ chosen words numbers = map (λ i. slice_index_or words i []) numbers
 pub record Chooses (words : List (List ℕ)) (numbers : List ℕ) (those : List (List ℕ)) : Type 0 where
   pub below : All (λ i. i < length words) numbers
   pub are : chosen words numbers ≡ those
-
--- for each state the numbers of its identification set
-pub record ChooseEach (h : Rows) (words : List (List ℕ)) (own : List (List ℕ)) : Type 0 where
-  pub long : length own ≡ length h
-  pub each : (q : ℕ) → q < length own → Chooses words (slice_index_or own q []) (identification_of h words q)

@@ -1,7 +1,7 @@
 use Rattle.std.proofs.Common.{◌≡◌, ℕ, subst, sym, ap, ◌∙◌}
 use Rattle.lw_mealy.specs.Machine.{Differ, after}
 use Rattle.lw_separate.specs.Canonical.{IsSeparatingWord}
-use Rattle.lw_apart.proofs.ExistenceVerdict.{states_differ}
+use Rattle.lw_apart.proofs.ExistenceMissing.{states_differ}
 use Rattle.lw_apart.proofs.apart.separating_suffix.Goals as goal
 
 pub unreachable-requires : goal.unreachable-requires

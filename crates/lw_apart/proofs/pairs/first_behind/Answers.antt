@@ -1,6 +1,6 @@
 use Rattle.std.proofs.Common.{◌<◌, ℕ, [], length, subst, arith}
 use Rattle.lw_words.specs.Word.{answers_of}
-use Rattle.lw_suite.specs.Suite.{words_of_length}
+use Rattle.lw_chunks.specs.Middle.{words_of_length}
 use Rattle.lw_apart.specs.Pairs.{along}
 use Rattle.lw_apart.specs.bodies.Stages.{FirstOpen}
 use Rattle.lw_apart.proofs.FirstLemmas.{made_is, longest_word, open_flat, lists_more, lists_all}

@@ -1,6 +1,6 @@
 use Rattle.std.specs.List.{All, AllWithin}
 use Rattle.lw_words.specs.Word.{answers_of}
-use Rattle.lw_suite.specs.Suite.{words_of_length}
+use Rattle.lw_chunks.specs.Middle.{words_of_length}
 use Rattle.lw_apart.specs.Pairs.{along}
 use Rattle.lw_apart.proofs.FirstLemmas.{Met}
 use Rattle.lw_apart.proofs.pairs.first_behind.Given as goal

@@ -1,7 +1,7 @@
 use Rattle.std.proofs.Common.{ℕ, List, length, subst, ap, arith}
 use Rattle.std.specs.List.{flat_map}
 use Rattle.lw_words.specs.Word.{answers_of}
-use Rattle.lw_suite.specs.Suite.{words_of_length}
+use Rattle.lw_chunks.specs.Middle.{words_of_length}
 use Rattle.lw_apart.specs.Pairs.{along}
 use Rattle.lw_apart.specs.bodies.Stages.{FirstOpen}
 use Rattle.lw_apart.proofs.FirstLemmas.{item_is, open_flat, lists_more, lists_all}

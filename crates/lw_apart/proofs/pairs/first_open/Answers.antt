@@ -1,7 +1,7 @@
 use Rattle.std.proofs.Common.{subst}
 use Rattle.std.specs.List.{flat_map}
 use Rattle.lw_words.specs.Word.{answers_of}
-use Rattle.lw_suite.specs.Suite.{words_of_length}
+use Rattle.lw_chunks.specs.Middle.{words_of_length}
 use Rattle.lw_apart.specs.Pairs.{along, with_access}
 use Rattle.lw_apart.specs.bodies.Stages.{all_fronts, FirstOpen}
 use Rattle.lw_apart.proofs.FirstLemmas.{open_left, open_right_if}

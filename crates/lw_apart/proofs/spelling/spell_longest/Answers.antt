@@ -1,5 +1,5 @@
 use Rattle.std.proofs.Common.{arith}
-use Rattle.lw_suite.proofs.SizeLemmas.{powers_below}
+use Rattle.lw_chunks.proofs.SizeLemmas.{powers_below}
 use Rattle.lw_apart.proofs.SpellingLemmas.{count_longest, longest_spelled}
 use Rattle.lw_apart.proofs.spelling.spell_longest.Goals as goal
 

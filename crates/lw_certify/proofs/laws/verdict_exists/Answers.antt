@@ -3,7 +3,7 @@ use Rattle.std.proofs.lemmas.Bool.{cases_lt}
 use Rattle.lw_mealy.specs.Machine.{IsMinimal, Gives}
 use Rattle.lw_separate.specs.FirstAlike.{AreFirstAlike, AnyTwoDiffer}
 use Rattle.lw_separate.proofs.ExistenceAlike.{first_alike_or_none}
-use Rattle.lw_suite.specs.Size.{suite_size, greatest_suite}
+use Rattle.lw_chunks.specs.Size.{suite_size, greatest_suite}
 use Rattle.lw_certify.specs.Verdict.{IsFirstUnreached, AllReached, DiffersAt, IsMissingBy, AreEnoughBy}
 use Rattle.lw_certify.specs.declared.verdict.Verdict.TheVariants as verdict
 use Rattle.lw_certify.proofs.ExistenceVerdict.{unreached_or_all_reached, differs_or_gives, enough_or_missing}
@@ -27,7 +27,7 @@ returns c method a h ks k machine whole =
     ⊎_elim
     (λ (enough : AreEnoughBy method a h ks k). (verdict.Sure, (minimal, given, small, enough)))
     (λ (f : (word : List ℕ) × IsMissingBy method a h ks k word). (verdict.Missing f.0, (minimal, given, small, f.1)))
-    (enough_or_missing method a h ks k c.suite_exists.ensures machine minimal))
+    (enough_or_missing method a h ks k c.suite_exists.ensures c.wp_suite_exists.ensures c.covered_or_missing.ensures machine minimal given))
     (cases_lt greatest_suite (suite_size (length h) a k)))
     (differs_or_gives h ks whole))
     (first_alike_or_none a h machine))

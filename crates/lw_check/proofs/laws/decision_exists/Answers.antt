@@ -5,7 +5,7 @@ use Rattle.lw_cache.specs.Clash.{NothingClashes}
 use Rattle.lw_cache.specs.declared.stops.Clash.{Clash}
 use Rattle.lw_separate.proofs.CrowdLemmas.{same_or_not}
 use Rattle.lw_separate.proofs.Decided.{decides_both, decides_same}
-use Rattle.lw_suite.specs.declared.method.Method.{Method}
+use Rattle.lw_chunks.specs.declared.method.Method.{Method}
 use Rattle.lw_certify.specs.declared.verdict.Verdict.{Verdict}
 use Rattle.lw_certify.specs.declared.verdict.Verdict.TheVariants as verdict
 use Rattle.lw_cache.specs.FirstClash.{IsFirstClash}

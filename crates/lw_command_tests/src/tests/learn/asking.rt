@@ -6,11 +6,11 @@ use crate::tests::learn::{
     Outside, call, check_text, has, named, no_children, outside_of, push_file,
 };
 use crate::tests::memory::string;
+use lw_chunks::Method;
 use lw_learn::{Drawn, LearnArguments, LearnFiles};
 use lw_log::MemoryLog;
 use lw_outside::MemoryFiles;
 use lw_rounds::{Kind, Settings};
-use lw_suite::Method;
 use lw_system::Source;
 use std::alloc::Global;
 use std::process::Abort;

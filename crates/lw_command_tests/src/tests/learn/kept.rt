@@ -5,12 +5,12 @@ use crate::tests::learn::{
     Outside, call, check_text, has, links_of, named, outside_of, push_file, speaker,
 };
 use crate::tests::memory::string;
+use lw_chunks::Method;
 use lw_json::read_machine;
 use lw_learn::{LearnArguments, LearnFiles};
 use lw_log::MemoryLog;
 use lw_outside::{MemoryFiles, MemorySpawner};
 use lw_rounds::{Kind, Settings};
-use lw_suite::Method;
 use lw_system::Source;
 use std::alloc::Global;
 use std::process::Abort;

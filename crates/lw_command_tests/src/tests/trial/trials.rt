@@ -1,9 +1,9 @@
 //! Trials worked by hand, streams that fail, and trials of several instances.
 use crate::tests::memory::sink;
+use lw_chunks::Method;
 use lw_outside::MemorySink;
 use lw_report::{End, Outcome, Tried};
 use lw_rounds::Kind;
-use lw_suite::Method;
 use lw_trial::{TrialArguments, trial};
 use lw_words::Kept;
 use std::alloc::Global;

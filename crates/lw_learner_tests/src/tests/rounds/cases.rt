@@ -6,9 +6,9 @@ ghost use Rattle.lw_cache.specs.Clash.{NothingClashes};
 ghost use Rattle.lw_cache.specs.Settling.{MayAsk};
 
 use lw_cache::Oracle;
+use lw_chunks::Method;
 use lw_mealy::Mealy;
 use lw_rounds::{Kind, LearnStop, Learned, Learner, Settings, Step, Watcher, learn};
-use lw_suite::Method;
 use lw_words::{Word, Words};
 use std::alloc::Global;
 use std::process::Abort;

@@ -5,7 +5,7 @@ use Rattle.lw_cache.proofs.SettlingLemmas.{kept_are_answers}
 use Rattle.lw_separate.specs.Canonical.{IsCanonical}
 use Rattle.lw_rounds.specs.Learned.{IsEnoughFor}
 use Rattle.lw_rounds.proofs.CanonicalLemmas.{of_itself}
-use Rattle.lw_rounds.proofs.HypothesisLemmas.{suite_words, kept_words, passes_sure}
+use Rattle.lw_rounds.proofs.HypothesisLemmas.{suite_words, kept_words, passes_sure, sure_of}
 use Rattle.lw_rounds.proofs.hypothesis.settle_and_certify.Goals as goal
 
 pub settle_suite-requires-clause-letters : goal.settle_suite-requires-clause-letters
@@ -28,3 +28,9 @@ certified-requires-clause-enough g c =
 pub certified-requires-clause-canonical : goal.certified-requires-clause-canonical
 certified-requires-clause-canonical g c =
     subst (λ (a : ℕ). IsCanonical a c.args.model.rows c.args.model.rows) (sym c.requires.alphabets.0) (of_itself c.args.hypothesis.now.inputs c.args.hypothesis.now.rows c.args.model.rows c.requires.canonical)
+
+pub returns-in_ok-certified-in-None-clause-tested : goal.returns-in_ok-certified-in-None-clause-tested
+returns-in_ok-certified-in-None-clause-tested g c =
+    let now = g.O.Oracle.state c.settle_suite.new.oracle in
+    let e = c.in_ok-certified-in-None.ensures in
+    sure_of c.args.hypothesis.now c.args.model c.in_ok-certified-in-None.field-0 c.args.settings.suite c.args.settings.extra c.cache.result.now.kept now.kept c.requires.alphabets e.value c.cache.ensures.kept e.certified e.enough c.requires.canonical

@@ -3,7 +3,7 @@ use Rattle.std.specs.Prelude.{⊤}
 use Rattle.lw_words.specs.Word.{Answer, answers_of}
 use Rattle.lw_mealy.specs.Machine.{MealyMachine}
 use Rattle.lw_cache.proofs.SettlingLemmas.{leaves_then}
-use Rattle.lw_suite.specs.declared.method.Method.{Method}
+use Rattle.lw_chunks.specs.declared.method.Method.{Method}
 use Rattle.lw_rounds.specs.Learner.{inputs_of, outputs_of, most_of}
 use Rattle.lw_rounds.specs.Stops.{of_growth, learn_stop}
 use Rattle.lw_rounds.specs.bodies.Rounds.{IsAlike, IsLearnedFrom, StopsFrom}

@@ -1,5 +1,5 @@
 use Rattle.std.proofs.Common.{◌+◌, refl}
-use Rattle.lw_suite.specs.Suite.{suite_of, words_up_to}
+use Rattle.lw_chunks.specs.Middle.{suite_of, words_up_to}
 use Rattle.lw_suite.proofs.laws.suite_exists.Goals as goal
 
 pub returns : goal.returns

@@ -1,11 +1,10 @@
-use Rattle.std.proofs.Common.{◌<◌, length, subst, sym, arith}
-use Rattle.lw_words.specs.Word.{IsWord}
-use Rattle.lw_wp.specs.bodies.Cursors.{blocks}
-use Rattle.lw_wp.proofs.CursorLemmas.{front_word}
+use Rattle.std.proofs.Common.{ℕ, ap, ◌∙◌}
+use Rattle.lw_mealy.specs.Machine.{after}
+use Rattle.lw_wp.proofs.CursorLemmas.{front_is}
 use Rattle.lw_wp.proofs.cursor.front_at.Goals as goal
 
-pub after-requires-clause-letters : goal.after-requires-clause-letters
-after-requires-clause-letters c =
+pub returns-clause-front : goal.returns-clause-front
+returns-clause-front c lt =
     let p = c.args.parts.now in
-    let lt : c.args.front < length (blocks p) = omega (arith, c.front_count.ensures.count, c.if-front-front_count.false) in
-    subst (IsWord p.machine.inputs) (sym c.in_ok-spell_front.ensures) (front_word p c.requires c.args.front lt)
+    front_is p c.args.front c.spell_front.new.word c.in_ok-left.left c.after.result c.in_ok-left.ensures
+    (c.after.ensures.value ∙ ap (λ (q : ℕ). after p.machine.rows q c.spell_front.new.word) c.initial-start.ensures.value)

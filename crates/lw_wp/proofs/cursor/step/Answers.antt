@@ -20,5 +20,5 @@ overflow_add-cursor-2 c =
 
 pub returns-clause-next : goal.returns-clause-next
 returns-clause-next c =
-    let last : length (ends_behind c.args.parts.now c.args.cursor.now.place.front c.args.cursor.now.state) ≤ c.args.cursor.now.place.end = omega (arith, c.end_count.ensures, c.if-end-end_count.false) in
+    let last : length (ends_behind c.args.parts.now c.args.cursor.now.row) ≤ c.args.cursor.now.place.end = omega (arith, c.end_count.ensures, c.if-end-end_count.false) in
     next_front c.args.parts.now c.args.cursor.now c.requires.cursor c.requires.more last

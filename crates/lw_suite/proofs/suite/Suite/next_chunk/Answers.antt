@@ -1,6 +1,7 @@
 use Rattle.std.proofs.Common.{◌≡◌, ◌≢◌, ◌↔◌, ◌-◌, ◌*◌, ℕ, List, [], ltb, true, length, take, drop, subst, ◌∙◌, arith}
 use Rattle.std.proofs.lemmas.List.{length-drop}
-use Rattle.lw_suite.proofs.PlaceLemmas.{chunk_is, left_is, some_left, length-all}
+use Rattle.lw_suite.proofs.PlaceLemmas.{length-all}
+use Rattle.lw_chunks.proofs.ChunkLemmas.{chunk_is, left_is, some_left}
 use Rattle.lw_suite.specs.bodies.Places.{all_words, ends, number_of}
 use Rattle.lw_suite.proofs.suite.Suite.next_chunk.Goals as goal
 

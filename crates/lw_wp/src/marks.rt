@@ -1,0 +1,33 @@
+//! Sets of numbers of words, as a mark for each.
+ghost use Rattle.std.specs.Prelude.{◌≡◌, ℕ, ◌<◌, length, IfOk, true, false, slice_index_or};
+ghost use Rattle.std.specs.List.{All, Contains};
+ghost use Rattle.lw_wp.specs.bodies.HTables.{AreFewBelow, AreMarked};
+
+use lw_words::NoMemory;
+use std::alloc::Global;
+
+/// Marks these numbers too.
+pub(crate) fn mark_all(marks: &mut [bool], numbers: &[u16])
+    requires { All (λ i. i < length marks.old) numbers.now }
+    ensures { AreMarked marks.old marks.new (Contains numbers.now) }
+{
+    for number in numbers {
+        marks[usize::from(*number)] = true;
+    }
+}
+
+/// The numbers that are marked, in their order.
+pub(crate) fn marked(alloc: Global, marks: &[bool]) -> Result<Vec<u16>, NoMemory>
+    requires { length marks.now < 65536 }
+    ensures below { IfOk result (λ numbers. AreFewBelow (length marks.now) numbers.items) }
+    ensures each { IfOk result (λ numbers. (i : ℕ) → slice_index_or marks.now i false ≡ true →
+        Contains numbers.items i) }
+{
+    let mut numbers = Vec::new(alloc);
+    for number in 0..marks.len() {
+        if marks[number] {
+            numbers.push(number as u16)?;
+        }
+    }
+    Ok(numbers)
+}
