@@ -12,7 +12,7 @@ use Rattle.lw_chunks.proofs.LetterLemmas.{all_each, joined_words}
 use Rattle.lw_chunks.proofs.MiddleLemmas.{among}
 use Rattle.lw_chunks.proofs.SizeLemmas.{length-words_of, length-words_up_to, powers_more}
 use Rattle.lw_separate.proofs.ListLemmas.{access_are_words}
-use Rattle.lw_wp.specs.bodies.Tables.{words_behind, words_with, block}
+use Rattle.lw_wp.specs.Tables.{words_behind, words_with, block}
 use Rattle.lw_wp.specs.bodies.Cursors.{table_of, shorter_blocks, longest_blocks, blocks, left_from, ends_behind, end_of, AreParts, SplitsFront, SpellsFront, IsWithin, IsCursor}
 use Rattle.lw_wp.specs.declared.cursor.Cursor.{Cursor}
 use Rattle.lw_wp.specs.declared.parts.Parts.{Parts}

@@ -1,5 +1,5 @@
 -- Which words the suite by a table of the H-method has, and what they tell.
-use Rattle.std.proofs.Common.{◌≡◌, ℕ, ◌+◌, ◌-◌, ◌*◌, ◌^◌, ◌<◌, ◌≤◌, ⊎_elim, List, [], ◌∷◌, ◌++◌, length, get_or, take, drop, All, Contains, sym, ap, ap₂, ◌∙◌, subst, arith, append-nil, append_assoc}
+use Rattle.std.proofs.Common.{◌≡◌, ◌≢◌, ℕ, ◌+◌, ◌-◌, ◌*◌, ◌^◌, ◌<◌, ◌≤◌, ⊎_elim, List, [], ◌∷◌, ◌++◌, length, get_or, take, drop, All, Contains, sym, ap, ap₂, ◌∙◌, subst, arith, append-nil, append_assoc}
 use Rattle.std.proofs.lemmas.Bool.{cases_lt}
 use Rattle.std.proofs.lemmas.List.{length-append, length-map, length-drop, length-take-le, get_or-map, get_or_past, take-append-drop, take-take}
 use Rattle.std.proofs.lemmas.List.Elements.{All-nil, All-cons, All-append, All-map, All-weaker, All-take, All-drop, All-head, All-tail, All-get_or, All-contains, All-contains_itself, Contains-get_or, Contains-append_left, Contains-append_right}
@@ -7,7 +7,7 @@ use Rattle.lw_words.specs.Word.{IsWord}
 use Rattle.lw_mealy.specs.Machine.{Rows, IsMachine, after, out}
 use Rattle.lw_mealy.proofs.WordLemmas.{after_below, after-append}
 use Rattle.lw_separate.specs.Canonical.{AreLeastAccess}
-use Rattle.lw_separate.specs.Separators.{IsSeparators}
+use Rattle.lw_separate.specs.Separators.{IsSeparators, SplitAt}
 use Rattle.lw_separate.proofs.ListLemmas.{access_are_words, ends_are_words, few_ends}
 use Rattle.lw_chunks.specs.Middle.{each_with, words_of_length, words_up_to}
 use Rattle.lw_chunks.specs.Size.{powers, suite_size}
@@ -16,12 +16,24 @@ use Rattle.lw_chunks.proofs.SizeLemmas.{length-words_of, length-words_up_to, pow
 use Rattle.lw_chunks.proofs.LetterLemmas.{all_each, joined_words, words_of_words, middle_words}
 use Rattle.lw_wp.specs.HSuite.{IsHSuite}
 use Rattle.lw_wp.specs.WpTells.{TellsWhereDifferent}
-use Rattle.lw_wp.specs.bodies.Chosen.{chosen}
-use Rattle.lw_wp.specs.bodies.HTables.{Covers, IsHTable}
-use Rattle.lw_wp.specs.bodies.Tables.{Table, row_at, words_behind, words_with, block, blocks_by, suite_by}
+use Rattle.lw_wp.specs.Tables.{chosen, Table, row_for, words_behind, words_with, block, blocks_by, suite_by}
 use Rattle.lw_wp.proofs.FlatLemmas.{all_joined, joined_within}
 use Rattle.lw_wp.proofs.TellsLemmas.{all_part, all_unmapped, contains_each, contains_words, contains_up_to, split_both}
 use Rattle.lw_wp.proofs.WpTableLemmas.{all_behind, row_behind}
+
+-- what stands behind a state q from which at most d letters lead on: its own numbers, and for each other state that is reached by
+-- them one of that state's numbers, of a word that separates the two
+pub record Covers (a : ℕ) (h : Rows) (words own : List (List ℕ)) (q d : ℕ) (row : List ℕ) : Type 0 where
+  pub few : length row ≤ length words
+  pub identifies : (i : ℕ) → Contains (get_or own q []) i → Contains row i
+  pub pairs : (w : List ℕ) → IsWord a w → length w ≤ d → after h q w ≢ q
+      → (i : ℕ) × Contains (get_or own (after h q w) []) i × Contains row i × SplitAt h words (after h q w) q i
+
+-- for each state its own numbers, of words that separate it from each other one, and rows for at most k letters
+pub record CoversEach (a : ℕ) (h : Rows) (k : ℕ) (words own : List (List ℕ)) (table : Table) : Type 0 where
+  pub apart : (q p : ℕ) → q < length h → p < length h → p ≢ q → (i : ℕ) × Contains (get_or own q []) i × SplitAt h words q p i
+  pub has_row : (q : ℕ) → q < length h → length (get_or table q []) ≡ k + 1
+  pub covers : (q d : ℕ) → q < length h → d < k + 1 → Covers a h words own q d (row_for table q d)
 
 -- the word of a number stands among the words with these numbers
 contains_chosen : (ends : List (List ℕ)) (numbers : List ℕ) (i : ℕ) → Contains numbers i → Contains (chosen ends numbers) (get_or ends i [])
@@ -30,6 +42,9 @@ contains_chosen ends numbers i at = (
   let l = length-map numbers (λ (n : ℕ). get_or ends n []) in let lt = at.1 in omega (arith, l, lt),
   get_or-map (λ (n : ℕ). get_or ends n []) numbers at.0 i (get_or ends i []) at.1 ∙ ap (λ (n : ℕ). get_or ends n []) at.2,
 )
+
+turned : (h : Rows) (w : List ℕ) (r s t : ℕ) → r ≡ t → out h s w ≡ out h r w → out h t w ≡ out h s w
+turned h w r s t leads e = ap (λ (p : ℕ). out h p w) (sym leads) ∙ sym e
 
 -- all words of a suite by a table, whatever the table
 module _ (a : ℕ) (h : Rows) (k : ℕ) (access ends : List (List ℕ)) (table : Table) (least : AreLeastAccess a h access) where
@@ -83,7 +98,7 @@ module _ (a : ℕ) (h : Rows) (k : ℕ) (access ends : List (List ℕ)) (table :
         ⊎_elim
         (λ (lt : left < length (get_or table q [])).
         subst (All (IsWord a)) (sym (row_behind ends table q left lt))
-        (All-map (IsWord a) (λ (i : ℕ). get_or ends i []) (row_at table q left) (λ j d lj. numbered_word (get_or (row_at table q left) j d))))
+        (All-map (IsWord a) (λ (i : ℕ). get_or ends i []) (row_for table q left) (λ j d lj. numbered_word (get_or (row_for table q left) j d))))
         (λ (ge : length (get_or table q []) ≤ left). subst (All (IsWord a)) (sym (all_behind ends table q left ge)) end_words)
         (cases_lt left (length (get_or table q [])))
 
@@ -104,28 +119,22 @@ module _ (a : ℕ) (h : Rows) (k : ℕ) (access ends : List (List ℕ)) (table :
         (All-append (All (IsWord a)) (each_with (words_with h k ends table) access (words_up_to a k)) (each_with (words_with h k ends table) access (words_of_length a (k + 1)))
         (each (words_up_to a k) (middle_words a k)) (each (words_of_length a (k + 1)) (words_of_words a (k + 1))))
 
-module _ (a : ℕ) (h : Rows) (k : ℕ) (access ends : List (List ℕ)) (table : Table) (machine : IsMachine a h) (least : AreLeastAccess a h access) (separating : IsSeparators a h ends) (is : IsHTable a h k ends table) where
+module _ (a : ℕ) (h : Rows) (k : ℕ) (access ends : List (List ℕ)) (table : Table) (machine : IsMachine a h) (least : AreLeastAccess a h access) (separating : IsSeparators a h ends) (own : List (List ℕ)) (is : CoversEach a h k ends own table) where
   abbrev all : List (List ℕ)
   all = suite_by a h k access ends table
 
   below : (q : ℕ) (mid : List ℕ) → q < length h → IsWord a mid → after h 0 (get_or access q [] ++ mid) < length h
   below q mid lq ms = after_below a h (get_or access q [] ++ mid) 0 machine machine.some_state (joined_words a (get_or access q []) mid (least.words q lq).does.0 ms)
 
-  has_row : (q : ℕ) → q < length h → length (get_or table q []) ≡ k + 1
-  has_row q lq = (is.rows q (let l = is.long in omega (arith, l, lq))).long
-
-  covers : (q d : ℕ) → q < length h → d < k + 1 → Covers a h ends is.own q d (Contains (row_at table q d))
-  covers q d lq ld = ((is.rows q (let l = is.long in omega (arith, l, lq))).each d (let l = has_row q lq in omega (arith, l, ld))).covers
-
   -- what stands behind a front is no more than all words at the end
   few_behind : (q left : ℕ) → q < length h → length (words_behind ends table q left) ≤ length ends
   few_behind q left lq =
       ⊎_elim
       (λ (lt : left < length (get_or table q [])).
-      let row = (is.rows q (let l = is.long in omega (arith, l, lq))).each left lt in
+      let r = is.has_row q lq in
       let e = ap (λ (ws : List (List ℕ)). length ws) (row_behind ends table q left lt) in
-      let l = length-map (row_at table q left) (λ (i : ℕ). get_or ends i []) in
-      let f = row.below.1 in
+      let l = length-map (row_for table q left) (λ (i : ℕ). get_or ends i []) in
+      let f = (is.covers q left lq (omega (arith, r, lt))).few in
       omega (arith, e, l, f))
       (λ (ge : length (get_or table q []) ≤ left).
       let e = ap (λ (ws : List (List ℕ)). length ws) (all_behind ends table q left ge) in
@@ -168,21 +177,21 @@ module _ (a : ℕ) (h : Rows) (k : ℕ) (access ends : List (List ℕ)) (table :
       let none : List ℕ = get_or access q [] ++ [] in
       let e = append-nil (get_or access q []) in
       let lr : after h 0 none < length h = below q [] lq (All-nil (λ (x : ℕ). x < a)) in
-      let whole : words_behind ends table (after h 0 none) (k + 1 - 0) ≡ ends = all_behind ends table (after h 0 none) (k + 1 - 0) (let l = has_row (after h 0 none) lr in omega (arith, l)) in
+      let whole : words_behind ends table (after h 0 none) (k + 1 - 0) ≡ ends = all_behind ends table (after h 0 none) (k + 1 - 0) (let l = is.has_row (after h 0 none) lr in omega (arith, l)) in
       subst (λ (u : List ℕ). All (λ (w : List ℕ). Contains all (u ++ w)) ends) e (subst (λ (ws : List (List ℕ)). All (λ (w : List ℕ). Contains all (none ++ w)) ws) whole f)
 
   -- behind a longer front stand the words of its row
   row_end : (q : ℕ) (mid : List ℕ) (i : ℕ) → q < length h → IsWord a mid → 0 < length mid → length mid ≤ k + 1
-      → Contains (row_at table (after h 0 (get_or access q [] ++ mid)) (k + 1 - length mid)) i → Contains all ((get_or access q [] ++ mid) ++ get_or ends i [])
+      → Contains (row_for table (after h 0 (get_or access q [] ++ mid)) (k + 1 - length mid)) i → Contains all ((get_or access q [] ++ mid) ++ get_or ends i [])
   row_end q mid i lq ms some le at =
       let front : List ℕ = get_or access q [] ++ mid in
       let r : ℕ = after h 0 front in
       let left : ℕ = k + 1 - length mid in
       let f = (of_front a h k access ends table least q mid lq ms le).1 in
-      let are : words_behind ends table r left ≡ chosen ends (row_at table r left) = row_behind ends table r left (let l = has_row r (below q mid lq ms) in omega (arith, l, some)) in
-      All-contains (λ (w : List ℕ). Contains all (front ++ w)) (chosen ends (row_at table r left)) (get_or ends i [])
+      let are : words_behind ends table r left ≡ chosen ends (row_for table r left) = row_behind ends table r left (let l = is.has_row r (below q mid lq ms) in omega (arith, l, some)) in
+      All-contains (λ (w : List ℕ). Contains all (front ++ w)) (chosen ends (row_for table r left)) (get_or ends i [])
       (subst (λ (ws : List (List ℕ)). All (λ (w : List ℕ). Contains all (front ++ w)) ws) are f)
-      (contains_chosen ends (row_at table r left) i at)
+      (contains_chosen ends (row_for table r left) i at)
 
   home_apart : (p q : ℕ) (w : List ℕ) → p < length h → q < length h → IsWord a w → length w ≤ k + 1 → TellsWhereDifferent h all (get_or access p []) (get_or access q [] ++ w)
   home_apart p q w lp lq ws le n =
@@ -196,7 +205,7 @@ module _ (a : ℕ) (h : Rows) (k : ℕ) (access ends : List (List ℕ)) (table :
       ⊎_elim
       (λ (none : length w < 1).
       let f = (of_front a h k access ends table least q w lq ws le).1 in
-      let whole : words_behind ends table r (k + 1 - length w) ≡ ends = all_behind ends table r (k + 1 - length w) (let l = has_row r lr in omega (arith, l, none)) in
+      let whole : words_behind ends table r (k + 1 - length w) ≡ ends = all_behind ends table r (k + 1 - length w) (let l = is.has_row r lr in omega (arith, l, none)) in
       let second : All (λ (x : List ℕ). Contains all (v ++ x)) ends = subst (λ (xs : List (List ℕ)). All (λ (x : List ℕ). Contains all (v ++ x)) xs) whole f in
       let split = split_both a h ends separating s r ls lr n in
       record {
@@ -206,13 +215,13 @@ module _ (a : ℕ) (h : Rows) (k : ℕ) (access ends : List (List ℕ)) (table :
         differ = split.1.1;
       })
       (λ (some : 1 ≤ length w).
-      let own = (is.identify.each r (let l = is.identify.long in omega (arith, l, lr))).apart s ls n in
-      let at = (covers r (k + 1 - length w) lr (omega (arith, some))).identifies own.0 own.1 in
+      let split = is.apart r s lr ls n in
+      let at = (is.covers r (k + 1 - length w) lr (omega (arith, some))).identifies split.0 split.1 in
       record {
-        suffix = get_or ends own.0 [];
-        one = All-get_or (λ (x : List ℕ). Contains all (u ++ x)) ends own.0 [] own.2.0 first;
-        other = row_end q w own.0 lq ws (omega (arith, some)) le at;
-        differ = λ e. own.2.1 (sym e);
+        suffix = get_or ends split.0 [];
+        one = All-get_or (λ (x : List ℕ). Contains all (u ++ x)) ends split.0 [] split.2.0 first;
+        other = row_end q w split.0 lq ws (omega (arith, some)) le at;
+        differ = λ e. split.2.1 (sym e);
       })
       (cases_lt (length w) 1)
 
@@ -236,14 +245,14 @@ module _ (a : ℕ) (h : Rows) (k : ℕ) (access ends : List (List ℕ)) (table :
       let long_x : length x ≡ length (take j w) - i = length-drop i (take j w) in
       let near : k + 1 - length (take i w) < k + 1 = omega (arith, long_i, some, lo, hi) in
       let far : k + 1 - length (take j w) < k + 1 = omega (arith, long_j, some, lo, hi) in
-      let pair = (covers s (k + 1 - length (take i w)) ls near).pairs x (All-drop (λ (y : ℕ). y < a) i (take j w) is_j) (omega (arith, long_x, long_i, long_j, lo, hi)) (λ e. n (sym (leads ∙ e))) in
-      let own : Contains (get_or is.own r []) pair.0 = subst (λ (t : ℕ). Contains (get_or is.own t []) pair.0) (sym leads) pair.1 in
-      let second = (covers r (k + 1 - length (take j w)) lr far).identifies pair.0 own in
+      let pair = (is.covers s (k + 1 - length (take i w)) ls near).pairs x (All-drop (λ (y : ℕ). y < a) i (take j w) is_j) (omega (arith, long_x, long_i, long_j, lo, hi)) (λ e. n (sym (leads ∙ e))) in
+      let here : Contains (get_or own r []) pair.0 = subst (λ (t : ℕ). Contains (get_or own t []) pair.0) (sym leads) pair.1 in
+      let second = (is.covers r (k + 1 - length (take j w)) lr far).identifies pair.0 here in
       record {
         suffix = get_or ends pair.0 [];
         one = row_end q (take i w) pair.0 lq is_i (omega (arith, long_i, some)) (omega (arith, long_i, lo, hi)) pair.2;
         other = row_end q (take j w) pair.0 lq is_j (omega (arith, long_j, some, lo)) (omega (arith, long_j, hi)) second;
-        differ = λ e. pair.3.1 (ap (λ (t : ℕ). out h t (get_or ends pair.0 [])) (sym leads) ∙ sym e);
+        differ = λ e. pair.3.1 (turned h (get_or ends pair.0 []) r s (after h s x) leads e);
       }
 
   pub is_h_suite : IsHSuite a h k all
@@ -258,7 +267,3 @@ module _ (a : ℕ) (h : Rows) (k : ℕ) (access ends : List (List ℕ)) (table :
     };
     few = counted;
   }
-
-pub made_h_suite : (a : ℕ) (h : Rows) (k : ℕ) (access ends suite : List (List ℕ)) (table : Table) → IsMachine a h → AreLeastAccess a h access → IsSeparators a h ends → IsHTable a h k ends table
-    → suite ≡ suite_by a h k access ends table → IsHSuite a h k suite
-made_h_suite a h k access ends suite table machine least separating is made = subst (IsHSuite a h k) (sym made) (is_h_suite a h k access ends table machine least separating is)

@@ -9,7 +9,9 @@ use Rattle.lw_mealy.specs.Machine.{Rows, out}
 use Rattle.lw_separate.specs.Separators.{IsSeparators, SplitAt}
 use Rattle.lw_separate.proofs.OneLemmas.{one_separators}
 use Rattle.lw_wp.specs.Identification.{separates, first_separating, with_state, identification_below, identification_of, OneIdentification, IdentificationIdentifies}
-use Rattle.lw_wp.specs.bodies.Chosen.{chosen, Chooses}
+use Rattle.lw_wp.specs.Tables.{chosen}
+use Rattle.lw_wp.specs.bodies.Chosen.{Chooses}
+use Rattle.lw_wp.proofs.FilterLemmas.{none_pass}
 use Rattle.lw_wp.proofs.SeparationLemmas.{separates_differ, differ_separates, agree_separates}
 
 module _ (h : Rows) (words : List (List ℕ)) (q p : ℕ) where
@@ -58,10 +60,6 @@ either_left a b e = ap (λ (x : Bool). x || b) e
 
 either_right : (a b : Bool) → b ≡ true → (a || b) ≡ true
 either_right a b e = ⊎_elim (λ (t : a ≡ true). either_left a b t) (λ (f : a ≡ false). ap (λ (x : Bool). x || b) f ∙ e) (cases_Bool a)
-
-none_pass : (test : List ℕ → Bool) (words : List (List ℕ)) → ((w : List ℕ) → test w ≡ false) → filter test words ≡ []
-none_pass test [] none = refl
-none_pass test (w ∷ words) none = cond-false (test w) (w ∷ filter test words) (filter test words) (none w) ∙ none_pass test words none
 
 module _ (h : Rows) (words : List (List ℕ)) (q : ℕ) where
   -- what is one of two lists by a test

@@ -1,8 +1,11 @@
 pub mod ChunkLemmas
 pub mod CursorLemmas
+pub mod FilterLemmas
 pub mod FlatLemmas
 pub mod FrontLemmas
+pub mod GreedyExistence
 pub mod GreedyLemmas
+pub mod GreedySuiteLemmas
 pub mod HTableLemmas
 pub mod HTellsLemmas
 pub mod IdentificationLemmas

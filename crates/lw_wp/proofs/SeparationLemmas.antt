@@ -9,7 +9,7 @@ use Rattle.std.proofs.lemmas.Slice.Eq.{bytes_eq-Decides}
 use Rattle.lw_mealy.specs.Machine.{Rows, out}
 use Rattle.lw_separate.specs.WordClasses.{AreClassesOn, AreWordClasses}
 use Rattle.lw_wp.specs.Identification.{separates}
-use Rattle.lw_wp.specs.bodies.Chosen.{chosen}
+use Rattle.lw_wp.specs.Tables.{chosen}
 
 module _ (h : Rows) (q p : ℕ) (w : List ℕ) where
   pub separates_differ : separates h q p w ≡ true → out h q w ≢ out h p w

@@ -15,17 +15,17 @@ use Rattle.lw_separate.specs.Separators.{IsSeparators}
 use Rattle.lw_separate.proofs.ListLemmas.{access_are_words}
 use Rattle.lw_wp.specs.Identification.{identification_of}
 use Rattle.lw_wp.specs.WpSuite.{wp_suite_of, IsWpSuite}
-use Rattle.lw_wp.specs.bodies.Chosen.{chosen}
-use Rattle.lw_wp.specs.bodies.Tables.{Table, row_at, words_behind, words_with, block, suite_by, IsTable, IsWpTable}
+use Rattle.lw_wp.specs.Tables.{chosen, Table, row_for, words_behind, words_with, block, suite_by}
+use Rattle.lw_wp.specs.bodies.Tables.{IsTable, IsWpTable}
 use Rattle.lw_wp.proofs.FlatLemmas.{joined}
 use Rattle.lw_wp.proofs.FrontLemmas.{same_each, each_mapped, words_longest, words_shorter}
 
 -- where a state has no row for so many letters, all words stand behind
 pub all_behind : (ends : List (List ℕ)) (table : Table) (q left : ℕ) → length (get_or table q []) ≤ left → words_behind ends table q left ≡ ends
-all_behind ends table q left ge = cond-false (ltb left (length (get_or table q []))) (chosen ends (row_at table q left)) ends (le-ltb left (length (get_or table q [])) ge)
+all_behind ends table q left ge = cond-false (ltb left (length (get_or table q []))) (chosen ends (row_for table q left)) ends (le-ltb left (length (get_or table q [])) ge)
 
-pub row_behind : (ends : List (List ℕ)) (table : Table) (q left : ℕ) → left < length (get_or table q []) → words_behind ends table q left ≡ chosen ends (row_at table q left)
-row_behind ends table q left lt = cond-true (ltb left (length (get_or table q []))) (chosen ends (row_at table q left)) ends (lt-ltb left (length (get_or table q [])) lt)
+pub row_behind : (ends : List (List ℕ)) (table : Table) (q left : ℕ) → left < length (get_or table q []) → words_behind ends table q left ≡ chosen ends (row_for table q left)
+row_behind ends table q left lt = cond-true (ltb left (length (get_or table q []))) (chosen ends (row_for table q left)) ends (lt-ltb left (length (get_or table q [])) lt)
 
 module _ (a : ℕ) (h : Rows) (k : ℕ) (access ends : List (List ℕ)) (table : Table) (machine : IsMachine a h) (words : All (IsWord a) access) (is : IsWpTable h ends table) where
   below : (u v : List ℕ) → IsWord a u → IsWord a v → after h 0 (u ++ v) < length table
@@ -67,12 +67,12 @@ wp_is_table h ends table is =
     record {
       long = is.long;
       below = λ q left.
-          let none : row_at table q left ≡ [] → All (λ (i : ℕ). i < length ends) (row_at table q left) =
+          let none : row_for table q left ≡ [] → All (λ (i : ℕ). i < length ends) (row_for table q left) =
           λ e. subst (All (λ (i : ℕ). i < length ends)) (sym e) (All-nil (λ (i : ℕ). i < length ends)) in
           ⊎_elim
           (λ (lt : q < length table).
           ⊎_elim
-          (λ (z : left < 1). let e : left ≡ 0 = omega (arith, z) in subst (λ (l : ℕ). All (λ (i : ℕ). i < length ends) (row_at table q l)) (sym e) (is.each q lt).below)
+          (λ (z : left < 1). let e : left ≡ 0 = omega (arith, z) in subst (λ (l : ℕ). All (λ (i : ℕ). i < length ends) (row_for table q l)) (sym e) (is.each q lt).below)
           (λ (past : 1 ≤ left). none (get_or_past (get_or table q []) left [] (let s = is.single q lt in omega (arith, s, past))))
           (cases_lt left 1))
           (λ (ge : length table ≤ q). none (ap (λ (rows : List (List ℕ)). get_or rows left []) (get_or_past table q [] ge)))

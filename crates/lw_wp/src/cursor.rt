@@ -1,7 +1,7 @@
 //! Going through the words of a suite by a table.
 ghost use Rattle.std.specs.Prelude.{◌≡◌, ◌<◌, ◌≤◌, ◌+◌, [], ◌∷◌, ◌++◌, length, IfOk, OnOk, MatchOption, slice_index_or};
 ghost use Rattle.lw_wp.specs.bodies.Cursors.{AreParts, IsCursor, IsFrontAt, IsWithin, SpellsFront, SplitsFront, blocks, end_of, ends_behind, left_from, shorter_blocks, table_of};
-ghost use Rattle.lw_wp.specs.bodies.Tables.{row_at};
+ghost use Rattle.lw_wp.specs.Tables.{row_for};
 
 use crate::parts::{Parts, Row};
 use lw_chunks::{Place, spell};
@@ -105,7 +105,7 @@ fn numbers_behind(parts: &Parts, row: Row) -> Option<&[u16]>
     ensures { MatchOption result
         (length (slice_index_or (table_of parts.now) row.state []) ≤ row.left)
         (λ numbers. (row.left < length (slice_index_or (table_of parts.now) row.state [])) ×
-        (numbers.now ≡ row_at (table_of parts.now) row.state row.left)) }
+        (numbers.now ≡ row_for (table_of parts.now) row.state row.left)) }
 {
     let rows = &parts.behind[usize::from(row.state)];
     if row.left < rows.len() {

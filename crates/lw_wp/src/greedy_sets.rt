@@ -1,8 +1,8 @@
 //! Identification sets of states whose words are chosen by how many states each separates.
-ghost use Rattle.std.specs.Prelude.{◌≡◌, ◌<◌, [], length, map, IfOk, slice_index_or};
-ghost use Rattle.std.specs.List.{All, IsFirstMaxByKey, filter};
+ghost use Rattle.std.specs.Prelude.{◌≡◌, ◌<◌, [], length, map, not, nat_eq, IfOk, slice_index_or};
+ghost use Rattle.std.specs.List.{All, IsFirstMaxByKey, count_by, filter};
 ghost use Rattle.lw_wp.specs.bodies.Chosen.{IsSeparation};
-ghost use Rattle.lw_wp.specs.bodies.HTables.{AreAllStates, AreOthers, IdentifiesBy, IdentifyEach, is_alike, separated_of};
+ghost use Rattle.lw_wp.specs.GreedySuite.{AreGreedySets, IsGreedy, is_alike, separated_of, states_of};
 
 use crate::separation::{Separation, classes_on, separates};
 use lw_mealy::Mealy;
@@ -11,7 +11,7 @@ use std::alloc::Global;
 
 /// All states.
 fn all_states(alloc: Global, m: &Mealy) -> Result<Vec<u16>, NoMemory>
-    ensures { IfOk result (λ states. AreAllStates m.now.rows states.items) }
+    ensures { IfOk result (λ states. states.items ≡ states_of m.now.rows) }
 {
     let mut states = Vec::with_capacity(alloc, usize::from(m.states()))?;
     for q in 0..m.states() {
@@ -21,35 +21,49 @@ fn all_states(alloc: Global, m: &Mealy) -> Result<Vec<u16>, NoMemory>
 }
 
 /// The number of classes other than this one, each as often as it stands there.
-fn other_count(classes: &[u16], own: u16) -> usize {
+fn other_count(classes: &[u16], own: u16) -> usize
+    ensures { result ≡ count_by (λ class. not (nat_eq own class)) classes.now }
+{
     let mut count = 0;
     for class in classes {
-        if *class != own {
+        if own != *class {
             count += 1;
         }
     }
     count
 }
 
-/// The number of the word that separates the most states from q, the first of these.
+/// How many states the word with this number separates from q, by the classes on it.
+fn count_of_all(m: &Mealy, by: &Separation, number: usize, q: u16) -> usize
+    requires separation { IsSeparation m.now.inputs m.now.rows by.now }
+    requires number { number < length by.now.words }
+    requires state { q < length m.now.rows }
+    ensures { result ≡ separated_of m.now.rows q (states_of m.now.rows)
+        (slice_index_or by.now.words number []) }
+{
+    let classes = classes_on(m, by, number);
+    other_count(classes, classes[usize::from(q)])
+}
+
+/// The number of the word that separates the most of all states from q, the first of these.
 fn first_word(m: &Mealy, by: &Separation, q: u16) -> u16
     requires separation { IsSeparation m.now.inputs m.now.rows by.now }
     requires state { q < length m.now.rows }
     requires some { 0 < length by.now.words }
-    ensures { result < length by.now.words }
+    ensures { IsFirstMaxByKey (separated_of m.now.rows q (states_of m.now.rows)) by.now.words
+        (length by.now.words) result }
 {
     let _states = m.states();
-    let mut best = 0;
-    let mut most = 0;
-    for number in 0..by.words.len() {
-        let classes = classes_on(m, by, number);
-        let count = other_count(classes, classes[usize::from(q)]);
-        if count > most {
-            best = number as u16;
-            most = count;
+    let mut first = 0;
+    let mut most = count_of_all(m, by, 0, q);
+    for number in 1..by.words.len() {
+        let others = count_of_all(m, by, number, q);
+        if others > most {
+            first = number as u16;
+            most = others;
         }
     }
-    best
+    first
 }
 
 /// How many of the states that are left the word with this number separates from q.
@@ -129,8 +143,9 @@ fn greedy_numbers(
 ) -> Result<Vec<u16>, NoMemory>
     requires separation { IsSeparation m.now.inputs m.now.rows by.now }
     requires state { q < length m.now.rows }
-    requires all { AreAllStates m.now.rows all.now }
-    ensures { IfOk result (λ numbers. IdentifiesBy m.now.rows by.now.words q numbers.items) }
+    requires all { all.now ≡ states_of m.now.rows }
+    ensures { IfOk result (λ numbers.
+        IsGreedy m.now.rows by.now.words q (states_of m.now.rows) numbers.items) }
 {
     let mut numbers = Vec::new(alloc);
     if by.words.len() == 0 {
@@ -154,7 +169,7 @@ pub(crate) fn greedy_sets(
     by: &Separation,
 ) -> Result<Vec<Vec<u16>>, NoMemory>
     requires separation { IsSeparation m.now.inputs m.now.rows by.now }
-    ensures { IfOk result (λ own. IdentifyEach m.now.rows by.now.words
+    ensures { IfOk result (λ own. AreGreedySets m.now.rows by.now.words
         (map (λ numbers. numbers.items) own.items)) }
 {
     let all = all_states(alloc, m)?;

@@ -4,6 +4,7 @@ ghost use Rattle.lw_chunks.specs.Size.{suite_size, greatest_suite};
 ghost use Rattle.lw_chunks.specs.declared.size.SuiteFault.{SuiteFault as Fault};
 ghost use Rattle.lw_mealy.specs.Machine.{IsMinimal};
 ghost use Rattle.lw_separate.specs.Canonical.{AreLeastAccess};
+ghost use Rattle.lw_wp.specs.GreedySuite.{IsGreedySuite};
 ghost use Rattle.lw_wp.specs.HSuite.{IsHSuite};
 ghost use Rattle.lw_wp.specs.bodies.Cursors.{AreParts, words_of};
 
@@ -25,7 +26,8 @@ fn parts_of(alloc: Global, m: &Mealy, access: Words, extra: u8) -> Result<Parts,
     requires least { AreLeastAccess m.now.inputs m.now.rows access }
     requires size { suite_size (length m.now.rows) m.now.inputs extra ≤ greatest_suite }
     ensures parts { IfOk result AreParts }
-    ensures words { IfOk result (λ p. IsHSuite m.now.inputs m.now.rows extra (words_of p)) }
+    ensures suite { IfOk result (λ p. IsHSuite m.now.inputs m.now.rows extra (words_of p)) }
+    ensures words { IfOk result (λ p. IsGreedySuite m.now.inputs m.now.rows extra (words_of p)) }
 {
     let by = separation_of(alloc, m)?;
     let table = h_table(alloc, m, &by, extra)?;
@@ -54,15 +56,13 @@ impl Model for HSuite {
 }
 
 impl HSuite {
-    /// The suite of the H-method of a minimal machine for `extra` states more (Dorofeeva, El-Fakih and Koufareva 2005): the
-    /// words S·M·(ε, E), where S are the least access words, M the words of at most `extra + 1` letters, and E words behind
-    /// them out of the separating words. Behind an access word alone these are all of them. Behind a middle word that leads to
-    /// a state q they are the identification set G(q), and for each other state r to which at most as many letters lead from q
-    /// as the middle word has fewer than the longest, the first word of G(r) that separates q and r.
+    /// The suite of the H-method of a minimal machine for `extra` states more (Dorofeeva, El-Fakih and Koufareva 2005), by
+    /// `ok`, and by `words` just these words, in order: S·M·(ε, E), where S are the least access words, M the words of at most
+    /// `extra + 1` letters, the longest behind all others, and E separating words. Behind an access word alone these are all.
+    /// Behind a middle word that leads to a state q they are G(q), and for each state r to which at most as many letters lead
+    /// from q as the middle word has fewer than the longest, the first word of G(r) that separates r from q.
     ///
-    /// G(q) is chosen word by word: each separates the most of the states that are left from q, the first of these in the order
-    /// of the separating words. First come the middle words of at most `extra` letters, by access word, then in shortlex order,
-    /// and then those of one more; behind each stand the empty word and then the others in the order of the separating words.
+    /// G(q) is chosen greedily: each word is the first of those that separate the most of the states that are left from q.
     ///
     /// # Errors
     /// `TooLarge` with the size of the W-method's suite where that is above 8,388,608, and no memory is taken then.
@@ -70,6 +70,7 @@ impl HSuite {
         requires minimal { IsMinimal m.now.inputs m.now.rows }
         requires few { extra ≤ 4 }
         ensures ok { IfOk result (IsHSuite m.now.inputs m.now.rows extra) }
+        ensures words { IfOk result (IsGreedySuite m.now.inputs m.now.rows extra) }
         ensures within { OnOk result
             (suite_size (length m.now.rows) m.now.inputs extra ≤ greatest_suite) }
         ensures too_large { greatest_suite < suite_size (length m.now.rows) m.now.inputs extra →
@@ -96,6 +97,7 @@ impl HSuite {
         requires least { AreLeastAccess m.now.inputs m.now.rows access }
         requires few { extra ≤ 4 }
         ensures ok { IfOk result (IsHSuite m.now.inputs m.now.rows extra) }
+        ensures words { IfOk result (IsGreedySuite m.now.inputs m.now.rows extra) }
         ensures within { OnOk result
             (suite_size (length m.now.rows) m.now.inputs extra ≤ greatest_suite) }
         ensures too_large { greatest_suite < suite_size (length m.now.rows) m.now.inputs extra →

@@ -1,10 +1,9 @@
 //! The table of the H-method: what stands behind each middle word, by the state that is reached.
-ghost use Rattle.std.specs.Prelude.{◌≡◌, ℕ, ◌<◌, [], length, map, IfOk, OnOk, MatchOption, false, slice_index_or};
-ghost use Rattle.std.specs.List.{All, Contains};
-ghost use Rattle.lw_separate.specs.Separators.{SplitAt};
-ghost use Rattle.lw_wp.specs.Identification.{separates};
+ghost use Rattle.std.specs.Prelude.{◌≡◌, ◌<◌, [], ◌∷◌, length, map, IfOk, OnOk, MatchOption};
+ghost use Rattle.std.specs.List.{All};
+ghost use Rattle.lw_wp.specs.GreedySuite.{AreGreedyRows, AreGreedySets, first_apart};
 ghost use Rattle.lw_wp.specs.bodies.Chosen.{IsSeparation};
-ghost use Rattle.lw_wp.specs.bodies.HTables.{AddsTargets, HasRows, HasTargets, IdentifyEach, IsHTable, MarksPairs};
+ghost use Rattle.lw_wp.specs.bodies.HTables.{AddsStates, AreMarked, HasGreedySets, IsOfPair, IsTarget, LeadsTo};
 ghost use Rattle.lw_wp.specs.bodies.Tables.{numbers_in};
 
 use crate::greedy_sets::greedy_sets;
@@ -18,8 +17,8 @@ use std::alloc::Global;
 fn add_targets(m: &Mealy, q: u16, reached: &mut Vec<u16>) -> Result<(), NoMemory>
     requires state { q < length m.now.rows }
     requires below { All (λ p. p < length m.now.rows) reached.old.items }
-    ensures { OnOk result
-        (AddsTargets m.now.inputs m.now.rows q reached.old.items reached.new.items) }
+    ensures { OnOk result (AddsStates m.now.rows reached.old.items reached.new.items
+        (LeadsTo m.now.rows q m.now.inputs)) }
 {
     for x in 0..m.inputs() {
         reached.push(m.step(q, x).0)?;
@@ -30,8 +29,8 @@ fn add_targets(m: &Mealy, q: u16, reached: &mut Vec<u16>) -> Result<(), NoMemory
 /// The states to which these lead by one letter, each as often as a letter leads to it.
 fn targets(alloc: Global, m: &Mealy, states: &[u16]) -> Result<Vec<u16>, NoMemory>
     requires { All (λ p. p < length m.now.rows) states.now }
-    ensures { IfOk result (λ reached.
-        HasTargets m.now.inputs m.now.rows states.now reached.items) }
+    ensures { IfOk result (λ reached. AddsStates m.now.rows [] reached.items
+        (IsTarget m.now.inputs m.now.rows states.now)) }
 {
     let mut reached = Vec::new(alloc);
     for q in states {
@@ -47,9 +46,9 @@ fn first_of(m: &Mealy, by: &Separation, numbers: &[u16], q: u16, p: u16) -> Opti
     requires first { q < length m.now.rows }
     requires second { p < length m.now.rows }
     ensures { MatchOption result
-        ((i : ℕ) → Contains numbers.now i →
-        separates m.now.rows q p (slice_index_or by.now.words i []) ≡ false)
-        (λ i. Contains numbers.now i × SplitAt m.now.rows by.now.words q p i) }
+        (first_apart m.now.rows by.now.words numbers.now q p ≡ [])
+        (λ i. (i < length by.now.words) ×
+        (first_apart m.now.rows by.now.words numbers.now q p ≡ i ∷ [])) }
 {
     for number in numbers {
         if separates(m, by, usize::from(*number), q, p) {
@@ -69,12 +68,12 @@ fn mark_pairs(
     marks: &mut [bool],
 )
     requires separation { IsSeparation m.now.inputs m.now.rows by.now }
-    requires own { IdentifyEach m.now.rows by.now.words (map (λ numbers. numbers.items) own.now) }
+    requires own { AreGreedySets m.now.rows by.now.words (map (λ numbers. numbers.items) own.now) }
     requires state { q < length m.now.rows }
     requires states { All (λ p. p < length m.now.rows) states.now }
     requires marks { length marks.old ≡ length by.now.words }
-    ensures { MarksPairs m.now.rows by.now.words (map (λ numbers. numbers.items) own.now) q
-        states.now marks.old marks.new }
+    ensures { AreMarked marks.old marks.new
+        (IsOfPair m.now.rows by.now.words (map (λ numbers. numbers.items) own.now) q states.now) }
 {
     for r in states {
         if let Some(number) = first_of(m, by, own[usize::from(*r)].as_slice(), *r, q) {
@@ -95,9 +94,9 @@ fn rows_of(
     extra: u8,
 ) -> Result<Vec<Vec<u16>>, NoMemory>
     requires separation { IsSeparation m.now.inputs m.now.rows by.now }
-    requires own { IdentifyEach m.now.rows by.now.words (map (λ numbers. numbers.items) own.now) }
+    requires own { AreGreedySets m.now.rows by.now.words (map (λ numbers. numbers.items) own.now) }
     requires state { q < length m.now.rows }
-    ensures { IfOk result (λ rows. HasRows m.now.inputs m.now.rows extra by.now.words
+    ensures { IfOk result (λ rows. AreGreedyRows m.now.inputs m.now.rows extra by.now.words
         (map (λ numbers. numbers.items) own.now) q (map (λ row. row.items) rows.items)) }
 {
     let _states = m.states();
@@ -123,7 +122,7 @@ pub(crate) fn h_table(
 ) -> Result<Vec<Vec<Vec<u16>>>, NoMemory>
     requires separation { IsSeparation m.now.inputs m.now.rows by.now }
     ensures { IfOk result (λ table.
-        IsHTable m.now.inputs m.now.rows extra by.now.words (numbers_in table)) }
+        HasGreedySets m.now.inputs m.now.rows extra by.now.words (numbers_in table)) }
 {
     let own = greedy_sets(alloc, m, by)?;
     let mut table = Vec::with_capacity(alloc, usize::from(m.states()))?;

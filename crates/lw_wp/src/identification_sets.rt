@@ -3,7 +3,8 @@ ghost use Rattle.std.specs.Prelude.{◌≡◌, ◌+◌, ◌<◌, [], ◌∷◌, 
 ghost use Rattle.std.specs.List.{All};
 ghost use Rattle.lw_mealy.specs.Machine.{IsMinimal};
 ghost use Rattle.lw_wp.specs.Identification.{identification_below, identification_of, IsIdentification};
-ghost use Rattle.lw_wp.specs.bodies.Chosen.{chosen, Chooses, IsSeparation};
+ghost use Rattle.lw_wp.specs.Tables.{chosen};
+ghost use Rattle.lw_wp.specs.bodies.Chosen.{Chooses, IsSeparation};
 ghost use Rattle.lw_wp.specs.bodies.Tables.{IsWpTable, numbers_in};
 
 use crate::separation::{Separation, any_separates, first_separating, separation_of};

@@ -1,4 +1,5 @@
 //! Laws about the definitions alone, with no code.
+ghost use Rattle.lw_wp.specs.GreedySuite.{GreedySuiteIsHSuite, OneGreedySuite, SomeGreedySuite};
 ghost use Rattle.lw_wp.specs.HSuite.{WpSuiteIsHSuite};
 ghost use Rattle.lw_wp.specs.Identification.{OneIdentification, IdentificationIdentifies};
 ghost use Rattle.lw_wp.specs.WpSuite.{OneWpSuite, SomeWpSuite, WpSuiteIsCounted, WpSuiteIsOfWords};
@@ -42,6 +43,24 @@ pub fn wp_suite_is_counted()
 /// A Wp-suite tells the states of its machine apart as far as answers need that are to fix it.
 pub fn wp_suite_tells()
     ensures { WpSuiteTells }
+{}
+
+/// Two lists of the words that `HSuite` has of one machine are one.
+pub fn greedy_suite_is_unique()
+    ensures { OneGreedySuite }
+{}
+
+/// A minimal machine has such a suite, whatever its numbers of states and letters.
+pub fn greedy_suite_exists()
+    ensures { SomeGreedySuite }
+{
+    least_access_exists();
+    separators_exist();
+}
+
+/// Such a suite is a suite of the H-method.
+pub fn greedy_suite_is_h_suite()
+    ensures { GreedySuiteIsHSuite }
 {}
 
 /// A Wp-suite is a suite of the H-method: so a minimal machine has one.

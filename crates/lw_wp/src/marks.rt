@@ -1,7 +1,7 @@
 //! Sets of numbers of words, as a mark for each.
-ghost use Rattle.std.specs.Prelude.{◌≡◌, ℕ, ◌<◌, length, IfOk, true, false, slice_index_or};
+ghost use Rattle.std.specs.Prelude.{◌≡◌, ◌<◌, length, IfOk};
 ghost use Rattle.std.specs.List.{All, Contains};
-ghost use Rattle.lw_wp.specs.bodies.HTables.{AreFewBelow, AreMarked};
+ghost use Rattle.lw_wp.specs.bodies.HTables.{AreMarked, marked_numbers};
 
 use lw_words::NoMemory;
 use std::alloc::Global;
@@ -19,9 +19,7 @@ pub(crate) fn mark_all(marks: &mut [bool], numbers: &[u16])
 /// The numbers that are marked, in their order.
 pub(crate) fn marked(alloc: Global, marks: &[bool]) -> Result<Vec<u16>, NoMemory>
     requires { length marks.now < 65536 }
-    ensures below { IfOk result (λ numbers. AreFewBelow (length marks.now) numbers.items) }
-    ensures each { IfOk result (λ numbers. (i : ℕ) → slice_index_or marks.now i false ≡ true →
-        Contains numbers.items i) }
+    ensures { IfOk result (λ numbers. numbers.items ≡ marked_numbers marks.now) }
 {
     let mut numbers = Vec::new(alloc);
     for number in 0..marks.len() {

@@ -4,7 +4,8 @@ ghost use Rattle.lw_chunks.specs.Size.{suite_size, greatest_suite};
 ghost use Rattle.lw_separate.specs.Canonical.{AreLeastAccess};
 ghost use Rattle.lw_separate.specs.Separators.{IsSeparators};
 ghost use Rattle.lw_wp.specs.bodies.Cursors.{AreParts, words_of};
-ghost use Rattle.lw_wp.specs.bodies.Tables.{IsTable, numbers_in, suite_by};
+ghost use Rattle.lw_wp.specs.Tables.{suite_by};
+ghost use Rattle.lw_wp.specs.bodies.Tables.{IsTable, numbers_in};
 
 use lw_chunks::middle_count;
 use lw_mealy::Mealy;

@@ -4,7 +4,8 @@ ghost use Rattle.std.specs.List.{All, list_any};
 ghost use Rattle.lw_mealy.specs.Machine.{IsMinimal};
 ghost use Rattle.lw_separate.specs.WordClasses.{AreClassesOn};
 ghost use Rattle.lw_wp.specs.Identification.{separates, first_separating};
-ghost use Rattle.lw_wp.specs.bodies.Chosen.{chosen, IsSeparation};
+ghost use Rattle.lw_wp.specs.Tables.{chosen};
+ghost use Rattle.lw_wp.specs.bodies.Chosen.{IsSeparation};
 
 use lw_mealy::Mealy;
 use lw_separate::{separators, word_classes};

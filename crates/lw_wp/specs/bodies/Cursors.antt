@@ -8,7 +8,8 @@ use Rattle.lw_separate.specs.Separators.{IsSeparators}
 use Rattle.lw_chunks.specs.Size.{powers, suite_size, greatest_suite}
 use Rattle.lw_chunks.specs.Middle.{each_with, words_of_length, words_up_to}
 use Rattle.lw_chunks.specs.declared.chunks.Place.{Place}
-use Rattle.lw_wp.specs.bodies.Tables.{Table, IsTable, numbers_in, block, blocks_by, words_behind, words_with}
+use Rattle.lw_wp.specs.Tables.{Table, block, blocks_by, words_behind, words_with}
+use Rattle.lw_wp.specs.bodies.Tables.{IsTable, numbers_in}
 use Rattle.lw_wp.specs.declared.parts.Parts.{Parts}
 use Rattle.lw_wp.specs.declared.parts.Row.{Row}
 use Rattle.lw_wp.specs.declared.cursor.Cursor.{Cursor}

@@ -1,6 +1,6 @@
 use Rattle.std.proofs.Common.{◌≡◌, [], get_or, take}
 use Rattle.std.specs.List.{filter}
-use Rattle.lw_wp.specs.bodies.HTables.{is_alike}
+use Rattle.lw_wp.specs.GreedySuite.{is_alike}
 use Rattle.lw_wp.proofs.greedy_sets.alike.Given as goal
 
 abbrev pub invariant-loop-p : goal.invariant-loop-p

@@ -1,8 +1,6 @@
-use Rattle.std.proofs.Common.{◌<◌, ℕ, length, All, Contains}
+use Rattle.std.proofs.Common.{◌≡◌}
+use Rattle.std.specs.List.{range_with_len}
 use Rattle.lw_wp.proofs.greedy_sets.all_states.Given as goal
 
 abbrev pub invariant-loop-q : goal.invariant-loop-q
-invariant-loop-q l = record {
-  below : All (λ p. p < length l.m.rows) l.states.items;
-  each : (p : ℕ) → p < l.q → Contains l.states.items p;
-}
+invariant-loop-q l = l.states.items ≡ range_with_len 0 l.q

@@ -1,5 +1,5 @@
 use Rattle.std.proofs.Common.{◌<◌, length, ℕ, List, arith}
-use Rattle.lw_wp.specs.bodies.HTables.{separated_of}
+use Rattle.lw_wp.specs.GreedySuite.{separated_of}
 use Rattle.lw_wp.proofs.GreedyLemmas.{kept, taken}
 use Rattle.lw_wp.proofs.greedy_sets.next_word.Goals.{then-count-most, else-count-most}
 use Rattle.lw_wp.proofs.greedy_sets.next_word.Goals as goal

@@ -1,6 +1,6 @@
 use Rattle.std.proofs.Common.{◌≡◌, [], get_or}
 use Rattle.std.specs.List.{IsFirstMaxByKey}
-use Rattle.lw_wp.specs.bodies.HTables.{separated_of}
+use Rattle.lw_wp.specs.GreedySuite.{separated_of}
 use Rattle.lw_wp.proofs.greedy_sets.next_word.Given as goal
 
 abbrev pub invariant-loop-number : goal.invariant-loop-number

@@ -1,5 +1,5 @@
 use Rattle.std.proofs.Common.{◌≡◌, ◌≤◌, [], get_or, take}
-use Rattle.lw_wp.specs.bodies.HTables.{separated_of}
+use Rattle.lw_wp.specs.GreedySuite.{separated_of}
 use Rattle.lw_wp.proofs.greedy_sets.separated_count.Given as goal
 
 abbrev pub invariant-loop-p : goal.invariant-loop-p

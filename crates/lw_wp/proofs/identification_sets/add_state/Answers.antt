@@ -1,7 +1,8 @@
 use Rattle.std.proofs.Common.{rules, ◌≡◌, ◌+◌, ℕ, List, false, subst, sym}
 use Rattle.std.specs.List.{list_any}
 use Rattle.lw_wp.specs.Identification.{separates, identification_below}
-use Rattle.lw_wp.specs.bodies.Chosen.{chosen, Chooses}
+use Rattle.lw_wp.specs.Tables.{chosen}
+use Rattle.lw_wp.specs.bodies.Chosen.{Chooses}
 use Rattle.lw_wp.proofs.IdentificationLemmas.{state_added}
 use Rattle.lw_wp.proofs.identification_sets.add_state.Goals as goal
 

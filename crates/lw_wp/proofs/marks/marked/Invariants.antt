@@ -1,5 +1,6 @@
-use Rattle.lw_wp.proofs.MarkLemmas.{MarkedBelow}
+use Rattle.std.proofs.Common.{◌≡◌}
+use Rattle.lw_wp.proofs.MarkLemmas.{marked_so_far}
 use Rattle.lw_wp.proofs.marks.marked.Given as goal
 
 abbrev pub invariant-loop-number : goal.invariant-loop-number
-invariant-loop-number l = MarkedBelow l.marks l.number l.numbers.items
+invariant-loop-number l = l.numbers.items ≡ marked_so_far l.marks l.number
