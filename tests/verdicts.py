@@ -100,6 +100,39 @@ def wp_suite(letters, rows, access, extra):
                 yield front + end
 
 
+def greedy(rows, ends, q):
+    """The numbers of words that are chosen for a state, each the first that separates the most of those that are left."""
+    chosen, left = [], [p for p in range(len(rows)) if p != q]
+    while left:
+        counts = [sum(separates(rows, p, q, end) for p in left) for end in ends]
+        chosen.append(counts.index(max(counts)))
+        left = [p for p in left if not separates(rows, p, q, ends[chosen[-1]])]
+    return chosen
+
+
+def stand_behind(letters, rows, ends, own, q, left):
+    """The numbers of words behind what leads to a state, where so many letters are left: its own, and for each word of these
+    letters the first of those of the state that it leads to whose word separates the two."""
+    found = set(own[q])
+    for onward in words_up_to(letters, left):
+        r = run(rows, q, onward)[0]
+        found.update([i for i in own[r] if separates(rows, r, q, ends[i])][:1])
+    return sorted(found)
+
+
+def h_suite(letters, rows, access, extra):
+    ends = separating_words(letters, rows)
+    own = [greedy(rows, ends, q) for q in range(len(rows))]
+    shorter, longest = list(words_up_to(letters, extra)), list(words_of(letters, extra + 1))
+    states = range(len(rows))
+    for p, middle in [*itertools.product(states, shorter), *itertools.product(states, longest)]:
+        front, left = access[p] + middle, extra + 1 - len(middle)
+        q = run(rows, 0, front)[0]
+        behind = stand_behind(letters, rows, ends, own, q, left) if middle else range(len(ends))
+        for end in [(), *(ends[i] for i in behind)]:
+            yield front + end
+
+
 def prefixes(answers):
     """What is told: the prefixes of the answers' words."""
     return {tuple(word[:length]) for word, _ in answers for length in range(len(word) + 1)} | {()}

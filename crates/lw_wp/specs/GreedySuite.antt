@@ -1,5 +1,5 @@
 -- Which words the H-method's suite of this project has, and in which order.
--- Source: Dorofeeva, El-Fakih and Koufareva (2005); that identification sets are chosen greedily, and the order, are this project's.
+-- Source: Dorofeeva, El-Fakih and Koufareva (2005); that sets of words are chosen greedily, and the order, are this project's.
 use Rattle.std.specs.Prelude.{◌≡◌, ◌↔◌, ℕ, ◌+◌, ◌<◌, ◌≤◌, ◌⊎◌, Bool, false, not, List, [], ◌∷◌, length, take, slice_index_or, if◌then◌else◌, nat_eq}
 use Rattle.std.specs.List.{All, Contains, IsFirstMaxByKey, count_by, filter, range_with_len}
 use Rattle.std.specs.List.Sorted.{IsStrictlyIncreasing}
@@ -51,7 +51,7 @@ pub record IsGreedyRow (a : ℕ) (h : Rows) (words own : List (List ℕ)) (q d :
   pub increasing : IsStrictlyIncreasing row
   pub each : (i : ℕ) → Contains row i ↔ StandsBehind a h words own q d i
 
--- the rows of a state, where 0 to k letters are left
+-- the rows of a state, where 0 to k letters are left; behind an access word alone k + 1 are, so all words stand there
 pub record AreGreedyRows (a : ℕ) (h : Rows) (k : ℕ) (words own : List (List ℕ)) (q : ℕ) (rows : List (List ℕ)) : Type 0 where
   pub long : length rows ≡ k + 1
   pub each : (d : ℕ) → d < length rows → IsGreedyRow a h words own q d (slice_index_or rows d [])

@@ -1,5 +1,4 @@
--- The suite of the H-method: words behind the middle words that are chosen for each state. Source: Dorofeeva, El-Fakih and
--- Koufareva (2005); which words they are is this project's.
+-- Suites of the H-method, by what they are for. Source: Dorofeeva, El-Fakih and Koufareva (2005).
 use Rattle.std.specs.Prelude.{ℕ, ◌≤◌, List, length}
 use Rattle.std.specs.List.{All}
 use Rattle.lw_words.specs.Word.{IsWord}

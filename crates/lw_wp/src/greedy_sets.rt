@@ -1,4 +1,4 @@
-//! Identification sets of states whose words are chosen by how many states each separates.
+//! Greedy sets of words, by which a state is separated from all others: each word is chosen by how many states it separates.
 ghost use Rattle.std.specs.Prelude.{◌≡◌, ◌<◌, [], length, map, not, nat_eq, IfOk, slice_index_or};
 ghost use Rattle.std.specs.List.{All, IsFirstMaxByKey, count_by, filter};
 ghost use Rattle.lw_wp.specs.bodies.Chosen.{IsSeparation};

@@ -56,13 +56,15 @@ impl Model for HSuite {
 }
 
 impl HSuite {
-    /// The suite of the H-method of a minimal machine for `extra` states more (Dorofeeva, El-Fakih and Koufareva 2005), by
-    /// `ok`, and by `words` just these words, in order: S·M·(ε, E), where S are the least access words, M the words of at most
-    /// `extra + 1` letters, the longest behind all others, and E separating words. Behind an access word alone these are all.
-    /// Behind a middle word that leads to a state q they are G(q), and for each state r to which at most as many letters lead
-    /// from q as the middle word has fewer than the longest, the first word of G(r) that separates r from q.
+    /// A suite of the H-method of a minimal machine for `extra` states more (Dorofeeva, El-Fakih and Koufareva 2005), by `ok`,
+    /// and by `words` just these words: S·M·(ε, E), where S are the least access words, M the words of at most `extra + 1`
+    /// letters, and E separating words. Behind an access word alone these are all. Behind a middle word that leads to a state q
+    /// they are G(q), and for each state r to which at most as many letters lead from q as the middle word has fewer than the
+    /// longest, that word of G(r) which was chosen first of those that separate r from q.
     ///
     /// G(q) is chosen greedily: each word is the first of those that separate the most of the states that are left from q.
+    /// First come the middle words of at most `extra` letters, by access word, then in shortlex order, and then those of one
+    /// more; behind each the empty word, and then the others in the order of the separating words.
     ///
     /// # Errors
     /// `TooLarge` with the size of the W-method's suite where that is above 8,388,608, and no memory is taken then.

@@ -26,7 +26,7 @@ fn add_targets(m: &Mealy, q: u16, reached: &mut Vec<u16>) -> Result<(), NoMemory
     Ok(())
 }
 
-/// The states to which these lead by one letter, each as often as a letter leads to it.
+/// The states to which these lead by one letter, each as often as a letter leads to it; its contract says which they are.
 fn targets(alloc: Global, m: &Mealy, states: &[u16]) -> Result<Vec<u16>, NoMemory>
     requires { All (λ p. p < length m.now.rows) states.now }
     ensures { IfOk result (λ reached. AddsStates m.now.rows [] reached.items
@@ -84,7 +84,7 @@ fn mark_pairs(
 
 /// The rows of a state: its own numbers, and behind them, row by row, those of pairs with the states that one letter more
 /// leads to. The states are found level by level, as often as words lead to them: all states and levels together, that is
-/// less than a suite has words.
+/// less than a suite has words, which no clause says.
 fn rows_of(
     alloc: Global,
     m: &Mealy,

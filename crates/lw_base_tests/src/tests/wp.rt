@@ -11,8 +11,10 @@ use lw_mealy::Mealy;
 use lw_separate::canonical;
 use lw_words::Words;
 use lw_wp::{
-    HSuite, WpSuite, identification, identification_identifies, identification_is_unique,
-    wp_suite_exists, wp_suite_is_counted, wp_suite_is_of_words, wp_suite_is_unique, wp_suite_tells,
+    HSuite, WpSuite, greedy_suite_exists, greedy_suite_is_h_suite, greedy_suite_is_unique,
+    identification, identification_identifies, identification_is_unique, wp_suite_exists,
+    wp_suite_is_counted, wp_suite_is_h_suite, wp_suite_is_of_words, wp_suite_is_unique,
+    wp_suite_tells,
 };
 use std::alloc::Global;
 use std::process::Abort;
@@ -171,6 +173,27 @@ fn suites_of_the_h_method_by_hand(rt: HostRuntime) {
     assert!(rt; same(&suite, &words(&rt, alloc, ONWARD_WORKED)));
 }
 
+/// A machine over one letter, whose separating words are one letter and two. State 0 is separated from both others by the first
+/// of them, and each of these from both others by the second.
+const CIRCLE: &[&[(u16, u16)]] = &[&[(1, 1)], &[(2, 0)], &[(0, 0)]];
+
+/// The lengths of the words of its suite of the H-method for two extra states, by hand.
+const CIRCLE_WORKED: &[usize] = &[
+    0, 1, 2, 1, 2, 3, 2, 3, 4, 1, 2, 3, 2, 3, 4, 3, 4, 5, 2, 3, 4, 3, 4, 5, 4, 6, 3, 4, 4, 6, 5, 7,
+];
+
+#[test]
+fn a_suite_of_the_h_method_over_one_letter(rt: HostRuntime) {
+    let alloc = rt.alloc();
+    let drawn = machine(&rt, alloc, 1, 2, rows(&rt, alloc, CIRCLE));
+    let m = canonical(alloc, &drawn).expect(&rt, "memory");
+    let suite = all_h_words(&rt, alloc, &m, 2, &mut Vec::new(alloc));
+    assert!(rt; suite.len() == CIRCLE_WORKED.len());
+    for number in 0..suite.len() {
+        assert!(rt; suite.get(number).len() == CIRCLE_WORKED[number]);
+    }
+}
+
 #[test]
 fn one_state_of_the_h_method_in_three_chunks(rt: HostRuntime) {
     let alloc = rt.alloc();
@@ -246,5 +269,9 @@ fn laws_of_wp_have_no_code() {
     wp_suite_exists();
     wp_suite_is_of_words();
     wp_suite_is_counted();
+    wp_suite_is_h_suite();
     wp_suite_tells();
+    greedy_suite_exists();
+    greedy_suite_is_h_suite();
+    greedy_suite_is_unique();
 }

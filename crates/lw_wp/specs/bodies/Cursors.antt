@@ -79,7 +79,7 @@ pub record IsWithin (p : Parts) (at : Place) : Type 0 where
   pub front : at.front ≤ length (blocks p)
   pub «end» : at.front < length (blocks p) → at.end < length (slice_index_or (blocks p) at.front [])
 
--- the word is the front with this number, behind which stand the words of this row
+-- the word is the front with this number, behind which stand the words of this row; past the last front it may be any
 abbrev pub IsFrontAt : Parts → ℕ → List ℕ → Row → Type 0
 IsFrontAt p number front row = number < length (blocks p) → slice_index_or (blocks p) number [] ≡ block front (ends_behind p row)
 

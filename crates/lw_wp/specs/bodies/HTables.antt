@@ -30,7 +30,7 @@ LeadsTo h q bound p = (x : ℕ) × (x < bound) × (next h q x ≡ p)
 abbrev pub IsTarget : ℕ → Rows → List ℕ → ℕ → Type 0
 IsTarget a h states p = (q : ℕ) × Contains states q × LeadsTo h q a p
 
--- these states are added to a list, and nothing else is
+-- states of the machine, to which these are added and no others, in any order and as often as may be
 pub record AddsStates (h : Rows) (old new : List ℕ) (Added : ℕ → Type 0) : Type 0 where
   pub below : All (λ p. p < length h) new
   pub each : (p : ℕ) → Contains new p ↔ (Contains old p ⊎ Added p)
