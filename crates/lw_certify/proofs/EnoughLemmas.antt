@@ -10,6 +10,7 @@ use Rattle.lw_chunks.specs.declared.method.Method.TheVariants.{W, Wp, H}
 use Rattle.lw_cache.specs.Known.{IsKnown}
 use Rattle.lw_suite.proofs.LetterLemmas.{suite_is_of_words}
 use Rattle.lw_wp.specs.WpTells.{TellsApart, TellsStates}
+use Rattle.lw_wp.proofs.GreedySuiteLemmas.{greedy_is_h_suite, greedy_is_of_words}
 use Rattle.lw_wp.proofs.TellsLemmas.{wp_suite_tells}
 use Rattle.lw_wp.proofs.WpSuiteLemmas.{wp_suite_is_of_words}
 use Rattle.lw_apart.specs.Covers.{KnownApart, Covers}
@@ -53,9 +54,9 @@ enough_covers H a h ks k machine minimal gives covers = covers
 pub suite_is_enough : SuiteIsEnough
 suite_is_enough W a h ks k suite machine minimal gives is known = record { suite = suite; whole = is; known = known }
 suite_is_enough Wp a h ks k suite machine minimal gives is known = record { suite = suite; whole = is; known = known }
-suite_is_enough H a h ks k suite machine minimal gives is known = covers_told h ks suite known a k minimal gives is.tells
+suite_is_enough H a h ks k suite machine minimal gives is known = covers_told h ks suite known a k minimal gives (greedy_is_h_suite a h k suite machine is).tells
 
 pub suites_are_of_words : SuitesAreOfWords
 suites_are_of_words W a h k suite is = suite_is_of_words a h k suite is
 suites_are_of_words Wp a h k suite is = wp_suite_is_of_words a h k suite is
-suites_are_of_words H a h k suite is = is.letters
+suites_are_of_words H a h k suite is = greedy_is_of_words a h k suite is

@@ -8,7 +8,7 @@ use Rattle.lw_mealy.specs.Difference.{DifferFirst}
 use Rattle.lw_separate.specs.FirstAlike.{AreFirstAlike}
 use Rattle.lw_chunks.specs.Size.{suite_size, greatest_suite}
 use Rattle.lw_suite.specs.Suite.{IsSuite}
-use Rattle.lw_wp.specs.HSuite.{IsHSuite}
+use Rattle.lw_wp.specs.GreedySuite.{IsGreedySuite}
 use Rattle.lw_wp.specs.WpSuite.{IsWpSuite}
 use Rattle.lw_apart.specs.Covers.{Covers}
 use Rattle.lw_apart.specs.Missing.{IsMissing}
@@ -32,11 +32,11 @@ pub record DiffersAt (h : Rows) (ks : List Answer) (number place : ℕ) : Type 0
   pub first : FailsFirst (λ k. answer h k.word ≡ k.outs) ks number
   pub here : DifferFirst (answer h (answer_at ks number).word) (answer_at ks number).outs place
 
--- a suite of the machine for k extra states, by how suites are made
+-- the suite of the machine for k extra states, by how suites are made: a machine has one at most of each method
 abbrev pub IsSuiteBy : Method → ℕ → Rows → ℕ → List (List ℕ) → Type 0
 IsSuiteBy W a h k suite = IsSuite a h k suite
 IsSuiteBy Wp a h k suite = IsWpSuite a h k suite
-IsSuiteBy H a h k suite = IsHSuite a h k suite
+IsSuiteBy H a h k suite = IsGreedySuite a h k suite
 
 -- the word is the first of the suite that isn't known
 pub record IsFirstMissing (method : Method) (a : ℕ) (h : Rows) (ks : List Answer) (k : ℕ) (word : List ℕ) : Type 0 where

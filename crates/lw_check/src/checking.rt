@@ -76,9 +76,9 @@ fn finish<O: Sink, E: Sink>(
     End::new(outcome, answers.kept, outputs)
 }
 
-/// `check MODEL ANSWERS [--extra K]`: whether the answers of a file fix the model of a file among all machines of at most so many
-/// states more, by the suite of the method. Reads the model file, then the answers file; puts a yes or a no to `out`, and the text
-/// of every other outcome to `err`.
+/// `check MODEL ANSWERS [--extra K] [--suite w|wp|h]`: whether the answers of a file fix the model of a file among all machines of
+/// at most so many states more, by that method. Reads the model file, then the answers file; puts a yes or a no to `out`, and the
+/// text of every other outcome to `err`.
 pub fn check<F: Files, O: Sink, E: Sink>(
     alloc: Global,
     arguments: &CheckArguments,

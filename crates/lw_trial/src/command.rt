@@ -184,9 +184,9 @@ fn learn<R: Threads + Wait + Sync + Drop, O: Sink, E: Sink>(
     }
 }
 
-/// `trial --states N --inputs A --seed S [--workers N] [--learner table|ttt]`: draws a machine, learns it over so many instances
-/// with a learner of that kind, and tells on `out` what was learned and whether that is the machine. The text of every other
-/// outcome goes to `err`.
+/// `trial --states N --inputs A --seed S [--workers N] [--learner table|ttt] [--suite w|wp|h]`: draws a machine, learns it over
+/// so many instances with a learner of that kind and suites that are made so, and tells on `out` what was learned and whether
+/// that is the machine. The text of every other outcome goes to `err`.
 pub fn trial<R: Threads + Wait + Sync + Drop, O: Sink, E: Sink>(
     rt: R,
     alloc: Global,

@@ -5,18 +5,19 @@ use Rattle.std.proofs.lemmas.Bool.{cases_lt, cases_order}
 use Rattle.std.proofs.lemmas.List.{ext_get_or, get_or_default}
 use Rattle.std.proofs.lemmas.List.Elements.{Contains-get_or, All-contains, All-get_or}
 use Rattle.std.proofs.lemmas.List.Kept.{AllPairs-from_increasing}
+use Rattle.lw_words.specs.Word.{IsWord}
 use Rattle.lw_mealy.specs.Machine.{Rows, IsMachine, after}
 use Rattle.lw_mealy.proofs.WordLemmas.{after_below}
 use Rattle.lw_separate.specs.Separators.{SplitAt}
 use Rattle.lw_separate.proofs.OneLemmas.{one_least_access, one_separators}
-use Rattle.lw_wp.specs.GreedySuite.{AreGreedyRows, AreGreedySets, GreedySuiteIsHSuite, IsGreedyRow, IsGreedyTable, OneGreedySuite, states_of}
+use Rattle.lw_wp.specs.GreedySuite.{AreGreedyRows, AreGreedySets, GreedySuiteIsHSuite, GreedySuiteIsOfWords, IsGreedyRow, IsGreedyTable, OneGreedySuite, states_of}
 use Rattle.lw_wp.specs.HSuite.{IsHSuite}
 use Rattle.lw_wp.specs.Identification.{separates}
 use Rattle.lw_wp.specs.Tables.{Table, row_for, suite_by}
 use Rattle.lw_wp.proofs.FilterLemmas.{first_passes}
 use Rattle.lw_wp.proofs.GreedyLemmas.{greedy_apart, one_greedy}
 use Rattle.lw_wp.proofs.HTableLemmas.{own_below, row_below}
-use Rattle.lw_wp.proofs.HTellsLemmas.{Covers, CoversEach, is_h_suite}
+use Rattle.lw_wp.proofs.HTellsLemmas.{Covers, CoversEach, are_letters, is_h_suite}
 use Rattle.lw_wp.proofs.MarkLemmas.{contains_range}
 use Rattle.lw_wp.proofs.SeparationLemmas.{separates_differ, differ_separates}
 
@@ -155,6 +156,9 @@ module _ (a : ℕ) (h : Rows) (k : ℕ) (ends own : List (List ℕ)) (table : Ta
 
   pub covers_each : CoversEach a h k ends own table
   covers_each = record { apart = apart; has_row = has_row; covers = covers }
+
+pub greedy_is_of_words : GreedySuiteIsOfWords
+greedy_is_of_words a h k suite is = subst (All (IsWord a)) (sym is.words) (are_letters a h k is.access is.ends is.table is.least is.separating)
 
 pub greedy_is_h_suite : GreedySuiteIsHSuite
 greedy_is_h_suite a h k suite machine is =

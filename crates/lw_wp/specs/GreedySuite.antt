@@ -81,6 +81,10 @@ OneGreedySuite = (a : ℕ) (h : Rows) (k : ℕ) (s t : List (List ℕ)) → IsGr
 abbrev pub SomeGreedySuite : Type 0
 SomeGreedySuite = (a : ℕ) (h : Rows) (k : ℕ) → IsMachine a h → IsMinimal a h → (suite : List (List ℕ)) × IsGreedySuite a h k suite
 
+-- its words are words over the machine's letters
+abbrev pub GreedySuiteIsOfWords : Type 0
+GreedySuiteIsOfWords = (a : ℕ) (h : Rows) (k : ℕ) (suite : List (List ℕ)) → IsGreedySuite a h k suite → All (IsWord a) suite
+
 -- it is a suite of the H-method
 abbrev pub GreedySuiteIsHSuite : Type 0
 GreedySuiteIsHSuite = (a : ℕ) (h : Rows) (k : ℕ) (suite : List (List ℕ)) → IsMachine a h → IsGreedySuite a h k suite → IsHSuite a h k suite

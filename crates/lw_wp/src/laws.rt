@@ -1,5 +1,5 @@
 //! Laws about the definitions alone, with no code.
-ghost use Rattle.lw_wp.specs.GreedySuite.{GreedySuiteIsHSuite, OneGreedySuite, SomeGreedySuite};
+ghost use Rattle.lw_wp.specs.GreedySuite.{GreedySuiteIsHSuite, GreedySuiteIsOfWords, OneGreedySuite, SomeGreedySuite};
 ghost use Rattle.lw_wp.specs.HSuite.{WpSuiteIsHSuite};
 ghost use Rattle.lw_wp.specs.Identification.{OneIdentification, IdentificationIdentifies};
 ghost use Rattle.lw_wp.specs.WpSuite.{OneWpSuite, SomeWpSuite, WpSuiteIsCounted, WpSuiteIsOfWords};
@@ -57,6 +57,11 @@ pub fn greedy_suite_exists()
     least_access_exists();
     separators_exist();
 }
+
+/// The words of such a suite are words over the machine's letters.
+pub fn greedy_suite_is_of_words()
+    ensures { GreedySuiteIsOfWords }
+{}
 
 /// Such a suite is a suite of the H-method.
 pub fn greedy_suite_is_h_suite()

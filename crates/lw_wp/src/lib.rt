@@ -16,7 +16,7 @@ mod wp_suite;
 pub use h_suite::HSuite;
 pub use identification_sets::identification;
 pub use laws::{
-    greedy_suite_exists, greedy_suite_is_h_suite, greedy_suite_is_unique,
+    greedy_suite_exists, greedy_suite_is_h_suite, greedy_suite_is_of_words, greedy_suite_is_unique,
     identification_identifies, identification_is_unique, wp_suite_exists, wp_suite_is_counted,
     wp_suite_is_h_suite, wp_suite_is_of_words, wp_suite_is_unique, wp_suite_tells,
 };

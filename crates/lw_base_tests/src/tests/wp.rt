@@ -11,7 +11,8 @@ use lw_mealy::Mealy;
 use lw_separate::canonical;
 use lw_words::Words;
 use lw_wp::{
-    HSuite, WpSuite, greedy_suite_exists, greedy_suite_is_h_suite, greedy_suite_is_unique,
+    HSuite, WpSuite, greedy_suite_exists, greedy_suite_is_h_suite, greedy_suite_is_of_words,
+    greedy_suite_is_unique,
     identification, identification_identifies, identification_is_unique, wp_suite_exists,
     wp_suite_is_counted, wp_suite_is_h_suite, wp_suite_is_of_words, wp_suite_is_unique,
     wp_suite_tells,
@@ -273,5 +274,6 @@ fn laws_of_wp_have_no_code() {
     wp_suite_tells();
     greedy_suite_exists();
     greedy_suite_is_h_suite();
+    greedy_suite_is_of_words();
     greedy_suite_is_unique();
 }
