@@ -1,4 +1,4 @@
-//! A machine of three states, worked by hand: its suites by each method, as `learn` asks them and `check` wants them.
+//! Machines of three and of five states: their suites by each method, as `learn` asks them and `check` wants them.
 use crate::tests::cases::{Case, PLAIN, Shell, check, check_over};
 use lw_outside::MemoryFiles;
 use std::alloc::Global;
@@ -16,7 +16,11 @@ const IDENTIFIED: &str =
 const WITHOUT_LAST: &str =
     "{\"format\":1,\"inputs\":[\"a\",\"b\"],\"outputs\":[\"0\",\"1\"],\"answers\":[[\"a a a\",\"0 1 1\"],[\"a b a\",\"0 0 0\"],[\"a b b\",\"0 0 0\"],[\"b a a\",\"0 0 0\"],[\"b a b\",\"0 0 0\"],[\"b b a\",\"0 1 0\"]]}\n";
 
-static LEARNED: [Case; 5] = [
+/// A machine of five states, on which the suites of the three methods differ.
+const FIVE: &str =
+    "{\"inputs\":[\"a\",\"b\"],\"outputs\":[\"0\",\"1\"],\"states\":[[[1,\"0\"],[0,\"1\"]],[[2,\"1\"],[2,\"0\"]],[[3,\"0\"],[4,\"1\"]],[[3,\"0\"],[3,\"0\"]],[[0,\"0\"],[2,\"0\"]]]}\n";
+
+static LEARNED: [Case; 7] = [
     Case {
         arguments: &["learn", "--table", "m", "--extra", "0"],
         file: TRI,
@@ -50,6 +54,20 @@ static LEARNED: [Case; 5] = [
         file: TRI,
         out: TRI,
         err: "learned: states 3, refinements 0, extra 1, answers 21\n",
+        ..PLAIN
+    },
+    Case {
+        arguments: &["learn", "--table", "m", "--suite", "wp"],
+        file: FIVE,
+        out: FIVE,
+        err: "learned: states 5, refinements 2, extra 1, answers 56\n",
+        ..PLAIN
+    },
+    Case {
+        arguments: &["learn", "--table", "m", "--suite", "h"],
+        file: FIVE,
+        out: FIVE,
+        err: "learned: states 5, refinements 2, extra 1, answers 52\n",
         ..PLAIN
     },
 ];
