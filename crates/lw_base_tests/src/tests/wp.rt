@@ -12,10 +12,9 @@ use lw_separate::canonical;
 use lw_words::Words;
 use lw_wp::{
     HSuite, WpSuite, greedy_suite_exists, greedy_suite_is_h_suite, greedy_suite_is_of_words,
-    greedy_suite_is_unique,
-    identification, identification_identifies, identification_is_unique, wp_suite_exists,
-    wp_suite_is_counted, wp_suite_is_h_suite, wp_suite_is_of_words, wp_suite_is_unique,
-    wp_suite_tells,
+    greedy_suite_is_unique, identification, identification_identifies, identification_is_unique,
+    wp_suite_exists, wp_suite_is_counted, wp_suite_is_h_suite, wp_suite_is_of_words,
+    wp_suite_is_unique, wp_suite_tells,
 };
 use std::alloc::Global;
 use std::process::Abort;
