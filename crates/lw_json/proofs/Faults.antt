@@ -6,7 +6,8 @@ use Rattle.std.specs.declared.result.Result.TheVariants.{Ok, Err}
 use Rattle.serde_json.specs.Data.{Data}
 use Rattle.lw_json.specs.Fault.{HasFault, first_failing}
 use Rattle.lw_json.specs.Formats.{IsJson}
-use Rattle.lw_json.specs.bodies.Told.{Told, IsUnread}
+use Rattle.lw_json.specs.Members.{IsUnreadJson}
+use Rattle.lw_json.specs.bodies.Told.{Told}
 use Rattle.lw_json.specs.declared.fault.Field.{Field}
 use Rattle.lw_json.specs.declared.fault.JsonFault.{JsonFault}
 use Rattle.lw_json.specs.declared.fault.JsonFault.TheVariants.{NotJson, Shape, Inputs, Outputs, UnknownOutput, Mealy, BadWord, Lengths, NoMemory}
@@ -32,7 +33,7 @@ told_by wrap P Q told h none each = ⊎_elim (λ e. subst Q (sym e) none) (λ w.
 
 module _ {S : Type 0} (tests : Data → List (Field × Bool)) (Says : Data → S → Type 0) (SaysFault : S → JsonFault → Type 0) where
   -- bytes that are no JSON
-  pub unread : (bytes : List ℕ) (told : JsonFault) → IsUnread bytes told → HasFault tests Says SaysFault bytes told
+  pub unread : (bytes : List ℕ) (told : JsonFault) → IsUnreadJson bytes told → HasFault tests Says SaysFault bytes told
   unread bytes told h = ⊎_elim (λ e. subst (HasFault tests Says SaysFault bytes) (sym e) tt) (λ w. subst (HasFault tests Says SaysFault bytes) (sym w.0) w.1) h
 
   -- a member without its shape

@@ -10,7 +10,7 @@ use Rattle.lw_json.specs.declared.fault.JsonFault.{JsonFault}
 use Rattle.lw_json.specs.declared.fault.JsonFault.TheVariants.{NotJson, Shape, Inputs, Outputs, UnknownOutput, Mealy, BadWord, Lengths, NoMemory}
 
 -- the first of the tests that fails, by the field that it is of
-abbrev pub first_failing : List (Field × Bool) → Option Field
+abbrev pub first_failing : {F : Type 0} → List (F × Bool) → Option F
 first_failing [] = None
 first_failing (t ∷ ts) = if t.1 then first_failing ts else Some t.0
 

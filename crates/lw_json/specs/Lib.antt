@@ -7,5 +7,6 @@ pub mod Hint
 pub mod KeptOver
 pub mod MachineFault
 pub mod MachineText
+pub mod Members
 pub mod SetupFile
 pub mod bodies

@@ -26,5 +26,7 @@ pub use hint::SetupFile;
 pub use laws::{a_first_fault_is_one, answers_have_one_order, files_have_no_fault};
 pub use machine_reader::read_machine;
 pub use machine_writer::machine_text;
+pub use members::{list, list_member, texts_member, value_of};
 pub use setup::{Command, Setup, Text, Texts};
 pub use setup_reader::{read_setup, read_setup_with_hint};
+pub use values::{put_member, put_names};

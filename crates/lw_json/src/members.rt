@@ -6,8 +6,8 @@ ghost use Rattle.serde_json.specs.Find.{as_str};
 ghost use Rattle.lw_words.specs.Word.{IsNames};
 ghost use Rattle.lw_json.specs.Formats.{each_of, AreInputs, IsJson, array_of, list_at, texts_at};
 ghost use Rattle.lw_json.specs.Fault.{IsFaultOf};
-ghost use Rattle.lw_json.specs.bodies.Found.{FindsTexts};
-ghost use Rattle.lw_json.specs.bodies.Told.{Told, IsUnread};
+ghost use Rattle.lw_json.specs.Members.{IsUnreadJson, FindsTexts};
+ghost use Rattle.lw_json.specs.bodies.Told.{Told};
 ghost use Rattle.lw_json.specs.declared.fault.JsonFault.{JsonFault as Fault};
 
 use crate::JsonFault;
@@ -18,10 +18,10 @@ use std::alloc::Global;
 /// The greatest number of inputs.
 const MOST_INPUTS: usize = 64;
 
-/// The value that bytes spell.
+/// The value that bytes spell. The fault is `NotJson` or `NoMemory`.
 pub fn value_of(alloc: Global, bytes: &[u8]) -> Result<Value, JsonFault>
     ensures ok { IfOk result (λ v. IsJson bytes.now (view v)) }
-    ensures err { IfErr result (IsUnread bytes.now) }
+    ensures err { IfErr result (IsUnreadJson bytes.now) }
 {
     match Value::from_slice(alloc, bytes) {
         Ok(root) => Ok(root),

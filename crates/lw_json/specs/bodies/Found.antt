@@ -1,14 +1,10 @@
 -- What the looks of the readers find.
-use Rattle.std.specs.Prelude.{◌≡◌, ℕ, List, Option, Vec, String, map, option_map, string_bytes}
+use Rattle.std.specs.Prelude.{◌≡◌, ℕ, List, Option, Vec, map, option_map}
 use Rattle.std.specs.Borrow.{Bor}
 use Rattle.std.specs.declared.alloc.Global.{Global}
 use Rattle.lw_json.specs.Formats.{WrittenAnswer, NamedRow}
 use Rattle.lw_json.specs.bodies.AnswersParts.{said_answer}
 use Rattle.lw_json.specs.declared.said_answer.SaidAnswer.{SaidAnswer}
-
--- the texts that are sought, or that there are none
-abbrev pub FindsTexts : Option (List (List ℕ)) → Option (Vec (String Global) Global) → Type 0
-FindsTexts sought found = option_map (λ v. map (λ s. string_bytes s) v.items) found ≡ sought
 
 -- the answers that are sought, or that there are none
 abbrev pub FindsAnswers : Option (List WrittenAnswer) → Option (Vec SaidAnswer Global) → Type 0
