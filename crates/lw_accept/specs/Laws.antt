@@ -1,0 +1,46 @@
+-- What answers over `?` and an acceptor's letters are worth.
+use Rattle.std.specs.Prelude.{◌≡◌, ℕ, ◌≤◌, ◌+◌, List, length}
+use Rattle.std.specs.List.{All}
+use Rattle.lw_words.specs.Word.{IsWord, Answer}
+use Rattle.lw_mealy.specs.Machine.{Rows, IsMachine, IsMinimal, Gives, Sure}
+use Rattle.lw_accept.specs.Acceptor.{Automaton, IsAcceptor, AcceptAlike}
+use Rattle.lw_accept.specs.View.{viewed, told, SaysAsTold, IsFirstUnviewed}
+use Rattle.lw_accept.specs.declared.fault.ViewFault.{ViewFault}
+use Rattle.lw_accept.specs.declared.fault.ViewFault.TheVariants.{NotAcceptor, NoMemory}
+
+-- an acceptor's machine is one over a letter more, of as many states
+abbrev pub ViewsAreMachines : Type 0
+ViewsAreMachines = (a : ℕ) (m : Automaton) → IsAcceptor a m → IsMachine (a + 1) (viewed m) × (length (viewed m) ≡ length m.targets)
+
+-- no pair of it is refused
+abbrev pub ViewsAreViews : Type 0
+ViewsAreViews = (a q x : ℕ) (m : Automaton) → IsAcceptor a m → ¬ IsFirstUnviewed (viewed m) q x
+
+-- and it is the machine of no other acceptor
+abbrev pub ViewsDiffer : Type 0
+ViewsDiffer = (a : ℕ) (m n : Automaton) → IsAcceptor a m → IsAcceptor a n → viewed m ≡ viewed n → m ≡ n
+
+-- the words of answers are over a letters
+abbrev pub AreOver : ℕ → List Answer → Type 0
+AreOver a ks = All (λ k. IsWord a k.word) ks
+
+-- an acceptor whose machine gives the answers says as they tell
+abbrev pub AnswersAreTold : Type 0
+AnswersAreTold = (a : ℕ) (m : Automaton) (ks : List Answer) → IsAcceptor a m → AreOver (a + 1) ks → Gives (viewed m) ks → SaysAsTold m (told ks)
+
+-- where the answers are worth something for an acceptor's machine, each acceptor of few states that says as they tell accepts
+-- the same words
+abbrev pub AcceptorsAreSure : Type 0
+AcceptorsAreSure = (a k : ℕ) (m n : Automaton) (ks : List Answer) → IsAcceptor a m → IsAcceptor a n → AreOver (a + 1) ks → Gives (viewed m) ks
+    → Sure (a + 1) (viewed m) ks k → length n.targets ≤ length m.targets + k → SaysAsTold n (told ks) → AcceptAlike a n m
+
+-- where they are worth something for a minimal machine that is no acceptor's, no acceptor of few states has a machine that
+-- gives them
+abbrev pub NoAcceptorGives : Type 0
+NoAcceptorGives = (a k q x : ℕ) (h : Rows) (ks : List Answer) (n : Automaton) → IsMachine (a + 1) h → IsMinimal (a + 1) h → Sure (a + 1) h ks k
+    → IsFirstUnviewed h q x → IsAcceptor a n → length n.targets ≤ length h + k → ¬ Gives (viewed n) ks
+
+-- why a machine gives no acceptor
+abbrev pub IsUnviewable : Rows → ViewFault → Type 0
+IsUnviewable m (NotAcceptor state letter) = IsFirstUnviewed m state letter
+IsUnviewable m NoMemory = Unit {0}

@@ -1,0 +1,3 @@
+-- What the contracts of private functions cite, and no public clause.
+pub mod Parts
+pub mod Unviewed
