@@ -1,12 +1,12 @@
 -- The lines of answers.
 use Rattle.std.specs.Prelude.{ℕ, List, ◌++◌, codes}
-use Rattle.std.specs.List.{flat_map, join_by}
+use Rattle.std.specs.List.{flat_map}
 use Rattle.lw_words.specs.declared.kept.KeptAnswer.{KeptAnswer}
-use Rattle.lw_words.specs.Word.{name_at}
+use Rattle.lw_words.specs.Word.{word_text}
 
 -- a word with its outputs, by their names, each list joined by one blank
 abbrev pub line_of : (letters names : List (List ℕ)) → (word outs : List ℕ) → List ℕ
-line_of letters names word outs = join_by (name_at letters) (codes " ") word ++ (codes " / " ++ (join_by (name_at names) (codes " ") outs ++ codes "\n"))
+line_of letters names word outs = word_text letters word ++ (codes " / " ++ (word_text names outs ++ codes "\n"))
 
 abbrev pub answer_line : (letters names : List (List ℕ)) → KeptAnswer → List ℕ
 answer_line letters names k = line_of letters names k.word k.outs

@@ -1,6 +1,6 @@
 -- The text of each outcome, which ends in a line feed: a function of the outcome, of the names of the inputs and outputs, of
 -- the kept answers and of the number of extra states.
-use Rattle.std.specs.Prelude.{ℕ, Bool, List, [], ◌++◌, length, codes, slice_index_or, slice_get, if◌then◌else◌, Option, Some, None}
+use Rattle.std.specs.Prelude.{ℕ, Bool, List, [], ◌++◌, length, codes, slice_get, if◌then◌else◌, Option, Some, None}
 use Rattle.std.specs.Fmt.{decimal}
 use Rattle.std.specs.List.{flat_map, join_by}
 use Rattle.hex.specs.Hex.{encode_lower}

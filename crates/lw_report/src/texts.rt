@@ -1,10 +1,10 @@
 //! The texts of outcomes, each of which ends in a line feed.
-ghost use Rattle.std.specs.Prelude.{◌≡◌, ℕ, List, ◌++◌, codes, IfNone, IfOk, IfSome, OnOk, option_map, length, string_bytes};
+ghost use Rattle.std.specs.Prelude.{◌≡◌, ℕ, List, [], ◌++◌, codes, IfNone, IfOk, IfSome, OnOk, option_map, length, string_bytes};
 ghost use Rattle.lw_words.specs.declared.kept.KeptAnswer.{KeptAnswer as Answer};
 ghost use Rattle.lw_report.specs.Outcomes.{HasOwnText};
 ghost use Rattle.lw_report.specs.Reasons.{reason_of, role_name};
 ghost use Rattle.lw_report.specs.Text.{crowd_line, crowd_lines, learned_line, names_line, names_of, text_of, word_line};
-ghost use Rattle.lw_words.specs.Word.{name_at, word_text};
+ghost use Rattle.lw_words.specs.Word.{word_text};
 
 use crate::comparison::comparison_text;
 use crate::reasons::reason;
@@ -16,7 +16,7 @@ use crate::tried_text::trial_text;
 use crate::verdict_texts::{clash_text, no_text, suite_text, yes_text};
 use crate::{Outcome, Role};
 use lw_json::JsonFault;
-use lw_words::{Kept, Names, NoMemory, Words};
+use lw_words::{Kept, Names, NoMemory, Words, put_word};
 use std::alloc::Global;
 
 const USAGE: &str =
@@ -34,22 +34,21 @@ const USAGE: &str =
 /// What is written where memory runs out. Takes no memory itself.
 pub(crate) const NO_MEMORY: &str = "no memory\n";
 
-/// The name of a letter, where a file has said the names.
-fn put_name(text: &mut String, letter: u16, names: Option<&Names>) -> Result<(), NoMemory>
+/// The blanks between a word's letters, which have no names.
+fn put_blanks(text: &mut String, word: &[u16]) -> Result<(), NoMemory>
     ensures { OnOk result (string_bytes text.new ≡ string_bytes text.old ++
-        name_at (names_of (option_map (λ n. n.now) names.entry)) letter) }
+        word_text [] word.now) }
 {
-    let Some(names) = names else {
+    let Some((_, rest)) = word.split_first() else {
         return Ok(());
     };
-    if letter >= names.len() {
-        return Ok(());
+    for _letter in rest {
+        text.push_str(" ")?;
     }
-    text.push_str(names.name(letter))?;
     Ok(())
 }
 
-/// The names of a word's letters, joined by one blank.
+/// The names of a word's letters, joined by one blank, where a file has said the names.
 pub(crate) fn put_names(
     text: &mut String,
     word: &[u16],
@@ -58,19 +57,14 @@ pub(crate) fn put_names(
     ensures { OnOk result (string_bytes text.new ≡ string_bytes text.old ++
         word_text (names_of (option_map (λ n. n.now) names.entry)) word.now) }
 {
-    let Some((first, rest)) = word.split_first() else {
-        return Ok(());
-    };
-    put_name(text, *first, names)?;
-    for letter in rest {
-        text.push_str(" ")?;
-        put_name(text, *letter, names)?;
+    match names {
+        Some(names) => put_word(text, names, word),
+        None => put_blanks(text, word),
     }
-    Ok(())
 }
 
 /// A word as its names, in quotes, as a line.
-fn put_word(text: &mut String, word: &[u16], names: Option<&Names>) -> Result<(), NoMemory>
+fn put_word_line(text: &mut String, word: &[u16], names: Option<&Names>) -> Result<(), NoMemory>
     ensures { OnOk result (string_bytes text.new ≡ string_bytes text.old ++
         word_line (names_of (option_map (λ n. n.now) names.entry)) word.now) }
 {
@@ -95,7 +89,7 @@ fn crowd_text(alloc: Global, words: &Words, names: Option<&Names>) -> Result<Str
     let count = words.len();
     let mut text = count_text(alloc, count)?;
     for word in words.as_slice() {
-        put_word(&mut text, word.as_slice(), names)?;
+        put_word_line(&mut text, word.as_slice(), names)?;
     }
     Ok(text)
 }

@@ -1,8 +1,0 @@
-use Rattle.std.proofs.Common.{◌≡◌, ◌++◌, take, codes, option_map, string_bytes}
-use Rattle.std.specs.List.{flat_map}
-use Rattle.lw_report.specs.Text.{names_of}
-use Rattle.lw_words.specs.Word.{name_at}
-use Rattle.lw_report.proofs.texts.put_names.Given as goal
-
-abbrev pub invariant-loop-letter : goal.invariant-loop-letter
-invariant-loop-letter l = string_bytes l.text ≡ string_bytes l.initial.text ++ flat_map (λ y. codes " " ++ name_at (names_of (option_map (λ n. n.now) l.names)) y) (take l.letter-index l.rest)
