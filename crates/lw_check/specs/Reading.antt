@@ -1,9 +1,9 @@
 -- What the command read: the model file, then the answers file.
 use Rattle.std.specs.Prelude.{◌≡◌, ◌⊎◌, ℕ, ◌≤◌, List, length, Bool, true, false, Option, Some, None}
 use Rattle.lw_words.specs.Cause.{CountedFault}
-use Rattle.lw_json.specs.AnswersFault.{HasAnswersFault}
+use Rattle.lw_json.specs.AnswersFault.{IsAnswersFault}
 use Rattle.lw_json.specs.Formats.{IsAnswersFile, IsMachineFile}
-use Rattle.lw_json.specs.MachineFault.{HasMachineFault}
+use Rattle.lw_json.specs.MachineFault.{IsMachineFault}
 use Rattle.lw_json.specs.declared.files.Machine.{Machine}
 use Rattle.lw_json.specs.declared.files.Answers.{Answers}
 use Rattle.lw_outside.specs.Files.{Call, File, HoldsLong, file_at, longest_file, noted, read_call, FilesState, ReadsFile}
@@ -38,9 +38,9 @@ pub record ReadsPair (model answers : List ℕ) (before now : FilesState) (p : P
 -- why no pair was read
 abbrev pub IsUnread : List ℕ → List ℕ → FilesState → FilesState → Outcome → Type 0
 IsUnread model answers before now (BadFile Model fault) =
-    ReadsBadFile IsMachineFile HasMachineFault model before.holds before.reads now.reads fault × (now.calls ≡ model_read model false before)
+    ReadsBadFile IsMachineFile IsMachineFault model before.holds before.reads now.reads fault × (now.calls ≡ model_read model false before)
 IsUnread model answers before now (BadFile Answered fault) =
-    ((middle : List File) × (m : Machine) × ReadsFile IsMachineFile model before.holds before.reads middle m × ReadsBadFile IsAnswersFile HasAnswersFault answers before.holds middle now.reads fault)
+    ((middle : List File) × (m : Machine) × ReadsFile IsMachineFile model before.holds before.reads middle m × ReadsBadFile IsAnswersFile IsAnswersFault answers before.holds middle now.reads fault)
     × (now.calls ≡ answers_read model answers false before)
 IsUnread model answers before now (FileTooLong Model) = HoldsLong before.holds model × (now.calls ≡ model_read model false before) × (now.reads ≡ before.reads)
 IsUnread model answers before now (FileTooLong Answered) = HoldsLong before.holds answers × (now.calls ≡ answers_read model answers false before) × ReadsModel model before now.reads

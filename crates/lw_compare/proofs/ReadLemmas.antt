@@ -1,7 +1,7 @@
 -- What a model's file that was not read comes to, and what is told of both files.
 use Rattle.std.proofs.Common.{◌≡◌, ◌⊎◌, ⊎_elim, inl, inr, ℕ, ◌<◌, ◌≤◌, List, length, true, false, Option, Some, None, refl, ap, sym, subst, arith}
 use Rattle.lw_words.specs.Cause.{CountedFault}
-use Rattle.lw_json.specs.MachineFault.{HasMachineFault}
+use Rattle.lw_json.specs.MachineFault.{IsMachineFault}
 use Rattle.lw_json.specs.Formats.{IsMachineFile}
 use Rattle.lw_json.specs.declared.files.Machine.{Machine}
 use Rattle.lw_json.specs.declared.fault.JsonFault.{JsonFault}
@@ -51,32 +51,32 @@ module _ (name : List ℕ) where
       told.2
 
 -- what holds of what a stop comes to, and of out of memory after a bad file, holds of the outcome
-by_stop : (P : Outcome → Type 0) (role : Role) (s : ReadStop) (outcome : Outcome) → StandsOrWants (read_outcome role s) outcome → P (read_outcome role s) → ((fault : JsonFault) → s ≡ stop.Bad fault → P NoMemory) → P outcome
+by_stop : (P : Outcome → Type 0) (role : Role) (s : ReadStop JsonFault) (outcome : Outcome) → StandsOrWants (read_outcome role s) outcome → P (read_outcome role s) → ((fault : JsonFault) → s ≡ stop.Bad fault → P NoMemory) → P outcome
 by_stop P role stop.Failed outcome stands here memory = ⊎_elim (λ (e : outcome ≡ FileFault role). subst P (sym e) here) (λ (w : HasOwnText (FileFault role) × (outcome ≡ NoMemory)). absurd w.0) stands
 by_stop P role stop.TooLong outcome stands here memory = ⊎_elim (λ (e : outcome ≡ FileTooLong role). subst P (sym e) here) (λ (w : HasOwnText (FileTooLong role) × (outcome ≡ NoMemory)). absurd w.0) stands
 by_stop P role (stop.Bad fault) outcome stands here memory = ⊎_elim (λ (e : outcome ≡ BadFile role fault). subst P (sym e) here) (λ (w : HasOwnText (BadFile role fault) × (outcome ≡ NoMemory)). subst P (sym w.1) (memory fault refl)) stands
 by_stop P role stop.NoMemory outcome stands here memory = ⊎_elim (λ (e : outcome ≡ NoMemory). subst P (sym e) here) (λ (w : HasOwnText NoMemory × (outcome ≡ NoMemory)). absurd w.0) stands
 
-refused_here : (role : Role) (s : ReadStop) → ComparesNothing (read_outcome role s)
+refused_here : (role : Role) (s : ReadStop JsonFault) → ComparesNothing (read_outcome role s)
 refused_here role stop.Failed = tt
 refused_here role stop.TooLong = tt
 refused_here role (stop.Bad fault) = tt
 refused_here role stop.NoMemory = tt
 
-comes_here : (c : Comparison) (role : Role) (s : ReadStop) → (s ≡ stop.TooLong → ⊥) → ((fault : JsonFault) → s ≡ stop.Bad fault → ⊥) → ComesAs c (read_outcome role s)
+comes_here : (c : Comparison) (role : Role) (s : ReadStop JsonFault) → (s ≡ stop.TooLong → ⊥) → ((fault : JsonFault) → s ≡ stop.Bad fault → ⊥) → ComesAs c (read_outcome role s)
 comes_here c role stop.Failed long bad = inr (inr (inr (role, refl)))
 comes_here c role stop.TooLong long bad = absurd (long refl)
 comes_here c role (stop.Bad fault) long bad = absurd (bad fault refl)
 comes_here c role stop.NoMemory long bad = inr (inl refl)
 
-untroubled_here : (role : Role) (s : ReadStop) → (s ≡ stop.Failed → ⊥) → (s ≡ stop.TooLong → ⊥) → ((fault : JsonFault) → s ≡ stop.Bad fault → ⊥) → IsUntroubled (read_outcome role s)
+untroubled_here : (role : Role) (s : ReadStop JsonFault) → (s ≡ stop.Failed → ⊥) → (s ≡ stop.TooLong → ⊥) → ((fault : JsonFault) → s ≡ stop.Bad fault → ⊥) → IsUntroubled (read_outcome role s)
 untroubled_here role stop.Failed failed long bad = absurd (failed refl)
 untroubled_here role stop.TooLong failed long bad = absurd (long refl)
 untroubled_here role (stop.Bad fault) failed long bad = absurd (bad fault refl)
 untroubled_here role stop.NoMemory failed long bad = tt
 
 module _ (one two : List ℕ) (f g : FilesState) where
-  first_cause : (s : ReadStop) → HasStopped one f g s → IsUnread one two f g (read_outcome Model s)
+  first_cause : (s : ReadStop JsonFault) → HasStopped one f g s → IsUnread one two f g (read_outcome Model s)
   first_cause stop.Failed is = is.failed refl
   first_cause stop.TooLong is = is.long refl
   first_cause (stop.Bad fault) is = is.bad fault refl
@@ -89,7 +89,7 @@ module _ (one two : List ℕ) (f g : FilesState) where
     same_reads : g.reads ≡ middle → ReadsFirst one f g.reads
     same_reads same = (m, subst (λ (r : List File). ReadsFile IsMachineFile one f.holds f.reads r m) (sym same) file)
 
-    second_cause : (s : ReadStop) → HasStopped two h g s → IsUnread one two f g (read_outcome Second s)
+    second_cause : (s : ReadStop JsonFault) → HasStopped two h g s → IsUnread one two f g (read_outcome Second s)
     second_cause stop.Failed is = let e = is.failed refl in (e.0, e.1, same_reads e.2)
     second_cause stop.TooLong is = let e = is.long refl in (e.0, e.1, same_reads e.2)
     second_cause (stop.Bad fault) is = let e = is.bad fault refl in ((middle, m, file, e.0), e.1)
@@ -97,16 +97,16 @@ module _ (one two : List ℕ) (f g : FilesState) where
 
   -- what holds of each stop, and of out of memory in place of a bad file's text, holds of the outcome
   by_stopped : (P : Outcome → Type 0) (was outcome : Outcome) → IsStopped one two f g was → StandsOrWants was outcome
-      → ((s : ReadStop) → HasStopped one f g s → P (read_outcome Model s))
-      → ((s : ReadStop) (middle : List File) (m : Machine) → ReadsFile IsMachineFile one f.holds f.reads middle m → HasStopped two (with_first one middle f) g s → P (read_outcome Second s))
-      → ((s : ReadStop) (fault : JsonFault) → s ≡ stop.Bad fault → HasStopped one f g s → P NoMemory)
-      → ((s : ReadStop) (fault : JsonFault) (middle : List File) (m : Machine) → s ≡ stop.Bad fault → ReadsFile IsMachineFile one f.holds f.reads middle m → HasStopped two (with_first one middle f) g s → P NoMemory)
+      → ((s : ReadStop JsonFault) → HasStopped one f g s → P (read_outcome Model s))
+      → ((s : ReadStop JsonFault) (middle : List File) (m : Machine) → ReadsFile IsMachineFile one f.holds f.reads middle m → HasStopped two (with_first one middle f) g s → P (read_outcome Second s))
+      → ((s : ReadStop JsonFault) (fault : JsonFault) → s ≡ stop.Bad fault → HasStopped one f g s → P NoMemory)
+      → ((s : ReadStop JsonFault) (fault : JsonFault) (middle : List File) (m : Machine) → s ≡ stop.Bad fault → ReadsFile IsMachineFile one f.holds f.reads middle m → HasStopped two (with_first one middle f) g s → P NoMemory)
       → P outcome
   by_stopped P was outcome is stands first second first_bad second_bad =
       ⊎_elim
-      (λ (t : (s : ReadStop) × HasStopped one f g s × (was ≡ read_outcome Model s)).
+      (λ (t : (s : ReadStop JsonFault) × HasStopped one f g s × (was ≡ read_outcome Model s)).
       by_stop P Model t.0 outcome (subst (λ (o : Outcome). StandsOrWants o outcome) t.2 stands) (first t.0 t.1) (λ fault bad. first_bad t.0 fault bad t.1))
-      (λ (t : (s : ReadStop) × (middle : List File) × (m : Machine) × ReadsFile IsMachineFile one f.holds f.reads middle m × HasStopped two (with_first one middle f) g s × (was ≡ read_outcome Second s)).
+      (λ (t : (s : ReadStop JsonFault) × (middle : List File) × (m : Machine) × ReadsFile IsMachineFile one f.holds f.reads middle m × HasStopped two (with_first one middle f) g s × (was ≡ read_outcome Second s)).
       by_stop P Second t.0 outcome (subst (λ (o : Outcome). StandsOrWants o outcome) t.5 stands) (second t.0 t.1 t.2 t.3 t.4) (λ fault bad. second_bad t.0 fault t.1 t.2 bad t.3 t.4))
       is
 

@@ -2,7 +2,7 @@
 use Rattle.std.specs.Prelude.{◌≡◌, ◌⊎◌, ℕ, ◌<◌, ◌≤◌, List, length, Bool, true, false, Option, Some, None}
 use Rattle.lw_words.specs.Cause.{CountedFault}
 use Rattle.lw_json.specs.Formats.{IsMachineFile}
-use Rattle.lw_json.specs.MachineFault.{HasMachineFault}
+use Rattle.lw_json.specs.MachineFault.{IsMachineFault}
 use Rattle.lw_json.specs.declared.files.Machine.{Machine}
 use Rattle.lw_outside.specs.Files.{Call, File, HoldsLong, file_at, longest_file, noted, read_call, FilesState, ReadsFile}
 use Rattle.lw_system.specs.Reading.{ReadsBadFile, TellsBad, TellsFile}
@@ -32,9 +32,9 @@ pub record ReadsModels (one two : List ℕ) (before now : FilesState) (first sec
 -- why they were not read
 abbrev pub IsUnread : List ℕ → List ℕ → FilesState → FilesState → Outcome → Type 0
 IsUnread one two before now (BadFile Model fault) =
-    ReadsBadFile IsMachineFile HasMachineFault one before.holds before.reads now.reads fault × (now.calls ≡ first_read one false before)
+    ReadsBadFile IsMachineFile IsMachineFault one before.holds before.reads now.reads fault × (now.calls ≡ first_read one false before)
 IsUnread one two before now (BadFile Second fault) =
-    ((middle : List File) × (m : Machine) × ReadsFile IsMachineFile one before.holds before.reads middle m × ReadsBadFile IsMachineFile HasMachineFault two before.holds middle now.reads fault)
+    ((middle : List File) × (m : Machine) × ReadsFile IsMachineFile one before.holds before.reads middle m × ReadsBadFile IsMachineFile IsMachineFault two before.holds middle now.reads fault)
     × (now.calls ≡ second_read one two false before)
 IsUnread one two before now (FileTooLong Model) = HoldsLong before.holds one × (now.calls ≡ first_read one false before) × (now.reads ≡ before.reads)
 IsUnread one two before now (FileTooLong Second) = HoldsLong before.holds two × (now.calls ≡ second_read one two false before) × ReadsFirst one before now.reads

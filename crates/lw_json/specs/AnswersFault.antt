@@ -1,5 +1,5 @@
 -- The first fault of an answers file.
-use Rattle.std.specs.Prelude.{◌≡◌, ℕ, List, [], ◌∷◌, Bool, Some, is_some, IsSome, codes}
+use Rattle.std.specs.Prelude.{◌≡◌, ◌≢◌, ℕ, List, [], ◌∷◌, Bool, Some, is_some, IsSome, codes}
 use Rattle.serde_json.specs.Data.{Data}
 use Rattle.lw_words.specs.First.{FailsFirst}
 use Rattle.lw_words.specs.Word.{IsNames, IsWholeKept}
@@ -43,3 +43,7 @@ SaysAnswersFault w NoMemory = Unit {0}
 
 abbrev pub HasAnswersFault : List ℕ → JsonFault → Type 0
 HasAnswersFault bytes fault = HasFault answers_tests SaysAnswers SaysAnswersFault bytes fault
+
+-- bytes that are no answers file have this fault first
+abbrev pub IsAnswersFault : List ℕ → JsonFault → Type 0
+IsAnswersFault bytes fault = HasAnswersFault bytes fault × (fault ≢ NoMemory)

@@ -47,3 +47,7 @@ SaysMachineFault w NoMemory = Unit {0}
 
 abbrev pub HasMachineFault : List ℕ → JsonFault → Type 0
 HasMachineFault bytes fault = HasFault machine_tests SaysMachine SaysMachineFault bytes fault
+
+-- bytes that are no machine file have this fault first
+abbrev pub IsMachineFault : List ℕ → JsonFault → Type 0
+IsMachineFault bytes fault = HasMachineFault bytes fault × (fault ≢ NoMemory)

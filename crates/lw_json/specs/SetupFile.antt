@@ -1,5 +1,5 @@
 -- The grammar of setup files, and their first fault.
-use Rattle.std.specs.Prelude.{◌≡◌, ℕ, ◌++◌, List, [], ◌∷◌, Bool, false, not, ◌&&◌, ◌||◌, length, codes, Option, Some, None, is_some, option_map, option_and_then, nat_lt, if◌then◌else◌}
+use Rattle.std.specs.Prelude.{◌≡◌, ◌≢◌, ℕ, ◌++◌, List, [], ◌∷◌, Bool, false, not, ◌&&◌, ◌||◌, length, codes, Option, Some, None, is_some, option_map, option_and_then, nat_lt, if◌then◌else◌}
 use Rattle.serde_json.specs.Data.{Data}
 use Rattle.serde_json.specs.Find.{as_str, get}
 use Rattle.lw_words.specs.Word.{IsNames}
@@ -105,3 +105,7 @@ SaysSetupFault w NoMemory = Unit {0}
 
 abbrev pub HasSetupFault : List ℕ → JsonFault → Type 0
 HasSetupFault bytes fault = HasFault setup_tests SaysSetup SaysSetupFault bytes fault
+
+-- bytes that are no setup file have this fault first
+abbrev pub IsSetupFault : List ℕ → JsonFault → Type 0
+IsSetupFault bytes fault = HasSetupFault bytes fault × (fault ≢ NoMemory)

@@ -2,10 +2,10 @@
 use Rattle.std.proofs.Common.{◌≡◌, ◌∙◌, ⊎_elim, ℕ, List, [], ◌∷◌, true, false, Option, Some, None, Result, Ok, Err, IfOk, IfErr, length, ◌≤◌, arith, inl, inr, refl, sym, subst}
 use Rattle.lw_words.specs.Cause.{CountedFault}
 use Rattle.lw_words.specs.declared.kept.KeptAnswer.{KeptAnswer}
-use Rattle.lw_json.specs.AnswersFault.{HasAnswersFault}
+use Rattle.lw_json.specs.AnswersFault.{IsAnswersFault}
 use Rattle.lw_json.specs.Formats.{IsAnswersFile, IsMachineFile}
-use Rattle.lw_json.specs.MachineFault.{HasMachineFault}
-use Rattle.lw_json.specs.SetupFile.{HasSetupFault, IsSetupFile}
+use Rattle.lw_json.specs.MachineFault.{IsMachineFault}
+use Rattle.lw_json.specs.SetupFile.{IsSetupFault, IsSetupFile}
 use Rattle.lw_json.specs.declared.files.Answers.{Answers}
 use Rattle.lw_json.specs.declared.fault.JsonFault.{JsonFault}
 use Rattle.lw_json.specs.declared.setup.Setup.TheVariants as setup
@@ -41,7 +41,7 @@ module _ {V : Type 0} (IsFile : List ℕ → V → Type 0) (HasFirst : List ℕ 
     next_then : g.reads ≡ m.reads → IsNext a f.holds f.reads g.reads role name read
     next_then reads = subst (λ (l : List File). IsNext a f.holds f.reads l role name read) (sym reads) next
 
-    pub unread_then : (why : ReadStop) → (read_outcome role why ≡ NoMemory → read ≡ None) → IsNotRead IsFile HasFirst name m g why → IsUnreadBy a f g read kept (read_outcome role why)
+    pub unread_then : (why : ReadStop JsonFault) → (read_outcome role why ≡ NoMemory → read ≡ None) → IsNotRead IsFile HasFirst name m g why → IsUnreadBy a f g read kept (read_outcome role why)
     unread_then (stop.Bad fault) memory unread = (m.reads, name, next, bad fault (subst (λ (h : Option (List File)). ReadsBadFile IsFile HasFirst name h m.reads g.reads fault) same unread.0), made_then f m g [] made unread.1, none)
     unread_then stop.TooLong memory unread = (name, next_then unread.1, subst (λ (h : Option (List File)). HoldsLong h name) same unread.0, made_then f m g (read_call name false ∷ []) made unread.2, none)
     unread_then stop.Failed memory unread = (name, next_then unread.1, subst (λ (n : ℕ). CountedFault n g.faults) quiet unread.0, made_then f m g (read_call name true ∷ []) made unread.2, none)
@@ -75,11 +75,11 @@ module _ (a : LearnValues) (f g : FilesState) (r : Result System SystemStop) (hi
 
     no_table : (m : FilesState) (name : List ℕ) → IsTableNext a.source a.system f.holds f.reads m.reads name → MadeReads f m [] → m.holds ≡ f.holds → m.faults ≡ f.faults → IsNoTable name m g why → IsUnreadBy a f g read kept (unread_outcome why)
     unfolding IsWhy
-    no_table m name next made same quiet none = subst IsWhy (sym none.file) (unread_then IsMachineFile HasMachineFault name a f m g role.Table read (next, none_read) (λ fault x. x) made same quiet kept none_kept why.stop (λ _. none_read) none.unread)
+    no_table m name next made same quiet none = subst IsWhy (sym none.file) (unread_then IsMachineFile IsMachineFault name a f m g role.Table read (next, none_read) (λ fault x. x) made same quiet kept none_kept why.stop (λ _. none_read) none.unread)
 
     no_setup : a.source ≡ source.Setup → IsNoSetup a.system f g why → IsUnreadBy a f g read kept (unread_outcome why)
     unfolding IsWhy
-    no_setup is none = subst IsWhy (sym none.file) (unread_then IsSetupFile HasSetupFault a.system a f f g role.Setup read (is, refl, refl, none_read) (λ fault x. x) (made_none f) refl refl kept none_kept why.stop (λ _. none_read) none.unread)
+    no_setup is none = subst IsWhy (sym none.file) (unread_then IsSetupFile IsSetupFault a.system a f f g role.Setup read (is, refl, refl, none_read) (λ fault x. x) (made_none f) refl refl kept none_kept why.stop (λ _. none_read) none.unread)
 
     no_system : (kind : Source) → a.source ≡ kind → IsNoSystem kind a.system f g why → IsUnreadBy a f g read kept (unread_outcome why)
     no_system source.Table is none = no_table f a.system (table_first a f is) (made_none f) refl refl none
@@ -106,21 +106,21 @@ system_read a f m r s is stage = by (subst (λ (x : Result System UnreadState). 
     by x = (x.ok, x.made, x.same, x.quiet)
 
 -- prior answers that were read
-pub prior_read : (name : List ℕ) (s : System) (f g : FilesState) (r : Result Answers ReadStop) (p : Answers) (result : Result Task UnreadState) → HasRead IsAnswersFile HasAnswersFault name f g r → r ≡ Ok p → IfOk result (IsTaskWith s p) → IfErr result (λ u. IsUnfit s p u.system u.kept u.outcome) → HasPrior name s f g result
+pub prior_read : (name : List ℕ) (s : System) (f g : FilesState) (r : Result Answers (ReadStop JsonFault)) (p : Answers) (result : Result Task UnreadState) → HasRead IsAnswersFile IsAnswersFault name f g r → r ≡ Ok p → IfOk result (IsTaskWith s p) → IfErr result (λ u. IsUnfit s p u.system u.kept u.outcome) → HasPrior name s f g result
 prior_read name s f g r p (Ok t) has is ok err =
-    let read = read_made IsAnswersFile HasAnswersFault name f g r p has is in
+    let read = read_made IsAnswersFile IsAnswersFault name f g r p has is in
     record { ok = (p, read.0, ok); made = read.1; quiet = read.2; err = tt; same = has.same; counts = has.counts }
 prior_read name s f g r p (Err u) has is ok err =
-    let read = read_made IsAnswersFile HasAnswersFault name f g r p has is in
+    let read = read_made IsAnswersFile IsAnswersFault name f g r p has is in
     record { ok = tt; made = tt; quiet = tt; err = inr (p, read.0, read.1, err); same = has.same; counts = has.counts }
 
 -- and that weren't
-pub prior_unread : (name : List ℕ) (s : System) (f g : FilesState) (r : Result Answers ReadStop) (why : ReadStop) (u : UnreadState) → HasRead IsAnswersFile HasAnswersFault name f g r → r ≡ Err why → u.outcome ≡ read_outcome role.Prior why → IsBack (read_outcome role.Prior why) s u.system → u.kept ≡ [] → HasPrior name s f g (Err u)
+pub prior_unread : (name : List ℕ) (s : System) (f g : FilesState) (r : Result Answers (ReadStop JsonFault)) (why : ReadStop JsonFault) (u : UnreadState) → HasRead IsAnswersFile IsAnswersFault name f g r → r ≡ Err why → u.outcome ≡ read_outcome role.Prior why → IsBack (read_outcome role.Prior why) s u.system → u.kept ≡ [] → HasPrior name s f g (Err u)
 prior_unread name s f g r why u has is outcome system kept = record {
   ok = tt;
   made = tt;
   quiet = tt;
-  err = inl (record { stop = why; comes_to = outcome; unread = read_none IsAnswersFile HasAnswersFault name f g r why has is }, subst (λ (o : Outcome). IsBack o s u.system) (sym outcome) system, kept);
+  err = inl (record { stop = why; comes_to = outcome; unread = read_none IsAnswersFile IsAnswersFault name f g r why has is }, subst (λ (o : Outcome). IsBack o s u.system) (sym outcome) system, kept);
   same = has.same;
   counts = has.counts;
 }
@@ -185,16 +185,16 @@ module _ (a : LearnValues) (f m g : FilesState) (s : System) (whole : SaysWhole 
     unfit p read kept was then (FileFault r) is = absurd is
 
     module _ (read : Option System) (kept : List KeptAnswer) (none : kept ≡ []) where
-      behind : (why : ReadStop) → read ≡ Some s → (read_outcome role.Prior why ≡ NoMemory → read ≡ None) → IsNotRead IsAnswersFile HasAnswersFault name m g why → IsUnreadBy a f g read kept (read_outcome role.Prior why)
-      behind why is = unread_then IsAnswersFile HasAnswersFault name a f m g role.Prior read (named, (s, is, whole.says)) (λ fault x. x) made same quiet kept none why
+      behind : (why : ReadStop JsonFault) → read ≡ Some s → (read_outcome role.Prior why ≡ NoMemory → read ≡ None) → IsNotRead IsAnswersFile IsAnswersFault name m g why → IsUnreadBy a f g read kept (read_outcome role.Prior why)
+      behind why is = unread_then IsAnswersFile IsAnswersFault name a f m g role.Prior read (named, (s, is, whole.says)) (λ fault x. x) made same quiet kept none why
 
-      prior_not_read : (why : ReadStop) → IsBack (read_outcome role.Prior why) s read → IsNotRead IsAnswersFile HasAnswersFault name m g why → IsUnreadBy a f g read kept (read_outcome role.Prior why)
+      prior_not_read : (why : ReadStop JsonFault) → IsBack (read_outcome role.Prior why) s read → IsNotRead IsAnswersFile IsAnswersFault name m g why → IsUnreadBy a f g read kept (read_outcome role.Prior why)
       prior_not_read stop.NoMemory back unread = (some_then f m g made unread, none, back)
       prior_not_read (stop.Bad fault) back unread = behind (stop.Bad fault) back (λ h. let wrong : BadFile role.Prior fault ≡ NoMemory = h in absurd (cc)) unread
       prior_not_read stop.TooLong back unread = behind stop.TooLong back (λ h. let wrong : FileTooLong role.Prior ≡ NoMemory = h in absurd (cc)) unread
       prior_not_read stop.Failed back unread = behind stop.Failed back (λ h. let wrong : FileFault role.Prior ≡ NoMemory = h in absurd (cc)) unread
 
-      prior_refused : (outcome : Outcome) → IsRefused IsAnswersFile HasAnswersFault role.Prior name m g outcome → IsBack outcome s read → IsUnreadBy a f g read kept outcome
+      prior_refused : (outcome : Outcome) → IsRefused IsAnswersFile IsAnswersFault role.Prior name m g outcome → IsBack outcome s read → IsUnreadBy a f g read kept outcome
       prior_refused outcome refused back =
           subst (λ (o : Outcome). IsUnreadBy a f g read kept o) (sym refused.comes_to)
           (prior_not_read refused.stop (subst (λ (o : Outcome). IsBack o s read) refused.comes_to back) refused.unread)
@@ -213,7 +213,7 @@ module _ (a : LearnValues) (f m g : FilesState) (s : System) (whole : SaysWhole 
       made = tt;
       quiet = tt;
       err = ⊎_elim
-          (λ (is : IsRefused IsAnswersFile HasAnswersFault role.Prior name m g u.outcome × IsBack u.outcome s u.system × (u.kept ≡ [])).
+          (λ (is : IsRefused IsAnswersFile IsAnswersFault role.Prior name m g u.outcome × IsBack u.outcome s u.system × (u.kept ≡ [])).
           prior_refused u.system u.kept is.2 u.outcome is.0 is.1)
           (λ (is : (p : Answers) × ReadsFile IsAnswersFile name m.holds m.reads g.reads p × MadeReads m g [] × IsUnfit s p u.system u.kept u.outcome).
           unfit is.0 u.system u.kept is.1 is.2 u.outcome is.3)

@@ -11,10 +11,10 @@ use Rattle.lw_wordlist.proofs.WordLemmas.{known_by}
 use Rattle.lw_json.proofs.NoFault.{each_some}
 use Rattle.lw_json.proofs.OneAnswers.{one_answers}
 use Rattle.lw_json.proofs.OneValue.{one_value}
-use Rattle.lw_json.specs.AnswersFault.{HasAnswersFault}
+use Rattle.lw_json.specs.AnswersFault.{IsAnswersFault}
 use Rattle.lw_json.specs.Formats.{IsAnswersFile, IsMachineFile}
-use Rattle.lw_json.specs.MachineFault.{HasMachineFault}
-use Rattle.lw_json.specs.SetupFile.{HasSetupFault, IsSetupFile, SpellsSetup, WrittenSetup, setup_said, table, command}
+use Rattle.lw_json.specs.MachineFault.{IsMachineFault}
+use Rattle.lw_json.specs.SetupFile.{IsSetupFault, IsSetupFile, SpellsSetup, WrittenSetup, setup_said, table, command}
 use Rattle.lw_json.specs.declared.files.Answers.{Answers}
 use Rattle.lw_json.specs.declared.fault.JsonFault.{JsonFault}
 use Rattle.lw_json.specs.declared.files.Machine.{Machine}
@@ -104,7 +104,7 @@ TellsRole role.Kept holds name = ⊥
 table_told : (k : Source) (system : List ℕ) (holds : Option (List File)) (before now : List File) (name : List ℕ) (s : System) → IsTableNext k system holds before now name → TellsSystem k system holds s → (m : Machine) × TellsFile IsMachineFile holds name m
 table_told source.Table system holds before now name s next told = (told.0, subst (λ (n : List ℕ). TellsFile IsMachineFile holds n told.0) (sym next.0) told.1)
 table_told source.Setup system holds before now name s next told =
-    let both = told_same IsSetupFile HasSetupFault system holds before now told.0 (setup.Table name) told.1 next in
+    let both = told_same IsSetupFile IsSetupFault system holds before now told.0 (setup.Table name) told.1 next in
     let said = subst (λ (v : Setup). TellsSetup v holds s) (one_setup both.0 told.0 (setup.Table name) both.1 both.2) told.2 in
     (said.0, said.1)
 
@@ -123,9 +123,9 @@ role_told a holds before now role.Words name read s told next = absurd next
 role_told a holds before now role.Kept name read s told next = absurd next
 
 role_not_bad : (r : Role) (name : List ℕ) (holds : Option (List File)) (now after : List File) (fault : JsonFault) → TellsRole r holds name → ReadsBad r name holds now after fault → ⊥
-role_not_bad role.Setup name holds now after fault told bad = told_not_bad IsSetupFile HasSetupFault name holds now after fault told.0 told.1 bad
-role_not_bad role.Table name holds now after fault told bad = told_not_bad IsMachineFile HasMachineFault name holds now after fault told.0 told.1 bad
-role_not_bad role.Prior name holds now after fault told bad = told_not_bad IsAnswersFile HasAnswersFault name holds now after fault told.0 told.1 bad
+role_not_bad role.Setup name holds now after fault told bad = told_not_bad IsSetupFile IsSetupFault name holds now after fault told.0 told.1 bad
+role_not_bad role.Table name holds now after fault told bad = told_not_bad IsMachineFile IsMachineFault name holds now after fault told.0 told.1 bad
+role_not_bad role.Prior name holds now after fault told bad = told_not_bad IsAnswersFile IsAnswersFault name holds now after fault told.0 told.1 bad
 role_not_bad role.Model name holds now after fault told bad = told
 role_not_bad role.Answers name holds now after fault told bad = told
 role_not_bad role.Second name holds now after fault told bad = told
@@ -133,9 +133,9 @@ role_not_bad role.Words name holds now after fault told bad = told
 role_not_bad role.Kept name holds now after fault told bad = told
 
 role_not_long : (r : Role) (name : List ℕ) (holds : Option (List File)) → TellsRole r holds name → HoldsLong holds name → ⊥
-role_not_long role.Setup name holds told long = told_not_long IsSetupFile HasSetupFault name holds told.0 told.1 long
-role_not_long role.Table name holds told long = told_not_long IsMachineFile HasMachineFault name holds told.0 told.1 long
-role_not_long role.Prior name holds told long = told_not_long IsAnswersFile HasAnswersFault name holds told.0 told.1 long
+role_not_long role.Setup name holds told long = told_not_long IsSetupFile IsSetupFault name holds told.0 told.1 long
+role_not_long role.Table name holds told long = told_not_long IsMachineFile IsMachineFault name holds told.0 told.1 long
+role_not_long role.Prior name holds told long = told_not_long IsAnswersFile IsAnswersFault name holds told.0 told.1 long
 role_not_long role.Model name holds told long = told
 role_not_long role.Answers name holds told long = told
 role_not_long role.Second name holds told long = told
@@ -148,7 +148,7 @@ SameNames s t = (letters_of s ≡ letters_of t) × (declared_of s ≡ declared_o
 
 machines_same : (name : List ℕ) (holds : Option (List File)) (before now : List File) (m n : Machine) (s t : System) → TellsFile IsMachineFile holds name m → s ≡ Table m → ReadsFile IsMachineFile name holds before now n → t ≡ Table n → SameNames s t
 machines_same name holds before now m n s t told s_is read t_is =
-    let both = told_same IsMachineFile HasMachineFault name holds before now m n told read in
+    let both = told_same IsMachineFile IsMachineFault name holds before now m n told read in
     let same = one_value both.0 m n both.1 both.2 in (
       ap (λ (x : System). letters_of x) s_is ∙ (same.inputs ∙ ap (λ (x : System). letters_of x) (sym t_is)),
       ap (λ (x : System). declared_of x) s_is ∙ (ap (λ (x : List (List ℕ)). Some x) same.outputs ∙ ap (λ (x : System). declared_of x) (sym t_is)),
@@ -161,7 +161,7 @@ said_same (setup.Command c) holds before now s t told read = let same : s ≡ t 
 systems_same : (k : Source) (system : List ℕ) (holds : Option (List File)) (before now : List File) (s t : System) → TellsSystem k system holds s → ReadsSystem k system holds before now t → SameNames s t
 systems_same source.Table system holds before now s t told read = machines_same system holds before now told.0 read.0 s t told.1 told.2 read.1 read.2
 systems_same source.Setup system holds before now s t told read =
-    let both = told_same IsSetupFile HasSetupFault system holds before read.0 told.0 read.1 told.1 read.2 in
+    let both = told_same IsSetupFile IsSetupFault system holds before read.0 told.0 read.1 told.1 read.2 in
     said_same read.1 holds read.0 now s t (subst (λ (v : Setup). TellsSetup v holds s) (one_setup both.0 told.0 read.1 both.1 both.2) told.2) read.3
 
 fits_same : (p q : Answers) (s t : System) → p.inputs ≡ q.inputs → p.outputs ≡ q.outputs → SameNames s t → FitsSystem p s → FitsSystem q t
@@ -181,7 +181,7 @@ taken_by a f g read kept s told quiet (FileFault r) is = absurd (quiet is.2)
 taken_by a f g read kept s told quiet (Alphabets r) is =
     let why = is.1 in
     let said = subst (λ (o : Option (List ℕ)). TellsPrior o f.holds s) why.4.0 told.prior in
-    let both = told_same IsAnswersFile HasAnswersFault why.1 f.holds why.0 g.reads said.0 why.3 said.1 why.6 in
+    let both = told_same IsAnswersFile IsAnswersFault why.1 f.holds why.0 g.reads said.0 why.3 said.1 why.6 in
     let same = one_answers both.0 said.0 why.3 both.1 both.2 in
     let here : why.4.1.0 ≡ why.2 = some_same why.4.1.0 why.2 (sym why.4.1.1 ∙ why.5) in
     let was = subst (λ (t : System). ReadsSystem a.source a.system f.holds f.reads why.0 t) here why.4.1.2 in
@@ -300,8 +300,8 @@ told_is_learned a f g b z o p e d end s told quiet ended = ⊎_elim unread wordl
         by.told
 
 system_not_bad : (k : Source) (name : List ℕ) (holds : Option (List File)) (before now : List File) (t : System) → TellsNoSystem k name holds → ReadsSystem k name holds before now t → ⊥
-system_not_bad source.Table name holds before now t told read = bad_not_read IsMachineFile HasMachineFault name holds before now read.0 told read.1
-system_not_bad source.Setup name holds before now t told read = bad_not_read IsSetupFile HasSetupFault name holds before read.0 read.1 told read.2
+system_not_bad source.Table name holds before now t told read = bad_not_read IsMachineFile IsMachineFault name holds before now read.0 told read.1
+system_not_bad source.Setup name holds before now t told read = bad_not_read IsSetupFile IsSetupFault name holds before read.0 read.1 told read.2
 
 pub bad_is_refused : BadIsRefused
 bad_is_refused a f g b z o p e d end told ended = system_not_bad a.source a.system f.holds f.reads ended.task.between ended.task.read told ended.task.system

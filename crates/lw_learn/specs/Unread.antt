@@ -4,10 +4,10 @@ use Rattle.lw_words.specs.Word.{answers_of}
 use Rattle.lw_words.specs.Cause.{CountedFault}
 use Rattle.lw_words.specs.declared.kept.KeptAnswer.{KeptAnswer}
 use Rattle.lw_names.specs.Naming.{Naming}
-use Rattle.lw_json.specs.AnswersFault.{HasAnswersFault}
+use Rattle.lw_json.specs.AnswersFault.{IsAnswersFault}
 use Rattle.lw_json.specs.Formats.{IsAnswersFile, IsMachineFile}
-use Rattle.lw_json.specs.MachineFault.{HasMachineFault}
-use Rattle.lw_json.specs.SetupFile.{HasSetupFault, IsSetupFile}
+use Rattle.lw_json.specs.MachineFault.{IsMachineFault}
+use Rattle.lw_json.specs.SetupFile.{IsSetupFault, IsSetupFile}
 use Rattle.lw_json.specs.declared.files.Answers.{Answers}
 use Rattle.lw_json.specs.declared.fault.JsonFault.{JsonFault}
 use Rattle.lw_json.specs.declared.setup.Setup.TheVariants as setup
@@ -44,9 +44,9 @@ IsNext a holds before now role.Kept name read = ⊥
 
 -- the bytes that were read of the file in a role have this first fault
 abbrev pub ReadsBad : Role → List ℕ → Option (List File) → List File → List File → JsonFault → Type 0
-ReadsBad role.Setup name holds before after fault = ReadsBadFile IsSetupFile HasSetupFault name holds before after fault
-ReadsBad role.Table name holds before after fault = ReadsBadFile IsMachineFile HasMachineFault name holds before after fault
-ReadsBad role.Prior name holds before after fault = ReadsBadFile IsAnswersFile HasAnswersFault name holds before after fault
+ReadsBad role.Setup name holds before after fault = ReadsBadFile IsSetupFile IsSetupFault name holds before after fault
+ReadsBad role.Table name holds before after fault = ReadsBadFile IsMachineFile IsMachineFault name holds before after fault
+ReadsBad role.Prior name holds before after fault = ReadsBadFile IsAnswersFile IsAnswersFault name holds before after fault
 ReadsBad role.Model name holds before after fault = ⊥
 ReadsBad role.Answers name holds before after fault = ⊥
 ReadsBad role.Second name holds before after fault = ⊥

@@ -16,7 +16,7 @@ ghost use Rattle.lw_learn.specs.bodies.Stages.{HasPrior, IsBack, IsClash, IsStag
 use crate::LearnArguments;
 use crate::task::Task;
 use lw_cache::Cache;
-use lw_json::{Answers, Command};
+use lw_json::{Answers, Command, JsonFault};
 use lw_log::Log;
 use lw_names::OutNames;
 use lw_outside::{Files, LogFile};
@@ -213,7 +213,7 @@ fn with_answers(alloc: Global, system: System, answers: Answers) -> Result<Task,
 }
 
 /// Why prior answers of a system weren't read. The system is handed back, but where memory ran out.
-fn unread_prior(alloc: Global, system: System, stop: ReadStop) -> Unread
+fn unread_prior(alloc: Global, system: System, stop: ReadStop<JsonFault>) -> Unread
     ensures outcome { result.outcome ≡ read_outcome PriorRole stop }
     ensures system { IsBack (read_outcome PriorRole stop) system result.system }
     ensures kept { result.kept ≡ [] }

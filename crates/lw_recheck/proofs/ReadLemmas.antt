@@ -2,7 +2,7 @@
 use Rattle.std.proofs.Common.{◌≡◌, ◌∙◌, ℕ, List, [], Option, Some, None, Result, Ok, Err, IfErr, IfOk, inl, inr, sym, subst, arith}
 use Rattle.std.specs.List.{All, Contains}
 use Rattle.std.proofs.lemmas.List.Elements.{All-contains_itself}
-use Rattle.lw_json.specs.AnswersFault.{HasAnswersFault}
+use Rattle.lw_json.specs.AnswersFault.{IsAnswersFault}
 use Rattle.lw_json.specs.Formats.{IsAnswersFile}
 use Rattle.lw_json.specs.declared.files.Answers.{Answers}
 use Rattle.lw_outside.specs.Files.{File, FilesState, ReadsFile}
@@ -11,6 +11,7 @@ use Rattle.lw_report.specs.Stops.{read_outcome, unread_outcome}
 use Rattle.lw_report.specs.declared.outcome.Outcome.{Outcome}
 use Rattle.lw_report.specs.declared.outcome.Outcome.TheVariants.{Alphabets}
 use Rattle.lw_report.specs.declared.role.Role.TheVariants as role
+use Rattle.lw_json.specs.declared.fault.JsonFault.{JsonFault}
 use Rattle.lw_system.specs.declared.stops.ReadStop.{ReadStop}
 use Rattle.lw_system.specs.Systems.{FitsSystem, ReadsSystem, declared_of, letters_of, or_these}
 use Rattle.lw_system.specs.declared.source.Source.TheVariants as source
@@ -56,8 +57,8 @@ module _ (setup answers : List ℕ) (f m : FilesState) (r : Result System System
       by h = record { reads = h.ok; made = h.made; quiet = h.quiet; same = h.same }
 
 -- the answers file
-module _ (setup answers : List ℕ) (f m g : FilesState) (s : System) (first : IsBehind setup f m s) (r : Result Answers ReadStop) (has : HasRead IsAnswersFile HasAnswersFault answers m g r) where
-  pub unread_answers : (why : ReadStop) (outcome : Outcome) → r ≡ Err why → outcome ≡ read_outcome role.Prior why → HasReadBoth setup answers f g (Err outcome)
+module _ (setup answers : List ℕ) (f m g : FilesState) (s : System) (first : IsBehind setup f m s) (r : Result Answers (ReadStop JsonFault)) (has : HasRead IsAnswersFile IsAnswersFault answers m g r) where
+  pub unread_answers : (why : ReadStop JsonFault) (outcome : Outcome) → r ≡ Err why → outcome ≡ read_outcome role.Prior why → HasReadBoth setup answers f g (Err outcome)
   unread_answers why outcome is came = record {
     ok = tt;
     made = tt;
@@ -66,7 +67,7 @@ module _ (setup answers : List ℕ) (f m g : FilesState) (s : System) (first : I
       between = m;
       system = s;
       behind = first;
-      refused = record { stop = why; comes_to = came; unread = read_none IsAnswersFile HasAnswersFault answers m g r why has is };
+      refused = record { stop = why; comes_to = came; unread = read_none IsAnswersFile IsAnswersFault answers m g r why has is };
     }));
     same = has.same ∙ first.same;
     counts = omega (arith, first.quiet, has.counts);
@@ -74,7 +75,7 @@ module _ (setup answers : List ℕ) (f m g : FilesState) (s : System) (first : I
 
   pub both_read : (p : Answers) → r ≡ Ok p → (w : Result Task Outcome) → IfOk w (λ t. (t.system ≡ s) × (t.answers ≡ p) × FitsSystem p s) → IfErr w (λ o. (o ≡ Alphabets role.Prior) × ¬ FitsSystem p s) → HasReadBoth setup answers f g w
   both_read p is (Ok t) fits unfit =
-      let read = read_made IsAnswersFile HasAnswersFault answers m g r p has is in
+      let read = read_made IsAnswersFile IsAnswersFault answers m g r p has is in
       let file : ReadsFile IsAnswersFile answers f.holds m.reads g.reads p = subst (λ (h : Option (List File)). ReadsFile IsAnswersFile answers h m.reads g.reads p) first.same read.0 in
       record {
         ok = record {
@@ -90,7 +91,7 @@ module _ (setup answers : List ℕ) (f m g : FilesState) (s : System) (first : I
         counts = omega (arith, first.quiet, has.counts);
       }
   both_read p is (Err outcome) fits unfit =
-      let read = read_made IsAnswersFile HasAnswersFault answers m g r p has is in
+      let read = read_made IsAnswersFile IsAnswersFault answers m g r p has is in
       record {
         ok = tt;
         made = tt;

@@ -10,6 +10,7 @@ use Rattle.lw_report.specs.declared.outcome.Outcome.TheVariants.{Alphabets, BadF
 use Rattle.lw_report.specs.Stops.{read_outcome, role_of}
 use Rattle.lw_report.specs.declared.role.Role.{Role}
 use Rattle.lw_report.specs.declared.role.Role.TheVariants as role
+use Rattle.lw_json.specs.declared.fault.JsonFault.{JsonFault}
 use Rattle.lw_system.specs.declared.stops.ReadStop.{ReadStop}
 use Rattle.lw_system.specs.declared.stops.ReadStop.TheVariants as stop
 use Rattle.lw_recheck.specs.Arguments.{RecheckValues}
@@ -20,7 +21,7 @@ use Rattle.lw_recheck.specs.declared.reading.Task.{Task}
 use Rattle.std.proofs.Common.{None}
 
 -- a file that wasn't read doesn't come to a start that failed
-not_unstarted : (role : Role) (why : ReadStop) (cause : StartFailure) → ¬ (Unstarted cause ≡ read_outcome role why)
+not_unstarted : (role : Role) (why : ReadStop JsonFault) (cause : StartFailure) → ¬ (Unstarted cause ≡ read_outcome role why)
 not_unstarted role stop.Failed cause is = let wrong : Unstarted cause ≡ FileFault role = is in absurd (cc)
 not_unstarted role stop.TooLong cause is = let wrong : Unstarted cause ≡ FileTooLong role = is in absurd (cc)
 not_unstarted role (stop.Bad fault) cause is = let wrong : Unstarted cause ≡ BadFile role fault = is in absurd (cc)

@@ -1,6 +1,6 @@
 -- The reading of a setup, of the table file that it names, and of the answers that are asked again.
 use Rattle.std.specs.Prelude.{◌≡◌, ◌⊎◌, ℕ, ◌≤◌, List, [], Option, Result, IfOk, IfErr, OnOk}
-use Rattle.lw_json.specs.AnswersFault.{HasAnswersFault}
+use Rattle.lw_json.specs.AnswersFault.{IsAnswersFault}
 use Rattle.lw_json.specs.Formats.{IsAnswersFile}
 use Rattle.lw_json.specs.declared.files.Answers.{Answers}
 use Rattle.lw_outside.specs.Files.{File, FilesState, ReadsFile}
@@ -35,7 +35,7 @@ pub record HasNoAnswers (setup answers : List ℕ) (files_before files_now : Fil
   pub between : FilesState
   pub system : System
   pub behind : IsBehind setup files_before between system
-  pub refused : IsRefused IsAnswersFile HasAnswersFault role.Prior answers between files_now outcome
+  pub refused : IsRefused IsAnswersFile IsAnswersFault role.Prior answers between files_now outcome
 
 -- both were read, and the names of the answers aren't the system's
 pub record HasOtherNames (setup answers : List ℕ) (files_before files_now : FilesState) (outcome : Outcome) : Type 0 where

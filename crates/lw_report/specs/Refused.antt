@@ -10,6 +10,6 @@ use Rattle.lw_report.specs.declared.role.Role.{Role}
 
 -- the file in a role wasn't read, which comes to the outcome
 pub record IsRefused {V : Type 0} (IsFile : List ℕ → V → Type 0) (HasFirst : List ℕ → JsonFault → Type 0) (role : Role) (name : List ℕ) (files_before files_now : FilesState) (outcome : Outcome) : Type 0 where
-  pub stop : ReadStop
+  pub stop : ReadStop JsonFault
   pub comes_to : outcome ≡ read_outcome role stop
   pub unread : IsNotRead IsFile HasFirst name files_before files_now stop

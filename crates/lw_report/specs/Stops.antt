@@ -4,6 +4,7 @@ use Rattle.lw_outside.specs.declared.links.StartStop.{StartStop}
 use Rattle.lw_outside.specs.declared.links.StartStop.TheVariants as start
 use Rattle.lw_system.specs.declared.source.Source.{Source}
 use Rattle.lw_system.specs.declared.source.Source.TheVariants as source
+use Rattle.lw_json.specs.declared.fault.JsonFault.{JsonFault}
 use Rattle.lw_system.specs.declared.stops.ReadStop.{ReadStop}
 use Rattle.lw_system.specs.declared.stops.ReadStop.TheVariants.{Failed, TooLong, Bad, NoMemory as NoMemoryToRead}
 use Rattle.lw_system.specs.declared.stops.SystemStop.{SystemStop}
@@ -15,7 +16,7 @@ use Rattle.lw_report.specs.declared.outcome.Outcome.{Outcome}
 use Rattle.lw_report.specs.declared.outcome.Outcome.TheVariants.{BadFile, FileTooLong, NoMemory, FileFault, SinkFault, Unstarted}
 
 -- what a file in this role that was not read comes to
-abbrev pub read_outcome : Role → ReadStop → Outcome
+abbrev pub read_outcome : Role → ReadStop JsonFault → Outcome
 read_outcome role Failed = FileFault role
 read_outcome role TooLong = FileTooLong role
 read_outcome role (Bad fault) = BadFile role fault

@@ -6,6 +6,7 @@ ghost use Rattle.lw_report.specs.Stops.{read_outcome, role_of, start_outcome, un
 
 use crate::{Outcome, Role};
 use lw_cache::AskStop;
+use lw_json::JsonFault;
 use lw_outside::{Failed, Spawner, StartStop};
 use lw_rounds::LearnStop;
 use lw_system::{ReadStop, Source, SystemStop};
@@ -22,7 +23,7 @@ pub enum TellStop {
 }
 
 /// What a file in this role comes to that was not read.
-pub fn read_outcome(stop: ReadStop, role: Role) -> Outcome
+pub fn read_outcome(stop: ReadStop<JsonFault>, role: Role) -> Outcome
     ensures { result ≡ read_outcome role stop }
 {
     match stop {

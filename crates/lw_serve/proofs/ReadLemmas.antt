@@ -2,7 +2,7 @@
 use Rattle.std.proofs.Common.{◌≡◌, ℕ, ◌<◌, List, [], ◌∷◌, ◌++◌, length, true, false, Option, Some, None, sym, ◌∙◌, ap, subst, arith, length-append}
 use Rattle.std.proofs.lemmas.List.{append_cancel_left}
 use Rattle.lw_json.specs.Formats.{IsMachineFile}
-use Rattle.lw_json.specs.MachineFault.{HasMachineFault}
+use Rattle.lw_json.specs.MachineFault.{IsMachineFault}
 use Rattle.lw_json.specs.declared.fault.JsonFault.{JsonFault}
 use Rattle.lw_json.specs.declared.files.Machine.{Machine}
 use Rattle.lw_outside.specs.Files.{Call, File, Holds, HoldsLong, file_at, longest_file, noted, read_call, ReadsFile}
@@ -47,7 +47,7 @@ module _ (holds : Option (List File)) (before now : List File) (name : List ℕ)
       let e = told_is_read holds name told.0 r.bytes told.1 r.read.held in
       omega (arith, told.2, r.read.short, ap (λ (l : List ℕ). length l) e)
 
-  pub long_not_bad : (fault : JsonFault) → TellsLong holds name → ReadsBadFile IsMachineFile HasMachineFault name holds before now fault → ⊥
+  pub long_not_bad : (fault : JsonFault) → TellsLong holds name → ReadsBadFile IsMachineFile IsMachineFault name holds before now fault → ⊥
   long_not_bad fault told r =
       let e = told_is_read holds name told.0 r.bytes told.1 r.read.held in
       omega (arith, told.2, r.read.short, ap (λ (l : List ℕ). length l) e)
@@ -55,7 +55,7 @@ module _ (holds : Option (List File)) (before now : List File) (name : List ℕ)
   pub bad_not_read : (m : Machine) → TellsNoMachine holds name → ReadsFile IsMachineFile name holds before now m → ⊥
   bad_not_read m told r = told.2 m (subst (λ (b : List ℕ). IsMachineFile b m) (sym (told_is_read holds name told.0 r.bytes told.1 r.read.held)) r.file)
 
-  pub machine_not_bad : (fault : JsonFault) → TellsMachine holds name → ReadsBadFile IsMachineFile HasMachineFault name holds before now fault → ⊥
+  pub machine_not_bad : (fault : JsonFault) → TellsMachine holds name → ReadsBadFile IsMachineFile IsMachineFault name holds before now fault → ⊥
   machine_not_bad fault told r = r.bad told.3.0 (subst (λ (b : List ℕ). IsMachineFile b told.3.0) (told_is_read holds name told.0 r.bytes told.1 r.read.held) told.3.1)
 
 pub machine_not_long : (holds : Option (List File)) (name : List ℕ) → TellsMachine holds name → HoldsLong holds name → ⊥

@@ -11,6 +11,7 @@ use Rattle.lw_report.specs.Stops.{read_outcome}
 use Rattle.lw_report.specs.Writing.{TakesAll, TakesSome, said_text}
 use Rattle.lw_report.specs.declared.«end».End.{End}
 use Rattle.lw_report.specs.declared.role.Role.TheVariants.{Model}
+use Rattle.lw_json.specs.declared.fault.JsonFault.{JsonFault}
 use Rattle.lw_system.specs.declared.stops.ReadStop.{ReadStop}
 use Rattle.lw_serve.specs.ServeRun.{IsServeRun}
 use Rattle.lw_serve.specs.bodies.Served.{HasServed}
@@ -28,7 +29,7 @@ pub record IsBareEnd (e d : SinkState) (end : End) : Type 0 where
   pub part : TakesSome (said_text None None [] 0 end.outcome) e.taken d.taken
 
 -- a call that read no machine
-pub unread_run : (model : List ℕ) (f g : FilesState) (i : SourceState) (o e d : SinkState) (end : End) (s : ReadStop) → HasStopped model f g s → g.holds ≡ f.holds → (g.reads ≡ f.reads) ⊎ ((bytes : List ℕ) × WasRead f.holds f.reads g.reads model bytes)
+pub unread_run : (model : List ℕ) (f g : FilesState) (i : SourceState) (o e d : SinkState) (end : End) (s : ReadStop JsonFault) → HasStopped model f g s → g.holds ≡ f.holds → (g.reads ≡ f.reads) ⊎ ((bytes : List ℕ) × WasRead f.holds f.reads g.reads model bytes)
     → StandsOrWants (read_outcome Model s) end.outcome → IsBareEnd e d end → IsServeRun model f g i i o o e d end
 unread_run model f g i o e d end s is holds reads stands bare = record {
   no_model = bare.model;

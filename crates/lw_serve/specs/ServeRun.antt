@@ -2,7 +2,7 @@
 use Rattle.std.specs.Prelude.{◌≡◌, ◌⊎◌, ℕ, List, [], None}
 use Rattle.lw_words.specs.Cause.{CountedFault}
 use Rattle.lw_json.specs.Formats.{IsMachineFile}
-use Rattle.lw_json.specs.MachineFault.{HasMachineFault}
+use Rattle.lw_json.specs.MachineFault.{IsMachineFault}
 use Rattle.lw_json.specs.declared.fault.JsonFault.{JsonFault}
 use Rattle.lw_json.specs.declared.files.Machine.{Machine}
 use Rattle.lw_outside.specs.Files.{HoldsLong, FilesState, ReadsFile, WasRead}
@@ -47,7 +47,7 @@ pub record IsServeRun (model : List ℕ) (files_before files_now : FilesState) (
   pub said_part : TakesSome (said_text None None [] 0 end.outcome) err_before.taken err_now.taken
   -- what each refusal of the file comes from
   pub bad_file : (role : Role) (fault : JsonFault) → end.outcome ≡ BadFile role fault →
-      (role ≡ Model) × ReadsBadFile IsMachineFile HasMachineFault model files_before.holds files_before.reads files_now.reads
+      (role ≡ Model) × ReadsBadFile IsMachineFile IsMachineFault model files_before.holds files_before.reads files_now.reads
       fault
   pub bad_file_told : TellsNoMachine files_before.holds model → IsUnread end.outcome
   pub too_long : (role : Role) → end.outcome ≡ FileTooLong role → (role ≡ Model) ×

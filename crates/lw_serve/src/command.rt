@@ -10,7 +10,7 @@ ghost use Rattle.lw_serve.specs.Outcomes.{served_outcome};
 ghost use Rattle.lw_serve.specs.ServeRun.{IsServeRun};
 ghost use Rattle.lw_serve.specs.bodies.Served.{HasServed};
 
-use lw_json::Machine;
+use lw_json::{JsonFault, Machine};
 use lw_line::{ServeFault, Served};
 use lw_outside::{Files, Sink, Source};
 use lw_report::{End, Outcome, Role, UNSAID, read_outcome, refuse};
@@ -31,7 +31,7 @@ fn played_outcome(served: Result<Served, ServeFault>) -> Outcome
 }
 
 /// The end of a call that read no machine.
-fn refuse_model<E: Sink>(alloc: Global, stop: ReadStop, err: &mut E) -> End
+fn refuse_model<E: Sink>(alloc: Global, stop: ReadStop<JsonFault>, err: &mut E) -> End
     ensures outcome { StandsOrWants (read_outcome ModelRole stop) result.outcome }
     ensures status { result.status ≡ status_of result.outcome }
     ensures model { result.model ≡ None }

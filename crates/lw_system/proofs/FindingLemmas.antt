@@ -1,8 +1,8 @@
 -- The reading of a setup or a table.
 use Rattle.std.proofs.Common.{◌≡◌, ◌∙◌, ℕ, List, [], ◌∷◌, ◌++◌, Option, Result, Ok, Err, inl, inr, refl, ap, sym, subst, arith, append_assoc, append-nil}
-use Rattle.lw_json.specs.MachineFault.{HasMachineFault}
+use Rattle.lw_json.specs.MachineFault.{IsMachineFault}
 use Rattle.lw_json.specs.Formats.{IsMachineFile}
-use Rattle.lw_json.specs.SetupFile.{HasSetupFault, IsSetupFile}
+use Rattle.lw_json.specs.SetupFile.{IsSetupFault, IsSetupFile}
 use Rattle.lw_json.specs.declared.files.Machine.{Machine}
 use Rattle.lw_json.specs.declared.setup.Command.{Command}
 use Rattle.lw_json.specs.declared.setup.Setup.{Setup}
@@ -15,6 +15,7 @@ use Rattle.lw_system.specs.SetupHint.{TellsHint}
 use Rattle.lw_system.specs.Systems.{SaysSystem}
 use Rattle.lw_system.specs.bodies.Found.{HasReadMachine, HasReadSaid}
 use Rattle.lw_system.specs.declared.source.Source.TheVariants as source
+use Rattle.lw_json.specs.declared.fault.JsonFault.{JsonFault}
 use Rattle.lw_system.specs.declared.stops.ReadStop.{ReadStop}
 use Rattle.lw_system.specs.declared.stops.SystemStop.{SystemStop}
 use Rattle.lw_system.specs.declared.system.System.{System}
@@ -22,19 +23,19 @@ use Rattle.lw_system.specs.declared.system.System.TheVariants.{Table, Children}
 use Rattle.lw_system.proofs.ReadsLemmas.{made_none, made_then, read_made, read_none, some_reads}
 
 -- a table file
-module _ (name : List ℕ) (f g : FilesState) (r : Result Machine ReadStop) (has : HasRead IsMachineFile HasMachineFault name f g r) where
+module _ (name : List ℕ) (f g : FilesState) (r : Result Machine (ReadStop JsonFault)) (has : HasRead IsMachineFile IsMachineFault name f g r) where
   grown : (more : List File) × (g.reads ≡ f.reads ++ more)
-  grown = some_reads IsMachineFile HasMachineFault name f g has.reads
+  grown = some_reads IsMachineFile IsMachineFault name f g has.reads
 
   pub machine_read : (m : Machine) → r ≡ Ok m → HasReadMachine name f g (Ok (Table m))
-  machine_read m is = let read = read_made IsMachineFile HasMachineFault name f g r m has is in record { ok = (m, read.0, refl); made = read.1; quiet = read.2; err = tt; grown = grown; same = has.same; counts = has.counts }
+  machine_read m is = let read = read_made IsMachineFile IsMachineFault name f g r m has is in record { ok = (m, read.0, refl); made = read.1; quiet = read.2; err = tt; grown = grown; same = has.same; counts = has.counts }
 
-  pub machine_unread : (why : ReadStop) → r ≡ Err why → HasReadMachine name f g (Err (record { file = source.Table; stop = why }))
+  pub machine_unread : (why : ReadStop JsonFault) → r ≡ Err why → HasReadMachine name f g (Err (record { file = source.Table; stop = why }))
   machine_unread why is = record {
     ok = tt;
     made = tt;
     quiet = tt;
-    err = record { file = refl; unread = read_none IsMachineFile HasMachineFault name f g r why has is };
+    err = record { file = refl; unread = read_none IsMachineFile IsMachineFault name f g r why has is };
     grown = grown;
     same = has.same;
     counts = has.counts;
@@ -72,10 +73,10 @@ told_then name before mid after hint tells more = record {
 }
 
 -- a setup file
-module _ (name : List ℕ) (f m : FilesState) (r : Result Setup ReadStop) (has : HasRead IsSetupFile HasSetupFault name f m r) where
+module _ (name : List ℕ) (f m : FilesState) (r : Result Setup (ReadStop JsonFault)) (has : HasRead IsSetupFile IsSetupFault name f m r) where
   module _ (g : FilesState) (v : Setup) (is : r ≡ Ok v) (hint : List ℕ) (tells : TellsHint name f.reads m.reads hint) where
     was_read : ReadsFile IsSetupFile name f.holds f.reads m.reads v × MadeReads f m [] × (m.faults ≡ f.faults)
-    was_read = read_made IsSetupFile HasSetupFault name f m r v has is
+    was_read = read_made IsSetupFile IsSetupFault name f m r v has is
 
     no_table : (table : List ℕ) (why : SystemStop) → v ≡ setup.Table table → IsNoTable table m g why → NamesNoTable name f g why
     no_table table why names refused = record {
@@ -111,9 +112,9 @@ module _ (name : List ℕ) (f m : FilesState) (r : Result Setup ReadStop) (has :
         }
 
   -- which is refused
-  pub setup_unfound : (why : ReadStop) (hint : List ℕ) → r ≡ Err why → hint ≡ [] → HasFound source.Setup name f m (Err (record { file = source.Setup; stop = why })) hint
+  pub setup_unfound : (why : ReadStop JsonFault) (hint : List ℕ) → r ≡ Err why → hint ≡ [] → HasFound source.Setup name f m (Err (record { file = source.Setup; stop = why })) hint
   setup_unfound why hint is none =
-      let refused : IsNoSetup name f m (record { file = source.Setup; stop = why }) = record { file = refl; unread = read_none IsSetupFile HasSetupFault name f m r why has is } in
+      let refused : IsNoSetup name f m (record { file = source.Setup; stop = why }) = record { file = refl; unread = read_none IsSetupFile IsSetupFault name f m r why has is } in
       record {
         read = record { ok = tt; made = tt; quiet = tt; err = inl refused; same = has.same; counts = has.counts };
         told = tt;
@@ -122,4 +123,4 @@ module _ (name : List ℕ) (f m : FilesState) (r : Result Setup ReadStop) (has :
 
   -- whatever it says
   pub file_of : (v : Setup) → r ≡ Ok v → (bytes : List ℕ) × IsSetupFile bytes v
-  file_of v is = let read = (read_made IsSetupFile HasSetupFault name f m r v has is).0 in (read.bytes, read.file)
+  file_of v is = let read = (read_made IsSetupFile IsSetupFault name f m r v has is).0 in (read.bytes, read.file)

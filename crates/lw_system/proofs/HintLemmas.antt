@@ -6,10 +6,11 @@ use Rattle.lw_outside.specs.Files.{File}
 use Rattle.lw_json.specs.Hint.{hint_of}
 use Rattle.lw_system.specs.SetupHint.{TellsHint}
 use Rattle.lw_json.specs.declared.hint.SetupFile.{SetupFile}
+use Rattle.lw_json.specs.declared.fault.JsonFault.{JsonFault}
 use Rattle.lw_system.specs.declared.stops.ReadStop.{ReadStop}
 
 -- of the bytes that one read gave
-pub tells_hint : (name bytes seen : List ℕ) (before after : List File) (r : Result SetupFile ReadStop) → after ≡ before ++ (name, bytes) ∷ [] → seen ≡ bytes → ((d : Data) → IsJson seen d → IfOk r (λ file. file.hint.items ≡ hint_of d)) → IfOk r (λ file. TellsHint name before after file.hint.items)
+pub tells_hint : (name bytes seen : List ℕ) (before after : List File) (r : Result SetupFile (ReadStop JsonFault)) → after ≡ before ++ (name, bytes) ∷ [] → seen ≡ bytes → ((d : Data) → IsJson seen d → IfOk r (λ file. file.hint.items ≡ hint_of d)) → IfOk r (λ file. TellsHint name before after file.hint.items)
 tells_hint name bytes seen before after (Ok file) given same has = record {
   bytes = bytes;
   rest = [];

@@ -1,6 +1,5 @@
 -- Files that are read: their value, their fault, or why they were not read.
-use Rattle.std.proofs.Common.{◌≡◌, ◌≢◌, List, ℕ, ◌≤◌, Bool, true, false, Err, Result, inr, refl, ap, subst, sym, ◌∙◌}
-use Rattle.std.proofs.lemmas.Bool.{false≢true}
+use Rattle.std.proofs.Common.{◌≡◌, ◌≢◌, List, ℕ, ◌≤◌, false, Err, Result, inr, subst}
 use Rattle.lw_json.proofs.FilesNoFault.{all_answers, machines, setups}
 use Rattle.lw_json.specs.Formats.{IsAnswersFile, IsMachineFile}
 use Rattle.lw_json.specs.AnswersFault.{HasAnswersFault}
@@ -17,19 +16,7 @@ use Rattle.lw_system.specs.Stops.{read_stop}
 use Rattle.lw_system.specs.declared.stops.ReadStop.{ReadStop}
 use Rattle.lw_system.specs.declared.stops.ReadStop.TheVariants.{Bad, Failed, TooLong, NoMemory as NoMemoryToRead}
 
--- a fault that is told is the reader's own, and not out of memory
-pub told_fault : (own told : JsonFault) → read_stop own ≡ Bad told → (own ≡ told) × (told ≢ NoMemory)
-told_fault NotJson told e = (cc, λ n. cc)
-told_fault (Shape f) told e = (cc, λ n. cc)
-told_fault (Inputs f) told e = (cc, λ n. cc)
-told_fault (Outputs f) told e = (cc, λ n. cc)
-told_fault (UnknownOutput q x) told e = (cc, λ n. cc)
-told_fault (Mealy f) told e = (cc, λ n. cc)
-told_fault (BadWord i) told e = (cc, λ n. cc)
-told_fault (Lengths i) told e = (cc, λ n. cc)
-told_fault NoMemory told e = let no : NoMemoryToRead ≡ Bad told = e in absurd (cc)
-
-pub err_is : {V : Type 0} (one two : ReadStop) → ◌≡◌ {A = Result V ReadStop} (Err one) (Err two) → one ≡ two
+pub err_is : {V F : Type 0} (one two : ReadStop F) → ◌≡◌ {A = Result V (ReadStop F)} (Err one) (Err two) → one ≡ two
 err_is one two e = cc
 
 -- bytes with a fault other than out of memory are no machine's
@@ -42,26 +29,31 @@ no_answers bytes fault has own a file = own (all_answers bytes a fault file has)
 pub no_setup : (bytes : List ℕ) (fault : JsonFault) → HasSetupFault bytes fault → fault ≢ NoMemory → (s : Setup) → ¬ IsSetupFile bytes s
 no_setup bytes fault has own s file = own (setups bytes s fault file has)
 
--- the stop is of what was read, and not of the read
-abbrev of_bytes : ReadStop → Bool
-of_bytes (Bad fault) = true
-of_bytes NoMemoryToRead = true
-of_bytes Failed = false
-of_bytes TooLong = false
+-- why bytes that were read say no value: their first fault, or memory ran out
+abbrev pub IsOfBytes : {V F : Type 0} → (List ℕ → V → Type 0) → (List ℕ → F → Type 0) → List ℕ → ReadStop F → Type 0
+IsOfBytes {V} IsFile HasFirst bytes (Bad fault) = HasFirst bytes fault × ((v : V) → ¬ IsFile bytes v)
+IsOfBytes IsFile HasFirst bytes NoMemoryToRead = Unit {0}
+IsOfBytes IsFile HasFirst bytes Failed = ⊥
+IsOfBytes IsFile HasFirst bytes TooLong = ⊥
 
-fault_of_bytes : (own : JsonFault) → of_bytes (read_stop own) ≡ true
-fault_of_bytes NotJson = refl
-fault_of_bytes (Shape f) = refl
-fault_of_bytes (Inputs f) = refl
-fault_of_bytes (Outputs f) = refl
-fault_of_bytes (UnknownOutput q x) = refl
-fault_of_bytes (Mealy f) = refl
-fault_of_bytes (BadWord i) = refl
-fault_of_bytes (Lengths i) = refl
-fault_of_bytes NoMemory = refl
+-- a reader's own fault, of a kind of file that has none
+module _ {V : Type 0} (IsFile : List ℕ → V → Type 0) (HasFirst : List ℕ → JsonFault → Type 0) (no_value : (bytes : List ℕ) (fault : JsonFault) → HasFirst bytes fault → fault ≢ NoMemory → (v : V) → ¬ IsFile bytes v) (bytes : List ℕ) where
+  abbrev Strict : List ℕ → JsonFault → Type 0
+  Strict b fault = HasFirst b fault × (fault ≢ NoMemory)
 
-not_of_read : (own : JsonFault) (one : ReadStop) → of_bytes one ≡ false → read_stop own ≡ one → ⊥
-not_of_read own one not e = false≢true (sym not ∙ (sym (ap of_bytes e) ∙ fault_of_bytes own))
+  own_fault : (own : JsonFault) → HasFirst bytes own → own ≢ NoMemory → IsOfBytes IsFile Strict bytes (Bad own)
+  own_fault own has other = ((has, other), no_value bytes own has other)
+
+  pub stops_of_bytes : (own : JsonFault) → HasFirst bytes own → IsOfBytes IsFile Strict bytes (read_stop own)
+  stops_of_bytes NotJson has = own_fault NotJson has (λ n. cc)
+  stops_of_bytes (Shape f) has = own_fault (Shape f) has (λ n. cc)
+  stops_of_bytes (Inputs f) has = own_fault (Inputs f) has (λ n. cc)
+  stops_of_bytes (Outputs f) has = own_fault (Outputs f) has (λ n. cc)
+  stops_of_bytes (UnknownOutput q x) has = own_fault (UnknownOutput q x) has (λ n. cc)
+  stops_of_bytes (Mealy f) has = own_fault (Mealy f) has (λ n. cc)
+  stops_of_bytes (BadWord i) has = own_fault (BadWord i) has (λ n. cc)
+  stops_of_bytes (Lengths i) has = own_fault (Lengths i) has (λ n. cc)
+  stops_of_bytes NoMemory has = tt
 
 -- a read that gave bytes
 pub record GivesBytes (name bytes : List ℕ) (before now : FilesState) : Type 0 where
@@ -71,24 +63,23 @@ pub record GivesBytes (name bytes : List ℕ) (before now : FilesState) : Type 0
   pub counts : before.faults ≤ now.faults
   pub same : now.holds ≡ before.holds
 
--- bytes that were read and have a fault
-pub has_fault : {V : Type 0} (IsFile : List ℕ → V → Type 0) (HasFirst : List ℕ → JsonFault → Type 0) (name : List ℕ) (before now : FilesState) (bytes seen : List ℕ) (own : JsonFault) (one : ReadStop) → ((bytes : List ℕ) (fault : JsonFault) → HasFirst bytes fault → fault ≢ NoMemory → (v : V) → ¬ IsFile bytes v)
-    → GivesBytes name bytes before now → seen ≡ bytes → HasFirst seen own → one ≡ read_stop own → HasRead IsFile HasFirst name before now (Err one)
-has_fault IsFile HasFirst name before now bytes seen own one no_value gives is has one_is = record {
+-- bytes that were read and say no value
+pub has_fault : {V F : Type 0} (IsFile : List ℕ → V → Type 0) (HasFirst : List ℕ → F → Type 0) (name : List ℕ) (before now : FilesState) (bytes : List ℕ) (one : ReadStop F) → GivesBytes name bytes before now
+    → IsOfBytes IsFile HasFirst bytes one → HasRead IsFile HasFirst name before now (Err one)
+has_fault IsFile HasFirst name before now bytes one gives of = record {
   ok = tt;
   ok_call = tt;
   quiet = tt;
   bad = λ fault e.
-      let told = told_fault own fault (sym one_is ∙ err_is one (Bad fault) e) in
-      let first : HasFirst bytes fault = subst (λ (f : JsonFault). HasFirst bytes f) told.0 (subst (λ (b : List ℕ). HasFirst b own) is has) in
-      record { bytes = bytes; read = gives.read; first = first; told = told.1; bad = no_value bytes fault first told.1 };
+      let here : IsOfBytes IsFile HasFirst bytes (Bad fault) = subst (IsOfBytes IsFile HasFirst bytes) (err_is one (Bad fault) e) of in
+      record { bytes = bytes; read = gives.read; first = here.0; bad = here.1 };
   bad_call = λ fault e. gives.calls;
-  long = λ e. absurd (not_of_read own TooLong refl (sym one_is ∙ err_is one TooLong e));
+  long = λ e. absurd (subst (IsOfBytes IsFile HasFirst bytes) (err_is one TooLong e) of);
   long_call = λ e. gives.calls;
-  long_unread = λ e. absurd (not_of_read own TooLong refl (sym one_is ∙ err_is one TooLong e));
-  failed = λ e. absurd (not_of_read own Failed refl (sym one_is ∙ err_is one Failed e));
-  failed_call = λ e. absurd (not_of_read own Failed refl (sym one_is ∙ err_is one Failed e));
-  failed_unread = λ e. absurd (not_of_read own Failed refl (sym one_is ∙ err_is one Failed e));
+  long_unread = λ e. absurd (subst (IsOfBytes IsFile HasFirst bytes) (err_is one TooLong e) of);
+  failed = λ e. absurd (subst (IsOfBytes IsFile HasFirst bytes) (err_is one Failed e) of);
+  failed_call = λ e. absurd (subst (IsOfBytes IsFile HasFirst bytes) (err_is one Failed e) of);
+  failed_unread = λ e. absurd (subst (IsOfBytes IsFile HasFirst bytes) (err_is one Failed e) of);
   memory = λ e. inr gives.calls;
   reads = inr (bytes, gives.read);
   counts = gives.counts;

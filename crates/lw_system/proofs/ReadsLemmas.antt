@@ -1,7 +1,6 @@
 -- Reads of files, one after the other, and why the last one gave nothing.
 use Rattle.std.proofs.Common.{◌≡◌, ◌∙◌, ◌⊎◌, ⊎_elim, ℕ, List, [], ◌∷◌, ◌++◌, map, true, false, Option, Some, None, Result, Ok, Err, refl, ap, sym, subst, append_assoc, append-nil}
 use Rattle.std.proofs.lemmas.List.{map-append}
-use Rattle.lw_json.specs.declared.fault.JsonFault.{JsonFault}
 use Rattle.lw_outside.specs.Files.{Call, File, noted, read_call, FilesState, ReadsFile, WasRead}
 use Rattle.lw_system.specs.Reading.{HasRead}
 use Rattle.lw_system.specs.Reads.{IsNotRead, MadeReads, MadeSomeReads, gained}
@@ -69,7 +68,7 @@ some_made f g made = (
   (map (λ (r : File). r.0) made.0, made.2 ∙ ap (λ (l : List Call). gained l f.calls) (append-nil (map call_of made.0) ∙ names_of_reads made.0)),
 )
 
-module _ {V : Type 0} (IsFile : List ℕ → V → Type 0) (HasFirst : List ℕ → JsonFault → Type 0) (name : List ℕ) where
+module _ {V F : Type 0} (IsFile : List ℕ → V → Type 0) (HasFirst : List ℕ → F → Type 0) (name : List ℕ) where
   pub some_reads : (f g : FilesState) → (g.reads ≡ f.reads) ⊎ ((bytes : List ℕ) × WasRead f.holds f.reads g.reads name bytes) → (more : List File) × (g.reads ≡ f.reads ++ more)
   some_reads f g reads = ⊎_elim (λ (same : g.reads ≡ f.reads). ([], same ∙ sym (append-nil f.reads))) (λ (r : (bytes : List ℕ) × WasRead f.holds f.reads g.reads name bytes). ((name, r.0) ∷ [], r.1.given)) reads
 
@@ -77,14 +76,14 @@ module _ {V : Type 0} (IsFile : List ℕ → V → Type 0) (HasFirst : List ℕ 
   some_calls f g calls = ⊎_elim (λ (same : g.calls ≡ f.calls). ([], same ∙ gained_none f.calls)) (λ (one : g.calls ≡ noted (read_call name false) f.calls). (name ∷ [], one)) calls
 
   -- the file of a value, by a read that gave bytes
-  pub read_made : (f g : FilesState) (r : Result V ReadStop) (v : V) → HasRead IsFile HasFirst name f g r → r ≡ Ok v → ReadsFile IsFile name f.holds f.reads g.reads v × MadeReads f g [] × (g.faults ≡ f.faults)
-  read_made f g r v has is = by (subst (λ (x : Result V ReadStop). HasRead IsFile HasFirst name f g x) is has)
+  pub read_made : (f g : FilesState) (r : Result V (ReadStop F)) (v : V) → HasRead IsFile HasFirst name f g r → r ≡ Ok v → ReadsFile IsFile name f.holds f.reads g.reads v × MadeReads f g [] × (g.faults ≡ f.faults)
+  read_made f g r v has is = by (subst (λ (x : Result V (ReadStop F)). HasRead IsFile HasFirst name f g x) is has)
     where
       by : HasRead IsFile HasFirst name f g (Ok v) → ReadsFile IsFile name f.holds f.reads g.reads v × MadeReads f g [] × (g.faults ≡ f.faults)
       by h = (h.ok, made_one f g name h.ok.bytes h.ok.read.given h.ok_call, h.quiet)
 
   -- why the file gave none
-  pub read_none : (f g : FilesState) (r : Result V ReadStop) (why : ReadStop) → HasRead IsFile HasFirst name f g r → r ≡ Err why → IsNotRead IsFile HasFirst name f g why
+  pub read_none : (f g : FilesState) (r : Result V (ReadStop F)) (why : ReadStop F) → HasRead IsFile HasFirst name f g r → r ≡ Err why → IsNotRead IsFile HasFirst name f g why
   read_none f g r stop.Failed has is = (has.failed is, has.failed_unread is, made_call f g (read_call name true) (has.failed_unread is) (has.failed_call is))
   read_none f g r stop.TooLong has is = (has.long is, has.long_unread is, made_call f g (read_call name false) (has.long_unread is) (has.long_call is))
   read_none f g r (stop.Bad fault) has is = let bad = has.bad fault is in (bad, made_one f g name bad.bytes bad.read.given (has.bad_call fault is))

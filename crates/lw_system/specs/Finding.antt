@@ -1,8 +1,8 @@
 -- The reading of the file that says a system, and of the table file that a setup names.
 use Rattle.std.specs.Prelude.{◌≡◌, ◌⊎◌, ℕ, ◌≤◌, List, [], Result, IfOk, IfErr, OnOk}
-use Rattle.lw_json.specs.MachineFault.{HasMachineFault}
+use Rattle.lw_json.specs.MachineFault.{IsMachineFault}
 use Rattle.lw_json.specs.Formats.{IsMachineFile}
-use Rattle.lw_json.specs.SetupFile.{HasSetupFault, IsSetupFile}
+use Rattle.lw_json.specs.SetupFile.{IsSetupFault, IsSetupFile}
 use Rattle.lw_json.specs.declared.setup.Setup.TheVariants as setup
 use Rattle.lw_outside.specs.Files.{File, FilesState, ReadsFile}
 use Rattle.lw_system.specs.Reads.{IsNotRead, MadeReads}
@@ -16,12 +16,12 @@ use Rattle.lw_system.specs.declared.system.System.{System}
 -- a table file of this name wasn't read
 pub record IsNoTable (name : List ℕ) (files_before files_now : FilesState) (why : SystemStop) : Type 0 where
   pub file : why.file ≡ source.Table
-  pub unread : IsNotRead IsMachineFile HasMachineFault name files_before files_now why.stop
+  pub unread : IsNotRead IsMachineFile IsMachineFault name files_before files_now why.stop
 
 -- a setup file of this name wasn't read
 pub record IsNoSetup (name : List ℕ) (files_before files_now : FilesState) (why : SystemStop) : Type 0 where
   pub file : why.file ≡ source.Setup
-  pub unread : IsNotRead IsSetupFile HasSetupFault name files_before files_now why.stop
+  pub unread : IsNotRead IsSetupFile IsSetupFault name files_before files_now why.stop
 
 -- the setup file names a table file, which wasn't read
 pub record NamesNoTable (name : List ℕ) (files_before files_now : FilesState) (why : SystemStop) : Type 0 where

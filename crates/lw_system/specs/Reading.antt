@@ -1,31 +1,28 @@
 -- What a call of the program read, for a kind of file: a relation between bytes and a value, and one between bytes and their
 -- first fault.
-use Rattle.std.specs.Prelude.{◌≡◌, ◌≢◌, ◌⊎◌, ℕ, ◌<◌, ◌≤◌, List, [], ◌∷◌, ◌++◌, length, true, false, Option, Some, None, Result, Err, IfOk, OnOk}
+use Rattle.std.specs.Prelude.{◌≡◌, ◌⊎◌, ℕ, ◌<◌, ◌≤◌, List, length, true, false, Option, Some, None, Result, Err, IfOk, OnOk}
 use Rattle.lw_words.specs.Cause.{CountedFault}
-use Rattle.lw_json.specs.declared.fault.JsonFault.{JsonFault}
-use Rattle.lw_json.specs.declared.fault.JsonFault.TheVariants.{NoMemory}
-use Rattle.lw_outside.specs.Files.{File, Holds, file_at, HoldsLong, longest_file, noted, read_call, FilesState, WasRead, ReadsFile}
+use Rattle.lw_outside.specs.Files.{File, file_at, HoldsLong, longest_file, noted, read_call, FilesState, WasRead, ReadsFile}
 use Rattle.lw_system.specs.declared.stops.ReadStop.{ReadStop}
 use Rattle.lw_system.specs.declared.stops.ReadStop.TheVariants as stop
 
 -- the bytes that were read are the file of no value, and this is their first fault
-pub record ReadsBadFile {V : Type 0} (IsFile : List ℕ → V → Type 0) (HasFirst : List ℕ → JsonFault → Type 0) (name : List ℕ) (holds : Option (List File)) (before after : List File) (fault : JsonFault) : Type 0 where
+pub record ReadsBadFile {V F : Type 0} (IsFile : List ℕ → V → Type 0) (HasFirst : List ℕ → F → Type 0) (name : List ℕ) (holds : Option (List File)) (before after : List File) (fault : F) : Type 0 where
   pub bytes : List ℕ
   pub read : WasRead holds before after name bytes
   pub first : HasFirst bytes fault
-  pub told : fault ≢ NoMemory
   pub bad : (v : V) → ¬ IsFile bytes v
 
 -- what came of one read of a file of this kind: files stood as before, and stand as now
-pub record HasRead {V : Type 0} (IsFile : List ℕ → V → Type 0) (HasFirst : List ℕ → JsonFault → Type 0) (name : List ℕ) (before now : FilesState) (result : Result V ReadStop) : Type 0 where
+pub record HasRead {V F : Type 0} (IsFile : List ℕ → V → Type 0) (HasFirst : List ℕ → F → Type 0) (name : List ℕ) (before now : FilesState) (result : Result V (ReadStop F)) : Type 0 where
   -- the file of the value, read with no fault
   pub ok : IfOk result (ReadsFile IsFile name before.holds before.reads now.reads)
   pub ok_call : OnOk result (now.calls ≡ noted (read_call name false) before.calls)
   pub quiet : OnOk result (now.faults ≡ before.faults)
   -- the file of no value, with its first fault
-  pub bad : (fault : JsonFault) → result ≡ Err (stop.Bad fault) →
+  pub bad : (fault : F) → result ≡ Err (stop.Bad fault) →
       ReadsBadFile IsFile HasFirst name before.holds before.reads now.reads fault
-  pub bad_call : (fault : JsonFault) → result ≡ Err (stop.Bad fault) →
+  pub bad_call : (fault : F) → result ≡ Err (stop.Bad fault) →
       now.calls ≡ noted (read_call name false) before.calls
   -- a file that is too long, and isn't read
   pub long : result ≡ Err stop.TooLong → HoldsLong before.holds name

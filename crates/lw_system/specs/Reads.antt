@@ -1,7 +1,6 @@
 -- Reads of files that were made one after the other, and why the last one may have given nothing.
 use Rattle.std.specs.Prelude.{◌≡◌, ℕ, List, [], ◌∷◌, ◌++◌, map, true, false, Option, option_map}
 use Rattle.lw_words.specs.Cause.{CountedFault}
-use Rattle.lw_json.specs.declared.fault.JsonFault.{JsonFault}
 use Rattle.lw_outside.specs.Files.{Call, File, HoldsLong, read_call, FilesState}
 use Rattle.lw_system.specs.Reading.{ReadsBadFile}
 use Rattle.lw_system.specs.declared.stops.ReadStop.{ReadStop}
@@ -20,7 +19,7 @@ abbrev pub MadeSomeReads : FilesState → FilesState → Type 0
 MadeSomeReads files_before files_now = ((more : List File) × (files_now.reads ≡ files_before.reads ++ more)) × ((names : List (List ℕ)) × (files_now.calls ≡ gained (map (λ n. read_call n false) names) files_before.calls))
 
 -- why a file of a kind wasn't read
-abbrev pub IsNotRead : {V : Type 0} → (List ℕ → V → Type 0) → (List ℕ → JsonFault → Type 0) → List ℕ → FilesState → FilesState → ReadStop → Type 0
+abbrev pub IsNotRead : {V F : Type 0} → (List ℕ → V → Type 0) → (List ℕ → F → Type 0) → List ℕ → FilesState → FilesState → ReadStop F → Type 0
 IsNotRead IsFile HasFirst name files_before files_now (stop.Bad fault) = ReadsBadFile IsFile HasFirst name files_before.holds files_before.reads files_now.reads fault × MadeReads files_before files_now []
 IsNotRead IsFile HasFirst name files_before files_now stop.TooLong = HoldsLong files_before.holds name × (files_now.reads ≡ files_before.reads) × MadeReads files_before files_now (read_call name false ∷ [])
 IsNotRead IsFile HasFirst name files_before files_now stop.Failed = CountedFault files_before.faults files_now.faults × (files_now.reads ≡ files_before.reads) × MadeReads files_before files_now (read_call name true ∷ [])

@@ -6,10 +6,11 @@ use Rattle.lw_json.specs.declared.setup.Setup.{Setup}
 use Rattle.lw_outside.specs.Files.{File}
 use Rattle.lw_json.specs.Hint.{hint_of}
 use Rattle.lw_json.specs.declared.hint.SetupFile.{SetupFile}
+use Rattle.lw_json.specs.declared.fault.JsonFault.{JsonFault}
 use Rattle.lw_system.specs.declared.stops.ReadStop.{ReadStop}
 
 -- the setup in what was read
-abbrev pub setup_in : Result SetupFile ReadStop → Result Setup ReadStop
+abbrev pub setup_in : Result SetupFile (ReadStop JsonFault) → Result Setup (ReadStop JsonFault)
 setup_in (Ok file) = Ok file.setup
 setup_in (Err stop) = Err stop
 

@@ -6,12 +6,12 @@ use Rattle.lw_outside.specs.declared.files.FilesStop.TheVariants as files
 use Rattle.lw_system.specs.declared.stops.ReadStop.{ReadStop}
 use Rattle.lw_system.specs.declared.stops.ReadStop.TheVariants.{Failed, TooLong, Bad, NoMemory as NoMemoryToRead}
 
-abbrev pub unread : FilesStop → ReadStop
+abbrev pub unread : {F : Type 0} → FilesStop → ReadStop F
 unread files.Failed = Failed
 unread files.TooLong = TooLong
 unread files.NoMemory = NoMemoryToRead
 
 -- out of memory is no fault of a file
-abbrev pub read_stop : JsonFault → ReadStop
+abbrev pub read_stop : JsonFault → ReadStop JsonFault
 read_stop NoMemoryToParse = NoMemoryToRead
 read_stop fault = Bad fault

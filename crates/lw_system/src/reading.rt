@@ -1,15 +1,15 @@
 //! Files that are read, each of its kind.
 ghost use Rattle.std.specs.Prelude.{IfOk};
-ghost use Rattle.lw_json.specs.AnswersFault.{HasAnswersFault};
+ghost use Rattle.lw_json.specs.AnswersFault.{IsAnswersFault};
 ghost use Rattle.lw_json.specs.Formats.{IsAnswersFile, IsMachineFile};
-ghost use Rattle.lw_json.specs.MachineFault.{HasMachineFault};
-ghost use Rattle.lw_json.specs.SetupFile.{HasSetupFault, IsSetupFile};
+ghost use Rattle.lw_json.specs.MachineFault.{IsMachineFault};
+ghost use Rattle.lw_json.specs.SetupFile.{IsSetupFault, IsSetupFile};
 ghost use Rattle.lw_system.specs.Reading.{HasRead};
 ghost use Rattle.lw_system.specs.SetupHint.{TellsHint, setup_in};
 
 use crate::ReadStop;
 use lw_json::{
-    Answers, Machine, Setup, SetupFile, read_answers, read_machine, read_setup_with_hint,
+    Answers, JsonFault, Machine, Setup, SetupFile, read_answers, read_machine, read_setup_with_hint,
 };
 use lw_outside::Files;
 use std::alloc::Global;
@@ -19,8 +19,8 @@ pub fn read_machine_file<F: Files>(
     alloc: Global,
     files: &mut F,
     name: &str,
-) -> Result<Machine, ReadStop>
-    ensures { HasRead IsMachineFile HasMachineFault name.now (F.state files.old)
+) -> Result<Machine, ReadStop<JsonFault>>
+    ensures { HasRead IsMachineFile IsMachineFault name.now (F.state files.old)
         (F.state files.new) result }
 {
     let bytes = match files.read(name) {
@@ -38,8 +38,8 @@ pub fn read_answers_file<F: Files>(
     alloc: Global,
     files: &mut F,
     name: &str,
-) -> Result<Answers, ReadStop>
-    ensures { HasRead IsAnswersFile HasAnswersFault name.now (F.state files.old)
+) -> Result<Answers, ReadStop<JsonFault>>
+    ensures { HasRead IsAnswersFile IsAnswersFault name.now (F.state files.old)
         (F.state files.new) result }
 {
     let bytes = match files.read(name) {
@@ -57,8 +57,8 @@ pub fn read_setup_with<F: Files>(
     alloc: Global,
     files: &mut F,
     name: &str,
-) -> Result<SetupFile, ReadStop>
-    ensures read { HasRead IsSetupFile HasSetupFault name.now (F.state files.old)
+) -> Result<SetupFile, ReadStop<JsonFault>>
+    ensures read { HasRead IsSetupFile IsSetupFault name.now (F.state files.old)
         (F.state files.new) (setup_in result) }
     ensures hint { IfOk result (λ file. TellsHint name.now (F.state files.old).reads
         (F.state files.new).reads file.hint.items) }
@@ -78,8 +78,8 @@ pub fn read_setup_file<F: Files>(
     alloc: Global,
     files: &mut F,
     name: &str,
-) -> Result<Setup, ReadStop>
-    ensures { HasRead IsSetupFile HasSetupFault name.now (F.state files.old) (F.state files.new)
+) -> Result<Setup, ReadStop<JsonFault>>
+    ensures { HasRead IsSetupFile IsSetupFault name.now (F.state files.old) (F.state files.new)
         result }
 {
     match read_setup_with(alloc, files, name) {

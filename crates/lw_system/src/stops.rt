@@ -4,15 +4,15 @@ use crate::Source;
 use lw_json::JsonFault;
 use lw_outside::FilesStop;
 
-/// Why a file was not read.
+/// Why a file of a kind with these faults was not read.
 #[derive(Clone, Copy, Debug, PartialEq, Eq)]
-pub enum ReadStop {
+pub enum ReadStop<F> {
     /// It could not be read.
     Failed,
     /// It has more than 16,777,216 bytes.
     TooLong,
     /// It is none of its kind, and this is its first fault.
-    Bad(JsonFault),
+    Bad(F),
     NoMemory,
 }
 
@@ -20,16 +20,16 @@ pub enum ReadStop {
 #[derive(Clone, Copy, Debug, PartialEq, Eq)]
 pub struct SystemStop {
     pub file: Source,
-    pub stop: ReadStop,
+    pub stop: ReadStop<JsonFault>,
 }
 
-impl From<FilesStop> for ReadStop {
+impl<F> From<FilesStop> for ReadStop<F> {
     ghost use Rattle.std.specs.Prelude.{◌≡◌};
     ghost use Rattle.lw_system.specs.Stops.{unread};
 
     ghost from_gives = { λ refusal stop. stop ≡ unread refusal };
 
-    fn from(refusal: FilesStop) -> ReadStop {
+    fn from(refusal: FilesStop) -> ReadStop<F> {
         match refusal {
             FilesStop::Failed => ReadStop::Failed,
             FilesStop::TooLong => ReadStop::TooLong,
@@ -38,13 +38,13 @@ impl From<FilesStop> for ReadStop {
     }
 }
 
-impl From<JsonFault> for ReadStop {
+impl From<JsonFault> for ReadStop<JsonFault> {
     ghost use Rattle.std.specs.Prelude.{◌≡◌};
     ghost use Rattle.lw_system.specs.Stops.{read_stop};
 
     ghost from_gives = { λ fault stop. stop ≡ read_stop fault };
 
-    fn from(fault: JsonFault) -> ReadStop {
+    fn from(fault: JsonFault) -> ReadStop<JsonFault> {
         match fault {
             JsonFault::NoMemory => ReadStop::NoMemory,
             _ => ReadStop::Bad(fault),

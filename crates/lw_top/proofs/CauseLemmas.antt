@@ -31,6 +31,7 @@ use Rattle.lw_system.specs.Systems.{declared_of, letters_of}
 use Rattle.lw_system.specs.Told.{IsStopped}
 use Rattle.lw_system.specs.declared.source.Source.{Source}
 use Rattle.lw_system.specs.declared.source.Source.TheVariants as source
+use Rattle.lw_json.specs.declared.fault.JsonFault.{JsonFault}
 use Rattle.lw_system.specs.declared.stops.ReadStop.{ReadStop}
 use Rattle.lw_system.specs.declared.stops.ReadStop.TheVariants as read
 use Rattle.lw_outside.specs.declared.links.StartStop.{StartStop}
@@ -122,7 +123,7 @@ no_stop Kind outcome failed gone bad is i (sul.BadLine line) e = bad i line (sub
 no_stop Kind outcome failed gone bad is i sul.Gone e = gone i (subst Kind e is)
 
 -- why a file was not read
-not_read : {V : Type 0} (IsFile : List ℕ → V → Type 0) (HasFirst : List ℕ → _ → Type 0) (name : List ℕ) (f g : FilesState) (why : ReadStop) (its r : Role) → IsNotRead IsFile HasFirst name f g why → read_outcome its why ≡ FileFault r → CountedFault f.faults g.faults
+not_read : {V : Type 0} (IsFile : List ℕ → V → Type 0) (HasFirst : List ℕ → _ → Type 0) (name : List ℕ) (f g : FilesState) (why : ReadStop JsonFault) (its r : Role) → IsNotRead IsFile HasFirst name f g why → read_outcome its why ≡ FileFault r → CountedFault f.faults g.faults
 not_read IsFile HasFirst name f g read.Failed its r is e = is.0
 not_read IsFile HasFirst name f g read.TooLong its r is e = cc
 not_read IsFile HasFirst name f g (read.Bad fault) its r is e = cc
@@ -136,7 +137,7 @@ IsReading (BadFile r fault) = Unit {0}
 IsReading NoMemory = Unit {0}
 IsReading _ = ⊥
 
-reading_is : (its : Role) (why : ReadStop) → IsReading (read_outcome its why)
+reading_is : (its : Role) (why : ReadStop JsonFault) → IsReading (read_outcome its why)
 reading_is its read.Failed = tt
 reading_is its read.TooLong = tt
 reading_is its (read.Bad fault) = tt
@@ -682,7 +683,7 @@ IsNone (Alphabets r) = Unit {0}
 IsNone NoMemory = Unit {0}
 IsNone _ = ⊥
 
-none_reads : (its : Role) (why : ReadStop) → IsNone (read_outcome its why)
+none_reads : (its : Role) (why : ReadStop JsonFault) → IsNone (read_outcome its why)
 none_reads its read.Failed = tt
 none_reads its read.TooLong = tt
 none_reads its (read.Bad fault) = tt

@@ -4,7 +4,7 @@ use Rattle.std.specs.List.{All}
 use Rattle.std.specs.Str.Lossy.{utf8_lossy}
 use Rattle.lw_words.specs.Word.{answers_of, IsWord}
 use Rattle.lw_words.specs.declared.kept.KeptAnswer.{KeptAnswer}
-use Rattle.lw_json.specs.AnswersFault.{HasAnswersFault}
+use Rattle.lw_json.specs.AnswersFault.{IsAnswersFault}
 use Rattle.lw_json.specs.Formats.{IsAnswersFile}
 use Rattle.lw_json.specs.declared.files.Answers.{Answers}
 use Rattle.lw_outside.specs.Files.{File, FilesState, ReadsFile}
@@ -75,7 +75,7 @@ IsBack _ s read = read ≡ Some s
 -- why the file of prior answers came to no task
 abbrev pub IsPriorRefused : List ℕ → System → FilesState → FilesState → Option System → List KeptAnswer → Outcome → Type 0
 IsPriorRefused name s files_before files_now read kept outcome =
-    (IsRefused IsAnswersFile HasAnswersFault Prior name files_before files_now outcome × IsBack outcome s read × (kept ≡ []))
+    (IsRefused IsAnswersFile IsAnswersFault Prior name files_before files_now outcome × IsBack outcome s read × (kept ≡ []))
     ⊎ ((p : Answers) × ReadsFile IsAnswersFile name files_before.holds files_before.reads files_now.reads p × MadeReads files_before files_now [] × IsUnfit s p read kept outcome)
 
 -- what came of reading prior answers of a system

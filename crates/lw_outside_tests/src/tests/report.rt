@@ -90,17 +90,17 @@ fn two_are_written(files: &mut MemoryFiles) -> bool {
 }
 
 /// What a machine file of this name is refused for, if it is.
-fn machine_stop(alloc: Global, files: &mut MemoryFiles, name: &str) -> Option<ReadStop> {
+fn machine_stop(alloc: Global, files: &mut MemoryFiles, name: &str) -> Option<ReadStop<JsonFault>> {
     read_machine_file(alloc, files, name).err()
 }
 
 /// What an answers file of this name is refused for, if it is.
-fn answers_stop(alloc: Global, files: &mut MemoryFiles, name: &str) -> Option<ReadStop> {
+fn answers_stop(alloc: Global, files: &mut MemoryFiles, name: &str) -> Option<ReadStop<JsonFault>> {
     read_answers_file(alloc, files, name).err()
 }
 
 /// What a setup file of this name is refused for, if it is.
-fn setup_stop(alloc: Global, files: &mut MemoryFiles, name: &str) -> Option<ReadStop> {
+fn setup_stop(alloc: Global, files: &mut MemoryFiles, name: &str) -> Option<ReadStop<JsonFault>> {
     read_setup_file(alloc, files, name).err()
 }
 

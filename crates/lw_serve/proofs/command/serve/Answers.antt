@@ -1,4 +1,5 @@
 use Rattle.std.proofs.Common.{◌∙◌, Err, ap}
+use Rattle.lw_json.specs.declared.fault.JsonFault.{JsonFault}
 use Rattle.lw_system.specs.declared.stops.ReadStop.{ReadStop}
 use Rattle.lw_serve.proofs.RunLemmas.{played_run, unread_run}
 use Rattle.lw_serve.proofs.command.serve.Goals as goal
@@ -41,10 +42,10 @@ returns-in-Err-clause-ran g c =
     let now = c.refuse_model.ensures in
     unread_run c.args.model.now f (F.state read) i o e d c.refuse_model.result c.in-Err.stop
     (record {
-      bad = λ fault kind. let same = is ∙ ap (λ (s : ReadStop). Err s) kind in (was.bad fault same, was.bad_call fault same);
-      long = λ kind. let same = is ∙ ap (λ (s : ReadStop). Err s) kind in (was.long same, was.long_call same, was.long_unread same);
-      failed = λ kind. let same = is ∙ ap (λ (s : ReadStop). Err s) kind in (was.failed same, was.failed_call same, was.failed_unread same);
-      memory = λ kind. was.memory (is ∙ ap (λ (s : ReadStop). Err s) kind);
+      bad = λ fault kind. let same = is ∙ ap (λ (s : ReadStop JsonFault). Err s) kind in (was.bad fault same, was.bad_call fault same);
+      long = λ kind. let same = is ∙ ap (λ (s : ReadStop JsonFault). Err s) kind in (was.long same, was.long_call same, was.long_unread same);
+      failed = λ kind. let same = is ∙ ap (λ (s : ReadStop JsonFault). Err s) kind in (was.failed same, was.failed_call same, was.failed_unread same);
+      memory = λ kind. was.memory (is ∙ ap (λ (s : ReadStop JsonFault). Err s) kind);
     })
     was.same was.reads now.outcome
     (record { model = now.model; learner = now.learner; kept = now.kept; outputs = now.outputs; said = now.said; part = now.part })

@@ -1,16 +1,21 @@
-use Rattle.lw_json.specs.AnswersFault.{HasAnswersFault}
+use Rattle.std.proofs.Common.{List, ℕ, subst, sym}
+use Rattle.lw_json.specs.declared.fault.JsonFault.{JsonFault}
+use Rattle.lw_json.specs.AnswersFault.{HasAnswersFault, IsAnswersFault}
 use Rattle.lw_json.specs.Formats.{IsAnswersFile}
-use Rattle.lw_system.proofs.ReadLemmas.{has_fault, no_answers}
+use Rattle.lw_system.proofs.ReadLemmas.{IsOfBytes, has_fault, no_answers, stops_of_bytes}
 use Rattle.lw_system.proofs.reading.read_answers_file.Goals as goal
 
 pub returns : goal.returns
 returns g c =
     let F = g.F.Files in
     let read = c.in-Ok.ensures in
-    has_fault IsAnswersFile HasAnswersFault c.args.name.now
+    let bytes : List ℕ = c.in-Ok.bytes.items in
+    let own : JsonFault = c.in-Err-read_answers.fault in
+    let has : HasAnswersFault bytes own = subst (λ (b : List ℕ). HasAnswersFault b own) c.deref.ensures.value c.in-Err-read_answers.ensures.err in
+    has_fault IsAnswersFile IsAnswersFault c.args.name.now
     (F.state c.args.files.now)
     (F.state c.read.new.self)
-    c.in-Ok.bytes.items c.deref.result.now c.in-Err-read_answers.fault c.from-in-Err-read_answers.result no_answers
+    bytes c.from-in-Err-read_answers.result
     (record {
       read = record { given = read.given; short = read.short; held = read.told };
       calls = read.ok;
@@ -18,4 +23,4 @@ returns g c =
       counts = read.counts;
       same = read.same;
     })
-    c.deref.ensures.value c.in-Err-read_answers.ensures.err c.from-in-Err-read_answers.ensures
+    (subst (IsOfBytes IsAnswersFile IsAnswersFault bytes) (sym c.from-in-Err-read_answers.ensures) (stops_of_bytes IsAnswersFile HasAnswersFault no_answers bytes own has))
