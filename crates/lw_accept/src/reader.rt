@@ -154,8 +154,8 @@ fn inputs_of(alloc: Global, said: &Said) -> Result<Names, AcceptorFault>
     }
 }
 
-/// Whether there are 1 to 1,024 states, each with a truth value.
-fn count(said: &Said) -> Result<(), AcceptorFault>
+/// Looks whether there are 1 to 1,024 states, and a truth value for each.
+fn check_counts(said: &Said) -> Result<(), AcceptorFault>
     requires { AreAcceptorLetters (said_acceptor said.now).inputs }
     ensures ok { OnOk result (IsEvenFile (said_acceptor said.now)) }
     ensures err { IfErr result (SaysAcceptorFault (said_acceptor said.now)) }
@@ -214,8 +214,8 @@ fn first_in_rows(rows: &[Vec<u16>]) -> Option<(usize, usize)>
     None
 }
 
-/// Whether each state has one target for each input, which is a state.
-fn complete(said: &Said) -> Result<(), AcceptorFault>
+/// Looks whether each state has one target for each input, and each target is a state.
+fn check_targets(said: &Said) -> Result<(), AcceptorFault>
     requires { IsEvenFile (said_acceptor said.now) }
     ensures ok { OnOk result (IsNamedAcceptor (acceptor_said said.now)) }
     ensures err { IfErr result (SaysAcceptorFault (said_acceptor said.now)) }
@@ -237,8 +237,8 @@ fn names_of(alloc: Global, said: &Said) -> Result<Names, AcceptorFault>
     ensures err { IfErr result (SaysAcceptorFault (said_acceptor said.now)) }
 {
     let inputs = inputs_of(alloc, said)?;
-    count(said)?;
-    complete(said)?;
+    check_counts(said)?;
+    check_targets(said)?;
     Ok(inputs)
 }
 

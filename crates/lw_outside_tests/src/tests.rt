@@ -1,4 +1,5 @@
 //! A module for each crate that is tested, and what they share.
+mod acceptors;
 mod children;
 mod json_files;
 mod line;
