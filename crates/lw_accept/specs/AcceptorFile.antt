@@ -111,3 +111,7 @@ AcceptorFilesHaveNoFault = (bytes : List ℕ) (m : NamedAcceptor) (fault : Accep
 -- no bytes have two first faults, but that memory may be wanted
 abbrev pub HaveOneAcceptorFault : Type 0
 HaveOneAcceptorFault = (bytes : List ℕ) (f g : AcceptorFault) → HasAcceptorFault bytes f → HasAcceptorFault bytes g → f ≢ NoMemory → g ≢ NoMemory → f ≡ g
+
+-- bytes that are no acceptor file have this fault first
+abbrev pub IsAcceptorFault : List ℕ → AcceptorFault → Type 0
+IsAcceptorFault bytes fault = HasAcceptorFault bytes fault × (fault ≢ NoMemory)

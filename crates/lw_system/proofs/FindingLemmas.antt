@@ -64,7 +64,7 @@ pub command_said : (c : Command) (f : FilesState) → HasReadSaid (setup.Command
 command_said c f = record { ok = (refl, refl); made = made_none f; quiet = refl; err = tt; grown = ([], sym (append-nil f.reads)); same = refl; counts = omega (arith) }
 
 -- a hint stays that of its bytes while more is read
-told_then : (name : List ℕ) (before mid after : List File) (hint : List ℕ) → TellsHint name before mid hint → (more : List File) × (after ≡ mid ++ more) → TellsHint name before after hint
+pub told_then : (name : List ℕ) (before mid after : List File) (hint : List ℕ) → TellsHint name before mid hint → (more : List File) × (after ≡ mid ++ more) → TellsHint name before after hint
 told_then name before mid after hint tells more = record {
   bytes = tells.bytes;
   rest = tells.rest ++ more.0;

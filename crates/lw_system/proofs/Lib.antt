@@ -1,3 +1,4 @@
+pub mod AcceptorLemmas
 pub mod FindingLemmas
 pub mod HintLemmas
 pub mod ReadLemmas

@@ -1,3 +1,5 @@
+pub mod AcceptorFinding
+pub mod AcceptorSystems
 pub mod Ends
 pub mod Finding
 pub mod NewLines

@@ -1,4 +1,6 @@
 -- Why a file was not read.
+use Rattle.lw_accept.specs.declared.fault.AcceptorFault.{AcceptorFault}
+use Rattle.lw_accept.specs.declared.fault.AcceptorFault.TheVariants.{NoMemory as NoMemoryToAccept}
 use Rattle.lw_json.specs.declared.fault.JsonFault.{JsonFault}
 use Rattle.lw_json.specs.declared.fault.JsonFault.TheVariants.{NoMemory as NoMemoryToParse}
 use Rattle.lw_outside.specs.declared.files.FilesStop.{FilesStop}
@@ -15,3 +17,7 @@ unread files.NoMemory = NoMemoryToRead
 abbrev pub read_stop : JsonFault → ReadStop JsonFault
 read_stop NoMemoryToParse = NoMemoryToRead
 read_stop fault = Bad fault
+
+abbrev pub acceptor_stop : AcceptorFault → ReadStop AcceptorFault
+acceptor_stop NoMemoryToAccept = NoMemoryToRead
+acceptor_stop fault = Bad fault

@@ -1,6 +1,7 @@
 //! Systems: the files that say one, and the children that a command starts, from their start to the ends of their links.
 #![tactic(auto)]
 
+mod acceptors;
 mod child;
 mod finding;
 mod reading;
@@ -8,9 +9,10 @@ mod source;
 mod stops;
 mod system;
 
+pub use acceptors::{FoundAcceptor, find_acceptor, read_acceptor_file};
 pub use child::{line_over, link_of, start_line};
 pub use finding::{Found, find_system, read_system};
 pub use reading::{read_answers_file, read_machine_file, read_setup_file, read_setup_with};
 pub use source::Source;
-pub use stops::{ReadStop, SystemStop};
+pub use stops::{AcceptorStop, ReadStop, SystemStop};
 pub use system::System;

@@ -1,6 +1,7 @@
 //! Why a file was not read, and why a file says no system.
 
 use crate::Source;
+use lw_accept::AcceptorFault;
 use lw_json::JsonFault;
 use lw_outside::FilesStop;
 
@@ -21,6 +22,18 @@ pub enum ReadStop<F> {
 pub struct SystemStop {
     pub file: Source,
     pub stop: ReadStop<JsonFault>,
+}
+
+/// Why there is no system that is asked for an acceptor.
+#[derive(Clone, Copy, Debug, PartialEq, Eq)]
+pub enum AcceptorStop {
+    /// The setup was not read.
+    Setup(ReadStop<JsonFault>),
+    /// The acceptor file was not read.
+    Table(ReadStop<AcceptorFault>),
+    /// `?` can't stand beside the inputs of the setup's command: they are too many, or one of them is `?`.
+    Letters(AcceptorFault),
+    NoMemory,
 }
 
 impl<F> From<FilesStop> for ReadStop<F> {
@@ -48,6 +61,20 @@ impl From<JsonFault> for ReadStop<JsonFault> {
         match fault {
             JsonFault::NoMemory => ReadStop::NoMemory,
             _ => ReadStop::Bad(fault),
+        }
+    }
+}
+
+impl From<AcceptorFault> for ReadStop<AcceptorFault> {
+    ghost use Rattle.std.specs.Prelude.{◌≡◌};
+    ghost use Rattle.lw_system.specs.Stops.{acceptor_stop};
+
+    ghost from_gives = { λ fault stop. stop ≡ acceptor_stop fault };
+
+    fn from(fault: AcceptorFault) -> ReadStop<AcceptorFault> {
+        match fault {
+            AcceptorFault::NoMemory => ReadStop::NoMemory,
+            own => ReadStop::Bad(own),
         }
     }
 }
