@@ -3,15 +3,15 @@ use Rattle.std.proofs.Common.{◌≡◌, ℕ, zero, suc, ◌+◌, ◌<◌, ◌�
 use Rattle.std.specs.List.{All}
 use Rattle.std.proofs.lemmas.List.{length-map}
 use Rattle.std.proofs.lemmas.List.Elements.{All-tail, All-map}
-use Rattle.lw_mealy.specs.Machine.{Row, Rows, row, cell, IsMachine}
+use Rattle.lw_mealy.specs.Machine.{Row, Rows, row, IsMachine}
 use Rattle.lw_mealy.proofs.RowLemmas.{is_row}
 use Rattle.lw_accept.specs.Acceptor.{Automaton, IsAcceptor, IsNamedAcceptor, AreComplete}
 use Rattle.lw_accept.specs.AcceptorFile.{AreAcceptorLetters}
 use Rattle.lw_accept.specs.Laws.{ViewsAreViews, ViewsDiffer}
-use Rattle.lw_accept.specs.View.{MayView, verdict, viewed, viewed_from, viewed_row}
+use Rattle.lw_accept.specs.View.{verdict, viewed, viewed_from, viewed_row}
 use Rattle.lw_accept.specs.bodies.Unviewed.{AreViewed, IsRowViewed, bit_of, targets_of_row, unviewed}
 use Rattle.lw_accept.proofs.TellLemmas.{few_verdicts, says}
-use Rattle.lw_accept.proofs.ViewLemmas.{at_letter, at_question, row_is, states, targets_are}
+use Rattle.lw_accept.proofs.ViewLemmas.{at_letter, at_question}
 
 -- an acceptor stands in the pairs of its machine
 bits_back : (q : ℕ) (bits : List Bool) (rows : List (List ℕ)) → length bits ≡ length rows → map bit_of (viewed_from q bits rows) ≡ bits
@@ -44,18 +44,9 @@ pub views_differ : ViewsDiffer
 views_differ a m n is_m is_n e = sym (back m is_m.bits) ∙ (ap unviewed e ∙ back n is_n.bits)
 
 -- the pairs of an acceptor's machine
-views_may : (a q x : ℕ) (m : Automaton) → IsAcceptor a m → q < length (viewed m) → x < length (row (viewed m) q) → MayView q x (cell (viewed m) q x)
-views_may a q zero m is lq lx =
-    let lq' : q < length m.targets = omega (arith, lq, states a m is) in
-    rw (at_question a m is q lq') (refl, few_verdicts _)
-views_may a q (suc x) m is lq lx =
-    let lq' : q < length m.targets = omega (arith, lq, states a m is) in
-    let r = targets_are a m is q lq' in
-    let count : length (row (viewed m) q) ≡ suc (length (get_or m.targets q [])) = ap (λ (s : Row). length s) (row_is a m is q lq') ∙ ap (λ (n : ℕ). suc n) (length-map {B = ℕ × ℕ} (get_or m.targets q []) (λ t. (t, 2))) in
-    rw (at_letter a m is q x lq' (omega (arith, lx, count, r.0))) refl
-
 pub views_are_views : ViewsAreViews
-views_are_views a q x m is first = first.fails (views_may a q x m is first.state first.letter)
+views_are_views a q zero m is lq lx = rw (at_question a m is q lq) (refl, few_verdicts _)
+views_are_views a q (suc x) m is lq lx = rw (at_letter a m is q x lq (omega (arith, lx))) refl
 
 -- a row of such pairs is that of what stands in it
 tail_back : (q x : ℕ) (r : Row) → ((y : ℕ) → y < length r → (get_or r y (0, 0)).1 ≡ 2) → map (λ t. (t, 2)) (map (λ c. c.0) r) ≡ r

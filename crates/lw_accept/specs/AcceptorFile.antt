@@ -108,6 +108,10 @@ HasAcceptorFault bytes NoMemory = Unit {0}
 abbrev pub AcceptorFilesHaveNoFault : Type 0
 AcceptorFilesHaveNoFault = (bytes : List ℕ) (m : NamedAcceptor) (fault : AcceptorFault) → IsAcceptorFile bytes m → HasAcceptorFault bytes fault → fault ≡ NoMemory
 
+-- no bytes are the file of two acceptors
+abbrev pub AcceptorFilesHaveOneValue : Type 0
+AcceptorFilesHaveOneValue = (bytes : List ℕ) (m n : NamedAcceptor) → IsAcceptorFile bytes m → IsAcceptorFile bytes n → m ≡ n
+
 -- no bytes have two first faults, but that memory may be wanted
 abbrev pub HaveOneAcceptorFault : Type 0
 HaveOneAcceptorFault = (bytes : List ℕ) (f g : AcceptorFault) → HasAcceptorFault bytes f → HasAcceptorFault bytes g → f ≢ NoMemory → g ≢ NoMemory → f ≡ g

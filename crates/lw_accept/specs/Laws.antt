@@ -1,10 +1,10 @@
 -- What answers over `?` and an acceptor's letters are worth.
-use Rattle.std.specs.Prelude.{◌≡◌, ℕ, ◌≤◌, ◌+◌, List, length}
+use Rattle.std.specs.Prelude.{◌≡◌, ℕ, ◌<◌, ◌≤◌, ◌+◌, List, length}
 use Rattle.std.specs.List.{All}
 use Rattle.lw_words.specs.Word.{IsWord, Answer}
-use Rattle.lw_mealy.specs.Machine.{Rows, IsMachine, IsMinimal, Gives, Sure}
-use Rattle.lw_accept.specs.Acceptor.{Automaton, IsAcceptor, AcceptAlike}
-use Rattle.lw_accept.specs.View.{viewed, told, SaysAsTold, IsFirstUnviewed}
+use Rattle.lw_mealy.specs.Machine.{Rows, IsMachine, IsMinimal, IsWithinLimits, Gives, Sure, cell}
+use Rattle.lw_accept.specs.Acceptor.{Automaton, IsAcceptor, AcceptAlike, IsNamedAcceptor, NamedAcceptor}
+use Rattle.lw_accept.specs.View.{viewed, viewed_machine, told, SaysAsTold, IsFirstUnviewed, MayView}
 use Rattle.lw_accept.specs.declared.fault.ViewFault.{ViewFault}
 use Rattle.lw_accept.specs.declared.fault.ViewFault.TheVariants.{NotAcceptor, NoMemory}
 
@@ -12,9 +12,13 @@ use Rattle.lw_accept.specs.declared.fault.ViewFault.TheVariants.{NotAcceptor, No
 abbrev pub ViewsAreMachines : Type 0
 ViewsAreMachines = (a : ℕ) (m : Automaton) → IsAcceptor a m → IsMachine (a + 1) (viewed m) × (length (viewed m) ≡ length m.targets)
 
--- no pair of it is refused
+-- it is within the limits of a machine that is learned
+abbrev pub ViewsAreWithinLimits : Type 0
+ViewsAreWithinLimits = (m : NamedAcceptor) → IsNamedAcceptor m → IsWithinLimits (viewed_machine (length m.inputs) m.automaton)
+
+-- and has the pairs that such a machine may have
 abbrev pub ViewsAreViews : Type 0
-ViewsAreViews = (a q x : ℕ) (m : Automaton) → IsAcceptor a m → ¬ IsFirstUnviewed (viewed m) q x
+ViewsAreViews = (a q x : ℕ) (m : Automaton) → IsAcceptor a m → q < length m.targets → x < a + 1 → MayView q x (cell (viewed m) q x)
 
 -- and it is the machine of no other acceptor
 abbrev pub ViewsDiffer : Type 0

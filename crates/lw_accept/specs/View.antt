@@ -34,7 +34,8 @@ asked_names inputs = question ∷ inputs
 abbrev pub answer_names : List (List ℕ)
 answer_names = codes "yes" ∷ codes "no" ∷ codes "ok" ∷ []
 
--- What an answer tells: at each `?` whether the word of the other letters before it is accepted.
+-- What an answer tells: at each `?` whether the word of the other letters before it is accepted. (`yes` says so; `ok`, which no
+-- acceptor's machine gives there, would count as `no`.)
 abbrev pub told_from : List ℕ → List ℕ → List ℕ → List (List ℕ × Bool)
 told_from before [] outs = []
 told_from before (x ∷ word) [] = []

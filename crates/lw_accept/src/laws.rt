@@ -1,10 +1,15 @@
 //! Laws that the definitions of acceptors keep. They compute nothing.
-ghost use Rattle.lw_accept.specs.AcceptorFile.{AcceptorFilesHaveNoFault, HaveOneAcceptorFault};
-ghost use Rattle.lw_accept.specs.Laws.{AcceptorsAreSure, AnswersAreTold, NoAcceptorGives, ViewsAreMachines, ViewsAreViews, ViewsDiffer};
+ghost use Rattle.lw_accept.specs.AcceptorFile.{AcceptorFilesHaveNoFault, AcceptorFilesHaveOneValue, HaveOneAcceptorFault};
+ghost use Rattle.lw_accept.specs.Laws.{AcceptorsAreSure, AnswersAreTold, NoAcceptorGives, ViewsAreMachines, ViewsAreViews, ViewsAreWithinLimits, ViewsDiffer};
 
 /// Bytes of the grammar have no fault.
 pub fn acceptor_files_have_no_fault()
     ensures { AcceptorFilesHaveNoFault }
+{}
+
+/// No bytes are the file of two acceptors.
+pub fn acceptor_files_have_one_value()
+    ensures { AcceptorFilesHaveOneValue }
 {}
 
 /// No bytes have two first faults, but that memory may be wanted.
@@ -12,9 +17,10 @@ pub fn acceptor_faults_are_one()
     ensures { HaveOneAcceptorFault }
 {}
 
-/// An acceptor's machine is one, no pair of it is refused, and it is no other acceptor's.
+/// An acceptor's machine is one, within the limits; it has the pairs that such a machine may have, and is no other acceptor's.
 pub fn views_are_machines()
     ensures machines { ViewsAreMachines }
+    ensures limits { ViewsAreWithinLimits }
     ensures views { ViewsAreViews }
     ensures differ { ViewsDiffer }
 {}

@@ -1,5 +1,5 @@
 //! The names of the letters and outputs of an acceptor's machine.
-ghost use Rattle.std.specs.Prelude.{◌≡◌, ◌<◌, ◌∷◌, length, map, string_bytes, IfOk, IfErr, OnOk, OnErr, Some, take};
+ghost use Rattle.std.specs.Prelude.{◌≡◌, ◌<◌, ◌∷◌, ℕ, List, drop, length, map, string_bytes, IfOk, IfErr, OnOk, OnErr, Some, take};
 ghost use Rattle.lw_accept.specs.Acceptor.{question};
 ghost use Rattle.lw_accept.specs.AcceptorFile.{AreAcceptorLetters};
 ghost use Rattle.lw_accept.specs.AskedNames.{HaveNoRoom};
@@ -53,6 +53,30 @@ pub fn asked_names(alloc: Global, inputs: &Names) -> Result<Names, AcceptorFault
     match Names::from_list(alloc, &asked_texts(alloc, inputs)?) {
         Ok(names) => Ok(names),
         Err(_) => Err(AcceptorFault::NoMemory),
+    }
+}
+
+/// The texts of the names behind `?`.
+fn letter_texts(alloc: Global, asked: &Names) -> Result<Vec<String>, NoMemory>
+    ensures { IfOk result (λ list. map (λ s. string_bytes s) list.items ≡ drop 1 asked.now) }
+{
+    let mut list = Vec::with_capacity(alloc, usize::from(asked.len()))?;
+    for n in 1..asked.len() {
+        list.push(String::from_str(alloc, asked.name(n))?)?;
+    }
+    Ok(list)
+}
+
+/// The names of an acceptor's letters, of those that its machine has.
+pub fn letters_behind(alloc: Global, asked: &Names) -> Result<Names, NoMemory>
+    requires { (letters : List (List ℕ)) × AreAcceptorLetters letters ×
+        (asked.now ≡ asked_names letters) }
+    ensures value { IfOk result (λ names. asked.now ≡ asked_names names) }
+    ensures letters { IfOk result AreAcceptorLetters }
+{
+    match Names::from_list(alloc, &letter_texts(alloc, asked)?) {
+        Ok(names) => Ok(names),
+        Err(_) => Err(NoMemory),
     }
 }
 

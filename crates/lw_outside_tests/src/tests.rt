@@ -8,6 +8,7 @@ mod outside;
 mod prior;
 mod report;
 mod serve;
+mod views;
 mod wordlist;
 
 use lw_words::Names;

@@ -11,7 +11,7 @@ use Rattle.lw_json.specs.declared.setup.Setup.TheVariants as setup
 use Rattle.lw_outside.specs.Files.{File, FilesState, ReadsFile}
 use Rattle.lw_system.specs.AcceptorSystems.{ReadsAcceptorSystem}
 use Rattle.lw_system.specs.Finding.{HasHint}
-use Rattle.lw_system.specs.Reads.{IsNotRead, MadeReads, MadeSomeReads}
+use Rattle.lw_system.specs.Reads.{IsNotRead, MadeReads}
 use Rattle.lw_system.specs.SetupHint.{TellsHint}
 use Rattle.lw_system.specs.declared.source.Source.{Source}
 use Rattle.lw_system.specs.declared.source.Source.TheVariants as source
@@ -48,7 +48,7 @@ IsNoAcceptorSystem source.Table name files_before files_now why = ⊥
 IsNoAcceptorSystem source.Setup name files_before files_now (stop.Setup why) = IsNotRead IsSetupFile IsSetupFault name files_before files_now why
 IsNoAcceptorSystem source.Setup name files_before files_now (stop.Table why) = NamesNoAcceptor name files_before files_now why
 IsNoAcceptorSystem source.Setup name files_before files_now (stop.Letters fault) = HasNoRoomFor name files_before files_now fault
-IsNoAcceptorSystem source.Setup name files_before files_now stop.NoMemory = MadeSomeReads files_before files_now
+IsNoAcceptorSystem source.Setup name files_before files_now stop.NoMemory = (c : Command) × SaidSetup name files_before files_now (setup.Command c)
 
 -- the hint at a setup that was read, and none at an acceptor file, or at a setup that wasn't read
 abbrev pub HasAcceptorHint : Source → List ℕ → List File → List File → List ℕ → AcceptorStop → Type 0
