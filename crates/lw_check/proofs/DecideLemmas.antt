@@ -14,7 +14,7 @@ use Rattle.lw_check.specs.Decision.{Pair, SameNames, HasVerdict, IsNo, IsDecisio
 use Rattle.lw_report.specs.declared.role.Role.{Role}
 use Rattle.lw_report.specs.declared.role.Role.TheVariants.{Answers}
 use Rattle.lw_report.specs.declared.outcome.Outcome.{Outcome}
-use Rattle.lw_report.specs.declared.outcome.Outcome.TheVariants.{Learned, Trial, Yes, Served, No, Usage, BadFile, Alphabets, FileTooLong, Nondeterministic, NoMemory, SulFailed, Gone, BadLine, BadAsk, TooManyStates, SuiteTooLarge, FileFault, SourceFault, SinkFault, Compared, Asked, Rechecked, UnknownLetter, Unstarted}
+use Rattle.lw_report.specs.declared.outcome.Outcome.TheVariants.{Learned, Trial, Yes, Served, No, Usage, BadFile, Alphabets, FileTooLong, Nondeterministic, NoMemory, SulFailed, Gone, BadLine, BadAsk, TooManyStates, SuiteTooLarge, FileFault, SourceFault, SinkFault, Compared, Asked, Rechecked, UnknownLetter, Unstarted, Accepted, BadAcceptor, NotAcceptor}
 
 blank : Answer
 blank = record { word = []; outs = [] }
@@ -77,6 +77,9 @@ module _ (method : Method) (p : Pair) (extra : ℕ) where
   yes_is n (Compared comparison) f g = absurd g
   yes_is n Asked f g = absurd g
   yes_is n (Rechecked count) f g = absurd g
+  yes_is n (Accepted states refinements) f g = absurd g
+  yes_is n (BadAcceptor bad) f g = absurd g
+  yes_is n (NotAcceptor state letter) f g = absurd g
   yes_is n (UnknownLetter w place) f g = absurd g
   yes_is n (Unstarted cause) f g = absurd g
   yes_is n (BadFile r b) f g = absurd g
@@ -104,6 +107,9 @@ module _ (method : Method) (p : Pair) (extra : ℕ) where
   no_is v (Compared comparison) f g = absurd g
   no_is v Asked f g = absurd g
   no_is v (Rechecked count) f g = absurd g
+  no_is v (Accepted states refinements) f g = absurd g
+  no_is v (BadAcceptor bad) f g = absurd g
+  no_is v (NotAcceptor state letter) f g = absurd g
   no_is v (UnknownLetter w place) f g = absurd g
   no_is v (Unstarted cause) f g = absurd g
   no_is v (BadFile r b) f g = absurd g
@@ -134,6 +140,9 @@ module _ (method : Method) (p : Pair) (extra : ℕ) where
   suite_is n s (Compared comparison) f g = absurd g
   suite_is n s Asked f g = absurd g
   suite_is n s (Rechecked count) f g = absurd g
+  suite_is n s (Accepted states refinements) f g = absurd g
+  suite_is n s (BadAcceptor bad) f g = absurd g
+  suite_is n s (NotAcceptor state letter) f g = absurd g
   suite_is n s (UnknownLetter w place) f g = absurd g
   suite_is n s (Unstarted cause) f g = absurd g
   suite_is n s (BadFile r b) f g = absurd g
@@ -161,6 +170,9 @@ module _ (method : Method) (p : Pair) (extra : ℕ) where
   other_names_is (Compared comparison) f g = absurd g
   other_names_is Asked f g = absurd g
   other_names_is (Rechecked count) f g = absurd g
+  other_names_is (Accepted states refinements) f g = absurd g
+  other_names_is (BadAcceptor bad) f g = absurd g
+  other_names_is (NotAcceptor state letter) f g = absurd g
   other_names_is (UnknownLetter w place) f g = absurd g
   other_names_is (Unstarted cause) f g = absurd g
   other_names_is (BadFile r b) f g = absurd g
@@ -188,6 +200,9 @@ module _ (method : Method) (p : Pair) (extra : ℕ) where
   clash_is c (Compared comparison) f g = absurd g
   clash_is c Asked f g = absurd g
   clash_is c (Rechecked count) f g = absurd g
+  clash_is c (Accepted states refinements) f g = absurd g
+  clash_is c (BadAcceptor bad) f g = absurd g
+  clash_is c (NotAcceptor state letter) f g = absurd g
   clash_is c (UnknownLetter w place) f g = absurd g
   clash_is c (Unstarted cause) f g = absurd g
   clash_is c (BadFile r b) f g = absurd g
@@ -215,6 +230,9 @@ one_decision method p extra SourceFault two f g = absurd f
 one_decision method p extra (Compared comparison) two f g = absurd f
 one_decision method p extra Asked two f g = absurd f
 one_decision method p extra (Rechecked count) two f g = absurd f
+one_decision method p extra (Accepted states refinements) two f g = absurd f
+one_decision method p extra (BadAcceptor bad) two f g = absurd f
+one_decision method p extra (NotAcceptor state letter) two f g = absurd f
 one_decision method p extra (UnknownLetter w place) two f g = absurd f
 one_decision method p extra (Unstarted cause) two f g = absurd f
 one_decision method p extra (BadFile r b) two f g = absurd f

@@ -16,7 +16,7 @@ use Rattle.lw_report.specs.Text.{text_of}
 use Rattle.lw_report.specs.Writing.{TakesSome}
 use Rattle.lw_report.specs.declared.role.Role.TheVariants as role
 use Rattle.lw_report.specs.declared.outcome.Outcome.{Outcome}
-use Rattle.lw_report.specs.declared.outcome.Outcome.TheVariants.{Learned, Trial, Yes, Served, No, Usage, BadFile, Alphabets, FileTooLong, Nondeterministic, NoMemory, SulFailed, Gone, BadLine, BadAsk, TooManyStates, SuiteTooLarge, FileFault, SourceFault, SinkFault, Compared, Asked, Rechecked, UnknownLetter, Unstarted}
+use Rattle.lw_report.specs.declared.outcome.Outcome.TheVariants.{Learned, Trial, Yes, Served, No, Usage, BadFile, Alphabets, FileTooLong, Nondeterministic, NoMemory, SulFailed, Gone, BadLine, BadAsk, TooManyStates, SuiteTooLarge, FileFault, SourceFault, SinkFault, Compared, Asked, Rechecked, UnknownLetter, Unstarted, Accepted, BadAcceptor, NotAcceptor}
 use Rattle.lw_check.specs.Decision.{IsYesOrNo, IsDecision, IsFixed, Pair, pair_of}
 use Rattle.lw_names.specs.Naming.{Naming}
 use Rattle.lw_check.specs.Ending.{ComesTo, DecidesAs}
@@ -83,6 +83,9 @@ no_text model answers before now SourceFault own u = absurd u
 no_text model answers before now (Compared comparison) own u = absurd u
 no_text model answers before now Asked own u = absurd u
 no_text model answers before now (Rechecked count) own u = absurd u
+no_text model answers before now (Accepted states refinements) own u = absurd u
+no_text model answers before now (BadAcceptor bad) own u = absurd u
+no_text model answers before now (NotAcceptor state letter) own u = absurd u
 no_text model answers before now (UnknownLetter w place) own u = absurd u
 no_text model answers before now (Unstarted cause) own u = absurd u
 no_text model answers before now (Alphabets role) own u = absurd u
@@ -154,6 +157,9 @@ exact_unread model answers before now m a decision SourceFault u tm ta = absurd 
 exact_unread model answers before now m a decision (Compared comparison) u tm ta = absurd u
 exact_unread model answers before now m a decision Asked u tm ta = absurd u
 exact_unread model answers before now m a decision (Rechecked count) u tm ta = absurd u
+exact_unread model answers before now m a decision (Accepted states refinements) u tm ta = absurd u
+exact_unread model answers before now m a decision (BadAcceptor bad) u tm ta = absurd u
+exact_unread model answers before now m a decision (NotAcceptor state letter) u tm ta = absurd u
 exact_unread model answers before now m a decision (UnknownLetter w place) u tm ta = absurd u
 exact_unread model answers before now m a decision (Unstarted cause) u tm ta = absurd u
 exact_unread model answers before now m a decision (Alphabets role) u tm ta = absurd u

@@ -24,7 +24,7 @@ use Rattle.lw_system.proofs.ReadsLemmas.{made_none, made_then, read_made, read_n
 use Rattle.lw_report.specs.Refused.{IsRefused}
 use Rattle.lw_report.specs.Stops.{read_outcome, role_of, unread_outcome}
 use Rattle.lw_report.specs.declared.outcome.Outcome.{Outcome}
-use Rattle.lw_report.specs.declared.outcome.Outcome.TheVariants.{Learned, Trial, Yes, Served, No, Usage, BadFile, Alphabets, FileTooLong, Nondeterministic, NoMemory, SulFailed, Gone, BadLine, BadAsk, TooManyStates, SuiteTooLarge, FileFault, SourceFault, SinkFault, Compared, Asked, Rechecked, UnknownLetter, Unstarted}
+use Rattle.lw_report.specs.declared.outcome.Outcome.TheVariants.{Learned, Trial, Yes, Served, No, Usage, BadFile, Alphabets, FileTooLong, Nondeterministic, NoMemory, SulFailed, Gone, BadLine, BadAsk, TooManyStates, SuiteTooLarge, FileFault, SourceFault, SinkFault, Compared, Asked, Rechecked, UnknownLetter, Unstarted, Accepted, BadAcceptor, NotAcceptor}
 use Rattle.lw_report.specs.declared.role.Role.{Role}
 use Rattle.lw_report.specs.declared.role.Role.TheVariants as role
 use Rattle.lw_learn.specs.Arguments.{LearnValues}
@@ -177,6 +177,9 @@ module _ (a : LearnValues) (f m g : FilesState) (s : System) (whole : SaysWhole 
     unfit p read kept was then (Compared comparison) is = absurd is
     unfit p read kept was then Asked is = absurd is
     unfit p read kept was then (Rechecked answers) is = absurd is
+    unfit p read kept was then (Accepted states refinements) is = absurd is
+    unfit p read kept was then (BadAcceptor bad) is = absurd is
+    unfit p read kept was then (NotAcceptor state letter) is = absurd is
     unfit p read kept was then (UnknownLetter word place) is = absurd is
     unfit p read kept was then (Unstarted cause) is = absurd is
     unfit p read kept was then SinkFault is = absurd is

@@ -32,7 +32,7 @@ use Rattle.lw_report.specs.declared.role.Role.{Role}
 use Rattle.lw_report.specs.declared.role.Role.TheVariants.{Answers, Kept, Model}
 use Rattle.lw_report.specs.declared.role.Role.TheVariants as role
 use Rattle.lw_report.specs.declared.outcome.Outcome.{Outcome}
-use Rattle.lw_report.specs.declared.outcome.Outcome.TheVariants.{Learned, Trial, Yes, Served, No, Usage, BadFile, Alphabets, FileTooLong, Nondeterministic, NoMemory, SulFailed, Gone, BadLine, BadAsk, TooManyStates, SuiteTooLarge, FileFault, SourceFault, SinkFault, Compared, Asked, Rechecked, UnknownLetter, Unstarted}
+use Rattle.lw_report.specs.declared.outcome.Outcome.TheVariants.{Learned, Trial, Yes, Served, No, Usage, BadFile, Alphabets, FileTooLong, Nondeterministic, NoMemory, SulFailed, Gone, BadLine, BadAsk, TooManyStates, SuiteTooLarge, FileFault, SourceFault, SinkFault, Compared, Asked, Rechecked, UnknownLetter, Unstarted, Accepted, BadAcceptor, NotAcceptor}
 use Rattle.lw_outside.proofs.SinkLemmas.{sink_none}
 use Rattle.lw_workers.specs.Asking.{AnswersWords}
 use Rattle.lw_learn.specs.Arguments.{LearnValues}
@@ -162,6 +162,9 @@ told_reached n model count SourceFault few told sink file = absurd told
 told_reached n model count (Compared comparison) few told sink file = absurd told
 told_reached n model count Asked few told sink file = absurd told
 told_reached n model count (Rechecked answers) few told sink file = absurd told
+told_reached n model count (Accepted states refinements) few told sink file = absurd told
+told_reached n model count (BadAcceptor bad) few told sink file = absurd told
+told_reached n model count (NotAcceptor state letter) few told sink file = absurd told
 told_reached n model count (UnknownLetter word place) few told sink file = absurd told
 told_reached n model count (Unstarted cause) few told sink file = absurd told
 told_reached n model count (Yes states) few told sink file = absurd told

@@ -24,7 +24,7 @@ use Rattle.lw_outside.specs.Files.{File, HoldsLong, file_at, longest_file, Files
 use Rattle.lw_json.specs.FitNames.{FitNames}
 use Rattle.lw_system.specs.Reading.{ReadsBadFile, TellsBad, TellsFile}
 use Rattle.lw_report.specs.declared.outcome.Outcome.{Outcome}
-use Rattle.lw_report.specs.declared.outcome.Outcome.TheVariants.{Learned, Trial, Yes, Served, No, Usage, BadFile, Alphabets, FileTooLong, Nondeterministic, NoMemory, SulFailed, Gone, BadLine, BadAsk, TooManyStates, SuiteTooLarge, FileFault, SourceFault, SinkFault, Compared, Asked, Rechecked, UnknownLetter, Unstarted}
+use Rattle.lw_report.specs.declared.outcome.Outcome.TheVariants.{Learned, Trial, Yes, Served, No, Usage, BadFile, Alphabets, FileTooLong, Nondeterministic, NoMemory, SulFailed, Gone, BadLine, BadAsk, TooManyStates, SuiteTooLarge, FileFault, SourceFault, SinkFault, Compared, Asked, Rechecked, UnknownLetter, Unstarted, Accepted, BadAcceptor, NotAcceptor}
 use Rattle.lw_report.specs.declared.role.Role.{Role}
 use Rattle.lw_report.specs.declared.role.Role.TheVariants as role
 use Rattle.lw_learn.specs.Arguments.{LearnValues}
@@ -188,6 +188,9 @@ taken_by a f g read kept s told quiet (Alphabets r) is =
     absurd (why.7 (fits_same said.0 why.3 s why.2 same.inputs same.outputs (systems_same a.source a.system f.holds f.reads why.0 s why.2 told.system was) said.2))
 taken_by a f g read kept s told quiet (Learned h r) is = is
 taken_by a f g read kept s told quiet (Trial t) is = is
+taken_by a f g read kept s told quiet (Accepted states r) is = is
+taken_by a f g read kept s told quiet (BadAcceptor fault) is = is
+taken_by a f g read kept s told quiet (NotAcceptor q x) is = is
 taken_by a f g read kept s told quiet (Yes states) is = is
 taken_by a f g read kept s told quiet (Served served) is = is
 taken_by a f g read kept s told quiet (No verdict) is = is
@@ -269,6 +272,9 @@ memory_alone file letters f g told quiet SourceFault is = absurd is
 memory_alone file letters f g told quiet (Compared comparison) is = absurd is
 memory_alone file letters f g told quiet Asked is = absurd is
 memory_alone file letters f g told quiet (Rechecked answers) is = absurd is
+memory_alone file letters f g told quiet (Accepted states refinements) is = absurd is
+memory_alone file letters f g told quiet (BadAcceptor bad) is = absurd is
+memory_alone file letters f g told quiet (NotAcceptor state letter) is = absurd is
 memory_alone file letters f g told quiet (Unstarted cause) is = absurd is
 memory_alone file letters f g told quiet SinkFault is = absurd is
 

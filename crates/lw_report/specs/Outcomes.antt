@@ -3,7 +3,7 @@ use Rattle.std.specs.Prelude.{◌≡◌, ◌⊎◌, ℕ}
 use Rattle.lw_report.specs.declared.comparison.Comparison.{Comparison}
 use Rattle.lw_report.specs.declared.comparison.Comparison.TheVariants.{Equal, Differ, OtherInputs}
 use Rattle.lw_report.specs.declared.outcome.Outcome.{Outcome}
-use Rattle.lw_report.specs.declared.outcome.Outcome.TheVariants.{Learned, Trial, Yes, Served, No, Usage, BadFile, Alphabets, FileTooLong, Nondeterministic, NoMemory, SulFailed, Gone, BadLine, BadAsk, TooManyStates, SuiteTooLarge, FileFault, SourceFault, SinkFault, Compared, Asked, Rechecked, UnknownLetter, Unstarted}
+use Rattle.lw_report.specs.declared.outcome.Outcome.TheVariants.{Learned, Trial, Yes, Served, No, Usage, BadFile, Alphabets, FileTooLong, Nondeterministic, NoMemory, SulFailed, Gone, BadLine, BadAsk, TooManyStates, SuiteTooLarge, FileFault, SourceFault, SinkFault, Compared, Asked, Rechecked, UnknownLetter, Unstarted, Accepted, BadAcceptor, NotAcceptor}
 
 -- 1 where two models differ, as of answers that do not fix a model, and 3 where one has an input that the other one lacks
 abbrev pub comparison_status : Comparison → ℕ
@@ -13,6 +13,7 @@ comparison_status (OtherInputs first second) = 3
 
 abbrev pub status_of : Outcome → ℕ
 status_of (Learned model refinements) = 0
+status_of (Accepted states refinements) = 0
 status_of (Trial tried) = 0
 status_of (Yes states) = 0
 status_of (Served served) = 0
@@ -22,6 +23,7 @@ status_of (Compared comparison) = comparison_status comparison
 status_of (No verdict) = 1
 status_of Usage = 2
 status_of (BadFile role fault) = 3
+status_of (BadAcceptor fault) = 3
 status_of (Alphabets role) = 3
 status_of (FileTooLong role) = 3
 status_of (UnknownLetter word place) = 3
@@ -37,10 +39,12 @@ status_of (SuiteTooLarge states number) = 7
 status_of (FileFault role) = 8
 status_of SourceFault = 8
 status_of SinkFault = 8
+status_of (NotAcceptor state letter) = 9
 
 -- making its text takes memory
 abbrev pub HasOwnText : Outcome → Type 0
 HasOwnText (Learned model refinements) = Unit {0}
+HasOwnText (Accepted states refinements) = Unit {0}
 HasOwnText (Trial tried) = Unit {0}
 HasOwnText (Yes states) = Unit {0}
 HasOwnText (No verdict) = Unit {0}
@@ -56,6 +60,8 @@ HasOwnText (Unstarted cause) = Unit {0}
 HasOwnText (Compared comparison) = Unit {0}
 HasOwnText (Rechecked answers) = Unit {0}
 HasOwnText (UnknownLetter word place) = Unit {0}
+HasOwnText (BadAcceptor fault) = Unit {0}
+HasOwnText (NotAcceptor state letter) = Unit {0}
 HasOwnText _ = ⊥
 
 -- an outcome as it was, or out of memory in place of one whose text takes memory

@@ -1,6 +1,10 @@
 -- Why a file is none of its kind, in words.
 use Rattle.std.specs.Prelude.{ℕ, List, ◌++◌, codes}
 use Rattle.std.specs.Fmt.{decimal}
+use Rattle.lw_accept.specs.declared.fault.AcceptorFault.{AcceptorFault}
+use Rattle.lw_accept.specs.declared.fault.AcceptorFault.TheVariants as acceptor
+use Rattle.lw_accept.specs.declared.fault.AcceptorField.{AcceptorField}
+use Rattle.lw_accept.specs.declared.fault.AcceptorField.TheVariants as part
 use Rattle.lw_words.specs.declared.names.NamesFault.{NamesFault}
 use Rattle.lw_words.specs.declared.names.NamesFault.TheVariants as names
 use Rattle.lw_mealy.specs.declared.fault.MealyFault.{MealyFault}
@@ -61,3 +65,22 @@ reason_of (Mealy fault) = mealy_reason fault
 reason_of (BadWord place) = codes "bad word at answer " ++ decimal place
 reason_of (Lengths place) = codes "lengths differ at answer " ++ decimal place
 reason_of NoMemory = codes "no memory"
+
+abbrev pub part_name : AcceptorField → List ℕ
+part_name part.Root = codes "root"
+part_name part.Accepting = codes "accepting"
+part_name part.Inputs = codes "inputs"
+part_name part.Targets = codes "targets"
+
+-- why a file is no acceptor's; `NoMemory` is never told so
+abbrev pub acceptor_reason : AcceptorFault → List ℕ
+acceptor_reason acceptor.NotJson = codes "not JSON"
+acceptor_reason (acceptor.Shape field) = codes "shape of " ++ part_name field
+acceptor_reason (acceptor.Inputs fault) = names_reason (codes "inputs") fault
+acceptor_reason (acceptor.Reserved place) = codes "reserved name at " ++ decimal place
+acceptor_reason acceptor.NoState = codes "no state"
+acceptor_reason (acceptor.TooMany count) = codes "too many states: " ++ decimal count
+acceptor_reason acceptor.Lengths = codes "lengths differ"
+acceptor_reason (acceptor.Ragged state) = codes "wrong number of targets at state " ++ decimal state
+acceptor_reason (acceptor.Target state letter target) = codes "no such target at state " ++ (decimal state ++ (codes ", letter " ++ (decimal letter ++ (codes ": " ++ decimal target))))
+acceptor_reason acceptor.NoMemory = codes "no memory"

@@ -1,10 +1,13 @@
 -- The outcome that a file comes to that was not read, a start that gave no child, and an outcome that was not told.
+use Rattle.lw_accept.specs.declared.fault.AcceptorFault.{AcceptorFault}
 use Rattle.lw_outside.specs.declared.links.StartFailure.{StartFailure}
 use Rattle.lw_outside.specs.declared.links.StartStop.{StartStop}
 use Rattle.lw_outside.specs.declared.links.StartStop.TheVariants as start
 use Rattle.lw_system.specs.declared.source.Source.{Source}
 use Rattle.lw_system.specs.declared.source.Source.TheVariants as source
 use Rattle.lw_json.specs.declared.fault.JsonFault.{JsonFault}
+use Rattle.lw_system.specs.declared.stops.AcceptorStop.{AcceptorStop}
+use Rattle.lw_system.specs.declared.stops.AcceptorStop.TheVariants as acceptor
 use Rattle.lw_system.specs.declared.stops.ReadStop.{ReadStop}
 use Rattle.lw_system.specs.declared.stops.ReadStop.TheVariants.{Failed, TooLong, Bad, NoMemory as NoMemoryToRead}
 use Rattle.lw_system.specs.declared.stops.SystemStop.{SystemStop}
@@ -13,7 +16,7 @@ use Rattle.lw_report.specs.declared.role.Role.TheVariants as role
 use Rattle.lw_report.specs.declared.stops.TellStop.{TellStop}
 use Rattle.lw_report.specs.declared.stops.TellStop.TheVariants.{File, Sink, NoMemory as NoMemoryToTell}
 use Rattle.lw_report.specs.declared.outcome.Outcome.{Outcome}
-use Rattle.lw_report.specs.declared.outcome.Outcome.TheVariants.{BadFile, FileTooLong, NoMemory, FileFault, SinkFault, Unstarted}
+use Rattle.lw_report.specs.declared.outcome.Outcome.TheVariants.{BadFile, FileTooLong, NoMemory, FileFault, SinkFault, Unstarted, BadAcceptor}
 
 -- what a file in this role that was not read comes to
 abbrev pub read_outcome : Role → ReadStop JsonFault → Outcome
@@ -30,6 +33,20 @@ role_of source.Table = role.Table
 -- what files come to that say no system
 abbrev pub unread_outcome : SystemStop → Outcome
 unread_outcome stop = read_outcome (role_of stop.file) stop.stop
+
+-- what an acceptor file in this role that was not read comes to
+abbrev pub acceptor_outcome : Role → ReadStop AcceptorFault → Outcome
+acceptor_outcome role Failed = FileFault role
+acceptor_outcome role TooLong = FileTooLong role
+acceptor_outcome role (Bad fault) = BadAcceptor fault
+acceptor_outcome role NoMemoryToRead = NoMemory
+
+-- what files come to that say no system that is asked for an acceptor
+abbrev pub no_acceptor_outcome : AcceptorStop → Outcome
+no_acceptor_outcome (acceptor.Setup stop) = read_outcome role.Setup stop
+no_acceptor_outcome (acceptor.Table stop) = acceptor_outcome role.Table stop
+no_acceptor_outcome (acceptor.Letters fault) = BadAcceptor fault
+no_acceptor_outcome acceptor.NoMemory = NoMemory
 
 -- what a start that gave no child comes to
 abbrev pub start_outcome : StartFailure → StartStop → Outcome

@@ -9,7 +9,7 @@ use Rattle.lw_words.specs.declared.kept.KeptAnswer.{KeptAnswer}
 use Rattle.lw_cache.specs.declared.stops.Clash.{Clash}
 use Rattle.lw_certify.specs.declared.verdict.Verdict.{Verdict}
 use Rattle.lw_certify.specs.declared.verdict.Verdict.TheVariants as verdict
-use Rattle.lw_report.specs.Reasons.{reason_of, role_name}
+use Rattle.lw_report.specs.Reasons.{acceptor_reason, reason_of, role_name}
 use Rattle.lw_report.specs.declared.role.Role.{Role}
 use Rattle.lw_report.specs.declared.role.Role.TheVariants.{Prior}
 use Rattle.lw_outside.specs.declared.links.StartFailure.{StartFailure}
@@ -18,7 +18,7 @@ use Rattle.lw_report.specs.declared.comparison.Comparison.{Comparison}
 use Rattle.lw_report.specs.declared.comparison.Comparison.TheVariants.{Equal, Differ, OtherInputs}
 use Rattle.lw_report.specs.declared.outcome.Outcome.{Outcome}
 use Rattle.lw_report.specs.declared.outcome.Tried.{Tried}
-use Rattle.lw_report.specs.declared.outcome.Outcome.TheVariants.{Learned, Trial, Yes, Served, No, Usage, BadFile, Alphabets, FileTooLong, Nondeterministic, NoMemory, SulFailed, Gone, BadLine, BadAsk, TooManyStates, SuiteTooLarge, FileFault, SourceFault, SinkFault, Compared, Asked, Rechecked, UnknownLetter, Unstarted}
+use Rattle.lw_report.specs.declared.outcome.Outcome.TheVariants.{Learned, Trial, Yes, Served, No, Usage, BadFile, Alphabets, FileTooLong, Nondeterministic, NoMemory, SulFailed, Gone, BadLine, BadAsk, TooManyStates, SuiteTooLarge, FileFault, SourceFault, SinkFault, Compared, Asked, Rechecked, UnknownLetter, Unstarted, Accepted, BadAcceptor, NotAcceptor}
 
 -- a word in quotes, its names joined by one blank, on a line of its own
 abbrev pub word_line : List (List ℕ) → List ℕ → List ℕ
@@ -28,6 +28,15 @@ word_line names w = codes "\"" ++ (word_text names w ++ codes "\"\n")
 abbrev pub learned_line : (states refinements extra answers : ℕ) → List ℕ
 learned_line states refinements extra answers =
     codes "learned: states " ++ (decimal states ++ (codes ", refinements " ++ (decimal refinements ++ (codes ", extra " ++ (decimal extra ++ (codes ", answers " ++ (decimal answers ++ codes "\n")))))))
+
+-- an acceptor's number of states, how often the learner was refined, the extra states, and the number of kept answers
+abbrev pub accepted_line : (states refinements extra answers : ℕ) → List ℕ
+accepted_line states refinements extra answers =
+    codes "accepted: states " ++ (decimal states ++ (codes ", refinements " ++ (decimal refinements ++ (codes ", extra " ++ (decimal extra ++ (codes ", answers " ++ (decimal answers ++ codes "\n")))))))
+
+-- the first pair of a model that is none of an acceptor's machine
+abbrev pub not_acceptor_line : (state letter : ℕ) → List ℕ
+not_acceptor_line state letter = codes "not an acceptor: state " ++ (decimal state ++ (codes ", letter " ++ (decimal letter ++ codes "\n")))
 
 -- the machine that was drawn, what was learned, and whether that is the machine
 abbrev pub drawn_line : (states inputs seed : ℕ) → List ℕ
@@ -164,6 +173,9 @@ unstarted_line cause = codes "system not started: " ++ (cause_text cause ++ code
 -- the text of the outcome; nothing is said of a child that was served, or of words that were all answered
 abbrev pub text_of : List (List ℕ) → List (List ℕ) → List KeptAnswer → ℕ → Outcome → List ℕ
 text_of inputs outputs kept extra (Learned model refinements) = learned_line (length model.rows) refinements extra (length kept)
+text_of inputs outputs kept extra (Accepted states refinements) = accepted_line states refinements extra (length kept)
+text_of inputs outputs kept extra (BadAcceptor fault) = codes "bad acceptor: " ++ (acceptor_reason fault ++ codes "\n")
+text_of inputs outputs kept extra (NotAcceptor state letter) = not_acceptor_line state letter
 text_of inputs outputs kept extra (Trial tried) = trial_lines tried
 text_of inputs outputs kept extra (Yes states) = yes_line states extra (length kept)
 text_of inputs outputs kept extra (Served served) = []

@@ -1,6 +1,7 @@
 //! What a call of the program comes to: its outcome, exit status and text, and the files and streams that it reads and writes.
 #![tactic(auto)]
 
+mod acceptor_texts;
 mod comparison;
 mod end;
 mod outcome;
@@ -18,7 +19,8 @@ pub use end::{End, refuse};
 pub use outcome::{Outcome, Tried, status};
 pub use role::Role;
 pub use stops::{
-    TellStop, learn_outcome, read_outcome, start_outcome, system_outcome, unread_outcome,
+    TellStop, learn_outcome, no_acceptor_outcome, read_outcome, start_outcome, system_outcome,
+    unread_outcome,
 };
 pub use texts::{outcome_text, text};
 pub use writing::{Said, UNSAID, put_report, say, write_file};

@@ -3,6 +3,7 @@ ghost use Rattle.std.specs.Prelude.{◌≡◌};
 ghost use Rattle.lw_report.specs.Outcomes.{status_of};
 
 use crate::{Comparison, Role};
+use lw_accept::AcceptorFault;
 use lw_cache::Clash;
 use lw_certify::Verdict;
 use lw_json::JsonFault;
@@ -29,6 +30,9 @@ pub struct Tried {
 pub enum Outcome {
     /// The model that the answers fix among all machines of not many more states, and how often its learner was refined.
     Learned { model: Mealy, refinements: u32 },
+    /// The acceptor that the answers fix among all acceptors of not many more states, by its number of states, and how often the
+    /// learner was refined.
+    Accepted { states: u16, refinements: u32 },
     /// A drawn machine was learned.
     Trial(Tried),
     /// The answers fix the model, of so many states, among all machines of at most so many extra states more.
@@ -47,6 +51,10 @@ pub enum Outcome {
     Usage,
     /// The file in this role is none of its kind, and this is its first fault.
     BadFile { role: Role, fault: JsonFault },
+    /// The file is of no acceptor, or a setup's inputs leave no room for `?`, and this is the first fault.
+    BadAcceptor(AcceptorFault),
+    /// A model was learned, and its pair of this state and letter is the first that is none of an acceptor's machine.
+    NotAcceptor { state: u16, letter: u16 },
     /// The names of the file in this role, answers or those of an earlier call, aren't the model's, or the setup's.
     Alphabets(Role),
     /// The letter at this place of the word of this number, both counted from 1, is no input.
@@ -84,19 +92,20 @@ pub fn status(outcome: &Outcome) -> u8
 {
     match outcome {
         Outcome::Learned { .. } | Outcome::Trial(_) | Outcome::Yes { .. } | Outcome::Served(_) => 0,
-        Outcome::Asked | Outcome::Rechecked { .. } => 0,
+        Outcome::Accepted { .. } | Outcome::Asked | Outcome::Rechecked { .. } => 0,
         Outcome::Compared(Comparison::Equal) => 0,
         Outcome::Compared(Comparison::Differ(_)) => 1,
         Outcome::Compared(Comparison::OtherInputs { .. }) => 3,
         Outcome::No(_) => 1,
         Outcome::Usage => 2,
         Outcome::BadFile { .. } | Outcome::Alphabets(_) | Outcome::FileTooLong(_) => 3,
-        Outcome::UnknownLetter { .. } => 3,
+        Outcome::UnknownLetter { .. } | Outcome::BadAcceptor(_) => 3,
         Outcome::Nondeterministic(_) => 4,
         Outcome::NoMemory => 5,
         Outcome::SulFailed(_) | Outcome::Gone(_) | Outcome::Unstarted(_) => 6,
         Outcome::BadLine(_, _) | Outcome::BadAsk(_) => 6,
         Outcome::TooManyStates(_) | Outcome::SuiteTooLarge { .. } => 7,
         Outcome::FileFault(_) | Outcome::SourceFault | Outcome::SinkFault => 8,
+        Outcome::NotAcceptor { .. } => 9,
     }
 }

@@ -24,7 +24,7 @@ fn field_name(field: Field) -> &'static str
 }
 
 /// Why the list of this name is no list of names.
-fn names_reason(alloc: Global, list: &str, fault: NamesFault) -> Result<String, NoMemory>
+pub(crate) fn names_reason(alloc: Global, list: &str, fault: NamesFault) -> Result<String, NoMemory>
     ensures { IfOk result (λ text. string_bytes text ≡ names_reason list.now fault) }
 {
     let text = match fault {

@@ -2,14 +2,15 @@
 //! outcome was not told.
 ghost use Rattle.std.specs.Prelude.{◌≡◌};
 ghost use Rattle.lw_report.specs.Learnings.{ask_outcome, learn_outcome, system_outcome};
-ghost use Rattle.lw_report.specs.Stops.{read_outcome, role_of, start_outcome, unread_outcome};
+ghost use Rattle.lw_report.specs.Stops.{acceptor_outcome, no_acceptor_outcome, read_outcome, role_of, start_outcome, unread_outcome};
 
 use crate::{Outcome, Role};
+use lw_accept::AcceptorFault;
 use lw_cache::AskStop;
 use lw_json::JsonFault;
 use lw_outside::{Failed, Spawner, StartStop};
 use lw_rounds::LearnStop;
-use lw_system::{ReadStop, Source, SystemStop};
+use lw_system::{AcceptorStop, ReadStop, Source, SystemStop};
 use lw_words::{NoMemory, SulStop};
 
 /// Why an outcome was not told.
@@ -49,6 +50,30 @@ pub fn unread_outcome(stop: SystemStop) -> Outcome
     ensures { result ≡ unread_outcome stop }
 {
     read_outcome(stop.stop, role_of(stop.file))
+}
+
+/// What an acceptor file in this role comes to that was not read.
+fn acceptor_outcome(stop: ReadStop<AcceptorFault>, role: Role) -> Outcome
+    ensures { result ≡ acceptor_outcome role stop }
+{
+    match stop {
+        ReadStop::Failed => Outcome::FileFault(role),
+        ReadStop::TooLong => Outcome::FileTooLong(role),
+        ReadStop::Bad(fault) => Outcome::BadAcceptor(fault),
+        ReadStop::NoMemory => Outcome::NoMemory,
+    }
+}
+
+/// What files come to that say no system that is asked for an acceptor.
+pub fn no_acceptor_outcome(stop: AcceptorStop) -> Outcome
+    ensures { result ≡ no_acceptor_outcome stop }
+{
+    match stop {
+        AcceptorStop::Setup(stop) => read_outcome(stop, Role::Setup),
+        AcceptorStop::Table(stop) => acceptor_outcome(stop, Role::Table),
+        AcceptorStop::Letters(fault) => Outcome::BadAcceptor(fault),
+        AcceptorStop::NoMemory => Outcome::NoMemory,
+    }
 }
 
 /// What a start comes to that gave no child.

@@ -6,6 +6,7 @@ ghost use Rattle.lw_report.specs.Reasons.{reason_of, role_name};
 ghost use Rattle.lw_report.specs.Text.{crowd_line, crowd_lines, learned_line, names_line, names_of, text_of, word_line};
 ghost use Rattle.lw_words.specs.Word.{word_text};
 
+use crate::acceptor_texts::{accepted_text, bad_acceptor_text, not_acceptor_text};
 use crate::comparison::comparison_text;
 use crate::reasons::reason;
 use crate::system_texts::{
@@ -175,7 +176,8 @@ pub(crate) fn fixed_text(outcome: &Outcome) -> Option<&'static str>
         Outcome::SulFailed(_) | Outcome::Gone(_) => None,
         Outcome::BadLine(_, _) | Outcome::BadAsk(_) | Outcome::Unstarted(_) => None,
         Outcome::Compared(_) | Outcome::Rechecked { .. } => None,
-        Outcome::UnknownLetter { .. } => None,
+        Outcome::UnknownLetter { .. } | Outcome::Accepted { .. } => None,
+        Outcome::BadAcceptor(_) | Outcome::NotAcceptor { .. } => None,
         Outcome::Served(_) | Outcome::Asked => Some(""),
         Outcome::Alphabets(role) => Some(names_text(*role)),
         Outcome::Usage => Some(USAGE),
@@ -219,6 +221,12 @@ pub fn outcome_text(
         Outcome::Compared(comparison) => comparison_text(alloc, comparison),
         Outcome::Rechecked { answers } => rechecked_text(alloc, *answers),
         Outcome::UnknownLetter { word, place } => letter_text(alloc, *word, *place),
+        Outcome::Accepted {
+            states,
+            refinements,
+        } => accepted_text(alloc, *states, *refinements, extra, kept.len()),
+        Outcome::BadAcceptor(fault) => bad_acceptor_text(alloc, *fault),
+        Outcome::NotAcceptor { state, letter } => not_acceptor_text(alloc, *state, *letter),
         _ => Ok(String::from_str(alloc, fixed_text(outcome).unwrap_or(NO_MEMORY))?),
     }
 }

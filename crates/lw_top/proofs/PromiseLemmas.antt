@@ -28,7 +28,7 @@ use Rattle.lw_report.specs.Learnings.{HasModel, learn_outcome}
 use Rattle.lw_report.specs.Outcomes.{StandsOrWants}
 use Rattle.lw_report.specs.declared.«end».End.{End}
 use Rattle.lw_report.specs.declared.outcome.Outcome.{Outcome}
-use Rattle.lw_report.specs.declared.outcome.Outcome.TheVariants.{Learned, Trial, Yes, Served, No, Usage, BadFile, Alphabets, FileTooLong, Nondeterministic, NoMemory, SulFailed, Gone, BadLine, BadAsk, TooManyStates, SuiteTooLarge, FileFault, SourceFault, SinkFault, Compared, Asked, Rechecked, UnknownLetter, Unstarted}
+use Rattle.lw_report.specs.declared.outcome.Outcome.TheVariants.{Learned, Trial, Yes, Served, No, Usage, BadFile, Alphabets, FileTooLong, Nondeterministic, NoMemory, SulFailed, Gone, BadLine, BadAsk, TooManyStates, SuiteTooLarge, FileFault, SourceFault, SinkFault, Compared, Asked, Rechecked, UnknownLetter, Unstarted, Accepted, BadAcceptor, NotAcceptor}
 use Rattle.lw_check.specs.CheckRun.{IsCheckRun}
 use Rattle.lw_check.specs.Decision.{IsFixed, Pair}
 use Rattle.lw_learn.specs.Arguments.{LearnValues}
@@ -111,6 +111,9 @@ module _ (a : LearnValues) (f g now : FilesState) (read : Option System) (kept :
   unread_by (Compared c) is = absurd is
   unread_by Asked is = absurd is
   unread_by (Rechecked answers) is = absurd is
+  unread_by (Accepted states refinements) is = absurd is
+  unread_by (BadAcceptor bad) is = absurd is
+  unread_by (NotAcceptor state letter) is = absurd is
   unread_by (Unstarted cause) is = absurd is
 
   unread_as : (outcome : Outcome) → IsUnreadAs a f g read kept outcome → IsBeforeAsking outcome × KeepsPrior a f now kept
@@ -142,6 +145,9 @@ wordless_kind file letters f g SinkFault is = absurd is
 wordless_kind file letters f g (Compared c) is = absurd is
 wordless_kind file letters f g Asked is = absurd is
 wordless_kind file letters f g (Rechecked answers) is = absurd is
+wordless_kind file letters f g (Accepted states refinements) is = absurd is
+wordless_kind file letters f g (BadAcceptor bad) is = absurd is
+wordless_kind file letters f g (NotAcceptor state letter) is = absurd is
 wordless_kind file letters f g (Unstarted cause) is = absurd is
 
 wordless : (a : LearnValues) (f g now : FilesState) (read : Option System) (kept : List KeptAnswer) (outcome : Outcome) → now.reads ≡ g.reads → IsWordlessTask a f g read kept outcome → IsBeforeAsking outcome × KeepsPrior a f now kept

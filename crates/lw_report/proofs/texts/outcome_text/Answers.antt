@@ -12,4 +12,4 @@ returns-in_ok-from_str-in_default c =
     let some = at_values (λ t. t.now) (λ i o k e. text_of i o k e c.args.outcome.now) c.fixed_text.result inputs outputs c.args.kept.now.answers c.args.extra c.fixed_text.ensures.some in
     c.in_ok-from_str-in_default.ensures.ok
     ∙ (ap (λ t. t.now) c.unwrap_or.ensures
-    ∙ fixed_or (λ t. t.now) c.args.outcome.now c.fixed_text.result _ text (not_own c.args.outcome.now other.not-Learned other.not-Trial other.not-BadFile other.not-TooManyStates other.not-Yes other.not-No other.not-Nondeterministic other.not-SuiteTooLarge other.not-SulFailed other.not-Gone other.not-BadLine other.not-BadAsk other.not-Unstarted other.not-Compared other.not-Rechecked other.not-UnknownLetter) c.fixed_text.ensures.none some)
+    ∙ fixed_or (λ t. t.now) c.args.outcome.now c.fixed_text.result _ text (not_own c.args.outcome.now other.not-Learned other.not-Trial other.not-BadFile other.not-TooManyStates other.not-Yes other.not-No other.not-Nondeterministic other.not-SuiteTooLarge other.not-SulFailed other.not-Gone other.not-BadLine other.not-BadAsk other.not-Unstarted other.not-Compared other.not-Rechecked other.not-UnknownLetter other.not-Accepted other.not-BadAcceptor other.not-NotAcceptor) c.fixed_text.ensures.none some)
