@@ -44,7 +44,7 @@ use Rattle.lw_report.specs.declared.stops.TellStop.TheVariants as tell
 use Rattle.lw_system.specs.NewLines.{count_of}
 use Rattle.lw_learn.specs.Ending.{Carries, EndsLearned, EndsRead, EndsUnread, IsEndOf, IsSoundSystem, IsToldOf, IsUncountedSystem, end_outputs}
 use Rattle.lw_learn.specs.Findings.{IsOfSystem, LearningStopsBy}
-use Rattle.lw_learn.specs.Outcomes.{HasFiles, HasModelFile, IsBadLine, IsLearnedOutcome, IsReachedOutcome, ModelIsTold}
+use Rattle.lw_learn.specs.Outcomes.{HasFiles, HasModelFile, IsBadLine, IsLearnedOutcome, IsReachedOutcome, ModelIsTold, ReportIsTold}
 use Rattle.lw_learn.specs.Saving.{HasSaved, IsKeptWritten, IsSaved, IsTextWritten, KeptStand, MayTell, saved_outcome}
 use Rattle.lw_system.specs.Systems.{declared_of, letters_of}
 use Rattle.lw_learn.specs.Writing.{NothingFailed, StaysBesides, TakesInTurn, WritesFiles, WritesModel, WritesOut, model_line}
@@ -302,29 +302,61 @@ model_end kind method a b k most (Ok l) kept end gives same carries = subst (λ 
 model_end kind method a b k most (Err stop) kept end gives same carries = subst (λ (m : Option MealyMachine). IfSome m (HasModel kind method a b k most end)) (sym carries.0) tt
 
 -- what writing a model out came to
-pub record HasWritten (a : LearnValues) (m : Machine) (learner : Learner) (kept : List KeptAnswer) (was : Saved) (f g : FilesState) (o p : SinkState) (e d : SinkState) (end : End) : Type 0 where
-  pub outcome : ModelIsTold m.mealy (refinements_of learner) end.outcome
+pub record HasWritten (a : LearnValues) (text : List ℕ) (told : Outcome) (m : Machine) (learner : Learner) (kept : List KeptAnswer) (was : Saved) (f g : FilesState) (o p : SinkState) (e d : SinkState) (end : End) : Type 0 where
+  pub outcome : ReportIsTold told end.outcome
   pub model : end.model ≡ Some m.mealy
   pub learner_is : end.learner ≡ Some learner
   pub refinements : end.refinements ≡ refinements_of learner
   pub kept_is : end.kept.answers ≡ kept
-  pub files : WritesFiles a m kept end.outcome g.holds (f.calls, g.calls)
-  pub out : WritesOut a.model (written_text m) end.outcome (o.taken, p.taken) (o.faults, p.faults)
+  pub files : WritesFiles a text m kept end.outcome g.holds (f.calls, g.calls)
+  pub out : WritesOut a.model text end.outcome (o.taken, p.taken) (o.faults, p.faults)
   pub beside : StaysBesides a.model a.answers None f.holds g.holds
   pub role : (r : Role) → end.outcome ≡ FileFault r → ((r ≡ Model) × (a.model ≢ None)) ⊎ (((r ≡ Answers) × (a.answers ≢ None)) ⊎ (r ≡ Kept))
   pub failed : (r : Role) → end.outcome ≡ FileFault r → r ≢ Kept → CountedFault f.faults g.faults
   pub may : MayTell was end.outcome
   pub refused : end.outcome ≡ SinkFault → CountedFault o.faults p.faults ⊎ CountedFault e.faults d.faults
   pub said : ¬ CountedFault e.faults d.faults → TakesAll (text_of m.inputs m.outputs kept a.extra end.outcome) e.taken d.taken
-  pub part : TakesInTurn (text_of m.inputs m.outputs kept a.extra (Learned m.mealy (refinements_of learner))) (text_of m.inputs m.outputs kept a.extra end.outcome) e.taken d.taken
+  pub part : TakesInTurn (text_of m.inputs m.outputs kept a.extra told) (text_of m.inputs m.outputs kept a.extra end.outcome) e.taken d.taken
   pub reads : g.reads ≡ f.reads
   pub quiet : IsLearnedOutcome end.outcome → (g.faults ≡ f.faults) × (p.faults ≡ o.faults) × (d.faults ≡ e.faults)
   pub counts : (f.faults ≤ g.faults) × (o.faults ≤ p.faults) × (e.faults ≤ d.faults)
 
+-- what is told of a machine
+learned_told : (h : MealyMachine) (n : ℕ) (outcome : Outcome) → ReportIsTold (Learned h n) outcome → ModelIsTold h n outcome
+learned_told h n (Learned k c) told = let same : Learned h n ≡ Learned k c = told in (cc, cc)
+learned_told h n (Accepted states c) told = let wrong : Learned h n ≡ Accepted states c = told in absurd (cc)
+learned_told h n (Trial tried) told = absurd told
+learned_told h n (Yes states) told = absurd told
+learned_told h n (Served served) told = absurd told
+learned_told h n (No verdict) told = absurd told
+learned_told h n Usage told = absurd told
+learned_told h n (BadFile role fault) told = absurd told
+learned_told h n (Alphabets role) told = absurd told
+learned_told h n (FileTooLong role) told = absurd told
+learned_told h n (Nondeterministic clash) told = absurd told
+learned_told h n NoMemory told = tt
+learned_told h n (SulFailed i) told = absurd told
+learned_told h n (Gone i) told = absurd told
+learned_told h n (BadLine i line) told = absurd told
+learned_told h n (BadAsk number) told = absurd told
+learned_told h n (TooManyStates words) told = absurd told
+learned_told h n (SuiteTooLarge states number) told = absurd told
+learned_told h n (FileFault role) told = told
+learned_told h n SourceFault told = absurd told
+learned_told h n SinkFault told = tt
+learned_told h n (Compared comparison) told = absurd told
+learned_told h n Asked told = absurd told
+learned_told h n (Rechecked answers) told = absurd told
+learned_told h n (UnknownLetter word place) told = absurd told
+learned_told h n (Unstarted cause) told = absurd told
+learned_told h n (BadAcceptor fault) told = absurd told
+learned_told h n (NotAcceptor state letter) told = absurd told
+
 -- a learning with a model, which was written out under its names
-pub told_written : (a : LearnValues) (s : System) (naming : Naming) (l : Found) (m : Machine) (kept : List KeptAnswer) (was : Saved) (f g : FilesState) (o p e d : SinkState) (end : End) → m.inputs ≡ letters_of s → m.outputs ≡ naming.names → m.mealy ≡ l.model → end.outputs ≡ end_outputs (declared_of s) kept naming → HasWritten a m l.learner kept was f g o p e d end → IsToldOf a s naming (Ok l) kept was f g o p e d end
+pub told_written : (a : LearnValues) (s : System) (naming : Naming) (l : Found) (m : Machine) (kept : List KeptAnswer) (was : Saved) (f g : FilesState) (o p e d : SinkState) (end : End) → m.inputs ≡ letters_of s → m.outputs ≡ naming.names → m.mealy ≡ l.model → end.outputs ≡ end_outputs (declared_of s) kept naming
+    → HasWritten a (written_text m) (Learned m.mealy (refinements_of l.learner)) m l.learner kept was f g o p e d end → IsToldOf a s naming (Ok l) kept was f g o p e d end
 told_written a s naming l m kept was f g o p e d end inputs outputs mealy own w = record {
-  carries = (w.model ∙ ap (λ (h : MealyMachine). Some h) mealy, w.learner_is, w.refinements, subst (λ (h : MealyMachine). ModelIsTold h (refinements_of l.learner) end.outcome) mealy w.outcome);
+  carries = (w.model ∙ ap (λ (h : MealyMachine). Some h) mealy, w.learner_is, w.refinements, subst (λ (h : MealyMachine). ModelIsTold h (refinements_of l.learner) end.outcome) mealy (learned_told m.mealy (refinements_of l.learner) end.outcome w.outcome));
   kept_is = w.kept_is;
   outputs = own;
   written = subst (λ (h : Option MealyMachine). IfSome h (WritesModel a kept end.outcome g.holds (o.taken, p.taken) (o.faults, p.faults) (letters_of s) naming.names)) (sym w.model) done;

@@ -14,12 +14,12 @@ use Rattle.lw_report.specs.declared.stops.TellStop.TheVariants.{File as FileStop
 use Rattle.lw_report.specs.declared.outcome.Outcome.{Outcome}
 use Rattle.lw_report.specs.declared.role.Role.{Role}
 use Rattle.lw_report.specs.declared.role.Role.TheVariants.{Answers, Kept, Model}
-use Rattle.lw_report.specs.declared.outcome.Outcome.TheVariants.{FileFault, NoMemory, SinkFault}
+use Rattle.lw_report.specs.declared.outcome.Outcome.TheVariants.{Learned, Trial, Yes, Served, No, Usage, BadFile, Alphabets, FileTooLong, Nondeterministic, NoMemory, SulFailed, Gone, BadLine, BadAsk, TooManyStates, SuiteTooLarge, FileFault, SourceFault, SinkFault, Compared, Asked, Rechecked, UnknownLetter, Unstarted, Accepted, BadAcceptor, NotAcceptor}
 use Rattle.lw_outside.proofs.SinkLemmas.{sink_none}
 use Rattle.lw_learn.specs.Arguments.{LearnValues}
-use Rattle.lw_learn.specs.Calls.{all_writes}
+use Rattle.lw_learn.specs.Calls.{MadeWrites, all_writes}
 use Rattle.lw_system.specs.Reads.{gained}
-use Rattle.lw_learn.specs.Outcomes.{told_outcome}
+use Rattle.lw_learn.specs.Outcomes.{IsBeforeOut, IsLearnedOutcome, ReportIsTold, told_outcome}
 use Rattle.lw_learn.specs.Writing.{AnswersStand, PutsAll, PutsSome, StandsInFile, StaysBesides, WritesFiles, WritesOut}
 
 -- calls gained in two steps
@@ -66,9 +66,9 @@ always (Ok x) p = p
 always (Err e) p = tt
 
 -- an error that is handed on
-pub told_err : {T : Type 0} (model : MealyMachine) (count : ℕ) (r : Result T TellStop) (stop : TellStop) → IsErrAnd r (λ e. e ≡ stop) → told_outcome model count r ≡ tell_outcome stop
-told_err model count (Ok x) stop h = absurd h
-told_err model count (Err e) stop h = ap tell_outcome h
+pub told_err : {T : Type 0} (told : Outcome) (r : Result T TellStop) (stop : TellStop) → IsErrAnd r (λ e. e ≡ stop) → told_outcome told r ≡ tell_outcome stop
+told_err told (Ok x) stop h = absurd h
+told_err told (Err e) stop h = ap tell_outcome h
 
 puts_none : (file : Option (List ℕ)) (text : List ℕ) (taken : Option (List ℕ)) → PutsSome file text taken taken
 puts_none None text taken = (0, sink_none taken text)
@@ -90,9 +90,9 @@ not_kept (inl both) = let wrong : Kept ≡ Model = both.0 in cc
 not_kept (inr both) = let wrong : Kept ≡ Answers = both.0 in cc
 
 -- what became of the files and of `out` where a stream refused, or where the kept answers' file failed before
-pub files_behind : (a : LearnValues) (m : Machine) (kept : List KeptAnswer) (holds : Option (List File)) (made : Option (List Call) × Option (List Call)) (stop : TellStop) → (stop ≡ Sink) ⊎ (stop ≡ FileStop Kept) → (a.model ≢ a.answers → StandsInFile a.model holds (written_text m)) → AnswersStand a.answers holds m kept → made.1 ≡ gained (all_writes a) made.0 → WritesFiles a m kept (tell_outcome stop) holds made
-files_behind a m kept holds made stop (inl sink) model answers calls = subst (λ (s : TellStop). WritesFiles a m kept (tell_outcome s) holds made) (sym sink) (record { model = λ _. model; answers = λ _. answers; calls = calls })
-files_behind a m kept holds made stop (inr file) model answers calls = subst (λ (s : TellStop). WritesFiles a m kept (tell_outcome s) holds made) (sym file) (record { model = λ _. model; answers = λ _. answers; calls = calls })
+pub files_behind : (a : LearnValues) (text : List ℕ) (m : Machine) (kept : List KeptAnswer) (holds : Option (List File)) (made : Option (List Call) × Option (List Call)) (stop : TellStop) → (stop ≡ Sink) ⊎ (stop ≡ FileStop Kept) → (a.model ≢ a.answers → StandsInFile a.model holds text) → AnswersStand a.answers holds m kept → made.1 ≡ gained (all_writes a) made.0 → WritesFiles a text m kept (tell_outcome stop) holds made
+files_behind a text m kept holds made stop (inl sink) model answers calls = subst (λ (s : TellStop). WritesFiles a text m kept (tell_outcome s) holds made) (sym sink) (record { model = λ _. model; answers = λ _. answers; calls = calls })
+files_behind a text m kept holds made stop (inr file) model answers calls = subst (λ (s : TellStop). WritesFiles a text m kept (tell_outcome s) holds made) (sym file) (record { model = λ _. model; answers = λ _. answers; calls = calls })
 
 pub out_behind : (file : Option (List ℕ)) (text : List ℕ) (taken : Option (List ℕ) × Option (List ℕ)) (faults : ℕ × ℕ) (stop : TellStop) → (stop ≡ Sink) ⊎ (stop ≡ FileStop Kept) → (¬ CountedFault faults.0 faults.1 → PutsAll file text taken.0 taken.1) → (stop ≡ FileStop Kept → PutsAll file text taken.0 taken.1) → PutsSome file text taken.0 taken.1 → WritesOut file text (tell_outcome stop) taken faults
 out_behind file text taken faults stop (inl sink) whole kept part =
@@ -116,3 +116,52 @@ answers_stand (Some name) holds m kept text is stands = (text, is (λ e. let wro
 pub text_same : (i j o p : List (List ℕ)) (k l : List KeptAnswer) (extra : ℕ) (outcome : Outcome) → i ≡ j → o ≡ p → k ≡ l → text_of i o k extra outcome ≡ text_of j p l extra outcome
 text_same i j o p k l extra outcome one two three =
     ap (λ (x : List (List ℕ)). text_of x o k extra outcome) one ∙ (ap (λ (x : List (List ℕ)). text_of j x k extra outcome) two ∙ ap (λ (x : List KeptAnswer). text_of j p x extra outcome) three)
+
+-- what holds of a model that is told, and of an acceptor that is
+pub by_told : (P : Outcome → Type 0) → ((h : MealyMachine) (n : ℕ) → P (Learned h n)) → ((states n : ℕ) → P (Accepted states n)) → (o : Outcome) → IsLearnedOutcome o → P o
+by_told P learned accepted (Learned h n) is = learned h n
+by_told P learned accepted (Accepted states n) is = accepted states n
+by_told P learned accepted (Trial tried) is = absurd is
+by_told P learned accepted (Yes states) is = absurd is
+by_told P learned accepted (Served served) is = absurd is
+by_told P learned accepted (No verdict) is = absurd is
+by_told P learned accepted Usage is = absurd is
+by_told P learned accepted (BadFile role fault) is = absurd is
+by_told P learned accepted (Alphabets role) is = absurd is
+by_told P learned accepted (FileTooLong role) is = absurd is
+by_told P learned accepted (Nondeterministic clash) is = absurd is
+by_told P learned accepted NoMemory is = absurd is
+by_told P learned accepted (SulFailed i) is = absurd is
+by_told P learned accepted (Gone i) is = absurd is
+by_told P learned accepted (BadLine i line) is = absurd is
+by_told P learned accepted (BadAsk number) is = absurd is
+by_told P learned accepted (TooManyStates words) is = absurd is
+by_told P learned accepted (SuiteTooLarge states number) is = absurd is
+by_told P learned accepted (FileFault role) is = absurd is
+by_told P learned accepted SourceFault is = absurd is
+by_told P learned accepted SinkFault is = absurd is
+by_told P learned accepted (Compared comparison) is = absurd is
+by_told P learned accepted Asked is = absurd is
+by_told P learned accepted (Rechecked answers) is = absurd is
+by_told P learned accepted (UnknownLetter word place) is = absurd is
+by_told P learned accepted (Unstarted cause) is = absurd is
+by_told P learned accepted (BadAcceptor fault) is = absurd is
+by_told P learned accepted (NotAcceptor state letter) is = absurd is
+
+-- no write of it stopped
+pub told_no_file : (o : Outcome) → IsLearnedOutcome o → (role : Role) → o ≡ FileFault role → ⊥
+told_no_file o is role = by_told (λ x. x ≡ FileFault role → ⊥) (λ h n e. let wrong : Learned h n ≡ FileFault role = e in cc) (λ s n e. let wrong : Accepted s n ≡ FileFault role = e in cc) o is
+
+pub told_no_sink : (o : Outcome) → IsLearnedOutcome o → o ≡ SinkFault → ⊥
+told_no_sink o is = by_told (λ x. x ≡ SinkFault → ⊥) (λ h n e. let wrong : Learned h n ≡ SinkFault = e in cc) (λ s n e. let wrong : Accepted s n ≡ SinkFault = e in cc) o is
+
+-- all of it was written
+pub told_calls : (a : LearnValues) (o : Outcome) (before now : Option (List Call)) → IsLearnedOutcome o → now ≡ gained (all_writes a) before → MadeWrites a o before now
+told_calls a o before now is calls = by_told (λ x. MadeWrites a x before now) (λ h n. calls) (λ s n. calls) o is
+
+pub out_told : (file : Option (List ℕ)) (text : List ℕ) (taken : Option (List ℕ) × Option (List ℕ)) (faults : ℕ × ℕ) (o : Outcome) → IsLearnedOutcome o → PutsAll file text taken.0 taken.1 → PutsSome file text taken.0 taken.1 → WritesOut file text o taken faults
+out_told file text taken faults o is all some =
+    record { told = λ _. all; whole = λ sink. absurd (told_no_sink o is sink); part = some; before = by_told (λ x. IsBeforeOut x → taken.1 ≡ taken.0) (λ h n u. absurd u) (λ s n u. absurd u) o is }
+
+pub report_told : (o result : Outcome) → IsLearnedOutcome o → result ≡ o → ReportIsTold o result
+report_told o result is same = subst (ReportIsTold o) (sym same) (by_told (λ x. ReportIsTold x x) (λ h n. refl) (λ s n. refl) o is)

@@ -5,7 +5,7 @@ use Rattle.lw_learn.specs.Arguments.{LearnValues}
 use Rattle.lw_outside.specs.Files.{Call, write_call}
 use Rattle.lw_system.specs.Reads.{gained}
 use Rattle.lw_report.specs.declared.outcome.Outcome.{Outcome}
-use Rattle.lw_report.specs.declared.outcome.Outcome.TheVariants.{Learned, NoMemory, FileFault, SinkFault}
+use Rattle.lw_report.specs.declared.outcome.Outcome.TheVariants.{Accepted, Learned, NoMemory, FileFault, SinkFault}
 use Rattle.lw_report.specs.declared.role.Role.{Role}
 use Rattle.lw_report.specs.declared.role.Role.TheVariants.{Setup, Table, Model, Answers, Prior, Second, Words, Kept}
 
@@ -32,6 +32,7 @@ writes_to a Kept = all_writes a
 -- the writes of a call of `learn` that came to the outcome
 abbrev pub MadeWrites : LearnValues → Outcome → Option (List Call) → Option (List Call) → Type 0
 MadeWrites a (Learned model refinements) before now = now ≡ gained (all_writes a) before
+MadeWrites a (Accepted states refinements) before now = now ≡ gained (all_writes a) before
 MadeWrites a SinkFault before now = now ≡ gained (all_writes a) before
 MadeWrites a (FileFault role) before now = now ≡ gained (writes_to a role) before
 MadeWrites a NoMemory before now = (n : ℕ) × (now ≡ gained (take n (all_writes a)) before)

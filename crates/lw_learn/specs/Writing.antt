@@ -39,8 +39,8 @@ AnswersStand (Some name) holds m kept = (text : List ℕ) × IsAnswersText m.inp
 
 -- what became of the files that are named, by the outcome: the model's file stands, but for a later write under its name; the
 -- answers' file stands; and the calls were these
-pub record WritesFiles (a : LearnValues) (m : Machine) (kept : List KeptAnswer) (outcome : Outcome) (holds : Option (List File)) (made : Option (List Call) × Option (List Call)) : Type 0 where
-  pub model : HasModelFile outcome → a.model ≢ a.answers → StandsInFile a.model holds (written_text m)
+pub record WritesFiles (a : LearnValues) (text : List ℕ) (m : Machine) (kept : List KeptAnswer) (outcome : Outcome) (holds : Option (List File)) (made : Option (List Call) × Option (List Call)) : Type 0 where
+  pub model : HasModelFile outcome → a.model ≢ a.answers → StandsInFile a.model holds text
   pub answers : HasFiles outcome → AnswersStand a.answers holds m kept
   pub calls : MadeWrites a outcome made.0 made.1
 

@@ -13,15 +13,16 @@ ghost use Rattle.lw_report.specs.declared.outcome.Outcome.{Outcome as Came};
 ghost use Rattle.lw_report.specs.declared.role.Role.{Role as Part};
 ghost use Rattle.lw_report.specs.declared.role.Role.TheVariants.{Kept as KeptRole};
 ghost use Rattle.lw_learn.specs.Ending.{IsEndOf, IsToldOf, end_outputs};
-ghost use Rattle.lw_learn.specs.Outcomes.{IsLearnedOutcome, ModelIsTold};
+ghost use Rattle.lw_learn.specs.Outcomes.{IsLearnedOutcome, ReportIsTold};
 ghost use Rattle.lw_learn.specs.Saving.{MayTell};
 ghost use Rattle.lw_system.specs.Systems.{declared_of, letters_of};
 ghost use Rattle.lw_learn.specs.Writing.{CountsStay, IsWritable, StaysBesides, TakesInTurn, WritesFiles, WritesOut, told_text};
 ghost use Rattle.lw_learn.specs.declared.saving.Saved.TheVariants as Was;
 
 use crate::naming::names_of;
+use crate::reporting::machine_report;
 use crate::saving::save_kept;
-use crate::writing::{NamedModel, tell_model};
+use crate::writing::{NamedModel, Report, tell_model};
 use crate::{LearnArguments, Saved};
 use lw_json::Machine;
 use lw_mealy::Mealy;
@@ -48,23 +49,25 @@ fn write_out<F: Files, O: Sink, E: Sink>(
     alloc: Global,
     arguments: &LearnArguments,
     model: NamedModel,
+    report: Report,
     files: &mut F,
     out: &mut O,
     err: &mut E,
 ) -> End
     requires over { AreKeptOver (length model.machine.inputs) (length model.machine.outputs)
         model.kept.answers }
-    ensures outcome { ModelIsTold model.machine.mealy (refinements_of model.learner)
-        result.outcome }
+    requires tells { IsLearnedOutcome report.outcome }
+    ensures outcome { ReportIsTold report.outcome result.outcome }
     ensures status { result.status ≡ status_of result.outcome }
     ensures model { result.model ≡ Some model.machine.mealy }
     ensures learner { result.learner ≡ Some model.learner }
     ensures refinements { result.refinements ≡ refinements_of model.learner }
     ensures kept { result.kept ≡ model.kept }
     ensures outputs { result.outputs ≡ model.outputs }
-    ensures files { WritesFiles arguments.now model.machine model.kept.answers result.outcome
+    ensures files { WritesFiles arguments.now report.text.items model.machine
+        model.kept.answers result.outcome
         (F.state files.new).holds ((F.state files.old).calls, (F.state files.new).calls) }
-    ensures out { WritesOut arguments.now.model (written_text model.machine) result.outcome
+    ensures out { WritesOut arguments.now.model report.text.items result.outcome
         ((O.state out.old).taken, (O.state out.new).taken)
         ((O.state out.old).faults, (O.state out.new).faults) }
     ensures beside { StaysBesides arguments.now.model arguments.now.answers None
@@ -81,7 +84,7 @@ fn write_out<F: Files, O: Sink, E: Sink>(
         TakesAll (told_text model.machine model.kept.answers arguments.now.extra result.outcome)
         (E.state err.old).taken (E.state err.new).taken }
     ensures part { TakesInTurn (told_text model.machine model.kept.answers arguments.now.extra
-        (Came.Learned model.machine.mealy (refinements_of model.learner)))
+        report.outcome)
         (told_text model.machine model.kept.answers arguments.now.extra result.outcome)
         (E.state err.old).taken (E.state err.new).taken }
     ensures reads { (F.state files.new).reads ≡ (F.state files.old).reads }
@@ -92,8 +95,7 @@ fn write_out<F: Files, O: Sink, E: Sink>(
         ((O.state out.old).faults ≤ (O.state out.new).faults) ×
         ((E.state err.old).faults ≤ (E.state err.new).faults) }
 {
-    let refinements = model.learner.refinements();
-    let outcome = tell_model(alloc, arguments, &model, refinements, files, out, err);
+    let outcome = tell_model(alloc, arguments, &model, report, files, out, err);
     let NamedModel {
         machine,
         learner,
@@ -135,6 +137,31 @@ fn named(system: &System, names: &OutNames, model: Mealy, alloc: Global) -> Resu
             mealy: model,
         }),
         _ => Err(model),
+    }
+}
+
+/// A model with its names, and what is told of it; or the model, where there is no memory for that.
+fn reported(
+    alloc: Global,
+    system: &System,
+    names: &OutNames,
+    model: Mealy,
+    refinements: u32,
+) -> Result<(Machine, Report), Mealy>
+    requires inputs { model.inputs ≡ length (letters_of system.now) }
+    requires outputs { model.outputs ≡ length names.now.names }
+    requires few { length (letters_of system.now) ≤ 64 }
+    ensures inputs { IfOk result (λ r. r.0.inputs ≡ letters_of system.now) }
+    ensures outputs { IfOk result (λ r. r.0.outputs ≡ names.now.names) }
+    ensures mealy { IfOk result (λ r. r.0.mealy ≡ model) }
+    ensures text { IfOk result (λ r. r.1.text.items ≡ written_text r.0) }
+    ensures outcome { IfOk result (λ r. r.1.outcome ≡ Came.Learned model refinements) }
+    ensures back { IfErr result (λ m. m ≡ model) }
+{
+    let machine = named(system, names, model, alloc)?;
+    match machine_report(alloc, &machine, refinements) {
+        Ok(report) => Ok((machine, report)),
+        Err(NoMemory) => Err(machine.mealy),
     }
 }
 
@@ -193,10 +220,10 @@ fn end_model<F: Files, O: Sink, E: Sink>(
         saved,
     } = ended;
     let Learned { model, learner } = came;
-    let read = named(system, &names, model, alloc);
+    let read = reported(alloc, system, &names, model, learner.refinements());
     let outputs = outputs_of(system, &kept, names);
     match read {
-        Ok(machine) => {
+        Ok((machine, report)) => {
             let model = NamedModel {
                 machine,
                 learner,
@@ -204,7 +231,7 @@ fn end_model<F: Files, O: Sink, E: Sink>(
                 outputs,
                 saved,
             };
-            write_out(alloc, arguments, model, files, out, err)
+            write_out(alloc, arguments, model, report, files, out, err)
         }
         Err(model) => {
             let learned = Learned { model, learner };

@@ -11,6 +11,7 @@ mod logging;
 mod naming;
 mod reading;
 mod refusing;
+mod reporting;
 mod saving;
 mod task;
 mod writing;

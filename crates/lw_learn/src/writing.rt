@@ -3,7 +3,6 @@ ghost use Rattle.std.specs.Prelude.{◌≡◌, ◌≢◌, ◌⊎◌, ◌++◌, �
 ghost use Rattle.lw_words.specs.Cause.{CountedFault};
 ghost use Rattle.lw_json.specs.AnswersText.{IsAnswersText};
 ghost use Rattle.lw_json.specs.KeptOver.{AreKeptOver};
-ghost use Rattle.lw_json.specs.MachineText.{written_text};
 ghost use Rattle.lw_report.specs.Writing.{TakesAll, TakesSome};
 ghost use Rattle.lw_report.specs.Text.{text_of};
 ghost use Rattle.lw_report.specs.declared.role.Role.{Role as Part};
@@ -12,13 +11,13 @@ ghost use Rattle.lw_report.specs.declared.stops.TellStop.{TellStop as Stop};
 ghost use Rattle.lw_report.specs.declared.outcome.Outcome.{Outcome as Came};
 ghost use Rattle.lw_learn.specs.Calls.{all_writes, write_of};
 ghost use Rattle.lw_system.specs.Reads.{gained};
-ghost use Rattle.lw_learn.specs.Outcomes.{ModelIsTold, IsLearnedOutcome, told_outcome};
+ghost use Rattle.lw_learn.specs.Outcomes.{IsLearnedOutcome, ReportIsTold, told_outcome};
 ghost use Rattle.lw_learn.specs.Saving.{MayTell};
 ghost use Rattle.lw_learn.specs.declared.saving.Saved.TheVariants as Was;
 ghost use Rattle.lw_learn.specs.Writing.{CountsStay, IsWritable, PutsAll, PutsSome, StandsInFile, StaysBesides, TakesInTurn, WritesFiles, WritesOut, told_text};
 
 use crate::{LearnArguments, Saved};
-use lw_json::{Machine, answers_text, machine_text};
+use lw_json::{Machine, answers_text};
 use lw_names::OutNames;
 use lw_outside::{Failed, Files, Sink, put_all};
 use lw_report::{Outcome, Role, Said, TellStop, say, text, write_file};
@@ -35,6 +34,13 @@ struct Texts {
     line: Vec<u8>,
 }
 
+/// What is told of a model: the text that is written of it, and the outcome where all was written.
+#[derive(Drop)]
+pub(crate) struct Report {
+    pub(crate) text: Vec<u8>,
+    pub(crate) outcome: Outcome,
+}
+
 /// A model with its names, the learner that it was read off, the kept answers with the names of their outputs, and whether these
 /// answers were saved.
 #[derive(Drop)]
@@ -46,17 +52,18 @@ pub(crate) struct NamedModel {
     pub(crate) saved: Saved,
 }
 
-/// Makes the texts that are written of a model.
+/// Makes the texts that are written of a model beside its own, which stands with them.
 fn texts_of(
     alloc: Global,
     arguments: &LearnArguments,
     machine: &Machine,
     kept: &Kept,
+    model: Vec<u8>,
     outcome: &Outcome,
 ) -> Result<Texts, NoMemory>
     requires over { AreKeptOver (length machine.now.inputs) (length machine.now.outputs)
         kept.now.answers }
-    ensures model { IfOk result (λ texts. texts.model.items ≡ written_text machine.now) }
+    ensures model { IfOk result (λ texts. texts.model.items ≡ model.items) }
     ensures answers { IfOk result (λ texts. arguments.now.answers ≢ None →
         IsAnswersText machine.now.inputs machine.now.outputs kept.now.answers
         texts.answers.items) }
@@ -64,7 +71,6 @@ fn texts_of(
         text_of machine.now.inputs machine.now.outputs kept.now.answers arguments.now.extra
         outcome.now) }
 {
-    let model = machine_text(alloc, machine)?;
     let answers = match arguments.answers() {
         Some(_) => answers_text(alloc, &machine.inputs, &machine.outputs, kept)?,
         None => Vec::new(alloc),
@@ -245,19 +251,20 @@ fn write_model<F: Files, O: Sink, E: Sink>(
     alloc: Global,
     arguments: &LearnArguments,
     model: &NamedModel,
-    refinements: u32,
+    report: Report,
     files: &mut F,
     out: &mut O,
     err: &mut E,
 ) -> Result<Outcome, TellStop>
     requires over { AreKeptOver (length model.now.machine.inputs) (length model.now.machine.outputs)
         model.now.kept.answers }
-    ensures ok { IfOk result (λ o. o ≡ Came.Learned model.now.machine.mealy refinements) }
-    ensures files { WritesFiles arguments.now model.now.machine model.now.kept.answers
-        (told_outcome model.now.machine.mealy refinements result) (F.state files.new).holds
+    requires tells { IsLearnedOutcome report.outcome }
+    ensures ok { IfOk result (λ o. o ≡ report.outcome) }
+    ensures files { WritesFiles arguments.now report.text.items model.now.machine
+        model.now.kept.answers (told_outcome report.outcome result) (F.state files.new).holds
         ((F.state files.old).calls, (F.state files.new).calls) }
-    ensures out { WritesOut arguments.now.model (written_text model.now.machine)
-        (told_outcome model.now.machine.mealy refinements result)
+    ensures out { WritesOut arguments.now.model report.text.items
+        (told_outcome report.outcome result)
         ((O.state out.old).taken, (O.state out.new).taken)
         ((O.state out.old).faults, (O.state out.new).faults) }
     ensures beside { StaysBesides arguments.now.model arguments.now.answers None
@@ -274,11 +281,9 @@ fn write_model<F: Files, O: Sink, E: Sink>(
         (E.state err.new).faults }
     ensures line { OnOk result
         (TakesAll (told_text model.now.machine model.now.kept.answers arguments.now.extra
-        (Came.Learned model.now.machine.mealy refinements)) (E.state err.old).taken
-        (E.state err.new).taken) }
+        report.outcome) (E.state err.old).taken (E.state err.new).taken) }
     ensures line_part { TakesSome (told_text model.now.machine model.now.kept.answers
-        arguments.now.extra (Came.Learned model.now.machine.mealy refinements))
-        (E.state err.old).taken (E.state err.new).taken }
+        arguments.now.extra report.outcome) (E.state err.old).taken (E.state err.new).taken }
     ensures unsaid { OnErr result (¬ CountedFault (E.state err.old).faults
         (E.state err.new).faults → (E.state err.new).taken ≡ (E.state err.old).taken) }
     ensures reads { (F.state files.new).reads ≡ (F.state files.old).reads }
@@ -289,11 +294,9 @@ fn write_model<F: Files, O: Sink, E: Sink>(
         ((E.state err.old).faults ≤ (E.state err.new).faults) }
 {
     model.saved.memory()?;
-    let outcome = Outcome::Learned {
-        model: model.machine.mealy.copy()?,
-        refinements,
-    };
-    let texts = texts_of(alloc, arguments, &model.machine, &model.kept, &outcome)?;
+    let Report { text, outcome } = report;
+    let (machine, kept) = (&model.machine, &model.kept);
+    let texts = texts_of(alloc, arguments, machine, kept, text, &outcome)?;
     write_files(files, arguments, &texts)?;
     put_streams(arguments, &texts, model.saved, out, err)?;
     Ok(outcome)
@@ -304,17 +307,19 @@ pub(crate) fn tell_model<F: Files, O: Sink, E: Sink>(
     alloc: Global,
     arguments: &LearnArguments,
     model: &NamedModel,
-    refinements: u32,
+    report: Report,
     files: &mut F,
     out: &mut O,
     err: &mut E,
 ) -> Outcome
     requires over { AreKeptOver (length model.now.machine.inputs) (length model.now.machine.outputs)
         model.now.kept.answers }
-    ensures outcome { ModelIsTold model.now.machine.mealy refinements result }
-    ensures files { WritesFiles arguments.now model.now.machine model.now.kept.answers result
-        (F.state files.new).holds ((F.state files.old).calls, (F.state files.new).calls) }
-    ensures out { WritesOut arguments.now.model (written_text model.now.machine) result
+    requires tells { IsLearnedOutcome report.outcome }
+    ensures outcome { ReportIsTold report.outcome result }
+    ensures files { WritesFiles arguments.now report.text.items model.now.machine
+        model.now.kept.answers result (F.state files.new).holds
+        ((F.state files.old).calls, (F.state files.new).calls) }
+    ensures out { WritesOut arguments.now.model report.text.items result
         ((O.state out.old).taken, (O.state out.new).taken)
         ((O.state out.old).faults, (O.state out.new).faults) }
     ensures beside { StaysBesides arguments.now.model arguments.now.answers None
@@ -331,8 +336,7 @@ pub(crate) fn tell_model<F: Files, O: Sink, E: Sink>(
         TakesAll (told_text model.now.machine model.now.kept.answers arguments.now.extra result)
         (E.state err.old).taken (E.state err.new).taken }
     ensures part { TakesInTurn (told_text model.now.machine model.now.kept.answers
-        arguments.now.extra (Came.Learned model.now.machine.mealy refinements))
-        (told_text model.now.machine model.now.kept.answers arguments.now.extra result)
+        arguments.now.extra report.outcome) (told_text model.now.machine model.now.kept.answers arguments.now.extra result)
         (E.state err.old).taken (E.state err.new).taken }
     ensures reads { (F.state files.new).reads ≡ (F.state files.old).reads }
     ensures quiet { IsLearnedOutcome result →
@@ -342,7 +346,7 @@ pub(crate) fn tell_model<F: Files, O: Sink, E: Sink>(
         ((O.state out.old).faults ≤ (O.state out.new).faults) ×
         ((E.state err.old).faults ≤ (E.state err.new).faults) }
 {
-    match write_model(alloc, arguments, model, refinements, files, out, err) {
+    match write_model(alloc, arguments, model, report, files, out, err) {
         Ok(outcome) => outcome,
         Err(stop) => {
             let said = Said {

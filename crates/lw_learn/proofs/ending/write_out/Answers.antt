@@ -1,8 +1,6 @@
-use Rattle.std.proofs.Common.{◌∙◌, ℕ, sym, subst}
-use Rattle.lw_rounds.specs.Learner.{refinements_of}
+use Rattle.std.proofs.Common.{◌∙◌, sym, subst}
 use Rattle.lw_report.specs.Text.{text_of}
 use Rattle.lw_report.specs.declared.outcome.Outcome.{Outcome}
-use Rattle.lw_report.specs.declared.outcome.Outcome.TheVariants.{Learned}
 use Rattle.lw_learn.specs.Writing.{TakesInTurn}
 use Rattle.lw_learn.proofs.ending.write_out.Goals as goal
 
@@ -14,6 +12,5 @@ returns-clause-part g c =
     let m = c.args.model.machine in
     let kept = c.args.model.kept.answers in
     let extra = c.args.arguments.now.extra in
-    let told = c.tell_model-outcome.ensures.part in
-    let counted = subst (λ (n : ℕ). TakesInTurn (text_of m.inputs m.outputs kept extra (Learned m.mealy n)) (text_of m.inputs m.outputs kept extra c.tell_model-outcome.result) (g.E.Sink.state c.args.err.now).taken (g.E.Sink.state c.tell_model-outcome.new.err).taken) c.refinements-refinements.ensures.value told in
-    subst (λ (o : Outcome). TakesInTurn (text_of m.inputs m.outputs kept extra (Learned m.mealy (refinements_of c.args.model.learner))) (text_of m.inputs m.outputs kept extra o) (g.E.Sink.state c.args.err.now).taken (g.E.Sink.state c.tell_model-outcome.new.err).taken) (sym c.with_model.ensures.outcome) counted
+    let told = c.args.report.outcome in
+    subst (λ (o : Outcome). TakesInTurn (text_of m.inputs m.outputs kept extra told) (text_of m.inputs m.outputs kept extra o) (g.E.Sink.state c.args.err.now).taken (g.E.Sink.state c.tell_model-outcome.new.err).taken) (sym c.with_model.ensures.outcome) c.tell_model-outcome.ensures.part
