@@ -7,7 +7,7 @@ use lw_accept::{
 use lw_json::{Field, JsonFault, machine_text, read_machine};
 use lw_outside::MemoryFiles;
 use lw_report::{Role, write_file};
-use lw_system::{AcceptorStop, ReadStop, Source, find_acceptor};
+use lw_system::{AcceptorStop, FoundAcceptor, ReadStop, Source, find_acceptor};
 use lw_words::{Names, NamesFault};
 use std::alloc::Global;
 use std::process::Abort;
@@ -137,7 +137,9 @@ fn files_with(rt: &impl Abort, alloc: Global, setup: &str) -> MemoryFiles {
 /// How many letters the system has that a setup says, or why it says none that is asked for an acceptor.
 fn found(rt: &impl Abort, alloc: Global, setup: &str) -> Result<u16, AcceptorStop> {
     let mut files = files_with(rt, alloc, setup);
-    match find_acceptor(alloc, Source::Setup, "s", &mut files).system {
+    let FoundAcceptor { system, hint } = find_acceptor(alloc, Source::Setup, "s", &mut files);
+    drop(hint);
+    match system {
         Ok(system) => Ok(system.inputs().len()),
         Err(stop) => Err(stop),
     }
