@@ -44,7 +44,7 @@ abbrev pub NoAcceptorGives : Type 0
 NoAcceptorGives = (a k q x : ℕ) (h : Rows) (ks : List Answer) (n : Automaton) → IsMachine (a + 1) h → IsMinimal (a + 1) h → Sure (a + 1) h ks k
     → IsFirstUnviewed h q x → IsAcceptor a n → length n.targets ≤ length h + k → ¬ Gives (viewed n) ks
 
--- why a machine gives no acceptor
+-- why a machine gives no acceptor: a pair, or memory where there is none
 abbrev pub IsUnviewable : Rows → ViewFault → Type 0
 IsUnviewable m (NotAcceptor state letter) = IsFirstUnviewed m state letter
-IsUnviewable m NoMemory = Unit {0}
+IsUnviewable m NoMemory = (state letter : ℕ) → ¬ IsFirstUnviewed m state letter

@@ -126,7 +126,7 @@ command_unasked c f (TooMany n) has = absurd has
 command_unasked c f Lengths has = absurd has
 command_unasked c f (Ragged q) has = absurd has
 command_unasked c f (Target q x t) has = absurd has
-command_unasked c f NoMemory has = record { ok = tt; words = tt; made = tt; quiet = tt; err = (c, refl, refl); grown = ([], sym (append-nil f.reads)); same = refl; counts = omega arith }
+command_unasked c f NoMemory has = record { ok = tt; words = tt; made = tt; quiet = tt; err = (c, refl, has, refl); grown = ([], sym (append-nil f.reads)); same = refl; counts = omega arith }
 
 -- a setup file
 module _ (name : List ℕ) (f m : FilesState) (r : Result Setup (ReadStop JsonFault)) (has : HasRead IsSetupFile IsSetupFault name f m r) where
@@ -165,7 +165,7 @@ module _ (name : List ℕ) (f m : FilesState) (r : Result Setup (ReadStop JsonFa
       ok = tt;
       made = tt;
       quiet = tt;
-      err = (said.err.0, subst (λ (n : FilesState). SaidSetup name f n (setup.Command said.err.0)) (sym said.err.2) (was_said (setup.Command said.err.0) said.err.1));
+      err = (said.err.0, subst (λ (n : FilesState). SaidSetup name f n (setup.Command said.err.0)) (sym said.err.3) (was_said (setup.Command said.err.0) said.err.1), said.err.2);
       told = tt;
       told_err = told_then name f.reads m.reads g.reads hint tells said.grown;
       same = said.same ∙ has.same;

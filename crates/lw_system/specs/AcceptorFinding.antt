@@ -1,6 +1,6 @@
 -- The reading of the file that says a system that is asked for an acceptor, and of the acceptor file that a setup names.
 use Rattle.std.specs.Prelude.{◌≡◌, ◌≢◌, ℕ, ◌≤◌, List, [], Result, IfOk, IfErr, OnOk}
-use Rattle.lw_accept.specs.AcceptorFile.{IsAcceptorFile, IsAcceptorFault}
+use Rattle.lw_accept.specs.AcceptorFile.{AreAcceptorLetters, IsAcceptorFile, IsAcceptorFault}
 use Rattle.lw_accept.specs.AskedNames.{HaveNoRoom}
 use Rattle.lw_accept.specs.declared.fault.AcceptorFault.{AcceptorFault}
 use Rattle.lw_accept.specs.declared.fault.AcceptorFault.TheVariants.{NoMemory}
@@ -48,7 +48,7 @@ IsNoAcceptorSystem source.Table name files_before files_now why = ⊥
 IsNoAcceptorSystem source.Setup name files_before files_now (stop.Setup why) = IsNotRead IsSetupFile IsSetupFault name files_before files_now why
 IsNoAcceptorSystem source.Setup name files_before files_now (stop.Table why) = NamesNoAcceptor name files_before files_now why
 IsNoAcceptorSystem source.Setup name files_before files_now (stop.Letters fault) = HasNoRoomFor name files_before files_now fault
-IsNoAcceptorSystem source.Setup name files_before files_now stop.NoMemory = (c : Command) × SaidSetup name files_before files_now (setup.Command c)
+IsNoAcceptorSystem source.Setup name files_before files_now stop.NoMemory = (c : Command) × SaidSetup name files_before files_now (setup.Command c) × AreAcceptorLetters c.inputs
 
 -- the hint at a setup that was read, and none at an acceptor file, or at a setup that wasn't read
 abbrev pub HasAcceptorHint : Source → List ℕ → List File → List File → List ℕ → AcceptorStop → Type 0

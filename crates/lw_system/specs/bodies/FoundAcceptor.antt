@@ -44,7 +44,7 @@ SaysNone v files_before files_now (stop.Setup why) = ⊥
 SaysNone v files_before files_now (stop.Table why) = (table : List ℕ) × (v ≡ setup.Table table) × IsNotRead IsAcceptorFile IsAcceptorFault table files_before files_now why
 SaysNone v files_before files_now (stop.Letters fault) =
     (c : Command) × (v ≡ setup.Command c) × HaveNoRoom c.inputs fault × (fault ≢ NoMemory) × (files_now ≡ files_before)
-SaysNone v files_before files_now stop.NoMemory = (c : Command) × (v ≡ setup.Command c) × (files_now ≡ files_before)
+SaysNone v files_before files_now stop.NoMemory = (c : Command) × (v ≡ setup.Command c) × AreAcceptorLetters c.inputs × (files_now ≡ files_before)
 
 -- what came of the reading of what a setup says
 pub record HasSaidAcceptor (v : Setup) (files_before files_now : FilesState) (result : Result System AcceptorStop) : Type 0 where
