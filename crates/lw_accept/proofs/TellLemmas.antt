@@ -8,7 +8,7 @@ use Rattle.lw_mealy.specs.Machine.{Rows, IsMachine, IsMinimal, Equal, Gives, aft
 use Rattle.lw_mealy.proofs.RowLemmas.{is_row, target_below}
 use Rattle.lw_mealy.proofs.WordLemmas.{after_below}
 use Rattle.lw_accept.specs.Acceptor.{Automaton, IsAcceptor, AcceptAlike, accepts, accepts_in, reached, target}
-use Rattle.lw_accept.specs.Laws.{AreOver, AcceptorsAreSure, AnswersAreTold, NoAcceptorGives}
+use Rattle.lw_accept.specs.Laws.{AreOver, AcceptorsAreSure, AnswersAreTold, OthersGiveNone}
 use Rattle.lw_accept.specs.View.{MayView, SaysAsTold, told, told_from, verdict, viewed}
 use Rattle.lw_accept.proofs.ViewLemmas.{at_letter, at_question, machine, reached_more, states, target_is}
 
@@ -154,8 +154,11 @@ pub answers_are_told : AnswersAreTold
 answers_are_told a m ks is over gives = all_told a m is ks over gives
 
 pub acceptors_are_sure : AcceptorsAreSure
-acceptors_are_sure a k m n ks is_m is_n over gives sure few said =
-    alike a m n is_m is_n (sure (viewed n) (machine a n is_n) (omega (arith, states a n is_n, states a m is_m, few)) (all_given a m n is_m is_n ks over gives said))
+acceptors_are_sure a k m ks is_m over gives sure = record {
+  says = all_told a m is_m ks over gives;
+  sure = λ n is_n few said.
+      alike a m n is_m is_n (sure (viewed n) (machine a n is_n) (omega (arith, states a n is_n, states a m is_m, few)) (all_given a m n is_m is_n ks over gives said));
+}
 
 -- states of a minimal machine that answer alike are one
 one_state : (b : ℕ) (h : Rows) (p q : ℕ) → IsMinimal b h → p < length h → q < length h → Alike b h h p q → p ≡ q
@@ -180,8 +183,8 @@ module _ (a : ℕ) (h : Rows) (n : Automaton) (is_n : IsAcceptor a n) (machine_h
       let c : cell (viewed n) p (suc x) ≡ (target n.targets p x, 2) = at_letter a n is_n p x lp (omega (arith, lx)) in
       sym (ap (λ (t : ℕ × ℕ). t.1) (sym c) ∙ alike_at (a + 1) (viewed n) h p q (suc x) lx alike)
 
-pub no_acceptor_gives : NoAcceptorGives
-no_acceptor_gives a k q x h ks n machine_h minimal sure first is_n few gives =
+pub others_give_none : OthersGiveNone
+others_give_none a k q x h ks machine_h minimal sure first n is_n few gives =
     let equal : Equal (a + 1) (viewed n) h = sure (viewed n) (machine a n is_n) (omega (arith, states a n is_n, few)) gives in
     let r = minimal.reached q first.state in
     let p : ℕ = after (viewed n) 0 r.0 in

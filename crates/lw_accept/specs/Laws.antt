@@ -32,17 +32,24 @@ AreOver a ks = All (λ k. IsWord a k.word) ks
 abbrev pub AnswersAreTold : Type 0
 AnswersAreTold = (a : ℕ) (m : Automaton) (ks : List Answer) → IsAcceptor a m → AreOver (a + 1) ks → Gives (viewed m) ks → SaysAsTold m (told ks)
 
--- where the answers are worth something for an acceptor's machine, each acceptor of few states that says as they tell accepts
--- the same words
-abbrev pub AcceptorsAreSure : Type 0
-AcceptorsAreSure = (a k : ℕ) (m n : Automaton) (ks : List Answer) → IsAcceptor a m → IsAcceptor a n → AreOver (a + 1) ks → Gives (viewed m) ks
-    → Sure (a + 1) (viewed m) ks k → length n.targets ≤ length m.targets + k → SaysAsTold n (told ks) → AcceptAlike a n m
+-- answers fix an acceptor over a letters: it says as they tell, and each of at most k states more that does so too accepts the
+-- same words
+pub record FixAcceptor (a k : ℕ) (m : Automaton) (ks : List Answer) : Type 0 where
+  pub says : SaysAsTold m (told ks)
+  pub sure : (n : Automaton) → IsAcceptor a n → length n.targets ≤ length m.targets + k → SaysAsTold n (told ks) → AcceptAlike a n m
 
--- where they are worth something for a minimal machine that is no acceptor's, no acceptor of few states has a machine that
--- gives them
-abbrev pub NoAcceptorGives : Type 0
-NoAcceptorGives = (a k q x : ℕ) (h : Rows) (ks : List Answer) (n : Automaton) → IsMachine (a + 1) h → IsMinimal (a + 1) h → Sure (a + 1) h ks k
-    → IsFirstUnviewed h q x → IsAcceptor a n → length n.targets ≤ length h + k → ¬ Gives (viewed n) ks
+-- so they do where they are sure for its machine
+abbrev pub AcceptorsAreSure : Type 0
+AcceptorsAreSure = (a k : ℕ) (m : Automaton) (ks : List Answer) → IsAcceptor a m → AreOver (a + 1) ks → Gives (viewed m) ks → Sure (a + 1) (viewed m) ks k → FixAcceptor a k m ks
+
+-- no acceptor of at most so many states has a machine that gives the answers
+abbrev pub NoAcceptorGives : (a most : ℕ) → List Answer → Type 0
+NoAcceptorGives a most ks = (n : Automaton) → IsAcceptor a n → length n.targets ≤ most → ¬ Gives (viewed n) ks
+
+-- none of few states has where they are sure for a minimal machine that is no acceptor's
+abbrev pub OthersGiveNone : Type 0
+OthersGiveNone = (a k q x : ℕ) (h : Rows) (ks : List Answer) → IsMachine (a + 1) h → IsMinimal (a + 1) h → Sure (a + 1) h ks k
+    → IsFirstUnviewed h q x → NoAcceptorGives a (length h + k) ks
 
 -- why a machine gives no acceptor: a pair, or memory where there is none
 abbrev pub IsUnviewable : Rows → ViewFault → Type 0

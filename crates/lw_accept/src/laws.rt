@@ -1,6 +1,6 @@
 //! Laws that the definitions of acceptors keep. They compute nothing.
 ghost use Rattle.lw_accept.specs.AcceptorFile.{AcceptorFilesHaveNoFault, AcceptorFilesHaveOneValue, HaveOneAcceptorFault};
-ghost use Rattle.lw_accept.specs.Laws.{AcceptorsAreSure, AnswersAreTold, NoAcceptorGives, ViewsAreMachines, ViewsAreViews, ViewsAreWithinLimits, ViewsDiffer};
+ghost use Rattle.lw_accept.specs.Laws.{AcceptorsAreSure, AnswersAreTold, OthersGiveNone, ViewsAreMachines, ViewsAreViews, ViewsAreWithinLimits, ViewsDiffer};
 
 /// Bytes of the grammar have no fault.
 pub fn acceptor_files_have_no_fault()
@@ -29,5 +29,5 @@ pub fn views_are_machines()
 pub fn answers_are_told()
     ensures told { AnswersAreTold }
     ensures sure { AcceptorsAreSure }
-    ensures none { NoAcceptorGives }
+    ensures none { OthersGiveNone }
 {}
