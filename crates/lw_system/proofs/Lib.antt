@@ -1,5 +1,6 @@
 pub mod AcceptorLemmas
 pub mod FindingLemmas
+pub mod GoalLemmas
 pub mod HintLemmas
 pub mod ReadLemmas
 pub mod ReadsLemmas

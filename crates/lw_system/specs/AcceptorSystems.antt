@@ -21,6 +21,10 @@ pub record IsViewOf (m : NamedAcceptor) (machine : Machine) : Type 0 where
   pub outputs : machine.outputs ≡ answer_names
   pub mealy : machine.mealy ≡ viewed_machine (length m.inputs) m.automaton
 
+-- the bytes are an acceptor's file, and this is the machine that is asked in its place
+abbrev pub IsViewFile : List ℕ → Machine → Type 0
+IsViewFile bytes machine = (m : NamedAcceptor) × IsAcceptorFile bytes m × IsViewOf m machine
+
 -- a command whose children are asked `?` too, and answer `yes`, `no` and `ok`; outputs that it declares don't count
 abbrev pub asked_command : Command → Command
 asked_command c = record { words = c.words; inputs = asked_names c.inputs; outputs = Some answer_names }

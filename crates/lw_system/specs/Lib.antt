@@ -2,6 +2,7 @@ pub mod AcceptorFinding
 pub mod AcceptorSystems
 pub mod Ends
 pub mod Finding
+pub mod Goals
 pub mod NewLines
 pub mod Reading
 pub mod Reads

@@ -3,27 +3,19 @@ ghost use Rattle.std.specs.Prelude.{◌≡◌, ◌≤◌, ℕ, List, Some, IfErr
 ghost use Rattle.lw_accept.specs.AcceptorFile.{IsAcceptorFault, IsAcceptorFile};
 ghost use Rattle.lw_json.specs.SetupFile.{IsSetupFile};
 ghost use Rattle.lw_system.specs.AcceptorFinding.{HasFoundAcceptor};
-ghost use Rattle.lw_system.specs.AcceptorSystems.{IsAskedFor};
+ghost use Rattle.lw_system.specs.AcceptorSystems.{IsAskedFor, IsViewFile};
 ghost use Rattle.lw_system.specs.Reading.{HasRead};
 ghost use Rattle.lw_system.specs.Systems.{HasWords, letters_of};
 ghost use Rattle.lw_system.specs.bodies.FoundAcceptor.{HasAskedCommand, HasReadAcceptor, HasSaidAcceptor, HasSaidTable, HasViewed, letters_stop};
 ghost use Rattle.lw_system.specs.declared.source.Source.{Source as Kind};
 
 use crate::reading::read_setup_with;
-use crate::{AcceptorStop, ReadStop, Source, System};
+use crate::{AcceptorStop, Found, ReadStop, Source, System};
 use lw_accept::{Acceptor, AcceptorFault, answer_names, asked_names, read_acceptor, view};
-use lw_json::{Command, JsonFault, Setup};
+use lw_json::{Command, JsonFault, Machine, Setup};
 use lw_outside::Files;
 use lw_words::NoMemory;
 use std::alloc::Global;
-
-/// A system that is asked for an acceptor and that a file says, or why there is none; and the hint at a member that its setup
-/// doesn't know, or nothing.
-#[derive(Drop)]
-pub struct FoundAcceptor {
-    pub system: Result<System, AcceptorStop>,
-    pub hint: Vec<u8>,
-}
 
 /// Reads an acceptor file.
 pub fn read_acceptor_file<F: Files>(
@@ -41,6 +33,25 @@ pub fn read_acceptor_file<F: Files>(
     match read_acceptor(alloc, &bytes) {
         Ok(acceptor) => Ok(acceptor),
         Err(fault) => Err(ReadStop::from(fault)),
+    }
+}
+
+/// Reads an acceptor file, for the machine that is asked in the acceptor's place.
+pub fn read_view_file<F: Files>(
+    alloc: Global,
+    files: &mut F,
+    name: &str,
+) -> Result<Machine, ReadStop<AcceptorFault>>
+    ensures { HasRead IsViewFile IsAcceptorFault name.now (F.state files.old)
+        (F.state files.new) result }
+{
+    let acceptor = match read_acceptor_file(alloc, files, name) {
+        Ok(acceptor) => acceptor,
+        Err(stop) => return Err(stop),
+    };
+    match view(alloc, &acceptor) {
+        Ok(machine) => Ok(machine),
+        Err(NoMemory) => Err(ReadStop::NoMemory),
     }
 }
 
@@ -117,17 +128,17 @@ fn read_said<F: Files>(alloc: Global, setup: Setup, files: &mut F) -> Result<Sys
 }
 
 /// Finds the system that a setup file says.
-fn find_setup<F: Files>(alloc: Global, name: &str, files: &mut F) -> FoundAcceptor
+fn find_setup<F: Files>(alloc: Global, name: &str, files: &mut F) -> Found<AcceptorStop>
     ensures found { HasFoundAcceptor Kind.Setup name.now (F.state files.old) (F.state files.new)
         result.system result.hint.items }
     ensures words { IfOk result.system HasWords }
 {
     match read_setup_with(alloc, files, name) {
-        Ok(file) => FoundAcceptor {
+        Ok(file) => Found {
             system: read_said(alloc, file.setup, files),
             hint: file.hint,
         },
-        Err(stop) => FoundAcceptor {
+        Err(stop) => Found {
             system: Err(AcceptorStop::Setup(stop)),
             hint: Vec::new(alloc),
         },
@@ -141,7 +152,7 @@ pub fn find_acceptor<F: Files>(
     source: Source,
     name: &str,
     files: &mut F,
-) -> FoundAcceptor
+) -> Found<AcceptorStop>
     ensures found { HasFoundAcceptor source name.now (F.state files.old) (F.state files.new)
         result.system result.hint.items }
     ensures asked { IfOk result.system (λ s. (letters : List (List ℕ)) × IsAskedFor letters s) }
@@ -149,7 +160,7 @@ pub fn find_acceptor<F: Files>(
 {
     match source {
         Source::Setup => find_setup(alloc, name, files),
-        Source::Table => FoundAcceptor {
+        Source::Table => Found {
             system: table_system(alloc, name, files),
             hint: Vec::new(alloc),
         },

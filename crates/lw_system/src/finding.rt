@@ -14,8 +14,8 @@ use std::alloc::Global;
 
 /// A system that a file says, or why there is none; and the hint at a member that its setup doesn't know, or nothing.
 #[derive(Drop)]
-pub struct Found {
-    pub system: Result<System, SystemStop>,
+pub struct Found<S> {
+    pub system: Result<System, S>,
     pub hint: Vec<u8>,
 }
 
@@ -48,7 +48,7 @@ fn read_said<F: Files>(alloc: Global, setup: Setup, files: &mut F) -> Result<Sys
 }
 
 /// Finds the system that a setup file says.
-fn find_setup<F: Files>(alloc: Global, name: &str, files: &mut F) -> Found
+fn find_setup<F: Files>(alloc: Global, name: &str, files: &mut F) -> Found<SystemStop>
     ensures found { HasFound Kind.Setup name.now (F.state files.old) (F.state files.new)
         result.system result.hint.items }
     ensures letters { IfOk result.system (λ s. length (letters_of s) ≤ 64) }
@@ -70,7 +70,12 @@ fn find_setup<F: Files>(alloc: Global, name: &str, files: &mut F) -> Found
 }
 
 /// Finds the system that the file of this kind says: reads it, and the table file that a setup names.
-pub fn find_system<F: Files>(alloc: Global, source: Source, name: &str, files: &mut F) -> Found
+pub fn find_system<F: Files>(
+    alloc: Global,
+    source: Source,
+    name: &str,
+    files: &mut F,
+) -> Found<SystemStop>
     ensures found { HasFound source name.now (F.state files.old) (F.state files.new) result.system
         result.hint.items }
     ensures letters { IfOk result.system (λ s. length (letters_of s) ≤ 64) }

@@ -36,6 +36,15 @@ pub enum AcceptorStop {
     NoMemory,
 }
 
+/// Why files say no system, by what is to be learned of it.
+#[derive(Clone, Copy, Debug, PartialEq, Eq)]
+pub enum NoSystem {
+    /// Of which a machine is to be learned.
+    Machine(SystemStop),
+    /// Of which an acceptor is.
+    Acceptor(AcceptorStop),
+}
+
 impl<F> From<FilesStop> for ReadStop<F> {
     ghost use Rattle.std.specs.Prelude.{◌≡◌};
     ghost use Rattle.lw_system.specs.Stops.{unread};
