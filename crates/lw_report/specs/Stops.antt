@@ -8,6 +8,8 @@ use Rattle.lw_system.specs.declared.source.Source.TheVariants as source
 use Rattle.lw_json.specs.declared.fault.JsonFault.{JsonFault}
 use Rattle.lw_system.specs.declared.stops.AcceptorStop.{AcceptorStop}
 use Rattle.lw_system.specs.declared.stops.AcceptorStop.TheVariants as acceptor
+use Rattle.lw_system.specs.declared.stops.NoSystem.{NoSystem}
+use Rattle.lw_system.specs.declared.stops.NoSystem.TheVariants as none
 use Rattle.lw_system.specs.declared.stops.ReadStop.{ReadStop}
 use Rattle.lw_system.specs.declared.stops.ReadStop.TheVariants.{Failed, TooLong, Bad, NoMemory as NoMemoryToRead}
 use Rattle.lw_system.specs.declared.stops.SystemStop.{SystemStop}
@@ -47,6 +49,11 @@ no_acceptor_outcome (acceptor.Setup stop) = read_outcome role.Setup stop
 no_acceptor_outcome (acceptor.Table stop) = acceptor_outcome role.Table stop
 no_acceptor_outcome (acceptor.Letters fault) = BadAcceptor fault
 no_acceptor_outcome acceptor.NoMemory = NoMemory
+
+-- what files come to that say no system, by what is to be learned of it
+abbrev pub no_system_outcome : NoSystem → Outcome
+no_system_outcome (none.Machine stop) = unread_outcome stop
+no_system_outcome (none.Acceptor stop) = no_acceptor_outcome stop
 
 -- what a start that gave no child comes to
 abbrev pub start_outcome : StartFailure → StartStop → Outcome

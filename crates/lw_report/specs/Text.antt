@@ -65,12 +65,14 @@ usage_lines =
     codes "usage: learn (SETUP | --table FILE) [--workers N] [--extra K] [--learner table|ttt] [--max-states N]\n"
     ++ (codes "             [--model FILE] [--answers FILE] [--prior FILE] [--kept FILE]\n"
     ++ (codes "             [--words FILE] [--random R --length L --seed S] [--log FILE] [--suite w|wp|h]\n"
-    ++ (codes "       check MODEL ANSWERS [--extra K] [--suite w|wp|h]\n"
+    ++ (codes "       accept (SETUP | --table FILE) [--workers N] [--extra K] [--learner table|ttt] [--max-states N]\n"
+    ++ (codes "              [--model FILE] [--kept FILE] [--words FILE] [--random R --length L --seed S] [--log FILE]\n"
+    ++ (codes "       check (MODEL | --acceptor FILE) ANSWERS [--extra K] [--suite w|wp|h]\n"
     ++ (codes "       serve MODEL\n"
-    ++ (codes "       ask (SETUP | --table FILE) WORD...\n"
+    ++ (codes "       ask (SETUP | --table FILE | --accept SETUP | --acceptor FILE) WORD...\n"
     ++ (codes "       recheck SETUP ANSWERS\n"
     ++ (codes "       compare MODEL MODEL\n"
-    ++ codes "       trial --states N --inputs A --seed S [--workers N] [--learner table|ttt] [--suite w|wp|h]\n")))))))
+    ++ codes "       trial --states N --inputs A --seed S [--workers N] [--learner table|ttt] [--suite w|wp|h]\n")))))))))
 
 abbrev pub differs_line : ℕ → ℕ → List ℕ
 differs_line answer place = codes "no: answer " ++ (decimal answer ++ (codes " differs at place " ++ (decimal place ++ codes "\n")))

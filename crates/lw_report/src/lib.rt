@@ -19,8 +19,8 @@ pub use end::{End, refuse};
 pub use outcome::{Outcome, Tried, status};
 pub use role::Role;
 pub use stops::{
-    TellStop, learn_outcome, no_acceptor_outcome, read_outcome, start_outcome, system_outcome,
-    unread_outcome,
+    TellStop, acceptor_outcome, learn_outcome, no_acceptor_outcome, no_system_outcome,
+    read_outcome, start_outcome, system_outcome, unread_outcome,
 };
 pub use texts::{outcome_text, text};
 pub use writing::{Said, UNSAID, put_report, say, write_file};

@@ -2,7 +2,7 @@
 //! outcome was not told.
 ghost use Rattle.std.specs.Prelude.{◌≡◌};
 ghost use Rattle.lw_report.specs.Learnings.{ask_outcome, learn_outcome, system_outcome};
-ghost use Rattle.lw_report.specs.Stops.{acceptor_outcome, no_acceptor_outcome, read_outcome, role_of, start_outcome, unread_outcome};
+ghost use Rattle.lw_report.specs.Stops.{acceptor_outcome, no_acceptor_outcome, no_system_outcome, read_outcome, role_of, start_outcome, unread_outcome};
 
 use crate::{Outcome, Role};
 use lw_accept::AcceptorFault;
@@ -10,7 +10,7 @@ use lw_cache::AskStop;
 use lw_json::JsonFault;
 use lw_outside::{Failed, Spawner, StartStop};
 use lw_rounds::LearnStop;
-use lw_system::{AcceptorStop, ReadStop, Source, SystemStop};
+use lw_system::{AcceptorStop, NoSystem, ReadStop, Source, SystemStop};
 use lw_words::{NoMemory, SulStop};
 
 /// Why an outcome was not told.
@@ -53,7 +53,7 @@ pub fn unread_outcome(stop: SystemStop) -> Outcome
 }
 
 /// What an acceptor file in this role comes to that was not read.
-fn acceptor_outcome(stop: ReadStop<AcceptorFault>, role: Role) -> Outcome
+pub fn acceptor_outcome(stop: ReadStop<AcceptorFault>, role: Role) -> Outcome
     ensures { result ≡ acceptor_outcome role stop }
 {
     match stop {
@@ -73,6 +73,16 @@ pub fn no_acceptor_outcome(stop: AcceptorStop) -> Outcome
         AcceptorStop::Table(stop) => acceptor_outcome(stop, Role::Table),
         AcceptorStop::Letters(fault) => Outcome::BadAcceptor(fault),
         AcceptorStop::NoMemory => Outcome::NoMemory,
+    }
+}
+
+/// What files come to that say no system, by what is to be learned of it.
+pub fn no_system_outcome(stop: NoSystem) -> Outcome
+    ensures { result ≡ no_system_outcome stop }
+{
+    match stop {
+        NoSystem::Machine(stop) => unread_outcome(stop),
+        NoSystem::Acceptor(stop) => no_acceptor_outcome(stop),
     }
 }
 
