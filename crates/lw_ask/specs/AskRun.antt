@@ -11,16 +11,17 @@ use Rattle.lw_sul.specs.declared.runs.Run.{Run}
 use Rattle.lw_outside.specs.Links.{SpawnerState}
 use Rattle.lw_outside.specs.Files.{FilesState}
 use Rattle.lw_outside.specs.Streams.{SinkState}
-use Rattle.lw_system.specs.Finding.{HasHint, IsNoSystemWith}
+use Rattle.lw_system.specs.Finding.{HasHint}
+use Rattle.lw_system.specs.Goals.{IsNoSystemFor, ReadsSystemFor}
 use Rattle.lw_system.specs.Reads.{MadeReads}
 use Rattle.lw_system.specs.Spawners.{HasNotStarted}
-use Rattle.lw_system.specs.Systems.{ReadsSystem, letters_of}
-use Rattle.lw_system.specs.declared.stops.SystemStop.{SystemStop}
+use Rattle.lw_system.specs.Systems.{letters_of}
+use Rattle.lw_system.specs.declared.stops.NoSystem.{NoSystem}
 use Rattle.lw_system.specs.declared.system.System.{System}
 use Rattle.lw_system.specs.declared.system.System.TheVariants.{Table, Children}
 use Rattle.lw_report.specs.Ends.{IsWithoutLearner}
 use Rattle.lw_report.specs.Outcomes.{StandsOrWants}
-use Rattle.lw_report.specs.Stops.{start_outcome, unread_outcome}
+use Rattle.lw_report.specs.Stops.{no_system_outcome, start_outcome}
 use Rattle.lw_report.specs.Writing.{TakesAll, TakesSome, said_text}
 use Rattle.lw_report.specs.declared.«end».End.{End}
 use Rattle.lw_report.specs.declared.outcome.Outcome.{Outcome}
@@ -87,9 +88,9 @@ AsksTexts s texts spawner_before spawner_now out_before out_now kept why = AsksW
 
 -- the files say no system, with this hint: nothing is asked
 pub record HasNoSystem (a : AskValues) (files_before files_now : FilesState) (spawner_before spawner_now : SpawnerState) (out_before out_now : SinkState) (hint : List ℕ) (kept : List KeptAnswer) (why : Outcome) : Type 0 where
-  pub stop : SystemStop
-  pub outcome : why ≡ unread_outcome stop
-  pub cause : IsNoSystemWith a.source a.system files_before files_now hint stop
+  pub stop : NoSystem
+  pub outcome : why ≡ no_system_outcome stop
+  pub cause : IsNoSystemFor a.goal a.source a.system files_before files_now hint stop
   pub nothing : kept ≡ []
   pub unstarted : spawner_now ≡ spawner_before
   pub unput : out_now ≡ out_before
@@ -97,7 +98,7 @@ pub record HasNoSystem (a : AskValues) (files_before files_now : FilesState) (sp
 -- the files say a system, by reads of which none failed, and this hint
 pub record HasSystem (a : AskValues) (files_before files_now : FilesState) (spawner_before spawner_now : SpawnerState) (out_before out_now : SinkState) (hint : List ℕ) (kept : List KeptAnswer) (why : Outcome) : Type 0 where
   pub system : System
-  pub reads : ReadsSystem a.source a.system files_before.holds files_before.reads files_now.reads system
+  pub reads : ReadsSystemFor a.goal a.source a.system files_before.holds files_before.reads files_now.reads system
   pub made : MadeReads files_before files_now []
   pub quiet : files_now.faults ≡ files_before.faults
   pub told : HasHint a.source a.system files_before.reads files_now.reads hint

@@ -1,13 +1,14 @@
 //! The values of the arguments of `ask`.
 ghost use Rattle.std.specs.Prelude.{◌≡◌, map, string_bytes};
 
-use lw_system::Source;
+use lw_system::{Goal, Source};
 use std::marker::Model;
 
-/// The values of the arguments of `ask`: the file of the system and its kind, and the words, each of which is the names of its
-/// letters with blanks between them.
+/// The values of the arguments of `ask`: what is asked of the system, its file and the kind of this, and the words, each of
+/// which is the names of its letters with blanks between them.
 #[derive(Drop)]
 pub struct AskArguments {
+    goal: Goal,
     source: Source,
     system: String,
     words: Vec<String>,
@@ -20,6 +21,7 @@ impl Model for AskArguments {
     ghost Value = { AskValues };
 
     ghost view = { λ a. record {
+      goal = a.goal;
       source = a.source;
       system = string_bytes a.system;
       words = map (λ s. string_bytes s) a.words.items;
@@ -28,18 +30,27 @@ impl Model for AskArguments {
 
 impl AskArguments {
     /// Takes no memory.
-    pub fn new(source: Source, system: String, words: Vec<String>) -> AskArguments
+    pub fn new(goal: Goal, source: Source, system: String, words: Vec<String>) -> AskArguments
         ensures { result ≡ record {
+          goal = goal;
           source = source;
           system = string_bytes system;
           words = map (λ s. string_bytes s) words.items;
         } }
     {
         AskArguments {
+            goal,
             source,
             system,
             words,
         }
+    }
+
+    /// Whether the system is asked as a machine, or for an acceptor.
+    pub fn goal(&self) -> Goal
+        ensures { result ≡ self.now.goal }
+    {
+        self.goal
     }
 
     /// What kind of file the system is read of.

@@ -16,9 +16,9 @@ use crate::child::ask_child;
 use crate::stop::AskingStop;
 use lw_json::{Command, Machine};
 use lw_outside::{Files, Sink, Spawner, put_all};
-use lw_report::{End, Outcome, UNSAID, refuse, start_outcome, system_outcome, unread_outcome};
+use lw_report::{End, Outcome, UNSAID, no_system_outcome, refuse, start_outcome, system_outcome};
 use lw_sul::{Session, TableSul};
-use lw_system::{Found, System, find_system};
+use lw_system::{Found, System, find_for};
 use lw_wordlist::{WordStop, read_words};
 use lw_words::{Kept, Words};
 use std::alloc::Global;
@@ -183,9 +183,9 @@ fn ask_texts<P: Spawner, O: Sink>(
 }
 
 /// Asks words of a system: of one child, which is started and retired again whatever comes, or of a machine. First the file is
-/// read that says the system, and the table file that a setup names. A member that the setup doesn't know is told to `err`. Then
-/// the texts of the words are read, each word is asked, and its line put to `out` at once. The text of every other outcome goes to
-/// `err`. May wait for the child.
+/// read that says the system, and the table file that a setup names, by whether a machine is asked or an acceptor. A member
+/// that the setup doesn't know is told to `err`. Then the texts of the words are read, each word is asked, and its line put to
+/// `out` at once. The text of every other outcome goes to `err`. May wait for the child.
 pub fn ask<F: Files, P: Spawner, O: Sink, E: Sink>(
     alloc: Global,
     arguments: &AskArguments,
@@ -206,7 +206,13 @@ pub fn ask<F: Files, P: Spawner, O: Sink, E: Sink>(
         ((O.state out.old).faults ≤ (O.state out.new).faults) ×
         ((E.state err.old).faults ≤ (E.state err.new).faults) }
 {
-    let Found { system, hint } = find_system(alloc, arguments.source(), arguments.system(), files);
+    let Found { system, hint } = find_for(
+        alloc,
+        arguments.goal(),
+        arguments.source(),
+        arguments.system(),
+        files,
+    );
     put_hint(hint.as_slice(), err);
     match system {
         Ok(system) => {
@@ -215,7 +221,7 @@ pub fn ask<F: Files, P: Spawner, O: Sink, E: Sink>(
         }
         Err(stop) => {
             let kept = Kept::new(alloc);
-            let outcome = unread_outcome(stop);
+            let outcome = no_system_outcome(stop);
             end_call(alloc, Told { kept, outcome }, err)
         }
     }
