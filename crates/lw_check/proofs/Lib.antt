@@ -1,5 +1,6 @@
 pub mod DecideLemmas
 pub mod EndLemmas
 pub mod ExistenceClash
+pub mod ModelLemmas
 pub mod OverLemmas
 pub mod ReadLemmas

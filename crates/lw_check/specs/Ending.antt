@@ -9,15 +9,17 @@ use Rattle.lw_check.specs.Decision.{IsYesOrNo, IsDecision, Pair}
 use Rattle.lw_check.specs.Reading.{IsUnread, ReadsPair}
 use Rattle.lw_outside.specs.Files.{FilesState}
 use Rattle.lw_outside.specs.Streams.{SinkState}
+use Rattle.lw_system.specs.declared.goal.Goal.{Goal}
 use Rattle.lw_report.specs.Text.{text_of}
 use Rattle.lw_report.specs.Writing.{TakesAll, TakesSome}
 use Rattle.lw_report.specs.declared.outcome.Outcome.{Outcome}
 use Rattle.lw_report.specs.declared.outcome.Outcome.TheVariants.{NoMemory, FileFault, SinkFault}
 use Rattle.lw_report.specs.declared.role.Role.{Role}
 
--- no pair was read: no answers are kept, no outputs are named, nothing is put to `out`, and the outcome's text goes to `err`, whole where that counts no fault
-pub record EndsUnread (model answers : List ℕ) (before now : FilesState) (extra : ℕ) (out out_now err err_now : SinkState) (outcome : Outcome) (kept : List KeptAnswer) (outputs : Option Naming) : Type 0 where
-  pub cause : IsUnread model answers before now outcome
+-- no pair was read: no answers are kept, no outputs are named, nothing is put to `out`, and the outcome's text goes to `err`,
+-- whole where that counts no fault
+pub record EndsUnread (aim : Goal) (model answers : List ℕ) (before now : FilesState) (extra : ℕ) (out out_now err err_now : SinkState) (outcome : Outcome) (kept : List KeptAnswer) (outputs : Option Naming) : Type 0 where
+  pub cause : IsUnread aim model answers before now outcome
   pub kept_none : kept ≡ []
   pub unnamed : outputs ≡ None
   pub unwritten : out_now ≡ out
@@ -32,11 +34,12 @@ ComesTo method pair extra out out_now outcome =
     ⊎ ((outcome ≡ NoMemory)
     ⊎ ((outcome ≡ SinkFault) × CountedFault out.faults out_now.faults × ((decision : Outcome) × IsYesOrNo decision × IsDecision method pair extra decision × TakesSome (text_of pair.inputs pair.outputs pair.kept extra decision) out.taken out_now.taken)))
 
--- a pair was read: its answers are kept, and its outputs are named; a yes or a no is put to `out`, without a fault, and nothing to `err`; of any other
--- outcome but a fault of a stream nothing is put to `out`, and its text goes to `err`, whole where that counts no fault
-pub record EndsPairRead (method : Method) (model answers : List ℕ) (before now : FilesState) (extra : ℕ) (out out_now err err_now : SinkState) (outcome : Outcome) (kept : List KeptAnswer) (outputs : Option Naming) : Type 0 where
+-- a pair was read: its answers are kept, and its outputs are named; a yes or a no is put to `out`, without a fault, and nothing
+-- to `err`; of any other outcome but a fault of a stream nothing is put to `out`, and its text goes to `err`, whole where that
+-- counts no fault
+pub record EndsPairRead (aim : Goal) (method : Method) (model answers : List ℕ) (before now : FilesState) (extra : ℕ) (out out_now err err_now : SinkState) (outcome : Outcome) (kept : List KeptAnswer) (outputs : Option Naming) : Type 0 where
   pub pair : Pair
-  pub read : ReadsPair model answers before now pair
+  pub read : ReadsPair aim model answers before now pair
   pub kept_all : kept ≡ pair.kept
   pub named : NamesOutputs pair outcome outputs
   pub comes : ComesTo method pair extra out out_now outcome

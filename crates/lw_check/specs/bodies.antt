@@ -1,2 +1,3 @@
 -- What the contracts of private functions cite, and no public clause.
+pub mod Models
 pub mod Verdicts

@@ -76,9 +76,10 @@ fn finish<O: Sink, E: Sink>(
     End::new(outcome, answers.kept, outputs)
 }
 
-/// `check MODEL ANSWERS [--extra K] [--suite w|wp|h]`: whether the answers of a file fix the model of a file among all machines of
-/// at most so many states more, by that method. Reads the model file, then the answers file; puts a yes or a no to `out`, and the
-/// text of every other outcome to `err`.
+/// `check (MODEL | --acceptor FILE) ANSWERS [--extra K] [--suite w|wp|h]`: whether the answers of a file fix the model of a file
+/// among all machines of at most so many states more, by that method. The model is a machine, or the machine that is asked in the
+/// place of an acceptor. Reads the model file, then the answers file; puts a yes or a no to `out`, and the text of every other
+/// outcome to `err`.
 pub fn check<F: Files, O: Sink, E: Sink>(
     alloc: Global,
     arguments: &CheckArguments,
@@ -87,10 +88,10 @@ pub fn check<F: Files, O: Sink, E: Sink>(
     err: &mut E,
 ) -> End
     ensures status { result.status ≡ status_of result.outcome }
-    ensures ran { IsCheckRun arguments.now.suite (string_bytes arguments.now.model)
-        (string_bytes arguments.now.answers) arguments.now.extra (F.state files.old)
-        (F.state files.new) (O.state out.old) (O.state out.new) (E.state err.old) (E.state err.new)
-        result }
+    ensures ran { IsCheckRun arguments.now.goal arguments.now.suite
+        (string_bytes arguments.now.model) (string_bytes arguments.now.answers)
+        arguments.now.extra (F.state files.old) (F.state files.new) (O.state out.old)
+        (O.state out.new) (E.state err.old) (E.state err.new) result }
     ensures counts { ((F.state files.old).faults ≤ (F.state files.new).faults) ×
         ((O.state out.old).faults ≤ (O.state out.new).faults) ×
         ((E.state err.old).faults ≤ (E.state err.new).faults) }

@@ -18,7 +18,7 @@ returns-in-Err-clause-ran g c = record {
       let said = subst (λ (kept : List KeptAnswer). TakesAll (text_of [] [] kept c.args.arguments.now.extra c.refuse.result.outcome) (E.state c.args.err.now).taken (E.state c.refuse.new.err).taken) c.new-kept.ensures in
       let part = subst (λ (kept : List KeptAnswer). TakesSome (text_of [] [] kept c.args.arguments.now.extra c.refuse.result.outcome) (E.state c.args.err.now).taken (E.state c.refuse.new.err).taken) c.new-kept.ensures in
       inl (record {
-        cause = still_unread (string_bytes c.args.arguments.now.model) (string_bytes c.args.arguments.now.answers) (F.state c.args.files.now) (F.state c.read_named.new.files) c.in-Err.outcome c.refuse.result.outcome c.in-Err.ensures.err c.refuse.ensures.outcome;
+        cause = still_unread c.args.arguments.now.goal (string_bytes c.args.arguments.now.model) (string_bytes c.args.arguments.now.answers) (F.state c.args.files.now) (F.state c.read_named.new.files) c.in-Err.outcome c.refuse.result.outcome c.in-Err.ensures.err c.refuse.ensures.outcome;
         kept_none = none;
         unnamed = c.refuse.ensures.named;
         unwritten = refl {a = g.O.Sink.state c.args.out.now};
@@ -29,7 +29,7 @@ returns-in-Err-clause-ran g c = record {
       let F = g.F.Files in
       let before = F.state c.args.files.now in
       let now = F.state c.read_named.new.files in
-      exact_unread (string_bytes c.args.arguments.now.model) (string_bytes c.args.arguments.now.answers) before now m a decision c.refuse.result.outcome (still_unread (string_bytes c.args.arguments.now.model) (string_bytes c.args.arguments.now.answers) before now c.in-Err.outcome c.refuse.result.outcome c.in-Err.ensures.err c.refuse.ensures.outcome) tm ta;
+      exact_unread c.args.arguments.now.goal (string_bytes c.args.arguments.now.model) (string_bytes c.args.arguments.now.answers) before now m a decision c.refuse.result.outcome (still_unread c.args.arguments.now.goal (string_bytes c.args.arguments.now.model) (string_bytes c.args.arguments.now.answers) before now c.in-Err.outcome c.refuse.result.outcome c.in-Err.ensures.err c.refuse.ensures.outcome) tm ta;
   sure = search rules;
 }
 
@@ -57,7 +57,7 @@ returns-clause-ran g c = record {
       let O = g.O.Sink in
       let before = F.state c.args.files.now in
       let now = F.state c.read_named.new.files in
-      exact_read c.args.arguments.now.suite (string_bytes c.args.arguments.now.model) (string_bytes c.args.arguments.now.answers) before now _ c.args.arguments.now.extra (O.state c.args.out.now) (O.state c.finish.new.out) m a decision c.finish.result.outcome c.in-Ok.ensures.ok c.finish.ensures.comes tm ta d;
+      exact_read c.args.arguments.now.goal c.args.arguments.now.suite (string_bytes c.args.arguments.now.model) (string_bytes c.args.arguments.now.answers) before now _ c.args.arguments.now.extra (O.state c.args.out.now) (O.state c.finish.new.out) m a decision c.finish.result.outcome c.in-Ok.ensures.ok c.finish.ensures.comes tm ta d;
   sure = λ states is.
       let O = g.O.Sink in
       let fixed = yes_is_fixed c.args.arguments.now.suite (pair_of c.in-Ok.read.machine c.in-Ok.read.answers) c.args.arguments.now.extra (O.state c.args.out.now) (O.state c.finish.new.out) states c.finish.result.outcome c.finish.ensures.complete.machine c.finish.ensures.comes is in
