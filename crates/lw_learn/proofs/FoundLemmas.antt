@@ -1,5 +1,5 @@
 -- What came of a learning, by its kind of system: the model that it gives, and that its answers may be written.
-use Rattle.std.proofs.Common.{◌≡◌, ℕ, ◌<◌, ◌≤◌, List, [], ◌++◌, length, map, get_or, Option, Some, None, Result, Ok, Err, IfOk, IfErr, refl, ap, sym, subst, subst₂, arith}
+use Rattle.std.proofs.Common.{◌≡◌, ℕ, ◌<◌, ◌≤◌, List, [], ◌++◌, length, map, get_or, Option, Some, None, Result, Ok, Err, IfOk, IfErr, IfSome, refl, ap, sym, subst, subst₂, arith}
 use Rattle.std.specs.List.{All}
 use Rattle.std.proofs.lemmas.List.{get_or-map, length-map}
 use Rattle.std.proofs.lemmas.List.Elements.{All-append}
@@ -136,6 +136,10 @@ module _ (kind : Kind) (words letters : List (List ℕ)) (workers k most : ℕ) 
   pub command_gives : (method : Method) (outputs : Option (List (List ℕ))) → IsOfCommand kind words letters outputs workers k most prior before now learned kept names → IfOk learned (λ l. IsEnoughFor method (length letters) k (answers_of kept) l.model) → IfOk learned (GivesModel kind method (length letters) (length names) k most kept)
   command_gives method None is enough = let free = is.1 in free_gives kind letters k most kept names free.own_names free.new_numbers free.own_answers free.answers method free.own learned free.same free.ok enough
   command_gives method (Some outputs) is enough = declared_gives kind words letters outputs workers k most prior before now learned kept names is.0 is.1 method enough
+
+  pub command_named : (outputs : Option (List (List ℕ))) → IsOfCommand kind words letters outputs workers k most prior before now learned kept names → IfSome outputs (λ own. names ≡ own)
+  command_named None is = tt
+  command_named (Some outputs) is = is.0
 
   pub command_sizes : (outputs : Option (List (List ℕ))) → IsOfCommand kind words letters outputs workers k most prior before now learned kept names → IfOk learned (λ l. (l.model.inputs ≡ length letters) × (l.model.outputs ≡ length names))
   command_sizes None is = let free = is.1 in free_sizes kind letters k most kept names free.own_names free.new_numbers free.own_answers free.answers free.own learned free.same free.ok

@@ -38,26 +38,27 @@ use Rattle.lw_workers.specs.Asking.{AnswersWords}
 use Rattle.lw_learn.specs.Arguments.{LearnValues}
 use Rattle.lw_learn.specs.Asking.{IsWordlessTask}
 use Rattle.lw_learn.specs.Calls.{MadeWrites}
-use Rattle.lw_json.specs.MachineText.{written_text}
 use Rattle.lw_json.specs.declared.files.Machine.{Machine}
-use Rattle.lw_report.specs.declared.stops.TellStop.TheVariants as tell
 use Rattle.lw_system.specs.NewLines.{count_of}
 use Rattle.lw_learn.specs.Ending.{Carries, EndsLearned, EndsRead, EndsUnread, IsEndOf, IsSoundSystem, IsToldOf, IsUncountedSystem, end_outputs}
 use Rattle.lw_learn.specs.Findings.{IsOfSystem, LearningStopsBy}
-use Rattle.lw_learn.specs.Outcomes.{HasFiles, HasModelFile, IsBadLine, IsLearnedOutcome, IsReachedOutcome, ModelIsTold, ReportIsTold}
+use Rattle.lw_learn.specs.Outcomes.{HasFiles, HasModelFile, IsBadLine, IsBehindOut, IsLearnedOutcome, IsNoAcceptor, IsReachedAcceptor, IsReachedMachine, IsReachedOutcome, IsUntold, ModelIsTold, ReportIsTold, told_of}
 use Rattle.lw_learn.specs.Saving.{HasSaved, IsKeptWritten, IsSaved, IsTextWritten, KeptStand, MayTell, saved_outcome}
+use Rattle.lw_system.specs.Goals.{IsSystemFor}
 use Rattle.lw_system.specs.Systems.{declared_of, letters_of}
-use Rattle.lw_learn.specs.Writing.{NothingFailed, StaysBesides, TakesInTurn, WritesFiles, WritesModel, WritesOut, model_line}
+use Rattle.lw_learn.specs.Writing.{IsModelText, NothingFailed, StaysBesides, TakesInTurn, WritesFiles, WritesModel, WritesOut, model_line}
 use Rattle.lw_learn.specs.bodies.UnreadState.{UnreadState}
 use Rattle.lw_learn.specs.Unread.{IsUnreadAs, IsUnreadBy, names_read}
-use Rattle.lw_learn.specs.bodies.Ready.{GivesModel}
+use Rattle.lw_learn.specs.bodies.Ready.{GivesModel, IsMachineFor}
 use Rattle.lw_learn.specs.bodies.Stages.{IsWordedStage, SaysWorded}
 use Rattle.lw_learn.specs.declared.saving.Saved.{Saved}
 use Rattle.lw_learn.specs.declared.saving.Saved.TheVariants as saving
 use Rattle.lw_learn.specs.declared.task.WordedTask.{WordedTask}
+use Rattle.lw_system.specs.declared.goal.Goal.{Goal}
+use Rattle.lw_system.specs.declared.goal.Goal.TheVariants as aim
 use Rattle.lw_system.specs.declared.system.System.{System}
 use Rattle.lw_system.specs.declared.system.System.TheVariants.{Table, Children}
-use Rattle.lw_learn.proofs.WriteLemmas.{gained_none, holds_beside, out_before, stays_joined, stays_same, text_same}
+use Rattle.lw_learn.proofs.WriteLemmas.{gained_none, holds_beside, out_untold, stays_joined, stays_same, text_same}
 
 -- an outcome that stands, or is out of memory, has what both have
 pub stands_as : (P : Outcome → Type 0) (outcome result : Outcome) → StandsOrWants outcome result → P outcome → P NoMemory → P result
@@ -121,7 +122,7 @@ told_stop a s naming stop kept was f o e d end stands wants none learner kept_is
   nothing = λ is. (refl, refl);
   beside = stays_same a.model a.answers None f.holds;
   said = said;
-  in_turn = record { between = e.taken; some = (0, sink_none e.taken (model_line (letters_of s) naming.names kept a.extra end.model end.refinements)); then = part };
+  in_turn = record { between = e.taken; some = (0, sink_none e.taken (model_line a.goal (letters_of s) naming.names kept a.extra end.model end.refinements)); then = part };
   may = record { learned = λ is. absurd (not_learned is); failed = λ is. absurd (not_file Kept is); wants = wants };
   quiet = λ is. absurd (not_learned is);
   role = λ r is. absurd (not_file r is);
@@ -145,44 +146,56 @@ told_stop a s naming stop kept was f o e d end stands wants none learner kept_is
         (λ h. let wrong : NoMemory ≡ SinkFault = h in cc) (λ c h. let wrong : Nondeterministic c ≡ SinkFault = h in cc) (λ i h. let wrong : SulFailed i ≡ SinkFault = h in cc) (λ i h. let wrong : Gone i ≡ SinkFault = h in cc)
         (λ i line h. let wrong : BadLine i line ≡ SinkFault = h in cc) (λ words h. let wrong : TooManyStates words ≡ SinkFault = h in cc) (λ states number h. let wrong : SuiteTooLarge states number ≡ SinkFault = h in cc) is
 
--- where a model was written out and nothing failed, it is told, or memory ran out
-pub told_reached : (n : ℕ) (model : MealyMachine) (count : ℕ) (outcome : Outcome) → count < n → ModelIsTold model count outcome → (outcome ≡ SinkFault → ⊥) → ((role : Role) → outcome ≡ FileFault role → ⊥) → IsReachedOutcome n outcome
-told_reached n model count (Learned h r) few told sink file = subst (λ (c : ℕ). c < n) (sym told.1) few
-told_reached n model count NoMemory few told sink file = tt
-told_reached n model count SinkFault few told sink file = absurd (sink refl)
-told_reached n model count (FileFault role) few told sink file = absurd (file role refl)
-told_reached n model count (Trial t) few told sink file = absurd told
-told_reached n model count Usage few told sink file = absurd told
-told_reached n model count (Served served) few told sink file = absurd told
-told_reached n model count (SulFailed instance) few told sink file = absurd told
-told_reached n model count (Gone instance) few told sink file = absurd told
-told_reached n model count (BadLine instance line) few told sink file = absurd told
-told_reached n model count (BadAsk number) few told sink file = absurd told
-told_reached n model count SourceFault few told sink file = absurd told
-told_reached n model count (Compared comparison) few told sink file = absurd told
-told_reached n model count Asked few told sink file = absurd told
-told_reached n model count (Rechecked answers) few told sink file = absurd told
-told_reached n model count (Accepted states refinements) few told sink file = absurd told
-told_reached n model count (BadAcceptor bad) few told sink file = absurd told
-told_reached n model count (NotAcceptor state letter) few told sink file = absurd told
-told_reached n model count (UnknownLetter word place) few told sink file = absurd told
-told_reached n model count (Unstarted cause) few told sink file = absurd told
-told_reached n model count (Yes states) few told sink file = absurd told
-told_reached n model count (No verdict) few told sink file = absurd told
-told_reached n model count (Alphabets role) few told sink file = absurd told
-told_reached n model count (Nondeterministic clash) few told sink file = absurd told
-told_reached n model count (SuiteTooLarge states number) few told sink file = absurd told
-told_reached n model count (BadFile role fault) few told sink file = absurd told
-told_reached n model count (FileTooLong role) few told sink file = absurd told
-told_reached n model count (TooManyStates words) few told sink file = absurd told
+-- what holds of what is told of a model, where nothing failed
+report_is : (P : Outcome → Type 0) (told outcome : Outcome) → ReportIsTold told outcome → P told → P NoMemory → (outcome ≡ SinkFault → ⊥) → ((role : Role) → outcome ≡ FileFault role → ⊥) → P outcome
+report_is P told (Learned h r) is here memory sink file = subst P is here
+report_is P told (Accepted states r) is here memory sink file = subst P is here
+report_is P told NoMemory is here memory sink file = memory
+report_is P told SinkFault is here memory sink file = absurd (sink refl)
+report_is P told (FileFault role) is here memory sink file = absurd (file role refl)
+report_is P told (Trial tried) is here memory sink file = absurd is
+report_is P told (Yes states) is here memory sink file = absurd is
+report_is P told (Served served) is here memory sink file = absurd is
+report_is P told (No verdict) is here memory sink file = absurd is
+report_is P told Usage is here memory sink file = absurd is
+report_is P told (BadFile role fault) is here memory sink file = absurd is
+report_is P told (BadAcceptor bad) is here memory sink file = absurd is
+report_is P told (NotAcceptor state letter) is here memory sink file = absurd is
+report_is P told (Alphabets role) is here memory sink file = absurd is
+report_is P told (UnknownLetter word place) is here memory sink file = absurd is
+report_is P told (FileTooLong role) is here memory sink file = absurd is
+report_is P told (Nondeterministic clash) is here memory sink file = absurd is
+report_is P told (Unstarted cause) is here memory sink file = absurd is
+report_is P told (SulFailed i) is here memory sink file = absurd is
+report_is P told (Gone i) is here memory sink file = absurd is
+report_is P told (BadLine i line) is here memory sink file = absurd is
+report_is P told (BadAsk number) is here memory sink file = absurd is
+report_is P told (TooManyStates words) is here memory sink file = absurd is
+report_is P told (SuiteTooLarge states number) is here memory sink file = absurd is
+report_is P told SourceFault is here memory sink file = absurd is
+report_is P told (Compared comparison) is here memory sink file = absurd is
+report_is P told Asked is here memory sink file = absurd is
+report_is P told (Rechecked answers) is here memory sink file = absurd is
+
+-- where a model was written out and nothing failed, it is told, or that it is no acceptor's, or memory ran out
+pub told_reached : (k : Goal) (n : ℕ) (model : MealyMachine) (count : ℕ) (outcome : Outcome) → count < n → ModelIsTold k model count outcome → (outcome ≡ SinkFault → ⊥) → ((role : Role) → outcome ≡ FileFault role → ⊥) → IsReachedOutcome k n outcome
+told_reached aim.Machine n model count outcome few (inl told) sink file = report_is (IsReachedMachine n) (Learned model count) outcome told few tt sink file
+told_reached aim.Machine n model count outcome few (inr none) sink file = let wrong : aim.Machine ≡ aim.Acceptor = none.0 in absurd (cc)
+told_reached aim.Acceptor n model count outcome few (inl told) sink file = report_is (IsReachedAcceptor n) (Accepted (length model.rows) count) outcome told few tt sink file
+told_reached aim.Acceptor n model count outcome few (inr none) sink file = subst (IsReachedAcceptor n) (sym none.1.2) tt
+
+-- out of memory is always reached
+memory_reached : (k : Goal) (n : ℕ) → IsReachedOutcome k n NoMemory
+memory_reached aim.Machine n = tt
+memory_reached aim.Acceptor n = tt
 
 -- where a learning had to come to a model, it stopped out of memory
-reached_stop : (n : ℕ) (stop : LearnStop) → IsReached n (Err stop) → IsReachedOutcome n (learn_outcome stop)
-reached_stop n (learn.Ask (ask.Sul i stop)) is = let wrong : ask.Sul i stop ≡ ask.NoMemory = is in absurd (cc)
-reached_stop n (learn.Ask (ask.Clash c)) is = let wrong : ask.Clash c ≡ ask.NoMemory = is in absurd (cc)
-reached_stop n (learn.Ask ask.NoMemory) is = tt
-reached_stop n (learn.Crowd words) is = absurd is
-reached_stop n (learn.TooLarge model number) is = absurd is
+reached_stop : (k : Goal) (n : ℕ) (stop : LearnStop) → IsReached n (Err stop) → IsReachedOutcome k n (learn_outcome stop)
+reached_stop k n (learn.Ask (ask.Sul i stop)) is = let wrong : ask.Sul i stop ≡ ask.NoMemory = is in absurd (cc)
+reached_stop k n (learn.Ask (ask.Clash c)) is = let wrong : ask.Clash c ≡ ask.NoMemory = is in absurd (cc)
+reached_stop k n (learn.Ask ask.NoMemory) is = memory_reached k n
+reached_stop k n (learn.Crowd words) is = absurd is
+reached_stop k n (learn.TooLarge model number) is = absurd is
 
 reached_command : (kind : Kind) (words letters : List (List ℕ)) (outputs : Option (List (List ℕ))) (workers k most : ℕ) (prior : List KeptAnswer) (b z : SpawnerState) (learned : Result Found LearnStop) (kept : List KeptAnswer) (names : List (List ℕ)) (r : Rows) → IsOfCommand kind words letters outputs workers k most prior b z learned kept names
     → (¬ CountedFault b.faults z.faults) → ((links : List LinkState) → z.retired ≡ b.retired ++ links → All (IsSound outputs) links) → IsWithin (length letters) k most r → Gives r (answers_of kept) → IsReached (length r) learned
@@ -204,18 +217,18 @@ counted_system a (Table m) prior b z learned kept names r found uncounted within
 counted_system a (Children c) prior b z learned kept names r found uncounted within gives = counted_command a.learner c.words c.inputs c.outputs a.workers a.extra a.max_states prior b z learned kept names r found uncounted.0 uncounted.1 within gives
 
 -- an instance that said a bad line is told, or memory ran out
-bad_line_told : (n workers : ℕ) (stop : LearnStop) (outcome : Outcome) → SaysBadLine workers (Err stop) → StandsOrWants (learn_outcome stop) outcome → IsReachedOutcome n outcome ⊎ IsBadLine workers outcome
-bad_line_told n workers (learn.Ask (ask.Sul i sul.Failed)) outcome bad stands = absurd bad
-bad_line_told n workers (learn.Ask (ask.Sul i (sul.BadLine line))) outcome bad stands =
+bad_line_told : (k : Goal) (n workers : ℕ) (stop : LearnStop) (outcome : Outcome) → SaysBadLine workers (Err stop) → StandsOrWants (learn_outcome stop) outcome → IsReachedOutcome k n outcome ⊎ IsBadLine workers outcome
+bad_line_told k n workers (learn.Ask (ask.Sul i sul.Failed)) outcome bad stands = absurd bad
+bad_line_told k n workers (learn.Ask (ask.Sul i (sul.BadLine line))) outcome bad stands =
     ⊎_elim
     (λ (is : outcome ≡ BadLine i line). inr (subst (IsBadLine workers) (sym is) bad))
-    (λ (wants : HasOwnText (BadLine i line) × (outcome ≡ NoMemory)). inl (subst (IsReachedOutcome n) (sym wants.1) tt))
+    (λ (wants : HasOwnText (BadLine i line) × (outcome ≡ NoMemory)). inl (subst (IsReachedOutcome k n) (sym wants.1) (memory_reached k n)))
     stands
-bad_line_told n workers (learn.Ask (ask.Sul i sul.Gone)) outcome bad stands = absurd bad
-bad_line_told n workers (learn.Ask (ask.Clash clash)) outcome bad stands = absurd bad
-bad_line_told n workers (learn.Ask ask.NoMemory) outcome bad stands = absurd bad
-bad_line_told n workers (learn.Crowd words) outcome bad stands = absurd bad
-bad_line_told n workers (learn.TooLarge model number) outcome bad stands = absurd bad
+bad_line_told k n workers (learn.Ask (ask.Sul i sul.Gone)) outcome bad stands = absurd bad
+bad_line_told k n workers (learn.Ask (ask.Clash clash)) outcome bad stands = absurd bad
+bad_line_told k n workers (learn.Ask ask.NoMemory) outcome bad stands = absurd bad
+bad_line_told k n workers (learn.Crowd words) outcome bad stands = absurd bad
+bad_line_told k n workers (learn.TooLarge model number) outcome bad stands = absurd bad
 
 -- a count of faults that rose, seen from before and from later
 min_from : (f m g most : ℕ) → f ≤ m → min (m + 1) most ≤ g → min (f + 1) most ≤ g
@@ -274,22 +287,22 @@ module _ (a : LearnValues) (s : System) (prior : List KeptAnswer) (naming : Nami
         | inr same ↦ none.of_files (counted_to f.faults whole.between.faults g.faults (failed_counted a.kept (letters_of s) naming.names kept f whole.between whole.was whole.saved.written (whole.told.may.failed (is ∙ ap (λ (r : Role). FileFault r) same))) whole.told.counts.0)
       ]
 
-  reached_by : (x : Result Found LearnStop) → IsReached (length r) x → Carries x end → IsReachedOutcome (length r) end.outcome
+  reached_by : (x : Result Found LearnStop) → IsReached (length r) x → Carries a.goal x end → IsReachedOutcome a.goal (length r) end.outcome
   reached_by (Ok l) few carries =
-      told_reached (length r) l.model (refinements_of l.learner) end.outcome few carries.3
+      told_reached a.goal (length r) l.model (refinements_of l.learner) end.outcome few carries.3
       (λ is. ⊎_elim (λ (x : CountedFault o.faults p.faults). none.of_out x) (λ (x : CountedFault e.faults d.faults). none.of_err x) (whole.told.sink_fault is))
       unfailed
-  reached_by (Err stop) is carries = stands_as (IsReachedOutcome (length r)) (learn_outcome stop) end.outcome carries.2 (reached_stop (length r) stop is) tt
+  reached_by (Err stop) is carries = stands_as (IsReachedOutcome a.goal (length r)) (learn_outcome stop) end.outcome carries.2 (reached_stop a.goal (length r) stop is) (memory_reached a.goal (length r))
 
-  bad_by : (x : Result Found LearnStop) → SaysBadLine a.workers x → Carries x end → IsReachedOutcome (length r) end.outcome ⊎ IsBadLine a.workers end.outcome
+  bad_by : (x : Result Found LearnStop) → SaysBadLine a.workers x → Carries a.goal x end → IsReachedOutcome a.goal (length r) end.outcome ⊎ IsBadLine a.workers end.outcome
   bad_by (Ok l) bad carries = absurd bad
-  bad_by (Err stop) bad carries = bad_line_told (length r) a.workers stop end.outcome bad carries.2
+  bad_by (Err stop) bad carries = bad_line_told a.goal (length r) a.workers stop end.outcome bad carries.2
 
-  pub reached_end : IsSoundSystem s b z → IsWithin (length (letters_of s)) a.extra a.max_states r → Gives r (answers_of end.kept.answers) → IsReachedOutcome (length r) end.outcome
+  pub reached_end : IsSoundSystem s b z → IsWithin (length (letters_of s)) a.extra a.max_states r → Gives r (answers_of end.kept.answers) → IsReachedOutcome a.goal (length r) end.outcome
   reached_end sound within gives =
       reached_by learned (reached_system a s prior b z learned kept naming.names r found sound within (subst (λ (ks : List KeptAnswer). Gives r (answers_of ks)) whole.told.kept_is gives)) whole.told.carries
 
-  pub counted_end : IsUncountedSystem s b z → IsWithin (length (letters_of s)) a.extra a.max_states r → Gives r (answers_of end.kept.answers) → IsReachedOutcome (length r) end.outcome ⊎ IsBadLine a.workers end.outcome
+  pub counted_end : IsUncountedSystem s b z → IsWithin (length (letters_of s)) a.extra a.max_states r → Gives r (answers_of end.kept.answers) → IsReachedOutcome a.goal (length r) end.outcome ⊎ IsBadLine a.workers end.outcome
   counted_end uncounted within gives =
       ⊎_elim
       (λ (few : IsReached (length r) learned). inl (reached_by learned few whole.told.carries))
@@ -297,9 +310,9 @@ module _ (a : LearnValues) (s : System) (prior : List KeptAnswer) (naming : Nami
       (counted_system a s prior b z learned kept naming.names r found uncounted within (subst (λ (ks : List KeptAnswer). Gives r (answers_of ks)) whole.told.kept_is gives))
 
 -- and has the model that was learned
-pub model_end : (kind : Kind) (method : Method) (a b k most : ℕ) (learned : Result Found LearnStop) (kept : List KeptAnswer) (end : End) → IfOk learned (GivesModel kind method a b k most kept) → end.kept.answers ≡ kept → Carries learned end → IfSome end.model (HasModel kind method a b k most end)
-model_end kind method a b k most (Ok l) kept end gives same carries = subst (λ (m : Option MealyMachine). IfSome m (HasModel kind method a b k most end)) (sym carries.0) (gives end same carries.1 carries.2)
-model_end kind method a b k most (Err stop) kept end gives same carries = subst (λ (m : Option MealyMachine). IfSome m (HasModel kind method a b k most end)) (sym carries.0) tt
+pub model_end : (goal : Goal) (kind : Kind) (method : Method) (a b k most : ℕ) (learned : Result Found LearnStop) (kept : List KeptAnswer) (end : End) → IfOk learned (GivesModel kind method a b k most kept) → end.kept.answers ≡ kept → Carries goal learned end → IfSome end.model (HasModel kind method a b k most end)
+model_end goal kind method a b k most (Ok l) kept end gives same carries = subst (λ (m : Option MealyMachine). IfSome m (HasModel kind method a b k most end)) (sym carries.0) (gives end same carries.1 carries.2)
+model_end goal kind method a b k most (Err stop) kept end gives same carries = subst (λ (m : Option MealyMachine). IfSome m (HasModel kind method a b k most end)) (sym carries.0) tt
 
 -- what writing a model out came to
 pub record HasWritten (a : LearnValues) (text : List ℕ) (told : Outcome) (m : Machine) (learner : Learner) (kept : List KeptAnswer) (was : Saved) (f g : FilesState) (o p : SinkState) (e d : SinkState) (end : End) : Type 0 where
@@ -321,42 +334,11 @@ pub record HasWritten (a : LearnValues) (text : List ℕ) (told : Outcome) (m : 
   pub quiet : IsLearnedOutcome end.outcome → (g.faults ≡ f.faults) × (p.faults ≡ o.faults) × (d.faults ≡ e.faults)
   pub counts : (f.faults ≤ g.faults) × (o.faults ≤ p.faults) × (e.faults ≤ d.faults)
 
--- what is told of a machine
-learned_told : (h : MealyMachine) (n : ℕ) (outcome : Outcome) → ReportIsTold (Learned h n) outcome → ModelIsTold h n outcome
-learned_told h n (Learned k c) told = let same : Learned h n ≡ Learned k c = told in (cc, cc)
-learned_told h n (Accepted states c) told = let wrong : Learned h n ≡ Accepted states c = told in absurd (cc)
-learned_told h n (Trial tried) told = absurd told
-learned_told h n (Yes states) told = absurd told
-learned_told h n (Served served) told = absurd told
-learned_told h n (No verdict) told = absurd told
-learned_told h n Usage told = absurd told
-learned_told h n (BadFile role fault) told = absurd told
-learned_told h n (Alphabets role) told = absurd told
-learned_told h n (FileTooLong role) told = absurd told
-learned_told h n (Nondeterministic clash) told = absurd told
-learned_told h n NoMemory told = tt
-learned_told h n (SulFailed i) told = absurd told
-learned_told h n (Gone i) told = absurd told
-learned_told h n (BadLine i line) told = absurd told
-learned_told h n (BadAsk number) told = absurd told
-learned_told h n (TooManyStates words) told = absurd told
-learned_told h n (SuiteTooLarge states number) told = absurd told
-learned_told h n (FileFault role) told = told
-learned_told h n SourceFault told = absurd told
-learned_told h n SinkFault told = tt
-learned_told h n (Compared comparison) told = absurd told
-learned_told h n Asked told = absurd told
-learned_told h n (Rechecked answers) told = absurd told
-learned_told h n (UnknownLetter word place) told = absurd told
-learned_told h n (Unstarted cause) told = absurd told
-learned_told h n (BadAcceptor fault) told = absurd told
-learned_told h n (NotAcceptor state letter) told = absurd told
-
 -- a learning with a model, which was written out under its names
-pub told_written : (a : LearnValues) (s : System) (naming : Naming) (l : Found) (m : Machine) (kept : List KeptAnswer) (was : Saved) (f g : FilesState) (o p e d : SinkState) (end : End) → m.inputs ≡ letters_of s → m.outputs ≡ naming.names → m.mealy ≡ l.model → end.outputs ≡ end_outputs (declared_of s) kept naming
-    → HasWritten a (written_text m) (Learned m.mealy (refinements_of l.learner)) m l.learner kept was f g o p e d end → IsToldOf a s naming (Ok l) kept was f g o p e d end
-told_written a s naming l m kept was f g o p e d end inputs outputs mealy own w = record {
-  carries = (w.model ∙ ap (λ (h : MealyMachine). Some h) mealy, w.learner_is, w.refinements, subst (λ (h : MealyMachine). ModelIsTold h (refinements_of l.learner) end.outcome) mealy (learned_told m.mealy (refinements_of l.learner) end.outcome w.outcome));
+pub told_written : (a : LearnValues) (s : System) (naming : Naming) (l : Found) (m : Machine) (kept : List KeptAnswer) (was : Saved) (f g : FilesState) (o p e d : SinkState) (end : End) (text : List ℕ) → m.inputs ≡ letters_of s → m.outputs ≡ naming.names → m.mealy ≡ l.model → end.outputs ≡ end_outputs (declared_of s) kept naming → IsModelText a.goal m text
+    → HasWritten a text (told_of a.goal m.mealy (refinements_of l.learner)) m l.learner kept was f g o p e d end → IsToldOf a s naming (Ok l) kept was f g o p e d end
+told_written a s naming l m kept was f g o p e d end text inputs outputs mealy own text_is w = record {
+  carries = (w.model ∙ ap (λ (h : MealyMachine). Some h) mealy, w.learner_is, w.refinements, inl (subst (λ (h : MealyMachine). ReportIsTold (told_of a.goal h (refinements_of l.learner)) end.outcome) mealy w.outcome));
   kept_is = w.kept_is;
   outputs = own;
   written = subst (λ (h : Option MealyMachine). IfSome h (WritesModel a kept end.outcome g.holds (o.taken, p.taken) (o.faults, p.faults) (letters_of s) naming.names)) (sym w.model) done;
@@ -379,22 +361,34 @@ told_written a s naming l m kept was f g o p e d end inputs outputs mealy own w 
 }
   where
     done : WritesModel a kept end.outcome g.holds (o.taken, p.taken) (o.faults, p.faults) (letters_of s) naming.names m.mealy
-    done = record { model = m; inputs_are = inputs; outputs_are = outputs; mealy = refl; file = w.files.model; answers = w.files.answers; out = w.out }
+    done = record { model = m; inputs_are = inputs; outputs_are = outputs; mealy = refl; text = text; text_is = λ _ _. text_is; file = w.files.model; answers = w.files.answers; out = w.out }
 
     same : (x : Outcome) → text_of m.inputs m.outputs kept a.extra x ≡ text_of (letters_of s) naming.names kept a.extra x
     same x = text_same m.inputs (letters_of s) m.outputs naming.names kept kept a.extra x inputs outputs refl
 
-    line : text_of m.inputs m.outputs kept a.extra (Learned m.mealy (refinements_of l.learner)) ≡ model_line (letters_of s) naming.names kept a.extra end.model end.refinements
+    line : text_of m.inputs m.outputs kept a.extra (told_of a.goal m.mealy (refinements_of l.learner)) ≡ model_line a.goal (letters_of s) naming.names kept a.extra end.model end.refinements
     line =
-        same (Learned m.mealy (refinements_of l.learner))
-        ∙ (ap (λ (n : ℕ). model_line (letters_of s) naming.names kept a.extra (Some m.mealy) n) (sym w.refinements)
-        ∙ ap (λ (h : Option MealyMachine). model_line (letters_of s) naming.names kept a.extra h end.refinements) (sym w.model))
+        same (told_of a.goal m.mealy (refinements_of l.learner))
+        ∙ (ap (λ (n : ℕ). model_line a.goal (letters_of s) naming.names kept a.extra (Some m.mealy) n) (sym w.refinements)
+        ∙ ap (λ (h : Option MealyMachine). model_line a.goal (letters_of s) naming.names kept a.extra h end.refinements) (sym w.model))
 
--- a learning with a model for whose texts there was no memory: nothing was written
-pub told_left : (a : LearnValues) (s : System) (naming : Naming) (l : Found) (kept : List KeptAnswer) (was : Saved) (f : FilesState) (o e d : SinkState) (end : End) → length (letters_of s) ≤ 64 → (l.model.inputs ≡ length (letters_of s)) × (l.model.outputs ≡ length naming.names) → end.outcome ≡ NoMemory → end.model ≡ Some l.model → end.learner ≡ Some l.learner → end.refinements ≡ refinements_of l.learner → end.kept.answers ≡ kept
-    → end.outputs ≡ end_outputs (declared_of s) kept naming → (¬ CountedFault e.faults d.faults → TakesAll (text_of [] [] [] 0 NoMemory) e.taken d.taken) → TakesSome (text_of [] [] [] 0 NoMemory) e.taken d.taken → e.faults ≤ d.faults → IsToldOf a s naming (Ok l) kept was f f o o e d end
-told_left a s naming l kept was f o e d end few sizes wants model learner refinements kept_is outputs said part counts = record {
-  carries = (model, learner, refinements, subst (λ (x : Outcome). ModelIsTold l.model (refinements_of l.learner) x) (sym wants) tt);
+-- what holds of what is told in place of a model
+by_untold : (P : Outcome → Type 0) (k : Goal) (rows : Rows) (outcome : Outcome) → P NoMemory → ((state letter : ℕ) → P (NotAcceptor state letter)) → IsUntold k rows outcome → P outcome
+by_untold P k rows outcome memory none is = ⊎_elim (λ (wants : outcome ≡ NoMemory). subst P (sym wants) memory) (λ (no : IsNoAcceptor k rows outcome). subst P (sym no.1.2) (none no.1.0 no.1.1)) is
+
+-- and what became of it once answers were saved and its text was put
+untold_wants : (k : Goal) (rows : Rows) (outcome : Outcome) → outcome ≡ NoMemory → IsUntold k rows outcome
+untold_wants k rows outcome is = inl is
+
+pub untold_saved : (k : Goal) (rows : Rows) (was : Saved) (why outcome : Outcome) → IsUntold k rows why → StandsOrWants (saved_outcome was why) outcome → IsUntold k rows outcome
+untold_saved k rows was why outcome is stands =
+    ⊎_elim (λ (same : outcome ≡ why). subst (IsUntold k rows) (sym same) is) (λ (wants : outcome ≡ NoMemory). untold_wants k rows outcome wants) (saved_or was why outcome stands)
+
+-- a learning with a model that wasn't written out: memory ran out, or it is no acceptor's
+pub told_left : (a : LearnValues) (s : System) (naming : Naming) (l : Found) (kept : List KeptAnswer) (was : Saved) (f : FilesState) (o e d : SinkState) (end : End) → length (letters_of s) ≤ 64 → (l.model.inputs ≡ length (letters_of s)) × (l.model.outputs ≡ length naming.names) → IsUntold a.goal l.model.rows end.outcome → (was ≡ saving.NoMemory → end.outcome ≡ NoMemory) → end.model ≡ Some l.model → end.learner ≡ Some l.learner → end.refinements ≡ refinements_of l.learner → end.kept.answers ≡ kept
+    → end.outputs ≡ end_outputs (declared_of s) kept naming → (¬ CountedFault e.faults d.faults → TakesAll (text_of [] [] kept a.extra end.outcome) e.taken d.taken) → TakesSome (text_of [] [] kept a.extra end.outcome) e.taken d.taken → e.faults ≤ d.faults → IsToldOf a s naming (Ok l) kept was f f o o e d end
+told_left a s naming l kept was f o e d end few sizes untold wants model learner refinements kept_is outputs said part counts = record {
+  carries = (model, learner, refinements, ⊎_elim (λ (memory : end.outcome ≡ NoMemory). inl (subst (λ (x : Outcome). ReportIsTold (told_of a.goal l.model (refinements_of l.learner)) x) (sym memory) tt)) (λ (none : IsNoAcceptor a.goal l.model.rows end.outcome). inr none) untold);
   kept_is = kept_is;
   outputs = outputs;
   written = subst (λ (h : Option MealyMachine). IfSome h (WritesModel a kept end.outcome f.holds (o.taken, o.taken) (o.faults, o.faults) (letters_of s) naming.names)) (sym model) none_written;
@@ -403,30 +397,33 @@ told_left a s naming l kept was f o e d end few sizes wants model learner refine
   said = λ none. subst (λ (t : List ℕ). TakesAll t e.taken d.taken) text (said none);
   in_turn = record {
     between = e.taken;
-    some = (0, sink_none e.taken (model_line (letters_of s) naming.names kept a.extra end.model end.refinements));
+    some = (0, sink_none e.taken (model_line a.goal (letters_of s) naming.names kept a.extra end.model end.refinements));
     then = subst (λ (t : List ℕ). TakesSome t e.taken d.taken) text part;
   };
-  may = record {
-    learned = λ is. absurd (subst (λ (x : Outcome). IsLearnedOutcome x) wants is);
-    failed = λ is. let wrong : NoMemory ≡ FileFault Kept = sym wants ∙ is in absurd (cc);
-    wants = λ _. wants;
-  };
-  quiet = λ is. absurd (subst (λ (x : Outcome). IsLearnedOutcome x) wants is);
-  role = λ r is. let wrong : NoMemory ≡ FileFault r = sym wants ∙ is in absurd (cc);
-  file_fault = λ r is other. let wrong : NoMemory ≡ FileFault r = sym wants ∙ is in absurd (cc);
-  sink_fault = λ is. let wrong : NoMemory ≡ SinkFault = sym wants ∙ is in absurd (cc);
+  may = record { learned = λ is. absurd (not_learned is); failed = λ is. absurd (not_file Kept is); wants = wants };
+  quiet = λ is. absurd (not_learned is);
+  role = λ r is. absurd (not_file r is);
+  file_fault = λ r is other. absurd (not_file r is);
+  sink_fault = λ is. absurd (not_sink is);
   reads = refl;
-  writes = subst (λ (x : Outcome). MadeWrites a x f.calls f.calls) (sym wants) (0, gained_none f.calls);
+  writes = has (λ x. MadeWrites a x f.calls f.calls) (0, gained_none f.calls) (λ q x. refl);
   counts = (omega arith, omega arith, counts);
 }
   where
+    has : (P : Outcome → Type 0) → P NoMemory → ((state letter : ℕ) → P (NotAcceptor state letter)) → P end.outcome
+    has P memory none = by_untold P a.goal l.model.rows end.outcome memory none untold
+
+    not_learned : IsLearnedOutcome end.outcome → ⊥
+    not_learned is = has (λ x. IsLearnedOutcome x → ⊥) (λ u. u) (λ q x u. u) is
+
+    not_file : (r : Role) → end.outcome ≡ FileFault r → ⊥
+    not_file r is = has (λ x. x ≡ FileFault r → ⊥) (λ h. let wrong : NoMemory ≡ FileFault r = h in cc) (λ q x h. let wrong : NotAcceptor q x ≡ FileFault r = h in cc) is
+
+    not_sink : end.outcome ≡ SinkFault → ⊥
+    not_sink is = has (λ x. x ≡ SinkFault → ⊥) (λ h. let wrong : NoMemory ≡ SinkFault = h in cc) (λ q x h. let wrong : NotAcceptor q x ≡ SinkFault = h in cc) is
+
     machine : Machine
     machine = record { inputs = letters_of s; outputs = naming.names; mealy = l.model; named = sizes; few = few }
-
-    out_none : WritesOut a.model (written_text machine) end.outcome (o.taken, o.taken) (o.faults, o.faults)
-    out_none =
-        subst (λ (x : Outcome). WritesOut a.model (written_text machine) x (o.taken, o.taken) (o.faults, o.faults)) (sym wants)
-        (out_before a.model (written_text machine) o.taken (o.faults, o.faults) tell.NoMemory (λ x. let wrong : tell.NoMemory ≡ tell.Sink = x in cc) (λ x. let wrong : tell.NoMemory ≡ tell.File Kept = x in cc))
 
     none_written : WritesModel a kept end.outcome f.holds (o.taken, o.taken) (o.faults, o.faults) (letters_of s) naming.names l.model
     none_written = record {
@@ -434,13 +431,15 @@ told_left a s naming l kept was f o e d end few sizes wants model learner refine
       inputs_are = refl;
       outputs_are = refl;
       mealy = refl;
-      file = λ h differ. absurd (subst (λ (x : Outcome). HasModelFile x) wants h);
-      answers = λ h. absurd (subst (λ (x : Outcome). HasFiles x) wants h);
-      out = out_none;
+      text = [];
+      text_is = λ other none. absurd (⊎_elim (λ (memory : end.outcome ≡ NoMemory). other memory) (λ (no : IsNoAcceptor a.goal l.model.rows end.outcome). none no.1.0 no.1.1 no.1.2) untold);
+      file = λ h differ. absurd (has (λ x. HasModelFile x → ⊥) (λ u. u) (λ q x u. u) h);
+      answers = λ h. absurd (has (λ x. HasFiles x → ⊥) (λ u. u) (λ q x u. u) h);
+      out = out_untold a.model [] o.taken (o.faults, o.faults) end.outcome (λ h. has (λ x. IsBehindOut x → ⊥) (λ u. u) (λ q x u. u) h) not_sink;
     }
 
-    text : text_of [] [] [] 0 NoMemory ≡ text_of (letters_of s) naming.names kept a.extra end.outcome
-    text = sym (ap (λ (x : Outcome). text_of (letters_of s) naming.names kept a.extra x) wants)
+    text : text_of [] [] kept a.extra end.outcome ≡ text_of (letters_of s) naming.names kept a.extra end.outcome
+    text = has (λ x. text_of [] [] kept a.extra x ≡ text_of (letters_of s) naming.names kept a.extra x) refl (λ q x. refl)
 
 -- what was found of a system, and told
 pub ends_learned : (a : LearnValues) (s : System) (prior : List KeptAnswer) (naming : Naming) (learned : Result Found LearnStop) (kept : List KeptAnswer) (f g : FilesState) (b z : SpawnerState) (o p e d : SinkState) (end : End) → IsOfSystem a s prior b z learned kept naming.names → IfOk learned (GivesModel a.learner a.suite (length (letters_of s)) (length naming.names) a.extra a.max_states kept)
@@ -449,7 +448,7 @@ ends_learned a s prior naming learned kept f g b z o p e d end found gives stops
   naming = naming;
   learned = learned;
   found = subst (λ (ks : List KeptAnswer). IsOfSystem a s prior b z learned ks naming.names) (sym whole.told.kept_is) found;
-  model = model_end a.learner a.suite (length (letters_of s)) (length naming.names) a.extra a.max_states learned kept end gives whole.told.kept_is whole.told.carries;
+  model = model_end a.goal a.learner a.suite (length (letters_of s)) (length naming.names) a.extra a.max_states learned kept end gives whole.told.kept_is whole.told.carries;
   stops = subst (λ (ks : List KeptAnswer). IfErr learned (LearningStopsBy (length (letters_of s)) (count_of (declared_of s)) a.extra a.max_states (answers_of ks))) (sym whole.told.kept_is) stops;
   reached = reached_end a s prior naming learned kept f g b z o p e d end found whole;
   counted = counted_end a s prior naming learned kept f g b z o p e d end found whole;
@@ -457,9 +456,9 @@ ends_learned a s prior naming learned kept f g b z o p e d end found gives stops
 }
 
 -- where an end has a model, the words that were asked first are answered in what it keeps
-pub answered_end : (words : List (List ℕ)) (learned : Result Found LearnStop) (kept : List KeptAnswer) (end : End) → Carries learned end → end.kept.answers ≡ kept → OnOk learned (AnswersWords words kept) → end.model ≢ None → AnswersWords words end.kept.answers
-answered_end words (Ok l) kept end carries same asked some = subst (λ (ks : List KeptAnswer). AnswersWords words ks) (sym same) asked
-answered_end words (Err stop) kept end carries same asked some = absurd (some carries.0)
+pub answered_end : (goal : Goal) (words : List (List ℕ)) (learned : Result Found LearnStop) (kept : List KeptAnswer) (end : End) → Carries goal learned end → end.kept.answers ≡ kept → OnOk learned (AnswersWords words kept) → end.model ≢ None → AnswersWords words end.kept.answers
+answered_end goal words (Ok l) kept end carries same asked some = subst (λ (ks : List KeptAnswer). AnswersWords words ks) (sym same) asked
+answered_end goal words (Err stop) kept end carries same asked some = absurd (some carries.0)
 
 -- and before that read, with the words that are asked first
 pub task_ready : (a : LearnValues) (f m : FilesState) (r : Result WordedTask UnreadState) (t : WordedTask) → r ≡ Ok t → IsWordedStage a f m r → SaysWorded a f m t
@@ -564,3 +563,14 @@ none_saved file inputs outputs kept f outcome none = record {
 -- the text of memory that ran out says nothing else
 pub text_memory : (i j o p : List (List ℕ)) (k l : List KeptAnswer) (x y : ℕ) (outcome : Outcome) → outcome ≡ NoMemory → text_of i o k x outcome ≡ text_of j p l y outcome
 text_memory i j o p k l x y outcome is = ap (λ (c : Outcome). text_of i o k x c) is ∙ sym (ap (λ (c : Outcome). text_of j p l y c) is)
+
+-- a model under the names of a system is one of what is to be learned
+pub machine_for : (k : Goal) (s : System) (m : Machine) (names : List (List ℕ)) → IsSystemFor k s → m.inputs ≡ letters_of s → m.outputs ≡ names
+    → IfSome (declared_of s) (λ own. names ≡ own) → IsMachineFor k m
+machine_for aim.Machine s m names fits inputs outputs declared = tt
+machine_for aim.Acceptor s m names fits inputs outputs declared = (
+  fits.0,
+  fits.1.free,
+  inputs ∙ fits.1.inputs,
+  outputs ∙ subst (λ (o : Option (List (List ℕ))). IfSome o (λ own. names ≡ own)) fits.1.outputs declared,
+)

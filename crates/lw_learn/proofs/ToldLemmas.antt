@@ -1,5 +1,5 @@
 -- What is told of files is what was read of them.
-use Rattle.std.proofs.Common.{◌≡◌, ◌∙◌, ⊎_elim, ℕ, ◌<◌, List, [], length, Option, Some, None, IsSome, slice_index_or, true≢false, refl, ap, sym, subst, arith}
+use Rattle.std.proofs.Common.{◌≡◌, ◌∙◌, ⊎_elim, ℕ, ◌<◌, List, [], length, Option, Some, None, IsSome, codes, slice_index_or, true≢false, refl, ap, sym, subst, arith}
 use Rattle.std.specs.List.{All}
 use Rattle.std.specs.Str.Lossy.{utf8_lossy}
 use Rattle.lw_words.specs.Cause.{CountedFault}
@@ -8,11 +8,18 @@ use Rattle.lw_words.specs.declared.kept.KeptAnswer.{KeptAnswer}
 use Rattle.lw_wordlist.specs.Lines.{lines_in}
 use Rattle.lw_wordlist.specs.Words.{HasLetters, IsFirstUnknown, names_in, word_of_names, words_of_texts}
 use Rattle.lw_wordlist.proofs.WordLemmas.{known_by}
-use Rattle.lw_json.proofs.NoFault.{each_some}
+use Rattle.std.proofs.lemmas.Option.{slice_get_within, get_or_from_slice_get}
+use Rattle.lw_accept.specs.Acceptor.{NamedAcceptor, question}
+use Rattle.lw_accept.specs.AcceptorFile.{AreAcceptorLetters, IsAcceptorFault, IsAcceptorFile}
+use Rattle.lw_accept.specs.AskedNames.{HaveNoRoom}
+use Rattle.lw_accept.specs.View.{asked_names}
+use Rattle.lw_accept.specs.declared.fault.AcceptorFault.{AcceptorFault}
+use Rattle.lw_accept.specs.declared.fault.AcceptorFault.TheVariants.{NotJson, Shape, Inputs, Reserved, NoState, TooMany, Lengths, Ragged, Target, NoMemory as NoMemoryToAccept}
+use Rattle.lw_json.proofs.NoFault.{each_some, names_none}
 use Rattle.lw_json.proofs.OneAnswers.{one_answers}
 use Rattle.lw_json.proofs.OneValue.{one_value}
 use Rattle.lw_json.specs.AnswersFault.{IsAnswersFault}
-use Rattle.lw_json.specs.Formats.{IsAnswersFile, IsMachineFile}
+use Rattle.lw_json.specs.Formats.{IsAnswersFile, IsMachineFile, texts_at}
 use Rattle.lw_json.specs.MachineFault.{IsMachineFault}
 use Rattle.lw_json.specs.SetupFile.{IsSetupFault, IsSetupFile, SpellsSetup, WrittenSetup, setup_said, table, command}
 use Rattle.lw_json.specs.declared.files.Answers.{Answers}
@@ -30,9 +37,14 @@ use Rattle.lw_report.specs.declared.role.Role.TheVariants as role
 use Rattle.lw_learn.specs.Arguments.{LearnValues}
 use Rattle.lw_learn.specs.Asking.{IsWordless, IsWordlessTask, IsWordsFile, ReadsUnknown}
 use Rattle.lw_learn.specs.Tasks.{ReadsPrior, with_outputs}
+use Rattle.lw_system.specs.AcceptorFinding.{HasNoRoomFor}
+use Rattle.lw_system.specs.AcceptorSystems.{IsViewFile, IsViewOf, ReadsAcceptorSystem, SaysAcceptorSystem}
+use Rattle.lw_system.specs.Goals.{IsModelFile, ReadsSystemFor}
 use Rattle.lw_system.specs.Systems.{FitsSystem, ReadsSystem, SaysSystem, declared_of, letters_of, or_these}
-use Rattle.lw_learn.specs.Told.{BadIsRefused, IsNoRefusal, TellsNoSystem, TellsPrior, TellsSetup, TellsSystem, TellsTask, TellsWords, ToldIsLearned}
-use Rattle.lw_learn.specs.Unread.{IsNext, IsTableNext, IsUnreadAs, IsUnreadBy, ReadsBad}
+use Rattle.lw_system.specs.declared.goal.Goal.{Goal}
+use Rattle.lw_system.specs.declared.goal.Goal.TheVariants as aim
+use Rattle.lw_learn.specs.Told.{BadIsRefused, IsNoRefusal, TellsAsked, TellsAskedSystem, TellsNoSystem, TellsPrior, TellsSetup, TellsSystem, TellsSystemFor, TellsTask, TellsWords, ToldIsLearned}
+use Rattle.lw_learn.specs.Unread.{IsBadAcceptor, IsNext, IsTableNext, IsUnreadAs, IsUnreadBy, ReadsBad, ReadsBadAcceptor}
 use Rattle.lw_learn.proofs.RunLemmas.{counted_to}
 use Rattle.lw_system.specs.declared.source.Source.{Source}
 use Rattle.lw_system.specs.declared.source.Source.TheVariants as source
@@ -68,8 +80,8 @@ one_setup bytes v w f g =
 same_bytes : (held : Option (List ℕ)) (b c : List ℕ) → held ≡ Some b → held ≡ Some c → b ≡ c
 same_bytes held b c one two = some_same b c (sym one ∙ two)
 
-module _ {V : Type 0} (IsFile : List ℕ → V → Type 0) (HasFirst : List ℕ → JsonFault → Type 0) (name : List ℕ) where
-  told_not_bad : (holds : Option (List File)) (before after : List File) (fault : JsonFault) (v : V) → TellsFile IsFile holds name v → ReadsBadFile IsFile HasFirst name holds before after fault → ⊥
+module _ {V F : Type 0} (IsFile : List ℕ → V → Type 0) (HasFirst : List ℕ → F → Type 0) (name : List ℕ) where
+  told_not_bad : (holds : Option (List File)) (before after : List File) (fault : F) (v : V) → TellsFile IsFile holds name v → ReadsBadFile IsFile HasFirst name holds before after fault → ⊥
   told_not_bad None before after fault v told read = absurd told
   told_not_bad (Some fs) before after fault v told read = read.bad v (subst (λ (b : List ℕ). IsFile b v) (same_bytes (file_at name fs) told.0 read.bytes told.1 read.read.held) told.3)
 
@@ -90,29 +102,48 @@ module _ {V : Type 0} (IsFile : List ℕ → V → Type 0) (HasFirst : List ℕ 
       (λ (none : (v : V) → ¬ IsFile told.0 v). none w (subst (λ (b : List ℕ). IsFile b w) (sym same) read.file))
       told.2
 
--- a file in this role is told under the name
-abbrev TellsRole : Role → Option (List File) → List ℕ → Type 0
-TellsRole role.Setup holds name = (v : Setup) × TellsFile IsSetupFile holds name v
-TellsRole role.Table holds name = (m : Machine) × TellsFile IsMachineFile holds name m
-TellsRole role.Prior holds name = (p : Answers) × TellsFile IsAnswersFile holds name p
-TellsRole role.Model holds name = ⊥
-TellsRole role.Answers holds name = ⊥
-TellsRole role.Second holds name = ⊥
-TellsRole role.Words holds name = ⊥
-TellsRole role.Kept holds name = ⊥
+-- why there may be none
+abbrev AnyFault : List ℕ → JsonFault → Type 0
+AnyFault bytes fault = ⊥
 
-table_told : (k : Source) (system : List ℕ) (holds : Option (List File)) (before now : List File) (name : List ℕ) (s : System) → IsTableNext k system holds before now name → TellsSystem k system holds s → (m : Machine) × TellsFile IsMachineFile holds name m
+-- a file in this role is told under the name, by what is to be learned
+abbrev TellsRole : Role → Goal → Option (List File) → List ℕ → Type 0
+TellsRole role.Setup k holds name = (v : Setup) × TellsFile IsSetupFile holds name v
+TellsRole role.Table k holds name = (m : Machine) × TellsFile (IsModelFile k) holds name m
+TellsRole role.Prior k holds name = (p : Answers) × TellsFile IsAnswersFile holds name p
+TellsRole role.Model k holds name = ⊥
+TellsRole role.Answers k holds name = ⊥
+TellsRole role.Second k holds name = ⊥
+TellsRole role.Words k holds name = ⊥
+TellsRole role.Kept k holds name = ⊥
+
+table_told : (kind : Source) (system : List ℕ) (holds : Option (List File)) (before now : List File) (name : List ℕ) (s : System) → IsTableNext kind system holds before now name → TellsSystem kind system holds s → (m : Machine) × TellsFile IsMachineFile holds name m
 table_told source.Table system holds before now name s next told = (told.0, subst (λ (n : List ℕ). TellsFile IsMachineFile holds n told.0) (sym next.0) told.1)
 table_told source.Setup system holds before now name s next told =
     let both = told_same IsSetupFile IsSetupFault system holds before now told.0 (setup.Table name) told.1 next in
     let said = subst (λ (v : Setup). TellsSetup v holds s) (one_setup both.0 told.0 (setup.Table name) both.1 both.2) told.2 in
     (said.0, said.1)
 
-role_told : (a : LearnValues) (holds : Option (List File)) (before now : List File) (r : Role) (name : List ℕ) (read : Option System) (s : System) → TellsTask a holds s → IsNext a holds before now r name read → TellsRole r holds name
+asked_told : (kind : Source) (system : List ℕ) (holds : Option (List File)) (before now : List File) (name : List ℕ) (s : System) → IsTableNext kind system holds before now name → TellsAskedSystem kind system holds s → (m : Machine) × TellsFile IsViewFile holds name m
+asked_told source.Table system holds before now name s next told = (told.0, subst (λ (n : List ℕ). TellsFile IsViewFile holds n told.0) (sym next.0) told.1)
+asked_told source.Setup system holds before now name s next told =
+    let both = told_same IsSetupFile IsSetupFault system holds before now told.0 (setup.Table name) told.1 next in
+    let said = subst (λ (v : Setup). TellsAsked v holds s) (one_setup both.0 told.0 (setup.Table name) both.1 both.2) told.2 in
+    (said.0, said.1)
+
+table_told_for : (k : Goal) (kind : Source) (system : List ℕ) (holds : Option (List File)) (before now : List File) (name : List ℕ) (s : System) → IsTableNext kind system holds before now name → TellsSystemFor k kind system holds s → (m : Machine) × TellsFile (IsModelFile k) holds name m
+table_told_for aim.Machine kind system holds before now name s next told = table_told kind system holds before now name s next told
+table_told_for aim.Acceptor kind system holds before now name s next told = asked_told kind system holds before now name s next told
+
+setup_told : (k : Goal) (system : List ℕ) (holds : Option (List File)) (s : System) → TellsSystemFor k source.Setup system holds s → (v : Setup) × TellsFile IsSetupFile holds system v
+setup_told aim.Machine system holds s told = (told.0, told.1)
+setup_told aim.Acceptor system holds s told = (told.0, told.1)
+
+role_told : (a : LearnValues) (holds : Option (List File)) (before now : List File) (r : Role) (name : List ℕ) (read : Option System) (s : System) → TellsTask a holds s → IsNext a holds before now r name read → TellsRole r a.goal holds name
 role_told a holds before now role.Setup name read s told next =
-    let said = subst (λ (k : Source). TellsSystem k a.system holds s) next.0 told.system in
+    let said = setup_told a.goal a.system holds s (subst (λ (kind : Source). TellsSystemFor a.goal kind a.system holds s) next.0 told.system) in
     (said.0, subst (λ (n : List ℕ). TellsFile IsSetupFile holds n said.0) (sym next.1) said.1)
-role_told a holds before now role.Table name read s told next = table_told a.source a.system holds before now name s next.0 told.system
+role_told a holds before now role.Table name read s told next = table_told_for a.goal a.source a.system holds before now name s next.0 told.system
 role_told a holds before now role.Prior name read s told next =
     let said = subst (λ (o : Option (List ℕ)). TellsPrior o holds s) next.0 told.prior in
     (said.0, said.1)
@@ -122,25 +153,61 @@ role_told a holds before now role.Second name read s told next = absurd next
 role_told a holds before now role.Words name read s told next = absurd next
 role_told a holds before now role.Kept name read s told next = absurd next
 
-role_not_bad : (r : Role) (name : List ℕ) (holds : Option (List File)) (now after : List File) (fault : JsonFault) → TellsRole r holds name → ReadsBad r name holds now after fault → ⊥
-role_not_bad role.Setup name holds now after fault told bad = told_not_bad IsSetupFile IsSetupFault name holds now after fault told.0 told.1 bad
-role_not_bad role.Table name holds now after fault told bad = told_not_bad IsMachineFile IsMachineFault name holds now after fault told.0 told.1 bad
-role_not_bad role.Prior name holds now after fault told bad = told_not_bad IsAnswersFile IsAnswersFault name holds now after fault told.0 told.1 bad
-role_not_bad role.Model name holds now after fault told bad = told
-role_not_bad role.Answers name holds now after fault told bad = told
-role_not_bad role.Second name holds now after fault told bad = told
-role_not_bad role.Words name holds now after fault told bad = told
-role_not_bad role.Kept name holds now after fault told bad = told
+role_not_bad : (r : Role) (k : Goal) (name : List ℕ) (holds : Option (List File)) (now after : List File) (fault : JsonFault) → TellsRole r k holds name → ReadsBad r k name holds now after fault → ⊥
+role_not_bad role.Setup k name holds now after fault told bad = told_not_bad IsSetupFile IsSetupFault name holds now after fault told.0 told.1 bad
+role_not_bad role.Table aim.Machine name holds now after fault told bad = told_not_bad IsMachineFile IsMachineFault name holds now after fault told.0 told.1 bad
+role_not_bad role.Table aim.Acceptor name holds now after fault told bad = bad
+role_not_bad role.Prior k name holds now after fault told bad = told_not_bad IsAnswersFile IsAnswersFault name holds now after fault told.0 told.1 bad
+role_not_bad role.Model k name holds now after fault told bad = told
+role_not_bad role.Answers k name holds now after fault told bad = told
+role_not_bad role.Second k name holds now after fault told bad = told
+role_not_bad role.Words k name holds now after fault told bad = told
+role_not_bad role.Kept k name holds now after fault told bad = told
 
-role_not_long : (r : Role) (name : List ℕ) (holds : Option (List File)) → TellsRole r holds name → HoldsLong holds name → ⊥
-role_not_long role.Setup name holds told long = told_not_long IsSetupFile IsSetupFault name holds told.0 told.1 long
-role_not_long role.Table name holds told long = told_not_long IsMachineFile IsMachineFault name holds told.0 told.1 long
-role_not_long role.Prior name holds told long = told_not_long IsAnswersFile IsAnswersFault name holds told.0 told.1 long
-role_not_long role.Model name holds told long = told
-role_not_long role.Answers name holds told long = told
-role_not_long role.Second name holds told long = told
-role_not_long role.Words name holds told long = told
-role_not_long role.Kept name holds told long = told
+role_not_long : (r : Role) (k : Goal) (name : List ℕ) (holds : Option (List File)) → TellsRole r k holds name → HoldsLong holds name → ⊥
+role_not_long role.Setup k name holds told long = told_not_long IsSetupFile IsSetupFault name holds told.0 told.1 long
+role_not_long role.Table k name holds told long = told_not_long (IsModelFile k) AnyFault name holds told.0 told.1 long
+role_not_long role.Prior k name holds told long = told_not_long IsAnswersFile IsAnswersFault name holds told.0 told.1 long
+role_not_long role.Model k name holds told long = told
+role_not_long role.Answers k name holds told long = told
+role_not_long role.Second k name holds told long = told
+role_not_long role.Words k name holds told long = told
+role_not_long role.Kept k name holds told long = told
+
+-- an acceptor's file that is told isn't bad
+view_not_bad : (name : List ℕ) (holds : Option (List File)) (now after : List File) (fault : AcceptorFault) (m : Machine) → TellsFile IsViewFile holds name m → ReadsBadFile IsAcceptorFile IsAcceptorFault name holds now after fault → ⊥
+view_not_bad name holds now after fault m told bad = told_not_bad IsViewFile IsAcceptorFault name holds now after fault m told (record { bytes = bad.bytes; read = bad.read; first = bad.first; bad = λ machine file. bad.bad file.0 file.1 })
+
+-- names of an acceptor's letters leave room for `?`
+room_is_there : (names : List (List ℕ)) (fault : AcceptorFault) → AreAcceptorLetters names → HaveNoRoom names fault → fault ≡ NoMemoryToAccept
+room_is_there names NotJson letters none = absurd none
+room_is_there names (Shape field) letters none = absurd none
+room_is_there names (Inputs fault) letters none = absurd (names_none 63 names fault letters.0.0 letters.0.1 none)
+room_is_there names (Reserved place) letters none = absurd (letters.1 (place, slice_get_within names place question none.1, get_or_from_slice_get names place question question none.1))
+room_is_there names NoState letters none = absurd none
+room_is_there names (TooMany count) letters none = absurd none
+room_is_there names Lengths letters none = absurd none
+room_is_there names (Ragged state) letters none = absurd none
+room_is_there names (Target state letter next) letters none = absurd none
+room_is_there names NoMemoryToAccept letters none = refl
+
+-- nor are the letters of a setup that is told
+asked_not_bad : (a : LearnValues) (f g : FilesState) (fault : AcceptorFault) (s : System) → TellsTask a f.holds s → IsBadAcceptor a f g fault → ⊥
+asked_not_bad a f g fault s told bad = ⊎_elim file letters bad.cause
+  where
+    file : ReadsBadAcceptor a f g fault → ⊥
+    file b =
+        let found = asked_told a.source a.system f.holds f.reads b.before b.name s b.next (subst (λ (k : Goal). TellsSystemFor k a.source a.system f.holds s) bad.goal told.system) in
+        view_not_bad b.name f.holds b.before g.reads fault found.0 found.1 b.bad
+
+    letters : (a.source ≡ source.Setup) × HasNoRoomFor a.system f g fault → ⊥
+    letters both =
+        let none = both.1 in
+        let said : TellsAskedSystem source.Setup a.system f.holds s =
+        subst (λ (kind : Source). TellsAskedSystem kind a.system f.holds s) both.0 (subst (λ (k : Goal). TellsSystemFor k a.source a.system f.holds s) bad.goal told.system) in
+        let same = told_same IsSetupFile IsSetupFault a.system f.holds f.reads g.reads said.0 (setup.Command none.command) said.1 none.said.file in
+        let command = subst (λ (v : Setup). TellsAsked v f.holds s) (one_setup same.0 said.0 (setup.Command none.command) same.1 same.2) said.2 in
+        none.told (room_is_there none.command.inputs fault command.0 none.fault_is)
 
 -- the names of a system that is told are those of the one that was read
 abbrev SameNames : System → System → Type 0
@@ -164,6 +231,38 @@ systems_same source.Setup system holds before now s t told read =
     let both = told_same IsSetupFile IsSetupFault system holds before read.0 told.0 read.1 told.1 read.2 in
     said_same read.1 holds read.0 now s t (subst (λ (v : Setup). TellsSetup v holds s) (one_setup both.0 told.0 read.1 both.1 both.2) told.2) read.3
 
+-- an acceptor file has one list of letters
+one_list : (bytes : List ℕ) (m n : NamedAcceptor) → IsAcceptorFile bytes m → IsAcceptorFile bytes n → m.inputs ≡ n.inputs
+one_list bytes m n f g =
+    let value : f.0 ≡ g.0 = some_same f.0 g.0 (sym f.1.1 ∙ g.1.1) in
+    sym f.2.2.inputs ∙ (some_same f.2.0.inputs g.2.0.inputs (sym f.2.1.inputs ∙ (ap (texts_at (codes "inputs")) value ∙ g.2.1.inputs)) ∙ g.2.2.inputs)
+
+-- and of one that is asked for an acceptor
+views_same : (name : List ℕ) (holds : Option (List File)) (before now : List File) (machine other : Machine) (m : NamedAcceptor) (s t : System) → TellsFile IsViewFile holds name machine → s ≡ Table machine → ReadsFile IsAcceptorFile name holds before now m → IsViewOf m other → t ≡ Table other → SameNames s t
+views_same name holds before now machine other m s t told s_is read viewed t_is =
+    let file : ReadsFile IsViewFile name holds before now other = record { bytes = read.bytes; read = read.read; file = (m, read.file, viewed) } in
+    let both = told_same IsViewFile IsAcceptorFault name holds before now machine other told file in
+    let same : both.1.0.inputs ≡ both.2.0.inputs = one_list both.0 both.1.0 both.2.0 both.1.1 both.2.1 in (
+      ap (λ (x : System). letters_of x) s_is
+          ∙ (both.1.2.inputs ∙ (ap asked_names same ∙ (sym both.2.2.inputs ∙ ap (λ (x : System). letters_of x) (sym t_is)))),
+      ap (λ (x : System). declared_of x) s_is
+          ∙ (ap (λ (x : List (List ℕ)). Some x) (both.1.2.outputs ∙ sym both.2.2.outputs) ∙ ap (λ (x : System). declared_of x) (sym t_is)),
+    )
+
+asked_said_same : (v : Setup) (holds : Option (List File)) (before now : List File) (s t : System) → TellsAsked v holds s → SaysAcceptorSystem v holds before now t → SameNames s t
+asked_said_same (setup.Table name) holds before now s t told read = views_same name holds before now told.0 read.2.0 read.0 s t told.1 told.2 read.1 read.2.1 read.2.2
+asked_said_same (setup.Command c) holds before now s t told read = let same : s ≡ t = told.1 ∙ sym read.2 in (ap (λ (x : System). letters_of x) same, ap (λ (x : System). declared_of x) same)
+
+asked_same : (kind : Source) (system : List ℕ) (holds : Option (List File)) (before now : List File) (s t : System) → TellsAskedSystem kind system holds s → ReadsAcceptorSystem kind system holds before now t → SameNames s t
+asked_same source.Table system holds before now s t told read = asked_said_same (setup.Table system) holds before now s t told read
+asked_same source.Setup system holds before now s t told read =
+    let both = told_same IsSetupFile IsSetupFault system holds before read.0 told.0 read.1 told.1 read.2 in
+    asked_said_same read.1 holds read.0 now s t (subst (λ (v : Setup). TellsAsked v holds s) (one_setup both.0 told.0 read.1 both.1 both.2) told.2) read.3
+
+same_for : (k : Goal) (kind : Source) (system : List ℕ) (holds : Option (List File)) (before now : List File) (s t : System) → TellsSystemFor k kind system holds s → ReadsSystemFor k kind system holds before now t → SameNames s t
+same_for aim.Machine kind system holds before now s t told read = systems_same kind system holds before now s t told read
+same_for aim.Acceptor kind system holds before now s t told read = asked_same kind system holds before now s t told read
+
 fits_same : (p q : Answers) (s t : System) → p.inputs ≡ q.inputs → p.outputs ≡ q.outputs → SameNames s t → FitsSystem p s → FitsSystem q t
 fits_same p q s t inputs outputs same fits =
     subst (λ (l : List (List ℕ)). FitNames q.inputs q.outputs l (or_these q.outputs (declared_of t))) same.0
@@ -175,8 +274,8 @@ fits_same p q s t inputs outputs same fits =
 taken_by : (a : LearnValues) (f g : FilesState) (read : Option System) (kept : List KeptAnswer) (s : System) → TellsTask a f.holds s → (¬ CountedFault f.faults g.faults) → (outcome : Outcome) → IsUnreadBy a f g read kept outcome → IsNoRefusal outcome
 taken_by a f g read kept s told quiet NoMemory is = tt
 taken_by a f g read kept s told quiet (Nondeterministic clash) is = tt
-taken_by a f g read kept s told quiet (BadFile r fault) is = absurd (role_not_bad r is.1 f.holds is.0 g.reads fault (role_told a f.holds f.reads is.0 r is.1 read s told is.2) is.3)
-taken_by a f g read kept s told quiet (FileTooLong r) is = absurd (role_not_long r is.0 f.holds (role_told a f.holds f.reads g.reads r is.0 read s told is.1) is.2)
+taken_by a f g read kept s told quiet (BadFile r fault) is = absurd (role_not_bad r a.goal is.1 f.holds is.0 g.reads fault (role_told a f.holds f.reads is.0 r is.1 read s told is.2) is.3)
+taken_by a f g read kept s told quiet (FileTooLong r) is = absurd (role_not_long r a.goal is.0 f.holds (role_told a f.holds f.reads g.reads r is.0 read s told is.1) is.2)
 taken_by a f g read kept s told quiet (FileFault r) is = absurd (quiet is.2)
 taken_by a f g read kept s told quiet (Alphabets r) is =
     let why = is.1 in
@@ -184,12 +283,12 @@ taken_by a f g read kept s told quiet (Alphabets r) is =
     let both = told_same IsAnswersFile IsAnswersFault why.1 f.holds why.0 g.reads said.0 why.3 said.1 why.6 in
     let same = one_answers both.0 said.0 why.3 both.1 both.2 in
     let here : why.4.1.0 ≡ why.2 = some_same why.4.1.0 why.2 (sym why.4.1.1 ∙ why.5) in
-    let was = subst (λ (t : System). ReadsSystem a.source a.system f.holds f.reads why.0 t) here why.4.1.2 in
-    absurd (why.7 (fits_same said.0 why.3 s why.2 same.inputs same.outputs (systems_same a.source a.system f.holds f.reads why.0 s why.2 told.system was) said.2))
+    let was = subst (λ (t : System). ReadsSystemFor a.goal a.source a.system f.holds f.reads why.0 t) here why.4.1.2 in
+    absurd (why.7 (fits_same said.0 why.3 s why.2 same.inputs same.outputs (same_for a.goal a.source a.system f.holds f.reads why.0 s why.2 told.system was) said.2))
 taken_by a f g read kept s told quiet (Learned h r) is = is
 taken_by a f g read kept s told quiet (Trial t) is = is
 taken_by a f g read kept s told quiet (Accepted states r) is = is
-taken_by a f g read kept s told quiet (BadAcceptor fault) is = is
+taken_by a f g read kept s told quiet (BadAcceptor fault) is = absurd (asked_not_bad a f g fault s told is.0)
 taken_by a f g read kept s told quiet (NotAcceptor q x) is = is
 taken_by a f g read kept s told quiet (Yes states) is = is
 taken_by a f g read kept s told quiet (Served served) is = is
@@ -214,7 +313,7 @@ letters_kept : (names : List (List ℕ)) (s : System) → letters_of (with_outpu
 letters_kept names (Table m) = refl
 letters_kept names (Children c) = refl
 
-prior_letters : (file : Option (List ℕ)) (holds : Option (List File)) (before after : List File) (read s : System) (kept : List KeptAnswer) → ReadsPrior file holds before after read s kept → letters_of s ≡ letters_of read
+pub prior_letters : (file : Option (List ℕ)) (holds : Option (List File)) (before after : List File) (read s : System) (kept : List KeptAnswer) → ReadsPrior file holds before after read s kept → letters_of s ≡ letters_of read
 prior_letters None holds before after read s kept is = ap (λ (x : System). letters_of x) is.1
 prior_letters (Some name) holds before after read s kept is = ap (λ (x : System). letters_of x) is.3 ∙ letters_kept is.0.outputs read
 
@@ -249,7 +348,7 @@ memory_alone file letters f g told quiet NoMemory is = refl
 memory_alone file letters f g told quiet (FileFault r) is = absurd (quiet is.1.2)
 memory_alone file letters f g told quiet (FileTooLong r) is =
     let words = named_words file is.1.0 letters f.holds told is.1.1 in
-    absurd (told_not_long (IsWordsFile letters) (λ bytes fault. ⊥) is.1.0 f.holds words.0 words.1 is.1.2)
+    absurd (told_not_long (IsWordsFile letters) AnyFault is.1.0 f.holds words.0 words.1 is.1.2)
 memory_alone file letters f g told quiet (UnknownLetter word place) is =
     let words = named_words file is.0 letters f.holds told is.1 in
     absurd (told_not_unknown is.0 letters f.holds f.reads g.reads word place words.0 words.1 is.2)
@@ -295,7 +394,7 @@ told_is_learned a f g b z o p e d end s told quiet ended = ⊎_elim unread wordl
 
     wordless : IsWordlessTask a f ended.between ended.read end.kept.answers end.outcome → IsNoRefusal end.outcome
     wordless by =
-        let same : letters_of s ≡ letters_of by.task.read = (systems_same a.source a.system f.holds f.reads by.task.between s by.task.read told.system by.task.system).0 in
+        let same : letters_of s ≡ letters_of by.task.read = (same_for a.goal a.source a.system f.holds f.reads by.task.between s by.task.read told.system by.task.system).0 in
         let letters : letters_of s ≡ letters_of by.system = same ∙ sym (prior_letters a.prior f.holds by.task.between by.between.reads by.task.read by.system end.kept.answers by.task.answers) in
         let words : TellsWords a.words by.between.holds (letters_of by.system) =
         subst (λ (h : Option (List File)). TellsWords a.words h (letters_of by.system)) (sym by.same) (subst (λ (l : List (List ℕ)). TellsWords a.words f.holds l) letters told.words) in
@@ -305,9 +404,18 @@ told_is_learned a f g b z o p e d end s told quiet ended = ⊎_elim unread wordl
         memory
         by.told
 
-system_not_bad : (k : Source) (name : List ℕ) (holds : Option (List File)) (before now : List File) (t : System) → TellsNoSystem k name holds → ReadsSystem k name holds before now t → ⊥
+system_not_bad : (kind : Source) (name : List ℕ) (holds : Option (List File)) (before now : List File) (t : System) → TellsNoSystem kind aim.Machine name holds → ReadsSystem kind name holds before now t → ⊥
 system_not_bad source.Table name holds before now t told read = bad_not_read IsMachineFile IsMachineFault name holds before now read.0 told read.1
 system_not_bad source.Setup name holds before now t told read = bad_not_read IsSetupFile IsSetupFault name holds before read.0 read.1 told read.2
 
+asked_not_read : (kind : Source) (name : List ℕ) (holds : Option (List File)) (before now : List File) (t : System) → TellsNoSystem kind aim.Acceptor name holds → ReadsAcceptorSystem kind name holds before now t → ⊥
+asked_not_read source.Table name holds before now t told read =
+    bad_not_read IsViewFile IsAcceptorFault name holds before now read.2.0 told (record { bytes = read.1.bytes; read = read.1.read; file = (read.0, read.1.file, read.2.1) })
+asked_not_read source.Setup name holds before now t told read = bad_not_read IsSetupFile IsSetupFault name holds before read.0 read.1 told read.2
+
+bad_for : (k : Goal) (kind : Source) (name : List ℕ) (holds : Option (List File)) (before now : List File) (t : System) → TellsNoSystem kind k name holds → ReadsSystemFor k kind name holds before now t → ⊥
+bad_for aim.Machine kind name holds before now t told read = system_not_bad kind name holds before now t told read
+bad_for aim.Acceptor kind name holds before now t told read = asked_not_read kind name holds before now t told read
+
 pub bad_is_refused : BadIsRefused
-bad_is_refused a f g b z o p e d end told ended = system_not_bad a.source a.system f.holds f.reads ended.task.between ended.task.read told ended.task.system
+bad_is_refused a f g b z o p e d end told ended = bad_for a.goal a.source a.system f.holds f.reads ended.task.between ended.task.read told ended.task.system

@@ -138,6 +138,7 @@ module _ (a : LearnValues) (f m g : FilesState) (t : Task) (stage : IsStage a f 
       task = stage.ok.says;
       says = subst (λ (h : Option (List File)). SaysWords a (letters_of t.system) h m.reads g.reads words) stage.same has.ok;
       ready = stage.ok.ready;
+      fits = stage.ok.fits;
       letters = has.words;
       few = has.few;
     };

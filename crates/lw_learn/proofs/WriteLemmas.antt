@@ -19,7 +19,7 @@ use Rattle.lw_outside.proofs.SinkLemmas.{sink_none}
 use Rattle.lw_learn.specs.Arguments.{LearnValues}
 use Rattle.lw_learn.specs.Calls.{MadeWrites, all_writes}
 use Rattle.lw_system.specs.Reads.{gained}
-use Rattle.lw_learn.specs.Outcomes.{IsBeforeOut, IsLearnedOutcome, ReportIsTold, told_outcome}
+use Rattle.lw_learn.specs.Outcomes.{IsBeforeOut, IsBehindOut, IsLearnedOutcome, ReportIsTold, told_outcome}
 use Rattle.lw_learn.specs.Writing.{AnswersStand, PutsAll, PutsSome, StandsInFile, StaysBesides, WritesFiles, WritesOut}
 
 -- calls gained in two steps
@@ -84,6 +84,10 @@ out_before file text taken faults (FileStop role) other early = record {
 }
 out_before file text taken faults Sink other early = absurd (other refl)
 out_before file text taken faults NoMemoryToTell other early = record { told = λ u. absurd u; whole = λ is. let wrong : NoMemory ≡ SinkFault = is in absurd (cc); part = puts_none file text taken; before = λ _. refl }
+
+-- nor where nothing is written of a model
+pub out_untold : (file : Option (List ℕ)) (text : List ℕ) (taken : Option (List ℕ)) (faults : ℕ × ℕ) (outcome : Outcome) → (IsBehindOut outcome → ⊥) → (outcome ≡ SinkFault → ⊥) → WritesOut file text outcome (taken, taken) faults
+out_untold file text taken faults outcome behind sink = record { told = λ is. absurd (behind is); whole = λ is. absurd (sink is); part = puts_none file text taken; before = λ _. refl }
 
 pub not_kept : {A B : Type 0} → ((Kept ≡ Model) × A) ⊎ ((Kept ≡ Answers) × B) → ⊥
 not_kept (inl both) = let wrong : Kept ≡ Model = both.0 in cc

@@ -39,6 +39,7 @@ use Rattle.lw_system.specs.Reads.{MadeReads}
 use Rattle.lw_learn.specs.Writing.{CountsStay, IsWritable, NothingFailed, StaysBesides, TakesInTurn, WritesModel, model_line}
 use Rattle.lw_learn.specs.declared.saving.Saved.{Saved}
 use Rattle.lw_learn.specs.declared.saving.Saved.TheVariants as saving
+use Rattle.lw_system.specs.declared.goal.Goal.{Goal}
 use Rattle.lw_system.specs.declared.system.System.{System}
 use Rattle.lw_system.specs.declared.system.System.TheVariants.{Table, Children}
 
@@ -67,9 +68,9 @@ pub record EndsUnread (a : LearnValues) (files_before files_now : FilesState) (s
 
 -- what a learning answered is what the end says: its model is carried with its learner, and was written out, but that a write
 -- may have failed or memory run out; or the outcome is that of its stop, but that memory may have run out
-abbrev pub Carries : Result Found LearnStop → End → Type 0
-Carries (Ok l) end = (end.model ≡ Some l.model) × (end.learner ≡ Some l.learner) × (end.refinements ≡ refinements_of l.learner) × ModelIsTold l.model (refinements_of l.learner) end.outcome
-Carries (Err stop) end = (end.model ≡ None) × IsWithoutLearner end × StandsOrWants (learn_outcome stop) end.outcome
+abbrev pub Carries : Goal → Result Found LearnStop → End → Type 0
+Carries goal (Ok l) end = (end.model ≡ Some l.model) × (end.learner ≡ Some l.learner) × (end.refinements ≡ refinements_of l.learner) × ModelIsTold goal l.model (refinements_of l.learner) end.outcome
+Carries goal (Err stop) end = (end.model ≡ None) × IsWithoutLearner end × StandsOrWants (learn_outcome stop) end.outcome
 
 -- the names of outputs that an end has: where they weren't declared, those of the kept answers, if there are any
 abbrev pub end_outputs : Option (List (List ℕ)) → List KeptAnswer → Naming → Option Naming
@@ -79,7 +80,7 @@ end_outputs None (k ∷ ks) naming = Some naming
 
 -- once the kept answers were saved, what was learned of a system is written out, or why nothing was is said
 pub record IsToldOf (a : LearnValues) (s : System) (naming : Naming) (learned : Result Found LearnStop) (kept : List KeptAnswer) (was : Saved) (files_before files_now : FilesState) (out_before out_now : SinkState) (err_before err_now : SinkState) (end : End) : Type 0 where
-  pub carries : Carries learned end
+  pub carries : Carries a.goal learned end
   pub kept_is : end.kept.answers ≡ kept
   pub outputs : end.outputs ≡ end_outputs (declared_of s) kept naming
   -- files and streams: of a model by the outcome, and nothing where there is none
@@ -90,7 +91,7 @@ pub record IsToldOf (a : LearnValues) (s : System) (naming : Naming) (learned : 
   pub may : MayTell was end.outcome
   pub said : ¬ CountedFault err_before.faults err_now.faults →
       TakesAll (text_of (letters_of s) naming.names kept a.extra end.outcome) err_before.taken err_now.taken
-  pub in_turn : TakesInTurn (model_line (letters_of s) naming.names kept a.extra end.model
+  pub in_turn : TakesInTurn (model_line a.goal (letters_of s) naming.names kept a.extra end.model
       end.refinements) (text_of (letters_of s) naming.names kept a.extra end.outcome) err_before.taken
       err_now.taken
   pub quiet : IsLearnedOutcome end.outcome → CountsStay files_before files_now out_before out_now err_before err_now
@@ -145,7 +146,7 @@ pub record EndsLearned (a : LearnValues) (s : System) (prior : List KeptAnswer) 
       → IsSoundSystem s spawner_before spawner_now
       → IsWithin (length (letters_of s)) a.extra a.max_states r
       → Gives r (answers_of end.kept.answers)
-      → IsReachedOutcome (length r) end.outcome
+      → IsReachedOutcome a.goal (length r) end.outcome
   -- where links needn't tell what went over them, and nothing was counted, one comes so, or an instance said a bad line
   pub counted :
       (r : Rows)
@@ -153,7 +154,7 @@ pub record EndsLearned (a : LearnValues) (s : System) (prior : List KeptAnswer) 
       → IsUncountedSystem s spawner_before spawner_now
       → IsWithin (length (letters_of s)) a.extra a.max_states r
       → Gives r (answers_of end.kept.answers)
-      → IsReachedOutcome (length r) end.outcome ⊎ IsBadLine a.workers end.outcome
+      → IsReachedOutcome a.goal (length r) end.outcome ⊎ IsBadLine a.workers end.outcome
   pub told : IsEndOf a s naming learned end.kept.answers files_before files_now out_before out_now err_before err_now end
 
 -- the files say a system, prior answers and words that are asked first, and the system was learned; where there is a model each

@@ -1,19 +1,14 @@
 -- Which outcomes of `learn` may come when.
-use Rattle.std.specs.Prelude.{◌≡◌, ◌⊎◌, ℕ, ◌<◌, Result, Ok, Err}
-use Rattle.lw_mealy.specs.Machine.{MealyMachine}
+use Rattle.std.specs.Prelude.{◌≡◌, ◌⊎◌, ℕ, ◌<◌, length, Result, Ok, Err}
+use Rattle.lw_mealy.specs.Machine.{MealyMachine, Rows}
+use Rattle.lw_accept.specs.View.{IsFirstUnviewed}
 use Rattle.lw_report.specs.Stops.{tell_outcome}
 use Rattle.lw_report.specs.declared.stops.TellStop.{TellStop}
 use Rattle.lw_report.specs.declared.outcome.Outcome.{Outcome}
-use Rattle.lw_report.specs.declared.outcome.Outcome.TheVariants.{Accepted, BadLine, Learned, NoMemory, FileFault, SinkFault}
+use Rattle.lw_report.specs.declared.outcome.Outcome.TheVariants.{Accepted, BadLine, Learned, NoMemory, NotAcceptor, FileFault, SinkFault}
 use Rattle.lw_report.specs.declared.role.Role.TheVariants.{Model, Answers, Kept}
-
--- what writing a model out comes to
-abbrev pub ModelIsTold : MealyMachine → ℕ → Outcome → Type 0
-ModelIsTold model refinements (Learned told count) = (told ≡ model) × (count ≡ refinements)
-ModelIsTold model refinements NoMemory = Unit {0}
-ModelIsTold model refinements (FileFault role) = (role ≡ Model) ⊎ ((role ≡ Answers) ⊎ (role ≡ Kept))
-ModelIsTold model refinements SinkFault = Unit {0}
-ModelIsTold model refinements _ = ⊥
+use Rattle.lw_system.specs.declared.goal.Goal.{Goal}
+use Rattle.lw_system.specs.declared.goal.Goal.TheVariants as aim
 
 -- what writing out comes to what is told of a model, which is this outcome where all was written
 abbrev pub ReportIsTold : Outcome → Outcome → Type 0
@@ -23,6 +18,23 @@ ReportIsTold told NoMemory = Unit {0}
 ReportIsTold told (FileFault role) = (role ≡ Model) ⊎ ((role ≡ Answers) ⊎ (role ≡ Kept))
 ReportIsTold told SinkFault = Unit {0}
 ReportIsTold told _ = ⊥
+
+-- what is told of a model where all is written, by what was to be learned
+abbrev pub told_of : Goal → MealyMachine → ℕ → Outcome
+told_of aim.Machine model refinements = Learned model refinements
+told_of aim.Acceptor model refinements = Accepted (length model.rows) refinements
+
+-- an acceptor was to be learned, and the model is none's: the first pair that says so is told
+abbrev pub IsNoAcceptor : Goal → Rows → Outcome → Type 0
+IsNoAcceptor goal rows outcome = (goal ≡ aim.Acceptor) × ((state : ℕ) × (letter : ℕ) × (outcome ≡ NotAcceptor state letter) × IsFirstUnviewed rows state letter)
+
+-- what is told in place of a model: memory ran out, or it is no acceptor's
+abbrev pub IsUntold : Goal → Rows → Outcome → Type 0
+IsUntold goal rows outcome = (outcome ≡ NoMemory) ⊎ IsNoAcceptor goal rows outcome
+
+-- what a model comes to that was learned
+abbrev pub ModelIsTold : Goal → MealyMachine → ℕ → Outcome → Type 0
+ModelIsTold goal model refinements outcome = ReportIsTold (told_of goal model refinements) outcome ⊎ IsNoAcceptor goal model.rows outcome
 
 -- what came of writing it out
 abbrev pub told_outcome : {T : Type 0} → Outcome → Result T TellStop → Outcome
@@ -48,6 +60,7 @@ HasModelFile _ = ⊥
 -- nothing was put to `out`
 abbrev pub IsBeforeOut : Outcome → Type 0
 IsBeforeOut NoMemory = Unit {0}
+IsBeforeOut (NotAcceptor state letter) = Unit {0}
 IsBeforeOut (FileFault role) = (role ≡ Model) ⊎ (role ≡ Answers)
 IsBeforeOut _ = ⊥
 
@@ -70,7 +83,18 @@ IsBadLine workers (BadLine instance line) = instance < workers
 IsBadLine workers _ = ⊥
 
 -- a model is told that came within fewer than n refinements, or memory ran out
-abbrev pub IsReachedOutcome : ℕ → Outcome → Type 0
-IsReachedOutcome n (Learned model refinements) = refinements < n
-IsReachedOutcome n NoMemory = Unit {0}
-IsReachedOutcome n _ = ⊥
+abbrev pub IsReachedMachine : ℕ → Outcome → Type 0
+IsReachedMachine n (Learned model refinements) = refinements < n
+IsReachedMachine n NoMemory = Unit {0}
+IsReachedMachine n _ = ⊥
+
+-- an acceptor is, or that there is none
+abbrev pub IsReachedAcceptor : ℕ → Outcome → Type 0
+IsReachedAcceptor n (Accepted states refinements) = refinements < n
+IsReachedAcceptor n (NotAcceptor state letter) = Unit {0}
+IsReachedAcceptor n NoMemory = Unit {0}
+IsReachedAcceptor n _ = ⊥
+
+abbrev pub IsReachedOutcome : Goal → ℕ → Outcome → Type 0
+IsReachedOutcome aim.Machine n outcome = IsReachedMachine n outcome
+IsReachedOutcome aim.Acceptor n outcome = IsReachedAcceptor n outcome

@@ -5,7 +5,8 @@ use Rattle.lw_json.specs.Formats.{IsAnswersFile}
 use Rattle.lw_json.specs.declared.files.Answers.{Answers}
 use Rattle.lw_outside.specs.Files.{File, ReadsFile}
 use Rattle.lw_prior.specs.Prior.{prior_answers}
-use Rattle.lw_system.specs.Systems.{FitsSystem, ReadsSystem, declared_of, or_these}
+use Rattle.lw_system.specs.Goals.{ReadsSystemFor}
+use Rattle.lw_system.specs.Systems.{FitsSystem, declared_of, or_these}
 use Rattle.lw_system.specs.declared.system.System.{System}
 use Rattle.lw_system.specs.declared.system.System.TheVariants.{Table, Children}
 use Rattle.lw_learn.specs.Arguments.{LearnValues}
@@ -30,5 +31,5 @@ ReadsPrior (Some name) holds before after read s prior =
 pub record ReadsTask (a : LearnValues) (holds : Option (List File)) (before after : List File) (s : System) (prior : List KeptAnswer) : Type 0 where
   pub between : List File
   pub read : System
-  pub system : ReadsSystem a.source a.system holds before between read
+  pub system : ReadsSystemFor a.goal a.source a.system holds before between read
   pub answers : ReadsPrior a.prior holds between after read s prior

@@ -1,6 +1,7 @@
 -- Files that tell what they hold: what a call of `learn` may come to by it.
 use Rattle.std.specs.Prelude.{◌≡◌, ℕ, List, Option, Some, None}
 use Rattle.lw_words.specs.Cause.{CountedFault}
+use Rattle.lw_accept.specs.AcceptorFile.{AreAcceptorLetters}
 use Rattle.lw_json.specs.Formats.{IsAnswersFile, IsMachineFile}
 use Rattle.lw_json.specs.SetupFile.{IsSetupFile}
 use Rattle.lw_json.specs.declared.files.Answers.{Answers}
@@ -17,7 +18,11 @@ use Rattle.lw_report.specs.declared.outcome.Outcome.TheVariants.{NoMemory, Nonde
 use Rattle.lw_learn.specs.Arguments.{LearnValues}
 use Rattle.lw_learn.specs.Asking.{IsWordsFile}
 use Rattle.lw_learn.specs.Ending.{EndsRead, EndsUnread}
+use Rattle.lw_system.specs.AcceptorSystems.{IsViewFile, asked_command}
+use Rattle.lw_system.specs.Goals.{IsModelFile}
 use Rattle.lw_system.specs.Systems.{FitsSystem, letters_of}
+use Rattle.lw_system.specs.declared.goal.Goal.{Goal}
+use Rattle.lw_system.specs.declared.goal.Goal.TheVariants as aim
 use Rattle.lw_system.specs.declared.source.Source.{Source}
 use Rattle.lw_system.specs.declared.source.Source.TheVariants as source
 use Rattle.lw_system.specs.declared.system.System.{System}
@@ -33,6 +38,20 @@ abbrev pub TellsSystem : Source → List ℕ → Option (List File) → System �
 TellsSystem source.Table name holds s = (m : Machine) × TellsFile IsMachineFile holds name m × (s ≡ Table m)
 TellsSystem source.Setup name holds s = (v : Setup) × TellsFile IsSetupFile holds name v × TellsSetup v holds s
 
+-- the same of a system that is asked for an acceptor: the machine of an acceptor, or children
+abbrev pub TellsAsked : Setup → Option (List File) → System → Type 0
+TellsAsked (setup.Table name) holds s = (machine : Machine) × TellsFile IsViewFile holds name machine × (s ≡ Table machine)
+TellsAsked (setup.Command c) holds s = AreAcceptorLetters c.inputs × (s ≡ Children (asked_command c))
+
+abbrev pub TellsAskedSystem : Source → List ℕ → Option (List File) → System → Type 0
+TellsAskedSystem source.Table name holds s = TellsAsked (setup.Table name) holds s
+TellsAskedSystem source.Setup name holds s = (v : Setup) × TellsFile IsSetupFile holds name v × TellsAsked v holds s
+
+-- by what is to be learned
+abbrev pub TellsSystemFor : Goal → Source → List ℕ → Option (List File) → System → Type 0
+TellsSystemFor aim.Machine kind name holds s = TellsSystem kind name holds s
+TellsSystemFor aim.Acceptor kind name holds s = TellsAskedSystem kind name holds s
+
 -- they tell prior answers that fit it, where some are named
 abbrev pub TellsPrior : Option (List ℕ) → Option (List File) → System → Type 0
 TellsPrior None holds s = Unit {0}
@@ -44,14 +63,14 @@ TellsWords None holds letters = Unit {0}
 TellsWords (Some name) holds letters = (words : List (List ℕ)) × TellsFile (IsWordsFile letters) holds name words
 
 pub record TellsTask (a : LearnValues) (holds : Option (List File)) (s : System) : Type 0 where
-  pub system : TellsSystem a.source a.system holds s
+  pub system : TellsSystemFor a.goal a.source a.system holds s
   pub prior : TellsPrior a.prior holds s
   pub words : TellsWords a.words holds (letters_of s)
 
 -- the file of the system is told to be too long or of no system
-abbrev pub TellsNoSystem : Source → List ℕ → Option (List File) → Type 0
-TellsNoSystem source.Table name holds = TellsBad IsMachineFile holds name
-TellsNoSystem source.Setup name holds = TellsBad IsSetupFile holds name
+abbrev pub TellsNoSystem : Source → Goal → List ℕ → Option (List File) → Type 0
+TellsNoSystem source.Table goal name holds = TellsBad (IsModelFile goal) holds name
+TellsNoSystem source.Setup goal name holds = TellsBad IsSetupFile holds name
 
 -- no file is refused, and no names differ
 abbrev pub IsNoRefusal : Outcome → Type 0
@@ -69,4 +88,4 @@ ToldIsLearned = (a : LearnValues) (files_before files_now : FilesState) (spawner
 -- where the file of the system is told to be of none, none is learned
 abbrev pub BadIsRefused : Type 0
 BadIsRefused = (a : LearnValues) (files_before files_now : FilesState) (spawner_before spawner_now : SpawnerState) (out_before out_now err_before err_now : SinkState) (end : End)
-    → TellsNoSystem a.source a.system files_before.holds → EndsRead a files_before files_now spawner_before spawner_now out_before out_now err_before err_now end → ⊥
+    → TellsNoSystem a.source a.goal a.system files_before.holds → EndsRead a files_before files_now spawner_before spawner_now out_before out_now err_before err_now end → ⊥

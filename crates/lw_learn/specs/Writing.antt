@@ -3,19 +3,24 @@ use Rattle.std.specs.Prelude.{◌≡◌, ◌≢◌, ◌⊎◌, ℕ, List, [], Op
 use Rattle.lw_words.specs.Cause.{CountedFault}
 use Rattle.lw_words.specs.declared.kept.KeptAnswer.{KeptAnswer}
 use Rattle.lw_mealy.specs.Machine.{MealyMachine}
+use Rattle.lw_accept.specs.Acceptor.{IsNamedAcceptor, NamedAcceptor}
+use Rattle.lw_accept.specs.AcceptorText.{acceptor_written}
 use Rattle.lw_json.specs.AnswersText.{IsAnswersText}
 use Rattle.lw_json.specs.MachineText.{written_text}
 use Rattle.lw_json.specs.declared.files.Machine.{Machine}
 use Rattle.lw_learn.specs.Arguments.{LearnValues}
 use Rattle.lw_learn.specs.Calls.{MadeWrites}
-use Rattle.lw_learn.specs.Outcomes.{HasFiles, HasModelFile, IsBeforeOut, IsBehindOut}
+use Rattle.lw_learn.specs.Outcomes.{HasFiles, HasModelFile, IsBeforeOut, IsBehindOut, told_of}
 use Rattle.lw_outside.specs.Files.{Call, File, FilesState, Holds, file_at}
 use Rattle.lw_outside.specs.Streams.{SinkState}
 use Rattle.lw_report.specs.Text.{text_of}
 use Rattle.lw_report.specs.Writing.{TakesAll, TakesSome}
 use Rattle.lw_report.specs.declared.outcome.Outcome.{Outcome}
-use Rattle.lw_report.specs.declared.outcome.Outcome.TheVariants.{SinkFault, Learned}
+use Rattle.lw_report.specs.declared.outcome.Outcome.TheVariants.{NoMemory, NotAcceptor, SinkFault}
 use Rattle.lw_report.specs.declared.role.Role.{Role}
+use Rattle.lw_system.specs.AcceptorSystems.{IsViewOf}
+use Rattle.lw_system.specs.declared.goal.Goal.{Goal}
+use Rattle.lw_system.specs.declared.goal.Goal.TheVariants as aim
 use Rattle.lw_report.specs.declared.role.Role.TheVariants.{Answers, Kept, Model}
 
 -- the text goes to the stream where no file is named for it, and nothing does where one is
@@ -60,15 +65,26 @@ StaysBesides model answers kept None after = after ≡ None
 StaysBesides model answers kept (Some fs) after =
     (gs : List File) × (after ≡ Some gs) × ((other : List ℕ) → model ≢ Some other → answers ≢ Some other → kept ≢ Some other → file_at other gs ≡ file_at other fs)
 
+-- the text of a machine that was learned, or of the acceptor in whose place it was
+abbrev pub IsModelText : Goal → Machine → List ℕ → Type 0
+IsModelText aim.Machine m text = text ≡ written_text m
+IsModelText aim.Acceptor m text = (acceptor : NamedAcceptor) × IsNamedAcceptor acceptor × IsViewOf acceptor m × (text ≡ acceptor_written acceptor)
+
+-- the same, but where there was no memory for a text, or the machine is no acceptor's
+abbrev pub HasModelText : Outcome → Goal → Machine → List ℕ → Type 0
+HasModelText outcome goal m text = outcome ≢ NoMemory → ((state letter : ℕ) → outcome ≢ NotAcceptor state letter) → IsModelText goal m text
+
 -- a model under these names is written out, by the outcome
 pub record WritesModel (a : LearnValues) (kept : List KeptAnswer) (outcome : Outcome) (holds : Option (List File)) (taken : Option (List ℕ) × Option (List ℕ)) (faults : ℕ × ℕ) (inputs outputs : List (List ℕ)) (h : MealyMachine) : Type 0 where
   pub model : Machine
   pub inputs_are : model.inputs ≡ inputs
   pub outputs_are : model.outputs ≡ outputs
   pub mealy : model.mealy ≡ h
-  pub file : HasModelFile outcome → a.model ≢ a.answers → StandsInFile a.model holds (written_text model)
+  pub text : List ℕ
+  pub text_is : HasModelText outcome a.goal model text
+  pub file : HasModelFile outcome → a.model ≢ a.answers → StandsInFile a.model holds text
   pub answers : HasFiles outcome → AnswersStand a.answers holds model kept
-  pub out : WritesOut a.model (written_text model) outcome taken faults
+  pub out : WritesOut a.model text outcome taken faults
 
 -- the text of an outcome under a machine's names
 abbrev pub told_text : Machine → List KeptAnswer → ℕ → Outcome → List ℕ
@@ -79,9 +95,9 @@ abbrev pub IsWritable : LearnValues → Role → Type 0
 IsWritable a role = ((role ≡ Model) × (a.model ≢ None)) ⊎ (((role ≡ Answers) × (a.answers ≢ None)) ⊎ (role ≡ Kept))
 
 -- the line about a model, or nothing where there is none
-abbrev pub model_line : (inputs outputs : List (List ℕ)) → List KeptAnswer → ℕ → Option MealyMachine → ℕ → List ℕ
-model_line inputs outputs kept extra None refinements = []
-model_line inputs outputs kept extra (Some h) refinements = text_of inputs outputs kept extra (Learned h refinements)
+abbrev pub model_line : Goal → (inputs outputs : List (List ℕ)) → List KeptAnswer → ℕ → Option MealyMachine → ℕ → List ℕ
+model_line goal inputs outputs kept extra None refinements = []
+model_line goal inputs outputs kept extra (Some h) refinements = text_of inputs outputs kept extra (told_of goal h refinements)
 
 -- no count of faults rose, of the files, the output and the error stream
 abbrev pub CountsStay : (files_before files_now : FilesState) (out_before out_now err_before err_now : SinkState) → Type 0

@@ -1,9 +1,9 @@
-//! The values of the arguments of `learn`.
+//! The values of the arguments of `learn` and of `accept`.
 ghost use Rattle.std.specs.Prelude.{◌≡◌, ◌≤◌, IfSome, option_map, string_bytes};
 ghost use Rattle.lw_learn.specs.Arguments.{AreFewDrawn};
 
 use lw_rounds::Settings;
-use lw_system::Source;
+use lw_system::{Goal, Source};
 use std::marker::Model;
 
 /// Words that are drawn: how many, how many letters each has, and the seed of the generator.
@@ -26,10 +26,11 @@ pub struct LearnFiles {
     pub log: Option<String>,
 }
 
-/// The values of the arguments of `learn`: the file of the system and its kind, the settings of the learning, the words that are
-/// drawn to be asked first, and the other files.
+/// The values of the arguments of `learn` and of `accept`: what is learned, the file of the system and its kind, the settings of
+/// the learning, the words that are drawn to be asked first, and the other files.
 #[derive(Drop)]
 pub struct LearnArguments {
+    goal: Goal,
     source: Source,
     system: String,
     settings: Settings,
@@ -44,6 +45,7 @@ impl Model for LearnArguments {
     ghost Value = { LearnValues };
 
     ghost view = { λ a. record {
+      goal = a.goal;
       source = a.source;
       system = string_bytes a.system;
       workers = a.settings.workers;
@@ -61,6 +63,7 @@ impl Model for LearnArguments {
     } };
 
     ghost invariant = { λ a. AreWithinLimits (record {
+      goal = a.goal;
       source = a.source;
       system = string_bytes a.system;
       workers = a.settings.workers;
@@ -81,6 +84,7 @@ impl Model for LearnArguments {
 impl LearnArguments {
     /// These values, which are within their limits.
     pub fn new(
+        goal: Goal,
         source: Source,
         system: String,
         settings: Settings,
@@ -89,6 +93,7 @@ impl LearnArguments {
     ) -> LearnArguments
         requires { IfSome drawn AreFewDrawn }
         ensures { result ≡ record {
+          goal = goal;
           source = source;
           system = string_bytes system;
           workers = settings.workers;
@@ -106,12 +111,20 @@ impl LearnArguments {
         } }
     {
         LearnArguments {
+            goal,
             source,
             system,
             settings,
             drawn,
             files,
         }
+    }
+
+    /// What is learned of the system.
+    pub fn goal(&self) -> Goal
+        ensures { result ≡ self.now.goal }
+    {
+        self.goal
     }
 
     /// What kind of file the system is read of.

@@ -1,8 +1,7 @@
 //! How a call ends whose system was learned: what is written of its model, and what is said of a stop.
-ghost use Rattle.std.specs.Prelude.{◌≡◌, ◌≢◌, ◌⊎◌, ◌≤◌, [], length, Some, None, Ok, Err, IfErr, IfOk};
+ghost use Rattle.std.specs.Prelude.{◌≡◌, ◌≢◌, ◌⊎◌, ◌≤◌, [], length, Some, None, Ok, Err, IfErr, IfOk, IfSome};
 ghost use Rattle.lw_words.specs.Cause.{CountedFault};
 ghost use Rattle.lw_json.specs.KeptOver.{AreKeptOver};
-ghost use Rattle.lw_json.specs.MachineText.{written_text};
 ghost use Rattle.lw_rounds.specs.Learner.{refinements_of};
 ghost use Rattle.lw_report.specs.Ends.{IsWithoutLearner};
 ghost use Rattle.lw_report.specs.Learnings.{learn_outcome as outcome_of};
@@ -13,14 +12,15 @@ ghost use Rattle.lw_report.specs.declared.outcome.Outcome.{Outcome as Came};
 ghost use Rattle.lw_report.specs.declared.role.Role.{Role as Part};
 ghost use Rattle.lw_report.specs.declared.role.Role.TheVariants.{Kept as KeptRole};
 ghost use Rattle.lw_learn.specs.Ending.{IsEndOf, IsToldOf, end_outputs};
-ghost use Rattle.lw_learn.specs.Outcomes.{IsLearnedOutcome, ReportIsTold};
+ghost use Rattle.lw_learn.specs.Outcomes.{IsLearnedOutcome, IsUntold, ReportIsTold, told_of};
 ghost use Rattle.lw_learn.specs.Saving.{MayTell};
+ghost use Rattle.lw_system.specs.Goals.{IsSystemFor};
 ghost use Rattle.lw_system.specs.Systems.{declared_of, letters_of};
-ghost use Rattle.lw_learn.specs.Writing.{CountsStay, IsWritable, StaysBesides, TakesInTurn, WritesFiles, WritesOut, told_text};
+ghost use Rattle.lw_learn.specs.Writing.{CountsStay, IsWritable, StaysBesides, TakesInTurn, WritesFiles, WritesOut, IsModelText, told_text};
 ghost use Rattle.lw_learn.specs.declared.saving.Saved.TheVariants as Was;
 
 use crate::naming::names_of;
-use crate::reporting::machine_report;
+use crate::reporting::model_report;
 use crate::saving::save_kept;
 use crate::writing::{NamedModel, Report, tell_model};
 use crate::{LearnArguments, Saved};
@@ -30,7 +30,7 @@ use lw_names::OutNames;
 use lw_outside::{Files, Sink};
 use lw_report::{End, Outcome, Said, UNSAID, learn_outcome, refuse, say};
 use lw_rounds::{LearnStop, Learned};
-use lw_system::System;
+use lw_system::{Goal, System};
 use lw_words::{Kept, Names, NoMemory};
 use lw_workers::LearningOutcome;
 use std::alloc::Global;
@@ -140,41 +140,62 @@ fn named(system: &System, names: &OutNames, model: Mealy, alloc: Global) -> Resu
     }
 }
 
-/// A model with its names, and what is told of it; or the model, where there is no memory for that.
+/// A model that isn't written out, and what is told in its place.
+#[derive(Drop)]
+struct Untold {
+    model: Mealy,
+    outcome: Outcome,
+}
+
+/// A model with its names, and what is told of it; or the model, and what is told in its place.
 fn reported(
     alloc: Global,
+    goal: Goal,
     system: &System,
     names: &OutNames,
     model: Mealy,
     refinements: u32,
-) -> Result<(Machine, Report), Mealy>
+) -> Result<(Machine, Report), Untold>
     requires inputs { model.inputs ≡ length (letters_of system.now) }
     requires outputs { model.outputs ≡ length names.now.names }
     requires few { length (letters_of system.now) ≤ 64 }
+    requires fits { IsSystemFor goal system.now }
+    requires declared { IfSome (declared_of system.now) (λ own. names.now.names ≡ own) }
     ensures inputs { IfOk result (λ r. r.0.inputs ≡ letters_of system.now) }
     ensures outputs { IfOk result (λ r. r.0.outputs ≡ names.now.names) }
     ensures mealy { IfOk result (λ r. r.0.mealy ≡ model) }
-    ensures text { IfOk result (λ r. r.1.text.items ≡ written_text r.0) }
-    ensures outcome { IfOk result (λ r. r.1.outcome ≡ Came.Learned model refinements) }
-    ensures back { IfErr result (λ m. m ≡ model) }
+    ensures text { IfOk result (λ r. IsModelText goal r.0 r.1.text.items) }
+    ensures outcome { IfOk result (λ r. r.1.outcome ≡ told_of goal model refinements) }
+    ensures back { IfErr result (λ u. u.model ≡ model) }
+    ensures untold { IfErr result (λ u. IsUntold goal model.rows u.outcome) }
 {
-    let machine = named(system, names, model, alloc)?;
-    match machine_report(alloc, &machine, refinements) {
+    let machine = match named(system, names, model, alloc) {
+        Ok(machine) => machine,
+        Err(model) => {
+            let outcome = Outcome::NoMemory;
+            return Err(Untold { model, outcome });
+        }
+    };
+    match model_report(alloc, goal, &machine, refinements) {
         Ok(report) => Ok((machine, report)),
-        Err(NoMemory) => Err(machine.mealy),
+        Err(outcome) => {
+            let model = machine.mealy;
+            Err(Untold { model, outcome })
+        }
     }
 }
 
-/// Ends a call with its model, for whose texts there was no memory.
+/// Ends a call with its model, which isn't written out: what is told in its place goes to `err`.
 fn leave_model<E: Sink>(
     alloc: Global,
+    outcome: Outcome,
     learned: Learned,
     kept: Kept,
     outputs: Option<OutNames>,
     extra: u8,
     err: &mut E,
 ) -> End
-    ensures outcome { result.outcome ≡ Came.NoMemory }
+    ensures outcome { StandsOrWants outcome result.outcome }
     ensures status { result.status ≡ status_of result.outcome }
     ensures model { result.model ≡ Some learned.model }
     ensures learner { result.learner ≡ Some learned.learner }
@@ -182,13 +203,13 @@ fn leave_model<E: Sink>(
     ensures kept { result.kept ≡ kept }
     ensures outputs { result.outputs ≡ outputs }
     ensures said { ¬ CountedFault (E.state err.old).faults (E.state err.new).faults →
-        TakesAll (text_of [] [] [] 0 Came.NoMemory) (E.state err.old).taken
+        TakesAll (text_of [] [] kept.answers extra result.outcome) (E.state err.old).taken
         (E.state err.new).taken }
-    ensures part { TakesSome (text_of [] [] [] 0 Came.NoMemory) (E.state err.old).taken
-        (E.state err.new).taken }
+    ensures part { TakesSome (text_of [] [] kept.answers extra result.outcome)
+        (E.state err.old).taken (E.state err.new).taken }
     ensures counts { (E.state err.old).faults ≤ (E.state err.new).faults }
 {
-    let outcome = say(alloc, Outcome::NoMemory, UNSAID, &kept, extra, err);
+    let outcome = say(alloc, outcome, UNSAID, &kept, extra, err);
     End::with_model(outcome, learned, kept, outputs)
 }
 
@@ -203,6 +224,8 @@ fn end_model<F: Files, O: Sink, E: Sink>(
     err: &mut E,
 ) -> End
     requires few { length (letters_of system.now) ≤ 64 }
+    requires fits { IsSystemFor arguments.now.goal system.now }
+    requires declared { IfSome (declared_of system.now) (λ own. ended.names.names ≡ own) }
     requires sizes { (ended.came.model.inputs ≡ length (letters_of system.now)) ×
         (ended.came.model.outputs ≡ length ended.names.names) }
     requires over { AreKeptOver (length (letters_of system.now)) (length ended.names.names)
@@ -220,7 +243,8 @@ fn end_model<F: Files, O: Sink, E: Sink>(
         saved,
     } = ended;
     let Learned { model, learner } = came;
-    let read = reported(alloc, system, &names, model, learner.refinements());
+    let goal = arguments.goal();
+    let read = reported(alloc, goal, system, &names, model, learner.refinements());
     let outputs = outputs_of(system, &kept, names);
     match read {
         Ok((machine, report)) => {
@@ -233,9 +257,11 @@ fn end_model<F: Files, O: Sink, E: Sink>(
             };
             write_out(alloc, arguments, model, report, files, out, err)
         }
-        Err(model) => {
+        Err(untold) => {
+            let Untold { model, outcome } = untold;
+            let told = saved.outcome(outcome);
             let learned = Learned { model, learner };
-            leave_model(alloc, learned, kept, outputs, arguments.extra(), err)
+            leave_model(alloc, told, learned, kept, outputs, arguments.extra(), err)
         }
     }
 }
@@ -313,6 +339,8 @@ pub(crate) fn finish<F: Files, O: Sink, E: Sink>(
     err: &mut E,
 ) -> End
     requires few { length (letters_of system.now) ≤ 64 }
+    requires fits { IsSystemFor arguments.now.goal system.now }
+    requires declared { IfSome (declared_of system.now) (λ own. found.names.names ≡ own) }
     requires sizes { IfOk found.learned (λ l.
         (l.model.inputs ≡ length (letters_of system.now)) ×
         (l.model.outputs ≡ length found.names.names)) }

@@ -1,5 +1,5 @@
 //! The learning of a system that was read.
-ghost use Rattle.std.specs.Prelude.{◌≡◌, ◌<◌, ◌≤◌, ◌^◌, [], length, IfOk, IfErr, OnOk, Some, None, option_map};
+ghost use Rattle.std.specs.Prelude.{◌≡◌, ◌<◌, ◌≤◌, ◌^◌, [], length, IfOk, IfErr, IfSome, OnOk, Some, None, option_map};
 ghost use Rattle.std.specs.List.{All};
 ghost use Rattle.lw_words.specs.Word.{answers_of, IsWord};
 ghost use Rattle.lw_cache.specs.Clash.{NothingClashes};
@@ -109,6 +109,7 @@ pub(crate) fn learn_system<P: Spawner, R: Threads + Wait + Sync + Drop, W: Watch
         (answers_of result.kept.answers)) }
     ensures over { AreKeptOver (length (letters_of system.now)) (length result.names.names)
         result.kept.answers }
+    ensures named { IfSome (declared_of system.now) (λ own. result.names.names ≡ own) }
     ensures asked { OnOk result.learned (AnswersWords start.words result.kept.answers) }
 {
     match system {

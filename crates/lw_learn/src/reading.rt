@@ -21,8 +21,8 @@ use lw_log::Log;
 use lw_names::OutNames;
 use lw_outside::{Files, LogFile};
 use lw_prior::{Prior, PriorStop, prior_of};
-use lw_report::{Outcome, Role, unread_outcome};
-use lw_system::{Found, ReadStop, System, find_system, read_answers_file};
+use lw_report::{Outcome, Role, no_system_outcome};
+use lw_system::{Found, ReadStop, System, find_for, read_answers_file};
 use lw_words::{Kept, Names, NoMemory};
 use std::alloc::Global;
 use std::marker::Model;
@@ -63,8 +63,8 @@ impl Unread {
     }
 }
 
-/// Reads the system that is to be learned: the setup or the table file, and the table file that a setup names. The log is told
-/// the first member that the setup doesn't know.
+/// Reads the system that is to be learned: the setup or the table file, and the table file that a setup names, which is a
+/// machine's, or an acceptor's where one is to be learned. The log is told the first member that the setup doesn't know.
 fn read_whole<F: Files, L: LogFile>(
     alloc: Global,
     arguments: &LearnArguments,
@@ -74,13 +74,19 @@ fn read_whole<F: Files, L: LogFile>(
     ensures { IsStage arguments.now (F.state files.old) (F.state files.new)
         (SaysWhole arguments.now (F.state files.old) (F.state files.new)) result }
 {
-    let Found { system, hint } = find_system(alloc, arguments.source(), arguments.system(), files);
+    let Found { system, hint } = find_for(
+        alloc,
+        arguments.goal(),
+        arguments.source(),
+        arguments.system(),
+        files,
+    );
     if !hint.is_empty() {
         log.text(&hint);
     }
     match system {
         Ok(system) => Ok(system),
-        Err(stop) => Err(Unread::bare(alloc, unread_outcome(stop), None)),
+        Err(stop) => Err(Unread::bare(alloc, no_system_outcome(stop), None)),
     }
 }
 

@@ -5,6 +5,9 @@ use Rattle.lw_words.specs.declared.kept.KeptAnswer.{KeptAnswer}
 use Rattle.lw_cache.specs.Caching.{Caching}
 use Rattle.lw_cache.specs.Clash.{NothingClashes}
 use Rattle.lw_names.specs.Naming.{Naming}
+use Rattle.lw_accept.specs.AcceptorFile.{AreAcceptorLetters}
+use Rattle.lw_accept.specs.View.{answer_names, asked_names}
+use Rattle.lw_json.specs.declared.files.Machine.{Machine}
 use Rattle.lw_pool.specs.Opening.{MayBegin}
 use Rattle.lw_rounds.specs.Learner.{refinements_of}
 use Rattle.lw_rounds.specs.declared.learned.Learned.{Learned}
@@ -15,6 +18,8 @@ use Rattle.lw_system.specs.NewLines.{count_of}
 use Rattle.lw_report.specs.Learnings.{HasModel}
 use Rattle.lw_report.specs.declared.«end».End.{End}
 use Rattle.lw_system.specs.Systems.{HasWords, declared_of, letters_of}
+use Rattle.lw_system.specs.declared.goal.Goal.{Goal}
+use Rattle.lw_system.specs.declared.goal.Goal.TheVariants as aim
 use Rattle.lw_system.specs.declared.system.System.{System}
 
 -- the names of a system's outputs, and a cache of prior answers, of which nothing clashes
@@ -26,6 +31,11 @@ pub record IsReady (s : System) (naming : Naming) (cache : Caching) : Type 0 whe
   pub nothing : NothingClashes (answers_of cache.kept)
   pub may : MayBegin naming (length (letters_of s)) (count_of (declared_of s)) cache.kept
   pub free : declared_of s ≡ None → cache.kept ≡ []
+
+-- a machine of which an acceptor is told has `?` and its letters, and its three outputs
+abbrev pub IsMachineFor : Goal → Machine → Type 0
+IsMachineFor aim.Machine m = Unit {0}
+IsMachineFor aim.Acceptor m = (letters : List (List ℕ)) × AreAcceptorLetters letters × (m.inputs ≡ asked_names letters) × (m.outputs ≡ answer_names)
 
 -- an end with these answers that carries what was learned has its model
 abbrev pub GivesModel : (kind : Kind) (method : Method) (a b k most : ℕ) → List KeptAnswer → Learned → Type 0

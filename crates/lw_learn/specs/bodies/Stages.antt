@@ -18,7 +18,8 @@ use Rattle.lw_report.specs.declared.role.Role.TheVariants.{Prior}
 use Rattle.lw_learn.specs.Arguments.{LearnValues}
 use Rattle.lw_learn.specs.Asking.{IsWordless, IsWordlessTask, ReadsWords, SaysWords}
 use Rattle.lw_learn.specs.Tasks.{ReadsTask, with_outputs}
-use Rattle.lw_system.specs.Systems.{FitsSystem, HasWords, ReadsSystem, declared_of, letters_of, or_these}
+use Rattle.lw_system.specs.Goals.{IsSystemFor, ReadsSystemFor}
+use Rattle.lw_system.specs.Systems.{FitsSystem, HasWords, declared_of, letters_of, or_these}
 use Rattle.lw_learn.specs.Unread.{IsUnreadBy}
 use Rattle.lw_report.specs.Refused.{IsRefused}
 use Rattle.lw_system.specs.Reads.{MadeReads}
@@ -40,14 +41,16 @@ pub record IsStage {T : Type 0} (a : LearnValues) (files_before files_now : File
 
 -- the files say this system, which has few letters and words to start a child
 pub record SaysWhole (a : LearnValues) (files_before files_now : FilesState) (s : System) : Type 0 where
-  pub says : ReadsSystem a.source a.system files_before.holds files_before.reads files_now.reads s
+  pub says : ReadsSystemFor a.goal a.source a.system files_before.holds files_before.reads files_now.reads s
   pub letters : length (letters_of s) ≤ 64
   pub words : HasWords s
+  pub fits : IsSystemFor a.goal s
 
 -- the files say this task, which is ready to be begun
 pub record SaysReady (a : LearnValues) (files_before files_now : FilesState) (t : Task) : Type 0 where
   pub says : ReadsTask a files_before.holds files_before.reads files_now.reads t.system t.cache.kept
   pub ready : IsReady t.system t.names t.cache
+  pub fits : IsSystemFor a.goal t.system
 
 -- two prior answers of a system clash, the first that do; or memory ran out
 abbrev pub IsClash : System → (prior : List KeptAnswer) → Option System → List KeptAnswer → Outcome → Type 0
@@ -93,6 +96,7 @@ pub record SaysWorded (a : LearnValues) (files_before files_now : FilesState) (t
   pub task : ReadsTask a files_before.holds files_before.reads between t.task.system t.task.cache.kept
   pub says : SaysWords a (letters_of t.task.system) files_before.holds between files_now.reads t.words
   pub ready : IsReady t.task.system t.task.names t.task.cache
+  pub fits : IsSystemFor a.goal t.task.system
   pub letters : All (IsWord (length (letters_of t.task.system))) t.words
   pub few : length t.words < 2 ^ 32
 

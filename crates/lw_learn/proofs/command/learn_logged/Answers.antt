@@ -11,6 +11,13 @@ learn_read-requires-clause-ready g c κs within =
     let m = F.state read in
     (task_ready c.args.arguments.now f m c.read_worded.result c.in-Ok.worded c.in-Ok.is c.read_worded.ensures).ready
 
+pub learn_read-requires-clause-fits : goal.learn_read-requires-clause-fits
+learn_read-requires-clause-fits g c κs within =
+    let F = g.F.Files in
+    let f = F.state c.args.world.now.files in
+    let m = F.state c.read_worded.new.files in
+    (task_ready c.args.arguments.now f m c.read_worded.result c.in-Ok.worded c.in-Ok.is c.read_worded.ensures).fits
+
 pub learn_read-requires-clause-letters : goal.learn_read-requires-clause-letters
 learn_read-requires-clause-letters g c κs within =
     let F = g.F.Files in

@@ -27,4 +27,4 @@ pub returns-clause-answered : goal.returns-clause-answered
 returns-clause-answered g c some =
     let found = c.learn_system-found in
     let told = c.finish-end.ensures.told.told in
-    answered_end c.args.worded.words found.result.learned found.result.kept.answers c.finish-end.result told.carries told.kept_is found.ensures.asked some
+    answered_end c.args.arguments.now.goal c.args.worded.words found.result.learned found.result.kept.answers c.finish-end.result told.carries told.kept_is found.ensures.asked some

@@ -1,4 +1,4 @@
-use Rattle.std.proofs.Common.{◌≡◌, length, IfOk, IfErr, sym, subst}
+use Rattle.std.proofs.Common.{◌≡◌, length, IfOk, IfErr, IfSome, sym, subst}
 use Rattle.lw_words.specs.Word.{answers_of}
 use Rattle.lw_json.specs.KeptOver.{AreKeptOver}
 use Rattle.lw_system.specs.NewLines.{count_of}
@@ -6,7 +6,7 @@ use Rattle.lw_learn.specs.Findings.{LearningStopsBy}
 use Rattle.lw_system.specs.Systems.{declared_of, letters_of}
 use Rattle.lw_learn.specs.bodies.Ready.{GivesModel}
 use Rattle.lw_system.specs.declared.system.System.{System}
-use Rattle.lw_learn.proofs.FoundLemmas.{command_gives, command_over, command_sizes, command_stops, table_gives, table_over, table_sizes, table_stops}
+use Rattle.lw_learn.proofs.FoundLemmas.{command_gives, command_named, command_over, command_sizes, command_stops, table_gives, table_over, table_sizes, table_stops}
 use Rattle.lw_learn.proofs.learning.learn_system.Goals as goal
 
 pub returns-in-Table-clause-model : goal.returns-in-Table-clause-model
@@ -44,3 +44,11 @@ pub returns-in-Children-clause-over : goal.returns-in-Children-clause-over
 returns-in-Children-clause-over g c =
     let m = c.in-Children.command in
     subst (λ (s : System). AreKeptOver (length (letters_of s)) (length c.learn_command.result.names.names) c.learn_command.result.kept.answers) (sym c.in-Children.is) (command_over c.args.arguments.now.learner m.words m.inputs c.args.arguments.now.workers c.args.arguments.now.extra c.args.arguments.now.max_states c.args.start.cache.kept (g.P.Spawner.state c.args.spawner.now) (g.P.Spawner.state c.learn_command.new.spawner) c.learn_command.result.learned c.learn_command.result.kept.answers c.learn_command.result.names.names m.outputs c.learn_command.ensures.found c.requires.ready.may.prior_is c.learn_command.ensures.few)
+
+pub returns-in-Table-clause-named : goal.returns-in-Table-clause-named
+returns-in-Table-clause-named g c = subst (λ (s : System). IfSome (declared_of s) (λ own. c.learn_table.result.names.names ≡ own)) (sym c.in-Table.is) c.learn_table.ensures.found.named
+
+pub returns-in-Children-clause-named : goal.returns-in-Children-clause-named
+returns-in-Children-clause-named g c =
+    let m = c.in-Children.command in
+    subst (λ (s : System). IfSome (declared_of s) (λ own. c.learn_command.result.names.names ≡ own)) (sym c.in-Children.is) (command_named c.args.arguments.now.learner m.words m.inputs c.args.arguments.now.workers c.args.arguments.now.extra c.args.arguments.now.max_states c.args.start.cache.kept (g.P.Spawner.state c.args.spawner.now) (g.P.Spawner.state c.learn_command.new.spawner) c.learn_command.result.learned c.learn_command.result.kept.answers c.learn_command.result.names.names m.outputs c.learn_command.ensures.found)
