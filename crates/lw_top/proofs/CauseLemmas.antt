@@ -24,7 +24,17 @@ use Rattle.lw_outside.specs.Files.{FilesState}
 use Rattle.lw_outside.specs.Links.{LinkState, SpawnerState}
 use Rattle.lw_outside.specs.Streams.{SinkState}
 use Rattle.lw_outside.specs.declared.links.StartFailure.{StartFailure}
+use Rattle.lw_accept.specs.AcceptorFile.{IsAcceptorFault, IsAcceptorFile}
+use Rattle.lw_accept.specs.declared.fault.AcceptorFault.{AcceptorFault}
+use Rattle.lw_system.specs.AcceptorFinding.{IsNoAcceptorSystem}
 use Rattle.lw_system.specs.Finding.{IsNoSystem, IsNoSystemWith}
+use Rattle.lw_system.specs.Goals.{IsNoSystemFor}
+use Rattle.lw_system.specs.declared.goal.Goal.{Goal}
+use Rattle.lw_system.specs.declared.goal.Goal.TheVariants as aim
+use Rattle.lw_system.specs.declared.stops.AcceptorStop.{AcceptorStop}
+use Rattle.lw_system.specs.declared.stops.AcceptorStop.TheVariants as asked
+use Rattle.lw_system.specs.declared.stops.NoSystem.{NoSystem}
+use Rattle.lw_system.specs.declared.stops.NoSystem.TheVariants as no
 use Rattle.lw_system.specs.NewLines.{count_of}
 use Rattle.lw_system.specs.Reads.{IsNotRead}
 use Rattle.lw_system.specs.Systems.{declared_of, letters_of}
@@ -41,10 +51,10 @@ use Rattle.lw_system.specs.declared.system.System.{System}
 use Rattle.lw_system.specs.declared.system.System.TheVariants as system
 use Rattle.lw_report.specs.Learnings.{HasLargeSuite, learn_outcome, system_outcome}
 use Rattle.lw_report.specs.Outcomes.{StandsOrWants}
-use Rattle.lw_report.specs.Stops.{read_outcome, role_of, start_outcome, unread_outcome}
+use Rattle.lw_report.specs.Stops.{acceptor_outcome, no_acceptor_outcome, no_system_outcome, read_outcome, role_of, start_outcome, unread_outcome}
 use Rattle.lw_report.specs.declared.«end».End.{End}
 use Rattle.lw_report.specs.declared.outcome.Outcome.{Outcome}
-use Rattle.lw_report.specs.declared.outcome.Outcome.TheVariants.{Usage, BadFile, Alphabets, FileTooLong, Nondeterministic, NoMemory, SulFailed, Gone, BadLine, TooManyStates, SuiteTooLarge, FileFault, SinkFault, Compared, Asked, Rechecked, UnknownLetter, Unstarted}
+use Rattle.lw_report.specs.declared.outcome.Outcome.TheVariants.{Usage, BadAcceptor, BadFile, Alphabets, FileTooLong, Nondeterministic, NoMemory, SulFailed, Gone, BadLine, TooManyStates, SuiteTooLarge, FileFault, SinkFault, Compared, Asked, Rechecked, UnknownLetter, Unstarted, NotAcceptor}
 use Rattle.lw_report.specs.declared.role.Role.{Role}
 use Rattle.lw_report.specs.declared.role.Role.TheVariants as role
 use Rattle.lw_ask.specs.AskRun.{AsksSystem, AsksWords, HasNoSystem, HasNoWords, HasSystem, IsAskRun}
@@ -64,7 +74,7 @@ use Rattle.lw_learn.specs.Asking.{IsWordless, IsWordlessTask}
 use Rattle.lw_learn.specs.Ending.{Carries, EndsRead, EndsUnread}
 use Rattle.lw_learn.specs.Findings.{IsOfSystem, LearningStopsBy}
 use Rattle.lw_learn.specs.LearnRun.{IsLearnRun, SaysLog}
-use Rattle.lw_learn.specs.Outcomes.{ModelIsTold}
+use Rattle.lw_learn.specs.Outcomes.{ModelIsTold, ReportIsTold, told_of}
 use Rattle.lw_learn.specs.Saving.{IsKeptWritten}
 use Rattle.lw_learn.specs.Unread.{IsUnreadBy}
 use Rattle.lw_learn.specs.declared.saving.Saved.TheVariants as saving
@@ -80,9 +90,10 @@ use Rattle.lw_trial.specs.TrialRun.{IsTrialOutcome, IsTrialRun}
 use Rattle.lw_top.specs.Call.{CallValues, Learn, Check, Trial as TrialCall, Serve, Ask, Compare, Recheck}
 use Rattle.lw_top.specs.CheckCommand.{CheckValues}
 use Rattle.lw_top.specs.FilePairs.{PairValues}
-use Rattle.lw_top.specs.Promises.{CausesAreTold, FaultsAreCounted, FindingsHold, InstanceStopped, LargeForSystem}
+use Rattle.lw_top.specs.Promises.{AcceptedIsRight, CausesAreTold, FaultsAreCounted, FindingsHold, InstanceStopped, LargeForSystem}
 use Rattle.lw_top.specs.Run.{ArgumentsAreRefused, Runs, TellsCause}
 use Rattle.lw_top.specs.World.{WorldState}
+use Rattle.lw_top.proofs.AcceptLemmas.{acceptor_is_right}
 use Rattle.lw_top.proofs.PromiseLemmas.{log_counts, task_of}
 
 -- a count that rose still has, once more is counted or less was before
@@ -134,6 +145,7 @@ abbrev IsReading : Outcome → Type 0
 IsReading (FileFault r) = Unit {0}
 IsReading (FileTooLong r) = Unit {0}
 IsReading (BadFile r fault) = Unit {0}
+IsReading (BadAcceptor fault) = Unit {0}
 IsReading NoMemory = Unit {0}
 IsReading _ = ⊥
 
@@ -152,6 +164,39 @@ no_system_with : (kind : Source) (name : List ℕ) (f g : FilesState) (hint : Li
 no_system_with source.Table name f g hint why is = is.0
 no_system_with source.Setup name f g hint why (inl is) = inl is.0
 no_system_with source.Setup name f g hint why (inr is) = inr is.0
+
+-- the same of an acceptor's file, and of a system that is asked for an acceptor
+not_accepted : (name : List ℕ) (f g : FilesState) (why : ReadStop AcceptorFault) (r : Role) → IsNotRead IsAcceptorFile IsAcceptorFault name f g why → acceptor_outcome role.Table why ≡ FileFault r → CountedFault f.faults g.faults
+not_accepted name f g read.Failed r is e = is.0
+not_accepted name f g read.TooLong r is e = cc
+not_accepted name f g (read.Bad fault) r is e = cc
+not_accepted name f g read.NoMemory r is e = cc
+
+no_asked : (kind : Source) (name : List ℕ) (f g : FilesState) (why : AcceptorStop) (r : Role) → IsNoAcceptorSystem kind name f g why → no_acceptor_outcome why ≡ FileFault r → CountedFault f.faults g.faults
+no_asked source.Table name f g (asked.Table why) r is e = not_accepted name f g why r is e
+no_asked source.Table name f g (asked.Setup why) r is e = absurd is
+no_asked source.Table name f g (asked.Letters fault) r is e = absurd is
+no_asked source.Table name f g asked.NoMemory r is e = absurd is
+no_asked source.Setup name f g (asked.Setup why) r is e = not_read _ _ name f g why role.Setup r is e
+no_asked source.Setup name f g (asked.Table why) r is e = subst (λ (n : ℕ). CountedFault n g.faults) is.said.quiet (not_accepted is.table is.between g why r is.unread e)
+no_asked source.Setup name f g (asked.Letters fault) r is e = cc
+no_asked source.Setup name f g asked.NoMemory r is e = cc
+
+no_system_for : (k : Goal) (kind : Source) (name : List ℕ) (f g : FilesState) (hint : List ℕ) (why : NoSystem) (r : Role) → IsNoSystemFor k kind name f g hint why → no_system_outcome why ≡ FileFault r → CountedFault f.faults g.faults
+no_system_for aim.Machine kind name f g hint (no.Machine why) r is e = no_system kind name f g why r (no_system_with kind name f g hint why is) e
+no_system_for aim.Machine kind name f g hint (no.Acceptor why) r is e = absurd is
+no_system_for aim.Acceptor kind name f g hint (no.Machine why) r is e = absurd is
+no_system_for aim.Acceptor kind name f g hint (no.Acceptor why) r is e = no_asked kind name f g why r is.0 e
+
+reading_for : (why : NoSystem) → IsReading (no_system_outcome why)
+reading_for (no.Machine why) = reading_is (role_of why.file) why.stop
+reading_for (no.Acceptor (asked.Setup why)) = reading_is role.Setup why
+reading_for (no.Acceptor (asked.Table read.Failed)) = tt
+reading_for (no.Acceptor (asked.Table read.TooLong)) = tt
+reading_for (no.Acceptor (asked.Table (read.Bad fault))) = tt
+reading_for (no.Acceptor (asked.Table read.NoMemory)) = tt
+reading_for (no.Acceptor (asked.Letters fault)) = tt
+reading_for (no.Acceptor asked.NoMemory) = tt
 
 -- an outcome that stands, where it isn't out of memory
 stands : (why outcome x : Outcome) → StandsOrWants why outcome → outcome ≡ x → NoMemory ≢ x → why ≡ x
@@ -187,17 +232,17 @@ module _ (before now : WorldState) (end : End) where
   }
 
 -- `check`
-module _ (a : CheckValues) (before now : WorldState) (end : End) (ran : IsCheckRun a.suite a.model a.answers a.extra before.files now.files before.out now.out before.err now.err end) where
+module _ (a : CheckValues) (before now : WorldState) (end : End) (ran : IsCheckRun a.goal a.suite a.model a.answers a.extra before.files now.files before.out now.out before.err now.err end) where
   abbrev Unread : Type 0
-  Unread = check.EndsUnread a.model a.answers before.files now.files a.extra before.out now.out before.err now.err end.outcome end.kept.answers end.outputs
+  Unread = check.EndsUnread a.goal a.model a.answers before.files now.files a.extra before.out now.out before.err now.err end.outcome end.kept.answers end.outputs
 
   abbrev PairRead : Type 0
-  PairRead = check.EndsPairRead a.suite a.model a.answers before.files now.files a.extra before.out now.out before.err now.err end.outcome end.kept.answers end.outputs
+  PairRead = check.EndsPairRead a.goal a.suite a.model a.answers before.files now.files a.extra before.out now.out before.err now.err end.outcome end.kept.answers end.outputs
 
-  unread_as : (u : Unread) (x : Outcome) → end.outcome ≡ x → checked.IsUnread a.model a.answers before.files now.files x
-  unread_as u x is = subst (checked.IsUnread a.model a.answers before.files now.files) is u.cause
+  unread_as : (u : Unread) (x : Outcome) → end.outcome ≡ x → checked.IsUnread a.goal a.model a.answers before.files now.files x
+  unread_as u x is = subst (checked.IsUnread a.goal a.model a.answers before.files now.files) is u.cause
 
-  unread_file : (r : Role) → checked.IsUnread a.model a.answers before.files now.files (FileFault r) → CountedFault before.files.faults now.files.faults
+  unread_file : (r : Role) → checked.IsUnread a.goal a.model a.answers before.files now.files (FileFault r) → CountedFault before.files.faults now.files.faults
   unread_file role.Model is = is.0
   unread_file role.Answers is = is.0
   unread_file role.Setup is = absurd is
@@ -216,7 +261,7 @@ module _ (a : CheckValues) (before now : WorldState) (end : End) (ran : IsCheckR
       r.comes
 
   -- an outcome that comes of neither
-  checks_never : (x : Outcome) → end.outcome ≡ x → NoMemory ≢ x → SinkFault ≢ x → ¬ checked.IsUnread a.model a.answers before.files now.files x → ((p : Pair) → ¬ IsDecision a.suite p a.extra x) → ⊥
+  checks_never : (x : Outcome) → end.outcome ≡ x → NoMemory ≢ x → SinkFault ≢ x → ¬ checked.IsUnread a.goal a.model a.answers before.files now.files x → ((p : Pair) → ¬ IsDecision a.suite p a.extra x) → ⊥
   checks_never x is memory sink unread decision = ⊎_elim (λ (u : Unread). unread (unread_as u x is)) (λ (r : PairRead). decision r.pair (decides r x is memory sink)) ran.ended
 
   checks_stop : (i : ℕ) (s : SulStop) → ¬ (end.outcome ≡ system_outcome i s)
@@ -477,8 +522,8 @@ asked_system (system.Children c) words b z o p kept why (inr r) =
 
 -- `ask`
 module _ (a : _) (before now : WorldState) (end : End) (ran : IsAskRun a before.files now.files before.spawner now.spawner before.out now.out before.err now.err end) (tells : TellsCause now end.outcome) where
-  abbrev NoSystem : Type 0
-  NoSystem = HasNoSystem a before.files now.files before.spawner now.spawner before.out now.out ran.hint ran.kept ran.why
+  abbrev Unasked : Type 0
+  Unasked = HasNoSystem a before.files now.files before.spawner now.spawner before.out now.out ran.hint ran.kept ran.why
 
   abbrev SomeSystem : Type 0
   SomeSystem = HasSystem a before.files now.files before.spawner now.spawner before.out now.out ran.hint ran.kept ran.why
@@ -487,8 +532,8 @@ module _ (a : _) (before now : WorldState) (end : End) (ran : IsAskRun a before.
   ask_why x is other = stands ran.why end.outcome x ran.ended.outcome is other
 
   -- no system was read
-  ask_read : (n : NoSystem) (x : Outcome) → end.outcome ≡ x → NoMemory ≢ x → IsReading x
-  ask_read n x is other = subst IsReading (sym n.outcome ∙ ask_why x is other) (reading_is (role_of n.stop.file) n.stop.stop)
+  ask_read : (n : Unasked) (x : Outcome) → end.outcome ≡ x → NoMemory ≢ x → IsReading x
+  ask_read n x is other = subst IsReading (sym n.outcome ∙ ask_why x is other) (reading_for n.stop)
 
   -- the words of texts that are none
   abbrev IsUnspelled : Outcome → Type 0
@@ -515,7 +560,7 @@ module _ (a : _) (before now : WorldState) (end : End) (ran : IsAskRun a before.
   ask_never x is other reading unspelled_not come starts =
       ⊎_elim
       (λ (s : SomeSystem). asked_texts s ⊥ (λ r. ⊎_elim (λ k. come (subst IsCome (ask_why x is other) k)) (λ k. starts (subst IsStart (ask_why x is other) k)) r.kind) (λ w. unspelled_not (unspelled s w x is other)))
-      (λ (n : NoSystem). reading (ask_read n x is other))
+      (λ (n : Unasked). reading (ask_read n x is other))
       ran.came
 
   ask_stopped : (i : ℕ) (stop : SulStop) → end.outcome ≡ system_outcome i stop → NoMemory ≢ system_outcome i stop → ¬ IsReading (system_outcome i stop) → ¬ IsUnspelled (system_outcome i stop) → InstanceStopped (Some (Ask a)) before now i stop
@@ -527,7 +572,7 @@ module _ (a : _) (before now : WorldState) (end : End) (ran : IsAskRun a before.
       let w = r.stopped i stop (ask_why _ is other) in
       record { system = s.system; says = s.reads; within = w.1; links = w.0; retired = w.2; why = w.3 })
       (λ w. absurd (unspelled_not (unspelled s w _ is other))))
-      (λ (n : NoSystem). absurd (reading (ask_read n _ is other)))
+      (λ (n : Unasked). absurd (reading (ask_read n _ is other)))
       ran.came
 
   ask_stops : (i : ℕ) (stop : SulStop) → end.outcome ≡ system_outcome i stop → InstanceStopped (Some (Ask a)) before now i stop
@@ -542,19 +587,19 @@ module _ (a : _) (before now : WorldState) (end : End) (ran : IsAskRun a before.
       file = λ role is.
           ⊎_elim
           (λ (s : SomeSystem). asked_texts s (CountedFault before.files.faults now.files.faults) (λ r. ⊎_elim (λ k. absurd (subst IsCome (ask_why _ is (λ e. cc)) k)) (λ k. absurd (subst IsStart (ask_why _ is (λ e. cc)) k)) r.kind) (λ w. absurd (unspelled s w _ is (λ e. cc))))
-          (λ (n : NoSystem). no_system a.source a.system before.files now.files n.stop role (no_system_with a.source a.system before.files now.files ran.hint n.stop n.cause) (sym n.outcome ∙ ask_why _ is (λ e. cc)))
+          (λ (n : Unasked). no_system_for a.goal a.source a.system before.files now.files ran.hint n.stop role n.cause (sym n.outcome ∙ ask_why _ is (λ e. cc)))
           ran.came;
       source = λ is. absurd (ask_never _ is (λ e. cc) (λ k. k) (λ k. k) (λ k. k) (λ k. k));
       sink = λ is. inl (
           ⊎_elim
           (λ (s : SomeSystem). asked_texts s (CountedFault before.out.faults now.out.faults) (λ r. r.sink (ask_why _ is (λ e. cc))) (λ w. absurd (unspelled s w _ is (λ e. cc))))
-          (λ (n : NoSystem). absurd (ask_read n _ is (λ e. cc)))
+          (λ (n : Unasked). absurd (ask_read n _ is (λ e. cc)))
           ran.came
           );
       start = λ cause is. (
         ⊎_elim
             (λ (s : SomeSystem). asked_texts s (CountedFault before.spawner.faults now.spawner.faults) (λ r. r.start cause (ask_why _ is (λ e. cc))) (λ w. absurd (unspelled s w _ is (λ e. cc))))
-            (λ (n : NoSystem). absurd (ask_read n _ is (λ e. cc)))
+            (λ (n : Unasked). absurd (ask_read n _ is (λ e. cc)))
             ran.came,
         tells cause is,
       );
@@ -898,32 +943,37 @@ module _ (a : LearnValues) (before now : WorldState) (end : End) (ran : IsLearnR
       w.told)
       u.cause
 
-  -- what was learned, by an outcome that isn't out of memory: a model was told, or the learning stopped so
-  learns : (r : LearnedSystem) (x : Outcome) → end.outcome ≡ x → NoMemory ≢ x → ((l : Found) × ModelIsTold l.model (refinements_of l.learner) x) ⊎ ((stop : LearnStop) × (r.learned.learned ≡ Err stop) × (learn_outcome stop ≡ x))
-  learns r x is other = by r.learned.learned refl r.learned.told.told.carries
+  -- what was learned, by an outcome that is neither out of memory nor that there is no acceptor: a model was told, or the learning
+  -- stopped so
+  learns : (r : LearnedSystem) (x : Outcome) → end.outcome ≡ x → NoMemory ≢ x → ((q y : ℕ) → NotAcceptor q y ≢ x) → ((l : Found) × ReportIsTold (told_of a.goal l.model (refinements_of l.learner)) x) ⊎ ((stop : LearnStop) × (r.learned.learned ≡ Err stop) × (learn_outcome stop ≡ x))
+  learns r x is other none = by r.learned.learned refl r.learned.told.told.carries
     where
-      by : (found : Result Found LearnStop) → r.learned.learned ≡ found → Carries found end → ((l : Found) × ModelIsTold l.model (refinements_of l.learner) x) ⊎ ((stop : LearnStop) × (r.learned.learned ≡ Err stop) × (learn_outcome stop ≡ x))
-      by (Ok l) same carries = inl (l, subst (ModelIsTold l.model (refinements_of l.learner)) is carries.3)
+      reported : (l : Found) → ModelIsTold a.goal l.model (refinements_of l.learner) x → ReportIsTold (told_of a.goal l.model (refinements_of l.learner)) x
+      reported l (inl told) = told
+      reported l (inr denied) = absurd (none denied.1.0 denied.1.1 (sym denied.1.2))
+
+      by : (found : Result Found LearnStop) → r.learned.learned ≡ found → Carries a.goal found end → ((l : Found) × ReportIsTold (told_of a.goal l.model (refinements_of l.learner)) x) ⊎ ((stop : LearnStop) × (r.learned.learned ≡ Err stop) × (learn_outcome stop ≡ x))
+      by (Ok l) same carries = inl (l, reported l (subst (ModelIsTold a.goal l.model (refinements_of l.learner)) is carries.3))
       by (Err stop) same carries = inr (stop, same, stands (learn_outcome stop) end.outcome x carries.2 is other)
 
   -- an outcome that comes of none
-  learn_never : (x : Outcome) → end.outcome ≡ x → NoMemory ≢ x
+  learn_never : (x : Outcome) → end.outcome ≡ x → NoMemory ≢ x → ((q y : ℕ) → NotAcceptor q y ≢ x)
       → ((u : Unlearned) → ¬ IsUnreadBy a before.files u.between u.read end.kept.answers x) → ((u : Unlearned) (w : IsWordlessTask a before.files u.between u.read end.kept.answers end.outcome) → ¬ IsWordless a.words (letters_of w.system) w.between u.between x)
-      → ((l : Found) → ¬ ModelIsTold l.model (refinements_of l.learner) x) → ¬ IsLearnStop x → ⊥
-  learn_never x is other unread wordless told stop =
+      → ((l : Found) → ¬ ReportIsTold (told_of a.goal l.model (refinements_of l.learner)) x) → ¬ IsLearnStop x → ⊥
+  learn_never x is other none unread wordless told stop =
       ⊎_elim
       (λ (u : Unlearned). ⊎_elim (unread u) (λ w. wordless u w.0 w.1) (unlearned u x is other))
-      (λ (r : LearnedSystem). ⊎_elim (λ l. told l.0 l.1) (λ s. stop (subst IsLearnStop s.2 (learn_stop_is s.0))) (learns r x is other))
+      (λ (r : LearnedSystem). ⊎_elim (λ l. told l.0 l.1) (λ s. stop (subst IsLearnStop s.2 (learn_stop_is s.0))) (learns r x is other none))
       ran.ends
 
   -- the stop of an outcome that comes of a learning alone
-  stopped_by : (X : Type 0) (x : Outcome) → end.outcome ≡ x → NoMemory ≢ x
+  stopped_by : (X : Type 0) (x : Outcome) → end.outcome ≡ x → NoMemory ≢ x → ((q y : ℕ) → NotAcceptor q y ≢ x)
       → ((u : Unlearned) → IsUnreadBy a before.files u.between u.read end.kept.answers x → X) → ((u : Unlearned) (w : IsWordlessTask a before.files u.between u.read end.kept.answers end.outcome) → IsWordless a.words (letters_of w.system) w.between u.between x → X)
-      → ((l : Found) → ModelIsTold l.model (refinements_of l.learner) x → X) → ((r : LearnedSystem) (stop : LearnStop) → r.learned.learned ≡ Err stop → learn_outcome stop ≡ x → X) → X
-  stopped_by X x is other unread wordless told stop =
+      → ((l : Found) → ReportIsTold (told_of a.goal l.model (refinements_of l.learner)) x → X) → ((r : LearnedSystem) (stop : LearnStop) → r.learned.learned ≡ Err stop → learn_outcome stop ≡ x → X) → X
+  stopped_by X x is other none unread wordless told stop =
       ⊎_elim
       (λ (u : Unlearned). ⊎_elim (unread u) (λ w. wordless u w.0 w.1) (unlearned u x is other))
-      (λ (r : LearnedSystem). ⊎_elim (λ l. told l.0 l.1) (λ s. stop r s.0 s.1 s.2) (learns r x is other))
+      (λ (r : LearnedSystem). ⊎_elim (λ l. told l.0 l.1) (λ s. stop r s.0 s.1 s.2) (learns r x is other none))
       ran.ends
 
   saved_later : (u : Unlearned) → u.between.faults ≤ now.files.faults
@@ -953,7 +1003,7 @@ module _ (a : LearnValues) (before now : WorldState) (end : End) (ran : IsLearnR
       (λ by. counted_later before.files.faults u.between.faults now.files.faults by.2 (saved_later u))
       (λ w. counted_later before.files.faults u.between.faults now.files.faults (subst (λ (n : ℕ). CountedFault n u.between.faults) w.0.quiet w.1.1.2) (saved_later u))
       (unlearned u _ is (λ e. cc)))
-      (λ (r : LearnedSystem). ⊎_elim (λ l. wrote_file r its is l.1) (λ s. absurd (subst IsLearnStop s.2 (learn_stop_is s.0))) (learns r _ is (λ e. cc)))
+      (λ (r : LearnedSystem). ⊎_elim (λ l. wrote_file r its is l.1) (λ s. absurd (subst IsLearnStop s.2 (learn_stop_is s.0))) (learns r _ is (λ e. cc) (λ q y e. cc)))
       ran.ends
 
   learn_sink : end.outcome ≡ SinkFault → CountedFault before.out.faults now.out.faults ⊎ CountedFault before.err.faults now.err.faults
@@ -965,17 +1015,17 @@ module _ (a : LearnValues) (before now : WorldState) (end : End) (ran : IsLearnR
 
   learn_clash : (clash : Clash) → end.outcome ≡ Nondeterministic clash → IsFirstClash (answers_of end.kept.answers) clash
   learn_clash clash is =
-      stopped_by (IsFirstClash (answers_of end.kept.answers) clash) _ is (λ e. cc) (λ u by. by.3) (λ u w by. absurd by) (λ l by. absurd by)
+      stopped_by (IsFirstClash (answers_of end.kept.answers) clash) _ is (λ e. cc) (λ q y e. cc) (λ u by. by.3) (λ u w by. absurd by) (λ l by. absurd by)
       (λ r stop same e. found_clash a r.system r.prior before.spawner now.spawner r.learned.learned end.kept.answers r.learned.naming.names clash r.learned.found (same ∙ ap (λ (s : LearnStop). Err s) (clash_stop stop clash e)))
 
   learn_crowd : (words : List (List ℕ)) → end.outcome ≡ TooManyStates words → IsTooMany a.max_states (answers_of end.kept.answers) words
   learn_crowd words is =
-      stopped_by (IsTooMany a.max_states (answers_of end.kept.answers) words) _ is (λ e. cc) (λ u by. absurd by) (λ u w by. absurd by) (λ l by. absurd by)
+      stopped_by (IsTooMany a.max_states (answers_of end.kept.answers) words) _ is (λ e. cc) (λ q y e. cc) (λ u by. absurd by) (λ u w by. absurd by) (λ l by. absurd by)
       (λ r stop same e. subst (λ (l : Result Found LearnStop). IfErr l (LearningStopsBy (length (letters_of r.system)) (count_of (declared_of r.system)) a.extra a.max_states (answers_of end.kept.answers))) (same ∙ ap (λ (s : LearnStop). Err s) (crowd_stop stop words e)) r.learned.stops)
 
   learn_suite : (states number : ℕ) → end.outcome ≡ SuiteTooLarge states number → LargeForSystem a before.files now.files end.kept.answers states number
   learn_suite states number is =
-      stopped_by (LargeForSystem a before.files now.files end.kept.answers states number) _ is (λ e. cc) (λ u by. absurd by) (λ u w by. absurd by) (λ l by. absurd by)
+      stopped_by (LargeForSystem a before.files now.files end.kept.answers states number) _ is (λ e. cc) (λ q y e. cc) (λ u by. absurd by) (λ u w by. absurd by) (λ l by. absurd by)
       (λ r stop same e.
       record {
         system = r.system;
@@ -992,18 +1042,18 @@ module _ (a : LearnValues) (before now : WorldState) (end : End) (ran : IsLearnR
       record { system = r.system; says = (r.prior, task_of a before now end ran.told r); within = w.1; links = w.0; retired = w.2; why = w.3 }
 
   learn_stops : (i : ℕ) (s : SulStop) → end.outcome ≡ system_outcome i s → InstanceStopped (Some (Learn a)) before now i s
-  learn_stops i sul.Failed is = stopped_by (InstanceStopped (Some (Learn a)) before now i sul.Failed) _ is (λ e. cc) (λ u by. absurd by) (λ u w by. absurd by) (λ l by. absurd by) (stopped_so i sul.Failed)
-  learn_stops i (sul.BadLine line) is = stopped_by (InstanceStopped (Some (Learn a)) before now i (sul.BadLine line)) _ is (λ e. cc) (λ u by. absurd by) (λ u w by. absurd by) (λ l by. absurd by) (stopped_so i (sul.BadLine line))
-  learn_stops i sul.Gone is = stopped_by (InstanceStopped (Some (Learn a)) before now i sul.Gone) _ is (λ e. cc) (λ u by. absurd by) (λ u w by. absurd by) (λ l by. absurd by) (stopped_so i sul.Gone)
+  learn_stops i sul.Failed is = stopped_by (InstanceStopped (Some (Learn a)) before now i sul.Failed) _ is (λ e. cc) (λ q y e. cc) (λ u by. absurd by) (λ u w by. absurd by) (λ l by. absurd by) (stopped_so i sul.Failed)
+  learn_stops i (sul.BadLine line) is = stopped_by (InstanceStopped (Some (Learn a)) before now i (sul.BadLine line)) _ is (λ e. cc) (λ q y e. cc) (λ u by. absurd by) (λ u w by. absurd by) (λ l by. absurd by) (stopped_so i (sul.BadLine line))
+  learn_stops i sul.Gone is = stopped_by (InstanceStopped (Some (Learn a)) before now i sul.Gone) _ is (λ e. cc) (λ q y e. cc) (λ u by. absurd by) (λ u w by. absurd by) (λ l by. absurd by) (stopped_so i sul.Gone)
 
   learn_causes : CausesAreTold (Some (Learn a)) before now end
   learn_causes = record {
-    usage = λ is. absurd (learn_never _ is (λ e. cc) (λ u k. k) (λ u w k. k) (λ l k. k) (λ k. k));
+    usage = λ is. absurd (learn_never _ is (λ e. cc) (λ q y e. cc) (λ u k. k) (λ u w k. k) (λ l k. k) (λ k. k));
     faults = record {
       file = learn_file;
-      source = λ is. absurd (learn_never _ is (λ e. cc) (λ u k. k) (λ u w k. k) (λ l k. k) (λ k. k));
+      source = λ is. absurd (learn_never _ is (λ e. cc) (λ q y e. cc) (λ u k. k) (λ u w k. k) (λ l k. k) (λ k. k));
       sink = learn_sink;
-      start = λ cause is. absurd (learn_never _ is (λ e. cc) (λ u k. k) (λ u w k. k) (λ l k. k) (λ k. k));
+      start = λ cause is. absurd (learn_never _ is (λ e. cc) (λ q y e. cc) (λ u k. k) (λ u w k. k) (λ l k. k) (λ k. k));
     };
     findings = record {
       clash = learn_clash;
@@ -1023,3 +1073,28 @@ module _ (before now : WorldState) (end : End) where
   causes (Some (Ask a)) r = asks_causes a before now end r.ran r.cause
   causes (Some (Compare a)) r = compares_causes a before now end r.ran
   causes (Some (Recheck a)) r = recheck_causes a before now end r.ran r.cause
+
+  pub accepted : (call : Option CallValues) → Runs call before now end → AcceptedIsRight call before now end
+  accepted None r = (λ n m is. refused_never before now end r _ is (λ e. cc) (λ e. cc), λ q x is. refused_never before now end r _ is (λ e. cc) (λ e. cc))
+  accepted (Some (Learn a)) r = acceptor_is_right a before now end r.ran
+  accepted (Some (Check a)) r = (
+    λ n m is. checks_never a before now end r.ran _ is (λ e. cc) (λ e. cc) (λ k. k) (λ p k. k),
+    λ q x is. checks_never a before now end r.ran _ is (λ e. cc) (λ e. cc) (λ k. k) (λ p k. k),
+  )
+  accepted (Some (TrialCall v)) r = (λ n m is. trial_is v before now end r.ran _ is, λ q x is. trial_is v before now end r.ran _ is)
+  accepted (Some (Serve model)) r = (
+    λ n m is. serves_never model before now end r.ran _ is (λ k. k) (λ m k. k),
+    λ q x is. serves_never model before now end r.ran _ is (λ k. k) (λ m k. k),
+  )
+  accepted (Some (Ask a)) r = (
+    λ n m is. ask_never a before now end r.ran r.cause _ is (λ e. cc) (λ k. k) (λ k. k) (λ k. k) (λ k. k),
+    λ q x is. ask_never a before now end r.ran r.cause _ is (λ e. cc) (λ k. k) (λ k. k) (λ k. k) (λ k. k),
+  )
+  accepted (Some (Compare a)) r = (
+    λ n m is. compares_never a before now end r.ran _ is (λ k. k) (λ k. k),
+    λ q x is. compares_never a before now end r.ran _ is (λ k. k) (λ k. k),
+  )
+  accepted (Some (Recheck a)) r = (
+    λ n m is. recheck_never a before now end r.ran r.cause _ is (λ e. cc) (λ e. cc) (λ k. k) (λ k. k) (λ k. k),
+    λ q x is. recheck_never a before now end r.ran r.cause _ is (λ e. cc) (λ e. cc) (λ k. k) (λ k. k) (λ k. k),
+  )

@@ -8,6 +8,7 @@ use Rattle.lw_report.specs.declared.«end».End.{End}
 use Rattle.lw_report.specs.declared.outcome.Outcome.{Outcome}
 use Rattle.lw_report.specs.declared.outcome.Outcome.TheVariants.{NoMemory, SinkFault, Usage, Yes}
 use Rattle.lw_chunks.specs.declared.method.Method.{Method}
+use Rattle.lw_system.specs.declared.goal.Goal.{Goal}
 use Rattle.lw_check.specs.CheckRun.{IsCheckRun}
 use Rattle.lw_check.specs.Decision.{IsDecision}
 use Rattle.lw_check.specs.Ending.{EndsPairRead, EndsUnread}
@@ -15,8 +16,8 @@ use Rattle.lw_check.specs.Reading.{IsUnread}
 use Rattle.lw_top.specs.Run.{TellsOutcome}
 
 -- the end of a call that touched nothing, which is out of memory, is one that `check` may come to
-pub wanted_check : (method : Method) (model answers : List ℕ) (extra : ℕ) (f : FilesState) (o e d : SinkState) (end : End) → end.outcome ≡ NoMemory → TellsOutcome e d end → IsCheckRun method model answers extra f f o o e d end
-wanted_check method model answers extra f o e d end out r =
+pub wanted_check : (k : Goal) (method : Method) (model answers : List ℕ) (extra : ℕ) (f : FilesState) (o e d : SinkState) (end : End) → end.outcome ≡ NoMemory → TellsOutcome e d end → IsCheckRun k method model answers extra f f o o e d end
+wanted_check k method model answers extra f o e d end out r =
     let said : (oc : Outcome) → oc ≡ NoMemory → TakesAll (text_of [] [] [] 0 oc) e.taken d.taken → TakesAll (text_of [] [] [] extra oc) e.taken d.taken = λ oc is t.
     subst (λ (x : Outcome). TakesAll (text_of [] [] [] extra x) e.taken d.taken) (sym is) (subst (λ (x : Outcome). TakesAll (text_of [] [] [] 0 x) e.taken d.taken) is t) in
     let part : (oc : Outcome) → oc ≡ NoMemory → TakesSome (text_of [] [] [] 0 oc) e.taken d.taken → TakesSome (text_of [] [] [] extra oc) e.taken d.taken = λ oc is t.
@@ -26,7 +27,7 @@ wanted_check method model answers extra f o e d end out r =
       no_learner = r.learner;
       untouched = refl;
       ended = inl (record {
-        cause = subst (IsUnread model answers f f) (sym out) (inl refl);
+        cause = subst (IsUnread k model answers f f) (sym out) (inl refl);
         kept_none = r.kept;
         unnamed = r.outputs;
         unwritten = refl;
@@ -38,11 +39,11 @@ wanted_check method model answers extra f o e d end out r =
     }
 
 -- `check` never comes to the usage
-pub no_usage : (method : Method) (model answers : List ℕ) (extra : ℕ) (f g : FilesState) (o p e d : SinkState) (end : End) → EndsUnread model answers f g extra o p e d end.outcome end.kept.answers end.outputs ⊎ EndsPairRead method model answers f g extra o p e d end.outcome end.kept.answers end.outputs → end.outcome ≡ Usage → ⊥
-no_usage method model answers extra f g o p e d end ended is =
+pub no_usage : (k : Goal) (method : Method) (model answers : List ℕ) (extra : ℕ) (f g : FilesState) (o p e d : SinkState) (end : End) → EndsUnread k model answers f g extra o p e d end.outcome end.kept.answers end.outputs ⊎ EndsPairRead k method model answers f g extra o p e d end.outcome end.kept.answers end.outputs → end.outcome ≡ Usage → ⊥
+no_usage k method model answers extra f g o p e d end ended is =
     ⊎_elim
-    (λ (u : EndsUnread model answers f g extra o p e d end.outcome end.kept.answers end.outputs). subst (IsUnread model answers f g) is u.cause)
-    (λ (r : EndsPairRead method model answers f g extra o p e d end.outcome end.kept.answers end.outputs). ⊎_elim
+    (λ (u : EndsUnread k model answers f g extra o p e d end.outcome end.kept.answers end.outputs). subst (IsUnread k model answers f g) is u.cause)
+    (λ (r : EndsPairRead k method model answers f g extra o p e d end.outcome end.kept.answers end.outputs). ⊎_elim
     (λ decided. subst (IsDecision method r.pair extra) is decided)
     (λ s. ⊎_elim (λ none. let wrong : NoMemory ≡ Usage = sym none ∙ is in absurd (cc)) (λ t. let wrong : SinkFault ≡ Usage = sym t.0 ∙ is in absurd (cc)) s)
     r.comes)

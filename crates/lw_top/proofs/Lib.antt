@@ -1,8 +1,10 @@
+pub mod AcceptLemmas
 pub mod CauseLemmas
 pub mod CheckLemmas
 pub mod AskLemmas
 pub mod CommandLemmas
 pub mod CompareLemmas
+pub mod FixLemmas
 pub mod OptionLemmas
 pub mod PromiseLemmas
 pub mod RecheckLemmas

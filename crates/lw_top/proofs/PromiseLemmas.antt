@@ -22,6 +22,8 @@ use Rattle.lw_children.specs.Children.{IsOfCommand}
 use Rattle.lw_children.specs.Keeping.{KeepsChildren}
 use Rattle.lw_system.specs.Spawners.{StartsAndRetires}
 use Rattle.lw_system.specs.Systems.{declared_of, letters_of}
+use Rattle.lw_system.specs.declared.goal.Goal.{Goal}
+use Rattle.lw_system.specs.declared.goal.Goal.TheVariants as aim
 use Rattle.lw_system.specs.declared.system.System.{System}
 use Rattle.lw_system.specs.declared.system.System.TheVariants as system
 use Rattle.lw_report.specs.Learnings.{HasModel, learn_outcome}
@@ -44,16 +46,17 @@ use Rattle.lw_recheck.specs.RecheckRun.{HasAskedSystem, HasNone, IsRecheckRun}
 use Rattle.lw_trial.specs.TrialRun.{IsTrialOutcome, IsTrialRun}
 use Rattle.lw_top.specs.Call.{CallValues, Learn, Check, Trial as TrialCall, Serve, Ask, Compare, Recheck}
 use Rattle.lw_top.specs.CheckCommand.{CheckValues}
-use Rattle.lw_top.specs.Promises.{AnswersFixModel, AsksNothing, HandsModel, IsBeforeAsking, KeepsLearned, KeepsPrior, KeepsSystem, KeptAreRuns, LearnedIsRight, ModelIsReached, ModelIsRight, ReachesModel, SaysTask, YesIsRight}
+use Rattle.lw_top.specs.Promises.{AnswersFixModel, AsksNothing, FixModel, HandsModel, IsBeforeAsking, KeepsLearned, KeepsPrior, KeepsSystem, KeptAreRuns, LearnedIsRight, ModelIsReached, ModelIsRight, ReachesModel, SaysTask, YesIsRight}
 use Rattle.lw_top.specs.Run.{Runs}
 use Rattle.lw_top.specs.World.{WorldState}
+use Rattle.lw_top.proofs.FixLemmas.{fix_file}
 
 if_some : {X : Type 0} (P Q : X → Type 0) (o : Option X) → ((x : X) → P x → Q x) → IfSome o P → IfSome o Q
 if_some P Q None each holds = tt
 if_some P Q (Some x) each holds = each x holds
 
 -- what is certified is right
-right : (kind : Kind) (method : Method) (a b k most : ℕ) (end : End) (h : MealyMachine) → HasModel kind method a b k most end h → ModelIsRight k (answers_of end.kept.answers) h
+pub right : (kind : Kind) (method : Method) (a b k most : ℕ) (end : End) (h : MealyMachine) → HasModel kind method a b k most end h → ModelIsRight k (answers_of end.kept.answers) h
 right kind method a b k most end h has =
     let c = has.certified in
     record {
@@ -78,11 +81,16 @@ not_wanted : (why outcome : Outcome) → StandsOrWants why outcome → ¬ IsLear
 not_wanted why outcome (inl is) not learned = not (subst IsLearnedOutcome is learned)
 not_wanted why outcome (inr wants) not learned = subst IsLearnedOutcome wants.1 learned
 
-carried : (learned : Result Found LearnStop) (end : End) → Carries learned end → (h : MealyMachine) (refinements : ℕ) → end.outcome ≡ Learned h refinements → end.model ≡ Some h
-carried (Ok l) end c h refinements is =
-    let told = subst (ModelIsTold l.model (refinements_of l.learner)) is c.3 in
-    c.0 ∙ ap (λ (m : MealyMachine). Some m) (sym told.0)
-carried (Err stop) end c h refinements is = absurd (not_wanted (learn_outcome stop) end.outcome c.2 (not_learned stop) (subst IsLearnedOutcome (sym is) tt))
+-- a model that is told is the one that was learned
+model_is : (k : Goal) (model : MealyMachine) (count : ℕ) (h : MealyMachine) (refinements : ℕ) → ModelIsTold k model count (Learned h refinements) → model ≡ h
+model_is aim.Machine model count h refinements (inl told) = let same : Learned model count ≡ Learned h refinements = told in cc
+model_is aim.Acceptor model count h refinements (inl told) = let wrong : Accepted (length model.rows) count ≡ Learned h refinements = told in absurd (cc)
+model_is k model count h refinements (inr none) = let wrong : Learned h refinements ≡ NotAcceptor none.1.0 none.1.1 = none.1.2 in absurd (cc)
+
+carried : (k : Goal) (learned : Result Found LearnStop) (end : End) → Carries k learned end → (h : MealyMachine) (refinements : ℕ) → end.outcome ≡ Learned h refinements → end.model ≡ Some h
+carried k (Ok l) end c h refinements is =
+    c.0 ∙ ap (λ (m : MealyMachine). Some m) (model_is k l.model (refinements_of l.learner) h refinements (subst (ModelIsTold k l.model (refinements_of l.learner)) is c.3))
+carried k (Err stop) end c h refinements is = absurd (not_wanted (learn_outcome stop) end.outcome c.2 (not_learned stop) (subst IsLearnedOutcome (sym is) tt))
 
 -- why no learning began, and what is kept then
 module _ (a : LearnValues) (f g now : FilesState) (read : Option System) (kept : List KeptAnswer) (saved : now.reads ≡ g.reads) where
@@ -112,7 +120,7 @@ module _ (a : LearnValues) (f g now : FilesState) (read : Option System) (kept :
   unread_by Asked is = absurd is
   unread_by (Rechecked answers) is = absurd is
   unread_by (Accepted states refinements) is = absurd is
-  unread_by (BadAcceptor bad) is = absurd is
+  unread_by (BadAcceptor bad) is = (tt, inl is.3)
   unread_by (NotAcceptor state letter) is = absurd is
   unread_by (Unstarted cause) is = absurd is
 
@@ -216,7 +224,7 @@ module _ (a : LearnValues) (before now : WorldState) (end : End) (run : IsLearnR
       (λ (wants : (end.outcome ≡ NoMemory) × (now.err ≡ run.told)). let e : now.err.faults ≡ run.told.faults = ap (λ (s : SinkState). s.faults) wants.1 in omega (arith, e))
       run.log
 
-  why : (u : Unread) → IsBeforeAsking end.outcome × KeepsPrior a before.files now.files end.kept.answers
+  pub why : (u : Unread) → IsBeforeAsking end.outcome × KeepsPrior a before.files now.files end.kept.answers
   why u =
       ⊎_elim
       (λ (is : IsUnreadAs a before.files u.between u.read end.kept.answers end.outcome). unread_as a before.files u.between now.files u.read end.kept.answers u.saved.saved.reads end.outcome is)
@@ -237,7 +245,7 @@ module _ (a : LearnValues) (before now : WorldState) (end : End) (run : IsLearnR
 
       of_read : Read → HandsModel a.extra end
       of_read r = record {
-        told = carried r.learned.learned end r.learned.told.told.carries;
+        told = carried a.goal r.learned.learned end r.learned.told.told.carries;
         right = if_some _ (ModelIsRight a.extra (answers_of end.kept.answers)) end.model (λ h has. right a.learner a.suite (length (letters_of r.system)) (length r.learned.naming.names) a.extra a.max_states end h has) r.learned.model;
       }
 
@@ -297,18 +305,19 @@ module _ (before now : WorldState) (end : End) where
   learned (Some (Compare models)) r = r.ran.no_model
   learned (Some (Recheck a)) r = rechecked a before.files now.files before.spawner now.spawner before.out now.out before.err now.err end r.ran
 
-  fixes : (a : CheckValues) → IsCheckRun a.suite a.model a.answers a.extra before.files now.files before.out now.out before.err now.err end → (states : ℕ) → end.outcome ≡ Yes states → (fixed : AnswersFixModel a before.files now.files) × (states ≡ length fixed.model.mealy.rows)
+  fixes : (a : CheckValues) → IsCheckRun a.goal a.suite a.model a.answers a.extra before.files now.files before.out now.out before.err now.err end → (states : ℕ) → end.outcome ≡ Yes states → (fixed : AnswersFixModel a before.files now.files) × (states ≡ length fixed.model.mealy.rows)
   fixes a run states is =
-      let s = run.sure states is in (
+      let s = run.sure states is in
+      let f = subst (λ (p : Pair). IsFixed p a.extra) s.1.pair s.2 in
+      let fixed : FixModel s.1.machine s.1.read_answers a.extra = record { inputs = f.names.0; outputs = f.names.1; minimal = f.minimal; gives = f.gives; sure = f.sure } in (
         record {
           model = s.1.machine;
           answers = s.1.read_answers;
           between = s.1.middle;
           model_file = s.1.model_file;
           answers_file = s.1.answers_file;
-          fixed =
-              let f = subst (λ (p : Pair). IsFixed p a.extra) s.1.pair s.2 in
-              record { inputs = f.names.0; outputs = f.names.1; minimal = f.minimal; gives = f.gives; sure = f.sure };
+          fixed = fixed;
+          among = fix_file a.goal s.1.model_file.bytes s.1.machine s.1.read_answers a.extra s.1.model_file.file fixed;
         },
         s.3 ∙ ap (λ (p : Pair). length p.mealy.rows) s.1.pair,
       )

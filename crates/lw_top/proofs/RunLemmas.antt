@@ -1,6 +1,6 @@
 -- Calls for whose arguments there was no memory.
-use Rattle.std.proofs.Common.{◌≡◌, ◌⊎◌, List, ℕ, [], ◌∷◌, Bool, true, false, codes, Option, Some, None, option_map, inl, inr, refl, sym, ap, ◌∙◌, subst}
-use Rattle.std.specs.Prelude.{if◌then◌else◌}
+use Rattle.std.proofs.Common.{◌≡◌, ◌⊎◌, List, ℕ, [], ◌∷◌, Bool, true, false, codes, Option, Some, None, option_map, inl, inr, refl, sym, ap, ap₂, ◌∙◌, subst}
+use Rattle.std.specs.Prelude.{◌||◌, if◌then◌else◌}
 use Rattle.std.specs.Str.{bytes_eq}
 use Rattle.std.proofs.lemmas.Bool.{true≢false}
 use Rattle.lw_outside.specs.declared.links.StartFailure.{StartFailure}
@@ -19,9 +19,10 @@ use Rattle.lw_system.proofs.ReadsLemmas.{made_none, some_made}
 use Rattle.lw_learn.proofs.RunLemmas.{none_saved}
 use Rattle.lw_report.specs.Text.{names_of}
 use Rattle.lw_top.specs.Call.{CallValues, Learn, Check, Trial, Serve, Ask, Compare, Recheck, call_of}
+use Rattle.lw_top.specs.AcceptCommand.{accept_values}
 use Rattle.lw_top.specs.AskCommand.{ask_values}
 use Rattle.lw_top.specs.CheckCommand.{check_values}
-use Rattle.lw_top.specs.CommandLine.{is_command}
+use Rattle.lw_top.specs.CommandLine.{may_log}
 use Rattle.lw_top.specs.CompareCommand.{compare_values}
 use Rattle.lw_top.specs.LearnCommand.{learn_values}
 use Rattle.lw_top.specs.RecheckCommand.{recheck_values}
@@ -83,52 +84,64 @@ no_cause spawner outcome cause out came = let wrong : NoMemory ≡ Unstarted cau
 same_call : (a b : CallValues) → ◌≡◌ {A = Option CallValues} (Some a) (Some b) → a ≡ b
 same_call a b e = cc
 
--- of another command than `learn`
+-- of another command than `learn` and `accept`
 abbrev pub IsOther : CallValues → Type 0
 IsOther (Learn a) = ⊥
 IsOther _ = Unit {0}
 
--- then the first argument doesn't name `learn`
-pub names_other : (words : List (List ℕ)) (call : CallValues) → call_of words ≡ Some call → IsOther call → is_command (codes "learn") words ≡ false
+-- what two tests choose
+chosen : (b : Bool) (one rest call : Option CallValues) → b ≡ true → (if b then one else rest) ≡ call → one ≡ call
+chosen true one rest call is same = same
+chosen false one rest call is same = absurd (true≢false (sym is))
+
+not_first : (b : Bool) (one rest call : Option CallValues) → b ≡ false → (if b then one else rest) ≡ call → rest ≡ call
+not_first true one rest call not_one is = absurd (true≢false not_one)
+not_first false one rest call not_one is = is
+
+-- then the first argument names neither `learn` nor `accept`
+pub names_other : (words : List (List ℕ)) (call : CallValues) → call_of words ≡ Some call → IsOther call → may_log words ≡ false
 names_other [] call is other = refl
-names_other (w ∷ ws) call is other = by (bytes_eq w (codes "learn")) refl
+names_other (w ∷ ws) call is other = by (bytes_eq w (codes "learn")) (bytes_eq w (codes "accept")) refl refl
   where
     not_learn : (v : Option LearnValues) → option_map Learn v ≡ Some call → ⊥
     not_learn None e = let wrong : ◌≡◌ {A = Option CallValues} None (Some call) = e in absurd (cc)
     not_learn (Some a) e = let same : Learn a ≡ call = same_call (Learn a) call e in subst IsOther (sym same) other
 
-    by : (b : Bool) → bytes_eq w (codes "learn") ≡ b → bytes_eq w (codes "learn") ≡ false
-    by false e = e
-    by true e = absurd (not_learn (learn_values (w ∷ ws)) (sym (ap (λ (t : Bool). if t then option_map Learn (learn_values (w ∷ ws)) else if bytes_eq w (codes "check") then option_map Check (check_values (w ∷ ws)) else if bytes_eq w (codes "trial") then option_map Trial (trial_values (w ∷ ws)) else if bytes_eq w (codes "serve") then option_map Serve (serve_values (w ∷ ws)) else if bytes_eq w (codes "ask") then option_map Ask (ask_values (w ∷ ws)) else if bytes_eq w (codes "compare") then option_map Compare (compare_values (w ∷ ws)) else if bytes_eq w (codes "recheck") then option_map Recheck (recheck_values (w ∷ ws)) else None) e) ∙ is))
+    by : (b c : Bool) → bytes_eq w (codes "learn") ≡ b → bytes_eq w (codes "accept") ≡ c → (bytes_eq w (codes "learn") || bytes_eq w (codes "accept")) ≡ false
+    by false false e f = ap₂ (λ (x y : Bool). x || y) e f
+    by true c e f = absurd (not_learn (learn_values (w ∷ ws)) (chosen (bytes_eq w (codes "learn")) (option_map Learn (learn_values (w ∷ ws))) _ (Some call) e is))
+    by false true e f =
+        absurd (not_learn (accept_values (w ∷ ws)) (chosen (bytes_eq w (codes "accept")) (option_map Learn (accept_values (w ∷ ws))) _ (Some call) f (not_first (bytes_eq w (codes "learn")) (option_map Learn (learn_values (w ∷ ws))) _ (Some call) e is)))
 
 other_call : {X : Type 0} (b : Bool) (make : X → CallValues) (v : Option X) (rest : Option CallValues) (a : LearnValues) → ((x : X) → IsOther (make x)) → (rest ≡ Some (Learn a) → ⊥) → (if b then option_map make v else rest) ≡ Some (Learn a) → ⊥
 other_call true make None rest a other later is = let wrong : ◌≡◌ {A = Option CallValues} None (Some (Learn a)) = is in absurd (cc)
 other_call true make (Some x) rest a other later is = subst IsOther (same_call (make x) (Learn a) is) (other x)
 other_call false make v rest a other later is = later is
 
-not_first : (b : Bool) (one rest call : Option CallValues) → b ≡ false → (if b then one else rest) ≡ call → rest ≡ call
-not_first true one rest call not_one is = absurd (true≢false not_one)
-not_first false one rest call not_one is = is
+neither : (b c : Bool) → (b || c) ≡ false → (b ≡ false) × (c ≡ false)
+neither false c is = (refl, is)
+neither true c is = absurd (true≢false is)
 
--- the first argument of a call of `learn` names it
-pub names_learn : (words : List (List ℕ)) (a : LearnValues) → call_of words ≡ Some (Learn a) → is_command (codes "learn") words ≡ false → ⊥
+-- the first argument of a call of `learn` or `accept` names it
+pub names_learn : (words : List (List ℕ)) (a : LearnValues) → call_of words ≡ Some (Learn a) → may_log words ≡ false → ⊥
 names_learn [] a is unnamed = let wrong : ◌≡◌ {A = Option CallValues} None (Some (Learn a)) = is in absurd (cc)
 names_learn (w ∷ ws) a is unnamed =
     let words : List (List ℕ) = w ∷ ws in
+    let none = neither (bytes_eq w (codes "learn")) (bytes_eq w (codes "accept")) unnamed in
     other_call (bytes_eq w (codes "check")) Check (check_values words) _ a (λ x. tt)
     (other_call (bytes_eq w (codes "trial")) Trial (trial_values words) _ a (λ x. tt)
     (other_call (bytes_eq w (codes "serve")) Serve (serve_values words) _ a (λ x. tt)
     (other_call (bytes_eq w (codes "ask")) Ask (ask_values words) _ a (λ x. tt)
     (other_call (bytes_eq w (codes "compare")) Compare (compare_values words) _ a (λ x. tt)
     (other_call (bytes_eq w (codes "recheck")) Recheck (recheck_values words) None a (λ x. tt) (λ e. let wrong : ◌≡◌ {A = Option CallValues} None (Some (Learn a)) = e in absurd (cc)))))))
-    (not_first (bytes_eq w (codes "learn")) (option_map Learn (learn_values words)) _ (Some (Learn a)) unnamed is)
+    (not_first (bytes_eq w (codes "accept")) (option_map Learn (accept_values words)) _ (Some (Learn a)) none.1 (not_first (bytes_eq w (codes "learn")) (option_map Learn (learn_values words)) _ (Some (Learn a)) none.0 is))
 
 -- where memory ran out while the arguments were read, the call came to an end that each command may come to
 module _ (f : FilesState) (b : SpawnerState) (i : SourceState) (o e d : SinkState) (l s : LogState) (end : End) (ended : TellsOutcome e d end) where
   pub wanted : (call : Option CallValues) → end.outcome ≡ NoMemory → ((c : CallValues) → call ≡ Some c → IsOther c → s ≡ l) → Runs call (states f b i o e l) (states f b i o d s) end
   wanted None out same = record { outcome = inr out; files = refl; spawner = refl; input = refl; out = refl; ended = ended }
   wanted (Some (Learn a)) out same = record { ran = wanted_run a f b o e d s end out ended; input = refl }
-  wanted (Some (Check a)) out same = record { ran = wanted_check a.suite a.model a.answers a.extra f o e d end out ended; spawner = refl; input = refl; log = same (Check a) refl tt }
+  wanted (Some (Check a)) out same = record { ran = wanted_check a.goal a.suite a.model a.answers a.extra f o e d end out ended; spawner = refl; input = refl; log = same (Check a) refl tt }
   wanted (Some (Trial a)) out same = record { ran = wanted_trial a f o e d end out ended; files = refl; spawner = refl; input = refl; log = same (Trial a) refl tt }
   wanted (Some (Serve m)) out same = record { ran = wanted_serve m f i o e d end out ended; spawner = refl; log = same (Serve m) refl tt }
   wanted (Some (Ask a)) out same = record { ran = wanted_ask a f b o e d end out ended; cause = λ cause came. no_cause b end.outcome cause out came; input = refl; log = same (Ask a) refl tt }

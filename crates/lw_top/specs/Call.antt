@@ -5,6 +5,7 @@ use Rattle.lw_ask.specs.Arguments.{AskValues}
 use Rattle.lw_learn.specs.Arguments.{LearnValues}
 use Rattle.lw_recheck.specs.Arguments.{RecheckValues}
 use Rattle.lw_trial.specs.Arguments.{TrialValues}
+use Rattle.lw_top.specs.AcceptCommand.{accept_values}
 use Rattle.lw_top.specs.AskCommand.{ask_values}
 use Rattle.lw_top.specs.CheckCommand.{CheckValues, check_read, check_values}
 use Rattle.lw_top.specs.CompareCommand.{compare_values}
@@ -16,6 +17,7 @@ use Rattle.lw_top.specs.TrialCommand.{trial_values}
 use Rattle.lw_top.specs.declared.call.Call.{Call}
 use Rattle.lw_top.specs.declared.call.Call.TheVariants as read
 
+-- `learn` and `accept` are one call, by what is learned
 pub data CallValues : Type 0 where
   Learn : LearnValues → CallValues
   Check : CheckValues → CallValues
@@ -29,6 +31,7 @@ pub data CallValues : Type 0 where
 abbrev pub call_named : List ℕ → List (List ℕ) → Option CallValues
 call_named name words =
     if bytes_eq name (codes "learn") then option_map Learn (learn_values words)
+    else if bytes_eq name (codes "accept") then option_map Learn (accept_values words)
     else if bytes_eq name (codes "check") then option_map Check (check_values words)
     else if bytes_eq name (codes "trial") then option_map Trial (trial_values words)
     else if bytes_eq name (codes "serve") then option_map Serve (serve_values words)

@@ -3,11 +3,15 @@ use Rattle.std.specs.Prelude.{ℕ, List, [], ◌∷◌, codes, string_bytes, Opt
 use Rattle.clap.specs.Words.{App, Row, first_of}
 use Rattle.lw_chunks.specs.declared.method.Method.{Method}
 use Rattle.lw_check.specs.declared.arguments.CheckArguments.{CheckArguments}
-use Rattle.lw_top.specs.CommandLine.{method_named, number_given, values_taken, app_with, default_option, number_option, required_argument}
+use Rattle.lw_system.specs.declared.goal.Goal.{Goal}
+use Rattle.lw_system.specs.declared.goal.Goal.TheVariants.{Machine, Acceptor}
+use Rattle.lw_top.specs.CommandLine.{method_named, number_given, values_taken, app_with, default_option, number_option, optional_argument, text_option}
 use Rattle.lw_top.specs.declared.ranges.TheConstants.{EXTRA}
 
--- the values of the arguments of `check`: the model file, the answers file, the extra states and how suites are made
+-- the values of the arguments of `check`: whether the model file is a machine's or an acceptor's, the model file, the answers
+-- file, the extra states and how suites are made
 pub record CheckValues : Type 0 where
+  pub goal : Goal
   pub model : List ℕ
   pub answers : List ℕ
   pub extra : ℕ
@@ -15,28 +19,45 @@ pub record CheckValues : Type 0 where
 
 -- the values of arguments that were read
 abbrev pub check_read : CheckArguments → CheckValues
-check_read a = record { model = string_bytes a.model; answers = string_bytes a.answers; extra = a.extra; suite = a.suite }
+check_read a = record { goal = a.goal; model = string_bytes a.model; answers = string_bytes a.answers; extra = a.extra; suite = a.suite }
 
--- check MODEL ANSWERS [--extra K] [--suite w|wp|h]
+-- check (MODEL | --acceptor FILE) ANSWERS [--extra K] [--suite w|wp|h]
 abbrev pub check_app : App
 check_app = app_with (codes "check")
-    (required_argument (codes "model")
-    ∷ required_argument (codes "answers")
+    (optional_argument (codes "first")
+    ∷ optional_argument (codes "second")
+    ∷ text_option (codes "acceptor")
     ∷ number_option (codes "extra") EXTRA (codes "1")
     ∷ default_option (codes "suite") (codes "w")
     ∷ [])
 
+-- the two files, and whether the first is an acceptor's
+pub record CheckedFiles : Type 0 where
+  pub goal : Goal
+  pub model : List ℕ
+  pub answers : List ℕ
+
+-- a model and answers, or an acceptor by its option and answers
+abbrev pub checked_files : (acceptor first second : Option (List ℕ)) → Option CheckedFiles
+checked_files None (Some model) (Some answers) = Some (record { goal = Machine; model = model; answers = answers })
+checked_files (Some acceptor) (Some answers) None = Some (record { goal = Acceptor; model = acceptor; answers = answers })
+checked_files None None second = None
+checked_files None (Some model) None = None
+checked_files (Some acceptor) None second = None
+checked_files (Some acceptor) (Some answers) (Some second) = None
+
 -- the values, where all are given, and suites are made by a method
-abbrev pub check_values_from : Option (List ℕ) → Option (List ℕ) → Option ℕ → Option Method → Option CheckValues
-check_values_from None answers extra suite = None
-check_values_from (Some model) None extra suite = None
-check_values_from (Some model) (Some answers) None suite = None
-check_values_from (Some model) (Some answers) (Some extra) None = None
-check_values_from (Some model) (Some answers) (Some extra) (Some suite) = Some (record { model = model; answers = answers; extra = extra; suite = suite })
+abbrev pub check_values_from : Option CheckedFiles → Option ℕ → Option Method → Option CheckValues
+check_values_from None extra suite = None
+check_values_from (Some files) None suite = None
+check_values_from (Some files) (Some extra) None = None
+check_values_from (Some files) (Some extra) (Some suite) = Some (record { goal = files.goal; model = files.model; answers = files.answers; extra = extra; suite = suite })
+
+abbrev pub checked_in : List Row → Option CheckedFiles
+checked_in rows = checked_files (first_of (codes "acceptor") rows) (first_of (codes "first") rows) (first_of (codes "second") rows)
 
 abbrev pub check_found : List Row → Option CheckValues
-check_found rows =
-    check_values_from (first_of (codes "model") rows) (first_of (codes "answers") rows) (number_given (codes "extra") EXTRA rows) (option_and_then method_named (first_of (codes "suite") rows))
+check_found rows = check_values_from (checked_in rows) (number_given (codes "extra") EXTRA rows) (option_and_then method_named (first_of (codes "suite") rows))
 
 -- what the arguments say to `check`, where they are taken
 abbrev pub check_values : List (List ℕ) → Option CheckValues

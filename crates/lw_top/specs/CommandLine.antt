@@ -1,5 +1,5 @@
 -- The arguments of the command line: as clap sees those of a command, and what they say, over its meaning of a simple command.
-use Rattle.std.specs.Prelude.{ℕ, List, [], ◌∷◌, map, true, Some, Bool, false, ◌&&◌, codes, String, string_bytes, Option, None, if◌then◌else◌}
+use Rattle.std.specs.Prelude.{ℕ, List, [], ◌∷◌, map, true, Some, Bool, false, ◌&&◌, ◌||◌, codes, String, string_bytes, Option, None, if◌then◌else◌}
 use Rattle.clap.specs.Simple.{new_shape}
 use Rattle.clap.specs.Words.{App, Rule, new_app, new_rule, Row, matches_of, one_of}
 use Rattle.clap.specs.declared.builder.action.ArgAction.TheVariants.{Append, Set}
@@ -83,6 +83,10 @@ texts = map (λ s. string_bytes s)
 abbrev pub is_command : List ℕ → List (List ℕ) → Bool
 is_command name [] = false
 is_command name (w ∷ ws) = bytes_eq w name
+
+-- a call that a log may be written of: of `learn` or of `accept`
+abbrev pub may_log : List (List ℕ) → Bool
+may_log words = is_command (codes "learn") words || is_command (codes "accept") words
 
 -- clap finds no fault
 abbrev pub is_faultless : Kinds → Bool

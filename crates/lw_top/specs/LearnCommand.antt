@@ -7,6 +7,8 @@ use Rattle.lw_chunks.specs.declared.method.Method.{Method}
 use Rattle.lw_learn.specs.Arguments.{LearnValues}
 use Rattle.lw_learn.specs.declared.arguments.Drawn.{Drawn}
 use Rattle.lw_learn.specs.declared.arguments.LearnFiles.{LearnFiles}
+use Rattle.lw_system.specs.declared.goal.Goal.{Goal}
+use Rattle.lw_system.specs.declared.goal.Goal.TheVariants.{Machine}
 use Rattle.lw_system.specs.declared.source.Source.{Source}
 use Rattle.lw_system.specs.declared.source.Source.TheVariants.{Setup, Table}
 use Rattle.lw_top.specs.CommandLine.{kind_named, method_named, number_given, values_taken, app_with, default_option, free_number, number_option, optional_argument, text_option}
@@ -64,7 +66,7 @@ pub record SettingValues : Type 0 where
 abbrev pub setting_values : Settings → SettingValues
 setting_values s = record { workers = s.workers; extra = s.extra; learner = s.kind; max_states = s.max_states; suite = s.suite }
 
--- the settings, where the numbers are in their ranges, the learner is of a kind, and suites are made by a method
+-- these settings, where the numbers are in their ranges, the learner is of a kind, and suites are made by a method
 abbrev pub settings_from : (workers extra : Option ℕ) → Option Kind → (max_states : Option ℕ) → Option Method → Option SettingValues
 settings_from None extra learner max_states suite = None
 settings_from (Some workers) None learner max_states suite = None
@@ -74,10 +76,12 @@ settings_from (Some workers) (Some extra) (Some learner) (Some max_states) None 
 settings_from (Some workers) (Some extra) (Some learner) (Some max_states) (Some suite) =
     Some (record { workers = workers; extra = extra; learner = learner; max_states = max_states; suite = suite })
 
+abbrev pub settings_by : Option Method → List Row → Option SettingValues
+settings_by suite rows =
+    settings_from (number_given (codes "workers") WORKERS rows) (number_given (codes "extra") EXTRA rows) (option_and_then kind_named (first_of (codes "learner") rows)) (number_given (codes "max-states") STATES rows) suite
+
 abbrev pub settings_in : List Row → Option SettingValues
-settings_in rows =
-    settings_from (number_given (codes "workers") WORKERS rows) (number_given (codes "extra") EXTRA rows) (option_and_then kind_named (first_of (codes "learner") rows))
-    (number_given (codes "max-states") STATES rows) (option_and_then method_named (first_of (codes "suite") rows))
+settings_in rows = settings_by (option_and_then method_named (first_of (codes "suite") rows)) rows
 
 -- the names of the other files
 pub record LearnFileNames : Type 0 where
@@ -108,14 +112,15 @@ files_in rows = record {
   log = first_of (codes "log") rows;
 }
 
--- the values, where the system's file is named and all else is there
-abbrev pub learn_values_from : Option (Source × List ℕ) → Option SettingValues → Option (Option Drawn) → LearnFileNames → Option LearnValues
-learn_values_from None settings drawn files = None
-learn_values_from (Some system) None drawn files = None
-learn_values_from (Some system) (Some settings) None files = None
-learn_values_from (Some system) (Some settings) (Some drawn) files =
+-- the values of what is learned, where the system's file is named and all else is there
+abbrev pub learn_values_from : Goal → Option (Source × List ℕ) → Option SettingValues → Option (Option Drawn) → LearnFileNames → Option LearnValues
+learn_values_from goal None settings drawn files = None
+learn_values_from goal (Some system) None drawn files = None
+learn_values_from goal (Some system) (Some settings) None files = None
+learn_values_from goal (Some system) (Some settings) (Some drawn) files =
     Some
     (record {
+      goal = goal;
       source = system.0;
       system = system.1;
       workers = settings.workers;
@@ -133,7 +138,7 @@ learn_values_from (Some system) (Some settings) (Some drawn) files =
     })
 
 abbrev pub learn_found : List Row → Option LearnValues
-learn_found rows = learn_values_from (source_in rows) (settings_in rows) (drawn_in rows) (files_in rows)
+learn_found rows = learn_values_from Machine (source_in rows) (settings_in rows) (drawn_in rows) (files_in rows)
 
 -- what the arguments say to `learn`, where they are taken
 abbrev pub learn_values : List (List ℕ) → Option LearnValues

@@ -1,3 +1,4 @@
+pub mod AcceptCommand
 pub mod Call
 pub mod AskCommand
 pub mod CheckCommand

@@ -1,5 +1,5 @@
 -- What the program promises, a sentence each: clauses of `run`, by the call that its arguments make.
-use Rattle.std.specs.Prelude.{◌≡◌, ◌⊎◌, ℕ, ◌<◌, ◌≤◌, List, [], ◌∷◌, ◌++◌, length, Option, Some, None, IfSome}
+use Rattle.std.specs.Prelude.{◌≡◌, ◌≢◌, ◌⊎◌, ℕ, ◌+◌, ◌<◌, ◌≤◌, List, [], ◌∷◌, ◌++◌, length, Option, Some, None, IfSome}
 use Rattle.lw_words.specs.Word.{Answer, answer_at, answer_of, answers_of}
 use Rattle.lw_words.specs.Cause.{CountedFault}
 use Rattle.lw_words.specs.declared.kept.KeptAnswer.{KeptAnswer}
@@ -12,7 +12,12 @@ use Rattle.lw_cache.specs.Clash.{ClashAt}
 use Rattle.lw_cache.specs.FirstClash.{IsFirstClash}
 use Rattle.lw_cache.specs.declared.stops.Clash.{Clash}
 use Rattle.lw_rounds.specs.Learned.{IsTooMany}
-use Rattle.lw_json.specs.Formats.{IsAnswersFile, IsMachineFile}
+use Rattle.lw_accept.specs.Acceptor.{Automaton, IsAcceptor, IsNamedAcceptor, NamedAcceptor}
+use Rattle.lw_accept.specs.AcceptorFile.{IsAcceptorFile}
+use Rattle.lw_accept.specs.AcceptorText.{acceptor_written}
+use Rattle.lw_accept.specs.Laws.{FixAcceptor}
+use Rattle.lw_accept.specs.View.{IsFirstUnviewed, asked_names, viewed, viewed_machine}
+use Rattle.lw_json.specs.Formats.{IsAnswersFile}
 use Rattle.lw_json.specs.declared.files.Answers.{Answers}
 use Rattle.lw_json.specs.declared.files.Machine.{Machine}
 use Rattle.lw_json.specs.declared.setup.Command.{Command}
@@ -21,7 +26,11 @@ use Rattle.lw_outside.specs.Links.{LinkState, SpawnerState}
 use Rattle.lw_outside.specs.declared.links.StartFailure.{StartFailure}
 use Rattle.lw_system.specs.NewLines.{count_of}
 use Rattle.lw_system.specs.Spawners.{StartsAndRetires}
-use Rattle.lw_system.specs.Systems.{ReadsSystem, declared_of, letters_of}
+use Rattle.lw_system.specs.AcceptorSystems.{IsViewOf}
+use Rattle.lw_system.specs.Goals.{IsModelFile, ReadsSystemFor}
+use Rattle.lw_system.specs.Systems.{declared_of, letters_of}
+use Rattle.lw_system.specs.declared.goal.Goal.{Goal}
+use Rattle.lw_system.specs.declared.goal.Goal.TheVariants as aim
 use Rattle.lw_system.specs.declared.system.System.{System}
 use Rattle.lw_system.specs.declared.system.System.TheVariants as system
 use Rattle.lw_workers.specs.Machines.{IsWithin, KeepsRuns}
@@ -30,13 +39,13 @@ use Rattle.lw_children.specs.Keeping.{KeepsChildren}
 use Rattle.lw_report.specs.Learnings.{HasLargeSuite, system_outcome}
 use Rattle.lw_report.specs.declared.«end».End.{End}
 use Rattle.lw_report.specs.declared.outcome.Outcome.{Outcome}
-use Rattle.lw_report.specs.declared.outcome.Outcome.TheVariants.{Alphabets, BadFile, FileFault, FileTooLong, Learned, NoMemory, Nondeterministic, SinkFault, SourceFault, SuiteTooLarge, TooManyStates, UnknownLetter, Unstarted, Usage, Yes}
+use Rattle.lw_report.specs.declared.outcome.Outcome.TheVariants.{Accepted, Alphabets, BadAcceptor, BadFile, FileFault, FileTooLong, Learned, NoMemory, Nondeterministic, NotAcceptor, SinkFault, SourceFault, SuiteTooLarge, TooManyStates, UnknownLetter, Unstarted, Usage, Yes}
 use Rattle.lw_report.specs.declared.role.Role.{Role}
 use Rattle.lw_learn.specs.Arguments.{LearnValues}
 use Rattle.lw_learn.specs.Ending.{IsSoundSystem, IsUncountedSystem}
 use Rattle.lw_learn.specs.Outcomes.{IsBadLine, IsReachedOutcome}
 use Rattle.lw_learn.specs.Tasks.{ReadsTask}
-use Rattle.lw_learn.specs.Writing.{NothingFailed}
+use Rattle.lw_learn.specs.Writing.{NothingFailed, PutsAll, StandsInFile}
 use Rattle.lw_recheck.specs.Arguments.{RecheckValues}
 use Rattle.lw_recheck.specs.Reading.{ReadsBoth}
 use Rattle.lw_trial.specs.TrialRun.{IsReachedTrial, drawn_machine}
@@ -78,14 +87,22 @@ pub record FixModel (m : Machine) (a : Answers) (k : ℕ) : Type 0 where
   pub gives : Gives m.mealy.rows (answers_of a.kept.answers)
   pub sure : Sure m.mealy.inputs m.mealy.rows (answers_of a.kept.answers) k
 
+-- where an acceptor is checked, the bytes are its file, the model is the machine in its place, and the answers fix it among
+-- acceptors: it says as they tell, and every acceptor that does so and has at most k states more accepts the same words
+abbrev pub FixFile : Goal → List ℕ → Machine → Answers → ℕ → Type 0
+FixFile aim.Machine bytes m a k = Unit {0}
+FixFile aim.Acceptor bytes m a k =
+    (acceptor : NamedAcceptor) × IsAcceptorFile bytes acceptor × IsViewOf acceptor m × FixAcceptor (length acceptor.inputs) k acceptor.automaton (answers_of a.kept.answers)
+
 -- a model and answers are those of the two files as they were read, one after the other; and the answers fix the model
 pub record AnswersFixModel (a : CheckValues) (before now : FilesState) : Type 0 where
   pub model : Machine
   pub answers : Answers
   pub between : List File
-  pub model_file : ReadsFile IsMachineFile a.model before.holds before.reads between model
+  pub model_file : ReadsFile (IsModelFile a.goal) a.model before.holds before.reads between model
   pub answers_file : ReadsFile IsAnswersFile a.answers before.holds between now.reads answers
   pub fixed : FixModel model answers a.extra
+  pub among : FixFile a.goal model_file.bytes model answers a.extra
 
 -- a yes is right, and tells the number of the model's states
 abbrev pub YesIsRight : Option CallValues → (before now : FilesState) → Outcome → Type 0
@@ -135,6 +152,7 @@ pub record KeepsLearned (a : LearnValues) (before now : WorldState) (end : End) 
 -- a file was refused, earlier answers clash, or memory ran out
 abbrev pub IsBeforeAsking : Outcome → Type 0
 IsBeforeAsking (BadFile role fault) = Unit {0}
+IsBeforeAsking (BadAcceptor fault) = Unit {0}
 IsBeforeAsking (Alphabets role) = Unit {0}
 IsBeforeAsking (FileTooLong role) = Unit {0}
 IsBeforeAsking (FileFault role) = Unit {0}
@@ -161,9 +179,9 @@ KeptAreRuns (Some (Trial a)) before now end = KeepsRuns (drawn_machine a) a.work
 KeptAreRuns _ before now end = Unit {0}
 
 -- of the system that was learned: where no file, stream or start of a child failed, and some machine of n states that gives the
--- kept answers is within the limits, a model comes within n - 1 refinements, or memory runs out, wherever each link counted no fault and
--- no end and tells that no line came over it that is none; and where none counted one, told or not, one comes so, or an instance said a
--- bad line
+-- kept answers is within the limits, a model comes within n - 1 refinements, or memory runs out; of `accept` an acceptor comes
+-- so, or that there is none. This is where each link counted no fault and no end, and tells that no line came over it that is
+-- none; where none counted one, told or not, it is so too, or an instance said a bad line
 pub record ReachesModel (a : LearnValues) (before now : WorldState) (end : End) : Type 0 where
   pub system : System
   pub prior : List KeptAnswer
@@ -173,13 +191,13 @@ pub record ReachesModel (a : LearnValues) (before now : WorldState) (end : End) 
       → IsSoundSystem system before.spawner now.spawner
       → IsWithin (length (letters_of system)) a.extra a.max_states m
       → Gives m (answers_of end.kept.answers)
-      → IsReachedOutcome (length m) end.outcome
+      → IsReachedOutcome a.goal (length m) end.outcome
   pub counted : (m : Rows)
       → NothingFailed (before.files.faults, now.files.faults) (before.out.faults, now.out.faults) (before.err.faults, now.err.faults)
       → IsUncountedSystem system before.spawner now.spawner
       → IsWithin (length (letters_of system)) a.extra a.max_states m
       → Gives m (answers_of end.kept.answers)
-      → IsReachedOutcome (length m) end.outcome ⊎ IsBadLine a.workers end.outcome
+      → IsReachedOutcome a.goal (length m) end.outcome ⊎ IsBadLine a.workers end.outcome
 
 -- a model is reached, of `trial` where the suite of the drawn machine isn't too large
 abbrev pub ModelIsReached : Option CallValues → WorldState → WorldState → End → Type 0
@@ -187,6 +205,49 @@ ModelIsReached (Some (Learn a)) before now end = ReachesModel a before now end �
 ModelIsReached (Some (Trial a)) before now end =
     suite_size a.states a.inputs 1 ≤ greatest_suite → ¬ CountedFault before.out.faults now.out.faults → ¬ CountedFault before.err.faults now.err.faults → IsReachedTrial a.states end.outcome
 ModelIsReached _ before now end = Unit {0}
+
+-- an acceptor that is told: the system that was learned has the letters `?` and the acceptor's, and the model is the machine in
+-- the acceptor's place; the kept answers fix it among acceptors; and its text was put to `out`, or stands in the file that is
+-- named for it
+pub record TellsAcceptor (a : LearnValues) (before now : WorldState) (end : End) (states : ℕ) : Type 0 where
+  pub acceptor : NamedAcceptor
+  pub named : IsNamedAcceptor acceptor
+  pub system : System
+  pub prior : List KeptAnswer
+  pub task : SaysTask a before.files now.files system prior
+  pub letters : letters_of system ≡ asked_names acceptor.inputs
+  pub model : end.model ≡ Some (viewed_machine (length acceptor.inputs) acceptor.automaton)
+  pub states_are : states ≡ length acceptor.automaton.targets
+  pub fixed : FixAcceptor (length acceptor.inputs) a.extra acceptor.automaton (answers_of end.kept.answers)
+  pub put : PutsAll a.model (acceptor_written acceptor) before.out.taken now.out.taken
+  pub stands : a.model ≢ a.answers → StandsInFile a.model now.files.holds (acceptor_written acceptor)
+
+-- that there is no acceptor: the pair is the first of the model that no acceptor's machine has, and each acceptor whose machine
+-- gives the kept answers has more than k states more than the model
+pub record TellsNoAcceptor (a : LearnValues) (end : End) (state letter : ℕ) : Type 0 where
+  pub model : MealyMachine
+  pub model_is : end.model ≡ Some model
+  pub letters : ℕ
+  pub inputs : model.inputs ≡ letters + 1
+  pub first : IsFirstUnviewed model.rows state letter
+  pub larger : (m : Automaton) → IsAcceptor letters m → Gives (viewed m) (answers_of end.kept.answers) →
+      length model.rows + a.extra < length m.targets
+
+-- an acceptor, or that there is none, is told only where one is to be learned, and is so
+pub record AcceptorIsRight (a : LearnValues) (before now : WorldState) (end : End) : Type 0 where
+  pub told : (states refinements : ℕ) → end.outcome ≡ Accepted states refinements →
+      (a.goal ≡ aim.Acceptor) × TellsAcceptor a before now end states
+  pub none : (state letter : ℕ) → end.outcome ≡ NotAcceptor state letter →
+      (a.goal ≡ aim.Acceptor) × TellsNoAcceptor a end state letter
+
+-- neither an acceptor is told nor that there is none
+abbrev pub TellsNeither : Outcome → Type 0
+TellsNeither outcome = ((states refinements : ℕ) → ¬ (outcome ≡ Accepted states refinements)) × ((state letter : ℕ) → ¬ (outcome ≡ NotAcceptor state letter))
+
+-- an acceptor that is told is right, and so is that there is none; no command but `accept` tells either
+abbrev pub AcceptedIsRight : Option CallValues → WorldState → WorldState → End → Type 0
+AcceptedIsRight (Some (Learn a)) before now end = AcceptorIsRight a before now end
+AcceptedIsRight _ before now end = TellsNeither end.outcome
 
 -- a fault that is told was counted: of the files, of the input, of a stream, or of a start, whose cause is what the spawner tells
 pub record FaultsAreCounted (before now : WorldState) (outcome : Outcome) : Type 0 where
@@ -198,7 +259,7 @@ pub record FaultsAreCounted (before now : WorldState) (outcome : Outcome) : Type
 -- the bytes that the call read say this system
 abbrev pub FilesSaySystem : Option CallValues → (before now : FilesState) → System → Type 0
 FilesSaySystem (Some (Learn a)) before now s = (prior : List KeptAnswer) × SaysTask a before now s prior
-FilesSaySystem (Some (Ask a)) before now s = ReadsSystem a.source a.system before.holds before.reads now.reads s
+FilesSaySystem (Some (Ask a)) before now s = ReadsSystemFor a.goal a.source a.system before.holds before.reads now.reads s
 FilesSaySystem (Some (Recheck a)) before now s = (answers : Answers) × ReadsBoth a.setup a.answers before.holds before.reads now.reads s answers
 FilesSaySystem _ before now s = ⊥
 
@@ -207,8 +268,8 @@ abbrev pub workers_of : Option CallValues → ℕ
 workers_of (Some (Learn a)) = a.workers
 workers_of _ = 1
 
--- an instance of the system that the files say stopped so: it could not be started, or its link, one of those that were retired, says
--- that, where it tells what went over it
+-- an instance of the system that the files say stopped so: it could not be started, or its link, one of those that were
+-- retired, says that, where it tells what went over it
 pub record InstanceStopped (call : Option CallValues) (before now : WorldState) (instance : ℕ) (stop : SulStop) : Type 0 where
   pub system : System
   pub says : FilesSaySystem call before.files now.files system
@@ -248,7 +309,7 @@ pub record LargeForModel (a : CheckValues) (before now : FilesState) (states num
   pub model : Machine
   pub answers : Answers
   pub between : List File
-  pub model_file : ReadsFile IsMachineFile a.model before.holds before.reads between model
+  pub model_file : ReadsFile (IsModelFile a.goal) a.model before.holds before.reads between model
   pub answers_file : ReadsFile IsAnswersFile a.answers before.holds between now.reads answers
   pub large : (states ≡ length model.mealy.rows) × (number ≡ suite_size states model.mealy.inputs a.extra) × (greatest_suite < number)
 

@@ -62,7 +62,7 @@ pub record RunsLearn (arguments : LearnValues) (before now : WorldState) (end : 
   pub input : now.input ≡ before.input
 
 pub record RunsCheck (arguments : CheckValues) (before now : WorldState) (end : End) : Type 0 where
-  pub ran : IsCheckRun arguments.suite arguments.model arguments.answers arguments.extra
+  pub ran : IsCheckRun arguments.goal arguments.suite arguments.model arguments.answers arguments.extra
       before.files now.files before.out now.out before.err now.err end
   pub spawner : now.spawner ≡ before.spawner
   pub input : now.input ≡ before.input

@@ -1,4 +1,5 @@
 //! The arguments of each command, as its command line has them.
+pub(crate) mod accept;
 pub(crate) mod ask;
 pub(crate) mod check;
 pub(crate) mod compare;

@@ -4,6 +4,7 @@ ghost use Rattle.lw_top.specs.Call.{call_of, values_of};
 ghost use Rattle.lw_top.specs.CommandLine.{texts};
 ghost use Rattle.lw_top.specs.declared.values.ArgumentStop.{ArgumentStop as Stop};
 
+use crate::arguments::accept::accept_arguments;
 use crate::arguments::ask::ask_arguments;
 use crate::arguments::check::check_arguments;
 use crate::arguments::compare::compare_arguments;
@@ -23,6 +24,7 @@ use std::alloc::Global;
 /// A command with the values of its arguments.
 #[derive(Drop)]
 pub(crate) enum Call {
+    /// Of a machine, or of an acceptor.
     Learn(LearnArguments),
     Check(CheckArguments),
     Trial(TrialArguments),
@@ -44,6 +46,7 @@ pub(crate) fn read_call(alloc: Global, arguments: &[String]) -> Result<Call, Arg
     };
     match command.as_str() {
         "learn" => Ok(Call::Learn(learn_arguments(alloc, arguments)?)),
+        "accept" => Ok(Call::Learn(accept_arguments(alloc, arguments)?)),
         "check" => Ok(Call::Check(check_arguments(alloc, arguments)?)),
         "trial" => Ok(Call::Trial(trial_arguments(alloc, arguments)?)),
         "serve" => Ok(Call::Serve(serve_arguments(alloc, arguments)?)),

@@ -11,6 +11,7 @@ mod refused;
 mod top;
 mod values;
 
+pub use arguments::accept::accept_arguments;
 pub use arguments::ask::ask_arguments;
 pub use arguments::check::check_arguments;
 pub use arguments::compare::compare_arguments;

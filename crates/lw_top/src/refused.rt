@@ -1,10 +1,12 @@
-//! What a log gets of arguments of `learn` that aren't taken: which option's value is out of its range.
-ghost use Rattle.std.specs.Prelude.{◌≡◌, codes, false};
-ghost use Rattle.lw_top.specs.CommandLine.{is_command, texts};
+//! What a log gets of arguments of `learn` or `accept` that aren't taken: which option's value is out of its range.
+ghost use Rattle.std.specs.Prelude.{◌≡◌, None, false};
+ghost use Rattle.lw_top.specs.CommandLine.{may_log, texts};
 
 use crate::ArgumentStop;
+use crate::arguments::accept::accept_syntax;
 use crate::arguments::learn::learn_syntax;
 use crate::matching::is_command;
+use crate::options::Syntax;
 use crate::ranges::Range;
 use lw_log::Log;
 use lw_outside::LogFile;
@@ -63,8 +65,8 @@ fn range_line(alloc: Global, option: &str, range: Range) -> Result<String, NoMem
 }
 
 /// Puts a line for each value that is out of its range.
-fn log_ranges<L: LogFile>(alloc: Global, arguments: &[String], log: &mut Log<L>) {
-    for argument in learn_syntax().arguments {
+fn log_ranges<L: LogFile>(alloc: Global, syntax: &Syntax, arguments: &[String], log: &mut Log<L>) {
+    for argument in syntax.arguments {
         let Some((option, range)) = argument.number() else {
             continue;
         };
@@ -77,24 +79,37 @@ fn log_ranges<L: LogFile>(alloc: Global, arguments: &[String], log: &mut Log<L>)
     }
 }
 
-/// Puts why arguments of `learn` aren't taken to the log that they name, if they name one: the values that are out of their
-/// ranges, and the outcome's text.
+/// The arguments of the command that is named, where it may write a log.
+fn logged_syntax(arguments: &[String]) -> Option<&'static Syntax>
+    ensures { may_log (texts arguments.now) ≡ false → result ≡ None }
+{
+    if is_command("learn", arguments) {
+        return Some(learn_syntax());
+    }
+    if is_command("accept", arguments) {
+        return Some(accept_syntax());
+    }
+    None
+}
+
+/// Puts why arguments of `learn` or `accept` aren't taken to the log that they name, if they name one: the values that are out of
+/// their ranges, and the outcome's text.
 pub(crate) fn log_refused<L: LogFile>(
     alloc: Global,
     arguments: &[String],
     stop: ArgumentStop,
     log: &mut Log<L>,
 )
-    ensures { is_command (codes "learn") (texts arguments.now) ≡ false → log.new ≡ log.old }
+    ensures { may_log (texts arguments.now) ≡ false → log.new ≡ log.old }
 {
-    if !is_command("learn", arguments) {
+    let Some(syntax) = logged_syntax(arguments) else {
         return;
-    }
+    };
     let Some(name) = value_of(arguments, "log") else {
         return;
     };
     log.open(name);
-    log_ranges(alloc, arguments, log);
+    log_ranges(alloc, syntax, arguments, log);
     let outcome = Outcome::from(stop);
     log.line(outcome_text(alloc, &outcome, None, None, &Kept::new(alloc), 0));
 }

@@ -1,10 +1,10 @@
 //! The call that does all that the program does.
-ghost use Rattle.std.specs.Prelude.{◌≡◌, ◌≤◌, codes, false};
+ghost use Rattle.std.specs.Prelude.{◌≡◌, ◌≤◌, false};
 ghost use Rattle.lw_report.specs.Outcomes.{status_of};
 ghost use Rattle.lw_report.specs.declared.outcome.Outcome.{Outcome as Came};
 ghost use Rattle.lw_top.specs.Call.{call_of};
-ghost use Rattle.lw_top.specs.CommandLine.{is_command, texts};
-ghost use Rattle.lw_top.specs.Promises.{CausesAreTold, KeptAreRuns, LearnedIsRight, ModelIsReached, YesIsRight};
+ghost use Rattle.lw_top.specs.CommandLine.{may_log, texts};
+ghost use Rattle.lw_top.specs.Promises.{AcceptedIsRight, CausesAreTold, KeptAreRuns, LearnedIsRight, ModelIsReached, YesIsRight};
 ghost use Rattle.lw_top.specs.Run.{IsRun, TellsOutcome, argument_outcome};
 ghost use Rattle.lw_top.specs.World.{seen};
 
@@ -67,7 +67,7 @@ fn run_call<
     ensures ran { IsRun (texts arguments.now)
         (seen F.state P.state I.state O.state E.state (λ l. l.state) world.old)
         (seen F.state P.state I.state O.state E.state (λ l. l.state) world.new) result }
-    ensures unlogged { is_command (codes "learn") (texts arguments.now) ≡ false →
+    ensures unlogged { may_log (texts arguments.now) ≡ false →
         world.new.log ≡ world.old.log }
 {
     let call = match read_call(alloc, arguments) {
@@ -97,8 +97,9 @@ fn run_call<
 }
 
 /// All that the program does. `arguments` are those of the command line, without the program's own name; the first names the
-/// command. Each command has its own contract; a call whose arguments aren't taken touches nothing but `err`, and
-/// the log that arguments of `learn` name. Nothing but `learn` writes to a log. May wait for a child and for a turn of its workers, and `serve` for its input.
+/// command. Each command has its own contract; a call whose arguments aren't taken touches nothing but `err`, and the log that
+/// arguments of `learn` or `accept` name. Nothing but these two writes to a log. May wait for a child and for a turn of its
+/// workers, and `serve` for its input.
 pub fn run<
     R: Threads + Wait + Sync + Drop,
     F: Files,
@@ -117,13 +118,16 @@ pub fn run<
     ensures reached { ModelIsReached (call_of (texts arguments.now))
         (seen F.state P.state I.state O.state E.state (λ l. l.state) world.old)
         (seen F.state P.state I.state O.state E.state (λ l. l.state) world.new) result }
+    ensures accepted { AcceptedIsRight (call_of (texts arguments.now))
+        (seen F.state P.state I.state O.state E.state (λ l. l.state) world.old)
+        (seen F.state P.state I.state O.state E.state (λ l. l.state) world.new) result }
     ensures causes { CausesAreTold (call_of (texts arguments.now))
         (seen F.state P.state I.state O.state E.state (λ l. l.state) world.old)
         (seen F.state P.state I.state O.state E.state (λ l. l.state) world.new) result }
     ensures ran { IsRun (texts arguments.now)
         (seen F.state P.state I.state O.state E.state (λ l. l.state) world.old)
         (seen F.state P.state I.state O.state E.state (λ l. l.state) world.new) result }
-    ensures unlogged { is_command (codes "learn") (texts arguments.now) ≡ false →
+    ensures unlogged { may_log (texts arguments.now) ≡ false →
         world.new.log ≡ world.old.log }
 {
     run_call(rt, alloc, arguments, world)

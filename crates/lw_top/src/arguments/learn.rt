@@ -3,7 +3,7 @@ ghost use Rattle.std.specs.Prelude.{◌≡◌, Some, None, Err, IfOk, IfSome, op
 ghost use Rattle.clap.specs.Words.{found_of, rows_of};
 ghost use Rattle.lw_learn.specs.Arguments.{AreFewDrawn};
 ghost use Rattle.lw_top.specs.CommandLine.{texts, app_for};
-ghost use Rattle.lw_top.specs.LearnCommand.{drawn_in, file_names, files_in, learn_app, learn_values, setting_values, settings_in, source_from, source_in, learn_found};
+ghost use Rattle.lw_top.specs.LearnCommand.{drawn_in, file_names, files_in, learn_app, learn_found, learn_values, learn_values_from, setting_values, settings_by, source_from, source_in};
 ghost use Rattle.lw_top.specs.declared.values.ArgumentStop.{ArgumentStop as Stop};
 
 use crate::ArgumentStop;
@@ -12,9 +12,10 @@ use crate::options::{Argument, Syntax};
 use crate::ranges::{EXTRA, LENGTH, RANDOM, SEED, STATES, WORKERS};
 use crate::values::{kind_at, method_at, number_at, str_at, text_at};
 use clap::ArgMatches;
+use lw_chunks::Method;
 use lw_learn::{Drawn, LearnArguments, LearnFiles};
 use lw_rounds::Settings;
-use lw_system::Source;
+use lw_system::{Goal, Source};
 use std::alloc::{AllocError, Global};
 
 static LEARN: Syntax = Syntax {
@@ -59,7 +60,10 @@ fn source_of<'a>(setup: Option<&'a str>, table: Option<&'a str>) -> Option<(Sour
 }
 
 /// The file of the system and its kind.
-fn source_at(alloc: Global, matches: &ArgMatches) -> Result<(Source, String), ArgumentStop>
+pub(crate) fn source_at(
+    alloc: Global,
+    matches: &ArgMatches,
+) -> Result<(Source, String), ArgumentStop>
     ensures ok { IfOk result (λ s. source_in (rows_of (found_of matches.now)) ≡
         Some (s.0, string_bytes s.1)) }
     ensures refused { result ≡ Err Stop.Usage → source_in (rows_of (found_of matches.now)) ≡ None }
@@ -71,25 +75,25 @@ fn source_at(alloc: Global, matches: &ArgMatches) -> Result<(Source, String), Ar
 }
 
 /// The settings of the learning, where each number is in its range, the learner is of a kind, and suites are made by a method.
-fn settings_at(matches: &ArgMatches) -> Option<Settings>
-    ensures { option_map setting_values result ≡ settings_in (rows_of (found_of matches.now)) }
+pub(crate) fn settings_at(matches: &ArgMatches, suite: Option<Method>) -> Option<Settings>
+    ensures { option_map setting_values result ≡
+        settings_by suite (rows_of (found_of matches.now)) }
 {
     let workers = number_at(matches, "workers", WORKERS)?;
     let extra = number_at(matches, "extra", EXTRA)?;
     let kind = kind_at(matches, "learner")?;
     let max_states = number_at(matches, "max-states", STATES)?;
-    let suite = method_at(matches, "suite")?;
     Some(Settings {
         workers: workers as u8,
         kind,
         extra: extra as u8,
         max_states: max_states as u16,
-        suite,
+        suite: suite?,
     })
 }
 
 /// The words that are to be drawn, where all of their numbers are given, or none; else the arguments aren't taken.
-fn drawn_at(matches: &ArgMatches) -> Option<Option<Drawn>>
+pub(crate) fn drawn_at(matches: &ArgMatches) -> Option<Option<Drawn>>
     ensures value { result ≡ drawn_in (rows_of (found_of matches.now)) }
     ensures few { IfSome result (λ drawn. IfSome drawn AreFewDrawn) }
 {
@@ -121,20 +125,40 @@ fn files_at(alloc: Global, matches: &ArgMatches) -> Result<LearnFiles, AllocErro
     })
 }
 
-/// The values that clap found, where the file of the system is named.
-fn values_of(alloc: Global, matches: &ArgMatches) -> Result<LearnArguments, ArgumentStop>
-    ensures ok { IfOk result (λ a. learn_found (rows_of (found_of matches.now)) ≡ Some a) }
-    ensures refused { result ≡ Err Stop.Usage → learn_found (rows_of (found_of matches.now)) ≡ None }
+/// The values of what is learned, with these files, where the file of the system is named in what clap found.
+pub(crate) fn values_for(
+    alloc: Global,
+    goal: Goal,
+    matches: &ArgMatches,
+    suite: Option<Method>,
+    files: LearnFiles,
+) -> Result<LearnArguments, ArgumentStop>
+    ensures ok { IfOk result (λ a. learn_values_from goal (source_in (rows_of (found_of matches.now)))
+        (settings_by suite (rows_of (found_of matches.now)))
+        (drawn_in (rows_of (found_of matches.now))) (file_names files) ≡ Some a) }
+    ensures refused { result ≡ Err Stop.Usage →
+        learn_values_from goal (source_in (rows_of (found_of matches.now)))
+        (settings_by suite (rows_of (found_of matches.now)))
+        (drawn_in (rows_of (found_of matches.now))) (file_names files) ≡ None }
 {
-    let Some(settings) = settings_at(matches) else {
+    let Some(settings) = settings_at(matches, suite) else {
         return Err(ArgumentStop::Usage);
     };
     let Some(drawn) = drawn_at(matches) else {
         return Err(ArgumentStop::Usage);
     };
     let (source, system) = source_at(alloc, matches)?;
+    Ok(LearnArguments::new(goal, source, system, settings, drawn, files))
+}
+
+/// The values that clap found, where the file of the system is named.
+fn values_of(alloc: Global, matches: &ArgMatches) -> Result<LearnArguments, ArgumentStop>
+    ensures ok { IfOk result (λ a. learn_found (rows_of (found_of matches.now)) ≡ Some a) }
+    ensures refused { result ≡ Err Stop.Usage → learn_found (rows_of (found_of matches.now)) ≡ None }
+{
     let files = files_at(alloc, matches)?;
-    Ok(LearnArguments::new(source, system, settings, drawn, files))
+    let suite = method_at(matches, "suite");
+    values_for(alloc, Goal::Machine, matches, suite, files)
 }
 
 /// Reads the arguments of `learn`, of which the first is the command.

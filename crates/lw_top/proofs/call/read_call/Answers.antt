@@ -1,6 +1,7 @@
 use Rattle.std.proofs.Common.{◌≡◌, Some, None, codes, refl, rules, string_bytes}
 use Rattle.lw_top.specs.Call.{Learn, Check, Trial, Serve, Ask, Compare, Recheck}
 use Rattle.lw_top.specs.CommandLine.{texts}
+use Rattle.lw_top.specs.AcceptCommand.{accept_values}
 use Rattle.lw_top.specs.AskCommand.{ask_values}
 use Rattle.lw_top.specs.CheckCommand.{check_read, check_values}
 use Rattle.lw_top.specs.CompareCommand.{compare_values}
@@ -21,6 +22,17 @@ returns-in_err-learn_arguments-in-learn-clause-refused c usage =
     let args = c.args.arguments.now in
     let none : learn_values (texts args) ≡ None = search (rules, usage) in
     call_is (codes "learn") Learn args c.in-Some.command.now c.as_str.result.now (learn_values (texts args)) None c.in-Some.ensures.value c.as_str.ensures.value c.in-learn.is refl none
+
+pub returns-in_ok-accept_arguments-in-accept-clause-ok : goal.returns-in_ok-accept_arguments-in-accept-clause-ok
+returns-in_ok-accept_arguments-in-accept-clause-ok c =
+    let args = c.args.arguments.now in
+    call_is (codes "accept") Learn args c.in-Some.command.now c.as_str.result.now (accept_values (texts args)) (Some c.in_ok-accept_arguments-in-accept.field-0) c.in-Some.ensures.value c.as_str.ensures.value c.in-accept.is refl c.in_ok-accept_arguments-in-accept.ensures.ok
+
+pub returns-in_err-accept_arguments-in-accept-clause-refused : goal.returns-in_err-accept_arguments-in-accept-clause-refused
+returns-in_err-accept_arguments-in-accept-clause-refused c usage =
+    let args = c.args.arguments.now in
+    let none : accept_values (texts args) ≡ None = search (rules, usage) in
+    call_is (codes "accept") Learn args c.in-Some.command.now c.as_str.result.now (accept_values (texts args)) None c.in-Some.ensures.value c.as_str.ensures.value c.in-accept.is refl none
 
 pub returns-in_ok-check_arguments-in-check-clause-ok : goal.returns-in_ok-check_arguments-in-check-clause-ok
 returns-in_ok-check_arguments-in-check-clause-ok c =
@@ -91,4 +103,4 @@ returns-in_err-recheck_arguments-in-recheck-clause-refused c usage =
 pub returns-in_default-as_str-clause-refused : goal.returns-in_default-as_str-clause-refused
 returns-in_default-as_str-clause-refused c _ =
     let other = c.in_default-as_str in
-    no_call c.args.arguments.now c.in-Some.command.now c.as_str.result.now c.in-Some.ensures.value c.as_str.ensures.value other.not-learn other.not-check other.not-trial other.not-serve other.not-ask other.not-compare other.not-recheck
+    no_call c.args.arguments.now c.in-Some.command.now c.as_str.result.now c.in-Some.ensures.value c.as_str.ensures.value other.not-learn other.not-accept other.not-check other.not-trial other.not-serve other.not-ask other.not-compare other.not-recheck

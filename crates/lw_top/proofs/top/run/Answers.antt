@@ -1,4 +1,4 @@
-use Rattle.lw_top.proofs.CauseLemmas.{causes}
+use Rattle.lw_top.proofs.CauseLemmas.{accepted, causes}
 use Rattle.lw_top.proofs.PromiseLemmas.{learned, yes, kept, reached}
 use Rattle.lw_top.proofs.top.run.Goals as goal
 
@@ -13,6 +13,9 @@ returns-clause-kept g c = kept _ _ c.run_call.result _ c.run_call.ensures.ran.ra
 
 pub returns-clause-reached : goal.returns-clause-reached
 returns-clause-reached g c = reached _ _ c.run_call.result _ c.run_call.ensures.ran.ran
+
+pub returns-clause-accepted : goal.returns-clause-accepted
+returns-clause-accepted g c = accepted _ _ c.run_call.result _ c.run_call.ensures.ran.ran
 
 pub returns-clause-causes : goal.returns-clause-causes
 returns-clause-causes g c = causes _ _ c.run_call.result _ c.run_call.ensures.ran.ran
