@@ -1,4 +1,5 @@
 //! The rows worked by hand, and faults at each place.
+mod acceptors;
 mod asking;
 mod cases;
 mod children;

@@ -3,7 +3,7 @@ use crate::tests::memory::{files, sink, spawner, string};
 use lw_ask::{AskArguments, ask};
 use lw_outside::{MemoryFiles, MemorySink, MemorySpawner};
 use lw_report::End;
-use lw_system::Source;
+use lw_system::{Goal, Source};
 use std::alloc::Global;
 use std::process::Abort;
 
@@ -315,7 +315,7 @@ fn arguments(rt: &impl Abort, alloc: Global, case: &Case) -> AskArguments {
     for word in case.words {
         words.push(string(rt, alloc, word)).expect(rt, "memory");
     }
-    AskArguments::new(case.source, string(rt, alloc, "f"), words)
+    AskArguments::new(Goal::Machine, case.source, string(rt, alloc, "f"), words)
 }
 
 /// What a call comes to.

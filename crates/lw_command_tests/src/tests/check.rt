@@ -3,6 +3,7 @@ use crate::tests::memory::{files, sink, string};
 use lw_check::{CheckArguments, check, decision_exists, decision_is_unique};
 use lw_chunks::Method;
 use lw_outside::{MemoryFiles, MemorySink};
+use lw_system::Goal;
 use std::alloc::Global;
 use std::process::Abort;
 
@@ -79,6 +80,7 @@ fn prepare(rt: &impl Abort, alloc: Global, case: &Case) -> Outside {
 
 fn arguments(rt: &impl Abort, alloc: Global, extra: u8) -> CheckArguments {
     CheckArguments {
+        goal: Goal::Machine,
         model: string(rt, alloc, "m"),
         answers: string(rt, alloc, "k"),
         extra: extra.min(4),
@@ -113,6 +115,30 @@ fn checks(rt: &impl Abort, alloc: Global, case: &Case) {
 }
 
 const NAMES: &str = "\"inputs\":[\"t\"],\"outputs\":[\"0\",\"1\"]}\n";
+
+/// The words of an even number of letters.
+const EVEN: &str = "{\"accepting\":[true,false],\"inputs\":[\"a\"],\"targets\":[[1],[0]]}\n";
+
+/// Answers that are enough for it, with no state more.
+const ENOUGH: &str =
+    "{\"format\":1,\"inputs\":[\"?\",\"a\"],\"outputs\":[\"yes\",\"no\",\"ok\"],\"answers\":[[\"a ? ?\",\"ok no no\"],[\"a a ?\",\"ok ok yes\"],[\"? ?\",\"yes yes\"]]}\n";
+
+#[test]
+fn an_acceptor_is_checked(rt: HostRuntime) {
+    let alloc = rt.alloc();
+    let mut outside = Outside {
+        files: files_of(&rt, alloc, EVEN, ENOUGH, &[]),
+        out: sink(&rt, alloc, &[]),
+        err: sink(&rt, alloc, &[]),
+    };
+    let mut arguments = arguments(&rt, alloc, 0);
+    arguments.goal = Goal::Acceptor;
+    assert!(rt; status(alloc, &arguments, &mut outside) == 0);
+    assert_eq!(rt;
+        outside.out.taken(),
+        "yes: states 2, extra 0, answers 3\n".as_bytes()
+    );
+}
 
 fn check_all(rt: &impl Abort, alloc: Global, cases: &[Case]) {
     for case in cases {

@@ -8,7 +8,7 @@ use lw_log::{Log, MemoryLog};
 use lw_outside::{MemoryFiles, MemorySink, MemorySpawner, World};
 use lw_report::{End, Outcome};
 use lw_rounds::{Kind, Learner, Settings};
-use lw_system::Source;
+use lw_system::{Goal, Source};
 use std::alloc::Global;
 use std::process::Abort;
 use std::sync::Wait;
@@ -202,7 +202,7 @@ fn bare(source: Source, system: String, settings: Settings) -> LearnArguments {
         words: None,
         log: None,
     };
-    LearnArguments::new(source, system, settings, None, files)
+    LearnArguments::new(Goal::Machine, source, system, settings, None, files)
 }
 
 /// What a learning of `m` comes to at a limit of states.

@@ -1,11 +1,15 @@
 //! What no clause says: that the calls succeed. The texts are worked by hand.
+use lw_accept::AcceptorFault;
 use lw_json::{Field, JsonFault};
 use lw_mealy::MealyFault;
 use lw_outside::{MemoryFiles, MemorySink};
 use lw_report::{
-    End, Outcome, Role, TellStop, UNSAID, put_report, read_outcome, refuse, text, write_file,
+    End, Outcome, Role, TellStop, UNSAID, acceptor_outcome, no_acceptor_outcome, no_system_outcome,
+    put_report, read_outcome, refuse, text, write_file,
 };
-use lw_system::{ReadStop, read_answers_file, read_machine_file, read_setup_file};
+use lw_system::{
+    AcceptorStop, NoSystem, ReadStop, read_answers_file, read_machine_file, read_setup_file,
+};
 use lw_words::{Kept, Names, NamesFault, Word, Words};
 use std::alloc::Global;
 use std::process::Abort;
@@ -142,6 +146,29 @@ fn refusal(alloc: Global, sink: &mut MemorySink) -> u8 {
     let stop = read_outcome(ReadStop::Bad(JsonFault::NotJson), Role::Model);
     let End { status, .. } = refuse(alloc, stop, UNSAID, Kept::new(alloc), None, 1, sink);
     status
+}
+
+/// The status after an outcome, whose text is put.
+fn told(alloc: Global, outcome: Outcome, sink: &mut MemorySink) -> u8 {
+    let End { status, .. } = refuse(alloc, outcome, UNSAID, Kept::new(alloc), None, 1, sink);
+    status
+}
+
+#[test]
+fn acceptors_that_are_not_read(rt: HostRuntime) {
+    let alloc = rt.alloc();
+    let mut sink = MemorySink::new(alloc, 100, 4, Vec::new(alloc)).expect(&rt, "memory");
+    let letters = AcceptorStop::Letters(AcceptorFault::Reserved(2));
+    let reserved = no_system_outcome(NoSystem::Acceptor(letters));
+    assert!(rt; told(alloc, reserved, &mut sink) == 3);
+    let long = no_acceptor_outcome(AcceptorStop::Table(ReadStop::TooLong));
+    assert!(rt; told(alloc, long, &mut sink) == 3);
+    let model = acceptor_outcome(ReadStop::Failed, Role::Model);
+    assert!(rt; told(alloc, model, &mut sink) == 8);
+    assert_eq!(rt;
+        sink.taken(),
+        "bad acceptor: reserved name at 2\nfile too long: table\nfile fault: model\n".as_bytes()
+    );
 }
 
 #[test]

@@ -7,7 +7,10 @@ use lw_accept::{
 use lw_json::{Field, JsonFault, machine_text, read_machine};
 use lw_outside::MemoryFiles;
 use lw_report::{Role, write_file};
-use lw_system::{AcceptorStop, FoundAcceptor, ReadStop, Source, find_acceptor};
+use lw_system::{
+    AcceptorStop, Found, Goal, NoSystem, ReadStop, Source, find_acceptor, find_for,
+    read_acceptor_file, read_view_file,
+};
 use lw_words::{Names, NamesFault};
 use std::alloc::Global;
 use std::process::Abort;
@@ -137,7 +140,7 @@ fn files_with(rt: &impl Abort, alloc: Global, setup: &str) -> MemoryFiles {
 /// How many letters the system has that a setup says, or why it says none that is asked for an acceptor.
 fn found(rt: &impl Abort, alloc: Global, setup: &str) -> Result<u16, AcceptorStop> {
     let mut files = files_with(rt, alloc, setup);
-    let FoundAcceptor { system, hint } = find_acceptor(alloc, Source::Setup, "s", &mut files);
+    let Found { system, hint } = find_acceptor(alloc, Source::Setup, "s", &mut files);
     drop(hint);
     match system {
         Ok(system) => Ok(system.inputs().len()),
@@ -166,4 +169,39 @@ fn an_acceptor_file_that_is_none_is_refused(rt: HostRuntime) {
     assert!(rt; found(&rt, alloc, "{\"table\":\"s\"}") == Err(itself));
     let bad = AcceptorStop::Setup(ReadStop::Bad(JsonFault::Shape(Field::Neither)));
     assert!(rt; found(&rt, alloc, "{}") == Err(bad));
+}
+
+/// How many letters the system has that a table file says, by what is to be learned, or why there is none. The file `s` is the
+/// machine in the place of the acceptor `e`.
+fn found_for(rt: &impl Abort, alloc: Global, goal: Goal, name: &str) -> Result<u16, NoSystem> {
+    let mut files = files_with(rt, alloc, EVEN_MACHINE);
+    let Found { system, hint } = find_for(alloc, goal, Source::Table, name, &mut files);
+    drop(hint);
+    match system {
+        Ok(system) => Ok(system.inputs().len()),
+        Err(stop) => Err(stop),
+    }
+}
+
+#[test]
+fn a_table_is_found_by_what_is_learned(rt: HostRuntime) {
+    let alloc = rt.alloc();
+    assert!(rt; found_for(&rt, alloc, Goal::Machine, "s") == Ok(2));
+    assert!(rt; found_for(&rt, alloc, Goal::Acceptor, "e") == Ok(2));
+    let shape = AcceptorFault::Shape(AcceptorField::Accepting);
+    let none = NoSystem::Acceptor(AcceptorStop::Table(ReadStop::Bad(shape)));
+    assert!(rt; found_for(&rt, alloc, Goal::Acceptor, "s") == Err(none));
+    assert!(rt; found_for(&rt, alloc, Goal::Machine, "e").is_err());
+}
+
+#[test]
+fn an_acceptor_file_is_read_for_itself_and_for_its_machine(rt: HostRuntime) {
+    let alloc = rt.alloc();
+    let mut files = files_with(&rt, alloc, EVEN_MACHINE);
+    let acceptor = read_acceptor_file(alloc, &mut files, "e").expect(&rt, "an acceptor");
+    let text = acceptor_text(alloc, &acceptor).expect(&rt, "memory");
+    assert!(rt; text.as_slice() == EVEN.as_bytes());
+    let machine = read_view_file(alloc, &mut files, "e").expect(&rt, "an acceptor");
+    let text = machine_text(alloc, &machine).expect(&rt, "memory");
+    assert!(rt; text.as_slice() == EVEN_MACHINE.as_bytes());
 }

@@ -10,9 +10,11 @@ pub const USAGE: &str =
     "usage: learn (SETUP | --table FILE) [--workers N] [--extra K] [--learner table|ttt] [--max-states N]
              [--model FILE] [--answers FILE] [--prior FILE] [--kept FILE]
              [--words FILE] [--random R --length L --seed S] [--log FILE] [--suite w|wp|h]
-       check MODEL ANSWERS [--extra K] [--suite w|wp|h]
+       accept (SETUP | --table FILE) [--workers N] [--extra K] [--learner table|ttt] [--max-states N]
+              [--model FILE] [--kept FILE] [--words FILE] [--random R --length L --seed S] [--log FILE]
+       check (MODEL | --acceptor FILE) ANSWERS [--extra K] [--suite w|wp|h]
        serve MODEL
-       ask (SETUP | --table FILE) WORD...
+       ask (SETUP | --table FILE | --accept SETUP | --acceptor FILE) WORD...
        recheck SETUP ANSWERS
        compare MODEL MODEL
        trial --states N --inputs A --seed S [--workers N] [--learner table|ttt] [--suite w|wp|h]

@@ -11,7 +11,7 @@ use lw_learn::{Drawn, LearnArguments, LearnFiles};
 use lw_log::MemoryLog;
 use lw_outside::MemoryFiles;
 use lw_rounds::{Kind, Settings};
-use lw_system::Source;
+use lw_system::{Goal, Source};
 use std::alloc::Global;
 use std::process::Abort;
 use std::sync::Wait;
@@ -72,6 +72,7 @@ fn arguments(rt: &impl Abort, alloc: Global, row: &Row) -> LearnArguments
         log: named(rt, alloc, "l", row.is_logged),
     };
     LearnArguments::new(
+        Goal::Machine,
         Source::Table,
         string(rt, alloc, "m"),
         settings,
@@ -262,7 +263,14 @@ fn by_setup(rt: &impl Abort, alloc: Global) -> LearnArguments {
         words: None,
         log: named(rt, alloc, "l", true),
     };
-    LearnArguments::new(Source::Setup, string(rt, alloc, "m"), settings, None, files)
+    LearnArguments::new(
+        Goal::Machine,
+        Source::Setup,
+        string(rt, alloc, "m"),
+        settings,
+        None,
+        files,
+    )
 }
 
 /// Whether the first line of a log is this one.

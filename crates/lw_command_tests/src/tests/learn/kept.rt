@@ -11,7 +11,7 @@ use lw_learn::{LearnArguments, LearnFiles};
 use lw_log::MemoryLog;
 use lw_outside::{MemoryFiles, MemorySpawner};
 use lw_rounds::{Kind, Settings};
-use lw_system::Source;
+use lw_system::{Goal, Source};
 use std::alloc::Global;
 use std::process::Abort;
 use std::sync::Wait;
@@ -95,7 +95,14 @@ fn arguments(rt: &impl Abort, alloc: Global, row: &Row) -> LearnArguments
         words: None,
         log: None,
     };
-    LearnArguments::new(Source::Setup, string(rt, alloc, "s"), settings, None, files)
+    LearnArguments::new(
+        Goal::Machine,
+        Source::Setup,
+        string(rt, alloc, "s"),
+        settings,
+        None,
+        files,
+    )
 }
 
 fn prepare(rt: &impl Abort, alloc: Global, row: &Row) -> Outside {
