@@ -1,5 +1,5 @@
 -- Streams: the bytes that a source has left, and those that a sink took.
-use Rattle.std.specs.Prelude.{◌≡◌, ◌≢◌, ℕ, ◌≤◌, List, [], ◌++◌, length, take, Option, Some, None, Result, IfOk, OnOk, OnErr, option_map}
+use Rattle.std.specs.Prelude.{◌≡◌, ◌≢◌, ℕ, ◌<◌, ◌≤◌, List, [], ◌++◌, length, take, Option, Some, None, Result, IfOk, OnOk, OnErr, option_map}
 use Rattle.lw_words.specs.Cause.{CountedFault}
 
 -- these bytes were the front of what was told to be left
@@ -19,6 +19,10 @@ IsSpent (Some left) = left ≡ []
 -- told bytes are the earlier ones and some of a text's, from its front on
 abbrev pub TakesSome : List ℕ → Option (List ℕ) → Option (List ℕ) → Type 0
 TakesSome text before now = (n : ℕ) × (now ≡ option_map (λ t. t ++ take n text) before)
+
+-- and not all of them
+abbrev pub TakesPart : List ℕ → Option (List ℕ) → Option (List ℕ) → Type 0
+TakesPart text before now = (n : ℕ) × (n < length text) × (now ≡ option_map (λ t. t ++ take n text) before)
 
 abbrev pub TakesAll : List ℕ → Option (List ℕ) → Option (List ℕ) → Type 0
 TakesAll text before now = now ≡ option_map (λ t. t ++ text) before

@@ -22,7 +22,7 @@ mod world;
 
 pub use answer_line::AnswerLine;
 pub use files::{Files, FilesStop, LONGEST_FILE, WriteStop};
-pub use links::{Link, Spawner, StartFailure, StartStop};
+pub use links::{Link, Spawner, StartFailure, StartStop, copy_words};
 pub use logs::LogFile;
 pub use memory_files::{FileCall, MemoryFiles};
 pub use memory_link::MemoryLink;

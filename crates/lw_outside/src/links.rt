@@ -1,10 +1,10 @@
 //! Links to children, and what starts and retires them.
-ghost use Rattle.std.specs.Prelude.{◌≡◌, ◌<◌, length, map, Contains, string_bytes};
+ghost use Rattle.std.specs.Prelude.{◌≡◌, ◌<◌, length, map, Contains, IfOk, string_bytes};
 ghost use Rattle.lw_outside.specs.Links.{LinkState, SpawnerState, LinkSend, LinkTake, SpawnerStart, SpawnerRetire};
 
 use crate::Failed;
 use lw_words::NoMemory;
-use std::alloc::AllocError;
+use std::alloc::{AllocError, Global};
 
 /// A link to a child that was started: bytes go to it, and bytes come from it.
 pub trait Link {
@@ -66,6 +66,18 @@ pub trait Spawner {
         requires once { ¬ Contains (map (λ r. r.number) (state self.old).retired)
             (Self.Link.state link).number }
         ensures { SpawnerRetire (Self.Link.state link) (state self.old) (state self.new) };
+}
+
+/// The words of a command, once more.
+pub fn copy_words(alloc: Global, words: &[String]) -> Result<Vec<String>, NoMemory>
+    ensures { IfOk result (λ copies. map (λ w. string_bytes w) copies.items ≡
+        map (λ w. string_bytes w) words.now) }
+{
+    let mut copies = Vec::with_capacity(alloc, words.len())?;
+    for word in words {
+        copies.push(String::from_str(alloc, word.as_str())?)?;
+    }
+    Ok(copies)
 }
 
 impl From<NoMemory> for StartStop {

@@ -12,7 +12,7 @@ ghost use Rattle.lw_outside.specs.declared.links.StartStop.{StartStop as StartRe
 use crate::cast::Cast;
 use crate::child::Child;
 use crate::memory_link::LinkParts;
-use crate::{Link, MemoryLink, Spawner, StartFailure, StartStop, Transcript};
+use crate::{Link, MemoryLink, Spawner, StartFailure, StartStop, Transcript, copy_words};
 use http_server::Log;
 use lw_json::Machine;
 use lw_words::NoMemory;
@@ -60,18 +60,6 @@ impl Model for MemorySpawner {
 
     ghost invariant = { λ s. KeepsRetired s.started (vec_capacity s.transcripts) (map (λ r. r.0) s.retired.items)
         (map (λ t. record { sent = t.sent; received = t.received }) s.transcripts.items) };
-}
-
-/// The same words once more.
-fn copy_words(alloc: Global, words: &[String]) -> Result<Vec<String>, NoMemory>
-    ensures { IfOk result (λ copies. map (λ w. string_bytes w) copies.items ≡
-        map (λ w. string_bytes w) words.now) }
-{
-    let mut copies = Vec::with_capacity(alloc, words.len())?;
-    for word in words {
-        copies.push(String::from_str(alloc, word.as_str())?)?;
-    }
-    Ok(copies)
 }
 
 /// The plan of a link by its number: none where the list is shorter.

@@ -1,7 +1,7 @@
 //! Streams of bytes.
 ghost use Rattle.std.specs.Prelude.{◌≡◌, ◌+◌, ◌<◌, ◌≤◌, ◌++◌, length, take, drop, IfOk, OnOk, OnErr, option_map};
 ghost use Rattle.lw_words.specs.Cause.{CountedFault};
-ghost use Rattle.lw_outside.specs.Streams.{SourceState, SinkState, SourceRead, SinkPut, TakesAll, TakesSome};
+ghost use Rattle.lw_outside.specs.Streams.{SourceState, SinkState, SourceRead, SinkPut, TakesAll, TakesPart, TakesSome};
 
 /// The object failed, and counted it.
 #[derive(Clone, Copy, Debug, PartialEq, Eq)]
@@ -49,6 +49,8 @@ pub fn put_all<K: Sink>(sink: &mut K, bytes: &[u8]) -> Result<(), Failed>
     ensures ok { OnOk result (TakesAll bytes.now (K.state sink.old).taken
         (K.state sink.new).taken) }
     ensures part { TakesSome bytes.now (K.state sink.old).taken (K.state sink.new).taken }
+    ensures cut { OnErr result (TakesPart bytes.now (K.state sink.old).taken
+        (K.state sink.new).taken) }
     ensures quiet { OnOk result ((K.state sink.new).faults ≡ (K.state sink.old).faults) }
     ensures failed { OnErr result (CountedFault (K.state sink.old).faults
         (K.state sink.new).faults) }

@@ -1,20 +1,17 @@
-//! The program: makes the real files and streams and what starts children, calls the top call, and ends with its status.
+//! The program: makes the real files and streams and what starts children, calls the top call, waits for the children, and ends
+//! with the call's status.
 #![tactic(auto)]
 
-mod adapters;
-mod children;
-mod log;
-
-use adapters::{Input, RealFiles, Stream};
-use children::RealSpawner;
-use log::RealLog;
+use lw_adapters::{Errors, Input, RealFiles, RealLog, RealSpawner, Stream, TwoNames, two_names};
 use lw_log::Log;
-use lw_outside::World;
+use lw_outside::{Sink, World, put_all};
 use lw_top::{run, without_arguments};
 use std::alloc::Global;
-use std::io::ErrorKind;
+use std::fs::{self, File};
+use std::io::{self, ErrorKind};
+use std::os::fd::AsRawFd;
 use std::process::ExitCode;
-use std::{env, fs, io};
+use std::env;
 
 /// The arguments of the command line after the program's own name; none where they aren't text.
 fn arguments(rt: &HostRuntime) -> io::Result<Vec<String>> {
@@ -30,29 +27,53 @@ fn arguments(rt: &HostRuntime) -> io::Result<Vec<String>> {
 }
 
 /// The root folder, opened: it can be neither read nor written as a file is.
-fn root_folder<R: fs::Files>(files: &R) -> Option<R::File> {
-    fs::open(files, "/").ok()
+fn root_folder(rt: HostRuntime) -> Option<File> {
+    fs::open(&rt, "/").ok()
+}
+
+/// Whether the folder took the place of standard error.
+fn is_for_errors(folder: &Option<File>) -> bool {
+    match folder {
+        Some(folder) => folder.as_raw_fd() == 2,
+        None => false,
+    }
+}
+
+/// The status where the arguments name a file twice, which is told.
+fn refuse_names<E: Sink>(err: &mut E, names: TwoNames) -> u8 {
+    for part in ["one file under two names: ", names.written, ", ", names.other, "\n"] {
+        if put_all(err, part.as_bytes()).is_err() {
+            return 2;
+        }
+    }
+    2
 }
 
 fn main(rt: HostRuntime) -> ExitCode {
     let alloc: Global = rt.alloc();
     // What is opened takes the least number that is free. Where standard streams are closed the folder takes theirs, so that no
     // file and no pipe does, and they fail as closed ones do.
-    let _streams = (root_folder(&rt), root_folder(&rt), root_folder(&rt));
+    let (first, second, third) = (root_folder(rt), root_folder(rt), root_folder(rt));
+    let errors = if is_for_errors(&first) || is_for_errors(&second) || is_for_errors(&third) {
+        Errors::Dropped
+    } else {
+        Errors::Shared
+    };
     let mut world = World {
         files: RealFiles::new(rt),
-        spawner: RealSpawner::new(rt),
+        spawner: RealSpawner::new(rt, errors),
         input: Input::new(rt.stdin()),
         out: Stream::new(rt.stdout()),
         err: Stream::new(rt.stderr()),
         log: Log::new(alloc, RealLog::new(rt)),
     };
-    let end = match arguments(&rt) {
-        Ok(arguments) => run(rt, alloc, &arguments, &mut world),
-        Err(_) => without_arguments(alloc, &mut world.err),
+    let status = match arguments(&rt) {
+        Ok(arguments) => match two_names(&rt, &arguments) {
+            Some(names) => refuse_names(&mut world.err, names),
+            None => run(rt, alloc, &arguments, &mut world).status,
+        },
+        Err(_) => without_arguments(alloc, &mut world.err).status,
     };
-    ExitCode::from(end.status)
+    world.spawner.wait_for_ends();
+    ExitCode::from(status)
 }
-
-#[cfg(test)]
-mod tests;

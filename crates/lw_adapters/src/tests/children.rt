@@ -1,7 +1,7 @@
 //! Children that are programs of the system.
 ghost use Rattle.std.specs.Prelude.{◌<◌, length, IfOk};
 
-use crate::children::RealSpawner;
+use crate::{Errors, RealSpawner};
 use lw_outside::{Failed, Link, Spawner, StartStop};
 use std::test::Fail;
 
@@ -15,7 +15,7 @@ fn command(rt: HostRuntime, name: &str) -> Result<Vec<String>, Fail>
 }
 
 fn fails_to_start(rt: HostRuntime, name: &str) -> Result<bool, Fail> {
-    let mut spawner = RealSpawner::new(rt);
+    let mut spawner = RealSpawner::new(rt, Errors::Shared);
     let words = command(rt, name)?;
     Ok(matches!(spawner.start(&words), Err(StartStop::Failed)))
 }
@@ -30,7 +30,7 @@ fn programs_that_are_not_there(rt: HostRuntime) -> Result<(), Fail> {
 
 #[test]
 fn a_child_that_answers(rt: HostRuntime) -> Result<(), Fail> {
-    let mut spawner = RealSpawner::new(rt);
+    let mut spawner = RealSpawner::new(rt, Errors::Shared);
     let words = command(rt, "cat")?;
     let Ok(mut link) = spawner.start(&words) else {
         return Err(Fail::from("cat was not started"));
@@ -45,7 +45,7 @@ fn a_child_that_answers(rt: HostRuntime) -> Result<(), Fail> {
 
 #[test]
 fn a_child_that_has_ended(rt: HostRuntime) -> Result<(), Fail> {
-    let mut spawner = RealSpawner::new(rt);
+    let mut spawner = RealSpawner::new(rt, Errors::Shared);
     let words = command(rt, "true")?;
     let Ok(mut link) = spawner.start(&words) else {
         return Err(Fail::from("true was not started"));
@@ -70,7 +70,7 @@ fn shell(rt: HostRuntime, lines: &str) -> Result<Vec<String>, Fail>
 /// Its input is closed before it says so.
 #[test]
 fn a_child_that_closes_its_input(rt: HostRuntime) -> Result<(), Fail> {
-    let mut spawner = RealSpawner::new(rt);
+    let mut spawner = RealSpawner::new(rt, Errors::Shared);
     let words = shell(rt, "exec <&-; echo x; exec sleep 1")?;
     let Ok(mut link) = spawner.start(&words) else {
         return Err(Fail::from("the shell was not started"));
@@ -85,7 +85,7 @@ fn a_child_that_closes_its_input(rt: HostRuntime) -> Result<(), Fail> {
 /// The first would not end if the second held its input, nor the second if it had to put all that it writes.
 #[test]
 fn children_that_wait_at_their_pipes(rt: HostRuntime) -> Result<(), Fail> {
-    let mut spawner = RealSpawner::new(rt);
+    let mut spawner = RealSpawner::new(rt, Errors::Shared);
     let (reading, writing) = (command(rt, "cat")?, command(rt, "yes")?);
     let reading = spawner.start(&reading);
     let writing = spawner.start(&writing);

@@ -1,0 +1,16 @@
+-- What adapters record of the bytes that went over them, for contracts alone.
+use Rattle.std.specs.Prelude.{ℕ, List, map, Option, None, Some}
+use Rattle.lw_outside.specs.Streams.{SourceState}
+
+-- the bytes of a record, which has them one by one
+abbrev pub bytes_of : {X : Type 0} → List (ℕ × X) → List ℕ
+bytes_of recorded = map (λ r. r.0) recorded
+
+-- what a stream has left now, if that was known at its start
+abbrev pub left_of : Option (List ℕ) → Option (List ℕ) → Option (List ℕ)
+left_of None now = None
+left_of (Some start) now = now
+
+-- what is told of a stream that is read: what was known to be left at its start, what is now, and its counts
+abbrev pub told_input : (start now : Option (List ℕ)) (faults ends : ℕ) → SourceState
+told_input start now faults ends = record { left = left_of start now; faults = faults; ends = ends }

@@ -1,0 +1,22 @@
+//! The real outside of a call: files, streams and child programs of the system, and the log. They count their faults and their
+//! ends, and tell the calls that were made and the bytes that went over them.
+#![tactic(auto)]
+
+mod children;
+mod files;
+mod log;
+mod names;
+mod pipe_link;
+mod record;
+mod streams;
+mod writing;
+
+pub use children::{Errors, RealLink, RealSpawner};
+pub use files::RealFiles;
+pub use log::RealLog;
+pub use names::{TwoNames, two_names};
+pub use pipe_link::PipeLink;
+pub use streams::{Input, Stream};
+
+#[cfg(test)]
+mod tests;

@@ -1,0 +1,61 @@
+//! Links over a pipe each way.
+ghost use Rattle.std.specs.Prelude.{◌≡◌, []};
+ghost use Rattle.lw_adapters.specs.Recorded.{bytes_of};
+
+use crate::streams::{Input, Stream};
+use lw_outside::{Failed, Link, Source, put_all};
+use std::io::{Read, Write};
+
+/// A link over a writer and a reader, as the two pipes of a child program. Contracts see what went over it.
+#[derive(Drop)]
+pub struct PipeLink<W: Write, R: Read> {
+    number: u64,
+    input: Stream<W>,
+    output: Input<R>,
+    faults: u64,
+}
+
+impl<W: Write, R: Read> PipeLink<W, R> {
+    /// The link of this number, over which nothing went so far.
+    pub fn new(number: u64, input: W, output: R) -> PipeLink<W, R>
+        ensures number { result.number ≡ number }
+        ensures faults { result.faults ≡ 0 }
+        ensures ends { result.output.ends ≡ 0 }
+        ensures untouched { (bytes_of result.input.taken.items ≡ []) × (bytes_of result.output.given.items ≡ []) }
+    {
+        PipeLink {
+            number,
+            input: Stream::new(input),
+            output: Input::new(output),
+            faults: 0,
+        }
+    }
+}
+
+impl<W: Write, R: Read> Link for PipeLink<W, R> {
+    ghost use Rattle.std.specs.Prelude.{Some};
+    ghost use Rattle.lw_adapters.specs.Recorded.{bytes_of};
+
+    ghost state = { λ l. record {
+      number = l.number;
+      faults = l.faults;
+      ends = l.output.ends;
+      transcript = Some (record { sent = bytes_of l.input.taken.items; received = bytes_of l.output.given.items });
+    } };
+
+    fn send(&mut self, bytes: &[u8]) -> Result<(), Failed> {
+        let sent = put_all(&mut self.input, bytes);
+        if sent.is_err() {
+            self.faults = self.faults.saturating_add(1);
+        }
+        sent
+    }
+
+    fn take(&mut self, buffer: &mut [u8]) -> Result<usize, Failed> {
+        let taken = self.output.read(buffer);
+        if taken.is_err() {
+            self.faults = self.faults.saturating_add(1);
+        }
+        taken
+    }
+}

@@ -1,0 +1,86 @@
+//! Writing a file so that it stands: the text is put beside the file and handed to the disk, and takes the file's name only
+//! when it is whole.
+
+use std::fs::{self, Files, Metadata, OpenFile, OpenOptions};
+use std::io::{self, ErrorKind, Write};
+use std::os::unix::fs::MetadataExt;
+
+/// How many names are tried for the file beside.
+const NAMES: u32 = 64;
+
+/// Puts the bytes under the name. What isn't there yet, and a file that has no other name, is written beside and renamed, so
+/// that what was there stays until the new text is whole; a pipe, a device, a link, and a file in a folder that takes no new
+/// one, are written in place.
+pub(crate) fn write_file<R: Files + AllocGlobal>(
+    rt: &R,
+    name: &str,
+    bytes: &[u8],
+) -> io::Result<()> {
+    let old = match fs::symlink_metadata(rt, name) {
+        Ok(old) if old.is_file() && old.nlink() == 1 => Some(old),
+        Err(error) if error.kind() == ErrorKind::NotFound => None,
+        _ => return write_in_place(rt, name, bytes),
+    };
+    let Some((beside, file)) = make_beside(rt, name)? else {
+        return write_in_place(rt, name, bytes);
+    };
+    if !is_like(&file, old) {
+        fs::remove_file(rt, &beside)?;
+        return write_in_place(rt, name, bytes);
+    }
+    let written = put_whole(file, bytes).and_then(|()| fs::rename(rt, &beside, name));
+    if written.is_err() {
+        let _removed = fs::remove_file(rt, &beside);
+    }
+    written
+}
+
+/// Puts the bytes into the file itself.
+fn write_in_place<R: Files>(rt: &R, name: &str, bytes: &[u8]) -> io::Result<()> {
+    put_whole(fs::create(rt, name)?, bytes)
+}
+
+/// Puts the bytes, and where it is a file of a disk waits until they stand there.
+fn put_whole<F: OpenFile + Write + Drop>(mut file: F, bytes: &[u8]) -> io::Result<()> {
+    file.write_all(bytes)?;
+    match file.metadata() {
+        Ok(made) if made.is_file() => file.sync_all(),
+        _ => Ok(()),
+    }
+}
+
+/// Makes a new file beside that of the name, under the first name that is free. None where the folder takes none.
+fn make_beside<R: Files + AllocGlobal>(
+    rt: &R,
+    name: &str,
+) -> io::Result<Option<(String, R::File)>> {
+    for number in 0..NAMES {
+        let beside = format!(in rt.alloc(); "{name}.part{number}")?;
+        match OpenOptions::new()
+            .write(true)
+            .create_new(true)
+            .open(rt, beside.as_str())
+        {
+            Ok(file) => return Ok(Some((beside, file))),
+            Err(error) if error.kind() == ErrorKind::AlreadyExists => {}
+            Err(error) if error.kind() == ErrorKind::OutOfMemory => return Err(error),
+            Err(_) => return Ok(None),
+        }
+    }
+    Ok(None)
+}
+
+/// Whether a new file may take an old one's place: it has the same owner and group, and got the same permissions.
+fn is_like<F: OpenFile>(file: &F, old: Option<Metadata>) -> bool {
+    let Some(old) = old else {
+        return true;
+    };
+    match file.metadata() {
+        Ok(new) => {
+            new.uid() == old.uid()
+                && new.gid() == old.gid()
+                && file.set_permissions(old.permissions()).is_ok()
+        }
+        Err(_) => false,
+    }
+}
