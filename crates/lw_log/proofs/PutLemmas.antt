@@ -3,7 +3,7 @@ use Rattle.std.proofs.Common.{◌≡◌, ◌≢◌, ◌⊎◌, ℕ, List, [], �
 use Rattle.std.proofs.lemmas.List.Concat.{flat_map-append}
 use Rattle.lw_words.specs.Cause.{CountedFault}
 use Rattle.lw_outside.specs.Logs.{LogFileState}
-use Rattle.lw_log.specs.Putting.{Puts, PutsEach, PutsFront, text_of}
+use Rattle.lw_log.specs.Putting.{Puts, PutsEach, PutsFront, joined_lines}
 use Rattle.lw_log.specs.declared.log.LogState.{LogState}
 use Rattle.lw_log.specs.declared.log.LogState.TheVariants.{Closed, Open, Failed}
 
@@ -25,10 +25,10 @@ one_line bytes told text (Ok l) state before now is puts short =
 one_line bytes told text (Err e) state before now is puts short =
     one_short text state (told before) (told now) short.0 (ap told short.1)
 
-later_front : (xs ys : List (List ℕ)) (before mid now : List ℕ) → mid ≡ before ++ text_of xs → PutsFront ys mid now → PutsFront (xs ++ ys) before now
+later_front : (xs ys : List (List ℕ)) (before mid now : List ℕ) → mid ≡ before ++ joined_lines xs → PutsFront ys mid now → PutsFront (xs ++ ys) before now
 later_front xs ys before mid now whole part =
-    let more : now ≡ before ++ (text_of xs ++ text_of part.0) =
-    part.4 ∙ (ap (λ t. t ++ text_of part.0) whole ∙ append_assoc before (text_of xs) (text_of part.0)) in (
+    let more : now ≡ before ++ (joined_lines xs ++ joined_lines part.0) =
+    part.4 ∙ (ap (λ t. t ++ joined_lines part.0) whole ∙ append_assoc before (joined_lines xs) (joined_lines part.0)) in (
       xs ++ part.0,
       part.1,
       part.2,
@@ -44,7 +44,7 @@ open_then : (xs ys : List (List ℕ)) (last : LogState) (before mid now : LogFil
 open_then xs ys Closed before mid now first next = next
 open_then xs ys Open before mid now first next = (
   next.0 ∙ first.0,
-  next.1 ∙ (ap (λ t. t ++ text_of ys) first.1 ∙ (append_assoc before.text (text_of xs) (text_of ys) ∙ ap (λ t. before.text ++ t) (sym (flat_map-append (λ line. line) xs ys)))),
+  next.1 ∙ (ap (λ t. t ++ joined_lines ys) first.1 ∙ (append_assoc before.text (joined_lines xs) (joined_lines ys) ∙ ap (λ t. before.text ++ t) (sym (flat_map-append (λ line. line) xs ys)))),
   next.2 ∙ first.2,
 )
 open_then xs ys Failed before mid now first next = (

@@ -1,7 +1,7 @@
 -- A log file in memory.
 use Rattle.std.specs.Prelude.{ℕ, zero, suc, List, Bool, true, false, Option, None, Some}
 use Rattle.lw_outside.specs.Logs.{LogFileState}
-use Rattle.lw_log.specs.Putting.{text_of}
+use Rattle.lw_log.specs.Putting.{joined_lines}
 
 -- its name, its lines, how many calls come before the one that is to fail, and how often one failed
 pub record MemoryLogState : Type 0 where
@@ -12,7 +12,7 @@ pub record MemoryLogState : Type 0 where
 
 -- as every log file tells it
 abbrev pub told_log : MemoryLogState → LogFileState
-told_log l = record { name = l.name; text = text_of l.lines; faults = l.faults }
+told_log l = record { name = l.name; text = joined_lines l.lines; faults = l.faults }
 
 -- whether the next call is to fail
 abbrev pub fails_next : Option ℕ → Bool
