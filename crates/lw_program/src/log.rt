@@ -18,12 +18,12 @@ pub struct RealLog<R: fs::Files> {
     faults: u64,
 }
 
-/// Records bytes, one by one, for contracts alone: it does nothing at run time.
-fn record(bytes: &[u8], so_far: &mut Log<u8, ()>)
-    ensures { map (λ r. r.0) so_far.new.items ≡ map (λ r. r.0) so_far.old.items ++ bytes.now }
+/// Records these bytes behind those that there are, for contracts alone. Takes no memory.
+fn record(bytes: &mut Log<u8, ()>, more: &[u8])
+    ensures { map (λ r. r.0) bytes.new.items ≡ map (λ r. r.0) bytes.old.items ++ more.now }
 {
-    for byte in bytes {
-        *so_far = so_far.and(byte, &());
+    for byte in more {
+        *bytes = bytes.and(byte, &());
     }
 }
 
@@ -32,7 +32,7 @@ fn recorded(bytes: &[u8]) -> Log<u8, ()>
     ensures { map (λ r. r.0) result.items ≡ bytes.now }
 {
     let mut all = Log::new();
-    record(bytes, &mut all);
+    record(&mut all, bytes);
     all
 }
 
@@ -91,7 +91,7 @@ impl<R: fs::Files> LogFile for RealLog<R> {
         };
         match file.write_all(line) {
             Ok(()) => {
-                record(line, &mut self.text);
+                record(&mut self.text, line);
                 Ok(())
             }
             Err(_) => Err(self.fail()),

@@ -3,4 +3,4 @@ use Rattle.lw_program.proofs.log.record.Given as goal
 
 abbrev pub invariant-loop-byte : goal.invariant-loop-byte
 invariant-loop-byte l =
-    map (λ r. r.0) l.so_far.items ≡ map (λ r. r.0) l.initial.so_far.items ++ take l.byte-index l.bytes
+    map (λ r. r.0) l.bytes.items ≡ map (λ r. r.0) l.initial.bytes.items ++ take l.byte-index l.more
