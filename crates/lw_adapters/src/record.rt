@@ -15,3 +15,12 @@ pub(crate) fn record(bytes: &mut Bytes, more: &[u8])
         *bytes = bytes.and(byte, &());
     }
 }
+
+/// The record of just these bytes.
+pub(crate) fn recorded(bytes: &[u8]) -> Bytes
+    ensures { bytes_of result.items ≡ bytes.now }
+{
+    let mut all = Bytes::new();
+    record(&mut all, bytes);
+    all
+}

@@ -8,6 +8,9 @@ use lw_words::Line;
 use std::alloc::Global;
 use std::marker::Model;
 
+/// The room for letters: as many as a drawn word has at most. Words of files may be longer.
+const ROOM: usize = 65_536;
+
 /// What a system received last.
 #[derive(Clone, Copy)]
 pub(crate) enum Received {
@@ -18,7 +21,7 @@ pub(crate) enum Received {
     Output(u16),
 }
 
-/// The letters since the last reset, as long as there is memory for them, and what was received last. Contracts see the letters.
+/// The letters since the last reset, as long as there is room for them, and what was received last. Contracts see the letters.
 #[derive(Drop)]
 pub(crate) struct Note {
     letters: Option<Vec<u16>>,
@@ -44,11 +47,11 @@ impl Note {
         }
     }
 
-    /// Notes from now on. Takes no memory.
+    /// Notes from now on, and takes all the room for it; where there is no memory for that nothing is noted.
     pub fn open(&mut self, alloc: Global)
-        ensures { self.new ≡ Some [] }
+        ensures { (self.new ≡ None) ⊎ (self.new ≡ Some []) }
     {
-        self.letters = Some(Vec::new(alloc));
+        self.letters = Vec::with_capacity(alloc, ROOM).ok();
     }
 
     /// A reset goes out.
@@ -60,14 +63,16 @@ impl Note {
         }
     }
 
-    /// A letter goes out. Where there is no memory for it nothing is noted any more.
+    /// A letter goes out. Where there is no room for it nothing is noted any more. Takes no memory.
     pub fn add_letter(&mut self, x: u16)
         ensures { (self.new ≡ None) ⊎ (self.new ≡ option_map (λ w. w ++ x ∷ []) self.old) }
     {
         let Some(letters) = &mut self.letters else {
             return;
         };
-        if letters.push(x).is_err() {
+        if letters.len() < letters.capacity() {
+            letters.push_reserved(x);
+        } else {
             self.letters = None;
         }
     }

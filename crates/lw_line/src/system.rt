@@ -107,7 +107,8 @@ impl<L: Link> LineSul<L> {
         }
     }
 
-    /// Notes what it is asked from now on, for a log, until memory runs out.
+    /// Notes what it is asked from now on, for a log, while there is room. Takes the room for 65,536 letters; where there is no
+    /// memory for that nothing is noted.
     pub fn note(&mut self, alloc: Global)
         ensures { self.new ≡ self.old }
     {

@@ -1,6 +1,7 @@
 pub mod Files
 pub mod Lines
 pub mod Links
+pub mod Logs
 pub mod Memory
 pub mod Played
 pub mod Protocol

@@ -1,4 +1,4 @@
-//! What no clause says: which lines are put, by hand, and that none is once a call failed.
+//! Which lines are put, by hand, each by a call of its own, and that none is once a call failed.
 
 use crate::tests::names;
 use lw_log::{Log, LogState, MemoryLog};
