@@ -10,8 +10,6 @@ use lw_outside::{Spawner, StartFailure, StartStop, copy_words};
 use std::alloc::Global;
 use std::fs::{self, Files};
 use std::io::{self, ErrorKind, PipeReader, PipeWriter};
-use std::net::TcpStream;
-use std::os::fd::OwnedFd;
 use std::process::{Child, Command, Processes, Stdio, SystemProcess};
 
 /// A link to a child program, by its standard input and output.
@@ -107,12 +105,6 @@ fn command_of(alloc: Global, words: &[String], number: u64) -> io::Result<Comman
     Ok(command)
 }
 
-/// Has writes to this pipe fail where it is full, for as long as it is open: a child that reads each line before it answers is
-/// sent none that doesn't fit. The mode is the pipe's own, whatever its descriptor is taken for here.
-fn never_wait(input: &PipeWriter) -> io::Result<()> {
-    TcpStream::from(OwnedFd::from(input.try_clone()?)).set_nonblocking(true)
-}
-
 /// Starts a program with a new pipe each for its input and its output. It has no other descriptor, so none of another child's
 /// pipes, but for the standard error that it shares.
 fn start_child<R: Files + Processes<Started = SystemProcess> + AllocGlobal>(
@@ -129,7 +121,6 @@ fn start_child<R: Files + Processes<Started = SystemProcess> + AllocGlobal>(
     let mut command = command_of(rt.alloc(), words, number)?;
     let (their_input, input) = io::pipe(rt)?;
     let (output, their_output) = io::pipe(rt)?;
-    never_wait(&input)?;
     command.stdin(Stdio::from(their_input));
     command.stdout(Stdio::from(their_output));
     if errors == Errors::Dropped {

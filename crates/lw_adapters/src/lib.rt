@@ -6,6 +6,7 @@ mod children;
 mod files;
 mod log;
 mod names;
+mod pace;
 mod pipe_link;
 mod record;
 mod streams;

@@ -2,6 +2,7 @@
 ghost use Rattle.std.specs.Prelude.{◌≡◌, []};
 ghost use Rattle.lw_adapters.specs.Recorded.{bytes_of};
 
+use crate::pace::Pace;
 use crate::streams::{Input, Stream};
 use lw_outside::{Failed, Link, Source, put_all};
 use std::io::{Read, Write};
@@ -12,6 +13,7 @@ pub struct PipeLink<W: Write, R: Read> {
     number: u64,
     input: Stream<W>,
     output: Input<R>,
+    pace: Pace,
     faults: u64,
 }
 
@@ -27,6 +29,7 @@ impl<W: Write, R: Read> PipeLink<W, R> {
             number,
             input: Stream::new(input),
             output: Input::new(output),
+            pace: Pace::new(),
             faults: 0,
         }
     }
@@ -43,7 +46,12 @@ impl<W: Write, R: Read> Link for PipeLink<W, R> {
       transcript = Some (record { sent = bytes_of l.input.taken.items; received = bytes_of l.output.given.items });
     } };
 
+    /// Fails too where the other end says line after line that it wasn't sent for, before the pipe to it is full.
     fn send(&mut self, bytes: &[u8]) -> Result<(), Failed> {
+        if !self.pace.sends(bytes) {
+            self.faults = self.faults.saturating_add(1);
+            return Err(Failed);
+        }
         let sent = put_all(&mut self.input, bytes);
         if sent.is_err() {
             self.faults = self.faults.saturating_add(1);
@@ -52,10 +60,15 @@ impl<W: Write, R: Read> Link for PipeLink<W, R> {
     }
 
     fn take(&mut self, buffer: &mut [u8]) -> Result<usize, Failed> {
-        let taken = self.output.read(buffer);
-        if taken.is_err() {
-            self.faults = self.faults.saturating_add(1);
+        match self.output.read(buffer) {
+            Ok(count) => {
+                self.pace.receives(&buffer[..count]);
+                Ok(count)
+            }
+            Err(Failed) => {
+                self.faults = self.faults.saturating_add(1);
+                Err(Failed)
+            }
         }
-        taken
     }
 }

@@ -7,11 +7,11 @@ use lw_log::Log;
 use lw_outside::{Sink, World, put_all};
 use lw_top::{run, without_arguments};
 use std::alloc::Global;
+use std::env;
 use std::fs::{self, File};
 use std::io::{self, ErrorKind};
 use std::os::fd::AsRawFd;
 use std::process::ExitCode;
-use std::env;
 
 /// The arguments of the command line after the program's own name; none where they aren't text.
 fn arguments(rt: &HostRuntime) -> io::Result<Vec<String>> {
@@ -41,7 +41,13 @@ fn is_for_errors(folder: &Option<File>) -> bool {
 
 /// The status where the arguments name a file twice, which is told.
 fn refuse_names<E: Sink>(err: &mut E, names: TwoNames) -> u8 {
-    for part in ["one file under two names: ", names.written, ", ", names.other, "\n"] {
+    for part in [
+        "one file under two names: ",
+        names.written,
+        ", ",
+        names.other,
+        "\n",
+    ] {
         if put_all(err, part.as_bytes()).is_err() {
             return 2;
         }

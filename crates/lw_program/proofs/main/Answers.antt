@@ -1,0 +1,7 @@
+use denote.Exit.{no}
+use denote.Param.Send.{param_send, arg_send}
+use Rattle.lw_adapters.proofs.Sends.{real_link_send}
+use Rattle.lw_program.proofs.main.Goals as goal
+
+pub run-requires-send-P-Link : goal.run-requires-send-P-Link
+run-requires-send-P-Link g c κs = param_send 7 _ (arg_send _ no _ real_link_send)
