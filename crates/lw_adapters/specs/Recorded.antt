@@ -1,6 +1,7 @@
 -- What adapters record of the bytes that went over them, for contracts alone.
-use Rattle.std.specs.Prelude.{ℕ, List, map, Option, None, Some}
-use Rattle.lw_outside.specs.Streams.{SourceState}
+use Rattle.std.specs.Prelude.{ℕ, List, map, Option, None, Some, option_map}
+use Rattle.lw_outside.specs.Logs.{LogFileState}
+use Rattle.lw_outside.specs.Streams.{SinkState, SourceState}
 
 -- the bytes of a record, which has them one by one
 abbrev pub bytes_of : {X : Type 0} → List (ℕ × X) → List ℕ
@@ -14,3 +15,12 @@ left_of (Some start) now = now
 -- what is told of a stream that is read: what was known to be left at its start, what is now, and its counts
 abbrev pub told_input : (start now : Option (List ℕ)) (faults ends : ℕ) → SourceState
 told_input start now faults ends = record { left = left_of start now; faults = faults; ends = ends }
+
+-- what is told of a stream that is written, by what it recorded
+abbrev pub told_output : {X : Type 0} (taken : List (ℕ × X)) (faults : ℕ) → SinkState
+told_output taken faults = record { taken = Some (bytes_of taken); faults = faults }
+
+-- what is told of a log, by what it recorded of its name and its lines, where a file was made for it
+abbrev pub told_log_file : {F X : Type 0} (file : Option F) (called text : List (ℕ × X)) (faults : ℕ) → LogFileState
+told_log_file file called text faults =
+    record { name = option_map (λ _. bytes_of called) file; text = bytes_of text; faults = faults }

@@ -1,6 +1,9 @@
 //! The real log: a file that is written line by line.
-ghost use Rattle.std.specs.Prelude.{◌≡◌, ◌≤◌, [], None};
+ghost use Rattle.std.specs.Prelude.{◌≡◌, ◌≤◌, [], None, IfSome, OnOk};
+ghost use Rattle.std.specs.Io.KnownBytes.{Appends};
 ghost use Rattle.lw_words.specs.Cause.{CountedFault};
+ghost use Rattle.lw_outside.specs.Logs.{LogFilePut};
+ghost use Rattle.lw_adapters.specs.Recorded.{told_log_file};
 
 use crate::record::{Bytes, record, recorded};
 use lw_outside::{Failed, LogFile};
@@ -47,14 +50,9 @@ impl<R: fs::Files> RealLog<R> {
 }
 
 impl<R: fs::Files> LogFile for RealLog<R> {
-    ghost use Rattle.std.specs.Prelude.{option_map};
-    ghost use Rattle.lw_adapters.specs.Recorded.{bytes_of};
+    ghost use Rattle.lw_adapters.specs.Recorded.{told_log_file};
 
-    ghost state = { λ l. record {
-      name = option_map (λ _. bytes_of l.called.items) l.file;
-      text = bytes_of l.text.items;
-      faults = l.faults;
-    } };
+    ghost state = { λ l. told_log_file l.file l.called.items l.text.items l.faults };
 
     fn open(&mut self, name: &str) -> Result<(), Failed> {
         match fs::create(&self.rt, name) {
@@ -68,7 +66,16 @@ impl<R: fs::Files> LogFile for RealLog<R> {
         }
     }
 
-    fn put(&mut self, line: &[u8]) -> Result<(), Failed> {
+    fn put(&mut self, line: &[u8]) -> Result<(), Failed>
+        ensures every { LogFilePut line.now
+            (told_log_file self.old.file self.old.called.items self.old.text.items self.old.faults)
+            (told_log_file self.new.file self.new.called.items self.new.text.items self.new.faults)
+            result }
+
+        // The line is what was appended to the file.
+        ensures bytes { OnOk result (IfSome self.old.file (λ f. IfSome self.new.file
+            (λ g. Appends (R.File.Write.contents f) (R.File.Write.contents g) line.now))) }
+    {
         let Some(file) = &mut self.file else {
             return Err(self.fail());
         };

@@ -20,6 +20,8 @@ pub struct PipeLink<W: Write, R: Read> {
 impl<W: Write, R: Read> PipeLink<W, R> {
     /// The link of this number, over which nothing went so far.
     pub fn new(number: u64, input: W, output: R) -> PipeLink<W, R>
+        ensures wrapped { (result.input.stream ≡ input) × (result.output.stream ≡ output) }
+        ensures starts { (result.input.start.value ≡ input) × (result.output.start.value ≡ output) }
         ensures number { result.number ≡ number }
         ensures faults { result.faults ≡ 0 }
         ensures ends { result.output.ends ≡ 0 }

@@ -3,8 +3,8 @@ ghost use Rattle.std.specs.Prelude.{◌≡◌, [], ◌++◌, ◌<◌, IfOk, OnEr
 ghost use Rattle.std.specs.Io.KnownBytes.{Appends, Consumes, ReadConsumes, WriteAppends};
 ghost use Rattle.std.specs.Io.{ReadsAtMost, WritesAtMost};
 ghost use Rattle.lw_adapters.specs.Once.{Appends-prop, Consumes-prop};
-ghost use Rattle.lw_outside.specs.Streams.{SourceRead};
-ghost use Rattle.lw_adapters.specs.Recorded.{bytes_of, told_input};
+ghost use Rattle.lw_outside.specs.Streams.{SinkPut, SourceRead};
+ghost use Rattle.lw_adapters.specs.Recorded.{bytes_of, told_input, told_output};
 
 use crate::record::{Bytes, record};
 use lw_outside::{Failed, Sink, Source};
@@ -43,7 +43,7 @@ fn read_some<S: Read>(stream: &mut S, buffer: &mut [u8]) -> io::Result<usize>
 }
 
 /// A stream that is written. Contracts see the bytes that its writes said they took; these are what was appended to the stream,
-/// where it tells what it holds.
+/// where it told what it held when it was wrapped.
 #[derive(Drop)]
 pub struct Stream<W: Write> {
     stream: W,
@@ -86,15 +86,20 @@ impl<W: Write> Stream<W> {
 
 #[tactic(auto, using(crate::proofs::ByteLemmas::records))]
 impl<W: Write> Sink for Stream<W> {
-    ghost use Rattle.std.specs.Prelude.{Some};
-    ghost use Rattle.lw_adapters.specs.Recorded.{bytes_of};
+    ghost use Rattle.lw_adapters.specs.Recorded.{told_output};
 
-    ghost state = { λ s. record {
-      taken = Some (bytes_of s.taken.items);
-      faults = s.faults;
-    } };
+    ghost state = { λ s. told_output s.taken.items s.faults };
 
-    fn put(&mut self, bytes: &[u8]) -> Result<usize, Failed> {
+    fn put(&mut self, bytes: &[u8]) -> Result<usize, Failed>
+        requires { 0 < length bytes.now }
+        ensures every { SinkPut bytes.now (told_output self.old.taken.items self.old.faults)
+            (told_output self.new.taken.items self.new.faults) result }
+
+        // What it took is what was appended to the stream, and the stream began as it did.
+        ensures bytes { WriteAppends (W.contents self.old.stream) (W.contents self.new.stream) result
+            bytes.now }
+        ensures start { self.new.start ≡ self.old.start }
+    {
         match write_some(&mut self.stream, bytes) {
             Ok(count) if count > 0 => {
                 record(&mut self.taken, &bytes[..count]);
@@ -108,8 +113,8 @@ impl<W: Write> Sink for Stream<W> {
     }
 }
 
-/// A stream that is read. Contracts see the bytes that its reads gave; these are what the stream had, where it tells what it has
-/// left.
+/// A stream that is read. Contracts see the bytes that its reads gave; these are what the stream had, where it told what it had
+/// left when it was wrapped.
 #[derive(Drop)]
 pub struct Input<S: Read> {
     stream: S,
@@ -159,6 +164,7 @@ impl<S: Read> Source for Input<S> {
             bytes_of self.old.given.items ++ take n buffer.new) }
         ensures withheld { OnErr result (bytes_of self.new.given.items ≡
             bytes_of self.old.given.items) }
+        ensures start { self.new.start ≡ self.old.start }
     {
         match read_some(&mut self.stream, buffer) {
             Ok(count) => {

@@ -6,6 +6,8 @@ mod shaky;
 use crate::{Input, PipeLink, Stream};
 use lw_outside::{Failed, Link, Sink, Source, put_all};
 use shaky::{Shaky, Turn};
+use std::alloc::Global;
+use std::process::Abort;
 use std::test::Fail;
 
 const TEXT: &[u8] = b"reset\nin t\n";
@@ -51,52 +53,67 @@ fn a_text_is_put_whatever_a_stream_does(rt: HostRuntime) -> Result<(), Fail> {
     Ok(())
 }
 
-/// What an input gives, up to its end, in takes of three bytes at the most; or that it failed.
-fn read_text(rt: HostRuntime, stream: Shaky) -> Result<Vec<u8>, Fail> {
+/// What an input gives, up to its end, in takes of three bytes at the most; None where it fails.
+fn read_text(rt: &impl Abort, alloc: Global, stream: Shaky) -> Option<Vec<u8>> {
     let mut input = Input::new(stream);
-    let mut all = Vec::new(rt.alloc());
+    let mut all = Vec::new(alloc);
     for _ in 0..16 {
         let mut buffer = [0u8; 3];
-        let Ok(count) = input.read(&mut buffer) else {
-            return Err(Fail::from("a read failed"));
-        };
+        let count = input.read(&mut buffer).ok()?;
         if count == 0 {
             break;
         }
-        all.extend_from_slice(&buffer[..count])?;
+        all.extend_from_slice(&buffer[..count])
+            .expect(&rt, "memory");
     }
-    Ok(all)
+    Some(all)
+}
+
+/// Whether an input gives just this much of the text, where its stream takes a turn of this kind at its call of this number.
+fn gives(rt: &impl Abort, alloc: Global, turn: Turn, at: usize, given: &[u8]) -> bool {
+    let stream = Shaky::holding(alloc, turn, at, TEXT).expect(rt, "memory");
+    match read_text(rt, alloc, stream) {
+        Some(bytes) => bytes.as_slice() == given,
+        None => false,
+    }
 }
 
 #[test]
-fn a_text_is_read_whatever_a_stream_does(rt: HostRuntime) -> Result<(), Fail> {
+fn a_text_is_read_whatever_a_stream_does(rt: HostRuntime) {
     for at in 0..4 {
-        for turn in [Turn::Interrupted, Turn::Short] {
-            let stream = Shaky::holding(rt.alloc(), turn, at, TEXT)?;
-            assert_eq!(rt; read_text(rt, stream)?.as_slice(), TEXT);
-        }
-        let ended = Shaky::holding(rt.alloc(), Turn::Empty, at, TEXT)?;
-        assert_eq!(rt; read_text(rt, ended)?.len(), 3 * at);
-        let broken = Shaky::holding(rt.alloc(), Turn::Broken, at, TEXT)?;
-        assert!(rt; read_text(rt, broken).is_err());
+        assert!(rt; gives(&rt, rt.alloc(), Turn::Interrupted, at, TEXT));
+        assert!(rt; gives(&rt, rt.alloc(), Turn::Short, at, TEXT));
+        assert!(rt; gives(&rt, rt.alloc(), Turn::Empty, at, &TEXT[..3 * at]));
+        assert!(rt; !gives(&rt, rt.alloc(), Turn::Broken, at, TEXT));
     }
-    Ok(())
 }
 
-/// A line is sent whole where the pipe is interrupted or short, and counted as a fault where it takes nothing.
+/// What a link says of a text that is sent and of what is taken behind it, where both of its pipes take a turn of this kind.
+fn talk(rt: &impl Abort, alloc: Global, turn: Turn) -> (Result<(), Failed>, Result<usize, Failed>) {
+    let output = Shaky::holding(alloc, turn, 0, b"ready\n").expect(rt, "memory");
+    let mut link = PipeLink::new(0, Shaky::new(alloc, turn, 1), output);
+    let mut buffer = [0u8; 8];
+    (link.send(TEXT), link.take(&mut buffer))
+}
+
 #[test]
-fn a_link_sends_and_takes_whatever_its_pipes_do(rt: HostRuntime) -> Result<(), Fail> {
-    for turn in [Turn::Interrupted, Turn::Short, Turn::Empty, Turn::Broken] {
-        let output = Shaky::holding(rt.alloc(), turn, 0, b"ready\n")?;
-        let mut link = PipeLink::new(0, empty(rt, turn, 1), output);
-        let mut buffer = [0u8; 8];
-        let (sent, taken) = (link.send(TEXT), link.take(&mut buffer));
-        match turn {
-            Turn::Interrupted => assert!(rt; sent.is_ok() && taken == Ok(3)),
-            Turn::Short => assert!(rt; sent.is_ok() && taken == Ok(1)),
-            Turn::Empty => assert!(rt; sent.is_err() && taken == Ok(0)),
-            Turn::Broken => assert!(rt; sent.is_err() && taken == Err(Failed)),
-        }
+fn a_link_sends_and_takes_whatever_its_pipes_do(rt: HostRuntime) {
+    assert!(rt; talk(&rt, rt.alloc(), Turn::Interrupted) == (Ok(()), Ok(3)));
+    assert!(rt; talk(&rt, rt.alloc(), Turn::Short) == (Ok(()), Ok(1)));
+    assert!(rt; talk(&rt, rt.alloc(), Turn::Empty) == (Err(Failed), Ok(0)));
+    assert!(rt; talk(&rt, rt.alloc(), Turn::Broken) == (Err(Failed), Err(Failed)));
+}
+
+/// A child that says lines that it wasn't sent for is sent 32 KiB more, and no line behind that.
+#[test]
+fn a_link_to_a_child_that_is_ahead(rt: HostRuntime) {
+    let output = Shaky::holding(rt.alloc(), Turn::Short, 99, b"a\nb\n").expect(&rt, "memory");
+    let mut link = PipeLink::new(0, empty(rt, Turn::Short, 99_999), output);
+    let mut buffer = [0u8; 8];
+    let line = [b'x'; 1024];
+    assert!(rt; link.take(&mut buffer) == Ok(3));
+    for _ in 0..32 {
+        assert!(rt; link.send(&line).is_ok());
     }
-    Ok(())
+    assert!(rt; link.send(&line).is_err());
 }

@@ -1,6 +1,9 @@
 //! Writing a file so that it stands: the text is put beside the file and handed to the disk, and takes the file's name only
 //! when it is whole.
 
+ghost use Rattle.std.specs.Prelude.{OnOk};
+ghost use Rattle.std.specs.Io.KnownBytes.{Appends};
+
 use std::fs::{self, Files, Metadata, OpenFile, OpenOptions};
 use std::io::{self, ErrorKind, Write};
 use std::os::unix::fs::MetadataExt;
@@ -21,14 +24,14 @@ pub(crate) fn write_file<R: Files + AllocGlobal>(
         Err(error) if error.kind() == ErrorKind::NotFound => None,
         _ => return write_in_place(rt, name, bytes),
     };
-    let Some((beside, file)) = make_beside(rt, name)? else {
+    let Some((beside, mut file)) = make_beside(rt, name)? else {
         return write_in_place(rt, name, bytes);
     };
     if !is_like(&file, old) {
         fs::remove_file(rt, &beside)?;
         return write_in_place(rt, name, bytes);
     }
-    let written = put_whole(file, bytes).and_then(|()| fs::rename(rt, &beside, name));
+    let written = put_whole(&mut file, bytes).and_then(|()| fs::rename(rt, &beside, name));
     if written.is_err() {
         let _removed = fs::remove_file(rt, &beside);
     }
@@ -37,11 +40,13 @@ pub(crate) fn write_file<R: Files + AllocGlobal>(
 
 /// Puts the bytes into the file itself.
 fn write_in_place<R: Files>(rt: &R, name: &str, bytes: &[u8]) -> io::Result<()> {
-    put_whole(fs::create(rt, name)?, bytes)
+    put_whole(&mut fs::create(rt, name)?, bytes)
 }
 
 /// Puts the bytes, and where it is a file of a disk waits until they stand there.
-fn put_whole<F: OpenFile + Write + Drop>(mut file: F, bytes: &[u8]) -> io::Result<()> {
+fn put_whole<F: OpenFile + Write + Drop>(file: &mut F, bytes: &[u8]) -> io::Result<()>
+    ensures { OnOk result (Appends (F.Write.contents file.old) (F.Write.contents file.new) bytes.now) }
+{
     file.write_all(bytes)?;
     match file.metadata() {
         Ok(made) if made.is_file() => file.sync_all(),
