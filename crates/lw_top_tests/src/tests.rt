@@ -3,6 +3,8 @@ mod acceptors;
 mod asking;
 mod cases;
 mod children;
+mod naming;
+mod nested;
 mod prior;
 mod refusals;
 mod rows;
