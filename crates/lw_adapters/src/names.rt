@@ -3,12 +3,6 @@
 use std::fs::{self, Files};
 use std::os::unix::fs::MetadataExt;
 
-/// The options of `learn` and `accept` before the name of a file that is written.
-const WRITTEN: [&str; 4] = ["--model", "--answers", "--kept", "--log"];
-
-/// Those before the name of one that is read.
-const READ: [&str; 3] = ["--table", "--prior", "--words"];
-
 /// Two different names of one file.
 #[derive(Clone, Copy, Debug, PartialEq, Eq)]
 pub struct TwoNames<'a> {
@@ -55,53 +49,11 @@ fn place_of<'a, R: Files>(rt: &R, name: &'a str) -> Option<Place<'a>> {
     })
 }
 
-/// What an argument of the two commands is, by the one before it.
-#[derive(Clone, Copy)]
-enum Argument<'a> {
-    Written(&'a str),
-    Read(&'a str),
-    /// An option, or a value that is no name of a file.
-    Other,
-}
-
-/// The value of this option.
-fn value_of<'a>(option: &str, value: &'a str) -> Argument<'a> {
-    if WRITTEN.contains(&option) {
-        Argument::Written(value)
-    } else if READ.contains(&option) {
-        Argument::Read(value)
-    } else {
-        Argument::Other
-    }
-}
-
-/// Reads an argument: `--OPTION=VALUE`, an option whose value comes next, a value, or the file that has no option.
-fn read_argument<'a>(before: &str, argument: &'a str) -> Argument<'a> {
-    if argument.starts_with("--") {
-        return match argument.split_once('=') {
-            Some((option, value)) => value_of(option, value),
-            None => Argument::Other,
-        };
-    }
-    if before.starts_with("--") && !before.contains('=') {
-        return value_of(before, argument);
-    }
-    Argument::Read(argument)
-}
-
-/// The name of a file in the argument of this number.
-fn name_in(arguments: &[String], number: usize) -> Argument<'_> {
-    match (arguments.get(number), arguments.get(number.wrapping_sub(1))) {
-        (Some(argument), Some(before)) => read_argument(before, argument),
-        _ => Argument::Other,
-    }
-}
-
-/// The first argument that is another name of the file that is written under this one.
-fn other_name<'a, R: Files>(rt: &R, written: &str, arguments: &'a [String]) -> Option<&'a str> {
+/// The first of these names that is another one of the file that is written under this one.
+fn other_name<'a, R: Files>(rt: &R, written: &str, names: &[Option<&'a str>]) -> Option<&'a str> {
     let place = place_of(rt, written)?;
-    for number in 1..arguments.len() {
-        if let Argument::Written(other) | Argument::Read(other) = name_in(arguments, number) {
+    for name in names {
+        if let Some(other) = *name {
             if other != written && place_of(rt, other) == Some(place) {
                 return Some(other);
             }
@@ -110,17 +62,21 @@ fn other_name<'a, R: Files>(rt: &R, written: &str, arguments: &'a [String]) -> O
     None
 }
 
-/// The first file that `learn` or `accept` would write which another of its arguments names too, by another name: a relative
-/// and an absolute one, or a link to a file that is there. What is no file of a disk, as a pipe, may be named twice.
-pub fn two_names<'a, R: Files>(rt: &R, arguments: &'a [String]) -> Option<TwoNames<'a>> {
-    let command = arguments.first()?.as_str();
-    if command != "learn" && command != "accept" {
-        return None;
-    }
-    for number in 1..arguments.len() {
-        if let Argument::Written(written) = name_in(arguments, number) {
-            if let Some(other) = other_name(rt, written, arguments) {
-                return Some(TwoNames { written, other });
+/// The first file that is written and that is named once more among these names, by another one: a relative and an absolute
+/// one, or a link to a file that is there. What is no file of a disk, as a pipe, may have two names.
+pub fn two_names<'a, R: Files>(
+    rt: &R,
+    written: &[Option<&'a str>],
+    read: &[Option<&'a str>],
+) -> Option<TwoNames<'a>> {
+    for name in written {
+        if let Some(name) = *name {
+            let other = other_name(rt, name, written).or(other_name(rt, name, read));
+            if let Some(other) = other {
+                return Some(TwoNames {
+                    written: name,
+                    other,
+                });
             }
         }
     }

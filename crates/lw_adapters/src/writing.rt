@@ -20,7 +20,11 @@ pub(crate) fn write_file<R: Files + AllocGlobal>(
     bytes: &[u8],
 ) -> io::Result<()> {
     let old = match fs::symlink_metadata(rt, name) {
-        Ok(old) if old.is_file() && old.nlink() == 1 => Some(old),
+        Ok(old) if old.is_file() && old.nlink() == 1 => {
+            // One that may not be written isn't replaced either.
+            let _old = OpenOptions::new().write(true).open(rt, name)?;
+            Some(old)
+        }
         Err(error) if error.kind() == ErrorKind::NotFound => None,
         _ => return write_in_place(rt, name, bytes),
     };

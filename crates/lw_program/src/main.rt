@@ -2,10 +2,11 @@
 //! with the call's status.
 #![tactic(auto)]
 
-use lw_adapters::{Errors, Input, RealFiles, RealLog, RealSpawner, Stream, TwoNames, two_names};
+use lw_adapters::{Errors, Input, RealFiles, RealLog, RealSpawner, Stream, two_names};
+use lw_learn::LearnArguments;
 use lw_log::Log;
 use lw_outside::{Sink, World, put_all};
-use lw_top::{run, without_arguments};
+use lw_top::{accept_arguments, learn_arguments, run, without_arguments};
 use std::alloc::Global;
 use std::env;
 use std::fs::{self, File};
@@ -39,20 +40,48 @@ fn is_for_errors(folder: &Option<File>) -> bool {
     }
 }
 
-/// The status where the arguments name a file twice, which is told.
-fn refuse_names<E: Sink>(err: &mut E, names: TwoNames) -> u8 {
-    for part in [
+/// What `learn` or `accept` would be handed; none of other commands, and of arguments that aren't taken.
+fn learning(alloc: Global, arguments: &[String]) -> Option<LearnArguments> {
+    match arguments.first()?.as_str() {
+        "learn" => learn_arguments(alloc, arguments).ok(),
+        "accept" => accept_arguments(alloc, arguments).ok(),
+        _ => None,
+    }
+}
+
+/// Puts these texts, as far as the stream takes them.
+fn tell<E: Sink>(err: &mut E, texts: &[&str]) {
+    for text in texts {
+        if put_all(err, text.as_bytes()).is_err() {
+            return;
+        }
+    }
+}
+
+/// The status of a learning that names a file twice, by two names, which is told; none of any other call.
+fn refuse<E: Sink>(rt: &HostRuntime, arguments: &[String], err: &mut E) -> Option<u8> {
+    let arguments = learning(rt.alloc(), arguments)?;
+    let written = [
+        arguments.model(),
+        arguments.answers(),
+        arguments.kept(),
+        arguments.log(),
+    ];
+    let read = [
+        Some(arguments.system()),
+        arguments.prior(),
+        arguments.words(),
+    ];
+    let names = two_names(rt, &written, &read)?;
+    let texts = [
         "one file under two names: ",
         names.written,
         ", ",
         names.other,
         "\n",
-    ] {
-        if put_all(err, part.as_bytes()).is_err() {
-            return 2;
-        }
-    }
-    2
+    ];
+    tell(err, &texts);
+    Some(2)
 }
 
 fn main(rt: HostRuntime) -> ExitCode {
@@ -74,8 +103,8 @@ fn main(rt: HostRuntime) -> ExitCode {
         log: Log::new(alloc, RealLog::new(rt)),
     };
     let status = match arguments(&rt) {
-        Ok(arguments) => match two_names(&rt, &arguments) {
-            Some(names) => refuse_names(&mut world.err, names),
+        Ok(arguments) => match refuse(&rt, &arguments, &mut world.err) {
+            Some(status) => status,
             None => run(rt, alloc, &arguments, &mut world).status,
         },
         Err(_) => without_arguments(alloc, &mut world.err).status,
