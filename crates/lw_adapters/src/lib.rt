@@ -15,7 +15,7 @@ mod writing;
 pub use children::{Errors, RealLink, RealSpawner};
 pub use files::RealFiles;
 pub use log::RealLog;
-pub use names::{TwoNames, two_names};
+pub use names::{TwoNames, is_among, two_names};
 pub use pipe_link::PipeLink;
 pub use streams::{Input, Stream};
 

@@ -12,11 +12,11 @@ pub struct TwoNames<'a> {
 }
 
 /// Where a file is: a file of a disk by its numbers, one that isn't there by those of its folder and by its name in it.
-#[derive(Clone, Copy, PartialEq, Eq)]
-struct Place<'a> {
+#[derive(Drop, PartialEq, Eq)]
+struct Place {
     device: u64,
     number: u64,
-    within: Option<&'a str>,
+    within: Option<String>,
 }
 
 /// The name's folder, and the file's name in it.
@@ -28,8 +28,33 @@ fn in_folder(name: &str) -> (&str, &str) {
     }
 }
 
+/// How many links are followed to a file that isn't there.
+const LINKS: u32 = 40;
+
+/// The name that a link leads to, seen from where the link is.
+fn target_of<R: Files + AllocGlobal>(rt: &R, link: &str) -> Option<String> {
+    let target = fs::read_link(rt, link).ok()?;
+    let (target, folder) = (target.as_str(), in_folder(link).0);
+    if target.starts_with('/') {
+        return String::from_str(rt.alloc(), target).ok();
+    }
+    format!(in rt.alloc(); "{folder}/{target}").ok()
+}
+
+/// The name behind links that lead to no file yet, or the name itself.
+fn behind_links<R: Files + AllocGlobal>(rt: &R, name: &str) -> Option<String> {
+    let mut name = String::from_str(rt.alloc(), name).ok()?;
+    for _ in 0..LINKS {
+        match target_of(rt, name.as_str()) {
+            Some(target) => name = target,
+            None => return Some(name),
+        }
+    }
+    None
+}
+
 /// Where the file of this name is or would be made. None where that is no file of a disk, or isn't known.
-fn place_of<'a, R: Files>(rt: &R, name: &'a str) -> Option<Place<'a>> {
+fn place_of<R: Files + AllocGlobal>(rt: &R, name: &str) -> Option<Place> {
     if let Ok(file) = fs::metadata(rt, name) {
         if !file.is_file() {
             return None;
@@ -40,21 +65,33 @@ fn place_of<'a, R: Files>(rt: &R, name: &'a str) -> Option<Place<'a>> {
             within: None,
         });
     }
-    let (folder, within) = in_folder(name);
+    let name = behind_links(rt, name)?;
+    let (folder, within) = in_folder(name.as_str());
     let folder = fs::metadata(rt, folder).ok()?;
     Some(Place {
         device: folder.dev(),
         number: folder.ino(),
-        within: Some(within),
+        within: Some(String::from_str(rt.alloc(), within).ok()?),
     })
 }
 
+/// Whether two names are of one file of a disk.
+fn is_one_file<R: Files + AllocGlobal>(rt: &R, name: &str, other: &str) -> bool {
+    match (place_of(rt, name), place_of(rt, other)) {
+        (Some(place), Some(other)) => place == other,
+        _ => false,
+    }
+}
+
 /// The first of these names that is another one of the file that is written under this one.
-fn other_name<'a, R: Files>(rt: &R, written: &str, names: &[Option<&'a str>]) -> Option<&'a str> {
-    let place = place_of(rt, written)?;
+fn other_name<'a, R: Files + AllocGlobal>(
+    rt: &R,
+    written: &str,
+    names: &[Option<&'a str>],
+) -> Option<&'a str> {
     for name in names {
         if let Some(other) = *name {
-            if other != written && place_of(rt, other) == Some(place) {
+            if other != written && is_one_file(rt, written, other) {
                 return Some(other);
             }
         }
@@ -63,8 +100,8 @@ fn other_name<'a, R: Files>(rt: &R, written: &str, names: &[Option<&'a str>]) ->
 }
 
 /// The first file that is written and that is named once more among these names, by another one: a relative and an absolute
-/// one, or a link to a file that is there. What is no file of a disk, as a pipe, may have two names.
-pub fn two_names<'a, R: Files>(
+/// one, or a link. What is no file of a disk, as a pipe, may have two names.
+pub fn two_names<'a, R: Files + AllocGlobal>(
     rt: &R,
     written: &[Option<&'a str>],
     read: &[Option<&'a str>],
@@ -81,4 +118,9 @@ pub fn two_names<'a, R: Files>(
         }
     }
     None
+}
+
+/// Whether this file of a disk is named among others, by the same name.
+pub fn is_among<R: Files + AllocGlobal>(rt: &R, name: &str, others: &[Option<&str>]) -> bool {
+    others.contains(&Some(name)) && place_of(rt, name).is_some()
 }

@@ -1,7 +1,7 @@
 //! How far a child is ahead of what it is sent.
 
-/// How many bytes are sent to a child that is ahead: half of what a pipe holds.
-const MOST_AHEAD: usize = 32_768;
+/// How many bytes are sent to a child that is ahead: half of what the smallest pipe holds.
+const MOST_AHEAD: usize = 2048;
 
 /// Whether a child still reads what it is sent. It does where it answers each line behind it; one that says more lines than it
 /// was sent may have read none of them, and nothing more is sent to it before its pipe is full, since whoever writes into a

@@ -104,13 +104,13 @@ fn a_link_sends_and_takes_whatever_its_pipes_do(rt: HostRuntime) {
     assert!(rt; talk(&rt, rt.alloc(), Turn::Broken) == (Err(Failed), Err(Failed)));
 }
 
-/// A child that says lines that it wasn't sent for is sent 32 KiB more, and no line behind that.
+/// A child that says lines that it wasn't sent for is sent 2 KiB more, and no line behind that.
 #[test]
 fn a_link_to_a_child_that_is_ahead(rt: HostRuntime) {
     let output = Shaky::holding(rt.alloc(), Turn::Short, 99, b"a\nb\n").expect(&rt, "memory");
     let mut link = PipeLink::new(0, empty(rt, Turn::Short, 99_999), output);
     let mut buffer = [0u8; 8];
-    let line = [b'x'; 1024];
+    let line = [b'x'; 64];
     assert!(rt; link.take(&mut buffer) == Ok(3));
     for _ in 0..32 {
         assert!(rt; link.send(&line).is_ok());

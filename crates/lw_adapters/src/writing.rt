@@ -12,8 +12,8 @@ use std::os::unix::fs::MetadataExt;
 const NAMES: u32 = 64;
 
 /// Puts the bytes under the name. What isn't there yet, and a file that has no other name, is written beside and renamed, so
-/// that what was there stays until the new text is whole; a pipe, a device, a link, and a file in a folder that takes no new
-/// one, are written in place.
+/// that what was there stays until the new text is whole; a pipe, a device, a link, a file that something is mounted on, and one
+/// in a folder that takes no new one, are written in place.
 pub(crate) fn write_file<R: Files + AllocGlobal>(
     rt: &R,
     name: &str,
@@ -32,14 +32,29 @@ pub(crate) fn write_file<R: Files + AllocGlobal>(
         return write_in_place(rt, name, bytes);
     };
     if !is_like(&file, old) {
-        fs::remove_file(rt, &beside)?;
+        let _removed = fs::remove_file(rt, &beside);
         return write_in_place(rt, name, bytes);
     }
-    let written = put_whole(&mut file, bytes).and_then(|()| fs::rename(rt, &beside, name));
-    if written.is_err() {
-        let _removed = fs::remove_file(rt, &beside);
+    let written = put_whole(&mut file, bytes);
+    drop(file);
+    match written.and_then(|()| fs::rename(rt, &beside, name)) {
+        Ok(()) => Ok(()),
+        Err(error) => {
+            let _removed = fs::remove_file(rt, &beside);
+            if keeps_its_name(&error) {
+                return write_in_place(rt, name, bytes);
+            }
+            Err(error)
+        }
     }
-    written
+}
+
+/// Whether a file isn't replaced for a cause of its own, and not of what is written: it is a mount, or its folder forbids it.
+fn keeps_its_name(error: &io::Error) -> bool {
+    matches!(
+        error.kind(),
+        ErrorKind::ResourceBusy | ErrorKind::CrossesDevices | ErrorKind::PermissionDenied
+    )
 }
 
 /// Puts the bytes into the file itself.
@@ -53,9 +68,20 @@ fn put_whole<F: OpenFile + Write + Drop>(file: &mut F, bytes: &[u8]) -> io::Resu
 {
     file.write_all(bytes)?;
     match file.metadata() {
-        Ok(made) if made.is_file() => file.sync_all(),
+        Ok(made) if made.is_file() => match file.sync_all() {
+            // Some file systems have no such call.
+            Err(error) if has_no_call(&error) => Ok(()),
+            synced => synced,
+        },
         _ => Ok(()),
     }
+}
+
+fn has_no_call(error: &io::Error) -> bool {
+    matches!(
+        error.kind(),
+        ErrorKind::InvalidInput | ErrorKind::Unsupported
+    )
 }
 
 /// Makes a new file beside that of the name, under the first name that is free. None where the folder takes none.
@@ -72,11 +98,19 @@ fn make_beside<R: Files + AllocGlobal>(
         {
             Ok(file) => return Ok(Some((beside, file))),
             Err(error) if error.kind() == ErrorKind::AlreadyExists => {}
-            Err(error) if error.kind() == ErrorKind::OutOfMemory => return Err(error),
-            Err(_) => return Ok(None),
+            Err(error) if takes_no_file(&error) => return Ok(None),
+            Err(error) => return Err(error),
         }
     }
     Ok(None)
+}
+
+/// Whether a folder takes no file of this name, and might have one of another.
+fn takes_no_file(error: &io::Error) -> bool {
+    matches!(
+        error.kind(),
+        ErrorKind::PermissionDenied | ErrorKind::InvalidFilename
+    )
 }
 
 /// Whether a new file may take an old one's place: it has the same owner and group, and got the same permissions.

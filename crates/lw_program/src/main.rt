@@ -2,7 +2,7 @@
 //! with the call's status.
 #![tactic(auto)]
 
-use lw_adapters::{Errors, Input, RealFiles, RealLog, RealSpawner, Stream, two_names};
+use lw_adapters::{Errors, Input, RealFiles, RealLog, RealSpawner, Stream, is_among, two_names};
 use lw_learn::LearnArguments;
 use lw_log::Log;
 use lw_outside::{Sink, World, put_all};
@@ -58,29 +58,26 @@ fn tell<E: Sink>(err: &mut E, texts: &[&str]) {
     }
 }
 
-/// The status of a learning that names a file twice, by two names, which is told; none of any other call.
+/// The status of a learning that names a file twice, which is told: by two names, or as its log and for something else. None of
+/// any other call.
 fn refuse<E: Sink>(rt: &HostRuntime, arguments: &[String], err: &mut E) -> Option<u8> {
     let arguments = learning(rt.alloc(), arguments)?;
-    let written = [
-        arguments.model(),
-        arguments.answers(),
-        arguments.kept(),
-        arguments.log(),
-    ];
-    let read = [
-        Some(arguments.system()),
-        arguments.prior(),
-        arguments.words(),
-    ];
-    let names = two_names(rt, &written, &read)?;
-    let texts = [
-        "one file under two names: ",
-        names.written,
-        ", ",
-        names.other,
-        "\n",
-    ];
-    tell(err, &texts);
+    let (model, answers, kept) = (arguments.model(), arguments.answers(), arguments.kept());
+    let (system, prior, words) = (arguments.system(), arguments.prior(), arguments.words());
+    let written = [model, answers, kept, arguments.log()];
+    if let Some(names) = two_names(rt, &written, &[Some(system), prior, words]) {
+        let (name, other) = (names.written, names.other);
+        tell(
+            err,
+            &["one file under two names: ", name, ", ", other, "\n"],
+        );
+        return Some(2);
+    }
+    let log = arguments.log()?;
+    if !is_among(rt, log, &[model, answers, kept, Some(system), prior, words]) {
+        return None;
+    }
+    tell(err, &["one file for the log and another: ", log, "\n"]);
     Some(2)
 }
 
