@@ -1,7 +1,7 @@
 -- A learner as a function of the machine that it learns: its rounds, and what it comes to.
 -- Source: Angluin (1987), whose equivalence query is here a suite, as that of Vasilevskii (1973) and Chow (1978).
 use Rattle.std.specs.Prelude.{◌≡◌, ◌≢◌, ◌⊎◌, ℕ, zero, suc, ◌+◌, ◌-◌, ◌*◌, ◌/◌, ◌<◌, ◌≤◌, List, [], ◌∷◌, ◌++◌, map, length, take, drop, Contains, Option, Some, None}
-use Rattle.std.specs.List.{All, range_with_len}
+use Rattle.std.specs.List.{All, flat_map, range_with_len}
 use Rattle.lw_words.specs.First.{FailsFirst}
 use Rattle.lw_words.specs.Word.{IsPrefix}
 use Rattle.lw_mealy.specs.Machine.{Rows, answer}
@@ -12,14 +12,13 @@ use Rattle.lw_suite.specs.Suite.{IsSuite}
 use Rattle.lw_cache.specs.Cut.{word_at}
 use Rattle.lw_plain.specs.Table.{Table, first_table, first_new, close, machine_of, search_word, split_by, with_batches}
 
--- what is learned, and how: the number of letters and the rows of the machine, the extra states of the suites, the greatest number of
--- states, and words that are asked before all others
+-- what is learned, and how: the number of letters and the rows of the machine, the extra states of the suites, and the greatest number
+-- of states
 pub record Task : Type 0 where
   pub letters : ℕ
   pub machine : Rows
   pub extra : ℕ
   pub most : ℕ
-  pub given : List (List ℕ)
 
 abbrev pub hypothesis_of : Task → Table → Rows
 hypothesis_of task t = machine_of task.letters task.machine t
@@ -31,13 +30,16 @@ new_row_of task t = first_new task.letters task.machine t
 abbrev pub closed_by : Task → Table → Table
 closed_by task t = close task.letters task.machine (task.most - length t.access) t
 
--- the word begins a word of a batch
-abbrev pub IsAskedIn : List (List (List ℕ)) → List ℕ → Type 0
-IsAskedIn batches w = (batch : List (List ℕ)) × (v : List ℕ) × Contains batches batch × Contains batch v × IsPrefix w v
+-- all words of the batches
+abbrev pub asked_words : List (List (List ℕ)) → List (List ℕ)
+asked_words batches = flat_map (λ batch. batch) batches
 
--- machine h answers otherwise to a word whose outputs were asked for
-abbrev pub Reveals : Rows → Rows → List (List (List ℕ)) → List ℕ → Type 0
-Reveals m h batches w = IsAskedIn batches w × (answer h w ≢ answer m w)
+-- machine h answers otherwise to a word that begins one of these
+pub record Reveals (m h : Rows) (words : List (List ℕ)) (w : List ℕ) : Type 0 where
+  pub whole : List ℕ
+  pub asked : Contains words whole
+  pub front : IsPrefix w whole
+  pub differ : answer h w ≢ answer m w
 
 -- 512 words of a list, and the first n of such chunks
 abbrev pub chunk_at : List (List ℕ) → ℕ → List (List ℕ)
@@ -70,7 +72,7 @@ pub record PassesWords (m h : Rows) (words : List (List ℕ)) (asked : List (Lis
 -- the table is closed, and its machine gives all that was asked for
 pub record IsReady (task : Task) (t : Table) : Type 0 where
   pub closed : new_row_of task t ≡ None
-  pub gives : (w : List ℕ) → ¬ Reveals task.machine (hypothesis_of task t) t.batches w
+  pub gives : (w : List ℕ) → ¬ Reveals task.machine (hypothesis_of task t) (asked_words t.batches) w
 
 -- the suite of the canonical form of a machine, and that form; it isn't too large
 pub record IsSuiteFor (task : Task) (h model : Rows) (suite : List (List ℕ)) : Type 0 where
@@ -81,7 +83,7 @@ pub record IsSuiteFor (task : Task) (h model : Rows) (suite : List (List ℕ)) :
 -- the least word that was asked for to which the closed table's machine answers otherwise
 pub record IsRevealed (task : Task) (t : Table) (word : List ℕ) : Type 0 where
   pub closed : new_row_of task t ≡ None
-  pub least : LeastWord (Reveals task.machine (hypothesis_of task t) t.batches) word
+  pub least : LeastWord (Reveals task.machine (hypothesis_of task t) (asked_words t.batches)) word
 
 -- there is no such word, and the suite finds this one by these batches more
 pub record IsFoundBySuite (task : Task) (t : Table) (word : List ℕ) (asked : List (List (List ℕ))) : Type 0 where
@@ -107,17 +109,21 @@ pub record IsRefined (task : Task) (before now : Table) : Type 0 where
   pub counterexample : IsCounterexample task before word asked
   pub is : now ≡ refined_by task before word asked
 
--- the table after n refinements
-abbrev pub IsTableAfter : Task → ℕ → Table → Type 0
-IsTableAfter task zero t = t ≡ closed_by task (first_table task.letters task.given)
-IsTableAfter task (suc n) t = (before : Table) × IsTableAfter task n before × IsRefined task before t
+-- a table after n refinements
+abbrev pub IsRefinedTimes : Task → ℕ → Table → Table → Type 0
+IsRefinedTimes task zero start t = t ≡ start
+IsRefinedTimes task (suc n) start t = (before : Table) × IsRefinedTimes task n start before × IsRefined task before t
+
+-- the learner's table after n refinements, where words were given that are asked before all others
+abbrev pub IsTableAfter : Task → List (List ℕ) → ℕ → Table → Type 0
+IsTableAfter task given n t = IsRefinedTimes task n (closed_by task (first_table task.letters given)) t
 
 -- What the learner comes to.
 
 -- the model is the canonical form of a table's machine, which gives its suite
-pub record LearnsPlainly (task : Task) (model : Rows) (refinements : ℕ) (batches : List (List (List ℕ))) : Type 0 where
+pub record LearnsPlainly (task : Task) (given : List (List ℕ)) (model : Rows) (refinements : ℕ) (batches : List (List (List ℕ))) : Type 0 where
   pub table : Table
-  pub after : IsTableAfter task refinements table
+  pub after : IsTableAfter task given refinements table
   pub ready : IsReady task table
   pub suite : List (List ℕ)
   pub made : IsSuiteFor task (hypothesis_of task table) model suite
@@ -126,20 +132,20 @@ pub record LearnsPlainly (task : Task) (model : Rows) (refinements : ℕ) (batch
   pub all : batches ≡ table.batches ++ asked
 
 -- an access word more than there may be states would be needed: the access words and that one
-pub record IsPlainCrowd (task : Task) (words : List (List ℕ)) (batches : List (List (List ℕ))) : Type 0 where
+pub record IsPlainCrowd (task : Task) (given words : List (List ℕ)) (batches : List (List (List ℕ))) : Type 0 where
   pub table : Table
   pub refinements : ℕ
-  pub after : IsTableAfter task refinements table
+  pub after : IsTableAfter task given refinements table
   pub word : List ℕ
   pub new : new_row_of task table ≡ Some word
   pub is : words ≡ table.access ++ word ∷ []
   pub all : batches ≡ table.batches
 
 -- the suite of the canonical form of a table's machine would be too large
-pub record IsPlainTooLarge (task : Task) (model : Rows) (number : ℕ) (batches : List (List (List ℕ))) : Type 0 where
+pub record IsPlainTooLarge (task : Task) (given : List (List ℕ)) (model : Rows) (number : ℕ) (batches : List (List (List ℕ))) : Type 0 where
   pub table : Table
   pub refinements : ℕ
-  pub after : IsTableAfter task refinements table
+  pub after : IsTableAfter task given refinements table
   pub ready : IsReady task table
   pub canonical : IsCanonical task.letters (hypothesis_of task table) model
   pub size : number ≡ suite_size (length model) task.letters task.extra

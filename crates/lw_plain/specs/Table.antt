@@ -5,7 +5,6 @@
 use Rattle.std.specs.Prelude.{ℕ, zero, suc, ◌+◌, ◌-◌, ◌/◌, Bool, not, cond, bytes_eq, nat_lt, List, [], ◌∷◌, ◌++◌, map, drop, Option, option_map, unwrap_or}
 use Rattle.std.specs.List.{find, flat_map, list_all, list_any, position_or_len, range_with_len}
 use Rattle.lw_mealy.specs.Machine.{Rows, after, out, output, answer}
-use Rattle.lw_chunks.specs.Middle.{each_with}
 use Rattle.lw_cex.specs.Probe.{probe}
 
 -- the access words, the suffixes, and the batches of words that were asked. The cell of each row and each suffix is filled: its word is
@@ -23,9 +22,12 @@ extensions a u = map (λ x. u ++ x ∷ []) (range_with_len 0 a)
 abbrev pub row_words : ℕ → List (List ℕ) → List (List ℕ)
 row_words a access = [] ∷ flat_map (extensions a) access
 
--- the words of the cells of some rows and suffixes, row by row
+-- the words of the cells of a row, and of some rows, row by row
+abbrev pub row_cells : List (List ℕ) → List ℕ → List (List ℕ)
+row_cells suffixes r = map (λ e. r ++ e) suffixes
+
 abbrev pub cell_words : List (List ℕ) → List (List ℕ) → List (List ℕ)
-cell_words rows suffixes = each_with (λ r e. r ++ e) rows suffixes
+cell_words rows suffixes = flat_map (row_cells suffixes) rows
 
 -- the cell of a row and a suffix: the outputs on the suffix behind the row's word
 abbrev pub cell_of : Rows → List ℕ → List ℕ → List ℕ
@@ -89,9 +91,12 @@ close a m (suc n) t = unwrap_or (option_map (λ r. close a m n (with_access a t 
 abbrev pub state_of : Rows → Table → List ℕ → ℕ
 state_of m t r = position_or_len (has_same_row m t.suffixes r) t.access
 
--- what the state of an access word does at each letter
+-- what the state of an access word does at a letter, and at each
+abbrev pub transition_of : Rows → Table → List ℕ → ℕ → ℕ × ℕ
+transition_of m t u x = (state_of m t (u ++ x ∷ []), output m (after m 0 u) x)
+
 abbrev pub transitions_of : ℕ → Rows → Table → List ℕ → List (ℕ × ℕ)
-transitions_of a m t u = map (λ x. (state_of m t (u ++ x ∷ []), output m (after m 0 u) x)) (range_with_len 0 a)
+transitions_of a m t u = map (transition_of m t u) (range_with_len 0 a)
 
 -- the machine of a closed table: a state for each access word
 abbrev pub machine_of : ℕ → Rows → Table → Rows
@@ -127,11 +132,15 @@ search_cut agrees (suc n) s = cond (nat_lt 1 (s.high - s.low)) (search_cut agree
 abbrev pub agrees_on : Rows → Rows → List ℕ → Bool
 agrees_on m h w = bytes_eq (answer h w) (answer m w)
 
+-- the same on the probe of a word at a place
+abbrev pub agrees_at : Rows → Rows → List (List ℕ) → List ℕ → ℕ → Bool
+agrees_at m h access w i = agrees_on m h (probe h access w i)
+
 -- the search over the probes of a word of n letters
 abbrev pub search_word : Rows → Rows → List (List ℕ) → ℕ → List ℕ → Search
 search_word m h access n w =
     let whole : Search = record { low = 0; high = n; tried = [] } in
-    search_cut (λ i. agrees_on m h (probe h access w i)) n whole
+    search_cut (agrees_at m h access w) n whole
 
 -- the batch of a probe
 abbrev pub probe_batch : Rows → List (List ℕ) → List ℕ → ℕ → List (List ℕ)

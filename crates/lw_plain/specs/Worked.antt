@@ -5,7 +5,7 @@ use Rattle.lw_plain.specs.Table.{Table, first_table, search_word}
 use Rattle.lw_plain.specs.Rounds.{Task, closed_by, hypothesis_of, new_row_of, refined_by}
 
 abbrev pub counter_task : Task
-counter_task = record { letters = 1; machine = counter_of_three; extra = 2; most = 1024; given = [] }
+counter_task = record { letters = 1; machine = counter_of_three; extra = 2; most = 1024 }
 
 -- the first table, which is closed at once
 abbrev pub counter_table : Table
@@ -29,7 +29,7 @@ counter_refined = record {
 }
 
 abbrev pub ring_task : Task
-ring_task = record { letters = 1; machine = ring; extra = 1; most = 2; given = [] }
+ring_task = record { letters = 1; machine = ring; extra = 1; most = 2 }
 
 pub record AsWorked : Type 0 where
   pub first : closed_by counter_task (first_table 1 []) ≡ counter_table

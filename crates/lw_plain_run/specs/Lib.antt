@@ -1,0 +1,4 @@
+pub mod Tables
+pub mod Differences
+pub mod Rounds
+pub mod Run
