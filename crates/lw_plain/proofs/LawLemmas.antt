@@ -2,35 +2,35 @@
 use Rattle.std.proofs.Common.{◌≡◌, ℕ, zero, suc, ◌+◌, ◌-◌, ◌<◌, ◌≤◌, Bool, true, false, cond, List, [], ◌∷◌, ◌++◌, length, Option, Some, None, option_map, unwrap_or, nat_lt, refl, ap, sym, subst, arith, length-append}
 use Rattle.std.proofs.lemmas.Bool.Decides.{nat_tests}
 use Rattle.lw_mealy.specs.Machine.{Rows}
-use Rattle.lw_plain.specs.Table.{Table, Search, first_new, close, with_access, search_cut, halved, middle_of}
+use Rattle.lw_plain.specs.Table.{PlainTable, Search, first_new, close, with_access_word, search_cut, halved, middle_of}
 use Rattle.lw_plain.specs.Laws.{IsBetween, CrowdIsFull, SearchFinds}
 
-pub close_done : (a : ℕ) (m : Rows) (n : ℕ) (t : Table) → first_new a m t ≡ None → close a m n t ≡ t
+pub close_done : (a : ℕ) (m : Rows) (n : ℕ) (t : PlainTable) → first_new a m t ≡ None → close a m n t ≡ t
 close_done a m zero t is = refl
-close_done a m (suc n) t is = ap (λ (o : Option (List ℕ)). unwrap_or (option_map (λ r. close a m n (with_access a t r)) o) t) is
+close_done a m (suc n) t is = ap (λ (o : Option (List ℕ)). unwrap_or (option_map (λ r. close a m n (with_access_word a t r)) o) t) is
 
-pub close_more : (a : ℕ) (m : Rows) (n : ℕ) (t : Table) (r : List ℕ) → first_new a m t ≡ Some r → close a m (suc n) t ≡ close a m n (with_access a t r)
-close_more a m n t r is = ap (λ (o : Option (List ℕ)). unwrap_or (option_map (λ r. close a m n (with_access a t r)) o) t) is
+pub close_more : (a : ℕ) (m : Rows) (n : ℕ) (t : PlainTable) (r : List ℕ) → first_new a m t ≡ Some r → close a m (suc n) t ≡ close a m n (with_access_word a t r)
+close_more a m n t r is = ap (λ (o : Option (List ℕ)). unwrap_or (option_map (λ r. close a m n (with_access_word a t r)) o) t) is
 
-Full : ℕ → Rows → ℕ → Table → List ℕ → Type 0
+Full : ℕ → Rows → ℕ → PlainTable → List ℕ → Type 0
 Full a m n t r = first_new a m (close a m n t) ≡ Some r → length (close a m n t).access ≡ length t.access + n
 
-full_by : (a : ℕ) (m : Rows) (n : ℕ) (t : Table) (r : List ℕ) (found : Option (List ℕ)) → first_new a m t ≡ found
-    → ((s : List ℕ) → first_new a m (close a m n (with_access a t s)) ≡ Some r → length (close a m n (with_access a t s)).access ≡ length (with_access a t s).access + n)
+full_by : (a : ℕ) (m : Rows) (n : ℕ) (t : PlainTable) (r : List ℕ) (found : Option (List ℕ)) → first_new a m t ≡ found
+    → ((s : List ℕ) → first_new a m (close a m n (with_access_word a t s)) ≡ Some r → length (close a m n (with_access_word a t s)).access ≡ length (with_access_word a t s).access + n)
     → first_new a m (close a m (suc n) t) ≡ Some r → length (close a m (suc n) t).access ≡ length t.access + suc n
 full_by a m n t r None is less new =
     let same = close_done a m (suc n) t is in
-    let here : first_new a m t ≡ Some r = subst (λ (now : Table). first_new a m now ≡ Some r) same new in
+    let here : first_new a m t ≡ Some r = subst (λ (now : PlainTable). first_new a m now ≡ Some r) same new in
     cc
 full_by a m n t r (Some s) is less new =
     let same = close_more a m n t s is in
-    let here = less s (subst (λ (now : Table). first_new a m now ≡ Some r) same new) in
-    let long : length (close a m (suc n) t).access ≡ length (close a m n (with_access a t s)).access = ap (λ (now : Table). length now.access) same in
+    let here = less s (subst (λ (now : PlainTable). first_new a m now ≡ Some r) same new) in
+    let long : length (close a m (suc n) t).access ≡ length (close a m n (with_access_word a t s)).access = ap (λ (now : PlainTable). length now.access) same in
     omega (arith, here, long, length-append t.access (s ∷ []))
 
 pub crowd_is_full : CrowdIsFull
 crowd_is_full a m zero t r new = omega arith
-crowd_is_full a m (suc n) t r new = full_by a m n t r (first_new a m t) refl (λ s. crowd_is_full a m n (with_access a t s) r) new
+crowd_is_full a m (suc n) t r new = full_by a m n t r (first_new a m t) refl (λ s. crowd_is_full a m n (with_access_word a t s) r) new
 
 -- the search, one step at a time
 pub search_done : (agrees : ℕ → Bool) (n : ℕ) (s : Search) → s.high ≤ s.low + 1 → search_cut agrees n s ≡ s

@@ -1,11 +1,11 @@
 -- What is so of each learner by its definition.
 use Rattle.std.specs.Prelude.{◌≡◌, ℕ, ◌+◌, ◌<◌, ◌≤◌, Bool, true, false, List, length, Some}
 use Rattle.lw_mealy.specs.Machine.{Rows}
-use Rattle.lw_plain.specs.Table.{Table, Search, first_new, close, search_cut}
+use Rattle.lw_plain.specs.Table.{PlainTable, Search, first_new, close, search_cut}
 
 -- where a row is new in a table that was closed, all access words that were allowed were added
 abbrev pub CrowdIsFull : Type 0
-CrowdIsFull = (a : ℕ) (m : Rows) (n : ℕ) (t : Table) (r : List ℕ) → first_new a m (close a m n t) ≡ Some r
+CrowdIsFull = (a : ℕ) (m : Rows) (n : ℕ) (t : PlainTable) (r : List ℕ) → first_new a m (close a m n t) ≡ Some r
     → length (close a m n t).access ≡ length t.access + n
 
 -- two places, of which machines agree on the upper alone

@@ -9,7 +9,7 @@ use Rattle.lw_cex.specs.Probe.{probe}
 
 -- the access words, the suffixes, and the batches of words that were asked. The cell of each row and each suffix is filled: its word is
 -- in a batch.
-pub record Table : Type 0 where
+pub record PlainTable : Type 0 where
   pub access : List (List ℕ)
   pub suffixes : List (List ℕ)
   pub batches : List (List (List ℕ))
@@ -30,33 +30,33 @@ abbrev pub cell_words : List (List ℕ) → List (List ℕ) → List (List ℕ)
 cell_words rows suffixes = flat_map (row_cells suffixes) rows
 
 -- the cell of a row and a suffix: the outputs on the suffix behind the row's word
-abbrev pub cell_of : Rows → List ℕ → List ℕ → List ℕ
-cell_of m r e = out m (after m 0 r) e
+abbrev pub outputs_behind : Rows → List ℕ → List ℕ → List ℕ
+outputs_behind m r e = out m (after m 0 r) e
 
 abbrev pub has_same_cell : Rows → List ℕ → List ℕ → List ℕ → Bool
-has_same_cell m u v e = bytes_eq (cell_of m u e) (cell_of m v e)
+has_same_cell m u v e = bytes_eq (outputs_behind m u e) (outputs_behind m v e)
 
 abbrev pub has_same_row : Rows → List (List ℕ) → List ℕ → List ℕ → Bool
 has_same_row m suffixes u v = list_all (has_same_cell m u v) suffixes
 
 -- no access word has the row of this word
-abbrev pub is_new : Rows → Table → List ℕ → Bool
+abbrev pub is_new : Rows → PlainTable → List ℕ → Bool
 is_new m t r = not (list_any (has_same_row m t.suffixes r) t.access)
 
 -- the first row that is new; there is none in a closed table
-abbrev pub first_new : ℕ → Rows → Table → Option (List ℕ)
+abbrev pub first_new : ℕ → Rows → PlainTable → Option (List ℕ)
 first_new a m t = find (is_new m t) (row_words a t.access)
 
 -- an access word more: the cells of its extensions are asked
-abbrev pub with_access : ℕ → Table → List ℕ → Table
-with_access a t r = record {
+abbrev pub with_access_word : ℕ → PlainTable → List ℕ → PlainTable
+with_access_word a t r = record {
   access = t.access ++ r ∷ [];
   suffixes = t.suffixes;
   batches = t.batches ++ cell_words (extensions a r) t.suffixes ∷ [];
 }
 
 -- a suffix more: its cell in each row is asked
-abbrev pub with_suffix : ℕ → Table → List ℕ → Table
+abbrev pub with_suffix : ℕ → PlainTable → List ℕ → PlainTable
 with_suffix a t e = record {
   access = t.access;
   suffixes = t.suffixes ++ e ∷ [];
@@ -64,7 +64,7 @@ with_suffix a t e = record {
 }
 
 -- more batches, and nothing else
-abbrev pub with_batches : Table → List (List (List ℕ)) → Table
+abbrev pub with_batches : PlainTable → List (List (List ℕ)) → PlainTable
 with_batches t more = record { access = t.access; suffixes = t.suffixes; batches = t.batches ++ more }
 
 -- a batch, unless it is empty
@@ -73,7 +73,7 @@ unless_empty [] = []
 unless_empty (w ∷ ws) = (w ∷ ws) ∷ []
 
 -- the table of the empty word, with the letters for suffixes; words that are given are asked first
-abbrev pub first_table : ℕ → List (List ℕ) → Table
+abbrev pub first_table : ℕ → List (List ℕ) → PlainTable
 first_table a given =
     let letters : List (List ℕ) = extensions a [] in
     record {
@@ -83,23 +83,23 @@ first_table a given =
     }
 
 -- the table is closed: the first row that is new becomes an access word, as often as there is one, but no more than n times
-abbrev pub close : ℕ → Rows → ℕ → Table → Table
+abbrev pub close : ℕ → Rows → ℕ → PlainTable → PlainTable
 close a m zero t = t
-close a m (suc n) t = unwrap_or (option_map (λ r. close a m n (with_access a t r)) (first_new a m t)) t
+close a m (suc n) t = unwrap_or (option_map (λ r. close a m n (with_access_word a t r)) (first_new a m t)) t
 
 -- the state of a row: the number of the access word that has it
-abbrev pub state_of : Rows → Table → List ℕ → ℕ
-state_of m t r = position_or_len (has_same_row m t.suffixes r) t.access
+abbrev pub row_state : Rows → PlainTable → List ℕ → ℕ
+row_state m t r = position_or_len (has_same_row m t.suffixes r) t.access
 
 -- what the state of an access word does at a letter, and at each
-abbrev pub transition_of : Rows → Table → List ℕ → ℕ → ℕ × ℕ
-transition_of m t u x = (state_of m t (u ++ x ∷ []), output m (after m 0 u) x)
+abbrev pub transition_of : Rows → PlainTable → List ℕ → ℕ → ℕ × ℕ
+transition_of m t u x = (row_state m t (u ++ x ∷ []), output m (after m 0 u) x)
 
-abbrev pub transitions_of : ℕ → Rows → Table → List ℕ → List (ℕ × ℕ)
+abbrev pub transitions_of : ℕ → Rows → PlainTable → List ℕ → List (ℕ × ℕ)
 transitions_of a m t u = map (transition_of m t u) (range_with_len 0 a)
 
 -- the machine of a closed table: a state for each access word
-abbrev pub machine_of : ℕ → Rows → Table → Rows
+abbrev pub machine_of : ℕ → Rows → PlainTable → Rows
 machine_of a m t = map (transitions_of a m t) t.access
 
 -- Where a counterexample is cut. Source: the binary search of Rivest and Schapire (1993).
@@ -147,5 +147,5 @@ abbrev pub probe_batch : Rows → List (List ℕ) → List ℕ → ℕ → List 
 probe_batch h access w i = probe h access w i ∷ []
 
 -- the table once a search is done: each probe was asked, then what is behind the cut becomes a suffix
-abbrev pub split_by : ℕ → Rows → Table → List ℕ → Search → Table
+abbrev pub split_by : ℕ → Rows → PlainTable → List ℕ → Search → PlainTable
 split_by a h t w s = with_suffix a (with_batches t (map (probe_batch h t.access w) s.tried)) (drop (s.low + 1) w)

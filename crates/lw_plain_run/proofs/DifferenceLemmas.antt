@@ -12,7 +12,7 @@ use Rattle.lw_separate.specs.Canonical.{LeastWord}
 use Rattle.lw_separate.specs.bodies.Search.{AtMost}
 use Rattle.lw_separate.proofs.Before.{at_most_trans, of_cases, at_most_not_behind, not_behind_at_most}
 use Rattle.lw_plain.specs.Rounds.{AgreesOn, IsShortest, Reveals}
-use Rattle.lw_plain_run.specs.Differences.{IsLesser, IsLeast}
+use Rattle.lw_plain_run.specs.bodies.Differences.{IsLesser, IsLeast}
 
 -- a front of a word is its first letters
 front_is : (w v : List ℕ) → IsPrefix w v → w ≡ take (length w) v

@@ -8,8 +8,8 @@ use Rattle.lw_words.specs.Word.{IsWord}
 use Rattle.lw_mealy.specs.Machine.{Row, Rows, IsWithinLimits, mealy_of, after}
 use Rattle.lw_mealy.proofs.RowLemmas.{output_below}
 use Rattle.lw_mealy.proofs.WordLemmas.{after_below}
-use Rattle.lw_plain.specs.Table.{Table, extensions, row_words, has_same_row, is_new, first_new, state_of, transition_of, transitions_of, machine_of}
-use Rattle.lw_plain_run.specs.Tables.{IsOver}
+use Rattle.lw_plain.specs.Table.{PlainTable, extensions, row_words, has_same_row, is_new, first_new, row_state, transition_of, transitions_of, machine_of}
+use Rattle.lw_plain_run.specs.bodies.Tables.{IsOver}
 use Rattle.lw_plain_run.proofs.TableLemmas.{letters_below}
 
 -- nothing is found where nothing passes
@@ -58,10 +58,10 @@ record IsRowWithin (a b n : ℕ) (r : Row) : Type 0 where
   targets : All (λ c. c.0 < n) r
   outputs : All (λ c. c.1 < b) r
 
-target_within : (a : ℕ) (m : Rows) (t : Table) (r : List ℕ) → is_new m t r ≡ false → state_of m t r < length t.access
+target_within : (a : ℕ) (m : Rows) (t : PlainTable) (r : List ℕ) → is_new m t r ≡ false → row_state m t r < length t.access
 target_within a m t r old = first_within (has_same_row m t.suffixes r) t.access (not_false (list_any (has_same_row m t.suffixes r) t.access) old)
 
-module _ (a b : ℕ) (m : Rows) (limits : IsWithinLimits (mealy_of a b m)) (t : Table) where
+module _ (a b : ℕ) (m : Rows) (limits : IsWithinLimits (mealy_of a b m)) (t : PlainTable) where
   row_within : (u : List ℕ) → IsWord a u → All (λ r. is_new m t r ≡ false) (extensions a u) → IsRowWithin a b (length t.access) (transitions_of a m t u)
   row_within u word old =
       let letters = letters_below a in

@@ -8,19 +8,19 @@ use Rattle.std.proofs.lemmas.List.FromFn.{map-range_with_len_more}
 use Rattle.std.proofs.Math.Seq.{take-add}
 use Rattle.lw_words.specs.First.{FailsFirst}
 use Rattle.lw_mealy.specs.Machine.{Rows}
-use Rattle.lw_plain.specs.Table.{Table, with_batches}
+use Rattle.lw_plain.specs.Table.{PlainTable, with_batches}
 use Rattle.lw_plain.specs.Rounds.{AgreesOn, IsShortest, chunk_at, first_chunks}
-use Rattle.lw_plain_run.specs.Differences.{FailsAt}
-use Rattle.lw_plain_run.specs.Rounds.{TestsWords, HasTested}
+use Rattle.lw_plain_run.specs.bodies.Differences.{FailsAt}
+use Rattle.lw_plain_run.specs.bodies.Rounds.{TestsWords, HasTested}
 
-pub with_none : (t : Table) → t ≡ with_batches t []
+pub with_none : (t : PlainTable) → t ≡ with_batches t []
 with_none t = ap (λ (bs : List (List (List ℕ))). record t { batches = bs }) (sym (append-nil t.batches))
 
-with_both : (t : Table) (xs ys : List (List (List ℕ))) → with_batches (with_batches t xs) ys ≡ with_batches t (xs ++ ys)
+with_both : (t : PlainTable) (xs ys : List (List (List ℕ))) → with_batches (with_batches t xs) ys ≡ with_batches t (xs ++ ys)
 with_both t xs ys = ap (λ (bs : List (List (List ℕ))). record t { batches = bs }) (append_assoc t.batches xs ys)
 
 module _ (m h : Rows) (words : List (List ℕ)) where
-  pub tested_none : (t : Table) → HasTested m h words words t t
+  pub tested_none : (t : PlainTable) → HasTested m h words words t t
   tested_none t = record {
     number = 0;
     rest = refl;
@@ -41,15 +41,15 @@ module _ (m h : Rows) (words : List (List ℕ)) where
   chunks_more n = map-range_with_len_more (chunk_at words) 0 n n (omega arith)
 
   -- a chunk more
-  asked_on : (n : ℕ) (left chunk : List (List ℕ)) (before now next : Table) → left ≡ drop (512 * n) words → chunk ≡ take 512 left → now ≡ with_batches before (first_chunks words n)
+  asked_on : (n : ℕ) (left chunk : List (List ℕ)) (before now next : PlainTable) → left ≡ drop (512 * n) words → chunk ≡ take 512 left → now ≡ with_batches before (first_chunks words n)
       → next ≡ with_batches now (chunk ∷ []) → next ≡ with_batches before (first_chunks words (n + 1))
   asked_on n left chunk before now next rest part is more =
       let chunk_is : chunk ≡ chunk_at words n = part ∙ ap (λ (l : List (List ℕ)). take 512 l) rest in
-      more ∙ (ap (λ (t : Table). with_batches t (chunk ∷ [])) is
+      more ∙ (ap (λ (t : PlainTable). with_batches t (chunk ∷ [])) is
       ∙ (with_both before (first_chunks words n) (chunk ∷ [])
       ∙ ap (λ (bs : List (List (List ℕ))). with_batches before bs) (ap (λ (c : List (List ℕ)). first_chunks words n ++ c ∷ []) chunk_is ∙ sym (chunks_more n))))
 
-  pub tested_more : (left chunk rest : List (List ℕ)) (before now next : Table) → HasTested m h words left before now → left ≢ [] → chunk ≡ take 512 left → rest ≡ drop 512 left
+  pub tested_more : (left chunk rest : List (List ℕ)) (before now next : PlainTable) → HasTested m h words left before now → left ≢ [] → chunk ≡ take 512 left → rest ≡ drop 512 left
       → All (AgreesOn m h) chunk → next ≡ with_batches now (chunk ∷ []) → HasTested m h words rest before next
   tested_more left chunk rest before now next tested some part after agrees more =
       let n = tested.number in
@@ -68,7 +68,7 @@ module _ (m h : Rows) (words : List (List ℕ)) where
         is = asked_on n left chunk before now next tested.rest part tested.is more;
       }
 
-  pub tested_all : (left : List (List ℕ)) (before now : Table) → HasTested m h words left before now → left ≡ [] → TestsWords m h words before now None
+  pub tested_all : (left : List (List ℕ)) (before now : PlainTable) → HasTested m h words left before now → left ≡ [] → TestsWords m h words before now None
   tested_all left before now tested none =
       let n = tested.number in
       let size : length words - 512 * n ≡ 0 = sym (length-drop (512 * n) words) ∙ ap (λ (l : List (List ℕ)). length l) (sym tested.rest ∙ none) in
@@ -108,7 +108,7 @@ module _ (m h : Rows) (words : List (List ℕ)) where
             (cases_lt j (512 * n));
       }
 
-  pub tested_fails : (left chunk : List (List ℕ)) (word : List ℕ) (before now next : Table) → HasTested m h words left before now → chunk ≡ take 512 left → next ≡ with_batches now (chunk ∷ [])
+  pub tested_fails : (left chunk : List (List ℕ)) (word : List ℕ) (before now next : PlainTable) → HasTested m h words left before now → chunk ≡ take 512 left → next ≡ with_batches now (chunk ∷ [])
       → FailsAt m h chunk word → TestsWords m h words before next (Some word)
   tested_fails left chunk word before now next tested part more fails =
       let n = tested.number in

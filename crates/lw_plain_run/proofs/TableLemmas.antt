@@ -9,10 +9,10 @@ use Rattle.std.proofs.lemmas.List.{flat_map_more}
 use Rattle.lw_mealy.specs.Machine.{Rows, after}
 use Rattle.lw_cache.specs.Cut.{word_at}
 use Rattle.lw_cex.specs.Probe.{probe}
-use Rattle.lw_plain.specs.Table.{Table, Search, extensions, row_words, row_cells, cell_words, is_new, first_new, first_table, unless_empty, close, with_access, with_suffix, with_batches, probe_batch, split_by}
+use Rattle.lw_plain.specs.Table.{PlainTable, Search, extensions, row_words, row_cells, cell_words, is_new, first_new, first_table, unless_empty, close, with_access_word, with_suffix, with_batches, probe_batch, split_by}
 use Rattle.lw_plain.specs.Rounds.{asked_words}
 use Rattle.lw_plain.proofs.LawLemmas.{close_more}
-use Rattle.lw_plain_run.specs.Tables.{IsOver}
+use Rattle.lw_plain_run.specs.bodies.Tables.{IsOver}
 
 pub letters_below : (a : ℕ) → All (λ x. x < a) (range_with_len 0 a)
 letters_below a = All-from_get_or (λ x. x < a) (range_with_len 0 a) 0 (λ i lt.
@@ -46,7 +46,7 @@ pub found_has : {X : Type 0} (P : X → Type 0) (p : X → Bool) (xs : List X) (
 found_has P p [] w all found = absurd (let e : None ≡ Some w = found in cc)
 found_has P p (x ∷ xs) w all found = found_by P p x w xs (p x) refl (All-head P x xs all) (found_has P p xs w (All-tail P x xs all)) found
 
-pub new_is_word : (a : ℕ) (m : Rows) (t : Table) (w : List ℕ) → IsOver a t → first_new a m t ≡ Some w → IsWord a w
+pub new_is_word : (a : ℕ) (m : Rows) (t : PlainTable) (w : List ℕ) → IsOver a t → first_new a m t ≡ Some w → IsWord a w
 new_is_word a m t w over found = found_has (IsWord a) (is_new m t) (row_words a t.access) w (rows_are_words a t.access over.words) found
 
 -- the words of the batches
@@ -73,7 +73,7 @@ asked_more : (a : ℕ) (before more : List (List (List ℕ))) → Words a (asked
 asked_more a before more all each =
     subst (Words a) (sym (flat_map-append (λ (b : List (List ℕ)). b) before more)) (All-append (IsWord a) (asked_words before) (asked_words more) all (asked_batches a more each))
 
-pub over_access : (a : ℕ) (t : Table) (w : List ℕ) → IsOver a t → IsWord a w → IsOver a (with_access a t w)
+pub over_access : (a : ℕ) (t : PlainTable) (w : List ℕ) → IsOver a t → IsWord a w → IsOver a (with_access_word a t w)
 over_access a t w over word = record {
   some = let long = over.some in omega (arith, length-append t.access (w ∷ []));
   words = All-push (IsWord a) t.access w over.words word;
@@ -81,7 +81,7 @@ over_access a t w over word = record {
   asked = asked_push a t.batches (cell_words (extensions a w) t.suffixes) over.asked (cells_are_words a (extensions a w) t.suffixes (extensions_are_words a w word) over.suffixes);
 }
 
-pub over_suffix : (a : ℕ) (t : Table) (e : List ℕ) → IsOver a t → IsWord a e → IsOver a (with_suffix a t e)
+pub over_suffix : (a : ℕ) (t : PlainTable) (e : List ℕ) → IsOver a t → IsWord a e → IsOver a (with_suffix a t e)
 over_suffix a t e over word = record {
   some = over.some;
   words = over.words;
@@ -90,7 +90,7 @@ over_suffix a t e over word = record {
       (cells_are_words a (row_words a t.access) (e ∷ []) (rows_are_words a t.access over.words) (All-cons (IsWord a) e [] word (All-nil (IsWord a))));
 }
 
-pub over_batches : (a : ℕ) (t : Table) (more : List (List (List ℕ))) → IsOver a t → All (Words a) more → IsOver a (with_batches t more)
+pub over_batches : (a : ℕ) (t : PlainTable) (more : List (List (List ℕ))) → IsOver a t → All (Words a) more → IsOver a (with_batches t more)
 over_batches a t more over each = record {
   some = over.some;
   words = over.words;
@@ -126,15 +126,15 @@ probe_is_word a h access w i words word =
     All-append (λ x. x < a) (word_at access (after h 0 (take i w))) (drop i w) (word_at_word a access (after h 0 (take i w)) words) (All-drop (λ x. x < a) i w word)
 
 -- a table once it is split by a word
-pub over_split : (a : ℕ) (h : Rows) (t : Table) (w : List ℕ) (s : Search) → IsOver a t → IsWord a w → IsOver a (split_by a h t w s)
+pub over_split : (a : ℕ) (h : Rows) (t : PlainTable) (w : List ℕ) (s : Search) → IsOver a t → IsWord a w → IsOver a (split_by a h t w s)
 over_split a h t w s over word =
     let batch : (i : ℕ) → Words a (probe_batch h t.access w i) = λ i. All-cons (IsWord a) (probe h t.access w i) [] (probe_is_word a h t.access w i over.words word) (All-nil (IsWord a)) in
     let probes : List (List (List ℕ)) = map (probe_batch h t.access w) s.tried in
     over_suffix a (with_batches t probes) (drop (s.low + 1) w) (over_batches a t probes over (All-map (Words a) (probe_batch h t.access w) s.tried (λ k d lt. batch (get_or s.tried k d)))) (All-drop (λ x. x < a) (s.low + 1) w word)
 
 -- one access word more
-pub closing_on : (a : ℕ) (m : Rows) (most count : ℕ) (whole t : Table) (w : List ℕ) → count < most → first_new a m t ≡ Some w → close a m (most - count) t ≡ whole
-    → close a m (most - (count + 1)) (with_access a t w) ≡ whole
+pub closing_on : (a : ℕ) (m : Rows) (most count : ℕ) (whole t : PlainTable) (w : List ℕ) → count < most → first_new a m t ≡ Some w → close a m (most - count) t ≡ whole
+    → close a m (most - (count + 1)) (with_access_word a t w) ≡ whole
 closing_on a m most count whole t w lt new is =
     let more : most - count ≡ suc (most - (count + 1)) = omega arith in
     sym (close_more a m (most - (count + 1)) t w new) ∙ (ap (λ (n : ℕ). close a m n t) (sym more) ∙ is)

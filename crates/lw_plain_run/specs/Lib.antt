@@ -1,4 +1,2 @@
-pub mod Tables
-pub mod Differences
-pub mod Rounds
 pub mod Run
+pub mod bodies

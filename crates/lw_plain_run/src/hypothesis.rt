@@ -1,8 +1,8 @@
 //! The machine of a closed table.
 ghost use Rattle.std.specs.Prelude.{◌≡◌, ℕ, ◌<◌, ◌≤◌, List, length, None, IfOk, OnOk, map};
 ghost use Rattle.lw_words.specs.Word.{IsWord};
-ghost use Rattle.lw_plain.specs.Table.{state_of, transition_of, transitions_of, machine_of, first_new};
-ghost use Rattle.lw_plain_run.specs.Tables.{IsOver};
+ghost use Rattle.lw_plain.specs.Table.{row_state, transition_of, transitions_of, machine_of, first_new};
+ghost use Rattle.lw_plain_run.specs.bodies.Tables.{IsOver};
 
 use crate::rows::have_same_row;
 use crate::table::Table;
@@ -14,7 +14,7 @@ use std::alloc::Global;
 fn state_of(m: &Mealy, table: &Table, word: &Word) -> usize
     requires over { IsOver m.now.inputs table.now }
     requires letters { IsWord m.now.inputs word.now }
-    ensures { result ≡ state_of m.now.rows table.now word.now }
+    ensures { result ≡ row_state m.now.rows table.now word.now }
 {
     for (state, access) in table.access().as_slice().iter().enumerate() {
         if have_same_row(m, table.suffixes(), word, access) {

@@ -4,9 +4,9 @@ ghost use Rattle.std.specs.List.{All};
 ghost use Rattle.lw_words.specs.Word.{IsWord};
 ghost use Rattle.lw_plain.specs.Table.{first_table};
 ghost use Rattle.lw_plain.specs.Rounds.{closed_by};
-ghost use Rattle.lw_plain_run.specs.Rounds.{task_of, IsEnded};
-ghost use Rattle.lw_plain_run.specs.Run.{IsPlainRun, run_of};
-ghost use Rattle.lw_plain_run.specs.Tables.{IsOver};
+ghost use Rattle.lw_plain_run.specs.Run.{task_of, IsPlainRun};
+ghost use Rattle.lw_plain_run.specs.bodies.Rounds.{IsEnded, told_run};
+ghost use Rattle.lw_plain_run.specs.bodies.Tables.{IsOver};
 
 use crate::PlainRun;
 use crate::rounds::{Round, one_round};
@@ -55,7 +55,7 @@ fn rounds(
 
 /// What is told of a table and how its rounds ended.
 fn told(table: Table, ended: Ended) -> Result<PlainRun, NoMemory>
-    ensures { IfOk result (λ run. run ≡ run_of table ended) }
+    ensures { IfOk result (λ run. run ≡ told_run table ended) }
 {
     let (mut words, batches) = table.into_parts();
     match ended {

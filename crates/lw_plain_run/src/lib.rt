@@ -11,6 +11,8 @@ mod rows;
 mod run;
 mod suite;
 mod table;
+#[cfg(test)]
+mod tests;
 
 pub use batches::Batches;
 pub use learning::plain;

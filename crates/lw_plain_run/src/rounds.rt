@@ -7,9 +7,10 @@ ghost use Rattle.lw_separate.specs.Canonical.{IsCanonical};
 ghost use Rattle.lw_chunks.specs.Size.{suite_size, greatest_suite};
 ghost use Rattle.lw_chunks.specs.declared.size.SuiteFault.{SuiteFault as Fault};
 ghost use Rattle.lw_plain.specs.Table.{first_new, close, machine_of, search_word, split_by};
-ghost use Rattle.lw_plain.specs.Rounds.{IsReady, IsSuiteFor};
-ghost use Rattle.lw_plain_run.specs.Rounds.{task_of, IsAlike, IsRound};
-ghost use Rattle.lw_plain_run.specs.Tables.{IsOver};
+ghost use Rattle.lw_plain.specs.Rounds.{IsUnrefuted, IsSuiteFor};
+ghost use Rattle.lw_plain_run.specs.Run.{task_of, IsAlike};
+ghost use Rattle.lw_plain_run.specs.bodies.Rounds.{IsRound};
+ghost use Rattle.lw_plain_run.specs.bodies.Tables.{IsOver};
 
 use crate::cut::split;
 use crate::difference::least_revealed;
@@ -87,7 +88,7 @@ fn test(
     requires few { length table.old.access ≤ most }
     requires rows { h.now.rows ≡ machine_of m.now.inputs m.now.rows table.old }
     requires same_letters { h.now.inputs ≡ m.now.inputs }
-    requires ready { IsReady (task_of m.now extra most) table.old }
+    requires ready { IsUnrefuted (task_of m.now extra most) table.old }
     requires made { IsSuiteFor (task_of m.now extra most) h.now.rows model.rows suite.old }
     requires alike { IsAlike m.now model }
     ensures round { IfOk result (IsRound (task_of m.now extra most) m.now table.old table.new) }

@@ -2,8 +2,8 @@
 ghost use Rattle.std.specs.Prelude.{◌≡◌, ℕ, ◌-◌, ◌<◌, ◌≤◌, List, [], ◌∷◌, ◌++◌, length, IfOk, OnOk};
 ghost use Rattle.std.specs.List.{All};
 ghost use Rattle.lw_words.specs.Word.{IsWord};
-ghost use Rattle.lw_plain.specs.Table.{first_table, with_access, with_suffix, unless_empty, is_new, first_new, close};
-ghost use Rattle.lw_plain_run.specs.Tables.{IsOver};
+ghost use Rattle.lw_plain.specs.Table.{first_table, with_access_word, with_suffix, unless_empty, is_new, first_new, close};
+ghost use Rattle.lw_plain_run.specs.bodies.Tables.{IsOver};
 
 use crate::batches::Batches;
 use crate::rows::{cell_words, extensions, have_same_row, row_words};
@@ -21,7 +21,7 @@ pub struct Table {
 }
 
 impl Model for Table {
-    ghost use Rattle.lw_plain.specs.Table.{Table as PlainTable};
+    ghost use Rattle.lw_plain.specs.Table.{PlainTable};
 
     ghost Value = { PlainTable };
 
@@ -119,7 +119,7 @@ impl Table {
 
     /// An access word more.
     fn add_access(&mut self, alloc: Global, inputs: u16, word: Word) -> Result<(), NoMemory>
-        ensures { OnOk result (self.new ≡ with_access inputs self.old word) }
+        ensures { OnOk result (self.new ≡ with_access_word inputs self.old word) }
     {
         let rows = extensions(alloc, inputs, &word)?;
         self.batches

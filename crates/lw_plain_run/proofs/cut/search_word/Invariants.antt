@@ -1,7 +1,7 @@
 use Rattle.std.proofs.Common.{◌≡◌, ◌-◌, ◌<◌, ◌≤◌, length}
 use Rattle.std.specs.List.{All}
 use Rattle.lw_plain.specs.Table.{agrees_at, search_cut, search_word}
-use Rattle.lw_plain_run.specs.Tables.{search_of}
+use Rattle.lw_plain_run.specs.bodies.Tables.{search_of}
 use Rattle.lw_plain_run.proofs.cut.search_word.Given as goal
 
 abbrev pub invariant-loop-turn : goal.invariant-loop-turn

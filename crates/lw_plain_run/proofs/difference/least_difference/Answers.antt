@@ -1,6 +1,6 @@
 use Rattle.std.proofs.Common.{List, ℕ, take, ◌∙◌, subst}
 use Rattle.lw_plain_run.proofs.ListLemmas.{take_one_more, take_ended}
-use Rattle.lw_plain_run.specs.Differences.{IsLeast}
+use Rattle.lw_plain_run.specs.bodies.Differences.{IsLeast}
 use Rattle.lw_plain_run.proofs.difference.least_difference.Goals as goal
 
 pub loop-word-preserved : goal.loop-word-preserved

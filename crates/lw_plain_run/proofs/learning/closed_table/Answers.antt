@@ -1,6 +1,6 @@
 use Rattle.std.proofs.Common.{ℕ, sym, subst, ap, ◌∙◌}
 use Rattle.lw_plain.specs.Table.{first_table}
-use Rattle.lw_plain_run.specs.Tables.{IsOver}
+use Rattle.lw_plain_run.specs.bodies.Tables.{IsOver}
 use Rattle.lw_plain_run.proofs.TableLemmas.{over_first}
 use Rattle.lw_plain_run.proofs.learning.closed_table.Goals as goal
 

@@ -1,5 +1,5 @@
 use Rattle.lw_plain.specs.Rounds.{IsRefined}
-use Rattle.lw_plain_run.specs.Rounds.{task_of}
+use Rattle.lw_plain_run.specs.Run.{task_of}
 use Rattle.lw_plain_run.proofs.RunLemmas.{once_more}
 use Rattle.lw_plain_run.proofs.learning.rounds.Goals as goal
 

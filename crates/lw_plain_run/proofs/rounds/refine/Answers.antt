@@ -1,6 +1,6 @@
 use Rattle.std.proofs.Common.{length, sym, subst}
 use Rattle.lw_plain.specs.Table.{Search, search_word}
-use Rattle.lw_plain_run.specs.Tables.{IsOver}
+use Rattle.lw_plain_run.specs.bodies.Tables.{IsOver}
 use Rattle.lw_plain_run.proofs.TableLemmas.{over_split}
 use Rattle.lw_plain_run.proofs.rounds.refine.Goals as goal
 

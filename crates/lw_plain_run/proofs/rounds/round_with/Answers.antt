@@ -3,8 +3,9 @@ use Rattle.lw_separate.specs.Canonical.{IsCanonical}
 use Rattle.lw_chunks.specs.Size.{suite_size}
 use Rattle.lw_chunks.specs.declared.size.SuiteFault.{SuiteFault}
 use Rattle.lw_plain.specs.Rounds.{asked_words}
-use Rattle.lw_plain_run.specs.Differences.{IsLeast}
-use Rattle.lw_plain_run.specs.Rounds.{task_of, IsRound}
+use Rattle.lw_plain_run.specs.bodies.Differences.{IsLeast}
+use Rattle.lw_plain_run.specs.Run.{task_of}
+use Rattle.lw_plain_run.specs.bodies.Rounds.{IsRound}
 use Rattle.lw_plain_run.proofs.RoundLemmas.{known_refines, gives_known, large_suite, by_fault}
 use Rattle.lw_plain_run.proofs.rounds.round_with.Goals as goal
 

@@ -1,8 +1,8 @@
 use Rattle.std.proofs.Common.{length}
 use Rattle.std.specs.List.{All}
 use Rattle.lw_words.specs.Word.{IsWord}
-use Rattle.lw_plain_run.specs.Rounds.{HasTested}
-use Rattle.lw_plain_run.specs.Tables.{IsOver}
+use Rattle.lw_plain_run.specs.bodies.Rounds.{HasTested}
+use Rattle.lw_plain_run.specs.bodies.Tables.{IsOver}
 use Rattle.lw_plain_run.proofs.suite.test_suite.Given as goal
 
 abbrev pub invariant-loop-chunk : goal.invariant-loop-chunk
