@@ -1,0 +1,18 @@
+//! Laws of the definitions. Each is a function with no code, whose contract is the law.
+ghost use Rattle.lw_plain.specs.Laws.{CrowdIsFull, SearchFinds};
+ghost use Rattle.lw_plain.specs.Worked.{WorkedTables};
+
+/// Closing ends with a row that is new only where no further access word was allowed.
+pub fn crowd_is_full()
+    ensures { CrowdIsFull }
+{}
+
+/// The search for a cut tries enough places.
+pub fn search_finds_cut()
+    ensures { SearchFinds }
+{}
+
+/// What the definitions say of two small machines.
+pub fn as_worked()
+    ensures { WorkedTables }
+{}

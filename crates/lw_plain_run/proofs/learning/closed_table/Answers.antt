@@ -1,0 +1,10 @@
+use Rattle.std.proofs.Common.{ℕ, sym, subst, ap, ◌∙◌}
+use Rattle.lw_plain.specs.Table.{first_table}
+use Rattle.lw_plain_run.specs.bodies.Tables.{IsOver}
+use Rattle.lw_plain_run.proofs.TableLemmas.{over_first}
+use Rattle.lw_plain_run.proofs.learning.closed_table.Goals as goal
+
+pub close-requires-clause-over : goal.close-requires-clause-over
+close-requires-clause-over c =
+    let a = c.args.m.now.inputs in
+    subst (IsOver a) (sym (c.in_ok-table.ensures ∙ ap (λ (n : ℕ). first_table n c.args.given.now) c.inputs.ensures.value)) (over_first a c.args.given.now c.requires.given)

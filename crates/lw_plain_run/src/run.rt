@@ -1,0 +1,26 @@
+//! What the slow learner comes to.
+
+use crate::Batches;
+use lw_mealy::Mealy;
+use lw_words::Words;
+
+/// What the learner comes to, and the batches that it asked.
+#[derive(Drop)]
+pub enum PlainRun {
+    Learned {
+        model: Mealy,
+        refinements: u32,
+        batches: Batches,
+    },
+    /// An access word more than there may be states would be needed: the access words and that one.
+    Crowd {
+        words: Words,
+        batches: Batches,
+    },
+    /// The suite of the machine in hand would have this size, which is above the greatest.
+    TooLarge {
+        model: Mealy,
+        number: u64,
+        batches: Batches,
+    },
+}
