@@ -2,3 +2,4 @@ pub mod Table
 pub mod Rounds
 pub mod Laws
 pub mod Worked
+pub mod Ends

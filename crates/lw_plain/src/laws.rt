@@ -1,4 +1,5 @@
 //! Laws of the definitions. Each is a function with no code, whose contract is the law.
+ghost use Rattle.lw_plain.specs.Ends.{OnePlainEnd};
 ghost use Rattle.lw_plain.specs.Laws.{CrowdIsFull, SearchFinds};
 ghost use Rattle.lw_plain.specs.Worked.{WorkedTables};
 
@@ -10,6 +11,11 @@ pub fn crowd_is_full()
 /// The search for a cut tries enough places.
 pub fn search_finds_cut()
     ensures { SearchFinds }
+{}
+
+/// The learner comes to one end at most.
+pub fn plain_end_is_unique()
+    ensures { OnePlainEnd }
 {}
 
 /// What the definitions say of two small machines.

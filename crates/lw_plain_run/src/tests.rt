@@ -128,16 +128,21 @@ fn the_counter_takes_seven_batches(rt: HostRuntime) {
     assert!(rt; learns_counter(&run, &batches));
 }
 
-/// The counter, where the word of three letters is asked first.
-fn learned_from(rt: &impl Abort, alloc: Global, m: &Mealy) -> PlainRun
-    requires { m.now.inputs ≡ 1 }
+/// The word of three letters.
+fn of_three_letters(rt: &impl Abort, alloc: Global) -> Word
+    ensures { IsWord 1 result }
 {
-    let mut word = Word::new(alloc);
-    for _ in 0..3 {
-        word.push(0).expect(rt, "memory");
-    }
+    Word::from_letters(alloc, vec![in alloc; 0u16; 3].expect(rt, "memory"))
+}
+
+/// The counter, where this word is asked first.
+fn learned_from(rt: &impl Abort, alloc: Global, m: &Mealy, word: Word) -> PlainRun
+    requires letters { IsWord m.now.inputs word }
+{
     let mut given = Words::new(alloc);
-    assert!(rt; given.push(word).is_ok());
+    let Ok(()) = given.push(word) else {
+        rt.panic("memory")
+    };
     plain(alloc, m, 2, 3, given.as_slice()).expect(rt, "memory")
 }
 
@@ -145,7 +150,7 @@ fn learned_from(rt: &impl Abort, alloc: Global, m: &Mealy) -> PlainRun
 fn a_word_that_was_given_refines_before_a_suite(rt: HostRuntime) {
     let alloc = rt.alloc();
     let m = of_one_letter(&rt, alloc, &[(1, 0), (2, 0), (0, 1)]);
-    let run = learned_from(&rt, alloc, &m);
+    let run = learned_from(&rt, alloc, &m, of_three_letters(&rt, alloc));
     let batches: [&[usize]; 7] = [&[3], &[1, 2], &[2], &[2, 3], &[3, 4], &[4, 5], &SUITE];
     assert!(rt; learns_counter(&run, &batches));
 }
