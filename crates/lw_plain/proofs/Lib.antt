@@ -1,2 +1,3 @@
 pub mod LawLemmas
 pub mod OneLemmas
+pub mod FilledLemmas

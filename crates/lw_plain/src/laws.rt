@@ -1,7 +1,12 @@
 //! Laws of the definitions. Each is a function with no code, whose contract is the law.
 ghost use Rattle.lw_plain.specs.Ends.{OnePlainEnd};
-ghost use Rattle.lw_plain.specs.Laws.{CrowdIsFull, SearchFinds};
+ghost use Rattle.lw_plain.specs.Laws.{CellsAreAsked, CrowdIsFull, SearchFinds};
 ghost use Rattle.lw_plain.specs.Worked.{WorkedTables};
+
+/// The word of each cell of the learner's table is in a batch.
+pub fn cells_are_asked()
+    ensures { CellsAreAsked }
+{}
 
 /// Closing ends with a row that is new only where no further access word was allowed.
 pub fn crowd_is_full()

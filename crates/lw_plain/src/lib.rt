@@ -3,4 +3,4 @@
 
 mod laws;
 
-pub use laws::{as_worked, crowd_is_full, plain_end_is_unique, search_finds_cut};
+pub use laws::{as_worked, cells_are_asked, crowd_is_full, plain_end_is_unique, search_finds_cut};

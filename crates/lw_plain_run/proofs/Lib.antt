@@ -6,3 +6,4 @@ pub mod DifferenceLemmas
 pub mod SuiteLemmas
 pub mod RoundLemmas
 pub mod RunLemmas
+pub mod OneRunLemmas
