@@ -1,3 +1,4 @@
 pub mod LawLemmas
 pub mod OneLemmas
 pub mod FilledLemmas
+pub mod KnownLemmas

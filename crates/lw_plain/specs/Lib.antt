@@ -3,3 +3,4 @@ pub mod Rounds
 pub mod Laws
 pub mod Worked
 pub mod Ends
+pub mod Known
