@@ -2,3 +2,4 @@ pub mod LawLemmas
 pub mod OneLemmas
 pub mod FilledLemmas
 pub mod KnownLemmas
+pub mod TakenLemmas

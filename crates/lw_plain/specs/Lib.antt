@@ -4,3 +4,4 @@ pub mod Laws
 pub mod Worked
 pub mod Ends
 pub mod Known
+pub mod Taken

@@ -2,6 +2,7 @@
 ghost use Rattle.lw_plain.specs.Ends.{OnePlainEnd};
 ghost use Rattle.lw_plain.specs.Known.{NothingKnown, BatchIsKnown, KnownOutputs, FirstIsRevealed};
 ghost use Rattle.lw_plain.specs.Laws.{CellsAreAsked, CrowdIsFull, SearchFinds};
+ghost use Rattle.lw_plain.specs.Taken.{AskedAreTaken, TakesOnAndOn};
 ghost use Rattle.lw_plain.specs.Worked.{WorkedTables};
 
 /// The word of each cell of the learner's table is in a batch.
@@ -47,4 +48,14 @@ pub fn known_outputs()
 /// The first known word on which a machine differs is the least word that is revealed.
 pub fn first_is_revealed()
     ensures { FirstIsRevealed }
+{}
+
+/// What has to be asked of a batch is what is taken from it.
+pub fn asked_are_taken()
+    ensures { AskedAreTaken }
+{}
+
+/// What is taken from batches behind others comes behind what was taken from these.
+pub fn takes_on_and_on()
+    ensures { TakesOnAndOn }
 {}
