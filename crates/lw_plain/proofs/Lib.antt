@@ -3,3 +3,5 @@ pub mod OneLemmas
 pub mod FilledLemmas
 pub mod KnownLemmas
 pub mod TakenLemmas
+pub mod TestedLemmas
+pub mod CutLemmas

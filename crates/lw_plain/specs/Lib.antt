@@ -5,3 +5,4 @@ pub mod Worked
 pub mod Ends
 pub mod Known
 pub mod Taken
+pub mod Tested
