@@ -1,5 +1,5 @@
 -- How a table is closed and a word searched, one step at a time, and the laws on both.
-use Rattle.std.proofs.Common.{◌≡◌, ℕ, zero, suc, ◌+◌, ◌-◌, ◌<◌, ◌≤◌, Bool, true, false, cond, List, [], ◌∷◌, ◌++◌, length, Option, Some, None, option_map, unwrap_or, nat_lt, refl, ap, sym, subst, arith, length-append}
+use Rattle.std.proofs.Common.{◌≡◌, ℕ, zero, suc, ◌+◌, ◌-◌, ◌<◌, ◌≤◌, Bool, true, false, cond, List, [], ◌∷◌, ◌++◌, length, Option, Some, None, option_map, unwrap_or, nat_lt, refl, ap, sym, ◌∙◌, subst, arith, length-append}
 use Rattle.std.proofs.lemmas.Bool.Decides.{nat_tests}
 use Rattle.lw_mealy.specs.Machine.{Rows}
 use Rattle.lw_plain.specs.Table.{PlainTable, Search, first_new, close, with_access_word, search_cut, halved, middle_of}
@@ -11,6 +11,13 @@ close_done a m (suc n) t is = ap (λ (o : Option (List ℕ)). unwrap_or (option_
 
 pub close_more : (a : ℕ) (m : Rows) (n : ℕ) (t : PlainTable) (r : List ℕ) → first_new a m t ≡ Some r → close a m (suc n) t ≡ close a m n (with_access_word a t r)
 close_more a m n t r is = ap (λ (o : Option (List ℕ)). unwrap_or (option_map (λ r. close a m n (with_access_word a t r)) o) t) is
+
+-- one access word more, while a table is closed
+pub closing_on : (a : ℕ) (m : Rows) (most count : ℕ) (whole t : PlainTable) (w : List ℕ) → count < most → first_new a m t ≡ Some w → close a m (most - count) t ≡ whole
+    → close a m (most - (count + 1)) (with_access_word a t w) ≡ whole
+closing_on a m most count whole t w lt new is =
+    let more : most - count ≡ suc (most - (count + 1)) = omega arith in
+    sym (close_more a m (most - (count + 1)) t w new) ∙ (ap (λ (n : ℕ). close a m n t) (sym more) ∙ is)
 
 Full : ℕ → Rows → ℕ → PlainTable → List ℕ → Type 0
 Full a m n t r = first_new a m (close a m n t) ≡ Some r → length (close a m n t).access ≡ length t.access + n

@@ -11,14 +11,15 @@ use Rattle.lw_chunks.specs.Size.{suite_size, greatest_suite}
 use Rattle.lw_cache.specs.Cut.{word_at}
 use Rattle.lw_plain.specs.Table.{PlainTable, close, split_by, search_word}
 use Rattle.lw_plain.specs.Rounds.{Task, Reveals, FailsWords, IsUnrefuted, IsSuiteFor, IsRefined, hypothesis_of, new_row_of, asked_words}
-use Rattle.lw_plain_run.specs.bodies.Rounds.{TestsWords, IsSure, IsLarge}
+use Rattle.lw_plain.specs.Tested.{TestsWords}
+use Rattle.lw_plain_run.specs.bodies.Rounds.{IsSure, IsLarge}
 use Rattle.lw_words.specs.declared.memory.NoMemory.{NoMemory}
 use Rattle.lw_chunks.specs.declared.size.SuiteFault.{SuiteFault}
 use Rattle.lw_chunks.specs.declared.size.SuiteFault.TheVariants as fault_of
 use Rattle.lw_plain_run.specs.declared.rounds.Round.{Round}
 use Rattle.lw_plain_run.specs.declared.rounds.Round.TheVariants as round_of
 use Rattle.lw_plain_run.proofs.MachineLemmas.{left_all}
-use Rattle.lw_plain_run.proofs.SuiteLemmas.{with_none}
+use Rattle.lw_plain.proofs.TestedLemmas.{with_none}
 
 -- the words that are found are over the letters, and not empty
 module _ (a : ℕ) (m h : Rows) (words : List (List ℕ)) (letters : All (IsWord a) words) where

@@ -1,5 +1,5 @@
 -- The words of a table's rows, and how the table grows.
-use Rattle.std.proofs.Common.{◌≡◌, ℕ, zero, suc, ◌+◌, ◌-◌, ◌<◌, Bool, true, false, cond, List, [], ◌∷◌, ◌++◌, map, length, get_or, take, drop, Some, None, refl, ap, sym, ◌∙◌, subst, arith, length-append}
+use Rattle.std.proofs.Common.{◌≡◌, ℕ, zero, suc, ◌+◌, ◌<◌, Bool, true, false, cond, List, [], ◌∷◌, ◌++◌, map, length, get_or, take, drop, Some, None, refl, sym, subst, arith, length-append}
 use Rattle.std.specs.List.{All, find, flat_map, range_with_len}
 use Rattle.std.proofs.lemmas.List.Elements.{All-nil, All-cons, All-head, All-tail, All-append, All-drop, All-map, All-push, All-from_get_or}
 use Rattle.std.proofs.lemmas.List.FromFn.{length-range_with_len, get_or-range_with_len}
@@ -9,9 +9,8 @@ use Rattle.std.proofs.lemmas.List.{flat_map_more}
 use Rattle.lw_mealy.specs.Machine.{Rows, after}
 use Rattle.lw_cache.specs.Cut.{word_at}
 use Rattle.lw_cex.specs.Probe.{probe}
-use Rattle.lw_plain.specs.Table.{PlainTable, Search, extensions, row_words, row_cells, cell_words, is_new, first_new, first_table, unless_empty, close, with_access_word, with_suffix, with_batches, probe_batch, split_by}
+use Rattle.lw_plain.specs.Table.{PlainTable, Search, extensions, row_words, row_cells, cell_words, is_new, first_new, first_table, unless_empty, with_access_word, with_suffix, with_batches, probe_batch, split_by}
 use Rattle.lw_plain.specs.Rounds.{asked_words}
-use Rattle.lw_plain.proofs.LawLemmas.{close_more}
 use Rattle.lw_plain_run.specs.bodies.Tables.{IsOver}
 
 pub letters_below : (a : ℕ) → All (λ x. x < a) (range_with_len 0 a)
@@ -131,10 +130,3 @@ over_split a h t w s over word =
     let batch : (i : ℕ) → Words a (probe_batch h t.access w i) = λ i. All-cons (IsWord a) (probe h t.access w i) [] (probe_is_word a h t.access w i over.words word) (All-nil (IsWord a)) in
     let probes : List (List (List ℕ)) = map (probe_batch h t.access w) s.tried in
     over_suffix a (with_batches t probes) (drop (s.low + 1) w) (over_batches a t probes over (All-map (Words a) (probe_batch h t.access w) s.tried (λ k d lt. batch (get_or s.tried k d)))) (All-drop (λ x. x < a) (s.low + 1) w word)
-
--- one access word more
-pub closing_on : (a : ℕ) (m : Rows) (most count : ℕ) (whole t : PlainTable) (w : List ℕ) → count < most → first_new a m t ≡ Some w → close a m (most - count) t ≡ whole
-    → close a m (most - (count + 1)) (with_access_word a t w) ≡ whole
-closing_on a m most count whole t w lt new is =
-    let more : most - count ≡ suc (most - (count + 1)) = omega arith in
-    sym (close_more a m (most - (count + 1)) t w new) ∙ (ap (λ (n : ℕ). close a m n t) (sym more) ∙ is)

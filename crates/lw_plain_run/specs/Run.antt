@@ -18,3 +18,7 @@ abbrev pub IsPlainRun : MealyMachine → ℕ → ℕ → List (List ℕ) → Pla
 IsPlainRun m extra most given (run.Learned model refinements batches) = IsAlike m model × LearnsPlainly (task_of m extra most) given model.rows refinements batches
 IsPlainRun m extra most given (run.Crowd words batches) = IsPlainCrowd (task_of m extra most) given words batches
 IsPlainRun m extra most given (run.TooLarge model number batches) = IsAlike m model × IsPlainTooLarge (task_of m extra most) given model.rows number batches
+
+-- two answers about one machine are one
+abbrev pub OnePlainRun : Type 0
+OnePlainRun = (m : MealyMachine) (extra most : ℕ) (given : List (List ℕ)) (r s : PlainRun) → IsPlainRun m extra most given r → IsPlainRun m extra most given s → r ≡ s

@@ -3,7 +3,8 @@ ghost use Rattle.std.specs.Prelude.{◌≡◌, ℕ, List, ◌∷◌, [], ◌++�
 ghost use Rattle.std.specs.List.{All};
 ghost use Rattle.lw_words.specs.Word.{IsWord};
 ghost use Rattle.lw_plain.specs.Rounds.{AgreesOn, IsShortest, asked_words};
-ghost use Rattle.lw_plain_run.specs.bodies.Differences.{IsLesser, IsLeast, FindsFirst};
+ghost use Rattle.lw_plain_run.specs.bodies.Differences.{IsLesser, IsLeast};
+ghost use Rattle.lw_plain.specs.Tested.{FindsFirst};
 
 use crate::batches::Batches;
 use lw_mealy::Mealy;

@@ -16,4 +16,4 @@ mod tests;
 
 pub use batches::Batches;
 pub use learning::plain;
-pub use run::PlainRun;
+pub use run::{PlainRun, plain_run_is_unique};

@@ -1,4 +1,5 @@
 //! What the slow learner comes to.
+ghost use Rattle.lw_plain_run.specs.Run.{OnePlainRun};
 
 use crate::Batches;
 use lw_mealy::Mealy;
@@ -24,3 +25,8 @@ pub enum PlainRun {
         batches: Batches,
     },
 }
+
+/// A law, with no code: two answers about one machine are one.
+pub fn plain_run_is_unique()
+    ensures { OnePlainRun }
+{}

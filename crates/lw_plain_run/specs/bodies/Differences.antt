@@ -1,13 +1,10 @@
 -- Words to which two machines answer otherwise, as they are looked for.
 use Rattle.std.specs.Prelude.{◌≡◌, ◌≢◌, ◌⊎◌, ℕ, List, Option, Some, None, MatchOption}
-use Rattle.std.specs.List.{All}
 use Rattle.std.specs.declared.cmp.Ordering.TheVariants.{Less}
-use Rattle.lw_words.specs.First.{FailsFirst}
 use Rattle.lw_words.specs.Word.{shortlex_cmp}
 use Rattle.lw_mealy.specs.Machine.{Rows}
-use Rattle.lw_cache.specs.Cut.{word_at}
 use Rattle.lw_separate.specs.Canonical.{LeastWord}
-use Rattle.lw_plain.specs.Rounds.{AgreesOn, IsShortest, Reveals}
+use Rattle.lw_plain.specs.Rounds.{Reveals}
 
 -- the lesser of two words, if there are two
 abbrev pub IsLesser : Option (List ℕ) → List ℕ → List ℕ → Type 0
@@ -17,12 +14,3 @@ IsLesser (Some word) front now = ((now ≡ front) × (shortlex_cmp front word �
 -- the least word that one of these reveals, and none where none does
 abbrev pub IsLeast : Rows → Rows → List (List ℕ) → Option (List ℕ) → Type 0
 IsLeast m h words best = MatchOption best ((w : List ℕ) → ¬ Reveals m h words w) (LeastWord (Reveals m h words))
-
--- the shortest front of the first word of a list to which machine h answers otherwise
-pub record FailsAt (m h : Rows) (words : List (List ℕ)) (front : List ℕ) : Type 0 where
-  pub number : ℕ
-  pub first : FailsFirst (AgreesOn m h) words number
-  pub here : IsShortest m h (word_at words number) front
-
-abbrev pub FindsFirst : Rows → Rows → List (List ℕ) → Option (List ℕ) → Type 0
-FindsFirst m h words found = MatchOption found (All (AgreesOn m h) words) (FailsAt m h words)

@@ -1,11 +1,10 @@
 -- What a round of the slow learner leaves.
-use Rattle.std.specs.Prelude.{◌≡◌, ℕ, ◌+◌, ◌*◌, ◌<◌, List, [], ◌∷◌, ◌++◌, length, take, drop, Option, Some, MatchOption}
-use Rattle.std.specs.List.{All}
+use Rattle.std.specs.Prelude.{◌≡◌, ℕ, ◌<◌, List, [], ◌∷◌, ◌++◌, length, Some}
 use Rattle.lw_mealy.specs.Machine.{Rows, MealyMachine}
 use Rattle.lw_separate.specs.Canonical.{IsCanonical}
 use Rattle.lw_chunks.specs.Size.{suite_size, greatest_suite}
 use Rattle.lw_plain.specs.Table.{PlainTable, with_batches}
-use Rattle.lw_plain.specs.Rounds.{Task, AgreesOn, first_chunks, FailsWords, PassesWords, IsUnrefuted, IsSuiteFor, IsRefined, IsRefinedTimes, hypothesis_of, new_row_of}
+use Rattle.lw_plain.specs.Rounds.{Task, PassesWords, IsUnrefuted, IsSuiteFor, IsRefined, IsRefinedTimes, hypothesis_of, new_row_of}
 use Rattle.lw_plain_run.specs.declared.rounds.Round.{Round}
 use Rattle.lw_plain_run.specs.declared.rounds.Round.TheVariants.{Refined, Sure, TooLarge}
 use Rattle.lw_plain_run.specs.declared.learning.Ended.{Ended}
@@ -13,20 +12,6 @@ use Rattle.lw_plain_run.specs.declared.learning.Ended.TheVariants.{Learned, Crow
 use Rattle.lw_plain_run.specs.declared.run.PlainRun.{PlainRun}
 use Rattle.lw_plain_run.specs.declared.run.PlainRun.TheVariants as run
 use Rattle.lw_plain_run.specs.Run.{IsAlike}
-
--- some chunks of the words were asked: up to the first word to which machine h answers otherwise, or all
-pub record TestsWords (m h : Rows) (words : List (List ℕ)) (before now : PlainTable) (found : Option (List ℕ)) : Type 0 where
-  pub asked : List (List (List ℕ))
-  pub is : now ≡ with_batches before asked
-  pub comes : MatchOption found (PassesWords m h words asked) (λ front. FailsWords m h words front asked)
-
--- so many chunks were asked, on which machine h agrees
-pub record HasTested (m h : Rows) (words left : List (List ℕ)) (before now : PlainTable) : Type 0 where
-  pub number : ℕ
-  pub rest : left ≡ drop (512 * number) words
-  pub few : 512 * number < length words + 512
-  pub agrees : All (AgreesOn m h) (take (512 * number) words)
-  pub is : now ≡ with_batches before (first_chunks words number)
 
 -- a table's machine passed its suite
 pub record IsSure (task : Task) (before now : PlainTable) (model : Rows) : Type 0 where

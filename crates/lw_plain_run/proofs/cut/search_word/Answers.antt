@@ -2,7 +2,7 @@ use Rattle.std.proofs.Common.{◌-◌, ◌+◌, ◌<◌, ◌≤◌, length, sym,
 use Rattle.lw_plain.specs.Table.{agrees_at}
 use Rattle.lw_plain.proofs.LawLemmas.{search_done}
 use Rattle.lw_plain_run.specs.bodies.Tables.{search_of}
-use Rattle.lw_plain_run.proofs.CutLemmas.{search_on, tried_more}
+use Rattle.lw_plain.proofs.CutLemmas.{search_on, tried_more}
 use Rattle.lw_plain_run.proofs.cut.search_word.Goals as goal
 
 pub returns-then-search-lt2-clause-found : goal.returns-then-search-lt2-clause-found

@@ -1,5 +1,5 @@
 use Rattle.std.proofs.Common.{Some}
-use Rattle.lw_plain_run.specs.bodies.Rounds.{TestsWords}
+use Rattle.lw_plain.specs.Tested.{TestsWords}
 use Rattle.lw_plain_run.specs.Run.{task_of}
 use Rattle.lw_plain_run.proofs.RoundLemmas.{failed_word, suite_refines}
 use Rattle.lw_plain_run.proofs.rounds.test.Goals as goal

@@ -10,8 +10,7 @@ use Rattle.lw_words.specs.First.{FailsFirst}
 use Rattle.lw_mealy.specs.Machine.{Rows}
 use Rattle.lw_plain.specs.Table.{PlainTable, with_batches}
 use Rattle.lw_plain.specs.Rounds.{AgreesOn, IsShortest, chunk_at, first_chunks}
-use Rattle.lw_plain_run.specs.bodies.Differences.{FailsAt}
-use Rattle.lw_plain_run.specs.bodies.Rounds.{TestsWords, HasTested}
+use Rattle.lw_plain.specs.Tested.{FailsAt, TestsWords, HasTested}
 
 pub with_none : (t : PlainTable) → t ≡ with_batches t []
 with_none t = ap (λ (bs : List (List (List ℕ))). record t { batches = bs }) (sym (append-nil t.batches))
