@@ -1,5 +1,6 @@
 -- What adapters record of the bytes that went over them, for contracts alone.
 use Rattle.std.specs.Prelude.{ℕ, List, map, Option, None, Some, option_map}
+use Rattle.lw_outside.specs.Links.{LinkState}
 use Rattle.lw_outside.specs.Logs.{LogFileState}
 use Rattle.lw_outside.specs.Streams.{SinkState, SourceState}
 
@@ -24,3 +25,8 @@ told_output taken faults = record { taken = Some (bytes_of taken); faults = faul
 abbrev pub told_log_file : {F X : Type 0} (file : Option F) (called text : List (ℕ × X)) (faults : ℕ) → LogFileState
 told_log_file file called text faults =
     record { name = option_map (λ _. bytes_of called) file; text = bytes_of text; faults = faults }
+
+-- what is told of a link over two pipes, by what it recorded
+abbrev pub told_pipes : {X : Type 0} (number faults ends : ℕ) (sent received : List (ℕ × X)) → LinkState
+told_pipes number faults ends sent received =
+    record { number = number; faults = faults; ends = ends; transcript = Some (record { sent = bytes_of sent; received = bytes_of received }) }

@@ -2,7 +2,7 @@
 ghost use Rattle.std.specs.Prelude.{◌≡◌, ◌<◌, [], length, map, Some, IfOk, string_bytes};
 ghost use Rattle.std.specs.List.{All};
 ghost use Rattle.lw_outside.specs.Links.{LinkState};
-ghost use Rattle.lw_adapters.specs.Recorded.{bytes_of};
+ghost use Rattle.lw_adapters.specs.Recorded.{bytes_of, told_pipes};
 
 use crate::pipe_link::PipeLink;
 use http_server::Log;
@@ -72,15 +72,9 @@ impl<R: AllocGlobal> RealSpawner<R> {
 impl<R> RealSpawner<R> {
     /// For the proof alone: each link that was retired was started before.
     fn keeps_earlier(&self)
-        ensures { All (λ (r : LinkState). r.number < self.now.started) (map (λ r. record {
-          number = r.0.number;
-          faults = r.0.faults;
-          ends = r.0.output.ends;
-          transcript = Some (record {
-            sent = bytes_of r.0.input.taken.items;
-            received = bytes_of r.0.output.given.items;
-          });
-        }) self.now.retired.items) }
+        ensures { All (λ (r : LinkState). r.number < self.now.started) (map (λ r. told_pipes r.0.number
+            r.0.faults r.0.output.ends r.0.input.taken.items r.0.output.given.items)
+            self.now.retired.items) }
     {
         let _ = &self.started;
     }
@@ -158,20 +152,13 @@ impl<R: Files + Processes<Started = SystemProcess> + AllocGlobal> Spawner for Re
     type Link = RealLink;
 
     ghost use Rattle.std.specs.Prelude.{Some, map, string_bytes};
-    ghost use Rattle.lw_adapters.specs.Recorded.{bytes_of};
+    ghost use Rattle.lw_adapters.specs.Recorded.{told_pipes};
 
     ghost state = { λ s. record {
       faults = s.faults;
       started = s.started;
-      retired = map (λ r. record {
-        number = r.0.number;
-        faults = r.0.faults;
-        ends = r.0.output.ends;
-        transcript = Some (record {
-          sent = bytes_of r.0.input.taken.items;
-          received = bytes_of r.0.output.given.items;
-        });
-      }) s.retired.items;
+      retired = map (λ r. told_pipes r.0.number r.0.faults r.0.output.ends r.0.input.taken.items
+          r.0.output.given.items) s.retired.items;
       commands = Some (map (λ c. map (λ w. string_bytes w) c.0.items) s.commands.items);
       cause = s.cause;
     } };

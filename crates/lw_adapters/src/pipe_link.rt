@@ -38,15 +38,10 @@ impl<W: Write, R: Read> PipeLink<W, R> {
 }
 
 impl<W: Write, R: Read> Link for PipeLink<W, R> {
-    ghost use Rattle.std.specs.Prelude.{Some};
-    ghost use Rattle.lw_adapters.specs.Recorded.{bytes_of};
+    ghost use Rattle.lw_adapters.specs.Recorded.{told_pipes};
 
-    ghost state = { λ l. record {
-      number = l.number;
-      faults = l.faults;
-      ends = l.output.ends;
-      transcript = Some (record { sent = bytes_of l.input.taken.items; received = bytes_of l.output.given.items });
-    } };
+    ghost state = { λ l. told_pipes l.number l.faults l.output.ends l.input.taken.items
+        l.output.given.items };
 
     /// Fails too where the other end says line after line that it wasn't sent for, before the pipe to it is full.
     fn send(&mut self, bytes: &[u8]) -> Result<(), Failed> {
